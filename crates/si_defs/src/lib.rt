@@ -1,0 +1,2 @@
+//! The definitions of stindex.
+#![tactic(auto)]

@@ -1,1 +1,16 @@
+pub mod Bytes
 pub mod Terms
+pub mod Symbols
+pub mod Clauses
+pub mod Entries
+pub mod Substitutions
+pub mod Relations
+pub mod Solutions
+pub mod Tokens
+pub mod Grammar
+pub mod Texts
+pub mod Printing
+pub mod Acceptance
+pub mod Answers
+pub mod Steps
+pub mod Runs

@@ -1,0 +1,48 @@
+-- What a query looks through: the literals and subterms of clauses (MathWebSearch's queries over all subterms).
+use Rattle.std.specs.Prelude.{ℕ, ◌+◌, List, [], ◌∷◌, ◌++◌, map}
+use Rattle.si_defs.specs.Terms as terms
+use Rattle.si_defs.specs.Clauses.{Term, Literal, Clause}
+
+pub data Entry : Type 0 where
+  literal_entry : Literal → Entry
+  term_entry : Term → Entry
+
+-- where an entry stands in its clause: the literal's number from 1, and the path from the atom
+pub record Place : Type 0 where
+  pub literal : ℕ
+  pub path : List ℕ
+
+-- an entry at its place
+pub record Placed : Type 0 where
+  pub entry : Entry
+  pub place : Place
+
+-- the proper subterms of an atom that are no variables
+abbrev pub proper_occurrences : Term → List (List ℕ × Term)
+proper_occurrences (terms.var x) = []
+proper_occurrences (terms.app s ts) = terms.occurrences_from 1 ts
+
+abbrev pub placed_term : ℕ → List ℕ × Term → Placed
+placed_term number (path, t) = record { entry = term_entry t; place = record { literal = number; path = path } }
+
+-- those of the literal with this number: the literal itself, and then its atom's proper subterms in preorder
+abbrev pub literal_entries : ℕ → Literal → List Placed
+literal_entries number l =
+    record { entry = literal_entry l; place = record { literal = number; path = [] } }
+    ∷ map (placed_term number) (proper_occurrences l.atom)
+
+abbrev pub entries_from : ℕ → List Literal → List Placed
+entries_from number [] = []
+entries_from number (l ∷ ls) = literal_entries number l ++ entries_from (1 + number) ls
+
+-- the entries of a clause, in order
+abbrev pub entries : Clause → List Placed
+entries c = entries_from 1 c.literals
+
+-- the entries of a list of clauses, in order, each with its clause
+abbrev pub placed_in : Clause → Placed → Clause × Placed
+placed_in c e = (c, e)
+
+abbrev pub state_entries : List Clause → List (Clause × Placed)
+state_entries [] = []
+state_entries (c ∷ cs) = map (placed_in c) (entries c) ++ state_entries cs

@@ -1,0 +1,16 @@
+//! Terms, literals, clauses and patterns as the program keeps them, and the entries of a clause.
+//!
+//! Contracts see a [`Text`] as a list of bytes and each list type as a list. `specs/Meaning.antt` says which term,
+//! literal, clause or pattern of the definitions a value stands for.
+#![tactic(auto)]
+
+pub mod clause;
+pub mod list;
+pub mod term;
+pub mod text;
+
+pub use clause::{Clause, Entry, Literal, Name, Pattern, Place};
+pub use list::{Literals, Names, Path, Syms, Texts};
+pub use si_defs::{NameKind, Side, SymKind};
+pub use term::{Sym, Term, Terms};
+pub use text::Text;

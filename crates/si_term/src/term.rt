@@ -1,0 +1,94 @@
+// Symbols and terms.
+ghost use Rattle.std.specs.Prelude.{◌≡◌, ◌<◌, [], ◌∷◌, ◌++◌, OnOk, OnErr, Some, length, slice_get, map};
+
+use crate::text::Text;
+use si_defs::{Side, SymKind};
+use std::alloc::{AllocError, Global};
+use std::marker::Model;
+
+/// A symbol: a function, a predicate or a constant. Two are the same where all four parts are.
+#[derive(Drop)]
+pub struct Sym {
+    pub kind: SymKind,
+    pub text: Text,
+    pub side: Side,
+    pub arity: u32,
+}
+
+/// A first-order term: a variable by its name, or a symbol with its arguments.
+#[derive(Drop)]
+#[cycle(term)]
+pub enum Term {
+    Var(Text),
+    App(Sym, Terms),
+}
+
+/// A list of terms.
+#[derive(Drop)]
+#[cycle(term)]
+pub struct Terms {
+    items: Vec<Term>,
+}
+
+impl Model for Terms {
+    ghost use Rattle.std.specs.Prelude.{List, ℕ, map};
+    ghost use Rattle.std.specs.Coded.{coded_list, coded_ℕ};
+    ghost use Rattle.si_defs.specs.Terms as terms;
+    ghost use Rattle.si_defs.specs.Symbols.{Symbol, symbol_code};
+
+    ghost Value = { List (terms.Term Symbol (List ℕ)) };
+
+    ghost coded = { coded_list (terms.coded_term symbol_code (coded_list coded_ℕ)) };
+
+    ghost use Rattle.si_term.specs.Terms.{term_of, deepest};
+
+    ghost view = { λ a. map term_of a.items.items };
+
+    ghost size = { λ ts. terms.sizes (terms.row ts) };
+
+    ghost size_decreases = { λ a h. deepest a.items.items };
+}
+
+impl Terms {
+    ghost use Rattle.si_term.specs.Terms.{term_of};
+
+    /// The empty list.
+    pub fn new(alloc: Global) -> Terms
+        ensures { result ≡ [] }
+    {
+        Terms {
+            items: Vec::new(alloc),
+        }
+    }
+
+    /// Appends a term.
+    pub fn push(&mut self, item: Term) -> Result<(), AllocError>
+        ensures ok { OnOk result (self.new ≡ self.old ++ term_of item ∷ []) }
+        ensures err { OnErr result (self.new ≡ self.old) }
+    {
+        self.items.push(item)?;
+        Ok(())
+    }
+
+    /// The number of terms.
+    pub fn len(&self) -> usize
+        ensures { result ≡ length self.now }
+    {
+        self.items.len()
+    }
+
+    /// The term with this number from 0.
+    pub fn at(&self, n: usize) -> &Term
+        requires { n < length self.now }
+        ensures { slice_get self.now n ≡ Some (term_of result.now) }
+    {
+        &self.items[n]
+    }
+
+    /// The terms in order.
+    pub fn as_slice(&self) -> &[Term]
+        ensures { map term_of result.now ≡ self.now }
+    {
+        self.items.as_slice()
+    }
+}

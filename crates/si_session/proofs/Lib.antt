@@ -1,0 +1,4 @@
+pub mod MatchingLaws
+pub mod Renaming
+pub mod Firsts
+pub mod Matches

@@ -5,9 +5,16 @@
 #![tactic(auto)]
 
 mod failed;
+mod memory;
+mod real;
 mod sink;
 mod source;
 
 pub use failed::Failed;
+pub use memory::{MemorySink, MemorySource};
+pub use real::{RealSink, RealSource};
 pub use sink::{Sink, write_all};
 pub use source::Source;
+
+#[cfg(test)]
+mod tests;

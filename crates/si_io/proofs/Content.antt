@@ -46,6 +46,9 @@ AppendsPrefix_then a b c bs cs first part = record {
   given = Appends_then a b c bs (take part.count cs) first part.given ∙ ap (λ (l : List ℕ). append_told a l) (sym (take-append-add bs cs part.count));
 }
 
+-- what a function owes that writes one text after the other: name it in the function's `using`
+pub ruleset writes = (Appends_then, AppendsPrefix_none, AppendsPrefix_all, AppendsPrefix_then, AppendsPrefix_more)
+
 -- Sources
 
 pub prepend_told-nil : (a : Option (List ℕ)) → prepend_told [] a ≡ a

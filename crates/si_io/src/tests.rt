@@ -25,6 +25,11 @@ impl Read for Letters {
     }
 }
 
+/// Reads once, through the bound.
+fn read_from<S: Source>(source: &mut S, into: &mut [u8]) -> Result<usize, Failed> {
+    source.read(into)
+}
+
 #[test]
 fn a_real_source_fails_once_and_goes_on(rt: HostRuntime) {
     let mut source = RealSource::new(Letters {
@@ -33,7 +38,7 @@ fn a_real_source_fails_once_and_goes_on(rt: HostRuntime) {
     });
     let mut into = [b'-'; 2];
     assert_eq!(rt; source.read(&mut into), Ok(1));
-    assert_eq!(rt; source.read(&mut into), Err(Failed));
+    assert_eq!(rt; read_from(&mut source, &mut into), Err(Failed));
     assert_eq!(rt; into.as_slice(), b"b-".as_slice());
     assert_eq!(rt; source.read(&mut into[1..]), Ok(1));
     assert_eq!(rt; into.as_slice(), b"bd".as_slice());
@@ -119,7 +124,7 @@ fn a_source_in_memory_gives_pieces(rt: HostRuntime) -> Result<(), Fail> {
     let mut into = [b'-'; 4];
     let mut by_one = MemorySource::new(vec![in alloc; b'x', b'y']?, 0, Vec::new(alloc));
     for count in [1, 1, 0, 0] {
-        assert_eq!(rt; by_one.read(&mut into), Ok(count));
+        assert_eq!(rt; read_from(&mut by_one, &mut into), Ok(count));
     }
     assert_eq!(rt; into.as_slice(), b"y---".as_slice());
 

@@ -1,0 +1,5 @@
+pub mod Content
+pub mod Faults
+pub mod Memory
+pub mod Plan
+pub mod Real

@@ -1,0 +1,3 @@
+/// A device refused the call.
+#[derive(Clone, Copy, Debug, PartialEq, Eq)]
+pub struct Failed;

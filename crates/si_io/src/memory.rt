@@ -1,0 +1,7 @@
+// Devices in memory, which fail at the calls that a list names.
+mod plan;
+mod sink;
+mod source;
+
+pub use sink::MemorySink;
+pub use source::MemorySource;

@@ -1,0 +1,94 @@
+ghost use Rattle.std.specs.Prelude.{◌≡◌, ◌<◌, ◌≤◌, ◌+◌, ◌||◌, [], Some, length, take, min, max, is_err, nat_lt, vec_len, vec_capacity, IfOk, OnErr};
+
+use super::plan::Plan;
+use crate::{Failed, Sink};
+use std::alloc::{AllocError, Global};
+
+/// A sink that keeps what it was given in memory, up to its room, which it takes when it is made.
+///
+/// A call takes all of its bytes, at most the chunk. It fails where its number, from 1, is listed or where the bytes
+/// that it would take don't fit the room, and nowhere else.
+#[derive(Drop)]
+pub struct MemorySink {
+    buffer: Vec<u8>,
+    room: usize,
+    chunk: usize,
+    plan: Plan,
+    ghost within: { vec_len buffer ≤ room },
+    ghost reserved: { room ≤ vec_capacity buffer },
+    ghost takes: { 0 < chunk },
+}
+
+impl MemorySink {
+    ghost use Rattle.si_io.specs.Memory.{sink_bytes, sink_room, sink_chunk, sink_failing, sink_calls, sink_faults};
+
+    /// A sink with room for `room` bytes. A call takes at most `chunk` of them, where 0 counts as 1. The calls whose
+    /// numbers, from 1, stand in `failing` fail.
+    ///
+    /// `AllocError`: there is no memory for the room.
+    pub fn new(
+        alloc: Global,
+        room: usize,
+        chunk: usize,
+        failing: Vec<u32>,
+    ) -> Result<MemorySink, AllocError>
+        ensures empty { IfOk result (λ sink. sink_bytes sink ≡ []) }
+        ensures room { IfOk result (λ sink. sink_room sink ≡ room) }
+        ensures chunk { IfOk result (λ sink. sink_chunk sink ≡ max chunk 1) }
+        ensures failing { IfOk result (λ sink. sink_failing sink ≡ failing.items) }
+        ensures calls { IfOk result (λ sink. sink_calls sink ≡ 0) }
+        ensures faults { IfOk result (λ sink. sink_faults sink ≡ 0) }
+    {
+        let buffer = Vec::with_capacity(alloc, room)?;
+        Ok(MemorySink {
+            buffer,
+            room,
+            chunk: chunk.max(1),
+            plan: Plan::new(failing),
+        })
+    }
+
+    /// What was written.
+    pub fn bytes(&self) -> &[u8]
+        ensures { result.now ≡ sink_bytes self.now }
+    {
+        &self.buffer
+    }
+}
+
+impl Sink for MemorySink {
+    ghost use Rattle.si_io.specs.Content.{Appends};
+    ghost use Rattle.si_io.specs.Faults.{CountsErrors, HasCause, Rose, raised};
+    ghost use Rattle.si_io.specs.Memory.{sink_bytes, sink_room, sink_chunk, sink_failing, sink_calls, sink_faults, SameSink};
+    ghost use Rattle.si_io.specs.Plan.{is_listed};
+
+    ghost written = { λ sink. Some (sink_bytes sink) };
+
+    ghost faults = { sink_faults };
+
+    /// Takes all of its bytes, at most the chunk. Fails exactly where the call is listed or the room is too small.
+    fn write(&mut self, bytes: &[u8]) -> Result<usize, Failed>
+        ensures bound { IfOk result (λ n. n ≤ length bytes.now) }
+        ensures taken { IfOk result (λ n. Appends (Some (sink_bytes self.old)) (take n bytes.now) (Some (sink_bytes self.new))) }
+        ensures stuck { IfOk result (λ n. n ≡ 0 → 0 < length bytes.now → Rose (sink_faults self.old) (sink_faults self.new)) }
+        ensures kept { OnErr result (sink_bytes self.new ≡ sink_bytes self.old) }
+        ensures cause { HasCause (sink_faults self.old) (sink_faults self.new) result }
+        ensures count { IfOk result (λ n. n ≡ min (sink_chunk self.old) (length bytes.now)) }
+        ensures calls { sink_calls self.new ≡ raised (sink_calls self.old) }
+        ensures fails { is_err result ≡ (is_listed (sink_failing self.old) (sink_calls self.new)
+            || nat_lt (sink_room self.old) (length (sink_bytes self.old) + min (sink_chunk self.old) (length bytes.now))) }
+        ensures faults { CountsErrors (sink_faults self.old) (sink_faults self.new) result }
+        ensures same { SameSink self.old self.new }
+    {
+        self.plan.next()?;
+        let count = self.chunk.min(bytes.len());
+        if count > self.room - self.buffer.len() {
+            return Err(self.plan.fail());
+        }
+        // The room was taken when the sink was made, so this can't be refused.
+        match self.buffer.extend_from_slice(&bytes[..count]) {
+            Ok(()) => Ok(count),
+            Err(_) => Err(self.plan.fail()),
+        }
+    }
+}

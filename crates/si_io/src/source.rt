@@ -1,0 +1,25 @@
+ghost use Rattle.std.specs.Prelude.{◌≡◌, ◌<◌, ◌≤◌, ℕ, List, Option, length, take, IfOk, OnErr};
+ghost use Rattle.si_io.specs.Content.{Takes, IsAtEnd};
+ghost use Rattle.si_io.specs.Faults.{HasCause};
+
+use crate::Failed;
+
+/// What bytes are read from.
+pub trait Source {
+    /// The bytes still to come, where the source tells them.
+    ghost left: { Self → Option (List ℕ) };
+
+    /// How often the source has failed, up to the largest `u64`.
+    ghost faults: { Self → ℕ };
+
+    /// Reads some bytes into the front of `into`, and answers their number.
+    ///
+    /// It may give fewer than fit. `Ok(0)` on a slice that isn't empty is the end. `Failed` took nothing, and comes
+    /// only where the source has failed.
+    fn read(&mut self, into: &mut [u8]) -> Result<usize, Failed>
+        ensures bound { IfOk result (λ n. n ≤ length into.old) }
+        ensures taken { IfOk result (λ n. Takes (left self.old) (take n into.new) (left self.new)) }
+        ensures ended { IfOk result (λ n. n ≡ 0 → 0 < length into.old → IsAtEnd (left self.old)) }
+        ensures kept { OnErr result (left self.new ≡ left self.old) }
+        ensures cause { HasCause (faults self.old) (faults self.new) result };
+}

@@ -1,0 +1,171 @@
+use crate::*;
+use std::alloc::{AllocError, Global};
+use std::io;
+use std::io::{Read, Write};
+use std::test::Fail;
+
+/// Gives one letter a call, and fails at one of the calls.
+#[derive(Drop)]
+struct Letters {
+    calls: u8,
+    fails_at: u8,
+}
+
+impl Read for Letters {
+    fn read(&mut self, into: &mut [u8]) -> io::Result<usize> {
+        self.calls = self.calls.saturating_add(1);
+        if self.calls == self.fails_at {
+            return Err(io::Error::from(io::ErrorKind::BrokenPipe));
+        }
+        if into.is_empty() || self.calls > 4 {
+            return Ok(0);
+        }
+        into[0] = b'a' + self.calls;
+        Ok(1)
+    }
+}
+
+/// Reads once, through the bound.
+fn read_from<S: Source>(source: &mut S, into: &mut [u8]) -> Result<usize, Failed> {
+    source.read(into)
+}
+
+#[test]
+fn a_real_source_fails_once_and_goes_on(rt: HostRuntime) {
+    let mut source = RealSource::new(Letters {
+        calls: 0,
+        fails_at: 2,
+    });
+    let mut into = [b'-'; 2];
+    assert_eq!(rt; source.read(&mut into), Ok(1));
+    assert_eq!(rt; read_from(&mut source, &mut into), Err(Failed));
+    assert_eq!(rt; into.as_slice(), b"b-".as_slice());
+    assert_eq!(rt; source.read(&mut into[1..]), Ok(1));
+    assert_eq!(rt; into.as_slice(), b"bd".as_slice());
+    assert_eq!(rt; source.read(&mut into), Ok(1));
+    assert_eq!(rt; source.read(&mut into), Ok(0));
+}
+
+/// Takes up to three bytes a call, nothing at all once it is full, and fails at one of the calls.
+#[derive(Drop)]
+struct Page {
+    text: Vec<u8>,
+    calls: u8,
+    fails_at: u8,
+    flushes: u8,
+    fails_at_flush: u8,
+}
+
+impl Page {
+    fn new(alloc: Global, fails_at: u8, fails_at_flush: u8) -> Page {
+        Page {
+            text: Vec::new(alloc),
+            calls: 0,
+            fails_at,
+            flushes: 0,
+            fails_at_flush,
+        }
+    }
+}
+
+impl Write for Page {
+    fn write(&mut self, bytes: &[u8]) -> io::Result<usize> {
+        self.calls = self.calls.saturating_add(1);
+        if self.calls == self.fails_at {
+            return Err(io::Error::from(io::ErrorKind::BrokenPipe));
+        }
+        if self.text.len() >= 9 {
+            return Ok(0);
+        }
+        let count = bytes.len().min(3);
+        self.text.extend_from_slice(&bytes[..count])?;
+        Ok(count)
+    }
+
+    fn flush(&mut self) -> io::Result<()> {
+        self.flushes = self.flushes.saturating_add(1);
+        if self.flushes == self.fails_at_flush {
+            return Err(io::Error::from(io::ErrorKind::BrokenPipe));
+        }
+        Ok(())
+    }
+}
+
+#[test]
+fn a_real_sink_flushes_at_the_end_of_a_line(rt: HostRuntime) {
+    let mut page = Page::new(rt.alloc(), 0, 0);
+    let mut sink = RealSink::new(&mut page);
+    assert_eq!(rt; write_all(&mut sink, b"ab"), Ok(()));
+    assert_eq!(rt; write_all(&mut sink, b"cd\n"), Ok(()));
+    assert_eq!(rt; write_all(&mut sink, b"e\nf"), Ok(()));
+    assert_eq!(rt; write_all(&mut sink, b"\n"), Ok(()));
+    assert_eq!(rt; page.text.as_slice(), b"abcd\ne\nf\n".as_slice());
+    assert_eq!(rt; page.flushes, 2);
+}
+
+#[test]
+fn a_real_sink_hands_on_each_failure(rt: HostRuntime) {
+    let mut page = Page::new(rt.alloc(), 2, 1);
+    let mut sink = RealSink::new(&mut page);
+    // The second piece of three bytes is refused.
+    assert_eq!(rt; write_all(&mut sink, b"abcde"), Err(Failed));
+    // The bytes go out, and the flush is refused.
+    assert_eq!(rt; write_all(&mut sink, b"d\n"), Err(Failed));
+    assert_eq!(rt; write_all(&mut sink, b"efgh\n"), Ok(()));
+    // Full: nothing is taken.
+    assert_eq!(rt; write_all(&mut sink, b"i"), Err(Failed));
+    assert_eq!(rt; page.text.as_slice(), b"abcd\nefgh\n".as_slice());
+    assert_eq!(rt; page.flushes, 2);
+}
+
+#[test]
+fn a_source_in_memory_gives_pieces(rt: HostRuntime) -> Result<(), Fail> {
+    let alloc = rt.alloc();
+    let mut into = [b'-'; 4];
+    let mut by_one = MemorySource::new(vec![in alloc; b'x', b'y']?, 0, Vec::new(alloc));
+    for count in [1, 1, 0, 0] {
+        assert_eq!(rt; read_from(&mut by_one, &mut into), Ok(count));
+    }
+    assert_eq!(rt; into.as_slice(), b"y---".as_slice());
+
+    let mut by_three = MemorySource::new(b"abcde".to_vec(alloc)?, 3, vec![in alloc; 2, 9]?);
+    assert_eq!(rt; by_three.read(&mut into[..0]), Ok(0));
+    assert_eq!(rt; by_three.read(&mut into), Err(Failed));
+    assert_eq!(rt; by_three.read(&mut into), Ok(3));
+    assert_eq!(rt; into.as_slice(), b"abc-".as_slice());
+    assert_eq!(rt; by_three.read(&mut into[2..]), Ok(2));
+    assert_eq!(rt; into.as_slice(), b"abde".as_slice());
+    assert_eq!(rt; by_three.read(&mut into), Ok(0));
+    Ok(())
+}
+
+/// What a sink with this room and chunk, and a third call that fails, has after all of `text` was written.
+fn kept_of(
+    alloc: Global,
+    room: usize,
+    chunk: usize,
+    text: &[u8],
+) -> Result<(bool, Vec<u8>), AllocError> {
+    let mut sink = MemorySink::new(alloc, room, chunk, vec![in alloc; 3]?)?;
+    let all = write_all(&mut sink, text).is_ok();
+    Ok((all, sink.bytes().to_vec(alloc)?))
+}
+
+#[test]
+fn a_sink_in_memory_keeps_a_prefix(rt: HostRuntime) -> Result<(), Fail> {
+    let alloc = rt.alloc();
+    let rows: [(usize, usize, &[u8], bool, &[u8]); 6] = [
+        (8, 3, b"", true, b""),
+        (8, 3, b"abcdef", true, b"abcdef"),
+        (8, 3, b"abcdefg", false, b"abcdef"),
+        (6, 4, b"abcdef", true, b"abcdef"),
+        (5, 4, b"abcdef", false, b"abcd"),
+        (8, 0, b"abc", false, b"ab"),
+    ];
+    for (room, chunk, text, all, want) in rows {
+        let (done, kept) = kept_of(alloc, room, chunk, text)?;
+        assert_eq!(rt; done, all, "room {room}, chunk {chunk}");
+        assert_eq!(rt; kept.as_slice(), want, "room {room}, chunk {chunk}");
+    }
+    Ok(())
+}

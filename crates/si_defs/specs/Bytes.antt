@@ -40,7 +40,7 @@ abbrev pub is_upper_word : Bytes → Bool
 is_upper_word [] = false
 is_upper_word (c ∷ cs) = is_capital_letter c && list_all is_word_byte cs
 
--- TPTP's decimal: a zero alone, or digits that do not begin with one
+-- TPTP's decimal: one digit, or several that do not begin with a zero
 abbrev pub is_decimal : Bytes → Bool
 is_decimal [] = false
 is_decimal (c ∷ []) = is_digit c

@@ -51,7 +51,7 @@ pub record Fits (s : Symbol) (side : Side) (arguments : ℕ) : Type 0 where
   pub with_arity : s.arity ≡ arguments
   pub of_kind : IsSoundSymbol s.kind s.text s.side s.arity
 
--- a term inside an atom, or by itself
+-- A term inside an atom, or by itself, by its form. The bound on its size stands with the values below.
 abbrev mutual
   pub IsSoundTerm : Term → Type 0
   IsSoundTerm (terms.var x) = Unit {0}

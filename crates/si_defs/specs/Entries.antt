@@ -1,11 +1,22 @@
 -- What a query looks through: the literals and subterms of clauses (MathWebSearch's queries over all subterms).
 use Rattle.std.specs.Prelude.{ℕ, ◌+◌, List, [], ◌∷◌, ◌++◌, map}
+use Rattle.si_defs.specs.Bytes.{Bytes}
 use Rattle.si_defs.specs.Terms as terms
-use Rattle.si_defs.specs.Clauses.{Term, Literal, Clause}
+use Rattle.si_defs.specs.Clauses.{Term, Literal, Clause, Pattern, literal_pattern, term_pattern}
 
 pub data Entry : Type 0 where
   literal_entry : Literal → Entry
   term_entry : Term → Entry
+
+-- the occurrences of variables in an entry
+abbrev pub entry_variables : Entry → List Bytes
+entry_variables (literal_entry l) = terms.variables l.atom
+entry_variables (term_entry t) = terms.variables t
+
+-- the pattern as an entry
+abbrev pub pattern_entry : Pattern → Entry
+pattern_entry (literal_pattern l) = literal_entry l
+pattern_entry (term_pattern t) = term_entry t
 
 -- where an entry stands in its clause: the literal's number from 1, and the path from the atom
 pub record Place : Type 0 where

@@ -14,3 +14,4 @@ pub mod Acceptance
 pub mod Answers
 pub mod Steps
 pub mod Runs
+pub mod Codes

@@ -1,10 +1,10 @@
--- Solution lists: triangular substitutions, and the one canonical list of each relation (this project's profile; the
--- triangular form and the most general unifier are Robinson's, 1965).
+-- Solution lists, and the one canonical list of each relation (this project's profile; the most general unifier is
+-- Robinson's, 1965).
 use Rattle.std.specs.Prelude.{◌≡◌, Bool, cond, List, [], ◌∷◌, ◌++◌}
 use Rattle.std.specs.List.{AllByRecursion}
 use Rattle.si_defs.specs.Terms.{Term, Terms, var, app, none, more, variables, substitute, firsts}
 use Rattle.si_defs.specs.Substitutions.{Substitution, apply, lefts, rights, IsAmong, IsOn}
-use Rattle.si_defs.specs.Relations.{Relation, Variants, Instances, Generalizations, Unifiable, Unifies}
+use Rattle.si_defs.specs.Relations.{Relation, Variants, Instances, Generalizations, Unifiable, Unifies, Matches, Relates}
 
 module _ {S V : Type 0} (same : V → V → Bool) where
   -- one binding applied, and a list of bindings applied one after the other from the left
@@ -88,9 +88,16 @@ module _ {S V : Type 0} (same : V → V → Bool) where
       pub folded : AllByRecursion (λ b. IsFoldedInside b.1) bs
       pub ordered : IsOrdered bs
 
-  -- the canonical list of each relation, where it holds
+  -- The canonical list of a match binds each variable of q, in the order of first occurrence, to its image: all at once,
+  -- and so also one after the other, it takes q to e.
+  pub record IsCanonicalMatch (q e : Term S V) (bs : List (V × Term S V)) : Type 0 where
+    pub matches : Matches same q e bs
+    pub achieves : Achieves Instances q e bs
+    pub each : BindsEach (variables q) bs
+
+  -- the canonical list of each relation; there is none where the relation fails
   abbrev pub IsCanonical : Relation → Term S V → Term S V → List (V × Term S V) → Type 0
   IsCanonical Unifiable q e bs = IsCanonicalUnifier q e bs
-  IsCanonical Instances q e bs = Achieves Instances q e bs × BindsEach (variables q) bs
-  IsCanonical Generalizations q e bs = Achieves Generalizations q e bs × BindsEach (variables e) bs
-  IsCanonical Variants q e bs = Achieves Variants q e bs × BindsEach (variables q) bs
+  IsCanonical Instances q e bs = IsCanonicalMatch q e bs
+  IsCanonical Generalizations q e bs = IsCanonicalMatch e q bs
+  IsCanonical Variants q e bs = Relates same Variants q e × IsCanonicalMatch q e bs

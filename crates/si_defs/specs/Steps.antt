@@ -3,7 +3,7 @@
 use Rattle.std.specs.Prelude.{◌≡◌, ℕ, ◌<◌, ◌≤◌, ◌⊎◌, Bool, true, false, ◌&&◌, ◌||◌, not, ◌==◌, List, [], ◌∷◌, ◌++◌, length, IsTrue, codes, decimal}
 use Rattle.std.specs.List.{list_all, list_any}
 use Rattle.si_defs.specs.Bytes.{Bytes, is_small_letter, is_capital_letter, is_digit, is_word_byte, is_white}
-use Rattle.si_defs.specs.Clauses.{Clause, Pattern, literal_pattern, term_pattern}
+use Rattle.si_defs.specs.Clauses.{Clause, most_occurrences, Pattern, literal_pattern, term_pattern}
 use Rattle.si_defs.specs.Entries.{entries, state_entries}
 use Rattle.si_defs.specs.Substitutions.{IsAmong}
 use Rattle.si_defs.specs.Relations.{Relation, Instances}
@@ -28,6 +28,12 @@ pub record Limits : Type 0 where
   pub depth : ℕ
   -- bytes of command input
   pub session : ℕ
+
+-- the limits that the numbers of a session allow
+pub record AllowsLimits (limits : Limits) : Type 0 where
+  pub line : limits.line ≤ most_occurrences
+  pub file : limits.file ≤ most_occurrences
+  pub entries : limits.entries ≤ most_occurrences
 
 -- ---- which lines are read
 -- Letters, digits, `_`, the marks `(`, `)`, `,`, `.` and white space but for the line feed. A digit stands directly
@@ -121,7 +127,7 @@ Performs (query relation pattern) state reply new =
 pub data RightStep (limits : Limits) (state : List Clause) (line : Bytes) (reply : Reply) (new : List Clause) : Type 0 where
   later : IsLater limits line → reply ≡ codes "! later" ∷ [] → new ≡ state → RightStep limits state line reply new
   silent : IsSilent limits line → reply ≡ [] → new ≡ state → RightStep limits state line reply new
-  wrong : (IsLater limits line → ⊥) → (IsSilent limits line → ⊥) → ((command : Command) → Means command line → ⊥)
+  wrong : IsFirstForm line → (IsLater limits line → ⊥) → ((command : Command) → Means command line → ⊥)
       → reply ≡ codes "! syntax" ∷ [] → new ≡ state → RightStep limits state line reply new
   performed : (IsLater limits line → ⊥) → (command : Command) → Means command line
       → Performs command state reply new → RightStep limits state line reply new

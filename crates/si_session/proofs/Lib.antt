@@ -2,3 +2,4 @@ pub mod MatchingLaws
 pub mod Renaming
 pub mod Firsts
 pub mod Matches
+pub mod Rows

@@ -217,7 +217,12 @@ matched_is_instance t u cs h = (solution_of cs, record { on = on_variables t u c
 
 pub matched_is_canonical : (t u : Term) (cs : Bindings) → matched t [] u ≡ Some cs → IsCanonical same_variable Instances (pattern_term t) (entry_term u) (solution_of cs)
 matched_is_canonical t u cs h =
-    ((on_variables t u cs h, in_sequence-is cs (pattern_term t) ∙ matched_image t [] u cs cs h (keeps_own cs)), binds_each t u cs h)
+    let takes = matched_image t [] u cs cs h (keeps_own cs) in
+    record {
+      matches = record { on = on_variables t u cs h; takes = takes };
+      achieves = (on_variables t u cs h, in_sequence-is cs (pattern_term t) ∙ takes);
+      each = binds_each t u cs h;
+    }
 
 -- ---- where matching finds nothing there is no instance
 -- the substitution gives each bound variable its term

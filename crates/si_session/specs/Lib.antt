@@ -1,2 +1,4 @@
 pub mod Equality
 pub mod Matching
+pub mod Limits
+pub mod Session

@@ -34,11 +34,12 @@ impl Model for Terms {
     ghost use Rattle.std.specs.Prelude.{List, ℕ, map};
     ghost use Rattle.std.specs.Coded.{coded_list, coded_ℕ};
     ghost use Rattle.si_defs.specs.Terms as terms;
-    ghost use Rattle.si_defs.specs.Symbols.{Symbol, symbol_code};
+    ghost use Rattle.si_defs.specs.Symbols.{Symbol};
+    ghost use Rattle.si_defs.specs.Codes as codes;
 
     ghost Value = { List (terms.Term Symbol (List ℕ)) };
 
-    ghost coded = { coded_list (terms.coded_term symbol_code (coded_list coded_ℕ)) };
+    ghost coded = { coded_list (codes.coded_term codes.symbol_code (coded_list coded_ℕ)) };
 
     ghost use Rattle.si_term.specs.Terms.{term_of, deepest};
 

@@ -1,0 +1,12 @@
+use Rattle.std.proofs.Common.{rules, ◌≡◌, bytes_eq, map, ℕ, ◌+◌, ◌-◌, ◌*◌, ◌<◌, ◌≤◌, length, ◌/◌, ◌%◌, Bool, true, false, arith}
+use Rattle.si_session.specs.Equality.{symbol_eq, term_eq, terms_eq}
+use Rattle.si_term.specs.Terms.{symbol_of, term_of}
+use Rattle.si_defs.specs.Terms.{row}
+use Rattle.si_session.proofs.Rows.{lengths, size-at}
+use Rattle.si_session.proofs.equality.+same.Goals as goal
+
+pub same_terms-returns-then-ts-us : goal.same_terms-returns-then-ts-us
+same_terms-returns-then-ts-us t c = lengths c.args.ts.now c.args.us.now c.if-ts-us.true
+
+pub same_terms-same_term-requires : goal.same_terms-same_term-requires
+same_terms-same_term-requires t c = ?

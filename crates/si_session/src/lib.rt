@@ -3,6 +3,7 @@
 
 mod equality;
 mod limits;
+mod matching;
 mod session;
 
 pub use limits::Limits;

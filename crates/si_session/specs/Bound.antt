@@ -1,0 +1,12 @@
+-- What the program's bindings stand for.
+use Rattle.std.specs.Prelude.{List, map}
+use Rattle.si_defs.specs.Bytes.{Bytes}
+use Rattle.si_defs.specs.Clauses as clauses
+use Rattle.si_term.specs.Terms.{term_of}
+use Rattle.si_session.specs.declared.matching.Binding.{Binding}
+
+abbrev pub binding_of : Binding → Bytes × clauses.Term
+binding_of b = (b.variable.now, term_of b.value.now)
+
+abbrev pub bindings_of : List Binding → List (Bytes × clauses.Term)
+bindings_of bs = map binding_of bs

@@ -3,3 +3,6 @@ pub mod Matching
 pub mod Limits
 pub mod Session
 pub mod Bound
+pub mod Hits
+pub mod Telling
+pub mod Signs

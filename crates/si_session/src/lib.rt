@@ -1,10 +1,14 @@
 //! Commands: one line of input, its reply, and the clauses behind it.
 #![tactic(auto)]
 
+mod answer;
 mod equality;
 mod limits;
 mod matching;
+mod printing;
 mod session;
+mod sign;
+mod solution;
 
 pub use limits::Limits;
 pub use session::{Session, Stepped};

@@ -1,0 +1,45 @@
+// The fixed signs of printed texts.
+ghost use Rattle.std.specs.Prelude.{OnOk, OnErr};
+ghost use Rattle.si_io.specs.Content.{Appends, AppendsPrefix};
+ghost use Rattle.si_io.specs.Faults.{HasCause};
+ghost use Rattle.si_session.specs.Signs.{sign_text};
+
+use crate::printing::put_bytes;
+use si_io::{Failed, Sink};
+
+/// A fixed sign between the parts of a printed text.
+#[derive(Clone, Copy, Debug, PartialEq, Eq)]
+pub enum Sign {
+    /// `?`, before a variable of the pattern.
+    Question,
+    /// ` -> `, between a variable and its term.
+    Arrow,
+    /// `; `, between two bindings.
+    Semicolon,
+    /// `{`, before the bindings.
+    OpenBrace,
+    /// `}`, behind the bindings.
+    CloseBrace,
+    /// A space, behind a place.
+    Space,
+    /// The end of a line.
+    LineFeed,
+}
+
+/// Writes a sign.
+#[tactic(auto, unfolding(crate::specs::Signs::sign_text))]
+pub fn put_sign<K: Sink>(sink: &mut K, sign: Sign) -> Result<(), Failed>
+    ensures all { OnOk result (Appends (K.written sink.old) (sign_text sign) (K.written sink.new)) }
+    ensures part { OnErr result (AppendsPrefix (K.written sink.old) (sign_text sign) (K.written sink.new)) }
+    ensures cause { HasCause (K.faults sink.old) (K.faults sink.new) result }
+{
+    match sign {
+        Sign::Question => put_bytes(sink, b"?"),
+        Sign::Arrow => put_bytes(sink, b" -> "),
+        Sign::Semicolon => put_bytes(sink, b"; "),
+        Sign::OpenBrace => put_bytes(sink, b"{"),
+        Sign::CloseBrace => put_bytes(sink, b"}"),
+        Sign::Space => put_bytes(sink, b" "),
+        Sign::LineFeed => put_bytes(sink, b"\n"),
+    }
+}

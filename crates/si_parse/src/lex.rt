@@ -1,9 +1,13 @@
 // From bytes to tokens.
-ghost use Rattle.std.specs.Prelude.{◌≡◌, ◌≤◌, ◌+◌, length, drop, IfOk};
+ghost use Rattle.std.specs.Prelude.{◌≡◌, ◌≤◌, ◌<◌, ◌+◌, length, drop, IfOk};
+ghost use Rattle.std.specs.List.{prefix_len};
+ghost use Rattle.si_defs.specs.Bytes as classes;
 ghost use Rattle.si_defs.specs.Steps.{IsPlain};
-ghost use Rattle.si_parse.specs.Lexing.{IsLexing};
+ghost use Rattle.si_parse.specs.Lexing.{IsLexing, IsNext, kind_of, tails};
 
 use crate::token::{Stop, Token};
+use si_defs::TokenKind;
+use si_term::Text;
 use std::alloc::{AllocError, Global};
 
 /// The tokens of some bytes, and why they end.
@@ -11,6 +15,107 @@ use std::alloc::{AllocError, Global};
 pub struct Lexing {
     pub tokens: Vec<Token>,
     pub stop: Stop,
+}
+
+/// What stands behind the blanks at a place.
+#[derive(Drop)]
+pub enum Lexed {
+    /// A token.
+    Token(Token),
+    /// Nothing: the bytes end.
+    End,
+    /// No token, at this place behind the longest blanks.
+    Bad(usize),
+}
+
+fn is_white(byte: u8) -> bool
+    ensures { result ≡ classes.is_white byte }
+{
+    byte == 9 || byte == 10 || byte == 12 || byte == 13 || byte == 32
+}
+
+// A letter, a digit or `_`.
+fn is_word_byte(byte: u8) -> bool
+    ensures { result ≡ classes.is_word_byte byte }
+{
+    byte.is_ascii_lowercase() || byte.is_ascii_uppercase() || byte.is_ascii_digit() || byte == b'_'
+}
+
+// The place behind the white space at a place.
+fn skip_white(bytes: &[u8], at: usize) -> usize
+    requires { at ≤ length bytes.now }
+    ensures within { result ≤ length bytes.now }
+    ensures run { result ≡ at + prefix_len classes.is_white (drop at bytes.now) }
+{
+    for i in at..bytes.len() {
+        if !is_white(bytes[i]) {
+            return i;
+        }
+    }
+    bytes.len()
+}
+
+// The place behind the word bytes at a place.
+fn word_end(bytes: &[u8], at: usize) -> usize
+    requires { at ≤ length bytes.now }
+    ensures within { result ≤ length bytes.now }
+    ensures run { result ≡ at + prefix_len classes.is_word_byte (drop at bytes.now) }
+{
+    for i in at..bytes.len() {
+        if !is_word_byte(bytes[i]) {
+            return i;
+        }
+    }
+    bytes.len()
+}
+
+// The kind of the token that begins with this byte.
+fn kind_of(byte: u8) -> Option<TokenKind>
+    ensures { result ≡ kind_of byte }
+{
+    match byte {
+        b'a'..=b'z' => Some(TokenKind::Lower),
+        b'A'..=b'Z' => Some(TokenKind::Upper),
+        b'(' | b')' | b',' | b'.' => Some(TokenKind::Mark),
+        _ => None,
+    }
+}
+
+// The place behind a token of this kind, of which the first byte stands before `from`.
+fn token_end(bytes: &[u8], from: usize, kind: TokenKind) -> usize
+    requires { from ≤ length bytes.now }
+    ensures within { result ≤ length bytes.now }
+    ensures run { result ≡ from + prefix_len (tails kind) (drop from bytes.now) }
+{
+    match kind {
+        TokenKind::Lower | TokenKind::Upper => word_end(bytes, from),
+        _ => from,
+    }
+}
+
+/// The next token from a place on.
+pub fn next_token(alloc: Global, bytes: &[u8], at: usize) -> Result<Lexed, AllocError>
+    requires within { at ≤ length bytes.now }
+    requires plain { IsPlain (drop at bytes.now) }
+    ensures { IfOk result (IsNext bytes.now at) }
+{
+    let start = skip_white(bytes, at);
+    if start >= bytes.len() {
+        return Ok(Lexed::End);
+    }
+    match kind_of(bytes[start]) {
+        None => Ok(Lexed::Bad(start)),
+        Some(kind) => {
+            let end = token_end(bytes, start + 1, kind);
+            let text = Text::from_bytes(alloc, &bytes[start..end])?;
+            Ok(Lexed::Token(Token {
+                kind,
+                start,
+                end,
+                text,
+            }))
+        }
+    }
 }
 
 /// All tokens from a place on, up to the first place where none stands or where brackets nest too deep.

@@ -1,0 +1,5 @@
+pub mod LexRuns
+pub mod LexBytes
+pub mod LexBlanks
+pub mod LexWords
+pub mod LexNext

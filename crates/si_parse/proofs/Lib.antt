@@ -3,3 +3,4 @@ pub mod LexBytes
 pub mod LexBlanks
 pub mod LexWords
 pub mod LexNext
+pub mod LexEvery

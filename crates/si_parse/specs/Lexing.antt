@@ -1,6 +1,6 @@
 -- What the lexer gives: the next token of plain text, and the longest list of tokens.
 use Rattle.std.specs.Prelude.{◌≡◌, ℕ, ◌<◌, ◌≤◌, Bool, false, cond, ◌==◌, Option, Some, None, List, [], ◌∷◌, ◌++◌, length, drop, codes}
-use Rattle.std.specs.List.{list_any}
+use Rattle.std.specs.List.{list_any, AllByRecursion}
 use Rattle.si_defs.specs.Bytes.{Bytes, is_small_letter, is_capital_letter, is_word_byte}
 use Rattle.si_defs.specs.Tokens as defs
 use Rattle.si_defs.specs.Tokens.{Begins, Consists, AreBlanks, Skips, TokenAt, NextToken}
@@ -68,6 +68,10 @@ EndAt bytes from [] = Unit {0}
 EndAt bytes from (t ∷ ts) =
     (t.end ≤ length bytes) × Begins from (token_of t ∷ []) (drop t.end bytes) × EndAt bytes (drop t.end bytes) ts
 
+-- a token stands from its start up to its end
+abbrev pub StandsAt : Bytes → Token → Type 0
+StandsAt bytes t = (t.start < t.end) × (t.end ≤ length bytes) × TokenAt (drop t.start bytes) (token_of t) (drop t.end bytes)
+
 -- The tokens from a place on, up to the first place where none stands or where brackets nest too deep.
 pub record IsLexing (bytes : Bytes) (at : ℕ) (tokens : List Token) (stop : Stop) : Type 0 where
   -- what stands behind the last token
@@ -76,6 +80,7 @@ pub record IsLexing (bytes : Bytes) (at : ℕ) (tokens : List Token) (stop : Sto
   pub nested : nesting (tokens_of tokens) ≤ deepest_nesting
   pub plain : ArePlain tokens
   pub ends : EndAt bytes (drop at bytes) tokens
+  pub places : AllByRecursion (StandsAt bytes) tokens
   -- at the end of the bytes
   pub blanks : stop ≡ End → AreBlanks rest
   -- whatever tokens the bytes begin with, they are the first of these

@@ -2,13 +2,19 @@
 ghost use Rattle.std.specs.Prelude.{◌≡◌, ◌≤◌, ◌<◌, ◌+◌, length, drop, IfOk};
 ghost use Rattle.std.specs.List.{prefix_len};
 ghost use Rattle.si_defs.specs.Bytes as classes;
+ghost use Rattle.si_defs.specs.Grammar.{open_behind};
 ghost use Rattle.si_defs.specs.Steps.{IsPlain};
+ghost use Rattle.si_defs.specs.Texts.{deepest_nesting};
+ghost use Rattle.si_parse.specs.Tokens.{IsPlainToken, token_of};
 ghost use Rattle.si_parse.specs.Lexing.{IsLexing, IsNext, kind_of, tails};
 
 use crate::token::{Stop, Token};
 use si_defs::TokenKind;
 use si_term::Text;
 use std::alloc::{AllocError, Global};
+
+// No more brackets than this are open at once.
+const DEEPEST_NESTING: usize = 512;
 
 /// The tokens of some bytes, and why they end.
 #[derive(Drop)]
@@ -118,11 +124,56 @@ pub fn next_token(alloc: Global, bytes: &[u8], at: usize) -> Result<Lexed, Alloc
     }
 }
 
+// The number of round brackets that are open behind a token, where this many are open before.
+fn depth_behind(depth: usize, token: &Token) -> usize
+    requires shallow { depth ≤ deepest_nesting }
+    requires plain { IsPlainToken (token_of token.now) }
+    ensures { result ≡ open_behind depth (token_of token.now) }
+{
+    match token.kind {
+        TokenKind::Mark => match token.text.as_bytes() {
+            [b'('] => depth + 1,
+            [b')'] => depth.saturating_sub(1),
+            _ => depth,
+        },
+        _ => depth,
+    }
+}
+
 /// All tokens from a place on, up to the first place where none stands or where brackets nest too deep.
 pub fn lex(alloc: Global, bytes: &[u8], at: usize) -> Result<Lexing, AllocError>
     requires within { at ≤ length bytes.now }
     requires plain { IsPlain (drop at bytes.now) }
     ensures { IfOk result (λ l. IsLexing bytes.now at l.tokens.items l.stop) }
 {
-    Err(AllocError)
+    let mut tokens = Vec::new(alloc);
+    let mut from = at;
+    let mut depth = 0;
+    loop {
+        match next_token(alloc, bytes, from)? {
+            Lexed::End => {
+                return Ok(Lexing {
+                    tokens,
+                    stop: Stop::End,
+                });
+            }
+            Lexed::Bad(_) => {
+                return Ok(Lexing {
+                    tokens,
+                    stop: Stop::Bad,
+                });
+            }
+            Lexed::Token(token) => {
+                depth = depth_behind(depth, &token);
+                if depth > DEEPEST_NESTING {
+                    return Ok(Lexing {
+                        tokens,
+                        stop: Stop::Bad,
+                    });
+                }
+                from = token.end;
+                tokens.push(token)?;
+            }
+        }
+    }
 }

@@ -13,24 +13,29 @@ use si_defs::TokenKind;
 use si_term::Text;
 use std::alloc::{AllocError, Global};
 
-// No more brackets than this are open at once.
+#[cfg(test)]
+mod tests;
+
+// No more round brackets than this are open at once.
 const DEEPEST_NESTING: usize = 512;
 
 /// The tokens of some bytes, and why they end.
 #[derive(Drop)]
 pub struct Lexing {
+    /// The tokens in order, each with its place.
     pub tokens: Vec<Token>,
+    /// What stands behind the last token.
     pub stop: Stop,
 }
 
-/// What stands behind the blanks at a place.
+/// What stands behind the blanks from a place on.
 #[derive(Drop)]
 pub enum Lexed {
-    /// A token.
+    /// A token, with its place.
     Token(Token),
     /// Nothing: the bytes end.
     End,
-    /// No token, at this place behind the longest blanks.
+    /// A byte that begins no token. This is its place, the first behind the blanks.
     Bad(usize),
 }
 
@@ -99,7 +104,15 @@ fn token_end(bytes: &[u8], from: usize, kind: TokenKind) -> usize
     }
 }
 
-/// The next token from a place on.
+/// The next token from a place on, with TPTP's rule: the longest one that stands behind the blanks.
+///
+/// `at` and all places count bytes from the start of `bytes`. From `at` on the bytes are plain: letters, digits behind a
+/// letter, a digit or `_`, the marks `(`, `)`, `,` and `.`, and white space without a line feed. So a token is a lower
+/// word, an upper word or one of these marks, and what stands behind it is plain too.
+///
+/// # Errors
+///
+/// `AllocError` where there is no memory for the token's text.
 pub fn next_token(alloc: Global, bytes: &[u8], at: usize) -> Result<Lexed, AllocError>
     requires within { at ≤ length bytes.now }
     requires plain { IsPlain (drop at bytes.now) }
@@ -140,7 +153,15 @@ fn depth_behind(depth: usize, token: &Token) -> usize
     }
 }
 
-/// All tokens from a place on, up to the first place where none stands or where brackets nest too deep.
+/// All tokens from a place on, up to the first place where none stands, or where a token would have more than 512 round
+/// brackets open at once.
+///
+/// Whatever tokens the bytes begin with by TPTP's rules, nested no deeper, are the first of these. `at` and the bytes
+/// are as for [`next_token`].
+///
+/// # Errors
+///
+/// `AllocError` where there is no memory for the tokens.
 pub fn lex(alloc: Global, bytes: &[u8], at: usize) -> Result<Lexing, AllocError>
     requires within { at ≤ length bytes.now }
     requires plain { IsPlain (drop at bytes.now) }

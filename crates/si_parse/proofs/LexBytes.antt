@@ -10,6 +10,10 @@ use Rattle.si_defs.specs.declared.TokenKind.{TokenKind}
 use Rattle.si_defs.specs.declared.TokenKind.TheVariants.{Lower, Upper, Dollar, Int, Single, Double, NotEqual, Mark}
 use Rattle.si_parse.specs.Lexing.{kind_of, tails, is_plain_mark}
 
+-- TPTP's marks
+abbrev pub marks : Bytes
+marks = codes "()[],.=~|!?&<>@*+-^;/:#{}"
+
 -- what holds of each of a list of bytes holds of one that is among them
 pub of_listed : (q : ℕ → Bool) (c : ℕ) (ms : List ℕ) → list_any (λ m. m == c) ms ≡ true → list_all q ms ≡ true → q c ≡ true
 of_listed q c [] h k = absurd (false≢true h)
@@ -45,9 +49,9 @@ no_integer c o h p =
 -- a mark is no letter and no `_`
 mark_no_letter : (c : ℕ) → is_mark c ≡ true → (is_small_letter c ≡ false) × (is_capital_letter c ≡ false) × (c == 95 ≡ false)
 mark_no_letter c h = (
-  not-true _ (of_listed (λ m. not (is_small_letter m)) c (codes "()[],.=~|!?&<>@*+-^;/:#{}") h refl),
-  not-true _ (of_listed (λ m. not (is_capital_letter m)) c (codes "()[],.=~|!?&<>@*+-^;/:#{}") h refl),
-  not-true _ (of_listed (λ m. not (m == 95)) c (codes "()[],.=~|!?&<>@*+-^;/:#{}") h refl),
+  not-true _ (of_listed (λ m. not (is_small_letter m)) c marks h refl),
+  not-true _ (of_listed (λ m. not (is_capital_letter m)) c marks h refl),
+  not-true _ (of_listed (λ m. not (m == 95)) c marks h refl),
 )
 
 -- a plain mark is a mark

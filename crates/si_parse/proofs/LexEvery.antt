@@ -129,7 +129,7 @@ so_far_none bytes at l p = record {
 }
 
 -- the token that stands next
-next_of : (bytes : Bytes) (from : ℕ) (t : Token) → IsNextToken bytes from t → NextToken (drop from bytes) (token_of t) (drop t.end bytes)
+pub next_of : (bytes : Bytes) (from : ℕ) (t : Token) → IsNextToken bytes from t → NextToken (drop from bytes) (token_of t) (drop t.end bytes)
 next_of bytes from t n = record { place = drop t.start bytes; skips = n.skips; stands = n.stands }
 
 -- one more token
@@ -178,14 +178,16 @@ pub lexing_end : (bytes : Bytes) (at : ℕ) (tokens : List Token) (from depth : 
 lexing_end bytes at tokens from depth p s n =
     lexing_at bytes at tokens from depth End p s (record { blanks = λ e. n.blanks; more = λ b. refl; deep = λ u behind k. absurd (n.none u behind k) })
 
+-- the two reasons to stop differ
+bad_no_end : Bad ≡ End → ⊥
+bad_no_end e = cc
+
 -- where no token stands
 pub lexing_bad : (bytes : Bytes) (at : ℕ) (tokens : List Token) (from depth place : ℕ) → IsPlain (drop at bytes) → IsSoFar bytes at tokens from depth
     → IsNextBad bytes from place → IsLexing bytes at tokens Bad
 lexing_bad bytes at tokens from depth place p s n =
     lexing_at bytes at tokens from depth Bad p s
-    (record { blanks = λ e. absurd (bad_no_end e); more = λ b. absurd (n.more b); deep = λ u behind k. absurd (n.none u behind k) }) where
-      bad_no_end : Bad ≡ End → ⊥
-      bad_no_end e = cc
+    (record { blanks = λ e. absurd (bad_no_end e); more = λ b. absurd (n.more b); deep = λ u behind k. absurd (n.none u behind k) })
 
 -- where brackets would nest too deep
 pub lexing_deep : (bytes : Bytes) (at : ℕ) (tokens : List Token) (from depth : ℕ) (t : Token) → IsPlain (drop at bytes) → IsSoFar bytes at tokens from depth
@@ -196,6 +198,4 @@ lexing_deep bytes at tokens from depth t p s n l =
       blanks = λ e. absurd (bad_no_end e);
       more = λ b. absurd (n.more b);
       deep = λ u behind k. subst (λ v. deepest_nesting < open_behind depth v) (sym (n.only u behind k).0) l;
-    }) where
-      bad_no_end : Bad ≡ End → ⊥
-      bad_no_end e = cc
+    })

@@ -1,5 +1,5 @@
 -- The longest front of a list that passes a test, and what stands behind it.
-use Rattle.std.proofs.Common.{◌≡◌, ℕ, ◌+◌, ◌≤◌, Bool, true, false, cond, List, [], ◌∷◌, ◌++◌, length, drop, take, refl, ap, arith, one-add}
+use Rattle.std.proofs.Common.{◌≡◌, ℕ, ◌+◌, ◌≤◌, Bool, true, false, cond, List, [], ◌∷◌, ◌++◌, length, drop, refl, ap, arith, one-add}
 use Rattle.std.specs.List.{list_all, prefix_len}
 use Rattle.std.proofs.lemmas.Bool.{and_parts}
 
@@ -74,13 +74,6 @@ front_is p (x ∷ o) b h l =
     let m = rw k.0 at l in
     let r = front_is p o b k.1 (omega arith) in
     rw k.0 (ap (λ ys. x ∷ ys) r.0, r.1)
-
--- the longest front by its length
-pub take-prefix_len : (p : ℕ → Bool) (xs : List ℕ) → take (prefix_len p xs) xs ≡ front p xs
-take-prefix_len p [] = refl
-take-prefix_len p (x ∷ xs) =
-    elim (p x) as (λ v. take (cond v (1 + prefix_len p xs) 0) (x ∷ xs) ≡ cond v (x ∷ front p xs) [])
-    [ true ↦ rw one-add (ap (λ ys. x ∷ ys) (take-prefix_len p xs)) | false ↦ refl ]
 
 -- what stands behind it by its length
 pub drop-prefix_len : (p : ℕ → Bool) (xs : List ℕ) → drop (prefix_len p xs) xs ≡ behind p xs

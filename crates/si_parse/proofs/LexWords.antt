@@ -11,7 +11,7 @@ use Rattle.si_defs.specs.declared.TokenKind.TheVariants.{Lower, Upper, Dollar, I
 use Rattle.si_parse.specs.Lexing.{kind_of, tails, is_plain_mark}
 use Rattle.si_parse.specs.Tokens.{IsPlainToken}
 use Rattle.si_parse.proofs.LexRuns.{front, behind, front-append-behind, list_all-front, behind_stops, behind_self, length-le-front, front_is}
-use Rattle.si_parse.proofs.LexBytes.{of_listed, not_plain, plain_mark_is_mark, all_none, spelling_is, decimal_digit}
+use Rattle.si_parse.proofs.LexBytes.{marks, of_listed, not_plain, plain_mark_is_mark, all_none, spelling_is, decimal_digit}
 use Rattle.si_parse.proofs.LexBlanks.{IsBehind, behind_skips, blanks_are_white, plain_place}
 
 -- no token is empty
@@ -53,15 +53,17 @@ not_white Double text c o s = let e : c ≡ 34 = cc in rw e refl
 not_white NotEqual text c o s = let e : c ≡ 33 = cc in rw e refl
 not_white Mark text c o s =
     let e : c ≡ s.1.0 = cc in
-    rw e (not-true _ (of_listed (λ m. not (is_white m)) s.1.0 (codes "()[],.=~|!?&<>@*+-^;/:#{}") s.1.2 refl))
+    rw e (not-true _ (of_listed (λ m. not (is_white m)) s.1.0 marks s.1.2 refl))
 
 -- the letter where the kind is that of a word
 small_at : (c : ℕ) → kind_of c ≡ Some Lower → is_small_letter c ≡ true
 small_at c h = grind (arith, nat_tests)
 
+-- the same at a capital letter
 capital_at : (c : ℕ) → kind_of c ≡ Some Upper → is_capital_letter c ≡ true
 capital_at c h = grind (arith, nat_tests)
 
+-- the same at a mark
 mark_at : (c : ℕ) → kind_of c ≡ Some Mark → is_plain_mark c ≡ true
 mark_at c h = grind (arith, nat_tests)
 

@@ -17,6 +17,7 @@ use Rattle.si_parse.specs.declared.token.Stop.{Stop}
 use Rattle.si_parse.specs.declared.token.Stop.TheVariants.{End}
 
 -- ---- one token
+-- the marks of plain text
 abbrev pub is_plain_mark : ℕ → Bool
 is_plain_mark c = list_any (λ m. m == c) (codes "(),.")
 
@@ -80,6 +81,7 @@ pub record IsLexing (bytes : Bytes) (at : ℕ) (tokens : List Token) (stop : Sto
   pub nested : nesting (tokens_of tokens) ≤ deepest_nesting
   pub plain : ArePlain tokens
   pub ends : EndAt bytes (drop at bytes) tokens
+  -- and begins at its place
   pub places : AllByRecursion (StandsAt bytes) tokens
   -- at the end of the bytes
   pub blanks : stop ≡ End → AreBlanks rest

@@ -24,7 +24,7 @@ plain_white c cs h p =
     subst (λ b. is_plain_behind b cs ≡ true) (white_no_word c h) (and_parts (is_plain_byte false c) (is_plain_behind (is_word_byte c) cs) p).1
 
 -- blanks of plain text are white space
-pub behind_blanks : (blanks : List Bytes) → AllByRecursion IsBlank blanks → (bytes rest : Bytes) → bytes ≡ joined blanks ++ rest → IsPlain bytes → IsBehind bytes rest
+behind_blanks : (blanks : List Bytes) → AllByRecursion IsBlank blanks → (bytes rest : Bytes) → bytes ≡ joined blanks ++ rest → IsPlain bytes → IsBehind bytes rest
 behind_blanks [] each bytes rest e p = record { same = ap (behind is_white) e; plain = subst (λ bs. IsPlain bs) e p }
 behind_blanks (b ∷ bs) each bytes rest e p = step (behind_blanks bs each.1 (joined bs ++ rest) rest refl) each.0 where
   step : (IsPlain (joined bs ++ rest) → IsBehind (joined bs ++ rest) rest) → IsBlank b → IsBehind bytes rest

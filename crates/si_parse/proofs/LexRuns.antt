@@ -43,11 +43,6 @@ behind_stops p (x ∷ xs) c cs e = step (behind_stops p xs c cs) (p x) refl e wh
   step r true q h = r h
   step r false q h = cc
 
--- what stands behind elements that pass
-pub behind-append : (p : ℕ → Bool) (ws xs : List ℕ) → list_all p ws ≡ true → behind p (ws ++ xs) ≡ behind p xs
-behind-append p [] xs h = refl
-behind-append p (w ∷ ws) xs h = let k = and_parts (p w) (list_all p ws) h in rw k.0 (behind-append p ws xs k.1)
-
 -- a list whose first does not pass stands behind its own front
 pub behind_self : (p : ℕ → Bool) (c : ℕ) (cs : List ℕ) → p c ≡ false → behind p (c ∷ cs) ≡ c ∷ cs
 behind_self p c cs h = rw h

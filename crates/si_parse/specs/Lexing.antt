@@ -1,20 +1,77 @@
--- What the lexer gives: the longest list of tokens.
-use Rattle.std.specs.Prelude.{◌≡◌, ℕ, ◌≤◌, List, [], ◌∷◌, ◌++◌, length, drop}
-use Rattle.si_defs.specs.Bytes.{Bytes}
+-- What the lexer gives: the next token of plain text, and the longest list of tokens.
+use Rattle.std.specs.Prelude.{◌≡◌, ℕ, ◌<◌, ◌≤◌, Bool, false, cond, ◌==◌, Option, Some, None, List, [], ◌∷◌, ◌++◌, length, drop, codes}
+use Rattle.std.specs.List.{list_any, AllByRecursion}
+use Rattle.si_defs.specs.Bytes.{Bytes, is_small_letter, is_capital_letter, is_word_byte}
 use Rattle.si_defs.specs.Tokens as defs
-use Rattle.si_defs.specs.Tokens.{Begins, Consists, AreBlanks, Skips}
+use Rattle.si_defs.specs.Tokens.{Begins, Consists, AreBlanks, Skips, TokenAt, NextToken}
 use Rattle.si_defs.specs.Grammar.{nesting}
-use Rattle.si_defs.specs.Texts.{deepest_nesting}
-use Rattle.si_parse.specs.Tokens.{token_of, tokens_of, ArePlain}
+use Rattle.si_defs.specs.Texts.{deepest_nesting, IsPlace}
+use Rattle.si_defs.specs.Steps.{IsPlain}
+use Rattle.si_defs.specs.declared.TokenKind.{TokenKind}
+use Rattle.si_defs.specs.declared.TokenKind.TheVariants.{Lower, Upper, Mark}
+use Rattle.si_parse.specs.Tokens.{token_of, tokens_of, IsPlainToken, ArePlain}
 use Rattle.si_parse.specs.declared.token.Token.{Token}
+use Rattle.si_parse.specs.declared.lex.Lexed.{Lexed}
+use Rattle.si_parse.specs.declared.lex.Lexed.TheVariants as lexed
 use Rattle.si_parse.specs.declared.token.Stop.{Stop}
 use Rattle.si_parse.specs.declared.token.Stop.TheVariants.{End}
 
+-- ---- one token
+-- the marks of plain text
+abbrev pub is_plain_mark : ℕ → Bool
+is_plain_mark c = list_any (λ m. m == c) (codes "(),.")
+
+-- the kind of the token that this byte begins in plain text; none where no token begins with it
+abbrev pub kind_of : ℕ → Option TokenKind
+kind_of c = cond (is_small_letter c) (Some Lower) (cond (is_capital_letter c) (Some Upper) (cond (is_plain_mark c) (Some Mark) None))
+
+-- which bytes go on with a token of this kind in plain text
+abbrev pub tails : TokenKind → ℕ → Bool
+tails Lower c = is_word_byte c
+tails Upper c = is_word_byte c
+tails kind c = false
+
+-- the token at the place behind the blanks, and that no other stands there
+pub record IsNextToken (bytes : Bytes) (at : ℕ) (t : Token) : Type 0 where
+  pub from : at ≤ t.start
+  pub some : t.start < t.end
+  pub within : t.end ≤ length bytes
+  pub skips : Skips (drop at bytes) (drop t.start bytes)
+  pub stands : TokenAt (drop t.start bytes) (token_of t) (drop t.end bytes)
+  pub word_or_mark : IsPlainToken (token_of t)
+  pub plain : IsPlain (drop t.end bytes)
+  pub only : (u : defs.Token) (rest : Bytes) → NextToken (drop at bytes) u rest → (u ≡ token_of t) × (rest ≡ drop t.end bytes)
+  pub more : AreBlanks (drop at bytes) → ⊥
+
+-- nothing but blanks stands from this place on
+pub record IsNextEnd (bytes : Bytes) (at : ℕ) : Type 0 where
+  pub blanks : AreBlanks (drop at bytes)
+  pub none : (u : defs.Token) (rest : Bytes) → NextToken (drop at bytes) u rest → ⊥
+
+-- behind the longest blanks, at the place that is given, no token stands
+pub record IsNextBad (bytes : Bytes) (at place : ℕ) : Type 0 where
+  pub from : at ≤ place
+  pub within : place < length bytes
+  pub behind : IsPlace (drop at bytes) (drop place bytes)
+  pub none : (u : defs.Token) (rest : Bytes) → NextToken (drop at bytes) u rest → ⊥
+  pub more : AreBlanks (drop at bytes) → ⊥
+
+-- what stands behind the blanks from a place on
+abbrev pub IsNext : Bytes → ℕ → Lexed → Type 0
+IsNext bytes at (lexed.Token t) = IsNextToken bytes at t
+IsNext bytes at lexed.End = IsNextEnd bytes at
+IsNext bytes at (lexed.Bad place) = IsNextBad bytes at place
+
+-- ---- all tokens
 -- Each token ends at its place: behind it the bytes go on with the tokens that follow.
 abbrev pub EndAt : Bytes → Bytes → List Token → Type 0
 EndAt bytes from [] = Unit {0}
 EndAt bytes from (t ∷ ts) =
     (t.end ≤ length bytes) × Begins from (token_of t ∷ []) (drop t.end bytes) × EndAt bytes (drop t.end bytes) ts
+
+-- a token stands from its start up to its end
+abbrev pub StandsAt : Bytes → Token → Type 0
+StandsAt bytes t = (t.start < t.end) × (t.end ≤ length bytes) × TokenAt (drop t.start bytes) (token_of t) (drop t.end bytes)
 
 -- The tokens from a place on, up to the first place where none stands or where brackets nest too deep.
 pub record IsLexing (bytes : Bytes) (at : ℕ) (tokens : List Token) (stop : Stop) : Type 0 where
@@ -24,6 +81,8 @@ pub record IsLexing (bytes : Bytes) (at : ℕ) (tokens : List Token) (stop : Sto
   pub nested : nesting (tokens_of tokens) ≤ deepest_nesting
   pub plain : ArePlain tokens
   pub ends : EndAt bytes (drop at bytes) tokens
+  -- and begins at its place
+  pub places : AllByRecursion (StandsAt bytes) tokens
   -- at the end of the bytes
   pub blanks : stop ≡ End → AreBlanks rest
   -- whatever tokens the bytes begin with, they are the first of these

@@ -2,13 +2,16 @@
 use si_defs::TokenKind;
 use si_term::Text;
 
-/// A token, and where it stands in the bytes: from `start` up to `end`, without `end`. The text is the spelling, but for
-/// quotes and escapes.
+/// A token of TPTP's token grammar, and where it stands in the bytes.
 #[derive(Drop)]
 pub struct Token {
+    /// What it is.
     pub kind: TokenKind,
+    /// The place of its first byte, in bytes from their start.
     pub start: usize,
+    /// The place behind its last byte.
     pub end: usize,
+    /// Its spelling, but for quotes and escapes.
     pub text: Text,
 }
 

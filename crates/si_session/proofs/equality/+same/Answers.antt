@@ -11,6 +11,6 @@ same_terms-returns-then-ts-us t c = lengths c.args.ts.now c.args.us.now c.if-ts-
 pub same_terms-same_term-requires : goal.same_terms-same_term-requires
 same_terms-same_term-requires t c =
     let within : size (term_of c.index-ts-i.result) ≤ sizes (row (map term_of c.args.ts.now)) =
-        subst (λ u. size (term_of u) ≤ sizes (row (map term_of c.args.ts.now))) (sym c.index-ts-i.is)
-        (size-at c.args.ts.now c.loop-i.i c.index-ts-i.result c.loop-i-test.true) in
+    subst (λ u. size (term_of u) ≤ sizes (row (map term_of c.args.ts.now))) (sym c.index-ts-i.is)
+    (size-at c.args.ts.now c.loop-i.i c.index-ts-i.result c.loop-i-test.true) in
     (omega (arith, within, c.decreases), tt)

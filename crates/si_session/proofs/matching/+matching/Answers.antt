@@ -12,6 +12,6 @@ all_match-returns-then-patterns-entries t c =
 pub all_match-matches-requires : goal.all_match-matches-requires
 all_match-matches-requires t c =
     let within : size (term_of c.index-patterns-i.result) ≤ sizes (row (map term_of c.args.patterns.now)) =
-        subst (λ u. size (term_of u) ≤ sizes (row (map term_of c.args.patterns.now))) (sym c.index-patterns-i.is)
-        (size-at c.args.patterns.now c.loop-i.i c.index-patterns-i.result c.loop-i-test.true) in
+    subst (λ u. size (term_of u) ≤ sizes (row (map term_of c.args.patterns.now))) (sym c.index-patterns-i.is)
+    (size-at c.args.patterns.now c.loop-i.i c.index-patterns-i.result c.loop-i-test.true) in
     (omega (arith, within, c.decreases), tt)

@@ -10,7 +10,7 @@ abbrev pub invariant-all_match-loop-i : goal.invariant-all_match-loop-i
 invariant-all_match-loop-i l =
     (length l.patterns ≡ length l.entries)
     × (all_matched (row (map term_of (drop l.i l.patterns))) (bindings_of l.bindings.items) (row (map term_of (drop l.i l.entries)))
-       ≡ all_matched (row (map term_of l.patterns)) (bindings_of l.fn.bindings.items) (row (map term_of l.entries)))
+    ≡ all_matched (row (map term_of l.patterns)) (bindings_of l.fn.bindings.items) (row (map term_of l.entries)))
 
 abbrev pub decreases-matches : goal.decreases-matches
 decreases-matches l = 2 * size (term_of l.pattern.now)

@@ -1,2 +1,4 @@
 pub mod Terms
 pub mod Meaning
+pub mod Walks
+pub mod Gathered

@@ -5,12 +5,17 @@
 #![tactic(auto)]
 
 pub mod clause;
+mod entries;
 pub mod list;
 pub mod term;
 pub mod text;
 
 pub use clause::{Clause, Entry, Literal, Name, Pattern, Place};
+pub use entries::{entry_at, entry_count, place_at, vars_of};
 pub use list::{Literals, Names, Path, Syms, Texts};
 pub use si_defs::{NameKind, Side, SymKind};
 pub use term::{Sym, Term, Terms};
 pub use text::Text;
+
+#[cfg(test)]
+mod tests;

@@ -1,0 +1,5 @@
+pub mod Rows
+pub mod Progress
+pub mod Alone
+pub mod Literals
+pub mod Gathered

@@ -1,0 +1,149 @@
+ghost use Rattle.std.specs.Prelude.{◌≡◌, ◌≤◌, ◌<◌, ◌+◌, ◌∷◌, [], IfOk, length, map};
+ghost use Rattle.si_defs.specs.Terms.{row, size, sizes};
+ghost use Rattle.si_defs.specs.Clauses.{literals_size};
+ghost use Rattle.si_term.specs.Terms.{term_of};
+ghost use Rattle.si_term.specs.Meaning.{clause_of, literal_of};
+
+use crate::*;
+use std::alloc::{AllocError, Global};
+use std::test::Fail;
+
+fn variable(alloc: Global, name: &[u8]) -> Result<Term, AllocError>
+    ensures { IfOk result (λ t. size (term_of t) ≡ 1) }
+{
+    Ok(Term::Var(Text::from_bytes(alloc, name)?))
+}
+
+fn apply(alloc: Global, side: Side, text: &[u8], arguments: Terms) -> Result<Term, AllocError>
+    requires { length arguments < 3 }
+    ensures { IfOk result (λ t. size (term_of t) ≡ 1 + sizes (row arguments)) }
+{
+    let symbol = Sym {
+        kind: SymKind::Word,
+        text: Text::from_bytes(alloc, text)?,
+        side,
+        arity: arguments.len() as u32,
+    };
+    Ok(Term::App(symbol, arguments))
+}
+
+fn one(alloc: Global, first: Term) -> Result<Terms, AllocError>
+    ensures { IfOk result (λ ts. ts ≡ term_of first ∷ []) }
+{
+    let mut terms = Terms::new(alloc);
+    terms.push(first)?;
+    Ok(terms)
+}
+
+fn two(alloc: Global, first: Term, second: Term) -> Result<Terms, AllocError>
+    ensures { IfOk result (λ ts. ts ≡ term_of first ∷ term_of second ∷ []) }
+{
+    let mut terms = one(alloc, first)?;
+    terms.push(second)?;
+    Ok(terms)
+}
+
+/// A literal `p(first,second)`.
+fn literal(alloc: Global, first: Term, second: Term) -> Result<Literal, AllocError>
+    ensures { IfOk result (λ l. size (term_of l.atom) ≡ 1 + (size (term_of first) + size (term_of second))) }
+{
+    Ok(Literal {
+        positive: true,
+        atom: apply(alloc, Side::Predicate, b"p", two(alloc, first, second)?)?,
+    })
+}
+
+/// A function `f(X,second)`.
+fn pair(alloc: Global, name: &[u8], second: Term) -> Result<Term, AllocError>
+    ensures { IfOk result (λ t. size (term_of t) ≡ 2 + size (term_of second)) }
+{
+    let first = variable(alloc, name)?;
+    apply(alloc, Side::Function, b"f", two(alloc, first, second)?)
+}
+
+fn constant(alloc: Global) -> Result<Term, AllocError>
+    ensures { IfOk result (λ t. size (term_of t) ≡ 1) }
+{
+    apply(alloc, Side::Function, b"a", Terms::new(alloc))
+}
+
+/// The literals `p(f(X),a)`, `p(X,f(Y,a))` and `p(f(Y,X),Y)`.
+fn literals(alloc: Global) -> Result<Literals, AllocError>
+    ensures { IfOk result (λ ls. literals_size (map literal_of ls) ≤ 14) }
+{
+    let x = variable(alloc, b"X")?;
+    let fx = apply(alloc, Side::Function, b"g", one(alloc, x)?)?;
+    let first = literal(alloc, fx, constant(alloc)?)?;
+    let fya = pair(alloc, b"Y", constant(alloc)?)?;
+    let second = literal(alloc, variable(alloc, b"X")?, fya)?;
+    let fyx = pair(alloc, b"Y", variable(alloc, b"X")?)?;
+    let third = literal(alloc, fyx, variable(alloc, b"Y")?)?;
+    let mut all = Literals::new(alloc);
+    all.push(first)?;
+    all.push(second)?;
+    all.push(third)?;
+    Ok(all)
+}
+
+fn clause(alloc: Global) -> Result<Clause, AllocError>
+    ensures { IfOk result (λ c. literals_size (clause_of c).literals ≤ 14) }
+{
+    Ok(Clause {
+        name: Name {
+            kind: NameKind::Word,
+            text: Text::from_bytes(alloc, b"c")?,
+        },
+        role: Text::from_bytes(alloc, b"axiom")?,
+        literals: literals(alloc)?,
+    })
+}
+
+/// The symbol of a term, and `literal` for a literal.
+fn head(entry: Entry<'_>) -> &[u8] {
+    match entry {
+        Entry::Sub(Term::App(symbol, _)) => symbol.text.as_bytes(),
+        Entry::Sub(Term::Var(name)) => name.as_bytes(),
+        Entry::Lit(_) => b"literal",
+    }
+}
+
+#[test]
+fn entries_stand_in_order(rt: HostRuntime) -> Result<(), Fail> {
+    let alloc = rt.alloc();
+    let rows: [(&[u8], u32, &[u32], &[&[u8]]); 8] = [
+        (b"literal", 1, &[], &[b"X"]),
+        (b"g", 1, &[1], &[b"X"]),
+        (b"a", 1, &[2], &[]),
+        (b"literal", 2, &[], &[b"X", b"Y"]),
+        (b"f", 2, &[2], &[b"Y"]),
+        (b"a", 2, &[2, 2], &[]),
+        (b"literal", 3, &[], &[b"Y", b"X"]),
+        (b"f", 3, &[1], &[b"Y", b"X"]),
+    ];
+    let clause = clause(alloc)?;
+    assert_eq!(rt; entry_count(&clause), 8);
+    for number in 0..8u32 {
+        let (want, literal, path, names) = rows[number as usize];
+        let entry = entry_at(&clause, number);
+        assert_eq!(rt; head(entry), want, "entry {number}");
+        let place = place_at(alloc, &clause, number)?;
+        assert_eq!(rt; place.literal, literal, "entry {number}");
+        assert_eq!(rt; place.path.as_slice(), path, "entry {number}");
+        let found = vars_of(alloc, entry)?;
+        assert_eq!(rt; found.len(), names.len(), "entry {number}");
+        for (name, text) in names.iter().zip(found.as_slice()) {
+            assert_eq!(rt; text.as_bytes(), *name, "entry {number}");
+        }
+    }
+    Ok(())
+}
+
+#[test]
+fn a_pattern_is_an_entry(rt: HostRuntime) -> Result<(), Fail> {
+    let alloc = rt.alloc();
+    let term = Pattern::Term(constant(alloc)?);
+    assert_eq!(rt; head(term.as_entry()), b"a".as_slice());
+    let atom = Pattern::Lit(literal(alloc, constant(alloc)?, constant(alloc)?)?);
+    assert_eq!(rt; head(atom.as_entry()), b"literal".as_slice());
+    Ok(())
+}

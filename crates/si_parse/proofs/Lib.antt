@@ -1,0 +1,3 @@
+pub mod ParseSteps
+pub mod ParseReads
+pub mod GrammarTerms

@@ -1,0 +1,82 @@
+-- What a reader of the program's tokens gives, said of the definitions' tokens.
+use Rattle.std.proofs.Common.{◌≡◌, ℕ, ◌+◌, ◌-◌, ◌≤◌, ◌<◌, List, [], ◌∷◌, ◌++◌, length, map, take, drop, get_or, Option, Some, None, refl, sym, ap, ◌∙◌, subst, arith, ◌⊎◌, inl, inr, Bor}
+use Rattle.std.specs.List.{AllByRecursion}
+use Rattle.std.specs.Option.{option_map}
+use Rattle.std.proofs.lemmas.List.{take_all, length-append, length-map}
+use Rattle.si_defs.specs.Tokens as defs
+use Rattle.si_parse.specs.Parsing.{Parses, Reads}
+use Rattle.si_parse.specs.Tokens.{token_of, tokens_of, ArePlain, IsPlainToken}
+use Rattle.si_parse.specs.declared.token.Token.{Token}
+
+-- where the first token of a slice is known, it stands in front of the others
+pub split_first : (ts : List Token) (t : Token) → 1 ≤ length ts → t ≡ get_or ts 0 t → ts ≡ t ∷ take (length ts - 1) (drop 1 ts)
+split_first [] t h e = absurd (omega arith)
+split_first (u ∷ us) t h e = ap (λ x. x ∷ us) (sym e) ∙ ap (λ x. t ∷ x) (sym (take_all (length (u ∷ us) - 1) us (omega arith)))
+
+-- the same of what the tokens stand for
+pub first_token : (ts : List Token) (t : Token) → 1 ≤ length ts → t ≡ get_or ts 0 t → tokens_of ts ≡ token_of t ∷ tokens_of (take (length ts - 1) (drop 1 ts))
+first_token ts t h e = ap tokens_of (split_first ts t h e)
+
+-- a slice without a first token is empty
+pub no_token : (ts : List Token) → length ts < 1 → tokens_of ts ≡ []
+no_token [] h = refl
+no_token (t ∷ ts) h = absurd (omega arith)
+
+-- the first of plain tokens is plain
+pub plain_first : (ts : List Token) (t : Token) → 1 ≤ length ts → t ≡ get_or ts 0 t → ArePlain ts → IsPlainToken (token_of t)
+plain_first ts t h e plain = front (split_first ts t h e) where
+  front : {rest : List Token} → ts ≡ t ∷ rest → IsPlainToken (token_of t)
+  front {rest = rest} f = (subst ArePlain f plain).0
+
+-- and so are the others
+pub plain_others : (ts : List Token) → ArePlain ts → ArePlain (take (length ts - 1) (drop 1 ts))
+plain_others [] h = tt
+plain_others (t ∷ ts) h = subst ArePlain (sym (take_all (length (t ∷ ts) - 1) ts (omega arith))) h.1
+
+-- which are fewer by one
+pub others_shorter : (ts : List Token) → 1 ≤ length ts → length (take (length ts - 1) (drop 1 ts)) < length ts
+others_shorter [] h = absurd (omega arith)
+others_shorter (t ∷ ts) h = omega (arith, ap length (take_all (length (t ∷ ts) - 1) ts (omega arith)))
+
+-- plain tokens of the program stand for plain tokens
+pub plain_tokens : (ts : List Token) → ArePlain ts → AllByRecursion IsPlainToken (tokens_of ts)
+plain_tokens [] h = tt
+plain_tokens (t ∷ ts) h = (h.0, plain_tokens ts h.1)
+
+plain_back : (ts : List Token) → AllByRecursion IsPlainToken (tokens_of ts) → ArePlain ts
+plain_back [] h = tt
+plain_back (t ∷ ts) h = (h.0, plain_back ts h.1)
+
+-- both parts of plain tokens are plain
+pub plain_front : (ts us : List defs.Token) → AllByRecursion IsPlainToken (ts ++ us) → AllByRecursion IsPlainToken ts
+plain_front [] us h = tt
+plain_front (t ∷ ts) us h = (h.0, plain_front ts us h.1)
+
+pub plain_rest : (ts us : List defs.Token) → AllByRecursion IsPlainToken (ts ++ us) → AllByRecursion IsPlainToken us
+plain_rest [] us h = h
+plain_rest (t ∷ ts) us h = plain_rest ts us h.1
+
+module _ {X M : Type 0} (view : X → M) {Means : M → List defs.Token → Type 0} {Follows : List defs.Token → Type 0} (tokens : List Token) where
+  -- what was read
+  pub reads_some : {result : Option (X × Bor (List Token))} {x : X} {behind : Bor (List Token)} → Reads view Means Follows tokens result → result ≡ Some (x, behind)
+      → Parses Means Follows (tokens_of tokens) (Some (view x, tokens_of behind.now))
+  reads_some p e = subst (λ r. Reads view Means Follows tokens r) e p
+
+  -- that nothing was read
+  pub reads_none : {result : Option (X × Bor (List Token))} → Reads view Means Follows tokens result → result ≡ None
+      → Parses Means Follows (tokens_of tokens) None
+  reads_none p e = subst (λ r. Reads view Means Follows tokens r) e p
+
+  -- what is left of plain tokens is plain
+  pub reads_plain : {result : Option (X × Bor (List Token))} {x : X} {behind : Bor (List Token)} → ArePlain tokens → Reads view Means Follows tokens result → result ≡ Some (x, behind)
+      → ArePlain behind.now
+  reads_plain {x = x} {behind = behind} plain p e =
+      let h = (reads_some p e).found (view x) (tokens_of behind.now) refl in
+      plain_back behind.now (plain_rest h.0 (tokens_of behind.now) (subst (λ ts. AllByRecursion IsPlainToken ts) h.1 (plain_tokens tokens plain)))
+
+  -- and no longer than they are
+  pub reads_shorter : {result : Option (X × Bor (List Token))} {x : X} {behind : Bor (List Token)} → Reads view Means Follows tokens result → result ≡ Some (x, behind)
+      → length behind.now ≤ length tokens
+  reads_shorter {x = x} {behind = behind} p e =
+      let h = (reads_some p e).found (view x) (tokens_of behind.now) refl in
+      omega (arith, ap length h.1 ∙ length-append h.0 (tokens_of behind.now), length-map tokens token_of, length-map behind.now token_of)

@@ -20,7 +20,7 @@ use Rattle.si_parse.proofs.ParseSteps.{parses_none, parses_some, parses_uses, pa
 
 -- ---- symbols by their tokens
 -- a symbol is its four parts
-symbol_is : (s : Symbol) (kind : SymKind) (text : Bytes) (side : Side) (arity : ℕ) → s.kind ≡ kind → s.text ≡ text → s.side ≡ side → s.arity ≡ arity
+pub symbol_is : (s : Symbol) (kind : SymKind) (text : Bytes) (side : Side) (arity : ℕ) → s.kind ≡ kind → s.text ≡ text → s.side ≡ side → s.arity ≡ arity
     → s ≡ record { kind = kind; text = text; side = side; arity = arity }
 symbol_is s kind text side arity k t d a = λ i. record { kind = k i; text = t i; side = d i; arity = a i }
 

@@ -1,3 +1,4 @@
 pub mod ParseSteps
 pub mod ParseReads
 pub mod GrammarTerms
+pub mod GrammarAtoms

@@ -4,7 +4,7 @@ use Rattle.std.specs.List.{AllByRecursion}
 use Rattle.std.specs.Option.{option_map}
 use Rattle.std.proofs.lemmas.List.{take_all, length-append, length-map}
 use Rattle.si_defs.specs.Tokens as defs
-use Rattle.si_parse.specs.Parsing.{Parses, Reads}
+use Rattle.si_parse.specs.Parsing.{Parses, Passes, Reads, Anything}
 use Rattle.si_parse.specs.Tokens.{token_of, tokens_of, ArePlain, IsPlainToken}
 use Rattle.si_parse.specs.declared.token.Token.{Token}
 
@@ -79,4 +79,24 @@ module _ {X M : Type 0} (view : X → M) {Means : M → List defs.Token → Type
       → length behind.now ≤ length tokens
   reads_shorter {x = x} {behind = behind} p e =
       let h = (reads_some p e).found (view x) (tokens_of behind.now) refl in
+      omega (arith, ap length h.1 ∙ length-append h.0 (tokens_of behind.now), length-map tokens token_of, length-map behind.now token_of)
+
+module _ {Spelled : List defs.Token → Type 0} (tokens : List Token) where
+  -- the same of a reader that only gives what is left
+  pub passes_some : {result : Option (Bor (List Token))} {behind : Bor (List Token)} → Passes Spelled tokens result → result ≡ Some behind
+      → Parses (λ (u : Unit {0}) used. Spelled used) Anything (tokens_of tokens) (Some (tt {0}, tokens_of behind.now))
+  passes_some p e = subst (λ r. Passes Spelled tokens r) e p
+
+  pub passes_none : {result : Option (Bor (List Token))} → Passes Spelled tokens result → result ≡ None
+      → Parses (λ (u : Unit {0}) used. Spelled used) Anything (tokens_of tokens) None
+  passes_none p e = subst (λ r. Passes Spelled tokens r) e p
+
+  pub passes_plain : {result : Option (Bor (List Token))} {behind : Bor (List Token)} → ArePlain tokens → Passes Spelled tokens result → result ≡ Some behind → ArePlain behind.now
+  passes_plain {behind = behind} plain p e =
+      let h = (passes_some p e).found tt (tokens_of behind.now) refl in
+      plain_back behind.now (plain_rest h.0 (tokens_of behind.now) (subst (λ ts. AllByRecursion IsPlainToken ts) h.1 (plain_tokens tokens plain)))
+
+  pub passes_shorter : {result : Option (Bor (List Token))} {behind : Bor (List Token)} → Passes Spelled tokens result → result ≡ Some behind → length behind.now ≤ length tokens
+  passes_shorter {behind = behind} p e =
+      let h = (passes_some p e).found tt (tokens_of behind.now) refl in
       omega (arith, ap length h.1 ∙ length-append h.0 (tokens_of behind.now), length-map tokens token_of, length-map behind.now token_of)

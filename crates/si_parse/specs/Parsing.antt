@@ -26,3 +26,8 @@ NoBracket (t ∷ ts) = t ≡ left_bracket → ⊥
 abbrev pub Reads : {X M : Type 0} → (X → M) → (M → List defs.Token → Type 0) → (List defs.Token → Type 0) → List Token → Option (X × Bor (List Token)) → Type 0
 Reads view Means Follows tokens result =
     Parses Means Follows (tokens_of tokens) (option_map (λ r. (view r.0, tokens_of r.1.now)) result)
+
+-- the same where only what is left is given
+abbrev pub Passes : (List defs.Token → Type 0) → List Token → Option (Bor (List Token)) → Type 0
+Passes Spelled tokens result =
+    Parses (λ (u : Unit {0}) used. Spelled used) Anything (tokens_of tokens) (option_map (λ r. (tt {0}, tokens_of r.now)) result)

@@ -1,0 +1,27 @@
+use Rattle.std.proofs.Common.{◌≡◌, ◌-◌, ◌∷◌, List, length, take, drop, refl, sym, ap, ◌∙◌, subst}
+use Rattle.std.specs.List.{AllByRecursion}
+use Rattle.si_defs.specs.Tokens as defs
+use Rattle.si_parse.specs.Tokens.{token_of, tokens_of, IsPlainToken}
+use Rattle.si_term.specs.Terms.{term_of}
+use Rattle.si_parse.proofs.ParseSteps.{parses_at, heads}
+use Rattle.si_parse.proofs.ParseReads.{first_token, plain_tokens, reads_some, reads_none}
+use Rattle.si_parse.proofs.GrammarAtoms.{literal_some, literal_none, literal_other}
+use Rattle.si_parse.proofs.grammar.literal.Goals as goal
+
+pub returns-in-Some : goal.returns-in-Some
+returns-in-Some c =
+    let rest = take (length c.args.tokens.now - 1) (drop 1 c.args.tokens.now) in
+    let first = first_token c.args.tokens.now c.first-item.result c.in-len1-up.len_at_least c.first-item.is in
+    let front = first ∙ ap (λ k. record { kind = k; text = c.first-item.result.text } ∷ tokens_of rest) c.in-Lower.is in
+    parses_at front refl (literal_some c.first-item.result.text (tokens_of rest) (term_of c.in-Some.atom) (tokens_of c.in-Some.behind.now)
+      (subst (λ x. AllByRecursion IsPlainToken x) front (plain_tokens c.args.tokens.now c.requires.plain)) ?)
+
+pub returns-in-None : goal.returns-in-None
+returns-in-None c = let h = c.in-None in ?
+
+pub returns-in_default : goal.returns-in_default
+returns-in_default c =
+    let rest = take (length c.args.tokens.now - 1) (drop 1 c.args.tokens.now) in
+    let first = first_token c.args.tokens.now c.first-item.result c.in-len1-up.len_at_least c.first-item.is in
+    literal_other (tokens_of c.args.tokens.now) (plain_tokens c.args.tokens.now c.requires.plain)
+    (λ t ts e k. c.in_default.not-Lower (ap (λ (x : defs.Token). x.kind) (heads (sym first ∙ e)) ∙ k))

@@ -5,3 +5,4 @@ pub mod GrammarTerms
 pub mod GrammarAtoms
 pub mod GrammarWords
 pub mod GrammarFormulas
+pub mod GrammarEndings

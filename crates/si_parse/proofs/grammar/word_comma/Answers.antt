@@ -11,4 +11,4 @@ pub returns-in_default-mark_at : goal.returns-in_default-mark_at
 returns-in_default-mark_at c =
     let rest = take (length c.args.tokens.now - 1) (drop 1 c.args.tokens.now) in
     let first = first_token c.args.tokens.now c.first-item.result c.in-len1-up.len_at_least c.first-item.is in
-    parses_at first refl (no_comma (token_of c.first-item.result) (tokens_of rest) ?)
+    parses_at first refl (no_comma (token_of c.first-item.result) (tokens_of rest) c.in_default-mark_at.ensures)

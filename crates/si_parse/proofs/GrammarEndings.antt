@@ -1,0 +1,105 @@
+-- Annotations and the end of a clause: what the readers of them give.
+use Rattle.std.proofs.Common.{◌≡◌, ◌≢◌, ℕ, zero, suc, ◌+◌, ◌-◌, ◌≤◌, ◌<◌, Bool, true, false, cond, ◌==◌, List, [], ◌∷◌, ◌++◌, length, replicate, Option, Some, None, refl, sym, ap, ◌∙◌, subst, append_assoc, append-nil, arith, inl, inr, IsTrue, ◌⊎◌}
+use Rattle.std.proofs.lemmas.Bool.{false≢true}
+use Rattle.std.specs.List.{list_any, AllByRecursion}
+use Rattle.std.specs.Option.{option_map_or}
+use Rattle.si_defs.specs.Tokens.{Token, mark}
+use Rattle.si_defs.specs.Grammar.{Bracket, round, square, neither, opening_of, closing_of, brackets_behind, balances, IsExtra, left_bracket, right_bracket, comma, full_stop}
+use Rattle.si_defs.specs.declared.TokenKind.TheVariants as token
+use Rattle.si_parse.specs.Parsing.{Parses, Anything}
+use Rattle.si_parse.specs.Tokens.{IsPlainToken}
+use Rattle.si_parse.specs.GrammarRules.{IsMark, AreAnnotations, IsEnding}
+use Rattle.si_parse.proofs.ParseSteps.{parses_none, parses_some, parses_uses, parses_one, parses_never, heads, tails}
+
+-- ---- balance
+-- a closing bracket where none is open does not balance
+closes_nothing : (ts : List Token) → balances (right_bracket ∷ ts) [] ≡ false
+closes_nothing ts = refl
+
+-- two fronts that balance, each before a closing bracket, are the same
+pub same_balanced : (ts us rest behind : List Token) (pending : List Bracket) → IsTrue (balances ts pending) → IsTrue (balances us pending)
+    → ts ++ right_bracket ∷ rest ≡ us ++ right_bracket ∷ behind → (ts ≡ us) × (rest ≡ behind)
+same_balanced [] [] rest behind pending h k e = (refl, tails e)
+same_balanced [] (u ∷ us) rest behind [] h k e = absurd (false≢true (subst (λ x. IsTrue (balances (x ∷ us) [])) (sym (heads e)) k))
+same_balanced [] (u ∷ us) rest behind (b ∷ bs) h k e = absurd (false≢true h)
+same_balanced (t ∷ ts) [] rest behind [] h k e = absurd (false≢true (subst (λ x. IsTrue (balances (x ∷ ts) [])) (heads e) h))
+same_balanced (t ∷ ts) [] rest behind (b ∷ bs) h k e = absurd (false≢true k)
+same_balanced (t ∷ ts) (u ∷ us) rest behind pending h k e =
+    both (brackets_behind t pending) h (subst (λ x. IsTrue (option_map_or (balances us) (brackets_behind x pending) false)) (sym (heads e)) k) where
+  both : (o : Option (List Bracket)) → IsTrue (option_map_or (balances ts) o false) → IsTrue (option_map_or (balances us) o false) → (t ∷ ts ≡ u ∷ us) × (rest ≡ behind)
+  both None h k = absurd (false≢true h)
+  both (Some p) h k = let same = same_balanced ts us rest behind p h k (tails e) in (λ i. heads e i ∷ same.0 i, same.1)
+
+-- round brackets that are open close again
+closes_all : (n : ℕ) → IsTrue (balances (replicate n right_bracket) (replicate n round))
+closes_all zero = refl
+closes_all (suc n) = closes_all n
+
+-- where a balanced front and a closing bracket stand before some tokens, nothing that follows them balances
+overrun : (us behind : List Token) (pending : List Bracket) → IsTrue (balances us pending) → IsTrue (balances (us ++ right_bracket ∷ behind) pending) → ⊥
+overrun [] behind [] h k = false≢true k
+overrun [] behind (b ∷ bs) h k = false≢true h
+overrun (u ∷ us) behind pending h k = by (brackets_behind u pending) h k where
+  by : (o : Option (List Bracket)) → IsTrue (option_map_or (balances us) o false) → IsTrue (option_map_or (balances (us ++ right_bracket ∷ behind)) o false) → ⊥
+  by None h k = false≢true h
+  by (Some p) h k = overrun us behind p h k
+
+-- Behind these tokens this many round brackets are open, whatever follows.
+abbrev pub AreOpen : List Token → ℕ → Type 0
+AreOpen ts depth = (rest : List Token) → balances (ts ++ rest) [] ≡ balances rest (replicate depth round)
+
+pub open_start : AreOpen [] 0
+open_start rest = refl
+
+-- behind one more token
+open_more : (ts : List Token) (t : Token) (depth next : ℕ) → AreOpen ts depth → ((rest : List Token) → balances (t ∷ rest) (replicate depth round) ≡ balances rest (replicate next round))
+    → AreOpen (ts ++ t ∷ []) next
+open_more ts t depth next h step rest = ap (λ x. balances x []) (append_assoc ts (t ∷ []) rest) ∙ h (t ∷ rest) ∙ step rest
+
+pub open_left : (ts : List Token) (t : Token) (depth : ℕ) → AreOpen ts depth → t ≡ left_bracket → AreOpen (ts ++ t ∷ []) (depth + 1)
+open_left ts t depth h e = open_more ts t depth (depth + 1) h (λ rest. ap (λ x. balances (x ∷ rest) (replicate depth round)) e ∙ ap (λ n. balances rest (replicate n round)) counted) where
+  counted : suc depth ≡ depth + 1
+  counted = omega arith
+
+pub open_right : (ts : List Token) (t : Token) (depth : ℕ) → AreOpen ts depth → t ≡ right_bracket → (depth ≡ 0 → ⊥) → AreOpen (ts ++ t ∷ []) (depth - 1)
+open_right ts t zero h e some = absurd (some refl)
+open_right ts t (suc n) h e some = open_more ts t (suc n) (suc n - 1) h (λ rest. ap (λ x. balances (x ∷ rest) (replicate (suc n) round)) e ∙ ap (λ k. balances rest (replicate k round)) counted) where
+  counted : n ≡ suc n - 1
+  counted = omega arith
+
+-- a plain token that is no bracket
+other_mark : (c : ℕ) → IsTrue (list_any (λ m. m == c) (40 ∷ 41 ∷ 44 ∷ 46 ∷ [])) → (c ≡ 40 → ⊥) → (c ≡ 41 → ⊥) → (c ≡ 44) ⊎ (c ≡ 46)
+other_mark c h not_left not_right = ?
+
+other_step : (t : Token) → IsPlainToken t → (t ≡ left_bracket → ⊥) → (t ≡ right_bracket → ⊥) → (opening_of t ≡ neither) × (closing_of t ≡ neither)
+other_step t plain not_left not_right = ?
+
+pub open_other : (ts : List Token) (t : Token) (depth : ℕ) → AreOpen ts depth → IsPlainToken t → (t ≡ left_bracket → ⊥) → (t ≡ right_bracket → ⊥) → AreOpen (ts ++ t ∷ []) depth
+open_other ts t depth h plain not_left not_right = open_more ts t depth depth h ?
+
+-- ---- annotations
+-- a closing bracket where none is open ends the annotations, if some stand before it
+pub annotations_some : (ts rest tokens : List Token) → AreOpen ts 0 → tokens ≡ ts ++ right_bracket ∷ rest → (ts ≢ [])
+    → Parses (λ (u : Unit {0}) used. AreAnnotations used) Anything tokens (Some (tt {0}, rest))
+annotations_some ts rest tokens h e some =
+    parses_some tt (ts ++ right_bracket ∷ []) rest (e ∙ sym (append_assoc ts (right_bracket ∷ []) rest)) (ts, some, balanced, refl) unique where
+  balanced : IsTrue (balances ts [])
+  balanced = ap (λ x. balances x []) (sym (append-nil ts)) ∙ h []
+  unique : (u : Unit {0}) (used behind : List Token) → tokens ≡ used ++ behind → AreAnnotations used → Anything behind → (◌≡◌ {A = Unit {0}} tt u) × (rest ≡ behind)
+  unique u used behind f (notes, others, notes_balance, g) any =
+      (refl, (same_balanced ts notes rest behind [] balanced notes_balance (sym e ∙ f ∙ ap (λ x. x ++ behind) g ∙ append_assoc notes (right_bracket ∷ []) behind)).1)
+
+-- a closing bracket at once ends nothing
+pub annotations_empty : (rest tokens : List Token) → tokens ≡ right_bracket ∷ rest → Parses (λ (u : Unit {0}) used. AreAnnotations used) Anything tokens None
+annotations_empty rest tokens e = parses_none never where
+  never : (u : Unit {0}) (used behind : List Token) → tokens ≡ used ++ behind → AreAnnotations used → Anything behind → ⊥
+  never u used behind f (notes, some, notes_balance, g) any =
+      some (sym (same_balanced [] notes rest behind [] refl notes_balance (sym e ∙ f ∙ ap (λ x. x ++ behind) g ∙ append_assoc notes (right_bracket ∷ []) behind)).0)
+
+-- tokens of which none closes too much hold no end of annotations
+pub annotations_open : (tokens : List Token) (depth : ℕ) → AreOpen tokens depth → Parses (λ (u : Unit {0}) used. AreAnnotations used) Anything tokens None
+annotations_open tokens depth h = parses_none never where
+  never : (u : Unit {0}) (used behind : List Token) → tokens ≡ used ++ behind → AreAnnotations used → Anything behind → ⊥
+  never u used behind f (notes, some, notes_balance, g) any =
+      overrun notes (behind ++ replicate depth right_bracket) [] notes_balance
+      (ap (λ x. balances x []) (sym (ap (λ x. x ++ replicate depth right_bracket) (f ∙ ap (λ x. x ++ behind) g ∙ append_assoc notes (right_bracket ∷ []) behind) ∙ append_assoc notes (right_bracket ∷ behind) (replicate depth right_bracket))) ∙ h (replicate depth right_bracket) ∙ closes_all depth)

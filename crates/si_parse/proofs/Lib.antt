@@ -6,3 +6,4 @@ pub mod GrammarAtoms
 pub mod GrammarWords
 pub mod GrammarFormulas
 pub mod GrammarEndings
+pub mod GrammarClauses

@@ -100,3 +100,26 @@ module _ {Spelled : List defs.Token → Type 0} (tokens : List Token) where
   passes_shorter {behind = behind} p e =
       let h = (passes_some p e).found tt (tokens_of behind.now) refl in
       omega (arith, ap length h.1 ∙ length-append h.0 (tokens_of behind.now), length-map tokens token_of, length-map behind.now token_of)
+
+module _ {M : Type 0} {m : M} {Means : M → List defs.Token → Type 0} {Follows : List defs.Token → Type 0} (tokens behind : List Token)
+    (p : Parses Means Follows (tokens_of tokens) (Some (m, tokens_of behind))) where
+  -- what is left of plain tokens is plain
+  pub parsed_plain : ArePlain tokens → ArePlain behind
+  parsed_plain plain =
+      let h = p.found m (tokens_of behind) refl in
+      plain_back behind (plain_rest h.0 (tokens_of behind) (subst (λ ts. AllByRecursion IsPlainToken ts) h.1 (plain_tokens tokens plain)))
+
+  -- and no longer than they are
+  pub parsed_shorter : length behind ≤ length tokens
+  parsed_shorter =
+      let h = p.found m (tokens_of behind) refl in
+      omega (arith, ap length h.1 ∙ length-append h.0 (tokens_of behind), length-map tokens token_of, length-map behind token_of)
+
+-- what stands behind a mark
+pub mark_front : {c : ℕ} {ts rest : List defs.Token} → Parses (λ (u : Unit {0}) used. used ≡ defs.mark c ∷ []) Anything ts (Some (tt {0}, rest)) → ts ≡ defs.mark c ∷ rest
+mark_front {rest = rest} p = let h = p.found tt rest refl in h.1 ∙ ap (λ x. x ++ rest) h.2
+
+-- is shorter by one
+pub mark_shorter : {c : ℕ} (tokens behind : List Token) → Parses (λ (u : Unit {0}) used. used ≡ defs.mark c ∷ []) Anything (tokens_of tokens) (Some (tt {0}, tokens_of behind))
+    → length behind < length tokens
+mark_shorter tokens behind p = omega (arith, ap length (mark_front p), length-map tokens token_of, length-map behind token_of)

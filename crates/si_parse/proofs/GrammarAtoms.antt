@@ -83,22 +83,24 @@ pub literal_other : (ts : List Token) → AllByRecursion IsPlainToken ts → ((t
     → Parses IsLiteral NoBracket ts None
 literal_other ts plain not_lower = parses_none (λ l used rest e h follows.
     let p = plain_literal l.positive l.atom used (plain_front used rest (subst (λ x. AllByRecursion IsPlainToken x) e plain)) h in never l.atom used rest e (plain_front used rest (subst (λ x. AllByRecursion IsPlainToken x) e plain)) p.1) where
-  by_kind : (t : Token) (behind : List Token) → ts ≡ t ∷ behind → IsPlainToken t → (t.kind ≡ token.Lower) ⊎ ((t.kind ≡ token.Single) ⊎ (t.kind ≡ token.Dollar)) → ⊥
-  by_kind t behind e p (inl k) = not_lower t behind e k
-  by_kind t behind e (inl k) (inr (inl j)) = cc
-  by_kind t behind e (inr (inl k)) (inr (inl j)) = cc
-  by_kind t behind e (inr (inr (k, c))) (inr (inl j)) = cc
-  by_kind t behind e (inl k) (inr (inr j)) = cc
-  by_kind t behind e (inr (inl k)) (inr (inr j)) = cc
-  by_kind t behind e (inr (inr (k, c))) (inr (inr j)) = cc
-  first : (t : Token) (tail used rest : List Token) (kind : _) (text : Bytes) → ts ≡ used ++ rest → AllByRecursion IsPlainToken used → used ≡ t ∷ tail → IsHead kind text t → ⊥
-  first t tail used rest kind text e plain_used f head =
-      by_kind t (tail ++ rest) (e ∙ ap (λ x. x ++ rest) f) (subst (λ x. AllByRecursion IsPlainToken x) f plain_used).0 (head_kind kind text t head)
-  never : (m : Term) (used rest : List Token) → ts ≡ used ++ rest → AllByRecursion IsPlainToken used → IsHeaded m used → ⊥
-  never (terms.var x) used rest e p h = h
-  never (terms.app s terms.none) used rest e p (side, arity, (t, head, f)) = first t [] used rest s.kind s.text e p f head
-  never (terms.app s (terms.more u us)) used rest e p (side, arity, (t, one, others, head, term, all, f)) =
-      first t (left_bracket ∷ (one ++ others) ++ right_bracket ∷ []) used rest s.kind s.text e p f head
+      by_kind : (t : Token) (behind : List Token) → ts ≡ t ∷ behind → IsPlainToken t → (t.kind ≡ token.Lower) ⊎ ((t.kind ≡ token.Single) ⊎ (t.kind ≡ token.Dollar)) → ⊥
+      by_kind t behind e p (inl k) = not_lower t behind e k
+      by_kind t behind e (inl k) (inr (inl j)) = cc
+      by_kind t behind e (inr (inl k)) (inr (inl j)) = cc
+      by_kind t behind e (inr (inr (k, c))) (inr (inl j)) = cc
+      by_kind t behind e (inl k) (inr (inr j)) = cc
+      by_kind t behind e (inr (inl k)) (inr (inr j)) = cc
+      by_kind t behind e (inr (inr (k, c))) (inr (inr j)) = cc
+
+      first : (t : Token) (tail used rest : List Token) (kind : _) (text : Bytes) → ts ≡ used ++ rest → AllByRecursion IsPlainToken used → used ≡ t ∷ tail → IsHead kind text t → ⊥
+      first t tail used rest kind text e plain_used f head =
+          by_kind t (tail ++ rest) (e ∙ ap (λ x. x ++ rest) f) (subst (λ x. AllByRecursion IsPlainToken x) f plain_used).0 (head_kind kind text t head)
+
+      never : (m : Term) (used rest : List Token) → ts ≡ used ++ rest → AllByRecursion IsPlainToken used → IsHeaded m used → ⊥
+      never (terms.var x) used rest e p h = h
+      never (terms.app s terms.none) used rest e p (side, arity, (t, head, f)) = first t [] used rest s.kind s.text e p f head
+      never (terms.app s (terms.more u us)) used rest e p (side, arity, (t, one, others, head, term, all, f)) =
+          first t (left_bracket ∷ (one ++ others) ++ right_bracket ∷ []) used rest s.kind s.text e p f head
 
 -- the tokens of an atom with this head
 pub applied_atom : (f : Bytes) (m : Term) (tail : List Token) → IsApplied f Predicate m tail → IsAtom m (lower f ∷ tail)
@@ -107,8 +109,19 @@ applied_atom f (terms.app s terms.none) tail (e, g) =
     subst (λ x. IsAtom (terms.app x terms.none) (lower f ∷ tail)) (sym e) (refl, refl, (lower f, inl refl, ap (λ x. lower f ∷ x) g))
 applied_atom f (terms.app s (terms.more u us)) tail (e, (inner, (first, others, one, all, h), g)) =
     subst (λ x. IsAtom (terms.app x (terms.more u us)) (lower f ∷ tail)) (sym e)
-    (inl (refl, refl, (lower f, first, others, inl refl, one, subst (λ x. AreMoreTerms x others) (row_list us) all,
-      ap (λ x. lower f ∷ x) (g ∙ ap (λ x. left_bracket ∷ x) h))))
+    (inl (
+      refl,
+      refl,
+      (
+        lower f,
+        first,
+        others,
+        inl refl,
+        one,
+        subst (λ x. AreMoreTerms x others) (row_list us) all,
+        ap (λ x. lower f ∷ x) (g ∙ ap (λ x. left_bracket ∷ x) h),
+      ),
+    ))
 
 -- the positive literal of an atom
 abbrev pub positively : Term → Literal
@@ -137,9 +150,9 @@ module _ (f : Bytes) (rest : List Token) where
   literal_some m behind plain p =
       let h = parses_uses m behind p in
       parses_some (positively m) (lower f ∷ h.0) behind (ap (λ x. lower f ∷ x) h.1) (applied_atom f m h.0 h.2) (λ l used after e means follows.
-        let b = back_literal l used after plain e means in
-        let same = parses_one p l.atom b.1.0 after (front_tails {ys = b.1.0} after e b.1.1) b.1.2 follows in
-        (ap positively same.0 ∙ b.0, same.1))
+      let b = back_literal l used after plain e means in
+      let same = parses_one p l.atom b.1.0 after (front_tails {ys = b.1.0} after e b.1.1) b.1.2 follows in
+      (ap positively same.0 ∙ b.0, same.1))
 
   pub literal_none : AllByRecursion IsPlainToken (lower f ∷ rest) → Parses (IsApplied f Predicate) NoBracket rest None → Parses IsLiteral NoBracket (lower f ∷ rest) None
   literal_none plain p = parses_none (λ l used after e means follows.

@@ -43,11 +43,17 @@ abbrev pub clause_from : Parts → Clause
 clause_from p = record { name = record { kind = named.Word; text = p.1.0 }; role = p.1.1.0; literals = p.1.1.1.0 ∷ [] }
 
 to_clause : (p : Parts) (ts : List Token) → Whole p ts → IsClause (clause_from p) ts
-to_clause p ts (o, r, opening, (w, s, name, (v, q, role, (f, e, unit, (extra, is_extra, end), in_body), in_role), in_name), whole) =
-    (lower p.1.0, f, extra, inl refl, unit, is_extra,
-     whole ∙ ap (λ x. x ++ r) opening ∙ ap (λ x. lower (codes "cnf") ∷ left_bracket ∷ x) (in_name ∙ ap (λ x. x ++ s) name
+to_clause p ts (o, r, opening, (w, s, name, (v, q, role, (f, e, unit, (extra, is_extra, end), in_body), in_role), in_name), whole) = (
+  lower p.1.0,
+  f,
+  extra,
+  inl refl,
+  unit,
+  is_extra,
+  whole ∙ ap (λ x. x ++ r) opening ∙ ap (λ x. lower (codes "cnf") ∷ left_bracket ∷ x) (in_name ∙ ap (λ x. x ++ s) name
       ∙ ap (λ x. lower p.1.0 ∷ comma ∷ x) (in_role ∙ ap (λ x. x ++ q) role
-      ∙ ap (λ x. lower p.1.1.0 ∷ comma ∷ x) (in_body ∙ ap (λ x. f ++ x) end ∙ sym (append_assoc f extra (right_bracket ∷ full_stop ∷ []))))))
+      ∙ ap (λ x. lower p.1.1.0 ∷ comma ∷ x) (in_body ∙ ap (λ x. f ++ x) end ∙ sym (append_assoc f extra (right_bracket ∷ full_stop ∷ []))))),
+)
 
 -- a plain name is a lower word
 plain_name : (kind : NameKind) (text : Bytes) (t : Token) → IsPlainToken t → IsName (record { kind = kind; text = text }) t → (kind ≡ named.Word) × (t ≡ lower text)
@@ -79,24 +85,34 @@ from_clause : (tokens : List Token) → AllByRecursion IsPlainToken tokens → (
 from_clause tokens plain c used rest e (name, formula, extra, is_name, is_formula, is_extra, f) any =
     let body = (formula ++ extra) ++ right_bracket ∷ full_stop ∷ [] in
     let all : AllByRecursion IsPlainToken (lower (codes "cnf") ∷ left_bracket ∷ name ∷ comma ∷ lower c.role ∷ comma ∷ (formula ++ extra) ++ right_bracket ∷ full_stop ∷ []) =
-      subst (λ x. AllByRecursion IsPlainToken x) f (plain_front used rest (subst (λ x. AllByRecursion IsPlainToken x) e plain)) in
+    subst (λ x. AllByRecursion IsPlainToken x) f (plain_front used rest (subst (λ x. AllByRecursion IsPlainToken x) e plain)) in
     let n = plain_name c.name.kind c.name.text name all.1.1.0 is_name in
-    let one = plain_formula c.literals formula (plain_front formula extra (plain_front (formula ++ extra) (right_bracket ∷ full_stop ∷ []) all.1.1.1.1.1.1)) is_formula in
-    ((tt, (c.name.text, (c.role, (one.0, tt)))),
-     same_clause c one.0 n.0 one.1,
-     whole c name formula extra one.0 used n.1 (subst (λ x. IsFormula x formula) one.1 is_formula) is_extra f) where
-  same_clause : (c : Clause) (l : Literal) → c.name.kind ≡ named.Word → c.literals ≡ l ∷ [] → clause_from (tt, (c.name.text, (c.role, (l, tt)))) ≡ c
-  same_clause c l k e = λ i. record { name = record { kind = sym k i; text = c.name.text }; role = c.role; literals = sym e i }
-  whole : (c : Clause) (name : Token) (formula extra : List Token) (l : Literal) (used : List Token) → name ≡ lower c.name.text → IsUnit l formula → IsExtra extra
-      → used ≡ lower (codes "cnf") ∷ left_bracket ∷ name ∷ comma ∷ lower c.role ∷ comma ∷ (formula ++ extra) ++ right_bracket ∷ full_stop ∷ []
-      → Whole (tt, (c.name.text, (c.role, (l, tt)))) used
-  whole c name formula extra l used n unit is_extra f =
-      let end = extra ++ right_bracket ∷ full_stop ∷ [] in
-      (lower (codes "cnf") ∷ left_bracket ∷ [], lower c.name.text ∷ comma ∷ lower c.role ∷ comma ∷ formula ++ end, refl,
-        (lower c.name.text ∷ comma ∷ [], lower c.role ∷ comma ∷ formula ++ end, refl,
-          (lower c.role ∷ comma ∷ [], formula ++ end, refl, (formula, end, unit, (extra, is_extra, refl), refl), refl), refl),
-        f ∙ ap (λ x. lower (codes "cnf") ∷ left_bracket ∷ x ∷ comma ∷ lower c.role ∷ comma ∷ (formula ++ extra) ++ right_bracket ∷ full_stop ∷ []) n
-        ∙ ap (λ x. lower (codes "cnf") ∷ left_bracket ∷ lower c.name.text ∷ comma ∷ lower c.role ∷ comma ∷ x) (append_assoc formula extra (right_bracket ∷ full_stop ∷ [])))
+    let one = plain_formula c.literals formula (plain_front formula extra (plain_front (formula ++ extra) (right_bracket ∷ full_stop ∷ []) all.1.1.1.1.1.1)) is_formula in (
+      (tt, (c.name.text, (c.role, (one.0, tt)))),
+      same_clause c one.0 n.0 one.1,
+      whole c name formula extra one.0 used n.1 (subst (λ x. IsFormula x formula) one.1 is_formula) is_extra f,
+    ) where
+      same_clause : (c : Clause) (l : Literal) → c.name.kind ≡ named.Word → c.literals ≡ l ∷ [] → clause_from (tt, (c.name.text, (c.role, (l, tt)))) ≡ c
+      same_clause c l k e = λ i. record { name = record { kind = sym k i; text = c.name.text }; role = c.role; literals = sym e i }
+
+      whole : (c : Clause) (name : Token) (formula extra : List Token) (l : Literal) (used : List Token) → name ≡ lower c.name.text → IsUnit l formula → IsExtra extra
+          → used ≡ lower (codes "cnf") ∷ left_bracket ∷ name ∷ comma ∷ lower c.role ∷ comma ∷ (formula ++ extra) ++ right_bracket ∷ full_stop ∷ []
+          → Whole (tt, (c.name.text, (c.role, (l, tt)))) used
+      whole c name formula extra l used n unit is_extra f =
+          let end = extra ++ right_bracket ∷ full_stop ∷ [] in (
+            lower (codes "cnf") ∷ left_bracket ∷ [],
+            lower c.name.text ∷ comma ∷ lower c.role ∷ comma ∷ formula ++ end,
+            refl,
+            (
+              lower c.name.text ∷ comma ∷ [],
+              lower c.role ∷ comma ∷ formula ++ end,
+              refl,
+              (lower c.role ∷ comma ∷ [], formula ++ end, refl, (formula, end, unit, (extra, is_extra, refl), refl), refl),
+              refl,
+            ),
+            f ∙ ap (λ x. lower (codes "cnf") ∷ left_bracket ∷ x ∷ comma ∷ lower c.role ∷ comma ∷ (formula ++ extra) ++ right_bracket ∷ full_stop ∷ []) n
+                ∙ ap (λ x. lower (codes "cnf") ∷ left_bracket ∷ lower c.name.text ∷ comma ∷ lower c.role ∷ comma ∷ x) (append_assoc formula extra (right_bracket ∷ full_stop ∷ [])),
+          )
 
 -- plain tokens that are read in five parts
 module _ {tokens : List Token} (plain : AllByRecursion IsPlainToken tokens) where

@@ -10,6 +10,7 @@ use Rattle.si_parse.specs.Tokens.{IsPlainToken}
 use Rattle.si_parse.specs.GrammarRules.{IsMark, IsUnit}
 use Rattle.si_parse.proofs.ParseSteps.{parses_uses, parses_never, heads, tails, front_heads}
 use Rattle.si_parse.proofs.ParseSequences.{Then, then_some, then_none, then_stop, renamed_some, renamed_none}
+use Rattle.si_parse.proofs.ParseReads.{mark_front}
 use Rattle.si_parse.proofs.GrammarTerms.{no_bracket, right_left}
 use Rattle.si_parse.proofs.GrammarAtoms.{literal_other}
 
@@ -29,10 +30,14 @@ literal_of_unit l inner ts (first, others, h, none, e) f =
 
 -- a formula in brackets is a formula
 unit_in_brackets : (l : Literal) (ts : List Token) → IsUnit l ts → IsUnit l (left_bracket ∷ ts ++ right_bracket ∷ [])
-unit_in_brackets l ts (n, inner, h, e) =
-    (suc n, inner, h, ap (λ x. left_bracket ∷ x ++ right_bracket ∷ []) e
+unit_in_brackets l ts (n, inner, h, e) = (
+  suc n,
+  inner,
+  h,
+  ap (λ x. left_bracket ∷ x ++ right_bracket ∷ []) e
       ∙ ap (λ x. left_bracket ∷ x) (append_assoc (replicate n left_bracket ++ inner) (replicate n right_bracket) (right_bracket ∷ []))
-      ∙ ap (λ x. left_bracket ∷ (replicate n left_bracket ++ inner) ++ x) (sym (replicate_more n right_bracket)))
+      ∙ ap (λ x. left_bracket ∷ (replicate n left_bracket ++ inner) ++ x) (sym (replicate_more n right_bracket)),
+)
 
 -- the brackets of a formula
 data Brackets (l : Literal) (ts : List Token) : Type 0 where
@@ -44,7 +49,7 @@ brackets_of l ts (zero, inner, h, e) = bare (literal_of_unit l inner ts h e)
 brackets_of l ts (suc n, inner, h, e) =
     round ((replicate n left_bracket ++ inner) ++ replicate n right_bracket) (n, inner, h, refl)
     (e ∙ ap (λ x. left_bracket ∷ (replicate n left_bracket ++ inner) ++ x) (replicate_more n right_bracket)
-      ∙ ap (λ x. left_bracket ∷ x) (sym (append_assoc (replicate n left_bracket ++ inner) (replicate n right_bracket) (right_bracket ∷ []))))
+    ∙ ap (λ x. left_bracket ∷ x) (sym (append_assoc (replicate n left_bracket ++ inner) (replicate n right_bracket) (right_bracket ∷ []))))
 
 -- a mark as what is passed
 abbrev pub Mark : ℕ → Unit {0} → List Token → Type 0
@@ -87,9 +92,33 @@ module _ {tokens : List Token} where
   pub unit_bare : (result : Option (Literal × List Token)) → Parses (Mark 40) Anything tokens None → Parses IsLiteral NoBracket tokens result → Parses IsUnit NoBracket tokens result
   unit_bare result none p = record {
     found = λ l rest e. let h = p.found l rest e in (h.0, h.1, unit_of_literal l h.0 h.2);
-    every = λ l used rest e h follows. by l used rest e (brackets_of l used h) follows
+    every = λ l used rest e h follows. by l used rest e (brackets_of l used h) follows;
   } where
     by : (l : Literal) (used rest : List Token) → tokens ≡ used ++ rest → Brackets l used → NoBracket rest → result ≡ Some (l, rest)
     by l used rest e (bare g) follows = p.every l used rest e g follows
     by l used rest e (round inner g f) follows =
         absurd (parses_never none tt (left_bracket ∷ []) ((inner ++ right_bracket ∷ []) ++ rest) (e ∙ ap (λ x. x ++ rest) f) refl tt)
+
+-- A formula in brackets, by what the readers of its parts give.
+module _ {tokens inner : List Token} (plain : AllByRecursion IsPlainToken tokens) (begins : Parses (Mark 40) Anything tokens (Some (tt {0}, inner))) where
+  -- a formula and a closing bracket
+  pub inside_some : {l : Literal} {behind rest : List Token} → Parses IsUnit NoBracket inner (Some (l, behind)) → Parses (Mark 41) Anything behind (Some (tt {0}, rest)) → Parses IsUnit NoBracket tokens (Some (l, rest))
+  inside_some p q =
+      unit_some inner (mark_front begins) plain (then_some {F = Anything} (λ n used rest b g. tt) begins
+      (then_some {F = NoBracket} (λ u used rest b g. right_follows u used rest b) p (weaker q))) where
+        weaker : {behind : List Token} {result : Option (Unit {0} × List Token)} → Parses (Mark 41) Anything behind result → Parses (Mark 41) NoBracket behind result
+        weaker p = record { found = p.found; every = λ m used rest e means follows. p.every m used rest e means tt }
+
+  -- no formula
+  pub inside_none : Parses IsUnit NoBracket inner None → Parses IsUnit NoBracket tokens None
+  inside_none p =
+      unit_none inner (mark_front begins) plain (then_stop {F = Anything} (λ n used rest b g. tt) begins
+      (then_none {F = NoBracket} (λ u used rest b g. right_follows u used rest b) p))
+
+  -- no closing bracket
+  pub inside_stop : {l : Literal} {behind : List Token} → Parses IsUnit NoBracket inner (Some (l, behind)) → Parses (Mark 41) Anything behind None → Parses IsUnit NoBracket tokens None
+  inside_stop p q =
+      unit_none inner (mark_front begins) plain (then_stop {F = Anything} (λ n used rest b g. tt) begins
+      (then_stop {F = NoBracket} (λ u used rest b g. right_follows u used rest b) p (weaker q))) where
+        weaker : {behind : List Token} {result : Option (Unit {0} × List Token)} → Parses (Mark 41) Anything behind result → Parses (Mark 41) NoBracket behind result
+        weaker p = record { found = p.found; every = λ m used rest e means follows. p.every m used rest e means tt }

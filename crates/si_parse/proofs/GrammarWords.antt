@@ -12,7 +12,7 @@ pub opening_behind : (rest : List Token) (result : Option (Unit {0} × List Toke
     → Parses (λ (u : Unit {0}) used. IsOpening used) Anything (lower (codes "cnf") ∷ rest) result
 opening_behind rest result p = record {
   found = λ u behind e. let h = p.found u behind e in (lower (codes "cnf") ∷ h.0, ap (λ x. lower (codes "cnf") ∷ x) h.1, ap (λ x. lower (codes "cnf") ∷ x) h.2);
-  every = λ u used behind e means follows. p.every u (left_bracket ∷ []) behind (front_tails behind e means) refl tt
+  every = λ u used behind e means follows. p.every u (left_bracket ∷ []) behind (front_tails behind e means) refl tt;
 }
 
 -- without a comma behind the first token there is no word and comma

@@ -1,8 +1,8 @@
 -- What a reader of the program's tokens gives, said of the definitions' tokens.
-use Rattle.std.proofs.Common.{◌≡◌, ℕ, ◌+◌, ◌-◌, ◌≤◌, ◌<◌, List, [], ◌∷◌, ◌++◌, length, map, take, drop, get_or, Option, Some, None, refl, sym, ap, ◌∙◌, subst, arith, ◌⊎◌, inl, inr, Bor}
+use Rattle.std.proofs.Common.{◌≡◌, ◌≢◌, ℕ, suc, add-one, drop-cons, ◌+◌, ◌-◌, ◌≤◌, ◌<◌, List, [], ◌∷◌, ◌++◌, length, map, take, drop, get_or, Option, Some, None, refl, sym, ap, ◌∙◌, subst, arith, ◌⊎◌, inl, inr, Bor}
 use Rattle.std.specs.List.{AllByRecursion}
 use Rattle.std.specs.Option.{option_map}
-use Rattle.std.proofs.lemmas.List.{take_all, length-append, length-map}
+use Rattle.std.proofs.lemmas.List.{take_all, take_more, take_rest, take-append-drop, length-take-le, length-append, length-map}
 use Rattle.si_defs.specs.Tokens as defs
 use Rattle.si_parse.specs.Parsing.{Parses, Passes, Reads, Anything}
 use Rattle.si_parse.specs.Tokens.{token_of, tokens_of, ArePlain, IsPlainToken}
@@ -123,3 +123,36 @@ mark_front {rest = rest} p = let h = p.found tt rest refl in h.1 ∙ ap (λ x. x
 pub mark_shorter : {c : ℕ} (tokens behind : List Token) → Parses (λ (u : Unit {0}) used. used ≡ defs.mark c ∷ []) Anything (tokens_of tokens) (Some (tt {0}, tokens_of behind))
     → length behind < length tokens
 mark_shorter tokens behind p = omega (arith, ap length (mark_front p), length-map tokens token_of, length-map behind token_of)
+
+-- what two lists of tokens stand for, one behind the other
+pub tokens_append : (ts us : List Token) → tokens_of (ts ++ us) ≡ tokens_of ts ++ tokens_of us
+tokens_append [] us = refl
+tokens_append (t ∷ ts) us = ap (λ x. token_of t ∷ x) (tokens_append ts us)
+
+-- the tokens before a place and the one at it
+pub tokens_more : (ts : List Token) (n : ℕ) (t : Token) → n < length ts → t ≡ get_or ts n t → tokens_of (take (n + 1) ts) ≡ tokens_of (take n ts) ++ token_of t ∷ []
+tokens_more ts n t h e =
+    ap tokens_of (take_more ts n t h ∙ ap (λ x. take n ts ++ x ∷ []) (sym e)) ∙ tokens_append (take n ts) (t ∷ [])
+
+-- the tokens before a place, the one at it, and those behind it
+pub tokens_split : (ts : List Token) (n : ℕ) (t : Token) → n < length ts → t ≡ get_or ts n t
+    → tokens_of ts ≡ tokens_of (take n ts) ++ token_of t ∷ tokens_of (take (length ts - (n + 1)) (drop (n + 1) ts))
+tokens_split ts n t h e =
+    ap tokens_of (sym (take-append-drop n ts) ∙ ap (λ x. take n ts ++ x) (drop-cons ts n t h ∙ ap (λ x. x ∷ drop (suc n) ts) (sym e) ∙ ap (λ x. t ∷ x) behind))
+    ∙ tokens_append (take n ts) (t ∷ take (length ts - (n + 1)) (drop (n + 1) ts)) where
+      behind : drop (suc n) ts ≡ take (length ts - (n + 1)) (drop (n + 1) ts)
+      behind = ap (λ k. drop k ts) (sym (add-one n)) ∙ sym (take_rest ts (n + 1))
+
+-- all of them before the last place
+pub tokens_all : (ts : List Token) (n : ℕ) → length ts ≤ n → tokens_of (take n ts) ≡ tokens_of ts
+tokens_all ts n h = ap tokens_of (take_all n ts h)
+
+-- each of plain tokens is plain
+pub plain_at : (ts : List Token) (n : ℕ) (t : Token) → n < length ts → t ≡ get_or ts n t → ArePlain ts → IsPlainToken (token_of t)
+plain_at ts n t h e plain =
+    (plain_rest (tokens_of (take n ts)) (token_of t ∷ tokens_of (take (length ts - (n + 1)) (drop (n + 1) ts)))
+    (subst (λ x. AllByRecursion IsPlainToken x) (tokens_split ts n t h e) (plain_tokens ts plain))).0
+
+-- tokens before a place that is not the first
+pub some_before : (ts : List Token) (n : ℕ) → n < length ts → (n ≡ 0 → ⊥) → tokens_of (take n ts) ≢ []
+some_before ts n h some e = some (omega (arith, ap length e, length-map (take n ts) token_of, length-take-le n ts (omega arith)))

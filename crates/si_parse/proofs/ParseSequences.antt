@@ -17,12 +17,12 @@ module _ {M N : Type 0} {A : M → List Token → Type 0} {B : N → List Token 
       let h = parses_uses m left p in
       let k = parses_uses n rest q in
       parses_some (m, n) (h.0 ++ k.0) rest (h.1 ∙ ap (λ x. h.0 ++ x) k.1 ∙ sym (append_assoc h.0 k.0 rest)) (h.0, k.0, h.2, k.2, refl) unique where
-    unique : (other : M × N) (front behind : List Token) → tokens ≡ front ++ behind → Then A B other front → G behind
-        → (◌≡◌ {A = M × N} (m, n) other) × (rest ≡ behind)
-    unique other front behind e (u, v, one, two, f) g =
-        let first = parses_one p other.0 u (v ++ behind) (e ∙ ap (λ x. x ++ behind) f ∙ append_assoc u v behind) one (follows other.1 v behind two g) in
-        let second = parses_one q other.1 v behind first.1 two g in
-        (λ i. (first.0 i, second.0 i), second.1)
+        unique : (other : M × N) (front behind : List Token) → tokens ≡ front ++ behind → Then A B other front → G behind
+            → (◌≡◌ {A = M × N} (m, n) other) × (rest ≡ behind)
+        unique other front behind e (u, v, one, two, f) g =
+            let first = parses_one p other.0 u (v ++ behind) (e ∙ ap (λ x. x ++ behind) f ∙ append_assoc u v behind) one (follows other.1 v behind two g) in
+            let second = parses_one q other.1 v behind first.1 two g in
+            (λ i. (first.0 i, second.0 i), second.1)
 
   -- the first is not read
   pub then_none : Parses A F tokens None → Parses (Then A B) G tokens None
@@ -48,8 +48,8 @@ module _ {M N : Type 0} {A : M → List Token → Type 0} {B : N → List Token 
   renamed_some {m = m} {rest = rest} p =
       let h = parses_uses m rest p in
       parses_some (f m) h.0 rest h.1 (to m h.0 h.2) (λ other front behind e means follows.
-        let k = from other front behind e means follows in
-        let same = parses_one p k.0 front behind e k.2 follows in (ap f same.0 ∙ k.1, same.1))
+      let k = from other front behind e means follows in
+      let same = parses_one p k.0 front behind e k.2 follows in (ap f same.0 ∙ k.1, same.1))
 
   pub renamed_none : Parses A F tokens None → Parses B F tokens None
   renamed_none p = parses_none (λ other front behind e means follows.

@@ -114,11 +114,10 @@ fn ending(tokens: &[Token]) -> Option<&[Token]>
     requires { ArePlain tokens.now }
     ensures { Passes IsEnding tokens.now result }
 {
-    let behind = match mark_at(tokens, b',') {
-        Some(rest) => annotations(rest)?,
-        None => mark_at(tokens, b')')?,
-    };
-    mark_at(behind, b'.')
+    match mark_at(tokens, b',') {
+        Some(rest) => mark_at(annotations(rest)?, b'.'),
+        None => mark_at(mark_at(tokens, b')')?, b'.'),
+    }
 }
 
 /// Annotations, up to and with the bracket behind them.

@@ -14,7 +14,7 @@ returns-in-Some c =
     let first = first_token c.args.tokens.now c.first-item.result c.in-len1-up.len_at_least c.first-item.is in
     let front = first ∙ ap (λ k. record { kind = k; text = c.first-item.result.text } ∷ tokens_of rest) c.in-Lower.is in
     parses_at front refl (literal_some c.first-item.result.text (tokens_of rest) (term_of c.in-Some.atom) (tokens_of c.in-Some.behind.now)
-      (subst (λ x. AllByRecursion IsPlainToken x) front (plain_tokens c.args.tokens.now c.requires.plain)) (reads_some term_of rest c.in_ok-atom-in-Lower.ensures c.in-Some.is))
+    (subst (λ x. AllByRecursion IsPlainToken x) front (plain_tokens c.args.tokens.now c.requires.plain)) (reads_some term_of rest c.in_ok-atom-in-Lower.ensures c.in-Some.is))
 
 pub returns-in-None : goal.returns-in-None
 returns-in-None c =
@@ -22,7 +22,7 @@ returns-in-None c =
     let first = first_token c.args.tokens.now c.first-item.result c.in-len1-up.len_at_least c.first-item.is in
     let front = first ∙ ap (λ k. record { kind = k; text = c.first-item.result.text } ∷ tokens_of rest) c.in-Lower.is in
     parses_at front refl (literal_none c.first-item.result.text (tokens_of rest)
-      (subst (λ x. AllByRecursion IsPlainToken x) front (plain_tokens c.args.tokens.now c.requires.plain)) (reads_none term_of rest c.in_ok-atom-in-Lower.ensures c.in-None.is))
+    (subst (λ x. AllByRecursion IsPlainToken x) front (plain_tokens c.args.tokens.now c.requires.plain)) (reads_none term_of rest c.in_ok-atom-in-Lower.ensures c.in-None.is))
 
 pub returns-in_default : goal.returns-in_default
 returns-in_default c =

@@ -7,3 +7,4 @@ pub mod GrammarWords
 pub mod GrammarFormulas
 pub mod GrammarEndings
 pub mod GrammarClauses
+pub mod GrammarSound

@@ -1,5 +1,5 @@
 -- What a reader of tokens gives.
-use Rattle.std.specs.Prelude.{◌≡◌, List, [], ◌∷◌, ◌++◌, Option, Some, option_map}
+use Rattle.std.specs.Prelude.{◌≡◌, List, [], ◌∷◌, ◌++◌, Option, Some, option_map, IfSome}
 use Rattle.si_defs.specs.Tokens as defs
 use Rattle.si_defs.specs.Grammar.{left_bracket}
 use Rattle.si_parse.specs.Tokens.{tokens_of}
@@ -31,3 +31,7 @@ Reads view Means Follows tokens result =
 abbrev pub Passes : (List defs.Token → Type 0) → List Token → Option (Bor (List Token)) → Type 0
 Passes Spelled tokens result =
     Parses (λ (u : Unit {0}) used. Spelled used) Anything (tokens_of tokens) (option_map (λ r. (tt {0}, tokens_of r.now)) result)
+
+-- what was found, if anything was, has this
+abbrev pub IfFound : {X : Type 0} → (X → Type 0) → Option (X × Bor (List Token)) → Type 0
+IfFound P result = IfSome result (λ r. P r.0)

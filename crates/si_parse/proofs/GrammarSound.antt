@@ -14,7 +14,7 @@ use Rattle.si_defs.specs.declared.SymKind.{SymKind}
 use Rattle.si_defs.specs.declared.SymKind.TheVariants.{Word, Dollar, Number, Distinct, Equal}
 use Rattle.si_defs.specs.declared.Side.{Side}
 use Rattle.si_defs.specs.declared.Side.TheVariants.{Predicate, Function}
-use Rattle.si_parse.specs.Parsing.{Reads, IfFound}
+use Rattle.si_parse.specs.Parsing.{Parses, Reads, IfFound}
 use Rattle.si_parse.specs.Tokens.{token_of, tokens_of}
 use Rattle.si_parse.specs.declared.token.Token.{Token}
 
@@ -124,14 +124,20 @@ sound_clause c ts (name, formula, extra, is_name, is_formula, is_extra, e) few =
     let h = sound_formula c.literals formula is_formula in
     record { some = h.0; sound = record { each = h.1; no_larger = omega (arith, h.2, few, ap length e, length-append (formula ++ extra) (right_bracket ∷ mark 46 ∷ []), length-append formula extra) } }
 
--- What was found has what each meaning of some of the tokens has.
+-- What was read has what each meaning of some of the tokens has.
+pub parsed_has : {M : Type 0} {Means : M → List defs.Token → Type 0} {Follows : List defs.Token → Type 0} (P : M → Type 0) (tokens : List Token)
+    → ((m : M) (used : List defs.Token) → length used ≤ length tokens → Means m used → P m)
+    → (m : M) (rest : List defs.Token) → Parses Means Follows (tokens_of tokens) (Some (m, rest)) → P m
+parsed_has P tokens law m rest p =
+    let h = p.found m rest refl in
+    law m h.0 (omega (arith, ap length h.1 ∙ length-append h.0 rest, length-map tokens token_of)) h.2
+
+-- And so has what was found.
 module _ {X M : Type 0} (view : X → M) {Means : M → List defs.Token → Type 0} {Follows : List defs.Token → Type 0} (P : M → Type 0) (tokens : List Token)
     (law : (m : M) (used : List defs.Token) → length used ≤ length tokens → Means m used → P m) where
   pub found_has : (result : Option (X × Bor (List Token))) → Reads view Means Follows tokens result → IfFound (λ x. P (view x)) result
   found_has None p = tt
-  found_has (Some (x, behind)) p =
-      let h = p.found (view x) (tokens_of behind.now) refl in
-      law (view x) h.0 (omega (arith, ap length h.1 ∙ length-append h.0 (tokens_of behind.now), length-map tokens token_of)) h.2
+  found_has (Some (x, behind)) p = parsed_has P tokens law (view x) (tokens_of behind.now) p
 
 -- a term that was found is sound and not large
 pub found_term : (tokens : List Token) (t : Term) (used : List defs.Token) → length used ≤ length tokens → IsTerm t used → IsSoundTerm t × (terms.size t ≤ length tokens)

@@ -1,9 +1,11 @@
 // From tokens to meanings.
 ghost use Rattle.std.specs.Prelude.{◌≡◌, ◌≤◌, ◌↔◌, ◌∷◌, IsTrue, IfOk, length, codes};
+ghost use Rattle.si_defs.specs.Clauses.{IsSoundClause, IsSoundLiteral, IsSoundTerm, literal_size};
+ghost use Rattle.si_defs.specs.Terms as terms;
 ghost use Rattle.si_defs.specs.Grammar.{IsClause, IsLiteral, IsTerm};
 ghost use Rattle.si_defs.specs.Tokens.{lower, mark};
 ghost use Rattle.si_parse.specs.GrammarRules.{AreAnnotations, AreArguments, IsApplied, IsEnding, IsMark, IsOpening, IsUnit, IsWordComma, word_symbol};
-ghost use Rattle.si_parse.specs.Parsing.{Anything, ArePlain, NoBracket, Passes, Reads};
+ghost use Rattle.si_parse.specs.Parsing.{Anything, ArePlain, IfFound, NoBracket, Passes, Reads};
 ghost use Rattle.si_parse.specs.Tokens.{token_of};
 ghost use Rattle.si_term.specs.Meaning.{clause_of, literal_of};
 ghost use Rattle.si_term.specs.Terms.{symbol_of, term_of};
@@ -23,7 +25,8 @@ pub fn clause<'t>(
 ) -> Result<Option<(Clause, &'t [Token])>, AllocError>
     requires plain { ArePlain tokens.now }
     requires few { length tokens.now ≤ 536870912 }
-    ensures { IfOk result (Reads clause_of IsClause Anything tokens.now) }
+    ensures read { IfOk result (Reads clause_of IsClause Anything tokens.now) }
+    ensures sound { IfOk result (IfFound (λ c. IsSoundClause (clause_of c))) }
 {
     let Some(rest) = opening(tokens) else {
         return Ok(None);
@@ -163,7 +166,8 @@ pub fn literal<'t>(
 ) -> Result<Option<(Literal, &'t [Token])>, AllocError>
     requires plain { ArePlain tokens.now }
     requires few { length tokens.now ≤ 536870912 }
-    ensures { IfOk result (Reads literal_of IsLiteral NoBracket tokens.now) }
+    ensures read { IfOk result (Reads literal_of IsLiteral NoBracket tokens.now) }
+    ensures sound { IfOk result (IfFound (λ l. IsSoundLiteral (literal_of l) × (literal_size (literal_of l) ≤ length tokens.now))) }
 {
     match tokens {
         [first, rest @ ..] => match first.kind {
@@ -193,7 +197,8 @@ pub fn term<'t>(
 ) -> Result<Option<(Term, &'t [Token])>, AllocError>
     requires plain { ArePlain tokens.now }
     requires few { length tokens.now ≤ 536870912 }
-    ensures { IfOk result (Reads term_of IsTerm NoBracket tokens.now) }
+    ensures read { IfOk result (Reads term_of IsTerm NoBracket tokens.now) }
+    ensures sound { IfOk result (IfFound (λ t. IsSoundTerm (term_of t) × (terms.size (term_of t) ≤ length tokens.now))) }
 {
     match tokens {
         [first, rest @ ..] => match first.kind {

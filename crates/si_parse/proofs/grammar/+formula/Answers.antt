@@ -12,7 +12,7 @@ use Rattle.si_parse.proofs.grammar.+formula.Goals as goal
 pub returns-in_default : goal.returns-in_default
 returns-in_default t c =
     IfOk-weaker c.literal.result (Reads literal_of IsLiteral NoBracket c.args.tokens.now) (Reads literal_of IsUnit NoBracket c.args.tokens.now)
-    (λ r p. unit_bare _ c.in_default.ensures p) c.literal.ensures
+    (λ r p. unit_bare _ c.in_default.ensures p) c.literal.ensures.read
 
 pub formula-requires : goal.formula-requires
 formula-requires t c =

@@ -4,3 +4,13 @@ pub mod LexBlanks
 pub mod LexWords
 pub mod LexNext
 pub mod LexEvery
+pub mod ParseSteps
+pub mod ParseReads
+pub mod ParseSequences
+pub mod GrammarTerms
+pub mod GrammarAtoms
+pub mod GrammarWords
+pub mod GrammarFormulas
+pub mod GrammarEndings
+pub mod GrammarClauses
+pub mod GrammarSound

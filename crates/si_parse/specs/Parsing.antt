@@ -1,5 +1,5 @@
 -- What a reader of tokens gives.
-use Rattle.std.specs.Prelude.{◌≡◌, List, [], ◌∷◌, ◌++◌, Option, Some, option_map}
+use Rattle.std.specs.Prelude.{◌≡◌, List, [], ◌∷◌, ◌++◌, Option, Some, option_map, IfSome}
 use Rattle.si_defs.specs.Tokens as defs
 use Rattle.si_defs.specs.Grammar.{left_bracket}
 use Rattle.si_parse.specs.Tokens.{tokens_of}
@@ -26,3 +26,12 @@ NoBracket (t ∷ ts) = t ≡ left_bracket → ⊥
 abbrev pub Reads : {X M : Type 0} → (X → M) → (M → List defs.Token → Type 0) → (List defs.Token → Type 0) → List Token → Option (X × Bor (List Token)) → Type 0
 Reads view Means Follows tokens result =
     Parses Means Follows (tokens_of tokens) (option_map (λ r. (view r.0, tokens_of r.1.now)) result)
+
+-- the same where only what is left is given
+abbrev pub Passes : (List defs.Token → Type 0) → List Token → Option (Bor (List Token)) → Type 0
+Passes Spelled tokens result =
+    Parses (λ (u : Unit {0}) used. Spelled used) Anything (tokens_of tokens) (option_map (λ r. (tt {0}, tokens_of r.now)) result)
+
+-- what was found, if anything was, has this
+abbrev pub IfFound : {X : Type 0} → (X → Type 0) → Option (X × Bor (List Token)) → Type 0
+IfFound P result = IfSome result (λ r. P r.0)

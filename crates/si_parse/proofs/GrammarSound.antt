@@ -1,0 +1,152 @@
+-- What tokens spell is sound, and has no more occurrences of symbols and variables than there are tokens.
+use Rattle.std.proofs.Common.{◌≡◌, ◌≢◌, ℕ, ◌+◌, ◌≤◌, Bool, true, false, List, [], ◌∷◌, ◌++◌, length, replicate, Option, Some, None, refl, sym, ap, ◌∙◌, subst, arith, ◌⊎◌, inl, inr, Bor}
+use Rattle.std.specs.List.{AllByRecursion}
+use Rattle.std.specs.Option.{option_map}
+use Rattle.std.proofs.lemmas.List.{length-append, length-map}
+use Rattle.si_defs.specs.Bytes.{Bytes}
+use Rattle.si_defs.specs.Terms as terms
+use Rattle.si_defs.specs.Symbols.{Symbol}
+use Rattle.si_defs.specs.Clauses.{Term, Terms, Literal, Clause, Fits, IsSoundSymbol, IsSoundTerm, AreSoundTerms, IsSoundAtom, IsSoundLiteral, literal_size, literals_size, IsSoundClause}
+use Rattle.si_defs.specs.Tokens as defs
+use Rattle.si_defs.specs.Tokens.{mark}
+use Rattle.si_defs.specs.Grammar.{IsTerm, AreMoreTerms, IsHead, IsConstant, IsAtom, IsInequation, AreSides, IsSignedAtom, IsLiteral, AreMoreLiterals, IsDisjunction, IsFormula, IsClause, equality, left_bracket, right_bracket, not_equal}
+use Rattle.si_defs.specs.declared.SymKind.{SymKind}
+use Rattle.si_defs.specs.declared.SymKind.TheVariants.{Word, Dollar, Number, Distinct, Equal}
+use Rattle.si_defs.specs.declared.Side.{Side}
+use Rattle.si_defs.specs.declared.Side.TheVariants.{Predicate, Function}
+use Rattle.si_parse.specs.Parsing.{Parses, Reads, IfFound}
+use Rattle.si_parse.specs.Tokens.{token_of, tokens_of}
+use Rattle.si_parse.specs.declared.token.Token.{Token}
+
+-- the head of arguments is a sound symbol
+head_sound : (kind : SymKind) (text : Bytes) (side : Side) (arity : ℕ) (t : defs.Token) → IsHead kind text t → IsSoundSymbol kind text side arity
+head_sound Word text side arity t h = tt
+head_sound Dollar text side arity t h = tt
+head_sound Number text side arity t h = absurd h
+head_sound Distinct text side arity t h = absurd h
+head_sound Equal text side arity t h = absurd h
+
+-- and so is a constant
+constant_sound : (kind : SymKind) (text : Bytes) (side : Side) (arity : ℕ) (t : defs.Token) → side ≡ Function → arity ≡ 0 → IsConstant kind text t → IsSoundSymbol kind text side arity
+constant_sound Word text side arity t e f h = tt
+constant_sound Dollar text side arity t e f h = tt
+constant_sound Number text side arity t e f h = (e, f)
+constant_sound Distinct text side arity t e f h = (e, f)
+constant_sound Equal text side arity t e f h = absurd h
+
+-- how long a symbol with its arguments is
+long : (t : defs.Token) (first others ts : List defs.Token) (n m : ℕ) → ts ≡ t ∷ left_bracket ∷ first ++ others ++ right_bracket ∷ [] → n ≤ length first → m ≤ length others → 1 + (n + m) ≤ length ts
+long t first others ts n m e h k =
+    omega (arith, ap length e, length-append (first ++ others) (right_bracket ∷ []), length-append first others)
+
+mutual
+  -- a term
+  pub sound_term : (t : Term) (ts : List defs.Token) → IsTerm t ts → IsSoundTerm t × (terms.size t ≤ length ts)
+  sound_term (terms.var x) ts e = (tt, omega (arith, ap length e))
+  sound_term (terms.app s terms.none) ts (on_side, with_arity, (t, constant, e)) =
+      ((record { on_side = on_side; with_arity = with_arity; of_kind = constant_sound s.kind s.text s.side s.arity t on_side with_arity constant }, tt), omega (arith, ap length e))
+  sound_term (terms.app s (terms.more u us)) ts (on_side, with_arity, (t, first, others, head, one, all, e)) =
+      let h = sound_term u first one in
+      let k = sound_more us others all in
+      ((record { on_side = on_side; with_arity = with_arity; of_kind = head_sound s.kind s.text s.side s.arity t head }, (h.0, k.0)), long t first others ts (terms.size u) (terms.sizes us) e h.1 k.1)
+
+  -- terms behind commas
+  pub sound_more : (us : Terms) (ts : List defs.Token) → AreMoreTerms us ts → AreSoundTerms us × (terms.sizes us ≤ length ts)
+  sound_more terms.none ts e = (tt, omega arith)
+  sound_more (terms.more u us) ts (first, others, one, all, e) =
+      let h = sound_term u first one in
+      let k = sound_more us others all in
+      ((h.0, k.0), omega (arith, h.1, k.1, ap length e, length-append first others))
+
+-- two sides of an equation
+sound_sides : (sign : defs.Token) (s : Symbol) (l : Term) (us : Terms) (ts : List defs.Token) → AreSides sign s l us ts
+    → IsSoundAtom (terms.app s (terms.more l us)) × (terms.size (terms.app s (terms.more l us)) ≤ length ts)
+sound_sides sign s l terms.none ts h = absurd h
+sound_sides sign s l (terms.more r (terms.more u us)) ts h = absurd h
+sound_sides sign s l (terms.more r terms.none) ts (is, (left, right, one, two, e)) =
+    let h = sound_term l left one in
+    let k = sound_term r right two in
+    ((subst (λ x. Fits x Predicate 2) (sym is) (record { on_side = refl; with_arity = refl; of_kind = (refl, refl, refl) }), (h.0, (k.0, tt))),
+     omega (arith, h.1, k.1, ap length e, length-append left (sign ∷ right)))
+
+-- an atom
+pub sound_atom : (m : Term) (ts : List defs.Token) → IsAtom m ts → IsSoundAtom m × (terms.size m ≤ length ts)
+sound_atom (terms.var x) ts h = absurd h
+sound_atom (terms.app s terms.none) ts (on_side, with_arity, (t, head, e)) =
+    ((record { on_side = on_side; with_arity = with_arity; of_kind = head_sound s.kind s.text s.side s.arity t head }, tt), omega (arith, ap length e))
+sound_atom (terms.app s (terms.more u us)) ts (inl (on_side, with_arity, (t, first, others, head, one, all, e))) =
+    let h = sound_term u first one in
+    let k = sound_more us others all in
+    ((record { on_side = on_side; with_arity = with_arity; of_kind = head_sound s.kind s.text s.side s.arity t head }, (h.0, k.0)), long t first others ts (terms.size u) (terms.sizes us) e h.1 k.1)
+sound_atom (terms.app s (terms.more u us)) ts (inr h) = sound_sides (mark 61) s u us ts h
+
+-- an inequation
+sound_inequation : (m : Term) (ts : List defs.Token) → IsInequation m ts → IsSoundAtom m × (terms.size m ≤ length ts)
+sound_inequation (terms.var x) ts h = absurd h
+sound_inequation (terms.app s terms.none) ts h = absurd h
+sound_inequation (terms.app s (terms.more u us)) ts h = sound_sides not_equal s u us ts h
+
+-- an atom or its negation
+sound_signed : (positive : Bool) (m : Term) (ts : List defs.Token) → IsSignedAtom positive m ts → IsSoundAtom m × (terms.size m ≤ length ts)
+sound_signed true m ts h = sound_atom m ts h
+sound_signed false m ts (inl (us, h, e)) = let k = sound_atom m us h in (k.0, omega (arith, k.1, ap length e))
+sound_signed false m ts (inr (inl (us, h, e))) = let k = sound_atom m us h in (k.0, omega (arith, k.1, ap length e, length-append us (right_bracket ∷ [])))
+sound_signed false m ts (inr (inr h)) = sound_inequation m ts h
+
+-- a literal
+pub sound_literal : (l : Literal) (ts : List defs.Token) → IsLiteral l ts → IsSoundLiteral l × (literal_size l ≤ length ts)
+sound_literal l ts h = sound_signed l.positive l.atom ts h
+
+-- literals behind bars
+sound_more_literals : (ls : List Literal) (ts : List defs.Token) → AreMoreLiterals ls ts → AllByRecursion IsSoundLiteral ls × (literals_size ls ≤ length ts)
+sound_more_literals [] ts e = (tt, omega arith)
+sound_more_literals (l ∷ ls) ts (first, others, one, all, e) =
+    let h = sound_literal l first one in
+    let k = sound_more_literals ls others all in
+    ((h.0, k.0), omega (arith, h.1, k.1, ap length e, length-append first others))
+
+sound_disjunction : (ls : List Literal) (ts : List defs.Token) → IsDisjunction ls ts → (ls ≡ [] → ⊥) × (AllByRecursion IsSoundLiteral ls) × (literals_size ls ≤ length ts)
+sound_disjunction [] ts h = absurd h
+sound_disjunction (l ∷ ls) ts (first, others, one, all, e) =
+    let h = sound_literal l first one in
+    let k = sound_more_literals ls others all in
+    (λ f. cc, (h.0, k.0), omega (arith, h.1, k.1, ap length e, length-append first others))
+
+-- a formula
+pub sound_formula : (ls : List Literal) (ts : List defs.Token) → IsFormula ls ts → (ls ≡ [] → ⊥) × (AllByRecursion IsSoundLiteral ls) × (literals_size ls ≤ length ts)
+sound_formula ls ts (n, inner, h, e) =
+    let k = sound_disjunction ls inner h in
+    (k.0, k.1, omega (arith, k.2, ap length e, length-append (replicate n left_bracket ++ inner) (replicate n right_bracket), length-append (replicate n left_bracket) inner))
+
+-- a clause of few tokens
+pub sound_clause : (c : Clause) (ts : List defs.Token) → IsClause c ts → length ts ≤ 536870912 → IsSoundClause c
+sound_clause c ts (name, formula, extra, is_name, is_formula, is_extra, e) few =
+    let h = sound_formula c.literals formula is_formula in
+    record { some = h.0; sound = record { each = h.1; no_larger = omega (arith, h.2, few, ap length e, length-append (formula ++ extra) (right_bracket ∷ mark 46 ∷ []), length-append formula extra) } }
+
+-- What was read has what each meaning of some of the tokens has.
+pub parsed_has : {M : Type 0} {Means : M → List defs.Token → Type 0} {Follows : List defs.Token → Type 0} (P : M → Type 0) (tokens : List Token)
+    → ((m : M) (used : List defs.Token) → length used ≤ length tokens → Means m used → P m)
+    → (m : M) (rest : List defs.Token) → Parses Means Follows (tokens_of tokens) (Some (m, rest)) → P m
+parsed_has P tokens law m rest p =
+    let h = p.found m rest refl in
+    law m h.0 (omega (arith, ap length h.1 ∙ length-append h.0 rest, length-map tokens token_of)) h.2
+
+-- And so has what was found.
+module _ {X M : Type 0} (view : X → M) {Means : M → List defs.Token → Type 0} {Follows : List defs.Token → Type 0} (P : M → Type 0) (tokens : List Token)
+    (law : (m : M) (used : List defs.Token) → length used ≤ length tokens → Means m used → P m) where
+  pub found_has : (result : Option (X × Bor (List Token))) → Reads view Means Follows tokens result → IfFound (λ x. P (view x)) result
+  found_has None p = tt
+  found_has (Some (x, behind)) p = parsed_has P tokens law (view x) (tokens_of behind.now) p
+
+-- a term that was found is sound and not large
+pub found_term : (tokens : List Token) (t : Term) (used : List defs.Token) → length used ≤ length tokens → IsTerm t used → IsSoundTerm t × (terms.size t ≤ length tokens)
+found_term tokens t used few h = let k = sound_term t used h in (k.0, omega (arith, k.1, few))
+
+-- and so is a literal
+pub found_literal : (tokens : List Token) (l : Literal) (used : List defs.Token) → length used ≤ length tokens → IsLiteral l used → IsSoundLiteral l × (literal_size l ≤ length tokens)
+found_literal tokens l used few h = let k = sound_literal l used h in (k.0, omega (arith, k.1, few))
+
+-- and a clause of few tokens is sound
+pub found_clause : (tokens : List Token) → length tokens ≤ 536870912 → (c : Clause) (used : List defs.Token) → length used ≤ length tokens → IsClause c used → IsSoundClause c
+found_clause tokens few c used h means = sound_clause c used means (omega (arith, few, h))

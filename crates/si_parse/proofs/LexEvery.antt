@@ -130,7 +130,7 @@ so_far_none bytes at l p = record {
 
 -- the token that stands next
 pub next_of : (bytes : Bytes) (from : ℕ) (t : Token) → IsNextToken bytes from t → NextToken (drop from bytes) (token_of t) (drop t.end bytes)
-next_of bytes from t n = record { place = drop t.start bytes; skips = n.skips; stands = n.stands }
+next_of bytes from t n = record { place = drop t.start bytes; skips = n.behind.skips; stands = n.stands }
 
 -- one more token
 pub so_far_more : (bytes : Bytes) (at : ℕ) (tokens : List Token) (from depth : ℕ) (t : Token) → IsSoFar bytes at tokens from depth → IsNextToken bytes from t

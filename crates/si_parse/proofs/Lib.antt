@@ -14,3 +14,5 @@ pub mod GrammarFormulas
 pub mod GrammarEndings
 pub mod GrammarClauses
 pub mod GrammarSound
+pub mod ReadingLaws
+pub mod PatternLaws

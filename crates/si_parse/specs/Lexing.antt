@@ -36,7 +36,7 @@ pub record IsNextToken (bytes : Bytes) (at : ℕ) (t : Token) : Type 0 where
   pub from : at ≤ t.start
   pub some : t.start < t.end
   pub within : t.end ≤ length bytes
-  pub skips : Skips (drop at bytes) (drop t.start bytes)
+  pub behind : IsPlace (drop at bytes) (drop t.start bytes)
   pub stands : TokenAt (drop t.start bytes) (token_of t) (drop t.end bytes)
   pub word_or_mark : IsPlainToken (token_of t)
   pub plain : IsPlain (drop t.end bytes)

@@ -283,7 +283,7 @@ fn word(text: Text, side: Side, arity: u32) -> Sym
 }
 
 /// Whether a token is this mark.
-fn is_mark(token: &Token, c: u8) -> bool
+pub(crate) fn is_mark(token: &Token, c: u8) -> bool
     ensures { IsTrue result ↔ (token_of token.now ≡ mark c) }
 {
     token.kind == TokenKind::Mark && matches!(token.text.as_bytes(), [b] if *b == c)

@@ -4,7 +4,9 @@
 #![tactic(auto)]
 
 pub mod grammar;
+pub mod item;
 pub mod lex;
+pub mod pattern;
 pub mod token;
 
 pub use token::{Stop, Token};

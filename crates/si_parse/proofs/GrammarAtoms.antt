@@ -1,5 +1,5 @@
 -- Literals: what the reader of them gives.
-use Rattle.std.proofs.Common.{◌≡◌, ◌≢◌, ℕ, ◌+◌, ◌≤◌, Bool, true, false, ◌==◌, List, [], ◌∷◌, ◌++◌, length, map, Option, Some, None, refl, sym, ap, ◌∙◌, subst, arith, ◌⊎◌, inl, inr, IsTrue}
+use Rattle.std.proofs.Common.{◌≡◌, ℕ, ◌+◌, Bool, true, false, ◌==◌, List, [], ◌∷◌, ◌++◌, Some, None, refl, sym, ap, ◌∙◌, subst, ◌⊎◌, inl, inr, IsTrue}
 use Rattle.std.proofs.lemmas.Bool.{false≢true}
 use Rattle.std.specs.List.{list_any, AllByRecursion}
 use Rattle.si_defs.specs.Bytes.{Bytes}
@@ -11,12 +11,12 @@ use Rattle.si_defs.specs.Grammar.{IsTerm, AreMoreTerms, IsHead, IsAtom, IsInequa
 use Rattle.si_defs.specs.declared.Side.TheVariants.{Predicate}
 use Rattle.si_defs.specs.declared.SymKind.TheVariants.{Word}
 use Rattle.si_defs.specs.declared.TokenKind.TheVariants as token
-use Rattle.si_parse.specs.Parsing.{Parses, Anything, NoBracket}
+use Rattle.si_parse.specs.Parsing.{Parses, NoBracket}
 use Rattle.si_parse.specs.Tokens.{IsPlainToken}
-use Rattle.si_parse.specs.GrammarRules.{word_symbol, IsApplied}
-use Rattle.si_parse.proofs.ParseSteps.{parses_none, parses_some, parses_uses, parses_one, parses_never, heads, tails, front_heads, front_tails}
+use Rattle.si_parse.specs.GrammarRules.{IsApplied}
+use Rattle.si_parse.proofs.ParseSteps.{parses_none, parses_some, parses_uses, parses_one, parses_never, heads, front_heads, front_tails}
 use Rattle.si_parse.proofs.ParseReads.{plain_front, plain_rest}
-use Rattle.si_parse.proofs.GrammarTerms.{head_lower, head_kind, applied_more, symbol_is, applied_term, row_list}
+use Rattle.si_parse.proofs.GrammarTerms.{head_lower, head_kind, applied_more, symbol_is, row_list}
 
 -- ---- what plain tokens hold no sign of
 -- a plain mark is one of four

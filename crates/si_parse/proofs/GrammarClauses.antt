@@ -1,13 +1,12 @@
 -- Clauses: what the reader of them gives.
-use Rattle.std.proofs.Common.{◌≡◌, ℕ, zero, suc, List, [], ◌∷◌, ◌++◌, replicate, Option, Some, None, refl, sym, ap, ◌∙◌, subst, append_assoc, append-nil, inl, inr, ◌⊎◌, codes}
+use Rattle.std.proofs.Common.{◌≡◌, List, [], ◌∷◌, ◌++◌, replicate, Some, None, refl, sym, ap, ◌∙◌, subst, append_assoc, inl, inr, codes}
 use Rattle.std.specs.List.{AllByRecursion}
 use Rattle.si_defs.specs.Bytes.{Bytes}
-use Rattle.si_defs.specs.Clauses.{Literal, Clause, Name}
-use Rattle.si_defs.specs.Tokens.{Token, mark, lower}
-use Rattle.si_defs.specs.Grammar.{IsName, IsWord, IsFormula, IsDisjunction, AreMoreLiterals, IsExtra, IsClause, left_bracket, right_bracket, comma, full_stop}
+use Rattle.si_defs.specs.Clauses.{Literal, Clause}
+use Rattle.si_defs.specs.Tokens.{Token, lower}
+use Rattle.si_defs.specs.Grammar.{IsName, IsFormula, IsDisjunction, AreMoreLiterals, IsExtra, IsClause, left_bracket, right_bracket, comma, full_stop}
 use Rattle.si_defs.specs.declared.NameKind.{NameKind}
 use Rattle.si_defs.specs.declared.NameKind.TheVariants as named
-use Rattle.si_defs.specs.declared.TokenKind.TheVariants as token
 use Rattle.si_parse.specs.Parsing.{Parses, Anything, NoBracket}
 use Rattle.si_parse.specs.Tokens.{IsPlainToken}
 use Rattle.si_parse.specs.GrammarRules.{IsOpening, IsWordComma, IsUnit, IsEnding}

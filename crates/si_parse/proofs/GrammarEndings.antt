@@ -1,19 +1,18 @@
 -- Annotations and the end of a clause: what the readers of them give.
-use Rattle.std.proofs.Common.{◌≡◌, ◌≢◌, ℕ, zero, suc, ◌+◌, ◌-◌, ◌≤◌, ◌<◌, Bool, true, false, cond, ◌==◌, List, [], ◌∷◌, ◌++◌, length, replicate, Option, Some, None, refl, sym, ap, ◌∙◌, subst, append_assoc, append-nil, arith, inl, inr, IsTrue, ◌⊎◌}
+use Rattle.std.proofs.Common.{◌≡◌, ◌≢◌, ℕ, zero, suc, ◌+◌, ◌-◌, false, ◌==◌, List, [], ◌∷◌, ◌++◌, replicate, Option, Some, None, refl, sym, ap, ◌∙◌, subst, append_assoc, append-nil, arith, inl, inr, IsTrue, ◌⊎◌}
 use Rattle.std.proofs.lemmas.Bool.{false≢true}
 use Rattle.std.proofs.lemmas.Bool.Decides.{nat_tests}
-use Rattle.std.specs.List.{list_any, AllByRecursion}
+use Rattle.std.specs.List.{list_any}
 use Rattle.std.specs.Option.{option_map_or}
 use Rattle.si_defs.specs.Tokens.{Token, mark}
-use Rattle.si_defs.specs.Grammar.{Bracket, round, square, neither, opening_of, closing_of, brackets_behind, balances, IsExtra, left_bracket, right_bracket, comma, full_stop}
-use Rattle.si_defs.specs.declared.TokenKind.TheVariants as token
+use Rattle.si_defs.specs.Grammar.{Bracket, round, brackets_behind, balances, left_bracket, right_bracket, comma, full_stop}
 use Rattle.si_parse.specs.Parsing.{Parses, Anything, NoBracket}
 use Rattle.si_parse.proofs.ParseSequences.{Then, then_some, then_none, then_stop, renamed_some, renamed_none}
 use Rattle.si_parse.proofs.ParseReads.{mark_front}
 use Rattle.si_parse.proofs.GrammarTerms.{right_comma, right_left, comma_left, no_bracket}
 use Rattle.si_parse.specs.Tokens.{IsPlainToken}
 use Rattle.si_parse.specs.GrammarRules.{IsMark, AreAnnotations, IsEnding}
-use Rattle.si_parse.proofs.ParseSteps.{parses_none, parses_some, parses_uses, parses_one, parses_never, heads, tails}
+use Rattle.si_parse.proofs.ParseSteps.{parses_none, parses_some, parses_never, heads, tails}
 
 -- ---- balance
 -- a closing bracket where none is open does not balance

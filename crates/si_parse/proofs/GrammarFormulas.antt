@@ -1,14 +1,14 @@
 -- Formulas: what the reader of them gives.
-use Rattle.std.proofs.Common.{◌≡◌, ℕ, zero, suc, ◌+◌, List, [], ◌∷◌, ◌++◌, replicate, Option, Some, None, refl, sym, ap, ◌∙◌, subst, append_assoc, append-nil, arith}
+use Rattle.std.proofs.Common.{◌≡◌, ℕ, zero, suc, List, [], ◌∷◌, ◌++◌, replicate, Option, Some, None, refl, sym, ap, ◌∙◌, subst, append_assoc, append-nil}
 use Rattle.std.specs.List.{AllByRecursion}
 use Rattle.si_defs.specs.Clauses.{Literal}
-use Rattle.si_defs.specs.Tokens.{Token, mark}
-use Rattle.si_defs.specs.Grammar.{IsLiteral, IsDisjunction, IsFormula, AreMoreLiterals, left_bracket, right_bracket}
+use Rattle.si_defs.specs.Tokens.{Token}
+use Rattle.si_defs.specs.Grammar.{IsLiteral, IsDisjunction, left_bracket, right_bracket}
 use Rattle.si_defs.specs.declared.TokenKind.TheVariants as token
 use Rattle.si_parse.specs.Parsing.{Parses, Anything, NoBracket}
 use Rattle.si_parse.specs.Tokens.{IsPlainToken}
 use Rattle.si_parse.specs.GrammarRules.{IsMark, IsUnit}
-use Rattle.si_parse.proofs.ParseSteps.{parses_uses, parses_never, heads, tails, front_heads}
+use Rattle.si_parse.proofs.ParseSteps.{parses_never, heads}
 use Rattle.si_parse.proofs.ParseSequences.{Then, then_some, then_none, then_stop, renamed_some, renamed_none}
 use Rattle.si_parse.proofs.ParseReads.{mark_front}
 use Rattle.si_parse.proofs.GrammarTerms.{no_bracket, right_left}

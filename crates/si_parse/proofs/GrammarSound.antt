@@ -1,7 +1,6 @@
 -- What tokens spell is sound, and has no more occurrences of symbols and variables than there are tokens.
-use Rattle.std.proofs.Common.{◌≡◌, ◌≢◌, ℕ, ◌+◌, ◌≤◌, Bool, true, false, List, [], ◌∷◌, ◌++◌, length, replicate, Option, Some, None, refl, sym, ap, ◌∙◌, subst, arith, ◌⊎◌, inl, inr, Bor}
+use Rattle.std.proofs.Common.{◌≡◌, ℕ, ◌+◌, ◌≤◌, Bool, true, false, List, [], ◌∷◌, ◌++◌, length, replicate, Option, Some, None, refl, sym, ap, ◌∙◌, subst, arith, inl, inr, Bor}
 use Rattle.std.specs.List.{AllByRecursion}
-use Rattle.std.specs.Option.{option_map}
 use Rattle.std.proofs.lemmas.List.{length-append, length-map}
 use Rattle.si_defs.specs.Bytes.{Bytes}
 use Rattle.si_defs.specs.Terms as terms
@@ -9,7 +8,7 @@ use Rattle.si_defs.specs.Symbols.{Symbol}
 use Rattle.si_defs.specs.Clauses.{Term, Terms, Literal, Clause, Fits, IsSoundSymbol, IsSoundTerm, AreSoundTerms, IsSoundAtom, IsSoundLiteral, literal_size, literals_size, IsSoundClause}
 use Rattle.si_defs.specs.Tokens as defs
 use Rattle.si_defs.specs.Tokens.{mark}
-use Rattle.si_defs.specs.Grammar.{IsTerm, AreMoreTerms, IsHead, IsConstant, IsAtom, IsInequation, AreSides, IsSignedAtom, IsLiteral, AreMoreLiterals, IsDisjunction, IsFormula, IsClause, equality, left_bracket, right_bracket, not_equal}
+use Rattle.si_defs.specs.Grammar.{IsTerm, AreMoreTerms, IsHead, IsConstant, IsAtom, IsInequation, AreSides, IsSignedAtom, IsLiteral, AreMoreLiterals, IsDisjunction, IsFormula, IsClause, left_bracket, right_bracket, not_equal}
 use Rattle.si_defs.specs.declared.SymKind.{SymKind}
 use Rattle.si_defs.specs.declared.SymKind.TheVariants.{Word, Dollar, Number, Distinct, Equal}
 use Rattle.si_defs.specs.declared.Side.{Side}
@@ -65,9 +64,10 @@ sound_sides sign s l terms.none ts h = absurd h
 sound_sides sign s l (terms.more r (terms.more u us)) ts h = absurd h
 sound_sides sign s l (terms.more r terms.none) ts (is, (left, right, one, two, e)) =
     let h = sound_term l left one in
-    let k = sound_term r right two in
-    ((subst (λ x. Fits x Predicate 2) (sym is) (record { on_side = refl; with_arity = refl; of_kind = (refl, refl, refl) }), (h.0, (k.0, tt))),
-     omega (arith, h.1, k.1, ap length e, length-append left (sign ∷ right)))
+    let k = sound_term r right two in (
+      (subst (λ x. Fits x Predicate 2) (sym is) (record { on_side = refl; with_arity = refl; of_kind = (refl, refl, refl) }), (h.0, (k.0, tt))),
+      omega (arith, h.1, k.1, ap length e, length-append left (sign ∷ right)),
+    )
 
 -- an atom
 pub sound_atom : (m : Term) (ts : List defs.Token) → IsAtom m ts → IsSoundAtom m × (terms.size m ≤ length ts)

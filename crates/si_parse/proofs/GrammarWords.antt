@@ -1,6 +1,5 @@
 -- The words at the front of a clause: what the readers of them give.
-use Rattle.std.proofs.Common.{◌≡◌, List, [], ◌∷◌, ◌++◌, Option, Some, None, refl, ap, codes}
-use Rattle.si_defs.specs.Bytes.{Bytes}
+use Rattle.std.proofs.Common.{List, [], ◌∷◌, Option, None, refl, ap, codes}
 use Rattle.si_defs.specs.Tokens.{Token, lower}
 use Rattle.si_defs.specs.Grammar.{left_bracket, comma}
 use Rattle.si_parse.specs.Parsing.{Parses, Anything}

@@ -1,7 +1,6 @@
 -- What a reader of the program's tokens gives, said of the definitions' tokens.
-use Rattle.std.proofs.Common.{◌≡◌, ◌≢◌, ℕ, suc, add-one, drop-cons, ◌+◌, ◌-◌, ◌≤◌, ◌<◌, List, [], ◌∷◌, ◌++◌, length, map, take, drop, get_or, Option, Some, None, refl, sym, ap, ◌∙◌, subst, arith, ◌⊎◌, inl, inr, Bor}
+use Rattle.std.proofs.Common.{◌≡◌, ◌≢◌, ℕ, suc, add-one, drop-cons, ◌+◌, ◌-◌, ◌≤◌, ◌<◌, List, [], ◌∷◌, ◌++◌, length, take, drop, get_or, Option, Some, None, refl, sym, ap, ◌∙◌, subst, arith, Bor}
 use Rattle.std.specs.List.{AllByRecursion}
-use Rattle.std.specs.Option.{option_map}
 use Rattle.std.proofs.lemmas.List.{take_all, take_more, take_rest, take-append-drop, length-take-le, length-append, length-map}
 use Rattle.si_defs.specs.Tokens as defs
 use Rattle.si_parse.specs.Parsing.{Parses, Passes, Reads, Anything}

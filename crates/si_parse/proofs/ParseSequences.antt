@@ -1,7 +1,7 @@
 -- Readers one after another, and the same meanings by another name.
-use Rattle.std.proofs.Common.{◌≡◌, ℕ, List, [], ◌∷◌, ◌++◌, Option, Some, None, refl, sym, ap, ◌∙◌, subst, append_assoc}
+use Rattle.std.proofs.Common.{◌≡◌, List, ◌++◌, Some, None, refl, sym, ap, ◌∙◌, append_assoc}
 use Rattle.si_defs.specs.Tokens.{Token}
-use Rattle.si_parse.specs.Parsing.{Parses, Anything}
+use Rattle.si_parse.specs.Parsing.{Parses}
 use Rattle.si_parse.proofs.ParseSteps.{parses_none, parses_some, parses_uses, parses_one, parses_never}
 
 -- two meanings, one behind the other

@@ -1,7 +1,7 @@
 -- Steps of readers: what a reader of a sequence gives, by what its parts give.
-use Rattle.std.proofs.Common.{◌≡◌, ◌≢◌, ℕ, List, [], ◌∷◌, ◌++◌, Option, Some, None, refl, sym, ap, ◌∙◌, subst, append_assoc, arith}
+use Rattle.std.proofs.Common.{◌≡◌, List, ◌∷◌, ◌++◌, Option, Some, None, refl, sym, ap, ◌∙◌, subst}
 use Rattle.si_defs.specs.Tokens.{Token}
-use Rattle.si_parse.specs.Parsing.{Parses, Anything}
+use Rattle.si_parse.specs.Parsing.{Parses}
 
 none_is_some : {A : Type 0} {x : A} → None ≡ Some x → ⊥
 none_is_some e = cc

@@ -3,7 +3,7 @@ use Rattle.std.specs.Prelude.{◌≡◌, ◌≢◌, ℕ, ◌+◌, List, [], ◌�
 use Rattle.si_defs.specs.Bytes.{Bytes}
 use Rattle.si_defs.specs.Terms as terms
 use Rattle.si_defs.specs.Symbols.{Symbol}
-use Rattle.si_defs.specs.Clauses.{Term, Terms, Literal}
+use Rattle.si_defs.specs.Clauses.{Term, Literal}
 use Rattle.si_defs.specs.Tokens.{Token, mark, lower}
 use Rattle.si_defs.specs.Grammar.{IsTerm, AreMoreTerms, IsFormula, IsExtra, balances, left_bracket, right_bracket, comma, full_stop}
 use Rattle.si_defs.specs.declared.SymKind.TheVariants.{Word}

@@ -1,6 +1,10 @@
-// From tokens to meanings.
+// From tokens to meanings: the grammar of TPTP's cnf_annotated, cut to plain tokens (words, round brackets, commas and
+// full stops). There a literal is a word with its arguments, and a formula one literal in any number of round brackets.
+//
+// Terms and formulas are read by recursion, as deep as their brackets nest. Tokens of a `Lexing` nest no deeper than
+// `deepest_nesting`, so the stack is bounded. What may be long, as arguments and annotations, is read by loops.
 ghost use Rattle.std.specs.Prelude.{◌≡◌, ◌≤◌, ◌↔◌, ◌∷◌, IsTrue, IfOk, length, codes};
-ghost use Rattle.si_defs.specs.Clauses.{IsSoundClause, IsSoundLiteral, IsSoundTerm, literal_size};
+ghost use Rattle.si_defs.specs.Clauses.{IsSoundClause, IsSoundLiteral, IsSoundTerm, literal_size, most_occurrences};
 ghost use Rattle.si_defs.specs.Terms as terms;
 ghost use Rattle.si_defs.specs.Grammar.{IsClause, IsLiteral, IsTerm};
 ghost use Rattle.si_defs.specs.Tokens.{lower, mark};
@@ -15,16 +19,17 @@ use si_defs::{NameKind, Side, SymKind, TokenKind};
 use si_term::{Clause, Literal, Literals, Name, Sym, Term, Terms, Text};
 use std::alloc::{AllocError, Global};
 
-/// What was read, and the tokens behind it.
+/// What was read at the front of some tokens, and the tokens behind it. Nothing where the tokens begin with no such thing.
 pub type Found<'t, T> = Option<(T, &'t [Token])>;
 
-/// The clause at the front, up to and with its full stop.
-pub fn clause<'t>(
-    alloc: Global,
-    tokens: &'t [Token],
-) -> Result<Option<(Clause, &'t [Token])>, AllocError>
+/// The clause at the front, up to and with its full stop: `cnf(name, role, formula).`, with annotations behind the formula
+/// if a comma stands there.
+///
+/// # Errors
+/// `AllocError` where memory runs out.
+pub fn clause<'t>(alloc: Global, tokens: &'t [Token]) -> Result<Found<'t, Clause>, AllocError>
     requires plain { ArePlain tokens.now }
-    requires few { length tokens.now ≤ 536870912 }
+    requires few { length tokens.now ≤ most_occurrences }
     ensures read { IfOk result (Reads clause_of IsClause Anything tokens.now) }
     ensures sound { IfOk result (IfFound (λ c. IsSoundClause (clause_of c))) }
 {
@@ -59,7 +64,7 @@ pub fn clause<'t>(
     )))
 }
 
-/// The bracket behind the word `cnf`.
+/// The tokens behind the word `cnf` and a bracket.
 fn opening(tokens: &[Token]) -> Option<&[Token]>
     ensures { Passes IsOpening tokens.now result }
 {
@@ -70,10 +75,7 @@ fn opening(tokens: &[Token]) -> Option<&[Token]>
 }
 
 /// A lower word and the comma behind it.
-fn word_comma<'t>(
-    alloc: Global,
-    tokens: &'t [Token],
-) -> Result<Option<(Text, &'t [Token])>, AllocError>
+fn word_comma<'t>(alloc: Global, tokens: &'t [Token]) -> Result<Found<'t, Text>, AllocError>
     ensures { IfOk result (Reads (λ t. t) IsWordComma Anything tokens.now) }
 {
     match tokens {
@@ -92,12 +94,9 @@ fn word_comma<'t>(
 }
 
 /// A literal in any number of round brackets.
-fn formula<'t>(
-    alloc: Global,
-    tokens: &'t [Token],
-) -> Result<Option<(Literal, &'t [Token])>, AllocError>
+fn formula<'t>(alloc: Global, tokens: &'t [Token]) -> Result<Found<'t, Literal>, AllocError>
     requires plain { ArePlain tokens.now }
-    requires few { length tokens.now ≤ 536870912 }
+    requires few { length tokens.now ≤ most_occurrences }
     ensures { IfOk result (Reads literal_of IsUnit NoBracket tokens.now) }
 {
     let Some(inner) = mark_at(tokens, b'(') else {
@@ -112,7 +111,7 @@ fn formula<'t>(
     }
 }
 
-/// What stands behind the formula of a clause: annotations, if any, the closing bracket and the full stop.
+/// The tokens behind the end of a clause: annotations behind a comma, if any, a closing bracket and a full stop.
 fn ending(tokens: &[Token]) -> Option<&[Token]>
     requires { ArePlain tokens.now }
     ensures { Passes IsEnding tokens.now result }
@@ -123,7 +122,7 @@ fn ending(tokens: &[Token]) -> Option<&[Token]>
     }
 }
 
-/// Annotations, up to and with the bracket behind them.
+/// The tokens behind annotations and the bracket that ends them: the first that closes more than was opened.
 fn annotations(tokens: &[Token]) -> Option<&[Token]>
     requires { ArePlain tokens.now }
     ensures { Passes AreAnnotations tokens.now result }
@@ -159,13 +158,13 @@ fn is_cnf(token: &Token) -> bool
     token.kind == TokenKind::Lower && token.text.as_bytes() == b"cnf".as_slice()
 }
 
-/// The literal at the front.
-pub fn literal<'t>(
-    alloc: Global,
-    tokens: &'t [Token],
-) -> Result<Option<(Literal, &'t [Token])>, AllocError>
+/// The literal at the front: a word, and its arguments if a bracket opens behind it.
+///
+/// # Errors
+/// `AllocError` where memory runs out.
+pub fn literal<'t>(alloc: Global, tokens: &'t [Token]) -> Result<Found<'t, Literal>, AllocError>
     requires plain { ArePlain tokens.now }
-    requires few { length tokens.now ≤ 536870912 }
+    requires few { length tokens.now ≤ most_occurrences }
     ensures read { IfOk result (Reads literal_of IsLiteral NoBracket tokens.now) }
     ensures sound { IfOk result (IfFound (λ l. IsSoundLiteral (literal_of l) × (literal_size (literal_of l) ≤ length tokens.now))) }
 {
@@ -189,14 +188,14 @@ pub fn literal<'t>(
     }
 }
 
-/// The term at the front.
+/// The term at the front: a variable, or a word with its arguments if a bracket opens behind it.
+///
+/// # Errors
+/// `AllocError` where memory runs out.
 #[cycle(reading)]
-pub fn term<'t>(
-    alloc: Global,
-    tokens: &'t [Token],
-) -> Result<Option<(Term, &'t [Token])>, AllocError>
+pub fn term<'t>(alloc: Global, tokens: &'t [Token]) -> Result<Found<'t, Term>, AllocError>
     requires plain { ArePlain tokens.now }
-    requires few { length tokens.now ≤ 536870912 }
+    requires few { length tokens.now ≤ most_occurrences }
     ensures read { IfOk result (Reads term_of IsTerm NoBracket tokens.now) }
     ensures sound { IfOk result (IfFound (λ t. IsSoundTerm (term_of t) × (terms.size (term_of t) ≤ length tokens.now))) }
 {
@@ -220,9 +219,9 @@ fn application<'t>(
     head: &Text,
     side: Side,
     tokens: &'t [Token],
-) -> Result<Option<(Term, &'t [Token])>, AllocError>
+) -> Result<Found<'t, Term>, AllocError>
     requires plain { ArePlain tokens.now }
-    requires few { length tokens.now ≤ 536870912 }
+    requires few { length tokens.now ≤ most_occurrences }
     ensures { IfOk result (Reads term_of (IsApplied head.now side) NoBracket tokens.now) }
 {
     let text = Text::from_bytes(alloc, head.as_bytes())?;
@@ -240,12 +239,9 @@ fn application<'t>(
 
 /// The arguments behind an opening bracket, up to and with the closing one.
 #[cycle(reading)]
-fn arguments<'t>(
-    alloc: Global,
-    tokens: &'t [Token],
-) -> Result<Option<(Terms, &'t [Token])>, AllocError>
+fn arguments<'t>(alloc: Global, tokens: &'t [Token]) -> Result<Found<'t, Terms>, AllocError>
     requires plain { ArePlain tokens.now }
-    requires few { length tokens.now ≤ 536870912 }
+    requires few { length tokens.now ≤ most_occurrences }
     ensures { IfOk result (Reads (λ ts. ts) AreArguments Anything tokens.now) }
 {
     let mut args = Terms::new(alloc);

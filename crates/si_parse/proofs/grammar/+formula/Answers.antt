@@ -1,9 +1,8 @@
-use Rattle.std.proofs.Common.{◌≤◌, ◌<◌, length, arith, rules}
+use Rattle.std.proofs.Common.{◌<◌, length, arith}
 use Rattle.std.proofs.lemmas.Result.{IfOk-weaker}
 use Rattle.si_defs.specs.Grammar.{IsLiteral}
 use Rattle.si_parse.specs.GrammarRules.{IsUnit}
 use Rattle.si_parse.specs.Parsing.{NoBracket, Reads}
-use Rattle.si_parse.specs.Tokens.{tokens_of}
 use Rattle.si_term.specs.Meaning.{literal_of}
 use Rattle.si_parse.proofs.ParseReads.{parsed_plain, mark_shorter, plain_tokens, reads_some, reads_none}
 use Rattle.si_parse.proofs.GrammarFormulas.{unit_bare, inside_some, inside_none, inside_stop}

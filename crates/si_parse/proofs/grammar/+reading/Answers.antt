@@ -1,19 +1,17 @@
-use Rattle.std.proofs.Common.{◌≡◌, ◌≤◌, IfOk, length, ◌+◌, ◌-◌, ◌<◌, Bool, true, false, List, [], ◌∷◌, ◌++◌, Bor, Option, Some, None, Result, Ok, Err, get_or, take, drop, map, sym, ap, ◌∙◌, refl, arith, rules}
+use Rattle.std.proofs.Common.{◌≡◌, ◌≤◌, IfOk, length, ◌-◌, [], ◌∷◌, Some, take, drop, ap, ◌∙◌, refl, arith}
 use Rattle.std.proofs.lemmas.Bool.{false≢true}
 use Rattle.std.proofs.lemmas.Result.{IfOk-weaker}
 use Rattle.std.proofs.lemmas.List.{length-map}
-use Rattle.si_defs.specs.Clauses as clauses
 use Rattle.si_defs.specs.Terms as terms
-use Rattle.si_defs.specs.Tokens as defs
 use Rattle.si_defs.specs.declared.Side.TheVariants.{Function}
-use Rattle.si_defs.specs.Grammar.{IsTerm, left_bracket, right_bracket, comma}
-use Rattle.si_parse.specs.GrammarRules.{AreArguments, IsApplied, word_symbol}
-use Rattle.si_parse.specs.Parsing.{Anything, ArePlain, IfFound, NoBracket, Reads, Parses}
+use Rattle.si_defs.specs.Grammar.{IsTerm}
+use Rattle.si_parse.specs.GrammarRules.{IsApplied, word_symbol}
+use Rattle.si_parse.specs.Parsing.{IfFound, NoBracket, Reads}
 use Rattle.si_parse.specs.Tokens.{token_of, tokens_of}
-use Rattle.si_term.specs.Terms.{symbol_of, term_of}
+use Rattle.si_term.specs.Terms.{term_of}
 use Rattle.si_parse.proofs.ParseSteps.{parses_at}
-use Rattle.si_parse.proofs.ParseReads.{first_token, no_token, plain_first, reads_some, reads_none, reads_plain, reads_shorter, plain_others, others_shorter}
-use Rattle.si_parse.proofs.GrammarTerms.{Along, applied_arguments, applied_none, arguments_few, arguments_none, arguments_last, arguments_stop, arguments_other, along_at, along_some, along_none, along_comma, term_upper, term_lower}
+use Rattle.si_parse.proofs.ParseReads.{first_token, no_token, reads_some, reads_none, reads_plain, reads_shorter, plain_others, others_shorter}
+use Rattle.si_parse.proofs.GrammarTerms.{applied_arguments, applied_none, arguments_few, arguments_none, arguments_last, arguments_stop, arguments_other, along_at, along_some, along_none, along_comma, term_upper, term_lower}
 use Rattle.si_defs.specs.Clauses.{IsSoundTerm}
 use Rattle.si_parse.proofs.GrammarSound.{found_has, found_term}
 use Rattle.si_parse.proofs.grammar.+reading.Goals as goal
@@ -100,10 +98,10 @@ term-returns-in-Lower t c =
     let rest = take (length c.args.tokens.now - 1) (drop 1 c.args.tokens.now) in
     let first = first_token c.args.tokens.now c.first-item.result c.in-len1-up.len_at_least c.first-item.is in
     let read : IfOk c.application.result (Reads term_of IsTerm NoBracket c.args.tokens.now) =
-      IfOk-weaker c.application.result (Reads term_of (IsApplied c.first-item.result.text Function) NoBracket rest) (Reads term_of IsTerm NoBracket c.args.tokens.now)
-      (λ r p. parses_at (first ∙ ap (λ k. record { kind = k; text = c.first-item.result.text } ∷ tokens_of rest) c.in-Lower.is) refl (term_lower c.first-item.result.text (tokens_of rest) _ p)) c.application.ensures in
+    IfOk-weaker c.application.result (Reads term_of (IsApplied c.first-item.result.text Function) NoBracket rest) (Reads term_of IsTerm NoBracket c.args.tokens.now)
+    (λ r p. parses_at (first ∙ ap (λ k. record { kind = k; text = c.first-item.result.text } ∷ tokens_of rest) c.in-Lower.is) refl (term_lower c.first-item.result.text (tokens_of rest) _ p)) c.application.ensures in
     record {
       read = read;
       sound = IfOk-weaker c.application.result (Reads term_of IsTerm NoBracket c.args.tokens.now) (IfFound (λ t. IsSoundTerm (term_of t) × (terms.size (term_of t) ≤ length c.args.tokens.now)))
-        (λ r p. found_has term_of (λ t. IsSoundTerm t × (terms.size t ≤ length c.args.tokens.now)) c.args.tokens.now (found_term c.args.tokens.now) r p) read
+          (λ r p. found_has term_of (λ t. IsSoundTerm t × (terms.size t ≤ length c.args.tokens.now)) c.args.tokens.now (found_term c.args.tokens.now) r p) read;
     }

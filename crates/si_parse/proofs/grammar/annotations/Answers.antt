@@ -1,8 +1,6 @@
-use Rattle.std.proofs.Common.{◌≡◌, ◌≢◌, ◌-◌, ◌+◌, ◌≤◌, ◌<◌, ◌∷◌, ◌++◌, List, [], length, take, drop, get_or, refl, sym, ap, ◌∙◌, subst, arith}
+use Rattle.std.proofs.Common.{◌-◌, ◌+◌, ◌∷◌, ◌++◌, [], length, take, drop, get_or, refl, sym, ap, ◌∙◌, subst, arith}
 use Rattle.std.proofs.lemmas.Bool.{false≢true}
-use Rattle.si_defs.specs.Tokens as defs
 use Rattle.si_parse.specs.Tokens.{token_of, tokens_of}
-use Rattle.si_parse.proofs.ParseSteps.{parses_at}
 use Rattle.si_parse.proofs.ParseReads.{first_token, tokens_more, tokens_split, tokens_all, plain_at, some_before}
 use Rattle.si_parse.proofs.GrammarEndings.{AreOpen, open_left, open_right, open_other, annotations_some, annotations_empty, annotations_open}
 use Rattle.si_parse.proofs.grammar.annotations.Goals as goal

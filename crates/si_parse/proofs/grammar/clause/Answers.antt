@@ -1,4 +1,4 @@
-use Rattle.std.proofs.Common.{◌≡◌, ◌∷◌, ◌++◌, List, [], Some, map, refl, sym, ap, ◌∙◌}
+use Rattle.std.proofs.Common.{◌∷◌, ◌++◌, List, [], Some, map, refl, ap, ◌∙◌}
 use Rattle.si_defs.specs.Clauses as clauses
 use Rattle.si_defs.specs.declared.NameKind.TheVariants as named
 use Rattle.si_parse.specs.Tokens.{tokens_of}

@@ -1,14 +1,13 @@
-use Rattle.std.proofs.Common.{◌≡◌, ◌-◌, ◌∷◌, List, length, take, drop, refl, sym, ap, ◌∙◌, subst}
+use Rattle.std.proofs.Common.{◌-◌, ◌∷◌, length, take, drop, refl, sym, ap, ◌∙◌, subst}
 use Rattle.std.specs.List.{AllByRecursion}
 use Rattle.si_defs.specs.Tokens as defs
-use Rattle.si_parse.specs.Tokens.{token_of, tokens_of, IsPlainToken}
+use Rattle.si_parse.specs.Tokens.{tokens_of, IsPlainToken}
 use Rattle.si_term.specs.Terms.{term_of}
 use Rattle.si_parse.proofs.ParseSteps.{parses_at, heads}
 use Rattle.si_parse.proofs.ParseReads.{first_token, plain_tokens, reads_some, reads_none}
 use Rattle.si_parse.proofs.GrammarAtoms.{literal_some, literal_none, literal_other}
 use Rattle.std.proofs.Common.{◌≤◌}
 use Rattle.si_defs.specs.Clauses.{IsSoundLiteral, literal_size}
-use Rattle.si_term.specs.Meaning.{literal_of}
 use Rattle.si_parse.proofs.GrammarSound.{parsed_has, found_literal}
 use Rattle.si_parse.proofs.grammar.literal.Goals as goal
 

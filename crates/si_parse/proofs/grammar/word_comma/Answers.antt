@@ -1,9 +1,7 @@
-use Rattle.std.proofs.Common.{◌-◌, ◌∷◌, length, take, drop, refl, ap, ◌∙◌, subst}
-use Rattle.si_parse.specs.GrammarRules.{IsMark}
-use Rattle.si_parse.specs.Parsing.{Passes}
+use Rattle.std.proofs.Common.{◌-◌, length, take, drop, refl}
 use Rattle.si_parse.specs.Tokens.{token_of, tokens_of}
 use Rattle.si_parse.proofs.ParseSteps.{parses_at}
-use Rattle.si_parse.proofs.ParseReads.{first_token, passes_none}
+use Rattle.si_parse.proofs.ParseReads.{first_token}
 use Rattle.si_parse.proofs.GrammarWords.{no_comma}
 use Rattle.si_parse.proofs.grammar.word_comma.Goals as goal
 

@@ -1,6 +1,6 @@
 -- What was read of all tokens of some bytes is the pattern that the bytes are.
 use Rattle.std.proofs.Common.{◌≡◌, ℕ, ◌+◌, ◌≤◌, List, [], ◌∷◌, ◌++◌, length, drop, refl, ap, sym, ◌∙◌, subst, arith, append-nil}
-use Rattle.std.specs.Prelude.{Option, Some, None, option_map}
+use Rattle.std.specs.Prelude.{Option, Some, None, option_map, Bool, false, ◌==◌}
 use Rattle.std.specs.Borrow.{Bor}
 use Rattle.si_defs.specs.Bytes.{Bytes}
 use Rattle.si_defs.specs.Terms as terms
@@ -10,42 +10,120 @@ use Rattle.si_defs.specs.Tokens as defs
 use Rattle.si_defs.specs.Grammar.{IsLiteral, IsTerm}
 use Rattle.si_defs.specs.Texts.{IsText, IsPattern, IsPatternText}
 use Rattle.si_term.specs.Terms.{term_of}
-use Rattle.si_term.specs.Meaning.{literal_of}
+use Rattle.si_term.specs.Meaning.{literal_of, pattern_of}
+use Rattle.si_term.specs.declared.clause.Pattern.{Pattern}
 use Rattle.si_term.specs.declared.clause.Literal as program
 use Rattle.si_term.specs.declared.term.Term as program_term
 use Rattle.si_parse.specs.Tokens.{tokens_of}
 use Rattle.si_parse.specs.Lexing.{IsLexing}
 use Rattle.si_parse.specs.Parsing.{Parses, NoBracket, Reads}
-use Rattle.si_parse.specs.Reading.{IsOfKind, IsPatternRead}
+use Rattle.si_parse.specs.Reading.{IsOfKind, IsPatternRead, ReadsPattern, IsWhole, ReadsWhole}
 use Rattle.si_parse.specs.declared.token.Token.{Token}
 use Rattle.si_parse.specs.declared.token.Stop.{Stop}
 use Rattle.si_parse.specs.declared.token.Stop.TheVariants.{End}
 use Rattle.si_parse.specs.declared.pattern.PatternKind.{PatternKind}
 use Rattle.si_parse.specs.declared.pattern.PatternKind.TheVariants as kind
-use Rattle.si_parse.proofs.ReadingLaws.{lexing_few}
 
-some_inj : {A : Type 0} (x y : A) → Some x ≡ Some y → x ≡ y
-some_inj x y h = cc
+-- no tokens stand for none
+empty : (ts : List Token) → tokens_of ts ≡ [] → ts ≡ []
+empty [] h = refl
+empty (t ∷ ts) h = cc
 
-module _ (bytes : Bytes) (items tokens : List Token) (stop : Stop) (l : IsLexing bytes 0 items stop) (same : tokens ≡ items) where
-  all_tokens : {M : Type 0} (Means : M → List defs.Token → Type 0) (m : M) → IsText (Means m) bytes → (stop ≡ End) × Means m (tokens_of tokens)
-  all_tokens Means m t =
-      let w = l.whole t.tokens t.consists t.nested in
-      (w.0, subst (Means m) (sym w.1 ∙ ap tokens_of (sym same)) t.spelled)
+some_injective : {A : Type 0} (x y : A) → Some x ≡ Some y → x ≡ y
+some_injective x y h = cc
 
-  -- a meaning of the whole bytes is what the reader of tokens found, with nothing left
-  found_whole : {M : Type 0} (Means : M → List defs.Token → Type 0) (result : Option (M × List defs.Token)) → Parses Means NoBracket (tokens_of tokens) result
-      → (m : M) → IsText (Means m) bytes → result ≡ Some (m, [])
-  found_whole Means result p m t = p.every m (tokens_of tokens) [] (sym (append-nil (tokens_of tokens))) (all_tokens Means m t).1 tt
+-- ---- tokens
+-- a literal with nothing left is what all the tokens spell
+pub literal_whole : (tokens : List Token) (l : program.Literal) (r : Bor (List Token)) → length tokens ≤ 536870912 → r.now ≡ [] → Reads literal_of IsLiteral NoBracket tokens (Some (l, r))
+    → IsSoundLiteral (literal_of l) × (literal_size (literal_of l) ≤ length tokens) → IsWhole (tokens_of tokens) kind.Lit (literal_pattern (literal_of l))
+literal_whole tokens l r few none p sound =
+    let rest : tokens_of r.now ≡ [] = ap tokens_of none in
+    let f = p.found (literal_of l) (tokens_of r.now) refl in
+    let size = sound.1 in
+    record {
+      of_kind = tt;
+      spelled = subst (IsLiteral (literal_of l)) (sym (f.1 ∙ ap (λ ts. f.0 ++ ts) rest ∙ append-nil f.0)) f.2;
+      only = λ other k o. by other k o;
+      sound = (sound.0, omega arith);
+    } where
+  by : (other : clauses.Pattern) → IsOfKind kind.Lit other → IsPattern other (tokens_of tokens) → other ≡ literal_pattern (literal_of l)
+  by (literal_pattern m) k o = ap (λ (x : clauses.Literal × List defs.Token). literal_pattern x.0) (sym (some_injective _ (m, []) (p.every m (tokens_of tokens) [] (sym (append-nil (tokens_of tokens))) o tt)))
+  by (term_pattern t) k o = absurd k
 
-  -- what was found with nothing left is a meaning of the whole bytes
-  whole_text : {M : Type 0} (Means : M → List defs.Token → Type 0) (m : M) → stop ≡ End → Parses Means NoBracket (tokens_of tokens) (Some (m, [])) → IsText (Means m) bytes
-  whole_text Means m e p =
-      let f = p.found m [] refl in
-      let spelled : Means m (tokens_of items) = subst (Means m) (sym (append-nil f.0) ∙ sym f.1 ∙ ap tokens_of same) f.2 in
-      record {
+abbrev literal_view : program.Literal × Bor (List Token) → clauses.Literal × List defs.Token
+literal_view r = (literal_of r.0, tokens_of r.1.now)
+
+abbrev term_view : program_term.Term × Bor (List Token) → clauses.Term × List defs.Token
+term_view r = (term_of r.0, tokens_of r.1.now)
+
+-- a list that is not empty
+pub not_empty : {A : Type 0} (xs : List A) → false ≡ (length xs == 0) → xs ≡ [] → ⊥
+not_empty [] h e = cc
+not_empty (x ∷ xs) h e = cc
+
+abbrev with_left : {X : Type 0} → X → Bor (List Token) → X × Bor (List Token)
+with_left x r = (x, r)
+
+-- two readings of the same tokens leave the same
+pub same_left : {X : Type 0} (x y : X) (r s : Bor (List Token)) → Some (with_left x r) ≡ Some (with_left y s) → s.now ≡ [] → r.now ≡ []
+same_left {X = X} x y r s h e = ap (λ (p : X × Bor (List Token)). p.1.now) (some_injective (with_left x r) (with_left y s) h) ∙ e
+
+-- where something is left, or nothing was found, the tokens spell no literal
+pub literal_left : (tokens : List Token) (found : Option (program.Literal × Bor (List Token))) → Reads literal_of IsLiteral NoBracket tokens found
+    → ((l : program.Literal) (r : Bor (List Token)) → found ≡ Some (l, r) → r.now ≡ [] → ⊥) → (p : clauses.Pattern) → IsOfKind kind.Lit p → IsPattern p (tokens_of tokens) → ⊥
+literal_left tokens found p left (literal_pattern m) k o = by found left (p.every m (tokens_of tokens) [] (sym (append-nil (tokens_of tokens))) o tt) where
+  by : (found : Option (program.Literal × Bor (List Token))) → ((l : program.Literal) (r : Bor (List Token)) → found ≡ Some (l, r) → r.now ≡ [] → ⊥)
+      → option_map literal_view found ≡ Some (m, []) → ⊥
+  by None left e = cc
+  by (Some x) left e = left x.0 x.1 refl (empty x.1.now (ap (λ (y : clauses.Literal × List defs.Token). y.1) (some_injective _ (m, []) e)))
+literal_left tokens found p left (term_pattern t) k o = k
+
+-- the same of terms
+pub term_whole : (tokens : List Token) (t : program_term.Term) (r : Bor (List Token)) → length tokens ≤ 536870912 → r.now ≡ [] → Reads term_of IsTerm NoBracket tokens (Some (t, r))
+    → IsSoundTerm (term_of t) × (terms.size (term_of t) ≤ length tokens) → IsWhole (tokens_of tokens) kind.Term (term_pattern (term_of t))
+term_whole tokens t r few none p sound =
+    let rest : tokens_of r.now ≡ [] = ap tokens_of none in
+    let f = p.found (term_of t) (tokens_of r.now) refl in
+    let size = sound.1 in
+    record {
+      of_kind = tt;
+      spelled = subst (IsTerm (term_of t)) (sym (f.1 ∙ ap (λ ts. f.0 ++ ts) rest ∙ append-nil f.0)) f.2;
+      only = λ other k o. by other k o;
+      sound = (sound.0, omega arith);
+    } where
+  by : (other : clauses.Pattern) → IsOfKind kind.Term other → IsPattern other (tokens_of tokens) → other ≡ term_pattern (term_of t)
+  by (term_pattern m) k o = ap (λ (x : clauses.Term × List defs.Token). term_pattern x.0) (sym (some_injective _ (m, []) (p.every m (tokens_of tokens) [] (sym (append-nil (tokens_of tokens))) o tt)))
+  by (literal_pattern l) k o = absurd k
+
+pub term_left : (tokens : List Token) (found : Option (program_term.Term × Bor (List Token))) → Reads term_of IsTerm NoBracket tokens found
+    → ((t : program_term.Term) (r : Bor (List Token)) → found ≡ Some (t, r) → r.now ≡ [] → ⊥) → (p : clauses.Pattern) → IsOfKind kind.Term p → IsPattern p (tokens_of tokens) → ⊥
+term_left tokens found p left (term_pattern m) k o = by found left (p.every m (tokens_of tokens) [] (sym (append-nil (tokens_of tokens))) o tt) where
+  by : (found : Option (program_term.Term × Bor (List Token))) → ((t : program_term.Term) (r : Bor (List Token)) → found ≡ Some (t, r) → r.now ≡ [] → ⊥)
+      → option_map term_view found ≡ Some (m, []) → ⊥
+  by None left e = cc
+  by (Some x) left e = left x.0 x.1 refl (empty x.1.now (ap (λ (y : clauses.Term × List defs.Token). y.1) (some_injective _ (m, []) e)))
+term_left tokens found p left (literal_pattern l) k o = k
+
+-- ---- bytes
+-- where the tokens end with the bytes, what they spell is what the bytes are
+pub whole_read : (bytes : Bytes) (items tokens : List Token) (stop : Stop) (k : PatternKind) (result : Option Pattern) → IsLexing bytes 0 items stop → stop ≡ End → tokens ≡ items
+    → ReadsWhole (tokens_of tokens) k result → ReadsPattern bytes k result
+whole_read bytes items tokens stop k (Some p) l e same w =
+    record {
+      of_kind = w.of_kind;
+      text = record {
         tokens = tokens_of items;
         consists = record { rest = l.rest; begins = l.begins; blanks = l.blanks e };
-        spelled = spelled;
+        spelled = subst (λ ts. IsPattern (pattern_of p) (tokens_of ts)) same w.spelled;
         nested = l.nested;
-      }
+      };
+      only = λ other o t. w.only other o (all_tokens other t);
+      sound = w.sound;
+    } where
+  all_tokens : (other : clauses.Pattern) → IsPatternText other bytes → IsPattern other (tokens_of tokens)
+  all_tokens other t = subst (IsPattern other) (sym (l.whole t.tokens t.consists t.nested).1 ∙ ap tokens_of (sym same)) t.spelled
+whole_read bytes items tokens stop k None l e same w = λ p o t. w p o (subst (IsPattern p) (sym (l.whole t.tokens t.consists t.nested).1 ∙ ap tokens_of (sym same)) t.spelled)
+
+-- where they do not, the bytes are no pattern
+pub stopped_read : (bytes : Bytes) (items : List Token) (stop : Stop) (k : PatternKind) → IsLexing bytes 0 items stop → (stop ≡ End → ⊥) → (p : clauses.Pattern) → IsOfKind k p → IsPatternText p bytes → ⊥
+stopped_read bytes items stop k l e p o t = e (l.whole t.tokens t.consists t.nested).0

@@ -5,7 +5,7 @@ use Rattle.si_defs.specs.Clauses as clauses
 use Rattle.si_defs.specs.Clauses.{IsSoundClause, IsSoundPattern}
 use Rattle.si_defs.specs.Tokens.{AreBlanks}
 use Rattle.si_defs.specs.Grammar.{Item, clause_item, left_bracket}
-use Rattle.si_defs.specs.Texts.{BeginsWithItem, IsPatternText, IsFaulty, IsForeign, IsPlace, languages}
+use Rattle.si_defs.specs.Texts.{BeginsWithItem, IsPatternText, IsFaulty, IsForeign, IsPlace, IsPattern, languages}
 use Rattle.si_defs.specs.Tokens as defs
 use Rattle.si_defs.specs.Substitutions.{IsAmong}
 use Rattle.si_defs.specs.declared.TokenKind.TheVariants.{Lower}
@@ -66,6 +66,17 @@ IsOfKind kind.Lit (clauses.literal_pattern l) = Unit {0}
 IsOfKind kind.Lit (clauses.term_pattern t) = ⊥
 IsOfKind kind.Term (clauses.literal_pattern l) = ⊥
 IsOfKind kind.Term (clauses.term_pattern t) = Unit {0}
+
+-- all the tokens spell this pattern, and no other one of this kind
+pub record IsWhole (ts : List defs.Token) (kind : PatternKind) (p : clauses.Pattern) : Type 0 where
+  pub of_kind : IsOfKind kind p
+  pub spelled : IsPattern p ts
+  pub only : (other : clauses.Pattern) → IsOfKind kind other → IsPattern other ts → other ≡ p
+  pub sound : IsSoundPattern p
+
+abbrev pub ReadsWhole : List defs.Token → PatternKind → Option Pattern → Type 0
+ReadsWhole ts kind (Some p) = IsWhole ts kind (pattern_of p)
+ReadsWhole ts kind None = (p : clauses.Pattern) → IsOfKind kind p → IsPattern p ts → ⊥
 
 -- the whole bytes are this pattern, and no other one of this kind
 pub record IsPatternRead (bytes : Bytes) (kind : PatternKind) (p : clauses.Pattern) : Type 0 where

@@ -6,3 +6,4 @@ pub mod Rows
 pub mod HitLaws
 pub mod Writing
 pub mod BindingLaws
+pub mod CommandLaws

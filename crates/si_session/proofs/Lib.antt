@@ -3,3 +3,4 @@ pub mod Renaming
 pub mod Firsts
 pub mod Matches
 pub mod Rows
+pub mod Pieces

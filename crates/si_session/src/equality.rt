@@ -9,7 +9,10 @@ use si_term::{Sym, Term};
 pub fn same_symbol(a: &Sym, b: &Sym) -> bool
     ensures { result ≡ symbol_eq (symbol_of a.now) (symbol_of b.now) }
 {
-    a.kind == b.kind && a.side == b.side && a.arity == b.arity && a.text.as_bytes() == b.text.as_bytes()
+    a.kind == b.kind
+        && a.side == b.side
+        && a.arity == b.arity
+        && a.text.as_bytes() == b.text.as_bytes()
 }
 
 #[cycle(same)]
@@ -18,7 +21,8 @@ pub fn same_term(a: &Term, b: &Term) -> bool
 {
     match (a, b) {
         (Term::Var(x), Term::Var(y)) => x.as_bytes() == y.as_bytes(),
-        (Term::App(s, ts), Term::App(r, us)) => same_symbol(s, r) && same_terms(ts.as_slice(), us.as_slice()),
+        (Term::App(s, ts), Term::App(r, us)) => same_symbol(s, r)
+            && same_terms(ts.as_slice(), us.as_slice()),
         _ => false,
     }
 }

@@ -3,6 +3,7 @@
 
 mod equality;
 mod limits;
+mod printing;
 mod session;
 
 pub use limits::Limits;

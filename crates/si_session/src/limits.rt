@@ -29,7 +29,13 @@ impl Limits {
     /// 32 files open at once, and 1 TiB of input.
     pub fn standard() -> Limits
         ensures { limits_of result ≡ record {
-            line = 1048576; file = 33554432; entries = 4194304; fetches = 1024; depth = 32; session = 1099511627776 } }
+          line = 1048576;
+          file = 33554432;
+          entries = 4194304;
+          fetches = 1024;
+          depth = 32;
+          session = 1099511627776;
+        } }
     {
         Limits {
             line: 1 << 20,

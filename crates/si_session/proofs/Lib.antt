@@ -7,3 +7,4 @@ pub mod HitLaws
 pub mod Writing
 pub mod BindingLaws
 pub mod CommandLaws
+pub mod Pieces

@@ -7,3 +7,4 @@ pub mod Hits
 pub mod Telling
 pub mod Signs
 pub mod Commands
+pub mod PrintedParts

@@ -131,5 +131,5 @@ alone-few (l ∷ ls) =
       alone-few ls,
     )
 
-pub entries-few : (n : ℕ) (ls : List Literal) → length (entries_from n ls) ≤ literals_size ls
-entries-few n ls = omega (arith, length-entries n ls, alone-few ls)
+pub entries_few : (n : ℕ) (ls : List Literal) → length (entries_from n ls) ≤ literals_size ls
+entries_few n ls = omega (arith, length-entries n ls, alone-few ls)

@@ -1,5 +1,6 @@
 ghost use Rattle.std.specs.Prelude.{◌≡◌, ◌≤◌, ◌<◌, ◌+◌, ◌∷◌, [], IfOk, length, map};
 ghost use Rattle.si_defs.specs.Terms.{row, size, sizes};
+ghost use Rattle.si_defs.specs.Entries.{entries};
 ghost use Rattle.si_defs.specs.Clauses.{literals_size};
 ghost use Rattle.si_term.specs.Terms.{term_of};
 ghost use Rattle.si_term.specs.Meaning.{clause_of, literal_of};
@@ -107,34 +108,49 @@ fn head(entry: Entry<'_>) -> &[u8] {
     }
 }
 
+fn digit(number: u32) -> u8 {
+    b'0' + (number % 10) as u8
+}
+
+/// Appends an entry, its place and its variables, as a line.
+fn write_entry(
+    alloc: Global,
+    clause: &Clause,
+    number: u32,
+    page: &mut Vec<u8>,
+) -> Result<(), AllocError>
+    requires small { literals_size (clause_of clause.now).literals ≤ 14 }
+    requires within { number < length (entries (clause_of clause.now)) }
+{
+    let entry = entry_at(clause, number);
+    page.extend_from_slice(head(entry))?;
+    let place = place_at(alloc, clause, number)?;
+    page.push(b' ')?;
+    page.push(digit(place.literal))?;
+    for step in place.path.as_slice() {
+        page.push(b'.')?;
+        page.push(digit(*step))?;
+    }
+    for name in vars_of(alloc, entry)?.as_slice() {
+        page.push(b' ')?;
+        page.extend_from_slice(name.as_bytes())?;
+    }
+    page.push(b'\n')?;
+    Ok(())
+}
+
 #[test]
 fn entries_stand_in_order(rt: HostRuntime) -> Result<(), Fail> {
     let alloc = rt.alloc();
-    let rows: [(&[u8], u32, &[u32], &[&[u8]]); 8] = [
-        (b"literal", 1, &[], &[b"X"]),
-        (b"g", 1, &[1], &[b"X"]),
-        (b"a", 1, &[2], &[]),
-        (b"literal", 2, &[], &[b"X", b"Y"]),
-        (b"f", 2, &[2], &[b"Y"]),
-        (b"a", 2, &[2, 2], &[]),
-        (b"literal", 3, &[], &[b"Y", b"X"]),
-        (b"f", 3, &[1], &[b"Y", b"X"]),
-    ];
     let clause = clause(alloc)?;
     assert_eq!(rt; entry_count(&clause), 8);
+    let mut page = Vec::new(alloc);
     for number in 0..8u32 {
-        let (want, literal, path, names) = rows[number as usize];
-        let entry = entry_at(&clause, number);
-        assert_eq!(rt; head(entry), want, "entry {number}");
-        let place = place_at(alloc, &clause, number)?;
-        assert_eq!(rt; place.literal, literal, "entry {number}");
-        assert_eq!(rt; place.path.as_slice(), path, "entry {number}");
-        let found = vars_of(alloc, entry)?;
-        assert_eq!(rt; found.len(), names.len(), "entry {number}");
-        for (name, text) in names.iter().zip(found.as_slice()) {
-            assert_eq!(rt; text.as_bytes(), *name, "entry {number}");
-        }
+        write_entry(alloc, &clause, number, &mut page)?;
     }
+    let want =
+        b"literal 1 X\ng 1.1 X\na 1.2\nliteral 2 X Y\nf 2.2 Y\na 2.2.2\nliteral 3 Y X\nf 3.1 Y X\n";
+    assert_eq!(rt; page.as_slice(), want.as_slice());
     Ok(())
 }
 

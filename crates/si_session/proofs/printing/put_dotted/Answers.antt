@@ -1,0 +1,34 @@
+use Rattle.std.proofs.Common.{◌≡◌, ◌+◌, ◌++◌, get_or, drop, ap, sym, ◌∙◌, add-one, drop-cons, arith}
+use Rattle.std.specs.Prelude.{codes, decimal}
+use Rattle.si_session.specs.PrintedParts.{dotted}
+use Rattle.si_session.proofs.Pieces.{wrote_piece, wrote_part, on_err}
+use Rattle.si_session.proofs.printing.put_dotted.Goals as goal
+
+pub returns-in_err-put_number-clause-part : goal.returns-in_err-put_number-clause-part
+returns-in_err-put_number-clause-part g c =
+    let ns = c.args.numbers.now in
+    let i = c.loop-i.i in
+    let read : get_or ns i 0 ≡ c.from.result = cc in
+    let piece = codes "." ++ decimal c.from.result in
+    let left = dotted (drop (i + 1) ns) in
+    let split : dotted (drop i ns) ≡ piece ++ left =
+        ap dotted (drop-cons ns i 0 c.loop-i-test.true)
+        ∙ ap (λ k. (codes "." ++ decimal (get_or ns i 0)) ++ dotted (drop k ns)) (sym (add-one i))
+        ∙ ap (λ n. (codes "." ++ decimal n) ++ left) read in
+    on_err c.from_residual.result (wrote_part _ _ (g.K.Sink.written c.put_number.new.sink) (dotted ns) (dotted (drop i ns)) piece left split c.loop-i.invariant.wrote c.in_err-put_number.ensures.part)
+
+pub loop-i-preserved : goal.loop-i-preserved
+loop-i-preserved g c =
+    let ns = c.args.numbers.now in
+    let i = c.loop-i.i in
+    let read : get_or ns i 0 ≡ c.from.result = cc in
+    let piece = codes "." ++ decimal c.from.result in
+    let left = dotted (drop (i + 1) ns) in
+    let split : dotted (drop i ns) ≡ piece ++ left =
+        ap dotted (drop-cons ns i 0 c.loop-i-test.true)
+        ∙ ap (λ k. (codes "." ++ decimal (get_or ns i 0)) ++ dotted (drop k ns)) (sym (add-one i))
+        ∙ ap (λ n. (codes "." ++ decimal n) ++ left) read in
+    record {
+      wrote = wrote_piece _ _ (g.K.Sink.written c.put_number.new.sink) (dotted ns) (dotted (drop i ns)) piece left split c.loop-i.invariant.wrote c.in_ok-put_number.ensures.all;
+      later = omega (arith, c.loop-i.invariant.later, c.put_number.ensures.cause.later);
+    }

@@ -6,3 +6,5 @@ pub mod Rows
 pub mod HitLaws
 pub mod Writing
 pub mod BindingLaws
+pub mod SolutionTexts
+pub mod ScanLaws

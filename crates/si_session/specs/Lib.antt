@@ -6,3 +6,4 @@ pub mod Bound
 pub mod Hits
 pub mod Telling
 pub mod Signs
+pub mod Scan

@@ -1,0 +1,304 @@
+-- The lines of an answer come part by part, and what stands in the sink behind the parts so far.
+use Rattle.std.proofs.Common.{◌≡◌, ℕ, zero, suc, ◌+◌, ◌<◌, ◌≤◌, ◌^◌, List, [], ◌∷◌, ◌++◌, map, length, get_or, take, drop, ◌-◌, refl, ap, sym, ◌∙◌, subst, append_assoc, append-nil, arith, length-append}
+use Rattle.std.proofs.Math.Seq.{take-append_seam}
+use Rattle.std.proofs.lemmas.List.{drop_more, drop_all, map-append}
+use Rattle.std.specs.Prelude.{Option, Some, None, Result, Ok, Err, OnOk, IsErrAnd, if◌then◌else◌, cond, Bool, true, false, codes}
+use Rattle.si_defs.specs.Bytes.{Bytes}
+use Rattle.si_defs.specs.Terms as terms
+use Rattle.si_defs.specs.Symbols.{Symbol}
+use Rattle.si_defs.specs.Clauses.{Name, Term, Literal, Clause, Pattern, literal_pattern, term_pattern}
+use Rattle.si_defs.specs.Entries.{Entry, Placed, literal_entry, term_entry, literal_entries, proper_occurrences, placed_term, entries_from, placed_in, state_entries}
+use Rattle.si_defs.specs.Printing.{place_text}
+use Rattle.si_defs.specs.Answers.{Hit, hit_text, hit_texts}
+use Rattle.si_defs.specs.Runs.{ended}
+use Rattle.si_io.specs.Content.{Appends, AppendsPrefix}
+use Rattle.si_io.proofs.Content.{append_told-nil, Appends_then, AppendsPrefix_then, AppendsPrefix_more}
+use Rattle.si_io.proofs.Faults.{Rose_after}
+use Rattle.si_term.specs.Terms.{term_of}
+use Rattle.si_term.specs.Meaning.{literal_of, clause_of}
+use Rattle.si_term.specs.declared.term.Term as program
+use Rattle.si_term.specs.declared.term.Sym as symbol
+use Rattle.si_term.specs.declared.term.Term.TheVariants.{Var, App}
+use Rattle.si_term.specs.declared.clause.Literal as program_literal
+use Rattle.si_term.specs.declared.clause.Clause as program_clause
+use Rattle.si_session.specs.Matching.{Bindings, matched, solution_of}
+use Rattle.si_session.specs.Hits.{same_sign, found, hit_before, hits, placed_under}
+use Rattle.si_session.specs.Signs.{sign_text, solution_text}
+use Rattle.si_session.specs.Telling.{Tells, Blames}
+use Rattle.si_session.specs.Scan.{hit_line, ended_hit_line, entry_lines, subterm_lines, literal_lines, literals_lines, clause_lines, clauses_lines}
+use Rattle.si_session.specs.declared.answer.Broken.{Broken}
+use Rattle.si_session.specs.declared.answer.Broken.TheVariants.{Sink, Memory}
+use Rattle.si_session.proofs.Rows.{row-drop}
+use Rattle.si_session.proofs.SolutionTexts.{solution_text_is}
+use Rattle.si_session.proofs.HitLaws.{hits-append, hit_texts-append, placed_under-append, placed_under-below, placed_under-root, length-hits, length-hit_texts}
+
+-- ---- lines
+pub ended-append : (xs ys : List Bytes) → ended (xs ++ ys) ≡ ended xs ++ ended ys
+ended-append [] ys = refl
+ended-append (x ∷ xs) ys = ap (λ l. x ++ 10 ∷ l) (ended-append xs ys) ∙ sym (append_assoc x (10 ∷ ended xs) (ended ys))
+
+-- some lines were written, and then these
+pub tells_then : (r : Result (Unit {0}) Broken) (a b c : Option Bytes) (xs ys : List Bytes) → Appends a (ended xs) b → Tells r ys b c → Tells r (xs ++ ys) a c
+tells_then (Ok done) a b c xs ys h k = subst (λ l. Appends a l c) (sym (ended-append xs ys)) (Appends_then a b c (ended xs) (ended ys) h k)
+tells_then (Err Memory) a b c xs ys h k =
+    (xs ++ k.0, k.1, ap (λ l. xs ++ l) k.2 ∙ sym (append_assoc xs k.0 k.1), subst (λ l. Appends a l c) (sym (ended-append xs k.0)) (Appends_then a b c (ended xs) (ended k.0) h k.3))
+tells_then (Err Sink) a b c xs ys h k = subst (λ l. AppendsPrefix a l c) (sym (ended-append xs ys)) (AppendsPrefix_then a b c (ended xs) (ended ys) h k)
+
+-- where these lines were broken off, so were these and more
+pub tells_broken : (e : Broken) (a b : Option Bytes) (xs ys : List Bytes) → Tells (Err e) xs a b → Tells (Err e) (xs ++ ys) a b
+tells_broken Memory a b xs ys h = (h.0, h.1 ++ ys, ap (λ l. l ++ ys) h.2 ∙ append_assoc h.0 h.1 ys, h.3)
+tells_broken Sink a b xs ys h = subst (λ l. AppendsPrefix a l b) (sym (ended-append xs ys)) (AppendsPrefix_more a b (ended xs) (ended ys) h)
+
+pub blames_after : (r : Result (Unit {0}) Broken) (a b c : ℕ) → a ≤ b → Blames r b c → Blames r a c
+blames_after (Ok done) a b c h k = omega arith
+blames_after (Err Memory) a b c h k = omega arith
+blames_after (Err Sink) a b c h k = (omega (arith, k.0), Rose_after a b c h k.1)
+
+pub counted_then : (r : Result (Unit {0}) Broken) (n m k : ℕ) (xs ys : List Bytes) → m ≡ n + length xs → OnOk r (k ≡ m + length ys) → OnOk r (k ≡ n + length (xs ++ ys))
+counted_then (Ok done) n m k xs ys e h = omega (arith, length-append xs ys, h)
+counted_then (Err e) n m k xs ys f h = tt
+
+-- ---- at an error
+-- the sink failed behind a prefix of the lines
+pub tells_sink : (r : Result (Unit {0}) Broken) (a b : Option Bytes) (xs : List Bytes) → IsErrAnd r (λ e. e ≡ Sink) → AppendsPrefix a (ended xs) b → Tells r xs a b
+tells_sink (Ok done) a b xs h k = absurd h
+tells_sink (Err e) a b xs h k = subst (λ x. Tells (Err x) xs a b) (sym h) k
+
+-- memory ran out before the lines
+pub tells_memory : (r : Result (Unit {0}) Broken) (a : Option Bytes) (xs : List Bytes) → IsErrAnd r (λ e. e ≡ Memory) → Tells r xs a a
+tells_memory (Ok done) a xs h = absurd h
+tells_memory (Err e) a xs h = subst (λ x. Tells (Err x) xs a a) (sym h) ([], xs, refl, sym (append_told-nil a))
+
+-- the error is passed on
+pub tells_again : (r : Result (Unit {0}) Broken) (e : Broken) (a b : Option Bytes) (xs : List Bytes) → IsErrAnd r (λ x. x ≡ e) → Tells (Err e) xs a b → Tells r xs a b
+tells_again (Ok done) e a b xs h k = absurd h
+tells_again (Err x) e a b xs h k = subst (λ y. Tells (Err y) xs a b) (sym h) k
+
+pub blames_again : (r : Result (Unit {0}) Broken) (e : Broken) (a b c : ℕ) → IsErrAnd r (λ x. x ≡ e) → a ≤ b → Blames (Err e) b c → Blames r a c
+blames_again (Ok done) e a b c h later k = absurd h
+blames_again (Err x) e a b c h later k = subst (λ y. Blames (Err y) a c) (sym h) (blames_after (Err e) a b c later k)
+
+pub blames_memory : (r : Result (Unit {0}) Broken) (a b : ℕ) → IsErrAnd r (λ x. x ≡ Memory) → a ≤ b → Blames r a b
+blames_memory (Ok done) a b h later = absurd h
+blames_memory (Err x) a b h later = subst (λ y. Blames (Err y) a b) (sym h) later
+
+-- ---- so far
+-- Some of the lines were written and counted, and these are left.
+pub record SoFar (before now : Option Bytes) (start found : ℕ) (left whole : List Bytes) : Type 0 where
+  pub done : List Bytes
+  pub given : Appends before (ended done) now
+  pub rest : done ++ left ≡ whole
+  pub counted : found ≡ start + length done
+
+pub so_far_start : (a : Option Bytes) (n : ℕ) (whole : List Bytes) → SoFar a a n n whole whole
+so_far_start a n whole = record { done = []; given = sym (append_told-nil a); rest = refl; counted = omega arith }
+
+-- the next ones were written and counted
+pub so_far_more : (a b c : Option Bytes) (n m k : ℕ) (next left left' whole : List Bytes) → left ≡ next ++ left' → SoFar a b n m left whole
+    → Appends b (ended next) c → k ≡ m + length next → SoFar a c n k left' whole
+so_far_more a b c n m k next left left' whole e p h f = record {
+  done = p.done ++ next;
+  given = subst (λ l. Appends a l c) (sym (ended-append p.done next)) (Appends_then a b c (ended p.done) (ended next) p.given h);
+  rest = append_assoc p.done next left' ∙ ap (λ l. p.done ++ l) (sym e) ∙ p.rest;
+  counted = omega (arith, p.counted, length-append p.done next);
+}
+
+-- the next ones were broken off
+pub so_far_broken : (e : Broken) (a b c : Option Bytes) (n m : ℕ) (next left left' whole : List Bytes) → left ≡ next ++ left' → SoFar a b n m left whole
+    → Tells (Err e) next b c → Tells (Err e) whole a c
+so_far_broken e a b c n m next left left' whole same p h =
+    subst (λ l. Tells (Err e) l a c) p.rest (tells_then (Err e) a b c p.done left p.given (subst (λ l. Tells (Err e) l b c) (sym same) (tells_broken e b c next left' h)))
+
+-- memory ran out between two lines
+pub so_far_memory : (a b : Option Bytes) (n m : ℕ) (left whole : List Bytes) → SoFar a b n m left whole → Tells (Err Memory) whole a b
+so_far_memory a b n m left whole p = (p.done, left, sym p.rest, p.given)
+
+-- nothing is left
+pub so_far_end : (a b : Option Bytes) (n m : ℕ) (left whole : List Bytes) → left ≡ [] → SoFar a b n m left whole → Appends a (ended whole) b
+so_far_end a b n m left whole e p = subst (λ w. Appends a (ended w) b) (sym (append-nil p.done) ∙ ap (λ l. p.done ++ l) (sym e) ∙ p.rest) p.given
+
+pub so_far_counted : (a b : Option Bytes) (n m : ℕ) (left whole : List Bytes) → left ≡ [] → SoFar a b n m left whole → m ≡ n + length whole
+so_far_counted a b n m left whole e p = omega (arith, p.counted, length-append p.done left, ap length p.rest, ap length e)
+
+-- the next ones can be counted
+pub so_far_fits : (a b : Option Bytes) (n m : ℕ) (next left left' whole : List Bytes) → left ≡ next ++ left' → SoFar a b n m left whole → m + length next ≤ n + length whole
+so_far_fits a b n m next left left' whole e p = omega (arith, p.counted, length-append p.done left, ap length p.rest, ap length e, length-append next left')
+
+pub so_far_room : (a b : Option Bytes) (n m top : ℕ) (next left left' whole : List Bytes) → left ≡ next ++ left' → SoFar a b n m left whole → n + length whole < top → m + length next < top
+so_far_room a b n m top next left left' whole e p h = omega (arith, so_far_fits a b n m next left left' whole e p)
+
+-- ---- the line of a hit
+pub hit_line_is : (c : Clause) (e : Placed) (bs : Bindings) → hit_text (record { clause = c; placed = e; solution = solution_of bs }) ≡ hit_line c.name e.place.literal e.place.path bs
+unfolding hit_line sign_text
+hit_line_is c e bs = ap (λ l. (place_text c.name e.place ++ codes " ") ++ l) (sym (solution_text_is bs))
+
+pub ended_hit_line_is : (name : Name) (number : ℕ) (path : List ℕ) (bs : Bindings) → ended_hit_line name number path bs ≡ ended (hit_line name number path bs ∷ [])
+unfolding ended_hit_line hit_line sign_text
+ended_hit_line_is name number path bs = refl
+
+-- the lines of an entry, by what matching says
+pub unmatched_lines : (name : Name) (number : ℕ) (path : List ℕ) (q u : Term) (bs cs : Bindings) (b : Bool) → bs ≡ [] → b ≡ false
+    → matched q bs u ≡ (if b then Some cs else None) → entry_lines name number path (matched q [] u) ≡ []
+unfolding entry_lines
+unmatched_lines name number path q u bs cs b e f h =
+    ap (λ l. entry_lines name number path (matched q l u)) (sym e)
+    ∙ ap (entry_lines name number path) (h ∙ ap (λ x. if x then Some cs else None) f)
+
+pub matched_lines : (name : Name) (number : ℕ) (path : List ℕ) (q u : Term) (bs cs : Bindings) (b : Bool) → bs ≡ [] → b ≡ true
+    → matched q bs u ≡ (if b then Some cs else None) → entry_lines name number path (matched q [] u) ≡ hit_line name number path cs ∷ []
+unfolding entry_lines
+matched_lines name number path q u bs cs b e f h =
+    ap (λ l. entry_lines name number path (matched q l u)) (sym e)
+    ∙ ap (entry_lines name number path) (h ∙ ap (λ x. if x then Some cs else None) f)
+
+hit_before-lines : (c : Clause) (e : Placed) (o : Option Bindings) (hs : List Hit) → hit_texts (hit_before c e o hs) ≡ entry_lines c.name e.place.literal e.place.path o ++ hit_texts hs
+unfolding entry_lines
+hit_before-lines c e None hs = refl
+hit_before-lines c e (Some bs) hs = ap (λ l. l ∷ hit_texts hs) (hit_line_is c e bs)
+
+-- ---- the lines of subterms
+subterm_lines-append : (q : Term) (c : Clause) (n : ℕ) (path : List ℕ) (xs ys : List (List ℕ × Term)) → subterm_lines q c n path (xs ++ ys) ≡ subterm_lines q c n path xs ++ subterm_lines q c n path ys
+unfolding subterm_lines
+subterm_lines-append q c n path xs ys =
+    ap (λ l. hit_texts (hits (term_pattern q) l)) (placed_under-append c n path xs ys)
+    ∙ ap hit_texts (hits-append (term_pattern q) (placed_under c n path xs) (placed_under c n path ys))
+    ∙ hit_texts-append (hits (term_pattern q) (placed_under c n path xs)) (hits (term_pattern q) (placed_under c n path ys))
+
+subterm_lines-below : (q : Term) (c : Clause) (n : ℕ) (path : List ℕ) (k : ℕ) (xs : List (List ℕ × Term)) → subterm_lines q c n path (map (terms.below k) xs) ≡ subterm_lines q c n (path ++ k ∷ []) xs
+unfolding subterm_lines
+subterm_lines-below q c n path k xs = ap (λ l. hit_texts (hits (term_pattern q) l)) (placed_under-below c n path k xs)
+
+-- the term itself, and then those below it
+pub subterm_lines-first : (q : Term) (c : Clause) (n : ℕ) (path : List ℕ) (u : Term) (os : List (List ℕ × Term))
+    → subterm_lines q c n path (([], u) ∷ os) ≡ entry_lines c.name n path (matched q [] u) ++ subterm_lines q c n path os
+unfolding subterm_lines
+subterm_lines-first q c n path u os =
+    hit_before-lines c (record { entry = term_entry u; place = record { literal = n; path = path ++ [] } }) (matched q [] u) (hits (term_pattern q) (placed_under c n path os))
+    ∙ ap (λ p. entry_lines c.name n p (matched q [] u) ++ hit_texts (hits (term_pattern q) (placed_under c n path os))) (append-nil path)
+
+-- those in the next argument, and then those in the others
+pub subterm_lines-argument : (q : Term) (c : Clause) (n : ℕ) (path : List ℕ) (ts : List program.Term) (i : ℕ) (t : program.Term) → i < length ts → t ≡ get_or ts i t
+    → subterm_lines q c n path (terms.occurrences_from (i + 1) (terms.row (map term_of (drop i ts))))
+    ≡ subterm_lines q c n (path ++ (i + 1) ∷ []) (terms.occurrences (term_of t)) ++ subterm_lines q c n path (terms.occurrences_from (i + 1 + 1) (terms.row (map term_of (drop (i + 1) ts))))
+subterm_lines-argument q c n path ts i t h e =
+    let others : terms.Terms Symbol Bytes = terms.row (map term_of (drop (i + 1) ts)) in
+    let turn : i + 1 + 1 ≡ 1 + (i + 1) = omega arith in
+    ap (λ l. subterm_lines q c n path (terms.occurrences_from (i + 1) (terms.row (map term_of l)))) (drop_more ts i t h)
+    ∙ ap (λ u. subterm_lines q c n path (terms.occurrences_from (i + 1) (terms.more (term_of u) others))) (sym e)
+    ∙ subterm_lines-append q c n path (map (terms.below (i + 1)) (terms.occurrences (term_of t))) (terms.occurrences_from (1 + (i + 1)) others)
+    ∙ ap (λ l. l ++ subterm_lines q c n path (terms.occurrences_from (1 + (i + 1)) others)) (subterm_lines-below q c n path (i + 1) (terms.occurrences (term_of t)))
+    ∙ ap (λ k. subterm_lines q c n (path ++ (i + 1) ∷ []) (terms.occurrences (term_of t)) ++ subterm_lines q c n path (terms.occurrences_from k others)) (sym turn)
+
+pub subterm_lines-step : (q : Term) (c : Clause) (n : ℕ) (path down : List ℕ) (ts : List program.Term) (i : ℕ) (t : program.Term) → i < length ts → t ≡ get_or ts i t → down ≡ path ++ (i + 1) ∷ []
+    → subterm_lines q c n path (terms.occurrences_from (i + 1) (terms.row (map term_of (drop i ts))))
+    ≡ subterm_lines q c n down (terms.occurrences (term_of t)) ++ subterm_lines q c n path (terms.occurrences_from (i + 1 + 1) (terms.row (map term_of (drop (i + 1) ts))))
+subterm_lines-step q c n path down ts i t h e f =
+    subterm_lines-argument q c n path ts i t h e
+    ∙ ap (λ p. subterm_lines q c n p (terms.occurrences (term_of t)) ++ subterm_lines q c n path (terms.occurrences_from (i + 1 + 1) (terms.row (map term_of (drop (i + 1) ts))))) (sym f)
+
+pub subterm_lines-end : (q : Term) (c : Clause) (n : ℕ) (path : List ℕ) (k : ℕ) (ts : List program.Term) (i : ℕ) → length ts ≤ i
+    → subterm_lines q c n path (terms.occurrences_from k (terms.row (map term_of (drop i ts)))) ≡ []
+unfolding subterm_lines
+subterm_lines-end q c n path k ts i h = ap (λ l. hit_texts (hits (term_pattern q) (placed_under c n path (terms.occurrences_from k (terms.row (map term_of l)))))) (drop_all i ts h)
+
+-- a variable has none
+pub subterm_lines-none : (q : Term) (c : Clause) (n : ℕ) (path : List ℕ) → subterm_lines q c n path [] ≡ []
+unfolding subterm_lines
+subterm_lines-none q c n path = refl
+
+-- a variable has no line
+pub variable_lines : (q : Term) (c : Clause) (n : ℕ) (path : List ℕ) (u : program.Term) (x : Bytes) → u ≡ Var x → subterm_lines q c n path (terms.occurrences (term_of u)) ≡ []
+variable_lines q c n path u x e = ap (λ t. subterm_lines q c n path (terms.occurrences (term_of t))) e ∙ subterm_lines-none q c n path
+
+-- the line of the term itself, and then those of its arguments
+pub application_lines : (q : Term) (c : Clause) (n : ℕ) (path same : List ℕ) (u : program.Term) (s : symbol.Sym) (ts us : List Term) → u ≡ App s ts → same ≡ path → us ≡ ts
+    → subterm_lines q c n path (terms.occurrences (term_of u)) ≡ entry_lines c.name n path (matched q [] (term_of u)) ++ subterm_lines q c n same (terms.occurrences_from 1 (terms.row us))
+application_lines q c n path same u s ts us e f h =
+    ap (λ t. subterm_lines q c n path (terms.occurrences (term_of t))) e
+    ∙ subterm_lines-first q c n path (term_of (App s ts)) (terms.occurrences_from 1 (terms.row ts))
+    ∙ ap (λ t. entry_lines c.name n path (matched q [] (term_of t)) ++ subterm_lines q c n path (terms.occurrences_from 1 (terms.row ts))) (sym e)
+    ∙ ap (λ p. entry_lines c.name n path (matched q [] (term_of u)) ++ subterm_lines q c n p (terms.occurrences_from 1 (terms.row ts))) (sym f)
+    ∙ ap (λ l. entry_lines c.name n path (matched q [] (term_of u)) ++ subterm_lines q c n same (terms.occurrences_from 1 (terms.row l))) (sym h)
+
+pub application_size : (u : program.Term) (s : symbol.Sym) (ts us : List Term) → u ≡ App s ts → us ≡ ts → terms.size (term_of u) ≡ 1 + terms.sizes (terms.row us)
+application_size u s ts us e h = ap (λ t. terms.size (term_of t)) e ∙ ap (λ l. 1 + terms.sizes (terms.row l)) (sym h)
+
+-- no more arguments than symbols and variables in them
+pub count-sizes : (ts : List program.Term) → length ts ≤ terms.sizes (terms.row (map term_of ts))
+count-sizes [] = omega arith
+count-sizes (Var x ∷ ts) = omega (arith, count-sizes ts)
+count-sizes (App s us ∷ ts) = omega (arith, count-sizes ts)
+
+-- a path without its last number
+pub popped : (old new path : List ℕ) (k n : ℕ) → n ≡ length old → new ≡ take (n - 1) old → old ≡ path ++ k ∷ [] → new ≡ path
+popped old new path k n l h e =
+    let m : n - 1 ≡ length path = omega (arith, l, ap length e, length-append path (k ∷ [])) in
+    h ∙ ap (λ i. take i old) m ∙ ap (take (length path)) e ∙ take-append_seam path (k ∷ [])
+
+-- ---- the lines of literals
+no_literal_hits : (l : Literal) (c : Clause) (n : ℕ) (path : List ℕ) (os : List (List ℕ × Term)) → hits (literal_pattern l) (placed_under c n path os) ≡ []
+no_literal_hits l c n path [] = refl
+no_literal_hits l c n path (o ∷ os) = no_literal_hits l c n path os
+
+-- a literal's own line is the only one at a literal pattern
+pub literal_lines-literal : (l : Literal) (c : Clause) (n : ℕ) (k : Literal)
+    → literal_lines (literal_pattern l) c n k ≡ entry_lines c.name n [] (cond (same_sign l.positive k.positive) (matched l.atom [] k.atom) None)
+unfolding literal_lines
+literal_lines-literal l c n k =
+    let o : Option Bindings = cond (same_sign l.positive k.positive) (matched l.atom [] k.atom) None in
+    let e : Placed = record { entry = literal_entry k; place = record { literal = n; path = [] } } in
+    ap (λ es. hit_texts (hit_before c e o (hits (literal_pattern l) es))) (placed_under-root c n (proper_occurrences k.atom))
+    ∙ ap (λ hs. hit_texts (hit_before c e o hs)) (no_literal_hits l c n [] (proper_occurrences k.atom))
+    ∙ hit_before-lines c e o []
+    ∙ append-nil (entry_lines c.name n [] o)
+
+-- those of its atom's subterms are the only ones at a term pattern
+pub literal_lines-term : (q : Term) (c : Clause) (n : ℕ) (k : Literal) → literal_lines (term_pattern q) c n k ≡ subterm_lines q c n [] (proper_occurrences k.atom)
+unfolding literal_lines subterm_lines
+literal_lines-term q c n k = ap (λ es. hit_texts (hits (term_pattern q) es)) (placed_under-root c n (proper_occurrences k.atom))
+
+literals_lines-more : (p : Pattern) (c : Clause) (n : ℕ) (l : Literal) (ls : List Literal) → literals_lines p c n (l ∷ ls) ≡ literal_lines p c n l ++ literals_lines p c (1 + n) ls
+unfolding literals_lines literal_lines
+literals_lines-more p c n l ls =
+    ap (λ es. hit_texts (hits p es)) (map-append (placed_in c) (literal_entries n l) (entries_from (1 + n) ls))
+    ∙ ap hit_texts (hits-append p (map (placed_in c) (literal_entries n l)) (map (placed_in c) (entries_from (1 + n) ls)))
+    ∙ hit_texts-append (hits p (map (placed_in c) (literal_entries n l))) (hits p (map (placed_in c) (entries_from (1 + n) ls)))
+
+pub literals_lines-next : (p : Pattern) (c : Clause) (ls : List program_literal.Literal) (i : ℕ) (l : program_literal.Literal) → i < length ls → l ≡ get_or ls i l
+    → literals_lines p c (i + 1) (map literal_of (drop i ls)) ≡ literal_lines p c (i + 1) (literal_of l) ++ literals_lines p c (i + 1 + 1) (map literal_of (drop (i + 1) ls))
+literals_lines-next p c ls i l h e =
+    let turn : i + 1 + 1 ≡ 1 + (i + 1) = omega arith in
+    ap (λ k. literals_lines p c (i + 1) (map literal_of k)) (drop_more ls i l h)
+    ∙ ap (λ k. literals_lines p c (i + 1) (literal_of k ∷ map literal_of (drop (i + 1) ls))) (sym e)
+    ∙ literals_lines-more p c (i + 1) (literal_of l) (map literal_of (drop (i + 1) ls))
+    ∙ ap (λ k. literal_lines p c (i + 1) (literal_of l) ++ literals_lines p c k (map literal_of (drop (i + 1) ls))) (sym turn)
+
+pub literals_lines-end : (p : Pattern) (c : Clause) (n : ℕ) (ls : List program_literal.Literal) (i : ℕ) → length ls ≤ i → literals_lines p c n (map literal_of (drop i ls)) ≡ []
+unfolding literals_lines
+literals_lines-end p c n ls i h = ap (λ l. hit_texts (hits p (map (placed_in c) (entries_from n (map literal_of l))))) (drop_all i ls h)
+
+pub clause_lines_is : (p : Pattern) (c : Clause) → clause_lines p c ≡ literals_lines p c 1 c.literals
+unfolding clause_lines literals_lines
+clause_lines_is p c = refl
+
+-- ---- the lines of clauses
+clauses_lines-more : (p : Pattern) (c : Clause) (cs : List Clause) → clauses_lines p (c ∷ cs) ≡ clause_lines p c ++ clauses_lines p cs
+unfolding clauses_lines clause_lines
+clauses_lines-more p c cs =
+    ap hit_texts (hits-append p (map (placed_in c) (entries_from 1 c.literals)) (state_entries cs))
+    ∙ hit_texts-append (hits p (map (placed_in c) (entries_from 1 c.literals))) (hits p (state_entries cs))
+
+pub clauses_lines-next : (p : Pattern) (cs : List program_clause.Clause) (i : ℕ) (c : program_clause.Clause) → i < length cs → c ≡ get_or cs i c
+    → clauses_lines p (map clause_of (drop i cs)) ≡ clause_lines p (clause_of c) ++ clauses_lines p (map clause_of (drop (i + 1) cs))
+clauses_lines-next p cs i c h e =
+    ap (λ k. clauses_lines p (map clause_of k)) (drop_more cs i c h)
+    ∙ ap (λ k. clauses_lines p (clause_of k ∷ map clause_of (drop (i + 1) cs))) (sym e)
+    ∙ clauses_lines-more p (clause_of c) (map clause_of (drop (i + 1) cs))
+
+pub clauses_lines-end : (p : Pattern) (cs : List program_clause.Clause) (i : ℕ) → length cs ≤ i → clauses_lines p (map clause_of (drop i cs)) ≡ []
+unfolding clauses_lines
+clauses_lines-end p cs i h = ap (λ l. hit_texts (hits p (state_entries (map clause_of l)))) (drop_all i cs h)
+
+pub length-clauses_lines : (p : Pattern) (cs : List Clause) → length (clauses_lines p cs) ≤ length (state_entries cs)
+unfolding clauses_lines
+length-clauses_lines p cs = omega (arith, length-hit_texts (hits p (state_entries cs)), length-hits p (state_entries cs))

@@ -1,12 +1,13 @@
 -- The lines of an answer come part by part, and what stands in the sink behind the parts so far.
 use Rattle.std.proofs.Common.{◌≡◌, ℕ, zero, suc, ◌+◌, ◌<◌, ◌≤◌, ◌^◌, List, [], ◌∷◌, ◌++◌, map, length, get_or, take, drop, ◌-◌, refl, ap, sym, ◌∙◌, subst, append_assoc, append-nil, arith, length-append}
 use Rattle.std.proofs.Math.Seq.{take-append_seam}
+use Rattle.std.proofs.Math.Bool.{beq}
 use Rattle.std.proofs.lemmas.List.{drop_more, drop_all, map-append}
-use Rattle.std.specs.Prelude.{Option, Some, None, Result, Ok, Err, OnOk, IsErrAnd, if◌then◌else◌, cond, Bool, true, false, codes}
+use Rattle.std.specs.Prelude.{Option, Some, None, Result, Ok, Err, OnOk, IsErrAnd, if◌then◌else◌, cond, Bool, true, false, not, codes, decimal}
 use Rattle.si_defs.specs.Bytes.{Bytes}
 use Rattle.si_defs.specs.Terms as terms
 use Rattle.si_defs.specs.Symbols.{Symbol}
-use Rattle.si_defs.specs.Clauses.{Name, Term, Literal, Clause, Pattern, literal_pattern, term_pattern}
+use Rattle.si_defs.specs.Clauses.{Name, Term, Literal, Clause, Pattern, literal_pattern, term_pattern, literal_size, literals_size, IsSoundClause}
 use Rattle.si_defs.specs.Entries.{Entry, Placed, literal_entry, term_entry, literal_entries, proper_occurrences, placed_term, entries_from, placed_in, state_entries}
 use Rattle.si_defs.specs.Printing.{place_text}
 use Rattle.si_defs.specs.Answers.{Hit, hit_text, hit_texts}
@@ -25,12 +26,14 @@ use Rattle.si_session.specs.Matching.{Bindings, matched, solution_of}
 use Rattle.si_session.specs.Hits.{same_sign, found, hit_before, hits, placed_under}
 use Rattle.si_session.specs.Signs.{sign_text, solution_text}
 use Rattle.si_session.specs.Telling.{Tells, Blames}
-use Rattle.si_session.specs.Scan.{hit_line, ended_hit_line, entry_lines, subterm_lines, literal_lines, literals_lines, clause_lines, clauses_lines}
+use Rattle.si_session.specs.Scan.{hit_line, ended_hit_line, entry_lines, subterm_lines, literal_lines, literals_lines, clause_lines, clauses_lines, end_line}
+use Rattle.si_defs.specs.Steps.{answer_reply}
+use Rattle.std.specs.List.{AllByRecursion}
 use Rattle.si_session.specs.declared.answer.Broken.{Broken}
 use Rattle.si_session.specs.declared.answer.Broken.TheVariants.{Sink, Memory}
 use Rattle.si_session.proofs.Rows.{row-drop}
 use Rattle.si_session.proofs.SolutionTexts.{solution_text_is}
-use Rattle.si_session.proofs.HitLaws.{hits-append, hit_texts-append, placed_under-append, placed_under-below, placed_under-root, length-hits, length-hit_texts}
+use Rattle.si_session.proofs.HitLaws.{same_sign_true, same_sign_same, hits-append, hit_texts-append, placed_under-append, placed_under-below, placed_under-root, length-hits, length-hit_texts}
 
 -- ---- lines
 pub ended-append : (xs ys : List Bytes) → ended (xs ++ ys) ≡ ended xs ++ ended ys
@@ -257,6 +260,51 @@ pub literal_lines-term : (q : Term) (c : Clause) (n : ℕ) (k : Literal) → lit
 unfolding literal_lines subterm_lines
 literal_lines-term q c n k = ap (λ es. hit_texts (hits (term_pattern q) es)) (placed_under-root c n (proper_occurrences k.atom))
 
+-- what the test of two signs says
+pub signs_differ : (a b : Bool) → not (beq a b) ≡ true → a ≡ b → ⊥
+signs_differ true true h e = cc
+signs_differ false false h e = cc
+signs_differ true false h e = cc
+signs_differ false true h e = cc
+
+pub signs_agree : (a b : Bool) → not (beq a b) ≡ false → a ≡ b
+signs_agree true true h = refl
+signs_agree false false h = refl
+signs_agree true false h = cc
+signs_agree false true h = cc
+
+-- literals of different signs are not compared
+pub other_sign_lines : (l : Literal) (c : Clause) (n : ℕ) (k : Literal) → (l.positive ≡ k.positive → ⊥) → literal_lines (literal_pattern l) c n k ≡ []
+unfolding entry_lines
+other_sign_lines l c n k h = literal_lines-literal l c n k ∙ by (same_sign l.positive k.positive) refl where
+  by : (b : Bool) → same_sign l.positive k.positive ≡ b → entry_lines c.name n [] (cond b (matched l.atom [] k.atom) None) ≡ []
+  by true e = absurd (h (same_sign_true l.positive k.positive e))
+  by false e = refl
+
+-- literals of one sign are compared by their atoms
+pub same_sign_lines : (l : Literal) (c : Clause) (n : ℕ) (path : List ℕ) (k : Literal) → l.positive ≡ k.positive → path ≡ [] → literal_lines (literal_pattern l) c n k ≡ entry_lines c.name n path (matched l.atom [] k.atom)
+same_sign_lines l c n path k h e =
+    let same : same_sign l.positive k.positive ≡ true = ap (same_sign l.positive) (sym h) ∙ same_sign_same l.positive in
+    literal_lines-literal l c n k
+    ∙ ap (λ b. entry_lines c.name n [] (cond b (matched l.atom [] k.atom) None)) same
+    ∙ ap (λ p. entry_lines c.name n p (matched l.atom [] k.atom)) (sym e)
+
+-- a literal whose atom is a variable has no subterms
+pub variable_atom_lines : (q : Term) (c : Clause) (n : ℕ) (l : program_literal.Literal) (x : Bytes) → l.atom ≡ Var x → literal_lines (term_pattern q) c n (literal_of l) ≡ []
+variable_atom_lines q c n l x e =
+    literal_lines-term q c n (literal_of l)
+    ∙ ap (λ t. subterm_lines q c n [] (proper_occurrences (term_of t))) e
+    ∙ subterm_lines-none q c n []
+
+-- the subterms of a literal's atom are those of its arguments
+pub atom_lines : (q : Term) (c : Clause) (n : ℕ) (path : List ℕ) (l : program_literal.Literal) (s : symbol.Sym) (ts us : List Term) → l.atom ≡ App s ts → path ≡ [] → us ≡ ts
+    → literal_lines (term_pattern q) c n (literal_of l) ≡ subterm_lines q c n path (terms.occurrences_from 1 (terms.row us))
+atom_lines q c n path l s ts us e f h =
+    literal_lines-term q c n (literal_of l)
+    ∙ ap (λ t. subterm_lines q c n [] (proper_occurrences (term_of t))) e
+    ∙ ap (λ p. subterm_lines q c n p (terms.occurrences_from 1 (terms.row ts))) (sym f)
+    ∙ ap (λ k. subterm_lines q c n path (terms.occurrences_from 1 (terms.row k))) (sym h)
+
 literals_lines-more : (p : Pattern) (c : Clause) (n : ℕ) (l : Literal) (ls : List Literal) → literals_lines p c n (l ∷ ls) ≡ literal_lines p c n l ++ literals_lines p c (1 + n) ls
 unfolding literals_lines literal_lines
 literals_lines-more p c n l ls =
@@ -281,7 +329,30 @@ pub clause_lines_is : (p : Pattern) (c : Clause) → clause_lines p c ≡ litera
 unfolding clause_lines literals_lines
 clause_lines_is p c = refl
 
+-- no more literals than symbols and variables in them
+pub count-literals_size : (ls : List program_literal.Literal) → length ls ≤ literals_size (map literal_of ls)
+count-literals_size [] = omega arith
+count-literals_size (l ∷ ls) = omega (arith, count-literals_size ls, positive (term_of l.atom)) where
+  positive : (t : Term) → 1 ≤ terms.size t
+  positive (terms.var x) = omega arith
+  positive (terms.app s ts) = omega arith
+
+-- a literal is no larger than all of them
+pub literal_size-at : (ls : List program_literal.Literal) (i : ℕ) (l : program_literal.Literal) → i < length ls → l ≡ get_or ls i l → literal_size (literal_of l) ≤ literals_size (map literal_of ls)
+literal_size-at ls i l h e = subst (λ k. literal_size (literal_of k) ≤ literals_size (map literal_of ls)) (sym e) (at ls i l h) where
+  at : (ls : List program_literal.Literal) (i : ℕ) (d : program_literal.Literal) → i < length ls → literal_size (literal_of (get_or ls i d)) ≤ literals_size (map literal_of ls)
+  at [] i d h = absurd (omega arith)
+  at (l ∷ ls) zero d h = omega arith
+  at (l ∷ ls) (suc i) d h = omega (arith, at ls i d (omega arith))
+
 -- ---- the lines of clauses
+pub sound-at : (cs : List program_clause.Clause) (i : ℕ) (c : program_clause.Clause) → i < length cs → c ≡ get_or cs i c → AllByRecursion IsSoundClause (map clause_of cs) → IsSoundClause (clause_of c)
+sound-at cs i c h e all = subst (λ k. IsSoundClause (clause_of k)) (sym e) (at cs i c h all) where
+  at : (cs : List program_clause.Clause) (i : ℕ) (d : program_clause.Clause) → i < length cs → AllByRecursion IsSoundClause (map clause_of cs) → IsSoundClause (clause_of (get_or cs i d))
+  at [] i d h all = absurd (omega arith)
+  at (c ∷ cs) zero d h all = all.0
+  at (c ∷ cs) (suc i) d h all = at cs i d (omega arith) all.1
+
 clauses_lines-more : (p : Pattern) (c : Clause) (cs : List Clause) → clauses_lines p (c ∷ cs) ≡ clause_lines p c ++ clauses_lines p cs
 unfolding clauses_lines clause_lines
 clauses_lines-more p c cs =
@@ -302,3 +373,9 @@ clauses_lines-end p cs i h = ap (λ l. hit_texts (hits p (state_entries (map cla
 pub length-clauses_lines : (p : Pattern) (cs : List Clause) → length (clauses_lines p cs) ≤ length (state_entries cs)
 unfolding clauses_lines
 length-clauses_lines p cs = omega (arith, length-hit_texts (hits p (state_entries cs)), length-hits p (state_entries cs))
+
+-- the lines of the hits and the last line are the reply
+pub reply_is : (p : Pattern) (cs : List Clause) (n : ℕ) → n ≡ length (clauses_lines p cs) → answer_reply (hits p (state_entries cs)) ≡ clauses_lines p cs ++ end_line n ∷ []
+unfolding clauses_lines end_line
+reply_is p cs n e =
+    ap (λ k. hit_texts (hits p (state_entries cs)) ++ (codes "end " ++ decimal k) ∷ []) (sym (length-hit_texts (hits p (state_entries cs))) ∙ sym e)

@@ -1,5 +1,5 @@
 -- The lines of an answer, part by part. They stay closed in proofs about the program's loops.
-use Rattle.std.specs.Prelude.{ℕ, ◌+◌, List, [], ◌∷◌, ◌++◌, map, length, Option, Some, None}
+use Rattle.std.specs.Prelude.{ℕ, List, [], ◌∷◌, ◌++◌, map, Option, Some, None, codes, decimal}
 use Rattle.si_defs.specs.Bytes.{Bytes}
 use Rattle.si_defs.specs.Clauses.{Name, Term, Literal, Clause, Pattern, term_pattern}
 use Rattle.si_defs.specs.Entries.{Placed, literal_entries, entries_from, entries, placed_in, state_entries}
@@ -39,3 +39,7 @@ clause_lines p c = hit_texts (hits p (map (placed_in c) (entries c)))
 
 unfoldable pub clauses_lines : Pattern → List Clause → List Bytes
 clauses_lines p cs = hit_texts (hits p (state_entries cs))
+
+-- the last line, the number of the lines before it
+unfoldable pub end_line : ℕ → Bytes
+end_line found = codes "end " ++ decimal found

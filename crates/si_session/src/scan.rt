@@ -18,15 +18,31 @@ use crate::sign::{Sign, put_sign};
 use crate::solution::put_solution;
 use si_io::{Failed, Sink};
 use si_term::{Clause, Name, Term};
-use std::alloc::AllocError;
+use std::alloc::{AllocError, Global};
 
-/// What a search uses again at each entry: the bindings, and the argument numbers that lead to the entry. It counts
-/// the hits.
+/// What a search uses again at each entry.
 #[derive(Drop)]
 pub struct Scratch<'a> {
+    /// The bindings of the last match.
     pub bindings: Vec<Binding<'a>>,
+    /// The argument numbers from 1 that lead from the atom to the entry.
     pub path: Vec<u32>,
+    /// How many lines of hits were written.
     pub found: u64,
+}
+
+impl<'a> Scratch<'a> {
+    /// The scratch at the start of a search.
+    pub fn new(alloc: Global) -> Scratch<'a>
+        ensures root { result.path.items ≡ [] }
+        ensures none { result.found ≡ 0 }
+    {
+        Scratch {
+            bindings: Vec::new(alloc),
+            path: Vec::new(alloc),
+            found: 0,
+        }
+    }
 }
 
 /// Writes the line of a hit: its place and its list.
@@ -64,7 +80,7 @@ fn tell_hit<K: Sink>(
 }
 
 /// Writes the line of an entry if a term of the pattern matches the entry's.
-fn put_if_match<'a, K: Sink>(
+pub fn put_if_match<'a, K: Sink>(
     query: &'a Term,
     entry: &'a Term,
     name: &Name,
@@ -122,7 +138,7 @@ fn search_term<'a, K: Sink>(
 
 /// Writes the lines of the hits among arguments and their subterms, in preorder.
 #[cycle(searching)]
-fn search_arguments<'a, K: Sink>(
+pub fn search_arguments<'a, K: Sink>(
     query: &'a Term,
     arguments: &'a [Term],
     clause: &Clause,

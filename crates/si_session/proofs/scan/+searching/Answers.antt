@@ -23,15 +23,15 @@ search_arguments-search_term-requires g t c κs within =
     subst (λ u. size (term_of u) ≤ sizes (row (map term_of c.args.arguments.now))) (sym c.index-arguments-i.is)
     (size-at c.args.arguments.now c.loop-i.i c.index-arguments-i.result c.loop-i-test.true) in
     let step = subterm_lines-step (term_of c.args.query.now) (clause_of c.args.clause.now) c.args.number c.args.scratch.now.path.items c.descend.new.path.items
-        c.args.arguments.now c.loop-i.i c.index-arguments-i.result c.loop-i-test.true c.index-arguments-i.is
-        (c.in_ok-descend.ensures ∙ ap (λ p. p ++ (c.loop-i.i + 1) ∷ []) c.loop-i.invariant.kept) in
+    c.args.arguments.now c.loop-i.i c.index-arguments-i.result c.loop-i-test.true c.index-arguments-i.is
+    (c.in_ok-descend.ensures ∙ ap (λ p. p ++ (c.loop-i.i + 1) ∷ []) c.loop-i.invariant.kept) in
     (omega (arith, smaller, c.decreases), (within, (omega (arith, smaller), so_far_room _ _ _ _ _ _ _ _ _ step c.loop-i.invariant.so_far c.requires.fits)))
 
 pub search_arguments-returns-in_err-search_term-clause-told : goal.search_arguments-returns-in_err-search_term-clause-told
 search_arguments-returns-in_err-search_term-clause-told g t c =
     let step = subterm_lines-step (term_of c.args.query.now) (clause_of c.args.clause.now) c.args.number c.args.scratch.now.path.items c.descend.new.path.items
-        c.args.arguments.now c.loop-i.i c.index-arguments-i.result c.loop-i-test.true c.index-arguments-i.is
-        (c.in_ok-descend.ensures ∙ ap (λ p. p ++ (c.loop-i.i + 1) ∷ []) c.loop-i.invariant.kept) in
+    c.args.arguments.now c.loop-i.i c.index-arguments-i.result c.loop-i-test.true c.index-arguments-i.is
+    (c.in_ok-descend.ensures ∙ ap (λ p. p ++ (c.loop-i.i + 1) ∷ []) c.loop-i.invariant.kept) in
     tells_again c.from_residual-in_err-search_term.result _ _ _ _ c.from_residual-in_err-search_term.ensures.1
     (so_far_broken _ _ _ _ _ _ _ _ _ _ step c.loop-i.invariant.so_far c.in_err-search_term.ensures.told)
 
@@ -39,12 +39,12 @@ pub search_arguments-loop-i-preserved : goal.search_arguments-loop-i-preserved
 search_arguments-loop-i-preserved g t c =
     let down = c.in_ok-descend.ensures ∙ ap (λ p. p ++ (c.loop-i.i + 1) ∷ []) c.loop-i.invariant.kept in
     let step = subterm_lines-step (term_of c.args.query.now) (clause_of c.args.clause.now) c.args.number c.args.scratch.now.path.items c.descend.new.path.items
-        c.args.arguments.now c.loop-i.i c.index-arguments-i.result c.loop-i-test.true c.index-arguments-i.is down in
+    c.args.arguments.now c.loop-i.i c.index-arguments-i.result c.loop-i-test.true c.index-arguments-i.is down in
     record {
-  so_far = so_far_more _ _ _ _ _ _ _ _ _ _ step c.loop-i.invariant.so_far c.in_ok-search_term.ensures.told c.in_ok-search_term.ensures.counted;
-  kept = popped c.search_term.new.scratch.path.items _ _ _ _ c.search_term.new.scratch.path.ok.0 c.pop.ensures.rest (c.in_ok-search_term.ensures.kept ∙ down);
-  faults = omega (arith, c.in_ok-search_term.ensures.cause);
-}
+      so_far = so_far_more _ _ _ _ _ _ _ _ _ _ step c.loop-i.invariant.so_far c.in_ok-search_term.ensures.told c.in_ok-search_term.ensures.counted;
+      kept = popped c.search_term.new.scratch.path.items _ _ _ _ c.search_term.new.scratch.path.ok.0 c.pop.ensures.rest (c.in_ok-search_term.ensures.kept ∙ down);
+      faults = omega (arith, c.in_ok-search_term.ensures.cause);
+    }
 
 pub search_arguments-returns-clause-told : goal.search_arguments-returns-clause-told
 search_arguments-returns-clause-told g t c =
@@ -69,15 +69,18 @@ search_term-returns-in_default-clause-counted g t c =
 pub search_term-put_if_match-requires : goal.search_term-put_if_match-requires
 search_term-put_if_match-requires g t c =
     let lines = application_lines (term_of c.args.query.now) (clause_of c.args.clause.now) c.args.number c.args.scratch.now.path.items c.args.scratch.now.path.items c.args.entry.now
-        c.in-App.field-0 c.in-App.arguments c.in-App.arguments c.in-App.is refl refl in
-    omega (arith, ap length lines,
-    length-append (entry_lines (name_of c.args.clause.now.name) c.args.number c.args.scratch.now.path.items (matched (term_of c.args.query.now) [] (term_of c.args.entry.now)))
-    (subterm_lines (term_of c.args.query.now) (clause_of c.args.clause.now) c.args.number c.args.scratch.now.path.items (occurrences_from 1 (row c.in-App.arguments))))
+    c.in-App.field-0 c.in-App.arguments c.in-App.arguments c.in-App.is refl refl in
+    omega (
+      arith,
+      ap length lines,
+      length-append (entry_lines (name_of c.args.clause.now.name) c.args.number c.args.scratch.now.path.items (matched (term_of c.args.query.now) [] (term_of c.args.entry.now)))
+          (subterm_lines (term_of c.args.query.now) (clause_of c.args.clause.now) c.args.number c.args.scratch.now.path.items (occurrences_from 1 (row c.in-App.arguments))),
+    )
 
 pub search_term-returns-in_err-put_if_match-clause-told : goal.search_term-returns-in_err-put_if_match-clause-told
 search_term-returns-in_err-put_if_match-clause-told g t c =
     let lines = application_lines (term_of c.args.query.now) (clause_of c.args.clause.now) c.args.number c.args.scratch.now.path.items c.args.scratch.now.path.items c.args.entry.now
-        c.in-App.field-0 c.in-App.arguments c.in-App.arguments c.in-App.is refl refl in
+    c.in-App.field-0 c.in-App.arguments c.in-App.arguments c.in-App.is refl refl in
     tells_again c.from_residual.result _ _ _ _ c.from_residual.ensures.1
     (subst (λ l. Tells (Err c.in_err-put_if_match.field-0.0) l (g.K.Sink.written c.args.sink.now) (g.K.Sink.written c.put_if_match.new.sink)) (sym lines)
     (tells_broken _ _ _ _ _ c.in_err-put_if_match.ensures.told))
@@ -85,18 +88,29 @@ search_term-returns-in_err-put_if_match-clause-told g t c =
 pub search_term-search_arguments-requires : goal.search_term-search_arguments-requires
 search_term-search_arguments-requires g t c κs within =
     let lines = application_lines (term_of c.args.query.now) (clause_of c.args.clause.now) c.args.number c.args.scratch.now.path.items c.put_if_match.new.scratch.path.items c.args.entry.now
-        c.in-App.field-0 c.in-App.arguments (map term_of c.as_slice.result.now) c.in-App.is c.put_if_match.ensures.kept c.as_slice.ensures in
+    c.in-App.field-0 c.in-App.arguments (map term_of c.as_slice.result.now) c.in-App.is c.put_if_match.ensures.kept c.as_slice.ensures in
     let small : size (term_of c.args.entry.now) ≡ 1 + sizes (row (map term_of c.as_slice.result.now)) =
-        application_size c.args.entry.now c.in-App.field-0 c.in-App.arguments (map term_of c.as_slice.result.now) c.in-App.is c.as_slice.ensures in
-    (omega (arith, small, c.decreases), (within, (omega (arith, small, c.requires.small),
-    omega (arith, ap length lines, c.in_ok-put_if_match.ensures.counted,
-    length-append (entry_lines (name_of c.args.clause.now.name) c.args.number c.args.scratch.now.path.items (matched (term_of c.args.query.now) [] (term_of c.args.entry.now)))
-    (subterm_lines (term_of c.args.query.now) (clause_of c.args.clause.now) c.args.number c.put_if_match.new.scratch.path.items (occurrences_from 1 (row (map term_of c.as_slice.result.now))))))))
+    application_size c.args.entry.now c.in-App.field-0 c.in-App.arguments (map term_of c.as_slice.result.now) c.in-App.is c.as_slice.ensures in (
+      omega (arith, small, c.decreases),
+      (
+        within,
+        (
+          omega (arith, small, c.requires.small),
+          omega (
+            arith,
+            ap length lines,
+            c.in_ok-put_if_match.ensures.counted,
+            length-append (entry_lines (name_of c.args.clause.now.name) c.args.number c.args.scratch.now.path.items (matched (term_of c.args.query.now) [] (term_of c.args.entry.now)))
+                (subterm_lines (term_of c.args.query.now) (clause_of c.args.clause.now) c.args.number c.put_if_match.new.scratch.path.items (occurrences_from 1 (row (map term_of c.as_slice.result.now)))),
+          ),
+        ),
+      ),
+    )
 
 pub search_term-returns-clause-told : goal.search_term-returns-clause-told
 search_term-returns-clause-told g t c =
     let lines = application_lines (term_of c.args.query.now) (clause_of c.args.clause.now) c.args.number c.args.scratch.now.path.items c.put_if_match.new.scratch.path.items c.args.entry.now
-        c.in-App.field-0 c.in-App.arguments (map term_of c.as_slice.result.now) c.in-App.is c.put_if_match.ensures.kept c.as_slice.ensures in
+    c.in-App.field-0 c.in-App.arguments (map term_of c.as_slice.result.now) c.in-App.is c.put_if_match.ensures.kept c.as_slice.ensures in
     subst (λ l. Tells c.search_arguments.result l (g.K.Sink.written c.args.sink.now) (g.K.Sink.written c.search_arguments.new.sink)) (sym lines)
     (tells_then c.search_arguments.result _ _ _
     (entry_lines (name_of c.args.clause.now.name) c.args.number c.args.scratch.now.path.items (matched (term_of c.args.query.now) [] (term_of c.args.entry.now)))
@@ -106,7 +120,7 @@ search_term-returns-clause-told g t c =
 pub search_term-returns-clause-counted : goal.search_term-returns-clause-counted
 search_term-returns-clause-counted g t c =
     let lines = application_lines (term_of c.args.query.now) (clause_of c.args.clause.now) c.args.number c.args.scratch.now.path.items c.put_if_match.new.scratch.path.items c.args.entry.now
-        c.in-App.field-0 c.in-App.arguments (map term_of c.as_slice.result.now) c.in-App.is c.put_if_match.ensures.kept c.as_slice.ensures in
+    c.in-App.field-0 c.in-App.arguments (map term_of c.as_slice.result.now) c.in-App.is c.put_if_match.ensures.kept c.as_slice.ensures in
     subst (λ l. OnOk c.search_arguments.result (c.search_arguments.new.scratch.found ≡ c.args.scratch.now.found + length l)) (sym lines)
     (counted_then c.search_arguments.result _ _ _
     (entry_lines (name_of c.args.clause.now.name) c.args.number c.args.scratch.now.path.items (matched (term_of c.args.query.now) [] (term_of c.args.entry.now)))

@@ -7,4 +7,5 @@ pub mod HitLaws
 pub mod Writing
 pub mod BindingLaws
 pub mod SolutionTexts
+pub mod Told
 pub mod ScanLaws

@@ -1,5 +1,5 @@
 // The answer to a query: the entries of clauses that are instances of a pattern, a line for each.
-ghost use Rattle.std.specs.Prelude.{◌≡◌, ◌+◌, ◌<◌, ◌≤◌, ◌^◌, [], ◌∷◌, map, length, OnOk};
+ghost use Rattle.std.specs.Prelude.{◌≡◌, ◌+◌, ◌<◌, ◌^◌, [], ◌∷◌, map, length, OnOk};
 ghost use Rattle.std.specs.List.{AllByRecursion};
 ghost use Rattle.si_defs.specs.Entries.{state_entries};
 ghost use Rattle.si_defs.specs.Steps.{answer_reply};

@@ -1,11 +1,10 @@
 // The search for the entries that are instances of a pattern, and the lines of these hits.
-ghost use Rattle.std.specs.Prelude.{◌≡◌, ◌+◌, ◌<◌, ◌≤◌, ◌^◌, [], ◌∷◌, ◌++◌, map, length, OnOk, OnErr};
+ghost use Rattle.std.specs.Prelude.{◌≡◌, ◌+◌, ◌<◌, ◌^◌, [], ◌∷◌, ◌++◌, map, length, OnOk, OnErr};
 ghost use Rattle.si_defs.specs.Terms.{row, size, sizes, occurrences, occurrences_from};
-ghost use Rattle.si_defs.specs.Clauses.{literals_size, most_occurrences};
 ghost use Rattle.si_io.specs.Content.{Appends, AppendsPrefix};
 ghost use Rattle.si_io.specs.Faults.{HasCause};
 ghost use Rattle.si_term.specs.Terms.{term_of};
-ghost use Rattle.si_term.specs.Meaning.{name_of, literal_of, clause_of, pattern_of};
+ghost use Rattle.si_term.specs.Meaning.{name_of, clause_of};
 ghost use Rattle.si_session.specs.Bound.{bindings_of};
 ghost use Rattle.si_session.specs.Matching.{matched};
 ghost use Rattle.si_session.specs.Telling.{Tells, Blames};

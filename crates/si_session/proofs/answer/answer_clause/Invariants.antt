@@ -1,7 +1,7 @@
 use Rattle.std.proofs.Common.{◌≡◌, ◌+◌, ◌≤◌, [], drop, map}
 use Rattle.si_term.specs.Meaning.{literal_of, clause_of, pattern_of}
 use Rattle.si_session.specs.Scan.{literals_lines, clause_lines}
-use Rattle.si_session.proofs.ScanLaws.{SoFar}
+use Rattle.si_session.proofs.Told.{SoFar}
 use Rattle.si_session.proofs.answer.answer_clause.Given as goal
 
 -- the lines of the literals before this one were written and counted

@@ -1,6 +1,7 @@
 use Rattle.std.proofs.Common.{arith}
 use Rattle.si_term.specs.Meaning.{pattern_of}
-use Rattle.si_session.proofs.ScanLaws.{so_far_more, so_far_broken, so_far_room, so_far_end, so_far_counted, tells_again, clauses_lines-next, clauses_lines-end, sound-at}
+use Rattle.si_session.proofs.Told.{so_far_more, so_far_broken, so_far_room, so_far_end, so_far_counted, tells_again}
+use Rattle.si_session.proofs.ScanLaws.{clauses_lines-next, clauses_lines-end, sound-at}
 use Rattle.si_session.proofs.answer.answer_clauses.Goals as goal
 
 pub answer_clause-requires-clause-sound : goal.answer_clause-requires-clause-sound

@@ -1,7 +1,7 @@
 use Rattle.std.proofs.Common.{◌≡◌, ◌≤◌, [], drop, map}
 use Rattle.si_term.specs.Meaning.{clause_of, pattern_of}
 use Rattle.si_session.specs.Scan.{clauses_lines}
-use Rattle.si_session.proofs.ScanLaws.{SoFar}
+use Rattle.si_session.proofs.Told.{SoFar}
 use Rattle.si_session.proofs.answer.answer_clauses.Given as goal
 
 -- the lines of the clauses before this one were written and counted

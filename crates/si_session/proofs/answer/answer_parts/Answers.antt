@@ -6,7 +6,7 @@ use Rattle.si_io.proofs.Content.{append_told-nil}
 use Rattle.si_term.specs.Terms.{term_of}
 use Rattle.si_term.specs.Meaning.{literal_of, clause_of}
 use Rattle.si_session.specs.Telling.{Tells}
-use Rattle.si_session.proofs.ScanLaws.{variable_atom_lines, atom_lines, application_size}
+use Rattle.si_session.proofs.ScanLaws.{variable_atom_lines, atom_lines}
 use Rattle.si_session.proofs.answer.answer_parts.Goals as goal
 
 pub returns-in_default-clause-told : goal.returns-in_default-clause-told

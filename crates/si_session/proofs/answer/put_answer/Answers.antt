@@ -3,7 +3,8 @@ use Rattle.std.specs.Prelude.{Err}
 use Rattle.si_term.specs.Meaning.{clause_of, pattern_of}
 use Rattle.si_session.specs.Telling.{Tells}
 use Rattle.si_session.specs.Scan.{clauses_lines, end_line}
-use Rattle.si_session.proofs.ScanLaws.{tells_again, tells_broken, tells_then, reply_is, length-clauses_lines}
+use Rattle.si_session.proofs.Told.{tells_again, tells_broken, tells_then}
+use Rattle.si_session.proofs.ScanLaws.{reply_is, length-clauses_lines}
 use Rattle.si_session.proofs.answer.put_answer.Goals as goal
 
 pub answer_clauses-requires-clause-fits : goal.answer_clauses-requires-clause-fits

@@ -4,7 +4,7 @@ use Rattle.si_io.proofs.Content.{Appends_then, AppendsPrefix_then, AppendsPrefix
 use Rattle.si_session.specs.Signs.{sign_text}
 use Rattle.si_session.specs.declared.sign.Sign.TheVariants.{LineFeed}
 use Rattle.si_session.specs.Scan.{end_line}
-use Rattle.si_session.proofs.ScanLaws.{tells_sink}
+use Rattle.si_session.proofs.Told.{tells_sink}
 use Rattle.si_session.proofs.answer.put_end.Goals as goal
 
 pub returns-in_err-put_number-clause-told : goal.returns-in_err-put_number-clause-told

@@ -11,7 +11,8 @@ use Rattle.si_session.specs.Telling.{Tells, Blames}
 use Rattle.si_session.specs.Scan.{entry_lines, subterm_lines}
 use Rattle.si_session.proofs.Rows.{size-at}
 use Rattle.si_session.proofs.Writing.{on_ok}
-use Rattle.si_session.proofs.ScanLaws.{SoFar, so_far_more, so_far_broken, so_far_room, so_far_end, so_far_counted, tells_again, tells_broken, tells_then, counted_then, subterm_lines-step, subterm_lines-end, variable_lines, application_lines, application_size, count-sizes, popped}
+use Rattle.si_session.proofs.Told.{so_far_more, so_far_broken, so_far_room, so_far_end, so_far_counted, tells_again, tells_broken, tells_then, counted_then}
+use Rattle.si_session.proofs.ScanLaws.{subterm_lines-step, subterm_lines-end, variable_lines, application_lines, application_size, count-sizes, popped}
 use Rattle.si_session.proofs.scan.+searching.Goals as goal
 
 pub search_arguments-descend-requires : goal.search_arguments-descend-requires

@@ -3,7 +3,7 @@ use Rattle.si_defs.specs.Terms.{row, size, sizes, occurrences_from}
 use Rattle.si_term.specs.Terms.{term_of}
 use Rattle.si_term.specs.Meaning.{clause_of}
 use Rattle.si_session.specs.Scan.{subterm_lines}
-use Rattle.si_session.proofs.ScanLaws.{SoFar}
+use Rattle.si_session.proofs.Told.{SoFar}
 use Rattle.si_session.proofs.scan.+searching.Given as goal
 
 -- the lines of the arguments before this one were written and counted, and the path is as it was

@@ -10,7 +10,8 @@ use Rattle.si_session.specs.Bound.{bindings_of}
 use Rattle.si_session.specs.Matching.{matched}
 use Rattle.si_session.specs.Telling.{Tells}
 use Rattle.si_session.specs.Scan.{hit_line, entry_lines}
-use Rattle.si_session.proofs.ScanLaws.{tells_again, unmatched_lines, matched_lines}
+use Rattle.si_session.proofs.Told.{tells_again}
+use Rattle.si_session.proofs.ScanLaws.{unmatched_lines, matched_lines}
 use Rattle.si_session.proofs.scan.put_if_match.Goals as goal
 use Rattle.si_session.proofs.scan.put_if_match.Given as given
 

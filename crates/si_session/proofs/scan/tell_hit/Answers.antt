@@ -4,7 +4,8 @@ use Rattle.si_io.specs.Content.{Appends, AppendsPrefix}
 use Rattle.si_term.specs.Meaning.{name_of}
 use Rattle.si_session.specs.Bound.{bindings_of}
 use Rattle.si_session.specs.declared.answer.Broken.TheVariants.{Sink}
-use Rattle.si_session.proofs.ScanLaws.{ended_hit_line_is, tells_sink}
+use Rattle.si_session.proofs.Told.{tells_sink}
+use Rattle.si_session.proofs.ScanLaws.{ended_hit_line_is}
 use Rattle.si_session.proofs.scan.tell_hit.Goals as goal
 
 pub returns-in_err-put_hit-clause-told : goal.returns-in_err-put_hit-clause-told

@@ -11,13 +11,13 @@ use Rattle.si_session.specs.Matching.{Bindings, matched, solution_of}
 use Rattle.si_session.specs.Hits.{same_sign, found, hit_before, hits, placed_under}
 use Rattle.si_session.proofs.Matches.{matched_is_instance, matched_is_canonical, unmatched_is_no_instance}
 
-same_sign_true : (a b : Bool) → same_sign a b ≡ true → a ≡ b
+pub same_sign_true : (a b : Bool) → same_sign a b ≡ true → a ≡ b
 same_sign_true true true h = refl
 same_sign_true false false h = refl
 same_sign_true true false h = cc
 same_sign_true false true h = cc
 
-same_sign_same : (a : Bool) → same_sign a a ≡ true
+pub same_sign_same : (a : Bool) → same_sign a a ≡ true
 same_sign_same true = refl
 same_sign_same false = refl
 

@@ -8,3 +8,6 @@ pub mod Writing
 pub mod BindingLaws
 pub mod CommandLaws
 pub mod Pieces
+pub mod SolutionTexts
+pub mod Told
+pub mod ScanLaws

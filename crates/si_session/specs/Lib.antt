@@ -8,3 +8,4 @@ pub mod Telling
 pub mod Signs
 pub mod Commands
 pub mod PrintedParts
+pub mod Scan

@@ -1,14 +1,20 @@
 // The answer to a query: the entries of clauses that are instances of a pattern, a line for each.
-ghost use Rattle.std.specs.Prelude.{◌<◌, ◌≤◌, ◌^◌, map, length};
+ghost use Rattle.std.specs.Prelude.{◌≡◌, ◌+◌, ◌<◌, ◌^◌, [], ◌∷◌, map, length, OnOk};
 ghost use Rattle.std.specs.List.{AllByRecursion};
 ghost use Rattle.si_defs.specs.Entries.{state_entries};
 ghost use Rattle.si_defs.specs.Steps.{answer_reply};
-ghost use Rattle.si_term.specs.Meaning.{clause_of, pattern_of};
+ghost use Rattle.si_defs.specs.Clauses.{IsSoundClause, literal_size, literal_pattern, term_pattern};
+ghost use Rattle.si_term.specs.Terms.{term_of};
+ghost use Rattle.si_term.specs.Meaning.{literal_of, clause_of, pattern_of};
 ghost use Rattle.si_session.specs.Hits.{hits};
 ghost use Rattle.si_session.specs.Telling.{Tells, Blames};
+ghost use Rattle.si_session.specs.Scan.{literal_lines, clause_lines, clauses_lines, end_line};
 
+use crate::printing::put_number;
+use crate::scan::{Scratch, put_if_match, search_arguments};
+use crate::sign::{Sign, put_sign};
 use si_io::{Failed, Sink};
-use si_term::{Clause, Pattern};
+use si_term::{Clause, Literal, Pattern, Term};
 use std::alloc::{AllocError, Global};
 
 /// Why an answer was broken off.
@@ -42,6 +48,133 @@ impl From<AllocError> for Broken {
     }
 }
 
+/// Writes the line of a literal if it is an instance of a literal pattern. Only literals of one sign are compared.
+fn answer_whole<'a, K: Sink>(
+    wanted: &'a Literal,
+    literal: &'a Literal,
+    clause: &Clause,
+    number: u32,
+    scratch: &mut Scratch<'a>,
+    sink: &mut K,
+) -> Result<(), Broken>
+    requires root { scratch.old.path.items ≡ [] }
+    requires fits { scratch.old.found + length (literal_lines (literal_pattern (literal_of wanted.now)) (clause_of clause.now) number (literal_of literal.now)) < 2 ^ 64 }
+    ensures told { Tells result (literal_lines (literal_pattern (literal_of wanted.now)) (clause_of clause.now) number (literal_of literal.now)) (K.written sink.old) (K.written sink.new) }
+    ensures cause { Blames result (K.faults sink.old) (K.faults sink.new) }
+    ensures kept { OnOk result (scratch.new.path.items ≡ []) }
+    ensures counted { OnOk result (scratch.new.found ≡ scratch.old.found + length (literal_lines (literal_pattern (literal_of wanted.now)) (clause_of clause.now) number (literal_of literal.now))) }
+{
+    if wanted.positive != literal.positive {
+        return Ok(());
+    }
+    put_if_match(
+        &wanted.atom,
+        &literal.atom,
+        &clause.name,
+        number,
+        scratch,
+        sink,
+    )
+}
+
+/// Writes the lines of the proper subterms of a literal's atom that are instances of a term pattern.
+fn answer_parts<'a, K: Sink>(
+    query: &'a Term,
+    literal: &'a Literal,
+    clause: &Clause,
+    number: u32,
+    scratch: &mut Scratch<'a>,
+    sink: &mut K,
+) -> Result<(), Broken>
+    requires root { scratch.old.path.items ≡ [] }
+    requires small { literal_size (literal_of literal.now) < 2 ^ 32 }
+    requires fits { scratch.old.found + length (literal_lines (term_pattern (term_of query.now)) (clause_of clause.now) number (literal_of literal.now)) < 2 ^ 64 }
+    ensures told { Tells result (literal_lines (term_pattern (term_of query.now)) (clause_of clause.now) number (literal_of literal.now)) (K.written sink.old) (K.written sink.new) }
+    ensures cause { Blames result (K.faults sink.old) (K.faults sink.new) }
+    ensures kept { OnOk result (scratch.new.path.items ≡ []) }
+    ensures counted { OnOk result (scratch.new.found ≡ scratch.old.found + length (literal_lines (term_pattern (term_of query.now)) (clause_of clause.now) number (literal_of literal.now))) }
+{
+    let Term::App(_, arguments) = &literal.atom else {
+        return Ok(());
+    };
+    search_arguments(query, arguments.as_slice(), clause, number, scratch, sink)
+}
+
+/// Writes the lines of the entries of a literal that are instances of a pattern.
+fn answer_literal<'a, K: Sink>(
+    pattern: &'a Pattern,
+    literal: &'a Literal,
+    clause: &Clause,
+    number: u32,
+    scratch: &mut Scratch<'a>,
+    sink: &mut K,
+) -> Result<(), Broken>
+    requires root { scratch.old.path.items ≡ [] }
+    requires small { literal_size (literal_of literal.now) < 2 ^ 32 }
+    requires fits { scratch.old.found + length (literal_lines (pattern_of pattern.now) (clause_of clause.now) number (literal_of literal.now)) < 2 ^ 64 }
+    ensures told { Tells result (literal_lines (pattern_of pattern.now) (clause_of clause.now) number (literal_of literal.now)) (K.written sink.old) (K.written sink.new) }
+    ensures cause { Blames result (K.faults sink.old) (K.faults sink.new) }
+    ensures kept { OnOk result (scratch.new.path.items ≡ []) }
+    ensures counted { OnOk result (scratch.new.found ≡ scratch.old.found + length (literal_lines (pattern_of pattern.now) (clause_of clause.now) number (literal_of literal.now))) }
+{
+    match pattern {
+        Pattern::Lit(wanted) => answer_whole(wanted, literal, clause, number, scratch, sink),
+        Pattern::Term(query) => answer_parts(query, literal, clause, number, scratch, sink),
+    }
+}
+
+/// Writes the lines of the entries of a clause that are instances of a pattern.
+fn answer_clause<'a, K: Sink>(
+    pattern: &'a Pattern,
+    clause: &'a Clause,
+    scratch: &mut Scratch<'a>,
+    sink: &mut K,
+) -> Result<(), Broken>
+    requires root { scratch.old.path.items ≡ [] }
+    requires sound { IsSoundClause (clause_of clause.now) }
+    requires fits { scratch.old.found + length (clause_lines (pattern_of pattern.now) (clause_of clause.now)) < 2 ^ 64 }
+    ensures told { Tells result (clause_lines (pattern_of pattern.now) (clause_of clause.now)) (K.written sink.old) (K.written sink.new) }
+    ensures cause { Blames result (K.faults sink.old) (K.faults sink.new) }
+    ensures kept { OnOk result (scratch.new.path.items ≡ []) }
+    ensures counted { OnOk result (scratch.new.found ≡ scratch.old.found + length (clause_lines (pattern_of pattern.now) (clause_of clause.now))) }
+{
+    let literals = clause.literals.as_slice();
+    for i in 0..literals.len() {
+        answer_literal(pattern, &literals[i], clause, i as u32 + 1, scratch, sink)?;
+    }
+    Ok(())
+}
+
+/// Writes the lines of the entries of clauses that are instances of a pattern.
+fn answer_clauses<'a, K: Sink>(
+    pattern: &'a Pattern,
+    clauses: &'a [Clause],
+    scratch: &mut Scratch<'a>,
+    sink: &mut K,
+) -> Result<(), Broken>
+    requires root { scratch.old.path.items ≡ [] }
+    requires sound { AllByRecursion IsSoundClause (map clause_of clauses.now) }
+    requires fits { scratch.old.found + length (clauses_lines (pattern_of pattern.now) (map clause_of clauses.now)) < 2 ^ 64 }
+    ensures told { Tells result (clauses_lines (pattern_of pattern.now) (map clause_of clauses.now)) (K.written sink.old) (K.written sink.new) }
+    ensures cause { Blames result (K.faults sink.old) (K.faults sink.new) }
+    ensures counted { OnOk result (scratch.new.found ≡ scratch.old.found + length (clauses_lines (pattern_of pattern.now) (map clause_of clauses.now))) }
+{
+    for i in 0..clauses.len() {
+        answer_clause(pattern, &clauses[i], scratch, sink)?;
+    }
+    Ok(())
+}
+
+/// Writes the last line, the number of hits.
+fn put_end<K: Sink>(sink: &mut K, found: u64) -> Result<(), Broken>
+    ensures told { Tells result (end_line found ∷ []) (K.written sink.old) (K.written sink.new) }
+    ensures cause { Blames result (K.faults sink.old) (K.faults sink.new) }
+{
+    put_number(sink, b"end ", found)?;
+    put_sign(sink, Sign::LineFeed)?;
+    Ok(())
+}
+
 /// Writes the answer of `instances` to a pattern: a line for each entry of the clauses that is an instance of it, in
 /// order, and then the number of these lines.
 pub fn put_answer<K: Sink>(
@@ -50,9 +183,12 @@ pub fn put_answer<K: Sink>(
     pattern: &Pattern,
     sink: &mut K,
 ) -> Result<(), Broken>
-    requires { length (state_entries (map clause_of clauses.now)) < 2 ^ 64 }
+    requires fits { length (state_entries (map clause_of clauses.now)) < 2 ^ 64 }
+    requires sound { AllByRecursion IsSoundClause (map clause_of clauses.now) }
     ensures told { Tells result (answer_reply (hits (pattern_of pattern.now) (state_entries (map clause_of clauses.now)))) (K.written sink.old) (K.written sink.new) }
     ensures cause { Blames result (K.faults sink.old) (K.faults sink.new) }
 {
-    Err(Broken::Memory)
+    let mut scratch = Scratch::new(alloc);
+    answer_clauses(pattern, clauses, &mut scratch, sink)?;
+    put_end(sink, scratch.found)
 }

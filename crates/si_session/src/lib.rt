@@ -7,6 +7,7 @@ mod equality;
 mod limits;
 mod matching;
 mod printing;
+mod scan;
 mod session;
 mod sign;
 mod solution;

@@ -9,3 +9,5 @@ pub mod Signs
 pub mod Commands
 pub mod PrintedParts
 pub mod Scan
+pub mod StoreKeys
+pub mod Store

@@ -11,6 +11,7 @@ mod scan;
 mod session;
 mod sign;
 mod solution;
+mod store;
 
 pub use limits::Limits;
 pub use session::{Session, Stepped};

@@ -155,3 +155,8 @@ plain_at ts n t h e plain =
 -- tokens before a place that is not the first
 pub some_before : (ts : List Token) (n : ℕ) → n < length ts → (n ≡ 0 → ⊥) → tokens_of (take n ts) ≢ []
 some_before ts n h some e = some (omega (arith, ap length e, length-map (take n ts) token_of, length-take-le n ts (omega arith)))
+
+-- plain tokens and one more
+pub plain_push : (ts : List Token) (t : Token) → ArePlain ts → IsPlainToken (token_of t) → ArePlain (ts ++ t ∷ [])
+plain_push [] t h k = (k, tt)
+plain_push (u ∷ us) t h k = (h.0, plain_push us t h.1 k)

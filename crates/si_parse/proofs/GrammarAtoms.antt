@@ -25,15 +25,19 @@ plain_mark c (inl k) = cc
 plain_mark c (inr (inl k)) = cc
 plain_mark c (inr (inr (k, (d, e, h)))) = subst (λ x. IsTrue (list_any (λ m. m == x) (40 ∷ 41 ∷ 44 ∷ 46 ∷ []))) (sym (heads e)) h
 
+-- so is neither an equality sign
 pub no_equals : IsPlainToken (mark 61) → ⊥
 no_equals h = false≢true (plain_mark 61 h)
 
+-- nor a tilde
 pub no_tilde : IsPlainToken (mark 126) → ⊥
 no_tilde h = false≢true (plain_mark 126 h)
 
+-- nor a bar
 pub no_bar : IsPlainToken (mark 124) → ⊥
 no_bar h = false≢true (plain_mark 124 h)
 
+-- nor `!=`
 pub no_not_equal : IsPlainToken not_equal → ⊥
 no_not_equal (inl k) = cc
 no_not_equal (inr (inl k)) = cc
@@ -59,12 +63,14 @@ IsHeaded (terms.app s (terms.more u us)) ts =
     × ((t : Token) × (first : List Token) × (others : List Token) × IsHead s.kind s.text t × IsTerm u first × AreMoreTerms us others
     × (ts ≡ t ∷ left_bracket ∷ first ++ others ++ right_bracket ∷ []))
 
+-- an atom of plain tokens is a predicate with its arguments
 plain_atom : (m : Term) (ts : List Token) → AllByRecursion IsPlainToken ts → IsAtom m ts → IsHeaded m ts
 plain_atom (terms.var x) ts plain h = h
 plain_atom (terms.app s terms.none) ts plain h = h
 plain_atom (terms.app s (terms.more u us)) ts plain (inl h) = h
 plain_atom (terms.app s (terms.more u us)) ts plain (inr h) = absurd (no_sides (mark 61) s u us ts no_equals plain h)
 
+-- no plain tokens spell an inequation
 no_inequation : (m : Term) (ts : List Token) → AllByRecursion IsPlainToken ts → IsInequation m ts → ⊥
 no_inequation (terms.var x) ts plain h = h
 no_inequation (terms.app s terms.none) ts plain h = h

@@ -19,21 +19,27 @@ use Rattle.si_parse.proofs.GrammarEndings.{ending_follows}
 abbrev pub Parts : Type 0
 Parts = Unit {0} × (Bytes × (Bytes × (Literal × Unit {0})))
 
+-- the end of a clause as what is passed
 abbrev pub Ending : Unit {0} → List Token → Type 0
 Ending u ts = IsEnding ts
 
+-- the formula and the end
 abbrev pub Body : Literal × Unit {0} → List Token → Type 0
 Body = Then IsUnit Ending
 
+-- the role and what stands behind it
 abbrev pub FromRole : Bytes × (Literal × Unit {0}) → List Token → Type 0
 FromRole = Then IsWordComma Body
 
+-- the name and what stands behind it
 abbrev pub FromName : Bytes × (Bytes × (Literal × Unit {0})) → List Token → Type 0
 FromName = Then IsWordComma FromRole
 
+-- the opening of a clause as what is passed
 abbrev pub Opening : Unit {0} → List Token → Type 0
 Opening u ts = IsOpening ts
 
+-- a clause in five parts
 abbrev pub Whole : Parts → List Token → Type 0
 Whole = Then Opening FromName
 
@@ -41,6 +47,7 @@ Whole = Then Opening FromName
 abbrev pub clause_from : Parts → Clause
 clause_from p = record { name = record { kind = named.Word; text = p.1.0 }; role = p.1.1.0; literals = p.1.1.1.0 ∷ [] }
 
+-- five parts spell the clause that they make
 to_clause : (p : Parts) (ts : List Token) → Whole p ts → IsClause (clause_from p) ts
 to_clause p ts (o, r, opening, (w, s, name, (v, q, role, (f, e, unit, (extra, is_extra, end), in_body), in_role), in_name), whole) = (
   lower p.1.0,
@@ -69,16 +76,19 @@ plain_more : (ls : List Literal) (ts : List Token) → AllByRecursion IsPlainTok
 plain_more [] ts plain h = refl
 plain_more (l ∷ ls) ts plain (first, others, one, all, e) = absurd (no_bar (subst (λ x. AllByRecursion IsPlainToken x) e plain).0)
 
+-- a disjunction of plain tokens has one literal
 plain_disjunction : (ls : List Literal) (ts : List Token) → AllByRecursion IsPlainToken ts → IsDisjunction ls ts → (l : Literal) × (ls ≡ l ∷ [])
 plain_disjunction [] ts plain h = absurd h
 plain_disjunction (l ∷ ls) ts plain (first, others, one, all, e) =
     (l, ap (λ x. l ∷ x) (plain_more ls others (plain_rest first others (subst (λ x. AllByRecursion IsPlainToken x) e plain)) all))
 
+-- and so has a formula
 plain_formula : (ls : List Literal) (ts : List Token) → AllByRecursion IsPlainToken ts → IsFormula ls ts → (l : Literal) × (ls ≡ l ∷ [])
 plain_formula ls ts plain (n, inner, h, e) =
     plain_disjunction ls inner
     (plain_rest (replicate n left_bracket) inner (plain_front (replicate n left_bracket ++ inner) (replicate n right_bracket) (subst (λ x. AllByRecursion IsPlainToken x) e plain))) h
 
+-- a clause of plain tokens has five parts
 from_clause : (tokens : List Token) → AllByRecursion IsPlainToken tokens → (c : Clause) (used rest : List Token) → tokens ≡ used ++ rest → IsClause c used → Anything rest
     → (p : Parts) × (clause_from p ≡ c) × Whole p used
 from_clause tokens plain c used rest e (name, formula, extra, is_name, is_formula, is_extra, f) any =
@@ -126,29 +136,37 @@ pub whole_some : {tokens left rest : List Token} {u : Unit {0}} {p : Bytes × (B
     → Parses Whole Anything tokens (Some ((u, p), rest))
 whole_some q r = then_some {F = Anything} (λ n used rest b g. tt) q r
 
+-- no opening
 pub whole_none : {tokens : List Token} → Parses Opening Anything tokens None → Parses Whole Anything tokens None
 whole_none q = then_none {F = Anything} (λ n used rest b g. tt) q
 
+-- an opening without the rest
 pub whole_stop : {tokens left : List Token} {u : Unit {0}} → Parses Opening Anything tokens (Some (u, left)) → Parses FromName Anything left None → Parses Whole Anything tokens None
 whole_stop q r = then_stop {F = Anything} (λ n used rest b g. tt) q r
 
+-- a name and what stands behind it
 pub name_some : {tokens left rest : List Token} {t : Bytes} {p : Bytes × (Literal × Unit {0})} → Parses IsWordComma Anything tokens (Some (t, left)) → Parses FromRole Anything left (Some (p, rest))
     → Parses FromName Anything tokens (Some ((t, p), rest))
 name_some q r = then_some {F = Anything} (λ n used rest b g. tt) q r
 
+-- no name
 pub name_none : {tokens : List Token} → Parses IsWordComma Anything tokens None → Parses FromName Anything tokens None
 name_none q = then_none {F = Anything} (λ n used rest b g. tt) q
 
+-- a name without the rest
 pub name_stop : {tokens left : List Token} {t : Bytes} → Parses IsWordComma Anything tokens (Some (t, left)) → Parses FromRole Anything left None → Parses FromName Anything tokens None
 name_stop q r = then_stop {F = Anything} (λ n used rest b g. tt) q r
 
+-- a role and what stands behind it
 pub role_some : {tokens left rest : List Token} {t : Bytes} {p : Literal × Unit {0}} → Parses IsWordComma Anything tokens (Some (t, left)) → Parses Body Anything left (Some (p, rest))
     → Parses FromRole Anything tokens (Some ((t, p), rest))
 role_some q r = then_some {F = Anything} (λ n used rest b g. tt) q r
 
+-- no role
 pub role_none : {tokens : List Token} → Parses IsWordComma Anything tokens None → Parses FromRole Anything tokens None
 role_none q = then_none {F = Anything} (λ n used rest b g. tt) q
 
+-- a role without the rest
 pub role_stop : {tokens left : List Token} {t : Bytes} → Parses IsWordComma Anything tokens (Some (t, left)) → Parses Body Anything left None → Parses FromRole Anything tokens None
 role_stop q r = then_stop {F = Anything} (λ n used rest b g. tt) q r
 
@@ -157,8 +175,10 @@ pub body_some : {tokens left rest : List Token} {l : Literal} {u : Unit {0}} →
     → Parses Body Anything tokens (Some ((l, u), rest))
 body_some q r = then_some {F = NoBracket} (λ u used rest b g. ending_follows u used rest b) q r
 
+-- no formula
 pub body_none : {tokens : List Token} → Parses IsUnit NoBracket tokens None → Parses Body Anything tokens None
 body_none q = then_none {F = NoBracket} (λ u used rest b g. ending_follows u used rest b) q
 
+-- a formula without an end
 pub body_stop : {tokens left : List Token} {l : Literal} → Parses IsUnit NoBracket tokens (Some (l, left)) → Parses Ending Anything left None → Parses Body Anything tokens None
 body_stop q r = then_stop {F = NoBracket} (λ u used rest b g. ending_follows u used rest b) q r

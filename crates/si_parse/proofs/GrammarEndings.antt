@@ -15,10 +15,6 @@ use Rattle.si_parse.specs.GrammarRules.{IsMark, AreAnnotations, IsEnding}
 use Rattle.si_parse.proofs.ParseSteps.{parses_none, parses_some, parses_never, heads, tails}
 
 -- ---- balance
--- a closing bracket where none is open does not balance
-closes_nothing : (ts : List Token) → balances (right_bracket ∷ ts) [] ≡ false
-closes_nothing ts = refl
-
 -- two fronts that balance, each before a closing bracket, are the same
 pub same_balanced : (ts us rest behind : List Token) (pending : List Bracket) → IsTrue (balances ts pending) → IsTrue (balances us pending)
     → ts ++ right_bracket ∷ rest ≡ us ++ right_bracket ∷ behind → (ts ≡ us) × (rest ≡ behind)
@@ -52,19 +48,18 @@ overrun (u ∷ us) behind pending h k = by (λ p h k. overrun us behind p h k) (
 abbrev pub AreOpen : List Token → ℕ → Type 0
 AreOpen ts depth = (rest : List Token) → balances (ts ++ rest) [] ≡ balances rest (replicate depth round)
 
-pub open_start : AreOpen [] 0
-open_start rest = refl
-
 -- behind one more token
 open_more : (ts : List Token) (t : Token) (depth next : ℕ) → AreOpen ts depth → ((rest : List Token) → balances (t ∷ rest) (replicate depth round) ≡ balances rest (replicate next round))
     → AreOpen (ts ++ t ∷ []) next
 open_more ts t depth next h step rest = ap (λ x. balances x []) (append_assoc ts (t ∷ []) rest) ∙ h (t ∷ rest) ∙ step rest
 
+-- behind an opening bracket
 pub open_left : (ts : List Token) (t : Token) (depth : ℕ) → AreOpen ts depth → t ≡ left_bracket → AreOpen (ts ++ t ∷ []) (depth + 1)
 open_left ts t depth h e = open_more ts t depth (depth + 1) h (λ rest. ap (λ x. balances (x ∷ rest) (replicate depth round)) e ∙ ap (λ n. balances rest (replicate n round)) counted) where
   counted : suc depth ≡ depth + 1
   counted = omega arith
 
+-- behind a closing one
 pub open_right : (ts : List Token) (t : Token) (depth : ℕ) → AreOpen ts depth → t ≡ right_bracket → (depth ≡ 0 → ⊥) → AreOpen (ts ++ t ∷ []) (depth - 1)
 open_right ts t zero h e some = absurd (some refl)
 open_right ts t (suc n) h e some = open_more ts t (suc n) (suc n - 1) h (λ rest. ap (λ x. balances (x ∷ rest) (replicate (suc n) round)) e ∙ ap (λ k. balances rest (replicate k round)) counted) where
@@ -75,6 +70,7 @@ open_right ts t (suc n) h e some = open_more ts t (suc n) (suc n - 1) h (λ rest
 other_mark : (c : ℕ) → IsTrue (list_any (λ m. m == c) (40 ∷ 41 ∷ 44 ∷ 46 ∷ [])) → (c ≡ 40 → ⊥) → (c ≡ 41 → ⊥) → (c ≡ 44) ⊎ (c ≡ 46)
 other_mark c h not_left not_right = grind (arith, nat_tests)
 
+-- a plain token that is no bracket opens and closes nothing
 pub step_other : (t : Token) → IsPlainToken t → (t ≡ left_bracket → ⊥) → (t ≡ right_bracket → ⊥) → (rest : List Token) (pending : List Bracket) → balances (t ∷ rest) pending ≡ balances rest pending
 step_other t (inl k) not_left not_right rest pending =
     ap (λ x. balances (record { kind = x; text = t.text } ∷ rest) pending) k
@@ -89,6 +85,7 @@ step_other t (inr (inr (k, (c, e, h)))) not_left not_right rest pending =
       by c (inl f) = ap (λ x. balances (mark x ∷ rest) pending) f
       by c (inr f) = ap (λ x. balances (mark x ∷ rest) pending) f
 
+-- behind a plain token that is no bracket
 pub open_other : (ts : List Token) (t : Token) (depth : ℕ) → AreOpen ts depth → IsPlainToken t → (t ≡ left_bracket → ⊥) → (t ≡ right_bracket → ⊥) → AreOpen (ts ++ t ∷ []) depth
 open_other ts t depth h plain not_left not_right = open_more ts t depth depth h (λ rest. step_other t plain not_left not_right rest (replicate depth round))
 
@@ -129,9 +126,11 @@ Noted = Then (λ (u : Unit {0}) used. IsMark 44 used) (Then (λ (u : Unit {0}) u
 abbrev pub Ends : Unit {0} × Unit {0} → List Token → Type 0
 Ends = Then (λ (u : Unit {0}) used. IsMark 41 used) (λ (u : Unit {0}) used. IsMark 46 used)
 
+-- a closing bracket is no comma
 right_comma_apart : (xs ys : List Token) → right_bracket ∷ xs ≡ comma ∷ ys → ⊥
 right_comma_apart xs ys e = right_comma (heads e)
 
+-- a comma, annotations and a full stop end a clause
 to_noted : (p : Unit {0} × (Unit {0} × Unit {0})) (used : List Token) → Noted p used → IsEnding used
 to_noted p used (one, others, first, (two, three, (notes, some, balanced, g), stop, f), e) = (
   comma ∷ notes,
@@ -139,6 +138,7 @@ to_noted p used (one, others, first, (two, three, (notes, some, balanced, g), st
   e ∙ ap (λ x. x ++ others) first ∙ ap (λ x. comma ∷ x) (f ∙ ap (λ x. two ++ x) stop ∙ ap (λ x. x ++ full_stop ∷ []) g ∙ append_assoc notes (right_bracket ∷ []) (full_stop ∷ [])),
 )
 
+-- an end that begins with a comma has annotations
 from_noted : {tokens : List Token} (left : List Token) → tokens ≡ comma ∷ left → (u : Unit {0}) (used rest : List Token) → tokens ≡ used ++ rest → IsEnding used → Anything rest
     → (p : Unit {0} × (Unit {0} × Unit {0})) × (◌≡◌ {A = Unit {0}} tt u) × Noted p used
 from_noted left begins u used rest e ([], extra, f) any = absurd (right_comma_apart _ _ (sym (sym begins ∙ e ∙ ap (λ x. x ++ rest) f)))
@@ -154,9 +154,11 @@ from_noted left begins u used rest e (t ∷ ts, (is, some, balanced), f) any = (
   ),
 )
 
+-- a closing bracket and a full stop end a clause
 to_ends : (p : Unit {0} × Unit {0}) (used : List Token) → Ends p used → IsEnding used
 to_ends p used (one, others, first, stop, e) = ([], tt, e ∙ ap (λ x. x ++ others) first ∙ ap (λ x. right_bracket ∷ x) stop)
 
+-- an end that does not begin with a comma has no annotations
 from_ends : {tokens : List Token} → Parses (λ (u : Unit {0}) used. IsMark 44 used) Anything tokens None → (u : Unit {0}) (used rest : List Token) → tokens ≡ used ++ rest → IsEnding used → Anything rest
     → (p : Unit {0} × Unit {0}) × (◌≡◌ {A = Unit {0}} tt u) × Ends p used
 from_ends none u used rest e ([], extra, f) any = ((tt, tt), refl, (right_bracket ∷ [], full_stop ∷ [], refl, refl, f))

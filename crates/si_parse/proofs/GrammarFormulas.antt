@@ -44,6 +44,7 @@ data Brackets (l : Literal) (ts : List Token) : Type 0 where
   bare : IsLiteral l ts → Brackets l ts
   round : (inner : List Token) → IsUnit l inner → ts ≡ left_bracket ∷ inner ++ right_bracket ∷ [] → Brackets l ts
 
+-- a formula of one literal has brackets round it or none
 brackets_of : (l : Literal) (ts : List Token) → IsUnit l ts → Brackets l ts
 brackets_of l ts (zero, inner, h, e) = bare (literal_of_unit l inner ts h e)
 brackets_of l ts (suc n, inner, h, e) =
@@ -63,6 +64,7 @@ Inside = Then (Mark 40) (Then IsUnit (Mark 41))
 pub right_follows : (u : Unit {0}) (used rest : List Token) → Mark 41 u used → NoBracket (used ++ rest)
 right_follows u used rest e = no_bracket right_bracket rest (used ++ rest) (ap (λ x. x ++ rest) e) right_left
 
+-- a formula between brackets is a formula
 to_unit : (p : Unit {0} × (Literal × Unit {0})) (used : List Token) → Inside p used → IsUnit p.1.0 used
 to_unit p used (one, others, opens, (two, three, h, closes, f), e) =
     subst (λ x. IsUnit p.1.0 x) (sym (e ∙ ap (λ x. x ++ others) opens ∙ ap (λ x. left_bracket ∷ x) (f ∙ ap (λ x. two ++ x) closes)))

@@ -105,6 +105,7 @@ sound_more_literals (l ∷ ls) ts (first, others, one, all, e) =
     let k = sound_more_literals ls others all in
     ((h.0, k.0), omega (arith, h.1, k.1, ap length e, length-append first others))
 
+-- a disjunction: it has some literal
 sound_disjunction : (ls : List Literal) (ts : List defs.Token) → IsDisjunction ls ts → (ls ≡ [] → ⊥) × (AllByRecursion IsSoundLiteral ls) × (literals_size ls ≤ length ts)
 sound_disjunction [] ts h = absurd h
 sound_disjunction (l ∷ ls) ts (first, others, one, all, e) =

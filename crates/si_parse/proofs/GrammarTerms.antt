@@ -13,7 +13,6 @@ use Rattle.si_defs.specs.declared.Side.{Side}
 use Rattle.si_defs.specs.declared.Side.TheVariants.{Function}
 use Rattle.si_defs.specs.declared.TokenKind.TheVariants as token
 use Rattle.si_parse.specs.Parsing.{Parses, Anything, NoBracket}
-use Rattle.si_parse.specs.Tokens.{IsPlainToken}
 use Rattle.si_parse.specs.GrammarRules.{word_symbol, AreArguments, IsApplied}
 use Rattle.si_parse.proofs.ParseSteps.{parses_none, parses_some, parses_uses, parses_one, parses_never, heads, tails, front_heads, front_tails}
 
@@ -32,6 +31,7 @@ head_lower Number text t word e f = absurd e
 head_lower Distinct text t word e f = absurd e
 head_lower Equal text t word e f = absurd e
 
+-- a lower word as a constant is a word's
 constant_lower : (kind : SymKind) (text : Bytes) (t : Token) (word : Bytes) → IsConstant kind text t → t ≡ lower word → (kind ≡ Word) × (text ≡ word)
 constant_lower Word text t word e f = head_lower Word text t word e f
 constant_lower Dollar text t word e f = cc (ap (λ u. u.kind) (sym e ∙ f))
@@ -49,19 +49,6 @@ head_kind Distinct text t e = absurd e
 head_kind Equal text t e = absurd e
 
 -- ---- terms
--- no term is spelled by nothing
-pub term_empty : Parses IsTerm NoBracket [] None
-term_empty = parses_none (λ m used rest e means follows. never m used rest e means) where
-  nothing : (u : Token) (us used rest : List Token) → [] ≡ used ++ rest → used ≡ u ∷ us → ⊥
-  nothing u us used rest e f = absurd_cons (e ∙ ap (λ x. x ++ rest) f) where
-    absurd_cons : {x : Token} {xs : List Token} → [] ≡ x ∷ xs → ⊥
-    absurd_cons e = cc
-
-  never : (m : Term) (used rest : List Token) → [] ≡ used ++ rest → IsTerm m used → ⊥
-  never (terms.var x) used rest e means = nothing _ _ used rest e means
-  never (terms.app s terms.none) used rest e (side, arity, (t, constant, f)) = nothing _ _ used rest e f
-  never (terms.app s (terms.more u us)) used rest e (side, arity, (t, first, others, head, one, all, f)) = nothing _ _ used rest e f
-
 -- an upper word is a variable
 pub term_upper : (x : Bytes) (rest : List Token) → Parses IsTerm NoBracket (upper x ∷ rest) (Some (terms.var x, rest))
 term_upper x rest = parses_some (terms.var x) (upper x ∷ []) rest refl refl (λ m used behind e means follows. unique m used behind e means) where
@@ -85,43 +72,18 @@ term_upper x rest = parses_some (terms.var x) (upper x ∷ []) rest refl refl (�
   unique (terms.app s (terms.more u us)) used behind e (side, arity, (t, first, others, head, one, all, f)) =
       absurd (other t (head_kind s.kind s.text t head) (front_heads behind e f))
 
--- no term begins with a mark
-pub term_mark : (t : Token) (rest : List Token) → IsPlainToken t → (t.kind ≡ token.Lower → ⊥) → (t.kind ≡ token.Upper → ⊥) → Parses IsTerm NoBracket (t ∷ rest) None
-term_mark t rest plain not_lower not_upper = parses_none (λ m used behind e means follows. never m used behind e means) where
-  is_mark : (t.kind ≡ token.Mark)
-  is_mark = elim plain as (λ _. t.kind ≡ token.Mark) [ inl a ↦ absurd (not_lower a) | inr b ↦ elim b as (λ _. t.kind ≡ token.Mark) [ inl a ↦ absurd (not_upper a) | inr c ↦ c.0 ] ]
-
-  other : (u : Token) → (u.kind ≡ token.Lower) ⊎ ((u.kind ≡ token.Single) ⊎ (u.kind ≡ token.Dollar)) → t ≡ u → ⊥
-  other u (inl k) e = cc (is_mark, ap (λ v. v.kind) e)
-  other u (inr (inl k)) e = cc (is_mark, ap (λ v. v.kind) e)
-  other u (inr (inr k)) e = cc (is_mark, ap (λ v. v.kind) e)
-
-  constant : (kind : SymKind) (text : Bytes) (u : Token) → IsConstant kind text u → t ≡ u → ⊥
-  constant Word text u h e = other u (head_kind Word text u h) e
-  constant Dollar text u h e = other u (head_kind Dollar text u h) e
-  constant Number text u h e = cc (is_mark, ap (λ u. u.kind) (e ∙ h))
-  constant Distinct text u h e = cc (is_mark, ap (λ u. u.kind) (e ∙ h))
-  constant Equal text u h e = absurd h
-
-  variable : (x : Bytes) → t ≡ upper x → ⊥
-  variable x e = cc (is_mark, ap (λ v. v.kind) e)
-
-  never : (m : Term) (used behind : List Token) → t ∷ rest ≡ used ++ behind → IsTerm m used → ⊥
-  never (terms.var x) used behind e means = variable x (front_heads behind e means)
-  never (terms.app s terms.none) used behind e (side, arity, (u, const, f)) = constant s.kind s.text u const (front_heads behind e f)
-  never (terms.app s (terms.more v us)) used behind e (side, arity, (u, first, others, head, one, all, f)) =
-      other u (head_kind s.kind s.text u head) (front_heads behind e f)
-
 -- ---- a lower word with what stands behind it
 -- the arguments as a list and back
 pub row_list : (us : Terms) → terms.row (terms.list us) ≡ us
 row_list terms.none = refl
 row_list (terms.more u us) = ap (λ x. terms.more u x) (row_list us)
 
+-- a list as arguments and back
 pub list_row : (us : List Term) → terms.list (terms.row us) ≡ us
 list_row [] = refl
 list_row (u ∷ us) = ap (λ x. u ∷ x) (list_row us)
 
+-- as many arguments as the list has
 pub count_row : (us : List Term) → terms.count (terms.row us) ≡ length us
 count_row [] = refl
 count_row (u ∷ us) = omega (arith, count_row us)
@@ -181,24 +143,12 @@ term_lower f rest result p = record {
   back (terms.app s (terms.more u us)) used behind e (on_side, with_arity, (t, first, others, head, one, all, g)) =
       applied_more f Function s u us t first others used rest behind e on_side with_arity head one all g
 
--- nothing is behind the head where no bracket opens
-pub applied_alone : (f : Bytes) (side : Side) (rest : List Token) → NoBracket rest
-    → Parses (IsApplied f side) NoBracket rest (Some (terms.app (word_symbol f side 0) terms.none, rest))
-applied_alone f side rest no_bracket = parses_some (terms.app (word_symbol f side 0) terms.none) [] rest refl (refl, refl) (λ m used behind e means follows. unique m used behind e means) where
-  opens : (xs ys : List Token) → NoBracket xs → xs ≡ left_bracket ∷ ys → ⊥
-  opens [] ys h e = cc
-  opens (x ∷ xs) ys h e = h (heads e)
-
-  unique : (m : Term) (used behind : List Token) → rest ≡ used ++ behind → IsApplied f side m used → (terms.app (word_symbol f side 0) terms.none ≡ m) × (rest ≡ behind)
-  unique (terms.var x) used behind e means = absurd means
-  unique (terms.app s terms.none) used behind e (is, g) = (ap (λ x. terms.app x terms.none) (sym is), e ∙ ap (λ x. x ++ behind) g)
-  unique (terms.app s (terms.more u us)) used behind e (is, (inner, all, g)) = absurd (opens rest (inner ++ behind) no_bracket (e ∙ ap (λ x. x ++ behind) g))
-
 -- a bracket does not follow where none may
 opens : (xs ys : List Token) → NoBracket xs → xs ≡ left_bracket ∷ ys → ⊥
 opens [] ys h e = cc
 opens (x ∷ xs) ys h e = h (heads e)
 
+-- equal arguments make equal terms
 same_applied : (f : Bytes) (side : Side) (args : List Term) (s : Symbol) (u : Term) (us : Terms) → s ≡ word_symbol f side (1 + terms.count us) → args ≡ u ∷ terms.list us
     → terms.app (word_symbol f side (length args)) (terms.row args) ≡ terms.app s (terms.more u us)
 same_applied f side args s u us is same =
@@ -244,12 +194,6 @@ pub record Along (tokens : List Token) (done : List Term) (left : List Token) : 
   pub every : (args : List Term) (used rest : List Token) → tokens ≡ used ++ rest → AreArguments args used
       → (others : List Term) × (behind : List Token) × (args ≡ done ++ others) × (left ≡ behind ++ rest) × AreArguments others behind
 
-pub along_start : (tokens : List Token) → Along tokens [] tokens
-along_start tokens = record {
-  found = λ args used rest e h. (used, e, h);
-  every = λ args used rest e h. (args, used, refl, e, h);
-}
-
 -- arguments behind what is left are arguments of the whole
 pub along_some : {tokens left rest : List Token} {done : List Term} (args : List Term) → Along tokens done left → Parses AreArguments Anything left (Some (args, rest))
     → Parses AreArguments Anything tokens (Some (done ++ args, rest))
@@ -261,6 +205,7 @@ along_some {rest = rest} {done = done} args along p =
     let same = parses_one p o.0 o.1 behind o.3 o.4 tt in
     (ap (λ x. done ++ x) same.0 ∙ sym o.2, same.1))
 
+-- no arguments behind what is left, none of the whole
 pub along_none : {tokens left : List Token} {done : List Term} → Along tokens done left → Parses AreArguments Anything left None → Parses AreArguments Anything tokens None
 along_none along p = parses_none (λ other front behind e means follows.
     let o = along.every other front behind e means in parses_never p o.0 o.1 behind o.3 o.4 tt)
@@ -279,6 +224,7 @@ record First (u : Term) (us : List Term) (left rest : List Token) : Type 0 where
   all : AreMoreTerms (terms.row us) others
   front : left ≡ first ++ ((others ++ right_bracket ∷ []) ++ rest)
 
+-- some arguments begin with their first
 first_of : (u : Term) (us : List Term) (used left rest : List Token) → left ≡ used ++ rest → AreArguments (u ∷ us) used → First u us left rest
 first_of u us used left rest e (first, others, one, all, f) = record {
   first = first;
@@ -292,9 +238,11 @@ first_of u us used left rest e (first, others, one, all, f) = record {
 pub right_comma : right_bracket ≡ comma → ⊥
 right_comma e = absurd (omega (arith, heads (ap (λ (t : Token). t.text) e)))
 
+-- a closing bracket is no opening one
 pub right_left : right_bracket ≡ left_bracket → ⊥
 right_left e = absurd (omega (arith, heads (ap (λ (t : Token). t.text) e)))
 
+-- a comma is no opening bracket
 pub comma_left : comma ≡ left_bracket → ⊥
 comma_left e = absurd (omega (arith, heads (ap (λ (t : Token). t.text) e)))
 
@@ -319,11 +267,13 @@ data Next (us : List Term) (behind rest : List Token) : Type 0 where
   closes : us ≡ [] → behind ≡ right_bracket ∷ rest → Next us behind rest
   goes_on : (used : List Token) → behind ≡ comma ∷ (used ++ rest) → AreArguments us used → Next us behind rest
 
+-- by the tokens behind the first argument
 next_is : (us : List Term) (behind others rest : List Token) → AreMoreTerms (terms.row us) others → behind ≡ (others ++ right_bracket ∷ []) ++ rest → Next us behind rest
 next_is [] behind others rest e f = closes refl (f ∙ ap (λ x. (x ++ right_bracket ∷ []) ++ rest) e)
 next_is (u ∷ us) behind others rest (first, more, one, all, e) f =
     goes_on ((first ++ more) ++ right_bracket ∷ []) (f ∙ ap (λ x. (x ++ right_bracket ∷ []) ++ rest) e) (first, more, one, all, refl)
 
+-- some arguments begin with the one that was read
 next_of : {left behind : List Token} {t : Term} → Parses IsTerm NoBracket left (Some (t, behind)) → (args : List Term) (used rest : List Token) → left ≡ used ++ rest → AreArguments args used
     → (us : List Term) × (args ≡ t ∷ us) × Next us behind rest
 next_of p [] used rest e h = absurd h
@@ -401,6 +351,7 @@ more_few [] ts h = omega arith
 more_few (u ∷ us) ts (first, others, one, all, e) =
     omega (arith, more_few us others all, ap length e, length-append (comma ∷ first) others)
 
+-- nor than tokens that they are read from
 pub arguments_few : {tokens rest : List Token} (args : List Term) → Parses AreArguments Anything tokens (Some (args, rest)) → length args ≤ length tokens
 arguments_few {tokens = tokens} {rest = rest} args p = few args (parses_uses args rest p) where
   few : (args : List Term) → (used : List Token) × (tokens ≡ used ++ rest) × AreArguments args used → length args ≤ length tokens

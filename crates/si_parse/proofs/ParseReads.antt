@@ -3,7 +3,7 @@ use Rattle.std.proofs.Common.{◌≡◌, ◌≢◌, ℕ, suc, add-one, drop-cons
 use Rattle.std.specs.List.{AllByRecursion}
 use Rattle.std.proofs.lemmas.List.{take_all, take_more, take_rest, take-append-drop, length-take-le, length-append, length-map}
 use Rattle.si_defs.specs.Tokens as defs
-use Rattle.si_parse.specs.Parsing.{Parses, Passes, Reads, Anything}
+use Rattle.si_parse.specs.Parsing.{Parses, Reads, Anything}
 use Rattle.si_parse.specs.Tokens.{token_of, tokens_of, ArePlain, IsPlainToken}
 use Rattle.si_parse.specs.declared.token.Token.{Token}
 
@@ -21,12 +21,6 @@ pub no_token : (ts : List Token) → length ts < 1 → tokens_of ts ≡ []
 no_token [] h = refl
 no_token (t ∷ ts) h = absurd (omega arith)
 
--- the first of plain tokens is plain
-pub plain_first : (ts : List Token) (t : Token) → 1 ≤ length ts → t ≡ get_or ts 0 t → ArePlain ts → IsPlainToken (token_of t)
-plain_first ts t h e plain = front (split_first ts t h e) where
-  front : {rest : List Token} → ts ≡ t ∷ rest → IsPlainToken (token_of t)
-  front {rest = rest} f = (subst ArePlain f plain).0
-
 -- and so are the others
 pub plain_others : (ts : List Token) → ArePlain ts → ArePlain (take (length ts - 1) (drop 1 ts))
 plain_others [] h = tt
@@ -42,6 +36,7 @@ pub plain_tokens : (ts : List Token) → ArePlain ts → AllByRecursion IsPlainT
 plain_tokens [] h = tt
 plain_tokens (t ∷ ts) h = (h.0, plain_tokens ts h.1)
 
+-- and the other way round
 plain_back : (ts : List Token) → AllByRecursion IsPlainToken (tokens_of ts) → ArePlain ts
 plain_back [] h = tt
 plain_back (t ∷ ts) h = (h.0, plain_back ts h.1)
@@ -51,6 +46,7 @@ pub plain_front : (ts us : List defs.Token) → AllByRecursion IsPlainToken (ts 
 plain_front [] us h = tt
 plain_front (t ∷ ts) us h = (h.0, plain_front ts us h.1)
 
+-- and so is the rest
 pub plain_rest : (ts us : List defs.Token) → AllByRecursion IsPlainToken (ts ++ us) → AllByRecursion IsPlainToken us
 plain_rest [] us h = h
 plain_rest (t ∷ ts) us h = plain_rest ts us h.1
@@ -80,26 +76,6 @@ module _ {X M : Type 0} (view : X → M) {Means : M → List defs.Token → Type
       let h = (reads_some p e).found (view x) (tokens_of behind.now) refl in
       omega (arith, ap length h.1 ∙ length-append h.0 (tokens_of behind.now), length-map tokens token_of, length-map behind.now token_of)
 
-module _ {Spelled : List defs.Token → Type 0} (tokens : List Token) where
-  -- the same of a reader that only gives what is left
-  pub passes_some : {result : Option (Bor (List Token))} {behind : Bor (List Token)} → Passes Spelled tokens result → result ≡ Some behind
-      → Parses (λ (u : Unit {0}) used. Spelled used) Anything (tokens_of tokens) (Some (tt {0}, tokens_of behind.now))
-  passes_some p e = subst (λ r. Passes Spelled tokens r) e p
-
-  pub passes_none : {result : Option (Bor (List Token))} → Passes Spelled tokens result → result ≡ None
-      → Parses (λ (u : Unit {0}) used. Spelled used) Anything (tokens_of tokens) None
-  passes_none p e = subst (λ r. Passes Spelled tokens r) e p
-
-  pub passes_plain : {result : Option (Bor (List Token))} {behind : Bor (List Token)} → ArePlain tokens → Passes Spelled tokens result → result ≡ Some behind → ArePlain behind.now
-  passes_plain {behind = behind} plain p e =
-      let h = (passes_some p e).found tt (tokens_of behind.now) refl in
-      plain_back behind.now (plain_rest h.0 (tokens_of behind.now) (subst (λ ts. AllByRecursion IsPlainToken ts) h.1 (plain_tokens tokens plain)))
-
-  pub passes_shorter : {result : Option (Bor (List Token))} {behind : Bor (List Token)} → Passes Spelled tokens result → result ≡ Some behind → length behind.now ≤ length tokens
-  passes_shorter {behind = behind} p e =
-      let h = (passes_some p e).found tt (tokens_of behind.now) refl in
-      omega (arith, ap length h.1 ∙ length-append h.0 (tokens_of behind.now), length-map tokens token_of, length-map behind.now token_of)
-
 module _ {M : Type 0} {m : M} {Means : M → List defs.Token → Type 0} {Follows : List defs.Token → Type 0} (tokens behind : List Token)
     (p : Parses Means Follows (tokens_of tokens) (Some (m, tokens_of behind))) where
   -- what is left of plain tokens is plain
@@ -107,12 +83,6 @@ module _ {M : Type 0} {m : M} {Means : M → List defs.Token → Type 0} {Follow
   parsed_plain plain =
       let h = p.found m (tokens_of behind) refl in
       plain_back behind (plain_rest h.0 (tokens_of behind) (subst (λ ts. AllByRecursion IsPlainToken ts) h.1 (plain_tokens tokens plain)))
-
-  -- and no longer than they are
-  pub parsed_shorter : length behind ≤ length tokens
-  parsed_shorter =
-      let h = p.found m (tokens_of behind) refl in
-      omega (arith, ap length h.1 ∙ length-append h.0 (tokens_of behind), length-map tokens token_of, length-map behind token_of)
 
 -- what stands behind a mark
 pub mark_front : {c : ℕ} {ts rest : List defs.Token} → Parses (λ (u : Unit {0}) used. used ≡ defs.mark c ∷ []) Anything ts (Some (tt {0}, rest)) → ts ≡ defs.mark c ∷ rest
@@ -155,3 +125,8 @@ plain_at ts n t h e plain =
 -- tokens before a place that is not the first
 pub some_before : (ts : List Token) (n : ℕ) → n < length ts → (n ≡ 0 → ⊥) → tokens_of (take n ts) ≢ []
 some_before ts n h some e = some (omega (arith, ap length e, length-map (take n ts) token_of, length-take-le n ts (omega arith)))
+
+-- plain tokens and one more
+pub plain_push : (ts : List Token) (t : Token) → ArePlain ts → IsPlainToken (token_of t) → ArePlain (ts ++ t ∷ [])
+plain_push [] t h k = (k, tt)
+plain_push (u ∷ us) t h k = (h.0, plain_push us t h.1 k)

@@ -3,18 +3,23 @@ use Rattle.std.proofs.Common.{◌≡◌, List, ◌∷◌, ◌++◌, Option, Some
 use Rattle.si_defs.specs.Tokens.{Token}
 use Rattle.si_parse.specs.Parsing.{Parses}
 
+-- nothing is not something
 none_is_some : {A : Type 0} {x : A} → None ≡ Some x → ⊥
 none_is_some e = cc
 
+-- equal results hold equal pairs
 same_pair : {A B : Type 0} {p q : A × B} → Some p ≡ Some q → p ≡ q
 same_pair e = cc
 
+-- of equal meanings
 same_meaning : {A : Type 0} {x y : A} {xs ys : List Token} → ◌≡◌ {A = Option (A × List Token)} (Some (x, xs)) (Some (y, ys)) → x ≡ y
 same_meaning e = ap (λ p. p.0) (same_pair e)
 
+-- and equal rests
 same_rest : {A : Type 0} {x y : A} {xs ys : List Token} → ◌≡◌ {A = Option (A × List Token)} (Some (x, xs)) (Some (y, ys)) → xs ≡ ys
 same_rest e = ap (λ p. p.1) (same_pair e)
 
+-- equal meanings and rests make equal results
 same_result : {A : Type 0} {x y : A} {xs ys : List Token} → x ≡ y → xs ≡ ys → ◌≡◌ {A = Option (A × List Token)} (Some (x, xs)) (Some (y, ys))
 same_result e f = cc
 
@@ -59,6 +64,7 @@ parses_never p m used rest e means follows = none_is_some (p.every m used rest e
 pub heads : {A : Type 0} {x y : A} {xs ys : List A} → x ∷ xs ≡ y ∷ ys → x ≡ y
 heads e = cc
 
+-- equal lists have equal tails
 pub tails : {A : Type 0} {x y : A} {xs ys : List A} → x ∷ xs ≡ y ∷ ys → xs ≡ ys
 tails e = cc
 

@@ -19,6 +19,9 @@ use si_defs::{NameKind, Side, SymKind, TokenKind};
 use si_term::{Clause, Literal, Literals, Name, Sym, Term, Terms, Text};
 use std::alloc::{AllocError, Global};
 
+#[cfg(test)]
+mod tests;
+
 /// What was read at the front of some tokens, and the tokens behind it. Nothing where the tokens begin with no such thing.
 pub type Found<'t, T> = Option<(T, &'t [Token])>;
 

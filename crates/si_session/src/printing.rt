@@ -229,3 +229,6 @@ fn put_dotted<K: Sink>(sink: &mut K, numbers: &[u32]) -> Result<(), Failed>
     }
     Ok(())
 }
+
+#[cfg(test)]
+mod tests;

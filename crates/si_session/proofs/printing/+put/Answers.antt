@@ -1,10 +1,10 @@
-use Rattle.std.proofs.Common.{◌≡◌, ℕ, ◌+◌, ◌-◌, ◌*◌, ◌<◌, ◌≤◌, ◌++◌, [], length, get_or, take, drop, map, ap, sym, refl, ◌∙◌, append-nil, arith, rules}
+use Rattle.std.proofs.Common.{◌≡◌, ◌+◌, ◌-◌, ◌<◌, ◌++◌, [], length, take, drop, map, ap, sym, refl, ◌∙◌, append-nil, arith, rules}
 use Rattle.std.specs.Prelude.{codes}
 use Rattle.si_defs.specs.Bytes.{Bytes}
-use Rattle.si_defs.specs.Terms.{row, size, sizes}
+use Rattle.si_defs.specs.Terms.{row, size}
 use Rattle.si_defs.specs.Printing.{symbol_text, term_text, more_texts}
 use Rattle.si_term.specs.Terms.{symbol_of, term_of}
-use Rattle.si_term.proofs.Rows.{from, from-read, size-at, size-read, app-term}
+use Rattle.si_term.proofs.Rows.{from, size-read, app-term}
 use Rattle.si_session.specs.PrintedParts.{arguments_text}
 use Rattle.si_session.proofs.Pieces.{wrote_none, wrote_piece, wrote_part, wrote_all, on_err, err_so, ok_so, app_text, some_arguments, some_more, arguments_split, more_split, sizes_tail}
 use Rattle.si_session.proofs.printing.+put.Goals as goal

@@ -12,9 +12,9 @@ returns-in_err-put_number-clause-part g c =
     let piece = codes "." ++ decimal c.from.result in
     let left = dotted (drop (i + 1) ns) in
     let split : dotted (drop i ns) ≡ piece ++ left =
-        ap dotted (drop-cons ns i 0 c.loop-i-test.true)
-        ∙ ap (λ k. (codes "." ++ decimal (get_or ns i 0)) ++ dotted (drop k ns)) (sym (add-one i))
-        ∙ ap (λ n. (codes "." ++ decimal n) ++ left) read in
+    ap dotted (drop-cons ns i 0 c.loop-i-test.true)
+    ∙ ap (λ k. (codes "." ++ decimal (get_or ns i 0)) ++ dotted (drop k ns)) (sym (add-one i))
+    ∙ ap (λ n. (codes "." ++ decimal n) ++ left) read in
     on_err c.from_residual.result (wrote_part _ _ (g.K.Sink.written c.put_number.new.sink) (dotted ns) (dotted (drop i ns)) piece left split c.loop-i.invariant.wrote c.in_err-put_number.ensures.part)
 
 pub loop-i-preserved : goal.loop-i-preserved
@@ -25,9 +25,9 @@ loop-i-preserved g c =
     let piece = codes "." ++ decimal c.from.result in
     let left = dotted (drop (i + 1) ns) in
     let split : dotted (drop i ns) ≡ piece ++ left =
-        ap dotted (drop-cons ns i 0 c.loop-i-test.true)
-        ∙ ap (λ k. (codes "." ++ decimal (get_or ns i 0)) ++ dotted (drop k ns)) (sym (add-one i))
-        ∙ ap (λ n. (codes "." ++ decimal n) ++ left) read in
+    ap dotted (drop-cons ns i 0 c.loop-i-test.true)
+    ∙ ap (λ k. (codes "." ++ decimal (get_or ns i 0)) ++ dotted (drop k ns)) (sym (add-one i))
+    ∙ ap (λ n. (codes "." ++ decimal n) ++ left) read in
     record {
       wrote = wrote_piece _ _ (g.K.Sink.written c.put_number.new.sink) (dotted ns) (dotted (drop i ns)) piece left split c.loop-i.invariant.wrote c.in_ok-put_number.ensures.all;
       later = omega (arith, c.loop-i.invariant.later, c.put_number.ensures.cause.later);

@@ -15,7 +15,7 @@ returns-in_err-put_number-clause-part g c =
     let piece = codes ":" ++ decimal c.from.result in
     let rest = take (length ns - 1) (drop 1 ns) in
     let split : path_text ns ≡ piece ++ dotted rest =
-        path_split ns some ∙ ap (λ n. (codes ":" ++ decimal n) ++ dotted (drop 1 ns)) read ∙ ap (λ l. piece ++ dotted l) (sym (tail_is ns)) in
+    path_split ns some ∙ ap (λ n. (codes ":" ++ decimal n) ++ dotted (drop 1 ns)) read ∙ ap (λ l. piece ++ dotted l) (sym (tail_is ns)) in
     on_err c.from_residual.result (wrote_part old old mid (path_text ns) (path_text ns) piece (dotted rest) split (wrote_none old (path_text ns)) c.in_err-put_number.ensures.part)
 
 pub returns-clause-all : goal.returns-clause-all
@@ -28,7 +28,7 @@ returns-clause-all g c =
     let piece = codes ":" ++ decimal c.from.result in
     let rest = take (length ns - 1) (drop 1 ns) in
     let split : path_text ns ≡ piece ++ dotted rest =
-        path_split ns some ∙ ap (λ n. (codes ":" ++ decimal n) ++ dotted (drop 1 ns)) read ∙ ap (λ l. piece ++ dotted l) (sym (tail_is ns)) in
+    path_split ns some ∙ ap (λ n. (codes ":" ++ decimal n) ++ dotted (drop 1 ns)) read ∙ ap (λ l. piece ++ dotted l) (sym (tail_is ns)) in
     let last = g.K.Sink.written c.put_dotted.new.sink in
     let first = wrote_piece old old mid (path_text ns) (path_text ns) piece (dotted rest) split (wrote_none old (path_text ns)) c.in_ok-put_number.ensures.all in
     ok_so c.put_dotted.result (λ h. wrote_all old last (path_text ns) [] refl (wrote_piece old mid last (path_text ns) (dotted rest) (dotted rest) [] (sym (append-nil (dotted rest))) first h)) c.put_dotted.ensures.all
@@ -43,7 +43,7 @@ returns-clause-part g c =
     let piece = codes ":" ++ decimal c.from.result in
     let rest = take (length ns - 1) (drop 1 ns) in
     let split : path_text ns ≡ piece ++ dotted rest =
-        path_split ns some ∙ ap (λ n. (codes ":" ++ decimal n) ++ dotted (drop 1 ns)) read ∙ ap (λ l. piece ++ dotted l) (sym (tail_is ns)) in
+    path_split ns some ∙ ap (λ n. (codes ":" ++ decimal n) ++ dotted (drop 1 ns)) read ∙ ap (λ l. piece ++ dotted l) (sym (tail_is ns)) in
     let last = g.K.Sink.written c.put_dotted.new.sink in
     let first = wrote_piece old old mid (path_text ns) (path_text ns) piece (dotted rest) split (wrote_none old (path_text ns)) c.in_ok-put_number.ensures.all in
     err_so c.put_dotted.result (wrote_part old mid last (path_text ns) (dotted rest) (dotted rest) [] (sym (append-nil (dotted rest))) first) c.put_dotted.ensures.part

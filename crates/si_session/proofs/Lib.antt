@@ -11,3 +11,4 @@ pub mod Pieces
 pub mod SolutionTexts
 pub mod Told
 pub mod ScanLaws
+pub mod StoreLaws

@@ -11,3 +11,4 @@ pub mod PrintedParts
 pub mod Scan
 pub mod StoreKeys
 pub mod Store
+pub mod Replies

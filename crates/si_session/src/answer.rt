@@ -146,7 +146,7 @@ fn answer_clause<'a, K: Sink>(
 }
 
 /// Writes the lines of the entries of clauses that are instances of a pattern.
-fn answer_clauses<'a, K: Sink>(
+pub fn answer_clauses<'a, K: Sink>(
     pattern: &'a Pattern,
     clauses: &'a [Clause],
     scratch: &mut Scratch<'a>,
@@ -163,32 +163,4 @@ fn answer_clauses<'a, K: Sink>(
         answer_clause(pattern, &clauses[i], scratch, sink)?;
     }
     Ok(())
-}
-
-/// Writes the last line, the number of hits.
-fn put_end<K: Sink>(sink: &mut K, found: u64) -> Result<(), Broken>
-    ensures told { Tells result (end_line found ∷ []) (K.written sink.old) (K.written sink.new) }
-    ensures cause { Blames result (K.faults sink.old) (K.faults sink.new) }
-{
-    put_number(sink, b"end ", found)?;
-    put_sign(sink, Sign::LineFeed)?;
-    Ok(())
-}
-
-/// Writes the answer of `instances` to a pattern: a line for each entry of the clauses that is an instance of it, in
-/// order, and then the number of these lines.
-pub fn put_answer<K: Sink>(
-    alloc: Global,
-    clauses: &[Clause],
-    pattern: &Pattern,
-    sink: &mut K,
-) -> Result<(), Broken>
-    requires fits { length (state_entries (map clause_of clauses.now)) < 2 ^ 64 }
-    requires sound { AllByRecursion IsSoundClause (map clause_of clauses.now) }
-    ensures told { Tells result (answer_reply (hits (pattern_of pattern.now) (state_entries (map clause_of clauses.now)))) (K.written sink.old) (K.written sink.new) }
-    ensures cause { Blames result (K.faults sink.old) (K.faults sink.new) }
-{
-    let mut scratch = Scratch::new(alloc);
-    answer_clauses(pattern, clauses, &mut scratch, sink)?;
-    put_end(sink, scratch.found)
 }

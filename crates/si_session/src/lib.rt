@@ -8,6 +8,7 @@ mod limits;
 mod matching;
 mod printing;
 mod scan;
+mod reply;
 mod session;
 mod sign;
 mod solution;

@@ -96,12 +96,16 @@ impl Store {
         let Some(entries) = self.entries.checked_add(u64::from(gained)) else {
             return Err(Rejected::Memory);
         };
-        if self.clauses.push(clause).is_err() {
-            return Err(Rejected::Memory);
+        match self.clauses.push(clause) {
+            Ok(()) => {}
+            Err(_) => return Err(Rejected::Memory),
         }
-        if self.names.insert(key).is_err() {
-            self.clauses.pop();
-            return Err(Rejected::Memory);
+        match self.names.insert(key) {
+            Ok(_) => {}
+            Err(_) => {
+                self.clauses.pop();
+                return Err(Rejected::Memory);
+            }
         }
         self.entries = entries;
         Ok(gained)

@@ -36,25 +36,27 @@ fn term(alloc: Global) -> Result<Term, AllocError> {
     Ok(Term::App(symbol, arguments))
 }
 
+/// Writes the term as a pattern's and the place, with a space between them.
+fn put_both<K: Sink>(sink: &mut K, term: &Term, name: &Name, path: &[u32]) -> Result<(), Failed> {
+    put_term(sink, term, b"?")?;
+    put_bytes(sink, b" ")?;
+    put_place(sink, name, 10, path)
+}
+
 #[test]
 fn texts_are_spelled_as_tptp_spells_them(rt: HostRuntime) -> Result<(), Fail> {
     let alloc = rt.alloc();
     let mut sink = MemorySink::new(alloc, 200, 3, Vec::new(alloc))?;
-    let cat = name(alloc, NameKind::Word, b"cat_1")?;
     let quoted = name(alloc, NameKind::Word, b"It's")?;
+    put_both(&mut sink, &term(alloc)?, &quoted, &[2, 1, 30])?;
     let number = name(alloc, NameKind::Int, b"12")?;
-    let term = term(alloc)?;
-    put_term(&mut sink, &term, b"?")?;
-    put_bytes(&mut sink, b" ")?;
-    put_term(&mut sink, &term, b"")?;
-    put_bytes(&mut sink, b" ")?;
-    put_place(&mut sink, &cat, 1, &[])?;
-    put_bytes(&mut sink, b" ")?;
-    put_place(&mut sink, &quoted, 10, &[2])?;
-    put_bytes(&mut sink, b" ")?;
-    put_place(&mut sink, &number, 3, &[2, 1, 30])?;
-    let want =
-        b"f(?X,'A b',\"q\\\"\\\\\") f(X,'A b',\"q\\\"\\\\\") cat_1:1 'It\\'s':10:2 12:3:2.1.30";
+    put_both(
+        &mut sink,
+        &constant(alloc, SymKind::Word, b"c_1")?,
+        &number,
+        &[],
+    )?;
+    let want = b"f(?X,'A b',\"q\\\"\\\\\") 'It\\'s':10:2.1.30c_1 12:10";
     assert_eq!(rt; sink.bytes(), want.as_slice());
     Ok(())
 }

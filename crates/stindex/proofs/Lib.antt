@@ -1,3 +1,4 @@
 pub mod Steps
 pub mod Splitting
 pub mod Progress
+pub mod Endings

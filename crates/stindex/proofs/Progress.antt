@@ -16,7 +16,7 @@ use Rattle.stindex.proofs.Steps.{shown_step}
 use Rattle.std.specs.Prelude.{◌==◌, Some, None}
 use Rattle.std.specs.List.{position}
 use Rattle.std.proofs.Common.{drop}
-use Rattle.stindex.proofs.Splitting.{line_end, line_without_end, Splits_more, Splits_line, Splits_any, lines_at_end-none, lines_at_end-some, Run_more}
+use Rattle.stindex.proofs.Splitting.{Splits_none, line_end, line_without_end, Splits_more, Splits_line, Splits_any, lines_at_end-none, lines_at_end-some, Run_more}
 
 -- ---- what is held
 shown-nil : (limits : Limits) → shown limits [] ≡ []
@@ -34,7 +34,7 @@ Progress_start limits before = record {
   lines = [];
   rest = [];
   output = [];
-  splits = record { whole = refl; each = tt; last = refl };
+  splits = Splits_none;
   holds = sym (shown-nil limits);
   run = (refl, refl);
   written = sym (append_told-nil before);

@@ -24,6 +24,10 @@ each-append (l ∷ ls) k each one = (each.0, each-append ls k each.1 one)
 pub IsOneLine-append : (a b : Bytes) → IsOneLine a → IsOneLine b → IsOneLine (a ++ b)
 IsOneLine-append a b one two = rw (list_any-append, one, two) refl
 
+-- no bytes have no lines
+pub Splits_none : Splits [] [] []
+Splits_none = record { whole = refl; each = tt; last = refl }
+
 -- bytes without a line feed belong to the line that was begun
 pub Splits_more : (bytes : Bytes) (lines : List Bytes) (rest more : Bytes) → Splits bytes lines rest → IsOneLine more → Splits (bytes ++ more) lines (rest ++ more)
 Splits_more bytes lines rest more s one = record {

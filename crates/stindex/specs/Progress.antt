@@ -4,7 +4,7 @@ use Rattle.si_defs.specs.Bytes.{Bytes}
 use Rattle.si_defs.specs.Clauses.{Clause}
 use Rattle.si_defs.specs.Steps.{Limits, Reply, Step}
 use Rattle.si_defs.specs.Runs.{ended, Splits, lines_at_end, Run}
-use Rattle.si_io.specs.Content.{Appends, AppendsPrefix}
+use Rattle.si_io.specs.Content.{Appends, AppendsPrefix, Takes}
 use Rattle.si_session.specs.Session.{State}
 use Rattle.stindex.specs.Serve.{WritesAll, WritesPart}
 
@@ -81,3 +81,10 @@ Closes limits clauses held now after =
 abbrev pub Cuts : Limits → (clauses : List Clause) (held : Bytes) (now after : Option Bytes) → Type 0
 Cuts limits clauses held now after =
     (before : Option Bytes) (taken : Bytes) → Progress limits before taken clauses held now → Cut limits before taken after
+
+-- So many bytes were taken from the source so far, and this is the progress over them.
+pub record Stands (limits : Limits) (count : ℕ) (left now before : Option Bytes) (clauses : List Clause) (held : Bytes) (after : Option Bytes) : Type 0 where
+  pub taken : Bytes
+  pub size : length taken ≡ count
+  pub takes : Takes left taken now
+  pub progress : Progress limits before taken clauses held after

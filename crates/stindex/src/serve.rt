@@ -4,11 +4,86 @@ ghost use Rattle.si_defs.specs.Steps.{AllowsLimits};
 ghost use Rattle.si_io.specs.Faults.{HasCause, Rose};
 ghost use Rattle.si_session.specs.Limits.{limits_of};
 ghost use Rattle.stindex.specs.Lines.{held_of, limit_of};
+ghost use Rattle.stindex.specs.Serve.{Serves, IsFaultless};
+ghost use Rattle.stindex.specs.declared.status.Status.TheVariants.{SourceFault, SinkFault};
 ghost use Rattle.stindex.specs.Progress.{Acts, Breaks, Advances, Fails, Closes, Cuts};
 
 use crate::lines::{Pending, line_feed};
-use si_io::{Failed, Sink};
-use si_session::{Session, Stepped};
+use crate::status::Status;
+use si_io::{Failed, Sink, Source};
+use si_session::{Limits, Session, Stepped};
+use std::alloc::Global;
+
+/// Bytes that one call reads at most.
+const CHUNK: usize = 4096;
+
+/// Reads the input to its end, line by line, and writes the reply to each.
+///
+/// After as many bytes as a session may have it reads no more. All memory of its own is taken before the first read.
+pub fn serve<S: Source, K: Sink>(
+    alloc: Global,
+    limits: &Limits,
+    source: &mut S,
+    sink: &mut K,
+) -> Status
+    requires { AllowsLimits (limits_of limits.now) }
+    ensures serves { Serves (limits_of limits.now) result (S.left source.old) (S.left source.new) (K.written sink.old) (K.written sink.new) }
+    ensures source_later { S.faults source.old ≤ S.faults source.new }
+    ensures sink_later { K.faults sink.old ≤ K.faults sink.new }
+    ensures source_fault { result ≡ SourceFault → Rose (S.faults source.old) (S.faults source.new) }
+    ensures sink_fault { result ≡ SinkFault → Rose (K.faults sink.old) (K.faults sink.new) }
+    ensures faultless { (Rose (S.faults source.old) (S.faults source.new) → ⊥) → (Rose (K.faults sink.old) (K.faults sink.new) → ⊥) → IsFaultless result }
+{
+    let Ok(session) = Session::new(alloc, limits) else {
+        return Status::Memory;
+    };
+    let Ok(pending) = Pending::new(alloc, limits.line) else {
+        return Status::Memory;
+    };
+    run(limits, session, pending, source, sink)
+}
+
+/// Reads the input from a session without clauses on.
+fn run<S: Source, K: Sink>(
+    limits: &Limits,
+    session: Session,
+    pending: Pending,
+    source: &mut S,
+    sink: &mut K,
+) -> Status
+    requires allows { AllowsLimits (limits_of limits.now) }
+    requires start { session ≡ record { clauses = []; limits = limits_of limits.now } }
+    requires held { held_of pending ≡ [] }
+    requires limit { limit_of pending ≡ limits.now.line }
+    ensures serves { Serves (limits_of limits.now) result (S.left source.old) (S.left source.new) (K.written sink.old) (K.written sink.new) }
+    ensures source_later { S.faults source.old ≤ S.faults source.new }
+    ensures sink_later { K.faults sink.old ≤ K.faults sink.new }
+    ensures source_fault { result ≡ SourceFault → Rose (S.faults source.old) (S.faults source.new) }
+    ensures sink_fault { result ≡ SinkFault → Rose (K.faults sink.old) (K.faults sink.new) }
+{
+    let mut session = session;
+    let mut pending = pending;
+    let mut chunk = [0; CHUNK];
+    let mut taken = 0;
+    while taken < limits.session {
+        let room = (limits.session - taken).min(CHUNK as u64) as usize;
+        let count = match source.read(&mut chunk[..room]) {
+            Ok(count) => count,
+            Err(_) => return Status::SourceFault,
+        };
+        if count == 0 {
+            match close(&mut session, &mut pending, sink) {
+                Ok(()) => return Status::Ended,
+                Err(_) => return Status::SinkFault,
+            }
+        }
+        match feed(&mut session, &mut pending, &chunk[..count], sink) {
+            Ok(()) => taken += count as u64,
+            Err(_) => return Status::SinkFault,
+        }
+    }
+    Status::SessionLimit
+}
 
 /// Acts on the line that was begun, which ends here.
 fn act<K: Sink>(

@@ -76,7 +76,7 @@ pub Serves_sink : (limits lims : Limits) (n m : ℕ) (bytes fed : Bytes) (left n
     → Fails lims fed clauses held x after → Serves limits SinkFault left next before after
 Serves_sink limits lims n m bytes fed left now next before clauses held x after s same takes size within is fails =
     let all : Fails limits bytes clauses held x after =
-        subst (λ (b : Bytes). Fails limits b clauses held x after) is (subst (λ (l : Limits). Fails l fed clauses held x after) same fails) in
+    subst (λ (b : Bytes). Fails limits b clauses held x after) is (subst (λ (l : Limits). Fails l fed clauses held x after) same fails) in
     let failed = all before s.taken s.progress in
     record {
       taken = s.taken ++ bytes;

@@ -53,9 +53,12 @@ falls_by : (c : ℕ) (cs bytes : Bytes) (lines : List Bytes) (rest : Bytes) (b :
     → ((front : Bytes) (ls : List Bytes) (r : Bytes) → Splits front ls r → Falls (front ++ cs) ls) → Falls (bytes ++ c ∷ cs) lines
 falls_by c cs bytes lines rest true e s next =
     let is : c ≡ 10 = grind (arith, nat_tests) in
-    let more = next (bytes ++ 10 ∷ []) (lines ++ rest ∷ []) [] (Splits_line bytes lines rest s) in
-    (rest ∷ more.0, more.1, subst (λ (b : Bytes). Splits b (lines ++ rest ∷ more.0) more.1) (append_assoc bytes (10 ∷ []) cs ∙ ap (λ (d : ℕ). bytes ++ d ∷ cs) (sym is))
-        (subst (λ (ls : List Bytes). Splits ((bytes ++ 10 ∷ []) ++ cs) ls more.1) (append_assoc lines (rest ∷ []) more.0) more.2))
+    let more = next (bytes ++ 10 ∷ []) (lines ++ rest ∷ []) [] (Splits_line bytes lines rest s) in (
+      rest ∷ more.0,
+      more.1,
+      subst (λ (b : Bytes). Splits b (lines ++ rest ∷ more.0) more.1) (append_assoc bytes (10 ∷ []) cs ∙ ap (λ (d : ℕ). bytes ++ d ∷ cs) (sym is))
+          (subst (λ (ls : List Bytes). Splits ((bytes ++ 10 ∷ []) ++ cs) ls more.1) (append_assoc lines (rest ∷ []) more.0) more.2),
+    )
 falls_by c cs bytes lines rest false e s next =
     let more = next (bytes ++ c ∷ []) lines (rest ++ c ∷ []) (Splits_more bytes lines rest (c ∷ []) s (rw e refl)) in
     (more.0, more.1, subst (λ (b : Bytes). Splits b (lines ++ more.0) more.1) (append_assoc bytes (c ∷ []) cs) more.2)
@@ -112,9 +115,19 @@ lines_at_end-some lines (c ∷ cs) some = refl
 -- a run goes on by one line
 pub Run_more : (limits : Limits) (old mid new : List Clause) (lines : List Bytes) (line output : Bytes) (reply : Reply)
     → Run limits old lines output mid → Step limits mid line reply new → Run limits old (lines ++ line ∷ []) (output ++ ended reply) new
-Run_more limits old mid new [] line output reply run step =
-    (reply, new, [], subst (λ (s : List Clause). Step limits s line reply new) run.1 step, (refl, refl),
-        ap (λ (b : Bytes). b ++ ended reply) run.0 ∙ sym (append-nil (ended reply)))
-Run_more limits old mid new (l ∷ ls) line output reply run step =
-    (run.0, run.1, run.2 ++ ended reply, run.3, Run_more limits run.1 mid new ls line run.2 reply run.4 step,
-        ap (λ (b : Bytes). b ++ ended reply) run.5 ∙ append_assoc (ended run.0) run.2 (ended reply))
+Run_more limits old mid new [] line output reply run step = (
+  reply,
+  new,
+  [],
+  subst (λ (s : List Clause). Step limits s line reply new) run.1 step,
+  (refl, refl),
+  ap (λ (b : Bytes). b ++ ended reply) run.0 ∙ sym (append-nil (ended reply)),
+)
+Run_more limits old mid new (l ∷ ls) line output reply run step = (
+  run.0,
+  run.1,
+  run.2 ++ ended reply,
+  run.3,
+  Run_more limits run.1 mid new ls line run.2 reply run.4 step,
+  ap (λ (b : Bytes). b ++ ended reply) run.5 ∙ append_assoc (ended run.0) run.2 (ended reply),
+)

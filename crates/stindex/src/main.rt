@@ -5,9 +5,16 @@ mod lines;
 mod serve;
 mod status;
 
+use si_io::{RealSink, RealSource};
+use si_session::Limits;
 use std::process::ExitCode;
 
-fn main() -> ExitCode {
-    ExitCode::from(status::Status::Ended.code())
+fn main(rt: HostRuntime) -> ExitCode {
+    let mut source = RealSource::new(rt.stdin());
+    let mut sink = RealSink::new(rt.stdout());
+    let status = serve::serve(rt.alloc(), &Limits::standard(), &mut source, &mut sink);
+    ExitCode::from(status.code())
 }
 
+#[cfg(test)]
+mod tests;

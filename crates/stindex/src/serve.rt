@@ -86,11 +86,7 @@ fn run<S: Source, K: Sink>(
 }
 
 /// Acts on the line that was begun, which ends here.
-fn act<K: Sink>(
-    session: &mut Session,
-    pending: &mut Pending,
-    sink: &mut K,
-) -> Result<(), Failed>
+fn act<K: Sink>(session: &mut Session, pending: &mut Pending, sink: &mut K) -> Result<(), Failed>
     requires { AllowsLimits session.old.limits }
     ensures acted { OnOk result (Acts session.old.limits session.old.clauses session.new.clauses (held_of pending.old) (K.written sink.old) (K.written sink.new)) }
     ensures broken { OnErr result (Breaks session.old.limits session.old.clauses session.new.clauses (held_of pending.old) (K.written sink.old) (K.written sink.new)) }
@@ -133,11 +129,7 @@ fn feed<K: Sink>(
 }
 
 /// Acts on the last line, if one was begun, since the input ends here.
-fn close<K: Sink>(
-    session: &mut Session,
-    pending: &mut Pending,
-    sink: &mut K,
-) -> Result<(), Failed>
+fn close<K: Sink>(session: &mut Session, pending: &mut Pending, sink: &mut K) -> Result<(), Failed>
     requires { AllowsLimits session.old.limits }
     ensures closed { OnOk result (Closes session.old.limits session.old.clauses (held_of pending.old) (K.written sink.old) (K.written sink.new)) }
     ensures cut { OnErr result (Cuts session.old.limits session.old.clauses (held_of pending.old) (K.written sink.old) (K.written sink.new)) }

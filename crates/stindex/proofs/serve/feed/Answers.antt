@@ -14,8 +14,8 @@ returns-in_err-act-clause-broken g c =
     let rest = c.loop-end.rest.now in
     let at = c.in-Some.end in
     at_err c.from_residual.result
-        (Feeds_fail _ _ _ rest _ at _ _ _ _ _ _ _ _ _ _ c.loop-end.invariant.fed c.loop-end.invariant.limits (c.loop-end.invariant.limit ∙ c.requires.limit)
-            c.in-Some.ensures refl c.push.ensures.held c.in_err-act.ensures.broken)
+    (Feeds_fail _ _ _ rest _ at _ _ _ _ _ _ _ _ _ _ c.loop-end.invariant.fed c.loop-end.invariant.limits (c.loop-end.invariant.limit ∙ c.requires.limit)
+    c.in-Some.ensures refl c.push.ensures.held c.in_err-act.ensures.broken)
 
 pub loop-end-preserved : goal.loop-end-preserved
 loop-end-preserved g c =

@@ -7,14 +7,14 @@ use Rattle.stindex.proofs.serve.run.Goals as goal
 pub returns-in-Ok-close-clause-serves : goal.returns-in-Ok-close-clause-serves
 returns-in-Ok-close-clause-serves g c =
     Serves_ended _ _ _ (take c.in-Ok.count c.read.new.into) _ _ _ _ _ _ _ _ c.loop-taken.invariant.stands c.loop-taken.invariant.limits c.loop-taken-test.true
-        c.in-Ok.ensures.taken (ap (λ (n : ℕ). take n c.read.new.into) c.if-count-eq0.true)
-        (c.in-Ok.ensures.ended c.if-count-eq0.true (omega (arith, length-take c.min-room.result c.loop-taken.chunk))) c.in-Ok-close.ensures.closed
+    c.in-Ok.ensures.taken (ap (λ (n : ℕ). take n c.read.new.into) c.if-count-eq0.true)
+    (c.in-Ok.ensures.ended c.if-count-eq0.true (omega (arith, length-take c.min-room.result c.loop-taken.chunk))) c.in-Ok-close.ensures.closed
 
 pub returns-in-Err-close-clause-serves : goal.returns-in-Err-close-clause-serves
 returns-in-Err-close-clause-serves g c =
     Serves_cut _ _ _ (take c.in-Ok.count c.read.new.into) _ _ _ _ _ _ _ _ c.loop-taken.invariant.stands c.loop-taken.invariant.limits c.loop-taken-test.true
-        c.in-Ok.ensures.taken (ap (λ (n : ℕ). take n c.read.new.into) c.if-count-eq0.true)
-        (c.in-Ok.ensures.ended c.if-count-eq0.true (omega (arith, length-take c.min-room.result c.loop-taken.chunk))) c.in-Err-close.ensures.cut
+    c.in-Ok.ensures.taken (ap (λ (n : ℕ). take n c.read.new.into) c.if-count-eq0.true)
+    (c.in-Ok.ensures.ended c.if-count-eq0.true (omega (arith, length-take c.min-room.result c.loop-taken.chunk))) c.in-Err-close.ensures.cut
 
 pub returns-in-Err-feed-clause-serves : goal.returns-in-Err-feed-clause-serves
 returns-in-Err-feed-clause-serves g c =
@@ -22,7 +22,7 @@ returns-in-Err-feed-clause-serves g c =
     let count = c.in-Ok.count in
     let within : count ≤ length into = omega (arith, c.in-Ok.ensures.bound, c.read.auto.into, length-take c.min-room.result c.loop-taken.chunk) in
     Serves_sink _ _ _ count (take count into) _ _ _ _ _ _ _ _ _ c.loop-taken.invariant.stands c.loop-taken.invariant.limits c.in-Ok.ensures.taken
-        (length-take-le count into within) (omega (arith, length-take c.min-room.result c.loop-taken.chunk)) (take-append-le count into _ within) c.in-Err-feed.ensures.broken
+    (length-take-le count into within) (omega (arith, length-take c.min-room.result c.loop-taken.chunk)) (take-append-le count into _ within) c.in-Err-feed.ensures.broken
 
 pub loop-taken-preserved : goal.loop-taken-preserved
 loop-taken-preserved g c =

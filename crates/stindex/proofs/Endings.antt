@@ -1,12 +1,12 @@
 -- How a run stands after each read, and how it ends.
-use Rattle.std.proofs.Common.{◌≡◌, ℕ, ◌+◌, ◌<◌, ◌≤◌, List, [], ◌++◌, Option, length, refl, sym, ap, subst, ◌∙◌, inl, inr, append-nil, length-append, arith}
+use Rattle.std.proofs.Common.{◌≡◌, ℕ, ◌+◌, ◌<◌, ◌≤◌, List, [], ◌++◌, Option, length, refl, sym, ap, subst, ◌∙◌, inl, inr, length-append, arith}
 use Rattle.si_defs.specs.Bytes.{Bytes}
 use Rattle.si_defs.specs.Clauses.{Clause}
 use Rattle.si_defs.specs.Steps.{Limits}
 use Rattle.si_io.specs.Content.{prepend_told, Takes, IsAtEnd}
 use Rattle.si_io.proofs.Content.{Takes_none, Takes_then, prepend_told-nil}
 use Rattle.stindex.specs.declared.status.Status.TheVariants.{Ended, SourceFault, SinkFault, Memory, SessionLimit}
-use Rattle.stindex.specs.Serve.{MetEnd, Serves}
+use Rattle.stindex.specs.Serve.{Serves}
 use Rattle.stindex.specs.Progress.{Progress, Advances, Fails, Closes, Cuts, Stands}
 use Rattle.stindex.proofs.Progress.{Progress_start}
 use Rattle.stindex.proofs.Splitting.{Splits_none}

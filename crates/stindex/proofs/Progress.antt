@@ -1,22 +1,17 @@
 -- How a run goes on: by bytes of a line that was begun, by a line feed, and by more bytes after others.
-use Rattle.std.proofs.Common.{◌≡◌, ℕ, ◌+◌, ◌≤◌, List, [], ◌∷◌, ◌++◌, Option, length, take, refl, sym, ap, subst, ◌∙◌, append_assoc, append-nil, arith, zero, suc, add-one}
+use Rattle.std.proofs.Common.{◌≡◌, ℕ, ◌+◌, List, [], ◌∷◌, ◌++◌, Option, take, refl, sym, ap, subst, ◌∙◌, append_assoc, append-nil, zero, suc}
 use Rattle.std.proofs.Math.Seq.{take-nil}
 use Rattle.si_defs.specs.Bytes.{Bytes}
 use Rattle.si_defs.specs.Clauses.{Clause}
-use Rattle.si_defs.specs.Steps.{Limits, Reply, Step}
-use Rattle.si_defs.specs.Runs.{ended, IsOneLine, Splits, lines_at_end, Run, IsOutput}
-use Rattle.si_io.specs.Content.{Appends, AppendsPrefix}
+use Rattle.si_defs.specs.Steps.{Limits, Step}
+use Rattle.si_defs.specs.Runs.{ended, IsOneLine, Splits, lines_at_end, Run}
 use Rattle.si_io.proofs.Content.{Appends_then, AppendsPrefix_then, append_told-nil}
-use Rattle.si_session.specs.Session.{State, Writes, Steps}
-use Rattle.si_session.specs.declared.session.Stepped.{Stepped}
-use Rattle.si_session.specs.declared.session.Stepped.TheVariants.{Answered, Refused, Silent, SinkFailed}
-use Rattle.stindex.specs.Serve.{WritesAll, WritesPart}
-use Rattle.stindex.specs.Progress.{shown, Acts, Breaks, Progress, Advances, Feeds, Failed, Fails, Closed, Cut, Closes, Cuts}
+use Rattle.stindex.specs.Progress.{shown, Acts, Breaks, Progress, Advances, Feeds, Failed, Fails, Closes, Cuts}
 use Rattle.stindex.proofs.Steps.{shown_step}
 use Rattle.std.specs.Prelude.{◌==◌, Some, None}
 use Rattle.std.specs.List.{position}
 use Rattle.std.proofs.Common.{drop}
-use Rattle.stindex.proofs.Splitting.{Splits_none, line_end, line_without_end, Splits_more, Splits_line, Splits_any, lines_at_end-none, lines_at_end-some, Run_more}
+use Rattle.stindex.proofs.Splitting.{Splits_none, line_end, line_without_end, Splits_more, Splits_line, Splits_any, lines_at_end-some, Run_more}
 
 -- ---- what is held
 shown-nil : (limits : Limits) → shown limits [] ≡ []
@@ -147,21 +142,6 @@ Feeds_end limits bytes rest n old mid held holds filled now x f line none full =
     subst (λ (b : Bytes). Advances limits b old held now mid filled x) (sym f.whole) (Advances_then limits f.done rest old mid mid held holds filled now x x f.advances more)
 
 -- ---- the end of the input
-rest_none : (limits : Limits) (rest : Bytes) → [] ≡ shown limits rest → rest ≡ []
-rest_none limits [] e = refl
-rest_none limits (c ∷ cs) e = let f = rw add-one at e in cc
-
--- no line was begun
-pub Closes_none : (limits : Limits) (clauses : List Clause) (held : Bytes) (now : Option Bytes) → held ≡ [] → Closes limits clauses held now now
-Closes_none limits clauses held now none before taken p =
-    let same : lines_at_end p.lines p.rest ≡ p.lines = lines_at_end-none p.lines p.rest (rest_none limits p.rest (sym none ∙ p.holds)) in
-    record {
-      lines = p.lines;
-      rest = p.rest;
-      splits = p.splits;
-      all = record { output = p.output; right = (clauses, subst (λ (ls : List Bytes). Run limits [] ls p.output clauses) (sym same) p.run); written = p.written };
-    }
-
 rest_some : (limits : Limits) (held rest : Bytes) → (held ≡ [] → ⊥) → held ≡ shown limits rest → rest ≡ [] → ⊥
 rest_some limits held rest some holds none = some (holds ∙ ap (shown limits) none ∙ shown-nil limits)
 
@@ -201,19 +181,3 @@ Cuts_line limits old new held now after some breaks before taken p =
         written = AppendsPrefix_then before now after p.output (ended breaks.reply) p.written breaks.written;
       };
     }
-
--- ---- what one step wrote
-pub Writes_whole : (outcome : Stepped) (reply : Reply) (now after : Option Bytes) → (outcome ≡ SinkFailed → ⊥) → Writes outcome reply now after → Appends now (ended reply) after
-Writes_whole Answered reply now after whole w = w.0
-Writes_whole Refused reply now after whole w = w.0
-Writes_whole Silent reply now after whole w = w.0
-Writes_whole SinkFailed reply now after whole w = absurd (whole refl)
-
-pub Acts_by : (old new : State) (line : Bytes) (outcome : Stepped) (now after : Option Bytes)
-    → (outcome ≡ SinkFailed → ⊥) → Steps old new line outcome now after → Acts old.limits old.clauses new.clauses line now after
-Acts_by old new line outcome now after whole s = record { reply = s.reply; step = s.step; written = Writes_whole outcome s.reply now after whole s.written }
-
-pub Breaks_by : (old new : State) (line : Bytes) (outcome : Stepped) (now after : Option Bytes)
-    → outcome ≡ SinkFailed → Steps old new line outcome now after → Breaks old.limits old.clauses new.clauses line now after
-Breaks_by old new line outcome now after failed s =
-    record { reply = s.reply; step = s.step; written = subst (λ (o : Stepped). Writes o s.reply now after) failed s.written }

@@ -1,8 +1,8 @@
 -- How bytes fall into lines as more of them come, and how a run goes on by one line.
-use Rattle.std.proofs.Common.{◌≡◌, ℕ, Bool, true, false, List, [], ◌∷◌, ◌++◌, refl, sym, ap, subst, ◌∙◌, append_assoc, append-nil, arith, ltb, cond, length, get_or, take, drop, ◌<◌, ◌≤◌, ◌+◌, suc, add-one, take_all, take-append-drop, drop-cons}
-use Rattle.std.specs.Prelude.{◌==◌, IsFalse}
+use Rattle.std.proofs.Common.{◌≡◌, ℕ, Bool, true, false, List, [], ◌∷◌, ◌++◌, refl, sym, ap, subst, ◌∙◌, append_assoc, append-nil, arith, ltb, cond, length, get_or, take, drop, ◌≤◌, ◌+◌, suc, add-one, take_all, take-append-drop, drop-cons}
+use Rattle.std.specs.Prelude.{◌==◌}
 use Rattle.std.specs.Prelude.{None, Some}
-use Rattle.std.specs.List.{list_any, AllByRecursion, position, position_or_len}
+use Rattle.std.specs.List.{AllByRecursion, position, position_or_len}
 use Rattle.std.proofs.lemmas.List.Quantifiers.{position-Some}
 use Rattle.std.proofs.lemmas.List.Folds.{list_any-append}
 use Rattle.std.proofs.lemmas.Bool.Decides.{nat_tests}

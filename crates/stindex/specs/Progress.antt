@@ -5,7 +5,6 @@ use Rattle.si_defs.specs.Clauses.{Clause}
 use Rattle.si_defs.specs.Steps.{Limits, Reply, Step}
 use Rattle.si_defs.specs.Runs.{ended, Splits, lines_at_end, Run}
 use Rattle.si_io.specs.Content.{Appends, AppendsPrefix, Takes}
-use Rattle.si_session.specs.Session.{State}
 use Rattle.stindex.specs.Serve.{WritesAll, WritesPart}
 
 -- What is held of a line that was begun: its bytes up to one more than a line may have.

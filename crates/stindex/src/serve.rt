@@ -34,35 +34,33 @@ pub fn serve<S: Source, K: Sink>(
     ensures sink_fault { result ≡ SinkFault → Rose (K.faults sink.old) (K.faults sink.new) }
     ensures faultless { (Rose (S.faults source.old) (S.faults source.new) → ⊥) → (Rose (K.faults sink.old) (K.faults sink.new) → ⊥) → IsFaultless result }
 {
-    let Ok(session) = Session::new(alloc, limits) else {
+    let Ok(mut session) = Session::new(alloc, limits) else {
         return Status::Memory;
     };
-    let Ok(pending) = Pending::new(alloc, limits.line) else {
+    let Ok(mut pending) = Pending::new(alloc, limits.line) else {
         return Status::Memory;
     };
-    run(limits, session, pending, source, sink)
+    run(limits, &mut session, &mut pending, source, sink)
 }
 
 /// Reads the input from a session without clauses on.
 fn run<S: Source, K: Sink>(
     limits: &Limits,
-    session: Session,
-    pending: Pending,
+    session: &mut Session,
+    pending: &mut Pending,
     source: &mut S,
     sink: &mut K,
 ) -> Status
     requires allows { AllowsLimits (limits_of limits.now) }
-    requires start { session ≡ record { clauses = []; limits = limits_of limits.now } }
-    requires held { held_of pending ≡ [] }
-    requires limit { limit_of pending ≡ limits.now.line }
+    requires start { session.old ≡ record { clauses = []; limits = limits_of limits.now } }
+    requires held { held_of pending.old ≡ [] }
+    requires limit { limit_of pending.old ≡ limits.now.line }
     ensures serves { Serves (limits_of limits.now) result (S.left source.old) (S.left source.new) (K.written sink.old) (K.written sink.new) }
     ensures source_later { S.faults source.old ≤ S.faults source.new }
     ensures sink_later { K.faults sink.old ≤ K.faults sink.new }
     ensures source_fault { result ≡ SourceFault → Rose (S.faults source.old) (S.faults source.new) }
     ensures sink_fault { result ≡ SinkFault → Rose (K.faults sink.old) (K.faults sink.new) }
 {
-    let mut session = session;
-    let mut pending = pending;
     let mut chunk = [0; CHUNK];
     let mut taken = 0;
     while taken < limits.session {
@@ -72,12 +70,12 @@ fn run<S: Source, K: Sink>(
             Err(_) => return Status::SourceFault,
         };
         if count == 0 {
-            match close(&mut session, &mut pending, sink) {
+            match close(session, pending, sink) {
                 Ok(()) => return Status::Ended,
                 Err(_) => return Status::SinkFault,
             }
         }
-        match feed(&mut session, &mut pending, &chunk[..count], sink) {
+        match feed(session, pending, &chunk[..count], sink) {
             Ok(()) => taken += count as u64,
             Err(_) => return Status::SinkFault,
         }

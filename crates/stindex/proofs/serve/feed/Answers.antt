@@ -1,7 +1,5 @@
 -- Each turn goes to the next line feed, and what is left behind the last one belongs to a line that was begun.
-use Rattle.std.proofs.Common.{◌≡◌, ◌+◌, ◌-◌, ◌∙◌, length, take, drop, sym, subst, refl, Result, Ok, Err, OnErr, arith, take_all, length-drop}
-use Rattle.stindex.specs.Lines.{held_of}
-use Rattle.stindex.specs.Progress.{Feeds}
+use Rattle.std.proofs.Common.{◌+◌, ◌∙◌, refl, Result, Ok, Err, OnErr, arith, take_all, length-drop}
 use Rattle.stindex.proofs.Progress.{Feeds_line, Feeds_fail, Feeds_end}
 use Rattle.stindex.proofs.serve.feed.Goals as goal
 

@@ -1,5 +1,5 @@
 -- What was read last is the front of the chunk, and nothing at the end of the input.
-use Rattle.std.proofs.Common.{◌≡◌, ℕ, ◌+◌, ◌<◌, ◌≤◌, ◌∙◌, [], List, length, take, refl, ap, arith, length-take}
+use Rattle.std.proofs.Common.{ℕ, ◌≤◌, ◌∙◌, length, take, ap, arith, length-take}
 use Rattle.std.proofs.lemmas.List.{take-append-le, length-take-le}
 use Rattle.stindex.proofs.Endings.{Stands_more, Serves_ended, Serves_cut, Serves_sink}
 use Rattle.stindex.proofs.serve.run.Goals as goal

@@ -1,4 +1,4 @@
-use Rattle.std.proofs.Common.{◌≡◌, ◌≤◌, ◌-◌, length}
+use Rattle.std.proofs.Common.{◌≡◌, ◌≤◌, ◌-◌}
 use Rattle.si_session.specs.Limits.{limits_of}
 use Rattle.stindex.specs.Lines.{held_of, limit_of}
 use Rattle.stindex.specs.Progress.{Stands}

@@ -2,3 +2,4 @@ pub mod Steps
 pub mod Splitting
 pub mod Progress
 pub mod Endings
+pub mod Headline

@@ -1,16 +1,19 @@
 -- How a run goes on: by bytes of a line that was begun, by a line feed, and by more bytes after others.
-use Rattle.std.proofs.Common.{◌≡◌, ℕ, ◌+◌, List, [], ◌∷◌, ◌++◌, Option, take, refl, sym, ap, subst, ◌∙◌, append_assoc, append-nil, zero, suc}
+use Rattle.std.proofs.Common.{◌≡◌, ℕ, ◌+◌, List, [], ◌∷◌, ◌++◌, Option, take, refl, sym, ap, subst, ◌∙◌, append_assoc, append-nil, zero, suc, drop}
 use Rattle.std.proofs.Math.Seq.{take-nil}
 use Rattle.si_defs.specs.Bytes.{Bytes}
 use Rattle.si_defs.specs.Clauses.{Clause}
-use Rattle.si_defs.specs.Steps.{Limits, Step}
+use Rattle.si_defs.specs.Steps.{Limits, Reply, Step}
 use Rattle.si_defs.specs.Runs.{ended, IsOneLine, Splits, lines_at_end, Run}
+use Rattle.si_io.specs.Content.{Appends}
 use Rattle.si_io.proofs.Content.{Appends_then, AppendsPrefix_then, append_told-nil}
+use Rattle.si_session.specs.Session.{State, Writes, Steps}
+use Rattle.si_session.specs.declared.session.Stepped.{Stepped}
+use Rattle.si_session.specs.declared.session.Stepped.TheVariants.{Answered, Refused, Silent, SinkFailed}
 use Rattle.stindex.specs.Progress.{shown, Acts, Breaks, Progress, Advances, Feeds, Failed, Fails, Closes, Cuts}
 use Rattle.stindex.proofs.Steps.{shown_step}
 use Rattle.std.specs.Prelude.{◌==◌, Some, None}
 use Rattle.std.specs.List.{position}
-use Rattle.std.proofs.Common.{drop}
 use Rattle.stindex.proofs.Splitting.{Splits_none, line_end, line_without_end, Splits_more, Splits_line, Splits_any, lines_at_end-some, Run_more}
 
 -- ---- what is held
@@ -181,3 +184,26 @@ Cuts_line limits old new held now after some breaks before taken p =
         written = AppendsPrefix_then before now after p.output (ended breaks.reply) p.written breaks.written;
       };
     }
+
+-- ---- what one step wrote
+written_whole : (outcome : Stepped) (reply : Reply) (now after : Option Bytes) → (outcome ≡ SinkFailed → ⊥) → Writes outcome reply now after → Appends now (ended reply) after
+written_whole Answered reply now after whole w = w.0
+written_whole Refused reply now after whole w = w.0
+written_whole Silent reply now after whole w = w.0
+written_whole SinkFailed reply now after whole w = absurd (whole refl)
+
+pub Acts_by : (old new : State) (line held : Bytes) (outcome : Stepped) (now after : Option Bytes)
+    → line ≡ held → (outcome ≡ SinkFailed → ⊥) → Steps old new line outcome now after → Acts old.limits old.clauses new.clauses held now after
+Acts_by old new line held outcome now after same whole s = record {
+  reply = s.reply;
+  step = subst (λ (l : Bytes). Step old.limits old.clauses l s.reply new.clauses) same s.step;
+  written = written_whole outcome s.reply now after whole s.written;
+}
+
+pub Breaks_by : (old new : State) (line held : Bytes) (outcome : Stepped) (now after : Option Bytes)
+    → line ≡ held → outcome ≡ SinkFailed → Steps old new line outcome now after → Breaks old.limits old.clauses new.clauses held now after
+Breaks_by old new line held outcome now after same failed s = record {
+  reply = s.reply;
+  step = subst (λ (l : Bytes). Step old.limits old.clauses l s.reply new.clauses) same s.step;
+  written = subst (λ (o : Stepped). Writes o s.reply now after) failed s.written;
+}

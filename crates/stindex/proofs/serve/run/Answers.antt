@@ -21,7 +21,7 @@ returns-in-Err-feed-clause-serves g c =
     let into = c.read.new.into in
     let count = c.in-Ok.count in
     let within : count ≤ length into = omega (arith, c.in-Ok.ensures.bound, c.read.auto.into, length-take c.min-room.result c.loop-taken.chunk) in
-    Serves_sink _ _ _ count (take count into) _ _ _ _ _ _ _ _ _ c.loop-taken.invariant.stands c.loop-taken.invariant.limits c.in-Ok.ensures.taken
+    Serves_sink _ _ _ count (take count into) _ _ _ (g.S.Source.left c.read.new.self) _ _ _ _ _ c.loop-taken.invariant.stands c.loop-taken.invariant.limits c.in-Ok.ensures.taken
     (length-take-le count into within) (omega (arith, length-take c.min-room.result c.loop-taken.chunk)) (take-append-le count into _ within) c.in-Err-feed.ensures.broken
 
 pub loop-taken-preserved : goal.loop-taken-preserved

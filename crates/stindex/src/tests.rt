@@ -71,51 +71,53 @@ fn wide(alloc: Global, more: u32) -> Result<Vec<u8>, AllocError> {
     Ok(line)
 }
 
+/// Inputs with their outputs under the standard limits.
+const ROWS: [(&[u8], &[u8]); 11] = [
+    (b"", b""),
+    (b"\n", b""),
+    (b" \t\n\n", b""),
+    (
+        b"add cnf(c1,axiom,p(f(X),a)).\ninstances lit p(Y,Z)\n",
+        b"ok 1 3\nc1:1 {?Y -> f(X); ?Z -> a}\nend 1\n",
+    ),
+    // A last line without a line feed.
+    (
+        b"add cnf(c1,axiom,p(f(X),a)).\ninstances term f(Y)",
+        b"ok 1 3\nc1:1:1 {?Y -> X}\nend 1\n",
+    ),
+    // Refusals change nothing.
+    (
+        b"add cnf(c1,axiom,p(f(X),a)).\nadd cnf(c1,axiom,r).\nadd cnf(c2,axiom,p(X).\nadd cnf('c2',axiom,r).\nstats\ninstances lit p(Y,Z)\n",
+        b"ok 1 3\n! taken c1\n! syntax\n! later\n! later\nc1:1 {?Y -> f(X); ?Z -> a}\nend 1\n",
+    ),
+    // A variable of the pattern that stands twice has one value.
+    (
+        b"add cnf(c,axiom,p(a,a)).\nadd cnf(d,axiom,p(a,b)).\ninstances lit p(X,X)\n",
+        b"ok 1 3\nok 1 3\nc:1 {?X -> a}\nend 1\n",
+    ),
+    // A variable of a clause is no instance of a constant, nor of another variable that has a value.
+    (
+        b"add cnf(c,axiom,p(X,Y)).\ninstances lit p(a,Z)\ninstances lit p(Z,Z)\ninstances lit p(Y,X)\n",
+        b"ok 1 1\nend 0\nend 0\nc:1 {?Y -> X; ?X -> Y}\nend 1\n",
+    ),
+    // The value is a term with variables of the clause.
+    (
+        b"add cnf(c,axiom,p(g(X,h(Y)),X)).\ninstances lit p(A,B)\n",
+        b"ok 1 3\nc:1 {?A -> g(X,h(Y)); ?B -> X}\nend 1\n",
+    ),
+    // No query has answers where no clause is kept.
+    (b"instances lit p(X)\n", b"end 0\n"),
+    // White space alone has no reply, also as the last line.
+    (
+        b"x\n\nadd cnf(a,axiom,p).\n \ninstances lit p\n ",
+        b"! later\nok 1 1\na:1 {}\nend 1\n",
+    ),
+];
+
 #[test]
 fn each_input_has_its_output(rt: HostRuntime) -> Result<(), Fail> {
     let alloc = rt.alloc();
-    let rows: [(&[u8], &[u8]); 11] = [
-        (b"", b""),
-        (b"\n", b""),
-        (b" \t\n\n", b""),
-        (
-            b"add cnf(c1,axiom,p(f(X),a)).\ninstances lit p(Y,Z)\n",
-            b"ok 1 3\nc1:1 {?Y -> f(X); ?Z -> a}\nend 1\n",
-        ),
-        // A last line without a line feed.
-        (
-            b"add cnf(c1,axiom,p(f(X),a)).\ninstances term f(Y)",
-            b"ok 1 3\nc1:1:1 {?Y -> X}\nend 1\n",
-        ),
-        // Refusals change nothing.
-        (
-            b"add cnf(c1,axiom,p(f(X),a)).\nadd cnf(c1,axiom,r).\nadd cnf(c2,axiom,p(X).\nadd cnf('c2',axiom,r).\nstats\ninstances lit p(Y,Z)\n",
-            b"ok 1 3\n! taken c1\n! syntax\n! later\n! later\nc1:1 {?Y -> f(X); ?Z -> a}\nend 1\n",
-        ),
-        // A variable of the pattern that stands twice has one value.
-        (
-            b"add cnf(c,axiom,p(a,a)).\nadd cnf(d,axiom,p(a,b)).\ninstances lit p(X,X)\n",
-            b"ok 1 3\nok 1 3\nc:1 {?X -> a}\nend 1\n",
-        ),
-        // A variable of a clause is no instance of a constant, nor of another variable that has a value.
-        (
-            b"add cnf(c,axiom,p(X,Y)).\ninstances lit p(a,Z)\ninstances lit p(Z,Z)\ninstances lit p(Y,X)\n",
-            b"ok 1 1\nend 0\nend 0\nc:1 {?Y -> X; ?X -> Y}\nend 1\n",
-        ),
-        // The value is a term with variables of the clause.
-        (
-            b"add cnf(c,axiom,p(g(X,h(Y)),X)).\ninstances lit p(A,B)\n",
-            b"ok 1 3\nc:1 {?A -> g(X,h(Y)); ?B -> X}\nend 1\n",
-        ),
-        // No query has answers where no clause is kept.
-        (b"instances lit p(X)\n", b"end 0\n"),
-        // White space alone has no reply, also as the last line.
-        (
-            b"x\n\nadd cnf(a,axiom,p).\n \ninstances lit p\n ",
-            b"! later\nok 1 1\na:1 {}\nend 1\n",
-        ),
-    ];
-    for (input, output) in rows {
+    for (input, output) in ROWS {
         let (status, bytes) = written(alloc, &Limits::standard(), input)?;
         assert_eq!(rt; status, Status::Ended);
         assert_eq!(rt; bytes.as_slice(), output, "at {input:?}");

@@ -1,0 +1,5 @@
+pub mod Steps
+pub mod Splitting
+pub mod Progress
+pub mod Endings
+pub mod Headline

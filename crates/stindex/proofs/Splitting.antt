@@ -1,0 +1,133 @@
+-- How bytes fall into lines as more of them come, and how a run goes on by one line.
+use Rattle.std.proofs.Common.{◌≡◌, ℕ, Bool, true, false, List, [], ◌∷◌, ◌++◌, refl, sym, ap, subst, ◌∙◌, append_assoc, append-nil, arith, ltb, cond, length, get_or, take, drop, ◌≤◌, ◌+◌, suc, add-one, take_all, take-append-drop, drop-cons}
+use Rattle.std.specs.Prelude.{◌==◌}
+use Rattle.std.specs.Prelude.{None, Some}
+use Rattle.std.specs.List.{AllByRecursion, position, position_or_len}
+use Rattle.std.proofs.lemmas.List.Quantifiers.{position-Some}
+use Rattle.std.proofs.lemmas.List.Folds.{list_any-append}
+use Rattle.std.proofs.lemmas.Bool.Decides.{nat_tests}
+use Rattle.si_defs.specs.Bytes.{Bytes}
+use Rattle.si_defs.specs.Clauses.{Clause}
+use Rattle.si_defs.specs.Steps.{Limits, Reply, Step}
+use Rattle.stindex.specs.Lines.{IsLineEnd}
+use Rattle.si_defs.specs.Runs.{ended, IsOneLine, Splits, lines_at_end, Run}
+
+-- ---- lines
+pub ended-append : (ls ks : List Bytes) → ended (ls ++ ks) ≡ ended ls ++ ended ks
+ended-append [] ks = refl
+ended-append (l ∷ ls) ks = ap (λ (b : Bytes). l ++ 10 ∷ b) (ended-append ls ks) ∙ sym (append_assoc l (10 ∷ ended ls) (ended ks))
+
+each-append : (ls : List Bytes) (k : Bytes) → AllByRecursion IsOneLine ls → IsOneLine k → AllByRecursion IsOneLine (ls ++ k ∷ [])
+each-append [] k each one = (one, tt)
+each-append (l ∷ ls) k each one = (each.0, each-append ls k each.1 one)
+
+pub IsOneLine-append : (a b : Bytes) → IsOneLine a → IsOneLine b → IsOneLine (a ++ b)
+IsOneLine-append a b one two = rw (list_any-append, one, two) refl
+
+-- no bytes have no lines
+pub Splits_none : Splits [] [] []
+Splits_none = record { whole = refl; each = tt; last = refl }
+
+-- bytes without a line feed belong to the line that was begun
+pub Splits_more : (bytes : Bytes) (lines : List Bytes) (rest more : Bytes) → Splits bytes lines rest → IsOneLine more → Splits (bytes ++ more) lines (rest ++ more)
+Splits_more bytes lines rest more s one = record {
+  whole = ap (λ (b : Bytes). b ++ more) s.whole ∙ append_assoc (ended lines) rest more;
+  each = s.each;
+  last = IsOneLine-append rest more s.last one;
+}
+
+-- a line feed ends it
+pub Splits_line : (bytes : Bytes) (lines : List Bytes) (rest : Bytes) → Splits bytes lines rest → Splits (bytes ++ 10 ∷ []) (lines ++ rest ∷ []) []
+Splits_line bytes lines rest s = record {
+  whole = ap (λ (b : Bytes). b ++ 10 ∷ []) s.whole ∙ append_assoc (ended lines) rest (10 ∷ [])
+      ∙ sym (ended-append lines (rest ∷ [])) ∙ sym (append-nil (ended (lines ++ rest ∷ [])));
+  each = each-append lines rest s.each s.last;
+  last = refl;
+}
+
+-- all bytes fall into lines
+abbrev pub Falls : Bytes → List Bytes → Type 0
+Falls bytes lines = (others : List Bytes) × (end : Bytes) × Splits bytes (lines ++ others) end
+
+falls_by : (c : ℕ) (cs bytes : Bytes) (lines : List Bytes) (rest : Bytes) (b : Bool) → (c == 10) ≡ b → Splits bytes lines rest
+    → ((front : Bytes) (ls : List Bytes) (r : Bytes) → Splits front ls r → Falls (front ++ cs) ls) → Falls (bytes ++ c ∷ cs) lines
+falls_by c cs bytes lines rest true e s next =
+    let is : c ≡ 10 = grind (arith, nat_tests) in
+    let more = next (bytes ++ 10 ∷ []) (lines ++ rest ∷ []) [] (Splits_line bytes lines rest s) in (
+      rest ∷ more.0,
+      more.1,
+      subst (λ (b : Bytes). Splits b (lines ++ rest ∷ more.0) more.1) (append_assoc bytes (10 ∷ []) cs ∙ ap (λ (d : ℕ). bytes ++ d ∷ cs) (sym is))
+          (subst (λ (ls : List Bytes). Splits ((bytes ++ 10 ∷ []) ++ cs) ls more.1) (append_assoc lines (rest ∷ []) more.0) more.2),
+    )
+falls_by c cs bytes lines rest false e s next =
+    let more = next (bytes ++ c ∷ []) lines (rest ++ c ∷ []) (Splits_more bytes lines rest (c ∷ []) s (rw e refl)) in
+    (more.0, more.1, subst (λ (b : Bytes). Splits b (lines ++ more.0) more.1) (append_assoc bytes (c ∷ []) cs) more.2)
+
+pub Splits_any : (more bytes : Bytes) (lines : List Bytes) (rest : Bytes) → Splits bytes lines rest → Falls (bytes ++ more) lines
+Splits_any [] bytes lines rest s =
+    ([], rest, subst (λ (b : Bytes). Splits b (lines ++ []) rest) (sym (append-nil bytes)) (subst (λ (ls : List Bytes). Splits bytes ls rest) (sym (append-nil lines)) s))
+Splits_any (c ∷ cs) bytes lines rest s = falls_by c cs bytes lines rest (c == 10) refl s (Splits_any cs)
+
+-- ---- the first line feed
+one_line_before : (xs : Bytes) → IsOneLine (take (position_or_len (λ c. c == 10) xs) xs)
+one_line_before [] = refl
+one_line_before (x ∷ xs) = by (x == 10) refl (one_line_before xs) where
+  by : (b : Bool) → (x == 10) ≡ b → IsOneLine (take (position_or_len (λ c. c == 10) xs) xs) → IsOneLine (take (position_or_len (λ c. c == 10) (x ∷ xs)) (x ∷ xs))
+  by true e one = rw e refl
+  by false e one =
+      let next : 1 + position_or_len (λ c. c == 10) xs ≡ suc (position_or_len (λ c. c == 10) xs) = omega arith in
+      rw (e, next, e) one
+
+pub line_without_end : (bytes : Bytes) → None ≡ position (λ c. c == 10) bytes → IsOneLine bytes
+line_without_end bytes none = by (ltb (position_or_len (λ c. c == 10) bytes) (length bytes)) refl none where
+  by : (b : Bool) → ltb (position_or_len (λ c. c == 10) bytes) (length bytes) ≡ b → None ≡ cond b (Some (position_or_len (λ c. c == 10) bytes)) None → IsOneLine bytes
+  by true e none = cc
+  by false e none =
+      let past : length bytes ≤ position_or_len (λ c. c == 10) bytes = grind (arith, nat_tests) in
+      subst IsOneLine (take_all (position_or_len (λ c. c == 10) bytes) bytes past) (one_line_before bytes)
+
+place_from : (bytes : Bytes) (at : ℕ) (b : Bool) → Some at ≡ cond b (Some (position_or_len (λ c. c == 10) bytes)) None → at ≡ position_or_len (λ c. c == 10) bytes
+place_from bytes at true some = cc
+place_from bytes at false some = cc
+
+pub line_end : (bytes : Bytes) (at : ℕ) → Some at ≡ position (λ c. c == 10) bytes → IsLineEnd bytes at
+line_end bytes at some =
+    let found = position-Some (λ c. c == 10) bytes at 0 (sym some) in
+    let here : at ≡ position_or_len (λ c. c == 10) bytes = place_from bytes at _ some in
+    let feed : get_or bytes at 0 ≡ 10 = grind (arith, nat_tests, found.1) in
+    record {
+      within = found.0;
+      line = subst (λ (n : ℕ). IsOneLine (take n bytes)) (sym here) (one_line_before bytes);
+      parts = sym (take-append-drop at bytes) ∙ ap (λ (b : Bytes). take at bytes ++ b)
+          (drop-cons bytes at 0 found.0 ∙ ap (λ (c : ℕ). c ∷ drop (suc at) bytes) feed ∙ ap (λ (n : ℕ). 10 ∷ drop n bytes) (sym (add-one at)));
+    }
+
+-- ---- the end of the input
+pub lines_at_end-none : (lines : List Bytes) (rest : Bytes) → rest ≡ [] → lines_at_end lines rest ≡ lines
+lines_at_end-none lines [] none = refl
+lines_at_end-none lines (c ∷ cs) none = cc
+
+pub lines_at_end-some : (lines : List Bytes) (rest : Bytes) → (rest ≡ [] → ⊥) → lines_at_end lines rest ≡ lines ++ rest ∷ []
+lines_at_end-some lines [] some = absurd (some refl)
+lines_at_end-some lines (c ∷ cs) some = refl
+
+-- ---- runs
+-- a run goes on by one line
+pub Run_more : (limits : Limits) (old mid new : List Clause) (lines : List Bytes) (line output : Bytes) (reply : Reply)
+    → Run limits old lines output mid → Step limits mid line reply new → Run limits old (lines ++ line ∷ []) (output ++ ended reply) new
+Run_more limits old mid new [] line output reply run step = (
+  reply,
+  new,
+  [],
+  subst (λ (s : List Clause). Step limits s line reply new) run.1 step,
+  (refl, refl),
+  ap (λ (b : Bytes). b ++ ended reply) run.0 ∙ sym (append-nil (ended reply)),
+)
+Run_more limits old mid new (l ∷ ls) line output reply run step = (
+  run.0,
+  run.1,
+  run.2 ++ ended reply,
+  run.3,
+  Run_more limits run.1 mid new ls line run.2 reply run.4 step,
+  ap (λ (b : Bytes). b ++ ended reply) run.5 ∙ append_assoc (ended run.0) run.2 (ended reply),
+)

@@ -1,0 +1,32 @@
+-- The step at a line that is too long goes by its length alone, so that the front of it is enough to know.
+use Rattle.std.proofs.Common.{◌≡◌, ◌+◌, ◌<◌, ◌≤◌, Bool, true, false, ltb, List, length, refl, subst, inl, arith, take_all, length-take}
+use Rattle.std.proofs.lemmas.Bool.Decides.{nat_tests}
+use Rattle.si_defs.specs.Bytes.{Bytes}
+use Rattle.si_defs.specs.Clauses.{Clause}
+use Rattle.si_defs.specs.Steps.{Limits, Reply, RightStep, later, silent, wrong, performed, Step, right, memory}
+use Rattle.stindex.specs.Progress.{shown}
+
+long_right : (limits : Limits) (old new : List Clause) (front line : Bytes) (reply : Reply)
+    → limits.line < length front → limits.line < length line
+    → RightStep limits old front reply new → RightStep limits old line reply new
+long_right limits old new front line reply long longer (later why replied kept) = later (inl longer) replied kept
+long_right limits old new front line reply long longer (silent why replied kept) = absurd (omega (arith, why.0))
+long_right limits old new front line reply long longer (wrong first not_later none replied kept) = absurd (not_later (inl long))
+long_right limits old new front line reply long longer (performed not_later command means performs) = absurd (not_later (inl long))
+
+pub long_step : (limits : Limits) (old new : List Clause) (front line : Bytes) (reply : Reply)
+    → limits.line < length front → limits.line < length line
+    → Step limits old front reply new → Step limits old line reply new
+long_step limits old new front line reply long longer (right step) = right (long_right limits old new front line reply long longer step)
+long_step limits old new front line reply long longer (memory whole next step short written left cut proper replied kept) = absurd (omega arith)
+
+-- what is held of a line has the line's step
+pub shown_step : (limits : Limits) (old new : List Clause) (line : Bytes) (reply : Reply) → Step limits old (shown limits line) reply new → Step limits old line reply new
+shown_step limits old new line reply step = by (ltb limits.line (length line)) refl where
+  by : (b : Bool) → ltb limits.line (length line) ≡ b → Step limits old line reply new
+  by true e =
+      let longer : limits.line < length line = grind (arith, nat_tests) in
+      long_step limits old new (shown limits line) line reply (omega (arith, length-take (limits.line + 1) line)) longer step
+  by false e =
+      let short : length line ≤ limits.line = grind (arith, nat_tests) in
+      subst (λ (l : Bytes). Step limits old l reply new) (take_all (limits.line + 1) line (omega arith)) step

@@ -1,0 +1,23 @@
+-- The line that was begun is the last one, for it isn't empty.
+use Rattle.std.proofs.Common.{◌≡◌, ℕ, Bool, true, false, List, [], length, ap, ◌∙◌, eq-eqb}
+use Rattle.std.specs.Prelude.{◌==◌}
+use Rattle.std.proofs.lemmas.Result.{on_ok_weaker, on_err_weaker}
+use Rattle.stindex.specs.Lines.{held_of}
+use Rattle.stindex.proofs.Progress.{Closes_line, Cuts_line}
+use Rattle.stindex.proofs.serve.close.Goals as goal
+
+empty_not : (held bytes : List ℕ) (b : Bool) → held ≡ [] → bytes ≡ held → b ≡ (length bytes == 0) → b ≡ false → ⊥
+empty_not held bytes b none same is false_is =
+    let zero : length bytes ≡ 0 = ap length (same ∙ none) in
+    let yes : (length bytes == 0) ≡ true = eq-eqb (length bytes) 0 zero in
+    cc
+
+pub returns-clause-closed : goal.returns-clause-closed
+returns-clause-closed g c =
+    let some : held_of c.args.pending.now ≡ [] → ⊥ = λ e. empty_not _ _ _ e c.bytes.ensures c.is_empty.ensures c.if-is_empty.false in
+    on_ok_weaker _ (Closes_line _ _ _ _ _ _ some) c.act.ensures.acted
+
+pub returns-clause-cut : goal.returns-clause-cut
+returns-clause-cut g c =
+    let some : held_of c.args.pending.now ≡ [] → ⊥ = λ e. empty_not _ _ _ e c.bytes.ensures c.is_empty.ensures c.if-is_empty.false in
+    on_err_weaker _ (Cuts_line _ _ _ _ _ _ some) c.act.ensures.broken

@@ -1,0 +1,40 @@
+-- What was read last is the front of the chunk, and nothing at the end of the input.
+use Rattle.std.proofs.Common.{ℕ, ◌≤◌, ◌∙◌, length, take, ap, arith, length-take}
+use Rattle.std.proofs.lemmas.List.{take-append-le, length-take-le}
+use Rattle.stindex.proofs.Endings.{Stands_more, Serves_ended, Serves_cut, Serves_sink}
+use Rattle.stindex.proofs.serve.run.Goals as goal
+
+pub returns-in-Ok-close-clause-serves : goal.returns-in-Ok-close-clause-serves
+returns-in-Ok-close-clause-serves g c =
+    Serves_ended _ _ _ (take c.in-Ok.count c.read.new.into) _ _ _ _ _ _ _ _ c.loop-taken.invariant.stands c.loop-taken.invariant.limits c.loop-taken-test.true
+    c.in-Ok.ensures.taken (ap (λ (n : ℕ). take n c.read.new.into) c.if-count-eq0.true)
+    (c.in-Ok.ensures.ended c.if-count-eq0.true (omega (arith, length-take c.min-room.result c.loop-taken.chunk))) c.in-Ok-close.ensures.closed
+
+pub returns-in-Err-close-clause-serves : goal.returns-in-Err-close-clause-serves
+returns-in-Err-close-clause-serves g c =
+    Serves_cut _ _ _ (take c.in-Ok.count c.read.new.into) _ _ _ _ _ _ _ _ c.loop-taken.invariant.stands c.loop-taken.invariant.limits c.loop-taken-test.true
+    c.in-Ok.ensures.taken (ap (λ (n : ℕ). take n c.read.new.into) c.if-count-eq0.true)
+    (c.in-Ok.ensures.ended c.if-count-eq0.true (omega (arith, length-take c.min-room.result c.loop-taken.chunk))) c.in-Err-close.ensures.cut
+
+pub returns-in-Err-feed-clause-serves : goal.returns-in-Err-feed-clause-serves
+returns-in-Err-feed-clause-serves g c =
+    let into = c.read.new.into in
+    let count = c.in-Ok.count in
+    let within : count ≤ length into = omega (arith, c.in-Ok.ensures.bound, c.read.auto.into, length-take c.min-room.result c.loop-taken.chunk) in
+    Serves_sink _ _ _ count (take count into) _ _ _ (g.S.Source.left c.read.new.self) _ _ _ _ _ c.loop-taken.invariant.stands c.loop-taken.invariant.limits c.in-Ok.ensures.taken
+    (length-take-le count into within) (omega (arith, length-take c.min-room.result c.loop-taken.chunk)) (take-append-le count into _ within) c.in-Err-feed.ensures.broken
+
+pub loop-taken-preserved : goal.loop-taken-preserved
+loop-taken-preserved g c =
+    let into = c.read.new.into in
+    let count = c.in-Ok.count in
+    let within : count ≤ length into = omega (arith, c.in-Ok.ensures.bound, c.read.auto.into, length-take c.min-room.result c.loop-taken.chunk) in
+    record {
+      stands = Stands_more _ _ _ count (take count into) _ _ _ _ _ _ _ _ _ _ _ c.loop-taken.invariant.stands c.loop-taken.invariant.limits c.in-Ok.ensures.taken
+          (length-take-le count into within) (take-append-le count into _ within) c.in-Ok-feed.ensures.fed;
+      within = omega (arith, length-take c.min-room.result c.loop-taken.chunk);
+      limits = c.in-Ok-feed.ensures.limits ∙ c.loop-taken.invariant.limits;
+      limit = c.in-Ok-feed.ensures.limit ∙ c.loop-taken.invariant.limit;
+      source_later = omega (arith, c.in-Ok.ensures.cause.later);
+      sink_later = omega (arith, c.in-Ok-feed.ensures.cause.later);
+    }

@@ -1,0 +1,140 @@
+// The run over the whole input: lines in, replies out.
+ghost use Rattle.std.specs.Prelude.{◌≡◌, ◌+◌, ◌<◌, ◌≤◌, [], OnOk, OnErr, length};
+ghost use Rattle.si_defs.specs.Steps.{AllowsLimits};
+ghost use Rattle.si_io.specs.Faults.{HasCause, Rose};
+ghost use Rattle.si_session.specs.Limits.{limits_of};
+ghost use Rattle.stindex.specs.Lines.{held_of, limit_of};
+ghost use Rattle.stindex.specs.Serve.{Serves, IsFaultless};
+ghost use Rattle.stindex.specs.declared.status.Status.TheVariants.{SourceFault, SinkFault};
+ghost use Rattle.stindex.specs.Progress.{Acts, Breaks, Advances, Fails, Closes, Cuts};
+
+use crate::lines::{Pending, line_feed};
+use crate::status::Status;
+use si_io::{Failed, Sink, Source};
+use si_session::{Limits, Session, Stepped};
+use std::alloc::Global;
+
+/// Bytes that one call reads at most.
+const CHUNK: usize = 4096;
+
+/// Reads the input to its end, line by line, and writes the reply to each.
+///
+/// After as many bytes as a session may have it reads no more. All memory of its own is taken before the first read.
+pub fn serve<S: Source, K: Sink>(
+    alloc: Global,
+    limits: &Limits,
+    source: &mut S,
+    sink: &mut K,
+) -> Status
+    requires { AllowsLimits (limits_of limits.now) }
+    ensures serves { Serves (limits_of limits.now) result (S.left source.old) (S.left source.new) (K.written sink.old) (K.written sink.new) }
+    ensures source_later { S.faults source.old ≤ S.faults source.new }
+    ensures sink_later { K.faults sink.old ≤ K.faults sink.new }
+    ensures source_fault { result ≡ SourceFault → Rose (S.faults source.old) (S.faults source.new) }
+    ensures sink_fault { result ≡ SinkFault → Rose (K.faults sink.old) (K.faults sink.new) }
+    ensures faultless { (Rose (S.faults source.old) (S.faults source.new) → ⊥) → (Rose (K.faults sink.old) (K.faults sink.new) → ⊥) → IsFaultless result }
+{
+    let Ok(mut session) = Session::new(alloc, limits) else {
+        return Status::Memory;
+    };
+    let Ok(mut pending) = Pending::new(alloc, limits.line) else {
+        return Status::Memory;
+    };
+    run(limits, &mut session, &mut pending, source, sink)
+}
+
+/// Reads the input from a session without clauses on.
+fn run<S: Source, K: Sink>(
+    limits: &Limits,
+    session: &mut Session,
+    pending: &mut Pending,
+    source: &mut S,
+    sink: &mut K,
+) -> Status
+    requires allows { AllowsLimits (limits_of limits.now) }
+    requires start { session.old ≡ record { clauses = []; limits = limits_of limits.now } }
+    requires held { held_of pending.old ≡ [] }
+    requires limit { limit_of pending.old ≡ limits.now.line }
+    ensures serves { Serves (limits_of limits.now) result (S.left source.old) (S.left source.new) (K.written sink.old) (K.written sink.new) }
+    ensures source_later { S.faults source.old ≤ S.faults source.new }
+    ensures sink_later { K.faults sink.old ≤ K.faults sink.new }
+    ensures source_fault { result ≡ SourceFault → Rose (S.faults source.old) (S.faults source.new) }
+    ensures sink_fault { result ≡ SinkFault → Rose (K.faults sink.old) (K.faults sink.new) }
+{
+    let mut chunk = [0; CHUNK];
+    let mut taken = 0;
+    while taken < limits.session {
+        let room = (limits.session - taken).min(CHUNK as u64) as usize;
+        let count = match source.read(&mut chunk[..room]) {
+            Ok(count) => count,
+            Err(_) => return Status::SourceFault,
+        };
+        if count == 0 {
+            match close(session, pending, sink) {
+                Ok(()) => return Status::Ended,
+                Err(_) => return Status::SinkFault,
+            }
+        }
+        match feed(session, pending, &chunk[..count], sink) {
+            Ok(()) => taken += count as u64,
+            Err(_) => return Status::SinkFault,
+        }
+    }
+    Status::SessionLimit
+}
+
+/// Acts on the line that was begun, which ends here.
+fn act<K: Sink>(session: &mut Session, pending: &mut Pending, sink: &mut K) -> Result<(), Failed>
+    requires { AllowsLimits session.old.limits }
+    ensures acted { OnOk result (Acts session.old.limits session.old.clauses session.new.clauses (held_of pending.old) (K.written sink.old) (K.written sink.new)) }
+    ensures broken { OnErr result (Breaks session.old.limits session.old.clauses session.new.clauses (held_of pending.old) (K.written sink.old) (K.written sink.new)) }
+    ensures limits { session.new.limits ≡ session.old.limits }
+    ensures held { held_of pending.new ≡ [] }
+    ensures limit { limit_of pending.new ≡ limit_of pending.old }
+    ensures cause { HasCause (K.faults sink.old) (K.faults sink.new) result }
+{
+    let outcome = session.step(pending.bytes(), sink);
+    pending.clear();
+    match outcome {
+        Stepped::SinkFailed => Err(Failed),
+        _ => Ok(()),
+    }
+}
+
+/// Acts on each line that ends in these bytes, and holds the rest.
+fn feed<K: Sink>(
+    session: &mut Session,
+    pending: &mut Pending,
+    bytes: &[u8],
+    sink: &mut K,
+) -> Result<(), Failed>
+    requires allows { AllowsLimits session.old.limits }
+    requires limit { limit_of pending.old ≡ session.old.limits.line }
+    ensures fed { OnOk result (Advances session.old.limits bytes.now session.old.clauses (held_of pending.old) (K.written sink.old) session.new.clauses (held_of pending.new) (K.written sink.new)) }
+    ensures broken { OnErr result (Fails session.old.limits bytes.now session.old.clauses (held_of pending.old) (K.written sink.old) (K.written sink.new)) }
+    ensures limits { session.new.limits ≡ session.old.limits }
+    ensures limit { limit_of pending.new ≡ limit_of pending.old }
+    ensures cause { HasCause (K.faults sink.old) (K.faults sink.new) result }
+{
+    let mut rest = bytes;
+    while let Some(end) = line_feed(rest) {
+        pending.push(&rest[..end]);
+        act(session, pending, sink)?;
+        rest = &rest[end + 1..];
+    }
+    pending.push(rest);
+    Ok(())
+}
+
+/// Acts on the last line, if one was begun, since the input ends here.
+fn close<K: Sink>(session: &mut Session, pending: &mut Pending, sink: &mut K) -> Result<(), Failed>
+    requires { AllowsLimits session.old.limits }
+    ensures closed { OnOk result (Closes session.old.limits session.old.clauses (held_of pending.old) (K.written sink.old) (K.written sink.new)) }
+    ensures cut { OnErr result (Cuts session.old.limits session.old.clauses (held_of pending.old) (K.written sink.old) (K.written sink.new)) }
+    ensures cause { HasCause (K.faults sink.old) (K.faults sink.new) result }
+{
+    if pending.bytes().is_empty() {
+        return Ok(());
+    }
+    act(session, pending, sink)
+}

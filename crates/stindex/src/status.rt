@@ -1,0 +1,30 @@
+ghost use Rattle.std.specs.Prelude.{◌≡◌};
+ghost use Rattle.stindex.specs.Status.{code_of};
+
+/// How a run ended.
+#[derive(Clone, Copy, Debug, PartialEq, Eq)]
+pub enum Status {
+    /// The input was read to its end, and every reply was written.
+    Ended,
+    /// A reply that refuses its line ended the run.
+    Refused,
+    /// The words that the program was called with are no call of it.
+    Usage,
+    /// The source failed.
+    SourceFault,
+    /// The sink failed.
+    SinkFault,
+    /// There was no memory to begin with.
+    Memory,
+    /// As many bytes were taken as a session may have.
+    SessionLimit,
+}
+
+impl Status {
+    /// The exit code of the program, from 0 to 6 in the order of the variants.
+    pub fn code(self) -> u8
+        ensures { result ≡ code_of self }
+    {
+        self as u8
+    }
+}

@@ -1,0 +1,302 @@
+// Whole runs over sources and sinks in memory.
+use crate::serve::serve;
+use crate::status::Status;
+use si_io::{MemorySink, MemorySource};
+use si_session::Limits;
+use std::alloc::{AllocError, Global};
+use std::test::Fail;
+
+/// How a device in memory cuts its bytes, and which of its calls fails, where 0 is none.
+#[derive(Clone, Copy)]
+struct Device {
+    chunk: usize,
+    fails_at: u32,
+}
+
+/// Cuts nothing that these tests write, and never fails.
+const WHOLE: Device = Device {
+    chunk: 1 << 20,
+    fails_at: 0,
+};
+
+/// More than what these tests write.
+const ROOM: usize = 1 << 16;
+
+/// How a run over this input ended, and what it wrote.
+fn run(
+    alloc: Global,
+    limits: &Limits,
+    input: &[u8],
+    from: Device,
+    to: Device,
+    room: usize,
+) -> Result<(Status, Vec<u8>), AllocError> {
+    if !limits.fits() {
+        return Err(AllocError);
+    }
+    let reads = vec![in alloc; from.fails_at]?;
+    let writes = vec![in alloc; to.fails_at]?;
+    let mut source = MemorySource::new(input.to_vec(alloc)?, from.chunk, reads);
+    let mut sink = MemorySink::new(alloc, room, to.chunk, writes)?;
+    let status = serve(alloc, limits, &mut source, &mut sink);
+    Ok((status, sink.bytes().to_vec(alloc)?))
+}
+
+/// What a run over this input writes, where no device fails.
+fn written(alloc: Global, limits: &Limits, input: &[u8]) -> Result<(Status, Vec<u8>), AllocError> {
+    run(alloc, limits, input, WHOLE, WHOLE, ROOM)
+}
+
+/// The line `add cnf(n,axiom,p(T)).`, where `T` is `a` inside so many `f(` `)`.
+fn nested(alloc: Global, depth: u32) -> Result<Vec<u8>, AllocError> {
+    let mut line = b"add cnf(n,axiom,p(".to_vec(alloc)?;
+    for _ in 0..depth {
+        line.extend_from_slice(b"f(")?;
+    }
+    line.push(b'a')?;
+    for _ in 0..depth {
+        line.push(b')')?;
+    }
+    line.extend_from_slice(b")).\n")?;
+    Ok(line)
+}
+
+/// The line `add cnf(l,axiom,p(a,a,..)).` with so many more arguments than one.
+fn wide(alloc: Global, more: u32) -> Result<Vec<u8>, AllocError> {
+    let mut line = b"add cnf(l,axiom,p(a".to_vec(alloc)?;
+    for _ in 0..more {
+        line.extend_from_slice(b",a")?;
+    }
+    line.extend_from_slice(b")).\n")?;
+    Ok(line)
+}
+
+/// Inputs with their outputs under the standard limits.
+const ROWS: [(&[u8], &[u8]); 11] = [
+    (b"", b""),
+    (b"\n", b""),
+    (b" \t\n\n", b""),
+    (
+        b"add cnf(c1,axiom,p(f(X),a)).\ninstances lit p(Y,Z)\n",
+        b"ok 1 3\nc1:1 {?Y -> f(X); ?Z -> a}\nend 1\n",
+    ),
+    // A last line without a line feed.
+    (
+        b"add cnf(c1,axiom,p(f(X),a)).\ninstances term f(Y)",
+        b"ok 1 3\nc1:1:1 {?Y -> X}\nend 1\n",
+    ),
+    // Refusals change nothing.
+    (
+        b"add cnf(c1,axiom,p(f(X),a)).\nadd cnf(c1,axiom,r).\nadd cnf(c2,axiom,p(X).\nadd cnf('c2',axiom,r).\nstats\ninstances lit p(Y,Z)\n",
+        b"ok 1 3\n! taken c1\n! syntax\n! later\n! later\nc1:1 {?Y -> f(X); ?Z -> a}\nend 1\n",
+    ),
+    // A variable of the pattern that stands twice has one value.
+    (
+        b"add cnf(c,axiom,p(a,a)).\nadd cnf(d,axiom,p(a,b)).\ninstances lit p(X,X)\n",
+        b"ok 1 3\nok 1 3\nc:1 {?X -> a}\nend 1\n",
+    ),
+    // A variable of a clause is no instance of a constant, nor of another variable that has a value.
+    (
+        b"add cnf(c,axiom,p(X,Y)).\ninstances lit p(a,Z)\ninstances lit p(Z,Z)\ninstances lit p(Y,X)\n",
+        b"ok 1 1\nend 0\nend 0\nc:1 {?Y -> X; ?X -> Y}\nend 1\n",
+    ),
+    // The value is a term with variables of the clause.
+    (
+        b"add cnf(c,axiom,p(g(X,h(Y)),X)).\ninstances lit p(A,B)\n",
+        b"ok 1 3\nc:1 {?A -> g(X,h(Y)); ?B -> X}\nend 1\n",
+    ),
+    // No query has answers where no clause is kept.
+    (b"instances lit p(X)\n", b"end 0\n"),
+    // White space alone has no reply, also as the last line.
+    (
+        b"x\n\nadd cnf(a,axiom,p).\n \ninstances lit p\n ",
+        b"! later\nok 1 1\na:1 {}\nend 1\n",
+    ),
+];
+
+#[test]
+fn each_input_has_its_output(rt: HostRuntime) -> Result<(), Fail> {
+    let alloc = rt.alloc();
+    for (input, output) in ROWS {
+        let (status, bytes) = written(alloc, &Limits::standard(), input)?;
+        assert_eq!(rt; status, Status::Ended);
+        assert_eq!(rt; bytes.as_slice(), output, "at {input:?}");
+    }
+    Ok(())
+}
+
+#[test]
+fn chunks_and_the_length_of_a_line(rt: HostRuntime) -> Result<(), Fail> {
+    let alloc = rt.alloc();
+    let limits = Limits {
+        line: 20,
+        ..Limits::standard()
+    };
+    let rows: [(&[u8], &[u8]); 6] = [
+        (
+            b"\nx\nadd cnf(a,axiom,p).\n\n instances lit p",
+            b"! later\nok 1 1\na:1 {}\nend 1\n",
+        ),
+        // As many bytes as a line may have, and one more, which hides what was read.
+        (
+            b"add cnf(a,axiom,p). \nadd cnf(b,axiom,p).  \ninstances lit p\n",
+            b"ok 1 1\n! later\na:1 {}\nend 1\n",
+        ),
+        (b"                    \n", b""),
+        (b"                     \n", b"! later\n"),
+        (b"                     ", b"! later\n"),
+        (
+            b"                                                            \nx\n",
+            b"! later\n! later\n",
+        ),
+    ];
+    for chunk in 1..=7 {
+        let from = Device { chunk, fails_at: 0 };
+        for (input, output) in rows {
+            let (status, bytes) = run(alloc, &limits, input, from, WHOLE, ROOM)?;
+            assert_eq!(rt; status, Status::Ended);
+            assert_eq!(rt; bytes.as_slice(), output, "chunk {chunk} at {input:?}");
+        }
+    }
+    Ok(())
+}
+
+#[test]
+fn deep_and_wide_clauses(rt: HostRuntime) -> Result<(), Fail> {
+    let alloc = rt.alloc();
+    let rows: [(Vec<u8>, &[u8]); 4] = [
+        (nested(alloc, 510)?, b"ok 1 512\n"),
+        (nested(alloc, 511)?, b"! syntax\n"),
+        (wide(alloc, 0)?, b"ok 1 2\n"),
+        (wide(alloc, 4999)?, b"ok 1 5001\n"),
+    ];
+    for (input, output) in rows {
+        let (status, bytes) = written(alloc, &Limits::standard(), &input)?;
+        assert_eq!(rt; status, Status::Ended);
+        assert_eq!(rt; bytes.as_slice(), output);
+    }
+    Ok(())
+}
+
+#[test]
+fn a_session_has_a_limit(rt: HostRuntime) -> Result<(), Fail> {
+    let alloc = rt.alloc();
+    let rows: [(u64, &[u8], Status, &[u8]); 7] = [
+        (8, b"instances lit p(X)\n", Status::SessionLimit, b""),
+        (0, b"x\n", Status::SessionLimit, b""),
+        (0, b"", Status::SessionLimit, b""),
+        (2, b"x\nx\n", Status::SessionLimit, b"! later\n"),
+        (3, b"x\nx\n", Status::SessionLimit, b"! later\n"),
+        (4, b"x\nx\n", Status::SessionLimit, b"! later\n! later\n"),
+        (5, b"x\nx\n", Status::Ended, b"! later\n! later\n"),
+    ];
+    for (session, input, end, output) in rows {
+        let limits = Limits {
+            session,
+            ..Limits::standard()
+        };
+        for chunk in 1..=5 {
+            let from = Device { chunk, fails_at: 0 };
+            let (status, bytes) = run(alloc, &limits, input, from, WHOLE, ROOM)?;
+            assert_eq!(rt; status, end, "session {session}, chunk {chunk}");
+            assert_eq!(rt;
+                bytes.as_slice(),
+                output,
+                "session {session}, chunk {chunk}"
+            );
+        }
+    }
+    Ok(())
+}
+
+#[test]
+fn a_device_fails_at_once(rt: HostRuntime) -> Result<(), Fail> {
+    let alloc = rt.alloc();
+    let failing = Device {
+        chunk: 1,
+        fails_at: 1,
+    };
+    let by_one = Device {
+        chunk: 1,
+        fails_at: 0,
+    };
+    let limits = Limits::standard();
+    let query = b"instances lit p(X)\n";
+    let (status, bytes) = run(alloc, &limits, query, failing, WHOLE, ROOM)?;
+    assert_eq!(rt; status, Status::SourceFault);
+    assert_eq!(rt; bytes.as_slice(), b"".as_slice());
+    let clause = b"add cnf(c1,axiom,p(f(X),a)).\n";
+    let (status, bytes) = run(alloc, &limits, clause, WHOLE, by_one, 3)?;
+    assert_eq!(rt; status, Status::SinkFault);
+    assert_eq!(rt; bytes.as_slice(), b"ok ".as_slice());
+    Ok(())
+}
+
+/// Three lines, with the bytes that are read and written up to the end of each.
+const LINES: &[u8] = b"add cnf(c1,axiom,p(f(X),a)).\ninstances lit p(Y,Z)\nstats\n";
+
+const REPLIES: &[u8] = b"ok 1 3\nc1:1 {?Y -> f(X); ?Z -> a}\nend 1\n! later\n";
+
+const ENDS: [(u32, usize); 3] = [(29, 7), (50, 40), (56, 48)];
+
+#[test]
+fn each_read_may_fail(rt: HostRuntime) -> Result<(), Fail> {
+    let alloc = rt.alloc();
+    // The last number is of no call, for the one before it meets the end.
+    for fails_at in 1..=58 {
+        let from = Device { chunk: 1, fails_at };
+        let mut count = 0;
+        for (read, wrote) in ENDS {
+            if read < fails_at {
+                count = wrote;
+            }
+        }
+        let mut due = REPLIES.to_vec(alloc)?;
+        due.truncate(count);
+        let end = if fails_at < 58 {
+            Status::SourceFault
+        } else {
+            Status::Ended
+        };
+        let (status, bytes) = run(alloc, &Limits::standard(), LINES, from, WHOLE, ROOM)?;
+        assert_eq!(rt; status, end, "read {fails_at}");
+        assert_eq!(rt; bytes.as_slice(), due.as_slice(), "read {fails_at}");
+    }
+    Ok(())
+}
+
+#[test]
+fn each_write_may_fail(rt: HostRuntime) -> Result<(), Fail> {
+    let alloc = rt.alloc();
+    for count in 0..=48u32 {
+        let mut due = REPLIES.to_vec(alloc)?;
+        due.truncate(count as usize);
+        let end = if count < 48 {
+            Status::SinkFault
+        } else {
+            Status::Ended
+        };
+        let failing = Device {
+            chunk: 1,
+            fails_at: count + 1,
+        };
+        let (status, bytes) = run(alloc, &Limits::standard(), LINES, WHOLE, failing, ROOM)?;
+        assert_eq!(rt; status, end, "write {count}");
+        assert_eq!(rt; bytes.as_slice(), due.as_slice(), "write {count}");
+        let by_one = Device {
+            chunk: 1,
+            fails_at: 0,
+        };
+        let (status, bytes) = run(
+            alloc,
+            &Limits::standard(),
+            LINES,
+            WHOLE,
+            by_one,
+            count as usize,
+        )?;
+        assert_eq!(rt; status, end, "room {count}");
+        assert_eq!(rt; bytes.as_slice(), due.as_slice(), "room {count}");
+    }
+    Ok(())
+}

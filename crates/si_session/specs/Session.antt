@@ -1,5 +1,5 @@
 -- What a session is seen as, and what one step does.
-use Rattle.std.specs.Prelude.{◌≡◌, ℕ, Bool, true, false, List, [], Option, IsTrue, IsFalse, refl}
+use Rattle.std.specs.Prelude.{◌≡◌, ℕ, Bool, true, false, List, [], ◌∷◌, ◌++◌, codes, Option, IsTrue, IsFalse, refl}
 use Rattle.std.specs.Coded.{Coded, code_by, coded×, coded_list}
 use Rattle.si_defs.specs.Bytes.{Bytes}
 use Rattle.si_defs.specs.Clauses.{Clause}
@@ -31,3 +31,12 @@ pub record Steps (old new : State) (line : Bytes) (outcome : Stepped) (before af
   pub step : Step old.limits old.clauses line reply new.clauses
   pub limits : new.limits ≡ old.limits
   pub written : Writes outcome reply before after
+
+-- ---- parts of a step
+-- What a command did: its reply P was right, and so is the state behind it; or memory ran out, at once or behind some of
+-- the lines of the right reply, and the state stayed.
+pub data Acts (P : Reply → List Clause → Type 0) (old new : List Clause) (outcome : Stepped) (before after : Option Bytes) : Type 0 where
+  rightly : (reply : Reply) → P reply new → Writes outcome reply before after → Acts P old new outcome before after
+  at_once : new ≡ old → Writes outcome (codes "! memory" ∷ []) before after → Acts P old new outcome before after
+  behind : (whole : Reply) (next : List Clause) → P whole next → (written left : Reply) → whole ≡ written ++ left → (left ≡ [] → ⊥)
+      → new ≡ old → Writes outcome (written ++ codes "! memory" ∷ []) before after → Acts P old new outcome before after

@@ -7,8 +7,10 @@ mod equality;
 mod limits;
 mod matching;
 mod printing;
-mod scan;
 mod reply;
+mod scan;
+
+
 mod session;
 mod sign;
 mod solution;

@@ -1,14 +1,22 @@
 // A session: the clauses that are kept, and one step for each line.
 ghost use Rattle.std.specs.Prelude.{◌≡◌, ◌↔◌, ◌≤◌, [], IfOk};
-ghost use Rattle.si_defs.specs.Steps.{AllowsLimits, IsSilent};
+ghost use Rattle.si_defs.specs.Steps.{AllowsLimits, IsSilent, Performs, add, query};
 ghost use Rattle.si_session.specs.Limits.{limits_of};
-ghost use Rattle.si_session.specs.Session.{Steps};
+ghost use Rattle.si_session.specs.Session.{Steps, Acts};
 ghost use Rattle.si_session.specs.declared.session.Stepped.TheVariants.{Silent, Refused, SinkFailed};
 ghost use Rattle.si_io.specs.Faults.{Rose};
+ghost use Rattle.si_defs.specs.Clauses.{IsSoundClause};
+ghost use Rattle.si_defs.specs.Relations.{Instances};
+ghost use Rattle.si_term.specs.Meaning.{clause_of, pattern_of};
 
+use crate::answer::{Broken, answer_clauses};
+use crate::command::{Command, is_white_space, read_command};
 use crate::limits::Limits;
+use crate::reply::{Refusal, put_count, put_named, put_refusal};
+use crate::scan::Scratch;
+use crate::store::{Rejected, Store};
 use si_io::Sink;
-use si_term::Clause;
+use si_term::{Clause, Pattern};
 use std::alloc::{AllocError, Global};
 use std::marker::Model;
 
@@ -30,20 +38,18 @@ pub enum Stepped {
 pub struct Session {
     alloc: Global,
     limits: Limits,
-    clauses: Vec<Clause>,
+    store: Store,
 }
 
 impl Model for Session {
-    ghost use Rattle.std.specs.Prelude.{map};
     ghost use Rattle.si_session.specs.Session.{State, state_code};
     ghost use Rattle.si_session.specs.Limits.{limits_of};
-    ghost use Rattle.si_term.specs.Meaning.{clause_of};
 
     ghost Value = { State };
 
     ghost coded = { state_code };
 
-    ghost view = { λ s. record { clauses = map clause_of s.clauses.items; limits = limits_of s.limits } };
+    ghost view = { λ s. record { clauses = s.store; limits = limits_of s.limits } };
 }
 
 impl Session {
@@ -55,7 +61,7 @@ impl Session {
         Ok(Session {
             alloc,
             limits: *limits,
-            clauses: Vec::new(alloc),
+            store: Store::new(alloc),
         })
     }
 
@@ -68,7 +74,56 @@ impl Session {
         ensures later { K.faults sink.old ≤ K.faults sink.new }
         ensures failed { result ≡ SinkFailed → Rose (K.faults sink.old) (K.faults sink.new) }
     {
-        let _ = line.len();
-        Stepped::Silent
+        if line.len() > self.limits.line {
+            return put_refusal(sink, Refusal::Later);
+        }
+        if is_white_space(line) {
+            return Stepped::Silent;
+        }
+        match read_command(self.alloc, line) {
+            Ok(Command::Later) => put_refusal(sink, Refusal::Later),
+            Ok(Command::Wrong) => put_refusal(sink, Refusal::Syntax),
+            Ok(Command::Add(clause)) => add(&mut self.store, clause, sink),
+            Ok(Command::Query(pattern)) => answer(self.alloc, &self.store, &pattern, sink),
+            Err(_) => put_refusal(sink, Refusal::Memory),
+        }
+    }
+}
+
+/// Keeps a clause if its name is free, and writes the reply.
+fn add<K: Sink>(store: &mut Store, clause: Clause, sink: &mut K) -> Stepped
+    requires { IsSoundClause (clause_of clause) }
+    ensures acts { Acts (Performs (add (clause_of clause)) store.old) store.old store.new result (K.written sink.old) (K.written sink.new) }
+    ensures later { K.faults sink.old ≤ K.faults sink.new }
+    ensures failed { result ≡ SinkFailed → Rose (K.faults sink.old) (K.faults sink.new) }
+{
+    match store.add(clause) {
+        Ok(gained) => match put_count(sink, b"ok 1 ", u64::from(gained)) {
+            Ok(()) => Stepped::Answered,
+            Err(_) => Stepped::SinkFailed,
+        },
+        Err(Rejected::Taken(clause)) => match put_named(sink, b"! taken ", &clause.name) {
+            Ok(()) => Stepped::Refused,
+            Err(_) => Stepped::SinkFailed,
+        },
+        Err(Rejected::Memory) => put_refusal(sink, Refusal::Memory),
+    }
+}
+
+/// Answers which entries are instances of a pattern.
+fn answer<K: Sink>(alloc: Global, store: &Store, pattern: &Pattern, sink: &mut K) -> Stepped
+    ensures acts { Acts (Performs (query Instances (pattern_of pattern.now)) store.now) store.now store.now result (K.written sink.old) (K.written sink.new) }
+    ensures later { K.faults sink.old ≤ K.faults sink.new }
+    ensures failed { result ≡ SinkFailed → Rose (K.faults sink.old) (K.faults sink.new) }
+{
+    let _total = store.total();
+    let mut scratch = Scratch::new(alloc);
+    match answer_clauses(pattern, store.as_slice(), &mut scratch, sink) {
+        Ok(()) => match put_count(sink, b"end ", scratch.found) {
+            Ok(()) => Stepped::Answered,
+            Err(_) => Stepped::SinkFailed,
+        },
+        Err(Broken::Sink) => Stepped::SinkFailed,
+        Err(Broken::Memory) => put_refusal(sink, Refusal::Memory),
     }
 }

@@ -1,5 +1,5 @@
 -- The texts of bindings, one after the other, and as the definitions print them.
-use Rattle.std.proofs.Common.{◌≡◌, ℕ, ◌+◌, ◌<◌, ◌≤◌, List, [], ◌∷◌, ◌++◌, length, get_or, drop, refl, ap, sym, ◌∙◌, append_assoc}
+use Rattle.std.proofs.Common.{◌≡◌, ℕ, ◌+◌, ◌<◌, ◌≤◌, List, [], ◌++◌, length, get_or, drop, ap, sym, ◌∙◌}
 use Rattle.std.proofs.lemmas.List.{drop_more, drop_all}
 use Rattle.si_session.specs.Bound.{binding_of, bindings_of}
 use Rattle.si_session.specs.Signs.{sign_text, binding_text, more_bindings_text}

@@ -1,22 +1,22 @@
 -- Which command a plain line is, by its first words.
-use Rattle.std.proofs.Common.{◌≡◌, ℕ, ◌+◌, ◌≤◌, max, List, [], ◌∷◌, ◌++◌, length, drop, refl, ap, sym, ◌∙◌, subst, inl, inr, arith}
+use Rattle.std.proofs.Common.{◌≡◌, ℕ, ◌≤◌, List, [], ◌∷◌, drop, refl, ap, sym, ◌∙◌, subst, inl, inr, arith}
 use Rattle.std.specs.Prelude.{codes, Bool, true, false, IsTrue, ◌↔◌}
 use Rattle.si_defs.specs.Bytes.{Bytes}
-use Rattle.si_defs.specs.Clauses.{Clause, Pattern, literal_pattern, term_pattern, IsSoundClause}
-use Rattle.si_defs.specs.Relations.{Relation, Instances, Variants, Generalizations, Unifiable}
-use Rattle.si_defs.specs.Tokens.{Token, lower, NextToken, AreBlanks, Begins, Consists}
-use Rattle.si_defs.specs.Grammar.{Item, clause_item, left_bracket, nesting, nesting_from, IsClause, IsLiteral, IsTerm}
+use Rattle.si_defs.specs.Clauses.{Clause, Pattern, literal_pattern, term_pattern}
+use Rattle.si_defs.specs.Relations.{Instances, Variants, Generalizations, Unifiable}
+use Rattle.si_defs.specs.Tokens.{Token, lower, NextToken, AreBlanks, Begins}
+use Rattle.si_defs.specs.Grammar.{clause_item, left_bracket, nesting}
 use Rattle.si_defs.specs.Substitutions.{IsAmong}
-use Rattle.si_defs.specs.Texts.{BeginsWithItem, IsText, IsPattern, IsPatternText, IsForeign, languages}
-use Rattle.si_defs.specs.Steps.{IsPlain, IsFirstForm, AddsForeign, Command, add, query, IsCommand, IsQuery, IsRelationWord, Means, words}
-use Rattle.si_parse.specs.Lexing.{IsNext, IsNextEnd}
+use Rattle.si_defs.specs.Texts.{BeginsWithItem, IsPatternText, IsForeign, languages}
+use Rattle.si_defs.specs.Steps.{IsPlain, IsFirstForm, AddsForeign, Command, add, query, IsCommand, IsQuery, Means, words}
+use Rattle.si_parse.specs.Lexing.{IsNext}
 use Rattle.si_parse.specs.Reading.{IsOfKind}
 use Rattle.si_parse.specs.declared.lex.Lexed.{Lexed}
 use Rattle.si_parse.specs.declared.lex.Lexed.TheVariants as lexed
 use Rattle.si_parse.specs.declared.pattern.PatternKind.{PatternKind}
 use Rattle.si_parse.specs.declared.pattern.PatternKind.TheVariants as kind
 use Rattle.si_parse.proofs.LexWords.{next_unique, next_plain, blanks_none}
-use Rattle.si_session.specs.Commands.{IsBuilt, kind_word}
+use Rattle.si_session.specs.Commands.{kind_word}
 
 -- ---- words
 abbrev first_byte : Bytes → ℕ

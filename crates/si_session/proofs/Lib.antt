@@ -12,3 +12,4 @@ pub mod SolutionTexts
 pub mod Told
 pub mod ScanLaws
 pub mod StoreLaws
+pub mod Acting

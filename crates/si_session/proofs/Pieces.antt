@@ -10,7 +10,7 @@ use Rattle.si_term.specs.declared.term.Term.{Term}
 use Rattle.si_term.proofs.Rows.{from, from-read, positive}
 use Rattle.si_session.specs.PrintedParts.{arguments_text, dotted}
 use Rattle.si_io.specs.Content.{Appends, AppendsPrefix}
-use Rattle.si_io.proofs.Content.{append_told-nil, Appends_then, AppendsPrefix_none, AppendsPrefix_then, AppendsPrefix_more}
+use Rattle.si_io.proofs.Content.{append_told-nil, Appends_then, AppendsPrefix_then, AppendsPrefix_more}
 
 -- Some of the whole is written, and the rest is left.
 pub record Wrote (old now : Option (List ℕ)) (whole rest : List ℕ) : Type 0 where

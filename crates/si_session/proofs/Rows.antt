@@ -1,5 +1,5 @@
 -- Arguments of the program's terms, one after the other.
-use Rattle.std.proofs.Common.{◌≡◌, ℕ, zero, suc, ◌+◌, ◌*◌, ◌<◌, ◌≤◌, Bool, true, false, ◌&&◌, List, [], ◌∷◌, length, get_or, drop, map, refl, ap, sym, ◌∙◌, arith, drop-cons}
+use Rattle.std.proofs.Common.{◌≡◌, ℕ, zero, suc, ◌<◌, ◌≤◌, Bool, true, false, ◌&&◌, List, [], ◌∷◌, length, get_or, drop, map, refl, ap, arith, drop-cons}
 use Rattle.si_defs.specs.Terms as terms
 use Rattle.si_term.specs.Terms.{term_of}
 use Rattle.si_term.specs.declared.term.Term.{Term}

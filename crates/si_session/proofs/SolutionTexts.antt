@@ -1,15 +1,14 @@
 -- The list that the program writes is the list that the definitions print.
-use Rattle.std.proofs.Common.{◌≡◌, List, [], ◌∷◌, ◌++◌, refl, ap, sym, ◌∙◌, append_assoc, append-nil}
+use Rattle.std.proofs.Common.{◌≡◌, [], ◌∷◌, ◌++◌, refl, ap, sym, ◌∙◌, append_assoc, append-nil}
 use Rattle.std.specs.Prelude.{codes}
 use Rattle.si_defs.specs.Bytes.{Bytes}
 use Rattle.si_defs.specs.Terms as terms
 use Rattle.si_defs.specs.Clauses.{Term, Terms}
-use Rattle.si_defs.specs.Answers.{of_entry, variable_text, entry_term}
+use Rattle.si_defs.specs.Answers.{of_entry, variable_text}
 use Rattle.si_defs.specs.Printing as printing
 use Rattle.si_defs.specs.Printing.{symbol_text, separated, term_text, more_texts, bindings_texts}
 use Rattle.si_session.specs.Matching.{Bindings, solution_of}
 use Rattle.si_session.specs.Signs.{sign_text, binding_text, more_bindings_text, bindings_text, solution_text}
-use Rattle.si_session.specs.declared.sign.Sign.TheVariants.{Semicolon}
 
 -- the variables of an entry are printed by their names
 mutual

@@ -11,7 +11,7 @@ use Rattle.si_defs.specs.Substitutions.{IsAmong}
 use Rattle.si_defs.specs.declared.NameKind.{NameKind}
 use Rattle.si_defs.specs.declared.NameKind.TheVariants.{Word, Int}
 use Rattle.si_term.proofs.Alone.{entries_few}
-use Rattle.si_session.specs.StoreKeys.{kind_byte, key_of, Keeps}
+use Rattle.si_session.specs.StoreKeys.{kind_byte, key_of}
 use Rattle.si_session.proofs.MatchingLaws.{bytes_eq_true, bytes_eq_same}
 
 kinds_apart : (n : ℕ) → 119 ≡ n → n ≡ 105 → ⊥

@@ -1,5 +1,5 @@
 -- What the reader of command lines gives, for a line that is not too long and not white space alone.
-use Rattle.std.specs.Prelude.{◌≡◌, ◌⊎◌, List, codes}
+use Rattle.std.specs.Prelude.{◌⊎◌, codes}
 use Rattle.si_defs.specs.Tokens.{NextToken, lower}
 use Rattle.si_parse.specs.declared.pattern.PatternKind.{PatternKind}
 use Rattle.si_parse.specs.declared.pattern.PatternKind.TheVariants as kind

@@ -1,6 +1,6 @@
 -- The answer to a pattern, entry by entry, by matching.
 use Rattle.std.specs.Prelude.{ℕ, Bool, true, false, cond, List, [], ◌∷◌, ◌++◌, Option, Some, None}
-use Rattle.si_defs.specs.Clauses.{Term, Literal, Clause, Pattern, literal_pattern, term_pattern}
+use Rattle.si_defs.specs.Clauses.{Term, Clause, Pattern, literal_pattern, term_pattern}
 use Rattle.si_defs.specs.Entries.{Entry, literal_entry, term_entry, Placed}
 use Rattle.si_defs.specs.Answers.{Hit}
 use Rattle.si_session.specs.Matching.{Bindings, matched, solution_of}

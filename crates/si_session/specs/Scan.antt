@@ -2,7 +2,7 @@
 use Rattle.std.specs.Prelude.{ℕ, List, [], ◌∷◌, ◌++◌, map, Option, Some, None, codes, decimal}
 use Rattle.si_defs.specs.Bytes.{Bytes}
 use Rattle.si_defs.specs.Clauses.{Name, Term, Literal, Clause, Pattern, term_pattern}
-use Rattle.si_defs.specs.Entries.{Placed, literal_entries, entries_from, entries, placed_in, state_entries}
+use Rattle.si_defs.specs.Entries.{literal_entries, entries_from, entries, placed_in, state_entries}
 use Rattle.si_defs.specs.Printing.{place_text}
 use Rattle.si_defs.specs.Answers.{hit_texts}
 use Rattle.si_session.specs.Matching.{Bindings}

@@ -1,7 +1,7 @@
-use Rattle.std.proofs.Common.{◌≡◌, ◌+◌, ◌<◌, ◌≤◌, [], length, map, drop, ap, sym, ◌∙◌, subst, arith}
-use Rattle.si_defs.specs.Clauses.{literals_size, literal_size, most_occurrences}
+use Rattle.std.proofs.Common.{◌≡◌, ◌+◌, map, ap, sym, ◌∙◌, subst, arith}
+use Rattle.si_defs.specs.Clauses.{literals_size}
 use Rattle.si_term.specs.Meaning.{literal_of, clause_of, pattern_of}
-use Rattle.si_session.specs.Scan.{literals_lines, literal_lines, clause_lines}
+use Rattle.si_session.specs.Scan.{literals_lines, clause_lines}
 use Rattle.si_session.proofs.Told.{SoFar, so_far_start, so_far_more, so_far_broken, so_far_room, so_far_end, so_far_counted, tells_again}
 use Rattle.si_session.proofs.ScanLaws.{literals_lines-next, literals_lines-end, clause_lines_is, count-literals_size, literal_size-at}
 use Rattle.si_session.proofs.answer.answer_clause.Goals as goal

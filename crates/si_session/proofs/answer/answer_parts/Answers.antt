@@ -4,7 +4,7 @@ use Rattle.si_defs.specs.Runs.{ended}
 use Rattle.si_io.specs.Content.{Appends}
 use Rattle.si_io.proofs.Content.{append_told-nil}
 use Rattle.si_term.specs.Terms.{term_of}
-use Rattle.si_term.specs.Meaning.{literal_of, clause_of}
+use Rattle.si_term.specs.Meaning.{clause_of}
 use Rattle.si_session.specs.Telling.{Tells}
 use Rattle.si_session.proofs.ScanLaws.{variable_atom_lines, atom_lines}
 use Rattle.si_session.proofs.answer.answer_parts.Goals as goal

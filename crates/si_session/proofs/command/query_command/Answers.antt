@@ -1,4 +1,4 @@
-use Rattle.std.proofs.Common.{subst, drop, codes, sym}
+use Rattle.std.proofs.Common.{subst, drop, codes}
 use Rattle.si_defs.specs.Tokens.{lower}
 use Rattle.si_parse.specs.Lexing.{IsNext}
 use Rattle.si_parse.specs.Tokens.{token_of}

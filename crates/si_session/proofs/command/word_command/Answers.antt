@@ -1,5 +1,4 @@
-use Rattle.std.proofs.Common.{◌≡◌, inl, drop, codes, sym, ◌∙◌, false, true}
-use Rattle.si_defs.specs.Tokens.{lower}
+use Rattle.std.proofs.Common.{inl, sym, ◌∙◌}
 use Rattle.si_session.proofs.CommandLaws.{no_form, not_true}
 use Rattle.si_session.proofs.command.word_command.Goals as goal
 

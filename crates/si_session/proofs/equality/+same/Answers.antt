@@ -1,6 +1,5 @@
-use Rattle.std.proofs.Common.{rules, ◌≡◌, bytes_eq, map, ℕ, ◌+◌, ◌-◌, ◌*◌, ◌<◌, ◌≤◌, length, ◌/◌, ◌%◌, Bool, true, false, arith, subst, sym}
-use Rattle.si_session.specs.Equality.{symbol_eq, term_eq, terms_eq}
-use Rattle.si_term.specs.Terms.{symbol_of, term_of}
+use Rattle.std.proofs.Common.{map, ◌≤◌, arith, subst, sym}
+use Rattle.si_term.specs.Terms.{term_of}
 use Rattle.si_defs.specs.Terms.{row, size, sizes}
 use Rattle.si_session.proofs.Rows.{lengths, size-at}
 use Rattle.si_session.proofs.equality.+same.Goals as goal

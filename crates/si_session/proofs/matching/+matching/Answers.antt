@@ -1,4 +1,4 @@
-use Rattle.std.proofs.Common.{◌*◌, ◌<◌, ◌≤◌, map, arith, subst, sym}
+use Rattle.std.proofs.Common.{◌≤◌, map, arith, subst, sym}
 use Rattle.si_defs.specs.Terms.{row, size, sizes}
 use Rattle.si_term.specs.Terms.{term_of}
 use Rattle.si_session.specs.Bound.{bindings_of}

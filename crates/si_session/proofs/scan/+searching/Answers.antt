@@ -1,16 +1,15 @@
-use Rattle.std.proofs.Common.{◌≡◌, ◌+◌, ◌*◌, ◌<◌, ◌≤◌, List, [], ◌∷◌, ◌++◌, length, map, drop, ap, sym, ◌∙◌, subst, refl, arith, length-append}
+use Rattle.std.proofs.Common.{◌≡◌, ◌+◌, ◌≤◌, [], ◌∷◌, ◌++◌, length, map, ap, sym, ◌∙◌, subst, refl, arith, length-append}
 use Rattle.std.specs.Prelude.{Err, OnOk}
 use Rattle.si_defs.specs.Runs.{ended}
-use Rattle.si_defs.specs.Terms.{row, size, sizes, occurrences, occurrences_from}
+use Rattle.si_defs.specs.Terms.{row, size, sizes, occurrences_from}
 use Rattle.si_io.specs.Content.{Appends}
 use Rattle.si_io.proofs.Content.{append_told-nil}
 use Rattle.si_term.specs.Terms.{term_of}
 use Rattle.si_term.specs.Meaning.{clause_of, name_of}
 use Rattle.si_session.specs.Matching.{matched}
-use Rattle.si_session.specs.Telling.{Tells, Blames}
+use Rattle.si_session.specs.Telling.{Tells}
 use Rattle.si_session.specs.Scan.{entry_lines, subterm_lines}
 use Rattle.si_session.proofs.Rows.{size-at}
-use Rattle.si_session.proofs.Writing.{on_ok}
 use Rattle.si_session.proofs.Told.{so_far_more, so_far_broken, so_far_room, so_far_end, so_far_counted, tells_again, tells_broken, tells_then, counted_then}
 use Rattle.si_session.proofs.ScanLaws.{subterm_lines-step, subterm_lines-end, variable_lines, application_lines, application_size, count-sizes, popped}
 use Rattle.si_session.proofs.scan.+searching.Goals as goal

@@ -1,4 +1,4 @@
-use Rattle.std.proofs.Common.{List, ◌++◌}
+use Rattle.std.proofs.Common.{◌++◌}
 use Rattle.std.specs.Prelude.{Option, Result, Ok, Err, OnErr}
 use Rattle.si_io.specs.declared.failed.Failed.{Failed}
 use Rattle.si_defs.specs.Bytes.{Bytes}

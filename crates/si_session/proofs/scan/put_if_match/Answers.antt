@@ -1,6 +1,5 @@
-use Rattle.std.proofs.Common.{◌≡◌, List, [], ◌∷◌, length, ap, sym, ◌∙◌, subst, arith}
+use Rattle.std.proofs.Common.{◌≡◌, [], ◌∷◌, length, ap, sym, ◌∙◌, subst, arith}
 use Rattle.std.specs.Prelude.{Err}
-use Rattle.si_defs.specs.Bytes.{Bytes}
 use Rattle.si_defs.specs.Runs.{ended}
 use Rattle.si_io.specs.Content.{Appends}
 use Rattle.si_io.proofs.Content.{append_told-nil}

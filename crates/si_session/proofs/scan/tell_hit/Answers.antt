@@ -1,9 +1,7 @@
-use Rattle.std.proofs.Common.{◌≡◌, subst}
-use Rattle.std.specs.Result.{IsErrAnd}
+use Rattle.std.proofs.Common.{subst}
 use Rattle.si_io.specs.Content.{Appends, AppendsPrefix}
 use Rattle.si_term.specs.Meaning.{name_of}
 use Rattle.si_session.specs.Bound.{bindings_of}
-use Rattle.si_session.specs.declared.answer.Broken.TheVariants.{Sink}
 use Rattle.si_session.proofs.Told.{tells_sink}
 use Rattle.si_session.proofs.ScanLaws.{ended_hit_line_is}
 use Rattle.si_session.proofs.scan.tell_hit.Goals as goal

@@ -1,5 +1,5 @@
-use Rattle.std.proofs.Common.{arith, subst, ◌++◌, []}
-use Rattle.si_session.specs.Bound.{binding_of, bindings_of}
+use Rattle.std.proofs.Common.{arith, subst}
+use Rattle.si_session.specs.Bound.{bindings_of}
 use Rattle.si_session.specs.Signs.{more_bindings_text}
 use Rattle.si_session.proofs.Writing.{Progress, on_err, progress_more, progress_broken, progress_end}
 use Rattle.si_session.proofs.BindingLaws.{more_bindings-drop, more_bindings-end}

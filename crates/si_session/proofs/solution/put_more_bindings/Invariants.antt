@@ -1,5 +1,4 @@
-use Rattle.std.proofs.Common.{◌≡◌, ◌≤◌, ◌++◌, drop, List, ℕ}
-use Rattle.si_io.specs.Content.{Appends}
+use Rattle.std.proofs.Common.{◌≤◌, drop}
 use Rattle.si_session.specs.Bound.{bindings_of}
 use Rattle.si_session.specs.Signs.{more_bindings_text}
 use Rattle.si_session.proofs.Writing.{Progress}

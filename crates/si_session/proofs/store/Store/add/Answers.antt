@@ -1,10 +1,9 @@
-use Rattle.std.proofs.Common.{◌≡◌, ◌+◌, ◌++◌, ◌∷◌, [], length, refl, ap, sym, ◌∙◌, map, subst, cond, arith, true, false}
+use Rattle.std.proofs.Common.{◌≡◌, ◌+◌, ◌++◌, ◌∷◌, [], length, refl, ap, sym, ◌∙◌, map, subst, cond, true, false}
 use Rattle.std.specs.Prelude.{bytes_eq}
 use Rattle.std.specs.List.{list_any}
 use Rattle.std.proofs.lemmas.List.{map-append}
-use Rattle.si_defs.specs.Bytes.{Bytes}
 use Rattle.si_defs.specs.Acceptance.{names, IsTaken}
-use Rattle.si_defs.specs.Entries.{entries, state_entries}
+use Rattle.si_defs.specs.Entries.{entries}
 use Rattle.si_term.specs.Meaning.{clause_of, name_of}
 use Rattle.si_session.specs.StoreKeys.{key_of, Keeps}
 use Rattle.si_session.proofs.StoreLaws.{listed, unlisted, keyed_more, entries_more, sound_more, entries_bound, insert_new}

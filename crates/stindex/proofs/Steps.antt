@@ -3,7 +3,7 @@ use Rattle.std.proofs.Common.{◌≡◌, ◌+◌, ◌<◌, ◌≤◌, Bool, true
 use Rattle.std.proofs.lemmas.Bool.Decides.{nat_tests}
 use Rattle.si_defs.specs.Bytes.{Bytes}
 use Rattle.si_defs.specs.Clauses.{Clause}
-use Rattle.si_defs.specs.Steps.{Limits, Reply, RightStep, later, silent, wrong, performed, Step, right, memory}
+use Rattle.si_defs.specs.Steps.{Limits, Reply, RightStep, later, silent, wrong, performed, Step, right, memory_at_once, memory_behind}
 use Rattle.stindex.specs.Progress.{shown}
 
 long_right : (limits : Limits) (old new : List Clause) (front line : Bytes) (reply : Reply)
@@ -18,7 +18,8 @@ pub long_step : (limits : Limits) (old new : List Clause) (front line : Bytes) (
     → limits.line < length front → limits.line < length line
     → Step limits old front reply new → Step limits old line reply new
 long_step limits old new front line reply long longer (right step) = right (long_right limits old new front line reply long longer step)
-long_step limits old new front line reply long longer (memory whole next step short written left cut proper replied kept) = absurd (omega arith)
+long_step limits old new front line reply long longer (memory_at_once loud short replied kept) = absurd (omega arith)
+long_step limits old new front line reply long longer (memory_behind whole next step short written left cut proper replied kept) = absurd (omega arith)
 
 -- what is held of a line has the line's step
 pub shown_step : (limits : Limits) (old new : List Clause) (line : Bytes) (reply : Reply) → Step limits old (shown limits line) reply new → Step limits old line reply new

@@ -1,6 +1,6 @@
 -- What was read of all tokens of some bytes is the pattern that the bytes are.
-use Rattle.std.proofs.Common.{◌≡◌, ℕ, ◌+◌, ◌≤◌, List, [], ◌∷◌, ◌++◌, length, drop, refl, ap, sym, ◌∙◌, subst, arith, append-nil}
-use Rattle.std.specs.Prelude.{Option, Some, None, option_map, Bool, false, ◌==◌}
+use Rattle.std.proofs.Common.{◌≡◌, ◌≤◌, List, [], ◌∷◌, ◌++◌, length, refl, ap, sym, ◌∙◌, subst, arith, append-nil}
+use Rattle.std.specs.Prelude.{Option, Some, None, option_map, false, ◌==◌}
 use Rattle.std.specs.Borrow.{Bor}
 use Rattle.si_defs.specs.Bytes.{Bytes}
 use Rattle.si_defs.specs.Terms as terms
@@ -8,7 +8,7 @@ use Rattle.si_defs.specs.Clauses as clauses
 use Rattle.si_defs.specs.Clauses.{literal_pattern, term_pattern, IsSoundLiteral, IsSoundTerm, IsSoundPattern, literal_size}
 use Rattle.si_defs.specs.Tokens as defs
 use Rattle.si_defs.specs.Grammar.{IsLiteral, IsTerm}
-use Rattle.si_defs.specs.Texts.{IsText, IsPattern, IsPatternText}
+use Rattle.si_defs.specs.Texts.{IsPattern, IsPatternText}
 use Rattle.si_term.specs.Terms.{term_of}
 use Rattle.si_term.specs.Meaning.{literal_of, pattern_of}
 use Rattle.si_term.specs.declared.clause.Pattern.{Pattern}
@@ -16,8 +16,8 @@ use Rattle.si_term.specs.declared.clause.Literal as program
 use Rattle.si_term.specs.declared.term.Term as program_term
 use Rattle.si_parse.specs.Tokens.{tokens_of}
 use Rattle.si_parse.specs.Lexing.{IsLexing}
-use Rattle.si_parse.specs.Parsing.{Parses, NoBracket, Reads}
-use Rattle.si_parse.specs.Reading.{IsOfKind, IsPatternRead, ReadsPattern, IsWhole, ReadsWhole}
+use Rattle.si_parse.specs.Parsing.{NoBracket, Reads}
+use Rattle.si_parse.specs.Reading.{IsOfKind, ReadsPattern, IsWhole, ReadsWhole}
 use Rattle.si_parse.specs.declared.token.Token.{Token}
 use Rattle.si_parse.specs.declared.token.Stop.{Stop}
 use Rattle.si_parse.specs.declared.token.Stop.TheVariants.{End}
@@ -46,9 +46,9 @@ literal_whole tokens l r few none p sound =
       only = λ other k o. by other k o;
       sound = (sound.0, omega arith);
     } where
-  by : (other : clauses.Pattern) → IsOfKind kind.Lit other → IsPattern other (tokens_of tokens) → other ≡ literal_pattern (literal_of l)
-  by (literal_pattern m) k o = ap (λ (x : clauses.Literal × List defs.Token). literal_pattern x.0) (sym (some_injective _ (m, []) (p.every m (tokens_of tokens) [] (sym (append-nil (tokens_of tokens))) o tt)))
-  by (term_pattern t) k o = absurd k
+      by : (other : clauses.Pattern) → IsOfKind kind.Lit other → IsPattern other (tokens_of tokens) → other ≡ literal_pattern (literal_of l)
+      by (literal_pattern m) k o = ap (λ (x : clauses.Literal × List defs.Token). literal_pattern x.0) (sym (some_injective _ (m, []) (p.every m (tokens_of tokens) [] (sym (append-nil (tokens_of tokens))) o tt)))
+      by (term_pattern t) k o = absurd k
 
 abbrev literal_view : program.Literal × Bor (List Token) → clauses.Literal × List defs.Token
 literal_view r = (literal_of r.0, tokens_of r.1.now)
@@ -91,9 +91,9 @@ term_whole tokens t r few none p sound =
       only = λ other k o. by other k o;
       sound = (sound.0, omega arith);
     } where
-  by : (other : clauses.Pattern) → IsOfKind kind.Term other → IsPattern other (tokens_of tokens) → other ≡ term_pattern (term_of t)
-  by (term_pattern m) k o = ap (λ (x : clauses.Term × List defs.Token). term_pattern x.0) (sym (some_injective _ (m, []) (p.every m (tokens_of tokens) [] (sym (append-nil (tokens_of tokens))) o tt)))
-  by (literal_pattern l) k o = absurd k
+      by : (other : clauses.Pattern) → IsOfKind kind.Term other → IsPattern other (tokens_of tokens) → other ≡ term_pattern (term_of t)
+      by (term_pattern m) k o = ap (λ (x : clauses.Term × List defs.Token). term_pattern x.0) (sym (some_injective _ (m, []) (p.every m (tokens_of tokens) [] (sym (append-nil (tokens_of tokens))) o tt)))
+      by (literal_pattern l) k o = absurd k
 
 pub term_left : (tokens : List Token) (found : Option (program_term.Term × Bor (List Token))) → Reads term_of IsTerm NoBracket tokens found
     → ((t : program_term.Term) (r : Bor (List Token)) → found ≡ Some (t, r) → r.now ≡ [] → ⊥) → (p : clauses.Pattern) → IsOfKind kind.Term p → IsPattern p (tokens_of tokens) → ⊥
@@ -120,8 +120,8 @@ whole_read bytes items tokens stop k (Some p) l e same w =
       only = λ other o t. w.only other o (all_tokens other t);
       sound = w.sound;
     } where
-  all_tokens : (other : clauses.Pattern) → IsPatternText other bytes → IsPattern other (tokens_of tokens)
-  all_tokens other t = subst (IsPattern other) (sym (l.whole t.tokens t.consists t.nested).1 ∙ ap tokens_of (sym same)) t.spelled
+      all_tokens : (other : clauses.Pattern) → IsPatternText other bytes → IsPattern other (tokens_of tokens)
+      all_tokens other t = subst (IsPattern other) (sym (l.whole t.tokens t.consists t.nested).1 ∙ ap tokens_of (sym same)) t.spelled
 whole_read bytes items tokens stop k None l e same w = λ p o t. w p o (subst (IsPattern p) (sym (l.whole t.tokens t.consists t.nested).1 ∙ ap tokens_of (sym same)) t.spelled)
 
 -- where they do not, the bytes are no pattern

@@ -1,16 +1,16 @@
 -- From tokens to the bytes that they stand in: what was read of the tokens is what the bytes mean.
-use Rattle.std.proofs.Common.{◌≡◌, ℕ, zero, suc, ◌+◌, ◌-◌, ◌<◌, ◌≤◌, max, Bool, true, false, List, [], ◌∷◌, ◌++◌, length, drop, map, refl, ap, sym, ◌∙◌, subst, arith, inl, inr, length-append, length-drop, get_or, add-one}
+use Rattle.std.proofs.Common.{◌≡◌, ℕ, zero, suc, ◌+◌, ◌-◌, ◌<◌, ◌≤◌, List, [], ◌∷◌, ◌++◌, length, drop, refl, ap, sym, ◌∙◌, subst, arith, inl, inr, length-append, length-drop, get_or, add-one}
 use Rattle.std.specs.Prelude.{codes}
 use Rattle.std.specs.Prelude.{Option, Some, None, option_map, IsTrue}
 use Rattle.std.specs.List.{AllByRecursion}
 use Rattle.std.proofs.lemmas.List.{append_cancel_right, length-map}
 use Rattle.si_defs.specs.Bytes.{Bytes}
-use Rattle.si_defs.specs.Clauses.{Clause, Pattern, IsSoundClause}
+use Rattle.si_defs.specs.Clauses.{Clause, IsSoundClause}
 use Rattle.si_defs.specs.Tokens as defs
 use Rattle.si_defs.specs.Tokens.{Spells, TokenAt, NextToken, Skips, AreBlanks, Begins, Consists, joined, lower}
-use Rattle.si_defs.specs.Grammar.{open_behind, nesting_from, nesting, Item, clause_item, include_item, IsItem, IsClause, left_bracket}
+use Rattle.si_defs.specs.Grammar.{open_behind, nesting_from, nesting, Item, clause_item, include_item, IsClause, left_bracket}
 use Rattle.si_defs.specs.Substitutions.{IsAmong}
-use Rattle.si_defs.specs.Texts.{BeginsWithItem, IsForeign, IsFaulty, IsPlace, languages, deepest_nesting}
+use Rattle.si_defs.specs.Texts.{BeginsWithItem, IsForeign, IsPlace, languages}
 use Rattle.si_defs.specs.Steps.{IsPlain}
 use Rattle.si_defs.specs.declared.TokenKind.{TokenKind}
 use Rattle.si_defs.specs.declared.TokenKind.TheVariants.{Lower, Upper, Dollar, Int, Single, Double, NotEqual, Mark}
@@ -18,7 +18,7 @@ use Rattle.si_parse.specs.Tokens.{token_of, tokens_of, ArePlain, IsPlainToken}
 use Rattle.si_parse.specs.Lexing.{EndAt, IsLexing, IsNextBad, IsNextToken}
 use Rattle.si_parse.specs.Parsing.{Parses, Anything, Reads}
 use Rattle.std.specs.Borrow.{Bor}
-use Rattle.si_parse.specs.Reading.{IsClauseRead, IsFault, IsFaultAt, IsRead, AreForeign, IsLanguage, place_behind}
+use Rattle.si_parse.specs.Reading.{IsClauseRead, IsFault, IsFaultAt, IsRead, AreForeign, place_behind}
 use Rattle.si_parse.specs.declared.token.Token.{Token}
 use Rattle.si_parse.specs.declared.token.Stop.{Stop}
 use Rattle.si_term.specs.Meaning.{clause_of}
@@ -103,8 +103,10 @@ not_single (t ∷ ts) (u ∷ us) after text p h = not_single ts us after text p.
 not_single (t ∷ ts) [] after text p h = by p.0 where
   same : token_of t ≡ record { kind = Single; text = text }
   same = cc
+
   kind : t.kind ≡ Single
   kind = ap (λ (u : defs.Token). u.kind) same
+
   by : IsPlainToken (token_of t) → ⊥
   by (inl e) = let f : Lower ≡ Single = sym e ∙ kind in cc
   by (inr (inl e)) = let f : Upper ≡ Single = sym e ∙ kind in cc
@@ -133,7 +135,7 @@ clause_begins bytes at tokens stop c rest within plain l p sound =
     let f = p.found c rest refl in
     let used = f.0 in
     let count : length used ≡ length tokens - length rest =
-        omega (arith, ap length f.1, length-append used rest, length-map tokens token_of) in
+    omega (arith, ap length f.1, length-append used rest, length-map tokens token_of) in
     let front = begins_front bytes at tokens used rest within l.ends f.1 in
     let end : ℕ = place_behind at tokens (length tokens - length rest) in
     let begins : Begins (drop at bytes) used (drop end bytes) = subst (λ n. Begins (drop at bytes) used (drop (place_behind at tokens n) bytes)) count front.0 in
@@ -149,20 +151,21 @@ clause_begins bytes at tokens stop c rest within plain l p sound =
       only = λ item other b. by item other b used f.1 begins;
       sound = sound;
     } where
-  by : (item : Item) (other : Bytes) → BeginsWithItem (drop at bytes) item other → (used : List defs.Token) → tokens_of tokens ≡ used ++ rest
-      → Begins (drop at bytes) used (drop (place_behind at tokens (length tokens - length rest)) bytes)
-      → (item ≡ clause_item c) × (other ≡ drop (place_behind at tokens (length tokens - length rest)) bytes)
-  by (include_item file selection) other b used e g =
-      let k = l.every b.tokens other b.begins b.nested in
-      let s = b.spelled in
-      absurd (not_single tokens (lower (codes "include") ∷ left_bracket ∷ []) _ file l.plain (k.1 ∙ ap (λ ts. ts ++ k.0) s.2))
-  by (clause_item d) other b used e g =
-      let k = l.every b.tokens other b.begins b.nested in
-      let got = option_some (c, rest) (d, k.0) (p.every d b.tokens k.0 k.1 b.spelled tt) in
-      let left : rest ≡ k.0 = ap (λ (r : Clause × List defs.Token). r.1) got in
-      let same : used ≡ b.tokens = append_cancel_right used b.tokens rest (sym e ∙ k.1 ∙ ap (λ ts. b.tokens ++ ts) (sym left)) in
-      (ap (λ (r : Clause × List defs.Token). clause_item r.0) (sym got),
-       begins_unique b.tokens (drop at bytes) other _ plain b.begins (subst (λ ts. Begins (drop at bytes) ts (drop (place_behind at tokens (length tokens - length rest)) bytes)) same g))
+      by : (item : Item) (other : Bytes) → BeginsWithItem (drop at bytes) item other → (used : List defs.Token) → tokens_of tokens ≡ used ++ rest
+          → Begins (drop at bytes) used (drop (place_behind at tokens (length tokens - length rest)) bytes)
+          → (item ≡ clause_item c) × (other ≡ drop (place_behind at tokens (length tokens - length rest)) bytes)
+      by (include_item file selection) other b used e g =
+          let k = l.every b.tokens other b.begins b.nested in
+          let s = b.spelled in
+          absurd (not_single tokens (lower (codes "include") ∷ left_bracket ∷ []) _ file l.plain (k.1 ∙ ap (λ ts. ts ++ k.0) s.2))
+      by (clause_item d) other b used e g =
+          let k = l.every b.tokens other b.begins b.nested in
+          let got = option_some (c, rest) (d, k.0) (p.every d b.tokens k.0 k.1 b.spelled tt) in
+          let left : rest ≡ k.0 = ap (λ (r : Clause × List defs.Token). r.1) got in
+          let same : used ≡ b.tokens = append_cancel_right used b.tokens rest (sym e ∙ k.1 ∙ ap (λ ts. b.tokens ++ ts) (sym left)) in (
+            ap (λ (r : Clause × List defs.Token). clause_item r.0) (sym got),
+            begins_unique b.tokens (drop at bytes) other _ plain b.begins (subst (λ ts. Begins (drop at bytes) ts (drop (place_behind at tokens (length tokens - length rest)) bytes)) same g),
+          )
 
 -- ---- faults
 foreign_front : (ts : List defs.Token) → AreForeign ts → (word : Bytes) × (others : List defs.Token) × IsAmong languages word × (ts ≡ lower word ∷ left_bracket ∷ others)
@@ -210,13 +213,16 @@ left_shorter view Means Follows tokens x r p =
 
 -- where no token stands no item begins
 pub bad_read : (bytes : Bytes) (at place : ℕ) → IsNextBad bytes at place → IsRead bytes at (read.Syntax place)
-bad_read bytes at place n =
-    (record { from = n.from; within = omega (arith, n.within); faulty = record { more = n.more; no_item = λ item rest b. by item rest b }; behind = n.behind },
-     λ f. first (lower f.0) (left_bracket ∷ []) f.1 f.3) where
+bad_read bytes at place n = (
+  record { from = n.from; within = omega (arith, n.within); faulty = record { more = n.more; no_item = λ item rest b. by item rest b }; behind = n.behind },
+  λ f. first (lower f.0) (left_bracket ∷ []) f.1 f.3,
+) where
   first : (t : defs.Token) (ts : List defs.Token) (rest : Bytes) → Begins (drop at bytes) (t ∷ ts) rest → ⊥
   first t ts rest g = n.none t g.0 g.1
+
   at_all : (t : defs.Token) (ts us : List defs.Token) (rest : Bytes) → us ≡ t ∷ ts → Begins (drop at bytes) us rest → ⊥
   at_all t ts us rest e g = first t ts rest (subst (λ vs. Begins (drop at bytes) vs rest) e g)
+
   by : (item : Item) (rest : Bytes) → BeginsWithItem (drop at bytes) item rest → ⊥
   by (clause_item c) rest b = let s = b.spelled in at_all (lower (codes "cnf")) _ b.tokens rest s.6 b.begins
   by (include_item file selection) rest b = let s = b.spelled in at_all (lower (codes "include")) _ b.tokens rest s.2 b.begins

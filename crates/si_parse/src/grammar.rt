@@ -3,7 +3,7 @@
 //
 // Terms and formulas are read by recursion, as deep as their brackets nest. Tokens of a `Lexing` nest no deeper than
 // `deepest_nesting`, so the stack is bounded. What may be long, as arguments and annotations, is read by loops.
-ghost use Rattle.std.specs.Prelude.{◌≡◌, ◌≤◌, ◌↔◌, ◌∷◌, IsTrue, IfOk, length, codes};
+ghost use Rattle.std.specs.Prelude.{◌≡◌, ◌≤◌, ◌↔◌, IsTrue, IfOk, length, codes};
 ghost use Rattle.si_defs.specs.Clauses.{IsSoundClause, IsSoundLiteral, IsSoundTerm, literal_size, most_occurrences};
 ghost use Rattle.si_defs.specs.Terms as terms;
 ghost use Rattle.si_defs.specs.Grammar.{IsClause, IsLiteral, IsTerm};

@@ -52,7 +52,11 @@ fn end_of(tokens: &[Token], at: usize, count: usize) -> usize
     requires { count ≤ length tokens.now }
     ensures { result ≡ place_behind at tokens.now count }
 {
-    if count == 0 { at } else { tokens[count - 1].end }
+    if count == 0 {
+        at
+    } else {
+        tokens[count - 1].end
+    }
 }
 
 /// The fault at a place where no item begins, by the tokens behind it.

@@ -1,6 +1,6 @@
 //! Reading: from bytes to items and patterns.
 //!
-//! [`lex`] cuts bytes into tokens, [`grammar`] reads tokens by the grammar.
+//! [`lex`] cuts bytes into tokens, [`grammar`] reads tokens by the grammar, [`item`] and [`pattern`] read texts.
 #![tactic(auto)]
 
 pub mod grammar;

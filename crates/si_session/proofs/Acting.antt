@@ -64,9 +64,10 @@ failed_before a b lines line h = subst (λ w. AppendsPrefix a w b) (sym (ended-a
 pub refused_behind : (o : Stepped) (a b c : Option Bytes) (lines : List Bytes) → Appends a (ended lines) b → Writes o (codes "! memory" ∷ []) b c → Writes o (lines ++ codes "! memory" ∷ []) a c
 refused_behind Answered a b c lines h w = let e : true ≡ false = w.2 in cc
 refused_behind Silent a b c lines h w = absurd (some_line [] (codes "! memory") w.1)
-refused_behind Refused a b c lines h w =
-    (subst (λ l. Appends a l c) (sym (ended-append lines (codes "! memory" ∷ []))) (Appends_then a b c (ended lines) (ended (codes "! memory" ∷ [])) h w.0),
-    refusal-last lines (codes "! memory"))
+refused_behind Refused a b c lines h w = (
+  subst (λ l. Appends a l c) (sym (ended-append lines (codes "! memory" ∷ []))) (Appends_then a b c (ended lines) (ended (codes "! memory" ∷ [])) h w.0),
+  refusal-last lines (codes "! memory"),
+)
 refused_behind SinkFailed a b c lines h w =
     subst (λ l. AppendsPrefix a l c) (sym (ended-append lines (codes "! memory" ∷ []))) (AppendsPrefix_then a b c (ended lines) (ended (codes "! memory" ∷ [])) h w)
 
@@ -160,8 +161,10 @@ stepped limits state new line command o a b short some built means acts = by act
   now (inl long) = absurd (omega arith)
   now (inr (inl h)) = h.1 built.form
   now (inr (inr h)) = built.own h.1
+
   loud : IsSilent limits line → ⊥
   loud h = some h.1
+
   by : Acts (Performs command state) state new o a b → Steps (state_with limits state) (state_with limits new) line o a b
   by (rightly reply p w) = record { reply = reply; step = right (steps.performed now command means p); limits = refl; written = w }
   by (at_once same w) = record { reply = codes "! memory" ∷ []; step = memory_at_once loud short refl same; limits = refl; written = w }

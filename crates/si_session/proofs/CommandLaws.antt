@@ -187,14 +187,20 @@ asks_tokens after rest (literal_pattern l) ts g s n e =
     let us = s.0 in
     let h : Begins after (lower (codes "lit") ∷ us) rest = subst (λ vs. Begins after vs rest) s.2 g in
     record {
-      kind = kind.Lit; rest = h.0; word = h.1; of_kind = tt;
+      kind = kind.Lit;
+      rest = h.0;
+      word = h.1;
+      of_kind = tt;
       text = record { tokens = us; consists = record { rest = rest; begins = h.2; blanks = e }; spelled = s.1; nested = subst (λ d. d ≤ 512) (ap nesting s.2 ∙ word_nesting (codes "lit") us) n };
     }
 asks_tokens after rest (term_pattern t) ts g s n e =
     let us = s.0 in
     let h : Begins after (lower (codes "term") ∷ us) rest = subst (λ vs. Begins after vs rest) s.2 g in
     record {
-      kind = kind.Term; rest = h.0; word = h.1; of_kind = tt;
+      kind = kind.Term;
+      rest = h.0;
+      word = h.1;
+      of_kind = tt;
       text = record { tokens = us; consists = record { rest = rest; begins = h.2; blanks = e }; spelled = s.1; nested = subst (λ d. d ≤ 512) (ap nesting s.2 ∙ word_nesting (codes "term") us) n };
     }
 
@@ -229,8 +235,10 @@ pub asks_kind : (after rest : Bytes) (k : PatternKind) (q : Pattern) → IsPlain
 asks_kind after rest k q p n a = by k a.kind n a.word a.of_kind where
   same : a.rest ≡ rest
   same = same_rest after (lower (kind_word a.kind)) (lower (kind_word k)) a.rest rest p a.word n
+
   text : IsPatternText q rest
   text = subst (IsPatternText q) same a.text
+
   by : (k j : PatternKind) → NextToken after (lower (kind_word k)) rest → NextToken after (lower (kind_word j)) a.rest → IsOfKind j q → IsOfKind k q × IsPatternText q rest
   by kind.Lit kind.Lit n m o = (o, text)
   by kind.Term kind.Term n m o = (o, text)

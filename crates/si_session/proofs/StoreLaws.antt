@@ -68,9 +68,9 @@ module _ {K : Type 0} (items : K → Bytes) where
       → map items (keys ++ key ∷ []) ≡ map key_of (names (cs ++ c ∷ []))
   keyed_more keys key cs c e h =
       map-append items keys (key ∷ []) ∙ (λ i. e i ++ h i ∷ []) ∙ sym (map-append key_of (names cs) (c.name ∷ [])) ∙ ap (map key_of) (sym (names-append cs c)) where
-    names-append : (cs : List Clause) (c : Clause) → names (cs ++ c ∷ []) ≡ names cs ++ c.name ∷ []
-    names-append [] c = refl
-    names-append (d ∷ ds) c = ap (λ l. d.name ∷ l) (names-append ds c)
+        names-append : (cs : List Clause) (c : Clause) → names (cs ++ c ∷ []) ≡ names cs ++ c.name ∷ []
+        names-append [] c = refl
+        names-append (d ∷ ds) c = ap (λ l. d.name ∷ l) (names-append ds c)
 
 -- one more clause brings its entries
 pub entries_more : (cs : List Clause) (c : Clause) → length (state_entries (cs ++ c ∷ [])) ≡ length (state_entries cs) + length (entries c)

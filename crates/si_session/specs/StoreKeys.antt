@@ -23,4 +23,3 @@ pub record Keeps (cs : List clauses.Clause) (keys : List Bytes) (entries : ℕ) 
   pub keyed : keys ≡ map key_of (names cs)
   pub counted : entries ≡ length (state_entries cs)
   pub sound : AllByRecursion IsSoundClause cs
-

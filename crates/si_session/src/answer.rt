@@ -1,21 +1,16 @@
 // The answer to a query: the entries of clauses that are instances of a pattern, a line for each.
-ghost use Rattle.std.specs.Prelude.{◌≡◌, ◌+◌, ◌<◌, ◌^◌, [], ◌∷◌, map, length, OnOk};
+ghost use Rattle.std.specs.Prelude.{◌≡◌, ◌+◌, ◌<◌, ◌^◌, [], map, length, OnOk};
 ghost use Rattle.std.specs.List.{AllByRecursion};
-ghost use Rattle.si_defs.specs.Entries.{state_entries};
-ghost use Rattle.si_defs.specs.Steps.{answer_reply};
 ghost use Rattle.si_defs.specs.Clauses.{IsSoundClause, literal_size, literal_pattern, term_pattern};
 ghost use Rattle.si_term.specs.Terms.{term_of};
 ghost use Rattle.si_term.specs.Meaning.{literal_of, clause_of, pattern_of};
-ghost use Rattle.si_session.specs.Hits.{hits};
 ghost use Rattle.si_session.specs.Telling.{Tells, Blames};
-ghost use Rattle.si_session.specs.Scan.{literal_lines, clause_lines, clauses_lines, end_line};
+ghost use Rattle.si_session.specs.Scan.{literal_lines, clause_lines, clauses_lines};
 
-use crate::printing::put_number;
 use crate::scan::{Scratch, put_if_match, search_arguments};
-use crate::sign::{Sign, put_sign};
 use si_io::{Failed, Sink};
 use si_term::{Clause, Literal, Pattern, Term};
-use std::alloc::{AllocError, Global};
+use std::alloc::AllocError;
 
 /// Why an answer was broken off.
 #[derive(Clone, Copy, Debug, PartialEq, Eq)]

@@ -10,9 +10,9 @@ ghost use Rattle.si_parse.specs.Tokens.{token_of};
 ghost use Rattle.si_parse.specs.declared.pattern.PatternKind.{PatternKind};
 
 use si_defs::TokenKind;
+use si_parse::Token;
 use si_parse::item::{Read, next_item};
 use si_parse::lex::{Lexed, next_token};
-use si_parse::Token;
 use si_parse::pattern::{PatternKind, read_pattern};
 use si_term::{Clause, Pattern};
 use std::alloc::{AllocError, Global};
@@ -181,7 +181,5 @@ fn is_plain(bytes: &[u8]) -> bool
 pub fn is_white_space(bytes: &[u8]) -> bool
     ensures { result ≡ list_all is_white bytes.now }
 {
-    bytes
-        .iter()
-        .all(|&byte| byte == 9 || byte == 10 || byte == 12 || byte == 13 || byte == 32)
+    bytes.iter().all(|&byte| byte == 9 || byte == 10 || byte == 12 || byte == 13 || byte == 32)
 }

@@ -1,5 +1,5 @@
 // Whether two symbols or two terms are equal.
-ghost use Rattle.std.specs.Prelude.{◌≡◌, bytes_eq, map};
+ghost use Rattle.std.specs.Prelude.{◌≡◌, map};
 ghost use Rattle.si_session.specs.Equality.{symbol_eq, term_eq, terms_eq};
 ghost use Rattle.si_term.specs.Terms.{symbol_of, term_of};
 ghost use Rattle.si_defs.specs.Terms.{row};

@@ -9,8 +9,6 @@ mod matching;
 mod printing;
 mod reply;
 mod scan;
-
-
 mod session;
 mod sign;
 mod solution;

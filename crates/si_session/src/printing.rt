@@ -1,5 +1,5 @@
 // Names, symbols, terms and places, written to a sink.
-ghost use Rattle.std.specs.Prelude.{◌≡◌, ◌++◌, ◌∷◌, [], List, ℕ, OnOk, OnErr, codes, decimal, flat_map, map};
+ghost use Rattle.std.specs.Prelude.{◌≡◌, ◌++◌, List, OnOk, OnErr, decimal, flat_map, map};
 ghost use Rattle.std.specs.List.{list_all};
 ghost use Rattle.si_defs.specs.Bytes.{is_lower_word, is_word_byte};
 ghost use Rattle.si_defs.specs.Tokens.{escaped, quoted};

@@ -8,7 +8,7 @@ ghost use Rattle.si_session.specs.Signs.{sign_text};
 ghost use Rattle.si_session.specs.declared.sign.Sign.TheVariants.{LineFeed};
 ghost use Rattle.si_session.specs.Replies.{refusal_reply};
 ghost use Rattle.si_session.specs.Session.{Writes};
-ghost use Rattle.si_session.specs.declared.session.Stepped.TheVariants.{Silent, SinkFailed};
+ghost use Rattle.si_session.specs.declared.session.Stepped.TheVariants.{SinkFailed};
 
 use crate::printing::{put_bytes, put_name, put_number};
 use crate::session::Stepped;

@@ -1,5 +1,5 @@
 // Where lines end, and what is held of a line that was begun.
-ghost use Rattle.std.specs.Prelude.{◌≡◌, ◌+◌, ◌<◌, ◌≤◌, ◌^◌, ◌==◌, [], ◌++◌, length, take, vec_len, vec_capacity, IfOk, IsTrue, ◌↔◌};
+ghost use Rattle.std.specs.Prelude.{◌≡◌, ◌+◌, ◌<◌, ◌≤◌, ◌^◌, ◌==◌, [], ◌++◌, take, vec_len, vec_capacity, IfOk};
 ghost use Rattle.std.specs.List.{position};
 
 use std::alloc::{AllocError, Global};

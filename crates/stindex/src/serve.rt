@@ -1,5 +1,5 @@
 // The run over the whole input: lines in, replies out.
-ghost use Rattle.std.specs.Prelude.{◌≡◌, ◌+◌, ◌<◌, ◌≤◌, [], OnOk, OnErr, length};
+ghost use Rattle.std.specs.Prelude.{◌≡◌, ◌+◌, ◌<◌, ◌≤◌, [], OnOk, OnErr};
 ghost use Rattle.si_defs.specs.Steps.{AllowsLimits};
 ghost use Rattle.si_io.specs.Faults.{HasCause, Rose};
 ghost use Rattle.si_session.specs.Limits.{limits_of};

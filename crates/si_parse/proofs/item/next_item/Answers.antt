@@ -1,11 +1,9 @@
-use Rattle.std.proofs.Common.{◌≡◌, ◌-◌, ◌≤◌, length, ap, sym, ◌∙◌, subst, arith}
+use Rattle.std.proofs.Common.{length, ap, subst, arith}
 use Rattle.si_defs.specs.Clauses.{IsSoundClause}
 use Rattle.si_defs.specs.Grammar.{IsClause}
 use Rattle.si_term.specs.Meaning.{clause_of}
-use Rattle.si_parse.specs.Lexing.{IsNext, IsLexing}
+use Rattle.si_parse.specs.Lexing.{IsNext}
 use Rattle.si_parse.specs.Parsing.{Anything, Reads, IfFound}
-use Rattle.si_parse.specs.Reading.{IsClauseRead, IsFaultAt, place_behind}
-use Rattle.si_parse.specs.Tokens.{tokens_of}
 use Rattle.si_parse.proofs.ReadingLaws.{bad_read, lexing_few, left_shorter, clause_read, fault_read}
 use Rattle.si_parse.proofs.item.next_item.Goals as goal
 

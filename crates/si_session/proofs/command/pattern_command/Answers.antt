@@ -22,9 +22,10 @@ returns-in-Some c =
     let line = c.args.line.now in
     let w = c.requires.words in
     let rest : take (length line - c.args.at) (drop c.args.at line) ≡ drop c.args.at line = take_all _ _ (omega (arith, length-drop c.args.at line)) in
-    let read = subst (ReadsPattern (take (length line - c.args.at) (drop c.args.at line)) c.args.kind) c.in-Some.is c.in_ok-pattern.ensures in
-    (record { form = form_instances line w.0 c.requires.plain w.1; own = instances_not_foreign line w.0 c.requires.plain w.1 },
-     means_query line w.0 (drop c.args.at line) c.args.kind (pattern_of c.in-Some.pattern) w.1 w.2 read.of_kind (subst (IsPatternText (pattern_of c.in-Some.pattern)) rest read.text))
+    let read = subst (ReadsPattern (take (length line - c.args.at) (drop c.args.at line)) c.args.kind) c.in-Some.is c.in_ok-pattern.ensures in (
+      record { form = form_instances line w.0 c.requires.plain w.1; own = instances_not_foreign line w.0 c.requires.plain w.1 },
+      means_query line w.0 (drop c.args.at line) c.args.kind (pattern_of c.in-Some.pattern) w.1 w.2 read.of_kind (subst (IsPatternText (pattern_of c.in-Some.pattern)) rest read.text),
+    )
 
 pub returns-in-None : goal.returns-in-None
 returns-in-None c =
@@ -32,9 +33,10 @@ returns-in-None c =
     let w = c.requires.words in
     let rest : take (length line - c.args.at) (drop c.args.at line) ≡ drop c.args.at line = take_all _ _ (omega (arith, length-drop c.args.at line)) in
     let read = subst (ReadsPattern (take (length line - c.args.at) (drop c.args.at line)) c.args.kind) c.in-None.is c.in_ok-pattern.ensures in
-    let plain = next_plain line (lower (codes "instances")) w.0 c.requires.plain w.1 in
-    (record { form = form_instances line w.0 c.requires.plain w.1; own = instances_not_foreign line w.0 c.requires.plain w.1 },
-     λ command means.
-       let m = means_instances line w.0 c.requires.plain w.1 command means in
-       let a = asks_kind w.0 (drop c.args.at line) c.args.kind m.0 plain w.2 m.1 in
-       read m.0 a.0 (subst (IsPatternText m.0) (sym rest) a.1))
+    let plain = next_plain line (lower (codes "instances")) w.0 c.requires.plain w.1 in (
+      record { form = form_instances line w.0 c.requires.plain w.1; own = instances_not_foreign line w.0 c.requires.plain w.1 },
+      λ command means.
+          let m = means_instances line w.0 c.requires.plain w.1 command means in
+          let a = asks_kind w.0 (drop c.args.at line) c.args.kind m.0 plain w.2 m.1 in
+          read m.0 a.0 (subst (IsPatternText m.0) (sym rest) a.1),
+    )

@@ -16,28 +16,31 @@ returns-in-Token c =
     let line = c.args.line.now in
     let after = drop c.args.at line in
     let next = subst (IsNext line c.args.at) c.in-Token.is c.in_ok-word.ensures in
-    let plain = next_plain line (lower (codes "instances")) after c.requires.plain c.requires.word in
-    (record { form = form_instances line after c.requires.plain c.requires.word; own = instances_not_foreign line after c.requires.plain c.requires.word },
-     λ command means.
-       let m = means_instances line after c.requires.plain c.requires.word command means in
-       asks_other line c.args.at (token_of c.in-Token.word) (drop c.in-Token.word.end line) plain (next_of line c.args.at c.in-Token.word next) c.in-None.ensures.none m.0 m.1)
+    let plain = next_plain line (lower (codes "instances")) after c.requires.plain c.requires.word in (
+      record { form = form_instances line after c.requires.plain c.requires.word; own = instances_not_foreign line after c.requires.plain c.requires.word },
+      λ command means.
+          let m = means_instances line after c.requires.plain c.requires.word command means in
+          asks_other line c.args.at (token_of c.in-Token.word) (drop c.in-Token.word.end line) plain (next_of line c.args.at c.in-Token.word next) c.in-None.ensures.none m.0 m.1,
+    )
 
 pub returns-in-End : goal.returns-in-End
 returns-in-End c =
     let line = c.args.line.now in
     let after = drop c.args.at line in
-    let next = subst (IsNext line c.args.at) c.in-End.is c.in_ok-word.ensures in
-    (record { form = form_instances line after c.requires.plain c.requires.word; own = instances_not_foreign line after c.requires.plain c.requires.word },
-     λ command means.
-       let m = means_instances line after c.requires.plain c.requires.word command means in
-       next.none (lower (kind_word m.1.kind)) m.1.rest m.1.word)
+    let next = subst (IsNext line c.args.at) c.in-End.is c.in_ok-word.ensures in (
+      record { form = form_instances line after c.requires.plain c.requires.word; own = instances_not_foreign line after c.requires.plain c.requires.word },
+      λ command means.
+          let m = means_instances line after c.requires.plain c.requires.word command means in
+          next.none (lower (kind_word m.1.kind)) m.1.rest m.1.word,
+    )
 
 pub returns : goal.returns
 returns c =
     let line = c.args.line.now in
     let after = drop c.args.at line in
-    let next = subst (IsNext line c.args.at) c.in-Bad.is c.in_ok-word.ensures in
-    (record { form = form_instances line after c.requires.plain c.requires.word; own = instances_not_foreign line after c.requires.plain c.requires.word },
-     λ command means.
-       let m = means_instances line after c.requires.plain c.requires.word command means in
-       next.none (lower (kind_word m.1.kind)) m.1.rest m.1.word)
+    let next = subst (IsNext line c.args.at) c.in-Bad.is c.in_ok-word.ensures in (
+      record { form = form_instances line after c.requires.plain c.requires.word; own = instances_not_foreign line after c.requires.plain c.requires.word },
+      λ command means.
+          let m = means_instances line after c.requires.plain c.requires.word command means in
+          next.none (lower (kind_word m.1.kind)) m.1.rest m.1.word,
+    )

@@ -23,7 +23,7 @@ returns-in-Ok-put_named-clause-acts g c =
     let a = g.K.Sink.written c.args.sink.now in
     let b = g.K.Sink.written c.put_named.new.sink in
     let rejected : IsTaken c.args.store.now (clause_of c.args.clause).name × (clause_of c.in-Err-Taken.clause ≡ clause_of c.args.clause) =
-      subst (Rejects c.args.store.now (clause_of c.args.clause)) c.in-Err-Taken.field-0-is c.in-Err-Taken.ensures.rejected in
+    subst (Rejects c.args.store.now (clause_of c.args.clause)) c.in-Err-Taken.field-0-is c.in-Err-Taken.ensures.rejected in
     rejects (clause_of c.args.clause) c.args.store.now c.add.new.self a b rejected.0 c.in-Err-Taken.ensures.err
     (subst (λ d. Appends a (codes "! taken " ++ name_text d.name ++ sign_text LineFeed) b) rejected.1 c.in-Ok-put_named.ensures.all)
 
@@ -32,6 +32,6 @@ returns-in-Err-Taken-clause-acts g c =
     let a = g.K.Sink.written c.args.sink.now in
     let b = g.K.Sink.written c.put_named.new.sink in
     let rejected : IsTaken c.args.store.now (clause_of c.args.clause).name × (clause_of c.in-Err-Taken.clause ≡ clause_of c.args.clause) =
-      subst (Rejects c.args.store.now (clause_of c.args.clause)) c.in-Err-Taken.field-0-is c.in-Err-Taken.ensures.rejected in
+    subst (Rejects c.args.store.now (clause_of c.args.clause)) c.in-Err-Taken.field-0-is c.in-Err-Taken.ensures.rejected in
     fails_in_taken (clause_of c.args.clause) c.args.store.now c.add.new.self a b rejected.0 c.in-Err-Taken.ensures.err
     (subst (λ d. AppendsPrefix a (codes "! taken " ++ name_text d.name ++ sign_text LineFeed) b) rejected.1 c.in-Err-put_named.ensures.part)

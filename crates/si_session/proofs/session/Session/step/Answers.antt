@@ -21,9 +21,10 @@ returns-in-Ok-Add-clause-step g c =
 
 pub returns-in-Ok-Add-clause-silent : goal.returns-in-Ok-Add-clause-silent
 returns-in-Ok-Add-clause-silent g c =
-    let command = add (clause_of c.in-Ok-Add.clause) in
-    ((λ e. absurd (not_silent command c.self.inside.store c.add.new.store c.add.result (g.K.Sink.written c.args.sink.now) (g.K.Sink.written c.add.new.sink) c.add.ensures.acts e)),
-    (λ s. let e : false ≡ true = c.if-is_white_space.ensures ∙ s.1 in cc))
+    let command = add (clause_of c.in-Ok-Add.clause) in (
+      (λ e. absurd (not_silent command c.self.inside.store c.add.new.store c.add.result (g.K.Sink.written c.args.sink.now) (g.K.Sink.written c.add.new.sink) c.add.ensures.acts e)),
+      (λ s. let e : false ≡ true = c.if-is_white_space.ensures ∙ s.1 in cc),
+    )
 
 pub returns-in-Ok-Query-clause-step : goal.returns-in-Ok-Query-clause-step
 returns-in-Ok-Query-clause-step g c =

@@ -7,11 +7,16 @@ mod status;
 
 use si_io::{RealSink, RealSource};
 use si_session::Limits;
+use status::Status;
+use std::io::BufWriter;
 use std::process::ExitCode;
 
 fn main(rt: HostRuntime) -> ExitCode {
+    let Ok(output) = BufWriter::new(rt.alloc(), rt.stdout()) else {
+        return ExitCode::from(Status::Memory.code());
+    };
     let mut source = RealSource::new(rt.stdin());
-    let mut sink = RealSink::new(rt.stdout());
+    let mut sink = RealSink::new(output);
     let status = serve::serve(rt.alloc(), &Limits::standard(), &mut source, &mut sink);
     ExitCode::from(status.code())
 }

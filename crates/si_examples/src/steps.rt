@@ -1,0 +1,28 @@
+// Lines, their replies and the state behind them.
+ghost use Rattle.si_examples.specs.Steps.{SilentLine, AddedClause, TakenName, NoOtherReply, NoSecondClause, Refusal, LateRefusal, NoRefusal, SilenceIsNoRefusal, PlainLine, NoIntegerInPlainLine};
+
+/// Which replies are right.
+pub fn replies()
+    ensures silent_line { SilentLine }
+    ensures added_clause { AddedClause }
+    ensures taken_name { TakenName }
+    ensures no_other_reply { NoOtherReply }
+    ensures no_second_clause { NoSecondClause }
+{
+}
+
+/// Which replies are refusals.
+pub fn refusals()
+    ensures refusal { Refusal }
+    ensures late_refusal { LateRefusal }
+    ensures no_refusal { NoRefusal }
+    ensures silence_is_no_refusal { SilenceIsNoRefusal }
+{
+}
+
+/// Which lines are read.
+pub fn plain_lines()
+    ensures plain_line { PlainLine }
+    ensures no_integer_in_plain_line { NoIntegerInPlainLine }
+{
+}

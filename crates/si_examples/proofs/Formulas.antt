@@ -12,6 +12,7 @@ use Rattle.si_defs.specs.declared.SymKind.{SymKind}
 use Rattle.si_defs.specs.declared.SymKind.TheVariants.{Word, Dollar, Number, Distinct, Equal}
 use Rattle.si_defs.specs.declared.TokenKind.{TokenKind}
 use Rattle.si_defs.specs.declared.TokenKind.TheVariants as token
+use Rattle.si_examples.proofs.Differ.{marks_differ}
 
 abbrev is_no_mark : Token → Bool
 is_no_mark t = of t.kind where
@@ -99,6 +100,16 @@ formula_opens ls ts h = by h.0 h.1 h.2 h.3 where
   by zero inner d e = subst Opens (sym e) (opens_append inner [] (disjunction_opens ls inner d))
   by (suc n) inner d e = inr (inr (inr (replicate n left_bracket ++ inner ++ replicate (suc n) right_bracket, e)))
 
+abbrev third_kind : List Token → TokenKind
+third_kind (t ∷ u ∷ v ∷ vs) = v.kind
+third_kind ts = token.Mark
+
+other_kind : token.Lower ≡ token.Single → ⊥
+other_kind e = cc
+
+first_same : (t u : Token) (ts us : List Token) → t ∷ ts ≡ u ∷ us → t ≡ u
+first_same t u ts us e = cc
+
 rest_of : List Token → List Token
 rest_of [] = []
 rest_of (t ∷ ts) = ts
@@ -113,7 +124,7 @@ unfolding rest_of
 item_opens (clause_item c) ts h =
     let e : ts ≡ h.1 ++ h.2 ++ right_bracket ∷ full_stop ∷ [] = ap (λ us. rest_of (rest_of (rest_of (rest_of (rest_of (rest_of us)))))) h.6 in
     subst Opens (sym e) (opens_append (h.1 ++ h.2) (right_bracket ∷ full_stop ∷ []) (opens_append h.1 h.2 (formula_opens c.literals h.1 h.4)))
-item_opens (include_item file selection) ts h = cc (h.2)
+item_opens (include_item file selection) ts h = absurd (other_kind (ap third_kind h.2))
 
 bare_not : (t : Token) (ts : List Token) → is_no_mark t ≡ false → BeginsBare (t ∷ ts) → ⊥
 bare_not t ts h b =
@@ -123,15 +134,14 @@ bare_not t ts h b =
 -- `)` begins no formula
 pub bracket_opens : (ts : List Token) → Opens (right_bracket ∷ ts) → ⊥
 bracket_opens ts (inl b) = bare_not right_bracket ts refl b
-bracket_opens ts (inr (inl k)) = cc (k.2)
-bracket_opens ts (inr (inr (inl k))) = cc (k.1)
-bracket_opens ts (inr (inr (inr k))) = cc (k.1)
+bracket_opens ts (inr (inl k)) = marks_differ 41 126 refl (first_same _ _ _ _ k.2)
+bracket_opens ts (inr (inr (inl k))) = marks_differ 41 126 refl (first_same _ _ _ _ k.1)
+bracket_opens ts (inr (inr (inr k))) = marks_differ 41 40 refl (first_same _ _ _ _ k.1)
 
 -- nor does a sign before `)`
 pub sign_opens : (ts : List Token) → Opens (mark 126 ∷ right_bracket ∷ ts) → ⊥
+unfolding rest_of
 sign_opens ts (inl b) = bare_not (mark 126) (right_bracket ∷ ts) refl b
-sign_opens ts (inr (inl k)) =
-    let e : k.0 ≡ right_bracket ∷ ts = cc in
-    bare_not right_bracket ts refl (subst BeginsBare e k.1)
-sign_opens ts (inr (inr (inl k))) = cc (k.1)
-sign_opens ts (inr (inr (inr k))) = cc (k.1)
+sign_opens ts (inr (inl k)) = bare_not right_bracket ts refl (subst BeginsBare (sym (ap rest_of k.2)) k.1)
+sign_opens ts (inr (inr (inl k))) = marks_differ 41 40 refl (first_same _ _ _ _ (ap rest_of k.1))
+sign_opens ts (inr (inr (inr k))) = marks_differ 126 40 refl (first_same _ _ _ _ k.1)

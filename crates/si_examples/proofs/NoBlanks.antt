@@ -1,10 +1,15 @@
 -- What is no blank.
-use Rattle.std.proofs.Common.{◌≡◌, ℕ, true, false, List, [], ◌∷◌, ◌++◌, codes, refl, sym, ◌∙◌, subst, ◌⊎◌, inl, inr}
+use Rattle.std.proofs.Common.{◌≡◌, ℕ, true, false, List, [], ◌∷◌, ◌++◌, codes, refl, ap, sym, ◌∙◌, subst, ◌⊎◌, inl, inr}
 use Rattle.std.specs.List.{AllByRecursion}
 use Rattle.std.proofs.lemmas.Bool.{false≢true}
 use mathlib.Core.List.{append_assoc}
 use Rattle.si_defs.specs.Bytes.{Bytes, is_white}
 use Rattle.si_defs.specs.Tokens.{IsBlank, white, line_comment, block_comment, joined, AreBlanks, IsLineComment}
+use Rattle.si_examples.proofs.Differ.{differ, first_byte}
+
+abbrev third_byte : Bytes → ℕ
+third_byte (c ∷ d ∷ e ∷ es) = e
+third_byte cs = 0
 
 -- no blank begins with this byte, and no comment but one in `/*`
 unmarked : (c : ℕ) (cs : Bytes) (b : Bytes) (rest : Bytes) → is_white c ≡ false → (c ≡ 37 → ⊥) → IsBlank b → c ∷ cs ≡ b ++ rest
@@ -33,12 +38,12 @@ unmarked_blanks c cs w p a = by a.skips.blanks a.rest a.skips.each a.skips.whole
 
 -- a word is no blank
 pub word : AreBlanks (codes "p") → ⊥
-word a = let k = unmarked_blanks 112 [] refl (λ e. cc) a in cc
+word a = let k = unmarked_blanks 112 [] refl (differ 112 37 refl) a in differ 112 47 refl (ap first_byte k.2)
 
 -- a comment has its end behind its beginning
 pub unclosed : AreBlanks (codes "/*/") → ⊥
-unclosed a = let k = unmarked_blanks 47 (42 ∷ 47 ∷ []) refl (λ e. cc) a in by k.0 k.1 k.2 where
+unclosed a = let k = unmarked_blanks 47 (42 ∷ 47 ∷ []) refl (differ 47 37 refl) a in by k.0 k.1 k.2 where
   by : (body rest : Bytes) → codes "/*/" ≡ codes "/*" ++ body ++ codes "*/" ++ rest → ⊥
-  by [] rest e = cc
+  by [] rest e = differ 47 42 refl (ap third_byte e)
   by (x ∷ []) rest e = cc
   by (x ∷ y ∷ body) rest e = cc

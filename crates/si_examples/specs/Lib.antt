@@ -4,5 +4,7 @@ pub mod Grammar
 pub mod Entries
 pub mod Relations
 pub mod Solutions
+pub mod Unifiers
+pub mod Answers
 pub mod Printing
 pub mod Steps

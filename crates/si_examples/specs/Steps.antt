@@ -1,10 +1,10 @@
 -- Lines, their replies and the state behind them.
-use Rattle.std.specs.Prelude.{◌≡◌, ◌≤◌, true, false, List, [], ◌∷◌, codes}
+use Rattle.std.specs.Prelude.{◌≡◌, ◌≤◌, ◌<◌, length, true, false, List, [], ◌∷◌, codes}
 use Rattle.si_defs.specs.Bytes.{Bytes}
 use Rattle.si_defs.specs.Clauses.{Clause}
 use Rattle.si_defs.specs.Acceptance.{Accepts}
-use Rattle.si_defs.specs.Steps.{Limits, Reply, RightStep, IsPlain, add, Performs, is_refusal}
-use Rattle.si_examples.specs.Entries.{first_atom, second_atom, fact}
+use Rattle.si_defs.specs.Steps.{Limits, Reply, RightStep, Step, IsPlain, add, Means, Performs, is_refusal}
+use Rattle.si_examples.specs.Entries.{first_atom, second_atom, fact, predicate}
 
 -- the clause c1, and another of that name
 abbrev pub kept : Clause
@@ -17,6 +17,25 @@ of_taken_name = fact (codes "c1") second_atom
 -- a line of white space alone has no reply
 abbrev pub SilentLine : Type 0
 SilentLine = (limits : Limits) (state : List Clause) → 3 ≤ limits.line → RightStep limits state (codes " \t ") [] state
+
+-- and no other reply is right, not even where memory runs out
+abbrev pub SilentOnly : Type 0
+SilentOnly = (limits : Limits) (state : List Clause) (reply : Reply) (new : List Clause) → 1 ≤ limits.line
+    → Step limits state (codes " ") reply new → (reply ≡ []) × (new ≡ state)
+
+-- a line that is too long has one reply, whatever it says, and the state stays
+abbrev pub TooLong : Type 0
+TooLong = (limits : Limits) (state : List Clause) (line : Bytes) (reply : Reply) (new : List Clause) → limits.line < length line
+    → Step limits state line reply new → (reply ≡ codes "! later" ∷ []) × (new ≡ state)
+
+-- a line that is too long does not run out of memory
+abbrev pub NoMemoryWhereTooLong : Type 0
+NoMemoryWhereTooLong = (limits : Limits) (state : List Clause) (line : Bytes) (new : List Clause) → limits.line < length line
+    → Step limits state line (codes "! memory" ∷ []) new → ⊥
+
+-- a line that is not plain is read later
+abbrev pub LaterLine : Type 0
+LaterLine = (limits : Limits) (state : List Clause) → RightStep limits state (codes "term 1") (codes "! later" ∷ []) state
 
 -- a clause of a new name is counted, and its three entries
 abbrev pub AddedClause : Type 0
@@ -56,6 +75,11 @@ SilenceIsNoRefusal = is_refusal [] ≡ true → ⊥
 abbrev pub PlainLine : Type 0
 PlainLine = IsPlain (codes "add cnf(c1,axiom,p).")
 
--- and behind a bracket in `p(1)`, which is not read yet
+-- and behind a bracket in `p(1)`, so this line is read later
 abbrev pub NoIntegerInPlainLine : Type 0
 NoIntegerInPlainLine = IsPlain (codes "p(1)") → ⊥
+
+-- ---- commands
+-- a line and what it means, over its bytes
+abbrev pub AddedLine : Type 0
+AddedLine = Means (add (fact (codes "c") (predicate (codes "p") []))) (codes "add cnf(c,axiom,p).")

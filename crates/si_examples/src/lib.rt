@@ -2,6 +2,7 @@
 //! code, so that a check proves it. The statements stand in `specs/`, one file a subject.
 #![tactic(auto)]
 
+mod answers;
 mod entries;
 mod grammar;
 mod printing;
@@ -10,12 +11,15 @@ mod solutions;
 mod spellings;
 mod steps;
 mod tokens;
+mod unifiers;
 
+pub use answers::answers_to_patterns;
 pub use entries::entries_of_clauses;
 pub use grammar::{items, parts_of_clauses};
 pub use printing::printed_texts;
 pub use relations::{instances, unifiable_terms};
 pub use solutions::{canonical_lists, triangular_lists};
 pub use spellings::spellings_of_tokens;
-pub use steps::{plain_lines, refusals, replies};
+pub use steps::{lines, plain_lines, refusals, replies};
 pub use tokens::{blanks, tokens_of_texts};
+pub use unifiers::canonical_unifiers;

@@ -1,9 +1,13 @@
 // Lines, their replies and the state behind them.
-ghost use Rattle.si_examples.specs.Steps.{SilentLine, AddedClause, TakenName, NoOtherReply, NoSecondClause, Refusal, LateRefusal, NoRefusal, SilenceIsNoRefusal, PlainLine, NoIntegerInPlainLine};
+ghost use Rattle.si_examples.specs.Steps.{SilentLine, SilentOnly, TooLong, NoMemoryWhereTooLong, LaterLine, AddedLine, AddedClause, TakenName, NoOtherReply, NoSecondClause, Refusal, LateRefusal, NoRefusal, SilenceIsNoRefusal, PlainLine, NoIntegerInPlainLine};
 
 /// Which replies are right.
 pub fn replies()
     ensures silent_line { SilentLine }
+    ensures silent_only { SilentOnly }
+    ensures too_long { TooLong }
+    ensures no_memory_where_too_long { NoMemoryWhereTooLong }
+    ensures later_line { LaterLine }
     ensures added_clause { AddedClause }
     ensures taken_name { TakenName }
     ensures no_other_reply { NoOtherReply }
@@ -24,5 +28,11 @@ pub fn refusals()
 pub fn plain_lines()
     ensures plain_line { PlainLine }
     ensures no_integer_in_plain_line { NoIntegerInPlainLine }
+{
+}
+
+/// What a line means, over its bytes.
+pub fn lines()
+    ensures added_line { AddedLine }
 {
 }

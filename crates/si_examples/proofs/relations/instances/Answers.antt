@@ -1,5 +1,6 @@
 use Rattle.std.proofs.Common.{[], ◌∷◌, codes, refl, inl, inr}
 use Rattle.si_examples.specs.Relations.{x, y, z, f_of_y}
+use Rattle.si_examples.proofs.Differ.{variables_differ, same_arguments}
 use Rattle.si_examples.proofs.relations.instances.Goals as goal
 
 pub returns-clause-instance_of_variable : goal.returns-clause-instance_of_variable
@@ -13,4 +14,4 @@ returns-clause-renamed_pair c =
 pub returns-clause-no_variant_of_square : goal.returns-clause-no_variant_of_square
 returns-clause-no_variant_of_square c =
     (((codes "X", z) ∷ (codes "Y", z) ∷ [], record { on = (inl refl, (inr (inl refl), tt)); takes = refl }),
-     λ r. let e = r.1.1.takes in cc)
+     λ r. variables_differ x y refl (same_arguments _ _ _ _ _ r.1.1.takes))

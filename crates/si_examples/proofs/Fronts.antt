@@ -1,5 +1,5 @@
 -- No longer token: the fronts of a text that could spell one are found by computation.
-use Rattle.std.proofs.Common.{◌≡◌, ℕ, ◌≤◌, Bool, true, false, not, ◌&&◌, List, [], ◌∷◌, ◌++◌, length, codes, refl, ap, sym, ◌∙◌, subst, inl, arith}
+use Rattle.std.proofs.Common.{◌≡◌, ℕ, ◌≤◌, Bool, true, false, not, ◌&&◌, [], ◌∷◌, ◌++◌, length, codes, refl, sym, ◌∙◌, subst, inl, arith}
 use Rattle.std.specs.Prelude.{bytes_eq, IsTrue}
 use Rattle.std.proofs.lemmas.Bool.{and_parts, false≢true}
 use Rattle.si_defs.specs.Bytes.{Bytes, is_white, is_lower_word, is_upper_word, is_dollar_word, is_integer}

@@ -2,6 +2,8 @@ pub mod Differ
 pub mod Fronts
 pub mod NoBlanks
 pub mod Formulas
+pub mod EvenBrackets
+pub mod FirstWords
 pub mod TwoVariables
 pub mod OneClause
 pub mod OneStep

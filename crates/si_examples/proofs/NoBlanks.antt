@@ -4,7 +4,7 @@ use Rattle.std.specs.List.{AllByRecursion}
 use Rattle.std.proofs.lemmas.Bool.{false≢true}
 use mathlib.Core.List.{append_assoc}
 use Rattle.si_defs.specs.Bytes.{Bytes, is_white}
-use Rattle.si_defs.specs.Tokens.{IsBlank, white, line_comment, block_comment, joined, AreBlanks, IsLineComment}
+use Rattle.si_defs.specs.Tokens.{IsBlank, white, line_comment, block_comment, joined, Skips, AreBlanks, IsLineComment}
 use Rattle.si_examples.proofs.Differ.{differ, first_byte}
 
 abbrev third_byte : Bytes → ℕ
@@ -47,3 +47,12 @@ unclosed a = let k = unmarked_blanks 47 (42 ∷ 47 ∷ []) refl (differ 47 37 re
   by [] rest e = differ 47 42 refl (ap third_byte e)
   by (x ∷ []) rest e = cc
   by (x ∷ y ∷ body) rest e = cc
+
+-- where a byte begins no blank none is skipped
+pub skips_none : (c : ℕ) (cs place : Bytes) → is_white c ≡ false → (c ≡ 37 → ⊥) → (c ≡ 47 → ⊥) → Skips (c ∷ cs) place → place ≡ c ∷ cs
+skips_none c cs place w p q s = by s.blanks s.each s.whole where
+  by : (blanks : List Bytes) → AllByRecursion IsBlank blanks → c ∷ cs ≡ joined blanks ++ place → place ≡ c ∷ cs
+  by [] each e = sym e
+  by (b ∷ bs) each e =
+      let k = unmarked c cs b (joined bs ++ place) w p each.0 (e ∙ append_assoc b (joined bs) place) in
+      absurd (q (ap first_byte k.1))

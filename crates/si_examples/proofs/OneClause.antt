@@ -1,9 +1,9 @@
 -- The answer over one clause.
-use Rattle.std.proofs.Common.{◌≡◌, ℕ, Bool, true, false, List, [], ◌∷◌, refl, ap, sym, inl, inr}
+use Rattle.std.proofs.Common.{◌≡◌, Bool, true, false, List, [], ◌∷◌, refl, ap, sym, inl, inr}
 use Rattle.std.proofs.lemmas.Bool.{false≢true}
 use Rattle.si_defs.specs.Terms as terms
 use Rattle.si_defs.specs.Entries.{term_entry}
-use Rattle.si_defs.specs.Relations.{Instances, Generalizations}
+use Rattle.si_defs.specs.Relations.{Instances}
 use Rattle.si_defs.specs.Answers.{Hit, Stands, Solves, Apart}
 use Rattle.si_examples.specs.Entries.{f_of_x, a}
 use Rattle.si_examples.specs.Answers.{pattern, hit, OneHit, NoHitLeftOut, NoHitTwice, NoGeneralization}

@@ -1,13 +1,13 @@
 -- Which replies a line has.
-use Rattle.std.proofs.Common.{◌≡◌, ℕ, ◌+◌, ◌<◌, ◌≤◌, List, [], ◌∷◌, ◌++◌, length, codes, refl, ap, sym, ◌∙◌, subst, ◌⊎◌, inl, inr, arith, length-append}
+use Rattle.std.proofs.Common.{◌≡◌, ℕ, ◌+◌, ◌<◌, ◌≤◌, List, [], ◌∷◌, ◌++◌, length, codes, refl, ap, sym, ◌∙◌, subst, inl, inr, arith, length-append}
 use Rattle.std.proofs.lemmas.Bool.{false≢true}
 use Rattle.si_defs.specs.Bytes.{Bytes}
-use Rattle.si_defs.specs.Clauses.{Clause, literal_pattern, term_pattern}
+use Rattle.si_defs.specs.Clauses.{Clause}
 use Rattle.si_defs.specs.Substitutions.{IsAmong}
 use Rattle.si_defs.specs.Relations.{Relation, Variants, Instances, Generalizations, Unifiable}
 use Rattle.si_defs.specs.Tokens.{Token, lower, NextToken, Begins, joined}
 use Rattle.si_defs.specs.Steps.{Limits, Reply, RightStep, later, silent, wrong, performed, Step, right, memory_at_once, memory_behind, IsLater, IsSilent, IsFirstForm, words, Command, add, query, IsCommand, Means}
-use Rattle.si_examples.proofs.Differ.{differ, first_byte}
+use Rattle.si_examples.proofs.Differ.{differ}
 use Rattle.si_examples.specs.Steps.{SilentOnly, TooLong, NoMemoryWhereTooLong, LaterLine}
 
 append_empty : (xs ys : Reply) → [] ≡ xs ++ ys → ys ≡ []

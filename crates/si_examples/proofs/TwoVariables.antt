@@ -1,13 +1,11 @@
 -- The canonical list of two variables.
-use Rattle.std.proofs.Common.{◌≡◌, List, [], ◌∷◌, ◌++◌, codes, refl, ap, sym, ◌∙◌, subst, ◌⊎◌, inl, inr}
+use Rattle.std.proofs.Common.{◌≡◌, List, [], ◌∷◌, ◌++◌, codes, refl, ap, sym, ◌∙◌, subst, inl, inr}
 use Rattle.std.specs.List.{AllByRecursion}
 use Rattle.si_defs.specs.Bytes.{Bytes}
 use Rattle.si_defs.specs.Terms as terms
-use Rattle.si_defs.specs.Symbols.{Symbol}
-use Rattle.si_defs.specs.Substitutions.{Substitution, apply, IsAmong}
-use Rattle.si_defs.specs.Relations.{Unifies}
-use Rattle.si_defs.specs.Solutions.{AreJoined, IsFirstOf, IsLeader, IsCanonicalUnifier}
-use Rattle.si_defs.specs.Answers.{Variable, of_pattern, of_entry, same_variable, Apart, Solution}
+use Rattle.si_defs.specs.Substitutions.{IsAmong}
+use Rattle.si_defs.specs.Solutions.{AreJoined, IsLeader}
+use Rattle.si_defs.specs.Answers.{Variable, of_pattern, of_entry, same_variable, Apart}
 use Rattle.si_examples.specs.Unifiers.{asked, kept, asked_term, kept_term, FirstVariableLeads, SecondVariableFollows, NoEmptyList}
 
 abbrev Joined : Variable → Variable → Type 0
@@ -61,6 +59,7 @@ leads = record {
   by : IsAmong (asked ∷ []) kept → ⊥
   by (inl e) = apart e
   by (inr h) = h
+
   not_among : IsAmong (kept ∷ []) asked → ⊥
   not_among (inl e) = apart (sym e)
   not_among (inr h) = h

@@ -3,7 +3,7 @@ use Rattle.std.specs.Prelude.{◌≡◌, ℕ, true, List, [], ◌∷◌, codes}
 use Rattle.si_defs.specs.Bytes.{Bytes}
 use Rattle.si_defs.specs.Terms as terms
 use Rattle.si_defs.specs.Symbols.{Symbol}
-use Rattle.si_defs.specs.Clauses.{Term, Literal, Clause}
+use Rattle.si_defs.specs.Clauses.{Term, Clause}
 use Rattle.si_defs.specs.Entries.{Entry, literal_entry, term_entry, Placed, entries}
 use Rattle.si_defs.specs.Substitutions.{IsAmong}
 use Rattle.si_defs.specs.declared.SymKind.TheVariants.{Word}

@@ -1,7 +1,6 @@
 -- What tokens spell.
-use Rattle.std.specs.Prelude.{◌≡◌, ℕ, true, List, [], ◌∷◌, codes}
-use Rattle.si_defs.specs.Bytes.{Bytes}
-use Rattle.si_defs.specs.Clauses.{Term, Literal, Clause}
+use Rattle.std.specs.Prelude.{◌≡◌, List, [], ◌∷◌, codes}
+use Rattle.si_defs.specs.Clauses.{Term, Literal}
 use Rattle.si_defs.specs.Tokens.{Token, mark, upper, lower}
 use Rattle.si_defs.specs.Grammar.{left_bracket, right_bracket, comma, full_stop, IsTerm, IsAtom, IsLiteral, IsFormula, IsExtra, IsClause, Item, IsItem, nesting}
 use Rattle.si_defs.specs.declared.TokenKind.TheVariants.{Single}
@@ -23,6 +22,13 @@ NoEmptyFormula = (item : Item)
 abbrev pub NoSignAlone : Type 0
 NoSignAlone = (item : Item)
     → IsItem item (lower (codes "cnf") ∷ left_bracket ∷ lower (codes "c2") ∷ comma ∷ lower (codes "axiom") ∷ comma ∷ mark 126 ∷ right_bracket ∷ full_stop ∷ []) → ⊥
+
+-- and `cnf(c2,axiom,p(X).`, where a bracket stays open, is none
+abbrev pub NoOpenBracket : Type 0
+NoOpenBracket = (item : Item)
+    → IsItem item
+    (lower (codes "cnf") ∷ left_bracket ∷ lower (codes "c2") ∷ comma ∷ lower (codes "axiom") ∷ comma
+    ∷ lower (codes "p") ∷ left_bracket ∷ upper (codes "X") ∷ right_bracket ∷ full_stop ∷ []) → ⊥
 
 -- a clause of no literals has no text
 abbrev pub NoEmptyClause : Type 0

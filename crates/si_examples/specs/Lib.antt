@@ -1,6 +1,7 @@
 pub mod Spellings
 pub mod Tokens
 pub mod Grammar
+pub mod Texts
 pub mod Entries
 pub mod Relations
 pub mod Solutions

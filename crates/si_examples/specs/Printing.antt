@@ -2,9 +2,8 @@
 use Rattle.std.specs.Prelude.{◌≡◌, [], ◌∷◌, codes}
 use Rattle.si_defs.specs.Clauses.{Name}
 use Rattle.si_defs.specs.Answers.{variable_text}
-use Rattle.si_defs.specs.Printing.{name_text, term_text, place_text, solution_text, map_text}
+use Rattle.si_defs.specs.Printing.{name_text, place_text, solution_text, map_text}
 use Rattle.si_defs.specs.declared.NameKind.TheVariants.{Word}
-use Rattle.si_examples.specs.Entries.{constant}
 use Rattle.si_examples.specs.Solutions.{first_solution}
 
 -- the name c1

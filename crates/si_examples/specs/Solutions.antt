@@ -6,7 +6,7 @@ use Rattle.si_defs.specs.Entries.{Entry, term_entry}
 use Rattle.si_defs.specs.Relations.{Instances}
 use Rattle.si_defs.specs.Solutions.{IsTriangular}
 use Rattle.si_defs.specs.Answers.{of_pattern, of_entry, Apart, Solution, Solves}
-use Rattle.si_examples.specs.Entries.{function, variable, a, f_of_x}
+use Rattle.si_examples.specs.Entries.{function, a, f_of_x}
 use Rattle.si_examples.specs.Relations.{x, y, z, f_of_y}
 
 -- ---- triangular lists

@@ -1,9 +1,11 @@
 -- Lines, their replies and the state behind them.
-use Rattle.std.specs.Prelude.{◌≡◌, ◌≤◌, ◌<◌, length, true, false, List, [], ◌∷◌, codes}
+use Rattle.std.specs.Prelude.{◌≡◌, ◌≤◌, ◌<◌, length, true, List, [], ◌∷◌, codes}
 use Rattle.si_defs.specs.Bytes.{Bytes}
 use Rattle.si_defs.specs.Clauses.{Clause}
+use Rattle.si_defs.specs.Tokens.{upper, lower}
+use Rattle.si_defs.specs.Grammar.{left_bracket, right_bracket}
 use Rattle.si_defs.specs.Acceptance.{Accepts}
-use Rattle.si_defs.specs.Steps.{Limits, Reply, RightStep, Step, IsPlain, add, Means, Performs, is_refusal}
+use Rattle.si_defs.specs.Steps.{Limits, Reply, Command, IsCommand, RightStep, Step, IsPlain, add, Means, Performs, is_refusal}
 use Rattle.si_examples.specs.Entries.{first_atom, second_atom, fact, predicate}
 
 -- the clause c1, and another of that name
@@ -80,6 +82,11 @@ abbrev pub NoIntegerInPlainLine : Type 0
 NoIntegerInPlainLine = IsPlain (codes "p(1)") → ⊥
 
 -- ---- commands
--- a line and what it means, over its bytes
+-- what a line means, over its bytes
 abbrev pub AddedLine : Type 0
 AddedLine = Means (add (fact (codes "c") (predicate (codes "p") []))) (codes "add cnf(c,axiom,p).")
+
+-- `instances f(Y)` is no command: whether literals or terms are asked for is not said
+abbrev pub NoKindOfPattern : Type 0
+NoKindOfPattern = (command : Command)
+    → IsCommand command (lower (codes "instances") ∷ lower (codes "f") ∷ left_bracket ∷ upper (codes "Y") ∷ right_bracket ∷ []) → ⊥

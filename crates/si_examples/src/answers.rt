@@ -9,5 +9,4 @@ pub fn answers_to_patterns()
     ensures no_hit_twice { NoHitTwice }
     ensures no_generalization { NoGeneralization }
     ensures no_literal_of_term { NoLiteralOfTerm }
-{
-}
+{}

@@ -7,5 +7,4 @@ pub fn entries_of_clauses()
     ensures second_entries { SecondEntries }
     ensures no_variable_entry { NoVariableEntry }
     ensures no_atom_entry { NoAtomEntry }
-{
-}
+{}

@@ -10,6 +10,7 @@ mod relations;
 mod solutions;
 mod spellings;
 mod steps;
+mod texts;
 mod tokens;
 mod unifiers;
 
@@ -21,5 +22,6 @@ pub use relations::{instances, unifiable_terms};
 pub use solutions::{canonical_lists, triangular_lists};
 pub use spellings::spellings_of_tokens;
 pub use steps::{lines, plain_lines, refusals, replies};
+pub use texts::{items_of_texts, places_in_texts};
 pub use tokens::{blanks, tokens_of_texts};
 pub use unifiers::canonical_unifiers;

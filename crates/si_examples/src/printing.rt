@@ -9,5 +9,4 @@ pub fn printed_texts()
     ensures printed_place { PrintedPlace }
     ensures printed_literal_place { PrintedLiteralPlace }
     ensures no_blank_in_map { NoBlankInMap }
-{
-}
+{}

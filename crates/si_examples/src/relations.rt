@@ -8,12 +8,10 @@ pub fn instances()
     ensures no_variable_instance { NoVariableInstance }
     ensures renamed_pair { RenamedPair }
     ensures no_variant_of_square { NoVariantOfSquare }
-{
-}
+{}
 
 /// Which terms are unifiable.
 pub fn unifiable_terms()
     ensures unifiable_pair { UnifiablePair }
     ensures no_cycle { NoCycle }
-{
-}
+{}

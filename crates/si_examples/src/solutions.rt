@@ -7,8 +7,7 @@ pub fn triangular_lists()
     ensures no_circle { NoCircle }
     ensures no_way_back { NoWayBack }
     ensures no_twice { NoTwice }
-{
-}
+{}
 
 /// Which list is the one of an instance.
 pub fn canonical_lists()
@@ -17,5 +16,4 @@ pub fn canonical_lists()
     ensures none_left_out { NoneLeftOut }
     ensures no_folded_list { NoFoldedList }
     ensures empty_list { EmptyList }
-{
-}
+{}

@@ -10,5 +10,4 @@ pub fn spellings_of_tokens()
     ensures quote_in_quotes { QuoteInQuotes }
     ensures no_empty_single { NoEmptySingle }
     ensures empty_double { EmptyDouble }
-{
-}
+{}

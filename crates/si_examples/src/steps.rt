@@ -1,5 +1,5 @@
 // Lines, their replies and the state behind them.
-ghost use Rattle.si_examples.specs.Steps.{SilentLine, SilentOnly, TooLong, NoMemoryWhereTooLong, LaterLine, AddedLine, AddedClause, TakenName, NoOtherReply, NoSecondClause, Refusal, LateRefusal, NoRefusal, SilenceIsNoRefusal, PlainLine, NoIntegerInPlainLine};
+ghost use Rattle.si_examples.specs.Steps.{SilentLine, SilentOnly, TooLong, NoMemoryWhereTooLong, LaterLine, AddedLine, NoKindOfPattern, AddedClause, TakenName, NoOtherReply, NoSecondClause, Refusal, LateRefusal, NoRefusal, SilenceIsNoRefusal, PlainLine, NoIntegerInPlainLine};
 
 /// Which replies are right.
 pub fn replies()
@@ -12,8 +12,7 @@ pub fn replies()
     ensures taken_name { TakenName }
     ensures no_other_reply { NoOtherReply }
     ensures no_second_clause { NoSecondClause }
-{
-}
+{}
 
 /// Which replies are refusals.
 pub fn refusals()
@@ -21,18 +20,16 @@ pub fn refusals()
     ensures late_refusal { LateRefusal }
     ensures no_refusal { NoRefusal }
     ensures silence_is_no_refusal { SilenceIsNoRefusal }
-{
-}
+{}
 
 /// Which lines are read.
 pub fn plain_lines()
     ensures plain_line { PlainLine }
     ensures no_integer_in_plain_line { NoIntegerInPlainLine }
-{
-}
+{}
 
-/// What a line means, over its bytes.
+/// What a line means.
 pub fn lines()
     ensures added_line { AddedLine }
-{
-}
+    ensures no_kind_of_pattern { NoKindOfPattern }
+{}

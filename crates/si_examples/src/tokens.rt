@@ -7,8 +7,7 @@ pub fn blanks()
     ensures unclosed_comment { UnclosedComment }
     ensures last_line_comment { LastLineComment }
     ensures word_is_no_blank { WordIsNoBlank }
-{
-}
+{}
 
 /// Which tokens a text consists of, each the longest at its place.
 pub fn tokens_of_texts()
@@ -17,5 +16,4 @@ pub fn tokens_of_texts()
     ensures word_and_variable { WordAndVariable }
     ensures no_part_of_word { NoPartOfWord }
     ensures no_token_at_comment { NoTokenAtComment }
-{
-}
+{}

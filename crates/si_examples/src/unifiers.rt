@@ -6,5 +6,4 @@ pub fn canonical_unifiers()
     ensures first_variable_leads { FirstVariableLeads }
     ensures second_variable_follows { SecondVariableFollows }
     ensures no_empty_list { NoEmptyList }
-{
-}
+{}

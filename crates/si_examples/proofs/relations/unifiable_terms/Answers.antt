@@ -1,7 +1,5 @@
 use Rattle.std.proofs.Common.{[], ◌∷◌, codes, refl, ap, arith}
-use Rattle.std.specs.Prelude.{bytes_eq}
 use Rattle.si_defs.specs.Terms as terms
-use Rattle.si_defs.specs.Substitutions.{image}
 use Rattle.si_examples.specs.Entries.{a, constant}
 use Rattle.si_examples.proofs.relations.unifiable_terms.Goals as goal
 

@@ -1,38 +1,54 @@
-use Rattle.std.proofs.Common.{◌≡◌, ◌≤◌, true, [], ◌∷◌, codes, refl, ap, length, arith}
-use Rattle.si_defs.specs.Bytes.{Bytes}
-use Rattle.si_defs.specs.declared.TokenKind.{TokenKind}
+use Rattle.std.proofs.Common.{◌≡◌, ◌≤◌, [], codes, refl, ap, length, arith}
 use Rattle.si_defs.specs.declared.TokenKind.TheVariants.{Lower, Upper, Int, NotEqual, Mark}
-use Rattle.si_examples.proofs.Fronts.{may_spell, none_longer, stands, next, next_behind, nothing}
+use Rattle.si_examples.proofs.Fronts.{stands, next, next_behind, nothing}
 use Rattle.si_examples.proofs.tokens.tokens_of_texts.Goals as goal
 
 pub returns-clause-two_integers : goal.returns-clause-two_integers
 returns-clause-two_integers c = record {
   rest = [];
-  begins =
-      (codes "1", next Int (codes "0") (codes "0") (codes "1") (refl, refl) (elim [ Lower ↦ refl | _ ↦ refl ]) refl,
-      ([], next Int (codes "1") (codes "1") [] (refl, refl) (elim [ Lower ↦ refl | _ ↦ refl ]) refl, refl));
+  begins = (
+    codes "1",
+    next Int (codes "0") (codes "0") (codes "1") (refl, refl) (elim [ Lower ↦ refl | _ ↦ refl ]) refl,
+    ([], next Int (codes "1") (codes "1") [] (refl, refl) (elim [ Lower ↦ refl | _ ↦ refl ]) refl, refl),
+  );
   blanks = nothing;
 }
 
 pub returns-clause-signed_integer : goal.returns-clause-signed_integer
 returns-clause-signed_integer c = record {
   rest = [];
-  begins =
-      (codes "!=-3.", next Upper (codes "X") (codes "X") (codes "!=-3.") (refl, refl) (elim [ Lower ↦ refl | _ ↦ refl ]) refl,
-      (codes "-3.", next NotEqual (codes "!=") (codes "!=") (codes "-3.") (refl, refl) (elim [ Lower ↦ refl | _ ↦ refl ]) refl,
-      (codes ".", next Int (codes "-3") (codes "-3") (codes ".") (refl, refl) (elim [ Lower ↦ refl | _ ↦ refl ]) refl,
-      ([], next Mark (codes ".") (codes ".") [] (refl, (46, refl, refl)) (elim [ Lower ↦ refl | _ ↦ refl ]) refl, refl))));
+  begins = (
+    codes "!=-3.",
+    next Upper (codes "X") (codes "X") (codes "!=-3.") (refl, refl) (elim [ Lower ↦ refl | _ ↦ refl ]) refl,
+    (
+      codes "-3.",
+      next NotEqual (codes "!=") (codes "!=") (codes "-3.") (refl, refl) (elim [ Lower ↦ refl | _ ↦ refl ]) refl,
+      (
+        codes ".",
+        next Int (codes "-3") (codes "-3") (codes ".") (refl, refl) (elim [ Lower ↦ refl | _ ↦ refl ]) refl,
+        ([], next Mark (codes ".") (codes ".") [] (refl, (46, refl, refl)) (elim [ Lower ↦ refl | _ ↦ refl ]) refl, refl),
+      ),
+    ),
+  );
   blanks = nothing;
 }
 
 pub returns-clause-word_and_variable : goal.returns-clause-word_and_variable
 returns-clause-word_and_variable c = record {
   rest = [];
-  begins =
-      (codes "( X )", next Lower (codes "f") (codes "f") (codes "( X )") (refl, refl) (elim [ Lower ↦ refl | _ ↦ refl ]) refl,
-      (codes " X )", next Mark (codes "(") (codes "(") (codes " X )") (refl, (40, refl, refl)) (elim [ Lower ↦ refl | _ ↦ refl ]) refl,
-      (codes " )", next_behind 32 refl _ _ _ (stands Upper (codes "X") (codes "X") (codes " )") (refl, refl) (elim [ Lower ↦ refl | _ ↦ refl ]) refl),
-      ([], next_behind 32 refl _ _ _ (stands Mark (codes ")") (codes ")") [] (refl, (41, refl, refl)) (elim [ Lower ↦ refl | _ ↦ refl ]) refl), refl))));
+  begins = (
+    codes "( X )",
+    next Lower (codes "f") (codes "f") (codes "( X )") (refl, refl) (elim [ Lower ↦ refl | _ ↦ refl ]) refl,
+    (
+      codes " X )",
+      next Mark (codes "(") (codes "(") (codes " X )") (refl, (40, refl, refl)) (elim [ Lower ↦ refl | _ ↦ refl ]) refl,
+      (
+        codes " )",
+        next_behind 32 refl _ _ _ (stands Upper (codes "X") (codes "X") (codes " )") (refl, refl) (elim [ Lower ↦ refl | _ ↦ refl ]) refl),
+        ([], next_behind 32 refl _ _ _ (stands Mark (codes ")") (codes ")") [] (refl, (41, refl, refl)) (elim [ Lower ↦ refl | _ ↦ refl ]) refl), refl),
+      ),
+    ),
+  );
   blanks = nothing;
 }
 

@@ -12,7 +12,7 @@ use Rattle.si_examples.proofs.NoBlanks.{skips_none}
 use Rattle.si_examples.proofs.Fronts.{next}
 
 -- where no blank stands before it the text begins with the word
-word_at : (c : ℕ) (cs word rest : Bytes) → is_white c ≡ false → (c ≡ 37 → ⊥) → (c ≡ 47 → ⊥) → NextToken (c ∷ cs) (lower word) rest → c ∷ cs ≡ word ++ rest
+pub word_at : (c : ℕ) (cs word rest : Bytes) → is_white c ≡ false → (c ≡ 37 → ⊥) → (c ≡ 47 → ⊥) → NextToken (c ∷ cs) (lower word) rest → c ∷ cs ≡ word ++ rest
 word_at c cs word rest w p q n =
     sym (skips_none c cs n.place w p q n.skips) ∙ n.stands.front ∙ ap (λ t. t ++ rest) n.stands.spelled.0
 
@@ -29,7 +29,7 @@ other_language = (
 )
 
 -- each word of another language begins with `f` or `t`
-language_byte : (word rest : Bytes) → IsAmong languages word → (first_byte (word ++ rest) ≡ 102) ⊎ (first_byte (word ++ rest) ≡ 116)
+pub language_byte : (word rest : Bytes) → IsAmong languages word → (first_byte (word ++ rest) ≡ 102) ⊎ (first_byte (word ++ rest) ≡ 116)
 language_byte word rest (inl e) = inl (ap (λ t. first_byte (t ++ rest)) (sym e))
 language_byte word rest (inr (inl e)) = inr (ap (λ t. first_byte (t ++ rest)) (sym e))
 language_byte word rest (inr (inr (inl e))) = inr (ap (λ t. first_byte (t ++ rest)) (sym e))

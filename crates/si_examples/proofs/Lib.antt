@@ -8,3 +8,5 @@ pub mod TwoVariables
 pub mod OneClause
 pub mod OneStep
 pub mod OneLine
+pub mod OneRun
+pub mod SharedTerms

@@ -11,6 +11,10 @@ abbrev third_byte : Bytes → ℕ
 third_byte (c ∷ d ∷ e ∷ es) = e
 third_byte cs = 0
 
+abbrev pub behind_first : Bytes → Bytes
+behind_first [] = []
+behind_first (c ∷ cs) = cs
+
 -- no blank begins with this byte, and no comment but one in `/*`
 unmarked : (c : ℕ) (cs : Bytes) (b : Bytes) (rest : Bytes) → is_white c ≡ false → (c ≡ 37 → ⊥) → IsBlank b → c ∷ cs ≡ b ++ rest
     → (body : Bytes) × (c ∷ cs ≡ codes "/*" ++ body ++ codes "*/" ++ rest)
@@ -56,3 +60,15 @@ skips_none c cs place w p q s = by s.blanks s.each s.whole where
   by (b ∷ bs) each e =
       let k = unmarked c cs b (joined bs ++ place) w p each.0 (e ∙ append_assoc b (joined bs) place) in
       absurd (q (ap first_byte k.1))
+
+-- behind a space that is skipped blanks are skipped
+pub skips_space : (cs place : Bytes) → Skips (32 ∷ cs) place → (place ≡ 32 ∷ cs) ⊎ Skips cs place
+skips_space cs place s = by s.blanks s.each s.whole where
+  by : (blanks : List Bytes) → AllByRecursion IsBlank blanks → 32 ∷ cs ≡ joined blanks ++ place → (place ≡ 32 ∷ cs) ⊎ Skips cs place
+  by [] each e = inl (sym e)
+  by (b ∷ bs) each e = at each.0 (e ∙ append_assoc b (joined bs) place) where
+    at : IsBlank b → 32 ∷ cs ≡ b ++ (joined bs ++ place) → (place ≡ 32 ∷ cs) ⊎ Skips cs place
+    at (white d q h) e = inr (record { blanks = bs; each = each.1; whole = ap behind_first (subst (λ t. 32 ∷ cs ≡ t ++ (joined bs ++ place)) q e) })
+    at (line_comment comment q h) e =
+        absurd (differ 32 37 refl (ap first_byte (subst (λ t. 32 ∷ cs ≡ t ++ 10 ∷ [] ++ (joined bs ++ place)) h.1 (subst (λ t. 32 ∷ cs ≡ t ++ (joined bs ++ place)) q e))))
+    at (block_comment h) e = absurd (differ 32 47 refl (ap first_byte (subst (λ t. 32 ∷ cs ≡ t ++ (joined bs ++ place)) h.1 e)))

@@ -10,19 +10,17 @@ use Rattle.si_defs.specs.Steps.{add, query}
 use Rattle.si_examples.proofs.Differ.{differ, first_byte}
 use Rattle.si_examples.proofs.Fronts.{next, next_behind, stands, nothing}
 
-clause_tokens : List Token
+abbrev pub clause_tokens : List Token
 clause_tokens =
     lower (codes "cnf") ∷ left_bracket ∷ lower (codes "c") ∷ comma ∷ lower (codes "axiom") ∷ comma ∷ lower (codes "p") ∷ right_bracket ∷ full_stop ∷ []
 
 is_clause : IsClause (fact (codes "c") (predicate (codes "p") [])) clause_tokens
-unfolding clause_tokens
 is_clause =
     let atom = lower (codes "p") ∷ [] in
     (lower (codes "c"), atom, [], inl refl, (0, atom, (atom, [], (refl, refl, (lower (codes "p"), inl refl, refl)), refl, refl), refl), tt, refl)
 
 -- its tokens, one after the other
-tokens : Consists (codes "add cnf(c,axiom,p).") (lower (codes "add") ∷ clause_tokens)
-unfolding clause_tokens
+pub tokens : Consists (codes "add cnf(c,axiom,p).") (lower (codes "add") ∷ clause_tokens)
 tokens = record {
   rest = [];
   begins = (
@@ -66,7 +64,6 @@ tokens = record {
 }
 
 pub added_line : AddedLine
-unfolding clause_tokens
 added_line = record { tokens = lower (codes "add") ∷ clause_tokens; consists = tokens; spelled = (clause_tokens, is_clause, refl); nested = omega arith }
 
 -- the first byte of the first token's text, and of the second's

@@ -9,3 +9,4 @@ pub mod Unifiers
 pub mod Answers
 pub mod Printing
 pub mod Steps
+pub mod Runs

@@ -4,8 +4,9 @@ use Rattle.si_defs.specs.Bytes.{Bytes}
 use Rattle.si_defs.specs.Clauses.{Clause}
 use Rattle.si_defs.specs.Tokens.{upper, lower}
 use Rattle.si_defs.specs.Grammar.{left_bracket, right_bracket}
-use Rattle.si_defs.specs.Acceptance.{Accepts}
+use Rattle.si_defs.specs.Acceptance.{IsTaken, Accepts}
 use Rattle.si_defs.specs.Steps.{Limits, Reply, Command, IsCommand, RightStep, Step, IsPlain, add, Means, Performs, is_refusal}
+use Rattle.si_defs.specs.declared.NameKind.TheVariants as named
 use Rattle.si_examples.specs.Entries.{first_atom, second_atom, fact, predicate}
 
 -- the clause c1, and another of that name
@@ -54,6 +55,10 @@ NoOtherReply = (new : List Clause) → Performs (add of_taken_name) (kept ∷ []
 -- it is never accepted, whatever the state behind it
 abbrev pub NoSecondClause : Type 0
 NoSecondClause = (new : List Clause) → Accepts (kept ∷ []) of_taken_name new → ⊥
+
+-- `1` and `'1'` are two names
+abbrev pub TwoNames : Type 0
+TwoNames = IsTaken (record { name = record { kind = named.Int; text = codes "1" }; role = codes "axiom"; literals = [] } ∷ []) (record { kind = named.Word; text = codes "1" }) → ⊥
 
 -- ---- refusals
 -- a reply that begins with `!` is a refusal

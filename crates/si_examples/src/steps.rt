@@ -1,5 +1,5 @@
 // Lines, their replies and the state behind them.
-ghost use Rattle.si_examples.specs.Steps.{SilentLine, SilentOnly, TooLong, NoMemoryWhereTooLong, LaterLine, AddedLine, NoKindOfPattern, AddedClause, TakenName, NoOtherReply, NoSecondClause, Refusal, LateRefusal, NoRefusal, SilenceIsNoRefusal, PlainLine, NoIntegerInPlainLine};
+ghost use Rattle.si_examples.specs.Steps.{SilentLine, SilentOnly, TooLong, NoMemoryWhereTooLong, LaterLine, AddedLine, NoKindOfPattern, AddedClause, TakenName, NoOtherReply, NoSecondClause, TwoNames, Refusal, LateRefusal, NoRefusal, SilenceIsNoRefusal, PlainLine, NoIntegerInPlainLine};
 
 /// Which replies are right.
 pub fn replies()
@@ -12,6 +12,7 @@ pub fn replies()
     ensures taken_name { TakenName }
     ensures no_other_reply { NoOtherReply }
     ensures no_second_clause { NoSecondClause }
+    ensures two_names { TwoNames }
 {}
 
 /// Which replies are refusals.

@@ -1,11 +1,17 @@
-use Rattle.si_examples.proofs.TwoVariables.{leads, follows, no_list}
+use Rattle.si_examples.proofs.SharedTerms.{bound_to_term, no_list_of_cycle, equal_variables, no_term_twice, no_part_for_variable}
 use Rattle.si_examples.proofs.unifiers.canonical_unifiers.Goals as goal
 
-pub returns-clause-first_variable_leads : goal.returns-clause-first_variable_leads
-returns-clause-first_variable_leads c = leads
+pub returns-clause-bound_to_term : goal.returns-clause-bound_to_term
+returns-clause-bound_to_term c = bound_to_term
 
-pub returns-clause-second_variable_follows : goal.returns-clause-second_variable_follows
-returns-clause-second_variable_follows c = follows
+pub returns-clause-no_list_of_cycle : goal.returns-clause-no_list_of_cycle
+returns-clause-no_list_of_cycle c = no_list_of_cycle
 
-pub returns-clause-no_empty_list : goal.returns-clause-no_empty_list
-returns-clause-no_empty_list c = no_list
+pub returns-clause-equal_variables : goal.returns-clause-equal_variables
+returns-clause-equal_variables c = equal_variables
+
+pub returns-clause-no_term_twice : goal.returns-clause-no_term_twice
+returns-clause-no_term_twice c = no_term_twice
+
+pub returns-clause-no_part_for_variable : goal.returns-clause-no_part_for_variable
+returns-clause-no_part_for_variable c = no_part_for_variable

@@ -10,7 +10,7 @@ use Rattle.si_defs.specs.Answers.{Variable, of_pattern, of_entry, same_variable,
 use Rattle.si_defs.specs.declared.SymKind.TheVariants.{Word}
 use Rattle.si_defs.specs.declared.Side.TheVariants.{Function}
 use Rattle.si_examples.specs.Entries.{function}
-use Rattle.si_examples.specs.Unifiers.{asked, kept, other, asked_term, part, both_asked, BoundToTerm, NoListOfCycle, EqualVariables, NoTermTwice, NoPartForVariable}
+use Rattle.si_examples.specs.Unifiers.{asked, kept, other, asked_term, kept_term, part, both_asked, BoundToTerm, NoListOfCycle, EqualVariables, NoTermTwice, NoPartForVariable}
 use Rattle.si_examples.proofs.Differ.{differ, first_byte}
 
 -- ---- which terms differ
@@ -55,10 +55,19 @@ grows : (s : Symbol) (bs : Solution) (t : Apart) → terms.size (in_sequence sam
 grows s [] t = omega arith
 grows s (b ∷ bs) t = grows s bs (bind same_variable b.0 b.1 t)
 
+-- applied in sequence to two arguments
+sequence_pair : (s : Symbol) (bs : Solution) (t u : Apart)
+    → in_sequence same_variable bs (terms.app s (terms.more t (terms.more u terms.none)))
+    ≡ terms.app s (terms.more (in_sequence same_variable bs t) (terms.more (in_sequence same_variable bs u) terms.none))
+sequence_pair s [] t u = refl
+sequence_pair s (b ∷ bs) t u = sequence_pair s bs (bind same_variable b.0 b.1 t) (bind same_variable b.0 b.1 u)
+
 pub no_list_of_cycle : NoListOfCycle
 no_list_of_cycle bs c =
-    let e = ap terms.size c.achieves in
-    let g = grows (record { kind = Word; text = codes "f"; side = Function; arity = 1 }) bs asked_term in
+    let pair : Symbol = record { kind = Word; text = codes "g"; side = Function; arity = 2 } in
+    let k = pair_first _ _ _ _ _ _ (sym (sequence_pair pair bs asked_term asked_term) ∙ c.achieves ∙ sequence_pair pair bs kept_term part) in
+    let e = ap terms.size (sym k.0 ∙ k.1) in
+    let g = grows (record { kind = Word; text = codes "f"; side = Function; arity = 1 }) bs kept_term in
     absurd (omega arith)
 
 -- ---- ?X and f(Y)

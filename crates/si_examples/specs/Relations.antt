@@ -1,4 +1,4 @@
--- Instances, variants and unifiable terms.
+-- Instances, variants and unifiable terms. No variable stands in both terms.
 use Rattle.std.specs.Prelude.{[], ◌∷◌, codes, bytes_eq}
 use Rattle.si_defs.specs.Clauses.{Term}
 use Rattle.si_defs.specs.Relations.{Variants, Relates, IsInstance, IsUnifiable}
@@ -33,9 +33,9 @@ InstanceOfVariable = IsInstance bytes_eq x f_of_y
 abbrev pub NoVariableInstance : Type 0
 NoVariableInstance = IsInstance bytes_eq f_of_y x → ⊥
 
--- p(X,Y) and p(Z,X) are variants of each other
+-- p(X,Y) and p(Z,V) are variants of each other
 abbrev pub RenamedPair : Type 0
-RenamedPair = Relates bytes_eq Variants (p_of x y) (p_of z x)
+RenamedPair = Relates bytes_eq Variants (p_of x y) (p_of z (variable (codes "V")))
 
 -- p(X,Y) and p(Z,Z) are none, though the second is an instance of the first
 abbrev pub NoVariantOfSquare : Type 0
@@ -45,6 +45,6 @@ NoVariantOfSquare = IsInstance bytes_eq (p_of x y) (p_of z z) × (Relates bytes_
 abbrev pub UnifiablePair : Type 0
 UnifiablePair = IsUnifiable bytes_eq (p_of x a) (p_of (constant (codes "b")) y)
 
--- X and f(X) are not
+-- p(X,X) and p(Y,f(Y)) are not
 abbrev pub NoCycle : Type 0
-NoCycle = IsUnifiable bytes_eq x (function (codes "f") (x ∷ [])) → ⊥
+NoCycle = IsUnifiable bytes_eq (p_of x x) (p_of y f_of_y) → ⊥

@@ -50,9 +50,9 @@ both_asked = function (codes "g") (asked_term ∷ terms.var other ∷ [])
 abbrev pub BoundToTerm : Type 0
 BoundToTerm = IsCanonical same_variable Unifiable asked_term part ((asked, part) ∷ [])
 
--- ?X and f(?X) have none
+-- g(?X,?X) and g(Y,f(Y)) have none
 abbrev pub NoListOfCycle : Type 0
-NoListOfCycle = (list : Solution) → IsCanonical same_variable Unifiable asked_term (function (codes "f") (asked_term ∷ [])) list → ⊥
+NoListOfCycle = (list : Solution) → IsCanonical same_variable Unifiable (function (codes "g") (asked_term ∷ asked_term ∷ [])) (function (codes "g") (kept_term ∷ part ∷ [])) list → ⊥
 
 -- the list of g(?X,?Z) and g(f(Y),f(Y)) is {?Z -> ?X; ?X -> f(Y)}: the first of two equal variables stands for both
 abbrev pub EqualVariables : Type 0

@@ -1,4 +1,5 @@
 use Rattle.std.proofs.Common.{[], ◌∷◌, codes, refl, inl, inr}
+use Rattle.si_examples.specs.Entries.{variable}
 use Rattle.si_examples.specs.Relations.{x, y, z, f_of_y}
 use Rattle.si_examples.proofs.Differ.{variables_differ, same_arguments}
 use Rattle.si_examples.proofs.relations.instances.Goals as goal
@@ -8,8 +9,8 @@ returns-clause-instance_of_variable c = ((codes "X", f_of_y) ∷ [], record { on
 
 pub returns-clause-renamed_pair : goal.returns-clause-renamed_pair
 returns-clause-renamed_pair c = (
-  ((codes "X", z) ∷ (codes "Y", x) ∷ [], record { on = (inl refl, (inr (inl refl), tt)); takes = refl }),
-  ((codes "Z", x) ∷ (codes "X", y) ∷ [], record { on = (inl refl, (inr (inl refl), tt)); takes = refl }),
+  ((codes "X", z) ∷ (codes "Y", variable (codes "V")) ∷ [], record { on = (inl refl, (inr (inl refl), tt)); takes = refl }),
+  ((codes "Z", x) ∷ (codes "V", y) ∷ [], record { on = (inl refl, (inr (inl refl), tt)); takes = refl }),
 )
 
 pub returns-clause-no_variant_of_square : goal.returns-clause-no_variant_of_square

@@ -13,6 +13,7 @@ use Rattle.si_defs.specs.declared.SymKind.TheVariants.{Word, Dollar, Number, Dis
 use Rattle.si_defs.specs.declared.TokenKind.{TokenKind}
 use Rattle.si_defs.specs.declared.TokenKind.TheVariants as token
 use Rattle.si_examples.specs.Grammar.{NoOpenBracket}
+use Rattle.si_examples.proofs.Formulas.{third_kind, other_kind}
 
 -- 1 where the token is this mark
 abbrev one : ℕ → Token → ℕ
@@ -26,6 +27,7 @@ abbrev marks : ℕ → List Token → ℕ
 marks c [] = 0
 marks c (t ∷ ts) = one c t + marks c ts
 
+-- ---- of tokens
 marks-append : (c : ℕ) (ts us : List Token) → marks c (ts ++ us) ≡ marks c ts + marks c us
 marks-append c [] us = omega arith
 marks-append c (t ∷ ts) us = let h = marks-append c ts us in omega arith
@@ -72,9 +74,11 @@ constant_neutral Word text t h = head_neutral Word text t h
 constant_neutral Dollar text t h = head_neutral Dollar text t h
 constant_neutral Equal text t h = absurd h
 
+-- the same tokens
 even : (ts us : List Token) → ts ≡ us → IsEven us → IsEven ts
 even ts us e h = subst IsEven (sym e) h
 
+-- ---- of terms, literals and formulas
 mutual
   term_even : (t : Term) (ts : List Token) → IsTerm t ts → IsEven ts
   term_even (terms.var x) ts h = even ts _ h refl
@@ -127,6 +131,7 @@ lefts : (n : ℕ) → (marks 40 (replicate n left_bracket) ≡ n) × (marks 41 (
 lefts zero = (refl, refl)
 lefts (suc n) = let h = lefts n in (omega arith, omega arith)
 
+-- and the closing one
 rights : (n : ℕ) → (marks 41 (replicate n right_bracket) ≡ n) × (marks 40 (replicate n right_bracket) ≡ 0)
 rights zero = (refl, refl)
 rights (suc n) = let h = rights n in (omega arith, omega arith)
@@ -155,13 +160,14 @@ abbrev behind_head : List Token → List Token
 behind_head (t₁ ∷ t₂ ∷ t₃ ∷ t₄ ∷ t₅ ∷ t₆ ∷ ts) = ts
 behind_head ts = []
 
--- the number of commas
+-- no comma stands there
 no_comma : (formula extra : List Token) (t : Token) → t ≡ comma → open_atom ≡ formula ++ t ∷ extra → ⊥
 no_comma formula extra t e h =
     let n : one 44 t ≡ 1 = ap (one 44) e in
     let m : 0 ≡ marks 44 (formula ++ t ∷ extra) = ap (marks 44) h in
     absurd (omega (arith, marks-append 44 formula (t ∷ extra)))
 
+-- so neither annotations nor a formula make it up
 parts : (ls : List Literal) (formula extra : List Token) → IsFormula ls formula → IsExtra extra → open_atom ≡ formula ++ extra → ⊥
 parts ls formula [] f x e =
     let h = formula_even ls formula f in
@@ -169,13 +175,6 @@ parts ls formula [] f x e =
     let r : 0 ≡ marks 41 (formula ++ []) = ap (marks 41) e in
     absurd (omega (arith, marks-append 40 formula [], marks-append 41 formula []))
 parts ls formula (t ∷ extra) f x e = no_comma formula extra t x.0 e
-
-abbrev third_kind : List Token → TokenKind
-third_kind (t ∷ u ∷ v ∷ vs) = v.kind
-third_kind ts = token.Mark
-
-other_kind : token.Lower ≡ token.Single → ⊥
-other_kind e = cc
 
 pub no_open_bracket : NoOpenBracket
 no_open_bracket (clause_item c) h =

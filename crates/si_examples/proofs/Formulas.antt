@@ -32,6 +32,7 @@ Opens ts =
     ⊎ (((us : List Token) × (ts ≡ mark 126 ∷ left_bracket ∷ us))
     ⊎ ((us : List Token) × (ts ≡ left_bracket ∷ us))))
 
+-- ---- which tokens they begin with
 head_bare : (kind : SymKind) (text : Bytes) (t : Token) → IsHead kind text t → is_no_mark t ≡ true
 head_bare Word text t (inl e) = subst (λ u. is_no_mark u ≡ true) (sym e) refl
 head_bare Word text t (inr e) = subst (λ u. is_no_mark u ≡ true) (sym e) refl
@@ -100,11 +101,12 @@ formula_opens ls ts h = by h.0 h.1 h.2 h.3 where
   by zero inner d e = subst Opens (sym e) (opens_append inner [] (disjunction_opens ls inner d))
   by (suc n) inner d e = inr (inr (inr (replicate n left_bracket ++ inner ++ replicate (suc n) right_bracket, e)))
 
-abbrev third_kind : List Token → TokenKind
+-- the kind of the third token, which is a name in a clause and a file in an include
+abbrev pub third_kind : List Token → TokenKind
 third_kind (t ∷ u ∷ v ∷ vs) = v.kind
 third_kind ts = token.Mark
 
-other_kind : token.Lower ≡ token.Single → ⊥
+pub other_kind : token.Lower ≡ token.Single → ⊥
 other_kind e = cc
 
 first_same : (t u : Token) (ts us : List Token) → t ∷ ts ≡ u ∷ us → t ≡ u
@@ -126,6 +128,7 @@ item_opens (clause_item c) ts h =
     subst Opens (sym e) (opens_append (h.1 ++ h.2) (right_bracket ∷ full_stop ∷ []) (opens_append h.1 h.2 (formula_opens c.literals h.1 h.4)))
 item_opens (include_item file selection) ts h = absurd (other_kind (ap third_kind h.2))
 
+-- tokens that begin with a mark
 bare_not : (t : Token) (ts : List Token) → is_no_mark t ≡ false → BeginsBare (t ∷ ts) → ⊥
 bare_not t ts h b =
     let e : b.0 ≡ t = cc in

@@ -23,7 +23,8 @@ may_spell Double bytes = begins_with 34 bytes
 may_spell NotEqual bytes = bytes_eq bytes (codes "!=")
 may_spell Mark bytes = is_one_mark bytes
 
-spelled : (kind : TokenKind) (text bytes : Bytes) → Spells kind text bytes → may_spell kind bytes ≡ true
+-- what spells a token may spell one
+pub spelled : (kind : TokenKind) (text bytes : Bytes) → Spells kind text bytes → may_spell kind bytes ≡ true
 spelled Lower text bytes s = subst (λ t. is_lower_word t ≡ true) (sym s.0) s.1
 spelled Upper text bytes s = subst (λ t. is_upper_word t ≡ true) (sym s.0) s.1
 spelled Dollar text bytes s = subst (λ t. is_dollar_word t ≡ true) (sym s.0) s.1

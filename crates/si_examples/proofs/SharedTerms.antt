@@ -11,13 +11,10 @@ use Rattle.si_defs.specs.declared.SymKind.TheVariants.{Word}
 use Rattle.si_defs.specs.declared.Side.TheVariants.{Function}
 use Rattle.si_examples.specs.Entries.{function}
 use Rattle.si_examples.specs.Unifiers.{asked, kept, other, asked_term, kept_term, part, both_asked, BoundToTerm, NoListOfCycle, EqualVariables, NoTermTwice, NoPartForVariable}
+use Rattle.si_examples.proofs.TwoVariables.{first, never_same, apart}
 use Rattle.si_examples.proofs.Differ.{differ, first_byte}
 
 -- ---- which terms differ
-abbrev first : List Variable → Variable
-first [] = asked
-first (x ∷ xs) = x
-
 abbrev behind : List Variable → List Variable
 behind [] = []
 behind (x ∷ xs) = xs
@@ -26,18 +23,13 @@ abbrev text_of : Variable → Bytes
 text_of (of_pattern x) = x
 text_of (of_entry x) = x
 
-never_same : (x y : Bytes) → of_pattern x ≡ of_entry y → ⊥
-never_same x y e = cc
-
-asked_kept : asked ≡ kept → ⊥
-asked_kept e = never_same (codes "X") (codes "Y") e
-
 other_kept : other ≡ kept → ⊥
 other_kept e = never_same (codes "Z") (codes "Y") e
 
 asked_other : asked ≡ other → ⊥
 asked_other e = differ 88 90 refl (ap (λ x. first_byte (text_of x)) e)
 
+-- nothing stands in the empty list
 none_behind : (before after : List Variable) (w : Variable) → [] ≡ before ++ w ∷ after → ⊥
 none_behind [] after w e = cc
 none_behind (b ∷ before) after w e = cc
@@ -102,7 +94,7 @@ bound_to_term = record {
   ordered = (((inl refl, ((λ h. by h), tt)), ([], kept ∷ [], refl, tt)), tt);
 } where
   by : IsAmong (kept ∷ []) asked → ⊥
-  by (inl e) = asked_kept (sym e)
+  by (inl e) = apart (sym e)
   by (inr h) = h
 
 -- ---- g(?X,?Z) and g(f(Y),f(Y))
@@ -164,7 +156,7 @@ equal_variables = record {
   no_kept (inr h) = h
 
   no_asked : IsAmong (kept ∷ []) asked → ⊥
-  no_asked (inl e) = asked_kept (sym e)
+  no_asked (inl e) = apart (sym e)
   no_asked (inr h) = h
 
 -- ?Z is bound to ?X

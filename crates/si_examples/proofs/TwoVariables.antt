@@ -14,20 +14,22 @@ Joined x y = AreJoined same_variable asked_term kept_term (terms.var x) (terms.v
 abbrev Leads : Variable → Variable → Type 0
 Leads x w = IsLeader same_variable asked_term kept_term x w
 
-abbrev first : List Variable → Variable
+abbrev pub first : List Variable → Variable
 first [] = asked
 first (x ∷ xs) = x
 
+-- ---- who is joined
 self : (x : Variable) → Joined x x
 self x = λ s u. refl
 
 kept_asked : Joined kept asked
 kept_asked = λ s u. sym u
 
-never_same : (x y : Bytes) → of_pattern x ≡ of_entry y → ⊥
+-- no variable of a pattern is one of an entry
+pub never_same : (x y : Bytes) → of_pattern x ≡ of_entry y → ⊥
 never_same x y e = cc
 
-apart : asked ≡ kept → ⊥
+pub apart : asked ≡ kept → ⊥
 apart e = never_same (codes "X") (codes "Y") e
 
 -- whatever is joined with the first variable is led by it

@@ -31,6 +31,10 @@ WordIsNoBlank = AreBlanks (codes "p") → ⊥
 abbrev pub TwoIntegers : Type 0
 TwoIntegers = Consists (codes "01") (integer (codes "0") ∷ integer (codes "1") ∷ [])
 
+-- and not one
+abbrev pub NoOneInteger : Type 0
+NoOneInteger = (token : Token) → TokenAt (codes "01") token [] → ⊥
+
 -- `X!=-3.` is four: a variable, a sign, an integer and a full stop
 abbrev pub SignedInteger : Type 0
 SignedInteger = Consists (codes "X!=-3.") (upper (codes "X") ∷ not_equal ∷ integer (codes "-3") ∷ full_stop ∷ [])

@@ -1,6 +1,9 @@
-use Rattle.std.proofs.Common.{◌≡◌, ◌≤◌, [], codes, refl, ap, length, arith}
+use Rattle.std.proofs.Common.{◌≡◌, ◌≤◌, true, false, [], codes, refl, ap, sym, ◌∙◌, subst, length, arith}
+use Rattle.std.proofs.lemmas.Bool.{false≢true}
+use Rattle.std.proofs.lemmas.List.{append-nil}
+use Rattle.si_defs.specs.declared.TokenKind.{TokenKind}
 use Rattle.si_defs.specs.declared.TokenKind.TheVariants.{Lower, Upper, Int, NotEqual, Mark}
-use Rattle.si_examples.proofs.Fronts.{stands, next, next_behind, nothing}
+use Rattle.si_examples.proofs.Fronts.{may_spell, spelled, stands, next, next_behind, nothing}
 use Rattle.si_examples.proofs.tokens.tokens_of_texts.Goals as goal
 
 pub returns-clause-two_integers : goal.returns-clause-two_integers
@@ -58,3 +61,13 @@ returns-clause-no_part_of_word c = λ t.
     let longer : 2 ≤ length t.spelling = t.longest Lower (codes "ab") (codes "ab") [] (refl, refl) refl in
     let one : length t.spelling ≡ 1 = ap length t.spelled.0 in
     absurd (omega arith)
+
+-- no kind of token is spelled so
+pub returns-clause-no_one_integer : goal.returns-clause-no_one_integer
+returns-clause-no_one_integer c = λ t a.
+    let whole : a.spelling ≡ codes "01" = sym (append-nil a.spelling) ∙ sym a.front in
+    let m = subst (λ b. may_spell t.kind b ≡ true) whole (spelled t.kind t.text a.spelling a.spelled) in
+    false≢true (sym (none t.kind) ∙ m) where
+      none : (kind : TokenKind) → may_spell kind (codes "01") ≡ false
+      none Lower = refl
+      none _ = refl

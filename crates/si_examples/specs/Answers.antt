@@ -41,10 +41,10 @@ NoHitLeftOut = IsAnswer Instances pattern (state_entries state) [] → ⊥
 abbrev pub NoHitTwice : Type 0
 NoHitTwice = IsAnswer Instances pattern (state_entries state) (hit ∷ hit ∷ []) → ⊥
 
--- the entry a is a generalization of no f(Y)
+-- the entry a is no generalization of f(Y)
 abbrev pub NoGeneralization : Type 0
 NoGeneralization = Stands Generalizations pattern (term_entry a) → ⊥
 
--- a pattern that is a variable has no literal among its instances
+-- the literal p(f(X),a) is no instance of the term pattern X
 abbrev pub NoLiteralOfTerm : Type 0
 NoLiteralOfTerm = Stands Instances (term_pattern x) (literal_of first_atom) → ⊥

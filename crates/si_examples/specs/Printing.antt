@@ -14,7 +14,7 @@ c1 = record { kind = Word; text = codes "c1" }
 abbrev pub EscapedName : Type 0
 EscapedName = name_text (record { kind = Word; text = codes "it's" }) ≡ codes "'it\\'s'"
 
--- a lower word stands in no quotes
+-- the name `cat` stands in none
 abbrev pub NoNeedlessQuotes : Type 0
 NoNeedlessQuotes = name_text (record { kind = Word; text = codes "cat" }) ≡ codes "'cat'" → ⊥
 

@@ -8,7 +8,7 @@ abbrev pub AddedAndFound : Type 0
 AddedAndFound = (limits : Limits) → 19 ≤ limits.line
     → IsOutput limits (codes "add cnf(c,axiom,p)." ∷ codes "instances lit p" ∷ []) (codes "ok 1 1\nc:1 {}\nend 1\n")
 
--- a line of white space leaves no trace, and no lines none
+-- a line of white space alone has no output
 abbrev pub NoOutput : Type 0
 NoOutput = (limits : Limits) → 1 ≤ limits.line → IsOutput limits (codes " " ∷ []) []
 

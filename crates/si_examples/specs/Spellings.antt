@@ -23,10 +23,10 @@ NoCapital = Spells Lower (codes "Ab") (codes "Ab") → ⊥
 abbrev pub QuoteInQuotes : Type 0
 QuoteInQuotes = Spells Single (codes "it's") (codes "'it\\'s'")
 
--- nothing stands between single quotes in no token
+-- `''` is no token: some text stands between single quotes
 abbrev pub NoEmptySingle : Type 0
 NoEmptySingle = Spells Single [] (codes "''") → ⊥
 
--- nothing may stand between double quotes
+-- `""` is one: between double quotes there need be none
 abbrev pub EmptyDouble : Type 0
 EmptyDouble = Spells Double [] (codes "\"\"")

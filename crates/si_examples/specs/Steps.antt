@@ -36,7 +36,7 @@ abbrev pub NoMemoryWhereTooLong : Type 0
 NoMemoryWhereTooLong = (limits : Limits) (state : List Clause) (line : Bytes) (new : List Clause) → limits.line < length line
     → Step limits state line (codes "! memory" ∷ []) new → ⊥
 
--- a line that is not plain is read later
+-- `term 1` is read later: it is not plain, since a digit stands behind a space
 abbrev pub LaterLine : Type 0
 LaterLine = (limits : Limits) (state : List Clause) → RightStep limits state (codes "term 1") (codes "! later" ∷ []) state
 
@@ -48,7 +48,7 @@ AddedClause = Performs (add kept) [] (codes "ok 1 3" ∷ []) (kept ∷ [])
 abbrev pub TakenName : Type 0
 TakenName = Performs (add of_taken_name) (kept ∷ []) (codes "! taken c1" ∷ []) (kept ∷ [])
 
--- and no other reply is right
+-- the reply of an added clause is wrong there
 abbrev pub NoOtherReply : Type 0
 NoOtherReply = (new : List Clause) → Performs (add of_taken_name) (kept ∷ []) (codes "ok 1 3" ∷ []) new → ⊥
 

@@ -1,0 +1,12 @@
+pub mod Differ
+pub mod Fronts
+pub mod NoBlanks
+pub mod Formulas
+pub mod EvenBrackets
+pub mod FirstWords
+pub mod TwoVariables
+pub mod OneClause
+pub mod OneStep
+pub mod OneLine
+pub mod OneRun
+pub mod SharedTerms

@@ -1,0 +1,50 @@
+-- The answer to a pattern, over one clause.
+use Rattle.std.specs.Prelude.{List, [], ◌∷◌, codes}
+use Rattle.si_defs.specs.Terms as terms
+use Rattle.si_defs.specs.Clauses.{Clause, Pattern, term_pattern}
+use Rattle.si_defs.specs.Entries.{term_entry, state_entries}
+use Rattle.si_defs.specs.Relations.{Instances, Generalizations}
+use Rattle.si_defs.specs.Answers.{of_pattern, of_entry, Hit, IsAnswer, Stands}
+use Rattle.si_defs.specs.Steps.{query, Performs}
+use Rattle.si_examples.specs.Entries.{first_atom, fact, f_of_x, a, placed, literal_of}
+use Rattle.si_examples.specs.Relations.{x, f_of_y}
+
+-- the clause c1: p(f(X),a)
+abbrev pub state : List Clause
+state = fact (codes "c1") first_atom ∷ []
+
+-- the pattern f(Y)
+abbrev pub pattern : Pattern
+pattern = term_pattern f_of_y
+
+-- the one entry that is an instance of it: f(X)
+abbrev pub hit : Hit
+hit = record {
+  clause = fact (codes "c1") first_atom;
+  placed = placed (term_entry f_of_x) (1 ∷ []);
+  solution = (of_pattern (codes "Y"), terms.var (of_entry (codes "X"))) ∷ [];
+}
+
+-- of the literal, f(X) and a the second alone is answered
+abbrev pub OneHit : Type 0
+OneHit = IsAnswer Instances pattern (state_entries state) (hit ∷ [])
+
+-- so the reply has its line, and then the number of hits
+abbrev pub AnsweredPattern : Type 0
+AnsweredPattern = Performs (query Instances pattern) state (codes "c1:1:1 {?Y -> X}" ∷ codes "end 1" ∷ []) state
+
+-- it may not be left out
+abbrev pub NoHitLeftOut : Type 0
+NoHitLeftOut = IsAnswer Instances pattern (state_entries state) [] → ⊥
+
+-- nor answered twice
+abbrev pub NoHitTwice : Type 0
+NoHitTwice = IsAnswer Instances pattern (state_entries state) (hit ∷ hit ∷ []) → ⊥
+
+-- the entry a is no generalization of f(Y)
+abbrev pub NoGeneralization : Type 0
+NoGeneralization = Stands Generalizations pattern (term_entry a) → ⊥
+
+-- the literal p(f(X),a) is no instance of the term pattern X
+abbrev pub NoLiteralOfTerm : Type 0
+NoLiteralOfTerm = Stands Instances (term_pattern x) (literal_of first_atom) → ⊥

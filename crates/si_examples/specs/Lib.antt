@@ -1,0 +1,12 @@
+pub mod Spellings
+pub mod Tokens
+pub mod Grammar
+pub mod Texts
+pub mod Entries
+pub mod Relations
+pub mod Solutions
+pub mod Unifiers
+pub mod Answers
+pub mod Printing
+pub mod Steps
+pub mod Runs

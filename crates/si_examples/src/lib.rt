@@ -1,0 +1,29 @@
+//! Worked examples of the definitions: what holds by them, and what does not. Each is a clause of a function with no
+//! code, so that a check proves it. The statements stand in `specs/`, one file a subject.
+#![tactic(auto)]
+
+mod answers;
+mod entries;
+mod grammar;
+mod printing;
+mod relations;
+mod runs;
+mod solutions;
+mod spellings;
+mod steps;
+mod texts;
+mod tokens;
+mod unifiers;
+
+pub use answers::answers_to_patterns;
+pub use entries::entries_of_clauses;
+pub use grammar::{items, parts_of_clauses};
+pub use printing::printed_texts;
+pub use relations::{instances, unifiable_terms};
+pub use runs::whole_runs;
+pub use solutions::{canonical_lists, triangular_lists};
+pub use spellings::spellings_of_tokens;
+pub use steps::{lines, plain_lines, refusals, replies};
+pub use texts::{items_of_texts, places_in_texts};
+pub use tokens::{blanks, tokens_of_texts};
+pub use unifiers::{canonical_lists_of_variables, canonical_unifiers};

@@ -1,0 +1,12 @@
+// Printed texts.
+ghost use Rattle.si_examples.specs.Printing.{EscapedName, NoNeedlessQuotes, PrintedList, PrintedPlace, PrintedLiteralPlace, NoBlankInMap};
+
+/// How names, places and lists are written.
+pub fn printed_texts()
+    ensures escaped_name { EscapedName }
+    ensures no_needless_quotes { NoNeedlessQuotes }
+    ensures printed_list { PrintedList }
+    ensures printed_place { PrintedPlace }
+    ensures printed_literal_place { PrintedLiteralPlace }
+    ensures no_blank_in_map { NoBlankInMap }
+{}

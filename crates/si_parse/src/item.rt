@@ -11,6 +11,9 @@ use si_defs::TokenKind;
 use si_term::Clause;
 use std::alloc::{AllocError, Global};
 
+#[cfg(test)]
+mod tests;
+
 /// What stands at a place of a file (TPTP's `TPTP_file`, the CNF part).
 #[derive(Drop)]
 pub enum Read {

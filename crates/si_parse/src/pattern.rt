@@ -12,6 +12,9 @@ use crate::token::{Stop, Token};
 use si_term::Pattern;
 use std::alloc::{AllocError, Global};
 
+#[cfg(test)]
+mod tests;
+
 /// What a pattern is to be read as.
 #[derive(Clone, Copy, Debug, PartialEq, Eq)]
 pub enum PatternKind {

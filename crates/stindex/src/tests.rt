@@ -72,7 +72,7 @@ fn wide(alloc: Global, more: u32) -> Result<Vec<u8>, AllocError> {
 }
 
 /// Inputs with their outputs under the standard limits.
-const ROWS: [(&[u8], &[u8]); 11] = [
+const ROWS: [(&[u8], &[u8]); 12] = [
     (b"", b""),
     (b"\n", b""),
     (b" \t\n\n", b""),
@@ -104,6 +104,11 @@ const ROWS: [(&[u8], &[u8]); 11] = [
     (
         b"add cnf(c,axiom,p(g(X,h(Y)),X)).\ninstances lit p(A,B)\n",
         b"ok 1 3\nc:1 {?A -> g(X,h(Y)); ?B -> X}\nend 1\n",
+    ),
+    // Equal literals of two clauses, and equal terms at two places, in order.
+    (
+        b"add cnf(b,axiom,p(f(a),f(a))).\nadd cnf(a,axiom,p(f(a),f(a))).\ninstances lit p(X,X)\ninstances term f(X)\n",
+        b"ok 1 5\nok 1 5\nb:1 {?X -> f(a)}\na:1 {?X -> f(a)}\nend 2\nb:1:1 {?X -> a}\nb:1:2 {?X -> a}\na:1:1 {?X -> a}\na:1:2 {?X -> a}\nend 4\n",
     ),
     // No query has answers where no clause is kept.
     (b"instances lit p(X)\n", b"end 0\n"),

@@ -1,0 +1,43 @@
+// The reader of items at texts that were read by hand.
+use super::{Read, next_item};
+use std::process::Abort;
+use std::test::Fail;
+
+/// The place behind the clause that was read.
+fn end_of_clause(rt: &impl Abort, read: &Read) -> usize {
+    let end = match read {
+        Read::Cnf(_, end) => Some(*end),
+        Read::End | Read::Syntax(_) | Read::Language(_) => None,
+    };
+    end.expect(rt, "a clause")
+}
+
+/// The place where no item begins.
+fn place_of_fault(rt: &impl Abort, read: &Read) -> usize {
+    let place = match read {
+        Read::Syntax(place) => Some(*place),
+        Read::End | Read::Cnf(..) | Read::Language(_) => None,
+    };
+    place.expect(rt, "a fault")
+}
+
+/// The place where a formula of another language begins.
+fn place_of_language(rt: &impl Abort, read: &Read) -> usize {
+    let place = match read {
+        Read::Language(place) => Some(*place),
+        Read::End | Read::Cnf(..) | Read::Syntax(_) => None,
+    };
+    place.expect(rt, "a formula")
+}
+
+#[test]
+fn items(rt: HostRuntime) -> Result<(), Fail> {
+    let alloc = rt.alloc();
+    let clause = next_item(alloc, b" cnf(c,axiom,p(X,a)). x", 0)?;
+    assert_eq!(rt; end_of_clause(&rt, &clause), 21);
+    let open = next_item(alloc, b"  cnf(c,axiom,p(X).", 0)?;
+    assert_eq!(rt; place_of_fault(&rt, &open), 2);
+    let other = next_item(alloc, b"a fof(c,axiom,p).", 1)?;
+    assert_eq!(rt; place_of_language(&rt, &other), 2);
+    Ok(())
+}

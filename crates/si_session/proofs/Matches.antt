@@ -14,7 +14,9 @@ use Rattle.si_session.specs.Equality.{term_eq, symbol_eq}
 use Rattle.si_session.specs.Matching.{Bindings, bound, rebound, matched, all_matched, solution_of}
 use Rattle.si_session.proofs.MatchingLaws.{bytes_eq_true, bytes_eq_same, symbol_eq_true, symbol_eq_same, term_eq_true, term_eq_same}
 use Rattle.si_session.proofs.Renaming.{entry_term_injective, variables-rename}
-use Rattle.si_session.proofs.Firsts.{knows, gathered, gathered-firsts, firsts-of_pattern, firsts_among}
+use Rattle.si_term.specs.Gathered.{knows, gathered}
+use Rattle.si_term.proofs.Gathered.{gathered-firsts}
+use Rattle.si_session.proofs.Firsts.{firsts-of_pattern, firsts_among}
 
 -- ---- options
 pub and_then_some : {A B : Type 0} (f : A → Option B) (o : Option A) (y : B) → option_and_then f o ≡ Some y → (x : A) × (o ≡ Some x) × (f x ≡ Some y)

@@ -1,5 +1,5 @@
--- A text that a function writes piece by piece.
-use Rattle.std.proofs.Common.{◌≡◌, ℕ, zero, suc, ◌+◌, ◌-◌, ◌<◌, List, [], ◌∷◌, ◌++◌, Option, Result, Ok, Err, OnOk, OnErr, length, get_or, take, drop, map, refl, sym, ap, subst, ◌∙◌, append_assoc, append-nil, arith, take_all, length-drop}
+-- The printed texts, cut into the pieces that are written.
+use Rattle.std.proofs.Common.{◌≡◌, ℕ, zero, suc, ◌+◌, ◌-◌, ◌<◌, List, [], ◌∷◌, ◌++◌, length, get_or, take, drop, map, sym, ap, ◌∙◌, append_assoc, append-nil, arith, take_all, length-drop}
 use Rattle.std.specs.Prelude.{codes, decimal}
 use Rattle.si_defs.specs.Bytes.{Bytes}
 use Rattle.si_defs.specs.Terms as terms
@@ -9,52 +9,6 @@ use Rattle.si_term.specs.Terms.{term_of}
 use Rattle.si_term.specs.declared.term.Term.{Term}
 use Rattle.si_term.proofs.Rows.{from, from-read, positive}
 use Rattle.si_session.specs.PrintedParts.{arguments_text, dotted}
-use Rattle.si_io.specs.Content.{Appends, AppendsPrefix}
-use Rattle.si_io.proofs.Content.{append_told-nil, Appends_then, AppendsPrefix_then, AppendsPrefix_more}
-
--- Some of the whole is written, and the rest is left.
-pub record Wrote (old now : Option (List ℕ)) (whole rest : List ℕ) : Type 0 where
-  pub done : List ℕ
-  pub given : Appends old done now
-  pub split : whole ≡ done ++ rest
-
-pub wrote_none : (a : Option (List ℕ)) (whole : List ℕ) → Wrote a a whole whole
-wrote_none a whole = record { done = []; given = sym (append_told-nil a); split = refl }
-
--- one piece more
-pub wrote_piece : (a b c : Option (List ℕ)) (whole rest piece left : List ℕ) → rest ≡ piece ++ left → Wrote a b whole rest → Appends b piece c → Wrote a c whole left
-wrote_piece a b c whole rest piece left parts w more = record {
-  done = w.done ++ piece;
-  given = Appends_then a b c w.done piece w.given more;
-  split = w.split ∙ ap (λ l. w.done ++ l) parts ∙ sym (append_assoc w.done piece left);
-}
-
--- a part of a piece, at which the sink failed
-pub wrote_part : (a b c : Option (List ℕ)) (whole rest piece left : List ℕ) → rest ≡ piece ++ left → Wrote a b whole rest → AppendsPrefix b piece c → AppendsPrefix a whole c
-wrote_part a b c whole rest piece left parts w part =
-    let joined : whole ≡ (w.done ++ piece) ++ left = w.split ∙ ap (λ l. w.done ++ l) parts ∙ sym (append_assoc w.done piece left) in
-    let P : List ℕ → Type 0 = λ l. AppendsPrefix a l c in
-    subst P (sym joined) (AppendsPrefix_more a c (w.done ++ piece) left (AppendsPrefix_then a b c w.done piece w.given part))
-
--- all of it
-pub wrote_all : (a b : Option (List ℕ)) (whole rest : List ℕ) → rest ≡ [] → Wrote a b whole rest → Appends a whole b
-wrote_all a b whole rest none w =
-    let all : whole ≡ w.done = w.split ∙ ap (λ l. w.done ++ l) none ∙ append-nil w.done in
-    let P : List ℕ → Type 0 = λ l. Appends a l b in
-    subst P (sym all) w.given
-
--- what holds at an error, and what follows from what a call ensures at each of its results
-pub on_err : {T E : Type 0} (r : Result T E) {P : Type 0} → P → OnErr r P
-on_err (Ok x) p = tt
-on_err (Err e) p = p
-
-pub err_so : {T E : Type 0} (r : Result T E) {P Q : Type 0} → (P → Q) → OnErr r P → OnErr r Q
-err_so (Ok x) f p = tt
-err_so (Err e) f p = f p
-
-pub ok_so : {T E : Type 0} (r : Result T E) {P Q : Type 0} → (P → Q) → OnOk r P → OnOk r Q
-ok_so (Ok x) f p = f p
-ok_so (Err e) f p = tt
 
 -- the items of a list behind the first
 pub tail_is : {A : Type 0} (xs : List A) → take (length xs - 1) (drop 1 xs) ≡ drop 1 xs

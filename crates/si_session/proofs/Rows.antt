@@ -1,22 +1,11 @@
 -- Arguments of the program's terms, one after the other.
-use Rattle.std.proofs.Common.{◌≡◌, ℕ, zero, suc, ◌<◌, ◌≤◌, Bool, true, false, ◌&&◌, List, [], ◌∷◌, length, get_or, drop, map, refl, ap, arith, drop-cons}
+use Rattle.std.proofs.Common.{◌≡◌, suc, Bool, true, false, ◌&&◌, List, [], ◌∷◌, length, map, refl, ap}
 use Rattle.si_defs.specs.Terms as terms
 use Rattle.si_term.specs.Terms.{term_of}
 use Rattle.si_term.specs.declared.term.Term.{Term}
 use Rattle.std.specs.Prelude.{Option, Some, None, option_and_then}
 use Rattle.si_session.specs.Equality.{term_eq, terms_eq}
 use Rattle.si_session.specs.Matching.{Bindings, matched, all_matched}
-
--- an argument is no larger than all of them
-pub size-at : (ts : List Term) (i : ℕ) (d : Term) → i < length ts → terms.size (term_of (get_or ts i d)) ≤ terms.sizes (terms.row (map term_of ts))
-size-at [] i d h = absurd (omega arith)
-size-at (t ∷ ts) zero d h = omega arith
-size-at (t ∷ ts) (suc i) d h = omega (arith, size-at ts i d (omega arith))
-
--- the arguments from the one with number i on
-pub row-drop : (ts : List Term) (i : ℕ) (d : Term) → i < length ts
-    → terms.row (map term_of (drop i ts)) ≡ terms.more (term_of (get_or ts i d)) (terms.row (map term_of (drop (suc i) ts)))
-row-drop ts i d h = ap (λ l. terms.row (map term_of l)) (drop-cons ts i d h)
 
 -- lists of different lengths are not equal
 pub lengths : (ts us : List Term) → (length ts ≡ length us → ⊥) → false ≡ terms_eq (terms.row (map term_of ts)) (terms.row (map term_of us))

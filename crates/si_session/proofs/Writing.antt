@@ -1,47 +1,48 @@
--- Texts that are written piece by piece.
-use Rattle.std.proofs.Common.{◌≡◌, ◌++◌, refl, ap, sym, ◌∙◌, subst, append_assoc, append-nil, []}
-use Rattle.std.specs.Prelude.{Option, Result, Ok, Err, OnOk, OnErr}
-use Rattle.si_defs.specs.Bytes.{Bytes}
+-- A text that is written piece by piece.
+use Rattle.std.proofs.Common.{◌≡◌, ℕ, List, [], ◌++◌, Option, Result, Ok, Err, OnOk, OnErr, refl, sym, ap, subst, ◌∙◌, append_assoc, append-nil}
 use Rattle.si_io.specs.Content.{Appends, AppendsPrefix}
-use Rattle.si_io.proofs.Content.{Appends_then, AppendsPrefix_then, AppendsPrefix_more, append_told-nil}
+use Rattle.si_io.proofs.Content.{append_told-nil, Appends_then, AppendsPrefix_then, AppendsPrefix_more}
 
-pub on_ok : {T E P : Type 0} (r : Result T E) → P → OnOk r P
-on_ok (Ok x) p = p
-on_ok (Err e) p = tt
+-- Some of the whole is written, and the rest is left.
+pub record Wrote (old now : Option (List ℕ)) (whole rest : List ℕ) : Type 0 where
+  pub done : List ℕ
+  pub given : Appends old done now
+  pub split : whole ≡ done ++ rest
 
-pub on_err : {T E P : Type 0} (r : Result T E) → P → OnErr r P
+pub wrote_none : (a : Option (List ℕ)) (whole : List ℕ) → Wrote a a whole whole
+wrote_none a whole = record { done = []; given = sym (append_told-nil a); split = refl }
+
+-- one piece more
+pub wrote_piece : (a b c : Option (List ℕ)) (whole rest piece left : List ℕ) → rest ≡ piece ++ left → Wrote a b whole rest → Appends b piece c → Wrote a c whole left
+wrote_piece a b c whole rest piece left parts w more = record {
+  done = w.done ++ piece;
+  given = Appends_then a b c w.done piece w.given more;
+  split = w.split ∙ ap (λ l. w.done ++ l) parts ∙ sym (append_assoc w.done piece left);
+}
+
+-- a part of a piece, at which the sink failed
+pub wrote_part : (a b c : Option (List ℕ)) (whole rest piece left : List ℕ) → rest ≡ piece ++ left → Wrote a b whole rest → AppendsPrefix b piece c → AppendsPrefix a whole c
+wrote_part a b c whole rest piece left parts w part =
+    let joined : whole ≡ (w.done ++ piece) ++ left = w.split ∙ ap (λ l. w.done ++ l) parts ∙ sym (append_assoc w.done piece left) in
+    let P : List ℕ → Type 0 = λ l. AppendsPrefix a l c in
+    subst P (sym joined) (AppendsPrefix_more a c (w.done ++ piece) left (AppendsPrefix_then a b c w.done piece w.given part))
+
+-- all of it
+pub wrote_all : (a b : Option (List ℕ)) (whole rest : List ℕ) → rest ≡ [] → Wrote a b whole rest → Appends a whole b
+wrote_all a b whole rest none w =
+    let all : whole ≡ w.done = w.split ∙ ap (λ l. w.done ++ l) none ∙ append-nil w.done in
+    let P : List ℕ → Type 0 = λ l. Appends a l b in
+    subst P (sym all) w.given
+
+-- what holds at an error, and what follows from what a call ensures at each of its results
+pub on_err : {T E : Type 0} (r : Result T E) {P : Type 0} → P → OnErr r P
 on_err (Ok x) p = tt
 on_err (Err e) p = p
 
--- a part was written, and then a prefix of the next part: a prefix of the whole
-pub broken : (a b c : Option Bytes) (done next rest whole : Bytes) → done ++ next ++ rest ≡ whole → Appends a done b → AppendsPrefix b next c → AppendsPrefix a whole c
-broken a b c done next rest whole e h k =
-    subst (λ w. AppendsPrefix a w c) e (AppendsPrefix_more a c (done ++ next) rest (AppendsPrefix_then a b c done next h k))
+pub err_so : {T E : Type 0} (r : Result T E) {P Q : Type 0} → (P → Q) → OnErr r P → OnErr r Q
+err_so (Ok x) f p = tt
+err_so (Err e) f p = f p
 
--- a part was written, and then the next part
-pub joined : (a b c : Option Bytes) (done next whole : Bytes) → done ++ next ≡ whole → Appends a done b → Appends b next c → Appends a whole c
-joined a b c done next whole e h k = subst (λ w. Appends a w c) e (Appends_then a b c done next h k)
-
--- Part of a text was written, and this is what is left of it.
-pub record Progress (before now : Option Bytes) (left whole : Bytes) : Type 0 where
-  pub done : Bytes
-  pub given : Appends before done now
-  pub rest : done ++ left ≡ whole
-
--- at the start nothing was written
-pub progress_start : (a : Option Bytes) (whole : Bytes) → Progress a a whole whole
-progress_start a whole = record { done = []; given = sym (append_told-nil a); rest = refl }
-
--- one more part
-pub progress_more : (a b c : Option Bytes) (next left left' whole : Bytes) → left ≡ next ++ left' → Progress a b left whole → Appends b next c → Progress a c left' whole
-progress_more a b c next left left' whole e p h =
-    record { done = p.done ++ next; given = Appends_then a b c p.done next p.given h; rest = append_assoc p.done next left' ∙ ap (λ l. p.done ++ l) (sym e) ∙ p.rest }
-
--- a prefix of the next part
-pub progress_broken : (a b c : Option Bytes) (next left left' whole : Bytes) → left ≡ next ++ left' → Progress a b left whole → AppendsPrefix b next c → AppendsPrefix a whole c
-progress_broken a b c next left left' whole e p h =
-    broken a b c p.done next left' whole (append_assoc p.done next left' ∙ ap (λ l. p.done ++ l) (sym e) ∙ p.rest) p.given h
-
--- nothing is left
-pub progress_end : (a b : Option Bytes) (whole : Bytes) → Progress a b [] whole → Appends a whole b
-progress_end a b whole p = subst (λ w. Appends a w b) (sym (append-nil p.done) ∙ p.rest) p.given
+pub ok_so : {T E : Type 0} (r : Result T E) {P Q : Type 0} → (P → Q) → OnOk r P → OnOk r Q
+ok_so (Ok x) f p = f p
+ok_so (Err e) f p = tt

@@ -1,7 +1,8 @@
 use Rattle.std.proofs.Common.{map, ◌≤◌, arith, subst, sym}
 use Rattle.si_term.specs.Terms.{term_of}
 use Rattle.si_defs.specs.Terms.{row, size, sizes}
-use Rattle.si_session.proofs.Rows.{lengths, size-at}
+use Rattle.si_term.proofs.Rows.{size-at}
+use Rattle.si_session.proofs.Rows.{lengths}
 use Rattle.si_session.proofs.equality.+same.Goals as goal
 
 pub same_terms-returns-then-ts-us : goal.same_terms-returns-then-ts-us

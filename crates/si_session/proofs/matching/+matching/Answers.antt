@@ -2,7 +2,8 @@ use Rattle.std.proofs.Common.{◌≤◌, map, arith, subst, sym}
 use Rattle.si_defs.specs.Terms.{row, size, sizes}
 use Rattle.si_term.specs.Terms.{term_of}
 use Rattle.si_session.specs.Bound.{bindings_of}
-use Rattle.si_session.proofs.Rows.{unmatched, size-at}
+use Rattle.si_term.proofs.Rows.{size-at}
+use Rattle.si_session.proofs.Rows.{unmatched}
 use Rattle.si_session.proofs.matching.+matching.Goals as goal
 
 pub all_match-returns-then-patterns-entries : goal.all_match-returns-then-patterns-entries

@@ -2,7 +2,7 @@ use Rattle.std.proofs.Common.{◌+◌, ◌*◌, ◌++◌, ◌≤◌, drop, map}
 use Rattle.si_defs.specs.Terms.{row, size, sizes}
 use Rattle.si_defs.specs.Printing.{more_texts}
 use Rattle.si_term.specs.Terms.{term_of}
-use Rattle.si_session.proofs.Pieces.{Wrote}
+use Rattle.si_session.proofs.Writing.{Wrote}
 use Rattle.si_session.proofs.printing.+put.Given as goal
 
 abbrev pub invariant-put_others-loop-i : goal.invariant-put_others-loop-i

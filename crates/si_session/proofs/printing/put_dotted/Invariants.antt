@@ -1,6 +1,6 @@
 use Rattle.std.proofs.Common.{◌≤◌, drop}
 use Rattle.si_session.specs.PrintedParts.{dotted}
-use Rattle.si_session.proofs.Pieces.{Wrote}
+use Rattle.si_session.proofs.Writing.{Wrote}
 use Rattle.si_session.proofs.printing.put_dotted.Given as goal
 
 abbrev pub invariant-loop-i : goal.invariant-loop-i

@@ -1,7 +1,7 @@
 use Rattle.std.proofs.Common.{◌≤◌, drop}
 use Rattle.std.specs.Prelude.{flat_map}
 use Rattle.si_defs.specs.Tokens.{escaped}
-use Rattle.si_session.proofs.Pieces.{Wrote}
+use Rattle.si_session.proofs.Writing.{Wrote}
 use Rattle.si_session.proofs.printing.put_escaped.Given as goal
 
 abbrev pub invariant-loop-i : goal.invariant-loop-i

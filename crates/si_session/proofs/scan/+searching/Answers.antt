@@ -9,7 +9,7 @@ use Rattle.si_term.specs.Meaning.{clause_of, name_of}
 use Rattle.si_session.specs.Matching.{matched}
 use Rattle.si_session.specs.Telling.{Tells}
 use Rattle.si_session.specs.Scan.{entry_lines, subterm_lines}
-use Rattle.si_session.proofs.Rows.{size-at}
+use Rattle.si_term.proofs.Rows.{size-at}
 use Rattle.si_session.proofs.Told.{so_far_more, so_far_broken, so_far_room, so_far_end, so_far_counted, tells_again, tells_broken, tells_then, counted_then}
 use Rattle.si_session.proofs.ScanLaws.{subterm_lines-step, subterm_lines-end, variable_lines, application_lines, application_size, count-sizes, popped}
 use Rattle.si_session.proofs.scan.+searching.Goals as goal

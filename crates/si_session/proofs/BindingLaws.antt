@@ -4,7 +4,7 @@ use Rattle.std.proofs.lemmas.List.{drop_more, drop_all}
 use Rattle.si_session.specs.Bound.{binding_of, bindings_of}
 use Rattle.si_session.specs.Signs.{sign_text, binding_text, more_bindings_text}
 use Rattle.si_session.specs.declared.sign.Sign.TheVariants.{Semicolon}
-use Rattle.si_session.specs.declared.matching.Binding.{Binding}
+use Rattle.si_session.specs.declared.bindings.Binding.{Binding}
 
 -- the text of what is left, one binding on
 pub more_bindings-drop : (bs : List Binding) (i : ℕ) (b : Binding) → i < length bs → b ≡ get_or bs i b

@@ -13,3 +13,4 @@ pub mod Told
 pub mod ScanLaws
 pub mod StoreLaws
 pub mod Acting
+pub mod BoundLaws

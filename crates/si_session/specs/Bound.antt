@@ -3,7 +3,7 @@ use Rattle.std.specs.Prelude.{List, map}
 use Rattle.si_defs.specs.Bytes.{Bytes}
 use Rattle.si_defs.specs.Clauses as clauses
 use Rattle.si_term.specs.Terms.{term_of}
-use Rattle.si_session.specs.declared.matching.Binding.{Binding}
+use Rattle.si_session.specs.declared.bindings.Binding.{Binding}
 
 abbrev pub binding_of : Binding → Bytes × clauses.Term
 binding_of b = (b.variable.now, term_of b.value.now)

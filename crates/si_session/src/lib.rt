@@ -2,6 +2,7 @@
 #![tactic(auto)]
 
 mod answer;
+mod bindings;
 mod command;
 mod equality;
 mod limits;

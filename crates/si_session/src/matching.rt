@@ -1,32 +1,13 @@
 // Matching a pattern against an entry: which term each variable of the pattern stands for.
-ghost use Rattle.std.specs.Prelude.{◌≡◌, map, option_map, IfOk, Some, None, if◌then◌else◌};
+ghost use Rattle.std.specs.Prelude.{◌≡◌, map, IfOk, Some, None, if◌then◌else◌};
 ghost use Rattle.si_defs.specs.Terms.{row};
 ghost use Rattle.si_term.specs.Terms.{term_of};
-ghost use Rattle.si_session.specs.Matching.{bound, matched, all_matched};
-ghost use Rattle.si_session.specs.Bound.{bindings_of};
+ghost use Rattle.si_session.specs.Matching.{matched, all_matched};
 
+use crate::bindings::Bindings;
 use crate::equality::{same_symbol, same_term};
-use si_term::{Term, Text};
+use si_term::Term;
 use std::alloc::AllocError;
-
-/// A variable of a pattern, and the term of an entry that it stands for.
-#[derive(Clone, Copy)]
-pub struct Binding<'a> {
-    pub variable: &'a Text,
-    pub value: &'a Term,
-}
-
-/// What a variable stands for so far.
-fn bound<'a>(bindings: &[Binding<'a>], variable: &Text) -> Option<&'a Term>
-    ensures { option_map (λ t. term_of t.now) result ≡ bound (bindings_of bindings.now) variable.now }
-{
-    for binding in bindings {
-        if binding.variable.as_bytes() == variable.as_bytes() {
-            return Some(binding.value);
-        }
-    }
-    None
-}
 
 /// Matches a term of the pattern against one of the entry, where some variables may be bound already. The bindings
 /// that it adds stand behind those.
@@ -34,19 +15,16 @@ fn bound<'a>(bindings: &[Binding<'a>], variable: &Text) -> Option<&'a Term>
 pub fn matches<'a>(
     pattern: &'a Term,
     entry: &'a Term,
-    bindings: &mut Vec<Binding<'a>>,
+    bindings: &mut Bindings<'a>,
 ) -> Result<bool, AllocError>
-    ensures { IfOk result (λ found. matched (term_of pattern.now) (bindings_of bindings.old.items) (term_of entry.now)
-        ≡ (if found then Some (bindings_of bindings.new.items) else None)) }
+    ensures { IfOk result (λ found. matched (term_of pattern.now) bindings.old (term_of entry.now)
+        ≡ (if found then Some bindings.new else None)) }
 {
     match pattern {
-        Term::Var(variable) => match bound(bindings, variable) {
+        Term::Var(variable) => match bindings.value_of(variable) {
             Some(value) => Ok(same_term(value, entry)),
             None => {
-                bindings.push(Binding {
-                    variable,
-                    value: entry,
-                })?;
+                bindings.bind(variable, entry)?;
                 Ok(true)
             }
         },
@@ -66,10 +44,10 @@ pub fn matches<'a>(
 fn all_match<'a>(
     patterns: &'a [Term],
     entries: &'a [Term],
-    bindings: &mut Vec<Binding<'a>>,
+    bindings: &mut Bindings<'a>,
 ) -> Result<bool, AllocError>
-    ensures { IfOk result (λ found. all_matched (row (map term_of patterns.now)) (bindings_of bindings.old.items) (row (map term_of entries.now))
-        ≡ (if found then Some (bindings_of bindings.new.items) else None)) }
+    ensures { IfOk result (λ found. all_matched (row (map term_of patterns.now)) bindings.old (row (map term_of entries.now))
+        ≡ (if found then Some bindings.new else None)) }
 {
     if patterns.len() != entries.len() {
         return Ok(false);

@@ -11,7 +11,8 @@ ghost use Rattle.si_session.specs.Telling.{Tells, Blames};
 ghost use Rattle.si_session.specs.Scan.{ended_hit_line, hit_line, entry_lines, subterm_lines};
 
 use crate::answer::Broken;
-use crate::matching::{Binding, matches};
+use crate::bindings::{Binding, Bindings};
+use crate::matching::matches;
 use crate::printing::put_place;
 use crate::sign::{Sign, put_sign};
 use crate::solution::put_solution;
@@ -23,7 +24,7 @@ use std::alloc::{AllocError, Global};
 #[derive(Drop)]
 pub struct Scratch<'a> {
     /// The bindings of the last match.
-    pub bindings: Vec<Binding<'a>>,
+    pub bindings: Bindings<'a>,
     /// The argument numbers from 1 that lead from the atom to the entry.
     pub path: Vec<u32>,
     /// How many lines of hits were written.
@@ -37,7 +38,7 @@ impl<'a> Scratch<'a> {
         ensures none { result.found ≡ 0 }
     {
         Scratch {
-            bindings: Vec::new(alloc),
+            bindings: Bindings::new(alloc),
             path: Vec::new(alloc),
             found: 0,
         }
@@ -97,7 +98,8 @@ pub fn put_if_match<'a, K: Sink>(
     if !matches(query, entry, &mut scratch.bindings)? {
         return Ok(());
     }
-    tell_hit(sink, name, number, &scratch.path, &scratch.bindings)?;
+    let bindings = scratch.bindings.as_slice();
+    tell_hit(sink, name, number, &scratch.path, bindings)?;
     scratch.found += 1;
     Ok(())
 }

@@ -6,7 +6,7 @@ ghost use Rattle.si_session.specs.Bound.{binding_of, bindings_of};
 ghost use Rattle.si_session.specs.Signs.{sign_text, binding_text, more_bindings_text, bindings_text, solution_text};
 ghost use Rattle.si_session.specs.declared.sign.Sign.TheVariants.{Semicolon};
 
-use crate::matching::Binding;
+use crate::bindings::Binding;
 use crate::printing::{put_bytes, put_term};
 use crate::sign::{Sign, put_sign};
 use si_io::{Failed, Sink};

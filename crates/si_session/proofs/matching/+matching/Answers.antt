@@ -1,14 +1,13 @@
 use Rattle.std.proofs.Common.{◌≤◌, map, arith, subst, sym}
 use Rattle.si_defs.specs.Terms.{row, size, sizes}
 use Rattle.si_term.specs.Terms.{term_of}
-use Rattle.si_session.specs.Bound.{bindings_of}
 use Rattle.si_term.proofs.Rows.{size-at}
 use Rattle.si_session.proofs.Rows.{unmatched}
 use Rattle.si_session.proofs.matching.+matching.Goals as goal
 
 pub all_match-returns-then-patterns-entries : goal.all_match-returns-then-patterns-entries
 all_match-returns-then-patterns-entries t c =
-    unmatched c.args.patterns.now c.args.entries.now (bindings_of c.args.bindings.now.items) c.if-patterns-entries.true
+    unmatched c.args.patterns.now c.args.entries.now c.args.bindings.now c.if-patterns-entries.true
 
 pub all_match-matches-requires : goal.all_match-matches-requires
 all_match-matches-requires t c =

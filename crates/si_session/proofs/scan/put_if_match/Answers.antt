@@ -17,8 +17,8 @@ use Rattle.si_session.proofs.scan.put_if_match.Given as given
 -- no line where the terms do not match
 none : (g : given.Over) (c : goal.Then-not-branch g)
     → entry_lines (name_of c.args.name.now) c.args.number c.args.scratch.now.path.items (matched (term_of c.args.query.now) [] (term_of c.args.entry.now)) ≡ []
-none g c = unmatched_lines _ _ _ (term_of c.args.query.now) (term_of c.args.entry.now) (bindings_of c.clear.new.self.items) (bindings_of c.matches.new.bindings.items)
-    c.in_ok-matches.field-0 (ap bindings_of c.clear.ensures.items) c.if-not-branch.true c.in_ok-matches.ensures
+none g c = unmatched_lines _ _ _ (term_of c.args.query.now) (term_of c.args.entry.now) c.clear.new.self c.matches.new.bindings
+    c.in_ok-matches.field-0 c.clear.ensures c.if-not-branch.true c.in_ok-matches.ensures
 
 pub returns-then-not-branch-clause-told : goal.returns-then-not-branch-clause-told
 returns-then-not-branch-clause-told g c =
@@ -30,11 +30,11 @@ returns-then-not-branch-clause-counted g c = omega (arith, ap length (none g c))
 pub returns-in_err-tell_hit-clause-told : goal.returns-in_err-tell_hit-clause-told
 returns-in_err-tell_hit-clause-told g c =
     let line : entry_lines (name_of c.args.name.now) c.args.number c.args.scratch.now.path.items (matched (term_of c.args.query.now) [] (term_of c.args.entry.now))
-    ≡ hit_line (name_of c.args.name.now) c.args.number c.args.scratch.now.path.items (bindings_of c.matches.new.bindings.items) ∷ [] =
-    matched_lines _ _ _ (term_of c.args.query.now) (term_of c.args.entry.now) (bindings_of c.clear.new.self.items) (bindings_of c.matches.new.bindings.items)
-    c.in_ok-matches.field-0 (ap bindings_of c.clear.ensures.items) c.if-not-branch.false c.in_ok-matches.ensures in
-    let same : hit_line (name_of c.args.name.now) c.args.number c.deref.result.now (bindings_of c.deref-2.result.now) ∷ []
-    ≡ hit_line (name_of c.args.name.now) c.args.number c.args.scratch.now.path.items (bindings_of c.matches.new.bindings.items) ∷ [] = cc (c.deref.ensures.value, c.deref-2.ensures.value) in
+    ≡ hit_line (name_of c.args.name.now) c.args.number c.args.scratch.now.path.items c.matches.new.bindings ∷ [] =
+    matched_lines _ _ _ (term_of c.args.query.now) (term_of c.args.entry.now) c.clear.new.self c.matches.new.bindings
+    c.in_ok-matches.field-0 c.clear.ensures c.if-not-branch.false c.in_ok-matches.ensures in
+    let same : hit_line (name_of c.args.name.now) c.args.number c.deref.result.now (bindings_of c.as_slice-bindings.result.now) ∷ []
+    ≡ hit_line (name_of c.args.name.now) c.args.number c.args.scratch.now.path.items c.matches.new.bindings ∷ [] = cc (c.deref.ensures.value, c.as_slice-bindings.ensures) in
     subst (λ l. Tells c.from_residual-in_err-tell_hit.result l (g.K.Sink.written c.args.sink.now) (g.K.Sink.written c.tell_hit.new.sink)) (sym line)
     (tells_again c.from_residual-in_err-tell_hit.result _ _ _ _ c.from_residual-in_err-tell_hit.ensures.1
     (subst (λ l. Tells (Err c.in_err-tell_hit.field-0.0) l (g.K.Sink.written c.args.sink.now) (g.K.Sink.written c.tell_hit.new.sink)) same c.in_err-tell_hit.ensures.told))
@@ -42,25 +42,25 @@ returns-in_err-tell_hit-clause-told g c =
 pub overflow_add-scratch : goal.overflow_add-scratch
 overflow_add-scratch g c =
     let line : entry_lines (name_of c.args.name.now) c.args.number c.args.scratch.now.path.items (matched (term_of c.args.query.now) [] (term_of c.args.entry.now))
-    ≡ hit_line (name_of c.args.name.now) c.args.number c.args.scratch.now.path.items (bindings_of c.matches.new.bindings.items) ∷ [] =
-    matched_lines _ _ _ (term_of c.args.query.now) (term_of c.args.entry.now) (bindings_of c.clear.new.self.items) (bindings_of c.matches.new.bindings.items)
-    c.in_ok-matches.field-0 (ap bindings_of c.clear.ensures.items) c.if-not-branch.false c.in_ok-matches.ensures in
+    ≡ hit_line (name_of c.args.name.now) c.args.number c.args.scratch.now.path.items c.matches.new.bindings ∷ [] =
+    matched_lines _ _ _ (term_of c.args.query.now) (term_of c.args.entry.now) c.clear.new.self c.matches.new.bindings
+    c.in_ok-matches.field-0 c.clear.ensures c.if-not-branch.false c.in_ok-matches.ensures in
     omega (arith, c.requires, ap length line)
 
 pub returns-clause-told : goal.returns-clause-told
 returns-clause-told g c =
     let line : entry_lines (name_of c.args.name.now) c.args.number c.args.scratch.now.path.items (matched (term_of c.args.query.now) [] (term_of c.args.entry.now))
-    ≡ hit_line (name_of c.args.name.now) c.args.number c.args.scratch.now.path.items (bindings_of c.matches.new.bindings.items) ∷ [] =
-    matched_lines _ _ _ (term_of c.args.query.now) (term_of c.args.entry.now) (bindings_of c.clear.new.self.items) (bindings_of c.matches.new.bindings.items)
-    c.in_ok-matches.field-0 (ap bindings_of c.clear.ensures.items) c.if-not-branch.false c.in_ok-matches.ensures in
-    let same : hit_line (name_of c.args.name.now) c.args.number c.deref.result.now (bindings_of c.deref-2.result.now) ∷ []
-    ≡ hit_line (name_of c.args.name.now) c.args.number c.args.scratch.now.path.items (bindings_of c.matches.new.bindings.items) ∷ [] = cc (c.deref.ensures.value, c.deref-2.ensures.value) in
+    ≡ hit_line (name_of c.args.name.now) c.args.number c.args.scratch.now.path.items c.matches.new.bindings ∷ [] =
+    matched_lines _ _ _ (term_of c.args.query.now) (term_of c.args.entry.now) c.clear.new.self c.matches.new.bindings
+    c.in_ok-matches.field-0 c.clear.ensures c.if-not-branch.false c.in_ok-matches.ensures in
+    let same : hit_line (name_of c.args.name.now) c.args.number c.deref.result.now (bindings_of c.as_slice-bindings.result.now) ∷ []
+    ≡ hit_line (name_of c.args.name.now) c.args.number c.args.scratch.now.path.items c.matches.new.bindings ∷ [] = cc (c.deref.ensures.value, c.as_slice-bindings.ensures) in
     subst (λ l. Appends (g.K.Sink.written c.args.sink.now) (ended l) (g.K.Sink.written c.tell_hit.new.sink)) (same ∙ sym line) c.in_ok-tell_hit.ensures.told
 
 pub returns-clause-counted : goal.returns-clause-counted
 returns-clause-counted g c =
     let line : entry_lines (name_of c.args.name.now) c.args.number c.args.scratch.now.path.items (matched (term_of c.args.query.now) [] (term_of c.args.entry.now))
-    ≡ hit_line (name_of c.args.name.now) c.args.number c.args.scratch.now.path.items (bindings_of c.matches.new.bindings.items) ∷ [] =
-    matched_lines _ _ _ (term_of c.args.query.now) (term_of c.args.entry.now) (bindings_of c.clear.new.self.items) (bindings_of c.matches.new.bindings.items)
-    c.in_ok-matches.field-0 (ap bindings_of c.clear.ensures.items) c.if-not-branch.false c.in_ok-matches.ensures in
+    ≡ hit_line (name_of c.args.name.now) c.args.number c.args.scratch.now.path.items c.matches.new.bindings ∷ [] =
+    matched_lines _ _ _ (term_of c.args.query.now) (term_of c.args.entry.now) c.clear.new.self c.matches.new.bindings
+    c.in_ok-matches.field-0 c.clear.ensures c.if-not-branch.false c.in_ok-matches.ensures in
     omega (arith, ap length line)

@@ -5,7 +5,7 @@ ghost use Rattle.si_io.specs.Faults.{HasCause, Rose};
 ghost use Rattle.si_session.specs.Limits.{limits_of};
 ghost use Rattle.stindex.specs.Lines.{held_of, limit_of};
 ghost use Rattle.stindex.specs.Serve.{Serves, IsFaultless};
-ghost use Rattle.stindex.specs.declared.status.Status.TheVariants.{SourceFault, SinkFault};
+ghost use Rattle.stindex.specs.declared.status.Status.TheVariants.{SourceFault, SinkFault, Memory};
 ghost use Rattle.stindex.specs.Progress.{Acts, Breaks, Advances, Fails, Closes, Cuts};
 
 use crate::lines::{Pending, line_feed};
@@ -32,6 +32,7 @@ pub fn serve<S: Source, K: Sink>(
     ensures sink_later { K.faults sink.old ≤ K.faults sink.new }
     ensures source_fault { result ≡ SourceFault → Rose (S.faults source.old) (S.faults source.new) }
     ensures sink_fault { result ≡ SinkFault → Rose (K.faults sink.old) (K.faults sink.new) }
+    ensures memory { result ≡ Memory → (S.faults source.new ≡ S.faults source.old) × (K.faults sink.new ≡ K.faults sink.old) }
     ensures faultless { (Rose (S.faults source.old) (S.faults source.new) → ⊥) → (Rose (K.faults sink.old) (K.faults sink.new) → ⊥) → IsFaultless result }
 {
     let Ok(mut session) = Session::new(alloc, limits) else {
@@ -60,6 +61,7 @@ fn run<S: Source, K: Sink>(
     ensures sink_later { K.faults sink.old ≤ K.faults sink.new }
     ensures source_fault { result ≡ SourceFault → Rose (S.faults source.old) (S.faults source.new) }
     ensures sink_fault { result ≡ SinkFault → Rose (K.faults sink.old) (K.faults sink.new) }
+    ensures begun { result ≡ Memory → ⊥ }
 {
     let mut chunk = [0; CHUNK];
     let mut taken = 0;

@@ -1,11 +1,11 @@
 -- What tokens spell is sound, and has no more occurrences of symbols and variables than there are tokens.
-use Rattle.std.proofs.Common.{◌≡◌, ℕ, ◌+◌, ◌≤◌, Bool, true, false, List, [], ◌∷◌, ◌++◌, length, replicate, Option, Some, None, refl, sym, ap, ◌∙◌, subst, arith, inl, inr, Bor}
+use Rattle.std.proofs.Common.{◌≡◌, ℕ, ◌+◌, ◌≤◌, Bool, true, false, List, [], ◌∷◌, ◌++◌, ◌⊎◌, length, replicate, Option, Some, None, refl, sym, ap, ◌∙◌, subst, arith, inl, inr, Bor}
 use Rattle.std.specs.List.{AllByRecursion}
 use Rattle.std.proofs.lemmas.List.{length-append, length-map}
 use Rattle.si_defs.specs.Bytes.{Bytes}
 use Rattle.si_defs.specs.Terms as terms
 use Rattle.si_defs.specs.Symbols.{Symbol}
-use Rattle.si_defs.specs.Clauses.{Term, Terms, Literal, Clause, Fits, IsSoundSymbol, IsSoundTerm, AreSoundTerms, IsSoundAtom, IsSoundLiteral, literal_size, literals_size, IsSoundClause}
+use Rattle.si_defs.specs.Clauses.{Term, Terms, Literal, Clause, Fits, IsSoundSymbol, IsSoundTerm, AreSoundTerms, IsSoundAtom, IsSoundLiteral, literal_size, literals_size, most_occurrences, literal_pattern, term_pattern, IsSoundPattern, IsSoundClause}
 use Rattle.si_defs.specs.Tokens as defs
 use Rattle.si_defs.specs.Tokens.{mark}
 use Rattle.si_defs.specs.Grammar.{IsTerm, AreMoreTerms, IsHead, IsConstant, IsAtom, IsInequation, AreSides, IsSignedAtom, IsLiteral, AreMoreLiterals, IsDisjunction, IsFormula, IsClause, left_bracket, right_bracket, not_equal}
@@ -13,6 +13,7 @@ use Rattle.si_defs.specs.declared.SymKind.{SymKind}
 use Rattle.si_defs.specs.declared.SymKind.TheVariants.{Word, Dollar, Number, Distinct, Equal}
 use Rattle.si_defs.specs.declared.Side.{Side}
 use Rattle.si_defs.specs.declared.Side.TheVariants.{Predicate, Function}
+use Rattle.si_parse.specs.Lexing.{most_bytes}
 use Rattle.si_parse.specs.Parsing.{Parses, Reads, IfFound}
 use Rattle.si_parse.specs.Tokens.{token_of, tokens_of}
 use Rattle.si_parse.specs.declared.token.Token.{Token}
@@ -33,9 +34,9 @@ constant_sound Number text side arity t e f h = (e, f)
 constant_sound Distinct text side arity t e f h = (e, f)
 constant_sound Equal text side arity t e f h = absurd h
 
--- how long a symbol with its arguments is
-long : (t : defs.Token) (first others ts : List defs.Token) (n m : ℕ) → ts ≡ t ∷ left_bracket ∷ first ++ others ++ right_bracket ∷ [] → n ≤ length first → m ≤ length others → 1 + (n + m) ≤ length ts
-long t first others ts n m e h k =
+-- a symbol with its arguments has two tokens more than occurrences, for its brackets
+slack : (t : defs.Token) (first others ts : List defs.Token) (n m : ℕ) → ts ≡ t ∷ left_bracket ∷ first ++ others ++ right_bracket ∷ [] → n ≤ length first → m ≤ length others → 1 + (n + m) + 2 ≤ length ts
+slack t first others ts n m e h k =
     omega (arith, ap length e, length-append (first ++ others) (right_bracket ∷ []), length-append first others)
 
 mutual
@@ -47,7 +48,7 @@ mutual
   sound_term (terms.app s (terms.more u us)) ts (on_side, with_arity, (t, first, others, head, one, all, e)) =
       let h = sound_term u first one in
       let k = sound_more us others all in
-      ((record { on_side = on_side; with_arity = with_arity; of_kind = head_sound s.kind s.text s.side s.arity t head }, (h.0, k.0)), long t first others ts (terms.size u) (terms.sizes us) e h.1 k.1)
+      ((record { on_side = on_side; with_arity = with_arity; of_kind = head_sound s.kind s.text s.side s.arity t head }, (h.0, k.0)), omega (arith, slack t first others ts (terms.size u) (terms.sizes us) e h.1 k.1))
 
   -- terms behind commas
   pub sound_more : (us : Terms) (ts : List defs.Token) → AreMoreTerms us ts → AreSoundTerms us × (terms.sizes us ≤ length ts)
@@ -77,7 +78,7 @@ sound_atom (terms.app s terms.none) ts (on_side, with_arity, (t, head, e)) =
 sound_atom (terms.app s (terms.more u us)) ts (inl (on_side, with_arity, (t, first, others, head, one, all, e))) =
     let h = sound_term u first one in
     let k = sound_more us others all in
-    ((record { on_side = on_side; with_arity = with_arity; of_kind = head_sound s.kind s.text s.side s.arity t head }, (h.0, k.0)), long t first others ts (terms.size u) (terms.sizes us) e h.1 k.1)
+    ((record { on_side = on_side; with_arity = with_arity; of_kind = head_sound s.kind s.text s.side s.arity t head }, (h.0, k.0)), omega (arith, slack t first others ts (terms.size u) (terms.sizes us) e h.1 k.1))
 sound_atom (terms.app s (terms.more u us)) ts (inr h) = sound_sides (mark 61) s u us ts h
 
 -- an inequation
@@ -120,7 +121,7 @@ sound_formula ls ts (n, inner, h, e) =
     (k.0, k.1, omega (arith, k.2, ap length e, length-append (replicate n left_bracket ++ inner) (replicate n right_bracket), length-append (replicate n left_bracket) inner))
 
 -- a clause of few tokens
-pub sound_clause : (c : Clause) (ts : List defs.Token) → IsClause c ts → length ts ≤ 536870912 → IsSoundClause c
+pub sound_clause : (c : Clause) (ts : List defs.Token) → IsClause c ts → length ts ≤ most_bytes → IsSoundClause c
 sound_clause c ts (name, formula, extra, is_name, is_formula, is_extra, e) few =
     let h = sound_formula c.literals formula is_formula in
     record { some = h.0; sound = record { each = h.1; no_larger = omega (arith, h.2, few, ap length e, length-append (formula ++ extra) (right_bracket ∷ mark 46 ∷ []), length-append formula extra) } }
@@ -140,14 +141,63 @@ module _ {X M : Type 0} (view : X → M) {Means : M → List defs.Token → Type
   found_has None p = tt
   found_has (Some (x, behind)) p = parsed_has P tokens law (view x) (tokens_of behind.now) p
 
--- a term that was found is sound and not large
-pub found_term : (tokens : List Token) (t : Term) (used : List defs.Token) → length used ≤ length tokens → IsTerm t used → IsSoundTerm t × (terms.size t ≤ length tokens)
-found_term tokens t used few h = let k = sound_term t used h in (k.0, omega (arith, k.1, few))
+-- ---- how large a pattern is
+-- a term of several occurrences takes more tokens, for its brackets
+term_slack : (t : Term) (ts : List defs.Token) → IsTerm t ts → (terms.size t ≡ 1) ⊎ (terms.size t + 2 ≤ length ts)
+term_slack (terms.var x) ts e = inl refl
+term_slack (terms.app s terms.none) ts h = inl refl
+term_slack (terms.app s (terms.more u us)) ts (on_side, with_arity, (t, first, others, head, one, all, e)) =
+    let h = sound_term u first one in
+    let k = sound_more us others all in
+    inr (slack t first others ts (terms.size u) (terms.sizes us) e h.1 k.1)
+
+-- so it has no more than one token less allows, unless that is none
+small_term : (t : Term) (ts : List defs.Token) → IsTerm t ts → length ts ≤ most_bytes → terms.size t ≤ most_occurrences
+small_term t ts h few = elim (term_slack t ts h) [ inl e ↦ omega (arith, e) | inr l ↦ omega (arith, l, few) ]
+
+-- two sides of an equation: each is one occurrence, or has brackets
+small_sides : (sign : defs.Token) (s : Symbol) (l : Term) (us : Terms) (ts : List defs.Token) → AreSides sign s l us ts → length ts ≤ most_bytes
+    → terms.size (terms.app s (terms.more l us)) ≤ most_occurrences
+small_sides sign s l terms.none ts h few = absurd h
+small_sides sign s l (terms.more r (terms.more u us)) ts h few = absurd h
+small_sides sign s l (terms.more r terms.none) ts (is, (left, right, one, two, e)) few =
+    let h = sound_term l left one in
+    let k = sound_term r right two in
+    elim (term_slack l left one) [
+      | inl a ↦ elim (term_slack r right two) [ inl b ↦ omega (arith, a, b) | inr b ↦ omega (arith, a, b, few, ap length e, length-append left (sign ∷ right)) ]
+      | inr a ↦ omega (arith, a, k.1, few, ap length e, length-append left (sign ∷ right))
+    ]
+
+small_atom : (m : Term) (ts : List defs.Token) → IsAtom m ts → length ts ≤ most_bytes → terms.size m ≤ most_occurrences
+small_atom (terms.var x) ts h few = absurd h
+small_atom (terms.app s terms.none) ts h few = omega arith
+small_atom (terms.app s (terms.more u us)) ts (inl (on_side, with_arity, (t, first, others, head, one, all, e))) few =
+    let h = sound_term u first one in
+    let k = sound_more us others all in
+    let l = slack t first others ts (terms.size u) (terms.sizes us) e h.1 k.1 in
+    omega (arith, l, few)
+small_atom (terms.app s (terms.more u us)) ts (inr h) few = small_sides (mark 61) s u us ts h few
+
+small_inequation : (m : Term) (ts : List defs.Token) → IsInequation m ts → length ts ≤ most_bytes → terms.size m ≤ most_occurrences
+small_inequation (terms.var x) ts h few = absurd h
+small_inequation (terms.app s terms.none) ts h few = absurd h
+small_inequation (terms.app s (terms.more u us)) ts h few = small_sides not_equal s u us ts h few
+
+small_signed : (positive : Bool) (m : Term) (ts : List defs.Token) → IsSignedAtom positive m ts → length ts ≤ most_bytes → terms.size m ≤ most_occurrences
+small_signed true m ts h few = small_atom m ts h few
+small_signed false m ts (inl (us, h, e)) few = small_atom m us h (omega (arith, few, ap length e))
+small_signed false m ts (inr (inl (us, h, e))) few = small_atom m us h (omega (arith, few, ap length e, length-append us (right_bracket ∷ [])))
+small_signed false m ts (inr (inr h)) few = small_inequation m ts h few
+
+-- ---- what was found
+-- a term of few tokens is a sound pattern
+pub found_term : (tokens : List Token) → length tokens ≤ most_bytes → (t : Term) (used : List defs.Token) → length used ≤ length tokens → IsTerm t used → IsSoundPattern (term_pattern t)
+found_term tokens few t used l h = ((sound_term t used h).0, small_term t used h (omega (arith, l, few)))
 
 -- and so is a literal
-pub found_literal : (tokens : List Token) (l : Literal) (used : List defs.Token) → length used ≤ length tokens → IsLiteral l used → IsSoundLiteral l × (literal_size l ≤ length tokens)
-found_literal tokens l used few h = let k = sound_literal l used h in (k.0, omega (arith, k.1, few))
+pub found_literal : (tokens : List Token) → length tokens ≤ most_bytes → (l : Literal) (used : List defs.Token) → length used ≤ length tokens → IsLiteral l used → IsSoundPattern (literal_pattern l)
+found_literal tokens few l used n h = ((sound_literal l used h).0, small_signed l.positive l.atom used h (omega (arith, n, few)))
 
 -- and a clause of few tokens is sound
-pub found_clause : (tokens : List Token) → length tokens ≤ 536870912 → (c : Clause) (used : List defs.Token) → length used ≤ length tokens → IsClause c used → IsSoundClause c
+pub found_clause : (tokens : List Token) → length tokens ≤ most_bytes → (c : Clause) (used : List defs.Token) → length used ≤ length tokens → IsClause c used → IsSoundClause c
 found_clause tokens few c used h means = sound_clause c used means (omega (arith, few, h))

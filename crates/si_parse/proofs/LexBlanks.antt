@@ -1,12 +1,13 @@
 -- Blanks of plain text are white space.
-use Rattle.std.proofs.Common.{◌≡◌, ℕ, ◌≤◌, true, false, List, [], ◌∷◌, ◌++◌, length, refl, ap, sym, ◌∙◌, subst, ◌⊎◌, inl, inr, arith}
-use Rattle.std.specs.List.{list_all, AllByRecursion}
+use Rattle.std.proofs.Common.{◌≡◌, ℕ, ◌+◌, ◌≤◌, Bool, true, false, cond, List, [], ◌∷◌, ◌++◌, length, refl, ap, sym, ◌∙◌, subst, ◌⊎◌, inl, inr, arith}
+use Rattle.std.specs.List.{list_all, prefix_len, AllByRecursion}
 use Rattle.std.proofs.lemmas.Bool.{and_parts, false≢true}
 use Rattle.std.proofs.lemmas.Bool.Decides.{nat_tests}
 use Rattle.si_defs.specs.Bytes.{Bytes, is_word_byte, is_white}
 use Rattle.si_defs.specs.Tokens.{IsBlank, white, line_comment, block_comment, joined, Skips, AreBlanks, IsLineComment}
 use Rattle.si_defs.specs.Steps.{is_plain_byte, is_plain_behind, IsPlain}
 use Rattle.si_defs.specs.Texts.{IsPlace}
+use Rattle.si_parse.specs.Lexing.{is_plain_white}
 use Rattle.si_parse.proofs.LexRuns.{front, behind, front-append-behind, list_all-front, length-behind}
 
 -- what stands behind blanks of plain text
@@ -89,3 +90,36 @@ white_place bytes p = record {
 -- what stands behind the white space of plain text is plain
 pub plain_place : (bytes : Bytes) → IsPlain bytes → IsPlain (behind is_white bytes)
 plain_place bytes p = (behind_skips bytes (behind is_white bytes) p (skips_white bytes)).plain
+
+-- ---- white space of plain text
+-- a plain byte is white space of plain text if it is white space
+plain_white_is : (c : ℕ) → is_plain_byte false c ≡ true → is_plain_white c ≡ is_white c
+plain_white_is c h = grind (arith, nat_tests)
+
+-- plain text begins with as much white space of the one kind as of the other
+pub white_run : (bytes : Bytes) → IsPlain bytes → prefix_len is_plain_white bytes ≡ prefix_len is_white bytes
+white_run [] p = refl
+white_run (c ∷ cs) p = step (λ h. white_run cs (plain_white c cs h p)) (is_white c) refl where
+  same : is_plain_white c ≡ is_white c
+  same = plain_white_is c (and_parts (is_plain_byte false c) (is_plain_behind (is_word_byte c) cs) p).0
+
+  step : (is_white c ≡ true → prefix_len is_plain_white cs ≡ prefix_len is_white cs) → (v : Bool) → is_white c ≡ v
+      → cond (is_plain_white c) (1 + prefix_len is_plain_white cs) 0 ≡ cond (is_white c) (1 + prefix_len is_white cs) 0
+  step r true e = rw (same, e) (ap (λ n. 1 + n) (r e))
+  step r false e = rw (same, e) refl
+
+-- it is plain
+white_is_plain : (c : ℕ) → is_plain_white c ≡ true → is_plain_byte false c ≡ true
+white_is_plain c h = grind (arith, nat_tests)
+
+-- and no word
+plain_white_no_word : (c : ℕ) → is_plain_white c ≡ true → is_word_byte c ≡ false
+plain_white_no_word c h = grind (arith, nat_tests)
+
+-- bytes are plain where those behind such white space are
+pub plain_before_white : (bytes : Bytes) → IsPlain (behind is_plain_white bytes) → IsPlain bytes
+plain_before_white [] p = p
+plain_before_white (c ∷ cs) p = step (plain_before_white cs) (is_plain_white c) refl p where
+  step : (IsPlain (behind is_plain_white cs) → IsPlain cs) → (v : Bool) → is_plain_white c ≡ v → IsPlain (cond v (behind is_plain_white cs) (c ∷ cs)) → IsPlain (c ∷ cs)
+  step r true e q = rw (white_is_plain c e, plain_white_no_word c e) (r q)
+  step r false e q = q

@@ -1,18 +1,18 @@
 -- Whatever tokens plain text begins with, they are the first of those that the lexer finds.
-use Rattle.std.proofs.Common.{◌≡◌, ℕ, ◌<◌, ◌≤◌, max, List, [], ◌∷◌, ◌++◌, length, drop, refl, ap, sym, ◌∙◌, subst, arith}
+use Rattle.std.proofs.Common.{◌≡◌, ℕ, ◌+◌, ◌<◌, ◌≤◌, max, List, [], ◌∷◌, ◌++◌, length, drop, refl, ap, sym, ◌∙◌, subst, arith}
 use Rattle.std.specs.List.{AllByRecursion}
-use Rattle.std.proofs.lemmas.List.{map_push}
+use Rattle.std.proofs.lemmas.List.{map_push, drop_all}
 use Rattle.si_defs.specs.Bytes.{Bytes}
 use Rattle.si_defs.specs.Tokens as defs
 use Rattle.si_defs.specs.Tokens.{TokenAt, NextToken, Skips, AreBlanks, Begins, Consists}
-use Rattle.si_defs.specs.Grammar.{open_behind, nesting_from, nesting}
+use Rattle.si_defs.specs.Grammar.{Bracket, neither, round, square, opening_of, closing_of, open_behind, nesting_from, nesting}
 use Rattle.si_defs.specs.Steps.{IsPlain}
 use Rattle.si_defs.specs.Texts.{deepest_nesting}
 use Rattle.si_parse.specs.declared.token.Token.{Token}
 use Rattle.si_parse.specs.declared.token.Stop.{Stop}
 use Rattle.si_parse.specs.declared.token.Stop.TheVariants.{End, Bad}
 use Rattle.si_parse.specs.Tokens.{token_of, tokens_of, IsPlainToken, ArePlain}
-use Rattle.si_parse.specs.Lexing.{IsNextToken, IsNextEnd, IsNextBad, EndAt, StandsAt, IsLexing}
+use Rattle.si_parse.specs.Lexing.{IsNextToken, IsNextEnd, IsNextBad, IsPlainUpTo, EndAt, StandsAt, StartsWith, IsLexing}
 use Rattle.si_parse.proofs.LexWords.{blanks_none, next_unique, next_plain}
 
 -- the number of brackets that are open behind some tokens
@@ -100,9 +100,15 @@ every_whole (t ∷ tokens) b rest d stop p g s (u ∷ us) behind h a n =
     (r.0, cc (same.0, r.1))
 
 -- ---- the lexer's loop
+-- the first token, or that there is none so far
+abbrev pub Started : Bytes → ℕ → List Token → ℕ → Type 0
+Started bytes at [] from = from ≡ at
+Started bytes at (t ∷ ts) from = IsNextToken bytes at t
+
 -- the tokens so far, the place behind them and the number of open brackets there
 pub record IsSoFar (bytes : Bytes) (at : ℕ) (tokens : List Token) (from depth : ℕ) : Type 0 where
   pub within : from ≤ length bytes
+  pub started : Started bytes at tokens from
   pub plain : IsPlain (drop from bytes)
   pub begins : Begins (drop at bytes) (tokens_of tokens) (drop from bytes)
   pub nested : nesting (tokens_of tokens) ≤ deepest_nesting
@@ -117,6 +123,7 @@ pub record IsSoFar (bytes : Bytes) (at : ℕ) (tokens : List Token) (from depth 
 pub so_far_none : (bytes : Bytes) (at : ℕ) → at ≤ length bytes → IsPlain (drop at bytes) → IsSoFar bytes at [] at 0
 so_far_none bytes at l p = record {
   within = l;
+  started = refl;
   plain = p;
   begins = refl;
   nested = omega arith;
@@ -132,6 +139,11 @@ so_far_none bytes at l p = record {
 pub next_of : (bytes : Bytes) (from : ℕ) (t : Token) → IsNextToken bytes from t → NextToken (drop from bytes) (token_of t) (drop t.end bytes)
 next_of bytes from t n = record { place = drop t.start bytes; skips = n.behind.skips; stands = n.stands }
 
+-- the first token is still it behind one more
+started_more : (bytes : Bytes) (at : ℕ) (tokens : List Token) (from : ℕ) (t : Token) → Started bytes at tokens from → IsNextToken bytes from t → Started bytes at (tokens ++ t ∷ []) t.end
+started_more bytes at [] from t s n = subst (λ p. IsNextToken bytes p t) s n
+started_more bytes at (u ∷ us) from t s n = s
+
 -- one more token
 pub so_far_more : (bytes : Bytes) (at : ℕ) (tokens : List Token) (from depth : ℕ) (t : Token) → IsSoFar bytes at tokens from depth → IsNextToken bytes from t
     → open_behind depth (token_of t) ≤ deepest_nesting → IsSoFar bytes at (tokens ++ t ∷ []) t.end (open_behind depth (token_of t))
@@ -143,6 +155,7 @@ so_far_more bytes at tokens from depth t s n l =
     let was = s.nested in
     record {
       within = n.within;
+      started = started_more bytes at tokens from t s.started n;
       plain = n.plain;
       begins = subst (λ ts. Begins (drop at bytes) ts (drop t.end bytes)) (sym pushed)
           (begins_push (tokens_of tokens) (drop at bytes) (drop from bytes) (drop t.end bytes) (token_of t) s.begins (next_of bytes from t n));
@@ -156,12 +169,13 @@ so_far_more bytes at tokens from depth t s n l =
     }
 
 -- the tokens where they stop
-lexing_at : (bytes : Bytes) (at : ℕ) (tokens : List Token) (from depth : ℕ) (stop : Stop) → IsPlain (drop at bytes) → IsSoFar bytes at tokens from depth
-    → IsStop (drop from bytes) depth stop → IsLexing bytes at tokens stop
-lexing_at bytes at tokens from depth stop p s q =
+lexing_at : (bytes : Bytes) (at : ℕ) (tokens : List Token) (from depth end : ℕ) (stop : Stop) → IsPlain (drop at bytes) → IsSoFar bytes at tokens from depth
+    → IsStop (drop from bytes) depth stop → StartsWith bytes at tokens stop end → IsPlain (drop end bytes) → IsLexing bytes at tokens stop end
+lexing_at bytes at tokens from depth end stop p s q start left =
     let stopped : IsStop (drop from bytes) (depth_from 0 (tokens_of tokens)) stop = subst (λ d. IsStop (drop from bytes) d stop) s.opened q in
     record {
       rest = drop from bytes;
+      start = start;
       begins = s.begins;
       nested = s.nested;
       plain = s.are_plain;
@@ -170,13 +184,19 @@ lexing_at bytes at tokens from depth stop p s q =
       blanks = q.blanks;
       every = every_first (tokens_of tokens) (drop at bytes) (drop from bytes) 0 stop p s.begins stopped;
       whole = λ ts c n. every_whole (tokens_of tokens) (drop at bytes) (drop from bytes) 0 stop p s.begins stopped ts c.rest c.begins c.blanks n;
+      left = left;
     }
 
 -- at the end of the bytes
 pub lexing_end : (bytes : Bytes) (at : ℕ) (tokens : List Token) (from depth : ℕ) → IsPlain (drop at bytes) → IsSoFar bytes at tokens from depth
-    → IsNextEnd bytes from → IsLexing bytes at tokens End
+    → IsNextEnd bytes from → IsLexing bytes at tokens End (length bytes)
 lexing_end bytes at tokens from depth p s n =
-    lexing_at bytes at tokens from depth End p s (record { blanks = λ e. n.blanks; more = λ b. refl; deep = λ u behind k. absurd (n.none u behind k) })
+    lexing_at bytes at tokens from depth (length bytes) End p s
+    (record { blanks = λ e. n.blanks; more = λ b. refl; deep = λ u behind k. absurd (n.none u behind k) })
+    (start tokens s.started) (subst (λ t. IsPlain t) (sym (drop_all (length bytes) bytes (omega arith))) refl) where
+      start : (ts : List Token) → Started bytes at ts from → StartsWith bytes at ts End (length bytes)
+      start [] e = subst (λ place. IsNextEnd bytes place) e n
+      start (t ∷ ts) first = first
 
 -- the two reasons to stop differ
 bad_no_end : Bad ≡ End → ⊥
@@ -184,18 +204,49 @@ bad_no_end e = cc
 
 -- where no token stands
 pub lexing_bad : (bytes : Bytes) (at : ℕ) (tokens : List Token) (from depth place : ℕ) → IsPlain (drop at bytes) → IsSoFar bytes at tokens from depth
-    → IsNextBad bytes from place → IsLexing bytes at tokens Bad
+    → IsNextBad bytes from place → IsLexing bytes at tokens Bad place
 lexing_bad bytes at tokens from depth place p s n =
-    lexing_at bytes at tokens from depth Bad p s
+    lexing_at bytes at tokens from depth place Bad p s
     (record { blanks = λ e. absurd (bad_no_end e); more = λ b. absurd (n.more b); deep = λ u behind k. absurd (n.none u behind k) })
+    (start tokens s.started) n.plain where
+      start : (ts : List Token) → Started bytes at ts from → StartsWith bytes at ts Bad place
+      start [] e = subst (λ before. IsNextBad bytes before place) e n
+      start (t ∷ ts) first = first
+
+-- one token opens one bracket at most
+opens_one : (d : ℕ) (t : defs.Token) → open_behind d t ≤ d + 1
+opens_one d t = by (opening_of t) refl (closing_of t) refl where
+  by : (o : Bracket) → opening_of t ≡ o → (c : Bracket) → closing_of t ≡ c → open_behind d t ≤ d + 1
+  by neither e neither f = rw (e, f) (omega arith)
+  by neither e round f = rw (e, f) (omega arith)
+  by neither e square f = rw (e, f) (omega arith)
+  by round e c f = rw e (omega arith)
+  by square e c f = rw e (omega arith)
 
 -- where brackets would nest too deep
 pub lexing_deep : (bytes : Bytes) (at : ℕ) (tokens : List Token) (from depth : ℕ) (t : Token) → IsPlain (drop at bytes) → IsSoFar bytes at tokens from depth
-    → IsNextToken bytes from t → deepest_nesting < open_behind depth (token_of t) → IsLexing bytes at tokens Bad
+    → IsNextToken bytes from t → deepest_nesting < open_behind depth (token_of t) → IsLexing bytes at tokens Bad from
 lexing_deep bytes at tokens from depth t p s n l =
-    lexing_at bytes at tokens from depth Bad p s
+    lexing_at bytes at tokens from depth from Bad p s
     (record {
       blanks = λ e. absurd (bad_no_end e);
       more = λ b. absurd (n.more b);
       deep = λ u behind k. subst (λ v. deepest_nesting < open_behind depth v) (sym (n.only u behind k).0) l;
     })
+    (start tokens s.started s.opened) s.plain where
+      start : (ts : List Token) → Started bytes at ts from → depth ≡ depth_from 0 (tokens_of ts) → StartsWith bytes at ts Bad from
+      start [] e o = let one = opens_one depth (token_of t) in absurd (omega arith)
+      start (u ∷ us) first o = first
+
+-- ---- of any bytes
+-- what was read in two parts is plain
+pub plain_further : (bytes : Bytes) (at from end : ℕ) → IsPlainUpTo bytes at from → IsPlainUpTo bytes from end → IsPlainUpTo bytes at end
+plain_further bytes at from end a b = record { within = b.within; plain = λ p. a.plain (b.plain p) }
+
+-- of nothing nothing is said
+pub plain_nothing : (bytes : Bytes) (at : ℕ) → at ≤ length bytes → IsPlainUpTo bytes at at
+plain_nothing bytes at l = record { within = l; plain = λ p. p }
+
+-- what was read up to the end is plain
+pub plain_to_end : (bytes : Bytes) (at : ℕ) → IsPlain (drop at bytes) → IsPlainUpTo bytes at (length bytes)
+plain_to_end bytes at p = record { within = omega arith; plain = λ q. p }

@@ -232,3 +232,39 @@ token_at_plain Lower c cs h = inl refl
 token_at_plain Upper c cs h = inr (inl refl)
 token_at_plain Mark c cs h = inr (inr (refl, (c, ap (λ t. c ∷ t) (front_none cs), mark_at c h)))
 token_at_plain kind c cs h = absurd (elim (other_kind c kind h) [ inl e ↦ cc | inr e ↦ elim e [ inl f ↦ cc | inr f ↦ cc ] ])
+
+-- ---- plain text before what is plain
+-- a byte that is plain behind no word is plain behind one
+plain_behind_any : (c : ℕ) → is_plain_byte false c ≡ true → is_plain_byte true c ≡ true
+plain_behind_any c h = grind (arith, nat_tests)
+
+-- a word byte is plain behind a word
+word_is_plain : (c : ℕ) → is_word_byte c ≡ true → is_plain_byte true c ≡ true
+word_is_plain c h = grind (arith, nat_tests)
+
+-- bytes behind a word are plain where those behind all of it are
+plain_before_word : (xs : Bytes) → IsPlain (behind is_word_byte xs) → is_plain_behind true xs ≡ true
+plain_before_word [] h = refl
+plain_before_word (x ∷ xs) h = step (plain_before_word xs) (is_word_byte x) refl h where
+  step : (IsPlain (behind is_word_byte xs) → is_plain_behind true xs ≡ true) → (v : Bool) → is_word_byte x ≡ v
+      → IsPlain (cond v (behind is_word_byte xs) (x ∷ xs)) → is_plain_behind true (x ∷ xs) ≡ true
+  step r true e q = rw (word_is_plain x e, e) (r q)
+  step r false e q =
+      let k = and_parts (is_plain_byte false x) (is_plain_behind (is_word_byte x) xs) q in
+      rw (plain_behind_any x k.0) k.1
+
+small_is_word : (c : ℕ) → is_small_letter c ≡ true → (is_plain_byte false c ≡ true) × (is_word_byte c ≡ true)
+small_is_word c h = (grind (arith, nat_tests), grind (arith, nat_tests))
+
+capital_is_word : (c : ℕ) → is_capital_letter c ≡ true → (is_plain_byte false c ≡ true) × (is_word_byte c ≡ true)
+capital_is_word c h = (grind (arith, nat_tests), grind (arith, nat_tests))
+
+mark_is_no_word : (c : ℕ) → is_plain_mark c ≡ true → (is_plain_byte false c ≡ true) × (is_word_byte c ≡ false)
+mark_is_no_word c h = (of_listed (is_plain_byte false) c (codes "(),.") h refl, mark_no_word c h)
+
+-- the bytes from a token on are plain where those behind it are
+pub plain_before_token : (kind : TokenKind) (c : ℕ) (cs : Bytes) → kind_of c ≡ Some kind → IsPlain (behind (tails kind) cs) → IsPlain (c ∷ cs)
+plain_before_token Lower c cs k h = let w = small_is_word c (small_at c k) in rw (w.0, w.1) (plain_before_word cs h)
+plain_before_token Upper c cs k h = let w = capital_is_word c (capital_at c k) in rw (w.0, w.1) (plain_before_word cs h)
+plain_before_token Mark c cs k h = let w = mark_is_no_word c (mark_at c k) in rw (w.0, w.1) (subst (λ t. IsPlain t) (behind_none cs) h)
+plain_before_token kind c cs k h = absurd (elim (other_kind c kind k) [ inl e ↦ cc | inr e ↦ elim e [ inl f ↦ cc | inr f ↦ cc ] ])

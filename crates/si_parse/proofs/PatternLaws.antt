@@ -1,11 +1,10 @@
 -- What was read of all tokens of some bytes is the pattern that the bytes are.
-use Rattle.std.proofs.Common.{◌≡◌, ◌≤◌, List, [], ◌∷◌, ◌++◌, length, refl, ap, sym, ◌∙◌, subst, arith, append-nil}
+use Rattle.std.proofs.Common.{◌≡◌, ℕ, List, [], ◌∷◌, ◌++◌, length, refl, ap, sym, ◌∙◌, subst, append-nil}
 use Rattle.std.specs.Prelude.{Option, Some, None, option_map, false, ◌==◌}
 use Rattle.std.specs.Borrow.{Bor}
 use Rattle.si_defs.specs.Bytes.{Bytes}
-use Rattle.si_defs.specs.Terms as terms
 use Rattle.si_defs.specs.Clauses as clauses
-use Rattle.si_defs.specs.Clauses.{literal_pattern, term_pattern, IsSoundLiteral, IsSoundTerm, IsSoundPattern, literal_size}
+use Rattle.si_defs.specs.Clauses.{literal_pattern, term_pattern, IsSoundPattern}
 use Rattle.si_defs.specs.Tokens as defs
 use Rattle.si_defs.specs.Grammar.{IsLiteral, IsTerm}
 use Rattle.si_defs.specs.Texts.{IsPattern, IsPatternText}
@@ -34,17 +33,16 @@ some_injective x y h = cc
 
 -- ---- tokens
 -- a literal with nothing left is what all the tokens spell
-pub literal_whole : (tokens : List Token) (l : program.Literal) (r : Bor (List Token)) → length tokens ≤ 536870912 → r.now ≡ [] → Reads literal_of IsLiteral NoBracket tokens (Some (l, r))
-    → IsSoundLiteral (literal_of l) × (literal_size (literal_of l) ≤ length tokens) → IsWhole (tokens_of tokens) kind.Lit (literal_pattern (literal_of l))
-literal_whole tokens l r few none p sound =
+pub literal_whole : (tokens : List Token) (l : program.Literal) (r : Bor (List Token)) → r.now ≡ [] → Reads literal_of IsLiteral NoBracket tokens (Some (l, r))
+    → IsSoundPattern (literal_pattern (literal_of l)) → IsWhole (tokens_of tokens) kind.Lit (literal_pattern (literal_of l))
+literal_whole tokens l r none p sound =
     let rest : tokens_of r.now ≡ [] = ap tokens_of none in
     let f = p.found (literal_of l) (tokens_of r.now) refl in
-    let size = sound.1 in
     record {
       of_kind = tt;
       spelled = subst (IsLiteral (literal_of l)) (sym (f.1 ∙ ap (λ ts. f.0 ++ ts) rest ∙ append-nil f.0)) f.2;
       only = λ other k o. by other k o;
-      sound = (sound.0, omega arith);
+      sound = sound;
     } where
       by : (other : clauses.Pattern) → IsOfKind kind.Lit other → IsPattern other (tokens_of tokens) → other ≡ literal_pattern (literal_of l)
       by (literal_pattern m) k o = ap (λ (x : clauses.Literal × List defs.Token). literal_pattern x.0) (sym (some_injective _ (m, []) (p.every m (tokens_of tokens) [] (sym (append-nil (tokens_of tokens))) o tt)))
@@ -79,17 +77,16 @@ literal_left tokens found p left (literal_pattern m) k o = by found left (p.ever
 literal_left tokens found p left (term_pattern t) k o = k
 
 -- the same of terms
-pub term_whole : (tokens : List Token) (t : program_term.Term) (r : Bor (List Token)) → length tokens ≤ 536870912 → r.now ≡ [] → Reads term_of IsTerm NoBracket tokens (Some (t, r))
-    → IsSoundTerm (term_of t) × (terms.size (term_of t) ≤ length tokens) → IsWhole (tokens_of tokens) kind.Term (term_pattern (term_of t))
-term_whole tokens t r few none p sound =
+pub term_whole : (tokens : List Token) (t : program_term.Term) (r : Bor (List Token)) → r.now ≡ [] → Reads term_of IsTerm NoBracket tokens (Some (t, r))
+    → IsSoundPattern (term_pattern (term_of t)) → IsWhole (tokens_of tokens) kind.Term (term_pattern (term_of t))
+term_whole tokens t r none p sound =
     let rest : tokens_of r.now ≡ [] = ap tokens_of none in
     let f = p.found (term_of t) (tokens_of r.now) refl in
-    let size = sound.1 in
     record {
       of_kind = tt;
       spelled = subst (IsTerm (term_of t)) (sym (f.1 ∙ ap (λ ts. f.0 ++ ts) rest ∙ append-nil f.0)) f.2;
       only = λ other k o. by other k o;
-      sound = (sound.0, omega arith);
+      sound = sound;
     } where
       by : (other : clauses.Pattern) → IsOfKind kind.Term other → IsPattern other (tokens_of tokens) → other ≡ term_pattern (term_of t)
       by (term_pattern m) k o = ap (λ (x : clauses.Term × List defs.Token). term_pattern x.0) (sym (some_injective _ (m, []) (p.every m (tokens_of tokens) [] (sym (append-nil (tokens_of tokens))) o tt)))
@@ -106,9 +103,9 @@ term_left tokens found p left (literal_pattern l) k o = k
 
 -- ---- bytes
 -- where the tokens end with the bytes, what they spell is what the bytes are
-pub whole_read : (bytes : Bytes) (items tokens : List Token) (stop : Stop) (k : PatternKind) (result : Option Pattern) → IsLexing bytes 0 items stop → stop ≡ End → tokens ≡ items
+pub whole_read : (bytes : Bytes) (items tokens : List Token) (stop : Stop) (end : ℕ) (k : PatternKind) (result : Option Pattern) → IsLexing bytes 0 items stop end → stop ≡ End → tokens ≡ items
     → ReadsWhole (tokens_of tokens) k result → ReadsPattern bytes k result
-whole_read bytes items tokens stop k (Some p) l e same w =
+whole_read bytes items tokens stop end k (Some p) l e same w =
     record {
       of_kind = w.of_kind;
       text = record {
@@ -122,8 +119,8 @@ whole_read bytes items tokens stop k (Some p) l e same w =
     } where
       all_tokens : (other : clauses.Pattern) → IsPatternText other bytes → IsPattern other (tokens_of tokens)
       all_tokens other t = subst (IsPattern other) (sym (l.whole t.tokens t.consists t.nested).1 ∙ ap tokens_of (sym same)) t.spelled
-whole_read bytes items tokens stop k None l e same w = λ p o t. w p o (subst (IsPattern p) (sym (l.whole t.tokens t.consists t.nested).1 ∙ ap tokens_of (sym same)) t.spelled)
+whole_read bytes items tokens stop end k None l e same w = λ p o t. w p o (subst (IsPattern p) (sym (l.whole t.tokens t.consists t.nested).1 ∙ ap tokens_of (sym same)) t.spelled)
 
 -- where they do not, the bytes are no pattern
-pub stopped_read : (bytes : Bytes) (items : List Token) (stop : Stop) (k : PatternKind) → IsLexing bytes 0 items stop → (stop ≡ End → ⊥) → (p : clauses.Pattern) → IsOfKind k p → IsPatternText p bytes → ⊥
-stopped_read bytes items stop k l e p o t = e (l.whole t.tokens t.consists t.nested).0
+pub stopped_read : (bytes : Bytes) (items : List Token) (stop : Stop) (end : ℕ) (k : PatternKind) → IsLexing bytes 0 items stop end → (stop ≡ End → ⊥) → (p : clauses.Pattern) → IsOfKind k p → IsPatternText p bytes → ⊥
+stopped_read bytes items stop end k l e p o t = e (l.whole t.tokens t.consists t.nested).0

@@ -18,9 +18,10 @@ use Rattle.si_parse.specs.Tokens.{token_of, tokens_of, ArePlain, IsPlainToken}
 use Rattle.si_parse.specs.Lexing.{EndAt, IsLexing, IsNextBad, IsNextToken}
 use Rattle.si_parse.specs.Parsing.{Parses, Anything, Reads}
 use Rattle.std.specs.Borrow.{Bor}
-use Rattle.si_parse.specs.Reading.{IsClauseRead, IsFault, IsFaultAt, IsRead, AreForeign, place_behind}
+use Rattle.si_parse.specs.Reading.{IsClauseRead, IsFault, IsFaultAt, IsRead, IsNoClause, AreForeign, place_behind}
 use Rattle.si_parse.specs.declared.token.Token.{Token}
 use Rattle.si_parse.specs.declared.token.Stop.{Stop}
+use Rattle.si_parse.specs.declared.token.Stop.TheVariants.{End, Bad}
 use Rattle.si_term.specs.Meaning.{clause_of}
 use Rattle.si_term.specs.declared.clause.Clause as program
 use Rattle.si_parse.specs.declared.item.Read.{Read}
@@ -113,13 +114,13 @@ not_single (t ∷ ts) [] after text p h = by p.0 where
   by (inr (inr e)) = let f : Mark ≡ Single = sym e.0 ∙ kind in cc
 
 -- where no clause was read of the tokens, no item begins
-pub none_begins : (bytes : Bytes) (at : ℕ) (tokens : List Token) (stop : Stop) → IsLexing bytes at tokens stop → Parses IsClause Anything (tokens_of tokens) None
+pub none_begins : (bytes : Bytes) (at : ℕ) (tokens : List Token) (stop : Stop) (last : ℕ) → IsLexing bytes at tokens stop last → Parses IsClause Anything (tokens_of tokens) None
     → (item : Item) (rest : Bytes) → BeginsWithItem (drop at bytes) item rest → ⊥
-none_begins bytes at tokens stop l p (clause_item c) rest b =
+none_begins bytes at tokens stop last l p (clause_item c) rest b =
     let k = l.every b.tokens rest b.begins b.nested in
     let found = p.every c b.tokens k.0 k.1 b.spelled tt in
     cc
-none_begins bytes at tokens stop l p (include_item file selection) rest b =
+none_begins bytes at tokens stop last l p (include_item file selection) rest b =
     let k = l.every b.tokens rest b.begins b.nested in
     let s = b.spelled in
     not_single tokens (lower (codes "include") ∷ left_bracket ∷ []) _ file l.plain (k.1 ∙ ap (λ ts. ts ++ k.0) s.2)
@@ -128,10 +129,10 @@ option_some : {A : Type 0} (x y : A) → Some x ≡ Some y → x ≡ y
 option_some x y h = cc
 
 -- the clause that was read of the tokens is the item that the bytes begin with
-pub clause_begins : (bytes : Bytes) (at : ℕ) (tokens : List Token) (stop : Stop) (c : Clause) (rest : List defs.Token) → at ≤ length bytes → IsPlain (drop at bytes)
-    → IsLexing bytes at tokens stop → Parses IsClause Anything (tokens_of tokens) (Some (c, rest)) → IsSoundClause c
+pub clause_begins : (bytes : Bytes) (at : ℕ) (tokens : List Token) (stop : Stop) (last : ℕ) (c : Clause) (rest : List defs.Token) → at ≤ length bytes → IsPlain (drop at bytes)
+    → IsLexing bytes at tokens stop last → Parses IsClause Anything (tokens_of tokens) (Some (c, rest)) → IsSoundClause c
     → IsClauseRead bytes at c (place_behind at tokens (length tokens - length rest))
-clause_begins bytes at tokens stop c rest within plain l p sound =
+clause_begins bytes at tokens stop last c rest within plain l p sound =
     let f = p.found c rest refl in
     let used = f.0 in
     let count : length used ≡ length tokens - length rest =
@@ -175,33 +176,33 @@ foreign_front (t ∷ u ∷ us) f =
     (t.text, us, f.0.1, λ i. record { kind = f.0.0 i; text = t.text } ∷ f.1 i ∷ us)
 
 -- the first two tokens are those of another language exactly where the bytes begin so
-pub foreign_begins : (bytes : Bytes) (at : ℕ) (tokens : List Token) (stop : Stop) → IsLexing bytes at tokens stop → AreForeign (tokens_of tokens) → IsForeign (drop at bytes)
-foreign_begins bytes at tokens stop l f =
+pub foreign_begins : (bytes : Bytes) (at : ℕ) (tokens : List Token) (stop : Stop) (last : ℕ) → IsLexing bytes at tokens stop last → AreForeign (tokens_of tokens) → IsForeign (drop at bytes)
+foreign_begins bytes at tokens stop last l f =
     let w = foreign_front (tokens_of tokens) f in
     let s = begins_split (lower w.0 ∷ left_bracket ∷ []) w.1 (drop at bytes) l.rest (subst (λ ts. Begins (drop at bytes) ts l.rest) w.3 l.begins) in
     (w.0, s.0, w.2, s.1)
 
-pub foreign_tokens : (bytes : Bytes) (at : ℕ) (tokens : List Token) (stop : Stop) → IsLexing bytes at tokens stop → IsForeign (drop at bytes) → AreForeign (tokens_of tokens)
-foreign_tokens bytes at tokens stop l f =
+pub foreign_tokens : (bytes : Bytes) (at : ℕ) (tokens : List Token) (stop : Stop) (last : ℕ) → IsLexing bytes at tokens stop last → IsForeign (drop at bytes) → AreForeign (tokens_of tokens)
+foreign_tokens bytes at tokens stop last l f =
     let k = l.every (lower f.0 ∷ left_bracket ∷ []) f.1 f.3 (omega arith) in
     subst AreForeign (sym k.1) ((refl, f.2), refl)
 
 -- where no clause was read
-pub fault_begins : (bytes : Bytes) (at place : ℕ) (tokens : List Token) (stop : Stop) (result : Read) → at ≤ place → place ≤ length bytes → IsPlace (drop at bytes) (drop place bytes)
-    → (AreBlanks (drop at bytes) → ⊥) → IsLexing bytes at tokens stop → Parses IsClause Anything (tokens_of tokens) None → IsFaultAt (tokens_of tokens) place result → IsRead bytes at result
-fault_begins bytes at place tokens stop (read.Syntax other) from within behind more l p f =
+pub fault_begins : (bytes : Bytes) (at place : ℕ) (tokens : List Token) (stop : Stop) (last : ℕ) (result : Read) → at ≤ place → place ≤ length bytes → IsPlace (drop at bytes) (drop place bytes)
+    → (AreBlanks (drop at bytes) → ⊥) → IsLexing bytes at tokens stop last → Parses IsClause Anything (tokens_of tokens) None → IsFaultAt (tokens_of tokens) place result → IsRead bytes at result
+fault_begins bytes at place tokens stop last (read.Syntax other) from within behind more l p f =
     subst (λ n. IsFault bytes at n × (IsForeign (drop at bytes) → ⊥)) (sym f.0)
-    (record { from = from; within = within; faulty = record { more = more; no_item = none_begins bytes at tokens stop l p }; behind = behind }, λ g. f.1 (foreign_tokens bytes at tokens stop l g))
-fault_begins bytes at place tokens stop (read.Language other) from within behind more l p f =
+    (record { from = from; within = within; faulty = record { more = more; no_item = none_begins bytes at tokens stop last l p }; behind = behind }, λ g. f.1 (foreign_tokens bytes at tokens stop last l g))
+fault_begins bytes at place tokens stop last (read.Language other) from within behind more l p f =
     subst (λ n. IsFault bytes at n × IsForeign (drop at bytes)) (sym f.0)
-    (record { from = from; within = within; faulty = record { more = more; no_item = none_begins bytes at tokens stop l p }; behind = behind }, foreign_begins bytes at tokens stop l f.1)
-fault_begins bytes at place tokens stop (read.Cnf c end) from within behind more l p f = absurd f
-fault_begins bytes at place tokens stop read.End from within behind more l p f = absurd f
+    (record { from = from; within = within; faulty = record { more = more; no_item = none_begins bytes at tokens stop last l p }; behind = behind }, foreign_begins bytes at tokens stop last l f.1)
+fault_begins bytes at place tokens stop last (read.Cnf c end) from within behind more l p f = absurd f
+fault_begins bytes at place tokens stop last read.End from within behind more l p f = absurd f
 
 -- ---- what the program's calls say
 -- there are no more tokens than bytes
-pub lexing_few : (bytes : Bytes) (at : ℕ) (tokens : List Token) (stop : Stop) → IsLexing bytes at tokens stop → length tokens ≤ length bytes
-lexing_few bytes at tokens stop l =
+pub lexing_few : (bytes : Bytes) (at : ℕ) (tokens : List Token) (stop : Stop) (last : ℕ) → IsLexing bytes at tokens stop last → length tokens ≤ length bytes
+lexing_few bytes at tokens stop last l =
     omega (arith, begins_shorter (tokens_of tokens) (drop at bytes) l.rest l.begins, length-map tokens token_of, length-drop at bytes)
 
 -- what is left of the tokens is no longer than they are
@@ -227,15 +228,21 @@ bad_read bytes at place n = (
   by (clause_item c) rest b = let s = b.spelled in at_all (lower (codes "cnf")) _ b.tokens rest s.6 b.begins
   by (include_item file selection) rest b = let s = b.spelled in at_all (lower (codes "include")) _ b.tokens rest s.2 b.begins
 
-pub clause_read : (bytes : Bytes) (at : ℕ) (items tokens : List Token) (stop : Stop) (c : program.Clause) (r : Bor (List Token)) (end : ℕ) → at ≤ length bytes → IsPlain (drop at bytes)
-    → tokens ≡ items → IsLexing bytes at items stop → Reads clause_of IsClause Anything tokens (Some (c, r)) → IsSoundClause (clause_of c)
+pub clause_read : (bytes : Bytes) (at : ℕ) (items tokens : List Token) (stop : Stop) (last : ℕ) (c : program.Clause) (r : Bor (List Token)) (end : ℕ) → at ≤ length bytes → IsPlain (drop at bytes)
+    → tokens ≡ items → IsLexing bytes at items stop last → Reads clause_of IsClause Anything tokens (Some (c, r)) → IsSoundClause (clause_of c)
     → end ≡ place_behind at tokens (length tokens - length r.now) → IsClauseRead bytes at (clause_of c) end
-clause_read bytes at items tokens stop c r end within plain same l p sound e =
-    let lexed : IsLexing bytes at tokens stop = subst (λ ts. IsLexing bytes at ts stop) (sym same) l in
+clause_read bytes at items tokens stop last c r end within plain same l p sound e =
+    let lexed : IsLexing bytes at tokens stop last = subst (λ ts. IsLexing bytes at ts stop last) (sym same) l in
     let n : end ≡ place_behind at tokens (length tokens - length (tokens_of r.now)) = e ∙ ap (λ k. place_behind at tokens (length tokens - k)) (sym (length-map r.now token_of)) in
-    subst (IsClauseRead bytes at (clause_of c)) (sym n) (clause_begins bytes at tokens stop (clause_of c) (tokens_of r.now) within plain lexed p sound)
+    subst (IsClauseRead bytes at (clause_of c)) (sym n) (clause_begins bytes at tokens stop last (clause_of c) (tokens_of r.now) within plain lexed p sound)
 
-pub fault_read : (bytes : Bytes) (at : ℕ) (items tokens : List Token) (stop : Stop) (t : Token) (result : Read) → IsNextToken bytes at t → tokens ≡ items → IsLexing bytes at items stop
-    → Reads clause_of IsClause Anything tokens None → IsFaultAt (tokens_of tokens) t.start result → IsRead bytes at result
-fault_read bytes at items tokens stop t result n same l p f =
-    fault_begins bytes at t.start tokens stop result n.from (omega (arith, n.some, n.within)) n.behind n.more (subst (λ ts. IsLexing bytes at ts stop) (sym same) l) p f
+-- where no clause was read
+pub no_clause_read : (bytes : Bytes) (at : ℕ) (items tokens : List Token) (stop : Stop) (last : ℕ) (result : Read) → tokens ≡ items → IsLexing bytes at items stop last
+    → Reads clause_of IsClause Anything tokens None → IsNoClause tokens stop last result → IsRead bytes at result
+no_clause_read bytes at items tokens stop last result same l p n = by tokens stop (subst (λ ts. IsLexing bytes at ts stop last) (sym same) l) p n where
+  by : (ts : List Token) (why : Stop) → IsLexing bytes at ts why last → Reads clause_of IsClause Anything ts None → IsNoClause ts why last result → IsRead bytes at result
+  by (t ∷ ts) why l p f =
+      let first : IsNextToken bytes at t = l.start in
+      fault_begins bytes at t.start (t ∷ ts) why last result first.from (omega (arith, first.some, first.within)) first.behind first.more l p f
+  by [] End l p e = subst (IsRead bytes at) (sym e) l.start.blanks
+  by [] Bad l p e = subst (IsRead bytes at) (sym e) (bad_read bytes at last l.start)

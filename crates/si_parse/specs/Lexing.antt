@@ -1,7 +1,7 @@
--- What the lexer gives: the next token of plain text, and the longest list of tokens.
-use Rattle.std.specs.Prelude.{◌≡◌, ℕ, ◌<◌, ◌≤◌, Bool, false, cond, ◌==◌, Option, Some, None, List, [], ◌∷◌, ◌++◌, length, drop, codes}
+-- What the lexer gives: the next token of plain text, the longest list of tokens, and whether a line is plain.
+use Rattle.std.specs.Prelude.{◌≡◌, ℕ, ◌<◌, ◌≤◌, Bool, false, cond, not, ◌&&◌, ◌==◌, Option, Some, None, List, [], ◌∷◌, ◌++◌, length, drop, codes}
 use Rattle.std.specs.List.{list_any, AllByRecursion}
-use Rattle.si_defs.specs.Bytes.{Bytes, is_small_letter, is_capital_letter, is_word_byte}
+use Rattle.si_defs.specs.Bytes.{Bytes, is_small_letter, is_capital_letter, is_word_byte, is_white}
 use Rattle.si_defs.specs.Tokens as defs
 use Rattle.si_defs.specs.Tokens.{Begins, Consists, AreBlanks, Skips, TokenAt, NextToken}
 use Rattle.si_defs.specs.Grammar.{nesting}
@@ -11,12 +11,21 @@ use Rattle.si_defs.specs.declared.TokenKind.{TokenKind}
 use Rattle.si_defs.specs.declared.TokenKind.TheVariants.{Lower, Upper, Mark}
 use Rattle.si_parse.specs.Tokens.{token_of, tokens_of, IsPlainToken, ArePlain}
 use Rattle.si_parse.specs.declared.token.Token.{Token}
+use Rattle.si_parse.specs.declared.lex.Lexing.{Lexing}
 use Rattle.si_parse.specs.declared.lex.Lexed.{Lexed}
 use Rattle.si_parse.specs.declared.lex.Lexed.TheVariants as lexed
 use Rattle.si_parse.specs.declared.token.Stop.{Stop}
-use Rattle.si_parse.specs.declared.token.Stop.TheVariants.{End}
+use Rattle.si_parse.specs.declared.token.Stop.TheVariants.{End, Bad}
+
+-- a text has at most so many bytes: those of the longest line or file, and one more
+abbrev pub most_bytes : ℕ
+most_bytes = 536870913
 
 -- ---- one token
+-- white space of plain text
+abbrev pub is_plain_white : ℕ → Bool
+is_plain_white c = is_white c && not (c == 10)
+
 -- the marks of plain text
 abbrev pub is_plain_mark : ℕ → Bool
 is_plain_mark c = list_any (λ m. m == c) (codes "(),.")
@@ -53,14 +62,26 @@ pub record IsNextBad (bytes : Bytes) (at place : ℕ) : Type 0 where
   pub from : at ≤ place
   pub within : place < length bytes
   pub behind : IsPlace (drop at bytes) (drop place bytes)
+  pub plain : IsPlain (drop place bytes)
   pub none : (u : defs.Token) (rest : Bytes) → NextToken (drop at bytes) u rest → ⊥
   pub more : AreBlanks (drop at bytes) → ⊥
 
--- what stands behind the blanks from a place on
+-- what stands behind the blanks from a place of plain text on
 abbrev pub IsNext : Bytes → ℕ → Lexed → Type 0
 IsNext bytes at (lexed.Token t) = IsNextToken bytes at t
 IsNext bytes at lexed.End = IsNextEnd bytes at
 IsNext bytes at (lexed.Bad place) = IsNextBad bytes at place
+
+-- What was read from a place up to an end of any bytes is plain: they are so if those behind the end are.
+pub record IsPlainUpTo (bytes : Bytes) (at end : ℕ) : Type 0 where
+  pub within : end ≤ length bytes
+  pub plain : IsPlain (drop end bytes) → IsPlain (drop at bytes)
+
+-- the same of what stands behind the blanks, whatever the bytes are
+abbrev pub ReadsPlain : Bytes → ℕ → Lexed → Type 0
+ReadsPlain bytes at (lexed.Token t) = (at < t.end) × IsPlainUpTo bytes at t.end × IsPlainToken (token_of t)
+ReadsPlain bytes at lexed.End = IsPlain (drop at bytes)
+ReadsPlain bytes at (lexed.Bad place) = IsPlainUpTo bytes at place
 
 -- ---- all tokens
 -- Each token ends at its place: behind it the bytes go on with the tokens that follow.
@@ -73,10 +94,18 @@ EndAt bytes from (t ∷ ts) =
 abbrev pub StandsAt : Bytes → Token → Type 0
 StandsAt bytes t = (t.start < t.end) × (t.end ≤ length bytes) × TokenAt (drop t.start bytes) (token_of t) (drop t.end bytes)
 
--- The tokens from a place on, up to the first place where none stands or where brackets nest too deep.
-pub record IsLexing (bytes : Bytes) (at : ℕ) (tokens : List Token) (stop : Stop) : Type 0 where
+-- what stands behind the blanks: the first token, or why there is none, at its place
+abbrev pub StartsWith : Bytes → ℕ → List Token → Stop → ℕ → Type 0
+StartsWith bytes at (t ∷ ts) stop end = IsNextToken bytes at t
+StartsWith bytes at [] End end = IsNextEnd bytes at
+StartsWith bytes at [] Bad end = IsNextBad bytes at end
+
+-- The tokens from a place of plain text on, up to the first place where none stands or where brackets nest too deep.
+-- They end at `end`: behind the blanks, where no token stands.
+pub record IsLexing (bytes : Bytes) (at : ℕ) (tokens : List Token) (stop : Stop) (end : ℕ) : Type 0 where
   -- what stands behind the last token
   pub rest : Bytes
+  pub start : StartsWith bytes at tokens stop end
   pub begins : Begins (drop at bytes) (tokens_of tokens) rest
   pub nested : nesting (tokens_of tokens) ≤ deepest_nesting
   pub plain : ArePlain tokens
@@ -90,3 +119,10 @@ pub record IsLexing (bytes : Bytes) (at : ℕ) (tokens : List Token) (stop : Sto
       → (others : List defs.Token) × (tokens_of tokens ≡ ts ++ others)
   -- and whatever tokens the bytes consist of, these are they
   pub whole : (ts : List defs.Token) → Consists (drop at bytes) ts → nesting ts ≤ deepest_nesting → (stop ≡ End) × (tokens_of tokens ≡ ts)
+  -- what was not read is plain too
+  pub left : IsPlain (drop end bytes)
+
+-- the tokens of a line, if it is plain
+abbrev pub IsLineRead : Bytes → Option Lexing → Type 0
+IsLineRead line (Some l) = IsPlain line × IsLexing line 0 l.tokens.items l.stop l.end
+IsLineRead line None = IsPlain line → ⊥

@@ -9,7 +9,10 @@ use Rattle.si_defs.specs.Texts.{BeginsWithItem, IsPatternText, IsFaulty, IsForei
 use Rattle.si_defs.specs.Tokens as defs
 use Rattle.si_defs.specs.Substitutions.{IsAmong}
 use Rattle.si_defs.specs.declared.TokenKind.TheVariants.{Lower}
+use Rattle.si_parse.specs.Tokens.{tokens_of}
 use Rattle.si_parse.specs.declared.token.Token.{Token}
+use Rattle.si_parse.specs.declared.token.Stop.{Stop}
+use Rattle.si_parse.specs.declared.token.Stop.TheVariants.{End, Bad}
 use Rattle.si_term.specs.Meaning.{clause_of, pattern_of}
 use Rattle.si_term.specs.declared.clause.Pattern.{Pattern}
 use Rattle.si_parse.specs.declared.item.Read.{Read}
@@ -38,6 +41,12 @@ abbrev pub IsFaultAt : List defs.Token → ℕ → Read → Type 0
 IsFaultAt ts place (read.Language p) = (p ≡ place) × AreForeign ts
 IsFaultAt ts place (read.Syntax p) = (p ≡ place) × (AreForeign ts → ⊥)
 IsFaultAt ts place result = ⊥
+
+-- what stands where the tokens begin with no clause: a fault at the first of them; without any, what stands at the end
+abbrev pub IsNoClause : List Token → Stop → ℕ → Read → Type 0
+IsNoClause (t ∷ ts) stop end result = IsFaultAt (tokens_of (t ∷ ts)) t.start result
+IsNoClause [] End end result = result ≡ read.End
+IsNoClause [] Bad end result = result ≡ read.Syntax end
 
 -- the item from a place up to an end is this clause, and no other item begins there
 pub record IsClauseRead (bytes : Bytes) (at : ℕ) (c : clauses.Clause) (end : ℕ) : Type 0 where

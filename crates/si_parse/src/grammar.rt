@@ -4,11 +4,11 @@
 // Terms and formulas are read by recursion, as deep as their brackets nest. Tokens of a `Lexing` nest no deeper than
 // `deepest_nesting`, so the stack is bounded. What may be long, as arguments and annotations, is read by loops.
 ghost use Rattle.std.specs.Prelude.{◌≡◌, ◌≤◌, ◌↔◌, IsTrue, IfOk, length, codes};
-ghost use Rattle.si_defs.specs.Clauses.{IsSoundClause, IsSoundLiteral, IsSoundTerm, literal_size, most_occurrences};
-ghost use Rattle.si_defs.specs.Terms as terms;
+ghost use Rattle.si_defs.specs.Clauses.{IsSoundClause, IsSoundPattern, literal_pattern, term_pattern};
 ghost use Rattle.si_defs.specs.Grammar.{IsClause, IsLiteral, IsTerm};
 ghost use Rattle.si_defs.specs.Tokens.{lower, mark};
 ghost use Rattle.si_parse.specs.GrammarRules.{AreAnnotations, AreArguments, IsApplied, IsEnding, IsMark, IsOpening, IsUnit, IsWordComma, word_symbol};
+ghost use Rattle.si_parse.specs.Lexing.{most_bytes};
 ghost use Rattle.si_parse.specs.Parsing.{Anything, ArePlain, IfFound, NoBracket, Passes, Reads};
 ghost use Rattle.si_parse.specs.Tokens.{token_of};
 ghost use Rattle.si_term.specs.Meaning.{clause_of, literal_of};
@@ -32,7 +32,7 @@ pub type Found<'t, T> = Option<(T, &'t [Token])>;
 /// `AllocError` where memory runs out.
 pub fn clause<'t>(alloc: Global, tokens: &'t [Token]) -> Result<Found<'t, Clause>, AllocError>
     requires plain { ArePlain tokens.now }
-    requires few { length tokens.now ≤ most_occurrences }
+    requires few { length tokens.now ≤ most_bytes }
     ensures read { IfOk result (Reads clause_of IsClause Anything tokens.now) }
     ensures sound { IfOk result (IfFound (λ c. IsSoundClause (clause_of c))) }
 {
@@ -99,7 +99,7 @@ fn word_comma<'t>(alloc: Global, tokens: &'t [Token]) -> Result<Found<'t, Text>,
 /// A literal in any number of round brackets.
 fn formula<'t>(alloc: Global, tokens: &'t [Token]) -> Result<Found<'t, Literal>, AllocError>
     requires plain { ArePlain tokens.now }
-    requires few { length tokens.now ≤ most_occurrences }
+    requires few { length tokens.now ≤ most_bytes }
     ensures { IfOk result (Reads literal_of IsUnit NoBracket tokens.now) }
 {
     let Some(inner) = mark_at(tokens, b'(') else {
@@ -167,9 +167,9 @@ fn is_cnf(token: &Token) -> bool
 /// `AllocError` where memory runs out.
 pub fn literal<'t>(alloc: Global, tokens: &'t [Token]) -> Result<Found<'t, Literal>, AllocError>
     requires plain { ArePlain tokens.now }
-    requires few { length tokens.now ≤ most_occurrences }
+    requires few { length tokens.now ≤ most_bytes }
     ensures read { IfOk result (Reads literal_of IsLiteral NoBracket tokens.now) }
-    ensures sound { IfOk result (IfFound (λ l. IsSoundLiteral (literal_of l) × (literal_size (literal_of l) ≤ length tokens.now))) }
+    ensures sound { IfOk result (IfFound (λ l. IsSoundPattern (literal_pattern (literal_of l)))) }
 {
     match tokens {
         [first, rest @ ..] => match first.kind {
@@ -198,9 +198,9 @@ pub fn literal<'t>(alloc: Global, tokens: &'t [Token]) -> Result<Found<'t, Liter
 #[cycle(reading)]
 pub fn term<'t>(alloc: Global, tokens: &'t [Token]) -> Result<Found<'t, Term>, AllocError>
     requires plain { ArePlain tokens.now }
-    requires few { length tokens.now ≤ most_occurrences }
+    requires few { length tokens.now ≤ most_bytes }
     ensures read { IfOk result (Reads term_of IsTerm NoBracket tokens.now) }
-    ensures sound { IfOk result (IfFound (λ t. IsSoundTerm (term_of t) × (terms.size (term_of t) ≤ length tokens.now))) }
+    ensures sound { IfOk result (IfFound (λ t. IsSoundPattern (term_pattern (term_of t)))) }
 {
     match tokens {
         [first, rest @ ..] => match first.kind {
@@ -224,7 +224,7 @@ fn application<'t>(
     tokens: &'t [Token],
 ) -> Result<Found<'t, Term>, AllocError>
     requires plain { ArePlain tokens.now }
-    requires few { length tokens.now ≤ most_occurrences }
+    requires few { length tokens.now ≤ most_bytes }
     ensures { IfOk result (Reads term_of (IsApplied head.now side) NoBracket tokens.now) }
 {
     let text = Text::from_bytes(alloc, head.as_bytes())?;
@@ -244,7 +244,7 @@ fn application<'t>(
 #[cycle(reading)]
 fn arguments<'t>(alloc: Global, tokens: &'t [Token]) -> Result<Found<'t, Terms>, AllocError>
     requires plain { ArePlain tokens.now }
-    requires few { length tokens.now ≤ most_occurrences }
+    requires few { length tokens.now ≤ most_bytes }
     ensures { IfOk result (Reads (λ ts. ts) AreArguments Anything tokens.now) }
 {
     let mut args = Terms::new(alloc);

@@ -2,11 +2,12 @@
 ghost use Rattle.std.specs.Prelude.{◌≡◌, ◌≤◌, ◌↔◌, IsTrue, length, drop, IfOk};
 ghost use Rattle.si_defs.specs.Steps.{IsPlain};
 ghost use Rattle.si_parse.specs.Tokens.{token_of, tokens_of};
-ghost use Rattle.si_parse.specs.Reading.{IsRead, IsFaultAt, AreForeign, IsLanguage, place_behind};
+ghost use Rattle.si_parse.specs.Lexing.{most_bytes};
+ghost use Rattle.si_parse.specs.Reading.{IsRead, IsNoClause, IsFaultAt, AreForeign, IsLanguage, place_behind};
 
 use crate::grammar::{clause, is_mark};
-use crate::lex::{Lexed, lex, next_token};
-use crate::token::Token;
+use crate::lex::lex;
+use crate::token::{Stop, Token};
 use si_defs::TokenKind;
 use si_term::Clause;
 use std::alloc::{AllocError, Global};
@@ -28,17 +29,15 @@ pub enum Read {
 }
 
 /// The item behind the blanks from a place on.
+///
+/// # Errors
+/// `AllocError` where memory runs out.
 pub fn next_item(alloc: Global, bytes: &[u8], at: usize) -> Result<Read, AllocError>
-    requires short { length bytes.now ≤ 536870912 }
+    requires short { length bytes.now ≤ most_bytes }
     requires within { at ≤ length bytes.now }
     requires plain { IsPlain (drop at bytes.now) }
     ensures { IfOk result (IsRead bytes.now at) }
 {
-    let place = match next_token(alloc, bytes, at)? {
-        Lexed::End => return Ok(Read::End),
-        Lexed::Bad(place) => return Ok(Read::Syntax(place)),
-        Lexed::Token(first) => first.start,
-    };
     let lexing = lex(alloc, bytes, at)?;
     let tokens = lexing.tokens.as_slice();
     match clause(alloc, tokens)? {
@@ -46,7 +45,20 @@ pub fn next_item(alloc: Global, bytes: &[u8], at: usize) -> Result<Read, AllocEr
             let end = end_of(tokens, at, tokens.len() - rest.len());
             Ok(Read::Cnf(clause, end))
         }
-        None => Ok(fault_at(tokens, place)),
+        None => Ok(no_clause(tokens, lexing.stop, lexing.end)),
+    }
+}
+
+/// What stands where the tokens begin with no clause: by the first of them, or by why there is none.
+fn no_clause(tokens: &[Token], stop: Stop, end: usize) -> Read
+    ensures { IsNoClause tokens.now stop end result }
+{
+    match tokens.first() {
+        Some(first) => fault_at(tokens, first.start),
+        None => match stop {
+            Stop::End => Read::End,
+            Stop::Bad => Read::Syntax(end),
+        },
     }
 }
 
@@ -74,7 +86,7 @@ fn fault_at(tokens: &[Token], place: usize) -> Read
 }
 
 /// Whether the first two tokens are the word of another language and a bracket.
-fn is_foreign(tokens: &[Token]) -> bool
+pub fn is_foreign(tokens: &[Token]) -> bool
     ensures { IsTrue result ↔ AreForeign (tokens_of tokens.now) }
 {
     match tokens {

@@ -6,8 +6,9 @@ ghost use Rattle.si_defs.specs.Grammar.{open_behind};
 ghost use Rattle.si_defs.specs.Steps.{IsPlain};
 ghost use Rattle.si_defs.specs.Texts.{deepest_nesting};
 ghost use Rattle.si_parse.specs.Tokens.{IsPlainToken, token_of};
-ghost use Rattle.si_parse.specs.Lexing.{IsLexing, IsNext, kind_of, tails};
+ghost use Rattle.si_parse.specs.Lexing.{IsLexing, IsLineRead, IsNext, IsPlainUpTo, ReadsPlain, is_plain_white, kind_of, tails};
 
+use crate::bytes::{is_plain, is_plain_white, is_word_byte};
 use crate::token::{Stop, Token};
 use si_defs::TokenKind;
 use si_term::Text;
@@ -26,6 +27,8 @@ pub struct Lexing {
     pub tokens: Vec<Token>,
     /// What stands behind the last token.
     pub stop: Stop,
+    /// The place behind what was read, in bytes from their start.
+    pub end: usize,
 }
 
 /// What stands behind the blanks from a place on.
@@ -39,27 +42,14 @@ pub enum Lexed {
     Bad(usize),
 }
 
-fn is_white(byte: u8) -> bool
-    ensures { result ≡ classes.is_white byte }
-{
-    byte == 9 || byte == 10 || byte == 12 || byte == 13 || byte == 32
-}
-
-// A letter, a digit or `_`.
-fn is_word_byte(byte: u8) -> bool
-    ensures { result ≡ classes.is_word_byte byte }
-{
-    byte.is_ascii_lowercase() || byte.is_ascii_uppercase() || byte.is_ascii_digit() || byte == b'_'
-}
-
 // The place behind the white space at a place.
 fn skip_white(bytes: &[u8], at: usize) -> usize
     requires { at ≤ length bytes.now }
     ensures within { result ≤ length bytes.now }
-    ensures run { result ≡ at + prefix_len classes.is_white (drop at bytes.now) }
+    ensures run { result ≡ at + prefix_len is_plain_white (drop at bytes.now) }
 {
     for i in at..bytes.len() {
-        if !is_white(bytes[i]) {
+        if !is_plain_white(bytes[i]) {
             return i;
         }
     }
@@ -106,17 +96,17 @@ fn token_end(bytes: &[u8], from: usize, kind: TokenKind) -> usize
 
 /// The next token from a place on, with TPTP's rule: the longest one that stands behind the blanks.
 ///
-/// `at` and all places count bytes from the start of `bytes`. From `at` on the bytes are plain: letters, digits behind a
-/// letter, a digit or `_`, the marks `(`, `)`, `,` and `.`, and white space without a line feed. So a token is a lower
-/// word, an upper word or one of these marks, and what stands behind it is plain too.
+/// `at` and all places count bytes from the start of `bytes`. The answer is TPTP's where the bytes are plain from `at`
+/// on: letters, digits behind a letter, a digit or `_`, the marks `(`, `)`, `,` and `.`, and white space without a line
+/// feed. There a token is a lower word, an upper word or one of these marks. Of any bytes, what is read is plain.
 ///
 /// # Errors
 ///
 /// `AllocError` where there is no memory for the token's text.
 pub fn next_token(alloc: Global, bytes: &[u8], at: usize) -> Result<Lexed, AllocError>
-    requires within { at ≤ length bytes.now }
-    requires plain { IsPlain (drop at bytes.now) }
-    ensures { IfOk result (IsNext bytes.now at) }
+    requires { at ≤ length bytes.now }
+    ensures next { IfOk result (λ lexed. IsPlain (drop at bytes.now) → IsNext bytes.now at lexed) }
+    ensures plain { IfOk result (ReadsPlain bytes.now at) }
 {
     let start = skip_white(bytes, at);
     if start >= bytes.len() {
@@ -156,32 +146,34 @@ fn depth_behind(depth: usize, token: &Token) -> usize
 /// All tokens from a place on, up to the first place where none stands, or where a token would have more than 512 round
 /// brackets open at once.
 ///
-/// Whatever tokens the bytes begin with by TPTP's rules, nested no deeper, are the first of these. `at` and the bytes
-/// are as for [`next_token`].
+/// Where the bytes are plain from `at` on, whatever tokens they begin with by TPTP's rules, nested no deeper, are the
+/// first of these. `at` and plain bytes are as for [`next_token`]. Of any bytes, what is read is plain.
 ///
 /// # Errors
 ///
 /// `AllocError` where there is no memory for the tokens.
 pub fn lex(alloc: Global, bytes: &[u8], at: usize) -> Result<Lexing, AllocError>
-    requires within { at ≤ length bytes.now }
-    requires plain { IsPlain (drop at bytes.now) }
-    ensures { IfOk result (λ l. IsLexing bytes.now at l.tokens.items l.stop) }
+    requires { at ≤ length bytes.now }
+    ensures tokens { IfOk result (λ l. IsPlain (drop at bytes.now) → IsLexing bytes.now at l.tokens.items l.stop l.end) }
+    ensures plain { IfOk result (λ l. IsPlainUpTo bytes.now at l.end) }
 {
     let mut tokens = Vec::new(alloc);
-    let mut from = at;
+    let mut end = at;
     let mut depth = 0;
     loop {
-        match next_token(alloc, bytes, from)? {
+        match next_token(alloc, bytes, end)? {
             Lexed::End => {
                 return Ok(Lexing {
                     tokens,
                     stop: Stop::End,
+                    end: bytes.len(),
                 });
             }
-            Lexed::Bad(_) => {
+            Lexed::Bad(place) => {
                 return Ok(Lexing {
                     tokens,
                     stop: Stop::Bad,
+                    end: place,
                 });
             }
             Lexed::Token(token) => {
@@ -190,11 +182,30 @@ pub fn lex(alloc: Global, bytes: &[u8], at: usize) -> Result<Lexing, AllocError>
                     return Ok(Lexing {
                         tokens,
                         stop: Stop::Bad,
+                        end,
                     });
                 }
-                from = token.end;
+                end = token.end;
                 tokens.push(token)?;
             }
         }
+    }
+}
+
+/// The tokens of a line, or nothing where the line isn't plain.
+///
+/// Each byte is looked at once: by the lexer up to where it stops, and behind that place by the test.
+///
+/// # Errors
+///
+/// `AllocError` where there is no memory for the tokens.
+pub fn lex_line(alloc: Global, line: &[u8]) -> Result<Option<Lexing>, AllocError>
+    ensures { IfOk result (IsLineRead line.now) }
+{
+    let lexing = lex(alloc, line, 0)?;
+    if is_plain(&line[lexing.end..]) {
+        Ok(Some(lexing))
+    } else {
+        Ok(None)
     }
 }

@@ -3,6 +3,7 @@
 //! [`lex`] cuts bytes into tokens, [`grammar`] reads tokens by the grammar, [`item`] and [`pattern`] read texts.
 #![tactic(auto)]
 
+mod bytes;
 pub mod grammar;
 pub mod item;
 pub mod lex;

@@ -1,6 +1,7 @@
 // Patterns of a query.
 ghost use Rattle.std.specs.Prelude.{◌≤◌, length, IfOk};
 ghost use Rattle.si_defs.specs.Steps.{IsPlain};
+ghost use Rattle.si_parse.specs.Lexing.{most_bytes};
 ghost use Rattle.si_parse.specs.Parsing.{ArePlain};
 ghost use Rattle.si_parse.specs.Tokens.{tokens_of};
 ghost use Rattle.si_parse.specs.Reading.{ReadsPattern, ReadsWhole};
@@ -28,7 +29,7 @@ pub fn read_pattern(
     bytes: &[u8],
     kind: PatternKind,
 ) -> Result<Option<Pattern>, AllocError>
-    requires short { length bytes.now ≤ 536870912 }
+    requires short { length bytes.now ≤ most_bytes }
     requires plain { IsPlain bytes.now }
     ensures { IfOk result (ReadsPattern bytes.now kind) }
 {
@@ -40,13 +41,16 @@ pub fn read_pattern(
 }
 
 /// The pattern that all the tokens spell.
-fn whole_pattern(
+///
+/// # Errors
+/// `AllocError` where memory runs out.
+pub fn whole_pattern(
     alloc: Global,
     tokens: &[Token],
     kind: PatternKind,
 ) -> Result<Option<Pattern>, AllocError>
     requires plain { ArePlain tokens.now }
-    requires few { length tokens.now ≤ 536870912 }
+    requires few { length tokens.now ≤ most_bytes }
     ensures { IfOk result (ReadsWhole (tokens_of tokens.now) kind) }
 {
     match kind {
@@ -58,7 +62,7 @@ fn whole_pattern(
 /// The literal that all the tokens spell.
 fn whole_literal(alloc: Global, tokens: &[Token]) -> Result<Option<Pattern>, AllocError>
     requires plain { ArePlain tokens.now }
-    requires few { length tokens.now ≤ 536870912 }
+    requires few { length tokens.now ≤ most_bytes }
     ensures { IfOk result (ReadsWhole (tokens_of tokens.now) Lit) }
 {
     let Some((literal, rest)) = literal(alloc, tokens)? else {
@@ -73,7 +77,7 @@ fn whole_literal(alloc: Global, tokens: &[Token]) -> Result<Option<Pattern>, All
 /// The term that all the tokens spell.
 fn whole_term(alloc: Global, tokens: &[Token]) -> Result<Option<Pattern>, AllocError>
     requires plain { ArePlain tokens.now }
-    requires few { length tokens.now ≤ 536870912 }
+    requires few { length tokens.now ≤ most_bytes }
     ensures { IfOk result (ReadsWhole (tokens_of tokens.now) Term) }
 {
     let Some((term, rest)) = term(alloc, tokens)? else {

@@ -1,5 +1,5 @@
 // The lexer at texts whose tokens are counted by hand from TPTP's grammar.
-use super::{Lexed, Lexing, lex, next_token};
+use super::{Lexed, Lexing, lex, lex_line, next_token};
 use crate::token::Stop;
 use si_defs::TokenKind;
 use std::process::Abort;
@@ -71,5 +71,17 @@ fn nesting(rt: HostRuntime) -> Result<(), Fail> {
     let deeper = lex(rt.alloc(), &[b'('; 513], 0)?;
     assert_eq!(rt; deeper.tokens.len(), 512);
     assert_eq!(rt; deeper.stop, Stop::Bad);
+    Ok(())
+}
+
+#[test]
+fn plain_lines(rt: HostRuntime) -> Result<(), Fail> {
+    let plain = lex_line(rt.alloc(), b"add a _1 b")?.ok_or("a plain line")?;
+    assert_eq!(rt; plain.tokens.len(), 2);
+    assert_eq!(rt; plain.end, 6);
+    let lines: [&[u8]; 5] = [b"a 1", b"a\n", b"add _ '", b"~p", b"p % c"];
+    for line in lines {
+        assert!(rt; lex_line(rt.alloc(), line)?.is_none());
+    }
     Ok(())
 }

@@ -12,7 +12,7 @@ use Rattle.si_term.specs.Terms.{term_of}
 use Rattle.si_parse.proofs.ParseSteps.{parses_at}
 use Rattle.si_parse.proofs.ParseReads.{first_token, no_token, reads_some, reads_none, reads_plain, reads_shorter, plain_others, others_shorter}
 use Rattle.si_parse.proofs.GrammarTerms.{applied_arguments, applied_none, arguments_few, arguments_none, arguments_last, arguments_stop, arguments_other, along_at, along_some, along_none, along_comma, term_upper, term_lower}
-use Rattle.si_defs.specs.Clauses.{IsSoundTerm}
+use Rattle.si_defs.specs.Clauses.{IsSoundPattern, term_pattern}
 use Rattle.si_parse.proofs.GrammarSound.{found_has, found_term}
 use Rattle.si_parse.proofs.grammar.+reading.Goals as goal
 
@@ -102,6 +102,6 @@ term-returns-in-Lower t c =
     (λ r p. parses_at (first ∙ ap (λ k. record { kind = k; text = c.first-item.result.text } ∷ tokens_of rest) c.in-Lower.is) refl (term_lower c.first-item.result.text (tokens_of rest) _ p)) c.application.ensures in
     record {
       read = read;
-      sound = IfOk-weaker c.application.result (Reads term_of IsTerm NoBracket c.args.tokens.now) (IfFound (λ t. IsSoundTerm (term_of t) × (terms.size (term_of t) ≤ length c.args.tokens.now)))
-          (λ r p. found_has term_of (λ t. IsSoundTerm t × (terms.size t ≤ length c.args.tokens.now)) c.args.tokens.now (found_term c.args.tokens.now) r p) read;
+      sound = IfOk-weaker c.application.result (Reads term_of IsTerm NoBracket c.args.tokens.now) (IfFound (λ t. IsSoundPattern (term_pattern (term_of t))))
+          (λ r p. found_has term_of (λ t. IsSoundPattern (term_pattern t)) c.args.tokens.now (found_term c.args.tokens.now c.requires.few) r p) read;
     }

@@ -6,8 +6,7 @@ use Rattle.si_term.specs.Terms.{term_of}
 use Rattle.si_parse.proofs.ParseSteps.{parses_at, heads}
 use Rattle.si_parse.proofs.ParseReads.{first_token, plain_tokens, reads_some, reads_none}
 use Rattle.si_parse.proofs.GrammarAtoms.{literal_some, literal_none, literal_other}
-use Rattle.std.proofs.Common.{◌≤◌}
-use Rattle.si_defs.specs.Clauses.{IsSoundLiteral, literal_size}
+use Rattle.si_defs.specs.Clauses.{IsSoundPattern, literal_pattern}
 use Rattle.si_parse.proofs.GrammarSound.{parsed_has, found_literal}
 use Rattle.si_parse.proofs.grammar.literal.Goals as goal
 
@@ -36,4 +35,4 @@ returns-in_default-clause-read c =
 
 pub returns-in-Some-clause-sound : goal.returns-in-Some-clause-sound
 returns-in-Some-clause-sound c =
-    parsed_has (λ l. IsSoundLiteral l × (literal_size l ≤ length c.args.tokens.now)) c.args.tokens.now (found_literal c.args.tokens.now) _ _ (returns-in-Some-clause-read c)
+    parsed_has (λ l. IsSoundPattern (literal_pattern l)) c.args.tokens.now (found_literal c.args.tokens.now c.requires.few) _ _ (returns-in-Some-clause-read c)

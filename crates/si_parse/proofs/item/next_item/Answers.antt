@@ -1,18 +1,18 @@
-use Rattle.std.proofs.Common.{length, ap, subst, arith}
+use Rattle.std.proofs.Common.{length, ap, sym, subst, arith}
 use Rattle.si_defs.specs.Clauses.{IsSoundClause}
 use Rattle.si_defs.specs.Grammar.{IsClause}
 use Rattle.si_term.specs.Meaning.{clause_of}
-use Rattle.si_parse.specs.Lexing.{IsNext}
-use Rattle.si_parse.specs.Parsing.{Anything, Reads, IfFound}
-use Rattle.si_parse.proofs.ReadingLaws.{bad_read, lexing_few, left_shorter, clause_read, fault_read}
+use Rattle.si_parse.specs.Parsing.{Anything, ArePlain, Reads, IfFound}
+use Rattle.si_parse.proofs.ReadingLaws.{lexing_few, left_shorter, clause_read, no_clause_read}
 use Rattle.si_parse.proofs.item.next_item.Goals as goal
 
-pub returns-in-Bad : goal.returns-in-Bad
-returns-in-Bad c = bad_read c.args.bytes.now c.args.at c.in-Bad.place (subst (IsNext c.args.bytes.now c.args.at) c.in-Bad.is c.in_ok-next_token.ensures)
+pub clause-requires-clause-plain : goal.clause-requires-clause-plain
+clause-requires-clause-plain c = subst ArePlain (sym c.as_slice-tokens.ensures.value) (c.in_ok-lexing.ensures.tokens c.requires.plain).plain
 
 pub clause-requires-clause-few : goal.clause-requires-clause-few
 clause-requires-clause-few c =
-    omega (arith, ap length c.as_slice-tokens.ensures.value, lexing_few c.args.bytes.now c.args.at c.in_ok-lexing.lexing.tokens.items c.in_ok-lexing.lexing.stop c.in_ok-lexing.ensures, c.requires.short)
+    let l = c.in_ok-lexing.ensures.tokens c.requires.plain in
+    omega (arith, ap length c.as_slice-tokens.ensures.value, lexing_few c.args.bytes.now c.args.at c.in_ok-lexing.lexing.tokens.items c.in_ok-lexing.lexing.stop c.in_ok-lexing.lexing.end l, c.requires.short)
 
 pub overflow_sub-tokens : goal.overflow_sub-tokens
 overflow_sub-tokens c =
@@ -23,12 +23,11 @@ pub returns-in-Some : goal.returns-in-Some
 returns-in-Some c =
     let read = subst (Reads clause_of IsClause Anything c.as_slice-tokens.result.now) c.in-Some.is c.in_ok-clause.ensures.read in
     let sound = subst (IfFound (λ x. IsSoundClause (clause_of x))) c.in-Some.is c.in_ok-clause.ensures.sound in
-    clause_read c.args.bytes.now c.args.at c.in_ok-lexing.lexing.tokens.items c.as_slice-tokens.result.now c.in_ok-lexing.lexing.stop c.in-Some.clause c.in-Some.rest c.end_of-end.result
-    c.requires.within c.requires.plain c.as_slice-tokens.ensures.value c.in_ok-lexing.ensures read sound c.end_of-end.ensures
+    clause_read c.args.bytes.now c.args.at c.in_ok-lexing.lexing.tokens.items c.as_slice-tokens.result.now c.in_ok-lexing.lexing.stop c.in_ok-lexing.lexing.end c.in-Some.clause c.in-Some.rest c.end_of-end.result
+    c.requires.within c.requires.plain c.as_slice-tokens.ensures.value (c.in_ok-lexing.ensures.tokens c.requires.plain) read sound c.end_of-end.ensures
 
 pub returns : goal.returns
 returns c =
-    let next = subst (IsNext c.args.bytes.now c.args.at) c.in-Token.is c.in_ok-next_token.ensures in
     let read = subst (Reads clause_of IsClause Anything c.as_slice-tokens.result.now) c.in-None.is c.in_ok-clause.ensures.read in
-    fault_read c.args.bytes.now c.args.at c.in_ok-lexing.lexing.tokens.items c.as_slice-tokens.result.now c.in_ok-lexing.lexing.stop c.in-Token.first c.fault_at.result
-    next c.as_slice-tokens.ensures.value c.in_ok-lexing.ensures read c.fault_at.ensures
+    no_clause_read c.args.bytes.now c.args.at c.in_ok-lexing.lexing.tokens.items c.as_slice-tokens.result.now c.in_ok-lexing.lexing.stop c.in_ok-lexing.lexing.end c.no_clause.result
+    c.as_slice-tokens.ensures.value (c.in_ok-lexing.ensures.tokens c.requires.plain) read c.no_clause.ensures

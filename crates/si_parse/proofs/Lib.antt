@@ -14,5 +14,6 @@ pub mod GrammarFormulas
 pub mod GrammarEndings
 pub mod GrammarClauses
 pub mod GrammarSound
+pub mod ParseWhole
 pub mod ReadingLaws
 pub mod PatternLaws

@@ -1,11 +1,10 @@
 -- What was read of all tokens of some bytes is the pattern that the bytes are.
-use Rattle.std.proofs.Common.{◌≡◌, ℕ, List, [], ◌∷◌, ◌++◌, length, refl, ap, sym, ◌∙◌, subst, append-nil}
-use Rattle.std.specs.Prelude.{Option, Some, None, option_map, false, ◌==◌}
+use Rattle.std.proofs.Common.{◌≡◌, ℕ, List, [], ap, sym, ◌∙◌, subst}
+use Rattle.std.specs.Prelude.{Option, Some, None}
 use Rattle.std.specs.Borrow.{Bor}
 use Rattle.si_defs.specs.Bytes.{Bytes}
 use Rattle.si_defs.specs.Clauses as clauses
 use Rattle.si_defs.specs.Clauses.{literal_pattern, term_pattern, IsSoundPattern}
-use Rattle.si_defs.specs.Tokens as defs
 use Rattle.si_defs.specs.Grammar.{IsLiteral, IsTerm}
 use Rattle.si_defs.specs.Texts.{IsPattern, IsPatternText}
 use Rattle.si_term.specs.Terms.{term_of}
@@ -16,6 +15,7 @@ use Rattle.si_term.specs.declared.term.Term as program_term
 use Rattle.si_parse.specs.Tokens.{tokens_of}
 use Rattle.si_parse.specs.Lexing.{IsLexing}
 use Rattle.si_parse.specs.Parsing.{NoBracket, Reads}
+use Rattle.si_parse.proofs.ParseWhole.{whole_means, whole_only, whole_none}
 use Rattle.si_parse.specs.Reading.{IsOfKind, ReadsPattern, IsWhole, ReadsWhole}
 use Rattle.si_parse.specs.declared.token.Token.{Token}
 use Rattle.si_parse.specs.declared.token.Stop.{Stop}
@@ -23,82 +23,44 @@ use Rattle.si_parse.specs.declared.token.Stop.TheVariants.{End}
 use Rattle.si_parse.specs.declared.pattern.PatternKind.{PatternKind}
 use Rattle.si_parse.specs.declared.pattern.PatternKind.TheVariants as kind
 
--- no tokens stand for none
-empty : (ts : List Token) → tokens_of ts ≡ [] → ts ≡ []
-empty [] h = refl
-empty (t ∷ ts) h = cc
-
-some_injective : {A : Type 0} (x y : A) → Some x ≡ Some y → x ≡ y
-some_injective x y h = cc
-
 -- ---- tokens
 -- a literal with nothing left is what all the tokens spell
 pub literal_whole : (tokens : List Token) (l : program.Literal) (r : Bor (List Token)) → r.now ≡ [] → Reads literal_of IsLiteral NoBracket tokens (Some (l, r))
     → IsSoundPattern (literal_pattern (literal_of l)) → IsWhole (tokens_of tokens) kind.Lit (literal_pattern (literal_of l))
 literal_whole tokens l r none p sound =
-    let rest : tokens_of r.now ≡ [] = ap tokens_of none in
-    let f = p.found (literal_of l) (tokens_of r.now) refl in
     record {
       of_kind = tt;
-      spelled = subst (IsLiteral (literal_of l)) (sym (f.1 ∙ ap (λ ts. f.0 ++ ts) rest ∙ append-nil f.0)) f.2;
+      spelled = whole_means literal_of tokens tt l r none p;
       only = λ other k o. by other k o;
       sound = sound;
     } where
       by : (other : clauses.Pattern) → IsOfKind kind.Lit other → IsPattern other (tokens_of tokens) → other ≡ literal_pattern (literal_of l)
-      by (literal_pattern m) k o = ap (λ (x : clauses.Literal × List defs.Token). literal_pattern x.0) (sym (some_injective _ (m, []) (p.every m (tokens_of tokens) [] (sym (append-nil (tokens_of tokens))) o tt)))
+      by (literal_pattern m) k o = ap literal_pattern (whole_only literal_of tokens tt l r p m o)
       by (term_pattern t) k o = absurd k
-
-abbrev literal_view : program.Literal × Bor (List Token) → clauses.Literal × List defs.Token
-literal_view r = (literal_of r.0, tokens_of r.1.now)
-
-abbrev term_view : program_term.Term × Bor (List Token) → clauses.Term × List defs.Token
-term_view r = (term_of r.0, tokens_of r.1.now)
-
--- a list that is not empty
-pub not_empty : {A : Type 0} (xs : List A) → false ≡ (length xs == 0) → xs ≡ [] → ⊥
-not_empty [] h e = cc
-not_empty (x ∷ xs) h e = cc
-
-abbrev with_left : {X : Type 0} → X → Bor (List Token) → X × Bor (List Token)
-with_left x r = (x, r)
-
--- two readings of the same tokens leave the same
-pub same_left : {X : Type 0} (x y : X) (r s : Bor (List Token)) → Some (with_left x r) ≡ Some (with_left y s) → s.now ≡ [] → r.now ≡ []
-same_left {X = X} x y r s h e = ap (λ (p : X × Bor (List Token)). p.1.now) (some_injective (with_left x r) (with_left y s) h) ∙ e
 
 -- where something is left, or nothing was found, the tokens spell no literal
 pub literal_left : (tokens : List Token) (found : Option (program.Literal × Bor (List Token))) → Reads literal_of IsLiteral NoBracket tokens found
     → ((l : program.Literal) (r : Bor (List Token)) → found ≡ Some (l, r) → r.now ≡ [] → ⊥) → (p : clauses.Pattern) → IsOfKind kind.Lit p → IsPattern p (tokens_of tokens) → ⊥
-literal_left tokens found p left (literal_pattern m) k o = by found left (p.every m (tokens_of tokens) [] (sym (append-nil (tokens_of tokens))) o tt) where
-  by : (found : Option (program.Literal × Bor (List Token))) → ((l : program.Literal) (r : Bor (List Token)) → found ≡ Some (l, r) → r.now ≡ [] → ⊥)
-      → option_map literal_view found ≡ Some (m, []) → ⊥
-  by None left e = cc
-  by (Some x) left e = left x.0 x.1 refl (empty x.1.now (ap (λ (y : clauses.Literal × List defs.Token). y.1) (some_injective _ (m, []) e)))
+literal_left tokens found p left (literal_pattern m) k o = whole_none literal_of tokens tt found p left m o
 literal_left tokens found p left (term_pattern t) k o = k
 
 -- the same of terms
 pub term_whole : (tokens : List Token) (t : program_term.Term) (r : Bor (List Token)) → r.now ≡ [] → Reads term_of IsTerm NoBracket tokens (Some (t, r))
     → IsSoundPattern (term_pattern (term_of t)) → IsWhole (tokens_of tokens) kind.Term (term_pattern (term_of t))
 term_whole tokens t r none p sound =
-    let rest : tokens_of r.now ≡ [] = ap tokens_of none in
-    let f = p.found (term_of t) (tokens_of r.now) refl in
     record {
       of_kind = tt;
-      spelled = subst (IsTerm (term_of t)) (sym (f.1 ∙ ap (λ ts. f.0 ++ ts) rest ∙ append-nil f.0)) f.2;
+      spelled = whole_means term_of tokens tt t r none p;
       only = λ other k o. by other k o;
       sound = sound;
     } where
       by : (other : clauses.Pattern) → IsOfKind kind.Term other → IsPattern other (tokens_of tokens) → other ≡ term_pattern (term_of t)
-      by (term_pattern m) k o = ap (λ (x : clauses.Term × List defs.Token). term_pattern x.0) (sym (some_injective _ (m, []) (p.every m (tokens_of tokens) [] (sym (append-nil (tokens_of tokens))) o tt)))
+      by (term_pattern m) k o = ap term_pattern (whole_only term_of tokens tt t r p m o)
       by (literal_pattern l) k o = absurd k
 
 pub term_left : (tokens : List Token) (found : Option (program_term.Term × Bor (List Token))) → Reads term_of IsTerm NoBracket tokens found
     → ((t : program_term.Term) (r : Bor (List Token)) → found ≡ Some (t, r) → r.now ≡ [] → ⊥) → (p : clauses.Pattern) → IsOfKind kind.Term p → IsPattern p (tokens_of tokens) → ⊥
-term_left tokens found p left (term_pattern m) k o = by found left (p.every m (tokens_of tokens) [] (sym (append-nil (tokens_of tokens))) o tt) where
-  by : (found : Option (program_term.Term × Bor (List Token))) → ((t : program_term.Term) (r : Bor (List Token)) → found ≡ Some (t, r) → r.now ≡ [] → ⊥)
-      → option_map term_view found ≡ Some (m, []) → ⊥
-  by None left e = cc
-  by (Some x) left e = left x.0 x.1 refl (empty x.1.now (ap (λ (y : clauses.Term × List defs.Token). y.1) (some_injective _ (m, []) e)))
+term_left tokens found p left (term_pattern m) k o = whole_none term_of tokens tt found p left m o
 term_left tokens found p left (literal_pattern l) k o = k
 
 -- ---- bytes

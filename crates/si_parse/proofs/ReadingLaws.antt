@@ -26,6 +26,7 @@ use Rattle.si_term.specs.Meaning.{clause_of}
 use Rattle.si_term.specs.declared.clause.Clause as program
 use Rattle.si_parse.specs.declared.item.Read.{Read}
 use Rattle.si_parse.specs.declared.item.Read.TheVariants as read
+use Rattle.si_parse.proofs.ParseWhole.{some_injective}
 use Rattle.si_parse.proofs.LexWords.{next_unique, next_plain}
 
 -- ---- lengths
@@ -125,9 +126,6 @@ none_begins bytes at tokens stop last l p (include_item file selection) rest b =
     let s = b.spelled in
     not_single tokens (lower (codes "include") ∷ left_bracket ∷ []) _ file l.plain (k.1 ∙ ap (λ ts. ts ++ k.0) s.2)
 
-option_some : {A : Type 0} (x y : A) → Some x ≡ Some y → x ≡ y
-option_some x y h = cc
-
 -- the clause that was read of the tokens is the item that the bytes begin with
 pub clause_begins : (bytes : Bytes) (at : ℕ) (tokens : List Token) (stop : Stop) (last : ℕ) (c : Clause) (rest : List defs.Token) → at ≤ length bytes → IsPlain (drop at bytes)
     → IsLexing bytes at tokens stop last → Parses IsClause Anything (tokens_of tokens) (Some (c, rest)) → IsSoundClause c
@@ -161,7 +159,7 @@ clause_begins bytes at tokens stop last c rest within plain l p sound =
           absurd (not_single tokens (lower (codes "include") ∷ left_bracket ∷ []) _ file l.plain (k.1 ∙ ap (λ ts. ts ++ k.0) s.2))
       by (clause_item d) other b used e g =
           let k = l.every b.tokens other b.begins b.nested in
-          let got = option_some (c, rest) (d, k.0) (p.every d b.tokens k.0 k.1 b.spelled tt) in
+          let got = some_injective (c, rest) (d, k.0) (p.every d b.tokens k.0 k.1 b.spelled tt) in
           let left : rest ≡ k.0 = ap (λ (r : Clause × List defs.Token). r.1) got in
           let same : used ≡ b.tokens = append_cancel_right used b.tokens rest (sym e ∙ k.1 ∙ ap (λ ts. b.tokens ++ ts) (sym left)) in (
             ap (λ (r : Clause × List defs.Token). clause_item r.0) (sym got),
@@ -169,7 +167,8 @@ clause_begins bytes at tokens stop last c rest within plain l p sound =
           )
 
 -- ---- faults
-foreign_front : (ts : List defs.Token) → AreForeign ts → (word : Bytes) × (others : List defs.Token) × IsAmong languages word × (ts ≡ lower word ∷ left_bracket ∷ others)
+-- the first two tokens of a formula of another language
+pub foreign_front : (ts : List defs.Token) → AreForeign ts → (word : Bytes) × (others : List defs.Token) × IsAmong languages word × (ts ≡ lower word ∷ left_bracket ∷ others)
 foreign_front [] f = absurd f
 foreign_front (t ∷ []) f = absurd f
 foreign_front (t ∷ u ∷ us) f =

@@ -1,22 +1,33 @@
--- Which command a plain line is, by its first words.
-use Rattle.std.proofs.Common.{◌≡◌, ℕ, ◌≤◌, List, [], ◌∷◌, drop, refl, ap, sym, ◌∙◌, subst, inl, inr, arith}
-use Rattle.std.specs.Prelude.{codes, Bool, true, false, IsTrue, ◌↔◌}
+-- Which command a line is, by its tokens.
+use Rattle.std.proofs.Common.{◌≡◌, ℕ, List, [], ◌∷◌, ◌++◌, refl, ap, sym, ◌∙◌, ap₂, subst, inl, inr, arith}
+use Rattle.std.specs.Prelude.{codes, Bool, true, false, IsTrue, ◌↔◌, Option, Some, None}
 use Rattle.si_defs.specs.Bytes.{Bytes}
-use Rattle.si_defs.specs.Clauses.{Clause, Pattern, literal_pattern, term_pattern}
+use Rattle.si_defs.specs.Clauses.{Clause, Pattern, literal_pattern, term_pattern, IsSoundClause}
 use Rattle.si_defs.specs.Relations.{Instances, Variants, Generalizations, Unifiable}
-use Rattle.si_defs.specs.Tokens.{Token, lower, NextToken, AreBlanks, Begins}
-use Rattle.si_defs.specs.Grammar.{clause_item, left_bracket, nesting}
+use Rattle.si_defs.specs.Tokens.{Token, lower, NextToken, Begins}
+use Rattle.si_defs.specs.Grammar.{IsClause, IsLiteral, IsTerm, left_bracket}
 use Rattle.si_defs.specs.Substitutions.{IsAmong}
-use Rattle.si_defs.specs.Texts.{BeginsWithItem, IsPatternText, IsForeign, languages}
+use Rattle.si_defs.specs.Texts.{IsPattern, languages}
 use Rattle.si_defs.specs.Steps.{IsPlain, IsFirstForm, AddsForeign, Command, add, query, IsCommand, IsQuery, Means, words}
-use Rattle.si_parse.specs.Lexing.{IsNext}
-use Rattle.si_parse.specs.Reading.{IsOfKind}
-use Rattle.si_parse.specs.declared.lex.Lexed.{Lexed}
-use Rattle.si_parse.specs.declared.lex.Lexed.TheVariants as lexed
+use Rattle.si_parse.specs.Lexing.{IsLexing}
+use Rattle.si_parse.specs.Reading.{AreForeign, IsOfKind, ReadsWhole}
+use Rattle.si_parse.specs.Tokens.{tokens_of}
+use Rattle.si_parse.specs.declared.token.Token as program
+use Rattle.si_parse.specs.declared.token.Stop.{Stop}
+use Rattle.si_parse.specs.declared.token.Stop.TheVariants.{End}
 use Rattle.si_parse.specs.declared.pattern.PatternKind.{PatternKind}
 use Rattle.si_parse.specs.declared.pattern.PatternKind.TheVariants as kind
-use Rattle.si_parse.proofs.LexWords.{next_unique, next_plain, blanks_none}
-use Rattle.si_session.specs.Commands.{kind_word}
+use Rattle.si_parse.specs.Parsing as reads
+use Rattle.si_parse.specs.Parsing.{Anything}
+use Rattle.si_parse.proofs.ParseWhole.{whole_means, whole_none}
+use Rattle.si_parse.proofs.ReadingLaws.{begins_split, foreign_front}
+use Rattle.si_term.specs.declared.clause.Clause as program_clause
+use Rattle.si_term.specs.declared.clause.Pattern as program_clause_pattern
+use Rattle.std.specs.Borrow.{Bor}
+use Rattle.si_term.specs.Meaning.{clause_of, pattern_of}
+use Rattle.si_session.specs.Commands.{IsUnbuilt, Reads, BeginsCommand, AddForeign, Commands, kind_word}
+use Rattle.si_session.specs.declared.command.Command as read
+use Rattle.si_session.specs.declared.command.Command.TheVariants as command
 
 -- ---- words
 abbrev first_byte : Bytes → ℕ
@@ -27,87 +38,11 @@ first_byte (c ∷ cs) = c
 different : (x y : Bytes) → (first_byte x ≡ first_byte y → ⊥) → lower x ≡ lower y → ⊥
 different x y d e = d (ap (λ (t : Token). first_byte t.text) e)
 
-pub add_is_not_instances : lower (codes "add") ≡ lower (codes "instances") → ⊥
+add_is_not_instances : lower (codes "add") ≡ lower (codes "instances") → ⊥
 add_is_not_instances = different (codes "add") (codes "instances") (λ e. absurd (omega arith))
 
-same_token : (line : Bytes) (t u : Token) (a b : Bytes) → IsPlain line → NextToken line t a → NextToken line u b → t ≡ u
-same_token line t u a b p n m = (next_unique line t u a b p n m).0
-
-same_rest : (line : Bytes) (t u : Token) (a b : Bytes) → IsPlain line → NextToken line t a → NextToken line u b → a ≡ b
-same_rest line t u a b p n m = (next_unique line t u a b p n m).1
-
-pub form_add : (line after : Bytes) → IsPlain line → NextToken line (lower (codes "add")) after → IsFirstForm line
-form_add line after p n = record { plain = p; word = codes "add"; rest = after; first = n; among = inl refl }
-
-pub form_instances : (line after : Bytes) → IsPlain line → NextToken line (lower (codes "instances")) after → IsFirstForm line
-form_instances line after p n = record { plain = p; word = codes "instances"; rest = after; first = n; among = inr (inl refl) }
-
--- a line is of the first form only if its first token is one of the words
-pub no_form : (line : Bytes) → ((t : Token) (rest : Bytes) → NextToken line t rest → (t ≡ lower (codes "add") → ⊥) × (t ≡ lower (codes "instances") → ⊥)) → IsFirstForm line → ⊥
-no_form line other f = by f.word f.among f.first where
-  by : (word : Bytes) → IsAmong words word → NextToken line (lower word) f.rest → ⊥
-  by word (inl e) n = (other (lower word) f.rest n).0 (ap lower (sym e))
-  by word (inr (inl e)) n = (other (lower word) f.rest n).1 (ap lower (sym e))
-  by word (inr (inr e)) n = e
-
--- ---- nesting behind a word
-word_nesting : (word : Bytes) (ts : List Token) → nesting (lower word ∷ ts) ≡ nesting ts
-word_nesting word ts = omega arith
-
--- ---- `add`
--- an item behind the word, and blanks behind the item
-pub record AddsItem (after : Bytes) (d : Clause) : Type 0 where
-  pub rest : Bytes
-  pub item : BeginsWithItem after (clause_item d) rest
-  pub blanks : AreBlanks rest
-
-pub add_means : (line after rest : Bytes) (d : Clause) → NextToken line (lower (codes "add")) after → BeginsWithItem after (clause_item d) rest → AreBlanks rest → Means (add d) line
-add_means line after rest d n b e =
-    record {
-      tokens = lower (codes "add") ∷ b.tokens;
-      consists = record { rest = rest; begins = (after, n, b.begins); blanks = e };
-      spelled = (b.tokens, b.spelled, refl);
-      nested = subst (λ k. k ≤ 512) (sym (word_nesting (codes "add") b.tokens)) b.nested;
-    }
-
--- the only command that such a line can be
-pub means_add : (line after : Bytes) → IsPlain line → NextToken line (lower (codes "add")) after → (c : Command) → Means c line → (d : Clause) × AddsItem after d
-means_add line after p n (add d) m = (d, by m.tokens m.consists.begins m.spelled m.nested) where
-  by : (ts : List Token) → Begins line ts m.consists.rest → IsCommand (add d) ts → nesting ts ≤ 512 → AddsItem after d
-  by ts g s k =
-      let us = s.0 in
-      let h : Begins line (lower (codes "add") ∷ us) m.consists.rest = subst (λ vs. Begins line vs m.consists.rest) s.2 g in
-      let same = same_rest line (lower (codes "add")) (lower (codes "add")) h.0 after p h.1 n in
-      record {
-        rest = m.consists.rest;
-        item = record {
-          tokens = us;
-          begins = subst (λ b. Begins b us m.consists.rest) same h.2;
-          spelled = s.1;
-          nested = subst (λ d. d ≤ 512) (ap nesting s.2 ∙ word_nesting (codes "add") us) k;
-        };
-        blanks = m.consists.blanks;
-      }
-means_add line after p n (query Instances q) m = absurd (by m.tokens m.consists.begins m.spelled) where
-  by : (ts : List Token) → Begins line ts m.consists.rest → IsCommand (query Instances q) ts → ⊥
-  by ts g s =
-      let h : Begins line (s.0 ∷ s.1) m.consists.rest = subst (λ vs. Begins line vs m.consists.rest) s.4 g in
-      add_is_not_instances (same_token line (lower (codes "add")) s.0 after h.0 p n h.1 ∙ s.2)
-means_add line after p n (query Variants q) m = absurd m.spelled.2
-means_add line after p n (query Generalizations q) m = absurd m.spelled.2
-means_add line after p n (query Unifiable q) m = absurd m.spelled.2
-
--- `add` and another language
-pub foreign_after : (line after : Bytes) → IsPlain line → NextToken line (lower (codes "add")) after → AddsForeign line → IsForeign after
-foreign_after line after p n f =
-    let same = same_rest line (lower (codes "add")) (lower (codes "add")) f.3.0 after p f.3.1 n in
-    (f.0, f.1, f.2, subst (λ b. Begins b (lower f.0 ∷ left_bracket ∷ []) f.1) same f.3.2)
-
-pub foreign_line : (line after : Bytes) → NextToken line (lower (codes "add")) after → IsForeign after → AddsForeign line
-foreign_line line after n f = (f.0, f.1, f.2, (after, n, f.3))
-
-pub instances_not_foreign : (line after : Bytes) → IsPlain line → NextToken line (lower (codes "instances")) after → AddsForeign line → ⊥
-instances_not_foreign line after p n f = add_is_not_instances (same_token line (lower (codes "add")) (lower (codes "instances")) f.3.0 after p f.3.1 n)
+kinds_differ : lower (kind_word kind.Lit) ≡ lower (kind_word kind.Term) → ⊥
+kinds_differ = different (codes "lit") (codes "term") (λ e. absurd (omega arith))
 
 f_is_not_c : (n : ℕ) → 102 ≡ n → n ≡ 99 → ⊥
 f_is_not_c n e h = absurd (omega arith)
@@ -115,6 +50,7 @@ f_is_not_c n e h = absurd (omega arith)
 t_is_not_c : (n : ℕ) → 116 ≡ n → n ≡ 99 → ⊥
 t_is_not_c n e h = absurd (omega arith)
 
+-- the words of other languages begin with another letter than `cnf`
 language_byte : (word : Bytes) → IsAmong languages word → first_byte word ≡ 99 → ⊥
 language_byte word (inl e) h = f_is_not_c (first_byte word) (ap first_byte e) h
 language_byte word (inr (inl e)) h = t_is_not_c (first_byte word) (ap first_byte e) h
@@ -123,131 +59,210 @@ language_byte word (inr (inr (inr (inl e)))) h = t_is_not_c (first_byte word) (a
 language_byte word (inr (inr (inr (inr (inl e))))) h = t_is_not_c (first_byte word) (ap first_byte e) h
 language_byte word (inr (inr (inr (inr (inr e))))) h = e
 
-first_next : (after rest : Bytes) (t : Token) (ts us : List Token) → us ≡ t ∷ ts → Begins after us rest → (b : Bytes) × NextToken after t b
-first_next after rest t ts us e g = let h : Begins after (t ∷ ts) rest = subst (λ vs. Begins after vs rest) e g in (h.0, h.1)
+-- the first of some tokens, and the others
+abbrev head : List Token → Token
+head [] = lower []
+head (t ∷ ts) = t
 
--- a clause begins with a word that is none of another language
-item_word : (after rest : Bytes) (d : Clause) → BeginsWithItem after (clause_item d) rest → (b : Bytes) × NextToken after (lower (codes "cnf")) b
-item_word after rest d b = let s = b.spelled in first_next after rest (lower (codes "cnf")) _ b.tokens s.6 b.begins
+abbrev others : List Token → List Token
+others [] = []
+others (t ∷ ts) = ts
 
-pub item_not_foreign : (after rest : Bytes) (d : Clause) → IsPlain after → BeginsWithItem after (clause_item d) rest → IsForeign after → ⊥
-item_not_foreign after rest d p b f =
-    let w = item_word after rest d b in
-    let same = same_token after (lower f.0) (lower (codes "cnf")) f.3.0 w.0 p f.3.1 w.1 in
-    language_byte f.0 f.2 (ap (λ (t : Token). first_byte t.text) same)
+-- tokens that begin with the word of a clause are no formula of another language
+cnf_not_foreign : (ts us : List Token) → ts ≡ lower (codes "cnf") ∷ us → AreForeign ts → ⊥
+cnf_not_foreign [] us e f = f
+cnf_not_foreign (t ∷ []) us e f = f
+cnf_not_foreign (t ∷ v ∷ vs) us e f = language_byte t.text f.0.1 (ap (λ (ws : List Token). first_byte (head ws).text) e)
 
--- where nothing but blanks stands behind the word, there is neither
-pub blanks_no_item : (after rest : Bytes) (d : Clause) → IsPlain after → AreBlanks after → BeginsWithItem after (clause_item d) rest → ⊥
-blanks_no_item after rest d p e b = let w = item_word after rest d b in blanks_none after p e (lower (codes "cnf")) w.0 w.1
+-- ---- the first words
+pub begins_add : (ts : List Token) → BeginsCommand (lower (codes "add") ∷ ts)
+begins_add ts = (codes "add", inl refl, refl)
 
-pub blanks_not_foreign : (after : Bytes) → IsPlain after → AreBlanks after → IsForeign after → ⊥
-blanks_not_foreign after p e f = blanks_none after p e (lower f.0) f.3.0 f.3.1
+pub begins_instances : (ts : List Token) → BeginsCommand (lower (codes "instances") ∷ ts)
+begins_instances ts = (codes "instances", inr (inl refl), refl)
 
--- what is no end has no blanks alone before it
-pub next_more : (bytes : Bytes) (at : ℕ) (l : Lexed) → IsNext bytes at l → (l ≡ lexed.End → ⊥) → AreBlanks (drop at bytes) → ⊥
-next_more bytes at (lexed.Token t) n e = n.more
-next_more bytes at (lexed.Bad place) n e = n.more
-next_more bytes at lexed.End n e = absurd (e refl)
+-- another token begins no command
+pub begins_other : (t : Token) (ts : List Token) → (t ≡ lower (codes "add") → ⊥) → (t ≡ lower (codes "instances") → ⊥) → BeginsCommand (t ∷ ts) → ⊥
+begins_other t ts a i b = by b.0 b.1 b.2 where
+  by : (word : Bytes) → IsAmong words word → t ≡ lower word → ⊥
+  by word (inl e) h = a (h ∙ ap lower (sym e))
+  by word (inr (inl e)) h = i (h ∙ ap lower (sym e))
+  by word (inr (inr e)) h = e
 
--- the bytes behind tokens of plain bytes are plain
-pub begins_plain : (ts : List Token) (a b : Bytes) → IsPlain a → Begins a ts b → IsPlain b
-begins_plain [] a b p g = subst IsPlain g p
-begins_plain (t ∷ ts) a b p g = begins_plain ts g.0 b (next_plain a t g.0 p g.1) g.2
+-- ---- `add`
+-- the only command that such tokens can be
+add_only : (c : Command) (ts : List Token) → IsCommand c (lower (codes "add") ∷ ts) → (d : Clause) × IsClause d ts
+add_only (add d) ts h = (d, subst (IsClause d) (sym (ap others h.2)) h.1)
+add_only (query Instances p) ts h = absurd (add_is_not_instances (ap head h.4 ∙ h.2))
+add_only (query Variants p) ts h = absurd h.2
+add_only (query Generalizations p) ts h = absurd h.2
+add_only (query Unifiable p) ts h = absurd h.2
+
+-- where a clause was read, no formula of another language stands
+pub clause_not_foreign : (tokens : List program.Token) (x : program_clause.Clause) (r : Bor (List program.Token)) → reads.Reads clause_of IsClause Anything tokens (Some (x, r)) → AreForeign (tokens_of tokens) → ⊥
+clause_not_foreign tokens x r p f =
+    let u = p.found (clause_of x) (tokens_of r.now) refl in
+    let s = u.2 in
+    cnf_not_foreign (tokens_of tokens) _ (u.1 ∙ ap (λ ts. ts ++ tokens_of r.now) s.6) f
+
+-- where none was read of all the tokens
+pub add_wrong : (tokens : List program.Token) (stop : Stop) (found : Option (program_clause.Clause × Bor (List program.Token))) → reads.Reads clause_of IsClause Anything tokens found
+    → (AreForeign (tokens_of tokens) → ⊥) → (stop ≡ End → (x : program_clause.Clause) (r : Bor (List program.Token)) → found ≡ Some (x, r) → r.now ≡ [] → ⊥)
+    → Commands (lower (codes "add") ∷ tokens_of tokens) stop command.Wrong
+add_wrong tokens stop found p own left =
+    (begins_add (tokens_of tokens), λ f. own f.1, λ e c h. let d = add_only c (tokens_of tokens) h in whole_none clause_of tokens tt found p (left e) d.0 d.1)
+
+-- where one was
+pub add_read : (tokens : List program.Token) (stop : Stop) (x : program_clause.Clause) (r : Bor (List program.Token)) → stop ≡ End → r.now ≡ [] → reads.Reads clause_of IsClause Anything tokens (Some (x, r))
+    → IsSoundClause (clause_of x) → Commands (lower (codes "add") ∷ tokens_of tokens) stop (command.Add x)
+add_read tokens stop x r e none p sound = (e, (tokens_of tokens, whole_means clause_of tokens tt x r none p, refl), sound)
 
 -- ---- `instances`
-pub means_query : (line after rest : Bytes) (k : PatternKind) (q : Pattern) → NextToken line (lower (codes "instances")) after → NextToken after (lower (kind_word k)) rest
-    → IsOfKind k q → IsPatternText q rest → Means (query Instances q) line
-means_query line after rest kind.Lit (literal_pattern l) n m o t =
-    record {
-      tokens = lower (codes "instances") ∷ lower (codes "lit") ∷ t.tokens;
-      consists = record { rest = t.consists.rest; begins = (after, n, (rest, m, t.consists.begins)); blanks = t.consists.blanks };
-      spelled = (lower (codes "instances"), lower (codes "lit") ∷ t.tokens, refl, (t.tokens, t.spelled, refl), refl);
-      nested = subst (λ d. d ≤ 512) (sym (word_nesting (codes "instances") (lower (codes "lit") ∷ t.tokens) ∙ word_nesting (codes "lit") t.tokens)) t.nested;
-    }
-means_query line after rest kind.Term (term_pattern u) n m o t =
-    record {
-      tokens = lower (codes "instances") ∷ lower (codes "term") ∷ t.tokens;
-      consists = record { rest = t.consists.rest; begins = (after, n, (rest, m, t.consists.begins)); blanks = t.consists.blanks };
-      spelled = (lower (codes "instances"), lower (codes "term") ∷ t.tokens, refl, (t.tokens, t.spelled, refl), refl);
-      nested = subst (λ d. d ≤ 512) (sym (word_nesting (codes "instances") (lower (codes "term") ∷ t.tokens) ∙ word_nesting (codes "term") t.tokens)) t.nested;
-    }
-means_query line after rest kind.Lit (term_pattern u) n m o t = absurd o
-means_query line after rest kind.Term (literal_pattern l) n m o t = absurd o
+-- the only command that such tokens can be
+query_only : (c : Command) (ts : List Token) → IsCommand c (lower (codes "instances") ∷ ts) → (p : Pattern) × IsQuery p ts
+query_only (add d) ts h = absurd (add_is_not_instances (sym (ap head h.2)))
+query_only (query Instances p) ts h = (p, subst (IsQuery p) (sym (ap others h.4)) h.3)
+query_only (query Variants p) ts h = absurd h.2
+query_only (query Generalizations p) ts h = absurd h.2
+query_only (query Unifiable p) ts h = absurd h.2
 
--- a query behind the word: the word of its kind, and the pattern
-pub record Asks (after : Bytes) (q : Pattern) : Type 0 where
+instances_own : (ts : List Token) → AddForeign (lower (codes "instances") ∷ ts) → ⊥
+instances_own ts f = add_is_not_instances (sym f.0)
+
+-- a query is the word of its kind, and the pattern
+pub record Asks (p : Pattern) (t : Token) (ts : List Token) : Type 0 where
   pub kind : PatternKind
-  pub rest : Bytes
-  pub word : NextToken after (lower (kind_word kind)) rest
-  pub of_kind : IsOfKind kind q
-  pub text : IsPatternText q rest
+  pub word : t ≡ lower (kind_word kind)
+  pub of_kind : IsOfKind kind p
+  pub spelled : IsPattern p ts
 
-asks_tokens : (after rest : Bytes) (q : Pattern) (ts : List Token) → Begins after ts rest → IsQuery q ts → nesting ts ≤ 512 → AreBlanks rest → Asks after q
-asks_tokens after rest (literal_pattern l) ts g s n e =
-    let us = s.0 in
-    let h : Begins after (lower (codes "lit") ∷ us) rest = subst (λ vs. Begins after vs rest) s.2 g in
-    record {
-      kind = kind.Lit;
-      rest = h.0;
-      word = h.1;
-      of_kind = tt;
-      text = record { tokens = us; consists = record { rest = rest; begins = h.2; blanks = e }; spelled = s.1; nested = subst (λ d. d ≤ 512) (ap nesting s.2 ∙ word_nesting (codes "lit") us) n };
-    }
-asks_tokens after rest (term_pattern t) ts g s n e =
-    let us = s.0 in
-    let h : Begins after (lower (codes "term") ∷ us) rest = subst (λ vs. Begins after vs rest) s.2 g in
-    record {
-      kind = kind.Term;
-      rest = h.0;
-      word = h.1;
-      of_kind = tt;
-      text = record { tokens = us; consists = record { rest = rest; begins = h.2; blanks = e }; spelled = s.1; nested = subst (λ d. d ≤ 512) (ap nesting s.2 ∙ word_nesting (codes "term") us) n };
-    }
+asks : (p : Pattern) (t : Token) (ts : List Token) → IsQuery p (t ∷ ts) → Asks p t ts
+asks (literal_pattern l) t ts h = record { kind = kind.Lit; word = ap head h.2; of_kind = tt; spelled = subst (IsLiteral l) (sym (ap others h.2)) h.1 }
+asks (term_pattern u) t ts h = record { kind = kind.Term; word = ap head h.2; of_kind = tt; spelled = subst (IsTerm u) (sym (ap others h.2)) h.1 }
 
--- the only command that such a line can be
-pub means_instances : (line after : Bytes) → IsPlain line → NextToken line (lower (codes "instances")) after → (c : Command) → Means c line → (q : Pattern) × Asks after q
-means_instances line after p n (query Instances q) m = (q, by m.tokens m.consists.begins m.spelled m.nested) where
-  by : (ts : List Token) → Begins line ts m.consists.rest → IsCommand (query Instances q) ts → nesting ts ≤ 512 → Asks after q
-  by ts g s k =
-      let us = s.1 in
-      let h : Begins line (s.0 ∷ us) m.consists.rest = subst (λ vs. Begins line vs m.consists.rest) s.4 g in
-      let same = same_rest line s.0 (lower (codes "instances")) h.0 after p h.1 n in
-      let word : nesting (s.0 ∷ us) ≡ nesting us = ap (λ t. nesting (t ∷ us)) s.2 ∙ word_nesting (codes "instances") us in
-      asks_tokens after m.consists.rest q us (subst (λ b. Begins b us m.consists.rest) same h.2) s.3 (subst (λ d. d ≤ 512) (ap nesting s.4 ∙ word) k) m.consists.blanks
-means_instances line after p n (add d) m = absurd (by m.tokens m.consists.begins m.spelled) where
-  by : (ts : List Token) → Begins line ts m.consists.rest → IsCommand (add d) ts → ⊥
-  by ts g s =
-      let h : Begins line (lower (codes "add") ∷ s.0) m.consists.rest = subst (λ vs. Begins line vs m.consists.rest) s.2 g in
-      add_is_not_instances (same_token line (lower (codes "add")) (lower (codes "instances")) h.0 after p h.1 n)
-means_instances line after p n (query Variants q) m = absurd m.spelled.2
-means_instances line after p n (query Generalizations q) m = absurd m.spelled.2
-means_instances line after p n (query Unifiable q) m = absurd m.spelled.2
+asks_query : (k : PatternKind) (p : Pattern) (t : Token) (ts : List Token) → t ≡ lower (kind_word k) → IsOfKind k p → IsPattern p ts → IsQuery p (t ∷ ts)
+asks_query kind.Lit (literal_pattern l) t ts e o h = (ts, h, ap (λ x. x ∷ ts) e)
+asks_query kind.Term (term_pattern u) t ts e o h = (ts, h, ap (λ x. x ∷ ts) e)
+asks_query kind.Lit (term_pattern u) t ts e o h = absurd o
+asks_query kind.Term (literal_pattern l) t ts e o h = absurd o
 
--- where another token stands than the word of a kind, there is no query
-pub asks_word : (after : Bytes) (q : Pattern) → Asks after q → (k : PatternKind) × (rest : Bytes) × NextToken after (lower (kind_word k)) rest
-asks_word after q a = (a.kind, a.rest, a.word)
+-- one word is the word of one kind
+same_kind : (k j : PatternKind) (t : Token) → t ≡ lower (kind_word k) → t ≡ lower (kind_word j) → k ≡ j
+same_kind kind.Lit kind.Lit t e f = refl
+same_kind kind.Term kind.Term t e f = refl
+same_kind kind.Lit kind.Term t e f = absurd (kinds_differ (sym e ∙ f))
+same_kind kind.Term kind.Lit t e f = absurd (kinds_differ (sym f ∙ e))
 
-kinds_differ : lower (kind_word kind.Lit) ≡ lower (kind_word kind.Term) → ⊥
-kinds_differ = different (codes "lit") (codes "term") (λ e. absurd (omega arith))
+nothing_asked : (p : Pattern) → IsQuery p [] → ⊥
+nothing_asked (literal_pattern l) h = let e = h.2 in cc
+nothing_asked (term_pattern t) h = let e = h.2 in cc
 
--- behind the word of a kind stands a pattern of this kind
-pub asks_kind : (after rest : Bytes) (k : PatternKind) (q : Pattern) → IsPlain after → NextToken after (lower (kind_word k)) rest → Asks after q → IsOfKind k q × IsPatternText q rest
-asks_kind after rest k q p n a = by k a.kind n a.word a.of_kind where
-  same : a.rest ≡ rest
-  same = same_rest after (lower (kind_word a.kind)) (lower (kind_word k)) a.rest rest p a.word n
+-- nothing stands behind the word
+pub query_empty : (tokens : List Token) (stop : Stop) → tokens ≡ [] → Commands (lower (codes "instances") ∷ tokens) stop command.Wrong
+query_empty tokens stop none =
+    (begins_instances tokens, instances_own tokens, λ e c h. let q = query_only c tokens h in nothing_asked q.0 (subst (IsQuery q.0) none q.1))
 
-  text : IsPatternText q rest
-  text = subst (IsPatternText q) same a.text
+-- another word than that of a kind does
+pub query_other : (tokens : List Token) (stop : Stop) (t : Token) (ts : List Token) → tokens ≡ t ∷ ts → ((k : PatternKind) → t ≡ lower (kind_word k) → ⊥)
+    → Commands (lower (codes "instances") ∷ tokens) stop command.Wrong
+query_other tokens stop t ts front other =
+    (begins_instances tokens, instances_own tokens, λ e c h. let q = query_only c tokens h in let a = asks q.0 t ts (subst (IsQuery q.0) front q.1) in other a.kind a.word)
 
-  by : (k j : PatternKind) → NextToken after (lower (kind_word k)) rest → NextToken after (lower (kind_word j)) a.rest → IsOfKind j q → IsOfKind k q × IsPatternText q rest
-  by kind.Lit kind.Lit n m o = (o, text)
-  by kind.Term kind.Term n m o = (o, text)
-  by kind.Lit kind.Term n m o = absurd (kinds_differ (same_token after (lower (kind_word kind.Lit)) (lower (kind_word kind.Term)) rest a.rest p n m))
-  by kind.Term kind.Lit n m o = absurd (kinds_differ (same_token after (lower (kind_word kind.Lit)) (lower (kind_word kind.Term)) a.rest rest p m n))
+-- no token stands behind the last
+pub query_bad : (tokens : List Token) (stop : Stop) → (stop ≡ End → ⊥) → Commands (lower (codes "instances") ∷ tokens) stop command.Wrong
+query_bad tokens stop bad = (begins_instances tokens, instances_own tokens, λ e c h. bad e)
 
--- another token than a word of a kind: no query stands there
-pub asks_other : (line : Bytes) (at : ℕ) (t : Token) (rest : Bytes) → IsPlain (drop at line) → NextToken (drop at line) t rest → ((k : PatternKind) → t ≡ lower (kind_word k) → ⊥) → (q : Pattern) → Asks (drop at line) q → ⊥
-asks_other line at t rest p n other q a = other a.kind (same_token (drop at line) t (lower (kind_word a.kind)) rest a.rest p n a.word)
+-- the rest is no pattern of the kind
+pub query_none : (tokens : List Token) (stop : Stop) (t : Token) (ts : List Token) (k : PatternKind) → tokens ≡ t ∷ ts → t ≡ lower (kind_word k) → ReadsWhole ts k None
+    → Commands (lower (codes "instances") ∷ tokens) stop command.Wrong
+query_none tokens stop t ts k front word none = (
+  begins_instances tokens,
+  instances_own tokens,
+  λ e c h.
+      let q = query_only c tokens h in
+      let a = asks q.0 t ts (subst (IsQuery q.0) front q.1) in
+      none q.0 (subst (λ j. IsOfKind j q.0) (same_kind a.kind k t a.word word) a.of_kind) a.spelled,
+)
+
+-- or it is one
+pub query_read : (tokens : List Token) (stop : Stop) (t : Token) (ts : List Token) (k : PatternKind) (p : program_clause_pattern.Pattern) → stop ≡ End → tokens ≡ t ∷ ts → t ≡ lower (kind_word k)
+    → ReadsWhole ts k (Some p) → Commands (lower (codes "instances") ∷ tokens) stop (command.Query p)
+query_read tokens stop t ts k p e front word whole =
+    (e, (lower (codes "instances"), tokens, refl, subst (IsQuery (pattern_of p)) (sym front) (asks_query k (pattern_of p) t ts word whole.of_kind whole.spelled), refl))
+
+-- ---- lines
+-- a plain line is of the first form exactly where its tokens begin with one of the words
+form_begins : (line : Bytes) (tokens : List program.Token) (stop : Stop) (end : ℕ) → IsLexing line 0 tokens stop end → IsFirstForm line → BeginsCommand (tokens_of tokens)
+form_begins line tokens stop end l f =
+    let k = l.every (lower f.word ∷ []) f.rest (f.rest, f.first, refl) (omega arith) in
+    subst BeginsCommand (sym k.1) (f.word, f.among, refl)
+
+begins_form : (line : Bytes) (tokens : List program.Token) (stop : Stop) (end : ℕ) → IsPlain line → IsLexing line 0 tokens stop end → BeginsCommand (tokens_of tokens) → IsFirstForm line
+begins_form line tokens stop end p l b = by (tokens_of tokens) b l.begins where
+  by : (ts : List Token) → BeginsCommand ts → Begins line ts l.rest → IsFirstForm line
+  by [] b g = absurd b
+  by (t ∷ ts) b g = record { plain = p; word = b.0; rest = g.0; first = subst (λ x. NextToken line x g.0) b.2 g.1; among = b.1 }
+
+-- and adds a formula of another language exactly where they do
+foreign_tokens : (line : Bytes) (tokens : List program.Token) (stop : Stop) (end : ℕ) → IsLexing line 0 tokens stop end → AddsForeign line → AddForeign (tokens_of tokens)
+foreign_tokens line tokens stop end l f =
+    let k = l.every (lower (codes "add") ∷ lower f.0 ∷ left_bracket ∷ []) f.1 f.3 (omega arith) in
+    subst AddForeign (sym k.1) (refl, ((refl, f.2), refl))
+
+foreign_line : (line : Bytes) (tokens : List program.Token) (stop : Stop) (end : ℕ) → IsLexing line 0 tokens stop end → AddForeign (tokens_of tokens) → AddsForeign line
+foreign_line line tokens stop end l f = by (tokens_of tokens) f l.begins where
+  by : (ts : List Token) → AddForeign ts → Begins line ts l.rest → AddsForeign line
+  by [] f g = absurd f
+  by (t ∷ ts) f g =
+      let w = foreign_front ts f.1 in
+      let front : t ∷ ts ≡ (lower (codes "add") ∷ lower w.0 ∷ left_bracket ∷ []) ++ w.1 = ap₂ (λ x xs. x ∷ xs) f.0 w.3 in
+      let s = begins_split (lower (codes "add") ∷ lower w.0 ∷ left_bracket ∷ []) w.1 line l.rest (subst (λ ts. Begins line ts l.rest) front g) in
+      (w.0, s.0, w.2, s.1)
+
+-- the whole line means what its tokens are
+tokens_mean : (line : Bytes) (tokens : List program.Token) (stop : Stop) (end : ℕ) (c : Command) → IsLexing line 0 tokens stop end → stop ≡ End → IsCommand c (tokens_of tokens) → Means c line
+tokens_mean line tokens stop end c l e h =
+    record { tokens = tokens_of tokens; consists = record { rest = l.rest; begins = l.begins; blanks = l.blanks e }; spelled = h; nested = l.nested }
+
+line_means : (line : Bytes) (tokens : List program.Token) (stop : Stop) (end : ℕ) (c : Command) → IsLexing line 0 tokens stop end → Means c line → (stop ≡ End) × IsCommand c (tokens_of tokens)
+line_means line tokens stop end c l m = let k = l.whole m.tokens m.consists m.nested in (k.0, subst (IsCommand c) (sym k.1) m.spelled)
+
+-- tokens that are a command begin with its word, and add no formula of another language
+command_begins : (c : Command) (ts : List Token) → IsCommand c ts → BeginsCommand ts × (AddForeign ts → ⊥)
+command_begins (add d) ts h = subst (λ us. BeginsCommand us × (AddForeign us → ⊥)) (sym h.2) (begins_add h.0, λ f. let s = h.1 in cnf_not_foreign h.0 _ s.6 f.1)
+command_begins (query Instances p) ts h =
+    let front : ts ≡ lower (codes "instances") ∷ h.1 = h.4 ∙ ap (λ t. t ∷ h.1) h.2 in
+    subst (λ us. BeginsCommand us × (AddForeign us → ⊥)) (sym front) (begins_instances h.1, instances_own h.1)
+command_begins (query Variants p) ts h = absurd h.2
+command_begins (query Generalizations p) ts h = absurd h.2
+command_begins (query Unifiable p) ts h = absurd h.2
+
+-- what the tokens of a plain line are, the line is
+pub line_read : (line : Bytes) (tokens : List program.Token) (stop : Stop) (end : ℕ) (c : read.Command) → IsPlain line → IsLexing line 0 tokens stop end → Commands (tokens_of tokens) stop c → Reads line c
+line_read line tokens stop end command.Later p l (inl h) = inl (λ f. h (form_begins line tokens stop end l f))
+line_read line tokens stop end command.Later p l (inr f) = inr (begins_form line tokens stop end p l (by (tokens_of tokens) f), foreign_line line tokens stop end l f) where
+  by : (ts : List Token) → AddForeign ts → BeginsCommand ts
+  by [] f = absurd f
+  by (t ∷ ts) f = (codes "add", inl refl, f.0)
+line_read line tokens stop end command.Wrong p l h = (
+  record { form = begins_form line tokens stop end p l h.0; own = λ f. h.1 (foreign_tokens line tokens stop end l f) },
+  λ c m. let k = line_means line tokens stop end c l m in h.2 k.0 c k.1,
+)
+line_read line tokens stop end (command.Add x) p l h =
+    let b = command_begins (add (clause_of x)) (tokens_of tokens) h.1 in (
+      record { form = begins_form line tokens stop end p l b.0; own = λ f. b.1 (foreign_tokens line tokens stop end l f) },
+      tokens_mean line tokens stop end (add (clause_of x)) l h.0 h.1,
+      h.2,
+    )
+line_read line tokens stop end (command.Query x) p l h =
+    let b = command_begins (query Instances (pattern_of x)) (tokens_of tokens) h.1 in (
+      record { form = begins_form line tokens stop end p l b.0; own = λ f. b.1 (foreign_tokens line tokens stop end l f) },
+      tokens_mean line tokens stop end (query Instances (pattern_of x)) l h.0 h.1,
+    )
+
+-- a line that is not plain is not of the first form
+pub unplain_unbuilt : (line : Bytes) → (IsPlain line → ⊥) → IsUnbuilt line
+unplain_unbuilt line n = inl (λ f. n f.plain)
 
 -- a test that failed
 pub not_true : (b : Bool) (P : Type 0) → IsTrue b ↔ P → b ≡ false → P → ⊥

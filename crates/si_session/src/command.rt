@@ -1,19 +1,20 @@
 // Command lines.
-ghost use Rattle.std.specs.Prelude.{◌≡◌, ◌≤◌, ◌↔◌, IsTrue, IfSome, IfNone, length, drop, IfOk, codes, false};
-ghost use Rattle.si_defs.specs.Tokens.{NextToken, lower};
-ghost use Rattle.si_defs.specs.Steps.{IsPlain, is_plain_behind, is_plain_byte};
-ghost use Rattle.si_defs.specs.Bytes.{is_word_byte, is_white};
+ghost use Rattle.std.specs.Prelude.{◌≡◌, ◌≤◌, ◌↔◌, ◌∷◌, IsTrue, IfSome, IfNone, length, IfOk, codes};
 ghost use Rattle.std.specs.List.{list_all};
-ghost use Rattle.si_session.specs.Commands.{Reads, AsksKind, kind_word};
-ghost use Rattle.si_parse.specs.Lexing.{IsNextToken};
-ghost use Rattle.si_parse.specs.Tokens.{token_of};
+ghost use Rattle.si_defs.specs.Bytes.{is_white};
+ghost use Rattle.si_defs.specs.Tokens.{lower};
+ghost use Rattle.si_parse.specs.Lexing.{most_bytes};
+ghost use Rattle.si_parse.specs.Parsing.{ArePlain};
+ghost use Rattle.si_parse.specs.Tokens.{token_of, tokens_of};
 ghost use Rattle.si_parse.specs.declared.pattern.PatternKind.{PatternKind};
+ghost use Rattle.si_session.specs.Commands.{Commands, Reads, kind_word};
 
 use si_defs::TokenKind;
-use si_parse::Token;
-use si_parse::item::{Read, next_item};
-use si_parse::lex::{Lexed, next_token};
-use si_parse::pattern::{PatternKind, read_pattern};
+use si_parse::grammar::clause;
+use si_parse::item::is_foreign;
+use si_parse::lex::lex_line;
+use si_parse::pattern::{PatternKind, whole_pattern};
+use si_parse::{Stop, Token};
 use si_term::{Clause, Pattern};
 use std::alloc::{AllocError, Global};
 
@@ -32,31 +33,29 @@ pub enum Command {
 
 /// The command that a line is. The line isn't white space alone.
 pub fn read_command(alloc: Global, line: &[u8]) -> Result<Command, AllocError>
-    requires { length line.now ≤ 536870912 }
+    requires { length line.now ≤ most_bytes }
     ensures { IfOk result (Reads line.now) }
 {
-    if !is_plain(line) {
+    let Some(lexing) = lex_line(alloc, line)? else {
         return Ok(Command::Later);
-    }
-    match next_token(alloc, line, 0)? {
-        Lexed::Token(word) => word_command(alloc, line, &word),
-        Lexed::End => Ok(Command::Later),
-        Lexed::Bad(_) => Ok(Command::Later),
-    }
+    };
+    command_of(alloc, lexing.tokens.as_slice(), lexing.stop)
 }
 
-/// The command that begins with a word.
-fn word_command(alloc: Global, line: &[u8], word: &Token) -> Result<Command, AllocError>
-    requires short { length line.now ≤ 536870912 }
-    requires plain { IsPlain line.now }
-    requires word { IsNextToken line.now 0 word.now }
-    ensures { IfOk result (Reads line.now) }
+/// The command that the tokens of a plain line are, by what stands behind them.
+fn command_of(alloc: Global, tokens: &[Token], stop: Stop) -> Result<Command, AllocError>
+    requires plain { ArePlain tokens.now }
+    requires few { length tokens.now ≤ most_bytes }
+    ensures { IfOk result (Commands (tokens_of tokens.now) stop) }
 {
+    let Some((word, rest)) = tokens.split_first() else {
+        return Ok(Command::Later);
+    };
     if is_lower(word, b"add") {
-        return add_command(alloc, line, word.end);
+        return add_command(alloc, rest, stop);
     }
     if is_lower(word, b"instances") {
-        return query_command(alloc, line, word.end);
+        return query_command(alloc, rest, stop);
     }
     Ok(Command::Later)
 }
@@ -68,40 +67,41 @@ fn is_lower(token: &Token, word: &[u8]) -> bool
     token.kind == TokenKind::Lower && token.text.as_bytes() == word
 }
 
-/// The command behind the word `add`.
-fn add_command(alloc: Global, line: &[u8], at: usize) -> Result<Command, AllocError>
-    requires short { length line.now ≤ 536870912 }
-    requires within { at ≤ length line.now }
-    requires plain { IsPlain line.now }
-    requires word { NextToken line.now (lower (codes "add")) (drop at line.now) }
-    ensures { IfOk result (Reads line.now) }
+/// The command that the word `add` begins, by the tokens behind it.
+fn add_command(alloc: Global, tokens: &[Token], stop: Stop) -> Result<Command, AllocError>
+    requires plain { ArePlain tokens.now }
+    requires few { length tokens.now ≤ most_bytes }
+    ensures { IfOk result (Commands (lower (codes "add") ∷ tokens_of tokens.now) stop) }
 {
-    match next_item(alloc, line, at)? {
-        Read::Cnf(clause, end) => match next_token(alloc, line, end)? {
-            Lexed::End => Ok(Command::Add(clause)),
-            _ => Ok(Command::Wrong),
+    match clause(alloc, tokens)? {
+        Some((clause, rest)) if rest.is_empty() => match stop {
+            Stop::End => Ok(Command::Add(clause)),
+            Stop::Bad => Ok(Command::Wrong),
         },
-        Read::Language(_) => Ok(Command::Later),
-        Read::Syntax(_) => Ok(Command::Wrong),
-        Read::End => Ok(Command::Wrong),
+        Some(_) => Ok(Command::Wrong),
+        None if is_foreign(tokens) => Ok(Command::Later),
+        None => Ok(Command::Wrong),
     }
 }
 
-/// The command behind the word `instances`.
-fn query_command(alloc: Global, line: &[u8], at: usize) -> Result<Command, AllocError>
-    requires short { length line.now ≤ 536870912 }
-    requires within { at ≤ length line.now }
-    requires plain { IsPlain line.now }
-    requires word { NextToken line.now (lower (codes "instances")) (drop at line.now) }
-    ensures { IfOk result (Reads line.now) }
+/// The command that the word `instances` begins, by the tokens behind it.
+fn query_command(alloc: Global, tokens: &[Token], stop: Stop) -> Result<Command, AllocError>
+    requires plain { ArePlain tokens.now }
+    requires few { length tokens.now ≤ most_bytes }
+    ensures { IfOk result (Commands (lower (codes "instances") ∷ tokens_of tokens.now) stop) }
 {
-    match next_token(alloc, line, at)? {
-        Lexed::Token(word) => match kind_of(&word) {
-            Some(kind) => pattern_command(alloc, line, word.end, kind),
-            None => Ok(Command::Wrong),
-        },
-        Lexed::End => Ok(Command::Wrong),
-        Lexed::Bad(_) => Ok(Command::Wrong),
+    let Some((word, rest)) = tokens.split_first() else {
+        return Ok(Command::Wrong);
+    };
+    let Some(kind) = kind_of(word) else {
+        return Ok(Command::Wrong);
+    };
+    if stop == Stop::Bad {
+        return Ok(Command::Wrong);
+    }
+    match whole_pattern(alloc, rest, kind)? {
+        Some(pattern) => Ok(Command::Query(pattern)),
+        None => Ok(Command::Wrong),
     }
 }
 
@@ -117,64 +117,6 @@ fn kind_of(word: &Token) -> Option<PatternKind>
     } else {
         None
     }
-}
-
-/// The query for the pattern from a place on.
-fn pattern_command(
-    alloc: Global,
-    line: &[u8],
-    at: usize,
-    kind: PatternKind,
-) -> Result<Command, AllocError>
-    requires short { length line.now ≤ 536870912 }
-    requires within { at ≤ length line.now }
-    requires plain { IsPlain line.now }
-    requires words { AsksKind line.now kind (drop at line.now) }
-    ensures { IfOk result (Reads line.now) }
-{
-    match read_pattern(alloc, &line[at..], kind)? {
-        Some(pattern) => Ok(Command::Query(pattern)),
-        None => Ok(Command::Wrong),
-    }
-}
-
-/// Whether a byte may stand in a line of the first form, by whether a word byte stands before it.
-fn is_plain_byte(behind: bool, byte: u8) -> bool
-    ensures { result ≡ is_plain_byte behind byte }
-{
-    byte.is_ascii_lowercase()
-        || byte.is_ascii_uppercase()
-        || byte == b'_'
-        || (behind && byte.is_ascii_digit())
-        || byte == b'('
-        || byte == b')'
-        || byte == b','
-        || byte == b'.'
-        || byte == 9
-        || byte == 12
-        || byte == 13
-        || byte == 32
-}
-
-/// Whether a byte is a letter, a digit or `_`.
-fn is_word_byte(byte: u8) -> bool
-    ensures { result ≡ is_word_byte byte }
-{
-    byte.is_ascii_alphanumeric() || byte == b'_'
-}
-
-/// Whether all bytes are of the first form.
-fn is_plain(bytes: &[u8]) -> bool
-    ensures { result ≡ is_plain_behind false bytes.now }
-{
-    let mut behind = false;
-    for &byte in bytes {
-        if !is_plain_byte(behind, byte) {
-            return false;
-        }
-        behind = is_word_byte(byte);
-    }
-    true
 }
 
 /// Whether all bytes are white space.

@@ -1,5 +1,6 @@
 use Rattle.std.proofs.Common.{sym, ◌∙◌}
-use Rattle.si_parse.proofs.PatternLaws.{term_left, not_empty, same_left}
+use Rattle.si_parse.proofs.PatternLaws.{term_left}
+use Rattle.si_parse.proofs.ParseWhole.{not_empty, same_left}
 use Rattle.si_parse.proofs.pattern.whole_term.Goals as goal
 
 pub returns-in_default : goal.returns-in_default

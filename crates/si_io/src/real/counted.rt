@@ -1,5 +1,5 @@
 // What stands between the adapters and std: each of its calls is one call of the device, and its faults are counted.
-ghost use Rattle.std.specs.Prelude.{◌≡◌, ◌<◌, ◌≤◌, length, IfOk, OnOk, OnErr, IsErr, IsTrue, IsFalse, MatchResult};
+ghost use Rattle.std.specs.Prelude.{◌≡◌, ◌<◌, ◌≤◌, length, is_ok, IfOk, IsErr, IsTrue, IsFalse, MatchResult};
 ghost use Rattle.std.specs.Io.KnownBytes.{Keeps, ReadConsumes, WriteAppends};
 ghost use Rattle.si_io.specs.Counted.{device_of, faults_of, is_flushed};
 ghost use Rattle.si_io.specs.Faults.{CountsErrors, HasCause, raised};
@@ -90,11 +90,11 @@ impl<W: Write> Counted<W> {
     }
 
     pub fn flush(&mut self) -> Result<(), Failed>
+        requires { IsFalse (is_flushed self.old) }
         ensures bytes { Keeps (W.contents (device_of self.old)) (W.contents (device_of self.new)) }
         ensures counts { CountsErrors (faults_of self.old) (faults_of self.new) result }
         ensures cause { HasCause (faults_of self.old) (faults_of self.new) result }
-        ensures flushed { OnOk result (IsTrue (is_flushed self.new)) }
-        ensures still { OnErr result (is_flushed self.new ≡ is_flushed self.old) }
+        ensures flushed { is_flushed self.new ≡ is_ok result }
     {
         let answer = self.device.flush();
         self.count(answer)?;

@@ -1,20 +1,21 @@
-// What stands between the adapters and std: each of its calls is one call of the device, and its faults are counted.
-ghost use Rattle.std.specs.Prelude.{◌≡◌, ◌<◌, ◌≤◌, length, is_ok, IfOk, IsErr, IsTrue, IsFalse, MatchResult};
+// What stands between the adapters and std. It calls the device, counts its faults, and knows what is flushed.
+ghost use Rattle.std.specs.Prelude.{◌≡◌, ◌<◌, ◌≤◌, ◌⊎◌, length, is_ok, IfOk, IsErr, IsTrue, IsFalse, MatchResult};
 ghost use Rattle.std.specs.Io.KnownBytes.{Keeps, ReadConsumes, WriteAppends};
 ghost use Rattle.si_io.specs.Counted.{device_of, faults_of, is_flushed};
-ghost use Rattle.si_io.specs.Faults.{CountsErrors, HasCause, raised};
+ghost use Rattle.si_io.specs.Faults.{CountsErrors, HasCause};
 
 use crate::Failed;
 use std::io;
-use std::io::{Read, Write};
+use std::io::{ErrorKind, Read, Write};
 
-/// A reader or a writer of std, with the count of its faults.
+/// A reader or a writer of std, with the count of its faults, up to the largest `u64`.
 ///
-/// An error is a fault, and so is a write that takes nothing of a slice that isn't empty. The adapters can't get at
-/// the device beside these calls, nor at the count.
+/// An error is a fault, and so is a write that takes nothing of a slice that isn't empty. Outside this file nothing
+/// gets at the device or at the count but by these calls.
 ///
-/// std's traits don't tell how often they were called or refused. So that `read`, `write` and `flush` each make their
-/// one call of the device is in no clause. It is to be read in their first lines, and tests cover it.
+/// std's traits don't tell how often they were called or refused. So no clause says that `read`, `write` and `flush`
+/// each call the device once, and pass on what that call answered. This has to be read in their bodies, of two or
+/// three lines each; tests cover it.
 #[derive(Drop)]
 pub struct Counted<D> {
     device: D,
@@ -36,7 +37,7 @@ impl<D> Counted<D> {
         }
     }
 
-    // Counts an error of the device.
+    // Counts an error.
     fn count<T>(&mut self, answer: io::Result<T>) -> Result<T, Failed>
         ensures same { MatchResult answer (λ value. result ≡ Ok value) (λ _. IsErr result) }
         ensures counts { CountsErrors (faults_of self.old) (faults_of self.new) result }
@@ -46,16 +47,11 @@ impl<D> Counted<D> {
     {
         match answer {
             Ok(value) => Ok(value),
-            Err(_) => Err(self.fail()),
+            Err(_) => {
+                self.faults = self.faults.saturating_add(1);
+                Err(Failed)
+            }
         }
-    }
-
-    fn fail(&mut self) -> Failed
-        ensures raised { self.new ≡ record self.old { faults = raised self.old.faults } }
-        ensures later { self.old.faults ≤ self.new.faults }
-    {
-        self.faults = self.faults.saturating_add(1);
-        Failed
     }
 }
 
@@ -82,13 +78,10 @@ impl<W: Write> Counted<W> {
     {
         let answer = self.device.write(bytes);
         self.flushed = false;
-        let count = self.count(answer)?;
-        if count == 0 && !bytes.is_empty() {
-            return Err(self.fail());
-        }
-        Ok(count)
+        self.count(some_taken(answer, bytes))
     }
 
+    /// A flush is for the writes since the last one, so there has to be such a write.
     pub fn flush(&mut self) -> Result<(), Failed>
         requires { IsFalse (is_flushed self.old) }
         ensures bytes { Keeps (W.contents (device_of self.old)) (W.contents (device_of self.new)) }
@@ -97,8 +90,18 @@ impl<W: Write> Counted<W> {
         ensures flushed { is_flushed self.new ≡ is_ok result }
     {
         let answer = self.device.flush();
-        self.count(answer)?;
-        self.flushed = true;
-        Ok(())
+        self.flushed = answer.is_ok();
+        self.count(answer)
+    }
+}
+
+// What a write answered, where taking nothing of a slice that isn't empty is an error.
+fn some_taken(answer: io::Result<usize>, bytes: &[u8]) -> io::Result<usize>
+    ensures stuck { IfOk result (λ n. 0 < length bytes.now → 0 < n) }
+    ensures same { MatchResult result (λ n. answer ≡ Ok n) (λ _. IsErr answer ⊎ ((answer ≡ Ok 0) × (0 < length bytes.now))) }
+{
+    match answer {
+        Ok(0) if !bytes.is_empty() => Err(io::Error::from(ErrorKind::WriteZero)),
+        answer => answer,
     }
 }

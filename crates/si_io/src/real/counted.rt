@@ -61,6 +61,7 @@ impl<R: Read> Counted<R> {
         ensures bytes { ReadConsumes (R.remaining (device_of self.old)) (R.remaining (device_of self.new)) result into.new }
         ensures counts { CountsErrors (faults_of self.old) (faults_of self.new) result }
         ensures cause { HasCause (faults_of self.old) (faults_of self.new) result }
+        ensures flushed { is_flushed self.new ≡ is_flushed self.old }
     {
         let answer = self.device.read(into);
         self.count(answer)
@@ -81,7 +82,7 @@ impl<W: Write> Counted<W> {
         self.count(some_taken(answer, bytes))
     }
 
-    /// A flush is for the writes since the last one, so there has to be such a write.
+    /// Asked for only behind a write, so that no flush is made for nothing.
     pub fn flush(&mut self) -> Result<(), Failed>
         requires { IsFalse (is_flushed self.old) }
         ensures bytes { Keeps (W.contents (device_of self.old)) (W.contents (device_of self.new)) }

@@ -1,2 +1,3 @@
 pub mod Content
 pub mod Faults
+pub mod Written

@@ -1,4 +1,5 @@
 pub mod Content
+pub mod Counted
 pub mod Faults
 pub mod Memory
 pub mod Plan

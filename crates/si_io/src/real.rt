@@ -1,4 +1,5 @@
 // Devices over std's readers and writers. They tell nothing of content, since nothing is known of the outside.
+mod counted;
 mod sink;
 mod source;
 

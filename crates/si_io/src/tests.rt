@@ -100,6 +100,7 @@ fn a_real_sink_flushes_at_the_end_of_a_line(rt: HostRuntime) {
     assert_eq!(rt; write_all(&mut sink, b"e\nf"), Ok(()));
     assert_eq!(rt; write_all(&mut sink, b"\n"), Ok(()));
     assert_eq!(rt; page.text.as_slice(), b"abcd\ne\nf\n".as_slice());
+    assert_eq!(rt; page.calls, 4);
     assert_eq!(rt; page.flushes, 2);
 }
 
@@ -115,6 +116,7 @@ fn a_real_sink_hands_on_each_failure(rt: HostRuntime) {
     // Full: nothing is taken.
     assert_eq!(rt; write_all(&mut sink, b"i"), Err(Failed));
     assert_eq!(rt; page.text.as_slice(), b"abcd\nefgh\n".as_slice());
+    assert_eq!(rt; page.calls, 6);
     assert_eq!(rt; page.flushes, 2);
 }
 

@@ -1,8 +1,8 @@
-ghost use Rattle.std.specs.Prelude.{◌≡◌, ◌<◌, ◌≤◌, None, length, take, IfOk, OnErr};
+ghost use Rattle.std.specs.Prelude.{◌≡◌, ◌<◌, ◌≤◌, ◌↔◌, None, length, take, IfOk, IsOkAnd, OnErr, IsTrue};
 ghost use Rattle.std.specs.Io.KnownBytes.{Appends};
-ghost use Rattle.si_io.specs.Faults.{HasCause, Rose, raised};
-ghost use Rattle.si_io.specs.Real.{writer_of, writer_faults};
+ghost use Rattle.si_io.specs.Faults.{CountsErrors, HasCause};
 
+use super::counted::Counted;
 use crate::{Failed, Sink};
 use std::io::Write;
 
@@ -10,61 +10,49 @@ const LINE_END: &[u8] = b"\n";
 
 /// A sink over a writer of std, which flushes at the end of a line.
 ///
-/// Each error of the writer is answered as `Failed` and counted, and a writer that takes nothing of a slice that
-/// isn't empty is counted as failing. What the writer was given isn't told: after `Failed` from a flush the bytes
-/// may have gone out.
+/// Each error of the writer is answered as `Failed` and counted, and so is a writer that takes nothing of a slice that
+/// isn't empty. What the writer was given isn't told: after `Failed` from a flush the bytes may have gone out.
 #[derive(Drop)]
 pub struct RealSink<W> {
-    writer: W,
-    faults: u64,
+    writer: Counted<W>,
 }
 
 impl<W: Write> RealSink<W> {
+    ghost use Rattle.si_io.specs.Real.{writer_of, writer_faults, is_writer_flushed};
+
     /// A sink over this writer, which has not failed yet.
     pub fn new(writer: W) -> RealSink<W>
         ensures writer { writer_of result ≡ writer }
         ensures faults { writer_faults result ≡ 0 }
+        ensures flushed { IsTrue (is_writer_flushed result) }
     {
-        RealSink { writer, faults: 0 }
-    }
-
-    fn fail(&mut self) -> Failed
-        ensures writer { writer_of self.new ≡ writer_of self.old }
-        ensures faults { writer_faults self.new ≡ raised (writer_faults self.old) }
-        ensures later { writer_faults self.old ≤ writer_faults self.new }
-    {
-        self.faults = self.faults.saturating_add(1);
-        Failed
+        RealSink {
+            writer: Counted::new(writer),
+        }
     }
 }
 
 impl<W: Write> Sink for RealSink<W> {
+    ghost use Rattle.si_io.specs.Real.{writer_of, writer_faults, is_writer_flushed, EndsLine};
+
     ghost written = { λ sink. None };
 
-    ghost faults = { λ sink. sink.faults };
+    ghost faults = { writer_faults };
 
     /// Writes once, and flushes where all of the bytes were taken and the last one ends a line. Beside what every
     /// sink promises, what is taken goes to the writer, where its content is known, and only errors are counted.
     fn write(&mut self, bytes: &[u8]) -> Result<usize, Failed>
         ensures bound { IfOk result (λ n. n ≤ length bytes.now) }
-        ensures stuck { IfOk result (λ n. n ≡ 0 → 0 < length bytes.now → Rose (writer_faults self.old) (writer_faults self.new)) }
+        ensures stuck { IfOk result (λ n. 0 < length bytes.now → 0 < n) }
         ensures cause { HasCause (writer_faults self.old) (writer_faults self.new) result }
         ensures passed { IfOk result (λ n. Appends (W.contents (writer_of self.old)) (W.contents (writer_of self.new)) (take n bytes.now)) }
-        ensures errors { OnErr result (writer_faults self.new ≡ raised (writer_faults self.old)) }
-        ensures quiet { IfOk result (λ n. 0 < n → writer_faults self.new ≡ writer_faults self.old) }
+        ensures errors { CountsErrors (writer_faults self.old) (writer_faults self.new) result }
+        ensures flushed { IsTrue (is_writer_flushed self.new) ↔ IsOkAnd result (λ n. (n ≡ length bytes.now) × EndsLine bytes.now) }
     {
-        match self.writer.write(bytes) {
-            Ok(count) => {
-                if count == 0 && !bytes.is_empty() {
-                    let _ = self.fail();
-                } else if count == bytes.len() && bytes.ends_with(LINE_END) {
-                    if self.writer.flush().is_err() {
-                        return Err(self.fail());
-                    }
-                }
-                Ok(count)
-            }
-            Err(_) => Err(self.fail()),
+        let count = self.writer.write(bytes)?;
+        if count == bytes.len() && bytes.ends_with(LINE_END) {
+            self.writer.flush()?;
         }
+        Ok(count)
     }
 }

@@ -2,8 +2,8 @@ ghost use Rattle.std.specs.Prelude.{◌≡◌, ◌<◌, ◌≤◌, None, length,
 ghost use Rattle.std.specs.Io.KnownBytes.{ReadConsumes};
 ghost use Rattle.si_io.specs.Content.{Takes, IsAtEnd};
 ghost use Rattle.si_io.specs.Faults.{CountsErrors, HasCause};
-ghost use Rattle.si_io.specs.Real.{reader_of, reader_faults};
 
+use super::counted::Counted;
 use crate::{Failed, Source};
 use std::io::Read;
 
@@ -12,24 +12,29 @@ use std::io::Read;
 /// Each error of the reader is answered as `Failed` and counted. What the reader has left isn't told.
 #[derive(Drop)]
 pub struct RealSource<R> {
-    reader: R,
-    faults: u64,
+    reader: Counted<R>,
 }
 
 impl<R: Read> RealSource<R> {
+    ghost use Rattle.si_io.specs.Real.{reader_of, reader_faults};
+
     /// A source over this reader, which has not failed yet.
     pub fn new(reader: R) -> RealSource<R>
         ensures reader { reader_of result ≡ reader }
         ensures faults { reader_faults result ≡ 0 }
     {
-        RealSource { reader, faults: 0 }
+        RealSource {
+            reader: Counted::new(reader),
+        }
     }
 }
 
 impl<R: Read> Source for RealSource<R> {
+    ghost use Rattle.si_io.specs.Real.{reader_of, reader_faults};
+
     ghost left = { λ source. None };
 
-    ghost faults = { λ source. source.faults };
+    ghost faults = { reader_faults };
 
     /// Reads once. Beside what every source promises, it gives what the reader gave, where that is known, and counts
     /// errors alone.
@@ -39,12 +44,6 @@ impl<R: Read> Source for RealSource<R> {
         ensures passed { ReadConsumes (R.remaining (reader_of self.old)) (R.remaining (reader_of self.new)) result into.new }
         ensures errors { CountsErrors (reader_faults self.old) (reader_faults self.new) result }
     {
-        match self.reader.read(into) {
-            Ok(count) => Ok(count),
-            Err(_) => {
-                self.faults = self.faults.saturating_add(1);
-                Err(Failed)
-            }
-        }
+        self.reader.read(into)
     }
 }

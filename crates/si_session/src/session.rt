@@ -116,7 +116,6 @@ fn answer<K: Sink>(alloc: Global, store: &Store, pattern: &Pattern, sink: &mut K
     ensures later { K.faults sink.old ≤ K.faults sink.new }
     ensures failed { result ≡ SinkFailed → Rose (K.faults sink.old) (K.faults sink.new) }
 {
-    let _total = store.total();
     let mut scratch = Scratch::new(alloc);
     match answer_clauses(pattern, store.as_slice(), &mut scratch, sink) {
         Ok(()) => match put_count(sink, b"end ", scratch.found) {

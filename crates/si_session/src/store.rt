@@ -1,5 +1,5 @@
 // The clauses that are kept, in the order of acceptance.
-ghost use Rattle.std.specs.Prelude.{◌≡◌, [], length, map, IfOk, IfErr, OnErr};
+ghost use Rattle.std.specs.Prelude.{◌≡◌, ◌<◌, ◌^◌, [], length, map, IfOk, IfErr, OnErr};
 ghost use Rattle.std.specs.List.{AllByRecursion};
 ghost use Rattle.si_defs.specs.Clauses.{IsSoundClause};
 ghost use Rattle.si_defs.specs.Entries.{entries, state_entries};
@@ -63,19 +63,13 @@ impl Store {
         }
     }
 
-    /// The clauses in order.
+    /// The clauses in order. A `u64` counts their entries.
     pub fn as_slice(&self) -> &[Clause]
         ensures items { map clause_of result.now ≡ self.now }
         ensures sound { AllByRecursion IsSoundClause self.now }
+        ensures few { length (state_entries self.now) < 2 ^ 64 }
     {
         self.clauses.as_slice()
-    }
-
-    /// The number of their entries.
-    pub fn total(&self) -> u64
-        ensures { result ≡ length (state_entries self.now) }
-    {
-        self.entries
     }
 
     /// Keeps a clause, last, and answers the number of its entries. At an error the list is as before.

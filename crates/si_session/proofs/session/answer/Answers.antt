@@ -13,7 +13,7 @@ use Rattle.si_session.proofs.session.answer.Goals as goal
 
 pub answer_clauses-requires-clause-fits : goal.answer_clauses-requires-clause-fits
 answer_clauses-requires-clause-fits g c =
-    omega (arith, length-clauses_lines (pattern_of c.args.pattern.now) (map clause_of c.as_slice.result.now), ap (λ l. length (state_entries l)) c.as_slice.ensures.items, c.new-scratch.ensures.none, c.total-total.ensures, c.total-total.type_inv)
+    omega (arith, length-clauses_lines (pattern_of c.args.pattern.now) (map clause_of c.as_slice.result.now), ap (λ l. length (state_entries l)) c.as_slice.ensures.items, c.new-scratch.ensures.none, c.as_slice.ensures.few)
 
 pub returns-in-Ok-put_count-clause-acts : goal.returns-in-Ok-put_count-clause-acts
 returns-in-Ok-put_count-clause-acts g c =

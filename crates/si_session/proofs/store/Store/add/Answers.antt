@@ -1,4 +1,4 @@
-use Rattle.std.proofs.Common.{◌≡◌, ◌+◌, ◌++◌, ◌∷◌, [], length, refl, ap, sym, ◌∙◌, map, subst, cond, true, false}
+use Rattle.std.proofs.Common.{◌≡◌, ◌+◌, ◌++◌, ◌∷◌, [], length, refl, ap, sym, ◌∙◌, map, subst, cond, true, false, arith}
 use Rattle.std.specs.Prelude.{bytes_eq}
 use Rattle.std.specs.List.{list_any}
 use Rattle.std.proofs.lemmas.List.{map-append}
@@ -34,6 +34,7 @@ invariant_of-self-2 c =
     subst (λ l. Keeps l (map (λ k. k.items) c.insert.new.self.keys) c.in-Some.entries) (sym clauses) (record {
       keyed = ap (map (λ k. k.items)) keys ∙ keyed_more (λ k. k.items) ks c.in-Ok.key cs (clause_of c.args.clause) c.self.invariant.keyed c.in-Ok.ensures;
       counted = total.1 ∙ ap (λ n. c.self.inside.entries + n) (widened ∙ gained) ∙ ap (λ n. n + length (entries (clause_of c.args.clause))) c.self.invariant.counted ∙ sym (entries_more cs (clause_of c.args.clause));
+      few = omega (arith, total.0, total.1);
       sound = sound_more cs (clause_of c.args.clause) c.self.invariant.sound c.requires;
     })
 

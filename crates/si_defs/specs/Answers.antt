@@ -1,4 +1,5 @@
--- The answer to a pattern: the entries that stand in the relation, in order, each with its canonical list.
+-- The answer to a pattern: the entries that stand in the relation, in order, each with its canonical list (after
+-- MathWebSearch, a query over all subterms; order and text of the lines are this project's profile).
 use Rattle.std.specs.Prelude.{◌≡◌, Bool, false, ◌⊎◌, List, [], ◌∷◌, ◌++◌, bytes_eq, codes}
 use Rattle.si_defs.specs.Bytes.{Bytes}
 use Rattle.si_defs.specs.Terms as terms

@@ -36,12 +36,19 @@ pub record AllowsLimits (limits : Limits) : Type 0 where
   pub entries : limits.entries ≤ most_occurrences
 
 -- ---- which lines are read
+-- the marks of plain text
+abbrev pub is_plain_mark : ℕ → Bool
+is_plain_mark c = list_any (λ m. m == c) (codes "(),.")
+
+-- white space of plain text
+abbrev pub is_plain_white : ℕ → Bool
+is_plain_white c = is_white c && not (c == 10)
+
 -- Letters, digits, `_`, the marks `(`, `)`, `,`, `.` and white space but for the line feed. A digit stands directly
 -- behind a letter, a digit or `_`; `behind` says whether the byte before these is one.
 abbrev pub is_plain_byte : Bool → ℕ → Bool
 is_plain_byte behind c =
-    is_small_letter c || is_capital_letter c || c == 95 || (behind && is_digit c)
-    || list_any (λ m. m == c) (codes "(),.") || (is_white c && not (c == 10))
+    is_small_letter c || is_capital_letter c || c == 95 || (behind && is_digit c) || is_plain_mark c || is_plain_white c
 
 abbrev pub is_plain_behind : Bool → Bytes → Bool
 is_plain_behind behind [] = true

@@ -5,9 +5,8 @@ use Rattle.std.proofs.lemmas.Bool.{and_parts, false≢true}
 use Rattle.std.proofs.lemmas.Bool.Decides.{nat_tests}
 use Rattle.si_defs.specs.Bytes.{Bytes, is_word_byte, is_white}
 use Rattle.si_defs.specs.Tokens.{IsBlank, white, line_comment, block_comment, joined, Skips, AreBlanks, IsLineComment}
-use Rattle.si_defs.specs.Steps.{is_plain_byte, is_plain_behind, IsPlain}
+use Rattle.si_defs.specs.Steps.{is_plain_byte, is_plain_behind, IsPlain, is_plain_white}
 use Rattle.si_defs.specs.Texts.{IsPlace}
-use Rattle.si_parse.specs.Lexing.{is_plain_white}
 use Rattle.si_parse.proofs.LexRuns.{front, behind, front-append-behind, list_all-front, length-behind}
 
 -- what stands behind blanks of plain text

@@ -6,11 +6,11 @@ use Rattle.std.proofs.lemmas.List.Folds.{drop_split}
 use Rattle.si_defs.specs.Bytes.{Bytes, is_white}
 use Rattle.si_defs.specs.Tokens as defs
 use Rattle.si_defs.specs.Tokens.{TokenAt, NextToken, Skips, AreBlanks}
-use Rattle.si_defs.specs.Steps.{IsPlain}
+use Rattle.si_defs.specs.Steps.{IsPlain, is_plain_white}
 use Rattle.si_defs.specs.Texts.{IsPlace}
 use Rattle.si_defs.specs.declared.TokenKind.{TokenKind}
 use Rattle.si_parse.specs.Tokens.{IsPlainToken}
-use Rattle.si_parse.specs.Lexing.{is_plain_white, kind_of, tails, IsNextToken, IsNextEnd, IsNextBad, IsPlainUpTo}
+use Rattle.si_parse.specs.Lexing.{kind_of, tails, IsNextToken, IsNextEnd, IsNextBad, IsPlainUpTo, TokenStands}
 use Rattle.si_parse.proofs.LexRuns.{front, behind, front-append-behind, drop-prefix_len}
 use Rattle.si_parse.proofs.LexBlanks.{skips_white, white_are_blanks, blanks_are_white, white_place, plain_place, white_run, plain_before_white}
 use Rattle.si_parse.proofs.LexWords.{token_at, found_token, found_none, blanks_none, next_unique, next_plain, token_at_plain, plain_before_token}
@@ -91,6 +91,14 @@ next_token_is bytes at start end kind text p e l k f m t =
       only = λ v rest n. next_unique (drop at bytes) v u rest (drop end bytes) p n next;
       more = no_blanks bytes at start p e l;
     }
+
+-- so a token stands there, whether or not there is memory for its text
+pub token_stands : (bytes : Bytes) (at start end : ℕ) (kind : TokenKind) → IsPlain (drop at bytes)
+    → start ≡ at + prefix_len is_white (drop at bytes) → start < length bytes → kind_of (get_or bytes start 0) ≡ Some kind
+    → end ≡ start + 1 + prefix_len (tails kind) (drop (start + 1) bytes) → end ≤ length bytes → TokenStands bytes at
+token_stands bytes at start end kind p e l k f m =
+    let n = next_token_is bytes at start end kind (slice_range bytes start end) p e l k f m refl in
+    (record { kind = kind; text = slice_range bytes start end }, drop end bytes, record { place = drop start bytes; skips = n.behind.skips; stands = n.stands })
 
 -- ---- of any bytes
 -- the bytes from a place on are plain where those behind the skipped white space are

@@ -5,10 +5,10 @@ use Rattle.std.proofs.lemmas.Bool.{and_parts, or_cases, false≢true, not-true, 
 use Rattle.std.proofs.lemmas.Bool.Decides.{nat_tests}
 use Rattle.si_defs.specs.Bytes.{Bytes, is_small_letter, is_capital_letter, is_digit, is_word_byte, is_white, is_lower_word, is_upper_word, is_dollar_word, is_integer, is_decimal}
 use Rattle.si_defs.specs.Tokens.{Spells, Token, TokenAt, NextToken, AreBlanks, opens_comment}
-use Rattle.si_defs.specs.Steps.{is_plain_byte, is_plain_behind, IsPlain}
+use Rattle.si_defs.specs.Steps.{is_plain_byte, is_plain_behind, IsPlain, is_plain_mark}
 use Rattle.si_defs.specs.declared.TokenKind.{TokenKind}
 use Rattle.si_defs.specs.declared.TokenKind.TheVariants.{Lower, Upper, Dollar, Int, Single, Double, NotEqual, Mark}
-use Rattle.si_parse.specs.Lexing.{kind_of, tails, is_plain_mark}
+use Rattle.si_parse.specs.Lexing.{kind_of, tails}
 use Rattle.si_parse.specs.Tokens.{IsPlainToken}
 use Rattle.si_parse.proofs.LexRuns.{front, behind, front-append-behind, list_all-front, behind_stops, behind_self, length-le-front, front_is}
 use Rattle.si_parse.proofs.LexBytes.{marks, of_listed, not_plain, plain_mark_is_mark, all_none, spelling_is, decimal_digit}

@@ -1,3 +1,4 @@
+pub mod Results
 pub mod LexRuns
 pub mod LexBytes
 pub mod LexBlanks

@@ -1,12 +1,12 @@
 -- What the lexer gives: the next token of plain text, the longest list of tokens, and whether a line is plain.
-use Rattle.std.specs.Prelude.{◌≡◌, ℕ, ◌<◌, ◌≤◌, Bool, false, cond, not, ◌&&◌, ◌==◌, Option, Some, None, List, [], ◌∷◌, ◌++◌, length, drop, codes}
-use Rattle.std.specs.List.{list_any, AllByRecursion}
-use Rattle.si_defs.specs.Bytes.{Bytes, is_small_letter, is_capital_letter, is_word_byte, is_white}
+use Rattle.std.specs.Prelude.{◌≡◌, ℕ, ◌<◌, ◌≤◌, Bool, false, cond, Option, Some, None, List, [], ◌∷◌, ◌++◌, length, drop}
+use Rattle.std.specs.List.{AllByRecursion}
+use Rattle.si_defs.specs.Bytes.{Bytes, is_small_letter, is_capital_letter, is_word_byte}
 use Rattle.si_defs.specs.Tokens as defs
 use Rattle.si_defs.specs.Tokens.{Begins, Consists, AreBlanks, Skips, TokenAt, NextToken}
 use Rattle.si_defs.specs.Grammar.{nesting}
 use Rattle.si_defs.specs.Texts.{deepest_nesting, IsPlace}
-use Rattle.si_defs.specs.Steps.{IsPlain}
+use Rattle.si_defs.specs.Steps.{IsPlain, is_plain_mark}
 use Rattle.si_defs.specs.declared.TokenKind.{TokenKind}
 use Rattle.si_defs.specs.declared.TokenKind.TheVariants.{Lower, Upper, Mark}
 use Rattle.si_parse.specs.Tokens.{token_of, tokens_of, IsPlainToken, ArePlain}
@@ -22,14 +22,6 @@ abbrev pub most_bytes : ℕ
 most_bytes = 536870913
 
 -- ---- one token
--- white space of plain text
-abbrev pub is_plain_white : ℕ → Bool
-is_plain_white c = is_white c && not (c == 10)
-
--- the marks of plain text
-abbrev pub is_plain_mark : ℕ → Bool
-is_plain_mark c = list_any (λ m. m == c) (codes "(),.")
-
 -- the kind of the token that this byte begins in plain text; none where no token begins with it
 abbrev pub kind_of : ℕ → Option TokenKind
 kind_of c = cond (is_small_letter c) (Some Lower) (cond (is_capital_letter c) (Some Upper) (cond (is_plain_mark c) (Some Mark) None))
@@ -72,6 +64,10 @@ IsNext bytes at (lexed.Token t) = IsNextToken bytes at t
 IsNext bytes at lexed.End = IsNextEnd bytes at
 IsNext bytes at (lexed.Bad place) = IsNextBad bytes at place
 
+-- a token stands behind the blanks
+abbrev pub TokenStands : Bytes → ℕ → Type 0
+TokenStands bytes at = (u : defs.Token) × (rest : Bytes) × NextToken (drop at bytes) u rest
+
 -- What was read from a place up to an end of any bytes is plain: they are so if those behind the end are.
 pub record IsPlainUpTo (bytes : Bytes) (at end : ℕ) : Type 0 where
   pub within : end ≤ length bytes
@@ -101,7 +97,7 @@ StartsWith bytes at [] End end = IsNextEnd bytes at
 StartsWith bytes at [] Bad end = IsNextBad bytes at end
 
 -- The tokens from a place of plain text on, up to the first place where none stands or where brackets nest too deep.
--- They end at `end`: behind the blanks, where no token stands.
+-- What stands behind `end` was not read. Without any token, `end` is where none stands.
 pub record IsLexing (bytes : Bytes) (at : ℕ) (tokens : List Token) (stop : Stop) (end : ℕ) : Type 0 where
   -- what stands behind the last token
   pub rest : Bytes

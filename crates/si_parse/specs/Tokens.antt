@@ -1,7 +1,8 @@
 -- What a token of the program stands for.
-use Rattle.std.specs.Prelude.{◌≡◌, ◌⊎◌, ℕ, List, [], ◌∷◌, map, IsTrue, ◌==◌, codes}
-use Rattle.std.specs.List.{list_any, AllByRecursion}
+use Rattle.std.specs.Prelude.{◌≡◌, ◌⊎◌, ℕ, List, [], ◌∷◌, map, IsTrue}
+use Rattle.std.specs.List.{AllByRecursion}
 use Rattle.si_defs.specs.Tokens as defs
+use Rattle.si_defs.specs.Steps.{is_plain_mark}
 use Rattle.si_defs.specs.declared.TokenKind.TheVariants.{Lower, Upper, Mark}
 use Rattle.si_parse.specs.declared.token.Token.{Token}
 
@@ -15,7 +16,7 @@ tokens_of ts = map token_of ts
 abbrev pub IsPlainToken : defs.Token → Type 0
 IsPlainToken t =
     (t.kind ≡ Lower) ⊎ ((t.kind ≡ Upper)
-    ⊎ ((t.kind ≡ Mark) × ((c : ℕ) × (t.text ≡ c ∷ []) × IsTrue (list_any (λ m. m == c) (codes "(),.")))))
+    ⊎ ((t.kind ≡ Mark) × ((c : ℕ) × (t.text ≡ c ∷ []) × IsTrue (is_plain_mark c))))
 
 abbrev pub ArePlain : List Token → Type 0
 ArePlain ts = AllByRecursion (λ t. IsPlainToken (token_of t)) ts

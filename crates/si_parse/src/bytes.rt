@@ -1,8 +1,7 @@
 // Classes of bytes, and which texts are plain.
 ghost use Rattle.std.specs.Prelude.{◌≡◌, false};
 ghost use Rattle.si_defs.specs.Bytes as classes;
-ghost use Rattle.si_defs.specs.Steps.{is_plain_behind, is_plain_byte};
-ghost use Rattle.si_parse.specs.Lexing.{is_plain_white};
+ghost use Rattle.si_defs.specs.Steps.{is_plain_behind, is_plain_byte, is_plain_white};
 
 /// White space of plain text, which is all of TPTP's but the line feed.
 pub fn is_plain_white(byte: u8) -> bool

@@ -1,12 +1,12 @@
 // From bytes to tokens.
-ghost use Rattle.std.specs.Prelude.{◌≡◌, ◌≤◌, ◌<◌, ◌+◌, length, drop, IfOk};
+ghost use Rattle.std.specs.Prelude.{◌≡◌, ◌≤◌, ◌<◌, ◌+◌, length, drop, IfOk, OnErr};
 ghost use Rattle.std.specs.List.{prefix_len};
 ghost use Rattle.si_defs.specs.Bytes as classes;
 ghost use Rattle.si_defs.specs.Grammar.{open_behind};
-ghost use Rattle.si_defs.specs.Steps.{IsPlain};
+ghost use Rattle.si_defs.specs.Steps.{IsPlain, is_plain_white};
 ghost use Rattle.si_defs.specs.Texts.{deepest_nesting};
 ghost use Rattle.si_parse.specs.Tokens.{IsPlainToken, token_of};
-ghost use Rattle.si_parse.specs.Lexing.{IsLexing, IsLineRead, IsNext, IsPlainUpTo, ReadsPlain, is_plain_white, kind_of, tails};
+ghost use Rattle.si_parse.specs.Lexing.{IsLexing, IsLineRead, IsNext, IsPlainUpTo, ReadsPlain, TokenStands, kind_of, tails};
 
 use crate::bytes::{is_plain, is_plain_white, is_word_byte};
 use crate::token::{Stop, Token};
@@ -102,11 +102,12 @@ fn token_end(bytes: &[u8], from: usize, kind: TokenKind) -> usize
 ///
 /// # Errors
 ///
-/// `AllocError` where there is no memory for the token's text.
+/// `AllocError` where a token stands, and there is no memory for its text.
 pub fn next_token(alloc: Global, bytes: &[u8], at: usize) -> Result<Lexed, AllocError>
     requires { at ≤ length bytes.now }
     ensures next { IfOk result (λ lexed. IsPlain (drop at bytes.now) → IsNext bytes.now at lexed) }
     ensures plain { IfOk result (ReadsPlain bytes.now at) }
+    ensures refused { OnErr result (IsPlain (drop at bytes.now) → TokenStands bytes.now at) }
 {
     let start = skip_white(bytes, at);
     if start >= bytes.len() {
@@ -194,7 +195,7 @@ pub fn lex(alloc: Global, bytes: &[u8], at: usize) -> Result<Lexing, AllocError>
 
 /// The tokens of a line, or nothing where the line isn't plain.
 ///
-/// Each byte is looked at once: by the lexer up to where it stops, and behind that place by the test.
+/// It goes over the bytes once: the lexer up to where it stops, and the test of what is plain from there on.
 ///
 /// # Errors
 ///

@@ -1,6 +1,7 @@
 //! Reading: from bytes to items and patterns.
 //!
-//! [`lex`] cuts bytes into tokens, [`grammar`] reads tokens by the grammar, [`item`] and [`pattern`] read texts.
+//! [`lex`] cuts bytes into tokens, [`grammar`] reads tokens by the grammar, [`item`] and [`pattern`] read texts and the
+//! tokens of lines.
 #![tactic(auto)]
 
 mod bytes;

@@ -7,25 +7,15 @@ use Rattle.std.proofs.lemmas.List.{length-map}
 use Rattle.si_defs.specs.Bytes.{Bytes}
 use Rattle.si_defs.specs.Clauses.{Term}
 use Rattle.si_session.specs.Matching.{Bindings, bound}
-use Rattle.si_session.proofs.MatchingLaws.{bytes_eq_true, bytes_eq_same}
-
-pub swapped : (x y : Bytes) → bytes_eq x y ≡ bytes_eq y x
-swapped x y = by (bytes_eq x y) (bytes_eq y x) (λ e. back x y e) (λ e. back y x e) where
-  back : (x y : Bytes) → bytes_eq x y ≡ true → bytes_eq y x ≡ true
-  back x y e = subst (λ z. bytes_eq z x ≡ true) (bytes_eq_true x y e) (bytes_eq_same x)
-
-  by : (a b : Bool) → (a ≡ true → b ≡ true) → (b ≡ true → a ≡ true) → a ≡ b
-  by true b f g = sym (f refl)
-  by false true f g = g refl
-  by false false f g = refl
+use Rattle.si_term.proofs.Gathered.{bytes_eq_swap}
 
 -- the first binding of the variable says what it stands for
 bound-at : (bs : Bindings) (x : Bytes) (i : ℕ) (d : Bytes × Term) → i < length bs → bytes_eq x (get_or bs i d).0 ≡ true
     → ((k : ℕ) → k < i → bytes_eq x (get_or bs k d).0 ≡ false) → bound bs x ≡ Some (get_or bs i d).1
 bound-at [] x i d h e f = absurd (omega arith)
-bound-at (b ∷ bs) x zero d h e f = ap (λ c. cond c (Some b.1) (bound bs x)) (swapped b.0 x ∙ e)
+bound-at (b ∷ bs) x zero d h e f = ap (λ c. cond c (Some b.1) (bound bs x)) (bytes_eq_swap b.0 x ∙ e)
 bound-at (b ∷ bs) x (suc i) d h e f =
-    ap (λ c. cond c (Some b.1) (bound bs x)) (swapped b.0 x ∙ f zero (omega arith))
+    ap (λ c. cond c (Some b.1) (bound bs x)) (bytes_eq_swap b.0 x ∙ f zero (omega arith))
     ∙ bound-at bs x i d (omega arith) e (λ k l. f (suc k) (omega arith))
 
 module _ {K : Type 0} (text : K → Bytes) where
@@ -57,7 +47,7 @@ module _ {K : Type 0} (text : K → Bytes) where
     by true q h f = cc
     by false q h f =
         let first : text k ≡ b.0 = cc in
-        ap (λ c. cond c (Some b.1) (bound bs x)) (swapped b.0 x ∙ ap (bytes_eq x) (sym first) ∙ q) ∙ f h
+        ap (λ c. cond c (Some b.1) (bound bs x)) (bytes_eq_swap b.0 x ∙ ap (bytes_eq x) (sym first) ∙ q) ∙ f h
 
   pub none-listed : (ks : List K) (bs : Bindings) (x : Bytes) → map text ks ≡ map (λ b. b.0) bs → bound bs x ≡ None → list_any (λ l. bytes_eq x (text l)) ks ≡ false
   none-listed [] bs x e h = refl
@@ -69,4 +59,4 @@ module _ {K : Type 0} (text : K → Bytes) where
     by : (c : Bool) → bytes_eq b.0 x ≡ c → cond c (Some b.1) (bound bs x) ≡ None
         → (bound bs x ≡ None → list_any (λ l. bytes_eq x (text l)) ks ≡ false) → (bytes_eq x (text k) || list_any (λ l. bytes_eq x (text l)) ks) ≡ false
     by true q h f = cc
-    by false q h f = ap (λ c. c || list_any (λ l. bytes_eq x (text l)) ks) (ap (bytes_eq x) first ∙ swapped x b.0 ∙ q) ∙ f h
+    by false q h f = ap (λ c. c || list_any (λ l. bytes_eq x (text l)) ks) (ap (bytes_eq x) first ∙ bytes_eq_swap x b.0 ∙ q) ∙ f h

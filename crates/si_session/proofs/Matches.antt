@@ -12,10 +12,11 @@ use Rattle.si_defs.specs.Solutions.{bind, in_sequence, IsCanonical}
 use Rattle.si_defs.specs.Answers.{Variable, of_pattern, of_entry, same_variable, pattern_term, entry_term, Apart}
 use Rattle.si_session.specs.Equality.{term_eq, symbol_eq}
 use Rattle.si_session.specs.Matching.{Bindings, bound, rebound, matched, all_matched, solution_of}
-use Rattle.si_session.proofs.MatchingLaws.{bytes_eq_true, bytes_eq_same, symbol_eq_true, symbol_eq_same, term_eq_true, term_eq_same}
+use Rattle.si_session.proofs.MatchingLaws.{bytes_eq_same, symbol_eq_true, symbol_eq_same, term_eq_true, term_eq_same}
 use Rattle.si_session.proofs.Renaming.{entry_term_injective, variables-rename}
 use Rattle.si_term.specs.Gathered.{knows, gathered}
-use Rattle.si_term.proofs.Gathered.{gathered-firsts}
+use Rattle.si_term.proofs.Gathered.{bytes_eq_true, gathered-firsts, gathered-append}
+use Rattle.si_parse.proofs.ParseWhole.{some_injective}
 use Rattle.si_session.proofs.Firsts.{firsts-of_pattern, firsts_among}
 
 -- ---- options
@@ -26,9 +27,6 @@ and_then_some f None y h = cc
 chosen : {A : Type 0} (b : Bool) (o : Option A) (y : A) → cond b o None ≡ Some y → (b ≡ true) × (o ≡ Some y)
 chosen true o y h = (refl, h)
 chosen false o y h = cc
-
-some_injective : {A : Type 0} (x y : A) → Some x ≡ Some y → x ≡ y
-some_injective x y h = cc
 
 -- ---- what is bound
 -- later bindings keep what is bound
@@ -125,14 +123,6 @@ rebound_lefts bs x u None cs h e =
 rebound_lefts bs x u (Some t) cs h e =
     sym (ap lefts (some_injective _ _ (chosen (term_eq t u) (Some bs) cs e).1))
     ∙ sym (ap (λ b. cond b (lefts bs) (lefts bs ++ x ∷ [])) (knows-lefts bs x (Some t) h))
-
-gathered-append : (known xs ys : List Bytes) → gathered known (xs ++ ys) ≡ gathered (gathered known xs) ys
-gathered-append known [] ys = refl
-gathered-append known (x ∷ xs) ys = by (knows known x) (gathered-append known xs ys) (gathered-append (known ++ x ∷ []) xs ys) where
-  by : (b : Bool) → gathered known (xs ++ ys) ≡ gathered (gathered known xs) ys → gathered (known ++ x ∷ []) (xs ++ ys) ≡ gathered (gathered (known ++ x ∷ []) xs) ys
-      → cond b (gathered known (xs ++ ys)) (gathered (known ++ x ∷ []) (xs ++ ys)) ≡ gathered (cond b (gathered known xs) (gathered (known ++ x ∷ []) xs)) ys
-  by true f g = f
-  by false f g = g
 
 mutual
   matched_lefts : (t : Term) (bs : Bindings) (u : Term) (cs : Bindings) → matched t bs u ≡ Some cs → lefts cs ≡ gathered (lefts bs) (terms.variables t)

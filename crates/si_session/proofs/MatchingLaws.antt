@@ -7,6 +7,7 @@ use Rattle.si_defs.specs.Bytes.{Bytes}
 use Rattle.si_defs.specs.Terms as terms
 use Rattle.si_defs.specs.Symbols.{Symbol}
 use Rattle.si_defs.specs.Clauses.{Term, Terms}
+use Rattle.si_term.proofs.Gathered.{bytes_eq_true}
 use Rattle.si_session.specs.Equality.{kind_eq, side_eq, symbol_eq, term_eq, terms_eq}
 use Rattle.si_defs.specs.declared.SymKind.{SymKind}
 use Rattle.si_defs.specs.declared.SymKind.TheVariants.{Word, Dollar, Number, Distinct, Equal}
@@ -41,9 +42,6 @@ side_eq_true _ _ h = cc
 side_eq_same : (a : Side) → side_eq a a ≡ true
 side_eq_same Predicate = refl
 side_eq_same Function = refl
-
-pub bytes_eq_true : (x y : Bytes) → bytes_eq x y ≡ true → x ≡ y
-bytes_eq_true x y h = (bytes_decides x y).0 h
 
 pub bytes_eq_same : (x : Bytes) → bytes_eq x x ≡ true
 bytes_eq_same x = (bytes_decides x x).1 refl

@@ -12,7 +12,8 @@ use Rattle.si_defs.specs.declared.NameKind.{NameKind}
 use Rattle.si_defs.specs.declared.NameKind.TheVariants.{Word, Int}
 use Rattle.si_term.proofs.Alone.{entries_few}
 use Rattle.si_session.specs.StoreKeys.{kind_byte, key_of}
-use Rattle.si_session.proofs.MatchingLaws.{bytes_eq_true, bytes_eq_same}
+use Rattle.si_session.proofs.MatchingLaws.{bytes_eq_same}
+use Rattle.si_term.proofs.Gathered.{bytes_eq_true}
 
 kinds_apart : (n : ℕ) → 119 ≡ n → n ≡ 105 → ⊥
 kinds_apart n e f = absurd (omega arith)

@@ -34,11 +34,7 @@ wrote_all a b whole rest none w =
     let P : List ℕ → Type 0 = λ l. Appends a l b in
     subst P (sym all) w.given
 
--- what holds at an error, and what follows from what a call ensures at each of its results
-pub on_err : {T E : Type 0} (r : Result T E) {P : Type 0} → P → OnErr r P
-on_err (Ok x) p = tt
-on_err (Err e) p = p
-
+-- what follows from what a call ensures at each of its results
 pub err_so : {T E : Type 0} (r : Result T E) {P Q : Type 0} → (P → Q) → OnErr r P → OnErr r Q
 err_so (Ok x) f p = tt
 err_so (Err e) f p = f p

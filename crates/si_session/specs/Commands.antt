@@ -1,4 +1,4 @@
--- What the reader of command lines gives, for a line that is not too long and not white space alone.
+-- What the reader of command lines gives. (Too long lines and white space alone never come to it.)
 use Rattle.std.specs.Prelude.{◌≡◌, ◌⊎◌, List, [], ◌∷◌, codes}
 use Rattle.si_defs.specs.Bytes.{Bytes}
 use Rattle.si_defs.specs.Clauses.{IsSoundClause}

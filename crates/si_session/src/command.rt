@@ -31,7 +31,7 @@ pub enum Command {
     Query(Pattern),
 }
 
-/// The command that a line is. The line isn't white space alone.
+/// The command that a line is. White space alone is none that is built; a session looks for it before.
 pub fn read_command(alloc: Global, line: &[u8]) -> Result<Command, AllocError>
     requires { length line.now ≤ most_bytes }
     ensures { IfOk result (Reads line.now) }

@@ -10,7 +10,7 @@ use Rattle.si_defs.specs.Bytes.{Bytes}
 use Rattle.si_defs.specs.Terms.{firsts}
 use Rattle.si_term.specs.Gathered.{knows, gathered}
 
-bytes_eq_true : (x y : Bytes) → bytes_eq x y ≡ true → x ≡ y
+pub bytes_eq_true : (x y : Bytes) → bytes_eq x y ≡ true → x ≡ y
 bytes_eq_true x y h = (bytes_eq-Decides x y).0 h
 
 pub knows-append : (xs ys : List Bytes) (z : Bytes) → knows (xs ++ ys) z ≡ (knows xs z || knows ys z)
@@ -93,7 +93,7 @@ gathered-append known (x ∷ xs) ys = by (knows known x) (gathered-append known 
   by false old new = new
 
 -- ---- a set of texts in the order of their first insertion
-bytes_eq_swap : (x y : Bytes) → bytes_eq x y ≡ bytes_eq y x
+pub bytes_eq_swap : (x y : Bytes) → bytes_eq x y ≡ bytes_eq y x
 bytes_eq_swap x y = by (bytes_eq x y) (bytes_eq y x) (λ e. (bytes_eq-Decides y x).1 (sym (bytes_eq_true x y e))) (λ e. (bytes_eq-Decides x y).1 (sym (bytes_eq_true y x e))) where
   by : (a b : Bool) → (a ≡ true → b ≡ true) → (b ≡ true → a ≡ true) → a ≡ b
   by true b f g = sym (f refl)

@@ -9,14 +9,11 @@ use Rattle.std.proofs.lemmas.Bool.Decides.{nat_tests}
 use Rattle.si_defs.specs.Bytes.{Bytes}
 use Rattle.si_defs.specs.Clauses.{Clause}
 use Rattle.si_defs.specs.Steps.{Limits, Reply, Step}
+use Rattle.si_session.proofs.Told.{ended-append}
 use Rattle.stindex.specs.Lines.{IsLineEnd}
 use Rattle.si_defs.specs.Runs.{ended, IsOneLine, Splits, lines_at_end, Run}
 
 -- ---- lines
-pub ended-append : (ls ks : List Bytes) → ended (ls ++ ks) ≡ ended ls ++ ended ks
-ended-append [] ks = refl
-ended-append (l ∷ ls) ks = ap (λ (b : Bytes). l ++ 10 ∷ b) (ended-append ls ks) ∙ sym (append_assoc l (10 ∷ ended ls) (ended ks))
-
 each-append : (ls : List Bytes) (k : Bytes) → AllByRecursion IsOneLine ls → IsOneLine k → AllByRecursion IsOneLine (ls ++ k ∷ [])
 each-append [] k each one = (one, tt)
 each-append (l ∷ ls) k each one = (each.0, each-append ls k each.1 one)

@@ -30,6 +30,14 @@ fn place_of_language(rt: &impl Abort, read: &Read) -> usize {
     place.expect(rt, "a formula")
 }
 
+/// Whether nothing but blanks was read.
+fn is_end(read: &Read) -> bool {
+    match read {
+        Read::End => true,
+        Read::Cnf(..) | Read::Syntax(_) | Read::Language(_) => false,
+    }
+}
+
 #[test]
 fn items(rt: HostRuntime) -> Result<(), Fail> {
     let alloc = rt.alloc();
@@ -37,6 +45,8 @@ fn items(rt: HostRuntime) -> Result<(), Fail> {
     assert_eq!(rt; end_of_clause(&rt, &clause), 21);
     let open = next_item(alloc, b"  cnf(c,axiom,p(X).", 0)?;
     assert_eq!(rt; place_of_fault(&rt, &open), 2);
+    let blank = next_item(alloc, b". \t ", 1)?;
+    assert!(rt; is_end(&blank));
     let other = next_item(alloc, b"a fof(c,axiom,p).", 1)?;
     assert_eq!(rt; place_of_language(&rt, &other), 2);
     Ok(())

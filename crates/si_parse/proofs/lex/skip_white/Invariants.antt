@@ -1,6 +1,6 @@
 use Rattle.std.proofs.Common.{◌≡◌, ◌+◌, drop}
 use Rattle.std.specs.List.{prefix_len}
-use Rattle.si_parse.specs.Lexing.{is_plain_white}
+use Rattle.si_defs.specs.Steps.{is_plain_white}
 use Rattle.si_parse.proofs.lex.skip_white.Given as goal
 
 abbrev pub invariant-loop-i : goal.invariant-loop-i

@@ -6,7 +6,8 @@ use Rattle.si_defs.specs.Printing.{symbol_text, term_text, more_texts}
 use Rattle.si_term.specs.Terms.{symbol_of, term_of}
 use Rattle.si_term.proofs.Rows.{from, size-read, app-term}
 use Rattle.si_session.specs.PrintedParts.{arguments_text}
-use Rattle.si_session.proofs.Writing.{wrote_none, wrote_piece, wrote_part, wrote_all, on_err, err_so, ok_so}
+use Rattle.si_parse.proofs.Results.{on_err}
+use Rattle.si_session.proofs.Writing.{wrote_none, wrote_piece, wrote_part, wrote_all, err_so, ok_so}
 use Rattle.si_session.proofs.Pieces.{app_text, some_arguments, some_more, arguments_split, more_split, sizes_tail}
 use Rattle.si_session.proofs.printing.+put.Goals as goal
 

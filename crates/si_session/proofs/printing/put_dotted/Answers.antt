@@ -1,7 +1,8 @@
 use Rattle.std.proofs.Common.{◌≡◌, ◌+◌, ◌++◌, get_or, drop, ap, sym, ◌∙◌, add-one, drop-cons, arith}
 use Rattle.std.specs.Prelude.{codes, decimal}
 use Rattle.si_session.specs.PrintedParts.{dotted}
-use Rattle.si_session.proofs.Writing.{wrote_piece, wrote_part, on_err}
+use Rattle.si_parse.proofs.Results.{on_err}
+use Rattle.si_session.proofs.Writing.{wrote_piece, wrote_part}
 use Rattle.si_session.proofs.printing.put_dotted.Goals as goal
 
 pub returns-in_err-put_number-clause-part : goal.returns-in_err-put_number-clause-part

@@ -1,7 +1,8 @@
 use Rattle.std.proofs.Common.{◌≡◌, ◌+◌, ◌++◌, get_or, drop, ap, sym, ◌∙◌, add-one, drop-cons, arith}
 use Rattle.std.specs.Prelude.{flat_map}
 use Rattle.si_defs.specs.Tokens.{escaped}
-use Rattle.si_session.proofs.Writing.{wrote_piece, wrote_part, on_err}
+use Rattle.si_parse.proofs.Results.{on_err}
+use Rattle.si_session.proofs.Writing.{wrote_piece, wrote_part}
 use Rattle.si_session.proofs.printing.put_escaped.Goals as goal
 
 pub returns-in_err-put_byte-clause-part : goal.returns-in_err-put_byte-clause-part

@@ -2,7 +2,8 @@ use Rattle.std.proofs.Common.{◌≡◌, ◌-◌, ◌<◌, ◌++◌, [], length,
 use Rattle.std.specs.Prelude.{codes, decimal}
 use Rattle.si_defs.specs.Printing.{path_text}
 use Rattle.si_session.specs.PrintedParts.{dotted}
-use Rattle.si_session.proofs.Writing.{wrote_none, wrote_piece, wrote_part, wrote_all, on_err, err_so, ok_so}
+use Rattle.si_parse.proofs.Results.{on_err}
+use Rattle.si_session.proofs.Writing.{wrote_none, wrote_piece, wrote_part, wrote_all, err_so, ok_so}
 use Rattle.si_session.proofs.Pieces.{tail_is, path_split}
 use Rattle.si_session.proofs.printing.put_path.Goals as goal
 

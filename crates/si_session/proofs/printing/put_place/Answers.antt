@@ -2,7 +2,8 @@ use Rattle.std.proofs.Common.{◌≡◌, ◌++◌, [], ap, sym, refl, ◌∙◌,
 use Rattle.std.specs.Prelude.{codes, decimal}
 use Rattle.si_defs.specs.Printing.{name_text, path_text}
 use Rattle.si_term.specs.Meaning.{name_of}
-use Rattle.si_session.proofs.Writing.{wrote_none, wrote_piece, wrote_part, on_err, err_so}
+use Rattle.si_parse.proofs.Results.{on_err}
+use Rattle.si_session.proofs.Writing.{wrote_none, wrote_piece, wrote_part, err_so}
 use Rattle.si_session.proofs.Pieces.{place_split}
 use Rattle.si_session.proofs.printing.put_place.Goals as goal
 

@@ -1,7 +1,8 @@
 use Rattle.std.proofs.Common.{ℕ, List, [], ◌∷◌, ◌++◌, refl}
 use Rattle.std.specs.Prelude.{flat_map}
 use Rattle.si_defs.specs.Tokens.{escaped, quoted}
-use Rattle.si_session.proofs.Writing.{wrote_none, wrote_piece, wrote_part, on_err, err_so}
+use Rattle.si_parse.proofs.Results.{on_err}
+use Rattle.si_session.proofs.Writing.{wrote_none, wrote_piece, wrote_part, err_so}
 use Rattle.si_session.proofs.printing.put_quoted.Goals as goal
 
 pub returns-in_err-put_escaped-clause-part : goal.returns-in_err-put_escaped-clause-part

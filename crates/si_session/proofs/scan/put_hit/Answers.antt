@@ -10,7 +10,7 @@ use Rattle.si_session.specs.Bound.{bindings_of}
 use Rattle.si_session.specs.Signs.{sign_text, solution_text}
 use Rattle.si_session.specs.declared.sign.Sign.TheVariants.{Space, LineFeed}
 use Rattle.si_session.specs.Scan.{ended_hit_line}
-use Rattle.si_session.proofs.Writing.{on_err}
+use Rattle.si_parse.proofs.Results.{on_err}
 use Rattle.si_session.proofs.scan.put_hit.Goals as goal
 
 -- the second of four parts was broken off

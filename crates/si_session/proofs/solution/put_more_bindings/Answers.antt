@@ -1,5 +1,6 @@
 use Rattle.std.proofs.Common.{arith}
-use Rattle.si_session.proofs.Writing.{on_err, wrote_piece, wrote_part, wrote_all}
+use Rattle.si_parse.proofs.Results.{on_err}
+use Rattle.si_session.proofs.Writing.{wrote_piece, wrote_part, wrote_all}
 use Rattle.si_session.proofs.BindingLaws.{more_bindings-drop, more_bindings-end}
 use Rattle.si_session.proofs.solution.put_more_bindings.Goals as goal
 

@@ -4,7 +4,7 @@ use Rattle.std.specs.List.{AllByRecursion}
 use Rattle.std.proofs.lemmas.List.{map_push, drop_all}
 use Rattle.si_defs.specs.Bytes.{Bytes}
 use Rattle.si_defs.specs.Tokens as defs
-use Rattle.si_defs.specs.Tokens.{TokenAt, NextToken, Skips, AreBlanks, Begins, Consists}
+use Rattle.si_defs.specs.Tokens.{NextToken, AreBlanks, Begins}
 use Rattle.si_defs.specs.Grammar.{Bracket, neither, round, square, opening_of, closing_of, open_behind, nesting_from, nesting}
 use Rattle.si_defs.specs.Steps.{IsPlain}
 use Rattle.si_defs.specs.Texts.{deepest_nesting}

@@ -1,13 +1,12 @@
 -- From tokens to the bytes that they stand in: what was read of the tokens is what the bytes mean.
 use Rattle.std.proofs.Common.{◌≡◌, ℕ, zero, suc, ◌+◌, ◌-◌, ◌<◌, ◌≤◌, List, [], ◌∷◌, ◌++◌, length, drop, refl, ap, sym, ◌∙◌, subst, arith, inl, inr, length-append, length-drop, get_or, add-one}
 use Rattle.std.specs.Prelude.{codes}
-use Rattle.std.specs.Prelude.{Option, Some, None, option_map, IsTrue}
-use Rattle.std.specs.List.{AllByRecursion}
+use Rattle.std.specs.Prelude.{Some, None}
 use Rattle.std.proofs.lemmas.List.{append_cancel_right, length-map}
 use Rattle.si_defs.specs.Bytes.{Bytes}
 use Rattle.si_defs.specs.Clauses.{Clause, IsSoundClause}
 use Rattle.si_defs.specs.Tokens as defs
-use Rattle.si_defs.specs.Tokens.{Spells, TokenAt, NextToken, Skips, AreBlanks, Begins, Consists, joined, lower}
+use Rattle.si_defs.specs.Tokens.{Spells, NextToken, AreBlanks, Begins, joined, lower}
 use Rattle.si_defs.specs.Grammar.{open_behind, nesting_from, nesting, Item, clause_item, include_item, IsClause, left_bracket}
 use Rattle.si_defs.specs.Substitutions.{IsAmong}
 use Rattle.si_defs.specs.Texts.{BeginsWithItem, IsForeign, IsPlace, languages}

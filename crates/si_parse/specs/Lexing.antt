@@ -3,7 +3,7 @@ use Rattle.std.specs.Prelude.{◌≡◌, ℕ, ◌<◌, ◌≤◌, Bool, false, c
 use Rattle.std.specs.List.{AllByRecursion}
 use Rattle.si_defs.specs.Bytes.{Bytes, is_small_letter, is_capital_letter, is_word_byte}
 use Rattle.si_defs.specs.Tokens as defs
-use Rattle.si_defs.specs.Tokens.{Begins, Consists, AreBlanks, Skips, TokenAt, NextToken}
+use Rattle.si_defs.specs.Tokens.{Begins, Consists, AreBlanks, TokenAt, NextToken}
 use Rattle.si_defs.specs.Grammar.{nesting}
 use Rattle.si_defs.specs.Texts.{deepest_nesting, IsPlace}
 use Rattle.si_defs.specs.Steps.{IsPlain, is_plain_mark}

@@ -1,5 +1,5 @@
 -- Matching finds the canonical list of an instance, exactly where there is one.
-use Rattle.std.proofs.Common.{◌≡◌, Bool, true, false, cond, ◌||◌, List, [], ◌∷◌, ◌++◌, map, refl, ap, sym, ◌∙◌, subst}
+use Rattle.std.proofs.Common.{◌≡◌, Bool, true, false, cond, ◌||◌, [], ◌∷◌, ◌++◌, map, refl, ap, sym, ◌∙◌, subst}
 use Rattle.std.specs.Prelude.{bytes_eq, Option, Some, None, option_and_then, is_some}
 use Rattle.std.specs.List.{AllByRecursion}
 use Rattle.si_defs.specs.Bytes.{Bytes}

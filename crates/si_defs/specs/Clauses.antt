@@ -9,6 +9,7 @@ use Rattle.si_defs.specs.declared.SymKind.TheVariants.{Word, Dollar, Number, Dis
 use Rattle.si_defs.specs.declared.Side.{Side}
 use Rattle.si_defs.specs.declared.Side.TheVariants.{Predicate, Function}
 use Rattle.si_defs.specs.declared.NameKind.{NameKind}
+use Rattle.si_defs.specs.declared.TheConstants.{MOST_OCCURRENCES}
 
 -- the terms of clauses and of patterns
 abbrev pub Term : Type 0
@@ -65,10 +66,6 @@ abbrev pub IsSoundAtom : Term → Type 0
 IsSoundAtom (terms.var x) = ⊥
 IsSoundAtom (terms.app s ts) = Fits s Predicate (terms.count ts) × AreSoundTerms ts
 
--- no value has more occurrences of symbols and variables than this
-abbrev pub most_occurrences : ℕ
-most_occurrences = 536870912
-
 abbrev pub IsSoundLiteral : Literal → Type 0
 IsSoundLiteral l = IsSoundAtom l.atom
 
@@ -81,12 +78,12 @@ literals_size (l ∷ ls) = literal_size l + literals_size ls
 
 pub record AreSoundLiterals (ls : List Literal) : Type 0 where
   pub each : AllByRecursion IsSoundLiteral ls
-  pub no_larger : literals_size ls ≤ most_occurrences
+  pub no_larger : literals_size ls ≤ MOST_OCCURRENCES
 
 pub record IsSoundClause (c : Clause) : Type 0 where
   pub some : c.literals ≡ [] → ⊥
   pub sound : AreSoundLiterals c.literals
 
 abbrev pub IsSoundPattern : Pattern → Type 0
-IsSoundPattern (literal_pattern l) = IsSoundLiteral l × (literal_size l ≤ most_occurrences)
-IsSoundPattern (term_pattern t) = IsSoundTerm t × (terms.size t ≤ most_occurrences)
+IsSoundPattern (literal_pattern l) = IsSoundLiteral l × (literal_size l ≤ MOST_OCCURRENCES)
+IsSoundPattern (term_pattern t) = IsSoundTerm t × (terms.size t ≤ MOST_OCCURRENCES)

@@ -8,7 +8,6 @@ use Rattle.si_defs.specs.Bytes.{Bytes}
 use Rattle.si_defs.specs.Terms.{Term, Terms, var, app, none, more}
 use Rattle.si_defs.specs.Symbols.{Symbol}
 use Rattle.si_defs.specs.Clauses.{Name, Literal, Clause}
-use Rattle.si_defs.specs.Steps.{Limits}
 use Rattle.si_defs.specs.declared.NameKind.{NameKind}
 use Rattle.si_defs.specs.contracts.NameKind as name_contracts
 use Rattle.si_defs.specs.declared.SymKind.{SymKind}
@@ -81,11 +80,4 @@ clause_code =
     code_by (Name × (Bytes × List Literal)) (coded× name_code (coded× (coded_list coded_ℕ) (coded_list literal_code)))
     (λ c. (c.name, (c.role, c.literals)))
     (λ p. record { name = p.0; role = p.1.0; literals = p.1.1 })
-    (λ _. refl)
-
-abbrev pub limits_code : Coded Limits
-limits_code =
-    code_by (ℕ × (ℕ × (ℕ × (ℕ × (ℕ × ℕ))))) (coded× coded_ℕ (coded× coded_ℕ (coded× coded_ℕ (coded× coded_ℕ (coded× coded_ℕ coded_ℕ)))))
-    (λ l. (l.line, (l.file, (l.entries, (l.fetches, (l.depth, l.session))))))
-    (λ p. record { line = p.0; file = p.1.0; entries = p.1.1.0; fetches = p.1.1.1.0; depth = p.1.1.1.1.0; session = p.1.1.1.1.1 })
     (λ _. refl)

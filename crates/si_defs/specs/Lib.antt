@@ -6,12 +6,9 @@ pub mod Entries
 pub mod Substitutions
 pub mod Relations
 pub mod Solutions
+pub mod Variables
 pub mod Tokens
 pub mod Grammar
 pub mod Texts
 pub mod Printing
-pub mod Acceptance
-pub mod Answers
-pub mod Steps
-pub mod Runs
 pub mod Codes

@@ -3,9 +3,8 @@
 use Rattle.std.specs.Prelude.{◌≡◌, Bool}
 use Rattle.si_defs.specs.Terms.{Term, variables}
 use Rattle.si_defs.specs.Substitutions.{Substitution, apply, IsOn}
-
-pub data Relation : Type 0 where
-  Variants Instances Generalizations Unifiable : Relation
+use Rattle.si_defs.specs.declared.Relation.{Relation}
+use Rattle.si_defs.specs.declared.Relation.TheVariants.{Variants, Instances, Generalizations, Unifiable}
 
 module _ {S V : Type 0} (same : V → V → Bool) where
   -- the map makes both equal

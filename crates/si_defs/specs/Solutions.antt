@@ -4,7 +4,9 @@ use Rattle.std.specs.Prelude.{◌≡◌, Bool, cond, List, [], ◌∷◌, ◌++�
 use Rattle.std.specs.List.{AllByRecursion}
 use Rattle.si_defs.specs.Terms.{Term, Terms, var, app, none, more, variables, substitute, firsts}
 use Rattle.si_defs.specs.Substitutions.{Substitution, apply, lefts, rights, IsAmong, IsOn}
-use Rattle.si_defs.specs.Relations.{Relation, Variants, Instances, Generalizations, Unifiable, Unifies, Matches, Relates}
+use Rattle.si_defs.specs.declared.Relation.{Relation}
+use Rattle.si_defs.specs.declared.Relation.TheVariants.{Variants, Instances, Generalizations, Unifiable}
+use Rattle.si_defs.specs.Relations.{Unifies, Matches, Relates}
 
 module _ {S V : Type 0} (same : V → V → Bool) where
   -- one binding applied, and a list of bindings applied one after the other from the left

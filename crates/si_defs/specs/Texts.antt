@@ -7,24 +7,21 @@ use Rattle.si_defs.specs.Tokens.{Token, lower, Skips, AreBlanks, Begins, Consist
 use Rattle.si_defs.specs.Grammar.{IsName, IsTerm, IsLiteral, IsFormula, Item, IsItem, nesting, left_bracket}
 use Rattle.si_defs.specs.Substitutions.{IsAmong}
 use Rattle.si_defs.specs.declared.TokenKind.TheVariants as token
-
--- no more brackets than this are open at once
-abbrev pub deepest_nesting : ℕ
-deepest_nesting = 512
+use Rattle.si_defs.specs.declared.TheConstants.{DEEPEST_NESTING}
 
 -- The bytes begin with blanks and this item, and rest stands behind its full stop.
 pub record BeginsWithItem (bytes : Bytes) (item : Item) (rest : Bytes) : Type 0 where
   pub tokens : List Token
   pub begins : Begins bytes tokens rest
   pub spelled : IsItem item tokens
-  pub nested : nesting tokens ≤ deepest_nesting
+  pub nested : nesting tokens ≤ DEEPEST_NESTING
 
 -- the whole bytes are this, with blanks round it
 pub record IsText (P : List Token → Type 0) (bytes : Bytes) : Type 0 where
   pub tokens : List Token
   pub consists : Consists bytes tokens
   pub spelled : P tokens
-  pub nested : nesting tokens ≤ deepest_nesting
+  pub nested : nesting tokens ≤ DEEPEST_NESTING
 
 abbrev pub IsPattern : Pattern → List Token → Type 0
 IsPattern (literal_pattern l) ts = IsLiteral l ts

@@ -1,56 +1,49 @@
 -- The first word of a text.
-use Rattle.std.proofs.Common.{◌≡◌, ℕ, false, List, ◌∷◌, ◌++◌, codes, refl, ap, sym, ◌∙◌, subst, ◌⊎◌, inl, inr}
-use Rattle.si_defs.specs.Bytes.{Bytes, is_white}
+use Rattle.std.proofs.Common.{◌≡◌, false, ◌==◌, List, ◌∷◌, codes, refl, ap, sym, subst, inl, inr}
+use Rattle.si_defs.specs.Bytes.{Bytes}
 use Rattle.si_defs.specs.Substitutions.{IsAmong}
 use Rattle.si_defs.specs.Tokens.{Token, lower, NextToken, Begins}
 use Rattle.si_defs.specs.Grammar.{clause_item, include_item}
 use Rattle.si_defs.specs.Texts.{languages}
 use Rattle.si_defs.specs.declared.TokenKind.TheVariants.{Lower, Mark}
+use Rattle.si_lex.proofs.TokenLaws.{next_unique}
 use Rattle.si_examples.specs.Texts.{OtherLanguage, OwnLanguage, NoForeignItem}
-use Rattle.si_examples.proofs.Differ.{differ, first_byte}
-use Rattle.si_examples.proofs.NoBlanks.{skips_none}
-use Rattle.si_examples.proofs.Fronts.{next}
+use Rattle.si_examples.proofs.Differ.{first_byte, texts_differ}
+use Rattle.si_examples.proofs.Pieces.{next}
 
--- where no blank stands before it the text begins with the word
-pub word_at : (c : ℕ) (cs word rest : Bytes) → is_white c ≡ false → (c ≡ 37 → ⊥) → (c ≡ 47 → ⊥) → NextToken (c ∷ cs) (lower word) rest → c ∷ cs ≡ word ++ rest
-word_at c cs word rest w p q n =
-    sym (skips_none c cs n.place w p q n.skips) ∙ n.stands.front ∙ ap (λ t. t ++ rest) n.stands.spelled.0
+-- a text begins with one word at most
+pub word_differs : (line u v r s : Bytes) → NextToken line (lower u) r → NextToken line (lower v) s → first_byte u == first_byte v ≡ false → ⊥
+word_differs line u v r s a b h = texts_differ u v h (ap (λ t. t.text) (next_unique line (lower u) (lower v) r s a b).0)
+
+-- the first of some tokens is the next
+pub first_next : (line : Bytes) (t : Token) (ts us : List Token) (rest : Bytes) → us ≡ t ∷ ts → Begins line us rest → (after : Bytes) × NextToken line t after
+first_next line t ts us rest e b = let k = subst (λ vs. Begins line vs rest) e b in (k.0, k.1)
 
 pub other_language : OtherLanguage
 other_language = (
   codes "fof",
   codes "c,axiom,p).",
   inl refl,
-  (
-    codes "(c,axiom,p).",
-    next Lower (codes "fof") (codes "fof") (codes "(c,axiom,p).") (refl, refl) (elim [ Lower ↦ refl | _ ↦ refl ]) refl,
-    (codes "c,axiom,p).", next Mark (codes "(") (codes "(") (codes "c,axiom,p).") (refl, (40, refl, refl)) (elim [ Lower ↦ refl | _ ↦ refl ]) refl, refl),
-  ),
+  (codes "(c,axiom,p).", next Lower (codes "fof") (codes "(c,axiom,p).") refl, (codes "c,axiom,p).", next Mark (codes "(") (codes "c,axiom,p).") refl, refl)),
 )
 
--- each word of another language begins with `f` or `t`
-pub language_byte : (word rest : Bytes) → IsAmong languages word → (first_byte (word ++ rest) ≡ 102) ⊎ (first_byte (word ++ rest) ≡ 116)
-language_byte word rest (inl e) = inl (ap (λ t. first_byte (t ++ rest)) (sym e))
-language_byte word rest (inr (inl e)) = inr (ap (λ t. first_byte (t ++ rest)) (sym e))
-language_byte word rest (inr (inr (inl e))) = inr (ap (λ t. first_byte (t ++ rest)) (sym e))
-language_byte word rest (inr (inr (inr (inl e)))) = inr (ap (λ t. first_byte (t ++ rest)) (sym e))
-language_byte word rest (inr (inr (inr (inr (inl e))))) = inr (ap (λ t. first_byte (t ++ rest)) (sym e))
-language_byte word rest (inr (inr (inr (inr (inr h))))) = absurd h
+-- no word of another language begins with `c`
+pub no_language : (language : Bytes) → IsAmong languages language → first_byte language == 99 ≡ false
+no_language language (inl e) = ap (λ t. first_byte t == 99) (sym e)
+no_language language (inr (inl e)) = ap (λ t. first_byte t == 99) (sym e)
+no_language language (inr (inr (inl e))) = ap (λ t. first_byte t == 99) (sym e)
+no_language language (inr (inr (inr (inl e)))) = ap (λ t. first_byte t == 99) (sym e)
+no_language language (inr (inr (inr (inr (inl e))))) = ap (λ t. first_byte t == 99) (sym e)
+no_language language (inr (inr (inr (inr (inr h))))) = absurd h
 
 pub own_language : OwnLanguage
-own_language f =
-    let e = ap first_byte (word_at 99 (codes "nf(c,axiom,p).") f.0 f.3.0 refl (differ 99 37 refl) (differ 99 47 refl) f.3.1) in
-    by e (language_byte f.0 f.3.0 f.2) where
-      by : 99 ≡ first_byte (f.0 ++ f.3.0) → (first_byte (f.0 ++ f.3.0) ≡ 102) ⊎ (first_byte (f.0 ++ f.3.0) ≡ 116) → ⊥
-      by e (inl h) = differ 99 102 refl (e ∙ h)
-      by e (inr h) = differ 99 116 refl (e ∙ h)
+own_language f = word_differs (codes "cnf(c,axiom,p).") f.0 (codes "cnf") f.3.0 (codes "(c,axiom,p).") f.3.1 (next Lower (codes "cnf") (codes "(c,axiom,p).") refl) (no_language f.0 f.2)
 
-first_is : (word : Bytes) (ts us : List Token) (rest : Bytes) → us ≡ lower word ∷ ts → Begins (codes "fof(c,axiom,p).") us rest
-    → (after : Bytes) × (102 ≡ first_byte (word ++ after))
-first_is word ts us rest e b =
-    let k = subst (λ vs. Begins (codes "fof(c,axiom,p).") vs rest) e b in
-    (k.0, ap first_byte (word_at 102 (codes "of(c,axiom,p).") word k.0 refl (differ 102 37 refl) (differ 102 47 refl) k.1))
+no_other : (word : Bytes) (ts us : List Token) (rest : Bytes) → us ≡ lower word ∷ ts → Begins (codes "fof(c,axiom,p).") us rest → first_byte word == 102 ≡ false → ⊥
+no_other word ts us rest e b h =
+    let n = first_next (codes "fof(c,axiom,p).") (lower word) ts us rest e b in
+    word_differs (codes "fof(c,axiom,p).") word (codes "fof") n.0 (codes "(c,axiom,p).") n.1 (next Lower (codes "fof") (codes "(c,axiom,p).") refl) h
 
 pub no_foreign_item : NoForeignItem
-no_foreign_item (clause_item c) rest b = let s = b.spelled in differ 102 99 refl (first_is (codes "cnf") _ b.tokens rest s.6 b.begins).1
-no_foreign_item (include_item file selection) rest b = let s = b.spelled in differ 102 105 refl (first_is (codes "include") _ b.tokens rest s.2 b.begins).1
+no_foreign_item (clause_item c) rest b = let s = b.spelled in no_other (codes "cnf") _ b.tokens rest s.6 b.begins refl
+no_foreign_item (include_item file selection) rest b = let s = b.spelled in no_other (codes "include") _ b.tokens rest s.2 b.begins refl

@@ -1,12 +1,14 @@
 pub mod Differ
-pub mod Fronts
-pub mod NoBlanks
+pub mod Pieces
+pub mod OpenComments
 pub mod Formulas
 pub mod EvenBrackets
+pub mod DeepTexts
 pub mod FirstWords
+pub mod ReadBack
 pub mod TwoVariables
 pub mod OneClause
-pub mod OneStep
 pub mod OneLine
+pub mod OneStep
 pub mod OneRun
 pub mod SharedTerms

@@ -3,8 +3,9 @@ use Rattle.std.proofs.Common.{◌≡◌, Bool, true, false, List, [], ◌∷◌,
 use Rattle.std.proofs.lemmas.Bool.{false≢true}
 use Rattle.si_defs.specs.Terms as terms
 use Rattle.si_defs.specs.Entries.{term_entry}
-use Rattle.si_defs.specs.Relations.{Instances}
-use Rattle.si_defs.specs.Answers.{Hit, Stands, Solves, Apart}
+use Rattle.si_defs.specs.declared.Relation.TheVariants.{Instances}
+use Rattle.si_state.specs.Answers.{Hit, Stands, Solves}
+use Rattle.si_defs.specs.Variables.{Apart}
 use Rattle.si_examples.specs.Entries.{f_of_x, a}
 use Rattle.si_examples.specs.Answers.{pattern, hit, OneHit, NoHitLeftOut, NoHitTwice, NoGeneralization}
 

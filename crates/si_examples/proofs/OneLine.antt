@@ -1,70 +1,53 @@
--- A whole line, from its bytes to its meaning.
-use Rattle.std.proofs.Common.{List, [], ◌∷◌, codes, refl, ap, ◌∙◌, inl, ℕ, arith}
-use Rattle.si_defs.specs.Tokens.{Token, lower, Consists}
-use Rattle.si_defs.specs.Grammar.{left_bracket, right_bracket, comma, full_stop, IsClause}
-use Rattle.si_defs.specs.declared.TokenKind.TheVariants.{Lower, Mark}
+-- Whole lines, from their bytes to their meaning.
+use Rattle.std.proofs.Common.{ℕ, List, [], ◌∷◌, codes, refl, ap, sym, ◌∙◌, subst, inl, arith}
+use Rattle.std.specs.Prelude.{IsTrue}
+use Rattle.si_defs.specs.Bytes.{Bytes}
+use Rattle.si_defs.specs.Tokens.{Token, lower, NextToken, Consists}
+use Rattle.si_defs.specs.Grammar.{IsClause}
+use Rattle.si_defs.specs.Clauses.{Clause, literal_pattern, term_pattern}
+use Rattle.si_defs.specs.declared.Relation.TheVariants.{Variants}
+use Rattle.si_steps.specs.declared.word.Word.{Word}
+use Rattle.si_steps.specs.declared.word.Word.TheVariants.{Ask}
+use Rattle.si_steps.specs.Words.{word_text, is_built}
+use Rattle.si_steps.specs.Commands.{Command, add, query, command_word, Means, IsUnbuilt}
+use Rattle.si_steps.proofs.WordLaws.{built_apart}
+use Rattle.si_lex.proofs.TokenLaws.{next_unique}
 use Rattle.si_examples.specs.Entries.{fact, predicate}
-use Rattle.si_examples.specs.Steps.{AddedLine, NoKindOfPattern}
-use Rattle.si_defs.specs.Clauses.{literal_pattern, term_pattern}
-use Rattle.si_defs.specs.Steps.{add, query}
+use Rattle.si_examples.specs.Lines.{AddedLine, CommentBehindWord, NoKindOfPattern, NoUnbuiltCommand, OwnLanguageAdded}
 use Rattle.si_examples.proofs.Differ.{differ, first_byte}
-use Rattle.si_examples.proofs.Fronts.{next, next_behind, stands, nothing}
+use Rattle.si_examples.proofs.Pieces.{Piece, space, comment, word, sign, tokens_of, consists}
+use Rattle.si_examples.proofs.FirstWords.{word_differs, first_next, no_language}
 
-abbrev pub clause_tokens : List Token
-clause_tokens =
-    lower (codes "cnf") ∷ left_bracket ∷ lower (codes "c") ∷ comma ∷ lower (codes "axiom") ∷ comma ∷ lower (codes "p") ∷ right_bracket ∷ full_stop ∷ []
+abbrev pub clause : Clause
+clause = fact (codes "c") (predicate (codes "p") [])
 
-is_clause : IsClause (fact (codes "c") (predicate (codes "p") [])) clause_tokens
+-- `cnf(c,axiom,p).`
+abbrev pub clause_pieces : List Piece
+clause_pieces = word (codes "cnf") ∷ sign 40 ∷ word (codes "c") ∷ sign 44 ∷ word (codes "axiom") ∷ sign 44 ∷ word (codes "p") ∷ sign 41 ∷ sign 46 ∷ []
+
+is_clause : IsClause clause (tokens_of clause_pieces)
 is_clause =
     let atom = lower (codes "p") ∷ [] in
     (lower (codes "c"), atom, [], inl refl, (0, atom, (atom, [], (refl, refl, (lower (codes "p"), inl refl, refl)), refl, refl), refl), tt, refl)
 
--- its tokens, one after the other
-pub tokens : Consists (codes "add cnf(c,axiom,p).") (lower (codes "add") ∷ clause_tokens)
-tokens = record {
-  rest = [];
-  begins = (
-    codes " cnf(c,axiom,p).",
-    next Lower (codes "add") (codes "add") (codes " cnf(c,axiom,p).") (refl, refl) (elim [ Lower ↦ refl | _ ↦ refl ]) refl,
-    (
-      codes "(c,axiom,p).",
-      next_behind 32 refl _ _ _ (stands Lower (codes "cnf") (codes "cnf") (codes "(c,axiom,p).") (refl, refl) (elim [ Lower ↦ refl | _ ↦ refl ]) refl),
-      (
-        codes "c,axiom,p).",
-        next Mark (codes "(") (codes "(") (codes "c,axiom,p).") (refl, (40, refl, refl)) (elim [ Lower ↦ refl | _ ↦ refl ]) refl,
-        (
-          codes ",axiom,p).",
-          next Lower (codes "c") (codes "c") (codes ",axiom,p).") (refl, refl) (elim [ Lower ↦ refl | _ ↦ refl ]) refl,
-          (
-            codes "axiom,p).",
-            next Mark (codes ",") (codes ",") (codes "axiom,p).") (refl, (44, refl, refl)) (elim [ Lower ↦ refl | _ ↦ refl ]) refl,
-            (
-              codes ",p).",
-              next Lower (codes "axiom") (codes "axiom") (codes ",p).") (refl, refl) (elim [ Lower ↦ refl | _ ↦ refl ]) refl,
-              (
-                codes "p).",
-                next Mark (codes ",") (codes ",") (codes "p).") (refl, (44, refl, refl)) (elim [ Lower ↦ refl | _ ↦ refl ]) refl,
-                (
-                  codes ").",
-                  next Lower (codes "p") (codes "p") (codes ").") (refl, refl) (elim [ Lower ↦ refl | _ ↦ refl ]) refl,
-                  (
-                    codes ".",
-                    next Mark (codes ")") (codes ")") (codes ".") (refl, (41, refl, refl)) (elim [ Lower ↦ refl | _ ↦ refl ]) refl,
-                    ([], next Mark (codes ".") (codes ".") [] (refl, (46, refl, refl)) (elim [ Lower ↦ refl | _ ↦ refl ]) refl, refl),
-                  ),
-                ),
-              ),
-            ),
-          ),
-        ),
-      ),
-    ),
-  );
-  blanks = nothing;
+-- ---- commands
+pub add_tokens : Consists (codes "add cnf(c,axiom,p).") (lower (codes "add") ∷ tokens_of clause_pieces)
+add_tokens = consists (word (codes "add") ∷ space 32 ∷ clause_pieces) refl
+
+-- whatever the text, its tokens are this command
+adds : (line : Bytes) → Consists line (lower (codes "add") ∷ tokens_of clause_pieces) → Means (add clause) line
+adds line c = record {
+  tokens = lower (codes "add") ∷ tokens_of clause_pieces;
+  consists = c;
+  spelled = record { built = refl; operands = tokens_of clause_pieces; spelled = is_clause; whole = refl };
+  nested = omega arith;
 }
 
 pub added_line : AddedLine
-added_line = record { tokens = lower (codes "add") ∷ clause_tokens; consists = tokens; spelled = (clause_tokens, is_clause, refl); nested = omega arith }
+added_line = adds (codes "add cnf(c,axiom,p).") add_tokens
+
+pub comment_behind_word : CommentBehindWord
+comment_behind_word = adds (codes "add/**/cnf(c,axiom,p).") (consists (word (codes "add") ∷ comment [] ∷ clause_pieces) refl)
 
 -- the first byte of the first token's text, and of the second's
 first_of : List Token → ℕ
@@ -77,6 +60,32 @@ second_of (t ∷ ts) = first_of ts
 
 pub no_kind_of_pattern : NoKindOfPattern
 unfolding first_of second_of
-no_kind_of_pattern (add c) h = differ 105 97 refl (ap first_of h.2)
-no_kind_of_pattern (query relation (literal_pattern l)) h = differ 102 108 refl (ap second_of h.4 ∙ ap first_of h.3.2)
-no_kind_of_pattern (query relation (term_pattern t)) h = differ 102 116 refl (ap second_of h.4 ∙ ap first_of h.3.2)
+no_kind_of_pattern (add c) h = differ 105 97 refl (ap first_of h.whole)
+no_kind_of_pattern (query relation (literal_pattern l)) h = differ 102 108 refl (ap second_of h.whole ∙ ap first_of h.spelled.2)
+no_kind_of_pattern (query relation (term_pattern t)) h = differ 102 116 refl (ap second_of h.whole ∙ ap first_of h.spelled.2)
+
+-- the first token's text
+text_of : List Token → Bytes
+text_of [] = []
+text_of (t ∷ ts) = t.text
+
+pub no_unbuilt_command : NoUnbuiltCommand
+unfolding text_of
+no_unbuilt_command command h = built_apart (command_word command) (Ask Variants) (sym (ap text_of h.whole)) h.built refl
+
+-- the word that a command begins with
+pub command_next : (command : Command) (line : Bytes) → Means command line → (rest : Bytes) × NextToken line (lower (word_text (command_word command))) rest
+command_next command line m =
+    first_next line (lower (word_text (command_word command))) m.spelled.operands m.tokens m.consists.rest m.spelled.whole m.consists.begins
+
+-- a line that begins with a word that is built is not for later
+pub not_unbuilt : (line : Bytes) (w : Word) (rest : Bytes) → IsTrue (is_built w) → NextToken line (lower (word_text w)) rest → IsUnbuilt line → ⊥
+not_unbuilt line w rest h n u =
+    built_apart w u.word (ap (λ t. t.text) (next_unique line (lower (word_text w)) (lower (word_text u.word)) rest u.rest n u.first).0) h u.unbuilt
+
+pub own_language_added : OwnLanguageAdded
+own_language_added f =
+    let line = codes "add cnf(c,axiom,p)." in
+    let b = add_tokens.begins in
+    let same = (next_unique line (lower (codes "add")) (lower (codes "add")) f.3.0 b.0 f.3.1 b.1).1 in
+    word_differs b.0 f.0 (codes "cnf") f.3.2.0 b.2.0 (subst (λ x. NextToken x (lower f.0) f.3.2.0) same f.3.2.1) b.2.1 (no_language f.0 f.2)

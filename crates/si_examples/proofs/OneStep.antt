@@ -1,31 +1,145 @@
 -- Which replies a line has.
-use Rattle.std.proofs.Common.{◌≡◌, ℕ, ◌+◌, ◌<◌, ◌≤◌, List, [], ◌∷◌, ◌++◌, length, codes, refl, ap, sym, ◌∙◌, subst, inl, inr, arith, length-append}
-use Rattle.std.proofs.lemmas.Bool.{false≢true}
+use Rattle.std.proofs.Common.{◌≡◌, ℕ, ◌<◌, ◌≤◌, ◌==◌, false, List, [], ◌∷◌, ◌++◌, length, codes, refl, ap, sym, ◌∙◌, subst, ◌⊎◌, inl, inr, arith, Some, None}
 use Rattle.si_defs.specs.Bytes.{Bytes}
 use Rattle.si_defs.specs.Clauses.{Clause}
-use Rattle.si_defs.specs.Substitutions.{IsAmong}
-use Rattle.si_defs.specs.Relations.{Relation, Variants, Instances, Generalizations, Unifiable}
-use Rattle.si_defs.specs.Tokens.{Token, lower, NextToken, Begins, joined}
-use Rattle.si_defs.specs.Steps.{Limits, Reply, RightStep, later, silent, wrong, performed, Step, right, memory_at_once, memory_behind, IsLater, IsSilent, IsFirstForm, words, Command, add, query, IsCommand, Means}
-use Rattle.si_examples.proofs.Differ.{differ}
-use Rattle.si_examples.specs.Steps.{SilentOnly, TooLong, NoMemoryWhereTooLong, LaterLine}
+use Rattle.si_defs.specs.Tokens.{Token, lower, NextToken, AreBlanks, Begins, Consists, white}
+use Rattle.si_defs.specs.Grammar.{left_bracket, full_stop}
+use Rattle.si_defs.specs.declared.TokenKind.TheVariants.{Lower, Single}
+use Rattle.si_steps.specs.declared.limits.Limits.{Limits}
+use Rattle.si_steps.specs.declared.word.Word.{Word}
+use Rattle.si_steps.specs.declared.word.Word.TheVariants.{Add, Load, Ask, Stats}
+use Rattle.si_steps.specs.Words.{word_text}
+use Rattle.si_steps.specs.Replies.{Reply}
+use Rattle.si_steps.specs.Steps.{RightStep, later, silent, foreign, wrong, performed, right, memory_at_once, memory_behind, IsNoCommand}
+use Rattle.si_steps.specs.Commands.{IsLater, IsUnbuilt, AddsForeign, Command, add, query, command_word, AreOperands}
+use Rattle.si_steps.proofs.WordLaws.{word_with, word_back, same_word}
+use Rattle.si_lex.proofs.BlankLaws.{skips_nothing}
+use Rattle.si_lex.proofs.TokenLaws.{next_unique, blanks_none, begins_prefix, consists_unique}
+use Rattle.si_examples.specs.Steps.{HasOneReply, SilentLine, SilentComment, SilentOnly, OpenComment, UnbuiltWord, UnreadOperands, UnknownWord, WordInQuotes, JoinedWord, WordAlone, OtherLanguageAdded, LanguageAlone, TooLong, TooLongBlank, NoMemoryWhereTooLong}
+use Rattle.si_examples.proofs.Differ.{differ, first_byte, texts_differ}
+use Rattle.si_examples.proofs.Pieces.{Piece, space, word, sign, tokens_of, consists, next, nothing}
+use Rattle.si_examples.proofs.OpenComments.{open_comment, no_token_there}
+use Rattle.si_examples.proofs.OneLine.{command_next, not_unbuilt}
+
+-- ---- what a line is, and what it is not
+-- no word of a command begins the line
+abbrev HasNoWord : Bytes → Type 0
+HasNoWord line = (w : Word) (rest : Bytes) → NextToken line (lower (word_text w)) rest → ⊥
+
+blank_word : (line : Bytes) → AreBlanks line → HasNoWord line
+blank_word line b w rest n = blanks_none line b (lower (word_text w)) rest n
+
+no_command : (line : Bytes) → HasNoWord line → IsNoCommand line
+no_command line h command m = let n = command_next command line m in h (command_word command) n.0 n.1
+
+silent_where : (line : Bytes) → AreBlanks line → HasOneReply line []
+silent_where line b limits state w = (silent (w, b) refl refl, λ other new r. only other new r) where
+  only : (other : Reply) (new : List Clause) → RightStep limits state line other new → (other ≡ []) × (new ≡ state)
+  only other new (later (inl h) r n) = absurd (omega arith)
+  only other new (later (inr u) r n) = absurd (blank_word line b u.word u.rest u.first)
+  only other new (silent s r n) = (r, n)
+  only other new (foreign l a m r n) = absurd (blank_word line b Add a.3.0 a.3.1)
+  only other new (wrong l s a m r n) = absurd (s (w, b))
+  only other new (performed l command m p) = absurd (no_command line (blank_word line b) command m)
+
+later_where : (line : Bytes) → IsUnbuilt line → HasOneReply line (codes "! later" ∷ [])
+later_where line u limits state w = (later (inr u) refl refl, λ other new r. only other new r) where
+  only : (other : Reply) (new : List Clause) → RightStep limits state line other new → (other ≡ codes "! later" ∷ []) × (new ≡ state)
+  only other new (later l r n) = (r, n)
+  only other new (silent s r n) = absurd (blank_word line s.1 u.word u.rest u.first)
+  only other new (foreign l a m r n) = absurd (l (inr u))
+  only other new (wrong l s a m r n) = absurd (l (inr u))
+  only other new (performed l command m p) = absurd (l (inr u))
+
+-- a line that is not too long, and begins with no word for later
+in_time : (limits : Limits) (line : Bytes) → length line ≤ limits.line → (IsUnbuilt line → ⊥) → IsLater limits line → ⊥
+in_time limits line w u (inl h) = absurd (omega arith)
+in_time limits line w u (inr h) = u h
+
+foreign_where : (line : Bytes) → (IsUnbuilt line → ⊥) → AddsForeign line → IsNoCommand line → HasOneReply line (codes "! language" ∷ [])
+foreign_where line u a m limits state w = (foreign (in_time limits line w u) a m refl refl, λ other new r. only other new r) where
+  only : (other : Reply) (new : List Clause) → RightStep limits state line other new → (other ≡ codes "! language" ∷ []) × (new ≡ state)
+  only other new (later l r n) = absurd (in_time limits line w u l)
+  only other new (silent s r n) = absurd (blank_word line s.1 Add a.3.0 a.3.1)
+  only other new (foreign l b n r e) = (r, e)
+  only other new (wrong l s b n r e) = absurd (b a)
+  only other new (performed l command n p) = absurd (m command n)
+
+wrong_where : (line : Bytes) → (IsUnbuilt line → ⊥) → (AreBlanks line → ⊥) → (AddsForeign line → ⊥) → IsNoCommand line → HasOneReply line (codes "! syntax" ∷ [])
+wrong_where line u b a m limits state w = (wrong (in_time limits line w u) (λ s. b s.1) a m refl refl, λ other new r. only other new r) where
+  only : (other : Reply) (new : List Clause) → RightStep limits state line other new → (other ≡ codes "! syntax" ∷ []) × (new ≡ state)
+  only other new (later l r n) = absurd (in_time limits line w u l)
+  only other new (silent s r n) = absurd (b s.1)
+  only other new (foreign l c n r e) = absurd (a c)
+  only other new (wrong l s c n r e) = (r, e)
+  only other new (performed l command n p) = absurd (m command n)
+
+-- a line that no word of a command begins, and that is not blank
+no_word_where : (line : Bytes) → HasNoWord line → (AreBlanks line → ⊥) → HasOneReply line (codes "! syntax" ∷ [])
+no_word_where line h b = wrong_where line (λ u. h u.word u.rest u.first) b (λ a. h Add a.3.0 a.3.1) (no_command line h)
+
+-- a line that begins with another token
+other_where : (line : Bytes) (t : Token) (rest : Bytes) → NextToken line t rest → ((w : Word) → t ≡ lower (word_text w) → ⊥) → HasOneReply line (codes "! syntax" ∷ [])
+other_where line t rest n d =
+    no_word_where line (λ w r m. d w (next_unique line t (lower (word_text w)) rest r n m).0) (λ b. blanks_none line b t rest n)
+
+-- a text that is not among the words
+no_word_text : (text : Bytes) → word_with text ≡ None → (w : Word) → lower text ≡ lower (word_text w) → ⊥
+no_word_text text h w e =
+    let k : Some w ≡ None = sym (word_back w) ∙ ap (λ t. word_with t.text) (sym e) ∙ h in
+    cc
+
+-- ---- silent lines
+pub silent_line : SilentLine
+silent_line = silent_where (codes " \t ") (record {
+  rest = [];
+  skips = record { blanks = codes " " ∷ codes "\t" ∷ codes " " ∷ []; each = (white 32 refl refl, (white 9 refl refl, (white 32 refl refl, tt))); whole = refl };
+  ends = inl refl;
+})
+
+pub silent_comment : SilentComment
+silent_comment = silent_where (codes "% a") (record { rest = codes "% a"; skips = skips_nothing (codes "% a"); ends = inr (codes " a", refl, refl) })
+
+-- a space
+pub one_space : AreBlanks (codes " ")
+one_space = record { rest = []; skips = record { blanks = codes " " ∷ []; each = (white 32 refl refl, tt); whole = refl }; ends = inl refl }
 
 append_empty : (xs ys : Reply) → [] ≡ xs ++ ys → ys ≡ []
 append_empty [] ys e = sym e
 append_empty (x ∷ xs) ys e = cc
 
--- ---- a line that is too long
+pub silent_only : SilentOnly
+silent_only limits state reply new w (right r) = (silent_where (codes " ") one_space limits state w).1 reply new r
+silent_only limits state reply new w (memory_at_once s within r n) = absurd (s (w, one_space))
+silent_only limits state reply new w (memory_behind whole next r within written left e some reply_is n) =
+    absurd (some (append_empty written left (sym ((silent_where (codes " ") one_space limits state w).1 whole next r).0 ∙ e)))
+
+pub open_comment_line : OpenComment
+open_comment_line =
+    no_word_where (codes "/* a") (λ w rest n. no_token_there (codes " a") refl (lower (word_text w)) rest n) (open_comment (codes " a") refl)
+
+-- ---- lines for later
+pub unbuilt_word : UnbuiltWord
+unbuilt_word = later_where (codes "stats") (record { word = Stats; unbuilt = refl; rest = []; first = next Lower (codes "stats") [] refl })
+
+pub unread_operands : UnreadOperands
+unread_operands = later_where (codes "load '") (record { word = Load; unbuilt = refl; rest = codes " '"; first = next Lower (codes "load") (codes " '") refl })
+
 right_too_long : (limits : Limits) (state : List Clause) (line : Bytes) (reply : Reply) (new : List Clause) → limits.line < length line
     → RightStep limits state line reply new → (reply ≡ codes "! later" ∷ []) × (new ≡ state)
 right_too_long limits state line reply new long (later l r n) = (r, n)
 right_too_long limits state line reply new long (silent s r n) = absurd (omega (arith, s.0))
-right_too_long limits state line reply new long (wrong f l m r n) = absurd (l (inl long))
+right_too_long limits state line reply new long (foreign l a m r n) = absurd (l (inl long))
+right_too_long limits state line reply new long (wrong l s a m r n) = absurd (l (inl long))
 right_too_long limits state line reply new long (performed l command m p) = absurd (l (inl long))
 
 pub too_long : TooLong
 too_long limits state line reply new long (right r) = right_too_long limits state line reply new long r
 too_long limits state line reply new long (memory_at_once s within r n) = absurd (omega arith)
 too_long limits state line reply new long (memory_behind whole next r within written left e some reply_is n) = absurd (omega arith)
+
+pub too_long_blank : TooLongBlank
+too_long_blank limits state long = later (inl long) refl refl
 
 first_line : Reply → Bytes
 first_line [] = []
@@ -40,57 +154,84 @@ unfolding first_line third_byte
 no_memory limits state line new long s =
     differ 109 108 refl (ap (λ r. third_byte (first_line r)) (too_long limits state line (codes "! memory" ∷ []) new long s).0)
 
--- ---- white space
--- no word of a command stands in two bytes
-short_line : (line : Bytes) (word rest : Bytes) → length line < 3 → IsAmong words word → NextToken line (lower word) rest → ⊥
-short_line line word rest short a n =
-    let whole : length line ≡ length (joined n.skips.blanks) + length n.place = ap length n.skips.whole ∙ length-append (joined n.skips.blanks) n.place in
-    let front : length n.place ≡ length n.stands.spelling + length rest = ap length n.stands.front ∙ length-append n.stands.spelling rest in
-    let spelled : length n.stands.spelling ≡ length word = ap length n.stands.spelled.0 in
-    long a (omega arith) where
-      long : IsAmong words word → length word < 3 → ⊥
-      long (inl e) h = let l : 3 ≡ length word = ap length e in omega arith
-      long (inr (inl e)) h = let l : 9 ≡ length word = ap length e in omega arith
-      long (inr (inr e)) h = e
+-- ---- wrong lines
+pub unknown_word : UnknownWord
+unknown_word = other_where (codes "find p") (lower (codes "find")) (codes " p") (next Lower (codes "find") (codes " p") refl) (no_word_text (codes "find") refl)
 
-form_short : (line : Bytes) → length line < 3 → IsFirstForm line → ⊥
-form_short line short f = short_line line f.word f.rest short f.among f.first
+pub word_in_quotes : WordInQuotes
+word_in_quotes = other_where (codes "'add' cnf(c,axiom,p).") _ (codes " cnf(c,axiom,p).") (next Single (codes "add") (codes " cnf(c,axiom,p).") refl) (λ w e. bare (ap (λ t. t.kind) e)) where
+  bare : Single ≡ Lower → ⊥
+  bare e = cc
 
-first_token : (line : Bytes) (t : Token) (ts us : List Token) (rest : Bytes) → us ≡ t ∷ ts → Begins line us rest → (after : Bytes) × NextToken line t after
-first_token line t ts us rest e b = let k = subst (λ vs. Begins line vs rest) e b in (k.0, k.1)
+pub joined_word : JoinedWord
+joined_word = other_where (codes "addcnf(c,axiom,p).") (lower (codes "addcnf")) (codes "(c,axiom,p).") (next Lower (codes "addcnf") (codes "(c,axiom,p).") refl) (no_word_text (codes "addcnf") refl)
 
-relation_word : (relation : Relation) (t : Token) → Rattle.si_defs.specs.Steps.IsRelationWord relation t → t ≡ lower (codes "instances")
-relation_word Instances t e = e
-relation_word Variants t e = absurd e
-relation_word Generalizations t e = absurd e
-relation_word Unifiable t e = absurd e
+-- ---- lines that begin with `add`
+operands_of : List Token → List Token
+operands_of [] = []
+operands_of (t ∷ ts) = ts
 
-means_short : (line : Bytes) (command : Command) → length line < 3 → Means command line → ⊥
-means_short line (add c) short m =
-    let s = m.spelled in
-    let t = first_token line (lower (codes "add")) s.0 m.tokens m.consists.rest s.2 m.consists.begins in
-    short_line line (codes "add") t.0 short (inl refl) t.1
-means_short line (query relation pattern) short m =
-    let s = m.spelled in
-    let t = first_token line s.0 s.1 m.tokens m.consists.rest s.4 m.consists.begins in
-    short_line line (codes "instances") t.0 short (inr (inl refl)) (subst (λ u. NextToken line u t.0) (relation_word relation s.0 s.2) t.1)
+first_text : List Token → Bytes
+first_text [] = []
+first_text (t ∷ ts) = t.text
 
-right_silent : (limits : Limits) (state : List Clause) (reply : Reply) (new : List Clause) → 1 ≤ limits.line → RightStep limits state (codes " ") reply new → (reply ≡ []) × (new ≡ state)
-right_silent limits state reply new w (later l r n) = absurd (by l) where
-  by : IsLater limits (codes " ") → ⊥
-  by (inl h) = omega arith
-  by (inr (inl h)) = h.0 refl
-  by (inr (inr h)) = form_short (codes " ") (omega arith) h.0
-right_silent limits state reply new w (silent s r n) = (r, n)
-right_silent limits state reply new w (wrong f l m r n) = absurd (form_short (codes " ") (omega arith) f)
-right_silent limits state reply new w (performed l command m p) = absurd (means_short (codes " ") command (omega arith) m)
+-- only a clause is added, and it begins with `cnf`
+no_clause : (line : Bytes) (ts : List Token) → Consists line (lower (codes "add") ∷ ts) → first_byte (first_text ts) == 99 ≡ false → IsNoCommand line
+unfolding operands_of first_text
+no_clause line ts c h command m = by command m.spelled.operands m.spelled.spelled (consists_unique (lower (codes "add") ∷ ts) m.tokens line c m.consists ∙ m.spelled.whole) where
+  by : (command : Command) (us : List Token) → AreOperands command us → lower (codes "add") ∷ ts ≡ lower (word_text (command_word command)) ∷ us → ⊥
+  by (add clause) us s e = texts_differ (first_text ts) (codes "cnf") h (ap (λ vs. first_text (operands_of vs)) e ∙ ap first_text s.6)
+  by (query relation pattern) us s e = let k = same_word Add (Ask relation) (ap first_text e) in cc
 
-pub silent_only : SilentOnly
-silent_only limits state reply new w (right r) = right_silent limits state reply new w r
-silent_only limits state reply new w (memory_at_once s within r n) = absurd (s (w, refl))
-silent_only limits state reply new w (memory_behind whole next r within written left e some reply_is n) =
-    absurd (some (append_empty written left (sym (right_silent limits state whole next w r).0 ∙ e)))
+-- they are not for later
+add_built : (line rest : Bytes) → NextToken line (lower (codes "add")) rest → IsUnbuilt line → ⊥
+add_built line rest n u = not_unbuilt line Add rest refl n u
 
--- ---- a line that is not plain
-pub later_line : LaterLine
-later_line limits state = later (inr (inl (λ w. false≢true w, λ f. false≢true f.plain))) refl refl
+pub other_language_added : OtherLanguageAdded
+unfolding first_text
+other_language_added = by (consists (word (codes "add") ∷ space 32 ∷ word (codes "fof") ∷ sign 40 ∷ others) refl) where
+  others : List Piece
+  others = word (codes "a") ∷ sign 44 ∷ word (codes "axiom") ∷ sign 44 ∷ word (codes "p") ∷ sign 41 ∷ sign 46 ∷ []
+
+  line : Bytes
+  line = codes "add fof(a,axiom,p)."
+
+  by : Consists line (lower (codes "add") ∷ lower (codes "fof") ∷ left_bracket ∷ tokens_of others) → HasOneReply line (codes "! language" ∷ [])
+  by c =
+      let b = c.begins in
+      foreign_where line (add_built line b.0 b.1) (codes "fof", b.2.2.0, inl refl, (b.0, b.1, (b.2.0, b.2.1, (b.2.2.0, b.2.2.1, refl))))
+      (no_clause line (lower (codes "fof") ∷ left_bracket ∷ tokens_of others) c refl)
+
+pub word_alone : WordAlone
+unfolding first_text
+word_alone = wrong_where (codes "add") (add_built (codes "add") [] n) (λ b. blanks_none (codes "add") b (lower (codes "add")) [] n) own (no_clause (codes "add") [] (consists (word (codes "add") ∷ []) refl) refl) where
+  n : NextToken (codes "add") (lower (codes "add")) []
+  n = next Lower (codes "add") [] refl
+
+  own : AddsForeign (codes "add") → ⊥
+  own a =
+      let same = (next_unique (codes "add") (lower (codes "add")) (lower (codes "add")) a.3.0 [] a.3.1 n).1 in
+      blanks_none a.3.0 (subst AreBlanks (sym same) nothing) (lower a.0) a.3.2.0 a.3.2.1
+
+-- the third token's text
+third_text : List Token → Bytes
+third_text ts = first_text (operands_of (operands_of ts))
+
+pub language_alone : LanguageAlone
+unfolding first_text operands_of third_text
+language_alone = wrong_where line (add_built line b.0 b.1) (λ k. blanks_none line k (lower (codes "add")) b.0 b.1) own (no_clause line (lower (codes "fof") ∷ full_stop ∷ []) c refl) where
+  line : Bytes
+  line = codes "add fof."
+
+  c : Consists (codes "add fof.") (lower (codes "add") ∷ lower (codes "fof") ∷ full_stop ∷ [])
+  c = consists (word (codes "add") ∷ space 32 ∷ word (codes "fof") ∷ sign 46 ∷ []) refl
+
+  b : Begins (codes "add fof.") (lower (codes "add") ∷ lower (codes "fof") ∷ full_stop ∷ []) c.rest
+  b = c.begins
+
+  own : AddsForeign (codes "add fof.") → ⊥
+  own a = by (begins_prefix (lower (codes "add") ∷ lower (codes "fof") ∷ full_stop ∷ []) (lower (codes "add") ∷ lower a.0 ∷ left_bracket ∷ []) (codes "add fof.") c.rest a.1 c.begins a.3) where
+    by : ((more : List Token) × (lower (codes "add") ∷ lower (codes "fof") ∷ full_stop ∷ [] ≡ (lower (codes "add") ∷ lower a.0 ∷ left_bracket ∷ []) ++ more))
+        ⊎ ((more : List Token) × (lower (codes "add") ∷ lower a.0 ∷ left_bracket ∷ [] ≡ (lower (codes "add") ∷ lower (codes "fof") ∷ full_stop ∷ []) ++ more)) → ⊥
+    by (inl m) = texts_differ (codes ".") (codes "(") refl (ap third_text m.1)
+    by (inr m) = texts_differ (codes "(") (codes ".") refl (ap third_text m.1)

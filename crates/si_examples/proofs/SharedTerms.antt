@@ -6,7 +6,7 @@ use Rattle.si_defs.specs.Terms as terms
 use Rattle.si_defs.specs.Symbols.{Symbol}
 use Rattle.si_defs.specs.Substitutions.{IsAmong}
 use Rattle.si_defs.specs.Solutions.{AreJoined, IsLeader, bind, in_sequence}
-use Rattle.si_defs.specs.Answers.{Variable, of_pattern, of_entry, same_variable, Apart, Solution}
+use Rattle.si_defs.specs.Variables.{Variable, of_pattern, of_entry, same_variable, Apart, Solution}
 use Rattle.si_defs.specs.declared.SymKind.TheVariants.{Word}
 use Rattle.si_defs.specs.declared.Side.TheVariants.{Function}
 use Rattle.si_examples.specs.Entries.{function}

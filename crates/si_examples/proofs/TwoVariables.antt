@@ -5,7 +5,7 @@ use Rattle.si_defs.specs.Bytes.{Bytes}
 use Rattle.si_defs.specs.Terms as terms
 use Rattle.si_defs.specs.Substitutions.{IsAmong}
 use Rattle.si_defs.specs.Solutions.{AreJoined, IsLeader}
-use Rattle.si_defs.specs.Answers.{Variable, of_pattern, of_entry, same_variable, Apart}
+use Rattle.si_defs.specs.Variables.{Variable, of_pattern, of_entry, same_variable, Apart}
 use Rattle.si_examples.specs.Unifiers.{asked, kept, asked_term, kept_term, FirstVariableLeads, SecondVariableFollows, NoEmptyList}
 
 abbrev Joined : Variable → Variable → Type 0

@@ -3,9 +3,11 @@ use Rattle.std.specs.Prelude.{List, [], ◌∷◌, codes}
 use Rattle.si_defs.specs.Terms as terms
 use Rattle.si_defs.specs.Clauses.{Clause, Pattern, term_pattern}
 use Rattle.si_defs.specs.Entries.{term_entry, state_entries}
-use Rattle.si_defs.specs.Relations.{Instances, Generalizations}
-use Rattle.si_defs.specs.Answers.{of_pattern, of_entry, Hit, IsAnswer, Stands}
-use Rattle.si_defs.specs.Steps.{query, Performs}
+use Rattle.si_defs.specs.declared.Relation.TheVariants.{Instances, Generalizations}
+use Rattle.si_defs.specs.Variables.{of_pattern, of_entry}
+use Rattle.si_state.specs.Answers.{Hit, IsAnswer, Stands}
+use Rattle.si_steps.specs.Commands.{query}
+use Rattle.si_steps.specs.Steps.{Performs}
 use Rattle.si_examples.specs.Entries.{first_atom, fact, f_of_x, a, placed, literal_of}
 use Rattle.si_examples.specs.Relations.{x, f_of_y}
 

@@ -8,5 +8,6 @@ pub mod Solutions
 pub mod Unifiers
 pub mod Answers
 pub mod Printing
+pub mod Lines
 pub mod Steps
 pub mod Runs

@@ -1,7 +1,9 @@
 -- Printed texts.
 use Rattle.std.specs.Prelude.{◌≡◌, [], ◌∷◌, codes}
+use Rattle.si_defs.specs.Bytes.{Bytes}
 use Rattle.si_defs.specs.Clauses.{Name}
-use Rattle.si_defs.specs.Answers.{variable_text}
+use Rattle.si_defs.specs.Texts.{IsNameText}
+use Rattle.si_defs.specs.Variables.{variable_text}
 use Rattle.si_defs.specs.Printing.{name_text, place_text, solution_text, map_text}
 use Rattle.si_defs.specs.declared.NameKind.TheVariants.{Word}
 use Rattle.si_examples.specs.Solutions.{first_solution}
@@ -13,6 +15,14 @@ c1 = record { kind = Word; text = codes "c1" }
 -- a name that is no lower word stands in quotes, its quotes behind backslashes
 abbrev pub EscapedName : Type 0
 EscapedName = name_text (record { kind = Word; text = codes "it's" }) ≡ codes "'it\\'s'"
+
+-- and is read back
+abbrev pub ReadBackName : Type 0
+ReadBackName = IsNameText (record { kind = Word; text = codes "it's" }) (codes "'it\\'s'")
+
+-- no name is empty: what would be printed for it is not read
+abbrev pub NoEmptyName : Type 0
+NoEmptyName = (bytes : Bytes) → IsNameText (record { kind = Word; text = [] }) bytes → ⊥
 
 -- the name `cat` stands in none
 abbrev pub NoNeedlessQuotes : Type 0

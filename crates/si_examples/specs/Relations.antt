@@ -1,7 +1,8 @@
 -- Instances, variants and unifiable terms. No variable stands in both terms.
 use Rattle.std.specs.Prelude.{[], ◌∷◌, codes, bytes_eq}
 use Rattle.si_defs.specs.Clauses.{Term}
-use Rattle.si_defs.specs.Relations.{Variants, Relates, IsInstance, IsUnifiable}
+use Rattle.si_defs.specs.declared.Relation.TheVariants.{Variants}
+use Rattle.si_defs.specs.Relations.{Relates, IsInstance, IsUnifiable}
 use Rattle.si_examples.specs.Entries.{predicate, function, variable, a, constant}
 
 abbrev pub x : Term

@@ -1,7 +1,7 @@
 -- Whole runs.
 use Rattle.std.specs.Prelude.{◌≤◌, [], ◌∷◌, codes}
-use Rattle.si_defs.specs.Steps.{Limits}
-use Rattle.si_defs.specs.Runs.{IsOutput}
+use Rattle.si_steps.specs.declared.limits.Limits.{Limits}
+use Rattle.si_steps.specs.Runs.{IsOutput}
 
 -- a clause is added, and found
 abbrev pub AddedAndFound : Type 0

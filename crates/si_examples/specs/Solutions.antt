@@ -3,9 +3,10 @@ use Rattle.std.specs.Prelude.{[], ◌∷◌, codes, bytes_eq}
 use Rattle.si_defs.specs.Terms as terms
 use Rattle.si_defs.specs.Clauses.{Pattern, term_pattern}
 use Rattle.si_defs.specs.Entries.{Entry, term_entry}
-use Rattle.si_defs.specs.Relations.{Instances}
+use Rattle.si_defs.specs.declared.Relation.TheVariants.{Instances}
 use Rattle.si_defs.specs.Solutions.{IsTriangular}
-use Rattle.si_defs.specs.Answers.{of_pattern, of_entry, Apart, Solution, Solves}
+use Rattle.si_defs.specs.Variables.{of_pattern, of_entry, Apart, Solution}
+use Rattle.si_state.specs.Answers.{Solves}
 use Rattle.si_examples.specs.Entries.{function, a, f_of_x}
 use Rattle.si_examples.specs.Relations.{x, y, z, f_of_y}
 

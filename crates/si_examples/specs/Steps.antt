@@ -2,12 +2,13 @@
 use Rattle.std.specs.Prelude.{◌≡◌, ◌≤◌, ◌<◌, length, true, List, [], ◌∷◌, codes}
 use Rattle.si_defs.specs.Bytes.{Bytes}
 use Rattle.si_defs.specs.Clauses.{Clause}
-use Rattle.si_defs.specs.Tokens.{upper, lower}
-use Rattle.si_defs.specs.Grammar.{left_bracket, right_bracket}
-use Rattle.si_defs.specs.Acceptance.{IsTaken, Accepts}
-use Rattle.si_defs.specs.Steps.{Limits, Reply, Command, IsCommand, RightStep, Step, IsPlain, add, Means, Performs, is_refusal}
+use Rattle.si_state.specs.Acceptance.{IsTaken, Accepts}
+use Rattle.si_steps.specs.declared.limits.Limits.{Limits}
+use Rattle.si_steps.specs.Replies.{Reply, is_refusal}
+use Rattle.si_steps.specs.Commands.{add}
+use Rattle.si_steps.specs.Steps.{RightStep, Step, Performs}
 use Rattle.si_defs.specs.declared.NameKind.TheVariants as named
-use Rattle.si_examples.specs.Entries.{first_atom, second_atom, fact, predicate}
+use Rattle.si_examples.specs.Entries.{first_atom, second_atom, fact}
 
 -- the clause c1, and another of that name
 abbrev pub kept : Clause
@@ -16,30 +17,78 @@ kept = fact (codes "c1") first_atom
 abbrev pub of_taken_name : Clause
 of_taken_name = fact (codes "c1") second_atom
 
--- ---- replies
+-- ---- lines that change nothing
+-- where the line is not too long, this reply is right and no other, and the state stays
+abbrev pub HasOneReply : Bytes → Reply → Type 0
+HasOneReply line reply = (limits : Limits) (state : List Clause) → length line ≤ limits.line
+    → RightStep limits state line reply state
+    × ((other : Reply) (new : List Clause) → RightStep limits state line other new → (other ≡ reply) × (new ≡ state))
+
 -- a line of white space alone has no reply
 abbrev pub SilentLine : Type 0
-SilentLine = (limits : Limits) (state : List Clause) → 3 ≤ limits.line → RightStep limits state (codes " \t ") [] state
+SilentLine = HasOneReply (codes " \t ") []
 
--- and no other reply is right, not even where memory runs out
+-- nor has a comment alone
+abbrev pub SilentComment : Type 0
+SilentComment = HasOneReply (codes "% a") []
+
+-- and white space has none even where memory runs out
 abbrev pub SilentOnly : Type 0
 SilentOnly = (limits : Limits) (state : List Clause) (reply : Reply) (new : List Clause) → 1 ≤ limits.line
     → Step limits state (codes " ") reply new → (reply ≡ []) × (new ≡ state)
 
+-- a comment that is not closed is wrong
+abbrev pub OpenComment : Type 0
+OpenComment = HasOneReply (codes "/* a") (codes "! syntax" ∷ [])
+
+-- the word of a command that is not built is for later
+abbrev pub UnbuiltWord : Type 0
+UnbuiltWord = HasOneReply (codes "stats") (codes "! later" ∷ [])
+
+-- and what stands behind it is not read: here a quote that is not closed
+abbrev pub UnreadOperands : Type 0
+UnreadOperands = HasOneReply (codes "load '") (codes "! later" ∷ [])
+
+-- no command has the word `find`
+abbrev pub UnknownWord : Type 0
+UnknownWord = HasOneReply (codes "find p") (codes "! syntax" ∷ [])
+
+-- a command begins with a bare word, not with a quoted one
+abbrev pub WordInQuotes : Type 0
+WordInQuotes = HasOneReply (codes "'add' cnf(c,axiom,p).") (codes "! syntax" ∷ [])
+
+-- `addcnf` is one word
+abbrev pub JoinedWord : Type 0
+JoinedWord = HasOneReply (codes "addcnf(c,axiom,p).") (codes "! syntax" ∷ [])
+
+-- `add` adds something
+abbrev pub WordAlone : Type 0
+WordAlone = HasOneReply (codes "add") (codes "! syntax" ∷ [])
+
+-- a formula of another language is not added
+abbrev pub OtherLanguageAdded : Type 0
+OtherLanguageAdded = HasOneReply (codes "add fof(a,axiom,p).") (codes "! language" ∷ [])
+
+-- without a bracket the word `fof` begins no formula
+abbrev pub LanguageAlone : Type 0
+LanguageAlone = HasOneReply (codes "add fof.") (codes "! syntax" ∷ [])
+
+-- ---- lines that are too long
 -- a line that is too long has one reply, whatever it says, and the state stays
 abbrev pub TooLong : Type 0
 TooLong = (limits : Limits) (state : List Clause) (line : Bytes) (reply : Reply) (new : List Clause) → limits.line < length line
     → Step limits state line reply new → (reply ≡ codes "! later" ∷ []) × (new ≡ state)
+
+-- also where it is blank
+abbrev pub TooLongBlank : Type 0
+TooLongBlank = (limits : Limits) (state : List Clause) → limits.line < 2 → RightStep limits state (codes "  ") (codes "! later" ∷ []) state
 
 -- a line that is too long does not run out of memory
 abbrev pub NoMemoryWhereTooLong : Type 0
 NoMemoryWhereTooLong = (limits : Limits) (state : List Clause) (line : Bytes) (new : List Clause) → limits.line < length line
     → Step limits state line (codes "! memory" ∷ []) new → ⊥
 
--- `term 1` is read later: it is not plain, since a digit stands behind a space
-abbrev pub LaterLine : Type 0
-LaterLine = (limits : Limits) (state : List Clause) → RightStep limits state (codes "term 1") (codes "! later" ∷ []) state
-
+-- ---- clauses that are added
 -- a clause of a new name is counted, and its three entries
 abbrev pub AddedClause : Type 0
 AddedClause = Performs (add kept) [] (codes "ok 1 3" ∷ []) (kept ∷ [])
@@ -76,22 +125,3 @@ NoRefusal = is_refusal (codes "c1:1:2 {}" ∷ codes "end 1" ∷ []) ≡ true →
 -- no reply is none
 abbrev pub SilenceIsNoRefusal : Type 0
 SilenceIsNoRefusal = is_refusal [] ≡ true → ⊥
-
--- ---- plain lines
--- a digit stands directly behind a word byte in `add cnf(c1,axiom,p).`
-abbrev pub PlainLine : Type 0
-PlainLine = IsPlain (codes "add cnf(c1,axiom,p).")
-
--- and behind a bracket in `p(1)`, so this line is read later
-abbrev pub NoIntegerInPlainLine : Type 0
-NoIntegerInPlainLine = IsPlain (codes "p(1)") → ⊥
-
--- ---- commands
--- what a line means, over its bytes
-abbrev pub AddedLine : Type 0
-AddedLine = Means (add (fact (codes "c") (predicate (codes "p") []))) (codes "add cnf(c,axiom,p).")
-
--- `instances f(Y)` is no command: whether literals or terms are asked for is not said
-abbrev pub NoKindOfPattern : Type 0
-NoKindOfPattern = (command : Command)
-    → IsCommand command (lower (codes "instances") ∷ lower (codes "f") ∷ left_bracket ∷ upper (codes "Y") ∷ right_bracket ∷ []) → ⊥

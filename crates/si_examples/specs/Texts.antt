@@ -1,8 +1,10 @@
 -- What texts begin with, and where.
-use Rattle.std.specs.Prelude.{◌≡◌, codes}
+use Rattle.std.specs.Prelude.{◌≡◌, ℕ, true, List, [], ◌∷◌, ◌++◌, replicate, codes}
 use Rattle.si_defs.specs.Bytes.{Bytes}
+use Rattle.si_defs.specs.Clauses.{Literal}
 use Rattle.si_defs.specs.Grammar.{Item}
-use Rattle.si_defs.specs.Texts.{BeginsWithItem, IsForeign, line_of}
+use Rattle.si_defs.specs.Texts.{BeginsWithItem, IsFormulaText, IsForeign, line_of}
+use Rattle.si_examples.specs.Entries.{predicate}
 
 -- a place behind two line feeds is in the third line
 abbrev pub ThirdLine : Type 0
@@ -23,3 +25,15 @@ OwnLanguage = IsForeign (codes "cnf(c,axiom,p).") → ⊥
 -- and no item begins with `fof`
 abbrev pub NoForeignItem : Type 0
 NoForeignItem = (item : Item) (rest : Bytes) → BeginsWithItem (codes "fof(c,axiom,p).") item rest → ⊥
+
+-- `p` in this many brackets
+abbrev pub bracketed_text : ℕ → Bytes
+bracketed_text n = replicate n 40 ++ codes "p" ++ replicate n 41
+
+-- is read where there are 512
+abbrev pub DeepestText : Type 0
+DeepestText = (n : ℕ) → n ≡ 512 → IsFormulaText (record { positive = true; atom = predicate (codes "p") [] } ∷ []) (bracketed_text n)
+
+-- and has no meaning where there are 513
+abbrev pub NoDeeperText : Type 0
+NoDeeperText = (n : ℕ) → n ≡ 513 → (ls : List Literal) → IsFormulaText ls (bracketed_text n) → ⊥

@@ -3,11 +3,7 @@ use Rattle.std.specs.Prelude.{[], ◌∷◌, codes}
 use Rattle.si_defs.specs.Bytes.{Bytes}
 use Rattle.si_defs.specs.Tokens.{Token, upper, lower, TokenAt, AreBlanks, Consists}
 use Rattle.si_defs.specs.Grammar.{left_bracket, right_bracket, full_stop, not_equal}
-use Rattle.si_defs.specs.declared.TokenKind.TheVariants.{Int}
-
--- an integer's token
-abbrev pub integer : Bytes → Token
-integer text = record { kind = Int; text = text }
+use Rattle.si_examples.specs.Grammar.{integer}
 
 -- ---- blanks
 -- `/**/` is a comment

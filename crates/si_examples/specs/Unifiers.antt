@@ -1,9 +1,9 @@
 -- The canonical list of a unification.
 use Rattle.std.specs.Prelude.{[], ◌∷◌, codes}
 use Rattle.si_defs.specs.Terms as terms
-use Rattle.si_defs.specs.Relations.{Unifiable}
+use Rattle.si_defs.specs.declared.Relation.TheVariants.{Unifiable}
 use Rattle.si_defs.specs.Solutions.{IsCanonical}
-use Rattle.si_defs.specs.Answers.{Variable, of_pattern, of_entry, same_variable, Apart, Solution}
+use Rattle.si_defs.specs.Variables.{Variable, of_pattern, of_entry, same_variable, Apart, Solution}
 use Rattle.si_examples.specs.Entries.{function}
 
 -- a variable of the pattern and one of the entry

@@ -1,10 +1,12 @@
-//! Worked examples of the definitions: what holds by them, and what does not. Each is a clause of a function with no
-//! code, so that a check proves it. The statements stand in `specs/`, one file a subject.
+//! Worked examples of the definitions: what holds by them, and what does not. Each is a clause of a
+//! function with no code, so that a check proves it. The statements stand in `specs/`, one file a
+//! subject.
 #![tactic(auto)]
 
 mod answers;
 mod entries;
 mod grammar;
+mod lines;
 mod printing;
 mod relations;
 mod runs;
@@ -17,13 +19,14 @@ mod unifiers;
 
 pub use answers::answers_to_patterns;
 pub use entries::entries_of_clauses;
-pub use grammar::{items, parts_of_clauses};
+pub use grammar::{items, nestings, parts_of_clauses, symbols_and_names};
+pub use lines::{commands, words};
 pub use printing::printed_texts;
 pub use relations::{instances, unifiable_terms};
 pub use runs::whole_runs;
 pub use solutions::{canonical_lists, triangular_lists};
 pub use spellings::spellings_of_tokens;
-pub use steps::{lines, plain_lines, refusals, replies};
-pub use texts::{items_of_texts, places_in_texts};
+pub use steps::{added_clauses, later_lines, refusals, silent_lines, wrong_lines};
+pub use texts::{items_of_texts, nested_texts, places_in_texts};
 pub use tokens::{blanks, tokens_of_texts};
 pub use unifiers::{canonical_lists_of_variables, canonical_unifiers};

@@ -1,13 +1,35 @@
 // Lines, their replies and the state behind them.
-ghost use Rattle.si_examples.specs.Steps.{SilentLine, SilentOnly, TooLong, NoMemoryWhereTooLong, LaterLine, AddedLine, NoKindOfPattern, AddedClause, TakenName, NoOtherReply, NoSecondClause, TwoNames, Refusal, LateRefusal, NoRefusal, SilenceIsNoRefusal, PlainLine, NoIntegerInPlainLine};
+ghost use Rattle.si_examples.specs.Steps.{SilentLine, SilentComment, SilentOnly, OpenComment, UnbuiltWord, UnreadOperands, UnknownWord, WordInQuotes, JoinedWord, WordAlone, OtherLanguageAdded, LanguageAlone, TooLong, TooLongBlank, NoMemoryWhereTooLong, AddedClause, TakenName, NoOtherReply, NoSecondClause, TwoNames, Refusal, LateRefusal, NoRefusal, SilenceIsNoRefusal};
 
-/// Which replies are right.
-pub fn replies()
+/// Which lines have no reply.
+pub fn silent_lines()
     ensures silent_line { SilentLine }
+    ensures silent_comment { SilentComment }
     ensures silent_only { SilentOnly }
+    ensures open_comment { OpenComment }
+{}
+
+/// Which lines are for later.
+pub fn later_lines()
+    ensures unbuilt_word { UnbuiltWord }
+    ensures unread_operands { UnreadOperands }
     ensures too_long { TooLong }
+    ensures too_long_blank { TooLongBlank }
     ensures no_memory_where_too_long { NoMemoryWhereTooLong }
-    ensures later_line { LaterLine }
+{}
+
+/// Which lines are no commands.
+pub fn wrong_lines()
+    ensures unknown_word { UnknownWord }
+    ensures word_in_quotes { WordInQuotes }
+    ensures joined_word { JoinedWord }
+    ensures word_alone { WordAlone }
+    ensures other_language_added { OtherLanguageAdded }
+    ensures language_alone { LanguageAlone }
+{}
+
+/// Which replies an added clause has.
+pub fn added_clauses()
     ensures added_clause { AddedClause }
     ensures taken_name { TakenName }
     ensures no_other_reply { NoOtherReply }
@@ -21,16 +43,4 @@ pub fn refusals()
     ensures late_refusal { LateRefusal }
     ensures no_refusal { NoRefusal }
     ensures silence_is_no_refusal { SilenceIsNoRefusal }
-{}
-
-/// Which lines are read.
-pub fn plain_lines()
-    ensures plain_line { PlainLine }
-    ensures no_integer_in_plain_line { NoIntegerInPlainLine }
-{}
-
-/// What a line means.
-pub fn lines()
-    ensures added_line { AddedLine }
-    ensures no_kind_of_pattern { NoKindOfPattern }
 {}

@@ -1,5 +1,5 @@
 // What texts begin with, and where.
-ghost use Rattle.si_examples.specs.Texts.{ThirdLine, FirstLine, OtherLanguage, OwnLanguage, NoForeignItem};
+ghost use Rattle.si_examples.specs.Texts.{ThirdLine, FirstLine, OtherLanguage, OwnLanguage, NoForeignItem, DeepestText, NoDeeperText};
 
 /// The line of a place, by the bytes before it.
 pub fn places_in_texts()
@@ -12,4 +12,10 @@ pub fn items_of_texts()
     ensures other_language { OtherLanguage }
     ensures own_language { OwnLanguage }
     ensures no_foreign_item { NoForeignItem }
+{}
+
+/// How deep the brackets of a text nest.
+pub fn nested_texts()
+    ensures deepest_text { DeepestText }
+    ensures no_deeper_text { NoDeeperText }
 {}

@@ -1,53 +1,65 @@
 -- What one call after the other makes of the bytes that a sink was given and of those that a source has left.
-use Rattle.std.proofs.Common.{◌≡◌, ℕ, ◌+◌, ◌≤◌, List, [], ◌++◌, Option, None, Some, IfSome, length, take, drop, refl, sym, ap, ◌∙◌, append_assoc, append-nil, arith, take_all, take-add, length-append, drop-drop, take-append-drop}
+use Rattle.std.proofs.Common.{◌≡◌, ℕ, ◌+◌, ◌-◌, ◌≤◌, List, [], ◌++◌, Option, None, Some, IfSome, length, take, drop, refl, sym, ap, ◌∙◌, append_assoc, append-nil, arith, take-add, length-append, drop-drop, take-append-drop}
 use Rattle.std.proofs.Math.Seq.{take-append-add, take-append_seam, drop-append_seam}
 use Rattle.std.proofs.lemmas.List.{take-append-le}
-use Rattle.si_io.specs.Content.{append_told, prepend_told, Appends, AppendsPrefix, Takes, IsAtEnd}
+use Rattle.std.specs.Prelude.{Result, Ok, Err}
+use Rattle.si_io.specs.Puts.{Puts}
+use Rattle.si_io.specs.Content.{Told, bytes_then, append_told, prepend_told, Appends, AppendsPrefix, Takes, IsAtEnd}
 
 -- Sinks
 
-pub append_told-nil : (a : Option (List ℕ)) → append_told a [] ≡ a
-append_told-nil None = refl
-append_told-nil (Some ws) = ap (λ (l : List ℕ). Some l) (append-nil ws)
+bytes_then-nil : (a : Option (List ℕ)) → bytes_then a [] ≡ a
+bytes_then-nil None = refl
+bytes_then-nil (Some ws) = ap (λ (l : List ℕ). Some l) (append-nil ws)
 
-pub append_told-append : (a : Option (List ℕ)) (bs cs : List ℕ) → append_told (append_told a bs) cs ≡ append_told a (bs ++ cs)
-append_told-append None bs cs = refl
-append_told-append (Some ws) bs cs = ap (λ (l : List ℕ). Some l) (append_assoc ws bs cs)
+bytes_then-append : (a : Option (List ℕ)) (bs cs : List ℕ) → bytes_then (bytes_then a bs) cs ≡ bytes_then a (bs ++ cs)
+bytes_then-append None bs cs = refl
+bytes_then-append (Some ws) bs cs = ap (λ (l : List ℕ). Some l) (append_assoc ws bs cs)
+
+-- two things that are told are the same where their parts are
+told : (a b : Option (List ℕ)) (n m : ℕ) → a ≡ b → n ≡ m → ◌≡◌ {A = Told} (record { bytes = a; room = n }) (record { bytes = b; room = m })
+told a b n m same room = ap (λ (t : Option (List ℕ)). record { bytes = t; room = n }) same ∙ ap (λ (k : ℕ). record { bytes = b; room = k }) room
+
+pub append_told-nil : (a : Told) → append_told a [] ≡ a
+append_told-nil a = told _ _ (a.room - 0) a.room (bytes_then-nil a.bytes) (omega arith)
+
+pub append_told-append : (a : Told) (bs cs : List ℕ) → append_told (append_told a bs) cs ≡ append_told a (bs ++ cs)
+append_told-append a bs cs =
+    told _ _ (a.room - length bs - length cs) (a.room - length (bs ++ cs)) (bytes_then-append a.bytes bs cs) (omega (arith, length-append bs cs))
 
 -- one text after the other
-pub Appends_then : (a b c : Option (List ℕ)) (bs cs : List ℕ) → Appends a bs b → Appends b cs c → Appends a (bs ++ cs) c
-Appends_then a b c bs cs first second = second ∙ ap (λ (t : Option (List ℕ)). append_told t cs) first ∙ append_told-append a bs cs
+pub Appends_then : (a b c : Told) (bs cs : List ℕ) → Appends a bs b → Appends b cs c → Appends a (bs ++ cs) c
+Appends_then a b c bs cs first second = second ∙ ap (λ (t : Told). append_told t cs) first ∙ append_told-append a bs cs
 
 -- the bytes before n, and then m more of the same text
-pub Appends_more : (a b c : Option (List ℕ)) (bs : List ℕ) (n m : ℕ) → Appends a (take n bs) b → Appends b (take m (drop n bs)) c → Appends a (take (n + m) bs) c
+pub Appends_more : (a b c : Told) (bs : List ℕ) (n m : ℕ) → Appends a (take n bs) b → Appends b (take m (drop n bs)) c → Appends a (take (n + m) bs) c
 Appends_more a b c bs n m first second = Appends_then a b c (take n bs) (take m (drop n bs)) first second ∙ ap (λ (l : List ℕ). append_told a l) (sym (take-add n m bs))
 
--- a sink that took nothing was given a prefix
-pub AppendsPrefix_none : (a b : Option (List ℕ)) (bs : List ℕ) → b ≡ a → AppendsPrefix a bs b
-AppendsPrefix_none a b bs kept = record { count = 0; within = omega arith; given = kept ∙ sym (append_told-nil a) }
-
--- and so was one that took all
-pub AppendsPrefix_all : (a b : Option (List ℕ)) (bs : List ℕ) → Appends a bs b → AppendsPrefix a bs b
-AppendsPrefix_all a b bs all = record { count = length bs; within = omega arith; given = all ∙ ap (λ (l : List ℕ). append_told a l) (sym (take_all (length bs) bs (omega arith))) }
-
 -- a prefix of a text is one of a longer text
-pub AppendsPrefix_more : (a b : Option (List ℕ)) (bs cs : List ℕ) → AppendsPrefix a bs b → AppendsPrefix a (bs ++ cs) b
+pub AppendsPrefix_more : (a b : Told) (bs cs : List ℕ) → AppendsPrefix a bs b → AppendsPrefix a (bs ++ cs) b
 AppendsPrefix_more a b bs cs part = record {
   count = part.count;
   within = omega (arith, length-append bs cs, part.within);
   given = part.given ∙ ap (λ (l : List ℕ). append_told a l) (sym (take-append-le part.count bs cs part.within));
+  past_room = omega (arith, length-append bs cs, part.past_room);
 }
 
 -- all of a text, and then a prefix of the next
-pub AppendsPrefix_then : (a b c : Option (List ℕ)) (bs cs : List ℕ) → Appends a bs b → AppendsPrefix b cs c → AppendsPrefix a (bs ++ cs) c
+pub AppendsPrefix_then : (a b c : Told) (bs cs : List ℕ) → Appends a bs b → AppendsPrefix b cs c → AppendsPrefix a (bs ++ cs) c
 AppendsPrefix_then a b c bs cs first part = record {
   count = length bs + part.count;
   within = omega (arith, length-append bs cs, part.within);
   given = Appends_then a b c bs (take part.count cs) first part.given ∙ ap (λ (l : List ℕ). append_told a l) (sym (take-append-add bs cs part.count));
+  past_room = omega (arith, length-append bs cs, ap (λ (t : Told). t.room) first, part.past_room);
 }
 
+-- all of a text, and then what a call writes of the next
+pub Puts_then : {T E : Type 0} (r : Result T E) (a b c : Told) (bs cs : List ℕ) → Appends a bs b → Puts r cs b c → Puts r (bs ++ cs) a c
+Puts_then (Ok x) a b c bs cs first then = record { all = Appends_then a b c bs cs first then.all; part = tt }
+Puts_then (Err e) a b c bs cs first then = record { all = tt; part = AppendsPrefix_then a b c bs cs first then.part }
+
 -- what a function owes that writes one text after the other: name it in the function's `using`
-pub ruleset writes = (Appends_then, AppendsPrefix_none, AppendsPrefix_all, AppendsPrefix_then, AppendsPrefix_more)
+pub ruleset writes = (Appends_then, AppendsPrefix_then, AppendsPrefix_more, Puts_then)
 
 -- Sources
 

@@ -1,3 +1,5 @@
 pub mod Content
 pub mod Faults
+pub mod Fetching
+pub mod Files
 pub mod Written

@@ -1,6 +1,9 @@
 pub mod Content
 pub mod Counted
 pub mod Faults
+pub mod Folder
+pub mod Library
 pub mod Memory
 pub mod Plan
+pub mod Puts
 pub mod Real

@@ -1,8 +1,11 @@
--- What a real source and a real sink show of themselves.
+-- What a real source, a real sink and a real library show of themselves.
 use Rattle.std.specs.Prelude.{ℕ, Bool, List, [], ◌∷◌, nat_eq, IsTrue}
 use Rattle.std.specs.List.{ends_with}
 use Rattle.si_io.specs.declared.real.source.RealSource.{RealSource}
 use Rattle.si_io.specs.declared.real.sink.RealSink.{RealSink}
+use Rattle.si_io.specs.declared.real.library.RealLibrary.{RealLibrary}
+use Rattle.si_io.specs.Folder.{counts_of}
+use Rattle.si_io.specs.Library.{Counts}
 use Rattle.si_io.specs.Counted.{device_of, faults_of, is_flushed}
 
 -- the reader behind a source
@@ -28,3 +31,7 @@ is_writer_flushed sink = is_flushed sink.writer
 -- The last of the bytes is a line feed.
 abbrev pub EndsLine : List ℕ → Type 0
 EndsLine bytes = IsTrue (ends_with nat_eq bytes (10 ∷ []))
+
+-- what a library counted so far
+abbrev pub library_counts : {R : Type 0} → RealLibrary R → Counts
+library_counts library = counts_of library.folder

@@ -1,8 +1,8 @@
 use crate::*;
 use std::alloc::{AllocError, Global};
-use std::io;
 use std::io::{Read, Write};
 use std::test::Fail;
+use std::{fs, io};
 
 /// Gives one letter a call, and fails at one of the calls.
 #[derive(Drop)]
@@ -32,10 +32,11 @@ fn read_from<S: Source>(source: &mut S, into: &mut [u8]) -> Result<usize, Failed
 
 #[test]
 fn a_real_source_fails_once_and_goes_on(rt: HostRuntime) {
-    let mut source = RealSource::new(Letters {
+    let mut letters = Letters {
         calls: 0,
         fails_at: 2,
-    });
+    };
+    let mut source = RealSource::new(&mut letters);
     let mut into = [b'-'; 2];
     assert_eq!(rt; source.read(&mut into), Ok(1));
     assert_eq!(rt; read_from(&mut source, &mut into), Err(Failed));
@@ -44,12 +45,15 @@ fn a_real_source_fails_once_and_goes_on(rt: HostRuntime) {
     assert_eq!(rt; into.as_slice(), b"bd".as_slice());
     assert_eq!(rt; source.read(&mut into), Ok(1));
     assert_eq!(rt; source.read(&mut into), Ok(0));
+    assert_eq!(rt; letters.calls, 5);
 }
 
-/// Takes up to three bytes a call, nothing at all once it is full, and fails at one of the calls.
+/// Takes up to three bytes a call, nothing at all once it is full, and fails at one of the calls. It keeps a `w` for
+/// each write and an `f` for each flush.
 #[derive(Drop)]
 struct Page {
     text: Vec<u8>,
+    asked: Vec<u8>,
     calls: u8,
     fails_at: u8,
     flushes: u8,
@@ -60,6 +64,7 @@ impl Page {
     fn new(alloc: Global, fails_at: u8, fails_at_flush: u8) -> Page {
         Page {
             text: Vec::new(alloc),
+            asked: Vec::new(alloc),
             calls: 0,
             fails_at,
             flushes: 0,
@@ -70,6 +75,7 @@ impl Page {
 
 impl Write for Page {
     fn write(&mut self, bytes: &[u8]) -> io::Result<usize> {
+        self.asked.push(b'w')?;
         self.calls = self.calls.saturating_add(1);
         if self.calls == self.fails_at {
             return Err(io::Error::from(io::ErrorKind::BrokenPipe));
@@ -83,6 +89,7 @@ impl Write for Page {
     }
 
     fn flush(&mut self) -> io::Result<()> {
+        self.asked.push(b'f')?;
         self.flushes = self.flushes.saturating_add(1);
         if self.flushes == self.fails_at_flush {
             return Err(io::Error::from(io::ErrorKind::BrokenPipe));
@@ -99,9 +106,9 @@ fn a_real_sink_flushes_at_the_end_of_a_line(rt: HostRuntime) {
     assert_eq!(rt; write_all(&mut sink, b"cd\n"), Ok(()));
     assert_eq!(rt; write_all(&mut sink, b"e\nf"), Ok(()));
     assert_eq!(rt; write_all(&mut sink, b"\n"), Ok(()));
+    assert_eq!(rt; write_all(&mut sink, b""), Ok(()));
     assert_eq!(rt; page.text.as_slice(), b"abcd\ne\nf\n".as_slice());
-    assert_eq!(rt; page.calls, 4);
-    assert_eq!(rt; page.flushes, 2);
+    assert_eq!(rt; page.asked.as_slice(), b"wwfwwf".as_slice());
 }
 
 #[test]
@@ -116,8 +123,7 @@ fn a_real_sink_hands_on_each_failure(rt: HostRuntime) {
     // Full: nothing is taken.
     assert_eq!(rt; write_all(&mut sink, b"i"), Err(Failed));
     assert_eq!(rt; page.text.as_slice(), b"abcd\nefgh\n".as_slice());
-    assert_eq!(rt; page.calls, 6);
-    assert_eq!(rt; page.flushes, 2);
+    assert_eq!(rt; page.asked.as_slice(), b"wwwfwwfw".as_slice());
 }
 
 #[test]
@@ -168,6 +174,67 @@ fn a_sink_in_memory_keeps_a_prefix(rt: HostRuntime) -> Result<(), Fail> {
         let (done, kept) = kept_of(alloc, room, chunk, text)?;
         assert_eq!(rt; done, all, "room {room}, chunk {chunk}");
         assert_eq!(rt; kept.as_slice(), want, "room {room}, chunk {chunk}");
+    }
+    Ok(())
+}
+
+/// What a fetch answers, and what it leaves in place of other bytes.
+fn fetch<L: Library>(
+    alloc: Global,
+    library: &mut L,
+    name: &[u8],
+    limit: usize,
+) -> Result<(Fetched, Vec<u8>), AllocError> {
+    let mut into = b"old".to_vec(alloc)?;
+    let answer = library.fetch(name, &mut into, limit);
+    Ok((answer, into))
+}
+
+#[test]
+fn a_library_in_memory_has_the_last_put(rt: HostRuntime) -> Result<(), Fail> {
+    let alloc = rt.alloc();
+    let mut library = MemoryLibrary::new(alloc, vec![in alloc; 5, 9]?);
+    library.put(b"a".to_vec(alloc)?, b"first".to_vec(alloc)?)?;
+    library.put(b"b".to_vec(alloc)?, Vec::new(alloc))?;
+    library.put(b"a".to_vec(alloc)?, b"last".to_vec(alloc)?)?;
+    let rows: [(&[u8], usize, Fetched, &[u8]); 6] = [
+        (b"a", 4, Fetched::Found, b"last"),
+        (b"a", 3, Fetched::TooBig, b""),
+        (b"ab", 9, Fetched::Missing, b""),
+        (b"b", 0, Fetched::Found, b""),
+        (b"a", 9, Fetched::Failed, b""),
+        (b"a", usize::MAX, Fetched::Found, b"last"),
+    ];
+    for (name, limit, answer, bytes) in rows {
+        let (got, left) = fetch(alloc, &mut library, name, limit)?;
+        assert_eq!(rt; got, answer, "limit {limit}");
+        assert_eq!(rt; left.as_slice(), bytes, "limit {limit}");
+    }
+    Ok(())
+}
+
+#[test]
+fn a_real_library_opens_paths(rt: HostRuntime) -> Result<(), Fail> {
+    let alloc = rt.alloc();
+    let long = vec![in alloc; b'x'; 40000]?;
+    fs::create_dir(&rt, "axioms")?;
+    fs::write(&rt, "axioms/short.ax", "abc")?;
+    fs::write(&rt, "axioms/long.ax", long.as_slice())?;
+    let mut library = RealLibrary::new(rt);
+    let rows: [(&[u8], usize, Fetched, &[u8]); 8] = [
+        (b"axioms/short.ax", 3, Fetched::Found, b"abc"),
+        (b"axioms/short.ax", 2, Fetched::TooBig, b""),
+        (b"axioms/none.ax", 9, Fetched::Missing, b""),
+        (b"axioms", 9, Fetched::Failed, b""),
+        (b"\xff", 9, Fetched::Failed, b""),
+        (b"axioms/long.ax", 40000, Fetched::Found, &long),
+        (b"axioms/long.ax", 39999, Fetched::TooBig, b""),
+        (b"axioms/short.ax", usize::MAX, Fetched::Found, b"abc"),
+    ];
+    for (name, limit, answer, bytes) in rows {
+        let (got, left) = fetch(alloc, &mut library, name, limit)?;
+        assert_eq!(rt; got, answer, "limit {limit}");
+        assert!(rt; left.as_slice() == bytes, "limit {limit}");
     }
     Ok(())
 }

@@ -1,126 +1,143 @@
--- Formulas: what the reader of them gives.
-use Rattle.std.proofs.Common.{◌≡◌, ℕ, zero, suc, List, [], ◌∷◌, ◌++◌, replicate, Option, Some, None, refl, sym, ap, ◌∙◌, subst, append_assoc, append-nil}
-use Rattle.std.specs.List.{AllByRecursion}
-use Rattle.si_defs.specs.Clauses.{Literal}
-use Rattle.si_defs.specs.Tokens.{Token}
-use Rattle.si_defs.specs.Grammar.{IsLiteral, IsDisjunction, left_bracket, right_bracket}
-use Rattle.si_defs.specs.declared.TokenKind.TheVariants as token
-use Rattle.si_parse.specs.Parsing.{Parses, Anything, NoBracket}
-use Rattle.si_parse.specs.Tokens.{IsPlainToken}
-use Rattle.si_parse.specs.GrammarRules.{IsMark, IsUnit}
-use Rattle.si_parse.proofs.ParseSteps.{parses_never, heads}
-use Rattle.si_parse.proofs.ParseSequences.{Then, then_some, then_none, then_stop, renamed_some, renamed_none}
-use Rattle.si_parse.proofs.ParseReads.{mark_front}
-use Rattle.si_parse.proofs.GrammarTerms.{no_bracket, right_left}
-use Rattle.si_parse.proofs.GrammarAtoms.{literal_other}
+-- Formulas: what the readers of them give.
+use Rattle.std.proofs.Common.{◌≡◌, ℕ, zero, suc, ◌+◌, ◌<◌, Bool, true, false, List, [], ◌∷◌, ◌++◌, replicate, Some, None, refl, sym, ap, ◌∙◌, subst, append_assoc, arith, inl, inr}
+use Rattle.si_defs.specs.Clauses.{Term, Literal}
+use Rattle.si_defs.specs.Tokens.{Token, mark}
+use Rattle.si_defs.specs.Grammar.{IsSignedAtom, IsLiteral, AreMoreLiterals, IsDisjunction, IsFormula, left_bracket, right_bracket}
+use Rattle.si_parse.specs.Parsing.{Parses, Anything, NoBracket, NoSign, NoLiteral}
+use Rattle.si_parse.specs.GrammarRules.{AreMore, AreLiterals, AreClosing, positively}
+use Rattle.si_parse.proofs.ParseSteps.{parses_none, parses_some, parses_uses, parses_one, parses_never, tails}
+use Rattle.si_parse.proofs.GrammarTerms.{marks_apart, mark_unequal, no_bracket, opens}
+use Rattle.si_parse.proofs.GrammarLiterals.{statement_first, mark_no_first, negatively}
 
--- one more bracket at the end
-replicate_more : (n : ℕ) (t : Token) → replicate (suc n) t ≡ replicate n t ++ t ∷ []
-replicate_more zero t = refl
-replicate_more (suc n) t = ap (λ x. t ∷ x) (replicate_more n t)
+-- ---- literals with bars between them
+-- what may follow the last literal may follow a literal
+pub literal_last : (rest : List Token) → NoLiteral rest → NoSign rest
+literal_last [] h = tt
+literal_last (t ∷ ts) h = (h.0, (h.1.0, (h.1.1.0, tt)))
 
--- a literal is a formula
-unit_of_literal : (l : Literal) (ts : List Token) → IsLiteral l ts → IsUnit l ts
-unit_of_literal l ts h = (0, ts, (ts, [], h, refl, sym (append-nil ts)), sym (append-nil ts))
+-- a bar is no sign
+pub bar_no_sign : (rest : List Token) → NoSign (mark 124 ∷ rest)
+bar_no_sign rest = (marks_apart 124 40 (λ e. absurd (omega (arith, e))), (marks_apart 124 61 (λ e. absurd (omega (arith, e))), (mark_unequal 124, tt)))
 
--- a formula of one literal without brackets is a literal
-literal_of_unit : (l : Literal) (inner ts : List Token) → IsDisjunction (l ∷ []) inner → ts ≡ inner ++ [] → IsLiteral l ts
-literal_of_unit l inner ts (first, others, h, none, e) f =
-    subst (λ x. IsLiteral l x) (sym (f ∙ append-nil inner ∙ e ∙ ap (λ x. first ++ x) none ∙ append-nil first)) h
+-- the last literal has no bar behind it
+pub bar_stops : (rest : List Token) → NoLiteral (mark 124 ∷ rest) → ⊥
+bar_stops rest h = h.1.1.1.0 refl
 
--- a formula in brackets is a formula
-unit_in_brackets : (l : Literal) (ts : List Token) → IsUnit l ts → IsUnit l (left_bracket ∷ ts ++ right_bracket ∷ [])
-unit_in_brackets l ts (n, inner, h, e) = (
-  suc n,
-  inner,
-  h,
-  ap (λ x. left_bracket ∷ x ++ right_bracket ∷ []) e
-      ∙ ap (λ x. left_bracket ∷ x) (append_assoc (replicate n left_bracket ++ inner) (replicate n right_bracket) (right_bracket ∷ []))
-      ∙ ap (λ x. left_bracket ∷ (replicate n left_bracket ++ inner) ++ x) (sym (replicate_more n right_bracket)),
-)
+-- where a closing bracket stands, no literal goes on
+pub right_no_literal : (rest : List Token) → NoLiteral (right_bracket ∷ rest)
+right_no_literal rest =
+    (marks_apart 41 40 (λ e. absurd (omega (arith, e))), (marks_apart 41 61 (λ e. absurd (omega (arith, e))), (mark_unequal 41, (marks_apart 41 124 (λ e. absurd (omega (arith, e))), tt))))
 
--- the brackets of a formula
-data Brackets (l : Literal) (ts : List Token) : Type 0 where
-  bare : IsLiteral l ts → Brackets l ts
-  round : (inner : List Token) → IsUnit l inner → ts ≡ left_bracket ∷ inner ++ right_bracket ∷ [] → Brackets l ts
+more_literals : (ls : List Literal) (ts : List Token) → AreMoreLiterals ls ts → AreMore IsLiteral (mark 124) ls ts
+more_literals [] ts h = h
+more_literals (l ∷ ls) ts (first, others, one, all, e) = (first, others, one, more_literals ls others all, e)
 
--- a formula of one literal has brackets round it or none
-brackets_of : (l : Literal) (ts : List Token) → IsUnit l ts → Brackets l ts
-brackets_of l ts (zero, inner, h, e) = bare (literal_of_unit l inner ts h e)
-brackets_of l ts (suc n, inner, h, e) =
-    round ((replicate n left_bracket ++ inner) ++ replicate n right_bracket) (n, inner, h, refl)
-    (e ∙ ap (λ x. left_bracket ∷ (replicate n left_bracket ++ inner) ++ x) (replicate_more n right_bracket)
-    ∙ ap (λ x. left_bracket ∷ x) (sym (append_assoc (replicate n left_bracket ++ inner) (replicate n right_bracket) (right_bracket ∷ []))))
+literals_more : (ls : List Literal) (ts : List Token) → AreMore IsLiteral (mark 124) ls ts → AreMoreLiterals ls ts
+literals_more [] ts h = h
+literals_more (l ∷ ls) ts (first, others, one, all, e) = (first, others, one, literals_more ls others all, e)
 
--- a mark as what is passed
-abbrev pub Mark : ℕ → Unit {0} → List Token → Type 0
-Mark c u ts = IsMark c ts
+-- a disjunction is a row of literals
+literals_of : (ls : List Literal) (ts : List Token) → IsDisjunction ls ts → AreLiterals ls ts
+literals_of [] ts h = h
+literals_of (l ∷ ls) ts (first, others, one, all, e) = (first, others, one, more_literals ls others all, e)
 
--- a formula between brackets
-abbrev pub Inside : Unit {0} × (Literal × Unit {0}) → List Token → Type 0
-Inside = Then (Mark 40) (Then IsUnit (Mark 41))
+disjunction_of : (ls : List Literal) (ts : List Token) → AreLiterals ls ts → IsDisjunction ls ts
+disjunction_of [] ts h = h
+disjunction_of (l ∷ ls) ts (first, others, one, all, e) = (first, others, one, literals_more ls others all, e)
 
--- no bracket opens where a closing one stands
-pub right_follows : (u : Unit {0}) (used rest : List Token) → Mark 41 u used → NoBracket (used ++ rest)
-right_follows u used rest e = no_bracket right_bracket rest (used ++ rest) (ap (λ x. x ++ rest) e) right_left
+-- ---- brackets
+-- a literal begins with no bracket
+begins_bare : (positive : Bool) (m : Term) (ts rest : List Token) → IsSignedAtom positive m ts → NoBracket (ts ++ rest)
+begins_bare true m ts rest h = let f = statement_first (positively m) ts h in no_bracket f.0 (f.1 ++ rest) (ts ++ rest) (ap (λ x. x ++ rest) f.3) (λ e. mark_no_first 40 f.0 f.2 (sym e))
+begins_bare false m ts rest (inl (us, h, e)) = no_bracket (mark 126) (us ++ rest) (ts ++ rest) (ap (λ x. x ++ rest) e) (marks_apart 126 40 (λ f. absurd (omega (arith, f))))
+begins_bare false m ts rest (inr (inl (us, h, e))) = no_bracket (mark 126) ((left_bracket ∷ us ++ right_bracket ∷ []) ++ rest) (ts ++ rest) (ap (λ x. x ++ rest) e) (marks_apart 126 40 (λ f. absurd (omega (arith, f))))
+begins_bare false m ts rest (inr (inr h)) = let f = statement_first (negatively m) ts h in no_bracket f.0 (f.1 ++ rest) (ts ++ rest) (ap (λ x. x ++ rest) f.3) (λ e. mark_no_first 40 f.0 f.2 (sym e))
 
--- a formula between brackets is a formula
-to_unit : (p : Unit {0} × (Literal × Unit {0})) (used : List Token) → Inside p used → IsUnit p.1.0 used
-to_unit p used (one, others, opens, (two, three, h, closes, f), e) =
-    subst (λ x. IsUnit p.1.0 x) (sym (e ∙ ap (λ x. x ++ others) opens ∙ ap (λ x. left_bracket ∷ x) (f ∙ ap (λ x. two ++ x) closes)))
-    (unit_in_brackets p.1.0 two h)
+-- neither does a row of them
+literals_bare : (ls : List Literal) (ts rest : List Token) → AreLiterals ls ts → NoBracket (ts ++ rest)
+literals_bare [] ts rest h = absurd h
+literals_bare (l ∷ ls) ts rest (first, others, one, all, e) =
+    subst NoBracket (sym (ap (λ x. x ++ rest) e ∙ append_assoc first others rest)) (begins_bare l.positive l.atom first (others ++ rest) one)
 
-module _ {tokens : List Token} where
-  -- where a bracket opens, a formula goes on inside it
-  from_unit : (rest : List Token) → tokens ≡ left_bracket ∷ rest → AllByRecursion IsPlainToken tokens → (l : Literal) (used behind : List Token) → tokens ≡ used ++ behind → IsUnit l used → NoBracket behind
-      → (p : Unit {0} × (Literal × Unit {0})) × (p.1.0 ≡ l) × Inside p used
-  from_unit rest opens plain l used behind e h follows = by (brackets_of l used h) where
-    by : Brackets l used → (p : Unit {0} × (Literal × Unit {0})) × (p.1.0 ≡ l) × Inside p used
-    by (bare g) = absurd (parses_never (literal_other tokens plain (λ t ts f k. not_lower t ts f k)) l used behind e g follows) where
-      not_lower : (t : Token) (ts : List Token) → tokens ≡ t ∷ ts → t.kind ≡ token.Lower → ⊥
-      not_lower t ts f k = cc (ap (λ (x : Token). x.kind) (heads (sym opens ∙ f)), k)
-    by (round inner g f) =
-        ((tt, (l, tt)), refl, (left_bracket ∷ [], inner ++ right_bracket ∷ [], refl, (inner, right_bracket ∷ [], g, refl, refl), f))
+-- as many brackets stand before what begins with none
+same_brackets : (n m : ℕ) (xs ys : List Token) → NoBracket xs → NoBracket ys → replicate n left_bracket ++ xs ≡ replicate m left_bracket ++ ys → (n ≡ m) × (xs ≡ ys)
+same_brackets zero zero xs ys h k e = (refl, e)
+same_brackets zero (suc m) xs ys h k e = absurd (opens xs _ h e)
+same_brackets (suc n) zero xs ys h k e = absurd (opens ys _ k (sym e))
+same_brackets (suc n) (suc m) xs ys h k e = let same = same_brackets n m xs ys h k (tails e) in (ap suc same.0, same.1)
 
-  module _ (rest : List Token) (opens : tokens ≡ left_bracket ∷ rest) (plain : AllByRecursion IsPlainToken tokens) where
-    -- a bracket, a formula and a bracket are a formula
-    pub unit_some : {p : Unit {0} × (Literal × Unit {0})} {behind : List Token} → Parses Inside NoBracket tokens (Some (p, behind)) → Parses IsUnit NoBracket tokens (Some (p.1.0, behind))
-    unit_some q = renamed_some (λ (p : Unit {0} × (Literal × Unit {0})). p.1.0) to_unit (from_unit rest opens plain) q
+-- closing brackets, and what may follow the last literal
+closing_follows : (n : ℕ) (rest : List Token) → NoLiteral rest → NoLiteral (replicate n right_bracket ++ rest)
+closing_follows zero rest h = h
+closing_follows (suc n) rest h = right_no_literal (replicate n right_bracket ++ rest)
 
-    pub unit_none : Parses Inside NoBracket tokens None → Parses IsUnit NoBracket tokens None
-    unit_none q = renamed_none (λ (p : Unit {0} × (Literal × Unit {0})). p.1.0) to_unit (from_unit rest opens plain) q
+-- one more bracket
+pub replicate_more : (n : ℕ) (t : Token) (rest : List Token) → replicate n t ++ t ∷ rest ≡ replicate (n + 1) t ++ rest
+replicate_more n t rest = by n ∙ ap (λ k. replicate k t ++ rest) counted where
+  by : (n : ℕ) → replicate n t ++ t ∷ rest ≡ replicate (suc n) t ++ rest
+  by zero = refl
+  by (suc n) = ap (λ x. t ∷ x) (by n)
 
-  -- where no bracket opens, a formula is a literal
-  pub unit_bare : (result : Option (Literal × List Token)) → Parses (Mark 40) Anything tokens None → Parses IsLiteral NoBracket tokens result → Parses IsUnit NoBracket tokens result
-  unit_bare result none p = record {
-    found = λ l rest e. let h = p.found l rest e in (h.0, h.1, unit_of_literal l h.0 h.2);
-    every = λ l used rest e h follows. by l used rest e (brackets_of l used h) follows;
-  } where
-    by : (l : Literal) (used rest : List Token) → tokens ≡ used ++ rest → Brackets l used → NoBracket rest → result ≡ Some (l, rest)
-    by l used rest e (bare g) follows = p.every l used rest e g follows
-    by l used rest e (round inner g f) follows =
-        absurd (parses_never none tt (left_bracket ∷ []) ((inner ++ right_bracket ∷ []) ++ rest) (e ∙ ap (λ x. x ++ rest) f) refl tt)
+  counted : suc n ≡ n + 1
+  counted = omega arith
 
--- A formula in brackets, by what the readers of its parts give.
-module _ {tokens inner : List Token} (plain : AllByRecursion IsPlainToken tokens) (begins : Parses (Mark 40) Anything tokens (Some (tt {0}, inner))) where
-  -- a formula and a closing bracket
-  pub inside_some : {l : Literal} {behind rest : List Token} → Parses IsUnit NoBracket inner (Some (l, behind)) → Parses (Mark 41) Anything behind (Some (tt {0}, rest)) → Parses IsUnit NoBracket tokens (Some (l, rest))
-  inside_some p q =
-      unit_some inner (mark_front begins) plain (then_some {F = Anything} (λ n used rest b g. tt) begins
-      (then_some {F = NoBracket} (λ u used rest b g. right_follows u used rest b) p (weaker q))) where
-        weaker : {behind : List Token} {result : Option (Unit {0} × List Token)} → Parses (Mark 41) Anything behind result → Parses (Mark 41) NoBracket behind result
-        weaker p = record { found = p.found; every = λ m used rest e means follows. p.every m used rest e means tt }
+-- ---- formulas
+-- A formula with its brackets: so many opening ones, what stands behind them, and so many closing ones.
+module _ {tokens inner : List Token} (n : ℕ) (opened : tokens ≡ replicate n left_bracket ++ inner) (bare : NoBracket inner) where
+  formula_by : (R : List Literal → List Token → Type 0) → ((ls : List Literal) (front after : List Token) → AreLiterals ls front → inner ≡ front ++ (replicate n right_bracket ++ after) → NoLiteral (replicate n right_bracket ++ after) → R ls after)
+      → (ls : List Literal) (used after : List Token) → tokens ≡ used ++ after → IsFormula ls used → NoLiteral after → R ls after
+  formula_by R k ls used after e (m, front, h, f) follows =
+      let row = literals_of ls front h in
+      let whole : replicate n left_bracket ++ inner ≡ replicate m left_bracket ++ (front ++ (replicate m right_bracket ++ after)) =
+      sym opened ∙ e ∙ ap (λ x. x ++ after) f ∙ append_assoc (replicate m left_bracket ++ front) (replicate m right_bracket) after
+      ∙ append_assoc (replicate m left_bracket) front (replicate m right_bracket ++ after) in
+      let same = same_brackets n m inner (front ++ (replicate m right_bracket ++ after)) bare (literals_bare ls front (replicate m right_bracket ++ after) row) whole in
+      k ls front after row (same.1 ∙ ap (λ x. front ++ (replicate x right_bracket ++ after)) (sym same.0)) (closing_follows n after follows)
 
-  -- no formula
-  pub inside_none : Parses IsUnit NoBracket inner None → Parses IsUnit NoBracket tokens None
-  inside_none p =
-      unit_none inner (mark_front begins) plain (then_stop {F = Anything} (λ n used rest b g. tt) begins
-      (then_none {F = NoBracket} (λ u used rest b g. right_follows u used rest b) p))
+  pub formula_none : Parses AreLiterals NoLiteral inner None → Parses IsFormula NoLiteral tokens None
+  formula_none p = parses_none (formula_by (λ ls after. ⊥) (λ ls front after row e follows. parses_never p ls front (replicate n right_bracket ++ after) e row follows))
 
-  -- no closing bracket
-  pub inside_stop : {l : Literal} {behind : List Token} → Parses IsUnit NoBracket inner (Some (l, behind)) → Parses (Mark 41) Anything behind None → Parses IsUnit NoBracket tokens None
-  inside_stop p q =
-      unit_none inner (mark_front begins) plain (then_stop {F = Anything} (λ n used rest b g. tt) begins
-      (then_stop {F = NoBracket} (λ u used rest b g. right_follows u used rest b) p (weaker q))) where
-        weaker : {behind : List Token} {result : Option (Unit {0} × List Token)} → Parses (Mark 41) Anything behind result → Parses (Mark 41) NoBracket behind result
-        weaker p = record { found = p.found; every = λ m used rest e means follows. p.every m used rest e means tt }
+  module _ {literals : List Literal} {behind : List Token} (p : Parses AreLiterals NoLiteral inner (Some (literals, behind))) where
+    pub formula_stop : Parses (λ (u : Unit {0}) used. AreClosing n used) Anything behind None → Parses IsFormula NoLiteral tokens None
+    formula_stop q = parses_none (formula_by (λ ls after. ⊥) (λ ls front after row e follows.
+        let same = parses_one p ls front (replicate n right_bracket ++ after) e row follows in
+        parses_never q tt (replicate n right_bracket) after same.1 refl tt))
+
+    pub formula_some : {rest : List Token} → Parses (λ (u : Unit {0}) used. AreClosing n used) Anything behind (Some (tt {0}, rest)) → Parses IsFormula NoLiteral tokens (Some (literals, rest))
+    formula_some {rest = rest} q =
+        let h = parses_uses literals behind p in
+        let k = parses_uses tt rest q in
+        let closes = ap (λ x. x ++ rest) k.2 in
+        parses_some literals ((replicate n left_bracket ++ h.0) ++ replicate n right_bracket) rest
+        (opened ∙ ap (λ x. replicate n left_bracket ++ x) (h.1 ∙ ap (λ x. h.0 ++ x) (k.1 ∙ closes))
+        ∙ sym (append_assoc (replicate n left_bracket) h.0 (replicate n right_bracket ++ rest))
+        ∙ sym (append_assoc (replicate n left_bracket ++ h.0) (replicate n right_bracket) rest))
+        (n, h.0, disjunction_of literals h.0 h.2, refl)
+        (formula_by (λ ls after. (literals ≡ ls) × (rest ≡ after)) (λ ls front after row e follows.
+        let same = parses_one p ls front (replicate n right_bracket ++ after) e row follows in
+        (same.0, (parses_one q tt (replicate n right_bracket) after same.1 refl tt).1)))
+
+-- ---- closing brackets one after another
+-- so many stand in front of what is left
+same_front : (n : ℕ) (xs ys : List Token) → replicate n right_bracket ++ xs ≡ replicate n right_bracket ++ ys → xs ≡ ys
+same_front zero xs ys e = e
+same_front (suc n) xs ys e = same_front n xs ys (tails e)
+
+pub closing_some : (n : ℕ) (tokens left : List Token) → tokens ≡ replicate n right_bracket ++ left → Parses (λ (u : Unit {0}) used. AreClosing n used) Anything tokens (Some (tt {0}, left))
+closing_some n tokens left e = parses_some tt (replicate n right_bracket) left e refl (λ u used after f means follows.
+    (refl, same_front n left after (sym e ∙ f ∙ ap (λ x. x ++ after) means)))
+
+-- fewer stand there
+one_more : (i n : ℕ) (left after : List Token) → i < n → replicate i right_bracket ++ left ≡ replicate n right_bracket ++ after → (rest : List Token) × (left ≡ right_bracket ∷ rest)
+one_more i zero left after h e = absurd (omega (arith, h))
+one_more zero (suc n) left after h e = (replicate n right_bracket ++ after, e)
+one_more (suc i) (suc n) left after h e = one_more i n left after (omega (arith, h)) (tails e)
+
+pub closing_none : (n i : ℕ) (tokens left : List Token) → i < n → tokens ≡ replicate i right_bracket ++ left → ((rest : List Token) → left ≡ right_bracket ∷ rest → ⊥)
+    → Parses (λ (u : Unit {0}) used. AreClosing n used) Anything tokens None
+closing_none n i tokens left h e none = parses_none (λ u used after f means follows.
+    let k = one_more i n left after h (sym e ∙ f ∙ ap (λ x. x ++ after) means) in none k.0 k.1)
+
+-- nothing begins with no token
+pub none_empty : {tokens : List Token} {t : Token} → tokens ≡ [] → (rest : List Token) → tokens ≡ t ∷ rest → ⊥
+none_empty e rest f = cc

@@ -5,7 +5,8 @@ use Rattle.std.proofs.lemmas.List.{length-append, length-map}
 use Rattle.si_defs.specs.Bytes.{Bytes}
 use Rattle.si_defs.specs.Terms as terms
 use Rattle.si_defs.specs.Symbols.{Symbol}
-use Rattle.si_defs.specs.Clauses.{Term, Terms, Literal, Clause, Fits, IsSoundSymbol, IsSoundTerm, AreSoundTerms, IsSoundAtom, IsSoundLiteral, literal_size, literals_size, most_occurrences, literal_pattern, term_pattern, IsSoundPattern, IsSoundClause}
+use Rattle.si_defs.specs.Clauses.{Term, Terms, Literal, Clause, Fits, IsSoundSymbol, IsSoundTerm, AreSoundTerms, IsSoundAtom, IsSoundLiteral, literal_size, literals_size, literal_pattern, term_pattern, IsSoundPattern, IsSoundClause}
+use Rattle.si_defs.specs.declared.TheConstants.{MOST_OCCURRENCES}
 use Rattle.si_defs.specs.Tokens as defs
 use Rattle.si_defs.specs.Tokens.{mark}
 use Rattle.si_defs.specs.Grammar.{IsTerm, AreMoreTerms, IsHead, IsConstant, IsAtom, IsInequation, AreSides, IsSignedAtom, IsLiteral, AreMoreLiterals, IsDisjunction, IsFormula, IsClause, left_bracket, right_bracket, not_equal}
@@ -13,10 +14,10 @@ use Rattle.si_defs.specs.declared.SymKind.{SymKind}
 use Rattle.si_defs.specs.declared.SymKind.TheVariants.{Word, Dollar, Number, Distinct, Equal}
 use Rattle.si_defs.specs.declared.Side.{Side}
 use Rattle.si_defs.specs.declared.Side.TheVariants.{Predicate, Function}
-use Rattle.si_parse.specs.Lexing.{most_bytes}
 use Rattle.si_parse.specs.Parsing.{Parses, Reads, IfFound}
-use Rattle.si_parse.specs.Tokens.{token_of, tokens_of}
-use Rattle.si_parse.specs.declared.token.Token.{Token}
+use Rattle.si_defs.specs.declared.TheConstants.{MOST_BYTES}
+use Rattle.si_lex.specs.Lexemes.{token_of, tokens_of}
+use Rattle.si_lex.specs.declared.lexeme.Lexeme.{Lexeme}
 
 -- the head of arguments is a sound symbol
 head_sound : (kind : SymKind) (text : Bytes) (side : Side) (arity : ℕ) (t : defs.Token) → IsHead kind text t → IsSoundSymbol kind text side arity
@@ -121,13 +122,13 @@ sound_formula ls ts (n, inner, h, e) =
     (k.0, k.1, omega (arith, k.2, ap length e, length-append (replicate n left_bracket ++ inner) (replicate n right_bracket), length-append (replicate n left_bracket) inner))
 
 -- a clause of few tokens
-pub sound_clause : (c : Clause) (ts : List defs.Token) → IsClause c ts → length ts ≤ most_bytes → IsSoundClause c
+pub sound_clause : (c : Clause) (ts : List defs.Token) → IsClause c ts → length ts ≤ MOST_BYTES → IsSoundClause c
 sound_clause c ts (name, formula, extra, is_name, is_formula, is_extra, e) few =
     let h = sound_formula c.literals formula is_formula in
     record { some = h.0; sound = record { each = h.1; no_larger = omega (arith, h.2, few, ap length e, length-append (formula ++ extra) (right_bracket ∷ mark 46 ∷ []), length-append formula extra) } }
 
 -- What was read has what each meaning of some of the tokens has.
-pub parsed_has : {M : Type 0} {Means : M → List defs.Token → Type 0} {Follows : List defs.Token → Type 0} (P : M → Type 0) (tokens : List Token)
+pub parsed_has : {M : Type 0} {Means : M → List defs.Token → Type 0} {Follows : List defs.Token → Type 0} (P : M → Type 0) (tokens : List Lexeme)
     → ((m : M) (used : List defs.Token) → length used ≤ length tokens → Means m used → P m)
     → (m : M) (rest : List defs.Token) → Parses Means Follows (tokens_of tokens) (Some (m, rest)) → P m
 parsed_has P tokens law m rest p =
@@ -135,9 +136,9 @@ parsed_has P tokens law m rest p =
     law m h.0 (omega (arith, ap length h.1 ∙ length-append h.0 rest, length-map tokens token_of)) h.2
 
 -- And so has what was found.
-module _ {X M : Type 0} (view : X → M) {Means : M → List defs.Token → Type 0} {Follows : List defs.Token → Type 0} (P : M → Type 0) (tokens : List Token)
+module _ {X M : Type 0} (view : X → M) {Means : M → List defs.Token → Type 0} {Follows : List defs.Token → Type 0} (P : M → Type 0) (tokens : List Lexeme)
     (law : (m : M) (used : List defs.Token) → length used ≤ length tokens → Means m used → P m) where
-  pub found_has : (result : Option (X × Bor (List Token))) → Reads view Means Follows tokens result → IfFound (λ x. P (view x)) result
+  pub found_has : (result : Option (X × Bor (List Lexeme))) → Reads view Means Follows tokens result → IfFound (λ x. P (view x)) result
   found_has None p = tt
   found_has (Some (x, behind)) p = parsed_has P tokens law (view x) (tokens_of behind.now) p
 
@@ -152,12 +153,12 @@ term_slack (terms.app s (terms.more u us)) ts (on_side, with_arity, (t, first, o
     inr (slack t first others ts (terms.size u) (terms.sizes us) e h.1 k.1)
 
 -- so it has no more than one token less allows, unless that is none
-small_term : (t : Term) (ts : List defs.Token) → IsTerm t ts → length ts ≤ most_bytes → terms.size t ≤ most_occurrences
+small_term : (t : Term) (ts : List defs.Token) → IsTerm t ts → length ts ≤ MOST_BYTES → terms.size t ≤ MOST_OCCURRENCES
 small_term t ts h few = elim (term_slack t ts h) [ inl e ↦ omega (arith, e) | inr l ↦ omega (arith, l, few) ]
 
 -- two sides of an equation: each is one occurrence, or has brackets
-small_sides : (sign : defs.Token) (s : Symbol) (l : Term) (us : Terms) (ts : List defs.Token) → AreSides sign s l us ts → length ts ≤ most_bytes
-    → terms.size (terms.app s (terms.more l us)) ≤ most_occurrences
+small_sides : (sign : defs.Token) (s : Symbol) (l : Term) (us : Terms) (ts : List defs.Token) → AreSides sign s l us ts → length ts ≤ MOST_BYTES
+    → terms.size (terms.app s (terms.more l us)) ≤ MOST_OCCURRENCES
 small_sides sign s l terms.none ts h few = absurd h
 small_sides sign s l (terms.more r (terms.more u us)) ts h few = absurd h
 small_sides sign s l (terms.more r terms.none) ts (is, (left, right, one, two, e)) few =
@@ -168,7 +169,7 @@ small_sides sign s l (terms.more r terms.none) ts (is, (left, right, one, two, e
       | inr a ↦ omega (arith, a, k.1, few, ap length e, length-append left (sign ∷ right))
     ]
 
-small_atom : (m : Term) (ts : List defs.Token) → IsAtom m ts → length ts ≤ most_bytes → terms.size m ≤ most_occurrences
+small_atom : (m : Term) (ts : List defs.Token) → IsAtom m ts → length ts ≤ MOST_BYTES → terms.size m ≤ MOST_OCCURRENCES
 small_atom (terms.var x) ts h few = absurd h
 small_atom (terms.app s terms.none) ts h few = omega arith
 small_atom (terms.app s (terms.more u us)) ts (inl (on_side, with_arity, (t, first, others, head, one, all, e))) few =
@@ -178,12 +179,12 @@ small_atom (terms.app s (terms.more u us)) ts (inl (on_side, with_arity, (t, fir
     omega (arith, l, few)
 small_atom (terms.app s (terms.more u us)) ts (inr h) few = small_sides (mark 61) s u us ts h few
 
-small_inequation : (m : Term) (ts : List defs.Token) → IsInequation m ts → length ts ≤ most_bytes → terms.size m ≤ most_occurrences
+small_inequation : (m : Term) (ts : List defs.Token) → IsInequation m ts → length ts ≤ MOST_BYTES → terms.size m ≤ MOST_OCCURRENCES
 small_inequation (terms.var x) ts h few = absurd h
 small_inequation (terms.app s terms.none) ts h few = absurd h
 small_inequation (terms.app s (terms.more u us)) ts h few = small_sides not_equal s u us ts h few
 
-small_signed : (positive : Bool) (m : Term) (ts : List defs.Token) → IsSignedAtom positive m ts → length ts ≤ most_bytes → terms.size m ≤ most_occurrences
+small_signed : (positive : Bool) (m : Term) (ts : List defs.Token) → IsSignedAtom positive m ts → length ts ≤ MOST_BYTES → terms.size m ≤ MOST_OCCURRENCES
 small_signed true m ts h few = small_atom m ts h few
 small_signed false m ts (inl (us, h, e)) few = small_atom m us h (omega (arith, few, ap length e))
 small_signed false m ts (inr (inl (us, h, e))) few = small_atom m us h (omega (arith, few, ap length e, length-append us (right_bracket ∷ [])))
@@ -191,13 +192,13 @@ small_signed false m ts (inr (inr h)) few = small_inequation m ts h few
 
 -- ---- what was found
 -- a term of few tokens is a sound pattern
-pub found_term : (tokens : List Token) → length tokens ≤ most_bytes → (t : Term) (used : List defs.Token) → length used ≤ length tokens → IsTerm t used → IsSoundPattern (term_pattern t)
+pub found_term : (tokens : List Lexeme) → length tokens ≤ MOST_BYTES → (t : Term) (used : List defs.Token) → length used ≤ length tokens → IsTerm t used → IsSoundPattern (term_pattern t)
 found_term tokens few t used l h = ((sound_term t used h).0, small_term t used h (omega (arith, l, few)))
 
 -- and so is a literal
-pub found_literal : (tokens : List Token) → length tokens ≤ most_bytes → (l : Literal) (used : List defs.Token) → length used ≤ length tokens → IsLiteral l used → IsSoundPattern (literal_pattern l)
+pub found_literal : (tokens : List Lexeme) → length tokens ≤ MOST_BYTES → (l : Literal) (used : List defs.Token) → length used ≤ length tokens → IsLiteral l used → IsSoundPattern (literal_pattern l)
 found_literal tokens few l used n h = ((sound_literal l used h).0, small_signed l.positive l.atom used h (omega (arith, n, few)))
 
 -- and a clause of few tokens is sound
-pub found_clause : (tokens : List Token) → length tokens ≤ most_bytes → (c : Clause) (used : List defs.Token) → length used ≤ length tokens → IsClause c used → IsSoundClause c
+pub found_clause : (tokens : List Lexeme) → length tokens ≤ MOST_BYTES → (c : Clause) (used : List defs.Token) → length used ≤ length tokens → IsClause c used → IsSoundClause c
 found_clause tokens few c used h means = sound_clause c used means (omega (arith, few, h))

@@ -1,364 +1,266 @@
 -- Terms and their arguments: what the readers of them give.
-use Rattle.std.proofs.Common.{◌≡◌, ℕ, ◌+◌, ◌≤◌, List, [], ◌∷◌, ◌++◌, length, Option, Some, None, refl, sym, ap, ◌∙◌, subst, append_assoc, arith, ◌⊎◌, inl, inr}
-use Rattle.std.proofs.lemmas.List.{length-append}
+use Rattle.std.proofs.Common.{◌≡◌, ℕ, ◌+◌, List, [], ◌∷◌, ◌++◌, length, Option, Some, None, refl, sym, ap, ◌∙◌, subst, append_assoc, arith, inl, inr}
 use Rattle.si_defs.specs.Bytes.{Bytes}
 use Rattle.si_defs.specs.Terms as terms
 use Rattle.si_defs.specs.Symbols.{Symbol}
 use Rattle.si_defs.specs.Clauses.{Term, Terms}
-use Rattle.si_defs.specs.Tokens.{Token, lower, upper}
-use Rattle.si_defs.specs.Grammar.{IsTerm, AreMoreTerms, IsHead, IsConstant, left_bracket, right_bracket, comma}
+use Rattle.si_defs.specs.Tokens.{Token, mark}
+use Rattle.si_defs.specs.Grammar.{IsTerm, AreMoreTerms, IsHead, IsConstant, left_bracket, right_bracket, comma, not_equal}
 use Rattle.si_defs.specs.declared.SymKind.{SymKind}
 use Rattle.si_defs.specs.declared.SymKind.TheVariants.{Word, Dollar, Number, Distinct, Equal}
-use Rattle.si_defs.specs.declared.Side.{Side}
 use Rattle.si_defs.specs.declared.Side.TheVariants.{Function}
+use Rattle.si_defs.specs.declared.TokenKind.{TokenKind}
 use Rattle.si_defs.specs.declared.TokenKind.TheVariants as token
-use Rattle.si_parse.specs.Parsing.{Parses, Anything, NoBracket}
-use Rattle.si_parse.specs.GrammarRules.{word_symbol, AreArguments, IsApplied}
+use Rattle.si_parse.specs.Parsing.{Parses, NoBracket, NoTerm}
+use Rattle.si_parse.specs.GrammarRules.{AreMore, AreTerms, IsApplied, function_symbol}
 use Rattle.si_parse.proofs.ParseSteps.{parses_none, parses_some, parses_uses, parses_one, parses_never, heads, tails, front_heads, front_tails}
 
--- ---- symbols by their tokens
+-- ---- marks
+-- different marks are different tokens
+pub marks_apart : (c d : ℕ) → (c ≡ d → ⊥) → mark c ≡ mark d → ⊥
+marks_apart c d h e = h (heads (ap (λ (t : Token). t.text) e))
+
+-- a mark is no inequality sign
+pub mark_unequal : (c : ℕ) → mark c ≡ not_equal → ⊥
+mark_unequal c e = cc (ap (λ (t : Token). t.kind) e)
+
+-- what begins with another token than a bracket
+pub no_bracket : (t : Token) (rest tokens : List Token) → tokens ≡ t ∷ rest → (t ≡ left_bracket → ⊥) → NoBracket tokens
+no_bracket t rest tokens e h = subst NoBracket (sym e) (h, tt)
+
+-- what does not begin with a bracket
+pub no_bracket-none : (tokens : List Token) → ((rest : List Token) → tokens ≡ left_bracket ∷ rest → ⊥) → NoBracket tokens
+no_bracket-none [] h = tt
+no_bracket-none (t ∷ ts) h = (λ e. h ts (ap (λ x. x ∷ ts) e), tt)
+
+-- no bracket follows where one stands
+pub opens : (xs ys : List Token) → NoBracket xs → xs ≡ left_bracket ∷ ys → ⊥
+opens [] ys h e = cc
+opens (x ∷ xs) ys h e = h.0 (heads e)
+
+-- ---- which symbol a token is
+abbrev pub symbol_kind : TokenKind → Option SymKind
+symbol_kind token.Lower = Some Word
+symbol_kind token.Upper = None
+symbol_kind token.Dollar = Some Dollar
+symbol_kind token.Int = Some Number
+symbol_kind token.Single = Some Word
+symbol_kind token.Double = Some Distinct
+symbol_kind token.NotEqual = None
+symbol_kind token.Mark = None
+
+-- a head may stand alone
+pub head_constant : (kind : SymKind) (text : Bytes) (t : Token) → IsHead kind text t → IsConstant kind text t
+head_constant Word text t h = h
+head_constant Dollar text t h = h
+head_constant Number text t h = absurd h
+head_constant Distinct text t h = absurd h
+head_constant Equal text t h = h
+
+-- a constant is the symbol of its token
+pub constant_is : (kind : SymKind) (text : Bytes) (t : Token) → IsConstant kind text t → (symbol_kind t.kind ≡ Some kind) × (text ≡ t.text)
+constant_is Word text t (inl e) = (ap (λ (u : Token). symbol_kind u.kind) e, sym (ap (λ (u : Token). u.text) e))
+constant_is Word text t (inr e) = (ap (λ (u : Token). symbol_kind u.kind) e, sym (ap (λ (u : Token). u.text) e))
+constant_is Dollar text t e = (ap (λ (u : Token). symbol_kind u.kind) e, sym (ap (λ (u : Token). u.text) e))
+constant_is Number text t e = (ap (λ (u : Token). symbol_kind u.kind) e, sym (ap (λ (u : Token). u.text) e))
+constant_is Distinct text t e = (ap (λ (u : Token). symbol_kind u.kind) e, sym (ap (λ (u : Token). u.text) e))
+constant_is Equal text t e = absurd e
+
+-- no two kinds are one
+same_kind : (a b : SymKind) → Some a ≡ Some b → a ≡ b
+same_kind a b e = cc
+
+none_some : {A : Type 0} (x : A) → None ≡ Some x → ⊥
+none_some x e = cc
+
 -- a symbol is its four parts
-pub symbol_is : (s : Symbol) (kind : SymKind) (text : Bytes) (side : Side) (arity : ℕ) → s.kind ≡ kind → s.text ≡ text → s.side ≡ side → s.arity ≡ arity
-    → s ≡ record { kind = kind; text = text; side = side; arity = arity }
-symbol_is s kind text side arity k t d a = λ i. record { kind = k i; text = t i; side = d i; arity = a i }
+pub symbol_is : (s : Symbol) (kind : SymKind) (text : Bytes) (arity : ℕ) → s.kind ≡ kind → s.text ≡ text → s.side ≡ Function → s.arity ≡ arity → s ≡ function_symbol kind text arity
+symbol_is s kind text arity k t d a = λ i. record { kind = k i; text = t i; side = d i; arity = a i }
 
--- a lower word as a head is a word's
-pub head_lower : (kind : SymKind) (text : Bytes) (t : Token) (word : Bytes) → IsHead kind text t → t ≡ lower word → (kind ≡ Word) × (text ≡ word)
-head_lower Word text t word (inl e) f = (refl, ap (λ u. u.text) (sym e ∙ f))
-head_lower Word text t word (inr e) f = (refl, ap (λ u. u.text) (sym e ∙ f))
-head_lower Dollar text t word e f = cc (ap (λ u. u.kind) (sym e ∙ f))
-head_lower Number text t word e f = absurd e
-head_lower Distinct text t word e f = absurd e
-head_lower Equal text t word e f = absurd e
-
--- a lower word as a constant is a word's
-constant_lower : (kind : SymKind) (text : Bytes) (t : Token) (word : Bytes) → IsConstant kind text t → t ≡ lower word → (kind ≡ Word) × (text ≡ word)
-constant_lower Word text t word e f = head_lower Word text t word e f
-constant_lower Dollar text t word e f = cc (ap (λ u. u.kind) (sym e ∙ f))
-constant_lower Number text t word e f = cc (ap (λ u. u.kind) (sym e ∙ f))
-constant_lower Distinct text t word e f = cc (ap (λ u. u.kind) (sym e ∙ f))
-constant_lower Equal text t word e f = absurd e
-
--- no head and no constant is an upper word or a mark
-pub head_kind : (kind : SymKind) (text : Bytes) (t : Token) → IsHead kind text t → (t.kind ≡ token.Lower) ⊎ ((t.kind ≡ token.Single) ⊎ (t.kind ≡ token.Dollar))
-head_kind Word text t (inl e) = inl (ap (λ u. u.kind) e)
-head_kind Word text t (inr e) = inr (inl (ap (λ u. u.kind) e))
-head_kind Dollar text t e = inr (inr (ap (λ u. u.kind) e))
-head_kind Number text t e = absurd e
-head_kind Distinct text t e = absurd e
-head_kind Equal text t e = absurd e
-
--- ---- terms
--- an upper word is a variable
-pub term_upper : (x : Bytes) (rest : List Token) → Parses IsTerm NoBracket (upper x ∷ rest) (Some (terms.var x, rest))
-term_upper x rest = parses_some (terms.var x) (upper x ∷ []) rest refl refl (λ m used behind e means follows. unique m used behind e means) where
-  other : (t : Token) → (t.kind ≡ token.Lower) ⊎ ((t.kind ≡ token.Single) ⊎ (t.kind ≡ token.Dollar)) → upper x ≡ t → ⊥
-  other t (inl k) e = cc (ap (λ v. v.kind) e)
-  other t (inr (inl k)) e = cc (ap (λ v. v.kind) e)
-  other t (inr (inr k)) e = cc (ap (λ v. v.kind) e)
-
-  constant : (kind : SymKind) (text : Bytes) (t : Token) → IsConstant kind text t → upper x ≡ t → ⊥
-  constant Word text t h e = other t (head_kind Word text t h) e
-  constant Dollar text t h e = other t (head_kind Dollar text t h) e
-  constant Number text t h e = cc (ap (λ u. u.kind) (e ∙ h))
-  constant Distinct text t h e = cc (ap (λ u. u.kind) (e ∙ h))
-  constant Equal text t h e = absurd h
-
-  unique : (m : Term) (used behind : List Token) → upper x ∷ rest ≡ used ++ behind → IsTerm m used → (terms.var x ≡ m) × (rest ≡ behind)
-  unique (terms.var y) used behind e means =
-      (ap (λ t. terms.var t.text) (front_heads behind e means), front_tails behind e means)
-  unique (terms.app s terms.none) used behind e (side, arity, (t, const, f)) =
-      absurd (constant s.kind s.text t const (front_heads behind e f))
-  unique (terms.app s (terms.more u us)) used behind e (side, arity, (t, first, others, head, one, all, f)) =
-      absurd (other t (head_kind s.kind s.text t head) (front_heads behind e f))
-
--- ---- a lower word with what stands behind it
+-- ---- rows of terms
 -- the arguments as a list and back
 pub row_list : (us : Terms) → terms.row (terms.list us) ≡ us
 row_list terms.none = refl
 row_list (terms.more u us) = ap (λ x. terms.more u x) (row_list us)
-
--- a list as arguments and back
-pub list_row : (us : List Term) → terms.list (terms.row us) ≡ us
-list_row [] = refl
-list_row (u ∷ us) = ap (λ x. u ∷ x) (list_row us)
 
 -- as many arguments as the list has
 pub count_row : (us : List Term) → terms.count (terms.row us) ≡ length us
 count_row [] = refl
 count_row (u ∷ us) = omega (arith, count_row us)
 
--- what stands behind the head of a term or an atom with arguments, by the tokens of the whole
-pub applied_more : (f : Bytes) (side : Side) (s : Symbol) (u : Term) (us : Terms) (t : Token) (first others used rest behind : List Token)
-    → lower f ∷ rest ≡ used ++ behind → s.side ≡ side → s.arity ≡ 1 + terms.count us → IsHead s.kind s.text t → IsTerm u first → AreMoreTerms us others
-    → used ≡ t ∷ left_bracket ∷ first ++ others ++ right_bracket ∷ []
-    → (tail : List Token) × (used ≡ lower f ∷ tail) × IsApplied f side (terms.app s (terms.more u us)) tail
-applied_more f side s u us t first others used rest behind e on_side with_arity head one all g =
-    let is = front_heads behind e g in
-    let parts = head_lower s.kind s.text t f head (sym is) in (
-      left_bracket ∷ (first ++ others) ++ right_bracket ∷ [],
-      g ∙ ap (λ x. x ∷ left_bracket ∷ (first ++ others) ++ right_bracket ∷ []) (sym is),
-      (
-        symbol_is s Word f side (1 + terms.count us) parts.0 parts.1 on_side with_arity,
-        (
-          (first ++ others) ++ right_bracket ∷ [],
-          (first, others, one, subst (λ x. AreMoreTerms x others) (sym (row_list us)) all, refl),
-          refl,
-        ),
-      ),
-    )
+-- terms behind commas, as arguments and as a list
+pub more_terms : (us : Terms) (ts : List Token) → AreMoreTerms us ts → AreMore IsTerm comma (terms.list us) ts
+more_terms terms.none ts h = h
+more_terms (terms.more u us) ts (first, others, one, all, e) = (first, others, one, more_terms us others all, e)
 
--- the tokens of a term with this head
-pub applied_term : (f : Bytes) (m : Term) (tail : List Token) → IsApplied f Function m tail → IsTerm m (lower f ∷ tail)
-applied_term f (terms.var x) tail h = absurd h
-applied_term f (terms.app s terms.none) tail (e, g) =
-    subst (λ x. IsTerm (terms.app x terms.none) (lower f ∷ tail)) (sym e) (refl, refl, (lower f, inl refl, ap (λ x. lower f ∷ x) g))
-applied_term f (terms.app s (terms.more u us)) tail (e, (inner, (first, others, one, all, h), g)) =
-    subst (λ x. IsTerm (terms.app x (terms.more u us)) (lower f ∷ tail)) (sym e) (
-      refl,
-      refl,
-      (
-        lower f,
-        first,
-        others,
-        inl refl,
-        one,
-        subst (λ x. AreMoreTerms x others) (row_list us) all,
-        ap (λ x. lower f ∷ x) (g ∙ ap (λ x. left_bracket ∷ x) h),
-      ),
-    )
+pub terms_more : (us : Terms) (ts : List Token) → AreMore IsTerm comma (terms.list us) ts → AreMoreTerms us ts
+terms_more terms.none ts h = h
+terms_more (terms.more u us) ts (first, others, one, all, e) = (first, others, one, terms_more us others all, e)
 
--- a term that begins with a lower word, by what is behind the word
-pub term_lower : (f : Bytes) (rest : List Token) (result : Option (Term × List Token)) → Parses (IsApplied f Function) NoBracket rest result → Parses IsTerm NoBracket (lower f ∷ rest) result
-term_lower f rest result p = record {
-  found = λ m behind e. let h = p.found m behind e in (lower f ∷ h.0, ap (λ x. lower f ∷ x) h.1, applied_term f m h.0 h.2);
-  every = λ m used behind e means follows. let h = back m used behind e means in p.every m h.0 behind (front_tails {ys = h.0} behind e h.1) h.2 follows;
-} where
-  back : (m : Term) (used behind : List Token) → lower f ∷ rest ≡ used ++ behind → IsTerm m used → (tail : List Token) × (used ≡ lower f ∷ tail) × IsApplied f Function m tail
-  back (terms.var x) used behind e means = cc (ap (λ t. t.kind) (front_heads behind e means))
-  back (terms.app s terms.none) used behind e (on_side, with_arity, (t, constant, g)) =
+-- ---- terms by their first token
+-- an upper word is a variable
+pub term_upper : (t : Token) (rest : List Token) → t.kind ≡ token.Upper → Parses IsTerm NoBracket (t ∷ rest) (Some (terms.var t.text, rest))
+term_upper t rest k = parses_some (terms.var t.text) (t ∷ []) rest refl (λ i. record { kind = k i; text = t.text } ∷ []) (λ m used behind e means follows. unique m used behind e means) where
+  never : (kind : SymKind) (text : Bytes) (u : Token) → IsConstant kind text u → t ≡ u → ⊥
+  never kind text u h e = none_some kind (sym (ap symbol_kind (ap (λ (x : Token). x.kind) (sym e) ∙ k)) ∙ (constant_is kind text u h).0)
+
+  unique : (m : Term) (used behind : List Token) → t ∷ rest ≡ used ++ behind → IsTerm m used → (terms.var t.text ≡ m) × (rest ≡ behind)
+  unique (terms.var y) used behind e means =
+      (ap (λ (u : Token). terms.var u.text) (front_heads behind e means), front_tails behind e means)
+  unique (terms.app s terms.none) used behind e (side, arity, (u, const, f)) =
+      absurd (never s.kind s.text u const (front_heads behind e f))
+  unique (terms.app s (terms.more u us)) used behind e (side, arity, (v, first, others, head, one, all, f)) =
+      absurd (never s.kind s.text v (head_constant s.kind s.text v head) (front_heads behind e f))
+
+-- what a term begins with: an upper word, or the token of a symbol
+pub data First (t : Token) : Type 0 where
+  variable : t.kind ≡ token.Upper → First t
+  symbol : (kind : SymKind) → symbol_kind t.kind ≡ Some kind → First t
+
+pub term_first : (m : Term) (used : List Token) → IsTerm m used → (t : Token) × (tail : List Token) × First t × (used ≡ t ∷ tail)
+term_first (terms.var y) used e = (record { kind = token.Upper; text = y }, [], variable refl, e)
+term_first (terms.app s terms.none) used (side, arity, (u, const, f)) = (u, [], symbol s.kind (constant_is s.kind s.text u const).0, f)
+term_first (terms.app s (terms.more u us)) used (side, arity, (v, first, others, head, one, all, f)) =
+    (v, left_bracket ∷ (first ++ others) ++ right_bracket ∷ [], symbol s.kind (constant_is s.kind s.text v (head_constant s.kind s.text v head)).0, f)
+
+-- where no term begins none is read
+pub term_none : (t : Token) (rest : List Token) → (t.kind ≡ token.Upper → ⊥) → symbol_kind t.kind ≡ None → Parses IsTerm NoBracket (t ∷ rest) None
+term_none t rest not_upper none = parses_none (λ m used behind e means follows.
+    let f = term_first m used means in never f.0 f.2 (front_heads {ys = f.1} behind e f.3)) where
+      never : (u : Token) → First u → t ≡ u → ⊥
+      never u (variable k) e = not_upper (ap (λ (x : Token). x.kind) e ∙ k)
+      never u (symbol kind k) e = none_some kind (sym none ∙ ap (λ (x : Token). symbol_kind x.kind) e ∙ k)
+
+-- nor of nothing
+pub term_empty : Parses IsTerm NoBracket [] None
+term_empty = parses_none (λ m used behind e means follows. let f = term_first m used means in cc (e ∙ ap (λ x. x ++ behind) f.3))
+
+module _ (t : Token) (rest : List Token) (kind : SymKind) (is_kind : symbol_kind t.kind ≡ Some kind) where
+  -- a symbol at the front, by its token
+  symbol_of : (other : SymKind) (text : Bytes) (u : Token) → IsConstant other text u → t ≡ u → (other ≡ kind) × (text ≡ t.text)
+  symbol_of other text u h e =
+      let c = constant_is other text u h in
+      (same_kind other kind (sym c.0 ∙ ap (λ (x : Token). symbol_kind x.kind) (sym e) ∙ is_kind), c.1 ∙ ap (λ (x : Token). x.text) (sym e))
+
+  not_variable : (x : Bytes) → t ≡ record { kind = token.Upper; text = x } → ⊥
+  not_variable x e = none_some kind (sym (ap (λ (u : Token). symbol_kind u.kind) e) ∙ is_kind)
+
+  -- a symbol that takes no arguments
+  pub term_constant : ((text : Bytes) (u : Token) → IsHead kind text u → ⊥) → IsConstant kind t.text t
+      → Parses IsTerm NoBracket (t ∷ rest) (Some (terms.app (function_symbol kind t.text 0) terms.none, rest))
+  term_constant no_head const = parses_some (terms.app (function_symbol kind t.text 0) terms.none) (t ∷ []) rest refl (refl, refl, (t, const, refl)) (λ m used behind e means follows. unique m used behind e means) where
+    unique : (m : Term) (used behind : List Token) → t ∷ rest ≡ used ++ behind → IsTerm m used → (terms.app (function_symbol kind t.text 0) terms.none ≡ m) × (rest ≡ behind)
+    unique (terms.var y) used behind e means = absurd (not_variable y (front_heads behind e means))
+    unique (terms.app s terms.none) used behind e (side, arity, (u, constant, f)) =
+        let k = symbol_of s.kind s.text u constant (front_heads behind e f) in
+        (ap (λ x. terms.app x terms.none) (sym (symbol_is s kind t.text 0 k.0 k.1 side arity)), front_tails behind e f)
+    unique (terms.app s (terms.more u us)) used behind e (side, arity, (v, first, others, head, one, all, f)) =
+        let k = symbol_of s.kind s.text v (head_constant s.kind s.text v head) (front_heads behind e f) in
+        absurd (no_head s.text v (subst (λ x. IsHead x s.text v) k.0 head))
+
+  -- the tokens of a term with this head
+  applied_term : IsHead kind t.text t → (m : Term) (tail : List Token) → IsApplied kind t.text m tail → IsTerm m (t ∷ tail)
+  applied_term head (terms.var x) tail h = absurd h
+  applied_term head (terms.app s terms.none) tail (e, g) =
+      subst (λ x. IsTerm (terms.app x terms.none) (t ∷ tail)) (sym e) (refl, refl, (t, head_constant kind t.text t head, ap (λ x. t ∷ x) g))
+  applied_term head (terms.app s (terms.more u us)) tail (e, (inner, (first, others, one, all, h), g)) =
+      subst (λ x. IsTerm (terms.app x (terms.more u us)) (t ∷ tail)) (sym e)
+      (refl, refl, (t, first, others, head, one, terms_more us others all, ap (λ x. t ∷ x) (g ∙ ap (λ x. left_bracket ∷ x ++ right_bracket ∷ []) h)))
+
+  -- a term with this head, by what is behind it
+  applied_back : (m : Term) (used behind : List Token) → t ∷ rest ≡ used ++ behind → IsTerm m used → (tail : List Token) × (used ≡ t ∷ tail) × IsApplied kind t.text m tail
+  applied_back (terms.var x) used behind e means = absurd (not_variable x (front_heads behind e means))
+  applied_back (terms.app s terms.none) used behind e (side, arity, (u, constant, g)) =
       let is = front_heads behind e g in
-      let parts = constant_lower s.kind s.text t f constant (sym is) in
-      ([], g ∙ ap (λ x. x ∷ []) (sym is), (symbol_is s Word f Function 0 parts.0 parts.1 on_side with_arity, refl))
-  back (terms.app s (terms.more u us)) used behind e (on_side, with_arity, (t, first, others, head, one, all, g)) =
-      applied_more f Function s u us t first others used rest behind e on_side with_arity head one all g
+      let k = symbol_of s.kind s.text u constant is in
+      ([], g ∙ ap (λ x. x ∷ []) (sym is), (symbol_is s kind t.text 0 k.0 k.1 side arity, refl))
+  applied_back (terms.app s (terms.more u us)) used behind e (side, arity, (v, first, others, head, one, all, g)) =
+      let is = front_heads behind e g in
+      let k = symbol_of s.kind s.text v (head_constant s.kind s.text v head) is in (
+        left_bracket ∷ (first ++ others) ++ right_bracket ∷ [],
+        g ∙ ap (λ x. x ∷ left_bracket ∷ (first ++ others) ++ right_bracket ∷ []) (sym is),
+        (symbol_is s kind t.text (1 + terms.count us) k.0 k.1 side arity, (first ++ others, (first, others, one, more_terms us others all, refl), refl)),
+      )
 
--- a bracket does not follow where none may
-opens : (xs ys : List Token) → NoBracket xs → xs ≡ left_bracket ∷ ys → ⊥
-opens [] ys h e = cc
-opens (x ∷ xs) ys h e = h (heads e)
+  -- a symbol that takes arguments, by what stands behind it
+  pub term_head : IsHead kind t.text t → (result : Option (Term × List Token)) → Parses (IsApplied kind t.text) NoBracket rest result → Parses IsTerm NoBracket (t ∷ rest) result
+  term_head head result p = record {
+    found = λ m behind e. let h = p.found m behind e in (t ∷ h.0, ap (λ x. t ∷ x) h.1, applied_term head m h.0 h.2);
+    every = λ m used behind e means follows. let h = applied_back m used behind e means in p.every m h.0 behind (front_tails {ys = h.0} behind e h.1) h.2 follows;
+  }
 
--- equal arguments make equal terms
-same_applied : (f : Bytes) (side : Side) (args : List Term) (s : Symbol) (u : Term) (us : Terms) → s ≡ word_symbol f side (1 + terms.count us) → args ≡ u ∷ terms.list us
-    → terms.app (word_symbol f side (length args)) (terms.row args) ≡ terms.app s (terms.more u us)
-same_applied f side args s u us is same =
-    ap (λ x. terms.app (word_symbol f side (length x)) (terms.row x)) same
-    ∙ ap (λ x. terms.app (word_symbol f side (length (u ∷ terms.list us))) (terms.more u x)) (row_list us)
-    ∙ ap (λ x. terms.app x (terms.more u us)) (ap (λ n. word_symbol f side n) counted ∙ sym is) where
-      counted : length (u ∷ terms.list us) ≡ 1 + terms.count us
-      counted = omega (arith, count_row (terms.list us), ap (λ x. terms.count x) (row_list us))
+-- ---- what stands behind a head
+-- nothing
+pub applied_bare : (kind : SymKind) (text : Bytes) (rest : List Token) → NoBracket rest → Parses (IsApplied kind text) NoBracket rest (Some (terms.app (function_symbol kind text 0) terms.none, rest))
+applied_bare kind text rest none = parses_some (terms.app (function_symbol kind text 0) terms.none) [] rest refl (refl, refl) (λ m used behind e means follows. unique m used behind e means) where
+  unique : (m : Term) (used behind : List Token) → rest ≡ used ++ behind → IsApplied kind text m used → (terms.app (function_symbol kind text 0) terms.none ≡ m) × (rest ≡ behind)
+  unique (terms.var x) used behind e means = absurd means
+  unique (terms.app s terms.none) used behind e (is, g) = (ap (λ x. terms.app x terms.none) (sym is), e ∙ ap (λ x. x ++ behind) g)
+  unique (terms.app s (terms.more u us)) used behind e (is, (inner, all, g)) = absurd (opens rest ((inner ++ right_bracket ∷ []) ++ behind) none (e ∙ ap (λ x. x ++ behind) g))
 
--- behind a bracket stand arguments
-pub applied_arguments : (f : Bytes) (side : Side) (rest : List Token) (args : List Term) (behind : List Token) → Parses AreArguments Anything rest (Some (args, behind))
-    → Parses (IsApplied f side) NoBracket (left_bracket ∷ rest) (Some (terms.app (word_symbol f side (length args)) (terms.row args), behind))
-applied_arguments f side rest args behind p =
-    let h = parses_uses args behind p in
-    parses_some (terms.app (word_symbol f side (length args)) (terms.row args)) (left_bracket ∷ h.0) behind (ap (λ x. left_bracket ∷ x) h.1) (to args h.0 h.2) unique where
-      to : (args : List Term) (used : List Token) → AreArguments args used → IsApplied f side (terms.app (word_symbol f side (length args)) (terms.row args)) (left_bracket ∷ used)
-      to [] used h = absurd h
-      to (u ∷ us) used h =
-          (ap (λ n. word_symbol f side n) (omega (arith, count_row us)), (used, subst (λ x. AreArguments (u ∷ x) used) (sym (list_row us)) h, refl))
+-- a term that is read up to a bracket may not go on behind it
+pub right_ends : (rest : List Token) → NoTerm (right_bracket ∷ rest)
+right_ends rest = (marks_apart 41 40 (λ e. absurd (omega (arith, e))), (marks_apart 41 44 (λ e. absurd (omega (arith, e))), tt))
 
-      unique : (m : Term) (used after : List Token) → left_bracket ∷ rest ≡ used ++ after → IsApplied f side m used → NoBracket after
-          → (terms.app (word_symbol f side (length args)) (terms.row args) ≡ m) × (behind ≡ after)
-      unique (terms.var x) used after e means follows = absurd means
-      unique (terms.app s terms.none) used after e (is, g) follows = absurd (opens after rest follows (sym (e ∙ ap (λ x. x ++ after) g)))
-      unique (terms.app s (terms.more u us)) used after e (is, (inner, all, g)) follows =
-          let same = parses_one p (u ∷ terms.list us) inner after (front_tails after e g) all tt in
-          (same_applied f side args s u us is same.0, same.1)
+-- a front of terms and a bracket
+inside : {used rest : List Token} (inner after : List Token) → left_bracket ∷ rest ≡ used ++ after → used ≡ left_bracket ∷ inner ++ right_bracket ∷ [] → rest ≡ inner ++ right_bracket ∷ after
+inside inner after e g = front_tails after e g ∙ append_assoc inner (right_bracket ∷ []) after
 
--- a bracket without arguments behind it
-pub applied_none : (f : Bytes) (side : Side) (rest : List Token) → Parses AreArguments Anything rest None → Parses (IsApplied f side) NoBracket (left_bracket ∷ rest) None
-applied_none f side rest p = parses_none never where
-  never : (m : Term) (used after : List Token) → left_bracket ∷ rest ≡ used ++ after → IsApplied f side m used → NoBracket after → ⊥
-  never (terms.var x) used after e means follows = means
-  never (terms.app s terms.none) used after e (is, g) follows = opens after rest follows (sym (e ∙ ap (λ x. x ++ after) g))
-  never (terms.app s (terms.more u us)) used after e (is, (inner, all, g)) follows =
-      parses_never p (u ∷ terms.list us) inner after (front_tails after e g) all tt
+module _ (kind : SymKind) (text : Bytes) (rest : List Token) where
+  -- a second term behind the head, by its arguments
+  applied_by : {R : Type 0} → ((args : List Term) (inner after : List Token) → AreTerms args inner → rest ≡ inner ++ right_bracket ∷ after → R)
+      → (m : Term) (used after : List Token) → left_bracket ∷ rest ≡ used ++ after → IsApplied kind text m used → NoBracket after → R
+  applied_by k (terms.var x) used after e means follows = absurd means
+  applied_by k (terms.app s terms.none) used after e (is, g) follows = absurd (opens after rest follows (sym (e ∙ ap (λ x. x ++ after) g)))
+  applied_by k (terms.app s (terms.more u us)) used after e (is, (inner, all, g)) follows = k (u ∷ terms.list us) inner after all (inside inner after e g)
 
--- ---- arguments, one after another
--- Some arguments were read, up to the comma behind the last: what is left goes on with arguments as the tokens do.
-pub record Along (tokens : List Token) (done : List Term) (left : List Token) : Type 0 where
-  pub found : (args : List Term) (used rest : List Token) → left ≡ used ++ rest → AreArguments args used
-      → (whole : List Token) × (tokens ≡ whole ++ rest) × AreArguments (done ++ args) whole
-  pub every : (args : List Term) (used rest : List Token) → tokens ≡ used ++ rest → AreArguments args used
-      → (others : List Term) × (behind : List Token) × (args ≡ done ++ others) × (left ≡ behind ++ rest) × AreArguments others behind
+  -- a bracket without arguments behind it
+  pub applied_none : Parses AreTerms NoTerm rest None → Parses (IsApplied kind text) NoBracket (left_bracket ∷ rest) None
+  applied_none p = parses_none (applied_by (λ args inner after all e. parses_never p args inner (right_bracket ∷ after) e all (right_ends after)))
 
--- arguments behind what is left are arguments of the whole
-pub along_some : {tokens left rest : List Token} {done : List Term} (args : List Term) → Along tokens done left → Parses AreArguments Anything left (Some (args, rest))
-    → Parses AreArguments Anything tokens (Some (done ++ args, rest))
-along_some {rest = rest} {done = done} args along p =
-    let h = parses_uses args rest p in
-    let w = along.found args h.0 rest h.1 h.2 in
-    parses_some (done ++ args) w.0 rest w.1 w.2 (λ other front behind e means follows.
-    let o = along.every other front behind e means in
-    let same = parses_one p o.0 o.1 behind o.3 o.4 tt in
-    (ap (λ x. done ++ x) same.0 ∙ sym o.2, same.1))
+  -- arguments without a bracket behind them
+  pub applied_stop : {args : List Term} {behind : List Token} → Parses AreTerms NoTerm rest (Some (args, behind)) → ((after : List Token) → behind ≡ right_bracket ∷ after → ⊥)
+      → Parses (IsApplied kind text) NoBracket (left_bracket ∷ rest) None
+  applied_stop p none = parses_none (applied_by (λ args inner after all e. none after (parses_one p args inner (right_bracket ∷ after) e all (right_ends after)).1))
 
--- no arguments behind what is left, none of the whole
-pub along_none : {tokens left : List Token} {done : List Term} → Along tokens done left → Parses AreArguments Anything left None → Parses AreArguments Anything tokens None
-along_none along p = parses_none (λ other front behind e means follows.
-    let o = along.every other front behind e means in parses_never p o.0 o.1 behind o.3 o.4 tt)
+  -- arguments and a bracket
+  pub applied_some : (args : List Term) (behind : List Token) → Parses AreTerms NoTerm rest (Some (args, right_bracket ∷ behind))
+      → Parses (IsApplied kind text) NoBracket (left_bracket ∷ rest) (Some (terms.app (function_symbol kind text (length args)) (terms.row args), behind))
+  applied_some [] behind p = absurd (parses_uses [] (right_bracket ∷ behind) p).2
+  applied_some (u ∷ us) behind p =
+      let h = parses_uses (u ∷ us) (right_bracket ∷ behind) p in
+      parses_some (terms.app (function_symbol kind text (length (u ∷ us))) (terms.row (u ∷ us))) (left_bracket ∷ h.0 ++ right_bracket ∷ []) behind
+      (ap (λ x. left_bracket ∷ x) (h.1 ∙ sym (append_assoc h.0 (right_bracket ∷ []) behind))) (ap (function_symbol kind text) counted, (h.0, subst (λ x. AreTerms (u ∷ x) h.0) (sym (listed us)) h.2, refl)) unique where
+        counted : length (u ∷ us) ≡ 1 + terms.count (terms.row us)
+        counted = omega (arith, count_row us)
 
--- a comma stands before more arguments
-step_on : (u : Term) (args : List Term) (first used : List Token) → IsTerm u first → AreArguments args used → AreArguments (u ∷ args) (first ++ comma ∷ used)
-step_on u [] first used one h = absurd h
-step_on u (v ∷ vs) first used one (next, others, two, all, e) =
-    (first, comma ∷ next ++ others, one, (next, others, two, all, refl), ap (λ x. first ++ comma ∷ x) e ∙ sym (append_assoc first (comma ∷ next ++ others) (right_bracket ∷ [])))
+        listed : (us : List Term) → terms.list (terms.row us) ≡ us
+        listed [] = refl
+        listed (v ∷ vs) = ap (λ x. v ∷ x) (listed vs)
 
--- the first of some arguments, and what stands behind it
-record First (u : Term) (us : List Term) (left rest : List Token) : Type 0 where
-  first : List Token
-  others : List Token
-  one : IsTerm u first
-  all : AreMoreTerms (terms.row us) others
-  front : left ≡ first ++ ((others ++ right_bracket ∷ []) ++ rest)
+        unique : (m : Term) (used after : List Token) → left_bracket ∷ rest ≡ used ++ after → IsApplied kind text m used → NoBracket after
+            → (terms.app (function_symbol kind text (length (u ∷ us))) (terms.row (u ∷ us)) ≡ m) × (behind ≡ after)
+        unique (terms.var x) used after e means follows = absurd means
+        unique (terms.app s terms.none) used after e (is, g) follows = absurd (opens after rest follows (sym (e ∙ ap (λ x. x ++ after) g)))
+        unique (terms.app s (terms.more v vs)) used after e (is, (inner, all, g)) follows =
+            let same = parses_one p (v ∷ terms.list vs) inner (right_bracket ∷ after) (inside inner after e g) all (right_ends after) in
+            (λ i. terms.app (joined same.0 i) (rows same.0 i), tails same.1) where
+              rows : u ∷ us ≡ v ∷ terms.list vs → terms.row (u ∷ us) ≡ terms.more v vs
+              rows f = ap terms.row f ∙ ap (λ x. terms.more v x) (row_list vs)
 
--- some arguments begin with their first
-first_of : (u : Term) (us : List Term) (used left rest : List Token) → left ≡ used ++ rest → AreArguments (u ∷ us) used → First u us left rest
-first_of u us used left rest e (first, others, one, all, f) = record {
-  first = first;
-  others = others;
-  one = one;
-  all = all;
-  front = e ∙ ap (λ x. x ++ rest) f ∙ simp append_assoc;
-}
+              joined : u ∷ us ≡ v ∷ terms.list vs → function_symbol kind text (length (u ∷ us)) ≡ s
+              joined f = ap (function_symbol kind text) (sym (count_row (u ∷ us)) ∙ ap terms.count (rows f)) ∙ sym is
 
--- the marks are different tokens
-pub right_comma : right_bracket ≡ comma → ⊥
-right_comma e = absurd (omega (arith, heads (ap (λ (t : Token). t.text) e)))
+-- ---- rows of terms
+-- what may follow the last term may follow a term
+pub term_last : (rest : List Token) → NoTerm rest → NoBracket rest
+term_last [] h = tt
+term_last (t ∷ ts) h = (h.0, tt)
 
--- a closing bracket is no opening one
-pub right_left : right_bracket ≡ left_bracket → ⊥
-right_left e = absurd (omega (arith, heads (ap (λ (t : Token). t.text) e)))
+-- a comma may follow a term
+pub term_goes_on : (rest : List Token) → NoBracket (comma ∷ rest)
+term_goes_on rest = (marks_apart 44 40 (λ e. absurd (omega (arith, e))), tt)
 
--- a comma is no opening bracket
-pub comma_left : comma ≡ left_bracket → ⊥
-comma_left e = absurd (omega (arith, heads (ap (λ (t : Token). t.text) e)))
-
--- no bracket follows where another token stands
-pub no_bracket : (t : Token) (rest tokens : List Token) → tokens ≡ t ∷ rest → (t ≡ left_bracket → ⊥) → NoBracket tokens
-no_bracket t rest [] e h = tt
-no_bracket t rest (x ∷ xs) e h = λ f. h (sym (heads e) ∙ f)
-
--- no bracket opens behind an argument
-behind_one : (us : List Term) (others rest : List Token) → AreMoreTerms (terms.row us) others → NoBracket ((others ++ right_bracket ∷ []) ++ rest)
-behind_one [] others rest e = no_bracket right_bracket rest _ (ap (λ x. (x ++ right_bracket ∷ []) ++ rest) e) right_left
-behind_one (u ∷ us) others rest (first, more, one, all, e) =
-    no_bracket comma (((first ++ more) ++ right_bracket ∷ []) ++ rest) _ (ap (λ x. (x ++ right_bracket ∷ []) ++ rest) e) comma_left
-
--- what is read as the first argument is the first one
-reads_first : {left behind : List Token} {t : Term} → Parses IsTerm NoBracket left (Some (t, behind)) → (u : Term) (us : List Term) (rest : List Token) (h : First u us left rest)
-    → (t ≡ u) × (behind ≡ (h.others ++ right_bracket ∷ []) ++ rest)
-reads_first p u us rest h = parses_one p u h.first ((h.others ++ right_bracket ∷ []) ++ rest) h.front h.one (behind_one us h.others rest h.all)
-
--- what stands behind the first argument: a closing bracket, or a comma and more
-data Next (us : List Term) (behind rest : List Token) : Type 0 where
-  closes : us ≡ [] → behind ≡ right_bracket ∷ rest → Next us behind rest
-  goes_on : (used : List Token) → behind ≡ comma ∷ (used ++ rest) → AreArguments us used → Next us behind rest
-
--- by the tokens behind the first argument
-next_is : (us : List Term) (behind others rest : List Token) → AreMoreTerms (terms.row us) others → behind ≡ (others ++ right_bracket ∷ []) ++ rest → Next us behind rest
-next_is [] behind others rest e f = closes refl (f ∙ ap (λ x. (x ++ right_bracket ∷ []) ++ rest) e)
-next_is (u ∷ us) behind others rest (first, more, one, all, e) f =
-    goes_on ((first ++ more) ++ right_bracket ∷ []) (f ∙ ap (λ x. (x ++ right_bracket ∷ []) ++ rest) e) (first, more, one, all, refl)
-
--- some arguments begin with the one that was read
-next_of : {left behind : List Token} {t : Term} → Parses IsTerm NoBracket left (Some (t, behind)) → (args : List Term) (used rest : List Token) → left ≡ used ++ rest → AreArguments args used
-    → (us : List Term) × (args ≡ t ∷ us) × Next us behind rest
-next_of p [] used rest e h = absurd h
-next_of {left = left} {behind = behind} p (u ∷ us) used rest e h =
-    let f = first_of u us used left rest e h in
-    let same = reads_first p u us rest f in
-    (us, ap (λ x. x ∷ us) (sym same.0), next_is us behind f.others rest f.all same.1)
-
--- where no term stands no arguments do
-pub arguments_none : {left : List Token} → Parses IsTerm NoBracket left None → Parses AreArguments Anything left None
-arguments_none {left = left} p = parses_none never where
-  never : (args : List Term) (used rest : List Token) → left ≡ used ++ rest → AreArguments args used → Anything rest → ⊥
-  never [] used rest e h any = h
-  never (u ∷ us) used rest e h any =
-      let f = first_of u us used left rest e h in
-      parses_never p u f.first ((f.others ++ right_bracket ∷ []) ++ rest) f.front f.one (behind_one us f.others rest f.all)
-
--- a closing bracket stands behind the last argument
-pub arguments_last : {left behind rest : List Token} {t : Term} → Parses IsTerm NoBracket left (Some (t, behind)) → behind ≡ right_bracket ∷ rest
-    → Parses AreArguments Anything left (Some (t ∷ [], rest))
-arguments_last {left = left} {behind = behind} {rest = rest} {t = t} p e =
-    let h = parses_uses t behind p in
-    parses_some (t ∷ []) (h.0 ++ right_bracket ∷ []) rest (h.1 ∙ ap (λ x. h.0 ++ x) e ∙ sym (append_assoc h.0 (right_bracket ∷ []) rest))
-    (h.0, [], h.2, refl, simp append_assoc) unique where
-      by_next : (us other : List Term) (after : List Token) → other ≡ t ∷ us → Next us behind after → (t ∷ [] ≡ other) × (rest ≡ after)
-      by_next us other after same (closes none f) = (ap (λ x. t ∷ x) (sym none) ∙ sym same, tails (sym e ∙ f))
-      by_next us other after same (goes_on used f all) = absurd (right_comma (heads (sym e ∙ f)))
-
-      unique : (other : List Term) (front after : List Token) → left ≡ front ++ after → AreArguments other front → Anything after → (t ∷ [] ≡ other) × (rest ≡ after)
-      unique other front after f means any = let n = next_of p other front after f means in by_next n.0 other after n.1 n.2
-
--- neither a closing bracket nor a comma stands behind an argument
-pub arguments_stop : {left behind : List Token} {t : Term} → Parses IsTerm NoBracket left (Some (t, behind))
-    → ((rest : List Token) → behind ≡ right_bracket ∷ rest → ⊥) → ((rest : List Token) → behind ≡ comma ∷ rest → ⊥) → Parses AreArguments Anything left None
-arguments_stop {left = left} {behind = behind} {t = t} p not_right not_comma = parses_none never where
-  by_next : (us : List Term) (after : List Token) → Next us behind after → ⊥
-  by_next us after (closes none f) = not_right after f
-  by_next us after (goes_on used f all) = not_comma (used ++ after) f
-
-  never : (other : List Term) (front after : List Token) → left ≡ front ++ after → AreArguments other front → Anything after → ⊥
-  never other front after f means any = let n = next_of p other front after f means in by_next n.0 after n.2
-
--- another token than a closing bracket and a comma stands behind an argument
-pub arguments_other : {left behind rest : List Token} {t : Term} (sign : Token) → Parses IsTerm NoBracket left (Some (t, behind)) → behind ≡ sign ∷ rest
-    → (sign ≡ right_bracket → ⊥) → (sign ≡ comma → ⊥) → Parses AreArguments Anything left None
-arguments_other sign p e not_right not_comma = arguments_stop p (λ rest f. not_right (heads (sym e ∙ f))) (λ rest f. not_comma (heads (sym e ∙ f)))
-
--- a comma stands behind an argument
-pub along_comma : {tokens left behind rest : List Token} {done : List Term} {t : Term} → Along tokens done left → Parses IsTerm NoBracket left (Some (t, behind)) → behind ≡ comma ∷ rest
-    → Along tokens (done ++ t ∷ []) rest
-along_comma {tokens = tokens} {left = left} {behind = behind} {rest = rest} {done = done} {t = t} along p e = record { found = found; every = every } where
-  found : (args : List Term) (used after : List Token) → rest ≡ used ++ after → AreArguments args used → (whole : List Token) × (tokens ≡ whole ++ after) × AreArguments ((done ++ t ∷ []) ++ args) whole
-  found args used after f all =
-      let h = parses_uses t behind p in
-      let w = along.found (t ∷ args) (h.0 ++ comma ∷ used) after
-      (h.1 ∙ ap (λ x. h.0 ++ x) (e ∙ ap (λ x. comma ∷ x) f) ∙ sym (append_assoc h.0 (comma ∷ used) after)) (step_on t args h.0 used h.2 all) in
-      (w.0, w.1, subst (λ x. AreArguments x w.0) (sym (append_assoc done (t ∷ []) args)) w.2)
-
-  by_next : (us args others : List Term) (after : List Token) → args ≡ done ++ others → others ≡ t ∷ us → Next us behind after
-      → (more : List Term) × (tail : List Token) × (args ≡ (done ++ t ∷ []) ++ more) × (rest ≡ tail ++ after) × AreArguments more tail
-  by_next us args others after is same (closes none f) = absurd (right_comma (heads (sym f ∙ e)))
-  by_next us args others after is same (goes_on used f all) =
-      (us, used, is ∙ ap (λ x. done ++ x) same ∙ sym (append_assoc done (t ∷ []) us), tails (sym e ∙ f), all)
-
-  every : (args : List Term) (used after : List Token) → tokens ≡ used ++ after → AreArguments args used
-      → (more : List Term) × (tail : List Token) × (args ≡ (done ++ t ∷ []) ++ more) × (rest ≡ tail ++ after) × AreArguments more tail
-  every args used after f all =
-      let o = along.every args used after f all in
-      let n = next_of p o.0 o.1 after o.3 o.4 in
-      by_next n.0 args o.0 after o.2 n.1 n.2
-
--- there are no more arguments than tokens
-more_few : (us : List Term) (ts : List Token) → AreMoreTerms (terms.row us) ts → length us ≤ length ts
-more_few [] ts h = omega arith
-more_few (u ∷ us) ts (first, others, one, all, e) =
-    omega (arith, more_few us others all, ap length e, length-append (comma ∷ first) others)
-
--- nor than tokens that they are read from
-pub arguments_few : {tokens rest : List Token} (args : List Term) → Parses AreArguments Anything tokens (Some (args, rest)) → length args ≤ length tokens
-arguments_few {tokens = tokens} {rest = rest} args p = few args (parses_uses args rest p) where
-  few : (args : List Term) → (used : List Token) × (tokens ≡ used ++ rest) × AreArguments args used → length args ≤ length tokens
-  few [] (used, e, h) = absurd h
-  few (u ∷ us) (used, e, (first, others, one, all, f)) =
-      omega (arith, more_few us others all, ap length f, ap length e, length-append used rest, length-append (first ++ others) (right_bracket ∷ []), length-append first others)
-
--- the same arguments, said otherwise
-pub along_at : {tokens left : List Token} {done same : List Term} → done ≡ same → Along tokens same left → Along tokens done left
-along_at {tokens = tokens} {left = left} e along = subst (λ x. Along tokens x left) (sym e) along
+-- but not the last one
+pub term_stops : (rest : List Token) → NoTerm (comma ∷ rest) → ⊥
+term_stops rest h = h.1.0 refl

@@ -1,5 +1,5 @@
 -- What was read of all tokens of some bytes is the pattern that the bytes are.
-use Rattle.std.proofs.Common.{◌≡◌, ℕ, List, [], ap, sym, ◌∙◌, subst}
+use Rattle.std.proofs.Common.{◌≡◌, List, [], ap, sym, subst}
 use Rattle.std.specs.Prelude.{Option, Some, None}
 use Rattle.std.specs.Borrow.{Bor}
 use Rattle.si_defs.specs.Bytes.{Bytes}
@@ -8,24 +8,24 @@ use Rattle.si_defs.specs.Clauses.{literal_pattern, term_pattern, IsSoundPattern}
 use Rattle.si_defs.specs.Grammar.{IsLiteral, IsTerm}
 use Rattle.si_defs.specs.Texts.{IsPattern, IsPatternText}
 use Rattle.si_term.specs.Terms.{term_of}
-use Rattle.si_term.specs.Meaning.{literal_of, pattern_of}
+use Rattle.si_term.specs.Meaning.{literal_of}
 use Rattle.si_term.specs.declared.clause.Pattern.{Pattern}
 use Rattle.si_term.specs.declared.clause.Literal as program
 use Rattle.si_term.specs.declared.term.Term as program_term
-use Rattle.si_parse.specs.Tokens.{tokens_of}
-use Rattle.si_parse.specs.Lexing.{IsLexing}
-use Rattle.si_parse.specs.Parsing.{NoBracket, Reads}
+use Rattle.si_lex.specs.Lexemes.{tokens_of}
+use Rattle.si_lex.specs.Lexing.{IsLexing}
+use Rattle.si_parse.specs.Parsing.{NoBracket, NoSign, Reads}
 use Rattle.si_parse.proofs.ParseWhole.{whole_means, whole_only, whole_none}
 use Rattle.si_parse.specs.Reading.{IsOfKind, ReadsPattern, IsWhole, ReadsWhole}
-use Rattle.si_parse.specs.declared.token.Token.{Token}
-use Rattle.si_parse.specs.declared.token.Stop.{Stop}
-use Rattle.si_parse.specs.declared.token.Stop.TheVariants.{End}
+use Rattle.si_lex.specs.declared.lexeme.Lexeme.{Lexeme}
+use Rattle.si_lex.specs.declared.lexing.Lexing.{Lexing}
+use Rattle.si_lex.specs.declared.lexing.Stop.TheVariants.{End}
 use Rattle.si_parse.specs.declared.pattern.PatternKind.{PatternKind}
 use Rattle.si_parse.specs.declared.pattern.PatternKind.TheVariants as kind
 
 -- ---- tokens
 -- a literal with nothing left is what all the tokens spell
-pub literal_whole : (tokens : List Token) (l : program.Literal) (r : Bor (List Token)) → r.now ≡ [] → Reads literal_of IsLiteral NoBracket tokens (Some (l, r))
+pub literal_whole : (tokens : List Lexeme) (l : program.Literal) (r : Bor (List Lexeme)) → r.now ≡ [] → Reads literal_of IsLiteral NoSign tokens (Some (l, r))
     → IsSoundPattern (literal_pattern (literal_of l)) → IsWhole (tokens_of tokens) kind.Lit (literal_pattern (literal_of l))
 literal_whole tokens l r none p sound =
     record {
@@ -39,13 +39,13 @@ literal_whole tokens l r none p sound =
       by (term_pattern t) k o = absurd k
 
 -- where something is left, or nothing was found, the tokens spell no literal
-pub literal_left : (tokens : List Token) (found : Option (program.Literal × Bor (List Token))) → Reads literal_of IsLiteral NoBracket tokens found
-    → ((l : program.Literal) (r : Bor (List Token)) → found ≡ Some (l, r) → r.now ≡ [] → ⊥) → (p : clauses.Pattern) → IsOfKind kind.Lit p → IsPattern p (tokens_of tokens) → ⊥
+pub literal_left : (tokens : List Lexeme) (found : Option (program.Literal × Bor (List Lexeme))) → Reads literal_of IsLiteral NoSign tokens found
+    → ((l : program.Literal) (r : Bor (List Lexeme)) → found ≡ Some (l, r) → r.now ≡ [] → ⊥) → (p : clauses.Pattern) → IsOfKind kind.Lit p → IsPattern p (tokens_of tokens) → ⊥
 literal_left tokens found p left (literal_pattern m) k o = whole_none literal_of tokens tt found p left m o
 literal_left tokens found p left (term_pattern t) k o = k
 
 -- the same of terms
-pub term_whole : (tokens : List Token) (t : program_term.Term) (r : Bor (List Token)) → r.now ≡ [] → Reads term_of IsTerm NoBracket tokens (Some (t, r))
+pub term_whole : (tokens : List Lexeme) (t : program_term.Term) (r : Bor (List Lexeme)) → r.now ≡ [] → Reads term_of IsTerm NoBracket tokens (Some (t, r))
     → IsSoundPattern (term_pattern (term_of t)) → IsWhole (tokens_of tokens) kind.Term (term_pattern (term_of t))
 term_whole tokens t r none p sound =
     record {
@@ -58,31 +58,32 @@ term_whole tokens t r none p sound =
       by (term_pattern m) k o = ap term_pattern (whole_only term_of tokens tt t r p m o)
       by (literal_pattern l) k o = absurd k
 
-pub term_left : (tokens : List Token) (found : Option (program_term.Term × Bor (List Token))) → Reads term_of IsTerm NoBracket tokens found
-    → ((t : program_term.Term) (r : Bor (List Token)) → found ≡ Some (t, r) → r.now ≡ [] → ⊥) → (p : clauses.Pattern) → IsOfKind kind.Term p → IsPattern p (tokens_of tokens) → ⊥
+pub term_left : (tokens : List Lexeme) (found : Option (program_term.Term × Bor (List Lexeme))) → Reads term_of IsTerm NoBracket tokens found
+    → ((t : program_term.Term) (r : Bor (List Lexeme)) → found ≡ Some (t, r) → r.now ≡ [] → ⊥) → (p : clauses.Pattern) → IsOfKind kind.Term p → IsPattern p (tokens_of tokens) → ⊥
 term_left tokens found p left (term_pattern m) k o = whole_none term_of tokens tt found p left m o
 term_left tokens found p left (literal_pattern l) k o = k
 
 -- ---- bytes
--- where the tokens end with the bytes, what they spell is what the bytes are
-pub whole_read : (bytes : Bytes) (items tokens : List Token) (stop : Stop) (end : ℕ) (k : PatternKind) (result : Option Pattern) → IsLexing bytes 0 items stop end → stop ≡ End → tokens ≡ items
-    → ReadsWhole (tokens_of tokens) k result → ReadsPattern bytes k result
-whole_read bytes items tokens stop end k (Some p) l e same w =
-    record {
-      of_kind = w.of_kind;
-      text = record {
-        tokens = tokens_of items;
-        consists = record { rest = l.rest; begins = l.begins; blanks = l.blanks e };
-        spelled = subst (λ ts. IsPattern (pattern_of p) (tokens_of ts)) same w.spelled;
-        nested = l.nested;
-      };
-      only = λ other o t. w.only other o (all_tokens other t);
-      sound = w.sound;
-    } where
-      all_tokens : (other : clauses.Pattern) → IsPatternText other bytes → IsPattern other (tokens_of tokens)
-      all_tokens other t = subst (IsPattern other) (sym (l.whole t.tokens t.consists t.nested).1 ∙ ap tokens_of (sym same)) t.spelled
-whole_read bytes items tokens stop end k None l e same w = λ p o t. w p o (subst (IsPattern p) (sym (l.whole t.tokens t.consists t.nested).1 ∙ ap tokens_of (sym same)) t.spelled)
+module _ (bytes : Bytes) (k : PatternKind) (l : Lexing) (h : IsLexing bytes 0 l) where
+  -- what the bytes are is spelled by all the tokens
+  pattern_all : (p : clauses.Pattern) → IsPatternText p bytes → IsPattern p (tokens_of l.tokens.items)
+  pattern_all p t = subst (IsPattern p) (sym (h.whole t.tokens t.consists t.nested).1) t.spelled
 
--- where they do not, the bytes are no pattern
-pub stopped_read : (bytes : Bytes) (items : List Token) (stop : Stop) (end : ℕ) (k : PatternKind) → IsLexing bytes 0 items stop end → (stop ≡ End → ⊥) → (p : clauses.Pattern) → IsOfKind k p → IsPatternText p bytes → ⊥
-stopped_read bytes items stop end k l e p o t = e (l.whole t.tokens t.consists t.nested).0
+  -- where the tokens end with the bytes, what they spell is what the bytes are
+  pub whole_read : l.stop ≡ End → (result : Option Pattern) → ReadsWhole (tokens_of l.tokens.items) k result → ReadsPattern bytes k result
+  whole_read e (Some p) w = record {
+    of_kind = w.of_kind;
+    text = record {
+      tokens = tokens_of l.tokens.items;
+      consists = record { rest = h.rest; begins = h.read.begins; blanks = h.read.blanks e };
+      spelled = w.spelled;
+      nested = h.read.nested;
+    };
+    only = λ other o t. w.only other o (pattern_all other t);
+    sound = w.sound;
+  }
+  whole_read e None w = λ p o t. w p o (pattern_all p t)
+
+  -- where they do not, the bytes are no pattern
+  pub stopped_read : (l.stop ≡ End → ⊥) → ReadsPattern bytes k None
+  stopped_read e = λ p o t. e (h.whole t.tokens t.consists t.nested).0

@@ -1,5 +1,6 @@
-pub mod Tokens
-pub mod Lexing
 pub mod Parsing
 pub mod GrammarRules
+pub mod Meaning
+pub mod Brackets
 pub mod Reading
+pub mod ReadBack

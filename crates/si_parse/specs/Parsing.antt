@@ -1,37 +1,57 @@
 -- What a reader of tokens gives.
-use Rattle.std.specs.Prelude.{◌≡◌, List, [], ◌∷◌, ◌++◌, Option, Some, option_map, IfSome}
-use Rattle.si_defs.specs.Tokens as defs
-use Rattle.si_defs.specs.Grammar.{left_bracket}
-use Rattle.si_parse.specs.Tokens.{tokens_of}
-pub use Rattle.si_parse.specs.Tokens.{ArePlain}
-use Rattle.si_parse.specs.declared.token.Token.{Token}
+use Rattle.std.specs.Prelude.{◌≡◌, ℕ, List, [], ◌∷◌, ◌++◌, Option, Some, option_map, IfSome}
+use Rattle.std.specs.List.{AllByRecursion}
+use Rattle.si_defs.specs.Tokens.{Token, mark}
+use Rattle.si_defs.specs.Grammar.{left_bracket, not_equal}
+use Rattle.si_lex.specs.Lexemes.{tokens_of}
+use Rattle.si_lex.specs.declared.lexeme.Lexeme.{Lexeme}
 use Rattle.std.specs.Borrow.{Bor}
 
 -- The meaning that was found is spelled by the tokens in front of what is left, and whatever the front tokens mean was
 -- found, where what follows them allows it.
-pub record Parses {M : Type 0} (Means : M → List defs.Token → Type 0) (Follows : List defs.Token → Type 0)
-    (tokens : List defs.Token) (result : Option (M × List defs.Token)) : Type 0 where
-  pub found : (m : M) (rest : List defs.Token) → result ≡ Some (m, rest) → (used : List defs.Token) × (tokens ≡ used ++ rest) × Means m used
-  pub every : (m : M) (used rest : List defs.Token) → tokens ≡ used ++ rest → Means m used → Follows rest → result ≡ Some (m, rest)
+pub record Parses {M : Type 0} (Means : M → List Token → Type 0) (Follows : List Token → Type 0)
+    (tokens : List Token) (result : Option (M × List Token)) : Type 0 where
+  pub found : (m : M) (rest : List Token) → result ≡ Some (m, rest) → (used : List Token) × (tokens ≡ used ++ rest) × Means m used
+  pub every : (m : M) (used rest : List Token) → tokens ≡ used ++ rest → Means m used → Follows rest → result ≡ Some (m, rest)
 
-abbrev pub Anything : List defs.Token → Type 0
+abbrev pub Anything : List Token → Type 0
 Anything rest = Unit {0}
 
--- no bracket follows
-abbrev pub NoBracket : List defs.Token → Type 0
-NoBracket [] = Unit {0}
-NoBracket (t ∷ ts) = t ≡ left_bracket → ⊥
+-- none of these tokens follows
+abbrev pub Without : List Token → List Token → Type 0
+Without signs [] = Unit {0}
+Without signs (t ∷ ts) = AllByRecursion (λ sign. t ≡ sign → ⊥) signs
+
+-- no bracket follows, so a word has no arguments
+abbrev pub NoBracket : List Token → Type 0
+NoBracket rest = Without (left_bracket ∷ []) rest
+
+-- no bracket and no equality sign follows, so a term is no side of an equation
+abbrev pub NoSign : List Token → Type 0
+NoSign rest = Without (left_bracket ∷ mark 61 ∷ not_equal ∷ []) rest
+
+-- no bar follows either, so a literal is the last one
+abbrev pub NoLiteral : List Token → Type 0
+NoLiteral rest = Without (left_bracket ∷ mark 61 ∷ not_equal ∷ mark 124 ∷ []) rest
+
+-- no bracket and no comma follows, so a term is the last one
+abbrev pub NoTerm : List Token → Type 0
+NoTerm rest = Without (left_bracket ∷ mark 44 ∷ []) rest
+
+-- no comma follows, so a name is the last one
+abbrev pub NoName : List Token → Type 0
+NoName rest = Without (mark 44 ∷ []) rest
 
 -- the same of the program's tokens and values, by what they stand for
-abbrev pub Reads : {X M : Type 0} → (X → M) → (M → List defs.Token → Type 0) → (List defs.Token → Type 0) → List Token → Option (X × Bor (List Token)) → Type 0
+abbrev pub Reads : {X M : Type 0} → (X → M) → (M → List Token → Type 0) → (List Token → Type 0) → List Lexeme → Option (X × Bor (List Lexeme)) → Type 0
 Reads view Means Follows tokens result =
     Parses Means Follows (tokens_of tokens) (option_map (λ r. (view r.0, tokens_of r.1.now)) result)
 
 -- the same where only what is left is given
-abbrev pub Passes : (List defs.Token → Type 0) → List Token → Option (Bor (List Token)) → Type 0
+abbrev pub Passes : (List Token → Type 0) → List Lexeme → Option (Bor (List Lexeme)) → Type 0
 Passes Spelled tokens result =
     Parses (λ (u : Unit {0}) used. Spelled used) Anything (tokens_of tokens) (option_map (λ r. (tt {0}, tokens_of r.now)) result)
 
 -- what was found, if anything was, has this
-abbrev pub IfFound : {X : Type 0} → (X → Type 0) → Option (X × Bor (List Token)) → Type 0
+abbrev pub IfFound : {X : Type 0} → (X → Type 0) → Option (X × Bor (List Lexeme)) → Type 0
 IfFound P result = IfSome result (λ r. P r.0)

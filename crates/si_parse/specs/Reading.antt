@@ -1,60 +1,51 @@
--- What the readers of items and patterns give.
-use Rattle.std.specs.Prelude.{◌≡◌, ℕ, zero, suc, ◌≤◌, List, [], ◌∷◌, length, drop, Option, Some, None}
+-- What the readers of items, patterns, formulas, names and files give.
+use Rattle.std.specs.Prelude.{◌≡◌, ℕ, ◌≤◌, List, [], ◌∷◌, length, drop, Option, Some, None}
 use Rattle.si_defs.specs.Bytes.{Bytes}
 use Rattle.si_defs.specs.Clauses as clauses
 use Rattle.si_defs.specs.Clauses.{IsSoundClause, IsSoundPattern}
-use Rattle.si_defs.specs.Tokens.{AreBlanks}
-use Rattle.si_defs.specs.Grammar.{Item, clause_item, left_bracket}
-use Rattle.si_defs.specs.Texts.{BeginsWithItem, IsPatternText, IsFaulty, IsForeign, IsPlace, IsPattern, languages}
-use Rattle.si_defs.specs.Tokens as defs
+use Rattle.si_defs.specs.Tokens.{Token, AreBlanks}
+use Rattle.si_defs.specs.Grammar.{Item, clause_item, include_item, left_bracket}
+use Rattle.si_defs.specs.Texts.{BeginsWithItem, IsText, IsPatternText, IsFaulty, IsForeign, IsPlace, IsPattern, languages}
 use Rattle.si_defs.specs.Substitutions.{IsAmong}
 use Rattle.si_defs.specs.declared.TokenKind.TheVariants.{Lower}
-use Rattle.si_parse.specs.Tokens.{tokens_of}
-use Rattle.si_parse.specs.declared.token.Token.{Token}
-use Rattle.si_parse.specs.declared.token.Stop.{Stop}
-use Rattle.si_parse.specs.declared.token.Stop.TheVariants.{End, Bad}
 use Rattle.si_term.specs.Meaning.{clause_of, pattern_of}
 use Rattle.si_term.specs.declared.clause.Pattern.{Pattern}
+use Rattle.si_lex.specs.declared.lexing.Stop.{Stop}
+use Rattle.si_lex.specs.declared.lexing.Stop.TheVariants.{End}
+use Rattle.si_parse.specs.Meaning.{selection_of}
 use Rattle.si_parse.specs.declared.item.Read.{Read}
 use Rattle.si_parse.specs.declared.item.Read.TheVariants as read
 use Rattle.si_parse.specs.declared.pattern.PatternKind.{PatternKind}
 use Rattle.si_parse.specs.declared.pattern.PatternKind.TheVariants as kind
 
--- the place behind the first n tokens, of which the first begins behind a place
-abbrev pub place_behind : ℕ → List Token → ℕ → ℕ
-place_behind at ts zero = at
-place_behind at [] (suc n) = at
-place_behind at (t ∷ ts) (suc n) = place_behind t.end ts n
-
+-- ---- items
 -- the word of another language
-abbrev pub IsLanguage : defs.Token → Type 0
+abbrev pub IsLanguage : Token → Type 0
 IsLanguage t = (t.kind ≡ Lower) × IsAmong languages t.text
 
 -- the word of another language and a bracket are the first two tokens
-abbrev pub AreForeign : List defs.Token → Type 0
+abbrev pub AreForeign : List Token → Type 0
 AreForeign [] = ⊥
 AreForeign (t ∷ []) = ⊥
 AreForeign (t ∷ u ∷ us) = IsLanguage t × (u ≡ left_bracket)
 
 -- the fault at a place where no item begins, by the tokens behind it
-abbrev pub IsFaultAt : List defs.Token → ℕ → Read → Type 0
+abbrev pub IsFaultAt : List Token → ℕ → Read → Type 0
 IsFaultAt ts place (read.Language p) = (p ≡ place) × AreForeign ts
 IsFaultAt ts place (read.Syntax p) = (p ≡ place) × (AreForeign ts → ⊥)
 IsFaultAt ts place result = ⊥
 
--- what stands where the tokens begin with no clause: a fault at the first of them; without any, what stands at the end
-abbrev pub IsNoClause : List Token → Stop → ℕ → Read → Type 0
-IsNoClause (t ∷ ts) stop end result = IsFaultAt (tokens_of (t ∷ ts)) t.start result
-IsNoClause [] End end result = result ≡ read.End
-IsNoClause [] Bad end result = result ≡ read.Syntax end
+-- what stands where the tokens begin with no item: nothing but blanks, or a fault
+abbrev pub IsNoItem : List Token → ℕ → Stop → Read → Type 0
+IsNoItem [] start End result = result ≡ read.End
+IsNoItem ts start stop result = IsFaultAt ts start result
 
--- the item from a place up to an end is this clause, and no other item begins there
-pub record IsClauseRead (bytes : Bytes) (at : ℕ) (c : clauses.Clause) (end : ℕ) : Type 0 where
+-- the bytes from a place up to an end are this item, and no other item begins there
+pub record IsItemRead (bytes : Bytes) (at : ℕ) (item : Item) (end : ℕ) : Type 0 where
   pub from : at ≤ end
   pub within : end ≤ length bytes
-  pub begins : BeginsWithItem (drop at bytes) (clause_item c) (drop end bytes)
-  pub only : (item : Item) (rest : Bytes) → BeginsWithItem (drop at bytes) item rest → (item ≡ clause_item c) × (rest ≡ drop end bytes)
-  pub sound : IsSoundClause c
+  pub begins : BeginsWithItem (drop at bytes) item (drop end bytes)
+  pub only : (other : Item) (rest : Bytes) → BeginsWithItem (drop at bytes) other rest → (other ≡ item) × (rest ≡ drop end bytes)
 
 -- neither the end nor an item stands behind the blanks, and this is the place behind them
 pub record IsFault (bytes : Bytes) (at place : ℕ) : Type 0 where
@@ -64,11 +55,24 @@ pub record IsFault (bytes : Bytes) (at place : ℕ) : Type 0 where
   pub behind : IsPlace (drop at bytes) (drop place bytes)
 
 abbrev pub IsRead : Bytes → ℕ → Read → Type 0
-IsRead bytes at (read.Cnf c end) = IsClauseRead bytes at (clause_of c) end
+IsRead bytes at (read.Cnf c end) = IsItemRead bytes at (clause_item (clause_of c)) end × IsSoundClause (clause_of c)
+IsRead bytes at (read.Include file s end) = IsItemRead bytes at (include_item file (selection_of s)) end
 IsRead bytes at read.End = AreBlanks (drop at bytes)
 IsRead bytes at (read.Syntax place) = IsFault bytes at place × (IsForeign (drop at bytes) → ⊥)
 IsRead bytes at (read.Language place) = IsFault bytes at place × IsForeign (drop at bytes)
 
+-- ---- whole tokens and whole texts
+-- all the tokens spell this, and nothing else
+abbrev pub ReadsAll : {X M : Type 0} → (X → M) → (M → List Token → Type 0) → List Token → Option X → Type 0
+ReadsAll {M = M} view Means ts (Some x) = Means (view x) ts × ((other : M) → Means other ts → other ≡ view x)
+ReadsAll {M = M} view Means ts None = (m : M) → Means m ts → ⊥
+
+-- the whole bytes are this, and nothing else
+abbrev pub ReadsText : {X M : Type 0} → (X → M) → (M → List Token → Type 0) → Bytes → Option X → Type 0
+ReadsText {M = M} view Means bytes (Some x) = IsText (Means (view x)) bytes × ((other : M) → IsText (Means other) bytes → other ≡ view x)
+ReadsText {M = M} view Means bytes None = (m : M) → IsText (Means m) bytes → ⊥
+
+-- ---- patterns
 -- a pattern of the kind that was asked for
 abbrev pub IsOfKind : PatternKind → clauses.Pattern → Type 0
 IsOfKind kind.Lit (clauses.literal_pattern l) = Unit {0}
@@ -77,13 +81,13 @@ IsOfKind kind.Term (clauses.literal_pattern l) = ⊥
 IsOfKind kind.Term (clauses.term_pattern t) = Unit {0}
 
 -- all the tokens spell this pattern, and no other one of this kind
-pub record IsWhole (ts : List defs.Token) (kind : PatternKind) (p : clauses.Pattern) : Type 0 where
+pub record IsWhole (ts : List Token) (kind : PatternKind) (p : clauses.Pattern) : Type 0 where
   pub of_kind : IsOfKind kind p
   pub spelled : IsPattern p ts
   pub only : (other : clauses.Pattern) → IsOfKind kind other → IsPattern other ts → other ≡ p
   pub sound : IsSoundPattern p
 
-abbrev pub ReadsWhole : List defs.Token → PatternKind → Option Pattern → Type 0
+abbrev pub ReadsWhole : List Token → PatternKind → Option Pattern → Type 0
 ReadsWhole ts kind (Some p) = IsWhole ts kind (pattern_of p)
 ReadsWhole ts kind None = (p : clauses.Pattern) → IsOfKind kind p → IsPattern p ts → ⊥
 

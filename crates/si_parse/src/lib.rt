@@ -1,14 +1,12 @@
-//! Reading: from bytes to items and patterns.
+//! Reading: from bytes to items, patterns, formulas and names.
 //!
-//! [`lex`] cuts bytes into tokens, [`grammar`] reads tokens by the grammar, [`item`] and [`pattern`] read texts and the
+//! [`grammar`] reads tokens by the grammar; [`item`], [`pattern`] and [`text`] read texts, and the
 //! tokens of lines.
 #![tactic(auto)]
 
-mod bytes;
 pub mod grammar;
 pub mod item;
-pub mod lex;
 pub mod pattern;
-pub mod token;
-
-pub use token::{Stop, Token};
+#[cfg(test)]
+mod tests;
+pub mod text;

@@ -1,20 +1,16 @@
 // Patterns of a query.
-ghost use Rattle.std.specs.Prelude.{◌≤◌, length, IfOk};
-ghost use Rattle.si_defs.specs.Steps.{IsPlain};
-ghost use Rattle.si_parse.specs.Lexing.{most_bytes};
-ghost use Rattle.si_parse.specs.Parsing.{ArePlain};
-ghost use Rattle.si_parse.specs.Tokens.{tokens_of};
+ghost use Rattle.std.specs.Prelude.{◌≡◌, ◌≤◌, length, IfOk, option_map};
+ghost use Rattle.si_lex.specs.Lexemes.{tokens_of};
+ghost use Rattle.si_term.specs.Meaning.{pattern_of};
+ghost use Rattle.si_defs.specs.declared.TheConstants.{MOST_BYTES};
+ghost use Rattle.si_parse.specs.ReadBack.{ReadsBackTerm};
 ghost use Rattle.si_parse.specs.Reading.{ReadsPattern, ReadsWhole};
 ghost use Rattle.si_parse.specs.declared.pattern.PatternKind.TheVariants.{Lit, Term};
 
 use crate::grammar::{literal, term};
-use crate::lex::lex;
-use crate::token::{Stop, Token};
+use si_lex::{Lexeme, Stop, lex};
 use si_term::Pattern;
 use std::alloc::{AllocError, Global};
-
-#[cfg(test)]
-mod tests;
 
 /// What a pattern is to be read as.
 #[derive(Clone, Copy, Debug, PartialEq, Eq)]
@@ -23,20 +19,25 @@ pub enum PatternKind {
     Term,
 }
 
-/// The pattern that the whole bytes are, with blanks round it.
+/// The pattern that the whole bytes are, with blanks round it. A printed term without variables is
+/// read back.
+///
+/// # Errors
+/// `AllocError` where memory runs out.
 pub fn read_pattern(
     alloc: Global,
     bytes: &[u8],
     kind: PatternKind,
 ) -> Result<Option<Pattern>, AllocError>
-    requires short { length bytes.now ≤ most_bytes }
-    requires plain { IsPlain bytes.now }
-    ensures { IfOk result (ReadsPattern bytes.now kind) }
+    requires { length bytes.now ≤ MOST_BYTES }
+    ensures read { IfOk result (ReadsPattern bytes.now kind) }
+    ensures back { kind ≡ Term → IfOk result
+        (λ read. ReadsBackTerm bytes.now (option_map pattern_of read)) }
 {
     let lexing = lex(alloc, bytes, 0)?;
     match lexing.stop {
-        Stop::Bad => Ok(None),
         Stop::End => whole_pattern(alloc, lexing.tokens.as_slice(), kind),
+        _ => Ok(None),
     }
 }
 
@@ -46,11 +47,10 @@ pub fn read_pattern(
 /// `AllocError` where memory runs out.
 pub fn whole_pattern(
     alloc: Global,
-    tokens: &[Token],
+    tokens: &[Lexeme],
     kind: PatternKind,
 ) -> Result<Option<Pattern>, AllocError>
-    requires plain { ArePlain tokens.now }
-    requires few { length tokens.now ≤ most_bytes }
+    requires { length tokens.now ≤ MOST_BYTES }
     ensures { IfOk result (ReadsWhole (tokens_of tokens.now) kind) }
 {
     match kind {
@@ -60,9 +60,8 @@ pub fn whole_pattern(
 }
 
 /// The literal that all the tokens spell.
-fn whole_literal(alloc: Global, tokens: &[Token]) -> Result<Option<Pattern>, AllocError>
-    requires plain { ArePlain tokens.now }
-    requires few { length tokens.now ≤ most_bytes }
+fn whole_literal(alloc: Global, tokens: &[Lexeme]) -> Result<Option<Pattern>, AllocError>
+    requires { length tokens.now ≤ MOST_BYTES }
     ensures { IfOk result (ReadsWhole (tokens_of tokens.now) Lit) }
 {
     let Some((literal, rest)) = literal(alloc, tokens)? else {
@@ -75,9 +74,8 @@ fn whole_literal(alloc: Global, tokens: &[Token]) -> Result<Option<Pattern>, All
 }
 
 /// The term that all the tokens spell.
-fn whole_term(alloc: Global, tokens: &[Token]) -> Result<Option<Pattern>, AllocError>
-    requires plain { ArePlain tokens.now }
-    requires few { length tokens.now ≤ most_bytes }
+fn whole_term(alloc: Global, tokens: &[Lexeme]) -> Result<Option<Pattern>, AllocError>
+    requires { length tokens.now ≤ MOST_BYTES }
     ensures { IfOk result (ReadsWhole (tokens_of tokens.now) Term) }
 {
     let Some((term, rest)) = term(alloc, tokens)? else {

@@ -5,7 +5,7 @@ use Rattle.std.specs.List.{AllByRecursion}
 use Rattle.si_defs.specs.Bytes.{Bytes}
 use Rattle.si_defs.specs.Terms.{firsts}
 use Rattle.si_defs.specs.Substitutions.{IsAmong}
-use Rattle.si_defs.specs.Answers.{Variable, of_pattern, same_variable}
+use Rattle.si_defs.specs.Variables.{Variable, of_pattern, same_variable}
 
 filter-map : (f : Bytes → Variable) (p : Variable → Bool) (xs : List Bytes) → filter p (map f xs) ≡ map f (filter (λ x. p (f x)) xs)
 filter-map f p [] = refl

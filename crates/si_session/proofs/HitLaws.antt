@@ -4,8 +4,8 @@ use Rattle.std.specs.Prelude.{Option, Some, None}
 use Rattle.si_defs.specs.Terms as terms
 use Rattle.si_defs.specs.Clauses.{Term, Clause, Pattern, literal_pattern, term_pattern}
 use Rattle.si_defs.specs.Entries.{Entry, literal_entry, term_entry, Placed, placed_in, placed_term}
-use Rattle.si_defs.specs.Relations.{Instances}
-use Rattle.si_defs.specs.Answers.{Hit, Stands, Solves, IsAnswer, hit_text, hit_texts}
+use Rattle.si_defs.specs.declared.Relation.TheVariants.{Instances}
+use Rattle.si_state.specs.Answers.{Hit, Stands, Solves, IsAnswer, hit_text, hit_texts}
 use Rattle.si_session.specs.Matching.{Bindings, matched, solution_of}
 use Rattle.si_session.specs.Hits.{same_sign, found, hit_before, hits, placed_under}
 use Rattle.si_session.proofs.Matches.{matched_is_instance, matched_is_canonical, unmatched_is_no_instance}

@@ -4,13 +4,13 @@ pub mod Firsts
 pub mod Matches
 pub mod Rows
 pub mod HitLaws
-pub mod Writing
 pub mod BindingLaws
 pub mod CommandLaws
-pub mod Pieces
 pub mod SolutionTexts
 pub mod Told
 pub mod ScanLaws
 pub mod StoreLaws
 pub mod Acting
 pub mod BoundLaws
+pub mod ReplyTexts
+pub mod WordTests

@@ -7,9 +7,10 @@ use Rattle.si_defs.specs.Terms as terms
 use Rattle.si_defs.specs.Symbols.{Symbol}
 use Rattle.si_defs.specs.Clauses.{Term, Terms}
 use Rattle.si_defs.specs.Substitutions.{image, apply, lefts, IsOn, IsAmong, Substitution}
-use Rattle.si_defs.specs.Relations.{Instances, IsInstance}
+use Rattle.si_defs.specs.declared.Relation.TheVariants.{Instances}
+use Rattle.si_defs.specs.Relations.{IsInstance}
 use Rattle.si_defs.specs.Solutions.{bind, in_sequence, IsCanonical}
-use Rattle.si_defs.specs.Answers.{Variable, of_pattern, of_entry, same_variable, pattern_term, entry_term, Apart}
+use Rattle.si_defs.specs.Variables.{Variable, of_pattern, of_entry, same_variable, pattern_term, entry_term, Apart}
 use Rattle.si_session.specs.Equality.{term_eq, symbol_eq}
 use Rattle.si_session.specs.Matching.{Bindings, bound, rebound, matched, all_matched, solution_of}
 use Rattle.si_session.proofs.MatchingLaws.{bytes_eq_same, symbol_eq_true, symbol_eq_same, term_eq_true, term_eq_same}

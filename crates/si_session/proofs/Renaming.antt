@@ -3,7 +3,7 @@ use Rattle.std.proofs.Common.{◌≡◌, ◌++◌, map, refl, ap, sym, ◌∙◌
 use Rattle.si_defs.specs.Bytes.{Bytes}
 use Rattle.si_defs.specs.Terms as terms
 use Rattle.si_defs.specs.Clauses.{Term, Terms}
-use Rattle.si_defs.specs.Answers.{Variable, of_pattern, of_entry, entry_term}
+use Rattle.si_defs.specs.Variables.{Variable, of_pattern, of_entry, entry_term}
 use Rattle.std.proofs.lemmas.List.{map-append}
 
 abbrev name_in : Variable → Bytes

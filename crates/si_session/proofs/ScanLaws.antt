@@ -11,9 +11,9 @@ use Rattle.si_defs.specs.Symbols.{Symbol}
 use Rattle.si_defs.specs.Clauses.{Name, Term, Literal, Clause, Pattern, literal_pattern, term_pattern, literal_size, literals_size, IsSoundClause}
 use Rattle.si_defs.specs.Entries.{Placed, literal_entry, term_entry, literal_entries, proper_occurrences, entries_from, placed_in, state_entries}
 use Rattle.si_defs.specs.Printing.{place_text}
-use Rattle.si_defs.specs.Answers.{Hit, hit_text, hit_texts}
-use Rattle.si_defs.specs.Runs.{ended}
-use Rattle.si_defs.specs.Steps.{answer_reply}
+use Rattle.si_state.specs.Answers.{Hit, hit_text, hit_texts}
+use Rattle.si_steps.specs.Runs.{ended}
+use Rattle.si_steps.specs.Replies.{answer_reply, end_line}
 use Rattle.si_term.specs.Terms.{term_of}
 use Rattle.si_term.specs.Meaning.{literal_of, clause_of}
 use Rattle.si_term.specs.declared.term.Term as program
@@ -24,7 +24,7 @@ use Rattle.si_term.specs.declared.clause.Clause as program_clause
 use Rattle.si_session.specs.Matching.{Bindings, matched, solution_of}
 use Rattle.si_session.specs.Hits.{same_sign, hit_before, hits, placed_under}
 use Rattle.si_session.specs.Signs.{sign_text}
-use Rattle.si_session.specs.Scan.{hit_line, ended_hit_line, entry_lines, subterm_lines, literal_lines, literals_lines, clause_lines, clauses_lines, end_line}
+use Rattle.si_session.specs.Scan.{hit_line, ended_hit_line, entry_lines, subterm_lines, literal_lines, literals_lines, clause_lines, clauses_lines}
 use Rattle.si_session.proofs.SolutionTexts.{solution_text_is}
 use Rattle.si_session.proofs.HitLaws.{same_sign_true, same_sign_same, hits-append, hit_texts-append, placed_under-append, placed_under-below, placed_under-root, length-hits, length-hit_texts}
 
@@ -274,6 +274,6 @@ length-clauses_lines p cs = omega (arith, length-hit_texts (hits p (state_entrie
 
 -- the lines of the hits and the last line are the reply
 pub reply_is : (p : Pattern) (cs : List Clause) (n : ℕ) → n ≡ length (clauses_lines p cs) → answer_reply (hits p (state_entries cs)) ≡ clauses_lines p cs ++ end_line n ∷ []
-unfolding clauses_lines end_line
+unfolding clauses_lines
 reply_is p cs n e =
-    ap (λ k. hit_texts (hits p (state_entries cs)) ++ (codes "end " ++ decimal k) ∷ []) (sym (length-hit_texts (hits p (state_entries cs))) ∙ sym e)
+    ap (λ k. hit_texts (hits p (state_entries cs)) ++ end_line k ∷ []) (sym (length-hit_texts (hits p (state_entries cs))) ∙ sym e)

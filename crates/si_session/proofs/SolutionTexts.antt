@@ -4,7 +4,7 @@ use Rattle.std.specs.Prelude.{codes}
 use Rattle.si_defs.specs.Bytes.{Bytes}
 use Rattle.si_defs.specs.Terms as terms
 use Rattle.si_defs.specs.Clauses.{Term, Terms}
-use Rattle.si_defs.specs.Answers.{of_entry, variable_text}
+use Rattle.si_defs.specs.Variables.{of_entry, variable_text}
 use Rattle.si_defs.specs.Printing as printing
 use Rattle.si_defs.specs.Printing.{symbol_text, separated, term_text, more_texts, bindings_texts}
 use Rattle.si_session.specs.Matching.{Bindings, solution_of}

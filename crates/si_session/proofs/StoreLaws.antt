@@ -4,9 +4,10 @@ use Rattle.std.specs.Prelude.{bytes_eq}
 use Rattle.std.specs.List.{list_any, AllByRecursion}
 use Rattle.std.proofs.lemmas.List.{length-map, map-append}
 use Rattle.si_defs.specs.Bytes.{Bytes}
-use Rattle.si_defs.specs.Clauses.{Name, Clause, IsSoundClause, most_occurrences}
+use Rattle.si_defs.specs.Clauses.{Name, Clause, IsSoundClause}
+use Rattle.si_defs.specs.declared.TheConstants.{MOST_OCCURRENCES}
 use Rattle.si_defs.specs.Entries.{entries, placed_in, state_entries}
-use Rattle.si_defs.specs.Acceptance.{names}
+use Rattle.si_state.specs.Acceptance.{names}
 use Rattle.si_defs.specs.Substitutions.{IsAmong}
 use Rattle.si_defs.specs.declared.NameKind.{NameKind}
 use Rattle.si_defs.specs.declared.NameKind.TheVariants.{Word, Int}
@@ -84,7 +85,7 @@ sound_more [] c a s = (s, tt)
 sound_more (d ∷ ds) c a s = (a.0, sound_more ds c a.1 s)
 
 -- a sound clause has no more entries than may be counted
-pub entries_bound : (c : Clause) → IsSoundClause c → length (entries c) ≤ most_occurrences
+pub entries_bound : (c : Clause) → IsSoundClause c → length (entries c) ≤ MOST_OCCURRENCES
 entries_bound c s = omega (arith, entries_few 1 c.literals, s.sound.no_larger)
 
 -- a key that isn't listed goes last

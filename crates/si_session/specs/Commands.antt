@@ -1,15 +1,18 @@
--- What the reader of command lines gives. (Too long lines and white space alone never come to it.)
-use Rattle.std.specs.Prelude.{◌≡◌, ◌⊎◌, List, [], ◌∷◌, codes}
+-- What the reader of command lines gives.
+use Rattle.std.specs.Prelude.{◌≡◌, List, [], ◌∷◌, IsTrue, IsFalse, codes}
 use Rattle.si_defs.specs.Bytes.{Bytes}
 use Rattle.si_defs.specs.Clauses.{IsSoundClause}
-use Rattle.si_defs.specs.Relations.{Instances}
-use Rattle.si_defs.specs.Substitutions.{IsAmong}
-use Rattle.si_defs.specs.Tokens.{Token, lower}
-use Rattle.si_defs.specs.Steps as defs
-use Rattle.si_defs.specs.Steps.{IsFirstForm, AddsForeign, IsCommand, Means, words}
+use Rattle.si_defs.specs.declared.Relation.TheVariants.{Instances}
+use Rattle.si_defs.specs.Tokens.{Token, lower, AreBlanks}
+use Rattle.si_steps.specs.declared.word.Word.{Word}
+use Rattle.si_steps.specs.declared.word.Word.TheVariants.{Add}
+use Rattle.si_steps.specs.Words.{word_text, is_built}
+use Rattle.si_steps.specs.Commands as defs
+use Rattle.si_steps.specs.Commands.{IsUnbuilt, AddsForeign, IsCommand, Means}
+use Rattle.si_steps.specs.Steps.{IsNoCommand}
+use Rattle.si_lex.specs.declared.lexing.Stop.{Stop}
+use Rattle.si_lex.specs.declared.lexing.Stop.TheVariants.{End}
 use Rattle.si_parse.specs.Reading.{AreForeign}
-use Rattle.si_parse.specs.declared.token.Stop.{Stop}
-use Rattle.si_parse.specs.declared.token.Stop.TheVariants.{End}
 use Rattle.si_parse.specs.declared.pattern.PatternKind.{PatternKind}
 use Rattle.si_parse.specs.declared.pattern.PatternKind.TheVariants as kind
 use Rattle.si_term.specs.Meaning.{clause_of, pattern_of}
@@ -17,36 +20,44 @@ use Rattle.si_session.specs.declared.command.Command.{Command}
 use Rattle.si_session.specs.declared.command.Command.TheVariants as command
 
 -- ---- lines
--- the line's kind is not built yet
-abbrev pub IsUnbuilt : Bytes → Type 0
-IsUnbuilt line = (IsFirstForm line → ⊥) ⊎ (IsFirstForm line × AddsForeign line)
-
--- the line is of the first form, and adds no formula of another language
-pub record IsBuilt (line : Bytes) : Type 0 where
-  pub form : IsFirstForm line
+-- the line is no command of any kind, and says nothing that has a reply of its own
+pub record IsWrong (line : Bytes) : Type 0 where
+  pub built : IsUnbuilt line → ⊥
+  pub some : AreBlanks line → ⊥
   pub own : AddsForeign line → ⊥
+  pub none : IsNoCommand line
+
+-- the line is this command, which is built
+abbrev pub IsPerformed : defs.Command → Bytes → Type 0
+IsPerformed c line = (IsUnbuilt line → ⊥) × (AreBlanks line → ⊥) × Means c line
 
 abbrev pub Reads : Bytes → Command → Type 0
-Reads line command.Later = IsUnbuilt line
-Reads line command.Wrong = IsBuilt line × ((c : defs.Command) → Means c line → ⊥)
-Reads line (command.Add c) = IsBuilt line × Means (defs.add (clause_of c)) line × IsSoundClause (clause_of c)
-Reads line (command.Query p) = IsBuilt line × Means (defs.query Instances (pattern_of p)) line
+Reads line command.Blank = (IsUnbuilt line → ⊥) × AreBlanks line
+Reads line command.Later = (AreBlanks line → ⊥) × IsUnbuilt line
+Reads line command.Foreign = (IsUnbuilt line → ⊥) × (AreBlanks line → ⊥) × AddsForeign line × IsNoCommand line
+Reads line command.Wrong = IsWrong line
+Reads line (command.Add c) = IsPerformed (defs.add (clause_of c)) line × IsSoundClause (clause_of c)
+Reads line (command.Query p) = IsPerformed (defs.query Instances (pattern_of p)) line
 
--- ---- the tokens of a plain line
--- the first of them is one of the words
-abbrev pub BeginsCommand : List Token → Type 0
-BeginsCommand [] = ⊥
-BeginsCommand (t ∷ ts) = (word : Bytes) × IsAmong words word × (t ≡ lower word)
+-- ---- the tokens of a line
+-- the first of them is the word of a command that isn't built
+abbrev pub BeginUnbuilt : List Token → Type 0
+BeginUnbuilt [] = ⊥
+BeginUnbuilt (t ∷ ts) = (word : Word) × IsFalse (is_built word) × (t ≡ lower (word_text word))
 
 -- they add a formula of another language
 abbrev pub AddForeign : List Token → Type 0
 AddForeign [] = ⊥
-AddForeign (t ∷ ts) = (t ≡ lower (codes "add")) × AreForeign ts
+AddForeign (t ∷ ts) = (t ≡ lower (word_text Add)) × AreForeign ts
 
 -- the command that they are, by what stands behind them
 abbrev pub Commands : List Token → Stop → Command → Type 0
-Commands ts stop command.Later = (BeginsCommand ts → ⊥) ⊎ AddForeign ts
-Commands ts stop command.Wrong = BeginsCommand ts × (AddForeign ts → ⊥) × (stop ≡ End → (c : defs.Command) → IsCommand c ts → ⊥)
+Commands ts stop command.Blank = (stop ≡ End) × (ts ≡ [])
+Commands ts stop command.Later = BeginUnbuilt ts
+Commands ts stop command.Foreign = AddForeign ts × ((c : defs.Command) → IsCommand c ts → ⊥)
+Commands ts stop command.Wrong =
+    (BeginUnbuilt ts → ⊥) × (AddForeign ts → ⊥) × (stop ≡ End → ts ≡ [] → ⊥)
+    × (stop ≡ End → (c : defs.Command) → IsCommand c ts → ⊥)
 Commands ts stop (command.Add c) = (stop ≡ End) × IsCommand (defs.add (clause_of c)) ts × IsSoundClause (clause_of c)
 Commands ts stop (command.Query p) = (stop ≡ End) × IsCommand (defs.query Instances (pattern_of p)) ts
 

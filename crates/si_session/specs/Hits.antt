@@ -2,7 +2,7 @@
 use Rattle.std.specs.Prelude.{ℕ, Bool, true, false, cond, List, [], ◌∷◌, ◌++◌, Option, Some, None}
 use Rattle.si_defs.specs.Clauses.{Term, Clause, Pattern, literal_pattern, term_pattern}
 use Rattle.si_defs.specs.Entries.{Entry, literal_entry, term_entry, Placed}
-use Rattle.si_defs.specs.Answers.{Hit}
+use Rattle.si_state.specs.Answers.{Hit}
 use Rattle.si_session.specs.Matching.{Bindings, matched, solution_of}
 
 abbrev pub same_sign : Bool → Bool → Bool

@@ -1,13 +1,11 @@
 pub mod Equality
 pub mod Matching
-pub mod Limits
 pub mod Session
 pub mod Bound
 pub mod Hits
 pub mod Telling
 pub mod Signs
 pub mod Commands
-pub mod PrintedParts
 pub mod Scan
 pub mod StoreKeys
 pub mod Store

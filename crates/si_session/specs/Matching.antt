@@ -3,7 +3,7 @@ use Rattle.std.specs.Prelude.{cond, List, [], ◌∷◌, ◌++◌, Option, Some,
 use Rattle.si_defs.specs.Bytes.{Bytes}
 use Rattle.si_defs.specs.Terms as terms
 use Rattle.si_defs.specs.Clauses.{Term, Terms}
-use Rattle.si_defs.specs.Answers.{Solution, of_pattern, entry_term}
+use Rattle.si_defs.specs.Variables.{Solution, of_pattern, entry_term}
 use Rattle.si_session.specs.Equality.{term_eq, symbol_eq}
 
 -- the bindings of the pattern's variables so far, the first one first

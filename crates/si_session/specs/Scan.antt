@@ -1,10 +1,10 @@
 -- The lines of an answer, part by part. They stay closed in proofs about the program's loops.
-use Rattle.std.specs.Prelude.{ℕ, List, [], ◌∷◌, ◌++◌, map, Option, Some, None, codes, decimal}
+use Rattle.std.specs.Prelude.{ℕ, List, [], ◌∷◌, ◌++◌, map, Option, Some, None}
 use Rattle.si_defs.specs.Bytes.{Bytes}
 use Rattle.si_defs.specs.Clauses.{Name, Term, Literal, Clause, Pattern, term_pattern}
 use Rattle.si_defs.specs.Entries.{literal_entries, entries_from, entries, placed_in, state_entries}
 use Rattle.si_defs.specs.Printing.{place_text}
-use Rattle.si_defs.specs.Answers.{hit_texts}
+use Rattle.si_state.specs.Answers.{hit_texts}
 use Rattle.si_session.specs.Matching.{Bindings}
 use Rattle.si_session.specs.Hits.{hits, placed_under}
 use Rattle.si_session.specs.Signs.{sign_text, solution_text}
@@ -39,7 +39,3 @@ clause_lines p c = hit_texts (hits p (map (placed_in c) (entries c)))
 
 unfoldable pub clauses_lines : Pattern → List Clause → List Bytes
 clauses_lines p cs = hit_texts (hits p (state_entries cs))
-
--- the last line, the number of the lines before it
-unfoldable pub end_line : ℕ → Bytes
-end_line found = codes "end " ++ decimal found

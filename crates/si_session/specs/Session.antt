@@ -1,14 +1,17 @@
 -- What a session is seen as, and what one step does.
-use Rattle.std.specs.Prelude.{◌≡◌, List, [], ◌∷◌, ◌++◌, codes, Option, IsTrue, IsFalse, refl}
+use Rattle.std.specs.Prelude.{◌≡◌, List, [], ◌∷◌, ◌++◌, Option, IsTrue, IsFalse, refl}
 use Rattle.std.specs.Coded.{Coded, code_by, coded×, coded_list}
 use Rattle.si_defs.specs.Bytes.{Bytes}
 use Rattle.si_defs.specs.Clauses.{Clause}
-use Rattle.si_defs.specs.Steps.{Limits, Reply, Step, is_refusal}
-use Rattle.si_defs.specs.Runs.{ended}
-use Rattle.si_defs.specs.Codes.{clause_code, limits_code}
-use Rattle.si_io.specs.Content.{Appends, AppendsPrefix}
-use Rattle.si_session.specs.declared.session.Stepped.{Stepped}
-use Rattle.si_session.specs.declared.session.Stepped.TheVariants.{Answered, Refused, Silent, SinkFailed}
+use Rattle.si_steps.specs.declared.limits.Limits.{Limits}
+use Rattle.si_steps.specs.contracts.limits.Limits as limits_contracts
+use Rattle.si_steps.specs.Replies.{Reply, is_refusal, memory_line}
+use Rattle.si_steps.specs.Steps.{Step}
+use Rattle.si_steps.specs.Runs.{ended}
+use Rattle.si_defs.specs.Codes.{clause_code}
+use Rattle.si_io.specs.Content.{Told, Appends, AppendsPrefix}
+use Rattle.si_session.specs.declared.stepped.Stepped.{Stepped}
+use Rattle.si_session.specs.declared.stepped.Stepped.TheVariants.{Answered, Refused, Silent, SinkFailed}
 
 -- the kept clauses, in the order of acceptance, and the limits
 pub record State : Type 0 where
@@ -16,17 +19,17 @@ pub record State : Type 0 where
   pub limits : Limits
 
 abbrev pub state_code : Coded State
-state_code = code_by (List Clause × Limits) (coded× (coded_list clause_code) limits_code) (λ s. (s.clauses, s.limits)) (λ p. record { clauses = p.0; limits = p.1 }) (λ _. refl)
+state_code = code_by (List Clause × Limits) (coded× (coded_list clause_code) limits_contracts.the_row.coded) (λ s. (s.clauses, s.limits)) (λ p. record { clauses = p.0; limits = p.1 }) (λ _. refl)
 
 -- what stands in the sink behind a step with this reply
-abbrev pub Writes : Stepped → Reply → Option Bytes → Option Bytes → Type 0
+abbrev pub Writes : Stepped → Reply → Told → Told → Type 0
 Writes Answered reply before after = Appends before (ended reply) after × (reply ≡ [] → ⊥) × IsFalse (is_refusal reply)
 Writes Refused reply before after = Appends before (ended reply) after × IsTrue (is_refusal reply)
 Writes Silent reply before after = Appends before (ended reply) after × (reply ≡ [])
 Writes SinkFailed reply before after = AppendsPrefix before (ended reply) after
 
 -- The call went one step: the state is the one behind it, and its reply was written, or at a sink's fault a prefix of it.
-pub record Steps (old new : State) (line : Bytes) (outcome : Stepped) (before after : Option Bytes) : Type 0 where
+pub record Steps (old new : State) (line : Bytes) (outcome : Stepped) (before after : Told) : Type 0 where
   pub reply : Reply
   pub step : Step old.limits old.clauses line reply new.clauses
   pub limits : new.limits ≡ old.limits
@@ -35,8 +38,8 @@ pub record Steps (old new : State) (line : Bytes) (outcome : Stepped) (before af
 -- ---- parts of a step
 -- What a command did: its reply P was right, and so is the state behind it; or memory ran out, at once or behind some of
 -- the lines of the right reply, and the state stayed.
-pub data Acts (P : Reply → List Clause → Type 0) (old new : List Clause) (outcome : Stepped) (before after : Option Bytes) : Type 0 where
+pub data Acts (P : Reply → List Clause → Type 0) (old new : List Clause) (outcome : Stepped) (before after : Told) : Type 0 where
   rightly : (reply : Reply) → P reply new → Writes outcome reply before after → Acts P old new outcome before after
-  at_once : new ≡ old → Writes outcome (codes "! memory" ∷ []) before after → Acts P old new outcome before after
+  at_once : new ≡ old → Writes outcome (memory_line ∷ []) before after → Acts P old new outcome before after
   behind : (whole : Reply) (next : List Clause) → P whole next → (written left : Reply) → whole ≡ written ++ left → (left ≡ [] → ⊥)
-      → new ≡ old → Writes outcome (written ++ codes "! memory" ∷ []) before after → Acts P old new outcome before after
+      → new ≡ old → Writes outcome (written ++ memory_line ∷ []) before after → Acts P old new outcome before after

@@ -1,7 +1,7 @@
 -- What adding a clause to the program's list answers.
 use Rattle.std.specs.Prelude.{◌≡◌, List}
 use Rattle.si_defs.specs.Clauses as clauses
-use Rattle.si_defs.specs.Acceptance.{IsTaken}
+use Rattle.si_state.specs.Acceptance.{IsTaken}
 use Rattle.si_term.specs.Meaning.{clause_of}
 use Rattle.si_session.specs.declared.store.Rejected.{Rejected}
 use Rattle.si_session.specs.declared.store.Rejected.TheVariants as rejected

@@ -5,7 +5,7 @@ use Rattle.si_defs.specs.Bytes.{Bytes}
 use Rattle.si_defs.specs.Clauses as clauses
 use Rattle.si_defs.specs.Clauses.{IsSoundClause}
 use Rattle.si_defs.specs.Entries.{state_entries}
-use Rattle.si_defs.specs.Acceptance.{names}
+use Rattle.si_state.specs.Acceptance.{names}
 use Rattle.si_defs.specs.declared.NameKind.{NameKind}
 use Rattle.si_defs.specs.declared.NameKind.TheVariants.{Word, Int}
 

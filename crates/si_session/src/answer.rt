@@ -7,43 +7,13 @@ ghost use Rattle.si_term.specs.Meaning.{literal_of, clause_of, pattern_of};
 ghost use Rattle.si_session.specs.Telling.{Tells, Blames};
 ghost use Rattle.si_session.specs.Scan.{literal_lines, clause_lines, clauses_lines};
 
+use crate::broken::Broken;
 use crate::scan::{Scratch, put_if_match, search_arguments};
-use si_io::{Failed, Sink};
+use si_io::Sink;
 use si_term::{Clause, Literal, Pattern, Term};
-use std::alloc::AllocError;
 
-/// Why an answer was broken off.
-#[derive(Clone, Copy, Debug, PartialEq, Eq)]
-pub enum Broken {
-    /// The sink failed.
-    Sink,
-    /// Memory ran out.
-    Memory,
-}
-
-impl From<Failed> for Broken {
-    ghost use Rattle.std.specs.Prelude.{◌≡◌};
-    ghost use Rattle.si_session.specs.declared.answer.Broken.TheVariants.{Sink};
-
-    ghost from_gives = { λ _ e. e ≡ Sink };
-
-    fn from(_: Failed) -> Broken {
-        Broken::Sink
-    }
-}
-
-impl From<AllocError> for Broken {
-    ghost use Rattle.std.specs.Prelude.{◌≡◌};
-    ghost use Rattle.si_session.specs.declared.answer.Broken.TheVariants.{Memory};
-
-    ghost from_gives = { λ _ e. e ≡ Memory };
-
-    fn from(_: AllocError) -> Broken {
-        Broken::Memory
-    }
-}
-
-/// Writes the line of a literal if it is an instance of a literal pattern. Only literals of one sign are compared.
+/// Writes the line of a literal if it is an instance of a literal pattern. Only literals of one
+/// sign are compared.
 fn answer_whole<'a, K: Sink>(
     wanted: &'a Literal,
     literal: &'a Literal,
@@ -53,11 +23,17 @@ fn answer_whole<'a, K: Sink>(
     sink: &mut K,
 ) -> Result<(), Broken>
     requires root { scratch.old.path.items ≡ [] }
-    requires fits { scratch.old.found + length (literal_lines (literal_pattern (literal_of wanted.now)) (clause_of clause.now) number (literal_of literal.now)) < 2 ^ 64 }
-    ensures told { Tells result (literal_lines (literal_pattern (literal_of wanted.now)) (clause_of clause.now) number (literal_of literal.now)) (K.written sink.old) (K.written sink.new) }
+    requires fits { scratch.old.found + length
+        (literal_lines (literal_pattern (literal_of wanted.now)) (clause_of clause.now) number
+        (literal_of literal.now)) < 2 ^ 64 }
+    ensures told { Tells result (literal_lines (literal_pattern (literal_of wanted.now))
+        (clause_of clause.now) number (literal_of literal.now)) (K.written sink.old)
+        (K.written sink.new) }
     ensures cause { Blames result (K.faults sink.old) (K.faults sink.new) }
     ensures kept { OnOk result (scratch.new.path.items ≡ []) }
-    ensures counted { OnOk result (scratch.new.found ≡ scratch.old.found + length (literal_lines (literal_pattern (literal_of wanted.now)) (clause_of clause.now) number (literal_of literal.now))) }
+    ensures counted { OnOk result (scratch.new.found ≡ scratch.old.found + length
+        (literal_lines (literal_pattern (literal_of wanted.now)) (clause_of clause.now) number
+        (literal_of literal.now))) }
 {
     if wanted.positive != literal.positive {
         return Ok(());
@@ -72,7 +48,8 @@ fn answer_whole<'a, K: Sink>(
     )
 }
 
-/// Writes the lines of the proper subterms of a literal's atom that are instances of a term pattern.
+/// Writes the lines of the proper subterms of a literal's atom that are instances of a term
+/// pattern.
 fn answer_parts<'a, K: Sink>(
     query: &'a Term,
     literal: &'a Literal,
@@ -83,11 +60,17 @@ fn answer_parts<'a, K: Sink>(
 ) -> Result<(), Broken>
     requires root { scratch.old.path.items ≡ [] }
     requires small { literal_size (literal_of literal.now) < 2 ^ 32 }
-    requires fits { scratch.old.found + length (literal_lines (term_pattern (term_of query.now)) (clause_of clause.now) number (literal_of literal.now)) < 2 ^ 64 }
-    ensures told { Tells result (literal_lines (term_pattern (term_of query.now)) (clause_of clause.now) number (literal_of literal.now)) (K.written sink.old) (K.written sink.new) }
+    requires fits { scratch.old.found + length
+        (literal_lines (term_pattern (term_of query.now)) (clause_of clause.now) number
+        (literal_of literal.now)) < 2 ^ 64 }
+    ensures told { Tells result (literal_lines (term_pattern (term_of query.now))
+        (clause_of clause.now) number (literal_of literal.now)) (K.written sink.old)
+        (K.written sink.new) }
     ensures cause { Blames result (K.faults sink.old) (K.faults sink.new) }
     ensures kept { OnOk result (scratch.new.path.items ≡ []) }
-    ensures counted { OnOk result (scratch.new.found ≡ scratch.old.found + length (literal_lines (term_pattern (term_of query.now)) (clause_of clause.now) number (literal_of literal.now))) }
+    ensures counted { OnOk result (scratch.new.found ≡ scratch.old.found + length
+        (literal_lines (term_pattern (term_of query.now)) (clause_of clause.now) number
+        (literal_of literal.now))) }
 {
     let Term::App(_, arguments) = &literal.atom else {
         return Ok(());
@@ -106,11 +89,16 @@ fn answer_literal<'a, K: Sink>(
 ) -> Result<(), Broken>
     requires root { scratch.old.path.items ≡ [] }
     requires small { literal_size (literal_of literal.now) < 2 ^ 32 }
-    requires fits { scratch.old.found + length (literal_lines (pattern_of pattern.now) (clause_of clause.now) number (literal_of literal.now)) < 2 ^ 64 }
-    ensures told { Tells result (literal_lines (pattern_of pattern.now) (clause_of clause.now) number (literal_of literal.now)) (K.written sink.old) (K.written sink.new) }
+    requires fits { scratch.old.found + length
+        (literal_lines (pattern_of pattern.now) (clause_of clause.now) number
+        (literal_of literal.now)) < 2 ^ 64 }
+    ensures told { Tells result (literal_lines (pattern_of pattern.now) (clause_of clause.now)
+        number (literal_of literal.now)) (K.written sink.old) (K.written sink.new) }
     ensures cause { Blames result (K.faults sink.old) (K.faults sink.new) }
     ensures kept { OnOk result (scratch.new.path.items ≡ []) }
-    ensures counted { OnOk result (scratch.new.found ≡ scratch.old.found + length (literal_lines (pattern_of pattern.now) (clause_of clause.now) number (literal_of literal.now))) }
+    ensures counted { OnOk result (scratch.new.found ≡ scratch.old.found + length
+        (literal_lines (pattern_of pattern.now) (clause_of clause.now) number
+        (literal_of literal.now))) }
 {
     match pattern {
         Pattern::Lit(wanted) => answer_whole(wanted, literal, clause, number, scratch, sink),
@@ -127,11 +115,14 @@ fn answer_clause<'a, K: Sink>(
 ) -> Result<(), Broken>
     requires root { scratch.old.path.items ≡ [] }
     requires sound { IsSoundClause (clause_of clause.now) }
-    requires fits { scratch.old.found + length (clause_lines (pattern_of pattern.now) (clause_of clause.now)) < 2 ^ 64 }
-    ensures told { Tells result (clause_lines (pattern_of pattern.now) (clause_of clause.now)) (K.written sink.old) (K.written sink.new) }
+    requires fits { scratch.old.found + length
+        (clause_lines (pattern_of pattern.now) (clause_of clause.now)) < 2 ^ 64 }
+    ensures told { Tells result (clause_lines (pattern_of pattern.now) (clause_of clause.now))
+        (K.written sink.old) (K.written sink.new) }
     ensures cause { Blames result (K.faults sink.old) (K.faults sink.new) }
     ensures kept { OnOk result (scratch.new.path.items ≡ []) }
-    ensures counted { OnOk result (scratch.new.found ≡ scratch.old.found + length (clause_lines (pattern_of pattern.now) (clause_of clause.now))) }
+    ensures counted { OnOk result (scratch.new.found ≡ scratch.old.found + length
+        (clause_lines (pattern_of pattern.now) (clause_of clause.now))) }
 {
     let literals = clause.literals.as_slice();
     for i in 0..literals.len() {
@@ -149,10 +140,13 @@ pub fn answer_clauses<'a, K: Sink>(
 ) -> Result<(), Broken>
     requires root { scratch.old.path.items ≡ [] }
     requires sound { AllByRecursion IsSoundClause (map clause_of clauses.now) }
-    requires fits { scratch.old.found + length (clauses_lines (pattern_of pattern.now) (map clause_of clauses.now)) < 2 ^ 64 }
-    ensures told { Tells result (clauses_lines (pattern_of pattern.now) (map clause_of clauses.now)) (K.written sink.old) (K.written sink.new) }
+    requires fits { scratch.old.found + length
+        (clauses_lines (pattern_of pattern.now) (map clause_of clauses.now)) < 2 ^ 64 }
+    ensures told { Tells result (clauses_lines (pattern_of pattern.now) (map clause_of clauses.now))
+        (K.written sink.old) (K.written sink.new) }
     ensures cause { Blames result (K.faults sink.old) (K.faults sink.new) }
-    ensures counted { OnOk result (scratch.new.found ≡ scratch.old.found + length (clauses_lines (pattern_of pattern.now) (map clause_of clauses.now))) }
+    ensures counted { OnOk result (scratch.new.found ≡ scratch.old.found + length
+        (clauses_lines (pattern_of pattern.now) (map clause_of clauses.now))) }
 {
     for i in 0..clauses.len() {
         answer_clause(pattern, &clauses[i], scratch, sink)?;

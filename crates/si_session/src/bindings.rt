@@ -32,11 +32,13 @@ impl<'a> Model for Bindings<'a> {
 
     ghost Value = { matching.Bindings };
 
-    ghost coded = { coded_list (coded× (coded_list coded_ℕ) (codes.coded_term codes.symbol_code (coded_list coded_ℕ))) };
+    ghost coded = { coded_list
+        (coded× (coded_list coded_ℕ) (codes.coded_term codes.symbol_code (coded_list coded_ℕ))) };
 
     ghost view = { λ b. bindings_of b.list.items };
 
-    ghost invariant = { λ b. map (λ v. v.now) b.variables.keys ≡ map (λ x. x.0) (bindings_of b.list.items) };
+    ghost invariant = { λ b. map (λ v. v.now) b.variables.keys
+        ≡ map (λ x. x.0) (bindings_of b.list.items) };
 }
 
 impl<'a> Bindings<'a> {

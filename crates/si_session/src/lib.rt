@@ -3,17 +3,19 @@
 
 mod answer;
 mod bindings;
+mod broken;
 mod command;
 mod equality;
-mod limits;
 mod matching;
-mod printing;
 mod reply;
 mod scan;
 mod session;
 mod sign;
 mod solution;
+mod stepped;
 mod store;
+mod word;
 
-pub use limits::Limits;
-pub use session::{Session, Stepped};
+pub use session::Session;
+pub use si_steps::Limits;
+pub use stepped::Stepped;

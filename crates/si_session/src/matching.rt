@@ -9,8 +9,8 @@ use crate::equality::{same_symbol, same_term};
 use si_term::Term;
 use std::alloc::AllocError;
 
-/// Matches a term of the pattern against one of the entry, where some variables may be bound already. The bindings
-/// that it adds stand behind those.
+/// Matches a term of the pattern against one of the entry, where some variables may be bound
+/// already. The bindings that it adds stand behind those.
 #[cycle(matching)]
 pub fn matches<'a>(
     pattern: &'a Term,
@@ -46,7 +46,8 @@ fn all_match<'a>(
     entries: &'a [Term],
     bindings: &mut Bindings<'a>,
 ) -> Result<bool, AllocError>
-    ensures { IfOk result (λ found. all_matched (row (map term_of patterns.now)) bindings.old (row (map term_of entries.now))
+    ensures { IfOk result (λ found. all_matched (row (map term_of patterns.now)) bindings.old
+        (row (map term_of entries.now))
         ≡ (if found then Some bindings.new else None)) }
 {
     if patterns.len() != entries.len() {

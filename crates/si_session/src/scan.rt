@@ -1,7 +1,7 @@
 // The search for the entries that are instances of a pattern, and the lines of these hits.
 ghost use Rattle.std.specs.Prelude.{◌≡◌, ◌+◌, ◌<◌, ◌^◌, [], ◌∷◌, ◌++◌, map, length, OnOk, OnErr};
 ghost use Rattle.si_defs.specs.Terms.{row, size, sizes, occurrences, occurrences_from};
-ghost use Rattle.si_io.specs.Content.{Appends, AppendsPrefix};
+ghost use Rattle.si_io.specs.Puts.{Puts};
 ghost use Rattle.si_io.specs.Faults.{HasCause};
 ghost use Rattle.si_term.specs.Terms.{term_of};
 ghost use Rattle.si_term.specs.Meaning.{name_of, clause_of};
@@ -10,13 +10,13 @@ ghost use Rattle.si_session.specs.Matching.{matched};
 ghost use Rattle.si_session.specs.Telling.{Tells, Blames};
 ghost use Rattle.si_session.specs.Scan.{ended_hit_line, hit_line, entry_lines, subterm_lines};
 
-use crate::answer::Broken;
 use crate::bindings::{Binding, Bindings};
+use crate::broken::Broken;
 use crate::matching::matches;
-use crate::printing::put_place;
 use crate::sign::{Sign, put_sign};
 use crate::solution::put_solution;
 use si_io::{Failed, Sink};
+use si_reply::put_place;
 use si_term::{Clause, Name, Term};
 use std::alloc::{AllocError, Global};
 
@@ -54,8 +54,8 @@ fn put_hit<K: Sink>(
     path: &[u32],
     bindings: &[Binding<'_>],
 ) -> Result<(), Failed>
-    ensures all { OnOk result (Appends (K.written sink.old) (ended_hit_line (name_of name.now) number path.now (bindings_of bindings.now)) (K.written sink.new)) }
-    ensures part { OnErr result (AppendsPrefix (K.written sink.old) (ended_hit_line (name_of name.now) number path.now (bindings_of bindings.now)) (K.written sink.new)) }
+    ensures text { Puts result (ended_hit_line (name_of name.now) number path.now
+        (bindings_of bindings.now)) (K.written sink.old) (K.written sink.new) }
     ensures cause { HasCause (K.faults sink.old) (K.faults sink.new) result }
 {
     put_place(sink, name, number, path)?;
@@ -72,7 +72,8 @@ fn tell_hit<K: Sink>(
     path: &[u32],
     bindings: &[Binding<'_>],
 ) -> Result<(), Broken>
-    ensures told { Tells result (hit_line (name_of name.now) number path.now (bindings_of bindings.now) ∷ []) (K.written sink.old) (K.written sink.new) }
+    ensures told { Tells result (hit_line (name_of name.now) number path.now
+        (bindings_of bindings.now) ∷ []) (K.written sink.old) (K.written sink.new) }
     ensures cause { Blames result (K.faults sink.old) (K.faults sink.new) }
 {
     put_hit(sink, name, number, path, bindings)?;
@@ -88,11 +89,17 @@ pub fn put_if_match<'a, K: Sink>(
     scratch: &mut Scratch<'a>,
     sink: &mut K,
 ) -> Result<(), Broken>
-    requires { scratch.old.found + length (entry_lines (name_of name.now) number scratch.old.path.items (matched (term_of query.now) [] (term_of entry.now))) < 2 ^ 64 }
-    ensures told { Tells result (entry_lines (name_of name.now) number scratch.old.path.items (matched (term_of query.now) [] (term_of entry.now))) (K.written sink.old) (K.written sink.new) }
+    requires { scratch.old.found + length
+        (entry_lines (name_of name.now) number scratch.old.path.items
+        (matched (term_of query.now) [] (term_of entry.now))) < 2 ^ 64 }
+    ensures told { Tells result (entry_lines (name_of name.now) number scratch.old.path.items
+        (matched (term_of query.now) [] (term_of entry.now))) (K.written sink.old)
+        (K.written sink.new) }
     ensures cause { Blames result (K.faults sink.old) (K.faults sink.new) }
     ensures kept { scratch.new.path.items ≡ scratch.old.path.items }
-    ensures counted { OnOk result (scratch.new.found ≡ scratch.old.found + length (entry_lines (name_of name.now) number scratch.old.path.items (matched (term_of query.now) [] (term_of entry.now)))) }
+    ensures counted { OnOk result (scratch.new.found ≡ scratch.old.found + length
+        (entry_lines (name_of name.now) number scratch.old.path.items
+        (matched (term_of query.now) [] (term_of entry.now)))) }
 {
     scratch.bindings.clear();
     if !matches(query, entry, &mut scratch.bindings)? {
@@ -124,11 +131,17 @@ fn search_term<'a, K: Sink>(
     sink: &mut K,
 ) -> Result<(), Broken>
     requires small { size (term_of entry.now) < 2 ^ 32 }
-    requires fits { scratch.old.found + length (subterm_lines (term_of query.now) (clause_of clause.now) number scratch.old.path.items (occurrences (term_of entry.now))) < 2 ^ 64 }
-    ensures told { Tells result (subterm_lines (term_of query.now) (clause_of clause.now) number scratch.old.path.items (occurrences (term_of entry.now))) (K.written sink.old) (K.written sink.new) }
+    requires fits { scratch.old.found + length
+        (subterm_lines (term_of query.now) (clause_of clause.now) number scratch.old.path.items
+        (occurrences (term_of entry.now))) < 2 ^ 64 }
+    ensures told { Tells result (subterm_lines (term_of query.now) (clause_of clause.now) number
+        scratch.old.path.items (occurrences (term_of entry.now))) (K.written sink.old)
+        (K.written sink.new) }
     ensures cause { Blames result (K.faults sink.old) (K.faults sink.new) }
     ensures kept { OnOk result (scratch.new.path.items ≡ scratch.old.path.items) }
-    ensures counted { OnOk result (scratch.new.found ≡ scratch.old.found + length (subterm_lines (term_of query.now) (clause_of clause.now) number scratch.old.path.items (occurrences (term_of entry.now)))) }
+    ensures counted { OnOk result (scratch.new.found ≡ scratch.old.found + length
+        (subterm_lines (term_of query.now) (clause_of clause.now) number scratch.old.path.items
+        (occurrences (term_of entry.now)))) }
 {
     let Term::App(_, arguments) = entry else {
         return Ok(());
@@ -148,11 +161,17 @@ pub fn search_arguments<'a, K: Sink>(
     sink: &mut K,
 ) -> Result<(), Broken>
     requires small { sizes (row (map term_of arguments.now)) < 2 ^ 32 }
-    requires fits { scratch.old.found + length (subterm_lines (term_of query.now) (clause_of clause.now) number scratch.old.path.items (occurrences_from 1 (row (map term_of arguments.now)))) < 2 ^ 64 }
-    ensures told { Tells result (subterm_lines (term_of query.now) (clause_of clause.now) number scratch.old.path.items (occurrences_from 1 (row (map term_of arguments.now)))) (K.written sink.old) (K.written sink.new) }
+    requires fits { scratch.old.found + length
+        (subterm_lines (term_of query.now) (clause_of clause.now) number scratch.old.path.items
+        (occurrences_from 1 (row (map term_of arguments.now)))) < 2 ^ 64 }
+    ensures told { Tells result (subterm_lines (term_of query.now) (clause_of clause.now) number
+        scratch.old.path.items (occurrences_from 1 (row (map term_of arguments.now))))
+        (K.written sink.old) (K.written sink.new) }
     ensures cause { Blames result (K.faults sink.old) (K.faults sink.new) }
     ensures kept { OnOk result (scratch.new.path.items ≡ scratch.old.path.items) }
-    ensures counted { OnOk result (scratch.new.found ≡ scratch.old.found + length (subterm_lines (term_of query.now) (clause_of clause.now) number scratch.old.path.items (occurrences_from 1 (row (map term_of arguments.now))))) }
+    ensures counted { OnOk result (scratch.new.found ≡ scratch.old.found + length
+        (subterm_lines (term_of query.now) (clause_of clause.now) number scratch.old.path.items
+        (occurrences_from 1 (row (map term_of arguments.now))))) }
 {
     for i in 0..arguments.len() {
         descend(&mut scratch.path, i)?;

@@ -1,11 +1,11 @@
 // The fixed signs of printed texts.
 ghost use Rattle.std.specs.Prelude.{OnOk, OnErr};
-ghost use Rattle.si_io.specs.Content.{Appends, AppendsPrefix};
+ghost use Rattle.si_io.specs.Puts.{Puts};
 ghost use Rattle.si_io.specs.Faults.{HasCause};
 ghost use Rattle.si_session.specs.Signs.{sign_text};
 
-use crate::printing::put_bytes;
 use si_io::{Failed, Sink};
+use si_reply::put_bytes;
 
 /// A fixed sign between the parts of a printed text.
 #[derive(Clone, Copy, Debug, PartialEq, Eq)]
@@ -29,8 +29,7 @@ pub enum Sign {
 /// Writes a sign.
 #[tactic(auto, unfolding(crate::specs::Signs::sign_text))]
 pub fn put_sign<K: Sink>(sink: &mut K, sign: Sign) -> Result<(), Failed>
-    ensures all { OnOk result (Appends (K.written sink.old) (sign_text sign) (K.written sink.new)) }
-    ensures part { OnErr result (AppendsPrefix (K.written sink.old) (sign_text sign) (K.written sink.new)) }
+    ensures text { Puts result (sign_text sign) (K.written sink.old) (K.written sink.new) }
     ensures cause { HasCause (K.faults sink.old) (K.faults sink.new) result }
 {
     match sign {

@@ -1,21 +1,21 @@
 // Solution lists, written to a sink.
 ghost use Rattle.std.specs.Prelude.{◌++◌, OnOk, OnErr};
-ghost use Rattle.si_io.specs.Content.{Appends, AppendsPrefix};
+ghost use Rattle.si_io.specs.Puts.{Puts};
 ghost use Rattle.si_io.specs.Faults.{HasCause};
 ghost use Rattle.si_session.specs.Bound.{binding_of, bindings_of};
 ghost use Rattle.si_session.specs.Signs.{sign_text, binding_text, more_bindings_text, bindings_text, solution_text};
 ghost use Rattle.si_session.specs.declared.sign.Sign.TheVariants.{Semicolon};
 
 use crate::bindings::Binding;
-use crate::printing::{put_bytes, put_term};
 use crate::sign::{Sign, put_sign};
 use si_io::{Failed, Sink};
+use si_reply::{put_bytes, put_term};
 
 /// Writes a variable of the pattern and its term.
 #[tactic(auto, using(si_io::proofs::Content::writes), unfolding(crate::specs::Signs::binding_text))]
 fn put_binding<K: Sink>(sink: &mut K, binding: &Binding<'_>) -> Result<(), Failed>
-    ensures all { OnOk result (Appends (K.written sink.old) (binding_text (binding_of binding.now)) (K.written sink.new)) }
-    ensures part { OnErr result (AppendsPrefix (K.written sink.old) (binding_text (binding_of binding.now)) (K.written sink.new)) }
+    ensures text { Puts result (binding_text (binding_of binding.now)) (K.written sink.old)
+        (K.written sink.new) }
     ensures cause { HasCause (K.faults sink.old) (K.faults sink.new) result }
 {
     put_sign(sink, Sign::Question)?;
@@ -27,8 +27,8 @@ fn put_binding<K: Sink>(sink: &mut K, binding: &Binding<'_>) -> Result<(), Faile
 /// Writes a semicolon, and then a binding.
 #[tactic(auto, using(si_io::proofs::Content::writes))]
 fn put_next_binding<K: Sink>(sink: &mut K, binding: &Binding<'_>) -> Result<(), Failed>
-    ensures all { OnOk result (Appends (K.written sink.old) (sign_text Semicolon ++ binding_text (binding_of binding.now)) (K.written sink.new)) }
-    ensures part { OnErr result (AppendsPrefix (K.written sink.old) (sign_text Semicolon ++ binding_text (binding_of binding.now)) (K.written sink.new)) }
+    ensures text { Puts result (sign_text Semicolon ++ binding_text (binding_of binding.now))
+        (K.written sink.old) (K.written sink.new) }
     ensures cause { HasCause (K.faults sink.old) (K.faults sink.new) result }
 {
     put_sign(sink, Sign::Semicolon)?;
@@ -37,8 +37,8 @@ fn put_next_binding<K: Sink>(sink: &mut K, binding: &Binding<'_>) -> Result<(), 
 
 /// Writes bindings, each behind a semicolon.
 fn put_more_bindings<K: Sink>(sink: &mut K, bindings: &[Binding<'_>]) -> Result<(), Failed>
-    ensures all { OnOk result (Appends (K.written sink.old) (more_bindings_text (bindings_of bindings.now)) (K.written sink.new)) }
-    ensures part { OnErr result (AppendsPrefix (K.written sink.old) (more_bindings_text (bindings_of bindings.now)) (K.written sink.new)) }
+    ensures text { Puts result (more_bindings_text (bindings_of bindings.now)) (K.written sink.old)
+        (K.written sink.new) }
     ensures cause { HasCause (K.faults sink.old) (K.faults sink.new) result }
 {
     for binding in bindings {
@@ -50,8 +50,8 @@ fn put_more_bindings<K: Sink>(sink: &mut K, bindings: &[Binding<'_>]) -> Result<
 /// Writes bindings with semicolons between them.
 #[tactic(auto, using(si_io::proofs::Content::writes), unfolding(crate::specs::Signs::bindings_text))]
 fn put_bindings<K: Sink>(sink: &mut K, bindings: &[Binding<'_>]) -> Result<(), Failed>
-    ensures all { OnOk result (Appends (K.written sink.old) (bindings_text (bindings_of bindings.now)) (K.written sink.new)) }
-    ensures part { OnErr result (AppendsPrefix (K.written sink.old) (bindings_text (bindings_of bindings.now)) (K.written sink.new)) }
+    ensures text { Puts result (bindings_text (bindings_of bindings.now)) (K.written sink.old)
+        (K.written sink.new) }
     ensures cause { HasCause (K.faults sink.old) (K.faults sink.new) result }
 {
     let Some((first, others)) = bindings.split_first() else {
@@ -64,8 +64,8 @@ fn put_bindings<K: Sink>(sink: &mut K, bindings: &[Binding<'_>]) -> Result<(), F
 /// Writes the list that bindings stand for.
 #[tactic(auto, using(si_io::proofs::Content::writes), unfolding(crate::specs::Signs::solution_text))]
 pub fn put_solution<K: Sink>(sink: &mut K, bindings: &[Binding<'_>]) -> Result<(), Failed>
-    ensures all { OnOk result (Appends (K.written sink.old) (solution_text (bindings_of bindings.now)) (K.written sink.new)) }
-    ensures part { OnErr result (AppendsPrefix (K.written sink.old) (solution_text (bindings_of bindings.now)) (K.written sink.new)) }
+    ensures text { Puts result (solution_text (bindings_of bindings.now)) (K.written sink.old)
+        (K.written sink.new) }
     ensures cause { HasCause (K.faults sink.old) (K.faults sink.new) result }
 {
     put_sign(sink, Sign::OpenBrace)?;

@@ -3,7 +3,7 @@ ghost use Rattle.std.specs.Prelude.{◌≡◌, ◌<◌, ◌^◌, [], length, map
 ghost use Rattle.std.specs.List.{AllByRecursion};
 ghost use Rattle.si_defs.specs.Clauses.{IsSoundClause};
 ghost use Rattle.si_defs.specs.Entries.{entries, state_entries};
-ghost use Rattle.si_defs.specs.Acceptance.{Accepts};
+ghost use Rattle.si_state.specs.Acceptance.{Accepts};
 ghost use Rattle.si_term.specs.Meaning.{clause_of, name_of};
 ghost use Rattle.si_session.specs.StoreKeys.{key_of};
 
@@ -45,7 +45,8 @@ impl Model for Store {
 
     ghost view = { λ s. map clause_of s.clauses.items };
 
-    ghost invariant = { λ s. Keeps (map clause_of s.clauses.items) (map (λ k. k.items) s.names.keys) s.entries };
+    ghost invariant = { λ s. Keeps (map clause_of s.clauses.items)
+        (map (λ k. k.items) s.names.keys) s.entries };
 }
 
 impl Store {
@@ -72,7 +73,8 @@ impl Store {
         self.clauses.as_slice()
     }
 
-    /// Keeps a clause, last, and answers the number of its entries. At an error the list is as before.
+    /// Keeps a clause, last, and answers the number of its entries. At an error the list is as
+    /// before.
     pub fn add(&mut self, clause: Clause) -> Result<u32, Rejected>
         requires { IsSoundClause (clause_of clause) }
         ensures kept { IfOk result (λ n. Accepts self.old (clause_of clause) self.new) }

@@ -3,3 +3,4 @@ pub mod Progress
 pub mod Alone
 pub mod Literals
 pub mod Gathered
+pub mod Results

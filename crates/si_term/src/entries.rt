@@ -1,7 +1,8 @@
 // The entries of a clause by their numbers, and the variables of an entry.
 ghost use Rattle.std.specs.Prelude.{◌≡◌, ◌<◌, ◌≤◌, ◌+◌, ℕ, Some, IfOk, OnOk, bytes_eq, length, map, slice_get};
 ghost use Rattle.si_defs.specs.Terms.{row, size, sizes, firsts, variables, variables_of_all};
-ghost use Rattle.si_defs.specs.Clauses.{literals_size, most_occurrences};
+ghost use Rattle.si_defs.specs.Clauses.{literals_size};
+ghost use Rattle.si_defs.specs.declared.TheConstants.{MOST_OCCURRENCES};
 ghost use Rattle.si_defs.specs.Entries.{entries, entry_variables, pattern_entry};
 ghost use Rattle.si_term.specs.Terms.{term_of};
 ghost use Rattle.si_term.specs.Meaning.{clause_of, place_of, pattern_of, entry_of};
@@ -35,7 +36,7 @@ enum PathWalk {
 
 /// The number of entries: the literals and the proper subterms of their atoms that are no variables.
 pub fn entry_count(clause: &Clause) -> u32
-    requires { length (entries (clause_of clause.now)) ≤ most_occurrences }
+    requires { length (entries (clause_of clause.now)) ≤ MOST_OCCURRENCES }
     ensures { result ≡ length (entries (clause_of clause.now)) }
 {
     let literals = clause.literals.as_slice();
@@ -48,9 +49,10 @@ pub fn entry_count(clause: &Clause) -> u32
 
 /// The entry with this number, from 0.
 pub fn entry_at(clause: &Clause, number: u32) -> Entry<'_>
-    requires few { length (entries (clause_of clause.now)) ≤ most_occurrences }
+    requires few { length (entries (clause_of clause.now)) ≤ MOST_OCCURRENCES }
     requires within { number < length (entries (clause_of clause.now)) }
-    ensures { slice_get (map (λ p. p.entry) (entries (clause_of clause.now))) number ≡ Some (entry_of result) }
+    ensures { slice_get (map (λ p. p.entry) (entries (clause_of clause.now))) number ≡ Some
+        (entry_of result) }
 {
     let literals = clause.literals.as_slice();
     let mut left = number;
@@ -69,9 +71,10 @@ pub fn entry_at(clause: &Clause, number: u32) -> Entry<'_>
 
 /// The place of the entry with this number, from 0.
 pub fn place_at(alloc: Global, clause: &Clause, number: u32) -> Result<Place, AllocError>
-    requires small { literals_size (clause_of clause.now).literals ≤ most_occurrences }
+    requires small { literals_size (clause_of clause.now).literals ≤ MOST_OCCURRENCES }
     requires within { number < length (entries (clause_of clause.now)) }
-    ensures { IfOk result (λ p. slice_get (map (λ e. e.place) (entries (clause_of clause.now))) number ≡ Some (place_of p)) }
+    ensures { IfOk result (λ p. slice_get (map (λ e. e.place) (entries (clause_of clause.now)))
+        number ≡ Some (place_of p)) }
 {
     let literals = clause.literals.as_slice();
     let mut left = number;
@@ -100,7 +103,8 @@ pub fn place_at(alloc: Global, clause: &Clause, number: u32) -> Result<Place, Al
 
 /// The variables of an entry, each once, in the order of their first occurrence.
 pub fn vars_of(alloc: Global, entry: Entry<'_>) -> Result<Texts, AllocError>
-    ensures { IfOk result (λ names. names ≡ firsts bytes_eq (entry_variables (entry_of entry.entry))) }
+    ensures { IfOk result (λ names. names ≡ firsts bytes_eq
+        (entry_variables (entry_of entry.entry))) }
 {
     let mut seen = IndexSet::new(alloc);
     gather_term(whole_term(entry), &mut seen)?;
@@ -142,7 +146,7 @@ fn copy_all(alloc: Global, texts: &[&[u8]]) -> Result<Texts, AllocError>
 
 /// The number of proper subterms that are no variables.
 fn count_inside(term: &Term) -> u32
-    requires { length (subterms_of_all (arguments (term_of term.now))) ≤ most_occurrences }
+    requires { length (subterms_of_all (arguments (term_of term.now))) ≤ MOST_OCCURRENCES }
     ensures { result ≡ length (subterms_of_all (arguments (term_of term.now))) }
 {
     match term {
@@ -154,7 +158,7 @@ fn count_inside(term: &Term) -> u32
 /// The number of subterms that are no variables, with the term itself.
 #[cycle(count)]
 fn count_term(term: &Term) -> u32
-    requires { length (subterms (term_of term.now)) ≤ most_occurrences }
+    requires { length (subterms (term_of term.now)) ≤ MOST_OCCURRENCES }
     ensures { result ≡ length (subterms (term_of term.now)) }
 {
     match term {
@@ -165,7 +169,7 @@ fn count_term(term: &Term) -> u32
 
 #[cycle(count)]
 fn count_all(terms: &[Term]) -> u32
-    requires { length (subterms_of_all (row (map term_of terms.now))) ≤ most_occurrences }
+    requires { length (subterms_of_all (row (map term_of terms.now))) ≤ MOST_OCCURRENCES }
     ensures { result ≡ length (subterms_of_all (row (map term_of terms.now))) }
 {
     let mut count = 0;
@@ -218,7 +222,7 @@ fn find_in(terms: &[Term], number: u32) -> Walk<'_>
 
 /// As `find_inside`, with the path.
 fn path_inside(alloc: Global, term: &Term, left: u32) -> Result<PathWalk, AllocError>
-    requires { size (term_of term.now) ≤ most_occurrences }
+    requires { size (term_of term.now) ≤ MOST_OCCURRENCES }
     ensures { IfOk result (λ w. FindsPath (paths_from 1 (arguments (term_of term.now))) left w) }
 {
     match term {
@@ -230,7 +234,7 @@ fn path_inside(alloc: Global, term: &Term, left: u32) -> Result<PathWalk, AllocE
 /// As `find_term`, with the path.
 #[cycle(path)]
 fn path_term(alloc: Global, term: &Term, left: u32) -> Result<PathWalk, AllocError>
-    requires { size (term_of term.now) ≤ most_occurrences }
+    requires { size (term_of term.now) ≤ MOST_OCCURRENCES }
     ensures { IfOk result (λ w. FindsPath (paths (term_of term.now)) left w) }
 {
     match term {
@@ -247,7 +251,7 @@ fn path_term(alloc: Global, term: &Term, left: u32) -> Result<PathWalk, AllocErr
 
 #[cycle(path)]
 fn path_in(alloc: Global, terms: &[Term], number: u32) -> Result<PathWalk, AllocError>
-    requires { sizes (row (map term_of terms.now)) ≤ most_occurrences }
+    requires { sizes (row (map term_of terms.now)) ≤ MOST_OCCURRENCES }
     ensures { IfOk result (λ w. FindsPath (paths_from 1 (row (map term_of terms.now))) number w) }
 {
     let mut left = number;
@@ -266,7 +270,8 @@ fn path_in(alloc: Global, terms: &[Term], number: u32) -> Result<PathWalk, Alloc
 /// Adds the variables of a term that aren't there yet.
 #[cycle(gather)]
 fn gather_term<'a>(term: &'a Term, seen: &mut IndexSet<&'a [u8]>) -> Result<(), AllocError>
-    ensures { OnOk result (map (λ t. t.now) seen.new.keys ≡ gathered (map (λ t. t.now) seen.old.keys) (variables (term_of term.now))) }
+    ensures { OnOk result (map (λ t. t.now) seen.new.keys ≡ gathered
+        (map (λ t. t.now) seen.old.keys) (variables (term_of term.now))) }
 {
     match term {
         Term::Var(name) => {
@@ -279,7 +284,8 @@ fn gather_term<'a>(term: &'a Term, seen: &mut IndexSet<&'a [u8]>) -> Result<(), 
 
 #[cycle(gather)]
 fn gather_all<'a>(terms: &'a [Term], seen: &mut IndexSet<&'a [u8]>) -> Result<(), AllocError>
-    ensures { OnOk result (map (λ t. t.now) seen.new.keys ≡ gathered (map (λ t. t.now) seen.old.keys) (variables_of_all (row (map term_of terms.now)))) }
+    ensures { OnOk result (map (λ t. t.now) seen.new.keys ≡ gathered
+        (map (λ t. t.now) seen.old.keys) (variables_of_all (row (map term_of terms.now)))) }
 {
     for i in 0..terms.len() {
         gather_term(&terms[i], seen)?;

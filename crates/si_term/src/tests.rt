@@ -46,7 +46,8 @@ fn two(alloc: Global, first: Term, second: Term) -> Result<Terms, AllocError>
 
 /// A literal `p(first,second)`.
 fn literal(alloc: Global, first: Term, second: Term) -> Result<Literal, AllocError>
-    ensures { IfOk result (λ l. size (term_of l.atom) ≡ 1 + (size (term_of first) + size (term_of second))) }
+    ensures { IfOk result (λ l. size (term_of l.atom) ≡ 1 +
+        (size (term_of first) + size (term_of second))) }
 {
     Ok(Literal {
         positive: true,

@@ -2,8 +2,8 @@
 use Rattle.std.proofs.Common.{◌≡◌, ℕ, ◌+◌, ◌<◌, ◌≤◌, List, [], ◌++◌, Option, length, refl, sym, ap, subst, ◌∙◌, inl, inr, length-append, arith}
 use Rattle.si_defs.specs.Bytes.{Bytes}
 use Rattle.si_defs.specs.Clauses.{Clause}
-use Rattle.si_defs.specs.Steps.{Limits}
-use Rattle.si_io.specs.Content.{prepend_told, Takes, IsAtEnd}
+use Rattle.si_steps.specs.declared.limits.Limits.{Limits}
+use Rattle.si_io.specs.Content.{Told, prepend_told, Takes, IsAtEnd}
 use Rattle.si_io.proofs.Content.{Takes_none, Takes_then, prepend_told-nil}
 use Rattle.stindex.specs.declared.status.Status.TheVariants.{Ended, SourceFault, SinkFault, Memory, SessionLimit}
 use Rattle.stindex.specs.Serve.{Serves}
@@ -12,7 +12,7 @@ use Rattle.stindex.proofs.Progress.{Progress_start}
 use Rattle.stindex.proofs.Splitting.{Splits_none}
 
 -- ---- how it stands
-pub Stands_start : (limits : Limits) (left before : Option Bytes) (clauses : List Clause) (held : Bytes) → clauses ≡ [] → held ≡ [] → Stands limits 0 left left before clauses held before
+pub Stands_start : (limits : Limits) (left : Option Bytes) (before : Told) (clauses : List Clause) (held : Bytes) → clauses ≡ [] → held ≡ [] → Stands limits 0 left left before clauses held before
 Stands_start limits left before clauses held none empty = record {
   taken = [];
   size = refl;
@@ -22,7 +22,7 @@ Stands_start limits left before clauses held none empty = record {
 }
 
 -- a read gave these bytes, which were acted on
-pub Stands_more : (limits lims : Limits) (n m : ℕ) (bytes fed : Bytes) (left now next before : Option Bytes) (old new : List Clause) (held holds : Bytes) (x after : Option Bytes)
+pub Stands_more : (limits lims : Limits) (n m : ℕ) (bytes fed : Bytes) (left now next : Option Bytes) (before : Told) (old new : List Clause) (held holds : Bytes) (x after : Told)
     → Stands limits n left now before old held x → lims ≡ limits → Takes now bytes next → length bytes ≡ m → fed ≡ bytes
     → Advances lims fed old held x new holds after → Stands limits (n + m) left next before new holds after
 Stands_more limits lims n m bytes fed left now next before old new held holds x after s same takes size is advances = record {
@@ -34,7 +34,7 @@ Stands_more limits lims n m bytes fed left now next before old new held holds x 
 }
 
 -- ---- how it ends
-pub Serves_memory : (limits : Limits) (left before : Option Bytes) → Serves limits Memory left left before before
+pub Serves_memory : (limits : Limits) (left : Option Bytes) (before : Told) → Serves limits Memory left left before before
 Serves_memory limits left before = record {
   taken = [];
   lines = [];
@@ -45,7 +45,7 @@ Serves_memory limits left before = record {
   ends = (refl, refl, refl);
 }
 
-pub Serves_limit : (limits : Limits) (n : ℕ) (left now before : Option Bytes) (clauses : List Clause) (held : Bytes) (after : Option Bytes)
+pub Serves_limit : (limits : Limits) (n : ℕ) (left now : Option Bytes) (before : Told) (clauses : List Clause) (held : Bytes) (after : Told)
     → Stands limits n left now before clauses held after → n ≡ limits.session → Serves limits SessionLimit left now before after
 Serves_limit limits n left now before clauses held after s full = record {
   taken = s.taken;
@@ -58,7 +58,7 @@ Serves_limit limits n left now before clauses held after s full = record {
 }
 
 -- the source failed, and took nothing
-pub Serves_source : (limits : Limits) (n : ℕ) (left now next before : Option Bytes) (clauses : List Clause) (held : Bytes) (after : Option Bytes)
+pub Serves_source : (limits : Limits) (n : ℕ) (left now next : Option Bytes) (before : Told) (clauses : List Clause) (held : Bytes) (after : Told)
     → Stands limits n left now before clauses held after → n < limits.session → next ≡ now → Serves limits SourceFault left next before after
 Serves_source limits n left now next before clauses held after s below kept = record {
   taken = s.taken;
@@ -71,7 +71,7 @@ Serves_source limits n left now next before clauses held after s below kept = re
 }
 
 -- the sink failed at a line that is whole in the bytes of the last read
-pub Serves_sink : (limits lims : Limits) (n m : ℕ) (bytes fed : Bytes) (left now next before : Option Bytes) (clauses : List Clause) (held : Bytes) (x after : Option Bytes)
+pub Serves_sink : (limits lims : Limits) (n m : ℕ) (bytes fed : Bytes) (left now next : Option Bytes) (before : Told) (clauses : List Clause) (held : Bytes) (x after : Told)
     → Stands limits n left now before clauses held x → lims ≡ limits → Takes now bytes next → length bytes ≡ m → n + m ≤ limits.session → fed ≡ bytes
     → Fails lims fed clauses held x after → Serves limits SinkFault left next before after
 Serves_sink limits lims n m bytes fed left now next before clauses held x after s same takes size within is fails =
@@ -92,7 +92,7 @@ Serves_sink limits lims n m bytes fed left now next before clauses held x after 
 end_left : (now next : Option Bytes) (bytes : Bytes) → Takes now bytes next → bytes ≡ [] → next ≡ now
 end_left now next bytes takes none = sym (takes ∙ ap (λ (b : Bytes). prepend_told b next) none ∙ prepend_told-nil next)
 
-pub Serves_ended : (limits lims : Limits) (n : ℕ) (bytes : Bytes) (left now next before : Option Bytes) (clauses : List Clause) (held : Bytes) (x after : Option Bytes)
+pub Serves_ended : (limits lims : Limits) (n : ℕ) (bytes : Bytes) (left now next : Option Bytes) (before : Told) (clauses : List Clause) (held : Bytes) (x after : Told)
     → Stands limits n left now before clauses held x → lims ≡ limits → n < limits.session → Takes now bytes next → bytes ≡ [] → IsAtEnd now
     → Closes lims clauses held x after → Serves limits Ended left next before after
 Serves_ended limits lims n bytes left now next before clauses held x after s same below takes none ended closes =
@@ -110,7 +110,7 @@ Serves_ended limits lims n bytes left now next before clauses held x after s sam
     }
 
 -- and then the sink failed at the last line
-pub Serves_cut : (limits lims : Limits) (n : ℕ) (bytes : Bytes) (left now next before : Option Bytes) (clauses : List Clause) (held : Bytes) (x after : Option Bytes)
+pub Serves_cut : (limits lims : Limits) (n : ℕ) (bytes : Bytes) (left now next : Option Bytes) (before : Told) (clauses : List Clause) (held : Bytes) (x after : Told)
     → Stands limits n left now before clauses held x → lims ≡ limits → n < limits.session → Takes now bytes next → bytes ≡ [] → IsAtEnd now
     → Cuts lims clauses held x after → Serves limits SinkFault left next before after
 Serves_cut limits lims n bytes left now next before clauses held x after s same below takes none ended cuts =

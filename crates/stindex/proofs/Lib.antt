@@ -2,4 +2,5 @@ pub mod Steps
 pub mod Splitting
 pub mod Progress
 pub mod Endings
+pub mod Faultless
 pub mod Headline

@@ -3,13 +3,15 @@ use Rattle.std.proofs.Common.{◌≡◌, ℕ, ◌+◌, List, [], ◌∷◌, ◌+
 use Rattle.std.proofs.Math.Seq.{take-nil}
 use Rattle.si_defs.specs.Bytes.{Bytes}
 use Rattle.si_defs.specs.Clauses.{Clause}
-use Rattle.si_defs.specs.Steps.{Limits, Reply, Step}
-use Rattle.si_defs.specs.Runs.{ended, IsOneLine, Splits, lines_at_end, Run}
-use Rattle.si_io.specs.Content.{Appends}
+use Rattle.si_steps.specs.declared.limits.Limits.{Limits}
+use Rattle.si_steps.specs.Replies.{Reply}
+use Rattle.si_steps.specs.Steps.{Step}
+use Rattle.si_steps.specs.Runs.{ended, IsOneLine, Splits, lines_at_end, Run}
+use Rattle.si_io.specs.Content.{Told, Appends}
 use Rattle.si_io.proofs.Content.{Appends_then, AppendsPrefix_then, append_told-nil}
 use Rattle.si_session.specs.Session.{State, Writes, Steps}
-use Rattle.si_session.specs.declared.session.Stepped.{Stepped}
-use Rattle.si_session.specs.declared.session.Stepped.TheVariants.{Answered, Refused, Silent, SinkFailed}
+use Rattle.si_session.specs.declared.stepped.Stepped.{Stepped}
+use Rattle.si_session.specs.declared.stepped.Stepped.TheVariants.{Answered, Refused, Silent, SinkFailed}
 use Rattle.stindex.specs.Progress.{shown, Acts, Breaks, Progress, Advances, Feeds, Failed, Fails, Closes, Cuts}
 use Rattle.stindex.proofs.Steps.{shown_step}
 use Rattle.std.specs.Prelude.{◌==◌, Some, None}
@@ -27,7 +29,7 @@ take-take-append (suc n) [] ys = refl
 take-take-append (suc n) (x ∷ xs) ys = ap (λ (l : Bytes). x ∷ l) (take-take-append n xs ys)
 
 -- ---- progress
-pub Progress_start : (limits : Limits) (before : Option Bytes) → Progress limits before [] [] [] before
+pub Progress_start : (limits : Limits) (before : Told) → Progress limits before [] [] [] before
 Progress_start limits before = record {
   lines = [];
   rest = [];
@@ -38,16 +40,16 @@ Progress_start limits before = record {
   written = sym (append_told-nil before);
 }
 
-pub Advances_none : (limits : Limits) (clauses : List Clause) (held : Bytes) (now : Option Bytes) → Advances limits [] clauses held now clauses held now
+pub Advances_none : (limits : Limits) (clauses : List Clause) (held : Bytes) (now : Told) → Advances limits [] clauses held now clauses held now
 Advances_none limits clauses held now before taken p = subst (λ (b : Bytes). Progress limits before b clauses held now) (sym (append-nil taken)) p
 
-pub Advances_then : (limits : Limits) (bs cs : Bytes) (s t u : List Clause) (f g h : Bytes) (x y z : Option Bytes)
+pub Advances_then : (limits : Limits) (bs cs : Bytes) (s t u : List Clause) (f g h : Bytes) (x y z : Told)
     → Advances limits bs s f x t g y → Advances limits cs t g y u h z → Advances limits (bs ++ cs) s f x u h z
 Advances_then limits bs cs s t u f g h x y z first second before taken p =
     subst (λ (b : Bytes). Progress limits before b u h z) (append_assoc taken bs cs) (second before (taken ++ bs) (first before taken p))
 
 -- bytes without a line feed go to the line that was begun
-pub Advances_more : (limits : Limits) (bytes held holds : Bytes) (clauses : List Clause) (now : Option Bytes)
+pub Advances_more : (limits : Limits) (bytes held holds : Bytes) (clauses : List Clause) (now : Told)
     → IsOneLine bytes → holds ≡ take (limits.line + 1) (held ++ bytes) → Advances limits bytes clauses held now clauses holds now
 Advances_more limits bytes held holds clauses now one filled before taken p = record {
   lines = p.lines;
@@ -60,7 +62,7 @@ Advances_more limits bytes held holds clauses now one filled before taken p = re
 }
 
 -- a line feed ends that line, which is acted on
-pub Advances_line : (limits : Limits) (old new : List Clause) (held : Bytes) (now after : Option Bytes)
+pub Advances_line : (limits : Limits) (old new : List Clause) (held : Bytes) (now after : Told)
     → Acts limits old new held now after → Advances limits (10 ∷ []) old held now new [] after
 Advances_line limits old new held now after acts before taken p =
     let step = shown_step limits old new p.rest acts.reply (subst (λ (l : Bytes). Step limits old l acts.reply new) p.holds acts.step) in
@@ -75,7 +77,7 @@ Advances_line limits old new held now after acts before taken p =
     }
 
 -- ---- faults of the sink
-pub Fails_line : (limits : Limits) (bytes : Bytes) (old new : List Clause) (held : Bytes) (now after : Option Bytes)
+pub Fails_line : (limits : Limits) (bytes : Bytes) (old new : List Clause) (held : Bytes) (now after : Told)
     → Breaks limits old new held now after → Fails limits (10 ∷ bytes) old held now after
 Fails_line limits bytes old new held now after breaks before taken p =
     let step = shown_step limits old new p.rest breaks.reply (subst (λ (l : Bytes). Step limits old l breaks.reply new) p.holds breaks.step) in
@@ -94,14 +96,14 @@ Fails_line limits bytes old new held now after breaks before taken p =
       };
     }
 
-pub Fails_then : (limits : Limits) (bs cs : Bytes) (s t : List Clause) (f g : Bytes) (x y z : Option Bytes)
+pub Fails_then : (limits : Limits) (bs cs : Bytes) (s t : List Clause) (f g : Bytes) (x y z : Told)
     → Advances limits bs s f x t g y → Fails limits cs t g y z → Fails limits (bs ++ cs) s f x z
 Fails_then limits bs cs s t f g x y z first second before taken p =
     subst (λ (b : Bytes). Failed limits before b z) (append_assoc taken bs cs) (second before (taken ++ bs) (first before taken p))
 
 -- ---- bytes from line feed to line feed
 -- a line was acted on that ends in the rest
-pub Feeds_line : (limits lims : Limits) (bytes rest front left : Bytes) (at n : ℕ) (old mid new : List Clause) (held holds filled none : Bytes) (now x after : Option Bytes)
+pub Feeds_line : (limits lims : Limits) (bytes rest front left : Bytes) (at n : ℕ) (old mid new : List Clause) (held holds filled none : Bytes) (now x after : Told)
     → Feeds limits bytes old held now rest mid holds x → lims ≡ limits → n ≡ limits.line
     → Some at ≡ position (λ c. c == 10) rest → front ≡ take at rest → filled ≡ take (n + 1) (holds ++ front)
     → Acts lims mid new filled x after → none ≡ [] → left ≡ drop (at + 1) rest
@@ -121,7 +123,7 @@ Feeds_line limits lims bytes rest front left at n old mid new held holds filled 
     }
 
 -- the sink failed at that line
-pub Feeds_fail : (limits lims : Limits) (bytes rest front : Bytes) (at n : ℕ) (old mid new : List Clause) (held holds filled : Bytes) (now x after : Option Bytes)
+pub Feeds_fail : (limits lims : Limits) (bytes rest front : Bytes) (at n : ℕ) (old mid new : List Clause) (held holds filled : Bytes) (now x after : Told)
     → Feeds limits bytes old held now rest mid holds x → lims ≡ limits → n ≡ limits.line
     → Some at ≡ position (λ c. c == 10) rest → front ≡ take at rest → filled ≡ take (n + 1) (holds ++ front)
     → Breaks lims mid new filled x after → Fails limits bytes old held now after
@@ -135,7 +137,7 @@ Feeds_fail limits lims bytes rest front at n old mid new held holds filled now x
     subst (λ (b : Bytes). Fails limits b old held now after) (sym (f.whole ∙ ap (λ (b : Bytes). f.done ++ b) end.parts)) all
 
 -- no line feed is left in the rest
-pub Feeds_end : (limits : Limits) (bytes rest : Bytes) (n : ℕ) (old mid : List Clause) (held holds filled : Bytes) (now x : Option Bytes)
+pub Feeds_end : (limits : Limits) (bytes rest : Bytes) (n : ℕ) (old mid : List Clause) (held holds filled : Bytes) (now x : Told)
     → Feeds limits bytes old held now rest mid holds x → n ≡ limits.line
     → None ≡ position (λ c. c == 10) rest → filled ≡ take (n + 1) (holds ++ rest)
     → Advances limits bytes old held now mid filled x
@@ -149,7 +151,7 @@ rest_some : (limits : Limits) (held rest : Bytes) → (held ≡ [] → ⊥) → 
 rest_some limits held rest some holds none = some (holds ∙ ap (shown limits) none ∙ shown-nil limits)
 
 -- the line that was begun is the last one
-pub Closes_line : (limits : Limits) (old new : List Clause) (held : Bytes) (now after : Option Bytes)
+pub Closes_line : (limits : Limits) (old new : List Clause) (held : Bytes) (now after : Told)
     → (held ≡ [] → ⊥) → Acts limits old new held now after → Closes limits old held now after
 Closes_line limits old new held now after some acts before taken p =
     let step = shown_step limits old new p.rest acts.reply (subst (λ (l : Bytes). Step limits old l acts.reply new) p.holds acts.step) in
@@ -166,7 +168,7 @@ Closes_line limits old new held now after some acts before taken p =
       };
     }
 
-pub Cuts_line : (limits : Limits) (old new : List Clause) (held : Bytes) (now after : Option Bytes)
+pub Cuts_line : (limits : Limits) (old new : List Clause) (held : Bytes) (now after : Told)
     → (held ≡ [] → ⊥) → Breaks limits old new held now after → Cuts limits old held now after
 Cuts_line limits old new held now after some breaks before taken p =
     let step = shown_step limits old new p.rest breaks.reply (subst (λ (l : Bytes). Step limits old l breaks.reply new) p.holds breaks.step) in
@@ -186,13 +188,13 @@ Cuts_line limits old new held now after some breaks before taken p =
     }
 
 -- ---- what one step wrote
-written_whole : (outcome : Stepped) (reply : Reply) (now after : Option Bytes) → (outcome ≡ SinkFailed → ⊥) → Writes outcome reply now after → Appends now (ended reply) after
+written_whole : (outcome : Stepped) (reply : Reply) (now after : Told) → (outcome ≡ SinkFailed → ⊥) → Writes outcome reply now after → Appends now (ended reply) after
 written_whole Answered reply now after whole w = w.0
 written_whole Refused reply now after whole w = w.0
 written_whole Silent reply now after whole w = w.0
 written_whole SinkFailed reply now after whole w = absurd (whole refl)
 
-pub Acts_by : (old new : State) (line held : Bytes) (outcome : Stepped) (now after : Option Bytes)
+pub Acts_by : (old new : State) (line held : Bytes) (outcome : Stepped) (now after : Told)
     → line ≡ held → (outcome ≡ SinkFailed → ⊥) → Steps old new line outcome now after → Acts old.limits old.clauses new.clauses held now after
 Acts_by old new line held outcome now after same whole s = record {
   reply = s.reply;
@@ -200,7 +202,7 @@ Acts_by old new line held outcome now after same whole s = record {
   written = written_whole outcome s.reply now after whole s.written;
 }
 
-pub Breaks_by : (old new : State) (line held : Bytes) (outcome : Stepped) (now after : Option Bytes)
+pub Breaks_by : (old new : State) (line held : Bytes) (outcome : Stepped) (now after : Told)
     → line ≡ held → outcome ≡ SinkFailed → Steps old new line outcome now after → Breaks old.limits old.clauses new.clauses held now after
 Breaks_by old new line held outcome now after same failed s = record {
   reply = s.reply;

@@ -8,10 +8,12 @@ use Rattle.std.proofs.lemmas.List.Folds.{list_any-append}
 use Rattle.std.proofs.lemmas.Bool.Decides.{nat_tests}
 use Rattle.si_defs.specs.Bytes.{Bytes}
 use Rattle.si_defs.specs.Clauses.{Clause}
-use Rattle.si_defs.specs.Steps.{Limits, Reply, Step}
+use Rattle.si_steps.specs.declared.limits.Limits.{Limits}
+use Rattle.si_steps.specs.Replies.{Reply}
+use Rattle.si_steps.specs.Steps.{Step}
 use Rattle.si_session.proofs.Told.{ended-append}
 use Rattle.stindex.specs.Lines.{IsLineEnd}
-use Rattle.si_defs.specs.Runs.{ended, IsOneLine, Splits, lines_at_end, Run}
+use Rattle.si_steps.specs.Runs.{ended, IsOneLine, Splits, lines_at_end, Run}
 
 -- ---- lines
 each-append : (ls : List Bytes) (k : Bytes) → AllByRecursion IsOneLine ls → IsOneLine k → AllByRecursion IsOneLine (ls ++ k ∷ [])

@@ -3,7 +3,9 @@ use Rattle.std.proofs.Common.{◌≡◌, ◌+◌, ◌<◌, ◌≤◌, Bool, true
 use Rattle.std.proofs.lemmas.Bool.Decides.{nat_tests}
 use Rattle.si_defs.specs.Bytes.{Bytes}
 use Rattle.si_defs.specs.Clauses.{Clause}
-use Rattle.si_defs.specs.Steps.{Limits, Reply, RightStep, later, silent, wrong, performed, Step, right, memory_at_once, memory_behind}
+use Rattle.si_steps.specs.declared.limits.Limits.{Limits}
+use Rattle.si_steps.specs.Replies.{Reply}
+use Rattle.si_steps.specs.Steps.{RightStep, later, silent, foreign, wrong, performed, Step, right, memory_at_once, memory_behind}
 use Rattle.stindex.specs.Progress.{shown}
 
 long_right : (limits : Limits) (old new : List Clause) (front line : Bytes) (reply : Reply)
@@ -11,7 +13,8 @@ long_right : (limits : Limits) (old new : List Clause) (front line : Bytes) (rep
     → RightStep limits old front reply new → RightStep limits old line reply new
 long_right limits old new front line reply long longer (later why replied kept) = later (inl longer) replied kept
 long_right limits old new front line reply long longer (silent why replied kept) = absurd (omega (arith, why.0))
-long_right limits old new front line reply long longer (wrong first not_later none replied kept) = absurd (not_later (inl long))
+long_right limits old new front line reply long longer (foreign not_later adds none replied kept) = absurd (not_later (inl long))
+long_right limits old new front line reply long longer (wrong not_later sounds not_foreign none replied kept) = absurd (not_later (inl long))
 long_right limits old new front line reply long longer (performed not_later command means performs) = absurd (not_later (inl long))
 
 pub long_step : (limits : Limits) (old new : List Clause) (front line : Bytes) (reply : Reply)

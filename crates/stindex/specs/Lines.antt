@@ -1,7 +1,7 @@
 -- What the line buffer shows of itself.
 use Rattle.std.specs.Prelude.{◌≡◌, ℕ, ◌+◌, ◌<◌, ◌∷◌, ◌++◌, length, take, drop}
 use Rattle.si_defs.specs.Bytes.{Bytes}
-use Rattle.si_defs.specs.Runs.{IsOneLine}
+use Rattle.si_steps.specs.Runs.{IsOneLine}
 use Rattle.stindex.specs.declared.lines.Pending.{Pending}
 
 -- what is held of the line that was begun

@@ -4,8 +4,8 @@ ghost use Rattle.std.specs.List.{position};
 
 use std::alloc::{AllocError, Global};
 
-/// The front of the line that was begun: as many of its bytes as a line may have, and one more, by which a line that
-/// is too long is known.
+/// The front of the line that was begun: as many of its bytes as a line may have, and one more, by
+/// which a line that is too long is known.
 #[derive(Drop)]
 pub struct Pending {
     buffer: Vec<u8>,
@@ -37,7 +37,8 @@ impl Pending {
 
     /// More bytes of the line, of which those are held that there is room for.
     pub fn push(&mut self, bytes: &[u8])
-        ensures held { held_of self.new ≡ take (limit_of self.old + 1) (held_of self.old ++ bytes.now) }
+        ensures held { held_of self.new ≡ take (limit_of self.old + 1)
+            (held_of self.old ++ bytes.now) }
         ensures limit { limit_of self.new ≡ limit_of self.old }
     {
         let room = self.limit + 1 - self.buffer.len();

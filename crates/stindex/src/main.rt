@@ -1,4 +1,5 @@
-//! A term index for theorem provers: command lines come in on standard input, and replies go out on standard output.
+//! A term index for theorem provers: command lines come in on standard input, and replies go out on
+//! standard output.
 #![tactic(auto)]
 
 mod lines;

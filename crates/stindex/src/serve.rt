@@ -1,10 +1,9 @@
 // The run over the whole input: lines in, replies out.
-ghost use Rattle.std.specs.Prelude.{◌≡◌, ◌+◌, ◌<◌, ◌≤◌, [], OnOk, OnErr};
-ghost use Rattle.si_defs.specs.Steps.{AllowsLimits};
+ghost use Rattle.std.specs.Prelude.{◌≡◌, ◌+◌, ◌<◌, ◌≤◌, [], OnOk, OnErr, IsTrue, IsFalse};
+ghost use Rattle.si_steps.specs.Limits.{AllowsLimits};
 ghost use Rattle.si_io.specs.Faults.{HasCause, Rose};
-ghost use Rattle.si_session.specs.Limits.{limits_of};
 ghost use Rattle.stindex.specs.Lines.{held_of, limit_of};
-ghost use Rattle.stindex.specs.Serve.{Serves, IsFaultless};
+ghost use Rattle.stindex.specs.Serve.{Serves, IsFaultless, CountsFaults, HasRoom};
 ghost use Rattle.stindex.specs.declared.status.Status.TheVariants.{SourceFault, SinkFault, Memory};
 ghost use Rattle.stindex.specs.Progress.{Acts, Breaks, Advances, Fails, Closes, Cuts};
 
@@ -19,21 +18,27 @@ const CHUNK: usize = 4096;
 
 /// Reads the input to its end, line by line, and writes the reply to each.
 ///
-/// After as many bytes as a session may have it reads no more. All memory of its own is taken before the first read.
+/// After as many bytes as a session may have it reads no more. All memory of its own is taken
+/// before the first read.
 pub fn serve<S: Source, K: Sink>(
     alloc: Global,
     limits: &Limits,
     source: &mut S,
     sink: &mut K,
 ) -> Status
-    requires { AllowsLimits (limits_of limits.now) }
-    ensures serves { Serves (limits_of limits.now) result (S.left source.old) (S.left source.new) (K.written sink.old) (K.written sink.new) }
+    requires { AllowsLimits limits.now }
+    ensures serves { Serves limits.now result (S.left source.old) (S.left source.new)
+        (K.written sink.old) (K.written sink.new) }
     ensures source_later { S.faults source.old ≤ S.faults source.new }
     ensures sink_later { K.faults sink.old ≤ K.faults sink.new }
-    ensures source_fault { result ≡ SourceFault → Rose (S.faults source.old) (S.faults source.new) }
-    ensures sink_fault { result ≡ SinkFault → Rose (K.faults sink.old) (K.faults sink.new) }
-    ensures memory { result ≡ Memory → (S.faults source.new ≡ S.faults source.old) × (K.faults sink.new ≡ K.faults sink.old) }
-    ensures faultless { (Rose (S.faults source.old) (S.faults source.new) → ⊥) → (Rose (K.faults sink.old) (K.faults sink.new) → ⊥) → IsFaultless result }
+    ensures counts { CountsFaults result (S.faults source.old) (S.faults source.new)
+        (K.faults sink.old) (K.faults sink.new) }
+    ensures source_sure { result ≡ SourceFault → IsTrue (S.may_fail source.old) }
+    ensures sure { IsFalse (S.may_fail source.old)
+        → HasRoom limits.now (S.left source.old) (K.written sink.old).room
+        → IsFaultless result }
+    ensures faultless { (Rose (S.faults source.old) (S.faults source.new) → ⊥) →
+        (Rose (K.faults sink.old) (K.faults sink.new) → ⊥) → IsFaultless result }
 {
     let Ok(mut session) = Session::new(alloc, limits) else {
         return Status::Memory;
@@ -52,15 +57,17 @@ fn run<S: Source, K: Sink>(
     source: &mut S,
     sink: &mut K,
 ) -> Status
-    requires allows { AllowsLimits (limits_of limits.now) }
-    requires start { session.old ≡ record { clauses = []; limits = limits_of limits.now } }
+    requires allows { AllowsLimits limits.now }
+    requires start { session.old ≡ record { clauses = []; limits = limits.now } }
     requires held { held_of pending.old ≡ [] }
     requires limit { limit_of pending.old ≡ limits.now.line }
-    ensures serves { Serves (limits_of limits.now) result (S.left source.old) (S.left source.new) (K.written sink.old) (K.written sink.new) }
+    ensures serves { Serves limits.now result (S.left source.old) (S.left source.new)
+        (K.written sink.old) (K.written sink.new) }
     ensures source_later { S.faults source.old ≤ S.faults source.new }
     ensures sink_later { K.faults sink.old ≤ K.faults sink.new }
-    ensures source_fault { result ≡ SourceFault → Rose (S.faults source.old) (S.faults source.new) }
-    ensures sink_fault { result ≡ SinkFault → Rose (K.faults sink.old) (K.faults sink.new) }
+    ensures counts { CountsFaults result (S.faults source.old) (S.faults source.new)
+        (K.faults sink.old) (K.faults sink.new) }
+    ensures source_sure { result ≡ SourceFault → IsTrue (S.may_fail source.old) }
     ensures begun { result ≡ Memory → ⊥ }
 {
     let mut chunk = [0; CHUNK];
@@ -88,8 +95,10 @@ fn run<S: Source, K: Sink>(
 /// Acts on the line that was begun, which ends here.
 fn act<K: Sink>(session: &mut Session, pending: &mut Pending, sink: &mut K) -> Result<(), Failed>
     requires { AllowsLimits session.old.limits }
-    ensures acted { OnOk result (Acts session.old.limits session.old.clauses session.new.clauses (held_of pending.old) (K.written sink.old) (K.written sink.new)) }
-    ensures broken { OnErr result (Breaks session.old.limits session.old.clauses session.new.clauses (held_of pending.old) (K.written sink.old) (K.written sink.new)) }
+    ensures acted { OnOk result (Acts session.old.limits session.old.clauses session.new.clauses
+        (held_of pending.old) (K.written sink.old) (K.written sink.new)) }
+    ensures broken { OnErr result (Breaks session.old.limits session.old.clauses session.new.clauses
+        (held_of pending.old) (K.written sink.old) (K.written sink.new)) }
     ensures limits { session.new.limits ≡ session.old.limits }
     ensures held { held_of pending.new ≡ [] }
     ensures limit { limit_of pending.new ≡ limit_of pending.old }
@@ -112,8 +121,11 @@ fn feed<K: Sink>(
 ) -> Result<(), Failed>
     requires allows { AllowsLimits session.old.limits }
     requires limit { limit_of pending.old ≡ session.old.limits.line }
-    ensures fed { OnOk result (Advances session.old.limits bytes.now session.old.clauses (held_of pending.old) (K.written sink.old) session.new.clauses (held_of pending.new) (K.written sink.new)) }
-    ensures broken { OnErr result (Fails session.old.limits bytes.now session.old.clauses (held_of pending.old) (K.written sink.old) (K.written sink.new)) }
+    ensures fed { OnOk result (Advances session.old.limits bytes.now session.old.clauses
+        (held_of pending.old) (K.written sink.old) session.new.clauses (held_of pending.new)
+        (K.written sink.new)) }
+    ensures broken { OnErr result (Fails session.old.limits bytes.now session.old.clauses
+        (held_of pending.old) (K.written sink.old) (K.written sink.new)) }
     ensures limits { session.new.limits ≡ session.old.limits }
     ensures limit { limit_of pending.new ≡ limit_of pending.old }
     ensures cause { HasCause (K.faults sink.old) (K.faults sink.new) result }
@@ -131,8 +143,10 @@ fn feed<K: Sink>(
 /// Acts on the last line, if one was begun, since the input ends here.
 fn close<K: Sink>(session: &mut Session, pending: &mut Pending, sink: &mut K) -> Result<(), Failed>
     requires { AllowsLimits session.old.limits }
-    ensures closed { OnOk result (Closes session.old.limits session.old.clauses (held_of pending.old) (K.written sink.old) (K.written sink.new)) }
-    ensures cut { OnErr result (Cuts session.old.limits session.old.clauses (held_of pending.old) (K.written sink.old) (K.written sink.new)) }
+    ensures closed { OnOk result (Closes session.old.limits session.old.clauses
+        (held_of pending.old) (K.written sink.old) (K.written sink.new)) }
+    ensures cut { OnErr result (Cuts session.old.limits session.old.clauses (held_of pending.old)
+        (K.written sink.old) (K.written sink.new)) }
     ensures cause { HasCause (K.faults sink.old) (K.faults sink.new) result }
 {
     if pending.bytes().is_empty() {

@@ -1,4 +1,6 @@
 // Whole runs over sources and sinks in memory.
+mod counts;
+
 use crate::serve::serve;
 use crate::status::Status;
 use si_io::{MemorySink, MemorySource};
@@ -72,7 +74,7 @@ fn wide(alloc: Global, more: u32) -> Result<Vec<u8>, AllocError> {
 }
 
 /// Inputs with their outputs under the standard limits.
-const ROWS: [(&[u8], &[u8]); 12] = [
+const ROWS: [(&[u8], &[u8]); 19] = [
     (b"", b""),
     (b"\n", b""),
     (b" \t\n\n", b""),
@@ -88,14 +90,15 @@ const ROWS: [(&[u8], &[u8]); 12] = [
     // Refusals change nothing.
     (
         b"add cnf(c1,axiom,p(f(X),a)).\nadd cnf(c1,axiom,r).\nadd cnf(c2,axiom,p(X).\nadd cnf('c2',axiom,r).\nstats\ninstances lit p(Y,Z)\n",
-        b"ok 1 3\n! taken c1\n! syntax\n! later\n! later\nc1:1 {?Y -> f(X); ?Z -> a}\nend 1\n",
+        b"ok 1 3\n! taken c1\n! syntax\nok 1 1\n! later\nc1:1 {?Y -> f(X); ?Z -> a}\nend 1\n",
     ),
     // A variable of the pattern that stands twice has one value.
     (
         b"add cnf(c,axiom,p(a,a)).\nadd cnf(d,axiom,p(a,b)).\ninstances lit p(X,X)\n",
         b"ok 1 3\nok 1 3\nc:1 {?X -> a}\nend 1\n",
     ),
-    // A variable of a clause is no instance of a constant, nor of another variable that has a value.
+    // A variable of a clause is no instance of a constant, nor of another variable that has a
+    // value.
     (
         b"add cnf(c,axiom,p(X,Y)).\ninstances lit p(a,Z)\ninstances lit p(Z,Z)\ninstances lit p(Y,X)\n",
         b"ok 1 1\nend 0\nend 0\nc:1 {?Y -> X; ?X -> Y}\nend 1\n",
@@ -115,7 +118,42 @@ const ROWS: [(&[u8], &[u8]); 12] = [
     // White space alone has no reply, also as the last line.
     (
         b"x\n\nadd cnf(a,axiom,p).\n \ninstances lit p\n ",
-        b"! later\nok 1 1\na:1 {}\nend 1\n",
+        b"! syntax\nok 1 1\na:1 {}\nend 1\n",
+    ),
+    // Blanks alone, and lines that are no command.
+    (
+        b"% a comment\n\n\r\n/* a */ % b\nadd fof(a,axiom,p).\nadd include('a.p').\nfind p\n'add' cnf(a,axiom,p).\n/* a\n",
+        b"! language\n! syntax\n! syntax\n! syntax\n! syntax\n",
+    ),
+    // Words of commands that aren't built.
+    (
+        b"stats\nload 'a'\nunifiable lit p\nsample 1 2\n%\n",
+        b"! later\n! later\n! later\n! later\n",
+    ),
+    // Two spellings of one name, and an integer that is another.
+    (
+        b"add cnf(c1,axiom,r).\nadd cnf('c1',axiom,r).\nadd cnf(1,axiom,r).\nadd cnf('1',axiom,r).\nadd cnf(1,axiom,q).\n",
+        b"ok 1 1\n! taken c1\nok 1 1\nok 1 1\n! taken 1\n",
+    ),
+    // Quoted texts, a signed integer, a distinct object, unequal terms.
+    (
+        b"add cnf('a b',axiom,'p q'(\"x y\",-3)|X!='it\\'s').\ninstances lit X!=Y\ninstances term X\n",
+        b"ok 1 5\n'a b':2 {?X -> X; ?Y -> 'it\\'s'}\nend 1\n'a b':1:1 {?X -> \"x y\"}\n'a b':1:2 {?X -> -3}\n'a b':2:2 {?X -> 'it\\'s'}\nend 3\n",
+    ),
+    // As provers write clauses.
+    (
+        b"add cnf(e,plain,($false),inference(spm,[status(thm)],[c_0_2,c_0_3])).\nadd cnf(c_0_5, plain, (p(X1)|~q(X1,esk1_0)), inference(rw,[status(thm)],[c_0_2, c_0_3]), ['final']).\n",
+        b"ok 1 1\nok 1 3\n",
+    ),
+    // Blanks between tokens may be empty, and signs part literals.
+    (
+        b"add/**/cnf(c,axiom,~p|q).\ninstances lit~p\ninstances lit q\ninstances lit p\n",
+        b"ok 1 2\nc:1 {}\nend 1\nc:2 {}\nend 1\nend 0\n",
+    ),
+    // Both spellings of a negation, and brackets round a formula.
+    (
+        b"add cnf(c,axiom,((~(a=b)|a!=b|~c=d))).\ninstances lit X!=Y\ninstances lit X=Y\n",
+        b"ok 1 9\nc:1 {?X -> a; ?Y -> b}\nc:2 {?X -> a; ?Y -> b}\nc:3 {?X -> c; ?Y -> d}\nend 3\nend 0\n",
     ),
 ];
 
@@ -140,7 +178,7 @@ fn chunks_and_the_length_of_a_line(rt: HostRuntime) -> Result<(), Fail> {
     let rows: [(&[u8], &[u8]); 6] = [
         (
             b"\nx\nadd cnf(a,axiom,p).\n\n instances lit p",
-            b"! later\nok 1 1\na:1 {}\nend 1\n",
+            b"! syntax\nok 1 1\na:1 {}\nend 1\n",
         ),
         // As many bytes as a line may have, and one more, which hides what was read.
         (
@@ -152,7 +190,7 @@ fn chunks_and_the_length_of_a_line(rt: HostRuntime) -> Result<(), Fail> {
         (b"                     ", b"! later\n"),
         (
             b"                                                            \nx\n",
-            b"! later\n! later\n",
+            b"! later\n! syntax\n",
         ),
     ];
     for chunk in 1..=7 {
@@ -190,10 +228,10 @@ fn a_session_has_a_limit(rt: HostRuntime) -> Result<(), Fail> {
         (8, b"instances lit p(X)\n", Status::SessionLimit, b""),
         (0, b"x\n", Status::SessionLimit, b""),
         (0, b"", Status::SessionLimit, b""),
-        (2, b"x\nx\n", Status::SessionLimit, b"! later\n"),
-        (3, b"x\nx\n", Status::SessionLimit, b"! later\n"),
-        (4, b"x\nx\n", Status::SessionLimit, b"! later\n! later\n"),
-        (5, b"x\nx\n", Status::Ended, b"! later\n! later\n"),
+        (2, b"x\nx\n", Status::SessionLimit, b"! syntax\n"),
+        (3, b"x\nx\n", Status::SessionLimit, b"! syntax\n"),
+        (4, b"x\nx\n", Status::SessionLimit, b"! syntax\n! syntax\n"),
+        (5, b"x\nx\n", Status::Ended, b"! syntax\n! syntax\n"),
     ];
     for (session, input, end, output) in rows {
         let limits = Limits {

@@ -1,7 +1,7 @@
 // The calls of a device in memory: how many were made, and which of them fail.
-ghost use Rattle.std.specs.Prelude.{◌≡◌, ◌≤◌, [], is_err};
+ghost use Rattle.std.specs.Prelude.{◌≡◌, ◌≤◌, is_err, OnErr, IsTrue};
 ghost use Rattle.si_io.specs.Faults.{CountsErrors, HasCause, raised};
-ghost use Rattle.si_io.specs.Plan.{is_listed};
+ghost use Rattle.si_io.specs.Plan.{is_listed, lists_any};
 
 use crate::Failed;
 
@@ -27,6 +27,7 @@ impl Plan {
     pub fn next(&mut self) -> Result<(), Failed>
         ensures calls { self.new.calls ≡ raised self.old.calls }
         ensures listed { is_err result ≡ is_listed self.old.failing.items self.new.calls }
+        ensures sure { OnErr result (IsTrue (lists_any self.old.failing.items)) }
         ensures failing { self.new.failing ≡ self.old.failing }
         ensures faults { CountsErrors self.old.faults self.new.faults result }
         ensures cause { HasCause self.old.faults self.new.faults result }

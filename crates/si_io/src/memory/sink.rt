@@ -1,4 +1,4 @@
-ghost use Rattle.std.specs.Prelude.{◌≡◌, ◌<◌, ◌≤◌, ◌+◌, ◌||◌, [], Some, length, take, min, max, is_err, nat_lt, vec_len, vec_capacity, IfOk, OnErr};
+ghost use Rattle.std.specs.Prelude.{◌≡◌, ◌<◌, ◌≤◌, ◌+◌, ◌||◌, [], length, take, min, max, is_err, nat_lt, vec_len, vec_capacity, IfOk, OnErr};
 
 use super::plan::Plan;
 use crate::{Failed, Sink};
@@ -57,22 +57,24 @@ impl MemorySink {
 }
 
 impl Sink for MemorySink {
-    ghost use Rattle.si_io.specs.Content.{Appends};
-    ghost use Rattle.si_io.specs.Faults.{CountsErrors, HasCause, Rose, raised};
-    ghost use Rattle.si_io.specs.Memory.{sink_bytes, sink_room, sink_chunk, sink_failing, sink_calls, sink_faults, SameSink};
+    ghost use Rattle.si_io.specs.Content.{Appends, TakesFitting};
+    ghost use Rattle.si_io.specs.Faults.{CountsErrors, HasWriteCause, raised};
+    ghost use Rattle.si_io.specs.Memory.{sink_told, sink_bytes, sink_room, sink_sure, sink_chunk, sink_failing, sink_calls, sink_faults, SameSink};
     ghost use Rattle.si_io.specs.Plan.{is_listed};
 
-    ghost written = { λ sink. Some (sink_bytes sink) };
+    ghost written = { sink_told };
 
     ghost faults = { sink_faults };
 
     /// Takes all of its bytes, at most the chunk. Fails exactly where the call is listed or the room is too small.
     fn write(&mut self, bytes: &[u8]) -> Result<usize, Failed>
         ensures bound { IfOk result (λ n. n ≤ length bytes.now) }
-        ensures taken { IfOk result (λ n. Appends (Some (sink_bytes self.old)) (take n bytes.now) (Some (sink_bytes self.new))) }
-        ensures stuck { IfOk result (λ n. n ≡ 0 → 0 < length bytes.now → Rose (sink_faults self.old) (sink_faults self.new)) }
-        ensures kept { OnErr result (sink_bytes self.new ≡ sink_bytes self.old) }
-        ensures cause { HasCause (sink_faults self.old) (sink_faults self.new) result }
+        ensures taken { IfOk result (λ n. Appends (sink_told self.old) (take n bytes.now)
+            (sink_told self.new)) }
+        ensures kept { OnErr result (sink_told self.new ≡ sink_told self.old) }
+        ensures fits { TakesFitting (sink_sure self.old) bytes.now result }
+        ensures cause { HasWriteCause (sink_faults self.old) (sink_faults self.new) bytes.now
+            result }
         ensures count { IfOk result (λ n. n ≡ min (sink_chunk self.old) (length bytes.now)) }
         ensures calls { sink_calls self.new ≡ raised (sink_calls self.old) }
         ensures fails { is_err result ≡ (is_listed (sink_failing self.old) (sink_calls self.new)

@@ -1,4 +1,4 @@
-ghost use Rattle.std.specs.Prelude.{◌≡◌, ◌<◌, ◌≤◌, [], None, Some, length, take, min, max, is_err, vec_len, IfOk, OnErr};
+ghost use Rattle.std.specs.Prelude.{◌≡◌, ◌<◌, ◌≤◌, Some, length, take, drop, min, max, is_err, vec_len, IfOk, OnErr, IsTrue};
 
 use super::plan::Plan;
 use crate::{Failed, Source};
@@ -41,23 +41,33 @@ impl MemorySource {
 impl Source for MemorySource {
     ghost use Rattle.si_io.specs.Content.{Takes, IsAtEnd};
     ghost use Rattle.si_io.specs.Faults.{CountsErrors, HasCause, raised};
-    ghost use Rattle.si_io.specs.Memory.{source_left, source_chunk, source_failing, source_calls, source_faults, SameSource};
+    ghost use Rattle.si_io.specs.Memory.{source_left, source_chunk, source_failing, source_calls, source_faults, source_may_fail, SameSource};
     ghost use Rattle.si_io.specs.Plan.{is_listed};
 
     ghost left = { λ source. Some (source_left source) };
 
     ghost faults = { source_faults };
 
-    /// Gives as many bytes as fit and as are left, at most the chunk. Fails exactly where the call is listed.
+    ghost may_fail = { source_may_fail };
+
+    /// Gives as many bytes as fit and as are left, at most the chunk. Fails exactly where the call is listed. It writes
+    /// nothing but these bytes.
     fn read(&mut self, into: &mut [u8]) -> Result<usize, Failed>
         ensures bound { IfOk result (λ n. n ≤ length into.old) }
-        ensures taken { IfOk result (λ n. Takes (Some (source_left self.old)) (take n into.new) (Some (source_left self.new))) }
-        ensures ended { IfOk result (λ n. n ≡ 0 → 0 < length into.old → IsAtEnd (Some (source_left self.old))) }
+        ensures taken { IfOk result (λ n. Takes (Some (source_left self.old)) (take n into.new)
+            (Some (source_left self.new))) }
+        ensures ended { IfOk result (λ n. n ≡ 0 → 0 < length into.old → IsAtEnd
+            (Some (source_left self.old))) }
         ensures kept { OnErr result (source_left self.new ≡ source_left self.old) }
+        ensures sure { OnErr result (IsTrue (source_may_fail self.old)) }
         ensures cause { HasCause (source_faults self.old) (source_faults self.new) result }
-        ensures count { IfOk result (λ n. n ≡ min (source_chunk self.old) (min (length into.old) (length (source_left self.old)))) }
+        ensures behind { IfOk result (λ n. drop n into.new ≡ drop n into.old) }
+        ensures untouched { OnErr result (into.new ≡ into.old) }
+        ensures count { IfOk result (λ n. n ≡ min (source_chunk self.old)
+            (min (length into.old) (length (source_left self.old)))) }
         ensures calls { source_calls self.new ≡ raised (source_calls self.old) }
-        ensures listed { is_err result ≡ is_listed (source_failing self.old) (source_calls self.new) }
+        ensures listed { is_err result ≡ is_listed (source_failing self.old)
+            (source_calls self.new) }
         ensures faults { CountsErrors (source_faults self.old) (source_faults self.new) result }
         ensures same { SameSource self.old self.new }
     {

@@ -58,7 +58,8 @@ impl<D> Counted<D> {
 impl<R: Read> Counted<R> {
     pub fn read(&mut self, into: &mut [u8]) -> Result<usize, Failed>
         ensures bound { IfOk result (λ n. n ≤ length into.old) }
-        ensures bytes { ReadConsumes (R.remaining (device_of self.old)) (R.remaining (device_of self.new)) result into.new }
+        ensures bytes { ReadConsumes (R.remaining (device_of self.old))
+            (R.remaining (device_of self.new)) result into.new }
         ensures counts { CountsErrors (faults_of self.old) (faults_of self.new) result }
         ensures cause { HasCause (faults_of self.old) (faults_of self.new) result }
         ensures flushed { is_flushed self.new ≡ is_flushed self.old }
@@ -72,7 +73,8 @@ impl<W: Write> Counted<W> {
     pub fn write(&mut self, bytes: &[u8]) -> Result<usize, Failed>
         ensures bound { IfOk result (λ n. n ≤ length bytes.now) }
         ensures stuck { IfOk result (λ n. 0 < length bytes.now → 0 < n) }
-        ensures bytes { WriteAppends (W.contents (device_of self.old)) (W.contents (device_of self.new)) result bytes.now }
+        ensures bytes { WriteAppends (W.contents (device_of self.old))
+            (W.contents (device_of self.new)) result bytes.now }
         ensures counts { CountsErrors (faults_of self.old) (faults_of self.new) result }
         ensures cause { HasCause (faults_of self.old) (faults_of self.new) result }
         ensures waits { IsFalse (is_flushed self.new) }
@@ -99,7 +101,8 @@ impl<W: Write> Counted<W> {
 // What a write answered, where taking nothing of a slice that isn't empty is an error.
 fn some_taken(answer: io::Result<usize>, bytes: &[u8]) -> io::Result<usize>
     ensures stuck { IfOk result (λ n. 0 < length bytes.now → 0 < n) }
-    ensures same { MatchResult result (λ n. answer ≡ Ok n) (λ _. IsErr answer ⊎ ((answer ≡ Ok 0) × (0 < length bytes.now))) }
+    ensures same { MatchResult result (λ n. answer ≡ Ok n)
+        (λ _. IsErr answer ⊎ ((answer ≡ Ok 0) × (0 < length bytes.now))) }
 {
     match answer {
         Ok(0) if !bytes.is_empty() => Err(io::Error::from(ErrorKind::WriteZero)),

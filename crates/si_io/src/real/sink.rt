@@ -1,4 +1,4 @@
-ghost use Rattle.std.specs.Prelude.{◌≡◌, ◌<◌, ◌≤◌, ◌↔◌, None, length, take, IfOk, IsOkAnd, IsTrue};
+ghost use Rattle.std.specs.Prelude.{◌≡◌, ◌<◌, ◌≤◌, ◌↔◌, length, take, IfOk, IsOkAnd, IsTrue};
 ghost use Rattle.std.specs.Io.KnownBytes.{Appends};
 ghost use Rattle.si_io.specs.Faults.{CountsErrors, HasCause};
 
@@ -33,9 +33,10 @@ impl<W: Write> RealSink<W> {
 }
 
 impl<W: Write> Sink for RealSink<W> {
+    ghost use Rattle.si_io.specs.Content.{untold};
     ghost use Rattle.si_io.specs.Real.{writer_of, writer_faults, is_writer_flushed, EndsLine};
 
-    ghost written = { λ sink. None };
+    ghost written = { λ sink. untold };
 
     ghost faults = { writer_faults };
 
@@ -45,9 +46,11 @@ impl<W: Write> Sink for RealSink<W> {
         ensures bound { IfOk result (λ n. n ≤ length bytes.now) }
         ensures stuck { IfOk result (λ n. 0 < length bytes.now → 0 < n) }
         ensures cause { HasCause (writer_faults self.old) (writer_faults self.new) result }
-        ensures passed { IfOk result (λ n. Appends (W.contents (writer_of self.old)) (W.contents (writer_of self.new)) (take n bytes.now)) }
+        ensures passed { IfOk result (λ n. Appends (W.contents (writer_of self.old))
+            (W.contents (writer_of self.new)) (take n bytes.now)) }
         ensures errors { CountsErrors (writer_faults self.old) (writer_faults self.new) result }
-        ensures flushed { IsTrue (is_writer_flushed self.new) ↔ IsOkAnd result (λ n. (n ≡ length bytes.now) × EndsLine bytes.now) }
+        ensures flushed { IsTrue (is_writer_flushed self.new) ↔ IsOkAnd result
+            (λ n. (n ≡ length bytes.now) × EndsLine bytes.now) }
     {
         let count = self.writer.write(bytes)?;
         if count == bytes.len() && bytes.ends_with(LINE_END) {

@@ -1,4 +1,4 @@
-ghost use Rattle.std.specs.Prelude.{◌≡◌, ◌<◌, ◌≤◌, None, length, IfOk};
+ghost use Rattle.std.specs.Prelude.{◌≡◌, ◌≤◌, None, true, length, IfOk};
 ghost use Rattle.std.specs.Io.KnownBytes.{ReadConsumes};
 ghost use Rattle.si_io.specs.Faults.{CountsErrors, HasCause};
 
@@ -35,12 +35,15 @@ impl<R: Read> Source for RealSource<R> {
 
     ghost faults = { reader_faults };
 
+    ghost may_fail = { λ source. true };
+
     /// Reads once. Beside what every source promises, it gives what the reader gave, where that is known, and counts
     /// errors alone.
     fn read(&mut self, into: &mut [u8]) -> Result<usize, Failed>
         ensures bound { IfOk result (λ n. n ≤ length into.old) }
         ensures cause { HasCause (reader_faults self.old) (reader_faults self.new) result }
-        ensures passed { ReadConsumes (R.remaining (reader_of self.old)) (R.remaining (reader_of self.new)) result into.new }
+        ensures passed { ReadConsumes (R.remaining (reader_of self.old))
+            (R.remaining (reader_of self.new)) result into.new }
         ensures errors { CountsErrors (reader_faults self.old) (reader_faults self.new) result }
     {
         self.reader.read(into)

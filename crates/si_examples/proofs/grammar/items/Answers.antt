@@ -1,6 +1,7 @@
 use Rattle.std.proofs.Common.{[], ◌∷◌, codes, refl, inl}
 use Rattle.si_defs.specs.Tokens.{upper, lower, mark}
 use Rattle.si_defs.specs.Grammar.{left_bracket, right_bracket, comma, full_stop}
+use Rattle.si_examples.specs.Grammar.{integer}
 use Rattle.si_examples.proofs.Formulas.{item_opens, bracket_opens, sign_opens}
 use Rattle.si_examples.proofs.EvenBrackets.{no_open_bracket}
 use Rattle.si_examples.proofs.grammar.items.Goals as goal
@@ -52,3 +53,10 @@ returns-clause-no_sign_alone c = λ item h. sign_opens (full_stop ∷ []) (item_
 
 pub returns-clause-no_open_bracket : goal.returns-clause-no_open_bracket
 returns-clause-no_open_bracket c = no_open_bracket
+
+pub returns-clause-selected_include : goal.returns-clause-selected_include
+returns-clause-selected_include c = (
+  comma ∷ mark 91 ∷ lower (codes "c1") ∷ comma ∷ integer (codes "2") ∷ mark 93 ∷ [],
+  (lower (codes "c1"), comma ∷ integer (codes "2") ∷ [], inl refl, (integer (codes "2"), [], refl, refl, refl), refl),
+  refl,
+)

@@ -1,5 +1,6 @@
 -- The piece that was taken stands right behind what the sink was given before.
-use Rattle.std.proofs.Common.{◌≡◌, ◌-◌, length, take, drop, arith, take_all, length-drop}
+use Rattle.std.proofs.Common.{◌≡◌, ◌-◌, length, take, drop, arith, take_all, length-drop, length-take, ap, ◌∙◌}
+use Rattle.si_io.specs.Content.{Told}
 use Rattle.si_io.proofs.Content.{Appends_more}
 use Rattle.si_io.proofs.sink.write_all.Goals as goal
 
@@ -13,5 +14,6 @@ loop-taken-preserved g c =
     record {
       within = omega (arith, length-drop taken bytes);
       given = Appends_more _ _ _ bytes taken c.in_ok-count.count c.loop-taken.invariant.given given;
-      later = omega (arith, c.in_ok-count.ensures.cause.later);
+      room = omega (arith, length-drop taken bytes, length-take c.in_ok-count.count (drop taken bytes), ap (λ (t : Told). t.room) given);
+      kept = c.in_ok-count.ensures.cause.kept (omega arith) ∙ c.loop-taken.invariant.kept;
     }

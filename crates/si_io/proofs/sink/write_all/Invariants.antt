@@ -1,4 +1,4 @@
-use Rattle.std.proofs.Common.{◌-◌, ◌≤◌, length, take}
+use Rattle.std.proofs.Common.{◌≡◌, ◌-◌, ◌≤◌, length, take}
 use Rattle.si_io.specs.Content.{Appends}
 use Rattle.si_io.proofs.sink.write_all.Given as goal
 
@@ -6,7 +6,8 @@ abbrev pub invariant-loop-taken : goal.invariant-loop-taken
 invariant-loop-taken g l = record {
   within : l.taken ≤ length l.bytes;
   given : Appends (g.K.Sink.written l.fn.sink) (take l.taken l.bytes) (g.K.Sink.written l.sink);
-  later : g.K.Sink.faults l.fn.sink ≤ g.K.Sink.faults l.sink;
+  room : (g.K.Sink.written l.sink).room ≡ (g.K.Sink.written l.fn.sink).room - l.taken;
+  kept : g.K.Sink.faults l.sink ≡ g.K.Sink.faults l.fn.sink;
 }
 
 abbrev pub decreases-loop-taken : goal.decreases-loop-taken

@@ -1,23 +1,39 @@
-use Rattle.std.proofs.Common.{ap, sym, subst, arith, length}
+use Rattle.std.proofs.Common.{length, ap, subst, arith}
+use Rattle.std.specs.Prelude.{None, option_map}
 use Rattle.std.proofs.lemmas.Result.{IfOk-weaker}
-use Rattle.si_parse.specs.Parsing.{ArePlain}
-use Rattle.si_parse.proofs.ReadingLaws.{lexing_few}
-use Rattle.si_parse.proofs.PatternLaws.{whole_read}
+use Rattle.si_term.specs.Meaning.{pattern_of}
+use Rattle.si_parse.specs.ReadBack.{ReadsBackTerm}
+use Rattle.si_parse.proofs.ReadBackAnswers.{term_back}
+use Rattle.si_lex.specs.Lexemes.{tokens_of}
+use Rattle.si_parse.specs.Reading.{ReadsWhole, ReadsPattern}
+use Rattle.si_parse.proofs.ReadingLaws.{text_few}
+use Rattle.si_parse.proofs.PatternLaws.{whole_read, stopped_read}
 use Rattle.si_parse.proofs.pattern.read_pattern.Goals as goal
 
-pub whole_pattern-requires-clause-plain : goal.whole_pattern-requires-clause-plain
-whole_pattern-requires-clause-plain c = subst ArePlain (sym c.as_slice.ensures.value) (c.in_ok-lexing.ensures.tokens c.requires.plain).plain
+pub whole_pattern-requires : goal.whole_pattern-requires
+whole_pattern-requires c =
+    omega (arith, ap length c.as_slice.ensures.value, text_few c.args.bytes.now c.in_ok-lexing.lexing c.in_ok-lexing.ensures.read, c.requires)
 
-pub whole_pattern-requires-clause-few : goal.whole_pattern-requires-clause-few
-whole_pattern-requires-clause-few c =
-    let l = c.in_ok-lexing.ensures.tokens c.requires.plain in
-    omega (arith, ap length c.as_slice.ensures.value, lexing_few c.args.bytes.now 0 c.in_ok-lexing.lexing.tokens.items c.in_ok-lexing.lexing.stop c.in_ok-lexing.lexing.end l, c.requires.short)
+pub returns-in-End-clause-read : goal.returns-in-End-clause-read
+returns-in-End-clause-read c =
+    IfOk-weaker c.whole_pattern.result (ReadsWhole (tokens_of c.as_slice.result.now) c.args.kind) (ReadsPattern c.args.bytes.now c.args.kind)
+    (λ found read. whole_read c.args.bytes.now c.args.kind c.in_ok-lexing.lexing c.in_ok-lexing.ensures.read c.in-End.is found
+    (subst (λ ts. ReadsWhole (tokens_of ts) c.args.kind found) c.as_slice.ensures.value read)) c.whole_pattern.ensures
 
-pub returns : goal.returns
-returns c =
-    let l = c.in_ok-lexing.ensures.tokens c.requires.plain in
-    IfOk-weaker c.whole_pattern.result _ _
-    (λ found read.
-    whole_read c.args.bytes.now c.in_ok-lexing.lexing.tokens.items c.as_slice.result.now c.in_ok-lexing.lexing.stop c.in_ok-lexing.lexing.end c.args.kind found
-    l c.in-End.is c.as_slice.ensures.value read)
-    c.whole_pattern.ensures
+pub returns-in-End-clause-back : goal.returns-in-End-clause-back
+returns-in-End-clause-back c =
+    λ of_term.
+    IfOk-weaker c.whole_pattern.result (ReadsWhole (tokens_of c.as_slice.result.now) c.args.kind) (λ read. ReadsBackTerm c.args.bytes.now (option_map pattern_of read))
+    (λ found read. term_back c.args.bytes.now found
+    (subst (λ kind. ReadsPattern c.args.bytes.now kind found) of_term
+    (whole_read c.args.bytes.now c.args.kind c.in_ok-lexing.lexing c.in_ok-lexing.ensures.read c.in-End.is found
+    (subst (λ ts. ReadsWhole (tokens_of ts) c.args.kind found) c.as_slice.ensures.value read)))) c.whole_pattern.ensures
+
+pub returns-clause-read : goal.returns-clause-read
+returns-clause-read c = stopped_read c.args.bytes.now c.args.kind c.in_ok-lexing.lexing c.in_ok-lexing.ensures.read c.in_default.not-End
+
+pub returns-clause-back : goal.returns-clause-back
+returns-clause-back c =
+    λ of_term. term_back c.args.bytes.now None
+    (subst (λ kind. ReadsPattern c.args.bytes.now kind None) of_term
+    (stopped_read c.args.bytes.now c.args.kind c.in_ok-lexing.lexing c.in_ok-lexing.ensures.read c.in_default.not-End))

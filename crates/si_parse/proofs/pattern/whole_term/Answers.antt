@@ -1,6 +1,11 @@
 use Rattle.std.proofs.Common.{sym, ◌∙◌}
-use Rattle.si_parse.proofs.PatternLaws.{term_left}
-use Rattle.si_parse.proofs.ParseWhole.{not_empty, same_left}
+use Rattle.si_parse.proofs.PatternLaws.{term_left, term_whole}
+use Rattle.si_parse.proofs.ParseWhole.{not_empty, same_left, is_empty}
+use Rattle.std.proofs.Common.{subst}
+use Rattle.si_parse.specs.Parsing.{IfFound}
+use Rattle.si_defs.specs.Clauses.{IsSoundPattern, term_pattern}
+use Rattle.si_parse.proofs.ParseReads.{reads_some}
+use Rattle.si_term.specs.Terms.{term_of}
 use Rattle.si_parse.proofs.pattern.whole_term.Goals as goal
 
 pub returns-in_default : goal.returns-in_default
@@ -10,3 +15,9 @@ pub returns-then-not-is_empty : goal.returns-then-not-is_empty
 returns-then-not-is_empty c =
     term_left c.args.tokens.now c.in_ok-term.field-0 c.in_ok-term.ensures.read
     (λ l r e n. not_empty c.in-Some.rest.now c.if-not-is_empty.ensures (same_left _ _ c.in-Some.rest r (sym c.in-Some.is ∙ e) n))
+
+pub returns : goal.returns
+returns c =
+    term_whole c.args.tokens.now c.in-Some.term c.in-Some.rest (is_empty c.in-Some.rest.now c.if-not-is_empty.ensures)
+    (reads_some term_of c.args.tokens.now c.in_ok-term.ensures.read c.in-Some.is)
+    (subst (IfFound (λ x. IsSoundPattern (term_pattern (term_of x)))) c.in-Some.is c.in_ok-term.ensures.sound)

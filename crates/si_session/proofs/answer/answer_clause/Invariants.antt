@@ -11,5 +11,5 @@ invariant-loop-i g l = record {
       (literals_lines (pattern_of l.pattern) (clause_of l.clause) (l.i + 1) (map literal_of (drop l.i l.literals)))
       (clause_lines (pattern_of l.pattern) (clause_of l.clause));
   root : l.scratch.path.items ≡ [];
-  faults : g.K.Sink.faults l.fn.sink ≤ g.K.Sink.faults l.sink;
+  faults : g.K.Sink.faults l.sink ≡ g.K.Sink.faults l.fn.sink;
 }

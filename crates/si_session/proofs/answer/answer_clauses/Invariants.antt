@@ -11,5 +11,5 @@ invariant-loop-i g l = record {
       (clauses_lines (pattern_of l.pattern) (map clause_of (drop l.i l.clauses)))
       (clauses_lines (pattern_of l.pattern) (map clause_of l.clauses));
   root : l.scratch.path.items ≡ [];
-  faults : g.K.Sink.faults l.fn.sink ≤ g.K.Sink.faults l.sink;
+  faults : g.K.Sink.faults l.sink ≡ g.K.Sink.faults l.fn.sink;
 }

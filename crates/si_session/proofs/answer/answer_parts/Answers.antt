@@ -1,6 +1,6 @@
 use Rattle.std.proofs.Common.{◌≡◌, ◌+◌, length, map, ap, sym, subst, arith}
 use Rattle.std.specs.Prelude.{OnOk}
-use Rattle.si_defs.specs.Runs.{ended}
+use Rattle.si_steps.specs.Runs.{ended}
 use Rattle.si_io.specs.Content.{Appends}
 use Rattle.si_io.proofs.Content.{append_told-nil}
 use Rattle.si_term.specs.Terms.{term_of}

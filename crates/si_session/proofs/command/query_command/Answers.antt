@@ -1,6 +1,6 @@
 use Rattle.std.proofs.Common.{ap, subst}
 use Rattle.si_parse.specs.Reading.{ReadsWhole}
-use Rattle.si_parse.specs.Tokens.{token_of, tokens_of}
+use Rattle.si_lex.specs.Lexemes.{token_of, tokens_of}
 use Rattle.si_session.proofs.CommandLaws.{query_other, query_none}
 use Rattle.si_session.proofs.command.query_command.Goals as goal
 

@@ -1,6 +1,6 @@
 use Rattle.std.proofs.Common.{◌≡◌, ◌+◌, ◌≤◌, [], ◌∷◌, ◌++◌, length, map, ap, sym, ◌∙◌, subst, refl, arith, length-append}
 use Rattle.std.specs.Prelude.{Err, OnOk}
-use Rattle.si_defs.specs.Runs.{ended}
+use Rattle.si_steps.specs.Runs.{ended}
 use Rattle.si_defs.specs.Terms.{row, size, sizes, occurrences_from}
 use Rattle.si_io.specs.Content.{Appends}
 use Rattle.si_io.proofs.Content.{append_told-nil}

@@ -13,7 +13,7 @@ invariant-search_arguments-loop-i g l = record {
       (subterm_lines (term_of l.query) (clause_of l.clause) l.number l.fn.scratch.path.items (occurrences_from (l.i + 1) (row (map term_of (drop l.i l.arguments)))))
       (subterm_lines (term_of l.query) (clause_of l.clause) l.number l.fn.scratch.path.items (occurrences_from 1 (row (map term_of l.arguments))));
   kept : l.scratch.path.items ≡ l.fn.scratch.path.items;
-  faults : g.K.Sink.faults l.fn.sink ≤ g.K.Sink.faults l.sink;
+  faults : g.K.Sink.faults l.sink ≡ g.K.Sink.faults l.fn.sink;
 }
 
 abbrev pub decreases-search_term : goal.decreases-search_term

@@ -24,7 +24,7 @@ loop-end-preserved g c =
           c.in-Some.ensures refl c.push.ensures.held c.in_ok-act.ensures.acted c.in_ok-act.ensures.held (take_all _ _ (omega (arith, length-drop (at + 1) rest)));
       limits = c.in_ok-act.ensures.limits ∙ c.loop-end.invariant.limits;
       limit = c.in_ok-act.ensures.limit ∙ c.push.ensures.limit ∙ c.loop-end.invariant.limit;
-      later = omega (arith, c.in_ok-act.ensures.cause.later);
+      kept = omega (arith, c.in_ok-act.ensures.cause.kept);
     }
 
 pub returns-clause-fed : goal.returns-clause-fed

@@ -9,7 +9,7 @@ invariant-loop-end g l = record {
       l.rest l.session.clauses (held_of l.pending) (g.K.Sink.written l.sink);
   limits : l.session.limits ≡ l.fn.session.limits;
   limit : limit_of l.pending ≡ limit_of l.fn.pending;
-  later : g.K.Sink.faults l.fn.sink ≤ g.K.Sink.faults l.sink;
+  kept : g.K.Sink.faults l.sink ≡ g.K.Sink.faults l.fn.sink;
 }
 
 abbrev pub decreases-loop-end : goal.decreases-loop-end

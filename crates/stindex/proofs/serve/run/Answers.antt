@@ -35,6 +35,7 @@ loop-taken-preserved g c =
       within = omega (arith, length-take c.min-room.result c.loop-taken.chunk);
       limits = c.in-Ok-feed.ensures.limits ∙ c.loop-taken.invariant.limits;
       limit = c.in-Ok-feed.ensures.limit ∙ c.loop-taken.invariant.limit;
-      source_later = omega (arith, c.in-Ok.ensures.cause.later);
-      sink_later = omega (arith, c.in-Ok-feed.ensures.cause.later);
+      sure = c.in-Ok.ensures.same ∙ c.loop-taken.invariant.sure;
+      source_kept = omega (arith, c.in-Ok.ensures.cause.kept);
+      sink_kept = omega (arith, c.in-Ok-feed.ensures.cause.kept);
     }

@@ -1,18 +1,18 @@
 use Rattle.std.proofs.Common.{◌≡◌, ◌≤◌, ◌-◌}
-use Rattle.si_session.specs.Limits.{limits_of}
 use Rattle.stindex.specs.Lines.{held_of, limit_of}
 use Rattle.stindex.specs.Progress.{Stands}
 use Rattle.stindex.proofs.serve.run.Given as goal
 
 abbrev pub invariant-loop-taken : goal.invariant-loop-taken
 invariant-loop-taken g l = record {
-  stands : Stands (limits_of l.limits) l.taken (g.S.Source.left l.fn.source) (g.S.Source.left l.source) (g.K.Sink.written l.fn.sink)
+  stands : Stands l.limits l.taken (g.S.Source.left l.fn.source) (g.S.Source.left l.source) (g.K.Sink.written l.fn.sink)
       l.session.clauses (held_of l.pending) (g.K.Sink.written l.sink);
   within : l.taken ≤ l.limits.session;
-  limits : l.session.limits ≡ limits_of l.limits;
+  limits : l.session.limits ≡ l.limits;
   limit : limit_of l.pending ≡ l.limits.line;
-  source_later : g.S.Source.faults l.fn.source ≤ g.S.Source.faults l.source;
-  sink_later : g.K.Sink.faults l.fn.sink ≤ g.K.Sink.faults l.sink;
+  sure : g.S.Source.may_fail l.source ≡ g.S.Source.may_fail l.fn.source;
+  source_kept : g.S.Source.faults l.source ≡ g.S.Source.faults l.fn.source;
+  sink_kept : g.K.Sink.faults l.sink ≡ g.K.Sink.faults l.fn.sink;
 }
 
 abbrev pub decreases-loop-taken : goal.decreases-loop-taken

@@ -2,7 +2,7 @@ use Rattle.std.proofs.Common.{◌≡◌, ◌+◌, ◌++◌, ◌∷◌, [], lengt
 use Rattle.std.specs.Prelude.{bytes_eq}
 use Rattle.std.specs.List.{list_any}
 use Rattle.std.proofs.lemmas.List.{map-append}
-use Rattle.si_defs.specs.Acceptance.{names, IsTaken}
+use Rattle.si_state.specs.Acceptance.{names, IsTaken}
 use Rattle.si_defs.specs.Entries.{entries}
 use Rattle.si_term.specs.Meaning.{clause_of, name_of}
 use Rattle.si_session.specs.StoreKeys.{key_of, Keeps}

@@ -1,0 +1,96 @@
+//! Flat terms: the cells of one term in preorder.
+//!
+//! A symbol's cell has the number of cells of its subterm, so a subterm is a slice, and its end is found without a walk. A
+//! slice is whole if it is exactly one term; `specs/Cells.antt` says which.
+#![tactic(auto)]
+
+ghost use Rattle.std.specs.Prelude.{◌≡◌, ◌<◌, IfOk, length, take, drop};
+ghost use Rattle.si_flat.specs.Cells.{IsWhole, span};
+
+use std::alloc::{AllocError, Global};
+use std::marker::Model;
+
+/// One cell of a flat term.
+#[derive(Clone, Copy, Debug, PartialEq, Eq)]
+pub enum Cell {
+    /// A symbol, by its number and its arity, at the head of a subterm of so many cells.
+    App {
+        /// The number of the symbol.
+        sym: u32,
+        /// The number of its arguments.
+        arity: u32,
+        /// The number of cells of the subterm, this one included.
+        len: u32,
+    },
+    /// A variable of a query.
+    Query(u32),
+    /// A variable of an entry.
+    Entry(u32),
+    /// An indicator: a place in a stored term that is filled further down.
+    Ind(u32),
+}
+
+impl Cell {
+    /// The number of cells of the subterm that begins with this cell.
+    pub fn span(self) -> usize
+        ensures { result ≡ span self }
+    {
+        match self {
+            Cell::App { len, .. } => len as usize,
+            Cell::Query(_) | Cell::Entry(_) | Cell::Ind(_) => 1,
+        }
+    }
+}
+
+/// The cells of one term. Contracts see the list of the cells.
+#[derive(Drop)]
+pub struct Flat {
+    cells: Vec<Cell>,
+}
+
+impl Model for Flat {
+    ghost use Rattle.std.specs.Prelude.{List};
+    ghost use Rattle.si_flat.specs.declared.Cell.{Cell};
+
+    ghost Value = { List Cell };
+
+    ghost use Rattle.si_flat.specs.Cells.{IsWhole, span};
+
+    ghost view = { λ f. f.cells.items };
+
+    ghost invariant = { λ f. IsWhole f.cells.items };
+}
+
+impl Flat {
+    /// The term of these cells.
+    pub fn from_cells(alloc: Global, cells: &[Cell]) -> Result<Flat, AllocError>
+        requires { IsWhole cells.now }
+        ensures { IfOk result (λ f. f ≡ cells.now) }
+    {
+        Ok(Flat {
+            cells: Vec::from_slice(alloc, cells)?,
+        })
+    }
+
+    /// The cells, which are whole.
+    pub fn cells(&self) -> &[Cell]
+        ensures cells { result.now ≡ self.now }
+        ensures whole { IsWhole result.now }
+    {
+        self.cells.as_slice()
+    }
+}
+
+/// The subterm that begins with the cell at this place.
+pub fn sub(cells: &[Cell], at: usize) -> &[Cell]
+    requires whole { IsWhole cells.now }
+    requires inside { at < length cells.now }
+    ensures place { result.now ≡ take (length result.now) (drop at cells.now) }
+    ensures whole { IsWhole result.now }
+{
+    let rest = &cells[at..];
+    &rest[..rest[0].span()]
+}
+
+#[cfg(test)]
+mod tests;

@@ -1,0 +1,21 @@
+-- What the layer between the real library and std shows of itself.
+use Rattle.std.specs.Prelude.{◌≡◌, Result, Ok, Err, is_err, if◌then◌else◌}
+use Rattle.si_io.specs.declared.real.folder.Folder.{Folder}
+use Rattle.si_io.specs.declared.real.folder.Unopened.{Unopened}
+use Rattle.si_io.specs.declared.real.folder.Unopened.TheVariants.{NotFound, Refused}
+use Rattle.si_io.specs.declared.library.Fetched.TheVariants.{Missing, Failed}
+use Rattle.si_io.specs.Library.{Counts, counted}
+
+-- what it counted so far
+abbrev pub counts_of : {R : Type 0} → Folder R → Counts
+counts_of folder = record { faults = folder.faults; misses = folder.misses; bigs = folder.bigs }
+
+-- what was counted where a file was opened, or wasn't
+abbrev pub CountsOpened : {F : Type 0} → Counts → Counts → Result F Unopened → Type 0
+CountsOpened before now (Ok file) = now ≡ before
+CountsOpened before now (Err NotFound) = now ≡ counted Missing before
+CountsOpened before now (Err Refused) = now ≡ counted Failed before
+
+-- what was counted where a file was read: an error is a fault
+abbrev pub CountsRead : {T E : Type 0} → Counts → Counts → Result T E → Type 0
+CountsRead before now result = now ≡ (if is_err result then counted Failed before else before)

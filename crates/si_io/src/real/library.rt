@@ -1,0 +1,134 @@
+ghost use Rattle.std.specs.Prelude.{◌≡◌, ◌-◌, ◌<◌, ◌≤◌, [], length, take, drop, vec_len, IfOk, OnOk};
+ghost use Rattle.std.specs.Io.KnownBytes.{Consumes, IsAtEnd};
+ghost use Rattle.si_io.specs.Folder.{counts_of, CountsRead};
+ghost use Rattle.si_io.specs.Library.{counted, IsRead};
+
+use super::folder::{Folder, Unopened};
+use crate::{Failed, Fetched, Library};
+use std::alloc::AllocError;
+use std::io::Read;
+use std::rt::Files;
+
+/// Bytes that are asked of a file at first.
+const FIRST: usize = 1 << 14;
+
+/// A library over the files of the system. A name is a path from the folder where the program was started.
+///
+/// A file that isn't found is missing. Any other error is a fault, and so is a folder, or a name that isn't UTF-8.
+/// Nothing is told of the files.
+#[derive(Drop)]
+pub struct RealLibrary<R> {
+    folder: Folder<R>,
+}
+
+impl<R: Files> RealLibrary<R> {
+    ghost use Rattle.si_io.specs.Real.{library_counts};
+
+    /// A library over the files of this runtime, which has counted nothing yet.
+    pub fn new(rt: R) -> RealLibrary<R>
+        ensures { library_counts result ≡ record { faults = 0; misses = 0; bigs = 0 } }
+    {
+        RealLibrary {
+            folder: Folder::new(rt),
+        }
+    }
+}
+
+impl<R: Files> Library for RealLibrary<R> {
+    ghost use Rattle.std.specs.Prelude.{None, true};
+    ghost use Rattle.si_io.specs.Library.{Holds, HasFetchCause};
+    ghost use Rattle.si_io.specs.Real.{library_counts};
+
+    ghost files = { λ library. None };
+
+    ghost counts = { library_counts };
+
+    ghost may_fail = { λ library. true };
+
+    /// Reads the file to its end, or to one byte more than the limit. Beside what every library promises, each
+    /// answer is counted once.
+    fn fetch(&mut self, name: &[u8], into: &mut Vec<u8>, limit: usize) -> Fetched
+        ensures holds { Holds result limit into.new.items }
+        ensures cause { HasFetchCause (library_counts self.old) (library_counts self.new) result }
+        ensures once { library_counts self.new ≡ counted result (library_counts self.old) }
+    {
+        into.clear();
+        let mut file = match self.folder.open(name) {
+            Ok(file) => file,
+            Err(Unopened::NotFound) => return Fetched::Missing,
+            Err(Unopened::Refused) => return Fetched::Failed,
+        };
+        match read_file(&mut self.folder, &mut file, into, limit) {
+            Fetched::Found => Fetched::Found,
+            other => {
+                into.clear();
+                other
+            }
+        }
+    }
+}
+
+/// Reads a file to its end, or to one byte more than the limit. Of a reader whose bytes are known it takes all of them.
+///
+/// It reserves at most twice as many bytes.
+fn read_file<S, F: Read>(
+    folder: &mut Folder<S>,
+    file: &mut F,
+    into: &mut Vec<u8>,
+    limit: usize,
+) -> Fetched
+    requires { into.old.items ≡ [] }
+    ensures read { IsRead (F.remaining file.old) limit result into.new.items }
+    ensures counts { counts_of folder.new ≡ counted result (counts_of folder.old) }
+{
+    let most = limit.saturating_add(1);
+    let mut filled = 0;
+    while filled < most {
+        if make_room(into, filled, most).is_err() {
+            return Fetched::Memory;
+        }
+        match read_behind(folder, file, into, filled) {
+            Ok(0) => {
+                into.truncate(filled);
+                return Fetched::Found;
+            }
+            Ok(count) => filled += count,
+            Err(_) => return Fetched::Failed,
+        }
+    }
+    folder.count_too_big();
+    Fetched::TooBig
+}
+
+/// Reads into a slice behind the bytes that are filled.
+fn read_behind<S, F: Read>(
+    folder: &mut Folder<S>,
+    file: &mut F,
+    into: &mut [u8],
+    filled: usize,
+) -> Result<usize, Failed>
+    requires { filled < length into.old }
+    ensures bound { IfOk result (λ n. n ≤ length into.old - filled) }
+    ensures front { take filled into.new ≡ take filled into.old }
+    ensures given { IfOk result (λ n. Consumes (F.remaining file.old) (F.remaining file.new)
+        (take n (drop filled into.new))) }
+    ensures ended { IfOk result (λ n. n ≡ 0 → IsAtEnd (F.remaining file.new)) }
+    ensures counts { CountsRead (counts_of folder.old) (counts_of folder.new) result }
+{
+    folder.read(file, &mut into[filled..])
+}
+
+/// Makes room behind the bytes that are filled: twice as many, but some at first, and no more than `most`.
+fn make_room(into: &mut Vec<u8>, filled: usize, most: usize) -> Result<(), AllocError>
+    requires below { filled < most }
+    requires within { filled ≤ vec_len into.old }
+    requires bound { vec_len into.old ≤ most }
+    ensures room { OnOk result (filled < vec_len into.new) }
+    ensures bound { OnOk result (vec_len into.new ≤ most) }
+    ensures front { OnOk result (take filled into.new.items ≡ take filled into.old.items) }
+{
+    if filled < into.len() {
+        return Ok(());
+    }
+    into.resize(filled.saturating_mul(2).max(FIRST).min(most), 0)
+}

@@ -1,0 +1,339 @@
+-- The tokens of some bytes, one more at each step, and why there are no more.
+use Rattle.std.proofs.Common.{◌≡◌, ℕ, ◌+◌, ◌<◌, ◌≤◌, Bool, true, false, max, List, [], ◌∷◌, ◌++◌, length, drop, IsTrue, refl, ap, sym, ◌∙◌, subst, ◌⊎◌, inl, inr, arith}
+use Rattle.std.proofs.lemmas.List.{map_push, append-nil}
+use Rattle.std.proofs.lemmas.Bool.{cases_lt}
+use Rattle.si_defs.specs.Bytes.{Bytes}
+use Rattle.si_defs.specs.Tokens.{Token, TokenAt, NextToken, AreBlanks, Begins, Consists}
+use Rattle.si_defs.specs.Grammar.{open_behind, nesting_from, nesting}
+use Rattle.si_defs.specs.declared.TheConstants.{DEEPEST_NESTING}
+use Rattle.si_defs.specs.Texts.{IsPlace}
+use Rattle.si_lex.specs.declared.lexeme.Lexeme.{Lexeme}
+use Rattle.si_lex.specs.declared.lexing.Lexing.{Lexing}
+use Rattle.si_lex.specs.declared.lexing.Stop.{Stop}
+use Rattle.si_lex.specs.declared.lexing.Stop.TheVariants.{End, Bad, FullStop}
+use Rattle.si_lex.specs.Lexemes.{token_of, tokens_of}
+use Rattle.si_lex.specs.Places.{IsBehindBlanks, IsLexemeAt, NoTokenAt}
+use Rattle.si_lex.specs.FullStops.{IsStop, HasNoStop, GoesToStop, EndsAtStop}
+use Rattle.si_lex.specs.Lexing.{IsRead, IsItemLexing, IsLexingUpTo}
+use Rattle.si_lex.proofs.BlankLaws.{place_unique}
+use Rattle.si_lex.proofs.TokenLaws.{next_place, next_unique, blanks_none, begins_unique, begins_prefix, begins_append}
+
+-- ---- open brackets
+-- the number of brackets that are open behind some tokens
+abbrev pub depth_from : ℕ → List Token → ℕ
+depth_from d [] = d
+depth_from d (t ∷ ts) = depth_from (open_behind d t) ts
+
+-- some tokens nest at least as deep as they begin
+pub depth-le-nesting : (d : ℕ) (ts : List Token) → d ≤ nesting_from d ts
+depth-le-nesting d [] = omega arith
+depth-le-nesting d (t ∷ ts) = omega arith
+
+-- the nesting of tokens and of what follows them
+pub nesting_from-append : (d : ℕ) (ts us : List Token) → nesting_from d (ts ++ us) ≡ max (nesting_from d ts) (nesting_from (depth_from d ts) us)
+nesting_from-append d [] us = omega (arith, depth-le-nesting d us)
+nesting_from-append d (t ∷ ts) us = omega (arith, nesting_from-append (open_behind d t) ts us)
+
+-- the number of open brackets behind one more token
+pub depth_push : (d : ℕ) (ts : List Token) (t : Token) → depth_from d (ts ++ t ∷ []) ≡ open_behind (depth_from d ts) t
+depth_push d [] t = refl
+depth_push d (u ∷ us) t = depth_push (open_behind d u) us t
+
+-- ---- full stops
+-- one more token that does not end an item
+stops_push : (d : ℕ) (ts : List Token) (t : Token) → HasNoStop d ts → (IsStop (depth_from d ts) t → ⊥) → HasNoStop d (ts ++ t ∷ [])
+stops_push d [] t h n = (n, tt)
+stops_push d (u ∷ us) t h n = (h.0, stops_push (open_behind d u) us t h.1 n)
+
+-- and one that does
+ends_push : (d : ℕ) (ts : List Token) (t : Token) → HasNoStop d ts → IsStop (depth_from d ts) t → EndsAtStop d (ts ++ t ∷ [])
+ends_push d [] t h s = inl (s, refl)
+ends_push d (u ∷ us) t h s = inr (h.0, ends_push (open_behind d u) us t h.1 s)
+
+-- behind the end of an item nothing stands
+nothing_behind_stop : (d : ℕ) (ts : List Token) (u : Token) (us : List Token) → EndsAtStop d ts → GoesToStop d (ts ++ u ∷ us) → ⊥
+nothing_behind_stop d [] u us e g = e
+nothing_behind_stop d (t ∷ ts) u us (inl e) g = nothing ts (g.0 e.0) where
+  nothing : (xs : List Token) → xs ++ u ∷ us ≡ [] → ⊥
+  nothing [] e = cc
+  nothing (x ∷ xs) e = cc
+nothing_behind_stop d (t ∷ ts) u us (inr e) g = nothing_behind_stop (open_behind d t) ts u us e.1 g.1
+
+-- ---- the tokens so far
+-- the bytes behind some tokens and before others
+begins_split : (ts us : List Token) (bytes rest : Bytes) → Begins bytes (ts ++ us) rest → (middle : Bytes) × Begins bytes ts middle × Begins middle us rest
+begins_split [] us bytes rest b = (bytes, refl, b)
+begins_split (t ∷ ts) us bytes rest b = let s = begins_split ts us b.0 rest b.2 in (s.0, (b.0, b.1, s.1), s.2)
+
+-- the tokens up to the place behind the blanks behind them, and the number of brackets that are open there
+pub record IsSoFar (item : Bool) (bytes : Bytes) (at start : ℕ) (tokens : List Lexeme) (depth place : ℕ) : Type 0 where
+  pub rest : Bytes
+  pub from : at ≤ start
+  pub onward : start ≤ place
+  pub first : IsBehindBlanks bytes (drop at bytes) start
+  pub behind : IsBehindBlanks bytes rest place
+  pub begins : Begins (drop at bytes) (tokens_of tokens) rest
+  pub nested : nesting (tokens_of tokens) ≤ DEEPEST_NESTING
+  pub opened : depth ≡ depth_from 0 (tokens_of tokens)
+  pub shallow : depth ≤ DEEPEST_NESTING
+  pub no_stop : IsTrue item → HasNoStop 0 (tokens_of tokens)
+
+pub so_far_none : (item : Bool) (bytes : Bytes) (at start : ℕ) → at ≤ start → IsBehindBlanks bytes (drop at bytes) start → IsSoFar item bytes at start [] 0 start
+so_far_none item bytes at start l b = record {
+  rest = drop at bytes;
+  from = l;
+  onward = omega arith;
+  first = b;
+  behind = b;
+  begins = refl;
+  nested = omega arith;
+  opened = refl;
+  shallow = omega arith;
+  no_stop = λ i. tt;
+}
+
+-- the token at the place is the next
+pub next_at : (bytes rest : Bytes) (place : ℕ) (l : Lexeme) → IsBehindBlanks bytes rest place → place < length bytes → IsLexemeAt bytes place l
+    → NextToken rest (token_of l) (drop (place + length l.spelling.now) bytes)
+next_at bytes rest place l b w s = record { place = drop place bytes; skips = (b.more w).skips; stands = s.stands }
+
+-- the tokens with it
+push_begins : (bytes rest after : Bytes) (tokens : List Lexeme) (l : Lexeme) → Begins bytes (tokens_of tokens) rest → NextToken rest (token_of l) after
+    → Begins bytes (tokens_of (tokens ++ l ∷ [])) after
+push_begins bytes rest after tokens l b n =
+    subst (λ ts. Begins bytes ts after) (sym (map_push token_of tokens l)) (begins_append (tokens_of tokens) (token_of l ∷ []) bytes rest after b (after, n, refl))
+
+push_nested : (tokens : List Lexeme) (l : Lexeme) (depth : ℕ) → nesting (tokens_of tokens) ≤ DEEPEST_NESTING → depth ≡ depth_from 0 (tokens_of tokens)
+    → depth ≤ DEEPEST_NESTING → open_behind depth (token_of l) ≤ DEEPEST_NESTING → nesting (tokens_of (tokens ++ l ∷ [])) ≤ DEEPEST_NESTING
+push_nested tokens l depth n o s d =
+    let step = nesting_from-append 0 (tokens_of tokens) (token_of l ∷ []) in
+    let here : open_behind (depth_from 0 (tokens_of tokens)) (token_of l) ≤ DEEPEST_NESTING = subst (λ k. open_behind k (token_of l) ≤ DEEPEST_NESTING) o d in
+    let before : depth_from 0 (tokens_of tokens) ≤ DEEPEST_NESTING = subst (λ k. k ≤ DEEPEST_NESTING) o s in
+    subst (λ ts. nesting ts ≤ DEEPEST_NESTING) (sym (map_push token_of tokens l)) (omega arith)
+
+pub so_far_more : (item : Bool) (bytes : Bytes) (at start : ℕ) (tokens : List Lexeme) (depth place next : ℕ) (l : Lexeme) → IsSoFar item bytes at start tokens depth place
+    → place < length bytes → IsLexemeAt bytes place l → open_behind depth (token_of l) ≤ DEEPEST_NESTING → (IsTrue item → IsStop depth (token_of l) → ⊥)
+    → place + length l.spelling.now ≤ next → IsBehindBlanks bytes (drop (place + length l.spelling.now) bytes) next
+    → IsSoFar item bytes at start (tokens ++ l ∷ []) (open_behind depth (token_of l)) next
+so_far_more item bytes at start tokens depth place next l s w k d n m b =
+    let ahead = s.onward in
+    record {
+      rest = drop (place + length l.spelling.now) bytes;
+      from = s.from;
+      onward = omega arith;
+      first = s.first;
+      behind = b;
+      begins = push_begins (drop at bytes) s.rest (drop (place + length l.spelling.now) bytes) tokens l s.begins (next_at bytes s.rest place l s.behind w k);
+      nested = push_nested tokens l depth s.nested s.opened s.shallow d;
+      opened =
+          ap (λ x. open_behind x (token_of l)) s.opened ∙ sym (depth_push 0 (tokens_of tokens) (token_of l)) ∙ ap (depth_from 0) (sym (map_push token_of tokens l));
+      shallow = d;
+      no_stop = λ i.
+          subst (λ ts. HasNoStop 0 ts) (sym (map_push token_of tokens l))
+          (stops_push 0 (tokens_of tokens) (token_of l) (s.no_stop i) (λ x. n i (subst (λ y. IsStop y (token_of l)) (sym s.opened) x)));
+    }
+
+-- ---- where they stop
+-- the first place behind blanks
+first_place : (bytes : Bytes) (at start : ℕ) → IsBehindBlanks bytes (drop at bytes) start → (AreBlanks (drop at bytes) → ⊥) → IsPlace (drop at bytes) (drop start bytes)
+first_place bytes at start b n =
+    elim (cases_lt start (length bytes)) [
+      | inl l ↦ b.more l
+      | inr l ↦ absurd (n (b.end (let w = b.within in omega arith)))
+    ]
+
+-- where a token stands the bytes are not blanks
+first_no_blanks : (bytes rest : Bytes) (ts : List Token) → Begins bytes ts rest → (ts ≡ [] → ⊥) → AreBlanks bytes → ⊥
+first_no_blanks bytes rest [] b n a = n refl
+first_no_blanks bytes rest (t ∷ ts) b n a = blanks_none bytes a t b.0 b.1
+
+-- nor are they where one stands behind those so far
+pub so_far_some : (item : Bool) (bytes : Bytes) (at start : ℕ) (tokens : List Lexeme) (depth place : ℕ) (l : Lexeme) → IsSoFar item bytes at start tokens depth place
+    → place < length bytes → IsLexemeAt bytes place l → AreBlanks (drop at bytes) → ⊥
+so_far_some item bytes at start tokens depth place l s w k a =
+    let after = drop (place + length l.spelling.now) bytes in
+    let begins = begins_append (tokens_of tokens) (token_of l ∷ []) (drop at bytes) s.rest after s.begins (after, next_at bytes s.rest place l s.behind w k, refl) in
+    first_no_blanks (drop at bytes) after (tokens_of tokens ++ token_of l ∷ []) begins (some (tokens_of tokens)) a where
+      some : (ts : List Token) → ts ++ token_of l ∷ [] ≡ [] → ⊥
+      some [] e = cc
+      some (t ∷ ts) e = cc
+
+-- why no more tokens are taken, but for a full stop: only blanks follow, or no token, or brackets would nest too deep
+pub record IsOver (rest : Bytes) (depth : ℕ) (stop : Stop) : Type 0 where
+  pub no_stop : stop ≡ FullStop → ⊥
+  pub blanks : stop ≡ End → AreBlanks rest
+  pub more : (stop ≡ End → ⊥) → AreBlanks rest → ⊥
+  pub deep : (u : Token) (after : Bytes) → NextToken rest u after → DEEPEST_NESTING < open_behind depth u
+
+-- no longer list of tokens is nested so that it could go on
+too_deep : (ts : List Token) (bytes rest behind : Bytes) (u : Token) (us : List Token) (stop : Stop) → Begins bytes ts rest → IsOver rest (depth_from 0 ts) stop
+    → Begins bytes (ts ++ u ∷ us) behind → nesting (ts ++ u ∷ us) ≤ DEEPEST_NESTING → ⊥
+too_deep ts bytes rest behind u us stop b o g n =
+    let s = begins_split ts (u ∷ us) bytes behind g in
+    let same : s.0 ≡ rest = begins_unique ts bytes s.0 rest s.1 b in
+    let deep = o.deep u s.2.0 (subst (λ x. NextToken x u s.2.0) same s.2.1) in
+    let whole = nesting_from-append 0 ts (u ∷ us) in
+    let least = depth-le-nesting (open_behind (depth_from 0 ts) u) us in
+    omega arith
+
+over_every : (tokens : List Token) (bytes rest : Bytes) (stop : Stop) → Begins bytes tokens rest → IsOver rest (depth_from 0 tokens) stop
+    → (ts : List Token) (behind : Bytes) → Begins bytes ts behind → nesting ts ≤ DEEPEST_NESTING → (others : List Token) × (tokens ≡ ts ++ others)
+over_every tokens bytes rest stop b o ts behind g n = by (begins_prefix tokens ts bytes rest behind b g) where
+  longer : (more : List Token) → ts ≡ tokens ++ more → (others : List Token) × (tokens ≡ ts ++ others)
+  longer [] e = ([], sym (append-nil ts ∙ e ∙ append-nil tokens))
+  longer (u ∷ us) e =
+      absurd (too_deep tokens bytes rest behind u us stop b o (subst (λ x. Begins bytes x behind) e g) (subst (λ x. nesting x ≤ DEEPEST_NESTING) e n))
+
+  by : ((more : List Token) × (tokens ≡ ts ++ more)) ⊎ ((more : List Token) × (ts ≡ tokens ++ more)) → (others : List Token) × (tokens ≡ ts ++ others)
+  by (inl m) = m
+  by (inr m) = longer m.0 m.1
+
+over_whole : (tokens : List Token) (bytes rest : Bytes) (stop : Stop) → ((stop ≡ End) ⊎ (stop ≡ End → ⊥)) → Begins bytes tokens rest → IsOver rest (depth_from 0 tokens) stop
+    → (ts : List Token) → Consists bytes ts → nesting ts ≤ DEEPEST_NESTING → (stop ≡ End) × (tokens ≡ ts)
+over_whole tokens bytes rest stop d b o ts c n = by d (over_every tokens bytes rest stop b o ts c.rest c.begins n) where
+  none : (others : List Token) → tokens ≡ ts ++ others → tokens ≡ ts
+  none [] e = e ∙ append-nil ts
+  none (u ∷ us) e =
+      let s = begins_split ts (u ∷ us) bytes rest (subst (λ x. Begins bytes x rest) e b) in
+      let same : s.0 ≡ c.rest = begins_unique ts bytes s.0 c.rest s.1 c.begins in
+      absurd (blanks_none c.rest c.blanks u s.2.0 (subst (λ x. NextToken x u s.2.0) same s.2.1))
+
+  by : (stop ≡ End) ⊎ (stop ≡ End → ⊥) → (others : List Token) × (tokens ≡ ts ++ others) → (stop ≡ End) × (tokens ≡ ts)
+  by (inl e) m = (e, none m.0 m.1)
+  by (inr e) m =
+      let same = none m.0 m.1 in
+      let r : rest ≡ c.rest = begins_unique ts bytes rest c.rest (subst (λ x. Begins bytes x rest) same b) c.begins in
+      absurd (o.more e (subst (λ x. AreBlanks x) (sym r) c.blanks))
+
+-- what was read so far, and no more
+over_read : (item : Bool) (bytes : Bytes) (at : ℕ) (l : Lexing) (depth : ℕ) (s : IsSoFar item bytes at l.start l.tokens.items depth l.end) → IsOver s.rest depth l.stop
+    → IsRead bytes at l s.rest
+over_read item bytes at l depth s o = record {
+  from = s.from;
+  onward = s.onward;
+  within = s.behind.within;
+  place = first_place bytes at l.start s.first;
+  begins = s.begins;
+  nested = s.nested;
+  blanks = o.blanks;
+  faulty = λ e. faulty (tokens_of l.tokens.items) s.begins e;
+} where
+  faulty : (ts : List Token) → Begins (drop at bytes) ts s.rest → (l.stop ≡ End → ⊥) → AreBlanks (drop at bytes) → ⊥
+  faulty [] b e a = o.more e (subst (λ x. AreBlanks x) b a)
+  faulty (t ∷ ts) b e a = blanks_none (drop at bytes) a t b.0 b.1
+
+pub over_lexing : (item : Bool) (bytes : Bytes) (at : ℕ) (l : Lexing) (depth : ℕ) (s : IsSoFar item bytes at l.start l.tokens.items depth l.end) → (l.stop ≡ End) ⊎ (l.stop ≡ End → ⊥)
+    → IsOver s.rest depth l.stop → IsLexingUpTo item bytes at l
+over_lexing true bytes at l depth s d o = record {
+  rest = s.rest;
+  read = over_read true bytes at l depth s o;
+  stop = λ e. absurd (o.no_stop e);
+  no_stop = λ e. s.no_stop refl;
+  every = λ ts behind g n u.
+      over_every (tokens_of l.tokens.items) (drop at bytes) s.rest l.stop s.begins (subst (λ k. IsOver s.rest k l.stop) s.opened o) ts behind g n;
+}
+over_lexing false bytes at l depth s d o = record {
+  rest = s.rest;
+  read = over_read false bytes at l depth s o;
+  no_stop = o.no_stop;
+  every = over_every (tokens_of l.tokens.items) (drop at bytes) s.rest l.stop s.begins (subst (λ k. IsOver s.rest k l.stop) s.opened o);
+  whole = over_whole (tokens_of l.tokens.items) (drop at bytes) s.rest l.stop d s.begins (subst (λ k. IsOver s.rest k l.stop) s.opened o);
+}
+
+-- the reasons to stop differ
+bad_no_end : Bad ≡ End → ⊥
+bad_no_end e = cc
+
+bad_no_full : Bad ≡ FullStop → ⊥
+bad_no_full e = cc
+
+end_no_full : End ≡ FullStop → ⊥
+end_no_full e = cc
+
+full_no_end : FullStop ≡ End → ⊥
+full_no_end e = cc
+
+-- at the end of the bytes
+pub lexing_end : (item : Bool) (bytes : Bytes) (at : ℕ) (l : Lexing) (depth : ℕ) → IsSoFar item bytes at l.start l.tokens.items depth l.end → length bytes ≤ l.end → l.stop ≡ End
+    → IsLexingUpTo item bytes at l
+lexing_end item bytes at l depth s w e =
+    let here = s.behind.within in
+    let blanks = s.behind.end (omega arith) in
+    over_lexing item bytes at l depth s (inl e) (record {
+      no_stop = λ f. end_no_full (sym e ∙ f);
+      blanks = λ f. blanks;
+      more = λ f. absurd (f e);
+      deep = λ u after n. absurd (blanks_none s.rest blanks u after n);
+    })
+
+-- where no token stands
+pub lexing_bad : (item : Bool) (bytes : Bytes) (at : ℕ) (l : Lexing) (depth : ℕ) → IsSoFar item bytes at l.start l.tokens.items depth l.end → l.end < length bytes
+    → NoTokenAt (drop l.end bytes) → l.stop ≡ Bad → IsLexingUpTo item bytes at l
+lexing_bad item bytes at l depth s w n e =
+    over_lexing item bytes at l depth s (inr (λ f. bad_no_end (sym e ∙ f))) (record {
+      no_stop = λ f. bad_no_full (sym e ∙ f);
+      blanks = λ f. absurd (bad_no_end (sym e ∙ f));
+      more = λ f. s.behind.goes_on w;
+      deep = λ u after k. absurd (none u after k);
+    }) where
+      none : (u : Token) (after : Bytes) → NextToken s.rest u after → ⊥
+      none u after k =
+          let same = place_unique s.rest k.place (drop l.end bytes) (next_place s.rest u after k) (s.behind.more w) in
+          n u after (subst (λ p. TokenAt p u after) same k.stands)
+
+-- where brackets would nest too deep
+pub lexing_deep : (item : Bool) (bytes : Bytes) (at : ℕ) (l : Lexing) (depth : ℕ) (t : Lexeme) → IsSoFar item bytes at l.start l.tokens.items depth l.end → l.end < length bytes
+    → IsLexemeAt bytes l.end t → DEEPEST_NESTING < open_behind depth (token_of t) → l.stop ≡ Bad → IsLexingUpTo item bytes at l
+lexing_deep item bytes at l depth t s w k d e =
+    over_lexing item bytes at l depth s (inr (λ f. bad_no_end (sym e ∙ f))) (record {
+      no_stop = λ f. bad_no_full (sym e ∙ f);
+      blanks = λ f. absurd (bad_no_end (sym e ∙ f));
+      more = λ f. s.behind.goes_on w;
+      deep = λ u after n.
+          subst (λ x. DEEPEST_NESTING < open_behind depth x)
+          (sym (next_unique s.rest u (token_of t) after (drop (l.end + length t.spelling.now) bytes) n (next_at bytes s.rest l.end t s.behind w k)).0) d;
+    })
+
+-- behind a full stop outside brackets
+pub lexing_stop : (bytes : Bytes) (at : ℕ) (l : Lexing) (tokens : List Lexeme) (depth place : ℕ) (t : Lexeme) → IsSoFar true bytes at l.start tokens depth place
+    → place < length bytes → IsLexemeAt bytes place t → open_behind depth (token_of t) ≤ DEEPEST_NESTING → IsStop depth (token_of t)
+    → l.tokens.items ≡ tokens ++ t ∷ [] → l.end ≡ place + length t.spelling.now → l.stop ≡ FullStop → IsItemLexing bytes at l
+lexing_stop bytes at l tokens depth place t s w k d f items end stop =
+    let ahead = s.onward in
+    let in_bytes = k.within in
+    let begins : Begins (drop at bytes) (tokens_of l.tokens.items) (drop l.end bytes) =
+    subst (λ ts. Begins (drop at bytes) (tokens_of ts) (drop l.end bytes)) (sym items)
+    (subst (λ n. Begins (drop at bytes) (tokens_of (tokens ++ t ∷ [])) (drop n bytes)) (sym end)
+    (push_begins (drop at bytes) s.rest (drop (place + length t.spelling.now) bytes) tokens t s.begins (next_at bytes s.rest place t s.behind w k))) in
+    let ends : EndsAtStop 0 (tokens_of l.tokens.items) =
+    subst (λ ts. EndsAtStop 0 (tokens_of ts)) (sym items) (subst (λ ts. EndsAtStop 0 ts) (sym (map_push token_of tokens t))
+    (ends_push 0 (tokens_of tokens) (token_of t) (s.no_stop refl) (subst (λ n. IsStop n (token_of t)) s.opened f))) in
+    record {
+      rest = drop l.end bytes;
+      read = record {
+        from = s.from;
+        onward = omega arith;
+        within = omega arith;
+        place = first_place bytes at l.start s.first;
+        begins = begins;
+        nested = subst (λ ts. nesting (tokens_of ts) ≤ DEEPEST_NESTING) (sym items) (push_nested tokens t depth s.nested s.opened s.shallow d);
+        blanks = λ e. absurd (full_no_end (sym stop ∙ e));
+        faulty = λ e. first_no_blanks (drop at bytes) (drop l.end bytes) (tokens_of l.tokens.items) begins (some ends);
+      };
+      stop = λ e. (ends, refl);
+      no_stop = λ e. absurd (e stop);
+      every = λ ts behind g n u. by ts behind g u ends (begins_prefix (tokens_of l.tokens.items) ts (drop at bytes) (drop l.end bytes) behind begins g);
+    } where
+      some : EndsAtStop 0 (tokens_of l.tokens.items) → tokens_of l.tokens.items ≡ [] → ⊥
+      some e n = subst (λ ts. EndsAtStop 0 ts) n e
+
+      longer : (ts : List Token) → GoesToStop 0 ts → EndsAtStop 0 (tokens_of l.tokens.items) → (more : List Token) → ts ≡ tokens_of l.tokens.items ++ more
+          → (others : List Token) × (tokens_of l.tokens.items ≡ ts ++ others)
+      longer ts u e [] q = ([], sym (append-nil ts ∙ q ∙ append-nil (tokens_of l.tokens.items)))
+      longer ts u e (x ∷ xs) q = absurd (nothing_behind_stop 0 (tokens_of l.tokens.items) x xs e (subst (λ y. GoesToStop 0 y) q u))
+
+      by : (ts : List Token) (behind : Bytes) → Begins (drop at bytes) ts behind → GoesToStop 0 ts → EndsAtStop 0 (tokens_of l.tokens.items)
+          → ((more : List Token) × (tokens_of l.tokens.items ≡ ts ++ more)) ⊎ ((more : List Token) × (ts ≡ tokens_of l.tokens.items ++ more))
+          → (others : List Token) × (tokens_of l.tokens.items ≡ ts ++ others)
+      by ts behind g u e (inl m) = m
+      by ts behind g u e (inr m) = longer ts u e m.0 m.1

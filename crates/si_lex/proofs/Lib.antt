@@ -1,0 +1,11 @@
+pub mod BlankLaws
+pub mod SpellingLaws
+pub mod TokenLaws
+pub mod ScanLaws
+pub mod FrontLaws
+pub mod PlaceLaws
+pub mod BlankPlaces
+pub mod TokenPlaces
+pub mod FirstLaws
+pub mod LexingLaws
+pub mod ReadBackTokens

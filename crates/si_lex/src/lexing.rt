@@ -1,0 +1,157 @@
+// The tokens of some bytes.
+ghost use Rattle.std.specs.Prelude.{◌≡◌, ◌≤◌, ◌↔◌, length, drop, IfOk, OnErr, IsTrue, []};
+ghost use Rattle.si_defs.specs.Grammar.{open_behind};
+ghost use Rattle.si_defs.specs.Tokens.{AreBlanks};
+ghost use Rattle.si_defs.specs.declared.TheConstants.{DEEPEST_NESTING};
+ghost use Rattle.si_lex.specs.FullStops.{IsStop};
+ghost use Rattle.si_lex.specs.Lexemes.{token_of};
+ghost use Rattle.si_lex.specs.Lexing.{IsLexing, IsItemLexing, IsLexingUpTo};
+
+use crate::blanks::skip_blanks;
+use crate::lexeme::Lexeme;
+use crate::spellings::lexeme_at;
+use si_defs::{DEEPEST_NESTING, TokenKind};
+use std::alloc::{AllocError, Global};
+
+/// Why a list of tokens ends where it does.
+#[derive(Clone, Copy, Debug, PartialEq, Eq)]
+pub enum Stop {
+    /// Nothing but blanks stands behind it.
+    End,
+    /// No token stands behind it, or one that nests too deep.
+    Bad,
+    /// Its last token is a full stop outside brackets, which ends an item.
+    FullStop,
+}
+
+/// The tokens of some bytes, and why they end.
+#[derive(Drop)]
+pub struct Lexing<'a> {
+    /// The tokens in order.
+    pub tokens: Vec<Lexeme<'a>>,
+    /// The place behind the blanks before the first token, in bytes from their start.
+    pub start: usize,
+    /// The place behind what was read.
+    pub end: usize,
+    /// Why there are no more.
+    pub stop: Stop,
+}
+
+/// All tokens from a place on, up to the first place where none stands, or where more than 512 round and square brackets
+/// would be open at once.
+///
+/// # Errors
+///
+/// `AllocError` where there is no memory for the tokens. Where only blanks stand, none is wanted.
+pub fn lex<'a>(alloc: Global, bytes: &'a [u8], at: usize) -> Result<Lexing<'a>, AllocError>
+    requires { at ≤ length bytes.now }
+    ensures read { IfOk result (IsLexing bytes.now at) }
+    ensures refused { OnErr result (AreBlanks (drop at bytes.now) → ⊥) }
+{
+    lex_up_to(alloc, bytes, at, false)
+}
+
+/// The tokens of one item from a place on: as [`lex`], but up to the first full stop outside brackets.
+///
+/// Behind that full stop no byte is looked at.
+///
+/// # Errors
+///
+/// `AllocError` where there is no memory for the tokens. Where only blanks stand, none is wanted.
+pub fn lex_item<'a>(alloc: Global, bytes: &'a [u8], at: usize) -> Result<Lexing<'a>, AllocError>
+    requires { at ≤ length bytes.now }
+    ensures read { IfOk result (IsItemLexing bytes.now at) }
+    ensures refused { OnErr result (AreBlanks (drop at bytes.now) → ⊥) }
+{
+    lex_up_to(alloc, bytes, at, true)
+}
+
+// The tokens from a place on, up to a full stop outside brackets if `item`.
+fn lex_up_to<'a>(
+    alloc: Global,
+    bytes: &'a [u8],
+    at: usize,
+    item: bool,
+) -> Result<Lexing<'a>, AllocError>
+    requires { at ≤ length bytes.now }
+    ensures read { IfOk result (IsLexingUpTo item bytes.now at) }
+    ensures refused { OnErr result (AreBlanks (drop at bytes.now) → ⊥) }
+{
+    let start = skip_blanks(bytes, at);
+    let mut tokens = room(alloc, start < bytes.len())?;
+    let mut depth = 0;
+    let mut place = start;
+    while place < bytes.len() {
+        let lexeme = match lexeme_at(bytes, place) {
+            Some(lexeme) => lexeme,
+            None => return Ok(Lexing {
+                tokens,
+                start,
+                end: place,
+                stop: Stop::Bad,
+            }),
+        };
+        let behind = depth_behind(depth, &lexeme);
+        if behind > DEEPEST_NESTING {
+            return Ok(Lexing {
+                tokens,
+                start,
+                end: place,
+                stop: Stop::Bad,
+            });
+        }
+        let end = place + lexeme.spelling.len();
+        let stops = is_stop(depth, &lexeme);
+        tokens.push(lexeme)?;
+        if item && stops {
+            return Ok(Lexing {
+                tokens,
+                start,
+                end,
+                stop: Stop::FullStop,
+            });
+        }
+        depth = behind;
+        place = skip_blanks(bytes, end);
+    }
+    Ok(Lexing {
+        tokens,
+        start,
+        end: place,
+        stop: Stop::End,
+    })
+}
+
+// Room for the tokens of most items, if any token can stand.
+fn room<'a>(alloc: Global, some: bool) -> Result<Vec<Lexeme<'a>>, AllocError>
+    ensures empty { IfOk result (λ tokens. tokens.items ≡ []) }
+    ensures refused { OnErr result (IsTrue some) }
+{
+    if some {
+        Vec::with_capacity(alloc, 64)
+    } else {
+        Ok(Vec::new(alloc))
+    }
+}
+
+// Whether a token is a full stop outside brackets, where this many are open before.
+fn is_stop(depth: usize, lexeme: &Lexeme) -> bool
+    ensures { IsTrue result ↔ IsStop depth (token_of lexeme.now) }
+{
+    depth == 0 && lexeme.is_mark(b'.')
+}
+
+// The number of brackets that are open behind a token, where this many are open before.
+fn depth_behind(depth: usize, lexeme: &Lexeme) -> usize
+    requires { depth ≤ DEEPEST_NESTING }
+    ensures { result ≡ open_behind depth (token_of lexeme.now) }
+{
+    match lexeme.kind {
+        TokenKind::Mark => match lexeme.spelling {
+            [b'(' | b'['] => depth + 1,
+            [b')' | b']'] => depth.saturating_sub(1),
+            _ => depth,
+        },
+        _ => depth,
+    }
+}

@@ -1,0 +1,16 @@
+//! From bytes to tokens, by TPTP's token grammar.
+#![tactic(auto)]
+
+mod blanks;
+mod bytes;
+mod lexeme;
+mod lexing;
+mod scans;
+mod spellings;
+#[cfg(test)]
+mod tests;
+mod token;
+
+pub use lexeme::Lexeme;
+pub use lexing::{Lexing, Stop, lex, lex_item};
+pub use token::{Lexed, Token, next_token};

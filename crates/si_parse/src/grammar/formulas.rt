@@ -1,0 +1,94 @@
+// Formulas: disjunctions of literals, in any number of round brackets.
+ghost use Rattle.std.specs.Prelude.{◌≡◌, ◌≤◌, ◌++◌, IfOk, length, replicate};
+ghost use Rattle.si_defs.specs.Grammar.{IsFormula, left_bracket};
+ghost use Rattle.si_lex.specs.Lexemes.{tokens_of};
+ghost use Rattle.si_parse.specs.GrammarRules.{AreClosing, AreLiterals};
+ghost use Rattle.si_parse.specs.Meaning.{literals_of};
+ghost use Rattle.si_parse.specs.Parsing.{NoBracket, NoLiteral, Passes, Reads};
+ghost use Rattle.si_defs.specs.declared.TheConstants.{MOST_BYTES};
+
+use crate::grammar::literals::literal;
+use crate::grammar::{Found, mark_at};
+use si_lex::Lexeme;
+use si_term::Literals;
+use std::alloc::{AllocError, Global};
+
+/// The formula at the front: literals with bars between them, in any number of round brackets.
+///
+/// # Errors
+/// `AllocError` where memory runs out.
+pub fn formula<'t, 'b>(
+    alloc: Global,
+    tokens: &'t [Lexeme<'b>],
+) -> Result<Found<'t, 'b, Literals>, AllocError>
+    requires { length tokens.now ≤ MOST_BYTES }
+    ensures { IfOk result (Reads literals_of IsFormula NoLiteral tokens.now) }
+{
+    let (depth, inner) = opening_brackets(tokens);
+    let Some((literals, behind)) = disjunction(alloc, inner)? else {
+        return Ok(None);
+    };
+    match closing_brackets(behind, depth) {
+        Some(rest) => Ok(Some((literals, rest))),
+        None => Ok(None),
+    }
+}
+
+/// Literals with bars between them.
+fn disjunction<'t, 'b>(
+    alloc: Global,
+    tokens: &'t [Lexeme<'b>],
+) -> Result<Found<'t, 'b, Literals>, AllocError>
+    requires { length tokens.now ≤ MOST_BYTES }
+    ensures { IfOk result (Reads literals_of AreLiterals NoLiteral tokens.now) }
+{
+    let Some((first, behind)) = literal(alloc, tokens)? else {
+        return Ok(None);
+    };
+    let mut literals = Literals::new(alloc);
+    literals.push(first)?;
+    let mut left = behind;
+    while let Some(rest) = mark_at(left, b'|') {
+        let Some((next, behind)) = literal(alloc, rest)? else {
+            return Ok(None);
+        };
+        literals.push(next)?;
+        left = behind;
+    }
+    Ok(Some((literals, left)))
+}
+
+/// The number of opening round brackets at the front, and the tokens behind them.
+fn opening_brackets<'t, 'b>(tokens: &'t [Lexeme<'b>]) -> (usize, &'t [Lexeme<'b>])
+    ensures front { tokens_of tokens.now ≡ replicate result.0 left_bracket ++ tokens_of
+        result.1.now }
+    ensures bare { NoBracket (tokens_of result.1.now) }
+{
+    let mut depth: usize = 0;
+    let mut inner = tokens;
+    while let [first, rest @ ..] = inner {
+        if !first.is_mark(b'(') {
+            return (depth, inner);
+        }
+        depth += 1;
+        inner = rest;
+    }
+    (depth, inner)
+}
+
+/// The tokens behind so many closing round brackets.
+fn closing_brackets<'t, 'b>(tokens: &'t [Lexeme<'b>], count: usize) -> Option<&'t [Lexeme<'b>]>
+    ensures { Passes (AreClosing count) tokens.now result }
+{
+    let mut left = tokens;
+    for n in 0..count {
+        let [first, rest @ ..] = left else {
+            return None;
+        };
+        if !first.is_mark(b')') {
+            return None;
+        }
+        left = rest;
+    }
+    Some(left)
+}

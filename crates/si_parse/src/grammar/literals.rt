@@ -1,0 +1,177 @@
+// Literals and atoms.
+ghost use Rattle.std.specs.Prelude.{◌≡◌, ◌≤◌, ◌↔◌, IfOk, IsTrue, length, option_map};
+ghost use Rattle.si_defs.specs.Clauses.{IsSoundPattern, literal_pattern};
+ghost use Rattle.si_defs.specs.Grammar.{IsAtom, IsLiteral, not_equal};
+ghost use Rattle.si_defs.specs.declared.Side.TheVariants.{Predicate};
+ghost use Rattle.si_lex.specs.Lexemes.{token_of};
+ghost use Rattle.si_parse.specs.GrammarRules.{IsNegated, IsSign, IsStatement, as_atom, equation};
+ghost use Rattle.si_parse.specs.Parsing.{Anything, IfFound, NoSign, Reads};
+ghost use Rattle.si_defs.specs.declared.TheConstants.{MOST_BYTES};
+ghost use Rattle.si_term.specs.Meaning.{literal_of};
+ghost use Rattle.si_term.specs.Terms.{term_of};
+
+use crate::grammar::terms::term;
+use crate::grammar::{Found, mark_at};
+use si_defs::{Side, SymKind, TokenKind};
+use si_lex::Lexeme;
+use si_term::{Literal, Sym, Term, Terms, Text};
+use std::alloc::{AllocError, Global};
+
+/// The literal at the front: an atom, one behind a tilde, or two terms with `!=` between them.
+///
+/// # Errors
+/// `AllocError` where memory runs out.
+pub fn literal<'t, 'b>(
+    alloc: Global,
+    tokens: &'t [Lexeme<'b>],
+) -> Result<Found<'t, 'b, Literal>, AllocError>
+    requires { length tokens.now ≤ MOST_BYTES }
+    ensures read { IfOk result (Reads literal_of IsLiteral NoSign tokens.now) }
+    ensures sound { IfOk result (IfFound (λ l. IsSoundPattern (literal_pattern (literal_of l)))) }
+{
+    let Some(behind) = mark_at(tokens, b'~') else {
+        return statement(alloc, tokens);
+    };
+    match negated(alloc, behind)? {
+        Some((atom, rest)) => Ok(Some((
+            Literal {
+                positive: false,
+                atom,
+            },
+            rest,
+        ))),
+        None => Ok(None),
+    }
+}
+
+/// The atom behind a tilde, bare or in round brackets.
+fn negated<'t, 'b>(
+    alloc: Global,
+    tokens: &'t [Lexeme<'b>],
+) -> Result<Found<'t, 'b, Term>, AllocError>
+    requires { length tokens.now ≤ MOST_BYTES }
+    ensures { IfOk result (Reads term_of IsNegated NoSign tokens.now) }
+{
+    let Some(inside) = mark_at(tokens, b'(') else {
+        return atom(alloc, tokens);
+    };
+    let Some((atom, behind)) = atom(alloc, inside)? else {
+        return Ok(None);
+    };
+    match mark_at(behind, b')') {
+        Some(rest) => Ok(Some((atom, rest))),
+        None => Ok(None),
+    }
+}
+
+/// The atom at the front: a predicate with its arguments, or two terms with `=` between them.
+fn atom<'t, 'b>(alloc: Global, tokens: &'t [Lexeme<'b>]) -> Result<Found<'t, 'b, Term>, AllocError>
+    requires { length tokens.now ≤ MOST_BYTES }
+    ensures { IfOk result (Reads term_of IsAtom NoSign tokens.now) }
+{
+    let Some((literal, rest)) = statement(alloc, tokens)? else {
+        return Ok(None);
+    };
+    if literal.positive {
+        Ok(Some((literal.atom, rest)))
+    } else {
+        Ok(None)
+    }
+}
+
+/// The literal without a tilde at the front: one term that is an atom, or two with a sign between
+/// them. The first term is read once, and what stands behind it decides.
+fn statement<'t, 'b>(
+    alloc: Global,
+    tokens: &'t [Lexeme<'b>],
+) -> Result<Found<'t, 'b, Literal>, AllocError>
+    requires { length tokens.now ≤ MOST_BYTES }
+    ensures { IfOk result (Reads literal_of IsStatement NoSign tokens.now) }
+{
+    let Some((left, behind)) = term(alloc, tokens)? else {
+        return Ok(None);
+    };
+    let Some((positive, next)) = sign(behind) else {
+        return match predicate(left) {
+            Some(atom) => Ok(Some((
+                Literal {
+                    positive: true,
+                    atom,
+                },
+                behind,
+            ))),
+            None => Ok(None),
+        };
+    };
+    let Some((right, rest)) = term(alloc, next)? else {
+        return Ok(None);
+    };
+    let atom = equality(alloc, left, right)?;
+    Ok(Some((Literal { positive, atom }, rest)))
+}
+
+/// The sign of an equation at the front: `=`, or `!=` for its negation.
+fn sign<'t, 'b>(tokens: &'t [Lexeme<'b>]) -> Found<'t, 'b, bool>
+    ensures { Reads (λ b. b) IsSign Anything tokens.now result }
+{
+    match tokens {
+        [first, rest @ ..] if first.is_mark(b'=') => Some((true, rest)),
+        [first, rest @ ..] if is_not_equal(first) => Some((false, rest)),
+        _ => None,
+    }
+}
+
+/// Whether a token is `!=`.
+fn is_not_equal(token: &Lexeme) -> bool
+    ensures { IsTrue result ↔ (token_of token.now ≡ not_equal) }
+{
+    token.kind == TokenKind::NotEqual && token.spelling == b"!=".as_slice()
+}
+
+/// The atom of a term that was read as one, if its head is a word: the head stands for a predicate.
+fn predicate(term: Term) -> Option<Term>
+    ensures { option_map term_of result ≡ as_atom (term_of term) }
+{
+    match term {
+        Term::Var(_) => None,
+        Term::App(head, args) => match head.kind {
+            SymKind::Word => Some(Term::App(on_predicate_side(head), args)),
+            SymKind::Dollar => Some(Term::App(on_predicate_side(head), args)),
+            SymKind::Number => None,
+            SymKind::Distinct => None,
+            SymKind::Equal => None,
+        },
+    }
+}
+
+/// The same symbol as a predicate.
+fn on_predicate_side(symbol: Sym) -> Sym
+    ensures kind { result.kind ≡ symbol.kind }
+    ensures text { result.text ≡ symbol.text }
+    ensures side { result.side ≡ Predicate }
+    ensures arity { result.arity ≡ symbol.arity }
+{
+    Sym {
+        kind: symbol.kind,
+        text: symbol.text,
+        side: Side::Predicate,
+        arity: symbol.arity,
+    }
+}
+
+/// Two terms as the sides of an equation.
+fn equality(alloc: Global, left: Term, right: Term) -> Result<Term, AllocError>
+    ensures { IfOk result (λ t. term_of t ≡ equation (term_of left) (term_of right)) }
+{
+    let text = Text::from_bytes(alloc, b"=".as_slice())?;
+    let mut sides = Terms::new(alloc);
+    sides.push(left)?;
+    sides.push(right)?;
+    let symbol = Sym {
+        kind: SymKind::Equal,
+        text,
+        side: Side::Predicate,
+        arity: 2,
+    };
+    Ok(Term::App(symbol, sides))
+}

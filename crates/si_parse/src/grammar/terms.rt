@@ -1,0 +1,123 @@
+// Terms. They are read by recursion, as deep as their brackets nest.
+ghost use Rattle.std.specs.Prelude.{◌≡◌, ◌≤◌, IfOk, length};
+ghost use Rattle.si_defs.specs.Clauses.{IsSoundPattern, term_pattern};
+ghost use Rattle.si_defs.specs.Grammar.{IsTerm};
+ghost use Rattle.si_defs.specs.Terms as terms;
+ghost use Rattle.si_lex.specs.Lexemes.{token_of};
+ghost use Rattle.si_parse.specs.GrammarRules.{AreTerms, IsApplied, function_symbol};
+ghost use Rattle.si_parse.specs.Parsing.{IfFound, NoBracket, NoTerm, Reads};
+ghost use Rattle.si_defs.specs.declared.TheConstants.{MOST_BYTES};
+ghost use Rattle.si_term.specs.Terms.{symbol_of, term_of};
+
+use crate::grammar::{Found, mark_at};
+use si_defs::{Side, SymKind, TokenKind};
+use si_lex::Lexeme;
+use si_term::{Sym, Term, Terms, Text};
+use std::alloc::{AllocError, Global};
+
+/// The term at the front: a variable, a number, a distinct object, or a word with its arguments if
+/// a bracket opens behind it.
+///
+/// # Errors
+/// `AllocError` where memory runs out.
+#[cycle(reading)]
+pub fn term<'t, 'b>(
+    alloc: Global,
+    tokens: &'t [Lexeme<'b>],
+) -> Result<Found<'t, 'b, Term>, AllocError>
+    requires { length tokens.now ≤ MOST_BYTES }
+    ensures read { IfOk result (Reads term_of IsTerm NoBracket tokens.now) }
+    ensures sound { IfOk result (IfFound (λ t. IsSoundPattern (term_pattern (term_of t)))) }
+{
+    match tokens {
+        [first, rest @ ..] => match first.kind {
+            TokenKind::Upper => Ok(Some((Term::Var(first.text(alloc)?), rest))),
+            TokenKind::Int => {
+                let text = first.text(alloc)?;
+                Ok(Some((constant(alloc, SymKind::Number, text), rest)))
+            }
+            TokenKind::Double => {
+                let text = first.text(alloc)?;
+                Ok(Some((constant(alloc, SymKind::Distinct, text), rest)))
+            }
+            TokenKind::Lower => application(alloc, SymKind::Word, first, rest),
+            TokenKind::Single => application(alloc, SymKind::Word, first, rest),
+            TokenKind::Dollar => application(alloc, SymKind::Dollar, first, rest),
+            TokenKind::NotEqual => Ok(None),
+            TokenKind::Mark => Ok(None),
+        },
+        [] => Ok(None),
+    }
+}
+
+/// A head with the arguments that stand behind it, if any do.
+#[cycle(reading)]
+fn application<'t, 'b>(
+    alloc: Global,
+    kind: SymKind,
+    head: &Lexeme<'b>,
+    tokens: &'t [Lexeme<'b>],
+) -> Result<Found<'t, 'b, Term>, AllocError>
+    requires { length tokens.now ≤ MOST_BYTES }
+    ensures { IfOk result (Reads term_of (IsApplied kind (token_of head.now).text) NoBracket
+        tokens.now) }
+{
+    let text = head.text(alloc)?;
+    let Some(inside) = mark_at(tokens, b'(') else {
+        return Ok(Some((constant(alloc, kind, text), tokens)));
+    };
+    let Some((args, behind)) = arguments(alloc, inside)? else {
+        return Ok(None);
+    };
+    match mark_at(behind, b')') {
+        Some(rest) => {
+            let arity = args.len() as u32;
+            Ok(Some((Term::App(function(kind, text, arity), args), rest)))
+        }
+        None => Ok(None),
+    }
+}
+
+/// Terms with commas between them.
+#[cycle(reading)]
+fn arguments<'t, 'b>(
+    alloc: Global,
+    tokens: &'t [Lexeme<'b>],
+) -> Result<Found<'t, 'b, Terms>, AllocError>
+    requires { length tokens.now ≤ MOST_BYTES }
+    ensures { IfOk result (Reads (λ ts. ts) AreTerms NoTerm tokens.now) }
+{
+    let Some((first, behind)) = term(alloc, tokens)? else {
+        return Ok(None);
+    };
+    let mut args = Terms::new(alloc);
+    args.push(first)?;
+    let mut left = behind;
+    while let Some(rest) = mark_at(left, b',') {
+        let Some((next, behind)) = term(alloc, rest)? else {
+            return Ok(None);
+        };
+        args.push(next)?;
+        left = behind;
+    }
+    Ok(Some((args, left)))
+}
+
+/// A function without arguments.
+fn constant(alloc: Global, kind: SymKind, text: Text) -> Term
+    ensures { term_of result ≡ terms.app (function_symbol kind text 0) terms.none }
+{
+    Term::App(function(kind, text, 0), Terms::new(alloc))
+}
+
+/// The symbol of a function.
+fn function(kind: SymKind, text: Text, arity: u32) -> Sym
+    ensures { symbol_of result ≡ function_symbol kind text arity }
+{
+    Sym {
+        kind,
+        text,
+        side: Side::Function,
+        arity,
+    }
+}

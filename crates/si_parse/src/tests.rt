@@ -1,0 +1,232 @@
+// The readers at texts that were read by hand.
+use crate::item::{Read, next_item};
+use crate::pattern::{PatternKind, read_pattern};
+use crate::text::{read_file, read_formula, read_name};
+use si_defs::{MOST_BYTES, NameKind};
+use std::alloc::{AllocError, Global};
+use std::process::Abort;
+use std::test::Fail;
+
+/// What stands in a text (`c` a clause, `i` an include, `e` the end, `s` no item, `l` another language), and its place.
+fn seen(alloc: Global, text: &[u8]) -> Result<(u8, usize), AllocError> {
+    if text.len() > MOST_BYTES {
+        return Err(AllocError);
+    }
+    let seen = match next_item(alloc, text, 0)? {
+        Read::Cnf(_, end) => (b'c', end),
+        Read::Include(_, _, end) => (b'i', end),
+        Read::End => (b'e', 0),
+        Read::Syntax(place) => (b's', place),
+        Read::Language(place) => (b'l', place),
+    };
+    Ok(seen)
+}
+
+/// A text, and what is seen in it and where.
+type Row = (&'static [u8], u8, usize);
+
+const CLAUSES: [Row; 16] = [
+    (b"cnf(a,axiom,p).", b'c', 15),
+    (b"cnf(a,axiom,p).cnf(b,axiom,q).", b'c', 15),
+    (b"cnf('a b',axiom,p).", b'c', 19),
+    (b"cnf(1,axiom,p).", b'c', 15),
+    (b"cnf(+1,axiom,p).", b'c', 16),
+    (b"cnf(a,axiom,~(p)).", b'c', 18),
+    (b"cnf(a,axiom,((p|q))).", b'c', 21),
+    (b"cnf(a,axiom,p|~q|a=b|c!=d).", b'c', 27),
+    (b"cnf(a,axiom,p,[]).", b'c', 18),
+    (b"cnf(a,axiom,p,file('x.p',a)).", b'c', 29),
+    (b"cnf(a,axiom,p,{).", b'c', 17),
+    (b"cnf(a,axiom,p,!?&<>@*+-^;/:#{}~|=,.).", b'c', 37),
+    (b"cnf (a , axiom , p ) . x", b'c', 22),
+    (
+        b"cnf(c_0,plain,(f(X1)!=X1|~e_0),inference(s,[t(m)],[c_2,'c 3'])).",
+        b'c',
+        64,
+    ),
+    (b"include('a.p').", b'i', 15),
+    (b"include('a.p',[x,'1',1]).", b'i', 25),
+];
+
+const FAULTS: [Row; 18] = [
+    (b" % x\n cnf(a,axiom,p)", b's', 6),
+    (b"/*/", b's', 0),
+    (b"'cnf'(a,axiom,p).", b's', 0),
+    (b"cnf(01,axiom,p).", b's', 0),
+    (b"cnf(X,axiom,p).", b's', 0),
+    (b"cnf(a,'axiom',p).", b's', 0),
+    (b"cnf(a,Axiom,p).", b's', 0),
+    (b"cnf(a,axiom,~ ~p).", b's', 0),
+    (b"cnf(a,axiom,(p)|q).", b's', 0),
+    (b"cnf(a,axiom,p,).", b's', 0),
+    (b"cnf(a,axiom,p,([)]).", b's', 0),
+    (b"cnf(a,axiom,p,(]).", b's', 0),
+    (b"cnf(a,axiom,p,]).", b's', 0),
+    (b"include('a.p',[]).", b's', 0),
+    (b"include(a).", b's', 0),
+    (b"include('a.p',x).", b's', 0),
+    (b"'include'('a.p').", b's', 0),
+    (b"include('a.p',[X]).", b's', 0),
+];
+
+const OTHERS: [Row; 14] = [
+    (b"", b'e', 0),
+    (b" \t\n", b'e', 0),
+    (b"% rest", b'e', 0),
+    (b"/**/", b'e', 0),
+    (b"fof(a,axiom,p).", b'l', 0),
+    (b"  tff(", b'l', 2),
+    (b"thf (", b'l', 0),
+    (b"tcf/**/(", b'l', 0),
+    (b"tpi(", b'l', 0),
+    (b"fof", b's', 0),
+    (b"'fof'(", b's', 0),
+    (b"fofx(", b's', 0),
+    (b"fof[", b's', 0),
+    (b"\xef\xbb\xbfcnf(a,axiom,p).", b's', 0),
+];
+
+/// Each text shows what its row says.
+fn assert_rows(rt: &impl Abort, alloc: Global, rows: &[Row]) -> Result<(), AllocError> {
+    for row in rows {
+        let seen = seen(alloc, row.0)?;
+        assert_eq!(rt; seen.0, row.1);
+        assert_eq!(rt; seen.1, row.2);
+    }
+    Ok(())
+}
+
+#[test]
+fn items(rt: HostRuntime) -> Result<(), Fail> {
+    assert_rows(&rt, rt.alloc(), &CLAUSES)?;
+    assert_rows(&rt, rt.alloc(), &FAULTS)?;
+    assert_rows(&rt, rt.alloc(), &OTHERS)?;
+    Ok(())
+}
+
+/// How many literals a formula has, and none where the text is no formula.
+fn literals_in(alloc: Global, text: &[u8]) -> Result<usize, AllocError> {
+    if text.len() > MOST_BYTES {
+        return Err(AllocError);
+    }
+    match read_formula(alloc, text)? {
+        Some(literals) => Ok(literals.len()),
+        None => Ok(0),
+    }
+}
+
+const FORMULAS: [(&[u8], usize); 17] = [
+    (b"p", 1),
+    (b"'p'", 1),
+    (b"' p'", 1),
+    (b"$true", 1),
+    (b"$$a(X)", 1),
+    (b"p(a,1,\"d\")", 1),
+    (b"a=b", 1),
+    (b"a!=b", 1),
+    (b"~a=b", 1),
+    (b"~(a=b)", 1),
+    (b"X=Y", 1),
+    (b"1=2", 1),
+    (b"\"a\"!=X", 1),
+    (b"~(p)|q", 2),
+    (b"((p|q))", 2),
+    (b"p(q)=r(s)|t", 2),
+    (b" /**/p%", 1),
+];
+
+const NO_FORMULAS: [&[u8]; 20] = [
+    b"X",
+    b"1",
+    b"~a!=b",
+    b"~ ~p",
+    b"(p)|q",
+    b"p|",
+    b"|p",
+    b"p q",
+    b"p()",
+    b"p(X,)",
+    b"p(X",
+    b"(p",
+    b"(p))",
+    b"",
+    b"f(a)=b=c",
+    b"p(~q)",
+    b"1(a)",
+    b"X(a)",
+    b"~(p|q)",
+    b"=p",
+];
+
+#[test]
+fn formulas(rt: HostRuntime) -> Result<(), Fail> {
+    for row in &FORMULAS {
+        assert_eq!(rt; literals_in(rt.alloc(), row.0)?, row.1);
+    }
+    Ok(())
+}
+
+#[test]
+fn no_formulas(rt: HostRuntime) -> Result<(), Fail> {
+    for text in &NO_FORMULAS {
+        assert_eq!(rt; literals_in(rt.alloc(), text)?, 0);
+    }
+    Ok(())
+}
+
+const PATTERNS: [(&[u8], PatternKind, bool); 11] = [
+    (b"p(X)", PatternKind::Lit, true),
+    (b"p(X)", PatternKind::Term, true),
+    (b"X", PatternKind::Lit, false),
+    (b"X", PatternKind::Term, true),
+    (b" 1 ", PatternKind::Term, true),
+    (b"~p", PatternKind::Lit, true),
+    (b"~p", PatternKind::Term, false),
+    (b"a=b", PatternKind::Term, false),
+    (b"", PatternKind::Lit, false),
+    (b"p.", PatternKind::Lit, false),
+    (b"p /*", PatternKind::Term, false),
+];
+
+#[test]
+fn patterns(rt: HostRuntime) -> Result<(), Fail> {
+    for row in &PATTERNS {
+        let pattern = read_pattern(rt.alloc(), row.0, row.1)?;
+        assert_eq!(rt; pattern.is_some(), row.2);
+    }
+    Ok(())
+}
+
+const NAMES: [(&[u8], NameKind); 5] = [
+    (b"a", NameKind::Word),
+    (b"'a'", NameKind::Word),
+    (b"'1'", NameKind::Word),
+    (b" 1 ", NameKind::Int),
+    (b"+1", NameKind::Int),
+];
+
+#[test]
+fn names(rt: HostRuntime) -> Result<(), Fail> {
+    for row in &NAMES {
+        let name = read_name(rt.alloc(), row.0)?.expect(&rt, "a name");
+        assert_eq!(rt; name.kind, row.1);
+    }
+    Ok(())
+}
+
+const FILES: [(&[u8], bool); 5] = [
+    (b" 'a.p'", true),
+    (b"a.p", false),
+    (b"\"a.p\"", false),
+    (b"01", false),
+    (b"X", false),
+];
+
+#[test]
+fn files(rt: HostRuntime) -> Result<(), Fail> {
+    for row in &FILES {
+        let file = read_file(rt.alloc(), row.0)?;
+        assert_eq!(rt; file.is_some(), row.1);
+    }
+    Ok(())
+}

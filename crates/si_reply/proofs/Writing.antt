@@ -1,0 +1,56 @@
+-- A text that is written piece by piece.
+use Rattle.std.proofs.Common.{◌≡◌, ℕ, List, [], ◌++◌, Option, Result, Ok, Err, OnOk, OnErr, refl, sym, ap, subst, ◌∙◌, append_assoc, append-nil}
+use Rattle.si_io.specs.Content.{Told, Appends, AppendsPrefix}
+use Rattle.si_io.specs.Puts.{Puts}
+use Rattle.si_io.proofs.Content.{append_told-nil, Appends_then, AppendsPrefix_then, AppendsPrefix_more}
+
+-- Some of the whole is written, and the rest is left.
+pub record Wrote (old now : Told) (whole rest : List ℕ) : Type 0 where
+  pub done : List ℕ
+  pub given : Appends old done now
+  pub split : whole ≡ done ++ rest
+
+pub wrote_none : (a : Told) (whole : List ℕ) → Wrote a a whole whole
+wrote_none a whole = record { done = []; given = sym (append_told-nil a); split = refl }
+
+-- one piece more
+pub wrote_piece : (a b c : Told) (whole rest piece left : List ℕ) → rest ≡ piece ++ left → Wrote a b whole rest → Appends b piece c → Wrote a c whole left
+wrote_piece a b c whole rest piece left parts w more = record {
+  done = w.done ++ piece;
+  given = Appends_then a b c w.done piece w.given more;
+  split = w.split ∙ ap (λ l. w.done ++ l) parts ∙ sym (append_assoc w.done piece left);
+}
+
+-- a part of a piece, at which the sink failed
+pub wrote_part : (a b c : Told) (whole rest piece left : List ℕ) → rest ≡ piece ++ left → Wrote a b whole rest → AppendsPrefix b piece c → AppendsPrefix a whole c
+wrote_part a b c whole rest piece left parts w part =
+    let joined : whole ≡ (w.done ++ piece) ++ left = w.split ∙ ap (λ l. w.done ++ l) parts ∙ sym (append_assoc w.done piece left) in
+    let P : List ℕ → Type 0 = λ l. AppendsPrefix a l c in
+    subst P (sym joined) (AppendsPrefix_more a c (w.done ++ piece) left (AppendsPrefix_then a b c w.done piece w.given part))
+
+-- all of it
+pub wrote_all : (a b : Told) (whole rest : List ℕ) → rest ≡ [] → Wrote a b whole rest → Appends a whole b
+wrote_all a b whole rest none w =
+    let all : whole ≡ w.done = w.split ∙ ap (λ l. w.done ++ l) none ∙ append-nil w.done in
+    let P : List ℕ → Type 0 = λ l. Appends a l b in
+    subst P (sym all) w.given
+
+-- what follows from what a call ensures at each of its results
+pub err_so : {T E : Type 0} (r : Result T E) {P Q : Type 0} → (P → Q) → OnErr r P → OnErr r Q
+err_so (Ok x) f p = tt
+err_so (Err e) f p = f p
+
+pub ok_so : {T E : Type 0} (r : Result T E) {P Q : Type 0} → (P → Q) → OnOk r P → OnOk r Q
+ok_so (Ok x) f p = f p
+ok_so (Err e) f p = tt
+
+-- a text of which this is written, and then what a last call writes of the rest
+pub puts_rest : {T E : Type 0} (r : Result T E) (a b c : Told) (whole rest : List ℕ) → Wrote a b whole rest → Puts r rest b c → Puts r whole a c
+puts_rest r a b c whole rest w p = record {
+  all = ok_so r (λ h. wrote_all a c whole [] refl (wrote_piece a b c whole rest rest [] (sym (append-nil rest)) w h)) p.all;
+  part = err_so r (wrote_part a b c whole rest rest [] (sym (append-nil rest)) w) p.part;
+}
+
+-- what is left has another form
+pub wrote_as : (a b : Told) (whole rest left : List ℕ) → rest ≡ left → Wrote a b whole rest → Wrote a b whole left
+wrote_as a b whole rest left e w = record { done = w.done; given = w.given; split = w.split ∙ ap (λ l. w.done ++ l) e }

@@ -1,0 +1,7 @@
+//! Printed texts, written to a sink piece by piece: bytes, numbers, names, symbols, terms and
+//! places. No call takes memory.
+#![tactic(auto)]
+
+mod printing;
+
+pub use printing::{put_bytes, put_name, put_number, put_place, put_quoted, put_symbol, put_term};

@@ -1,0 +1,237 @@
+// Names, symbols, terms and places, written to a sink.
+ghost use Rattle.std.specs.Prelude.{◌≡◌, ◌<◌, ◌||◌, ◌==◌, List, [], ◌∷◌, ◌++◌, IfSome, decimal, flat_map, length, map};
+ghost use Rattle.std.specs.List.{list_all, position};
+ghost use Rattle.si_defs.specs.Bytes.{is_lower_word, is_word_byte};
+ghost use Rattle.si_defs.specs.Tokens.{escaped, quoted};
+ghost use Rattle.si_defs.specs.Terms.{row};
+ghost use Rattle.si_defs.specs.Printing.{word_text, name_text, symbol_text, term_text, more_texts, path_text, place_text};
+ghost use Rattle.si_io.specs.Puts.{Puts};
+ghost use Rattle.si_io.specs.Faults.{HasCause};
+ghost use Rattle.si_term.specs.Terms.{symbol_of, term_of};
+ghost use Rattle.si_term.specs.Meaning.{name_of};
+ghost use Rattle.si_reply.specs.PrintedParts.{arguments_text, dotted};
+
+use itoa::Buffer;
+use si_io::{Failed, Sink, write_all};
+use si_term::{Name, NameKind, Sym, SymKind, Term};
+
+/// Writes the bytes.
+pub fn put_bytes<K: Sink>(sink: &mut K, bytes: &[u8]) -> Result<(), Failed>
+    ensures text { Puts result bytes.now (K.written sink.old) (K.written sink.new) }
+    ensures cause { HasCause (K.faults sink.old) (K.faults sink.new) result }
+{
+    write_all(sink, bytes)
+}
+
+/// Writes a word, and then a number.
+#[tactic(auto, using(si_io::proofs::Content::writes))]
+pub fn put_number<K: Sink>(sink: &mut K, word: &[u8], number: u64) -> Result<(), Failed>
+    ensures text { Puts result (word.now ++ decimal number) (K.written sink.old)
+        (K.written sink.new) }
+    ensures cause { HasCause (K.faults sink.old) (K.faults sink.new) result }
+{
+    put_bytes(sink, word)?;
+    let mut buffer = Buffer::new();
+    put_bytes(sink, buffer.format(number).as_bytes())
+}
+
+/// Writes a text between quotes, with a backslash before each quote and each backslash.
+#[tactic(auto, using(si_io::proofs::Content::writes))]
+pub fn put_quoted<K: Sink>(sink: &mut K, quote: u8, text: &[u8]) -> Result<(), Failed>
+    ensures text { Puts result (quoted quote text.now) (K.written sink.old) (K.written sink.new) }
+    ensures cause { HasCause (K.faults sink.old) (K.faults sink.new) result }
+{
+    put_bytes(sink, &[quote])?;
+    put_escaped(sink, quote, text)?;
+    put_bytes(sink, &[quote])
+}
+
+/// Writes a name.
+pub fn put_name<K: Sink>(sink: &mut K, name: &Name) -> Result<(), Failed>
+    ensures text { Puts result (name_text (name_of name.now)) (K.written sink.old)
+        (K.written sink.new) }
+    ensures cause { HasCause (K.faults sink.old) (K.faults sink.new) result }
+{
+    match name.kind {
+        NameKind::Word => put_word(sink, name.text.as_bytes()),
+        NameKind::Int => put_bytes(sink, name.text.as_bytes()),
+    }
+}
+
+/// Writes a symbol.
+pub fn put_symbol<K: Sink>(sink: &mut K, sym: &Sym) -> Result<(), Failed>
+    ensures text { Puts result (symbol_text (symbol_of sym.now)) (K.written sink.old)
+        (K.written sink.new) }
+    ensures cause { HasCause (K.faults sink.old) (K.faults sink.new) result }
+{
+    let text = sym.text.as_bytes();
+    match sym.kind {
+        SymKind::Word => put_word(sink, text),
+        SymKind::Distinct => put_quoted(sink, b'"', text),
+        SymKind::Dollar => put_bytes(sink, text),
+        SymKind::Number => put_bytes(sink, text),
+        SymKind::Equal => put_bytes(sink, text),
+    }
+}
+
+/// Writes a term, with `mark` before each variable.
+#[tactic(auto, using(si_io::proofs::Content::writes))]
+#[cycle(put)]
+pub fn put_term<K: Sink>(sink: &mut K, term: &Term, mark: &[u8]) -> Result<(), Failed>
+    ensures text { Puts result (term_text (λ x. mark.now ++ x) (term_of term.now))
+        (K.written sink.old) (K.written sink.new) }
+    ensures cause { HasCause (K.faults sink.old) (K.faults sink.new) result }
+{
+    match term {
+        Term::Var(name) => {
+            put_bytes(sink, mark)?;
+            put_bytes(sink, name.as_bytes())
+        }
+        Term::App(symbol, arguments) => {
+            put_symbol(sink, symbol)?;
+            put_arguments(sink, arguments.as_slice(), mark)
+        }
+    }
+}
+
+/// Writes where an entry stands: its clause, its literal's number and its path.
+#[tactic(auto, using(si_io::proofs::Content::writes))]
+pub fn put_place<K: Sink>(
+    sink: &mut K,
+    name: &Name,
+    literal: u32,
+    path: &[u32],
+) -> Result<(), Failed>
+    ensures text { Puts result (place_text (name_of name.now)
+        (record { literal = literal; path = path.now })) (K.written sink.old) (K.written sink.new) }
+    ensures cause { HasCause (K.faults sink.old) (K.faults sink.new) result }
+{
+    put_name(sink, name)?;
+    put_number(sink, b":", u64::from(literal))?;
+    put_path(sink, path)
+}
+
+/// Whether a word needs no quotes.
+fn is_lower_word(bytes: &[u8]) -> bool
+    ensures { result ≡ is_lower_word bytes.now }
+{
+    match bytes.split_first() {
+        Some((first, rest)) => first.is_ascii_lowercase() && are_word_bytes(rest),
+        None => false,
+    }
+}
+
+fn are_word_bytes(bytes: &[u8]) -> bool
+    ensures { result ≡ list_all is_word_byte bytes.now }
+{
+    for byte in bytes {
+        if !byte.is_ascii_alphanumeric() && *byte != b'_' {
+            return false;
+        }
+    }
+    true
+}
+
+/// Writes a word, in quotes where it needs them.
+fn put_word<K: Sink>(sink: &mut K, text: &[u8]) -> Result<(), Failed>
+    ensures text { Puts result (word_text text.now) (K.written sink.old) (K.written sink.new) }
+    ensures cause { HasCause (K.faults sink.old) (K.faults sink.new) result }
+{
+    if is_lower_word(text) {
+        put_bytes(sink, text)
+    } else {
+        put_quoted(sink, b'\'', text)
+    }
+}
+
+/// Writes the bytes of a quoted text, each run without a quote or a backslash in one piece.
+fn put_escaped<K: Sink>(sink: &mut K, quote: u8, text: &[u8]) -> Result<(), Failed>
+    ensures text { Puts result (flat_map (escaped quote) text.now) (K.written sink.old)
+        (K.written sink.new) }
+    ensures cause { HasCause (K.faults sink.old) (K.faults sink.new) result }
+{
+    let mut rest = text;
+    while let Some(run) = run_before_escape(rest, quote) {
+        put_run(sink, &rest[..run], rest[run])?;
+        rest = &rest[run + 1..];
+    }
+    put_bytes(sink, rest)
+}
+
+/// Writes a run, and then a byte with a backslash before it.
+#[tactic(auto, using(si_io::proofs::Content::writes))]
+fn put_run<K: Sink>(sink: &mut K, run: &[u8], byte: u8) -> Result<(), Failed>
+    ensures text { Puts result (run.now ++ 92 ∷ byte ∷ []) (K.written sink.old)
+        (K.written sink.new) }
+    ensures cause { HasCause (K.faults sink.old) (K.faults sink.new) result }
+{
+    put_bytes(sink, run)?;
+    put_bytes(sink, &[b'\\', byte])
+}
+
+/// How many bytes stand before the first that needs a backslash, if one does.
+fn run_before_escape(text: &[u8], quote: u8) -> Option<usize>
+    ensures first { result ≡ position (λ c. c == quote || c == 92) text.now }
+    ensures within { IfSome result (λ n. n < length text.now) }
+{
+    text.iter()
+        .position(|byte| *byte == quote || *byte == b'\\')
+}
+
+/// Writes the arguments of a symbol, in parentheses where there are any.
+#[tactic(auto, using(si_io::proofs::Content::writes))]
+#[cycle(put)]
+fn put_arguments<K: Sink>(sink: &mut K, terms: &[Term], mark: &[u8]) -> Result<(), Failed>
+    ensures text { Puts result (arguments_text (λ x. mark.now ++ x) (row (map term_of terms.now)))
+        (K.written sink.old) (K.written sink.new) }
+    ensures cause { HasCause (K.faults sink.old) (K.faults sink.new) result }
+{
+    if terms.is_empty() {
+        return Ok(());
+    }
+    put_bytes(sink, b"(")?;
+    put_term(sink, &terms[0], mark)?;
+    put_others(sink, &terms[1..], mark)?;
+    put_bytes(sink, b")")
+}
+
+/// Writes terms, each behind a comma.
+#[cycle(put)]
+fn put_others<K: Sink>(sink: &mut K, terms: &[Term], mark: &[u8]) -> Result<(), Failed>
+    ensures text { Puts result (more_texts (λ x. mark.now ++ x) (row (map term_of terms.now)))
+        (K.written sink.old) (K.written sink.new) }
+    ensures cause { HasCause (K.faults sink.old) (K.faults sink.new) result }
+{
+    for i in 0..terms.len() {
+        put_bytes(sink, b",")?;
+        put_term(sink, &terms[i], mark)?;
+    }
+    Ok(())
+}
+
+/// Writes a path behind a colon, where there is one.
+#[tactic(auto, using(si_io::proofs::Content::writes))]
+fn put_path<K: Sink>(sink: &mut K, path: &[u32]) -> Result<(), Failed>
+    ensures text { Puts result (path_text path.now) (K.written sink.old) (K.written sink.new) }
+    ensures cause { HasCause (K.faults sink.old) (K.faults sink.new) result }
+{
+    if path.is_empty() {
+        return Ok(());
+    }
+    put_number(sink, b":", u64::from(path[0]))?;
+    put_dotted(sink, &path[1..])
+}
+
+/// Writes numbers, each behind a dot.
+fn put_dotted<K: Sink>(sink: &mut K, numbers: &[u32]) -> Result<(), Failed>
+    ensures text { Puts result (dotted numbers.now) (K.written sink.old) (K.written sink.new) }
+    ensures cause { HasCause (K.faults sink.old) (K.faults sink.new) result }
+{
+    for i in 0..numbers.len() {
+        put_number(sink, b".", u64::from(numbers[i]))?;
+    }
+    Ok(())
+}
+
+#[cfg(test)]
+mod tests;

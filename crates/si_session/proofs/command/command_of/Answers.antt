@@ -1,0 +1,32 @@
+use Rattle.std.proofs.Common.{◌≡◌, List, ◌∷◌, ap, sym, ◌∙◌, subst}
+use Rattle.std.specs.Prelude.{IfOk}
+use Rattle.si_defs.specs.Tokens.{Token, lower}
+use Rattle.si_steps.specs.Words.{word_text}
+use Rattle.si_steps.specs.declared.word.Word.TheVariants.{Ask}
+use Rattle.si_lex.specs.Lexemes.{token_of, tokens_of}
+use Rattle.si_lex.specs.declared.lexeme.Lexeme.{Lexeme}
+use Rattle.si_session.specs.Commands.{Commands}
+use Rattle.si_session.specs.declared.command.Command.TheVariants as command
+use Rattle.si_session.proofs.CommandLaws.{no_word}
+use Rattle.si_session.proofs.command.command_of.Goals as goal
+
+front : (tokens : List Lexeme) (t : Lexeme) (rest : List Lexeme) (w : Token) → tokens ≡ t ∷ rest → token_of t ≡ w → w ∷ tokens_of rest ≡ tokens_of tokens
+front tokens t rest w e h = sym (ap tokens_of e ∙ ap (λ x. x ∷ tokens_of rest) h)
+
+pub returns-in-Some-Add-clause-read : goal.returns-in-Some-Add-clause-read
+returns-in-Some-Add-clause-read c =
+    subst (λ ts. IfOk c.add_command.result (Commands ts c.args.stop))
+    (front c.args.tokens.now c.in-Some.first.now c.in-Some.rest.now _ c.in-Some.ensures.cases.0
+    (c.in-Some-Add.ensures.found ∙ ap (λ w. lower (word_text w)) c.in-Some-Add.field-0-is)) c.add_command.ensures
+
+pub returns-in-Some-Ask-Instances-clause-read : goal.returns-in-Some-Ask-Instances-clause-read
+returns-in-Some-Ask-Instances-clause-read c =
+    subst (λ ts. IfOk c.query_command.result (Commands ts c.args.stop))
+    (front c.args.tokens.now c.in-Some.first.now c.in-Some.rest.now _ c.in-Some.ensures.cases.0
+    (c.in-Some-Ask-Instances.ensures.found
+    ∙ ap (λ w. lower (word_text w)) (c.in-Some-Ask-Instances.field-0-is ∙ ap Ask c.in-Some-Ask-Instances.field-0-0-is))) c.query_command.ensures
+
+pub returns-in-None-clause-read : goal.returns-in-None-clause-read
+returns-in-None-clause-read c =
+    subst (λ ts. Commands ts c.args.stop command.Wrong) (sym (ap tokens_of c.in-Some.ensures.cases.0))
+    (no_word (token_of c.in-Some.first.now) (tokens_of c.in-Some.rest.now) c.args.stop c.in-None.ensures.none)

@@ -1,0 +1,49 @@
+use Rattle.std.proofs.Common.{◌≡◌, [], ◌∷◌, ◌++◌, ap, sym, ◌∙◌, subst, refl}
+use Rattle.std.specs.Prelude.{codes}
+use Rattle.si_defs.specs.Bytes.{Bytes}
+use Rattle.si_defs.specs.Printing.{name_text}
+use Rattle.si_io.specs.Puts.{Puts}
+use Rattle.si_term.specs.Meaning.{name_of}
+use Rattle.si_session.specs.Replies.{ended_line}
+use Rattle.si_session.specs.Signs.{sign_text}
+use Rattle.si_session.specs.declared.sign.Sign.TheVariants.{LineFeed}
+use Rattle.si_session.proofs.ReplyTexts.{ok_text, end_text}
+use Rattle.si_session.proofs.reply.put_reply.Goals as goal
+
+pub returns-in-Ok-clause-text : goal.returns-in-Ok-clause-text
+returns-in-Ok-clause-text g c =
+    subst (λ t. Puts c.put_counts.result t (g.K.Sink.written c.args.sink.now) (g.K.Sink.written c.put_counts.new.sink))
+    (ok_text c.args.reply c.in-Ok.clauses c.in-Ok.entries c.in-Ok.is) c.put_counts.ensures.text
+
+pub returns-in-End-clause-text : goal.returns-in-End-clause-text
+returns-in-End-clause-text g c =
+    subst (λ t. Puts c.put_count.result t (g.K.Sink.written c.args.sink.now) (g.K.Sink.written c.put_count.new.sink))
+    (end_text c.args.reply c.in-End.lines c.in-End.is) c.put_count.ensures.text
+
+pub returns-in-Taken-clause-text : goal.returns-in-Taken-clause-text
+unfolding ended_line sign_text
+returns-in-Taken-clause-text g c =
+    subst (λ t. Puts c.put_named.result t (g.K.Sink.written c.args.sink.now) (g.K.Sink.written c.put_named.new.sink)) (ap ended_line (sym c.in-Taken.is)) c.put_named.ensures.text
+
+pub returns-in-Later-clause-text : goal.returns-in-Later-clause-text
+unfolding ended_line
+returns-in-Later-clause-text g c =
+    subst (λ t. Puts c.put_bytes.result t (g.K.Sink.written c.args.sink.now) (g.K.Sink.written c.put_bytes.new.sink)) (ap ended_line (sym c.in-Later.is)) c.put_bytes.ensures.text
+
+pub returns-in-Language-clause-text : goal.returns-in-Language-clause-text
+unfolding ended_line
+returns-in-Language-clause-text g c =
+    subst (λ t. Puts c.put_bytes-in-Language.result t (g.K.Sink.written c.args.sink.now) (g.K.Sink.written c.put_bytes-in-Language.new.sink)) (ap ended_line (sym c.in-Language.is))
+    c.put_bytes-in-Language.ensures.text
+
+pub returns-in-Syntax-clause-text : goal.returns-in-Syntax-clause-text
+unfolding ended_line
+returns-in-Syntax-clause-text g c =
+    subst (λ t. Puts c.put_bytes-in-Syntax.result t (g.K.Sink.written c.args.sink.now) (g.K.Sink.written c.put_bytes-in-Syntax.new.sink)) (ap ended_line (sym c.in-Syntax.is))
+    c.put_bytes-in-Syntax.ensures.text
+
+pub returns-in-Memory-clause-text : goal.returns-in-Memory-clause-text
+unfolding ended_line
+returns-in-Memory-clause-text g c =
+    subst (λ t. Puts c.put_bytes-in-Memory.result t (g.K.Sink.written c.args.sink.now) (g.K.Sink.written c.put_bytes-in-Memory.new.sink)) (ap ended_line (sym c.in-Memory.is))
+    c.put_bytes-in-Memory.ensures.text

@@ -1,0 +1,65 @@
+-- Which lines are commands, and what they ask for (this project's profile).
+use Rattle.std.specs.Prelude.{◌≡◌, ◌<◌, ◌≤◌, ◌⊎◌, List, ◌∷◌, [], length, IsTrue, IsFalse, codes}
+use Rattle.si_defs.specs.Bytes.{Bytes}
+use Rattle.si_defs.specs.Clauses.{Clause, Pattern, literal_pattern, term_pattern}
+use Rattle.si_defs.specs.Substitutions.{IsAmong}
+use Rattle.si_defs.specs.declared.Relation.{Relation}
+use Rattle.si_defs.specs.Tokens.{Token, lower, AreBlanks, Begins, NextToken}
+use Rattle.si_defs.specs.Grammar.{IsClause, IsLiteral, IsTerm, left_bracket}
+use Rattle.si_defs.specs.Texts.{IsText, languages}
+use Rattle.si_steps.specs.declared.limits.Limits.{Limits}
+use Rattle.si_steps.specs.declared.word.Word.{Word}
+use Rattle.si_steps.specs.declared.word.Word.TheVariants.{Add, Ask}
+use Rattle.si_steps.specs.Words.{word_text, is_built}
+
+-- ---- commands
+pub data Command : Type 0 where
+  add : Clause → Command
+  query : Relation → Pattern → Command
+
+-- the word that it begins with
+abbrev pub command_word : Command → Word
+command_word (add c) = Add
+command_word (query relation pattern) = Ask relation
+
+abbrev pub IsQuery : Pattern → List Token → Type 0
+IsQuery (literal_pattern l) ts = (us : List Token) × IsLiteral l us × (ts ≡ lower (codes "lit") ∷ us)
+IsQuery (term_pattern t) ts = (us : List Token) × IsTerm t us × (ts ≡ lower (codes "term") ∷ us)
+
+-- what stands behind the word
+abbrev pub AreOperands : Command → List Token → Type 0
+AreOperands (add c) ts = IsClause c ts
+AreOperands (query relation pattern) ts = IsQuery pattern ts
+
+-- the word of a command that is built, and its operands
+pub record IsCommand (command : Command) (ts : List Token) : Type 0 where
+  pub built : IsTrue (is_built (command_word command))
+  pub operands : List Token
+  pub spelled : AreOperands command operands
+  pub whole : ts ≡ lower (word_text (command_word command)) ∷ operands
+
+-- the line, blanks aside, is this command
+abbrev pub Means : Command → Bytes → Type 0
+Means command line = IsText (IsCommand command) line
+
+-- ---- lines that are no command
+-- the line begins with the word of a command that is not built yet
+pub record IsUnbuilt (line : Bytes) : Type 0 where
+  pub word : Word
+  pub unbuilt : IsFalse (is_built word)
+  pub rest : Bytes
+  pub first : NextToken line (lower (word_text word)) rest
+
+-- too long, or not built yet
+abbrev pub IsLater : Limits → Bytes → Type 0
+IsLater limits line = (limits.line < length line) ⊎ IsUnbuilt line
+
+-- blanks alone
+abbrev pub IsSilent : Limits → Bytes → Type 0
+IsSilent limits line = (length line ≤ limits.line) × AreBlanks line
+
+-- `add` and a formula of another language
+abbrev pub AddsForeign : Bytes → Type 0
+AddsForeign line =
+    (language : Bytes) × (rest : Bytes) × IsAmong languages language
+    × Begins line (lower (word_text Add) ∷ lower language ∷ left_bracket ∷ []) rest

@@ -1,0 +1,6 @@
+pub mod Limits
+pub mod Words
+pub mod Commands
+pub mod Replies
+pub mod Steps
+pub mod Runs

@@ -1,0 +1,31 @@
+-- The words that commands begin with, and their texts (this project's profile). No two have the same text.
+use Rattle.std.specs.Prelude.{Bool, true, false, codes}
+use Rattle.si_defs.specs.Bytes.{Bytes}
+use Rattle.si_defs.specs.declared.Relation.{Relation}
+use Rattle.si_defs.specs.declared.Relation.TheVariants.{Variants, Instances, Generalizations, Unifiable}
+use Rattle.si_steps.specs.declared.word.Word.{Word}
+use Rattle.si_steps.specs.declared.word.Word.TheVariants.{Add, Load, Remove, Ask, Subsumers, Subsumed, Stats, Tree, Explain, Sample}
+
+abbrev pub relation_text : Relation → Bytes
+relation_text Variants = codes "variants"
+relation_text Instances = codes "instances"
+relation_text Generalizations = codes "generalizations"
+relation_text Unifiable = codes "unifiable"
+
+abbrev pub word_text : Word → Bytes
+word_text Add = codes "add"
+word_text Load = codes "load"
+word_text Remove = codes "remove"
+word_text (Ask relation) = relation_text relation
+word_text Subsumers = codes "subsumers"
+word_text Subsumed = codes "subsumed"
+word_text Stats = codes "stats"
+word_text Tree = codes "tree"
+word_text Explain = codes "explain"
+word_text Sample = codes "sample"
+
+-- the words of the commands built so far
+abbrev pub is_built : Word → Bool
+is_built Add = true
+is_built (Ask Instances) = true
+is_built word = false

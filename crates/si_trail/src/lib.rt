@@ -1,0 +1,101 @@
+//! A trail of bindings, which can be undone.
+//!
+//! A [`Trail`] has a number of slots. Contracts see it as the list of pairs of a slot and its value in the order in which
+//! they were bound; no slot stands twice. All its memory is taken when it is made.
+#![tactic(auto)]
+
+ghost use Rattle.std.specs.Prelude.{◌≡◌, ◌<◌, ◌≤◌, [], ◌∷◌, ◌++◌, IfOk, None, length, take, drop, option_copied};
+ghost use Rattle.si_trail.specs.Trails.{value_at, AreUnbound, HasDistinctSlots, HasSlotsBelow};
+
+use std::alloc::{AllocError, Global};
+use std::marker::Model;
+
+#[cfg(test)]
+mod tests;
+
+/// Bindings of slots to values, in the order in which they were made.
+#[derive(Drop)]
+pub struct Trail<T> {
+    // What each slot is bound to.
+    values: Vec<Option<T>>,
+    // The bindings, in order.
+    bound: Vec<(usize, T)>,
+}
+
+impl<T> Model for Trail<T> {
+    ghost use Rattle.std.specs.Prelude.{◌≤◌, length, vec_capacity};
+    ghost use Rattle.si_trail.specs.Trails.{Trail as Seen, trail_code, IsTableOf};
+
+    ghost Value = { Seen T };
+
+    ghost coded = { trail_code T.code };
+
+    ghost view = { λ t. record { slots = length t.values.items; pairs = t.bound.items } };
+
+    ghost invariant = { λ t. IsTableOf t.values.items t.bound.items × (length t.values.items ≤ vec_capacity t.bound) };
+}
+
+impl<T: Copy> Trail<T> {
+    /// A trail with so many slots, none of which is bound. It takes all the memory that the trail ever needs.
+    pub fn with_slots(alloc: Global, n: usize) -> Result<Trail<T>, AllocError>
+        ensures { IfOk result (λ t. t ≡ record { slots = n; pairs = [] }) }
+    {
+        let mut values = Vec::with_capacity(alloc, n)?;
+        values.resize(n, None)?;
+        Ok(Trail {
+            values,
+            bound: Vec::with_capacity(alloc, n)?,
+        })
+    }
+
+    /// The number of slots.
+    pub fn slots(&self) -> usize
+        ensures number { result ≡ self.now.slots }
+        ensures distinct { HasDistinctSlots self.now.pairs }
+        ensures below { HasSlotsBelow self.now.slots self.now.pairs }
+    {
+        self.values.len()
+    }
+
+    /// The number of bindings. It is what [`Trail::undo`] takes to come back here.
+    pub fn mark(&self) -> usize
+        ensures { result ≡ length self.now.pairs }
+    {
+        self.bound.len()
+    }
+
+    /// The value that the slot is bound to.
+    pub fn get(&self, slot: usize) -> Option<&T>
+        ensures { option_copied result ≡ value_at self.now.pairs slot }
+    {
+        match self.values.get(slot) {
+            Some(value) => value.as_ref(),
+            None => None,
+        }
+    }
+
+    /// Binds a slot.
+    pub fn bind(&mut self, slot: usize, value: T)
+        requires in_range { slot < self.old.slots }
+        requires unbound { value_at self.old.pairs slot ≡ None }
+        ensures pairs { self.new.pairs ≡ self.old.pairs ++ (slot, value) ∷ [] }
+        ensures slots { self.new.slots ≡ self.old.slots }
+    {
+        self.values[slot] = Some(value);
+        self.bound.push((slot, value)).unwrap();
+    }
+
+    /// Undoes all bindings but the first so many.
+    pub fn undo(&mut self, mark: usize)
+        requires { mark ≤ length self.old.pairs }
+        ensures pairs { self.new.pairs ≡ take mark self.old.pairs }
+        ensures slots { self.new.slots ≡ self.old.slots }
+        ensures unbound { AreUnbound self.new.pairs (drop mark self.old.pairs) }
+    {
+        while self.bound.len() > mark {
+            if let Some((slot, _)) = self.bound.pop() {
+                self.values[slot] = None;
+            }
+        }
+    }
+}

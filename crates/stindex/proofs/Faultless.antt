@@ -1,0 +1,39 @@
+-- A run over a source and a sink that can't fail ends in no fault.
+use Rattle.std.proofs.Common.{◌≡◌, ◌≤◌, Bool, List, [], ◌∷◌, ◌++◌, Option, inl, inr, length, refl, sym, ap, ◌∙◌, append_assoc, arith}
+use Rattle.std.specs.Prelude.{IsTrue, IsFalse}
+use Rattle.si_defs.specs.Bytes.{Bytes}
+use Rattle.si_steps.specs.declared.limits.Limits.{Limits}
+use Rattle.si_steps.specs.Runs.{lines_at_end}
+use Rattle.si_io.specs.Content.{Told}
+use Rattle.stindex.specs.declared.status.Status.{Status}
+use Rattle.stindex.specs.declared.status.Status.TheVariants.{Ended, Refused, Usage, SourceFault, SinkFault, Memory, SessionLimit}
+use Rattle.stindex.specs.Serve.{Serves, IsFaultless, HasRoom}
+
+-- the first of the whole lines are the first of the lines at the end of the input
+front_at_end : (lines : List Bytes) (rest : Bytes) (done others : List Bytes) → done ++ others ≡ lines
+    → (more : List Bytes) × (done ++ more ≡ lines_at_end lines rest)
+front_at_end lines [] done others front = (others, front)
+front_at_end lines (c ∷ cs) done others front =
+    (others ++ (c ∷ cs) ∷ [], sym (append_assoc done others ((c ∷ cs) ∷ [])) ∙ ap (λ (ls : List Bytes). ls ++ (c ∷ cs) ∷ []) front)
+
+no_sink_fault : (limits : Limits) (left now : Option Bytes) (before after : Told) → Serves limits SinkFault left now before after → HasRoom limits left before.room → ⊥
+no_sink_fault limits left now before after s room = elim s.ends [
+  | inl part ↦
+      let more = front_at_end s.lines s.rest part.done part.others part.front in
+      let fits : length part.output ≤ before.room = room s.taken now s.lines s.rest part.done more.0 part.output s.takes s.splits more.1 part.right in
+      omega (arith, fits, part.written.past_room)
+  | inr end ↦
+      let part = end.1 in
+      let fits : length part.output ≤ before.room = room s.taken now s.lines s.rest part.done part.others part.output s.takes s.splits part.front part.right in
+      omega (arith, fits, part.written.past_room)
+]
+
+pub faultless_by : (status : Status) (limits : Limits) (left now : Option Bytes) (before after : Told) (may_fail : Bool)
+    → Serves limits status left now before after → (status ≡ SourceFault → IsTrue may_fail) → IsFalse may_fail → HasRoom limits left before.room → IsFaultless status
+faultless_by Ended limits left now before after may_fail s sure never room = tt
+faultless_by Refused limits left now before after may_fail s sure never room = absurd s.ends
+faultless_by Usage limits left now before after may_fail s sure never room = absurd s.ends
+faultless_by SourceFault limits left now before after may_fail s sure never room = let fails : IsTrue may_fail = sure refl in cc
+faultless_by SinkFault limits left now before after may_fail s sure never room = absurd (no_sink_fault limits left now before after s room)
+faultless_by Memory limits left now before after may_fail s sure never room = tt
+faultless_by SessionLimit limits left now before after may_fail s sure never room = tt

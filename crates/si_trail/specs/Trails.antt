@@ -1,5 +1,5 @@
 -- What a trail is seen as: a number of slots, and pairs of a slot and its value in the order in which they were bound.
-use Rattle.std.specs.Prelude.{◌≡◌, ℕ, ◌+◌, ◌<◌, ◌==◌, if◌then◌else◌, List, [], ◌∷◌, length, refl, Option, None, Some, sum_by, slice_index_or}
+use Rattle.std.specs.Prelude.{◌≡◌, ℕ, ◌+◌, ◌<◌, ◌==◌, if◌then◌else◌, List, [], ◌∷◌, length, refl, Option, None, Some, sum_by, slice_index_or, slice_get}
 use Rattle.std.specs.List.{AllByRecursion}
 use Rattle.std.specs.Coded.{Coded, code_by, coded×, coded_ℕ, coded_list}
 
@@ -34,6 +34,10 @@ module _ {T : Type 0} where
   -- the slots of these pairs have no value in those
   abbrev pub AreUnbound : List (ℕ × T) → List (ℕ × T) → Type 0
   AreUnbound those = AllByRecursion (λ pair. value_at those pair.0 ≡ None)
+
+  -- the pair with this number has the slot
+  abbrev pub IsSlotOf : List (ℕ × T) → ℕ → ℕ → Type 0
+  IsSlotOf pairs n slot = (value : T) × (slice_get pairs n ≡ Some (slot, value))
 
   abbrev pub vacancy : Option T → ℕ
   vacancy None = 1

@@ -1,11 +1,12 @@
 //! A trail of bindings, which can be undone.
 //!
-//! A [`Trail`] has a number of slots. Contracts see it as the list of pairs of a slot and its value in the order in which
-//! they were bound; no slot stands twice. All its memory is taken when it is made.
+//! A [`Trail`] has a number of slots. Contracts see it as the list of pairs of a slot and its value
+//! in the order in which they were bound; no slot stands twice. All its memory is taken when it is
+//! made.
 #![tactic(auto)]
 
 ghost use Rattle.std.specs.Prelude.{◌≡◌, ◌<◌, ◌≤◌, [], ◌∷◌, ◌++◌, IfOk, None, length, take, drop, option_copied};
-ghost use Rattle.si_trail.specs.Trails.{value_at, AreUnbound, HasDistinctSlots, HasSlotsBelow};
+ghost use Rattle.si_trail.specs.Trails.{value_at, AreUnbound, IsSlotOf, HasDistinctSlots, HasSlotsBelow};
 
 use std::alloc::{AllocError, Global};
 use std::marker::Model;
@@ -36,7 +37,8 @@ impl<T> Model for Trail<T> {
 }
 
 impl<T: Copy> Trail<T> {
-    /// A trail with so many slots, none of which is bound. It takes all the memory that the trail ever needs.
+    /// A trail with so many slots, none of which is bound. It takes all the memory that the trail
+    /// ever needs.
     pub fn with_slots(alloc: Global, n: usize) -> Result<Trail<T>, AllocError>
         ensures { IfOk result (λ t. t ≡ record { slots = n; pairs = [] }) }
     {
@@ -59,9 +61,18 @@ impl<T: Copy> Trail<T> {
 
     /// The number of bindings. It is what [`Trail::undo`] takes to come back here.
     pub fn mark(&self) -> usize
-        ensures { result ≡ length self.now.pairs }
+        ensures number { result ≡ length self.now.pairs }
+        ensures distinct { HasDistinctSlots self.now.pairs }
     {
         self.bound.len()
+    }
+
+    /// The slot of the binding with this number from 0.
+    pub fn slot(&self, n: usize) -> usize
+        requires { n < length self.now.pairs }
+        ensures { IsSlotOf self.now.pairs n result }
+    {
+        self.bound[n].0
     }
 
     /// The value that the slot is bound to.

@@ -1,0 +1,15 @@
+pub mod Reading
+pub mod Lists
+pub mod Places
+pub mod Chains
+pub mod Binding
+pub mod Meeting
+pub mod Rows
+pub mod Comparing
+pub mod Closing
+pub mod Searching
+pub mod Ranks
+pub mod Weights
+pub mod Triangular
+pub mod Answering
+pub mod Solutions

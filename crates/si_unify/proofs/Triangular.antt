@@ -1,0 +1,290 @@
+-- A list is triangular where it was so up to a mark, and a search from the bindings behind the mark found no circle.
+use Rattle.std.proofs.Common.{◌≡◌, ◌≢◌, ℕ, ◌+◌, ◌-◌, ◌<◌, ◌≤◌, ◌⊎◌, inl, inr, Bool, true, false, List, [], ◌∷◌, ◌++◌, length, take, drop, replicate, refl, sym, ◌∙◌, ap, subst, arith, suc, zero, Option, None, Some}
+use Rattle.std.proofs.lemmas.List.{take-append-drop, length-replicate}
+use Rattle.std.proofs.lemmas.Bool.Decides.{eqb_tells}
+use Rattle.std.proofs.lemmas.Bool.{eq-eqb}
+use Rattle.std.specs.Prelude.{slice_get}
+use Rattle.std.specs.List.{AllByRecursion}
+use Rattle.std.specs.Borrow.{Bor}
+use Rattle.si_defs.specs.Substitutions.{IsAmong}
+use Rattle.si_flat.specs.declared.Cell.{Cell}
+use Rattle.si_flat.specs.declared.Cell.TheVariants as cell
+use Rattle.si_flat.specs.Cells.{query, entry, ind}
+use Rattle.si_trail.specs.Trails.{value_at, HasDistinctSlots, IsSlotOf}
+use Rattle.si_unify.specs.declared.Slots.{Slots}
+use Rattle.si_unify.specs.declared.State.{State}
+use Rattle.si_unify.specs.declared.State.TheVariants.{New, Open, Done}
+use Rattle.si_unify.specs.declared.Task.{Task}
+use Rattle.si_unify.specs.declared.Task.TheVariants.{Enter}
+use Rattle.si_unify.specs.Solving.{Pairs, slot_count, slot_of, IsTriangularBy, IsTriangular, RanksBelow, IsBinding}
+use Rattle.si_unify.specs.Spots.{cell_slot}
+use Rattle.si_unify.specs.Circles.{if_value, if_bound, with_slot, bound_slots, below_value, enter_each, task_slot, task_slots, IsDone, AreCovered, RanksUnder, ComeDown, IsOrdered, IsSearching, HasSearched, AreEntries, AreNew, IsTold}
+use Rattle.si_unify.proofs.Lists.{all_map, all_with, all_append, all_take, all_drop}
+use Rattle.si_unify.proofs.Searching.{ranks_below_cell}
+
+-- ---- tasks that enter slots
+covered_alone : (slots : Slots) (pairs : Pairs) (states : List State) (before xs : List ℕ) → AreCovered slots pairs states before (enter_each xs)
+covered_alone slots pairs states before [] = tt
+covered_alone slots pairs states before (x ∷ xs) = (tt, covered_alone slots pairs states (x ∷ before) xs)
+
+under_alone : (rank : ℕ → ℕ) (x : ℕ) (xs : List ℕ) → AllByRecursion (RanksUnder rank x) (enter_each xs)
+under_alone rank x [] = tt
+under_alone rank x (y ∷ xs) = (tt, under_alone rank x xs)
+
+down_alone : (rank : ℕ → ℕ) (xs : List ℕ) → ComeDown rank (enter_each xs)
+down_alone rank [] = tt
+down_alone rank (x ∷ xs) = (under_alone rank x xs, down_alone rank xs)
+
+valid_alone : (slots : Slots) (xs : List ℕ) → AllByRecursion (λ z. z < slot_count slots) xs → AllByRecursion (λ t. task_slot t < slot_count slots) (enter_each xs)
+valid_alone slots [] h = tt
+valid_alone slots (x ∷ xs) h = (h.0, valid_alone slots xs h.1)
+
+among_alone : (xs : List ℕ) (z : ℕ) → IsAmong xs z → IsAmong (task_slots (enter_each xs)) z
+among_alone [] z h = h
+among_alone (x ∷ xs) z h = elim h [ inl e ↦ inl e | inr k ↦ inr (among_alone xs z k) ]
+
+-- ---- bindings by their number
+abbrev pub HasSlot : (ℕ → Type 0) → ℕ × Bor (List Cell) → Type 0
+HasSlot P pair = P pair.0
+
+abbrev pub IsFound : Pairs → ℕ × Bor (List Cell) → Type 0
+IsFound pairs pair = value_at pairs pair.0 ≡ Some pair.1
+
+abbrev pub HasRanks : Slots → (ℕ → ℕ) → ℕ × Bor (List Cell) → Type 0
+HasRanks slots rank pair = AllByRecursion (RanksBelow slots rank pair.0) pair.1.now
+
+pair_get : (P : ℕ × Bor (List Cell) → Type 0) (pairs : Pairs) (n : ℕ) (pair : ℕ × Bor (List Cell)) → AllByRecursion P pairs → slice_get pairs n ≡ Some pair → P pair
+pair_get P [] n pair h e = cc
+pair_get P (p ∷ pairs) zero pair h e = let same : p ≡ pair = cc in subst P same h.0
+pair_get P (p ∷ pairs) (suc n) pair h e = pair_get P pairs n pair h.1 e
+
+same_pair_slot : (pairs : Pairs) (m n x y : ℕ) → m ≡ n → IsSlotOf pairs m x → IsSlotOf pairs n y → y ≡ x
+same_pair_slot pairs m n x y e a b =
+    let pairs_same : (y, b.0) ≡ (x, a.0) = some_same (y, b.0) (x, a.0) (sym b.1 ∙ ap (slice_get pairs) (sym e) ∙ a.1) in
+    ap (λ p. p.0) pairs_same
+  where
+    some_same : (p q : ℕ × Bor (List Cell)) → Some p ≡ Some q → p ≡ q
+    some_same p q e = cc
+
+all_behind : (P : ℕ → Type 0) (pairs : Pairs) (mark : ℕ) → ((m slot : ℕ) → mark ≤ m → m < length pairs → IsSlotOf pairs m slot → P slot) → AllByRecursion (HasSlot P) (drop mark pairs)
+all_behind P [] mark give = elim mark as (λ k. AllByRecursion (HasSlot P) (drop k [])) [ zero ↦ tt | suc k ↦ tt ]
+all_behind P (p ∷ pairs) zero give = (
+  give 0 p.0 (omega arith) (omega arith) (p.1, refl),
+  all_from_start pairs (λ m slot b s. give (suc m) slot (omega arith) (omega (arith, b)) s),
+)
+  where
+    all_from_start : (ps : Pairs) → ((m slot : ℕ) → m < length ps → IsSlotOf ps m slot → P slot) → AllByRecursion (HasSlot P) ps
+    all_from_start [] h = tt
+    all_from_start (q ∷ ps) h = (h 0 q.0 (omega arith) (q.1, refl), all_from_start ps (λ m slot b s. h (suc m) slot (omega (arith, b)) s))
+all_behind P (p ∷ pairs) (suc mark) give = all_behind P pairs mark (λ m slot a b s. give (suc m) slot (omega (arith, a)) (omega (arith, b)) s)
+
+told_behind : (first pair : ℕ × Bor (List Cell)) (pairs : Pairs) → value_at pairs first.0 ≡ None → value_at pairs pair.0 ≡ Some pair.1 → value_at (first ∷ pairs) pair.0 ≡ Some pair.1
+told_behind first pair pairs none e =
+    elim (eqb_tells first.0 pair.0) [
+      | inl k ↦ let bad : None ≡ Some pair.1 = sym none ∙ ap (value_at pairs) k.1 ∙ e in cc
+      | inr k ↦ rw k.0 e
+    ]
+
+-- each pair is the one that its slot finds
+all_told : (pairs : Pairs) → HasDistinctSlots pairs → AllByRecursion (IsFound pairs) pairs
+all_told [] h = tt
+all_told (p ∷ pairs) h = (
+  rw (eq-eqb p.0 p.0 refl) refl,
+  all_map (IsFound pairs) (IsFound (p ∷ pairs)) pairs
+      (λ pair e. told_behind p pair pairs h.0 e) (all_told pairs h.1),
+)
+
+-- ---- where the search starts
+new_at : (states : List State) (slot : ℕ) (s : State) → AreNew states → slice_get states slot ≡ Some s → s ≡ New
+new_at [] slot s h e = cc
+new_at (x ∷ states) zero s h e = let same : x ≡ s = cc in sym same ∙ h.0
+new_at (x ∷ states) (suc n) s h e = new_at states n s h.1 e
+
+not_done : {P : Type 0} (states : List State) (slot : ℕ) → AreNew states → IsDone states slot → P
+not_done states slot h d = let bad : Done ≡ New = new_at states slot Done h d in cc
+
+not_open : {P : Type 0} (states : List State) (slot : ℕ) → AreNew states → slice_get states slot ≡ Some Open → P
+not_open states slot h d = let bad : Open ≡ New = new_at states slot Open h d in cc
+
+abbrev no_states : List State
+no_states = []
+
+all_new : (n : ℕ) → AreNew (replicate n New)
+all_new zero = tt
+all_new (suc n) = (refl, all_new n)
+
+pub states_new : (old states : List State) (n m k : ℕ) → old ≡ [] → m ≡ 0 → n ≡ k → states ≡ take n old ++ replicate (n - m) New → AreNew states × (length states ≡ k)
+states_new old states n m k empty zero_m same e =
+    let now : states ≡ replicate n New =
+    e ∙ ap (λ l. take n l ++ replicate (n - m) New) empty ∙ ap (λ l. l ++ replicate (n - m) New) (take_nothing n) ∙ ap (λ j. replicate j New) (omega (arith, zero_m)) in
+    (subst AreNew (sym now) (all_new n), ap length now ∙ length-replicate n New ∙ same)
+  where
+    take_nothing : (n : ℕ) → take n no_states ≡ no_states
+    take_nothing zero = refl
+    take_nothing (suc n) = refl
+
+pub entries_none : (pairs : Pairs) (mark : ℕ) → HasDistinctSlots pairs → AreEntries pairs mark mark []
+entries_none pairs mark distinct = record {
+  slots = [];
+  tasks_are = refl;
+  sound = tt;
+  complete = λ m slot a b s. absurd (omega (arith, a, b));
+  distinct = distinct;
+}
+
+pub entries_more : (pairs : Pairs) (mark n slot : ℕ) (tasks new : List Task) → AreEntries pairs mark n tasks → IsSlotOf pairs n slot → new ≡ Enter slot ∷ tasks → AreEntries pairs mark (n + 1) new
+entries_more pairs mark n slot tasks new h s is = record {
+  slots = slot ∷ h.slots;
+  tasks_are = is ∙ ap (λ l. Enter slot ∷ l) h.tasks_are;
+  sound = ((n, s), h.sound);
+  complete = λ m other a b o.
+      elim (eqb_tells m n) [
+        | inl e ↦ inl (same_pair_slot pairs m n other slot e.1 o s)
+        | inr e ↦ inr (h.complete m other a (before m n b e.1) o)
+      ];
+  distinct = h.distinct;
+}
+  where
+    before : (m n : ℕ) → m < n + 1 → m ≢ n → m < n
+    before m n less differs = omega (arith, less, differs)
+
+pub search_begins : (slots : Slots) (pairs : Pairs) (states : List State) (tasks : List Task) (mark n : ℕ) → AllByRecursion (IsBinding slots) pairs → length states ≡ slot_count slots → AreNew states → AreEntries pairs mark n tasks → IsSearching slots pairs states tasks
+search_begins slots pairs states tasks mark n bindings long fresh e = record {
+  bindings = bindings;
+  long = long;
+  ordered = record {
+    rank = λ z. 0;
+    top = 0;
+    few = λ z d. not_done states z fresh d;
+    down = λ z d. not_done states z fresh d;
+  };
+  covered = subst (AreCovered slots pairs states []) (sym e.tasks_are) (covered_alone slots pairs states [] e.slots);
+  come_down = λ rank t. subst (ComeDown rank) (sym e.tasks_are) (down_alone rank e.slots);
+  opened = λ z is_open. not_open states z fresh is_open;
+  valid =
+      subst (AllByRecursion (λ t. task_slot t < slot_count slots)) (sym e.tasks_are)
+      (
+      valid_alone slots e.slots
+      (
+      all_map (λ slot. (m : ℕ) × IsSlotOf pairs m slot) (λ z. z < slot_count slots) e.slots
+      (λ slot s. (pair_get (IsBinding slots) pairs s.0 (slot, s.1.0) bindings s.1.1).below)
+      e.sound
+      )
+      );
+}
+
+-- ---- the ranks behind a search
+abbrev is_done : Option State → Bool
+is_done None = false
+is_done (Some New) = false
+is_done (Some Open) = false
+is_done (Some Done) = true
+
+tells_done : (s : Option State) → (s ≡ Some Done) ⊎ (is_done s ≡ false)
+tells_done None = inr refl
+tells_done (Some New) = inr refl
+tells_done (Some Open) = inr refl
+tells_done (Some Done) = inl refl
+
+module _ (slots : Slots) (pairs : Pairs) (states : List State) (ordered : IsOrdered slots pairs states) (rank : ℕ → ℕ) where
+  -- an unbound slot comes first, then those that are done, then the others
+  abbrev rank_by : Option (Bor (List Cell)) → Bool → ℕ → ℕ
+  rank_by None b z = 0
+  rank_by (Some v) true z = 1 + ordered.rank z
+  rank_by (Some v) false z = 1 + ordered.top + rank z
+
+  abbrev all_rank : ℕ → ℕ
+  all_rank z = rank_by (value_at pairs z) (is_done (slice_get states z)) z
+
+  rank_unbound : (z : ℕ) → value_at pairs z ≡ None → all_rank z ≡ 0
+  rank_unbound z e = ap (λ o. rank_by o (is_done (slice_get states z)) z) e
+
+  rank_done : (z : ℕ) (v : Bor (List Cell)) → value_at pairs z ≡ Some v → IsDone states z → all_rank z ≡ 1 + ordered.rank z
+  rank_done z v e d = ap (λ o. rank_by o (is_done (slice_get states z)) z) e ∙ ap (λ s. rank_by (Some v) (is_done s) z) d
+
+  rank_other : (z : ℕ) (v : Bor (List Cell)) → value_at pairs z ≡ Some v → is_done (slice_get states z) ≡ false → all_rank z ≡ 1 + ordered.top + rank z
+  rank_other z v e d = ap (λ o. rank_by o (is_done (slice_get states z)) z) e ∙ ap (λ b. rank_by (Some v) b z) d
+
+  ranks_at : (slot : ℕ) (c : Cell) → ((next : ℕ) → cell_slot slots c ≡ Some next → all_rank next < all_rank slot) → RanksBelow slots all_rank slot c
+  ranks_at slot (cell.App s a n) give = tt
+  ranks_at slot (cell.Query n) give = give (slot_of slots (query n)) refl
+  ranks_at slot (cell.Entry n) give = give (slot_of slots (entry n)) refl
+  ranks_at slot (cell.Ind n) give = give (slot_of slots (ind n)) refl
+
+  others_of : (P : ℕ → Type 0) (o : Option ℕ) (xs : List ℕ) → AllByRecursion P (with_slot o xs) → AllByRecursion P xs
+  others_of P None xs h = h
+  others_of P (Some x) xs h = h.1
+
+  next_under_done : (z next : ℕ) (v : Bor (List Cell)) (xs : List ℕ) (o : Option (Bor (List Cell))) → value_at pairs z ≡ Some v → IsDone states z → value_at pairs next ≡ o → AllByRecursion (λ y. IsDone states y × (ordered.rank y < ordered.rank z)) (with_slot (if_value o next) xs) → all_rank next < all_rank z
+  next_under_done z next v xs None bound done e h = omega (arith, rank_unbound next e, rank_done z v bound done)
+  next_under_done z next v xs (Some w) bound done e h = omega (arith, rank_done next w e h.0.0, rank_done z v bound done, h.0.1)
+
+  done_cells : (z : ℕ) (v : Bor (List Cell)) (cells : List Cell) → value_at pairs z ≡ Some v → IsDone states z → AllByRecursion (λ y. IsDone states y × (ordered.rank y < ordered.rank z)) (bound_slots slots pairs cells) → AllByRecursion (RanksBelow slots all_rank z) cells
+  done_cells z v [] bound done h = tt
+  done_cells z v (c ∷ cells) bound done h = (
+    ranks_at z c
+        (λ next e.
+        next_under_done z next v (bound_slots slots pairs cells) (value_at pairs next) bound done refl
+        (subst (λ o. AllByRecursion (λ y. IsDone states y × (ordered.rank y < ordered.rank z)) (with_slot (if_bound pairs o) (bound_slots slots pairs cells))) e h)),
+    done_cells z v cells bound done
+        (others_of (λ y. IsDone states y × (ordered.rank y < ordered.rank z)) (if_bound pairs (cell_slot slots c)) (bound_slots slots pairs cells) h),
+  )
+
+  done_pair : (pair : ℕ × Bor (List Cell)) → value_at pairs pair.0 ≡ Some pair.1 → IsDone states pair.0 → AllByRecursion (RanksBelow slots all_rank pair.0) pair.1.now
+  done_pair pair bound done =
+      done_cells pair.0 pair.1 pair.1.now bound done
+      (subst (λ o. AllByRecursion (λ y. IsDone states y × (ordered.rank y < ordered.rank pair.0)) (below_value slots pairs o)) bound (ordered.down pair.0 done))
+
+  next_under_other : (z next : ℕ) (v : Bor (List Cell)) (o : Option (Bor (List Cell))) → value_at pairs z ≡ Some v → is_done (slice_get states z) ≡ false → value_at pairs next ≡ o → rank next < rank z → all_rank next < all_rank z
+  next_under_other z next v None bound other e less = omega (arith, rank_unbound next e, rank_other z v bound other)
+  next_under_other z next v (Some w) bound other e less =
+      elim (tells_done (slice_get states next)) [
+        | inl d ↦ omega (arith, rank_done next w e d, rank_other z v bound other, ordered.few next d)
+        | inr d ↦ omega (arith, rank_other next w e d, rank_other z v bound other, less)
+      ]
+
+  old_pair : (pair : ℕ × Bor (List Cell)) → value_at pairs pair.0 ≡ Some pair.1 → AllByRecursion (RanksBelow slots rank pair.0) pair.1.now → AllByRecursion (RanksBelow slots all_rank pair.0) pair.1.now
+  old_pair pair bound old =
+      elim (tells_done (slice_get states pair.0)) [
+        | inl d ↦ done_pair pair bound d
+        | inr d ↦
+            all_map (RanksBelow slots rank pair.0) (RanksBelow slots all_rank pair.0) pair.1.now
+            (λ c k. ranks_at pair.0 c (λ next e. next_under_other pair.0 next pair.1 (value_at pairs next) bound d refl (ranks_below_cell slots rank pair.0 next c k e)))
+            old
+      ]
+
+  pub triangular_behind : (mark : ℕ) → HasDistinctSlots pairs → IsTriangularBy slots rank (take mark pairs) → AllByRecursion (HasSlot (IsDone states)) (drop mark pairs) → IsTriangular slots pairs
+  triangular_behind mark distinct old done =
+      let told : AllByRecursion (IsFound pairs) pairs = all_told pairs distinct in (
+        all_rank,
+        subst (IsTriangularBy slots all_rank) (take-append-drop mark pairs)
+            (
+            all_append (HasRanks slots all_rank) (take mark pairs) (drop mark pairs)
+            (
+            all_with (IsFound pairs) (HasRanks slots rank)
+            (HasRanks slots all_rank) (take mark pairs) old_pair
+            (all_take (IsFound pairs) mark pairs told) old
+            )
+            (
+            all_with (IsFound pairs) (HasSlot (IsDone states))
+            (HasRanks slots all_rank) (drop mark pairs) done_pair
+            (all_drop (IsFound pairs) mark pairs told) done
+            )
+            ),
+      )
+
+pub search_tells :
+    (slots : Slots) (pairs : Pairs) (states new : List State) (tasks : List Task) (mark : ℕ) (b : Bool)
+    → AreEntries pairs mark (length pairs) tasks
+    → IsTriangular slots (take mark pairs)
+    → HasSearched slots pairs states new tasks b
+    → IsTold slots pairs b
+search_tells slots pairs states new tasks mark false e old h = λ t. h t.0 t.1
+search_tells slots pairs states new tasks mark true e old h = (
+  triangular_behind slots pairs new h.0.ordered old.0 mark e.distinct old.1
+      (
+      all_behind (IsDone new) pairs mark
+      (λ m slot a b s. h.2 slot (subst (λ l. IsAmong (task_slots l) slot) (sym e.tasks_are) (among_alone e.slots slot (e.complete m slot a b s))))
+      ),
+  e.distinct,
+)

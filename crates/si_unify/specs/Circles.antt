@@ -1,0 +1,159 @@
+-- The search for a circle through bound variables: from slot to slot, by the variables of the values.
+use Rattle.std.specs.Prelude.{◌≡◌, ℕ, ◌+◌, ◌<◌, ◌≤◌, ◌*◌, ◌^◌, ◌⊎◌, sum_by, List, [], ◌∷◌, ◌++◌, length, Bool, true, false, Option, None, Some, slice_get}
+use Rattle.std.specs.List.{AllByRecursion}
+use Rattle.std.specs.Borrow.{Bor}
+use Rattle.si_defs.specs.Substitutions.{IsAmong}
+use Rattle.si_flat.specs.declared.Cell.{Cell}
+use Rattle.si_trail.specs.Trails.{value_at, HasDistinctSlots, IsSlotOf}
+use Rattle.si_unify.specs.declared.Slots.{Slots}
+use Rattle.si_unify.specs.declared.State.{State}
+use Rattle.si_unify.specs.declared.State.TheVariants.{New, Open, Done}
+use Rattle.si_unify.specs.declared.Task.{Task}
+use Rattle.si_unify.specs.declared.Task.TheVariants.{Enter, Leave}
+use Rattle.si_unify.specs.Solving.{Pairs, slot_count, IsTriangularBy, IsTriangular, IsBinding}
+use Rattle.si_unify.specs.Spots.{cell_slot}
+
+-- the slot, if it is bound
+abbrev pub if_value : Option (Bor (List Cell)) → ℕ → Option ℕ
+if_value None slot = None
+if_value (Some v) slot = Some slot
+
+abbrev pub if_bound : Pairs → Option ℕ → Option ℕ
+if_bound pairs None = None
+if_bound pairs (Some slot) = if_value (value_at pairs slot) slot
+
+abbrev pub with_slot : Option ℕ → List ℕ → List ℕ
+with_slot None rest = rest
+with_slot (Some slot) rest = slot ∷ rest
+
+-- the bound slots of these cells, in order
+abbrev pub bound_slots : Slots → Pairs → List Cell → List ℕ
+bound_slots slots pairs [] = []
+bound_slots slots pairs (c ∷ cells) = with_slot (if_bound pairs (cell_slot slots c)) (bound_slots slots pairs cells)
+
+-- tasks, the next one first
+abbrev pub enter_each : List ℕ → List Task
+enter_each [] = []
+enter_each (slot ∷ slots) = Enter slot ∷ enter_each slots
+
+-- a list turned round and put before another
+abbrev pub pile : List ℕ → List ℕ → List ℕ
+pile [] before = before
+pile (slot ∷ slots) before = pile slots (slot ∷ before)
+
+-- the bound slots of a slot's value
+abbrev pub below_value : Slots → Pairs → Option (Bor (List Cell)) → List ℕ
+below_value slots pairs None = []
+below_value slots pairs (Some v) = bound_slots slots pairs v.now
+
+abbrev pub below : Slots → Pairs → ℕ → List ℕ
+below slots pairs slot = below_value slots pairs (value_at pairs slot)
+
+-- the tasks that come up for a slot, the next one first
+abbrev pub entries : Slots → Pairs → ℕ → List Task
+entries slots pairs slot = enter_each (pile (below slots pairs slot) [])
+
+-- the tasks that come up for these cells stand before the others
+abbrev pub AreEntered : Slots → Pairs → List Cell → List Task → List Task → Type 0
+AreEntered slots pairs cells old new = new ≡ enter_each (pile (bound_slots slots pairs cells) []) ++ old
+
+abbrev pub task_slot : Task → ℕ
+task_slot (Enter slot) = slot
+task_slot (Leave slot) = slot
+
+abbrev pub task_slots : List Task → List ℕ
+task_slots [] = []
+task_slots (t ∷ ts) = task_slot t ∷ task_slots ts
+
+abbrev pub IsDone : List State → ℕ → Type 0
+IsDone states slot = slice_get states slot ≡ Some Done
+
+-- The tasks, the next one first. What a slot that is being searched leads to is done, or stands among the tasks before it.
+abbrev pub IsCovered : Slots → Pairs → List State → List ℕ → Task → Type 0
+IsCovered slots pairs states before (Enter slot) = Unit {0}
+IsCovered slots pairs states before (Leave slot) = AllByRecursion (λ c. IsDone states c ⊎ IsAmong before c) (below slots pairs slot)
+
+abbrev pub AreCovered : Slots → Pairs → List State → List ℕ → List Task → Type 0
+AreCovered slots pairs states before [] = Unit {0}
+AreCovered slots pairs states before (t ∷ ts) = IsCovered slots pairs states before t × AreCovered slots pairs states (task_slot t ∷ before) ts
+
+-- each task's slot has a smaller rank than the slots being searched behind it
+abbrev pub RanksUnder : (ℕ → ℕ) → ℕ → Task → Type 0
+RanksUnder rank slot (Enter other) = Unit {0}
+RanksUnder rank slot (Leave other) = rank slot < rank other
+
+abbrev pub ComeDown : (ℕ → ℕ) → List Task → Type 0
+ComeDown rank [] = Unit {0}
+ComeDown rank (t ∷ ts) = AllByRecursion (RanksUnder rank (task_slot t)) ts × ComeDown rank ts
+
+-- what is known of the slots that are done
+pub record IsOrdered (slots : Slots) (pairs : Pairs) (states : List State) : Type 0 where
+  pub rank : ℕ → ℕ
+  pub top : ℕ
+  pub few : (slot : ℕ) → IsDone states slot → rank slot < top
+  pub down : (slot : ℕ) → IsDone states slot → AllByRecursion (λ c. IsDone states c × (rank c < rank slot)) (below slots pairs slot)
+
+-- the slots that are being searched
+abbrev pub leave_slot : Task → List ℕ → List ℕ
+leave_slot (Enter slot) rest = rest
+leave_slot (Leave slot) rest = slot ∷ rest
+
+abbrev pub leave_slots : List Task → List ℕ
+leave_slots [] = []
+leave_slots (t ∷ ts) = leave_slot t (leave_slots ts)
+
+-- what is known of the slots and the tasks, the next one first
+pub record IsSearching (slots : Slots) (pairs : Pairs) (states : List State) (tasks : List Task) : Type 0 where
+  pub bindings : AllByRecursion (IsBinding slots) pairs
+  pub long : length states ≡ slot_count slots
+  pub ordered : IsOrdered slots pairs states
+  pub covered : AreCovered slots pairs states [] tasks
+  pub come_down : (rank : ℕ → ℕ) → IsTriangularBy slots rank pairs → ComeDown rank tasks
+  pub opened : (slot : ℕ) → slice_get states slot ≡ Some Open → IsAmong (leave_slots tasks) slot
+  pub valid : AllByRecursion (λ t. task_slot t < slot_count slots) tasks
+
+-- the slots that were done stay done
+abbrev pub StayDone : List State → List State → Type 0
+StayDone old new = (slot : ℕ) → IsDone old slot → IsDone new slot
+
+abbrev pub HasSearched : Slots → Pairs → List State → List State → List Task → Bool → Type 0
+HasSearched slots pairs old new tasks true =
+    IsSearching slots pairs new [] × StayDone old new × ((slot : ℕ) → IsAmong (task_slots tasks) slot → IsDone new slot)
+HasSearched slots pairs old new tasks false = (rank : ℕ → ℕ) → IsTriangularBy slots rank pairs → ⊥
+
+-- how much is left to do
+abbrev pub weight : State → ℕ
+weight New = 1
+weight Open = 0
+weight Done = 0
+
+abbrev pub work : List State → List Task → ℕ
+work states tasks = sum_by weight states * 2 ^ 64 + length tasks
+
+-- one task has been done
+pub record HasStepped (slots : Slots) (pairs : Pairs) (old new : List State) (old_tasks new_tasks : List Task) : Type 0 where
+  pub searching : IsSearching slots pairs new new_tasks
+  pub stay : StayDone old new
+  pub kept : (slot : ℕ) → IsAmong (task_slots old_tasks) slot → IsDone new slot ⊎ IsAmong (task_slots new_tasks) slot
+  pub less : work new new_tasks < work old old_tasks
+
+abbrev pub HasDone : Slots → Pairs → List State → List State → List Task → List Task → Bool → Type 0
+HasDone slots pairs old new old_tasks new_tasks true = HasStepped slots pairs old new old_tasks new_tasks
+HasDone slots pairs old new old_tasks new_tasks false = (rank : ℕ → ℕ) → IsTriangularBy slots rank pairs → ⊥
+
+-- the tasks enter the slots of the bindings from the mark on, up to this number
+pub record AreEntries (pairs : Pairs) (mark n : ℕ) (tasks : List Task) : Type 0 where
+  pub slots : List ℕ
+  pub tasks_are : tasks ≡ enter_each slots
+  pub sound : AllByRecursion (λ slot. (m : ℕ) × IsSlotOf pairs m slot) slots
+  pub complete : (m slot : ℕ) → mark ≤ m → m < n → IsSlotOf pairs m slot → IsAmong slots slot
+  pub distinct : HasDistinctSlots pairs
+
+-- no slot has been met
+abbrev pub AreNew : List State → Type 0
+AreNew = AllByRecursion (λ s. s ≡ New)
+
+-- whether the list is triangular; its slots are distinct
+abbrev pub IsTold : Slots → Pairs → Bool → Type 0
+IsTold slots pairs true = IsTriangular slots pairs × HasDistinctSlots pairs
+IsTold slots pairs false = IsTriangular slots pairs → ⊥

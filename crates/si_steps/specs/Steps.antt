@@ -32,8 +32,9 @@ pub data RightStep (limits : Limits) (state : List Clause) (line : Bytes) (reply
   performed : (IsLater limits line → ⊥) → (command : Command) → Means command line
       → Performs command state reply new → RightStep limits state line reply new
 
--- A step is right, or memory runs out, and the state stays: at once, whatever the right reply is, or behind some lines of
--- the right reply, but not all. That never happens at a line that is too long, nor at one without a reply.
+-- A step is right, or memory runs out, and the state stays: at once, whatever the right reply is,
+-- or behind some lines of the right reply, but not all. That never happens at a line that is too
+-- long, nor at one without a reply.
 pub data Step (limits : Limits) (state : List Clause) (line : Bytes) (reply : Reply) (new : List Clause) : Type 0 where
   right : RightStep limits state line reply new → Step limits state line reply new
   memory_at_once : (IsSilent limits line → ⊥) → length line ≤ limits.line

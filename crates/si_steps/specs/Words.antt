@@ -1,4 +1,5 @@
--- The words that commands begin with, and their texts (this project's profile). No two have the same text.
+-- The words that commands begin with, and their texts (this project's profile). No two have the
+-- same text.
 use Rattle.std.specs.Prelude.{Bool, true, false, codes}
 use Rattle.si_defs.specs.Bytes.{Bytes}
 use Rattle.si_defs.specs.declared.Relation.{Relation}

@@ -28,5 +28,7 @@ word_text Sample = codes "sample"
 -- the words of the commands built so far
 abbrev pub is_built : Word → Bool
 is_built Add = true
+is_built Remove = true
 is_built (Ask Instances) = true
+is_built Stats = true
 is_built word = false

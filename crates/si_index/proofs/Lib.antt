@@ -1,0 +1,4 @@
+mod HalfLaws
+mod PutLaws
+mod Results
+mod SumLaws

@@ -1,0 +1,13 @@
+-- Sums of counts, and of neighbours among them.
+use Rattle.std.specs.Prelude.{ℕ, ◌+◌, List, [], ◌∷◌}
+
+-- the sums of the first two, of the next two, and so on
+abbrev pub halves : List ℕ → List ℕ
+halves [] = []
+halves (x ∷ []) = x ∷ []
+halves (x ∷ y ∷ zs) = (x + y) ∷ halves zs
+
+-- all of them together
+abbrev pub total : List ℕ → ℕ
+total [] = 0
+total (x ∷ xs) = x + total xs

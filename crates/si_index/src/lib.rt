@@ -1,0 +1,4 @@
+//! The clauses that are kept, and what is asked of them.
+#![tactic(auto)]
+
+mod ranks;

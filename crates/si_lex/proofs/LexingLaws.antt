@@ -12,11 +12,11 @@ use Rattle.si_lex.specs.declared.lexing.Lexing.{Lexing}
 use Rattle.si_lex.specs.declared.lexing.Stop.{Stop}
 use Rattle.si_lex.specs.declared.lexing.Stop.TheVariants.{End, Bad, FullStop}
 use Rattle.si_lex.specs.Lexemes.{token_of, tokens_of}
-use Rattle.si_lex.specs.Places.{IsBehindBlanks, IsLexemeAt, NoTokenAt}
+use Rattle.si_lex.specs.Places.{IsBehindBlanks, IsLexemeAt, NoTokenWithin}
 use Rattle.si_lex.specs.FullStops.{IsStop, HasNoStop, GoesToStop, EndsAtStop}
 use Rattle.si_lex.specs.Lexing.{IsRead, IsItemLexing, IsLexingUpTo}
 use Rattle.si_lex.proofs.BlankLaws.{place_unique}
-use Rattle.si_lex.proofs.TokenLaws.{next_place, next_unique, blanks_none, begins_unique, begins_prefix, begins_append}
+use Rattle.si_lex.proofs.TokenLaws.{next_place, blanks_none, begins_unique, begins_prefix, begins_append}
 
 -- ---- open brackets
 -- the number of brackets that are open behind some tokens
@@ -65,7 +65,8 @@ begins_split : (ts us : List Token) (bytes rest : Bytes) → Begins bytes (ts ++
 begins_split [] us bytes rest b = (bytes, refl, b)
 begins_split (t ∷ ts) us bytes rest b = let s = begins_split ts us b.0 rest b.2 in (s.0, (b.0, b.1, s.1), s.2)
 
--- the tokens up to the place behind the blanks behind them, and the number of brackets that are open there
+-- the tokens up to the place behind the blanks behind them, and the number of brackets that are
+-- open there
 pub record IsSoFar (item : Bool) (bytes : Bytes) (at start : ℕ) (tokens : List Lexeme) (depth place : ℕ) : Type 0 where
   pub rest : Bytes
   pub from : at ≤ start
@@ -158,7 +159,8 @@ so_far_some item bytes at start tokens depth place l s w k a =
       some [] e = cc
       some (t ∷ ts) e = cc
 
--- why no more tokens are taken, but for a full stop: only blanks follow, or no token, or brackets would nest too deep
+-- why no more tokens are taken, but for a full stop: only blanks follow, or no token, or brackets
+-- would nest too deep
 pub record IsOver (rest : Bytes) (depth : ℕ) (stop : Stop) : Type 0 where
   pub no_stop : stop ≡ FullStop → ⊥
   pub blanks : stop ≡ End → AreBlanks rest
@@ -266,32 +268,17 @@ lexing_end item bytes at l depth s w e =
       deep = λ u after n. absurd (blanks_none s.rest blanks u after n);
     })
 
--- where no token stands
+-- where no token stands, or one that nests too deep
 pub lexing_bad : (item : Bool) (bytes : Bytes) (at : ℕ) (l : Lexing) (depth : ℕ) → IsSoFar item bytes at l.start l.tokens.items depth l.end → l.end < length bytes
-    → NoTokenAt (drop l.end bytes) → l.stop ≡ Bad → IsLexingUpTo item bytes at l
+    → NoTokenWithin bytes l.end depth → l.stop ≡ Bad → IsLexingUpTo item bytes at l
 lexing_bad item bytes at l depth s w n e =
     over_lexing item bytes at l depth s (inr (λ f. bad_no_end (sym e ∙ f))) (record {
       no_stop = λ f. bad_no_full (sym e ∙ f);
       blanks = λ f. absurd (bad_no_end (sym e ∙ f));
       more = λ f. s.behind.goes_on w;
-      deep = λ u after k. absurd (none u after k);
-    }) where
-      none : (u : Token) (after : Bytes) → NextToken s.rest u after → ⊥
-      none u after k =
+      deep = λ u after k.
           let same = place_unique s.rest k.place (drop l.end bytes) (next_place s.rest u after k) (s.behind.more w) in
-          n u after (subst (λ p. TokenAt p u after) same k.stands)
-
--- where brackets would nest too deep
-pub lexing_deep : (item : Bool) (bytes : Bytes) (at : ℕ) (l : Lexing) (depth : ℕ) (t : Lexeme) → IsSoFar item bytes at l.start l.tokens.items depth l.end → l.end < length bytes
-    → IsLexemeAt bytes l.end t → DEEPEST_NESTING < open_behind depth (token_of t) → l.stop ≡ Bad → IsLexingUpTo item bytes at l
-lexing_deep item bytes at l depth t s w k d e =
-    over_lexing item bytes at l depth s (inr (λ f. bad_no_end (sym e ∙ f))) (record {
-      no_stop = λ f. bad_no_full (sym e ∙ f);
-      blanks = λ f. absurd (bad_no_end (sym e ∙ f));
-      more = λ f. s.behind.goes_on w;
-      deep = λ u after n.
-          subst (λ x. DEEPEST_NESTING < open_behind depth x)
-          (sym (next_unique s.rest u (token_of t) after (drop (l.end + length t.spelling.now) bytes) n (next_at bytes s.rest l.end t s.behind w k)).0) d;
+          n u after (subst (λ p. TokenAt p u after) same k.stands);
     })
 
 -- behind a full stop outside brackets

@@ -17,8 +17,8 @@ abbrev pub starts : (ℕ → Bool) → Bytes → Bool
 starts p [] = false
 starts p (c ∷ cs) = p c
 
--- No token that begins with this spelling is longer, whatever else follows: a word goes on as long as it can, and a
--- quoted text ends at its quote.
+-- No token that begins with this spelling is longer, whatever else follows: a word goes on as long
+-- as it can, and a quoted text ends at its quote.
 abbrev pub stops : TokenKind → Bytes → Bytes → Bool
 stops Int (c ∷ []) rest = c == 48 || not (starts is_digit rest)
 stops Int spelling rest = not (starts is_digit rest)

@@ -1,4 +1,5 @@
--- At each place there is one next token at most, and none where only blanks are left: so a text has one list of tokens.
+-- At each place there is one next token at most, and none where only blanks are left: so a text has
+-- one list of tokens.
 use Rattle.std.proofs.Common.{◌≡◌, List, [], ◌∷◌, ◌++◌, length, take, drop, refl, ap, ap₂, sym, ◌∙◌, subst, ◌⊎◌, inl, inr, arith}
 use Rattle.std.proofs.lemmas.Bool.{false≢true, eq-eqb}
 use Rattle.std.proofs.lemmas.List.{take_at, drop_at}

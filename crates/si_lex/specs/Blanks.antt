@@ -11,7 +11,8 @@ NoBlankAt bytes = (blank rest : Bytes) → IsBlank blank → bytes ≡ blank ++ 
 abbrev pub NothingBlankAt : Bytes → Type 0
 NothingBlankAt bytes = NoBlankAt bytes × (IsLineComment bytes → ⊥)
 
--- One blank goes from a place up to another; or a comment that no line feed closes goes up to the end.
+-- One blank goes from a place up to another; or a comment that no line feed closes goes up to the
+-- end.
 pub record IsOneBlank (bytes : Bytes) (at end : ℕ) : Type 0 where
   pub from : at < end
   pub within : end ≤ length bytes

@@ -42,7 +42,8 @@ pub record IsItemLexing (bytes : Bytes) (at : ℕ) (l : Lexing) : Type 0 where
   -- behind a full stop nothing was read
   pub stop : l.stop ≡ FullStop → EndsAtStop 0 (tokens_of l.tokens.items) × (rest ≡ drop l.end bytes)
   pub no_stop : (l.stop ≡ FullStop → ⊥) → HasNoStop 0 (tokens_of l.tokens.items)
-  -- whatever tokens the bytes begin with, nested no deeper and up to a full stop at most, they are the first of these
+  -- whatever tokens the bytes begin with, nested no deeper and up to a full stop at most, they are
+  -- the first of these
   pub every : (ts : List Token) (behind : Bytes) → Begins (drop at bytes) ts behind → nesting ts ≤ DEEPEST_NESTING → GoesToStop 0 ts
       → (others : List Token) × (tokens_of l.tokens.items ≡ ts ++ others)
 

@@ -4,7 +4,9 @@ use Rattle.std.specs.List.{slice_range}
 use Rattle.si_defs.specs.Bytes.{Bytes}
 use Rattle.si_defs.specs.Tokens as defs
 use Rattle.si_defs.specs.Tokens.{TokenAt, NextToken, AreBlanks}
+use Rattle.si_defs.specs.Grammar.{open_behind}
 use Rattle.si_defs.specs.Texts.{IsPlace}
+use Rattle.si_defs.specs.declared.TheConstants.{DEEPEST_NESTING}
 use Rattle.si_defs.specs.declared.TokenKind.{TokenKind}
 use Rattle.si_lex.specs.declared.lexeme.Lexeme.{Lexeme}
 use Rattle.si_lex.specs.declared.token.Token.{Token}
@@ -29,6 +31,17 @@ pub record IsLexemeAt (bytes : Bytes) (at : ℕ) (l : Lexeme) : Type 0 where
   pub some : 0 < length l.spelling.now
   pub within : at + length l.spelling.now ≤ length bytes
   pub stands : TokenAt (drop at bytes) (token_of l) (drop (at + length l.spelling.now) bytes)
+
+-- no token stands at the place, where this many brackets are open, but one that nests too deep
+abbrev pub NoTokenWithin : Bytes → ℕ → ℕ → Type 0
+NoTokenWithin bytes at depth = (t : defs.Token) (rest : Bytes) → TokenAt (drop at bytes) t rest
+    → DEEPEST_NESTING < open_behind depth t
+
+-- this is the token at the place, and so many brackets are open behind it, which is not too deep
+pub record IsLexemeWithin (bytes : Bytes) (at depth : ℕ) (l : Lexeme) (behind : ℕ) : Type 0 where
+  pub stands : IsLexemeAt bytes at l
+  pub opened : behind ≡ open_behind depth (token_of l)
+  pub shallow : behind ≤ DEEPEST_NESTING
 
 -- the token of this kind goes from the place up to this end
 pub record IsTokenTo (bytes : Bytes) (at : ℕ) (kind : TokenKind) (end : ℕ) : Type 0 where

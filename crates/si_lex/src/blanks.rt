@@ -39,7 +39,8 @@ fn blank_end(bytes: &[u8], at: usize) -> Option<usize>
 // The place behind the line feed that follows, or the end.
 fn line_end(bytes: &[u8], at: usize) -> usize
     requires { at ≤ length bytes.now }
-    ensures { result ≡ min (at + prefix_len is_in_line (drop at bytes.now) + 1) (length bytes.now) }
+    ensures { result
+        ≡ min (at + prefix_len is_in_line (drop at bytes.now) + 1) (length bytes.now) }
 {
     for i in at..bytes.len() {
         if bytes[i] == b'\n' {

@@ -1,11 +1,13 @@
 // The tokens of some bytes.
-ghost use Rattle.std.specs.Prelude.{◌≡◌, ◌≤◌, ◌↔◌, length, drop, IfOk, OnErr, IsTrue, []};
+ghost use Rattle.std.specs.Prelude.{◌≡◌, ◌≤◌, ◌<◌, ◌↔◌, length, drop, IfOk, OnErr, IsTrue};
+ghost use Rattle.std.specs.Prelude.{MatchOption, []};
 ghost use Rattle.si_defs.specs.Grammar.{open_behind};
 ghost use Rattle.si_defs.specs.Tokens.{AreBlanks};
 ghost use Rattle.si_defs.specs.declared.TheConstants.{DEEPEST_NESTING};
 ghost use Rattle.si_lex.specs.FullStops.{IsStop};
 ghost use Rattle.si_lex.specs.Lexemes.{token_of};
 ghost use Rattle.si_lex.specs.Lexing.{IsLexing, IsItemLexing, IsLexingUpTo};
+ghost use Rattle.si_lex.specs.Places.{IsLexemeWithin, NoTokenWithin};
 
 use crate::blanks::skip_blanks;
 use crate::lexeme::Lexeme;
@@ -37,8 +39,8 @@ pub struct Lexing<'a> {
     pub stop: Stop,
 }
 
-/// All tokens from a place on, up to the first place where none stands, or where more than 512 round and square brackets
-/// would be open at once.
+/// All tokens from a place on, up to the first place where none stands, or where more than 512 round
+/// and square brackets would be open at once.
 ///
 /// # Errors
 ///
@@ -51,7 +53,8 @@ pub fn lex<'a>(alloc: Global, bytes: &'a [u8], at: usize) -> Result<Lexing<'a>, 
     lex_up_to(alloc, bytes, at, false)
 }
 
-/// The tokens of one item from a place on: as [`lex`], but up to the first full stop outside brackets.
+/// The tokens of one item from a place on: as [`lex`], but up to the first full stop outside
+/// brackets.
 ///
 /// Behind that full stop no byte is looked at.
 ///
@@ -82,24 +85,14 @@ fn lex_up_to<'a>(
     let mut depth = 0;
     let mut place = start;
     while place < bytes.len() {
-        let lexeme = match lexeme_at(bytes, place) {
-            Some(lexeme) => lexeme,
-            None => return Ok(Lexing {
-                tokens,
-                start,
-                end: place,
-                stop: Stop::Bad,
-            }),
-        };
-        let behind = depth_behind(depth, &lexeme);
-        if behind > DEEPEST_NESTING {
+        let Some((lexeme, behind)) = lexeme_within(bytes, place, depth) else {
             return Ok(Lexing {
                 tokens,
                 start,
                 end: place,
                 stop: Stop::Bad,
             });
-        }
+        };
         let end = place + lexeme.spelling.len();
         let stops = is_stop(depth, &lexeme);
         tokens.push(lexeme)?;
@@ -120,6 +113,22 @@ fn lex_up_to<'a>(
         end: place,
         stop: Stop::End,
     })
+}
+
+// The token at a place and the number of brackets that are open behind it, where this many are open
+// before. Nothing where no token stands, or one that nests too deep.
+fn lexeme_within<'a>(bytes: &'a [u8], at: usize, depth: usize) -> Option<(Lexeme<'a>, usize)>
+    requires place { at < length bytes.now }
+    requires depth { depth ≤ DEEPEST_NESTING }
+    ensures { MatchOption result (NoTokenWithin bytes.now at depth)
+        (λ found. IsLexemeWithin bytes.now at depth found.0 found.1) }
+{
+    let lexeme = lexeme_at(bytes, at)?;
+    let behind = depth_behind(depth, &lexeme);
+    if behind > DEEPEST_NESTING {
+        return None;
+    }
+    Some((lexeme, behind))
 }
 
 // Room for the tokens of most items, if any token can stand.

@@ -1,5 +1,6 @@
 // Loops over the bytes of a token.
-ghost use Rattle.std.specs.Prelude.{◌≡◌, ◌≢◌, ◌≤◌, ◌<◌, ◌+◌, length, drop, false, None, Some, slice_index, MatchOption};
+ghost use Rattle.std.specs.Prelude.{◌≡◌, ◌≢◌, ◌≤◌, ◌<◌, ◌+◌, length, drop, slice_index};
+ghost use Rattle.std.specs.Prelude.{false, None, Some, MatchOption};
 ghost use Rattle.std.specs.List.{prefix_len};
 ghost use Rattle.si_defs.specs.Bytes as classes;
 ghost use Rattle.si_lex.specs.Scans.{behind_quote, decimal_len, lower_len};
@@ -67,7 +68,8 @@ pub fn decimal_end(bytes: &[u8], at: usize) -> usize
 pub fn quoted_end(bytes: &[u8], at: usize, quote: u8) -> Option<usize>
     requires { at ≤ length bytes.now }
     ensures { let inner = drop at bytes.now in
-        MatchOption result (behind_quote quote false inner ≡ None) (λ end. (at < end) × (end ≤ length bytes.now)
+        MatchOption result (behind_quote quote false inner ≡ None)
+        (λ end. (at < end) × (end ≤ length bytes.now)
         × (behind_quote quote false inner ≡ Some (drop end bytes.now))) }
 {
     let mut place = at;

@@ -34,8 +34,8 @@ pub enum Lexed {
 
 /// The longest token behind the longest blanks from a place on.
 ///
-/// `at` and all places count bytes from the start of `bytes`. Blanks are white space and closed comments; a comment that
-/// isn't closed is bad at its first byte.
+/// `at` and all places count bytes from the start of `bytes`. Blanks are white space and closed
+/// comments; a comment that isn't closed is bad at its first byte.
 ///
 /// # Errors
 ///

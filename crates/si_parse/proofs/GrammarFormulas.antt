@@ -82,7 +82,8 @@ replicate_more n t rest = by n ∙ ap (λ k. replicate k t ++ rest) counted wher
   counted = omega arith
 
 -- ---- formulas
--- A formula with its brackets: so many opening ones, what stands behind them, and so many closing ones.
+-- A formula with its brackets: so many opening ones, what stands behind them, and so many closing
+-- ones.
 module _ {tokens inner : List Token} (n : ℕ) (opened : tokens ≡ replicate n left_bracket ++ inner) (bare : NoBracket inner) where
   formula_by : (R : List Literal → List Token → Type 0) → ((ls : List Literal) (front after : List Token) → AreLiterals ls front → inner ≡ front ++ (replicate n right_bracket ++ after) → NoLiteral (replicate n right_bracket ++ after) → R ls after)
       → (ls : List Literal) (used after : List Token) → tokens ≡ used ++ after → IsFormula ls used → NoLiteral after → R ls after

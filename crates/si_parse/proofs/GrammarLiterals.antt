@@ -7,7 +7,7 @@ use Rattle.si_defs.specs.Terms as terms
 use Rattle.si_defs.specs.Symbols.{Symbol}
 use Rattle.si_defs.specs.Clauses.{Term, Terms, Literal}
 use Rattle.si_defs.specs.Tokens.{Token, mark}
-use Rattle.si_defs.specs.Grammar.{IsTerm, IsHead, IsAtom, AreSides, IsSignedAtom, IsLiteral, left_bracket, right_bracket}
+use Rattle.si_defs.specs.Grammar.{IsTerm, IsHead, IsAtom, AreSides, IsSignedAtom, IsLiteral, left_bracket, right_bracket, not_equal}
 use Rattle.si_defs.specs.declared.SymKind.{SymKind}
 use Rattle.si_defs.specs.declared.SymKind.TheVariants.{Word, Dollar, Number, Distinct, Equal}
 use Rattle.si_defs.specs.declared.Side.{Side}
@@ -101,6 +101,14 @@ pub no_sign-bracket : (rest : List Token) → NoSign rest → NoBracket rest
 no_sign-bracket [] h = tt
 no_sign-bracket (t ∷ ts) h = (h.0, tt)
 
+-- and where neither a bracket nor a sign stands, none follows
+pub no_sign-none : (tokens : List Token) → NoBracket tokens → Parses IsSign Anything tokens None → NoSign tokens
+no_sign-none [] h s = tt
+no_sign-none (t ∷ ts) h s = (
+  h.0,
+  (λ e. parses_never s true (mark 61 ∷ []) ts (ap (λ x. x ∷ ts) e) refl tt, (λ e. parses_never s false (not_equal ∷ []) ts (ap (λ x. x ∷ ts) e) refl tt, tt)),
+)
+
 -- and none follows
 sign_never : (positive : Bool) (rest after : List Token) → NoSign after → after ≡ equality_sign positive ∷ rest → ⊥
 sign_never positive rest [] h e = cc
@@ -117,6 +125,10 @@ signs_apart false true e = absurd (mark_unequal 61 (sym e))
 -- what stands behind a sign
 sign_front : {positive : Bool} {ts rest : List Token} → Parses IsSign Anything ts (Some (positive, rest)) → ts ≡ equality_sign positive ∷ rest
 sign_front {positive = positive} {rest = rest} p = let h = parses_uses positive rest p in h.1 ∙ ap (λ x. x ++ rest) h.2
+
+-- so none may stand where none may follow
+pub sign_refused : {positive : Bool} {ts rest : List Token} → Parses IsSign Anything ts (Some (positive, rest)) → NoSign ts → ⊥
+sign_refused {positive = positive} {ts = ts} {rest = rest} p h = sign_never positive rest ts h (sign_front p)
 
 -- without a term there is no statement
 pub statement_none : {tokens : List Token} → Parses IsTerm NoBracket tokens None → Parses IsStatement NoSign tokens None

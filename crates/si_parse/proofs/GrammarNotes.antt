@@ -24,7 +24,8 @@ abbrev pub and_then : (List Bracket → Option (List Bracket)) → Option (List 
 and_then f None = None
 and_then f (Some next) = f next
 
--- the brackets that are open behind some tokens, the last one first; none where one closes another than the last
+-- the brackets that are open behind some tokens, the last one first; none where one closes another
+-- than the last
 abbrev pub open_after : List Token → List Bracket → Option (List Bracket)
 open_after [] pending = Some pending
 open_after (t ∷ ts) pending = and_then (open_after ts) (brackets_behind t pending)
@@ -58,7 +59,8 @@ open_balanced (t ∷ ts) pending h = by (λ p f. open_balanced ts p f) (brackets
   by again None f = absurd (none_some [] f)
   by again (Some p) f = again p f
 
--- How some tokens stand beside annotations and their bracket: those end here, or the next token is one of them.
+-- How some tokens stand beside annotations and their bracket: those end here, or the next token is
+-- one of them.
 pub data Beside (front notes : List Token) (t : Token) (stack : List Bracket) (rest behind : List Token) : Type 0 where
   ends : front ≡ notes → stack ≡ [] → t ≡ right_bracket → rest ≡ behind → Beside front notes t stack rest behind
   goes_on : (next : List Bracket) → brackets_behind t stack ≡ Some next → Beside front notes t stack rest behind

@@ -1,11 +1,12 @@
--- What tokens spell is sound, and has no more occurrences of symbols and variables than there are tokens.
+-- What tokens spell is sound, and has no more occurrences of symbols and variables than there are
+-- tokens.
 use Rattle.std.proofs.Common.{◌≡◌, ℕ, ◌+◌, ◌≤◌, Bool, true, false, List, [], ◌∷◌, ◌++◌, ◌⊎◌, length, replicate, Option, Some, None, refl, sym, ap, ◌∙◌, subst, arith, inl, inr, Bor}
 use Rattle.std.specs.List.{AllByRecursion}
 use Rattle.std.proofs.lemmas.List.{length-append, length-map}
 use Rattle.si_defs.specs.Bytes.{Bytes}
 use Rattle.si_defs.specs.Terms as terms
 use Rattle.si_defs.specs.Symbols.{Symbol}
-use Rattle.si_defs.specs.Clauses.{Term, Terms, Literal, Clause, Fits, IsSoundSymbol, IsSoundTerm, AreSoundTerms, IsSoundAtom, IsSoundLiteral, literal_size, literals_size, literal_pattern, term_pattern, IsSoundPattern, IsSoundClause}
+use Rattle.si_defs.specs.Clauses.{Term, Terms, Literal, Clause, Fits, IsSoundSymbol, IsSoundTerm, AreSoundTerms, IsSoundAtom, IsSoundLiteral, AreSoundLiterals, literal_size, literals_size, literal_pattern, term_pattern, IsSoundPattern, IsSoundClause}
 use Rattle.si_defs.specs.declared.TheConstants.{MOST_OCCURRENCES}
 use Rattle.si_defs.specs.Tokens as defs
 use Rattle.si_defs.specs.Tokens.{mark}
@@ -198,6 +199,33 @@ found_term tokens few t used l h = ((sound_term t used h).0, small_term t used h
 -- and so is a literal
 pub found_literal : (tokens : List Lexeme) → length tokens ≤ MOST_BYTES → (l : Literal) (used : List defs.Token) → length used ≤ length tokens → IsLiteral l used → IsSoundPattern (literal_pattern l)
 found_literal tokens few l used n h = ((sound_literal l used h).0, small_signed l.positive l.atom used h (omega (arith, n, few)))
+
+-- literals behind a bar have fewer occurrences than there are tokens
+small_more_literals : (ls : List Literal) (ts : List defs.Token) → (ls ≡ [] → ⊥) → AreMoreLiterals ls ts → literals_size ls + 1 ≤ length ts
+small_more_literals [] ts some h = absurd (some refl)
+small_more_literals (l ∷ ls) ts some (first, others, one, all, e) =
+    omega (arith, (sound_literal l first one).1, (sound_more_literals ls others all).1, ap length e, length-append first others)
+
+-- one literal has few, as a pattern has, and several have a bar between them
+small_literals : (l : Literal) (ls : List Literal) (first others ts : List defs.Token) → IsLiteral l first → AreMoreLiterals ls others → ts ≡ first ++ others
+    → length ts ≤ MOST_BYTES → literals_size (l ∷ ls) ≤ MOST_OCCURRENCES
+small_literals l [] first others ts one all e few =
+    omega (arith, small_signed l.positive l.atom first one (omega (arith, few, ap length e, length-append first others)))
+small_literals l (k ∷ ks) first others ts one all e few =
+    omega (arith, (sound_literal l first one).1, small_more_literals (k ∷ ks) others (λ f. cc) all, few, ap length e, length-append first others)
+
+small_disjunction : (ls : List Literal) (ts : List defs.Token) → IsDisjunction ls ts → length ts ≤ MOST_BYTES → literals_size ls ≤ MOST_OCCURRENCES
+small_disjunction [] ts h few = absurd h
+small_disjunction (l ∷ ls) ts (first, others, one, all, e) few = small_literals l ls first others ts one all e few
+
+-- so the literals of a formula of few tokens are sound
+pub found_formula : (tokens : List Lexeme) → length tokens ≤ MOST_BYTES → (ls : List Literal) (used : List defs.Token) → length used ≤ length tokens → IsFormula ls used → AreSoundLiterals ls
+found_formula tokens few ls used fits (n, inner, h, e) =
+    record {
+      each = (sound_disjunction ls inner h).1;
+      no_larger = small_disjunction ls inner h
+          (omega (arith, few, fits, ap length e, length-append (replicate n left_bracket ++ inner) (replicate n right_bracket), length-append (replicate n left_bracket) inner));
+    }
 
 -- and a clause of few tokens is sound
 pub found_clause : (tokens : List Lexeme) → length tokens ≤ MOST_BYTES → (c : Clause) (used : List defs.Token) → length used ≤ length tokens → IsClause c used → IsSoundClause c

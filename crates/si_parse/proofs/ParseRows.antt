@@ -1,4 +1,5 @@
--- Rows: what the reader of items with a sign between them gives, by what the reader of one item gives.
+-- Rows: what the reader of items with a sign between them gives, by what the reader of one item
+-- gives.
 use Rattle.std.proofs.Common.{◌≡◌, map, ◌+◌, ◌≤◌, List, [], ◌∷◌, ◌++◌, length, Some, None, refl, sym, ap, ◌∙◌, subst, append_assoc, append-nil, arith}
 use Rattle.std.proofs.lemmas.List.{length-append}
 use Rattle.si_defs.specs.Tokens.{Token}

@@ -39,8 +39,8 @@ module _ {M N : Type 0} {A : M → List Token → Type 0} {B : N → List Token 
         let first = parses_one p other.0 u (v ++ behind) (e ∙ ap (λ x. x ++ behind) f ∙ append_assoc u v behind) one (follows other.1 v behind two g) in
         parses_never q other.1 v behind first.1 two g
 
--- Meanings by another name: each of the first is one of the second, and each of the second at the front of these
--- tokens is one of the first.
+-- Meanings by another name: each of the first is one of the second, and each of the second at the
+-- front of these tokens is one of the first.
 module _ {M N : Type 0} {A : M → List Token → Type 0} {B : N → List Token → Type 0} {F : List Token → Type 0} {tokens : List Token} (f : M → N)
     (to : (m : M) (used : List Token) → A m used → B (f m) used)
     (from : (n : N) (used rest : List Token) → tokens ≡ used ++ rest → B n used → F rest → (m : M) × (f m ≡ n) × A m used) where

@@ -60,6 +60,12 @@ pub parses_never : {M : Type 0} {Means : M → List Token → Type 0} {Follows :
     → (m : M) (used rest : List Token) → tokens ≡ used ++ rest → Means m used → Follows rest → ⊥
 parses_never p m used rest e means follows = none_is_some (p.every m used rest e means follows)
 
+-- where what follows is not allowed, no front has a meaning with what is allowed behind it
+pub parses_refused : {M : Type 0} {Means : M → List Token → Type 0} {Follows : List Token → Type 0} {tokens : List Token}
+    {m : M} {rest : List Token} → Parses Means Follows tokens (Some (m, rest)) → (Follows rest → ⊥) → Parses Means Follows tokens None
+parses_refused {Follows = Follows} p refused = parses_none (λ other used behind e means follows.
+    refused (subst Follows (sym (parses_one p other used behind e means follows).1) follows))
+
 -- ---- fronts of lists
 pub heads : {A : Type 0} {x y : A} {xs ys : List A} → x ∷ xs ≡ y ∷ ys → x ≡ y
 heads e = cc

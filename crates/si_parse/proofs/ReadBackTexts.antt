@@ -1,4 +1,5 @@
--- Printed names, file words and terms are read back: the grammar gives each the meaning that it was printed from.
+-- Printed names, file words and terms are read back: the grammar gives each the meaning that it was
+-- printed from.
 use Rattle.std.proofs.Common.{◌≡◌, ℕ, ◌≤◌, Bool, true, false, cond, not, ◌==◌, List, [], ◌∷◌, ◌++◌, codes, refl, ap, ap₂, sym, ◌∙◌, subst, inl, inr, arith, append_assoc}
 use Rattle.std.specs.Prelude.{max}
 use Rattle.std.proofs.lemmas.Bool.{false≢true, or_right, eqb-true}
@@ -358,7 +359,8 @@ one t bytes p = whole bytes (t ∷ []) ([], bare_next t bytes [] p.0 p.1 refl, r
 one_nested : (t : Token) → is_bare t.kind ≡ true → nesting (t ∷ []) ≤ DEEPEST_NESTING
 one_nested t b = let e = bare_deep t b 0 in rw e (omega arith)
 
--- The tokens of a term, wherever they stand, tell that its printed text is read back, if its variables are printed as they are.
+-- The tokens of a term, wherever they stand, tell that its printed text is read back, if its
+-- variables are printed as they are.
 pub spelled_reads_back : (t : Term) (f : Bytes → Bytes) (ts : List Token) → Keeps f (terms.variables t)
     → IsTerm t ts → AreSpelled ts → nesting ts ≤ DEEPEST_NESTING → IsPatternText (term_pattern t) (term_text f t)
 spelled_reads_back t f ts k h p n = record {

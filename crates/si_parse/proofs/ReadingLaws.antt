@@ -78,7 +78,8 @@ foreign_front (t ∷ u ∷ us) f = (t.text, us, f.0.1, λ i. record { kind = f.0
 
 -- ---- items
 module _ (bytes : Bytes) (at : ℕ) (l : Lexing) (h : IsItemLexing bytes at l) where
-  -- the tokens of an item that stands in front are all that were read, and they end at its full stop
+  -- the tokens of an item that stands in front are all that were read, and they end at its full
+  -- stop
   whole_item : (item : Item) (used others : List Token) → tokens_of l.tokens.items ≡ used ++ others → IsItem item used → (others ≡ []) × (l.stop ≡ FullStop)
   whole_item item used others e is = by l.stop refl where
     ends : EndsAtStop 0 used
@@ -92,7 +93,8 @@ module _ (bytes : Bytes) (at : ℕ) (l : Lexing) (h : IsItemLexing bytes at l) w
     by End f = absurd (other (λ g. let k : End ≡ FullStop = sym f ∙ g in cc))
     by Bad f = absurd (other (λ g. let k : Bad ≡ FullStop = sym f ∙ g in cc))
 
-  -- every item that the bytes begin with is spelled by all the tokens, and what stands behind it was not read
+  -- every item that the bytes begin with is spelled by all the tokens, and what stands behind it
+  -- was not read
   item_all : (item : Item) (rest : Bytes) → BeginsWithItem (drop at bytes) item rest → IsItem item (tokens_of l.tokens.items) × (rest ≡ drop l.end bytes)
   item_all item rest b =
       let k = h.every b.tokens rest b.begins b.nested (ends_goes 0 b.tokens (item_stops item b.tokens b.spelled)) in

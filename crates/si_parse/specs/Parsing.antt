@@ -1,5 +1,5 @@
 -- What a reader of tokens gives.
-use Rattle.std.specs.Prelude.{◌≡◌, ℕ, List, [], ◌∷◌, ◌++◌, Option, Some, option_map, IfSome}
+use Rattle.std.specs.Prelude.{◌≡◌, List, [], ◌∷◌, ◌++◌, Option, Some, option_map, IfSome}
 use Rattle.std.specs.List.{AllByRecursion}
 use Rattle.si_defs.specs.Tokens.{Token, mark}
 use Rattle.si_defs.specs.Grammar.{left_bracket, not_equal}
@@ -7,8 +7,8 @@ use Rattle.si_lex.specs.Lexemes.{tokens_of}
 use Rattle.si_lex.specs.declared.lexeme.Lexeme.{Lexeme}
 use Rattle.std.specs.Borrow.{Bor}
 
--- The meaning that was found is spelled by the tokens in front of what is left, and whatever the front tokens mean was
--- found, where what follows them allows it.
+-- The meaning that was found is spelled by the tokens in front of what is left, and whatever the
+-- front tokens mean was found, where what follows them allows it.
 pub record Parses {M : Type 0} (Means : M → List Token → Type 0) (Follows : List Token → Type 0)
     (tokens : List Token) (result : Option (M × List Token)) : Type 0 where
   pub found : (m : M) (rest : List Token) → result ≡ Some (m, rest) → (used : List Token) × (tokens ≡ used ++ rest) × Means m used
@@ -51,6 +51,10 @@ Reads view Means Follows tokens result =
 abbrev pub Passes : (List Token → Type 0) → List Lexeme → Option (Bor (List Lexeme)) → Type 0
 Passes Spelled tokens result =
     Parses (λ (u : Unit {0}) used. Spelled used) Anything (tokens_of tokens) (option_map (λ r. (tt {0}, tokens_of r.now)) result)
+
+-- what is left behind what was found, if anything was, is this
+abbrev pub IfLeft : {X : Type 0} → (List Token → Type 0) → Option (X × Bor (List Lexeme)) → Type 0
+IfLeft P result = IfSome result (λ r. P (tokens_of r.1.now))
 
 -- what was found, if anything was, has this
 abbrev pub IfFound : {X : Type 0} → (X → Type 0) → Option (X × Bor (List Lexeme)) → Type 0

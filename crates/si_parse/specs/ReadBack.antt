@@ -1,5 +1,5 @@
--- Printed names, file words and terms that are read back. Each has some text by the grammar, so no name or symbol in it is
--- one that can't be written, and it nests no deeper than may be read.
+-- Printed names, file words and terms that are read back. Each has some text by the grammar, so no
+-- name or symbol in it is one that can't be written, and it nests no deeper than may be read.
 use Rattle.std.specs.Prelude.{◌≡◌, [], Option, Some, None}
 use Rattle.si_defs.specs.Bytes.{Bytes}
 use Rattle.si_defs.specs.Terms as terms

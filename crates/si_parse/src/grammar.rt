@@ -3,8 +3,10 @@
 // Each reader answers what it read at the front of some tokens, and the tokens behind it. Terms are
 // read by recursion, as deep as their brackets nest; the lexer bounds that. What may be long, as
 // arguments, literals, names and annotations, is read by loops.
+ghost use Rattle.std.specs.Prelude.{◌↔◌, IsFalse};
+ghost use Rattle.si_lex.specs.Lexemes.{tokens_of};
 ghost use Rattle.si_parse.specs.GrammarRules.{IsMark, IsOpening};
-ghost use Rattle.si_parse.specs.Parsing.{Passes};
+ghost use Rattle.si_parse.specs.Parsing.{NoBracket, Passes};
 
 use si_lex::Lexeme;
 
@@ -35,6 +37,13 @@ fn mark_at<'t, 'b>(tokens: &'t [Lexeme<'b>], c: u8) -> Option<&'t [Lexeme<'b>]>
         [first, rest @ ..] if first.is_mark(c) => Some(rest),
         _ => None,
     }
+}
+
+/// Whether an opening round bracket stands in front, so that a word before it has arguments.
+fn bracket_follows(tokens: &[Lexeme]) -> bool
+    ensures { IsFalse result ↔ NoBracket (tokens_of tokens.now) }
+{
+    mark_at(tokens, b'(').is_some()
 }
 
 /// The tokens behind a word and a bracket, as items begin.

@@ -1,13 +1,17 @@
 // The readers at texts that were read by hand.
+use crate::grammar::{literal, term};
 use crate::item::{Read, next_item};
 use crate::pattern::{PatternKind, read_pattern};
 use crate::text::{read_file, read_formula, read_name};
-use si_defs::{MOST_BYTES, NameKind};
+use si_defs::{MOST_BYTES, NameKind, SymKind};
+use si_lex::lex;
+use si_term::{Literals, Term};
 use std::alloc::{AllocError, Global};
 use std::process::Abort;
 use std::test::Fail;
 
-/// What stands in a text (`c` a clause, `i` an include, `e` the end, `s` no item, `l` another language), and its place.
+/// What stands in a text (`c` a clause, `i` an include, `e` the end, `s` no item, `l` another
+/// language), and its place.
 fn seen(alloc: Global, text: &[u8]) -> Result<(u8, usize), AllocError> {
     if text.len() > MOST_BYTES {
         return Err(AllocError);
@@ -104,42 +108,62 @@ fn items(rt: HostRuntime) -> Result<(), Fail> {
     Ok(())
 }
 
-/// How many literals a formula has, and none where the text is no formula.
-fn literals_in(alloc: Global, text: &[u8]) -> Result<usize, AllocError> {
+/// The formula that a text is.
+fn formula_in(alloc: Global, text: &[u8]) -> Result<Option<Literals>, AllocError> {
     if text.len() > MOST_BYTES {
         return Err(AllocError);
     }
-    match read_formula(alloc, text)? {
-        Some(literals) => Ok(literals.len()),
-        None => Ok(0),
-    }
+    read_formula(alloc, text)
 }
 
-const FORMULAS: [(&[u8], usize); 17] = [
-    (b"p", 1),
-    (b"'p'", 1),
-    (b"' p'", 1),
-    (b"$true", 1),
-    (b"$$a(X)", 1),
-    (b"p(a,1,\"d\")", 1),
-    (b"a=b", 1),
-    (b"a!=b", 1),
-    (b"~a=b", 1),
-    (b"~(a=b)", 1),
-    (b"X=Y", 1),
-    (b"1=2", 1),
-    (b"\"a\"!=X", 1),
-    (b"~(p)|q", 2),
-    (b"((p|q))", 2),
-    (b"p(q)=r(s)|t", 2),
-    (b" /**/p%", 1),
+/// A text, how many literals its formula has, and the first one: its sign, and the kind and the
+/// text of its head.
+type Formula = (&'static [u8], usize, bool, SymKind, &'static [u8]);
+
+const FORMULAS: [Formula; 18] = [
+    (b"p", 1, true, SymKind::Word, b"p"),
+    (b"'p'", 1, true, SymKind::Word, b"p"),
+    (b"' p'", 1, true, SymKind::Word, b" p"),
+    (b"$true", 1, true, SymKind::Dollar, b"$true"),
+    (b"$$a(X)", 1, true, SymKind::Dollar, b"$$a"),
+    (b"p(a,1,\"d\")", 1, true, SymKind::Word, b"p"),
+    (b"a=b", 1, true, SymKind::Equal, b"="),
+    (b"a!=b", 1, false, SymKind::Equal, b"="),
+    (b"~a=b", 1, false, SymKind::Equal, b"="),
+    (b"~(a=b)", 1, false, SymKind::Equal, b"="),
+    (b"X=Y", 1, true, SymKind::Equal, b"="),
+    (b"1=2", 1, true, SymKind::Equal, b"="),
+    (b"\"a\"!=X", 1, false, SymKind::Equal, b"="),
+    (b"~p|q", 2, false, SymKind::Word, b"p"),
+    (b"~(p)|q", 2, false, SymKind::Word, b"p"),
+    (b"((p|q))", 2, true, SymKind::Word, b"p"),
+    (b"p(q)=r(s)|t", 2, true, SymKind::Equal, b"="),
+    (b" /**/p%", 1, true, SymKind::Word, b"p"),
 ];
 
-const NO_FORMULAS: [&[u8]; 20] = [
+/// The formula is as the row says.
+fn assert_formula(rt: &impl Abort, literals: &Literals, row: &Formula) {
+    assert_eq!(rt; literals.len(), row.1);
+    let first = literals.as_slice().first().expect(rt, "a literal");
+    assert_eq!(rt; first.positive, row.2);
+    let head = match &first.atom {
+        Term::App(head, _) => Some(head),
+        Term::Var(_) => None,
+    };
+    let head = head.expect(rt, "a head");
+    assert_eq!(rt; head.kind, row.3);
+    assert_eq!(rt; head.text.as_bytes(), row.4);
+}
+
+const NO_FORMULAS: [&[u8]; 24] = [
     b"X",
     b"1",
+    b"1=",
     b"~a!=b",
     b"~ ~p",
+    b"~ ~ p",
+    b"~(p) q",
+    b"((p)",
     b"(p)|q",
     b"p|",
     b"|p",
@@ -161,7 +185,8 @@ const NO_FORMULAS: [&[u8]; 20] = [
 #[test]
 fn formulas(rt: HostRuntime) -> Result<(), Fail> {
     for row in &FORMULAS {
-        assert_eq!(rt; literals_in(rt.alloc(), row.0)?, row.1);
+        let formula = formula_in(rt.alloc(), row.0)?.expect(&rt, "a formula");
+        assert_formula(&rt, &formula, row);
     }
     Ok(())
 }
@@ -169,7 +194,8 @@ fn formulas(rt: HostRuntime) -> Result<(), Fail> {
 #[test]
 fn no_formulas(rt: HostRuntime) -> Result<(), Fail> {
     for text in &NO_FORMULAS {
-        assert_eq!(rt; literals_in(rt.alloc(), text)?, 0);
+        let formula = formula_in(rt.alloc(), text)?;
+        assert!(rt; formula.is_none());
     }
     Ok(())
 }
@@ -227,6 +253,87 @@ fn files(rt: HostRuntime) -> Result<(), Fail> {
     for row in &FILES {
         let file = read_file(rt.alloc(), row.0)?;
         assert_eq!(rt; file.is_some(), row.1);
+    }
+    Ok(())
+}
+
+/// A text with so many brackets inside each other: between a front and a back, and each behind
+/// what opens it.
+fn nested(
+    alloc: Global,
+    front: &[u8],
+    open: &[u8],
+    count: usize,
+    back: &[u8],
+) -> Result<Vec<u8>, AllocError> {
+    let mut text = Vec::new(alloc);
+    text.extend_from_slice(front)?;
+    for _ in 0..count {
+        text.extend_from_slice(open)?;
+    }
+    text.push(b'p')?;
+    for _ in 0..count {
+        text.push(b')')?;
+    }
+    text.extend_from_slice(back)?;
+    Ok(text)
+}
+
+/// Whether a text is a pattern.
+fn is_pattern(alloc: Global, text: &[u8]) -> Result<bool, AllocError> {
+    if text.len() > MOST_BYTES {
+        return Err(AllocError);
+    }
+    let pattern = read_pattern(alloc, text, PatternKind::Term)?;
+    Ok(pattern.is_some())
+}
+
+/// So many brackets inside those of an item, so many in all, and whether they are read.
+const DEPTHS: [(usize, usize, bool); 3] = [(510, 511, true), (511, 512, true), (512, 513, false)];
+
+#[test]
+fn nesting(rt: HostRuntime) -> Result<(), Fail> {
+    for (inside, whole, is_read) in DEPTHS {
+        let item = nested(rt.alloc(), b"cnf(a,axiom,", b"(", inside, b").")?;
+        assert_eq!(rt; seen(rt.alloc(), &item)?.0 == b'c', is_read);
+        let pattern = nested(rt.alloc(), b"", b"f(", whole, b"")?;
+        assert_eq!(rt; is_pattern(rt.alloc(), &pattern)?, is_read);
+        let formula = nested(rt.alloc(), b"", b"(", whole, b"")?;
+        assert_eq!(rt; formula_in(rt.alloc(), &formula)?.is_some(), is_read);
+    }
+    Ok(())
+}
+
+/// Whether a term and a literal are found at the front of a text's tokens.
+fn found_in(alloc: Global, text: &[u8]) -> Result<(bool, bool), AllocError> {
+    let lexing = lex(alloc, text, 0)?;
+    let tokens = lexing.tokens.as_slice();
+    if tokens.len() > MOST_BYTES {
+        return Err(AllocError);
+    }
+    let is_term = term(alloc, tokens)?.is_some();
+    let is_literal = literal(alloc, tokens)?.is_some();
+    Ok((is_term, is_literal))
+}
+
+const FRONTS: [(&[u8], bool, bool); 9] = [
+    (b"p q", true, true),
+    (b"X)", true, false),
+    (b"X(", false, false),
+    (b"1(", false, false),
+    (b"p(a)(", false, false),
+    (b"a=b=c", true, false),
+    (b"a=b!=c", true, false),
+    (b"~(p)(", false, false),
+    (b"~(p)|", false, true),
+];
+
+#[test]
+fn fronts(rt: HostRuntime) -> Result<(), Fail> {
+    for row in &FRONTS {
+        let found = found_in(rt.alloc(), row.0)?;
+        assert_eq!(rt; found.0, row.1);
+        assert_eq!(rt; found.1, row.2);
     }
     Ok(())
 }

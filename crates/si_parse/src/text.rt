@@ -1,5 +1,6 @@
 // Formulas, names and files as whole texts.
-ghost use Rattle.std.specs.Prelude.{◌≤◌, length, IfOk, option_map};
+ghost use Rattle.std.specs.Prelude.{◌≤◌, length, IfOk, IfSome, option_map};
+ghost use Rattle.si_defs.specs.Clauses.{AreSoundLiterals};
 ghost use Rattle.si_defs.specs.Grammar.{IsFormula};
 ghost use Rattle.si_lex.specs.Lexemes.{tokens_of};
 ghost use Rattle.si_parse.specs.GrammarRules.{IsFile, IsNameToken};
@@ -20,7 +21,9 @@ use std::alloc::{AllocError, Global};
 /// `AllocError` where memory runs out.
 pub fn read_formula(alloc: Global, bytes: &[u8]) -> Result<Option<Literals>, AllocError>
     requires { length bytes.now ≤ MOST_BYTES }
-    ensures { IfOk result (ReadsText literals_of IsFormula bytes.now) }
+    ensures read { IfOk result (ReadsText literals_of IsFormula bytes.now) }
+    ensures sound { IfOk result
+        (λ read. IfSome read (λ ls. AreSoundLiterals (literals_of ls))) }
 {
     let lexing = lex(alloc, bytes, 0)?;
     match lexing.stop {
@@ -67,7 +70,9 @@ pub fn read_file(alloc: Global, bytes: &[u8]) -> Result<Option<Text>, AllocError
 /// `AllocError` where memory runs out.
 pub fn whole_formula(alloc: Global, tokens: &[Lexeme]) -> Result<Option<Literals>, AllocError>
     requires { length tokens.now ≤ MOST_BYTES }
-    ensures { IfOk result (ReadsAll literals_of IsFormula (tokens_of tokens.now)) }
+    ensures read { IfOk result (ReadsAll literals_of IsFormula (tokens_of tokens.now)) }
+    ensures sound { IfOk result
+        (λ read. IfSome read (λ ls. AreSoundLiterals (literals_of ls))) }
 {
     let Some((literals, rest)) = formula(alloc, tokens)? else {
         return Ok(None);

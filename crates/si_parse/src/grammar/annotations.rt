@@ -5,6 +5,7 @@ ghost use Rattle.si_parse.specs.Brackets.{IsEdge, IsTurn, pending_of};
 ghost use Rattle.si_parse.specs.GrammarRules.{AreAnnotations};
 ghost use Rattle.si_parse.specs.Parsing.{Passes};
 
+use si_defs::TokenKind;
 use si_lex::Lexeme;
 use std::alloc::{AllocError, Global};
 
@@ -83,15 +84,14 @@ fn step_over(pending: &mut Vec<Bracket>, token: &Lexeme) -> Result<Turn, AllocEr
 fn edge_of(token: &Lexeme) -> Option<Edge>
     ensures { IsEdge (token_of token.now) result }
 {
-    if token.is_mark(b'(') {
-        Some(Edge::Opens(Bracket::Round))
-    } else if token.is_mark(b')') {
-        Some(Edge::Closes(Bracket::Round))
-    } else if token.is_mark(b'[') {
-        Some(Edge::Opens(Bracket::Square))
-    } else if token.is_mark(b']') {
-        Some(Edge::Closes(Bracket::Square))
-    } else {
-        None
+    match token.kind {
+        TokenKind::Mark => match token.spelling {
+            [b'('] => Some(Edge::Opens(Bracket::Round)),
+            [b')'] => Some(Edge::Closes(Bracket::Round)),
+            [b'['] => Some(Edge::Opens(Bracket::Square)),
+            [b']'] => Some(Edge::Closes(Bracket::Square)),
+            _ => None,
+        },
+        _ => None,
     }
 }

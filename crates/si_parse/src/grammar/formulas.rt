@@ -1,13 +1,14 @@
 // Formulas: disjunctions of literals, in any number of round brackets.
 ghost use Rattle.std.specs.Prelude.{◌≡◌, ◌≤◌, ◌++◌, IfOk, length, replicate};
+ghost use Rattle.si_defs.specs.Clauses.{AreSoundLiterals};
 ghost use Rattle.si_defs.specs.Grammar.{IsFormula, left_bracket};
 ghost use Rattle.si_lex.specs.Lexemes.{tokens_of};
 ghost use Rattle.si_parse.specs.GrammarRules.{AreClosing, AreLiterals};
 ghost use Rattle.si_parse.specs.Meaning.{literals_of};
-ghost use Rattle.si_parse.specs.Parsing.{NoBracket, NoLiteral, Passes, Reads};
+ghost use Rattle.si_parse.specs.Parsing.{IfFound, NoBracket, NoLiteral, Passes, Reads};
 ghost use Rattle.si_defs.specs.declared.TheConstants.{MOST_BYTES};
 
-use crate::grammar::literals::literal;
+use crate::grammar::literals::front_literal;
 use crate::grammar::{Found, mark_at};
 use si_lex::Lexeme;
 use si_term::Literals;
@@ -22,7 +23,8 @@ pub fn formula<'t, 'b>(
     tokens: &'t [Lexeme<'b>],
 ) -> Result<Found<'t, 'b, Literals>, AllocError>
     requires { length tokens.now ≤ MOST_BYTES }
-    ensures { IfOk result (Reads literals_of IsFormula NoLiteral tokens.now) }
+    ensures read { IfOk result (Reads literals_of IsFormula NoLiteral tokens.now) }
+    ensures sound { IfOk result (IfFound (λ ls. AreSoundLiterals (literals_of ls))) }
 {
     let (depth, inner) = opening_brackets(tokens);
     let Some((literals, behind)) = disjunction(alloc, inner)? else {
@@ -42,14 +44,14 @@ fn disjunction<'t, 'b>(
     requires { length tokens.now ≤ MOST_BYTES }
     ensures { IfOk result (Reads literals_of AreLiterals NoLiteral tokens.now) }
 {
-    let Some((first, behind)) = literal(alloc, tokens)? else {
+    let Some((first, behind)) = front_literal(alloc, tokens)? else {
         return Ok(None);
     };
     let mut literals = Literals::new(alloc);
     literals.push(first)?;
     let mut left = behind;
     while let Some(rest) = mark_at(left, b'|') {
-        let Some((next, behind)) = literal(alloc, rest)? else {
+        let Some((next, behind)) = front_literal(alloc, rest)? else {
             return Ok(None);
         };
         literals.push(next)?;

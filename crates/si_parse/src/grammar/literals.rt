@@ -1,23 +1,24 @@
 // Literals and atoms.
-ghost use Rattle.std.specs.Prelude.{◌≡◌, ◌≤◌, ◌↔◌, IfOk, IsTrue, length, option_map};
+ghost use Rattle.std.specs.Prelude.{◌≡◌, ◌≤◌, ◌↔◌, IfOk, IsFalse, IsTrue, length, option_map};
 ghost use Rattle.si_defs.specs.Clauses.{IsSoundPattern, literal_pattern};
 ghost use Rattle.si_defs.specs.Grammar.{IsAtom, IsLiteral, not_equal};
 ghost use Rattle.si_defs.specs.declared.Side.TheVariants.{Predicate};
-ghost use Rattle.si_lex.specs.Lexemes.{token_of};
+ghost use Rattle.si_lex.specs.Lexemes.{token_of, tokens_of};
 ghost use Rattle.si_parse.specs.GrammarRules.{IsNegated, IsSign, IsStatement, as_atom, equation};
-ghost use Rattle.si_parse.specs.Parsing.{Anything, IfFound, NoSign, Reads};
+ghost use Rattle.si_parse.specs.Parsing.{Anything, IfFound, IfLeft, NoSign, Reads};
 ghost use Rattle.si_defs.specs.declared.TheConstants.{MOST_BYTES};
 ghost use Rattle.si_term.specs.Meaning.{literal_of};
 ghost use Rattle.si_term.specs.Terms.{term_of};
 
-use crate::grammar::terms::term;
-use crate::grammar::{Found, mark_at};
+use crate::grammar::terms::front_term;
+use crate::grammar::{Found, bracket_follows, mark_at};
 use si_defs::{Side, SymKind, TokenKind};
 use si_lex::Lexeme;
 use si_term::{Literal, Sym, Term, Terms, Text};
 use std::alloc::{AllocError, Global};
 
-/// The literal at the front: an atom, one behind a tilde, or two terms with `!=` between them.
+/// The literal at the front: an atom, one behind a tilde, or two terms with `!=` between them. No
+/// bracket opens behind a literal that is found, and neither `=` nor `!=` stands there.
 ///
 /// # Errors
 /// `AllocError` where memory runs out.
@@ -27,7 +28,25 @@ pub fn literal<'t, 'b>(
 ) -> Result<Found<'t, 'b, Literal>, AllocError>
     requires { length tokens.now ≤ MOST_BYTES }
     ensures read { IfOk result (Reads literal_of IsLiteral NoSign tokens.now) }
+    ensures ends { IfOk result (IfLeft NoSign) }
     ensures sound { IfOk result (IfFound (λ l. IsSoundPattern (literal_pattern (literal_of l)))) }
+{
+    let Some((literal, rest)) = front_literal(alloc, tokens)? else {
+        return Ok(None);
+    };
+    if sign_follows(rest) {
+        return Ok(None);
+    }
+    Ok(Some((literal, rest)))
+}
+
+/// The same, whatever stands behind it.
+pub(crate) fn front_literal<'t, 'b>(
+    alloc: Global,
+    tokens: &'t [Lexeme<'b>],
+) -> Result<Found<'t, 'b, Literal>, AllocError>
+    requires { length tokens.now ≤ MOST_BYTES }
+    ensures { IfOk result (Reads literal_of IsLiteral NoSign tokens.now) }
 {
     let Some(behind) = mark_at(tokens, b'~') else {
         return statement(alloc, tokens);
@@ -88,7 +107,7 @@ fn statement<'t, 'b>(
     requires { length tokens.now ≤ MOST_BYTES }
     ensures { IfOk result (Reads literal_of IsStatement NoSign tokens.now) }
 {
-    let Some((left, behind)) = term(alloc, tokens)? else {
+    let Some((left, behind)) = front_term(alloc, tokens)? else {
         return Ok(None);
     };
     let Some((positive, next)) = sign(behind) else {
@@ -103,11 +122,18 @@ fn statement<'t, 'b>(
             None => Ok(None),
         };
     };
-    let Some((right, rest)) = term(alloc, next)? else {
+    let Some((right, rest)) = front_term(alloc, next)? else {
         return Ok(None);
     };
     let atom = equality(alloc, left, right)?;
     Ok(Some((Literal { positive, atom }, rest)))
+}
+
+/// Whether a bracket or the sign of an equation stands in front, so that a literal before it goes on.
+fn sign_follows(tokens: &[Lexeme]) -> bool
+    ensures { IsFalse result ↔ NoSign (tokens_of tokens.now) }
+{
+    bracket_follows(tokens) || sign(tokens).is_some()
 }
 
 /// The sign of an equation at the front: `=`, or `!=` for its negation.

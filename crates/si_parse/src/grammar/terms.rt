@@ -5,29 +5,47 @@ ghost use Rattle.si_defs.specs.Grammar.{IsTerm};
 ghost use Rattle.si_defs.specs.Terms as terms;
 ghost use Rattle.si_lex.specs.Lexemes.{token_of};
 ghost use Rattle.si_parse.specs.GrammarRules.{AreTerms, IsApplied, function_symbol};
-ghost use Rattle.si_parse.specs.Parsing.{IfFound, NoBracket, NoTerm, Reads};
+ghost use Rattle.si_parse.specs.Parsing.{IfFound, IfLeft, NoBracket, NoTerm, Reads};
 ghost use Rattle.si_defs.specs.declared.TheConstants.{MOST_BYTES};
 ghost use Rattle.si_term.specs.Terms.{symbol_of, term_of};
 
-use crate::grammar::{Found, mark_at};
+use crate::grammar::{Found, bracket_follows, mark_at};
 use si_defs::{Side, SymKind, TokenKind};
 use si_lex::Lexeme;
 use si_term::{Sym, Term, Terms, Text};
 use std::alloc::{AllocError, Global};
 
 /// The term at the front: a variable, a number, a distinct object, or a word with its arguments if
-/// a bracket opens behind it.
+/// a bracket opens behind it. No bracket opens behind a term that is found.
 ///
 /// # Errors
 /// `AllocError` where memory runs out.
-#[cycle(reading)]
 pub fn term<'t, 'b>(
     alloc: Global,
     tokens: &'t [Lexeme<'b>],
 ) -> Result<Found<'t, 'b, Term>, AllocError>
     requires { length tokens.now ≤ MOST_BYTES }
     ensures read { IfOk result (Reads term_of IsTerm NoBracket tokens.now) }
+    ensures ends { IfOk result (IfLeft NoBracket) }
     ensures sound { IfOk result (IfFound (λ t. IsSoundPattern (term_pattern (term_of t)))) }
+{
+    let Some((term, rest)) = front_term(alloc, tokens)? else {
+        return Ok(None);
+    };
+    if bracket_follows(rest) {
+        return Ok(None);
+    }
+    Ok(Some((term, rest)))
+}
+
+/// The same, whatever stands behind it.
+#[cycle(reading)]
+pub(crate) fn front_term<'t, 'b>(
+    alloc: Global,
+    tokens: &'t [Lexeme<'b>],
+) -> Result<Found<'t, 'b, Term>, AllocError>
+    requires { length tokens.now ≤ MOST_BYTES }
+    ensures { IfOk result (Reads term_of IsTerm NoBracket tokens.now) }
 {
     match tokens {
         [first, rest @ ..] => match first.kind {
@@ -87,14 +105,14 @@ fn arguments<'t, 'b>(
     requires { length tokens.now ≤ MOST_BYTES }
     ensures { IfOk result (Reads (λ ts. ts) AreTerms NoTerm tokens.now) }
 {
-    let Some((first, behind)) = term(alloc, tokens)? else {
+    let Some((first, behind)) = front_term(alloc, tokens)? else {
         return Ok(None);
     };
     let mut args = Terms::new(alloc);
     args.push(first)?;
     let mut left = behind;
     while let Some(rest) = mark_at(left, b',') {
-        let Some((next, behind)) = term(alloc, rest)? else {
+        let Some((next, behind)) = front_term(alloc, rest)? else {
             return Ok(None);
         };
         args.push(next)?;

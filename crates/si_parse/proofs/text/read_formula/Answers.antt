@@ -11,11 +11,11 @@ pub whole_formula-requires : goal.whole_formula-requires
 whole_formula-requires c =
     omega (arith, ap length c.as_slice.ensures.value, text_few c.args.bytes.now c.in_ok-lexing.lexing c.in_ok-lexing.ensures.read, c.requires)
 
-pub returns-in-End : goal.returns-in-End
-returns-in-End c =
+pub returns-in-End-clause-read : goal.returns-in-End-clause-read
+returns-in-End-clause-read c =
     IfOk-weaker c.whole_formula.result (ReadsAll literals_of IsFormula (tokens_of c.as_slice.result.now)) (ReadsText literals_of IsFormula c.args.bytes.now)
     (λ found read. text_read literals_of IsFormula c.args.bytes.now c.in_ok-lexing.lexing c.in_ok-lexing.ensures.read c.in-End.is found
-    (subst (λ ts. ReadsAll literals_of IsFormula (tokens_of ts) found) c.as_slice.ensures.value read)) c.whole_formula.ensures
+    (subst (λ ts. ReadsAll literals_of IsFormula (tokens_of ts) found) c.as_slice.ensures.value read)) c.whole_formula.ensures.read
 
-pub returns : goal.returns
-returns c = text_none literals_of IsFormula c.args.bytes.now c.in_ok-lexing.lexing c.in_ok-lexing.ensures.read c.in_default.not-End
+pub returns-clause-read : goal.returns-clause-read
+returns-clause-read c = text_none literals_of IsFormula c.args.bytes.now c.in_ok-lexing.lexing c.in_ok-lexing.ensures.read c.in_default.not-End

@@ -28,19 +28,19 @@ pub returns-in_default-3-clause-read : goal.returns-in_default-3-clause-read
 returns-in_default-3-clause-read c =
     clause_none (opening_then (opened c.as_slice.result.now (codes "cnf") c.as_slice.ensures c.in-Some.ensures)
     (heading_then (reads_some heading_of c.in-Some.rest.now c.in_ok-heading.ensures c.in-Some-2.is)
-    (formula_first (reads_none literals_of c.in-Some-2.rest.now c.in_ok-literals.ensures c.in_default-3.is))))
+    (formula_first (reads_none literals_of c.in-Some-2.rest.now c.in_ok-literals.ensures.read c.in_default-3.is))))
 
 pub returns-in_default-4-clause-read : goal.returns-in_default-4-clause-read
 returns-in_default-4-clause-read c =
     clause_none (opening_then (opened c.as_slice.result.now (codes "cnf") c.as_slice.ensures c.in-Some.ensures)
     (heading_then (reads_some heading_of c.in-Some.rest.now c.in_ok-heading.ensures c.in-Some-2.is)
-    (formula_then (reads_some literals_of c.in-Some-2.rest.now c.in_ok-literals.ensures c.in-Some-3.is) (closed_first (passes_none c.in-Some-3.rest.now c.in_ok-rest.ensures c.in_default-4.is)))))
+    (formula_then (reads_some literals_of c.in-Some-2.rest.now c.in_ok-literals.ensures.read c.in-Some-3.is) (closed_first (passes_none c.in-Some-3.rest.now c.in_ok-rest.ensures c.in_default-4.is)))))
 
 pub returns-in-Some-mark_at-clause-read : goal.returns-in-Some-mark_at-clause-read
 returns-in-Some-mark_at-clause-read c =
     clause_some (then_some {F = Anything} (λ n used rest b g. tt) (opened c.as_slice.result.now (codes "cnf") c.as_slice.ensures c.in-Some.ensures)
     (then_some {F = Anything} (λ n used rest b g. tt) (reads_some heading_of c.in-Some.rest.now c.in_ok-heading.ensures c.in-Some-2.is)
-    (then_some {F = NoLiteral} ending_follows (reads_some literals_of c.in-Some-2.rest.now c.in_ok-literals.ensures c.in-Some-3.is)
+    (then_some {F = NoLiteral} ending_follows (reads_some literals_of c.in-Some-2.rest.now c.in_ok-literals.ensures.read c.in-Some-3.is)
     (then_some {F = Anything} (λ n used rest b g. tt) (passes_some c.in-Some-3.rest.now c.in_ok-rest.ensures c.in-Some-4.is) c.in-Some-mark_at.ensures))))
 
 pub returns-in-Some-mark_at-clause-sound : goal.returns-in-Some-mark_at-clause-sound
@@ -51,5 +51,5 @@ pub returns-in-None-clause-read : goal.returns-in-None-clause-read
 returns-in-None-clause-read c =
     clause_none (opening_then (opened c.as_slice.result.now (codes "cnf") c.as_slice.ensures c.in-Some.ensures)
     (heading_then (reads_some heading_of c.in-Some.rest.now c.in_ok-heading.ensures c.in-Some-2.is)
-    (formula_then (reads_some literals_of c.in-Some-2.rest.now c.in_ok-literals.ensures c.in-Some-3.is)
+    (formula_then (reads_some literals_of c.in-Some-2.rest.now c.in_ok-literals.ensures.read c.in-Some-3.is)
     (closed_then (passes_some c.in-Some-3.rest.now c.in_ok-rest.ensures c.in-Some-4.is) c.in-None.ensures))))

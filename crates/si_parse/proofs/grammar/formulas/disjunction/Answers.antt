@@ -8,36 +8,36 @@ use Rattle.si_parse.proofs.GrammarFormulas.{literal_last, bar_no_sign, bar_stops
 use Rattle.si_parse.proofs.grammar.formulas.disjunction.Goals as goal
 
 pub returns-in_default : goal.returns-in_default
-returns-in_default c = row_none IsLiteral literal_last bar_no_sign bar_stops (reads_none literal_of c.args.tokens.now c.in_ok-first.ensures.read c.in_default.is)
+returns-in_default c = row_none IsLiteral literal_last bar_no_sign bar_stops (reads_none literal_of c.args.tokens.now c.in_ok-first.ensures c.in_default.is)
 
 pub loop-rest-init : goal.loop-rest-init
 loop-rest-init c =
-    let p = reads_some literal_of c.args.tokens.now c.in_ok-first.ensures.read c.in-Some.is in
+    let p = reads_some literal_of c.args.tokens.now c.in_ok-first.ensures c.in-Some.is in
     record {
       along = along_at (ap literals_of (c.in_ok-push.ensures.ok ∙ ap (λ ls. ls ++ c.in-Some.first ∷ []) c.new-literals.ensures)) (along_first IsLiteral literal_last bar_no_sign bar_stops p);
       shorter = left_shorter c.args.tokens.now c.in-Some.behind.now p;
     }
 
-pub literal-requires-in-Some-mark_at : goal.literal-requires-in-Some-mark_at
-literal-requires-in-Some-mark_at c =
+pub front_literal-requires-in-Some-mark_at : goal.front_literal-requires-in-Some-mark_at
+front_literal-requires-in-Some-mark_at c =
     let one : length c.in-Some-mark_at.rest.now < length c.loop-rest.left.now = mark_shorter c.loop-rest.left.now c.in-Some-mark_at.rest.now c.in-Some-mark_at.ensures in
     omega (arith, one, c.loop-rest.invariant.shorter, c.requires)
 
 pub returns-in_default-2 : goal.returns-in_default-2
 returns-in_default-2 c =
     row_stop IsLiteral literal_last bar_no_sign bar_stops c.loop-rest.invariant.along (mark_front c.in-Some-mark_at.ensures)
-    (reads_none literal_of c.in-Some-mark_at.rest.now c.in_ok-next.ensures.read c.in_default-2.is)
+    (reads_none literal_of c.in-Some-mark_at.rest.now c.in_ok-next.ensures c.in_default-2.is)
 
 pub loop-rest-smaller : goal.loop-rest-smaller
 loop-rest-smaller c =
     let one : length c.in-Some-mark_at.rest.now < length c.loop-rest.left.now = mark_shorter c.loop-rest.left.now c.in-Some-mark_at.rest.now c.in-Some-mark_at.ensures in
     let shorter : length c.in-Some-2.behind.now < length c.loop-rest.left.now =
-    omega (arith, one, left_shorter c.in-Some-mark_at.rest.now c.in-Some-2.behind.now (reads_some literal_of c.in-Some-mark_at.rest.now c.in_ok-next.ensures.read c.in-Some-2.is)) in
+    omega (arith, one, left_shorter c.in-Some-mark_at.rest.now c.in-Some-2.behind.now (reads_some literal_of c.in-Some-mark_at.rest.now c.in_ok-next.ensures c.in-Some-2.is)) in
     shorter
 
 pub loop-rest-preserved : goal.loop-rest-preserved
 loop-rest-preserved c =
-    let p = reads_some literal_of c.in-Some-mark_at.rest.now c.in_ok-next.ensures.read c.in-Some-2.is in
+    let p = reads_some literal_of c.in-Some-mark_at.rest.now c.in_ok-next.ensures c.in-Some-2.is in
     let one : length c.in-Some-mark_at.rest.now < length c.loop-rest.left.now = mark_shorter c.loop-rest.left.now c.in-Some-mark_at.rest.now c.in-Some-mark_at.ensures in
     record {
       along = along_at (ap literals_of c.in_ok-push-2.ensures.ok ∙ map_push literal_of c.loop-rest.literals c.in-Some-2.next)

@@ -5,19 +5,16 @@ use Rattle.si_lex.specs.declared.lexeme.Lexeme.{Lexeme}
 use Rattle.si_term.specs.declared.term.Term as program
 use Rattle.si_defs.specs.declared.SymKind.{SymKind}
 use Rattle.si_defs.specs.Terms as terms
-use Rattle.si_defs.specs.Clauses.{IsSoundPattern, term_pattern}
 use Rattle.si_defs.specs.Grammar.{IsTerm, IsHead}
 use Rattle.si_defs.specs.declared.SymKind.TheVariants.{Word, Dollar, Number, Distinct}
 use Rattle.si_lex.specs.Lexemes.{token_of, tokens_of}
 use Rattle.si_parse.specs.GrammarRules.{IsApplied, function_symbol}
-use Rattle.si_parse.specs.Parsing.{Reads, NoBracket, IfFound}
-use Rattle.si_defs.specs.declared.TheConstants.{MOST_BYTES}
+use Rattle.si_parse.specs.Parsing.{Reads, NoBracket}
 use Rattle.si_term.specs.Terms.{symbol_of, term_of}
 use Rattle.si_parse.proofs.ParseSteps.{parses_at}
 use Rattle.si_parse.proofs.ParseReads.{reads_some, reads_none, mark_front, mark_none, mark_shorter, left_shorter, first_token, token_at, others_of}
 use Rattle.si_parse.proofs.ParseRows.{row_none, row_stop, row_some, row_few, along_at, along_first, along_more}
 use Rattle.si_parse.proofs.GrammarTerms.{symbol_kind, term_upper, term_constant, term_head, term_last, term_goes_on, term_stops, no_bracket-none, applied_bare, applied_none, applied_stop, applied_some}
-use Rattle.si_parse.proofs.GrammarSound.{found_has, found_term}
 use Rattle.si_parse.proofs.grammar.terms.+reading.Goals as goal
 
 -- ---- heads
@@ -55,11 +52,11 @@ application-returns t c =
 
 -- ---- arguments
 pub arguments-returns-in_default : goal.arguments-returns-in_default
-arguments-returns-in_default t c = row_none IsTerm term_last term_goes_on term_stops (reads_none term_of c.args.tokens.now c.in_ok-first.ensures.read c.in_default.is)
+arguments-returns-in_default t c = row_none IsTerm term_last term_goes_on term_stops (reads_none term_of c.args.tokens.now c.in_ok-first.ensures c.in_default.is)
 
 pub arguments-loop-rest-init : goal.arguments-loop-rest-init
 arguments-loop-rest-init t c =
-    let p = reads_some term_of c.args.tokens.now c.in_ok-first.ensures.read c.in-Some.is in
+    let p = reads_some term_of c.args.tokens.now c.in_ok-first.ensures c.in-Some.is in
     record {
       along = along_at (c.in_ok-push.ensures.ok ∙ ap (λ ts. ts ++ term_of c.in-Some.first ∷ []) c.new-args.ensures) (along_first IsTerm term_last term_goes_on term_stops p);
       shorter = left_shorter c.args.tokens.now c.in-Some.behind.now p;
@@ -68,18 +65,18 @@ arguments-loop-rest-init t c =
 pub arguments-returns-in_default-2 : goal.arguments-returns-in_default-2
 arguments-returns-in_default-2 t c =
     row_stop IsTerm term_last term_goes_on term_stops c.loop-rest.invariant.along (mark_front c.in-Some-mark_at.ensures)
-    (reads_none term_of c.in-Some-mark_at.rest.now c.in_ok-next.ensures.read c.in_default-2.is)
+    (reads_none term_of c.in-Some-mark_at.rest.now c.in_ok-next.ensures c.in_default-2.is)
 
 pub arguments-loop-rest-smaller : goal.arguments-loop-rest-smaller
 arguments-loop-rest-smaller t c =
     let one : length c.in-Some-mark_at.rest.now < length c.loop-rest.left.now = mark_shorter c.loop-rest.left.now c.in-Some-mark_at.rest.now c.in-Some-mark_at.ensures in
     let shorter : length c.in-Some-2.behind.now < length c.loop-rest.left.now =
-    omega (arith, one, left_shorter c.in-Some-mark_at.rest.now c.in-Some-2.behind.now (reads_some term_of c.in-Some-mark_at.rest.now c.in_ok-next.ensures.read c.in-Some-2.is)) in
+    omega (arith, one, left_shorter c.in-Some-mark_at.rest.now c.in-Some-2.behind.now (reads_some term_of c.in-Some-mark_at.rest.now c.in_ok-next.ensures c.in-Some-2.is)) in
     shorter
 
 pub arguments-loop-rest-preserved : goal.arguments-loop-rest-preserved
 arguments-loop-rest-preserved t c =
-    let p = reads_some term_of c.in-Some-mark_at.rest.now c.in_ok-next.ensures.read c.in-Some-2.is in
+    let p = reads_some term_of c.in-Some-mark_at.rest.now c.in_ok-next.ensures c.in-Some-2.is in
     let one : length c.in-Some-mark_at.rest.now < length c.loop-rest.left.now = mark_shorter c.loop-rest.left.now c.in-Some-mark_at.rest.now c.in-Some-mark_at.ensures in
     record {
       along = along_at c.in_ok-push-2.ensures.ok (along_more IsTerm term_last term_goes_on term_stops c.loop-rest.invariant.along (mark_front c.in-Some-mark_at.ensures) p);
@@ -90,22 +87,22 @@ pub arguments-returns : goal.arguments-returns
 arguments-returns t c = row_some IsTerm term_last term_goes_on term_stops c.loop-rest.invariant.along (mark_none c.in_default-mark_at.ensures)
 
 -- ---- terms
-pub term-returns-in_ok-text-in-Upper-clause-read : goal.term-returns-in_ok-text-in-Upper-clause-read
-term-returns-in_ok-text-in-Upper-clause-read t c =
+pub front_term-returns-in_ok-text-in-Upper : goal.front_term-returns-in_ok-text-in-Upper
+front_term-returns-in_ok-text-in-Upper t c =
     let rest = tokens_of (others_of c.args.tokens.now) in
     parses_at (first_token c.args.tokens.now c.in-len1-up.len_at_least) (ap (λ x. Some (terms.var x, rest)) c.in_ok-text-in-Upper.ensures)
     (term_upper (token_of (token_at c.args.tokens.now 0)) rest c.in-Upper.is)
 
-pub term-returns-in_ok-text-in-Int-clause-read : goal.term-returns-in_ok-text-in-Int-clause-read
-term-returns-in_ok-text-in-Int-clause-read t c =
+pub front_term-returns-in_ok-text-in-Int : goal.front_term-returns-in_ok-text-in-Int
+front_term-returns-in_ok-text-in-Int t c =
     let rest = tokens_of (others_of c.args.tokens.now) in
     let first = token_of (token_at c.args.tokens.now 0) in
     parses_at (first_token c.args.tokens.now c.in-len1-up.len_at_least)
     (ap (λ x. Some (x, rest)) (c.constant.ensures ∙ ap (λ x. terms.app (function_symbol Number x 0) terms.none) c.in_ok-text-in-Int.ensures))
     (term_constant first rest Number (ap symbol_kind c.in-Int.is) (λ text u h. h) (λ i. record { kind = c.in-Int.is i; text = first.text }))
 
-pub term-returns-in_ok-text-in-Double-clause-read : goal.term-returns-in_ok-text-in-Double-clause-read
-term-returns-in_ok-text-in-Double-clause-read t c =
+pub front_term-returns-in_ok-text-in-Double : goal.front_term-returns-in_ok-text-in-Double
+front_term-returns-in_ok-text-in-Double t c =
     let rest = tokens_of (others_of c.args.tokens.now) in
     let first = token_of (token_at c.args.tokens.now 0) in
     parses_at (first_token c.args.tokens.now c.in-len1-up.len_at_least)
@@ -113,34 +110,25 @@ term-returns-in_ok-text-in-Double-clause-read t c =
     (term_constant first rest Distinct (ap symbol_kind c.in-Double.is) (λ text u h. h) (λ i. record { kind = c.in-Double.is i; text = first.text }))
 
 -- a head and what stands behind it
-headed : {E : Type 0} (kind : SymKind) (result : Result (Option (program.Term × Bor (List Lexeme))) E) (tokens : List Lexeme) → 1 ≤ length tokens → length tokens ≤ MOST_BYTES
+headed : {E : Type 0} (kind : SymKind) (result : Result (Option (program.Term × Bor (List Lexeme))) E) (tokens : List Lexeme) → 1 ≤ length tokens
     → symbol_kind (token_at tokens 0).kind ≡ Some kind → IsHead kind (token_of (token_at tokens 0)).text (token_of (token_at tokens 0))
-    → IfOk result (Reads term_of (IsApplied kind (token_of (token_at tokens 0)).text) NoBracket (others_of tokens))
-    → IfOk result (Reads term_of IsTerm NoBracket tokens) × IfOk result (IfFound (λ t. IsSoundPattern (term_pattern (term_of t))))
-headed kind result tokens some few is_kind head h =
+    → IfOk result (Reads term_of (IsApplied kind (token_of (token_at tokens 0)).text) NoBracket (others_of tokens)) → IfOk result (Reads term_of IsTerm NoBracket tokens)
+headed kind result tokens some is_kind head h =
     let first = token_of (token_at tokens 0) in
-    let read : IfOk result (Reads term_of IsTerm NoBracket tokens) =
     IfOk-weaker result (Reads term_of (IsApplied kind first.text) NoBracket (others_of tokens)) (Reads term_of IsTerm NoBracket tokens)
-    (λ r p. parses_at (first_token tokens some) refl (term_head first (tokens_of (others_of tokens)) kind is_kind head _ p)) h in (
-      read,
-      IfOk-weaker result (Reads term_of IsTerm NoBracket tokens) (IfFound (λ t. IsSoundPattern (term_pattern (term_of t))))
-          (λ r p. found_has term_of (λ t. IsSoundPattern (term_pattern t)) tokens (found_term tokens few) r p) read,
-    )
+    (λ r p. parses_at (first_token tokens some) refl (term_head first (tokens_of (others_of tokens)) kind is_kind head _ p)) h
 
-pub term-returns-in-Lower : goal.term-returns-in-Lower
-term-returns-in-Lower t c =
-    let h = headed Word c.application.result c.args.tokens.now c.in-len1-up.len_at_least c.requires (ap symbol_kind c.in-Lower.is)
-    (inl (λ i. record { kind = c.in-Lower.is i; text = (token_of (token_at c.args.tokens.now 0)).text })) c.application.ensures in
-    record { read = h.0; sound = h.1 }
+pub front_term-returns-in-Lower : goal.front_term-returns-in-Lower
+front_term-returns-in-Lower t c =
+    headed Word c.application.result c.args.tokens.now c.in-len1-up.len_at_least (ap symbol_kind c.in-Lower.is)
+    (inl (λ i. record { kind = c.in-Lower.is i; text = (token_of (token_at c.args.tokens.now 0)).text })) c.application.ensures
 
-pub term-returns-in-Single : goal.term-returns-in-Single
-term-returns-in-Single t c =
-    let h = headed Word c.application-in-Single.result c.args.tokens.now c.in-len1-up.len_at_least c.requires (ap symbol_kind c.in-Single.is)
-    (inr (λ i. record { kind = c.in-Single.is i; text = (token_of (token_at c.args.tokens.now 0)).text })) c.application-in-Single.ensures in
-    record { read = h.0; sound = h.1 }
+pub front_term-returns-in-Single : goal.front_term-returns-in-Single
+front_term-returns-in-Single t c =
+    headed Word c.application-in-Single.result c.args.tokens.now c.in-len1-up.len_at_least (ap symbol_kind c.in-Single.is)
+    (inr (λ i. record { kind = c.in-Single.is i; text = (token_of (token_at c.args.tokens.now 0)).text })) c.application-in-Single.ensures
 
-pub term-returns-in-Dollar : goal.term-returns-in-Dollar
-term-returns-in-Dollar t c =
-    let h = headed Dollar c.application-in-Dollar.result c.args.tokens.now c.in-len1-up.len_at_least c.requires (ap symbol_kind c.in-Dollar.is)
-    (λ i. record { kind = c.in-Dollar.is i; text = (token_of (token_at c.args.tokens.now 0)).text }) c.application-in-Dollar.ensures in
-    record { read = h.0; sound = h.1 }
+pub front_term-returns-in-Dollar : goal.front_term-returns-in-Dollar
+front_term-returns-in-Dollar t c =
+    headed Dollar c.application-in-Dollar.result c.args.tokens.now c.in-len1-up.len_at_least (ap symbol_kind c.in-Dollar.is)
+    (λ i. record { kind = c.in-Dollar.is i; text = (token_of (token_at c.args.tokens.now 0)).text }) c.application-in-Dollar.ensures

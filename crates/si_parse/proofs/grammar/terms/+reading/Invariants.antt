@@ -11,8 +11,8 @@ decreases-application l = 2 * length l.tokens.now + 1
 abbrev pub decreases-arguments : goal.decreases-arguments
 decreases-arguments l = 2 * length l.tokens.now + 1
 
-abbrev pub decreases-term : goal.decreases-term
-decreases-term l = 2 * length l.tokens.now
+abbrev pub decreases-front_term : goal.decreases-front_term
+decreases-front_term l = 2 * length l.tokens.now
 
 -- what is left goes on as the tokens do, and is no longer than they are
 abbrev pub invariant-arguments-loop-rest : goal.invariant-arguments-loop-rest

@@ -1,8 +1,9 @@
-ghost use Rattle.std.specs.Prelude.{◌≡◌, ◌≤◌, ◌<◌, ◌+◌, ◌∷◌, [], IfOk, length, map};
-ghost use Rattle.si_defs.specs.Terms.{row, app, size, sizes};
+ghost use Rattle.std.specs.Prelude.{◌≡◌, ◌≤◌, ◌<◌, ◌+◌, ◌∷◌, [], IfOk, length, map, codes};
+ghost use Rattle.si_defs.specs.Terms.{row, app, none, size, sizes};
 ghost use Rattle.si_defs.specs.Entries.{entries};
 ghost use Rattle.si_defs.specs.Clauses.{literals_size, IsSoundTerm, IsSoundClause};
 ghost use Rattle.si_defs.specs.declared.SymKind.TheVariants.{Word};
+ghost use Rattle.si_defs.specs.declared.Side.TheVariants.{Function};
 ghost use Rattle.si_term.specs.Terms.{term_of};
 ghost use Rattle.si_term.specs.Meaning.{clause_of, literal_of};
 
@@ -18,8 +19,12 @@ fn variable(alloc: Global, name: &[u8]) -> Result<Term, AllocError>
 
 fn apply(alloc: Global, side: Side, text: &[u8], arguments: Terms) -> Result<Term, AllocError>
     requires { length arguments < 3 }
-    ensures applied { IfOk result (λ t. term_of t ≡ app (record { kind = Word; text = text.now;
-        side = side; arity = length arguments }) (row arguments)) }
+    ensures applied { IfOk result (λ t. term_of t ≡ app (record {
+      kind = Word;
+      text = text.now;
+      side = side;
+      arity = length arguments;
+    }) (row arguments)) }
     ensures size { IfOk result (λ t. size (term_of t) ≡ 1 + sizes (row arguments)) }
 {
     let symbol = Sym {
@@ -67,6 +72,12 @@ fn pair(alloc: Global, name: &[u8], second: Term) -> Result<Term, AllocError>
 }
 
 fn constant(alloc: Global) -> Result<Term, AllocError>
+    ensures applied { IfOk result (λ t. term_of t ≡ app (record {
+      kind = Word;
+      text = codes "a";
+      side = Function;
+      arity = 0;
+    }) none) }
     ensures sound { IfOk result (λ t. IsSoundTerm (term_of t)) }
     ensures size { IfOk result (λ t. size (term_of t) ≡ 1) }
 {

@@ -12,3 +12,5 @@ pub mod OneLine
 pub mod OneStep
 pub mod OneRun
 pub mod SharedTerms
+pub mod OneSample
+pub mod TwoClauses

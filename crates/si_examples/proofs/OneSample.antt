@@ -33,6 +33,7 @@ one_before {P} {Q} p q = record { each = both } where
   } where
     a : One P first
     a = p.each first
+
     b : One Q a.last
     b = q.each a.last
 
@@ -57,7 +58,7 @@ one_one_of {rules} some ps = record { each = by } where
   by : (first : ℕ) → One (one_of rules) first
   by first =
       let one : One (rule_at rules (drawn (length rules) (next first))) (next first) =
-          ps.each (drawn (length rules) (next first)) (next first) (omega (arith, some)) in
+      ps.each (drawn (length rules) (next first)) (next first) (omega (arith, some)) in
       record { text = one.text; last = one.last; is_drawn = one.is_drawn; alone = one.alone }
 
 -- ---- the grammar
@@ -83,6 +84,7 @@ unfolding literal
 one_literal = one_before one_sign one_atom where
   one_sign : HasOne sign
   one_sign = one_one_of (omega arith) (one_more (one_exactly []) (one_more (one_exactly (codes "~")) one_none))
+
   one_atom : HasOne atom
   one_atom = one_one_of (omega arith) (one_more (one_binary (codes "p(") (one_term 2)) (one_more (one_unary (codes "q(") (one_term 2)) one_none))
 

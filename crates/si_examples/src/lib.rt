@@ -25,7 +25,7 @@ pub use lines::{commands, words};
 pub use printing::printed_texts;
 pub use relations::{instances, unifiable_terms};
 pub use runs::whole_runs;
-pub use samples::samples;
+pub use samples::drawn_clauses;
 pub use solutions::{canonical_lists, triangular_lists};
 pub use spellings::spellings_of_tokens;
 pub use steps::{added_clauses, later_lines, refusals, silent_lines, wrong_lines};

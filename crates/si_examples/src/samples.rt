@@ -2,7 +2,7 @@
 ghost use Rattle.si_examples.specs.Samples.{TwoClauses, SomeText, NoOtherText, NoOtherVariable, NoClauseZero};
 
 /// Which texts are drawn from a start.
-pub fn samples()
+pub fn drawn_clauses()
     ensures two_clauses { TwoClauses }
     ensures some_text { SomeText }
     ensures no_other_text { NoOtherText }

@@ -1,6 +1,6 @@
 use Rattle.si_examples.proofs.OneSample.{some_text, no_other_text}
 use Rattle.si_examples.proofs.TwoClauses.{two_clauses, no_other_variable, no_clause_zero}
-use Rattle.si_examples.proofs.samples.samples.Goals as goal
+use Rattle.si_examples.proofs.samples.drawn_clauses.Goals as goal
 
 pub returns-clause-two_clauses : goal.returns-clause-two_clauses
 returns-clause-two_clauses c = two_clauses

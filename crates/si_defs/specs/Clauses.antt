@@ -1,4 +1,5 @@
--- Names, literals, clauses and patterns (TPTP, the CNF part), over terms whose variables are named by texts.
+-- Names, literals, clauses and patterns (TPTP, the CNF part), over terms whose variables are named
+-- by texts.
 use Rattle.std.specs.Prelude.{◌≡◌, ℕ, ◌≤◌, ◌+◌, Bool, List, [], ◌∷◌, codes}
 use Rattle.std.specs.List.{AllByRecursion}
 use Rattle.si_defs.specs.Bytes.{Bytes}
@@ -38,7 +39,8 @@ pub data Pattern : Type 0 where
   literal_pattern : Literal → Pattern
   term_pattern : Term → Pattern
 
--- A kind fixes what the symbol may be: a number and a distinct object are constants, equality is a predicate of two.
+-- A kind fixes what the symbol may be: a number and a distinct object are constants, equality is a
+-- predicate of two.
 abbrev pub IsSoundSymbol : SymKind → Bytes → Side → ℕ → Type 0
 IsSoundSymbol Word text side arity = Unit {0}
 IsSoundSymbol Dollar text side arity = Unit {0}
@@ -52,7 +54,8 @@ pub record Fits (s : Symbol) (side : Side) (arguments : ℕ) : Type 0 where
   pub with_arity : s.arity ≡ arguments
   pub of_kind : IsSoundSymbol s.kind s.text s.side s.arity
 
--- A term inside an atom, or by itself, by its form. The bound on its size stands with the values below.
+-- A term inside an atom, or by itself, by its form. The bound on its size stands with the values
+-- below.
 abbrev mutual
   pub IsSoundTerm : Term → Type 0
   IsSoundTerm (terms.var x) = Unit {0}

@@ -1,4 +1,5 @@
--- Codes of symbols and terms as trees of numbers, one to one. The checker tells ghost values apart by them; nothing else rests on them.
+-- Codes of symbols and terms as trees of numbers, one to one. The checker tells ghost values apart
+-- by them; nothing else rests on them.
 use Rattle.std.specs.Prelude.{◌≡◌, ℕ, Bool, List, refl}
 use Rattle.std.specs.Coded.{Coded, code_by, coded×, coded_ℕ, coded_bool, coded_list}
 use Rattle.std.proofs.Common.{ap, sym}

@@ -1,7 +1,9 @@
--- What a query looks through: the literals and subterms of clauses (MathWebSearch's queries over all subterms).
-use Rattle.std.specs.Prelude.{ℕ, ◌+◌, List, [], ◌∷◌, ◌++◌, map}
+-- What a query looks through: the literals and subterms of clauses (MathWebSearch's queries over
+-- all subterms).
+use Rattle.std.specs.Prelude.{ℕ, ◌+◌, List, [], ◌∷◌, ◌++◌, map, Option}
 use Rattle.si_defs.specs.Bytes.{Bytes}
 use Rattle.si_defs.specs.Terms as terms
+use Rattle.si_defs.specs.Symbols.{Symbol}
 use Rattle.si_defs.specs.Clauses.{Term, Literal, Clause, Pattern, literal_pattern, term_pattern}
 
 pub data Entry : Type 0 where
@@ -12,6 +14,11 @@ pub data Entry : Type 0 where
 abbrev pub entry_variables : Entry → List Bytes
 entry_variables (literal_entry l) = terms.variables l.atom
 entry_variables (term_entry t) = terms.variables t
+
+-- the symbol at the head of an entry: of a literal's atom, or of a term
+abbrev pub entry_head : Entry → Option Symbol
+entry_head (literal_entry l) = terms.head l.atom
+entry_head (term_entry t) = terms.head t
 
 -- the pattern as an entry
 abbrev pub pattern_entry : Pattern → Entry
@@ -36,7 +43,8 @@ proper_occurrences (terms.app s ts) = terms.occurrences_from 1 ts
 abbrev pub placed_term : ℕ → List ℕ × Term → Placed
 placed_term number (path, t) = record { entry = term_entry t; place = record { literal = number; path = path } }
 
--- those of the literal with this number: the literal itself, and then its atom's proper subterms in preorder
+-- those of the literal with this number: the literal itself, and then its atom's proper subterms in
+-- preorder
 abbrev pub literal_entries : ℕ → Literal → List Placed
 literal_entries number l =
     record { entry = literal_entry l; place = record { literal = number; path = [] } }
@@ -49,6 +57,20 @@ entries_from number (l ∷ ls) = literal_entries number l ++ entries_from (1 + n
 -- the entries of a clause, in order
 abbrev pub entries : Clause → List Placed
 entries c = entries_from 1 c.literals
+
+-- The occurrences of symbols in a clause, in the order of its entries: each is the head of one of
+-- them.
+abbrev pub literals_symbols : List Literal → List Symbol
+literals_symbols [] = []
+literals_symbols (l ∷ ls) = terms.symbols l.atom ++ literals_symbols ls
+
+abbrev pub clause_symbols : Clause → List Symbol
+clause_symbols c = literals_symbols c.literals
+
+-- the occurrences of symbols in a list of clauses, in order
+abbrev pub state_symbols : List Clause → List Symbol
+state_symbols [] = []
+state_symbols (c ∷ cs) = clause_symbols c ++ state_symbols cs
 
 -- the entries of a list of clauses, in order, each with its clause
 abbrev pub placed_in : Clause → Placed → Clause × Placed

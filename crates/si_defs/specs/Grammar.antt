@@ -1,5 +1,5 @@
--- The grammar over tokens: which tokens spell this term, literal, formula, name or item? (TPTP's cnf_annotated and
--- include, cut to this project's profile.) Each rule goes by the meaning.
+-- The grammar over tokens: which tokens spell this term, literal, formula, name or item? (TPTP's
+-- cnf_annotated and include, cut to this project's profile.) Each rule goes by the meaning.
 use Rattle.std.specs.Prelude.{◌≡◌, ◌≢◌, ℕ, ◌+◌, ◌-◌, ◌⊎◌, Bool, true, false, ◌==◌, cond, List, [], ◌∷◌, ◌++◌, replicate, max, codes, IsTrue, Option, Some, None}
 use Rattle.std.specs.Option.{option_map_or}
 use Rattle.si_defs.specs.Bytes.{Bytes}

@@ -1,5 +1,5 @@
--- Printed texts: how names, symbols, terms, places and solution lists are written (TPTP's spellings; the forms of places
--- and solution lists are this project's profile).
+-- Printed texts: how names, symbols, terms, places and solution lists are written (TPTP's
+-- spellings; the forms of places and solution lists are this project's profile).
 use Rattle.std.specs.Prelude.{ℕ, cond, List, [], ◌∷◌, ◌++◌, codes, decimal}
 use Rattle.si_defs.specs.Bytes.{Bytes, is_lower_word}
 use Rattle.si_defs.specs.Terms as terms

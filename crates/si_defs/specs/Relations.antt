@@ -1,5 +1,6 @@
--- The four relations between a query q and a candidate e whose variables are apart. Unifiable terms and instances are
--- Robinson's (1965); generalizations and variants are defined from instances. Each says that a substitution exists.
+-- The four relations between a query q and a candidate e whose variables are apart. Unifiable terms
+-- and instances are Robinson's (1965); generalizations and variants are defined from instances.
+-- Each says that a substitution exists.
 use Rattle.std.specs.Prelude.{◌≡◌, Bool}
 use Rattle.si_defs.specs.Terms.{Term, variables}
 use Rattle.si_defs.specs.Substitutions.{Substitution, apply, IsOn}

@@ -1,5 +1,5 @@
--- Solution lists, and the one canonical list of each relation (this project's profile; the most general unifier is
--- Robinson's, 1965).
+-- Solution lists, and the one canonical list of each relation (this project's profile; the most
+-- general unifier is Robinson's, 1965).
 use Rattle.std.specs.Prelude.{◌≡◌, Bool, cond, List, [], ◌∷◌, ◌++◌}
 use Rattle.std.specs.List.{AllByRecursion}
 use Rattle.si_defs.specs.Terms.{Term, Terms, var, app, none, more, variables, substitute, firsts}
@@ -73,7 +73,8 @@ module _ {S V : Type 0} (same : V → V → Bool) where
     IsFoldedInside (var x) = Unit {0}
     IsFoldedInside (app s ts) = AreFolded ts
 
-    -- at each place stands the first of the left sides from there on that is in no right side from there on
+    -- at each place stands the first of the left sides from there on that is in no right side from
+    -- there on
     abbrev pub IsOrdered : List (V × Term S V) → Type 0
     IsOrdered [] = Unit {0}
     IsOrdered (b ∷ bs) =
@@ -90,8 +91,8 @@ module _ {S V : Type 0} (same : V → V → Bool) where
       pub folded : AllByRecursion (λ b. IsFoldedInside b.1) bs
       pub ordered : IsOrdered bs
 
-  -- The canonical list of a match binds each variable of q, in the order of first occurrence, to its image: all at once,
-  -- and so also one after the other, it takes q to e.
+  -- The canonical list of a match binds each variable of q, in the order of first occurrence, to
+  -- its image: all at once, and so also one after the other, it takes q to e.
   pub record IsCanonicalMatch (q e : Term S V) (bs : List (V × Term S V)) : Type 0 where
     pub matches : Matches same q e bs
     pub achieves : Achieves Instances q e bs

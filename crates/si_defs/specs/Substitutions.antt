@@ -8,7 +8,13 @@ abbrev pub IsAmong : {V : Type 0} → List V → V → Type 0
 IsAmong [] x = ⊥
 IsAmong (y ∷ ys) x = (y ≡ x) ⊎ IsAmong ys x
 
--- A finite map is a list of pairs; the first pair of a variable counts. A list of bindings has the same form.
+-- no two of these are equal
+abbrev pub AreDistinct : {V : Type 0} → List V → Type 0
+AreDistinct [] = Unit {0}
+AreDistinct (x ∷ xs) = (IsAmong xs x → ⊥) × AreDistinct xs
+
+-- A finite map is a list of pairs; the first pair of a variable counts. A list of bindings has the
+-- same form.
 abbrev pub Substitution : Type 0 → Type 0 → Type 0
 Substitution S V = List (V × Term S V)
 

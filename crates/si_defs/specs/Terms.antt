@@ -1,5 +1,5 @@
 -- First-order terms over any symbols S and any variables V (Robinson 1965; TPTP's fof_term).
-use Rattle.std.specs.Prelude.{ℕ, ◌+◌, Bool, not, filter, List, [], ◌∷◌, ◌++◌, map}
+use Rattle.std.specs.Prelude.{ℕ, ◌+◌, Bool, not, filter, List, [], ◌∷◌, ◌++◌, map, Option, Some, None}
 
 mutual
   -- a variable, or a symbol with its arguments
@@ -47,8 +47,23 @@ module _ {S V : Type 0} where
     variables_of_all none = []
     variables_of_all (more t ts) = variables t ++ variables_of_all ts
 
-  -- The occurrences of subterms that are no variables, in preorder, the term itself first, each with its path:
-  -- the numbers from 1 of the arguments that lead to it.
+  -- the occurrences of symbols, in preorder
+  abbrev mutual
+    pub symbols : Term S V → List S
+    symbols (var x) = []
+    symbols (app s ts) = s ∷ symbols_of_all ts
+
+    pub symbols_of_all : Terms S V → List S
+    symbols_of_all none = []
+    symbols_of_all (more t ts) = symbols t ++ symbols_of_all ts
+
+  -- the symbol at the front of a term that is no variable
+  abbrev pub head : Term S V → Option S
+  head (var x) = None
+  head (app s ts) = Some s
+
+  -- The occurrences of subterms that are no variables, in preorder, the term itself first, each
+  -- with its path: the numbers from 1 of the arguments that lead to it.
   abbrev pub below : ℕ → List ℕ × Term S V → List ℕ × Term S V
   below k (path, t) = (k ∷ path, t)
 

@@ -1,5 +1,5 @@
--- What bytes mean: items at the front of a text, patterns, formulas, names and file words as whole texts, and the two
--- faults (TPTP's files, with this project's bound on nesting).
+-- What bytes mean: items at the front of a text, patterns, formulas, names and file words as whole
+-- texts, and the two faults (TPTP's files, with this project's bound on nesting).
 use Rattle.std.specs.Prelude.{◌≡◌, ℕ, ◌+◌, ◌≤◌, List, [], ◌∷◌, length, count_by, ◌==◌, codes}
 use Rattle.si_defs.specs.Bytes.{Bytes}
 use Rattle.si_defs.specs.Clauses.{Name, Literal, Pattern, literal_pattern, term_pattern}

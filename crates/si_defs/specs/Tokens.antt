@@ -1,5 +1,6 @@
--- From bytes to tokens: blanks, spellings, and the longest token at a place (TPTP's token grammar; which marks there
--- are, and that no other byte than a space to `~` stands in a quoted text, is this project's profile).
+-- From bytes to tokens: blanks, spellings, and the longest token at a place (TPTP's token grammar;
+-- which marks there are, and that no other byte than a space to `~` stands in a quoted text, is
+-- this project's profile).
 use Rattle.std.specs.Prelude.{◌≡◌, ℕ, ◌≤◌, ◌⊎◌, Bool, false, ◌||◌, ◌&&◌, ◌==◌, cond, List, [], ◌∷◌, ◌++◌, length, IsTrue, IsFalse, flat_map, codes}
 use Rattle.std.specs.List.{list_all, list_any, AllByRecursion}
 use Rattle.si_defs.specs.Bytes.{Bytes, is_white, is_printable, is_lower_word, is_upper_word, is_integer, is_dollar_word}
@@ -88,7 +89,8 @@ Spells Double text bytes = (bytes ≡ quoted 34 text) × IsTrue (list_all is_pri
 Spells NotEqual text bytes = (bytes ≡ text) × (text ≡ codes "!=")
 Spells Mark text bytes = (bytes ≡ text) × ((c : ℕ) × (text ≡ c ∷ []) × IsTrue (is_mark c))
 
--- The bytes begin with this token, and rest stands behind it: no token at this place is longer, and no comment opens here.
+-- The bytes begin with this token, and rest stands behind it: no token at this place is longer, and
+-- no comment opens here.
 pub record TokenAt (bytes : Bytes) (token : Token) (rest : Bytes) : Type 0 where
   pub spelling : Bytes
   pub spelled : Spells token.kind token.text spelling

@@ -1,5 +1,5 @@
--- A pattern and an entry side by side: their variables are tagged, so that the two never meet (Robinson 1965, who
--- standardizes apart).
+-- A pattern and an entry side by side: their variables are tagged, so that the two never meet
+-- (Robinson 1965, who standardizes apart).
 use Rattle.std.specs.Prelude.{Bool, false, List, ◌++◌, bytes_eq, codes}
 use Rattle.si_defs.specs.Bytes.{Bytes}
 use Rattle.si_defs.specs.Terms as terms

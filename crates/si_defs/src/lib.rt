@@ -1,17 +1,17 @@
-//! The definitions that the contracts of stindex cite. They stand in `specs/`, one small file a concept, and
-//! `docs/DEFINITIONS.md` leads through them. The plain enums and the bounds that the code shares with them are declared
-//! here.
+//! The definitions that the contracts of stindex cite. They stand in `specs/`, one small file a
+//! concept, and `docs/DEFINITIONS.md` leads through them. The plain enums and the bounds that the
+//! code shares with them are declared here.
 #![tactic(auto)]
 
 /// No more round and square brackets than this are open at once in an item, a pattern or a formula.
 pub const DEEPEST_NESTING: usize = 512;
 
-/// No literal, clause, formula or pattern has more occurrences of symbols and variables than this, and no line or file
-/// may be allowed more bytes. So every count of them fits a `u32`.
+/// No literal, clause, formula or pattern has more occurrences of symbols and variables than this,
+/// and no line or file may be allowed more bytes. So every count of them fits a `u32`.
 pub const MOST_OCCURRENCES: usize = 536_870_912;
 
-/// No text that is read has more bytes than this: those of the longest line or file, and one more, by which a longer one
-/// is known.
+/// No text that is read has more bytes than this: those of the longest line or file, and one more,
+/// by which a longer one is known.
 pub const MOST_BYTES: usize = MOST_OCCURRENCES + 1;
 
 /// How a clause is named.

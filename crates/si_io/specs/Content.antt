@@ -1,8 +1,10 @@
--- The bytes that a source has left and those that a sink was given. A device that doesn't tell them has None.
+-- The bytes that a source has left and those that a sink was given. A device that doesn't tell them
+-- has None.
 use Rattle.std.specs.Prelude.{◌≡◌, ℕ, ◌-◌, ◌<◌, ◌≤◌, List, [], ◌++◌, length, take, ⊤, Option, None, Some, Result, IsOkAnd}
 
--- What a sink tells of itself: the bytes that it was given, and how many more it is sure to take. While the bytes of a
--- write fit this room, it doesn't fail; a sink that may fail at any call has no room.
+-- What a sink tells of itself: the bytes that it was given, and how many more it is sure to take.
+-- While the bytes of a write fit this room, it doesn't fail; a sink that may fail at any call has
+-- no room.
 pub record Told : Type 0 where
   pub bytes : Option (List ℕ)
   pub room : ℕ
@@ -29,7 +31,8 @@ prepend_told bs (Some rest) = Some (bs ++ rest)
 abbrev pub Appends : Told → List ℕ → Told → Type 0
 Appends old bs new = new ≡ append_told old bs
 
--- A sink failed on the way through bs: it was given the first bytes of bs, and no others, and had no room for all of bs.
+-- A sink failed on the way through bs: it was given the first bytes of bs, and no others, and had
+-- no room for all of bs.
 pub record AppendsPrefix (old : Told) (bs : List ℕ) (new : Told) : Type 0 where
   pub count : ℕ
   pub within : count ≤ length bs

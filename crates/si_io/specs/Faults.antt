@@ -5,13 +5,15 @@ use Rattle.std.specs.Prelude.{◌≡◌, ℕ, ◌+◌, ◌-◌, ◌^◌, ◌<◌
 abbrev pub Rose : ℕ → ℕ → Type 0
 Rose before now = min (before + 1) (2 ^ 64 - 1) ≤ now
 
--- The count never falls. It rose where a call answers an error, and is as before where the call succeeds.
+-- The count never falls. It rose where a call answers an error, and is as before where the call
+-- succeeds.
 pub record HasCause {T E : Type 0} (before now : ℕ) (result : Result T E) : Type 0 where
   pub later : before ≤ now
   pub kept : OnOk result (now ≡ before)
   pub failed : OnErr result (Rose before now)
 
--- The same of a write of these bytes, which also fails where it takes none of them though there are some.
+-- The same of a write of these bytes, which also fails where it takes none of them though there are
+-- some.
 pub record HasWriteCause {E : Type 0} (before now : ℕ) (bytes : List ℕ) (result : Result ℕ E) : Type 0 where
   pub later : before ≤ now
   pub kept : IfOk result (λ n. 0 < n → now ≡ before)

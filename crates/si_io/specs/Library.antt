@@ -8,8 +8,8 @@ use Rattle.si_io.specs.declared.library.Fetched.TheVariants.{Found, Missing, Too
 abbrev pub Files : Type 0
 Files = List ℕ → Option (List ℕ)
 
--- Of these files a fetch tells the right thing: the bytes that it found, that there is no such file, or that the file
--- has more bytes than the limit.
+-- Of these files a fetch tells the right thing: the bytes that it found, that there is no such
+-- file, or that the file has more bytes than the limit.
 abbrev pub Fetches : Files → (name : List ℕ) → (limit : ℕ) → Fetched → (into : List ℕ) → Type 0
 Fetches files name limit Found into = files name ≡ Some into
 Fetches files name limit Missing into = files name ≡ None
@@ -17,7 +17,8 @@ Fetches files name limit TooBig into = IsSomeAnd (files name) (λ bytes. limit <
 Fetches files name limit Failed into = ⊤
 Fetches files name limit Memory into = ⊤
 
--- What was found has at most as many bytes as the limit, and after any other answer there are no bytes.
+-- What was found has at most as many bytes as the limit, and after any other answer there are no
+-- bytes.
 abbrev pub Holds : Fetched → (limit : ℕ) → (into : List ℕ) → Type 0
 Holds Found limit into = length into ≤ limit
 Holds Missing limit into = into ≡ []
@@ -25,8 +26,8 @@ Holds TooBig limit into = into ≡ []
 Holds Failed limit into = into ≡ []
 Holds Memory limit into = into ≡ []
 
--- What a read of a whole file makes of it, whose bytes may be known. Found, these are all its bytes, no more than the limit;
--- and too big, it has more.
+-- What a read of a whole file makes of it, whose bytes may be known. Found, these are all its
+-- bytes, no more than the limit; and too big, it has more.
 abbrev pub IsRead : Option (List ℕ) → (limit : ℕ) → Fetched → (into : List ℕ) → Type 0
 IsRead known limit Found into = (length into ≤ limit) × IfSome known (λ bytes. into ≡ bytes)
 IsRead known limit Missing into = ⊥
@@ -34,8 +35,8 @@ IsRead known limit TooBig into = IfSome known (λ bytes. limit < length bytes)
 IsRead known limit Failed into = ⊤
 IsRead known limit Memory into = ⊤
 
--- How often a library has failed, how often it had no such file, and how often a file was too big. Each count never falls
--- and stands still at the largest `u64`.
+-- How often a library has failed, how often it had no such file, and how often a file was too big.
+-- Each count never falls and stands still at the largest `u64`.
 pub record Counts : Type 0 where
   pub faults : ℕ
   pub misses : ℕ

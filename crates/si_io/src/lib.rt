@@ -1,7 +1,8 @@
-//! The devices that bytes come from and go to: sources, sinks and libraries of files, in memory and real.
+//! The devices that bytes come from and go to: sources, sinks and libraries of files, in memory and
+//! real.
 //!
-//! A device may fail. It counts its faults, up to the largest `u64`, and every call above it that answers a fault
-//! has a clause that the count rose, so that no caller can make up a fault.
+//! A device may fail. It counts its faults, up to the largest `u64`, and every call above it that
+//! answers a fault has a clause that the count rose, so that no caller can make up a fault.
 #![tactic(auto)]
 
 mod failed;

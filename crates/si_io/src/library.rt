@@ -21,16 +21,18 @@ pub trait Library {
     /// The files, where the library tells them. No fetch changes them.
     ghost files: { Self → Option Files };
 
-    /// How often it has failed, had no such file, and had a file that was too big, each up to the largest `u64`.
+    /// How often it has failed, had no such file, and had a file that was too big, each up to the
+    /// largest `u64`.
     ghost counts: { Self → Counts };
 
     /// Whether it may fail at all.
     ghost may_fail: { Self → Bool };
 
-    /// Puts the bytes of a file into `into`, in place of what it held, if there are at most `limit`.
+    /// Puts the bytes of a file into `into`, in place of what it held, if there are at most
+    /// `limit`.
     ///
-    /// After any answer but `Found`, `into` is empty. `Missing`, `TooBig` and `Failed` come only where they were
-    /// counted, each by its own count; `Found` and `Memory` move none.
+    /// After any answer but `Found`, `into` is empty. `Missing`, `TooBig` and `Failed` come only
+    /// where they were counted, each by its own count; `Found` and `Memory` move none.
     fn fetch(&mut self, name: &[u8], into: &mut Vec<u8>, limit: usize) -> Fetched
         ensures right { IfSome (files self.old)
             (λ told. Fetches told name.now limit result into.new.items) }

@@ -1,4 +1,5 @@
-// Devices over std's readers, writers and files. They tell nothing of content, since nothing is known of the outside.
+// Devices over std's readers, writers and files. They tell nothing of content, since nothing is
+// known of the outside.
 mod counted;
 mod folder;
 mod library;

@@ -6,7 +6,8 @@ use crate::Failed;
 
 /// What bytes are written to.
 pub trait Sink {
-    /// The bytes that the sink was given, where it tells them, and how many more it is sure to take.
+    /// The bytes that the sink was given, where it tells them, and how many more it is sure to
+    /// take.
     ghost written: { Self → Told };
 
     /// How often the sink has failed, up to the largest `u64`.
@@ -14,12 +15,12 @@ pub trait Sink {
 
     /// Takes some bytes from the front of `bytes`, and answers their number.
     ///
-    /// It may take fewer than there are. `Ok(0)` on a slice that isn't empty comes only where the sink has failed.
-    /// `Failed` took nothing, and comes only where the sink has failed. At every other answer it has not failed. Bytes
-    /// that fit the room are taken, all or some of them.
+    /// It may take fewer than there are. `Ok(0)` on a slice that isn't empty comes only where the
+    /// sink has failed. `Failed` took nothing, and comes only where the sink has failed. At every
+    /// other answer it has not failed. Bytes that fit the room are taken, all or some of them.
     ///
-    /// A sink that hands bytes on may answer `Failed` where it took them and failed behind them, as at a flush. It
-    /// can't say then what has gone out, so it is one that doesn't tell its bytes.
+    /// A sink that hands bytes on may answer `Failed` where it took them and failed behind them, as
+    /// at a flush. It can't say then what has gone out, so it is one that doesn't tell its bytes.
     fn write(&mut self, bytes: &[u8]) -> Result<usize, Failed>
         ensures bound { IfOk result (λ n. n ≤ length bytes.now) }
         ensures taken { IfOk result (λ n. Appends (written self.old) (take n bytes.now)
@@ -31,7 +32,8 @@ pub trait Sink {
 
 /// Writes all the bytes, in as many calls as the sink needs.
 ///
-/// At `Failed` the sink was given a prefix of them, it has failed, and it had no room for them all. It takes no memory.
+/// At `Failed` the sink was given a prefix of them, it has failed, and it had no room for them all.
+/// It takes no memory.
 pub fn write_all<K: Sink>(sink: &mut K, bytes: &[u8]) -> Result<(), Failed>
     ensures all { OnOk result (Appends (K.written sink.old) bytes.now (K.written sink.new)) }
     ensures part { OnErr result (AppendsPrefix (K.written sink.old) bytes.now

@@ -17,11 +17,12 @@ pub trait Source {
 
     /// Reads some bytes into the front of `into`, and answers their number.
     ///
-    /// It may give fewer than fit. `Ok(0)` on a slice that isn't empty is the end. `Failed` took nothing, and comes
-    /// only where the source has failed. At every other answer it has not failed.
+    /// It may give fewer than fit. `Ok(0)` on a slice that isn't empty is the end. `Failed` took
+    /// nothing, and comes only where the source has failed. At every other answer it has not
+    /// failed.
     ///
-    /// What stands in `into` behind the bytes that were read, and after `Failed` anywhere, isn't promised: a reader of
-    /// std may write there.
+    /// What stands in `into` behind the bytes that were read, and after `Failed` anywhere, isn't
+    /// promised: a reader of std may write there.
     fn read(&mut self, into: &mut [u8]) -> Result<usize, Failed>
         ensures bound { IfOk result (λ n. n ≤ length into.old) }
         ensures taken { IfOk result (λ n. Takes (left self.old) (take n into.new) (left self.new)) }

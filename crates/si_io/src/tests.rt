@@ -48,8 +48,8 @@ fn a_real_source_fails_once_and_goes_on(rt: HostRuntime) {
     assert_eq!(rt; letters.calls, 5);
 }
 
-/// Takes up to three bytes a call, nothing at all once it is full, and fails at one of the calls. It keeps a `w` for
-/// each write and an `f` for each flush.
+/// Takes up to three bytes a call, nothing at all once it is full, and fails at one of the calls.
+/// It keeps a `w` for each write and an `f` for each flush.
 #[derive(Drop)]
 struct Page {
     text: Vec<u8>,
@@ -147,7 +147,8 @@ fn a_source_in_memory_gives_pieces(rt: HostRuntime) -> Result<(), Fail> {
     Ok(())
 }
 
-/// What a sink with this room and chunk, and a third call that fails, has after all of `text` was written.
+/// What a sink with this room and chunk, and a third call that fails, has after all of `text` was
+/// written.
 fn kept_of(
     alloc: Global,
     room: usize,

@@ -28,7 +28,8 @@ Writes Refused reply before after = Appends before (ended reply) after × IsTrue
 Writes Silent reply before after = Appends before (ended reply) after × (reply ≡ [])
 Writes SinkFailed reply before after = AppendsPrefix before (ended reply) after
 
--- The call went one step: the state is the one behind it, and its reply was written, or at a sink's fault a prefix of it.
+-- The call went one step: the state is the one behind it, and its reply was written, or at a sink's
+-- fault a prefix of it.
 pub record Steps (old new : State) (line : Bytes) (outcome : Stepped) (before after : Told) : Type 0 where
   pub reply : Reply
   pub step : Step old.limits old.clauses line reply new.clauses
@@ -36,8 +37,8 @@ pub record Steps (old new : State) (line : Bytes) (outcome : Stepped) (before af
   pub written : Writes outcome reply before after
 
 -- ---- parts of a step
--- What a command did: its reply P was right, and so is the state behind it; or memory ran out, at once or behind some of
--- the lines of the right reply, and the state stayed.
+-- What a command did: its reply P was right, and so is the state behind it; or memory ran out, at
+-- once or behind some of the lines of the right reply, and the state stayed.
 pub data Acts (P : Reply → List Clause → Type 0) (old new : List Clause) (outcome : Stepped) (before after : Told) : Type 0 where
   rightly : (reply : Reply) → P reply new → Writes outcome reply before after → Acts P old new outcome before after
   at_once : new ≡ old → Writes outcome (memory_line ∷ []) before after → Acts P old new outcome before after

@@ -1,4 +1,5 @@
--- The texts of the fixed signs, and of what stands between them. They stay closed in proofs about writing.
+-- The texts of the fixed signs, and of what stands between them. They stay closed in proofs about
+-- writing.
 use Rattle.std.specs.Prelude.{List, [], ◌∷◌, ◌++◌, codes}
 use Rattle.si_defs.specs.Bytes.{Bytes}
 use Rattle.si_defs.specs.Clauses.{Term}

@@ -18,7 +18,8 @@ kind_byte Int = 105
 abbrev pub key_of : clauses.Name → Bytes
 key_of n = kind_byte n.kind ∷ n.text
 
--- the keys are those of the clauses, in order; the entries are counted, and a `u64` does it; each clause is sound
+-- the keys are those of the clauses, in order; the entries are counted, and a `u64` does it; each
+-- clause is sound
 pub record Keeps (cs : List clauses.Clause) (keys : List Bytes) (entries : ℕ) : Type 0 where
   pub keyed : keys ≡ map key_of (names cs)
   pub counted : entries ≡ length (state_entries cs)

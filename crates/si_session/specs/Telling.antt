@@ -7,13 +7,15 @@ use Rattle.si_io.specs.Faults.{Rose}
 use Rattle.si_session.specs.declared.broken.Broken.{Broken}
 use Rattle.si_session.specs.declared.broken.Broken.TheVariants.{Sink, Memory}
 
--- The lines were written; or memory ran out behind some of them; or the sink failed behind a prefix of their bytes.
+-- The lines were written; or memory ran out behind some of them; or the sink failed behind a prefix
+-- of their bytes.
 abbrev pub Tells : Result (Unit {0}) Broken → List Bytes → Told → Told → Type 0
 Tells (Ok done) lines before after = Appends before (ended lines) after
 Tells (Err Memory) lines before after = (front : List Bytes) × (back : List Bytes) × (lines ≡ front ++ back) × Appends before (ended front) after
 Tells (Err Sink) lines before after = AppendsPrefix before (ended lines) after
 
--- the sink's count of faults rose where the sink is said to have failed, and is as before where it isn't
+-- the sink's count of faults rose where the sink is said to have failed, and is as before where it
+-- isn't
 abbrev pub Blames : Result (Unit {0}) Broken → ℕ → ℕ → Type 0
 Blames (Ok done) before after = after ≡ before
 Blames (Err Memory) before after = after ≡ before

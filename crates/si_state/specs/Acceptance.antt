@@ -1,7 +1,11 @@
--- Which clauses are kept (this project's profile). A state is a list of clauses with distinct names.
-use Rattle.std.specs.Prelude.{◌≡◌, List, [], ◌∷◌, ◌++◌}
+-- Which clauses are kept (this project's profile). A state is a list of clauses with distinct
+-- names.
+use Rattle.std.specs.Prelude.{◌≡◌, ℕ, ◌+◌, ◌≤◌, ◌<◌, List, [], ◌∷◌, ◌++◌, length}
+use Rattle.std.specs.List.{AllByRecursion}
+use Rattle.si_defs.specs.Symbols.{Symbol}
 use Rattle.si_defs.specs.Clauses.{Name, Clause}
-use Rattle.si_defs.specs.Substitutions.{IsAmong}
+use Rattle.si_defs.specs.Entries.{entries, state_entries, clause_symbols, state_symbols}
+use Rattle.si_defs.specs.Substitutions.{IsAmong, AreDistinct}
 
 abbrev pub names : List Clause → List Name
 names [] = []
@@ -12,10 +16,69 @@ abbrev pub IsTaken : List Clause → Name → Type 0
 IsTaken state name = IsAmong (names state) name
 
 abbrev pub HasDistinctNames : List Clause → Type 0
-HasDistinctNames [] = Unit {0}
-HasDistinctNames (c ∷ cs) = (IsTaken cs c.name → ⊥) × HasDistinctNames cs
+HasDistinctNames state = AreDistinct (names state)
+
+-- ---- one side and one arity for each kind and text
+-- two symbols of one kind and text that differ in side or arity
+pub record Clashes (s r : Symbol) : Type 0 where
+  pub kind : s.kind ≡ r.kind
+  pub text : s.text ≡ r.text
+  pub differ : s.side ≡ r.side → s.arity ≡ r.arity → ⊥
+
+-- none of the known symbols clashes with s
+abbrev pub Agrees : List Symbol → Symbol → Type 0
+Agrees known s = AllByRecursion (λ r. Clashes s r → ⊥) known
+
+-- each of these agrees with the known ones, and with those before it
+abbrev pub AllAgree : List Symbol → List Symbol → Type 0
+AllAgree known [] = Unit {0}
+AllAgree known (s ∷ ss) = Agrees known s × AllAgree (known ++ s ∷ []) ss
+
+-- the first of them that doesn't, how many stand before it, and a symbol that it clashes with
+pub record IsFirstClash (known own : List Symbol) (number : ℕ) (found kept : Symbol) : Type 0 where
+  pub before : List Symbol
+  pub after : List Symbol
+  pub splits : own ≡ before ++ found ∷ after
+  pub position : number ≡ length before
+  pub earlier : AllAgree known before
+  pub against : IsAmong (known ++ before) kept
+  pub clashes : Clashes found kept
+
+-- ---- a clause is tried
+-- the number of entries that there would be
+abbrev pub needed : List Clause → Clause → ℕ
+needed state clause = length (state_entries state) + length (entries clause)
 
 -- the clause is accepted, and stands last
-pub record Accepts (state : List Clause) (clause : Clause) (new : List Clause) : Type 0 where
+pub record Accepts (limit : ℕ) (state : List Clause) (clause : Clause) (new : List Clause) : Type 0 where
   pub free : IsTaken state clause.name → ⊥
+  pub agree : AllAgree (state_symbols state) (clause_symbols clause)
+  pub room : needed state clause ≤ limit
   pub added : new ≡ state ++ clause ∷ []
+
+-- why a clause is refused: its name is taken; the head of the entry with this number from 0 is one
+-- symbol, and another one of its kind and text stands against it; or so many entries would be too
+-- many
+pub data Refusal : Type 0 where
+  taken : Refusal
+  misused : ℕ → Symbol → Symbol → Refusal
+  full : ℕ → Refusal
+
+-- the first reason that there is
+abbrev pub Refuses : ℕ → List Clause → Clause → Refusal → Type 0
+Refuses limit state clause taken = IsTaken state clause.name
+Refuses limit state clause (misused number found kept) =
+    (IsTaken state clause.name → ⊥)
+    × IsFirstClash (state_symbols state) (clause_symbols clause) number found kept
+Refuses limit state clause (full n) =
+    (IsTaken state clause.name → ⊥) × AllAgree (state_symbols state) (clause_symbols clause)
+    × (limit < needed state clause) × (n ≡ needed state clause)
+
+-- ---- a clause goes
+-- the clause with this name is gone, and the others stay in order
+pub record Removes (state : List Clause) (name : Name) (removed : Clause) (new : List Clause) : Type 0 where
+  pub before : List Clause
+  pub after : List Clause
+  pub splits : state ≡ before ++ removed ∷ after
+  pub named : removed.name ≡ name
+  pub rest : new ≡ before ++ after

@@ -1,5 +1,6 @@
--- The answer to a pattern: the entries that stand in the relation, in order, each with its canonical list (after
--- MathWebSearch, a query over all subterms; order and text of the lines are this project's profile).
+-- The answer to a pattern: the entries that stand in the relation, in order, each with its
+-- canonical list (after MathWebSearch, a query over all subterms; order and text of the lines are
+-- this project's profile).
 use Rattle.std.specs.Prelude.{◌≡◌, ◌⊎◌, List, [], ◌∷◌, ◌++◌, codes}
 use Rattle.si_defs.specs.Bytes.{Bytes}
 use Rattle.si_defs.specs.Clauses.{Clause, Pattern, literal_pattern, term_pattern}
@@ -10,7 +11,8 @@ use Rattle.si_defs.specs.Solutions.{IsCanonical}
 use Rattle.si_defs.specs.Variables.{Apart, same_variable, variable_text, pattern_term, entry_term, Solution}
 use Rattle.si_defs.specs.Printing.{place_text, solution_text}
 
--- A literal is compared with literals of its sign, by their atoms, and a term with terms. R is asked of the two terms.
+-- A literal is compared with literals of its sign, by their atoms, and a term with terms. R is
+-- asked of the two terms.
 abbrev pub Compares : (Apart → Apart → Type 0) → Pattern → Entry → Type 0
 Compares R (literal_pattern l) (literal_entry k) = (l.positive ≡ k.positive) × R (pattern_term l.atom) (entry_term k.atom)
 Compares R (term_pattern t) (term_entry u) = R (pattern_term t) (entry_term u)

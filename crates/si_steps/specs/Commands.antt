@@ -1,26 +1,30 @@
 -- Which lines are commands, and what they ask for (this project's profile).
 use Rattle.std.specs.Prelude.{◌≡◌, ◌<◌, ◌≤◌, ◌⊎◌, List, ◌∷◌, [], length, IsTrue, IsFalse, codes}
 use Rattle.si_defs.specs.Bytes.{Bytes}
-use Rattle.si_defs.specs.Clauses.{Clause, Pattern, literal_pattern, term_pattern}
+use Rattle.si_defs.specs.Clauses.{Name, Clause, Pattern, literal_pattern, term_pattern}
 use Rattle.si_defs.specs.Substitutions.{IsAmong}
 use Rattle.si_defs.specs.declared.Relation.{Relation}
 use Rattle.si_defs.specs.Tokens.{Token, lower, AreBlanks, Begins, NextToken}
-use Rattle.si_defs.specs.Grammar.{IsClause, IsLiteral, IsTerm, left_bracket}
+use Rattle.si_defs.specs.Grammar.{IsName, IsClause, IsLiteral, IsTerm, left_bracket}
 use Rattle.si_defs.specs.Texts.{IsText, languages}
 use Rattle.si_steps.specs.declared.limits.Limits.{Limits}
 use Rattle.si_steps.specs.declared.word.Word.{Word}
-use Rattle.si_steps.specs.declared.word.Word.TheVariants.{Add, Ask}
+use Rattle.si_steps.specs.declared.word.Word.TheVariants.{Add, Remove, Ask, Stats}
 use Rattle.si_steps.specs.Words.{word_text, is_built}
 
 -- ---- commands
 pub data Command : Type 0 where
   add : Clause → Command
+  remove : Name → Command
   query : Relation → Pattern → Command
+  stats : Command
 
 -- the word that it begins with
 abbrev pub command_word : Command → Word
 command_word (add c) = Add
+command_word (remove name) = Remove
 command_word (query relation pattern) = Ask relation
+command_word stats = Stats
 
 abbrev pub IsQuery : Pattern → List Token → Type 0
 IsQuery (literal_pattern l) ts = (us : List Token) × IsLiteral l us × (ts ≡ lower (codes "lit") ∷ us)
@@ -29,7 +33,9 @@ IsQuery (term_pattern t) ts = (us : List Token) × IsTerm t us × (ts ≡ lower 
 -- what stands behind the word
 abbrev pub AreOperands : Command → List Token → Type 0
 AreOperands (add c) ts = IsClause c ts
+AreOperands (remove name) ts = (t : Token) × IsName name t × (ts ≡ t ∷ [])
 AreOperands (query relation pattern) ts = IsQuery pattern ts
+AreOperands stats ts = ts ≡ []
 
 -- the word of a command that is built, and its operands
 pub record IsCommand (command : Command) (ts : List Token) : Type 0 where

@@ -1,9 +1,11 @@
 -- The replies to commands, line by line (this project's profile).
 use Rattle.std.specs.Prelude.{ℕ, Bool, false, List, [], ◌∷◌, ◌++◌, length, codes, decimal}
 use Rattle.si_defs.specs.Bytes.{Bytes}
+use Rattle.si_defs.specs.Symbols.{Symbol}
 use Rattle.si_defs.specs.Clauses.{Name}
 use Rattle.si_defs.specs.Tokens.{begins_with}
-use Rattle.si_defs.specs.Printing.{name_text}
+use Rattle.si_defs.specs.Printing.{name_text, symbol_text, shape_text}
+use Rattle.si_state.specs.Acceptance.{Refusal, taken, misused, full}
 use Rattle.si_state.specs.Answers.{Hit, hit_texts}
 
 -- lines, without their line feeds
@@ -18,8 +20,32 @@ ok_line clauses gained = codes "ok " ++ decimal clauses ++ codes " " ++ decimal 
 abbrev pub end_line : ℕ → Bytes
 end_line count = codes "end " ++ decimal count
 
+-- so many clauses are kept, with so many entries and so many different symbols
+abbrev pub stats_line : ℕ → ℕ → ℕ → Bytes
+stats_line clauses entries symbols =
+    codes "clauses " ++ decimal clauses ++ codes " entries " ++ decimal entries ++ codes " symbols " ++ decimal symbols
+
 abbrev pub taken_line : Name → Bytes
 taken_line name = codes "! taken " ++ name_text name
+
+-- what the tried clause has, then what stands against it
+abbrev pub misused_line : Symbol → Symbol → Bytes
+misused_line found kept =
+    codes "! use " ++ symbol_text found ++ codes " " ++ shape_text found.side found.arity
+    ++ codes " " ++ shape_text kept.side kept.arity
+
+-- the entries that there would be, and how many may be
+abbrev pub full_line : ℕ → ℕ → Bytes
+full_line needed limit = codes "! full " ++ decimal needed ++ codes " " ++ decimal limit
+
+abbrev pub unknown_line : Name → Bytes
+unknown_line name = codes "! unknown " ++ name_text name
+
+-- why the clause of this name is refused where so many entries may be
+abbrev pub refusal_line : ℕ → Name → Refusal → Bytes
+refusal_line limit name taken = taken_line name
+refusal_line limit name (misused number found kept) = misused_line found kept
+refusal_line limit name (full needed) = full_line needed limit
 
 abbrev pub later_line : Bytes
 later_line = codes "! later"

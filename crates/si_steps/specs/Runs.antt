@@ -1,4 +1,5 @@
--- A run over the whole input: its lines, and the replies one after the other (this project's profile).
+-- A run over the whole input: its lines, and the replies one after the other (this project's
+-- profile).
 use Rattle.std.specs.Prelude.{◌≡◌, ◌==◌, List, [], ◌∷◌, ◌++◌, IsFalse}
 use Rattle.std.specs.List.{list_any, AllByRecursion}
 use Rattle.si_defs.specs.Bytes.{Bytes}
@@ -22,7 +23,8 @@ pub record Splits (bytes : Bytes) (lines : List Bytes) (rest : Bytes) : Type 0 w
   pub each : AllByRecursion IsOneLine lines
   pub last : IsOneLine rest
 
--- the lines of an input that was read to its end: a last part without a line feed is one if it is not empty
+-- the lines of an input that was read to its end: a last part without a line feed is one if it is
+-- not empty
 abbrev pub lines_at_end : List Bytes → Bytes → List Bytes
 lines_at_end lines [] = lines
 lines_at_end lines (c ∷ cs) = lines ++ (c ∷ cs) ∷ []

@@ -1,4 +1,5 @@
--- The words that commands begin with, and their texts (this project's profile). No two have the same text.
+-- The words that commands begin with, and their texts (this project's profile). No two have the
+-- same text.
 use Rattle.std.specs.Prelude.{Bool, true, false, codes}
 use Rattle.si_defs.specs.Bytes.{Bytes}
 use Rattle.si_defs.specs.declared.Relation.{Relation}
@@ -27,5 +28,7 @@ word_text Sample = codes "sample"
 -- the words of the commands built so far
 abbrev pub is_built : Word → Bool
 is_built Add = true
+is_built Remove = true
 is_built (Ask Instances) = true
+is_built Stats = true
 is_built word = false

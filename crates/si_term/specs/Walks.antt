@@ -42,7 +42,8 @@ abbrev pub entries_alone : List Literal → List Entry
 entries_alone [] = []
 entries_alone (l ∷ ls) = literal_entry l ∷ map term_entry (subterms_of_all (arguments l.atom)) ++ entries_alone ls
 
--- The walk found the one with the number n of these, from 0, or n is greater and the rest of it is left.
+-- The walk found the one with the number n of these, from 0, or n is greater and the rest of it is
+-- left.
 abbrev pub Finds : List Term → ℕ → Walk → Type 0
 Finds ts n (walk.At t) = slice_get ts n ≡ Some (term_of t.now)
 Finds ts n (walk.Past left) = n ≡ length ts + left

@@ -26,8 +26,8 @@ pub struct Clause {
     pub literals: Literals,
 }
 
-/// Where an entry stands in its clause: the literal's number from 1, and the path of argument numbers from 1 that lead
-/// from the atom to the entry. The path of the literal itself is empty.
+/// Where an entry stands in its clause: the literal's number from 1, and the path of argument
+/// numbers from 1 that lead from the atom to the entry. The path of the literal itself is empty.
 #[derive(Drop)]
 pub struct Place {
     pub literal: u32,
@@ -41,7 +41,8 @@ pub enum Pattern {
     Term(Term),
 }
 
-/// What a query looks at: a literal of a clause, or a proper subterm of its atom that is no variable.
+/// What a query looks at: a literal of a clause, or a proper subterm of its atom that is no
+/// variable.
 #[derive(Clone, Copy)]
 pub enum Entry<'a> {
     Lit(&'a Literal),

@@ -34,7 +34,8 @@ enum PathWalk {
     Past(u32),
 }
 
-/// The number of entries: the literals and the proper subterms of their atoms that are no variables.
+/// The number of entries: the literals and the proper subterms of their atoms that are no
+/// variables.
 pub fn entry_count(clause: &Clause) -> u32
     requires { length (entries (clause_of clause.now)) ≤ MOST_OCCURRENCES }
     ensures { result ≡ length (entries (clause_of clause.now)) }

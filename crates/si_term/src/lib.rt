@@ -1,7 +1,7 @@
 //! Terms, literals, clauses and patterns as the program keeps them, and the entries of a clause.
 //!
-//! Contracts see a [`Text`] as a list of bytes and each list type as a list. `specs/Meaning.antt` says which term,
-//! literal, clause or pattern of the definitions a value stands for.
+//! Contracts see a [`Text`] as a list of bytes and each list type as a list. `specs/Meaning.antt`
+//! says which term, literal, clause or pattern of the definitions a value stands for.
 #![tactic(auto)]
 
 pub mod clause;

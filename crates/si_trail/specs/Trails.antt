@@ -1,4 +1,5 @@
--- What a trail is seen as: a number of slots, and pairs of a slot and its value in the order in which they were bound.
+-- What a trail is seen as: a number of slots, and pairs of a slot and its value in the order in
+-- which they were bound.
 use Rattle.std.specs.Prelude.{◌≡◌, ℕ, ◌+◌, ◌<◌, ◌==◌, if◌then◌else◌, List, [], ◌∷◌, length, refl, Option, None, Some, sum_by, slice_index_or, slice_get}
 use Rattle.std.specs.List.{AllByRecursion}
 use Rattle.std.specs.Coded.{Coded, code_by, coded×, coded_ℕ, coded_list}

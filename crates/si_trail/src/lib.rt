@@ -33,7 +33,8 @@ impl<T> Model for Trail<T> {
 
     ghost view = { λ t. record { slots = length t.values.items; pairs = t.bound.items } };
 
-    ghost invariant = { λ t. IsTableOf t.values.items t.bound.items × (length t.values.items ≤ vec_capacity t.bound) };
+    ghost invariant = { λ t. IsTableOf t.values.items t.bound.items
+        × (length t.values.items ≤ vec_capacity t.bound) };
 }
 
 impl<T: Copy> Trail<T> {

@@ -25,8 +25,9 @@ pub record Breaks (limits : Limits) (old new : List Clause) (line : Bytes) (befo
   pub step : Step limits old line reply new
   pub written : AppendsPrefix before (ended reply) after
 
--- From the start on, where `before` was written, these bytes were acted on: the lines that are whole in them gave their
--- output and the kept clauses, and of the rest, a line that was begun, the front is held.
+-- From the start on, where `before` was written, these bytes were acted on: the lines that are
+-- whole in them gave their output and the kept clauses, and of the rest, a line that was begun, the
+-- front is held.
 pub record Progress (limits : Limits) (before : Told) (taken : Bytes) (clauses : List Clause) (held : Bytes) (after : Told) : Type 0 where
   pub lines : List Bytes
   pub rest : Bytes

@@ -1,4 +1,5 @@
--- What a whole run of the program does: the input that it takes, the output that it writes, and how it ends.
+-- What a whole run of the program does: the input that it takes, the output that it writes, and how
+-- it ends.
 use Rattle.std.specs.Prelude.{◌≡◌, ℕ, ◌<◌, ◌≤◌, ◌⊎◌, List, [], ◌++◌, Option, length}
 use Rattle.si_defs.specs.Bytes.{Bytes}
 use Rattle.si_steps.specs.declared.limits.Limits.{Limits}
@@ -28,8 +29,9 @@ pub record MetEnd (limits : Limits) (taken : Bytes) (left : Option Bytes) : Type
   pub below : length taken < limits.session
   pub at_end : IsAtEnd left
 
--- Of a run that ends so: how far it took the input, of which lines it wrote the replies, and how many bytes of them. The
--- bytes that it took are these lines, and then the rest of a line that was begun.
+-- Of a run that ends so: how far it took the input, of which lines it wrote the replies, and how
+-- many bytes of them. The bytes that it took are these lines, and then the rest of a line that was
+-- begun.
 abbrev pub Ends : Status → Limits → (taken : Bytes) (lines : List Bytes) (rest : Bytes) (left now : Option Bytes) (before after : Told) → Type 0
 Ends Ended limits taken lines rest left now before after = MetEnd limits taken now × WritesAll limits (lines_at_end lines rest) before after
 Ends Refused limits taken lines rest left now before after = ⊥
@@ -60,8 +62,8 @@ IsFaultless SinkFault = ⊥
 IsFaultless Memory = Unit {0}
 IsFaultless SessionLimit = Unit {0}
 
--- The source's count of faults rose where the run ended by its fault, and the sink's where it ended by the sink's; no other
--- end moved a count, nor did the other device's fault.
+-- The source's count of faults rose where the run ended by its fault, and the sink's where it ended
+-- by the sink's; no other end moved a count, nor did the other device's fault.
 abbrev pub CountsFaults : Status → (source source_now sink sink_now : ℕ) → Type 0
 CountsFaults Ended source source_now sink sink_now = (source_now ≡ source) × (sink_now ≡ sink)
 CountsFaults Refused source source_now sink sink_now = (source_now ≡ source) × (sink_now ≡ sink)

@@ -23,7 +23,8 @@ impl Plan {
         }
     }
 
-    // Counts a call, which fails if its number is listed. A count at the largest `u64` stays, and no `u32` is that.
+    // Counts a call, which fails if its number is listed. A count at the largest `u64` stays, and
+    // no `u32` is that.
     pub fn next(&mut self) -> Result<(), Failed>
         ensures calls { self.new.calls ≡ raised self.old.calls }
         ensures listed { is_err result ≡ is_listed self.old.failing.items self.new.calls }

@@ -6,8 +6,8 @@ use std::alloc::{AllocError, Global};
 
 /// A sink that keeps what it was given in memory, up to its room, which it takes when it is made.
 ///
-/// A call takes all of its bytes, at most the chunk. It fails where its number, from 1, is listed or where the bytes
-/// that it would take don't fit the room, and nowhere else.
+/// A call takes all of its bytes, at most the chunk. It fails where its number, from 1, is listed
+/// or where the bytes that it would take don't fit the room, and nowhere else.
 #[derive(Drop)]
 pub struct MemorySink {
     buffer: Vec<u8>,
@@ -22,8 +22,8 @@ pub struct MemorySink {
 impl MemorySink {
     ghost use Rattle.si_io.specs.Memory.{sink_bytes, sink_room, sink_chunk, sink_failing, sink_calls, sink_faults};
 
-    /// A sink with room for `room` bytes. A call takes at most `chunk` of them, where 0 counts as 1. The calls whose
-    /// numbers, from 1, stand in `failing` fail.
+    /// A sink with room for `room` bytes. A call takes at most `chunk` of them, where 0 counts as
+    /// 1. The calls whose numbers, from 1, stand in `failing` fail.
     ///
     /// `AllocError`: there is no memory for the room.
     pub fn new(
@@ -66,7 +66,8 @@ impl Sink for MemorySink {
 
     ghost faults = { sink_faults };
 
-    /// Takes all of its bytes, at most the chunk. Fails exactly where the call is listed or the room is too small.
+    /// Takes all of its bytes, at most the chunk. Fails exactly where the call is listed or the
+    /// room is too small.
     fn write(&mut self, bytes: &[u8]) -> Result<usize, Failed>
         ensures bound { IfOk result (λ n. n ≤ length bytes.now) }
         ensures taken { IfOk result (λ n. Appends (sink_told self.old) (take n bytes.now)
@@ -78,7 +79,8 @@ impl Sink for MemorySink {
         ensures count { IfOk result (λ n. n ≡ min (sink_chunk self.old) (length bytes.now)) }
         ensures calls { sink_calls self.new ≡ raised (sink_calls self.old) }
         ensures fails { is_err result ≡ (is_listed (sink_failing self.old) (sink_calls self.new)
-            || nat_lt (sink_room self.old) (length (sink_bytes self.old) + min (sink_chunk self.old) (length bytes.now))) }
+            || nat_lt (sink_room self.old)
+                (length (sink_bytes self.old) + min (sink_chunk self.old) (length bytes.now))) }
         ensures faults { CountsErrors (sink_faults self.old) (sink_faults self.new) result }
         ensures same { SameSink self.old self.new }
     {

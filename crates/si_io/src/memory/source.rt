@@ -5,8 +5,8 @@ use crate::{Failed, Source};
 
 /// A source that has its bytes in memory.
 ///
-/// A call gives as many bytes as fit and as are left, at most the chunk. The calls whose numbers, from 1, are listed
-/// fail, and no others do.
+/// A call gives as many bytes as fit and as are left, at most the chunk. The calls whose numbers,
+/// from 1, are listed fail, and no others do.
 #[derive(Drop)]
 pub struct MemorySource {
     bytes: Vec<u8>,
@@ -20,8 +20,8 @@ pub struct MemorySource {
 impl MemorySource {
     ghost use Rattle.si_io.specs.Memory.{source_left, source_chunk, source_failing, source_calls, source_faults};
 
-    /// A source of these bytes. A call gives at most `chunk` of them, where 0 counts as 1. The calls whose numbers,
-    /// from 1, stand in `failing` fail.
+    /// A source of these bytes. A call gives at most `chunk` of them, where 0 counts as 1. The
+    /// calls whose numbers, from 1, stand in `failing` fail.
     pub fn new(bytes: Vec<u8>, chunk: usize, failing: Vec<u32>) -> MemorySource
         ensures left { source_left result ≡ bytes.items }
         ensures chunk { source_chunk result ≡ max chunk 1 }
@@ -50,8 +50,8 @@ impl Source for MemorySource {
 
     ghost may_fail = { source_may_fail };
 
-    /// Gives as many bytes as fit and as are left, at most the chunk. Fails exactly where the call is listed. It writes
-    /// nothing but these bytes.
+    /// Gives as many bytes as fit and as are left, at most the chunk. Fails exactly where the call
+    /// is listed. It writes nothing but these bytes.
     fn read(&mut self, into: &mut [u8]) -> Result<usize, Failed>
         ensures bound { IfOk result (λ n. n ≤ length into.old) }
         ensures taken { IfOk result (λ n. Takes (Some (source_left self.old)) (take n into.new)

@@ -1,4 +1,5 @@
-// What stands between the adapters and std. It calls the device, counts its faults, and knows what is flushed.
+// What stands between the adapters and std. It calls the device, counts its faults, and knows what
+// is flushed.
 ghost use Rattle.std.specs.Prelude.{◌≡◌, ◌<◌, ◌≤◌, ◌⊎◌, length, is_ok, IfOk, IsErr, IsTrue, IsFalse, MatchResult};
 ghost use Rattle.std.specs.Io.KnownBytes.{Keeps, ReadConsumes, WriteAppends};
 ghost use Rattle.si_io.specs.Counted.{device_of, faults_of, is_flushed};
@@ -10,12 +11,12 @@ use std::io::{ErrorKind, Read, Write};
 
 /// A reader or a writer of std, with the count of its faults, up to the largest `u64`.
 ///
-/// An error is a fault, and so is a write that takes nothing of a slice that isn't empty. Outside this file nothing
-/// gets at the device or at the count but by these calls.
+/// An error is a fault, and so is a write that takes nothing of a slice that isn't empty. Outside
+/// this file nothing gets at the device or at the count but by these calls.
 ///
-/// std's traits don't tell how often they were called or refused. So no clause says that `read`, `write` and `flush`
-/// each call the device once, and pass on what that call answered. This has to be read in their bodies, of two or
-/// three lines each; tests cover it.
+/// std's traits don't tell how often they were called or refused. So no clause says that `read`,
+/// `write` and `flush` each call the device once, and pass on what that call answered. This has to
+/// be read in their bodies, of two or three lines each; tests cover it.
 #[derive(Drop)]
 pub struct Counted<D> {
     device: D,

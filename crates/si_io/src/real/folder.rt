@@ -1,4 +1,5 @@
-// What stands between the real library and std. It opens and reads files, and counts what went wrong.
+// What stands between the real library and std. It opens and reads files, and counts what went
+// wrong.
 ghost use Rattle.std.specs.Prelude.{◌≡◌, ◌≤◌, length, IfOk};
 ghost use Rattle.std.specs.Io.KnownBytes.{ReadConsumes};
 ghost use Rattle.si_io.specs.Folder.{counts_of, CountsOpened, CountsRead};
@@ -11,11 +12,12 @@ use std::rt::Files;
 
 /// The files of the system, with the counts of what went wrong, each up to the largest `u64`.
 ///
-/// Outside this file nothing gets at the system or at the counts but by these calls. A name is a path from the folder
-/// where the program was started.
+/// Outside this file nothing gets at the system or at the counts but by these calls. A name is a
+/// path from the folder where the program was started.
 ///
-/// std's traits don't tell how often they were called or refused. So no clause says that `open` and `read` each call
-/// the system once, and pass on what it answered. This has to be read in their bodies; tests cover it.
+/// std's traits don't tell how often they were called or refused. So no clause says that `open` and
+/// `read` each call the system once, and pass on what it answered. This has to be read in their
+/// bodies; tests cover it.
 #[derive(Drop)]
 pub struct Folder<R> {
     system: R,

@@ -12,10 +12,11 @@ use std::rt::Files;
 /// Bytes that are asked of a file at first.
 const FIRST: usize = 1 << 14;
 
-/// A library over the files of the system. A name is a path from the folder where the program was started.
+/// A library over the files of the system. A name is a path from the folder where the program was
+/// started.
 ///
-/// A file that isn't found is missing. Any other error is a fault, and so is a folder, or a name that isn't UTF-8.
-/// Nothing is told of the files.
+/// A file that isn't found is missing. Any other error is a fault, and so is a folder, or a name
+/// that isn't UTF-8. Nothing is told of the files.
 #[derive(Drop)]
 pub struct RealLibrary<R> {
     folder: Folder<R>,
@@ -45,8 +46,8 @@ impl<R: Files> Library for RealLibrary<R> {
 
     ghost may_fail = { λ library. true };
 
-    /// Reads the file to its end, or to one byte more than the limit. Beside what every library promises, each
-    /// answer is counted once.
+    /// Reads the file to its end, or to one byte more than the limit. Beside what every library
+    /// promises, each answer is counted once.
     fn fetch(&mut self, name: &[u8], into: &mut Vec<u8>, limit: usize) -> Fetched
         ensures holds { Holds result limit into.new.items }
         ensures cause { HasFetchCause (library_counts self.old) (library_counts self.new) result }
@@ -68,7 +69,8 @@ impl<R: Files> Library for RealLibrary<R> {
     }
 }
 
-/// Reads a file to its end, or to one byte more than the limit. Of a reader whose bytes are known it takes all of them.
+/// Reads a file to its end, or to one byte more than the limit. Of a reader whose bytes are known
+/// it takes all of them.
 ///
 /// It reserves at most twice as many bytes.
 fn read_file<S, F: Read>(
@@ -118,7 +120,8 @@ fn read_behind<S, F: Read>(
     folder.read(file, &mut into[filled..])
 }
 
-/// Makes room behind the bytes that are filled: twice as many, but some at first, and no more than `most`.
+/// Makes room behind the bytes that are filled: twice as many, but some at first, and no more than
+/// `most`.
 fn make_room(into: &mut Vec<u8>, filled: usize, most: usize) -> Result<(), AllocError>
     requires below { filled < most }
     requires within { filled ≤ vec_len into.old }

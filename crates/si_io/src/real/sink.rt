@@ -10,8 +10,9 @@ const LINE_END: &[u8] = b"\n";
 
 /// A sink over a writer of std, which flushes at the end of a line.
 ///
-/// Each error of the writer is answered as `Failed` and counted, and so is a writer that takes nothing of a slice that
-/// isn't empty. What the writer was given isn't told: after `Failed` from a flush the bytes may have gone out.
+/// Each error of the writer is answered as `Failed` and counted, and so is a writer that takes
+/// nothing of a slice that isn't empty. What the writer was given isn't told: after `Failed` from a
+/// flush the bytes may have gone out.
 #[derive(Drop)]
 pub struct RealSink<W> {
     writer: Counted<W>,
@@ -40,8 +41,9 @@ impl<W: Write> Sink for RealSink<W> {
 
     ghost faults = { writer_faults };
 
-    /// Writes once, and flushes where all of the bytes were taken and the last one ends a line. Beside what every
-    /// sink promises, what is taken goes to the writer, where its content is known, and only errors are counted.
+    /// Writes once, and flushes where all of the bytes were taken and the last one ends a line.
+    /// Beside what every sink promises, what is taken goes to the writer, where its content is
+    /// known, and only errors are counted.
     fn write(&mut self, bytes: &[u8]) -> Result<usize, Failed>
         ensures bound { IfOk result (λ n. n ≤ length bytes.now) }
         ensures stuck { IfOk result (λ n. 0 < length bytes.now → 0 < n) }

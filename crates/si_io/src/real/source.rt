@@ -8,7 +8,8 @@ use std::io::Read;
 
 /// A source over a reader of std.
 ///
-/// Each error of the reader is answered as `Failed` and counted. What the reader has left isn't told.
+/// Each error of the reader is answered as `Failed` and counted. What the reader has left isn't
+/// told.
 #[derive(Drop)]
 pub struct RealSource<R> {
     reader: Counted<R>,
@@ -37,8 +38,8 @@ impl<R: Read> Source for RealSource<R> {
 
     ghost may_fail = { λ source. true };
 
-    /// Reads once. Beside what every source promises, it gives what the reader gave, where that is known, and counts
-    /// errors alone.
+    /// Reads once. Beside what every source promises, it gives what the reader gave, where that is
+    /// known, and counts errors alone.
     fn read(&mut self, into: &mut [u8]) -> Result<usize, Failed>
         ensures bound { IfOk result (λ n. n ≤ length into.old) }
         ensures cause { HasCause (reader_faults self.old) (reader_faults self.new) result }

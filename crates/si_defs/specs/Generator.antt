@@ -1,6 +1,6 @@
--- Clauses that are drawn at random, the same ones from the same start: a grammar in which a linear congruential generator
--- picks among the alternatives (the multiplier and the increment of the C standard's example of `rand`; the grammar is
--- this project's profile).
+-- Clauses that are drawn at random, the same ones from the same start: a grammar in which a linear
+-- congruential generator picks among the alternatives (the multiplier and the increment of the C
+-- standard's example of `rand`; the grammar is this project's profile).
 use Rattle.std.specs.Prelude.{◌≡◌, ℕ, zero, suc, ◌+◌, ◌*◌, ◌/◌, ◌%◌, List, [], ◌∷◌, ◌++◌, length, codes, decimal}
 use Rattle.si_defs.specs.Bytes.{Bytes}
 

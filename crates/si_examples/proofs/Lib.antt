@@ -14,3 +14,5 @@ pub mod OneRun
 pub mod SharedTerms
 pub mod OneSample
 pub mod TwoClauses
+pub mod FirstItems
+pub mod OneHarvest

@@ -6,6 +6,7 @@
 mod answers;
 mod entries;
 mod grammar;
+mod harvests;
 mod lines;
 mod printing;
 mod relations;
@@ -21,6 +22,7 @@ mod unifiers;
 pub use answers::answers_to_patterns;
 pub use entries::entries_of_clauses;
 pub use grammar::{items, nestings, parts_of_clauses, symbols_and_names};
+pub use harvests::{clauses_of_files, faulty_files, unopened_files};
 pub use lines::{commands, words};
 pub use printing::printed_texts;
 pub use relations::{instances, unifiable_terms};

@@ -4,3 +4,4 @@ pub mod Alone
 pub mod Literals
 pub mod Gathered
 pub mod Results
+pub mod EntryHeads

@@ -5,15 +5,21 @@
 #![tactic(auto)]
 
 pub mod clause;
+mod copies;
 mod entries;
+mod heads;
 pub mod list;
+pub mod table;
 pub mod term;
 pub mod text;
 
 pub use clause::{Clause, Entry, Literal, Name, Pattern, Place};
+pub use copies::to_pattern;
 pub use entries::{entry_at, entry_count, place_at, vars_of};
+pub use heads::{head_at, symbols_of};
 pub use list::{Literals, Names, Path, Syms, Texts};
 pub use si_defs::{NameKind, Side, SymKind};
+pub use table::SymTable;
 pub use term::{Sym, Term, Terms};
 pub use text::Text;
 

@@ -1,7 +1,8 @@
 ghost use Rattle.std.specs.Prelude.{◌≡◌, ◌≤◌, ◌<◌, ◌+◌, ◌∷◌, [], IfOk, length, map};
-ghost use Rattle.si_defs.specs.Terms.{row, size, sizes};
+ghost use Rattle.si_defs.specs.Terms.{row, app, size, sizes};
 ghost use Rattle.si_defs.specs.Entries.{entries};
-ghost use Rattle.si_defs.specs.Clauses.{literals_size};
+ghost use Rattle.si_defs.specs.Clauses.{literals_size, IsSoundTerm, IsSoundClause};
+ghost use Rattle.si_defs.specs.declared.SymKind.TheVariants.{Word};
 ghost use Rattle.si_term.specs.Terms.{term_of};
 ghost use Rattle.si_term.specs.Meaning.{clause_of, literal_of};
 
@@ -17,7 +18,9 @@ fn variable(alloc: Global, name: &[u8]) -> Result<Term, AllocError>
 
 fn apply(alloc: Global, side: Side, text: &[u8], arguments: Terms) -> Result<Term, AllocError>
     requires { length arguments < 3 }
-    ensures { IfOk result (λ t. size (term_of t) ≡ 1 + sizes (row arguments)) }
+    ensures applied { IfOk result (λ t. term_of t ≡ app (record { kind = Word; text = text.now;
+        side = side; arity = length arguments }) (row arguments)) }
+    ensures size { IfOk result (λ t. size (term_of t) ≡ 1 + sizes (row arguments)) }
 {
     let symbol = Sym {
         kind: SymKind::Word,
@@ -64,7 +67,8 @@ fn pair(alloc: Global, name: &[u8], second: Term) -> Result<Term, AllocError>
 }
 
 fn constant(alloc: Global) -> Result<Term, AllocError>
-    ensures { IfOk result (λ t. size (term_of t) ≡ 1) }
+    ensures sound { IfOk result (λ t. IsSoundTerm (term_of t)) }
+    ensures size { IfOk result (λ t. size (term_of t) ≡ 1) }
 {
     apply(alloc, Side::Function, b"a", Terms::new(alloc))
 }
@@ -162,5 +166,47 @@ fn a_pattern_is_an_entry(rt: HostRuntime) -> Result<(), Fail> {
     assert_eq!(rt; head(term.as_entry()), b"a".as_slice());
     let atom = Pattern::Lit(literal(alloc, constant(alloc)?, constant(alloc)?)?);
     assert_eq!(rt; head(atom.as_entry()), b"literal".as_slice());
+    Ok(())
+}
+
+/// The clause of the literal `p(g(a))`.
+fn nested(alloc: Global) -> Result<Clause, AllocError>
+    ensures sound { IfOk result (λ c. IsSoundClause (clause_of c)) }
+    ensures three { IfOk result (λ c. length (entries (clause_of c)) ≡ 3) }
+{
+    let inner = apply(alloc, Side::Function, b"g", one(alloc, constant(alloc)?)?)?;
+    let atom = apply(alloc, Side::Predicate, b"p", one(alloc, inner)?)?;
+    let mut literals = Literals::new(alloc);
+    literals.push(Literal {
+        positive: false,
+        atom,
+    })?;
+    Ok(Clause {
+        name: Name {
+            kind: NameKind::Word,
+            text: Text::from_bytes(alloc, b"c")?,
+        },
+        role: Text::from_bytes(alloc, b"axiom")?,
+        literals,
+    })
+}
+
+#[test]
+fn symbols_and_copies(rt: HostRuntime) -> Result<(), Fail> {
+    let alloc = rt.alloc();
+    let clause = nested(alloc)?;
+    let mut page = Vec::new(alloc);
+    for number in 0..3u32 {
+        page.extend_from_slice(head_at(&clause, number).text.as_bytes())?;
+    }
+    let copy = clause.copy(alloc)?;
+    for symbol in symbols_of(alloc, &copy)?.as_slice() {
+        page.extend_from_slice(symbol.text.as_bytes())?;
+    }
+    page.extend_from_slice(copy.name.text.as_bytes())?;
+    page.extend_from_slice(copy.role.as_bytes())?;
+    let pattern = to_pattern(alloc, entry_at(&clause, 1))?;
+    page.extend_from_slice(head(pattern.as_entry()))?;
+    assert_eq!(rt; page.as_slice(), b"pgapgacaxiomg".as_slice());
     Ok(())
 }

@@ -1,0 +1,11 @@
+//! Symbols that are in use, each with one side and arity, and the trait by which clauses are kept.
+//!
+//! Contracts see a [`Signature`] as a finite map from kind and text to what is known of the symbol,
+//! and a [`ClauseStore`] as its list of clauses and its limit on entries.
+#![tactic(auto)]
+
+pub mod faults;
+pub mod store;
+
+pub use faults::{AddFault, Clash, Rejected, Shape, TakeFault};
+pub use store::ClauseStore;

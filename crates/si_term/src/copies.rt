@@ -1,0 +1,116 @@
+// Equal values in memory of their own.
+ghost use Rattle.std.specs.Prelude.{◌≡◌, IfOk, map};
+ghost use Rattle.si_defs.specs.Entries.{pattern_entry};
+ghost use Rattle.si_term.specs.Terms.{term_of};
+ghost use Rattle.si_term.specs.Meaning.{literal_of, clause_of, pattern_of, entry_of};
+
+use crate::clause::{Clause, Entry, Literal, Name, Pattern};
+use crate::list::Literals;
+use crate::term::{Sym, Term, Terms};
+use crate::text::Text;
+use std::alloc::{AllocError, Global};
+
+/// The pattern that is the same literal, or the same term.
+pub fn to_pattern(alloc: Global, entry: Entry<'_>) -> Result<Pattern, AllocError>
+    ensures { IfOk result (λ p. pattern_entry (pattern_of p) ≡ entry_of entry.entry) }
+{
+    match entry {
+        Entry::Lit(literal) => Ok(Pattern::Lit(literal.copy(alloc)?)),
+        Entry::Sub(term) => Ok(Pattern::Term(copy_term(alloc, term)?)),
+    }
+}
+
+impl Text {
+    /// An equal text.
+    pub fn copy(&self, alloc: Global) -> Result<Text, AllocError>
+        ensures { IfOk result (λ t. t ≡ self.now) }
+    {
+        Text::from_bytes(alloc, self.as_bytes())
+    }
+}
+
+impl Name {
+    /// An equal name.
+    pub fn copy(&self, alloc: Global) -> Result<Name, AllocError>
+        ensures { IfOk result (λ n. n ≡ self.now) }
+    {
+        Ok(Name {
+            kind: self.kind,
+            text: self.text.copy(alloc)?,
+        })
+    }
+}
+
+impl Sym {
+    /// An equal symbol.
+    pub fn copy(&self, alloc: Global) -> Result<Sym, AllocError>
+        ensures { IfOk result (λ s. s ≡ self.now) }
+    {
+        Ok(Sym {
+            kind: self.kind,
+            text: self.text.copy(alloc)?,
+            side: self.side,
+            arity: self.arity,
+        })
+    }
+}
+
+impl Literal {
+    /// An equal literal.
+    pub fn copy(&self, alloc: Global) -> Result<Literal, AllocError>
+        ensures { IfOk result (λ l. literal_of l ≡ literal_of self.now) }
+    {
+        Ok(Literal {
+            positive: self.positive,
+            atom: copy_term(alloc, &self.atom)?,
+        })
+    }
+}
+
+impl Clause {
+    /// An equal clause.
+    pub fn copy(&self, alloc: Global) -> Result<Clause, AllocError>
+        ensures { IfOk result (λ c. clause_of c ≡ clause_of self.now) }
+    {
+        Ok(Clause {
+            name: self.name.copy(alloc)?,
+            role: self.role.copy(alloc)?,
+            literals: copy_literals(alloc, self.literals.as_slice())?,
+        })
+    }
+}
+
+fn copy_literals(alloc: Global, literals: &[Literal]) -> Result<Literals, AllocError>
+    ensures { IfOk result (λ ls. map literal_of ls ≡ map literal_of literals.now) }
+{
+    let mut copies = Literals::new(alloc);
+    for i in 0..literals.len() {
+        copies.push(literals[i].copy(alloc)?)?;
+    }
+    Ok(copies)
+}
+
+/// An equal term.
+#[cycle(copy)]
+fn copy_term(alloc: Global, term: &Term) -> Result<Term, AllocError>
+    ensures { IfOk result (λ t. term_of t ≡ term_of term.now) }
+{
+    match term {
+        Term::Var(name) => Ok(Term::Var(name.copy(alloc)?)),
+        Term::App(symbol, arguments) => Ok(Term::App(
+            symbol.copy(alloc)?,
+            copy_terms(alloc, arguments.as_slice())?,
+        )),
+    }
+}
+
+#[cycle(copy)]
+fn copy_terms(alloc: Global, terms: &[Term]) -> Result<Terms, AllocError>
+    ensures { IfOk result (λ ts. ts ≡ map term_of terms.now) }
+{
+    let mut copies = Terms::new(alloc);
+    for i in 0..terms.len() {
+        copies.push(copy_term(alloc, &terms[i])?)?;
+    }
+    Ok(copies)
+}

@@ -10,7 +10,7 @@ use Rattle.si_defs.specs.Substitutions.{IsAmong}
 use Rattle.si_defs.specs.declared.TokenKind.TheVariants.{Lower, Mark}
 use Rattle.si_defs.specs.declared.NameKind.TheVariants.{Word}
 use Rattle.si_state.specs.Acceptance.{Accepts, taken}
-use Rattle.si_state.specs.Harvest.{Files, Bounds, Event, ask, attempt, fetches, tried, Fault, cycle, too_deep, too_many, missing, too_big, failed, foreign, malformed, rejected, MayAsk, PassesAll, Spot, Harvests, barred, withheld, fetched, Continues, ended, stuck, passed_over, accepted, refused, expanded, broken_off}
+use Rattle.si_state.specs.Harvest.{Files, Bounds, Event, ask, attempt, fetches, tried, Fault, cycle, too_deep, too_many, missing, too_big, failed, foreign, malformed, rejected, MayAsk, IsSelected, Spot, Harvests, barred, withheld, fetched, Continues, ended, stuck, passed_over, accepted, refused, expanded, broken_off}
 use Rattle.si_lex.proofs.TokenLaws.{next_place}
 use Rattle.si_examples.specs.Entries.{fact, predicate}
 use Rattle.si_examples.specs.Harvests.{bounds, c, plain, selecting, includes, PlainFile, BigFile, MissingFile, NoMissingFile, FailedFile, TakenName, SelectedClause, OwnInclude, NoDepthOfOpenFile, DeepInclude, LateInclude, SecondLine, FirstWord}
@@ -29,54 +29,51 @@ first = record { free = λ h. h; agree = (tt, tt); room = omega arith; added = r
 
 pub plain_file : PlainFile
 plain_file =
-    fetched [] [] [] (codes "a") (codes "cnf(c,axiom,p).") (may_begin (bounds 15 1 1) (codes "a") (omega arith) (omega arith)) refl (omega arith) (attempt c ∷ []) None
-    (accepted _ (ask (codes "a") ∷ []) c [] (clause_begins (codes "c") (codes "p") [] refl) tt first [] None (ended _ _ nothing))
+    fetched [] [] 0 [] (codes "a") (codes "cnf(c,axiom,p).") (may_begin (bounds 15 1 1) (codes "a") (omega arith) (omega arith)) refl (omega arith) (attempt c ∷ []) None
+    (accepted _ 1 [] c [] (clause_begins (codes "c") (codes "p") [] refl) tt first [] None (ended _ _ _ nothing))
 
 pub big_file : BigFile
-big_file = withheld [] [] [] (codes "a") (too_big (codes "a")) (may_begin (bounds 14 1 1) (codes "a") (omega arith) (omega arith)) (refl, omega arith)
+big_file = withheld [] [] 0 [] (codes "a") (too_big (codes "a")) (may_begin (bounds 14 1 1) (codes "a") (omega arith) (omega arith)) (refl, omega arith)
 
 pub missing_file : MissingFile
-missing_file = withheld [] [] [] (codes "b") (missing (codes "b")) (may_begin (bounds 15 1 1) (codes "b") (omega arith) (omega arith)) (refl, refl)
+missing_file = withheld [] [] 0 [] (codes "b") (missing (codes "b")) (may_begin (bounds 15 1 1) (codes "b") (omega arith) (omega arith)) (refl, refl)
 
 pub no_missing_file : NoMissingFile
-no_missing_file limits kept events (fetched opened around past file bytes may found size inside fault rest) = let e : None ≡ Some bytes = found in cc
+no_missing_file limits kept events (fetched opened around made state file bytes may found size inside fault rest) = let e : None ≡ Some bytes = found in cc
 
 pub failed_file : FailedFile
-failed_file = withheld [] [] [] (codes "a") (failed (codes "a")) (may_begin (bounds 15 1 1) (codes "a") (omega arith) (omega arith)) refl
+failed_file = withheld [] [] 0 [] (codes "a") (failed (codes "a")) (may_begin (bounds 15 1 1) (codes "a") (omega arith) (omega arith)) refl
 
 pub taken_name : TakenName
 taken_name =
-    fetched [] [] [] (codes "a") (codes "cnf(c,axiom,p).") (may_begin (bounds 15 1 1) (codes "a") (omega arith) (omega arith)) refl (omega arith) (attempt c ∷ []) (Some (rejected c taken))
-    (refused _ (ask (codes "a") ∷ []) c [] (clause_begins (codes "c") (codes "p") [] refl) tt taken (inl refl))
+    fetched [] [] 0 (c ∷ []) (codes "a") (codes "cnf(c,axiom,p).") (may_begin (bounds 15 1 1) (codes "a") (omega arith) (omega arith)) refl (omega arith) (attempt c ∷ []) (Some (rejected c taken))
+    (refused _ 1 (c ∷ []) c [] (clause_begins (codes "c") (codes "p") [] refl) tt taken (inl refl))
 
 -- ---- includes
-not_selected : PassesAll (only (c.name ∷ []) ∷ []) (record { kind = Word; text = codes "d" }) → ⊥
+not_selected : IsSelected ((c.name ∷ []) ∷ []) (record { kind = Word; text = codes "d" }) → ⊥
 not_selected (inl e, u) = texts_differ (codes "c") (codes "d") refl (ap (λ n. n.text) e)
 not_selected (inr h, u) = h
 
-abbrev selection : Selection
-selection = only (c.name ∷ [])
-
-inside : Harvests selecting (bounds 30 2 2) [] (codes "m" ∷ []) (selection ∷ []) (ask (codes "m") ∷ []) (codes "a") (ask (codes "a") ∷ attempt c ∷ []) None
+inside : Harvests selecting (bounds 30 2 2) (codes "m" ∷ []) ((c.name ∷ []) ∷ []) 1 [] (codes "a") (ask (codes "a") ∷ attempt c ∷ []) None
 inside =
-    fetched (codes "m" ∷ []) (selection ∷ []) (ask (codes "m") ∷ []) (codes "a") (codes "cnf(c,axiom,p).cnf(d,axiom,q).")
+    fetched (codes "m" ∷ []) ((c.name ∷ []) ∷ []) 1 [] (codes "a") (codes "cnf(c,axiom,p).cnf(d,axiom,q).")
     (record { fresh = elim [ inl e ↦ texts_differ (codes "m") (codes "a") refl e | inr h ↦ h ]; shallow = omega arith; few = omega arith })
     refl (omega arith) (attempt c ∷ []) None
-    (accepted _ (ask (codes "m") ∷ ask (codes "a") ∷ []) c (codes "cnf(d,axiom,q).") (clause_begins (codes "c") (codes "p") (spelled_out (clause_tokens (codes "d") (codes "q")) []) refl)
+    (accepted _ 2 [] c (codes "cnf(d,axiom,q).") (clause_begins (codes "c") (codes "p") (spelled_out (clause_tokens (codes "d") (codes "q")) []) refl)
     (inl refl, tt) first [] None
-    (passed_over _ _ (fact (codes "d") (predicate (codes "q") [])) [] (clause_begins (codes "d") (codes "q") [] refl) not_selected [] None (ended _ _ nothing)))
+    (passed_over _ _ _ (fact (codes "d") (predicate (codes "q") [])) [] (clause_begins (codes "d") (codes "q") [] refl) not_selected [] None (ended _ _ _ nothing)))
 
 pub selected_clause : SelectedClause
 selected_clause =
-    fetched [] [] [] (codes "m") (codes "include('a',[c]).") (may_begin (bounds 30 2 2) (codes "m") (omega arith) (omega arith)) refl (omega arith) (ask (codes "a") ∷ attempt c ∷ []) None
-    (expanded _ (ask (codes "m") ∷ []) (codes "a") selection [] (one_begins (codes "a") (codes "c") [] refl)
-    (ask (codes "a") ∷ attempt c ∷ []) [] (ask (codes "a") ∷ attempt c ∷ []) None inside (ended _ _ nothing) refl)
+    fetched [] [] 0 [] (codes "m") (codes "include('a',[c]).") (may_begin (bounds 30 2 2) (codes "m") (omega arith) (omega arith)) refl (omega arith) (ask (codes "a") ∷ attempt c ∷ []) None
+    (expanded _ 1 [] (codes "a") (only (c.name ∷ [])) [] (one_begins (codes "a") (codes "c") [] refl)
+    (ask (codes "a") ∷ attempt c ∷ []) [] (ask (codes "a") ∷ attempt c ∷ []) None inside (ended _ _ _ nothing) refl)
 
 pub own_include : OwnInclude
 own_include =
-    fetched [] [] [] (codes "a") (codes "include('a').") (may_begin (bounds 15 1 1) (codes "a") (omega arith) (omega arith)) refl (omega arith) (ask (codes "a") ∷ []) (Some (cycle (codes "a")))
-    (broken_off _ (ask (codes "a") ∷ []) (codes "a") all [] (include_begins (codes "a") [] refl) (ask (codes "a") ∷ []) (cycle (codes "a"))
-    (barred _ _ _ (codes "a") (cycle (codes "a")) (refl, inl refl)))
+    fetched [] [] 0 [] (codes "a") (codes "include('a').") (may_begin (bounds 15 1 1) (codes "a") (omega arith) (omega arith)) refl (omega arith) (ask (codes "a") ∷ []) (Some (cycle (codes "a")))
+    (broken_off _ 1 [] (codes "a") all [] (include_begins (codes "a") [] refl) (ask (codes "a") ∷ []) (cycle (codes "a"))
+    (barred _ _ _ _ (codes "a") (cycle (codes "a")) (refl, inl refl)))
 
 pub no_depth_of_open_file : NoDepthOfOpenFile
 no_depth_of_open_file limits made opened h = h.1 (inl refl)
@@ -87,15 +84,15 @@ b_is_closed e = texts_differ (codes "a") (codes "b") refl e
 
 pub deep_include : DeepInclude
 deep_include =
-    fetched [] [] [] (codes "a") (codes "include('b').") (may_begin (bounds 15 1 1) (codes "a") (omega arith) (omega arith)) refl (omega arith) (ask (codes "b") ∷ []) (Some (too_deep (codes "b")))
-    (broken_off _ (ask (codes "a") ∷ []) (codes "b") all [] (include_begins (codes "b") [] refl) (ask (codes "b") ∷ []) (too_deep (codes "b"))
-    (barred _ _ _ (codes "b") (too_deep (codes "b")) (refl, elim [ inl e ↦ b_is_closed e | inr h ↦ h ], omega arith)))
+    fetched [] [] 0 [] (codes "a") (codes "include('b').") (may_begin (bounds 15 1 1) (codes "a") (omega arith) (omega arith)) refl (omega arith) (ask (codes "b") ∷ []) (Some (too_deep (codes "b")))
+    (broken_off _ 1 [] (codes "b") all [] (include_begins (codes "b") [] refl) (ask (codes "b") ∷ []) (too_deep (codes "b"))
+    (barred _ _ _ _ (codes "b") (too_deep (codes "b")) (refl, elim [ inl e ↦ b_is_closed e | inr h ↦ h ], omega arith)))
 
 pub late_include : LateInclude
 late_include =
-    fetched [] [] [] (codes "a") (codes "include('b').") (may_begin (bounds 15 1 2) (codes "a") (omega arith) (omega arith)) refl (omega arith) (ask (codes "b") ∷ []) (Some too_many)
-    (broken_off _ (ask (codes "a") ∷ []) (codes "b") all [] (include_begins (codes "b") [] refl) (ask (codes "b") ∷ []) too_many
-    (barred _ _ _ (codes "b") too_many (elim [ inl e ↦ b_is_closed e | inr h ↦ h ], omega arith, omega arith)))
+    fetched [] [] 0 [] (codes "a") (codes "include('b').") (may_begin (bounds 15 1 2) (codes "a") (omega arith) (omega arith)) refl (omega arith) (ask (codes "b") ∷ []) (Some too_many)
+    (broken_off _ 1 [] (codes "b") all [] (include_begins (codes "b") [] refl) (ask (codes "b") ∷ []) too_many
+    (barred _ _ _ _ (codes "b") too_many (elim [ inl e ↦ b_is_closed e | inr h ↦ h ], omega arith, omega arith)))
 
 -- ---- faults
 abbrev second : Bytes
@@ -114,10 +111,10 @@ foreign_next = behind_blank 10 (codes "fof") (codes "(d,axiom,q).") refl refl
 
 pub second_line : SecondLine
 second_line =
-    fetched [] [] [] (codes "a") (codes "cnf(c,axiom,p).\nfof(d,axiom,q).") (may_begin (bounds 31 1 1) (codes "a") (omega arith) (omega arith)) refl (omega arith)
+    fetched [] [] 0 [] (codes "a") (codes "cnf(c,axiom,p).\nfof(d,axiom,q).") (may_begin (bounds 31 1 1) (codes "a") (omega arith) (omega arith)) refl (omega arith)
     (attempt c ∷ []) (Some (foreign (codes "a") 2))
-    (accepted _ (ask (codes "a") ∷ []) c second (clause_begins (codes "c") (codes "p") (space 10 ∷ word (codes "fof") ∷ sign 40 ∷ word (codes "d") ∷ sign 44 ∷ word (codes "axiom") ∷ sign 44 ∷ word (codes "q") ∷ sign 41 ∷ sign 46 ∷ []) refl) tt first [] (Some (foreign (codes "a") 2))
-    (stuck _ _ (foreign (codes "a") 2) (
+    (accepted _ 1 [] c second (clause_begins (codes "c") (codes "p") (space 10 ∷ word (codes "fof") ∷ sign 40 ∷ word (codes "d") ∷ sign 44 ∷ word (codes "axiom") ∷ sign 44 ∷ word (codes "q") ∷ sign 41 ∷ sign 46 ∷ []) refl) tt first [] (Some (foreign (codes "a") 2))
+    (stuck _ _ _ (foreign (codes "a") 2) (
       refl,
       faulty second (codes "fof") _ foreign_next refl refl,
       (codes "cnf(c,axiom,p).\n", codes "fof(d,axiom,q).", next_place second _ _ foreign_next, refl, refl),
@@ -146,6 +143,6 @@ not_foreign f = word_differs (codes " p") f.0 (codes "p") f.3.0 _ f.3.1 lone_nex
 
 pub first_word : FirstWord
 first_word =
-    fetched [] [] [] (codes "a") (codes " p") (may_begin (bounds 2 1 1) (codes "a") (omega arith) (omega arith)) refl (omega arith) [] (Some (malformed (codes "a") 1))
-    (stuck _ _ (malformed (codes "a") 1)
+    fetched [] [] 0 [] (codes "a") (codes " p") (may_begin (bounds 2 1 1) (codes "a") (omega arith) (omega arith)) refl (omega arith) [] (Some (malformed (codes "a") 1))
+    (stuck _ _ _ (malformed (codes "a") 1)
     (refl, faulty (codes " p") (codes "p") _ lone_next refl refl, (codes " ", codes "p", next_place _ _ _ lone_next, refl, refl), not_foreign))

@@ -79,14 +79,14 @@ IsWithheld files bounds file (failed name) = name ≡ file
 IsWithheld files bounds file fault = ⊥
 
 -- ---- selections
--- the selection lets the clause with this name through
-abbrev pub Passes : Selection → Name → Type 0
-Passes all name = Unit {0}
-Passes (only names) name = IsAmong names name
+-- the selections round the file of an include: those round the include, and its own if it has one
+abbrev pub narrowed : Selection → List (List Name) → List (List Name)
+narrowed all around = around
+narrowed (only names) around = names ∷ around
 
--- each of them does
-abbrev pub PassesAll : List Selection → Name → Type 0
-PassesAll around name = AllByRecursion (λ selection. Passes selection name) around
+-- each of these selections lists the name
+abbrev pub IsSelected : List (List Name) → Name → Type 0
+IsSelected around name = AllByRecursion (λ names. IsAmong names name) around
 
 -- ---- reading
 -- where a reading stands: the file, all its bytes, the names of the files that are open, this one
@@ -95,7 +95,7 @@ pub record Spot : Type 0 where
   pub file : Bytes
   pub bytes : Bytes
   pub opened : List Bytes
-  pub around : List Selection
+  pub around : List (List Name)
   pub rest : Bytes
 
 -- the place behind the blanks is on this line of the file
@@ -112,65 +112,65 @@ IsStuck spot (malformed file line) =
     (file ≡ spot.file) × IsFaulty spot.rest × IsOnLine spot line × (IsForeign spot.rest → ⊥)
 IsStuck spot fault = ⊥
 
-module _ (files : Files) (bounds : Bounds) (kept : List Clause) where
+module _ (files : Files) (bounds : Bounds) where
   mutual
-    -- While these files are open, with these selections round it and behind these events, the reading
-    -- of a file gives these events, and a fault if it ends early.
-    pub data Harvests : List Bytes → List Selection → List Event → Bytes → List Event → Option Fault → Type 0 where
-      barred : (opened : List Bytes) (around : List Selection) (past : List Event) (file : Bytes) (fault : Fault)
-          → IsBarred bounds opened (fetches past) file fault
-          → Harvests opened around past file (ask file ∷ []) (Some fault)
-      withheld : (opened : List Bytes) (around : List Selection) (past : List Event) (file : Bytes) (fault : Fault)
-          → MayAsk bounds opened (fetches past) file → IsWithheld files bounds file fault
-          → Harvests opened around past file (ask file ∷ []) (Some fault)
-      fetched : (opened : List Bytes) (around : List Selection) (past : List Event) (file bytes : Bytes)
-          → MayAsk bounds opened (fetches past) file → files file ≡ Some bytes → length bytes ≤ bounds.file
+    -- While these files are open, with these selections round it, behind so many fetches and in this
+    -- state, the reading of a file gives these events, and a fault if it ends early.
+    pub data Harvests : List Bytes → List (List Name) → ℕ → List Clause → Bytes → List Event → Option Fault → Type 0 where
+      barred : (opened : List Bytes) (around : List (List Name)) (made : ℕ) (state : List Clause) (file : Bytes) (fault : Fault)
+          → IsBarred bounds opened made file fault
+          → Harvests opened around made state file (ask file ∷ []) (Some fault)
+      withheld : (opened : List Bytes) (around : List (List Name)) (made : ℕ) (state : List Clause) (file : Bytes) (fault : Fault)
+          → MayAsk bounds opened made file → IsWithheld files bounds file fault
+          → Harvests opened around made state file (ask file ∷ []) (Some fault)
+      fetched : (opened : List Bytes) (around : List (List Name)) (made : ℕ) (state : List Clause) (file bytes : Bytes)
+          → MayAsk bounds opened made file → files file ≡ Some bytes → length bytes ≤ bounds.file
           → (events : List Event) (fault : Option Fault)
-          → Continues (record { file = file; bytes = bytes; opened = file ∷ opened; around = around; rest = bytes })
-          (past ++ ask file ∷ []) events fault
-          → Harvests opened around past file (ask file ∷ events) fault
+          → Continues (record { file = file; bytes = bytes; opened = file ∷ opened; around = around; rest = bytes }) (made + 1) state
+          events fault
+          → Harvests opened around made state file (ask file ∷ events) fault
 
-    -- From here to the end of the file, behind these events, the reading gives these events, and a
-    -- fault if it ends early.
-    pub data Continues : Spot → List Event → List Event → Option Fault → Type 0 where
-      ended : (spot : Spot) (past : List Event) → AreBlanks spot.rest → Continues spot past [] None
-      stuck : (spot : Spot) (past : List Event) (fault : Fault) → IsStuck spot fault
-          → Continues spot past [] (Some fault)
-      passed_over : (spot : Spot) (past : List Event) (clause : Clause) (after : Bytes)
-          → BeginsWithItem spot.rest (clause_item clause) after → (PassesAll spot.around clause.name → ⊥)
+    -- From here to the end of the file, behind so many fetches and in this state, the reading gives
+    -- these events, and a fault if it ends early.
+    pub data Continues : Spot → ℕ → List Clause → List Event → Option Fault → Type 0 where
+      ended : (spot : Spot) (made : ℕ) (state : List Clause) → AreBlanks spot.rest → Continues spot made state [] None
+      stuck : (spot : Spot) (made : ℕ) (state : List Clause) (fault : Fault) → IsStuck spot fault
+          → Continues spot made state [] (Some fault)
+      passed_over : (spot : Spot) (made : ℕ) (state : List Clause) (clause : Clause) (after : Bytes)
+          → BeginsWithItem spot.rest (clause_item clause) after → (IsSelected spot.around clause.name → ⊥)
           → (events : List Event) (fault : Option Fault)
-          → Continues (record spot { rest = after }) past events fault
-          → Continues spot past events fault
-      accepted : (spot : Spot) (past : List Event) (clause : Clause) (after : Bytes)
-          → BeginsWithItem spot.rest (clause_item clause) after → PassesAll spot.around clause.name
-          → Accepts bounds.entries (kept ++ tried past) clause (kept ++ tried past ++ clause ∷ [])
+          → Continues (record spot { rest = after }) made state events fault
+          → Continues spot made state events fault
+      accepted : (spot : Spot) (made : ℕ) (state : List Clause) (clause : Clause) (after : Bytes)
+          → BeginsWithItem spot.rest (clause_item clause) after → IsSelected spot.around clause.name
+          → Accepts bounds.entries state clause (state ++ clause ∷ [])
           → (events : List Event) (fault : Option Fault)
-          → Continues (record spot { rest = after }) (past ++ attempt clause ∷ []) events fault
-          → Continues spot past (attempt clause ∷ events) fault
-      refused : (spot : Spot) (past : List Event) (clause : Clause) (after : Bytes)
-          → BeginsWithItem spot.rest (clause_item clause) after → PassesAll spot.around clause.name
-          → (refusal : Refusal) → Refuses bounds.entries (kept ++ tried past) clause refusal
-          → Continues spot past (attempt clause ∷ []) (Some (rejected clause refusal))
-      expanded : (spot : Spot) (past : List Event) (file : Bytes) (selection : Selection) (after : Bytes)
+          → Continues (record spot { rest = after }) made (state ++ clause ∷ []) events fault
+          → Continues spot made state (attempt clause ∷ events) fault
+      refused : (spot : Spot) (made : ℕ) (state : List Clause) (clause : Clause) (after : Bytes)
+          → BeginsWithItem spot.rest (clause_item clause) after → IsSelected spot.around clause.name
+          → (refusal : Refusal) → Refuses bounds.entries state clause refusal
+          → Continues spot made state (attempt clause ∷ []) (Some (rejected clause refusal))
+      expanded : (spot : Spot) (made : ℕ) (state : List Clause) (file : Bytes) (selection : Selection) (after : Bytes)
           → BeginsWithItem spot.rest (include_item file selection) after
           → (inside events whole : List Event) (fault : Option Fault)
-          → Harvests spot.opened (selection ∷ spot.around) past file inside None
-          → Continues (record spot { rest = after }) (past ++ inside) events fault
-          → whole ≡ inside ++ events → Continues spot past whole fault
-      broken_off : (spot : Spot) (past : List Event) (file : Bytes) (selection : Selection) (after : Bytes)
+          → Harvests spot.opened (narrowed selection spot.around) made state file inside None
+          → Continues (record spot { rest = after }) (made + fetches inside) (state ++ tried inside) events fault
+          → whole ≡ inside ++ events → Continues spot made state whole fault
+      broken_off : (spot : Spot) (made : ℕ) (state : List Clause) (file : Bytes) (selection : Selection) (after : Bytes)
           → BeginsWithItem spot.rest (include_item file selection) after
           → (events : List Event) (fault : Fault)
-          → Harvests spot.opened (selection ∷ spot.around) past file events (Some fault)
-          → Continues spot past events (Some fault)
-
--- the state behind a load: with the clauses tried last, in order, or as it was
-abbrev pub state_behind : List Clause → List Event → Option Fault → List Clause
-state_behind kept events None = kept ++ tried events
-state_behind kept events (Some fault) = kept
+          → Harvests spot.opened (narrowed selection spot.around) made state file events (Some fault)
+          → Continues spot made state events (Some fault)
 
 -- a load of the file gives these events, and a fault if it is refused
 abbrev pub Loads : Files → Bounds → List Clause → Bytes → List Event → Option Fault → Type 0
-Loads files bounds kept file events fault = Harvests files bounds kept [] [] [] file events fault
+Loads files bounds state file events fault = Harvests files bounds [] [] 0 state file events fault
+
+-- the state behind a load: with the clauses that were tried last, in order, or as it was
+abbrev pub state_behind : List Clause → List Event → Option Fault → List Clause
+state_behind state events None = state ++ tried events
+state_behind state events (Some fault) = state
 
 -- ---- clauses by themselves
 -- the bytes are these clauses, each as an item, and blanks

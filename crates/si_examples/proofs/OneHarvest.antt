@@ -39,7 +39,7 @@ pub missing_file : MissingFile
 missing_file = withheld [] [] 0 [] (codes "b") (missing (codes "b")) (may_begin (bounds 15 1 1) (codes "b") (omega arith) (omega arith)) (refl, refl)
 
 pub no_missing_file : NoMissingFile
-no_missing_file limits kept events (fetched opened around made state file bytes may found size inside fault rest) = let e : None ≡ Some bytes = found in cc
+no_missing_file limits entries kept events (fetched opened around made state file bytes may found size inside fault rest) = let e : None ≡ Some bytes = found in cc
 
 pub failed_file : FailedFile
 failed_file = withheld [] [] 0 [] (codes "a") (failed (codes "a")) (may_begin (bounds 15 1 1) (codes "a") (omega arith) (omega arith)) refl
@@ -54,7 +54,7 @@ not_selected : IsSelected ((c.name ∷ []) ∷ []) (record { kind = Word; text =
 not_selected (inl e, u) = texts_differ (codes "c") (codes "d") refl (ap (λ n. n.text) e)
 not_selected (inr h, u) = h
 
-inside : Harvests selecting (bounds 30 2 2) (codes "m" ∷ []) ((c.name ∷ []) ∷ []) 1 [] (codes "a") (ask (codes "a") ∷ attempt c ∷ []) None
+inside : Harvests selecting (bounds 30 2 2) 2 (codes "m" ∷ []) ((c.name ∷ []) ∷ []) 1 [] (codes "a") (ask (codes "a") ∷ attempt c ∷ []) None
 inside =
     fetched (codes "m" ∷ []) ((c.name ∷ []) ∷ []) 1 [] (codes "a") (codes "cnf(c,axiom,p).cnf(d,axiom,q).")
     (record { fresh = elim [ inl e ↦ texts_differ (codes "m") (codes "a") refl e | inr h ↦ h ]; shallow = omega arith; few = omega arith })

@@ -14,13 +14,11 @@ use Rattle.si_state.specs.Acceptance.{Refusal, Accepts, Refuses}
 abbrev pub Files : Type 0
 Files = Bytes → Option Bytes
 
--- the most bytes of a file, the most fetches of a load, the most files that are open at once, and
--- the most entries of a state
+-- the most bytes of a file, the most fetches of a load, and the most files that are open at once
 pub record Bounds : Type 0 where
   pub file : ℕ
   pub fetches : ℕ
   pub depth : ℕ
-  pub entries : ℕ
 
 -- ---- events and faults
 -- a file is asked for, or a clause is tried
@@ -112,7 +110,7 @@ IsStuck spot (malformed file line) =
     (file ≡ spot.file) × IsFaulty spot.rest × IsOnLine spot line × (IsForeign spot.rest → ⊥)
 IsStuck spot fault = ⊥
 
-module _ (files : Files) (bounds : Bounds) where
+module _ (files : Files) (bounds : Bounds) (limit : ℕ) where
   mutual
     -- While these files are open, with these selections round it, behind so many fetches and in this
     -- state, the reading of a file gives these events, and a fault if it ends early.
@@ -143,13 +141,13 @@ module _ (files : Files) (bounds : Bounds) where
           → Continues spot made state events fault
       accepted : (spot : Spot) (made : ℕ) (state : List Clause) (clause : Clause) (after : Bytes)
           → BeginsWithItem spot.rest (clause_item clause) after → IsSelected spot.around clause.name
-          → Accepts bounds.entries state clause (state ++ clause ∷ [])
+          → Accepts limit state clause (state ++ clause ∷ [])
           → (events : List Event) (fault : Option Fault)
           → Continues (record spot { rest = after }) made (state ++ clause ∷ []) events fault
           → Continues spot made state (attempt clause ∷ events) fault
       refused : (spot : Spot) (made : ℕ) (state : List Clause) (clause : Clause) (after : Bytes)
           → BeginsWithItem spot.rest (clause_item clause) after → IsSelected spot.around clause.name
-          → (refusal : Refusal) → Refuses bounds.entries state clause refusal
+          → (refusal : Refusal) → Refuses limit state clause refusal
           → Continues spot made state (attempt clause ∷ []) (Some (rejected clause refusal))
       expanded : (spot : Spot) (made : ℕ) (state : List Clause) (file : Bytes) (selection : Selection) (after : Bytes)
           → BeginsWithItem spot.rest (include_item file selection) after
@@ -163,9 +161,9 @@ module _ (files : Files) (bounds : Bounds) where
           → Harvests spot.opened (narrowed selection spot.around) made state file events (Some fault)
           → Continues spot made state events (Some fault)
 
--- a load of the file gives these events, and a fault if it is refused
-abbrev pub Loads : Files → Bounds → List Clause → Bytes → List Event → Option Fault → Type 0
-Loads files bounds state file events fault = Harvests files bounds [] [] 0 state file events fault
+-- with this limit on entries a load of the file gives these events, and a fault if it is refused
+abbrev pub Loads : Files → Bounds → ℕ → List Clause → Bytes → List Event → Option Fault → Type 0
+Loads files bounds limit state file events fault = Harvests files bounds limit [] [] 0 state file events fault
 
 -- the state behind a load: with the clauses that were tried last, in order, or as it was
 abbrev pub state_behind : List Clause → List Event → Option Fault → List Clause

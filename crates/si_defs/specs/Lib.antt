@@ -12,3 +12,4 @@ pub mod Grammar
 pub mod Texts
 pub mod Printing
 pub mod Codes
+pub mod Generator

@@ -12,3 +12,7 @@ pub mod OneLine
 pub mod OneStep
 pub mod OneRun
 pub mod SharedTerms
+pub mod OneSample
+pub mod TwoClauses
+pub mod FirstItems
+pub mod OneHarvest

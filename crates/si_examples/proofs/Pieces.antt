@@ -87,7 +87,7 @@ tokens_of (space c ∷ ps) = tokens_of ps
 tokens_of (comment body ∷ ps) = tokens_of ps
 tokens_of (token kind text ∷ ps) = token_of kind text ∷ tokens_of ps
 
-abbrev stands_first : TokenKind → Bytes → Bytes → Bool
+abbrev pub stands_first : TokenKind → Bytes → Bytes → Bool
 stands_first kind text rest = is_text kind text && (stops kind (spelling kind text) rest && not (opens_comment (spelling kind text ++ rest)))
 
 abbrev pub are_read : List Piece → Bool

@@ -11,3 +11,5 @@ pub mod Printing
 pub mod Lines
 pub mod Steps
 pub mod Runs
+pub mod Samples
+pub mod Harvests

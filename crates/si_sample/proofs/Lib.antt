@@ -1,0 +1,2 @@
+mod Gaining
+mod Lengths

@@ -1,0 +1,15 @@
+use Rattle.std.proofs.Common.{◌≡◌}
+use Rattle.std.proofs.lemmas.Result.{on_ok_weaker}
+use Rattle.si_sample.proofs.Gaining.{gains_first, gains_second, gains_before}
+use Rattle.si_sample.proofs.sampler.Sampler.literals.Goals as goal
+
+pub returns-in-0 : goal.returns-in-0
+returns-in-0 c = on_ok_weaker c.literal.result (λ g. gains_first _ c.draw.result c.in-0.is c.draw.ensures.drawn g) c.literal.ensures
+
+pub returns-in_ok-put-in_default : goal.returns-in_ok-put-in_default
+returns-in_ok-put-in_default c =
+    let some : c.draw.result ≡ 0 → ⊥ = assumption (c.in_default) in
+    on_ok_weaker c.literal-in_default-2.result
+    (λ g. gains_second _ c.draw.result some c.draw.ensures.below c.draw.ensures.drawn
+    (gains_before (gains_before c.in_ok-literal-in_default.ensures c.in_ok-put-in_default.ensures) g))
+    c.literal-in_default-2.ensures

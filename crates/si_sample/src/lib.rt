@@ -1,0 +1,34 @@
+//! Clauses that are drawn at random, the same ones from the same start. They serve to try the index
+//! on many clauses without a file.
+#![tactic(auto)]
+
+ghost use Rattle.std.specs.Prelude.{◌≤◌, ◌*◌, IfOk, length};
+ghost use Rattle.si_defs.specs.Generator.{IsSample};
+
+use std::alloc::{AllocError, Global};
+
+mod sampler;
+#[cfg(test)]
+mod tests;
+
+use sampler::Sampler;
+
+/// The greatest number that a sample starts from.
+pub const GREATEST_START: u32 = 2_147_483_647;
+
+/// No sample has more clauses than this.
+pub const MOST_CLAUSES: u32 = 10_000;
+
+/// The text of `count` clauses, a line each, that are drawn from `start`.
+pub fn sample(alloc: Global, start: u32, count: u32) -> Result<Vec<u8>, AllocError>
+    requires start { start ≤ 2147483647 }
+    requires count { (1 ≤ count) × (count ≤ 10000) }
+    ensures drawn { IfOk result (λ text. IsSample start count text.items) }
+    ensures short { IfOk result (λ text. length text.items ≤ 95 * count) }
+{
+    let mut sampler = Sampler::new(alloc, start);
+    for i in 0..count {
+        sampler.clause(i + 1)?;
+    }
+    Ok(sampler.into_text())
+}

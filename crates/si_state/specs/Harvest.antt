@@ -1,0 +1,192 @@
+-- Harvests: what is read of a file and its includes, in order, up to the first fault (TPTP's include
+-- directive; the limits and the order of the faults are this project's profile).
+use Rattle.std.specs.Prelude.{◌≡◌, ℕ, ◌+◌, ◌<◌, ◌≤◌, List, [], ◌∷◌, ◌++◌, length, Option, None, Some, IsSomeAnd}
+use Rattle.std.specs.List.{AllByRecursion}
+use Rattle.si_defs.specs.Bytes.{Bytes}
+use Rattle.si_defs.specs.Clauses.{Name, Clause}
+use Rattle.si_defs.specs.Substitutions.{IsAmong}
+use Rattle.si_defs.specs.Tokens.{AreBlanks}
+use Rattle.si_defs.specs.Grammar.{Selection, all, only, Item, clause_item, include_item}
+use Rattle.si_defs.specs.Texts.{BeginsWithItem, IsFaulty, IsForeign, IsPlace, line_of}
+use Rattle.si_state.specs.Acceptance.{Refusal, Accepts, Refuses}
+
+-- files by name: the bytes of each, and None where no file has the name
+abbrev pub Files : Type 0
+Files = Bytes → Option Bytes
+
+-- the most bytes of a file, the most fetches of a load, and the most files that are open at once
+pub record Bounds : Type 0 where
+  pub file : ℕ
+  pub fetches : ℕ
+  pub depth : ℕ
+
+-- ---- events and faults
+-- a file is asked for, or a clause is tried
+pub data Event : Type 0 where
+  ask : Bytes → Event
+  attempt : Clause → Event
+
+-- the clauses that were tried
+abbrev pub tried : List Event → List Clause
+tried [] = []
+tried (ask file ∷ events) = tried events
+tried (attempt c ∷ events) = c ∷ tried events
+
+-- how many files were asked for
+abbrev pub fetches : List Event → ℕ
+fetches [] = 0
+fetches (ask file ∷ events) = 1 + fetches events
+fetches (attempt c ∷ events) = fetches events
+
+-- Why a harvest ends early: the file is open already; too many files are open; too many fetches were
+-- made; no file has the name; the file has too many bytes; the library failed; no item stands on this
+-- line of the file, but a formula of another language does or does not; or the clause is refused.
+pub data Fault : Type 0 where
+  cycle : Bytes → Fault
+  too_deep : Bytes → Fault
+  too_many : Fault
+  missing : Bytes → Fault
+  too_big : Bytes → Fault
+  failed : Bytes → Fault
+  foreign : Bytes → ℕ → Fault
+  malformed : Bytes → ℕ → Fault
+  rejected : Clause → Refusal → Fault
+
+-- ---- opening a file
+-- the file may be asked for, while these are open and behind so many fetches
+pub record MayAsk (bounds : Bounds) (opened : List Bytes) (made : ℕ) (file : Bytes) : Type 0 where
+  pub fresh : IsAmong opened file → ⊥
+  pub shallow : length opened < bounds.depth
+  pub few : made < bounds.fetches
+
+-- the first reason why it may not
+abbrev pub IsBarred : Bounds → List Bytes → ℕ → Bytes → Fault → Type 0
+IsBarred bounds opened made file (cycle name) = (name ≡ file) × IsAmong opened file
+IsBarred bounds opened made file (too_deep name) =
+    (name ≡ file) × (IsAmong opened file → ⊥) × (bounds.depth ≤ length opened)
+IsBarred bounds opened made file too_many =
+    (IsAmong opened file → ⊥) × (length opened < bounds.depth) × (bounds.fetches ≤ made)
+IsBarred bounds opened made file fault = ⊥
+
+-- the library doesn't give it; it may fail whatever its files are
+abbrev pub IsWithheld : Files → Bounds → Bytes → Fault → Type 0
+IsWithheld files bounds file (missing name) = (name ≡ file) × (files file ≡ None)
+IsWithheld files bounds file (too_big name) =
+    (name ≡ file) × IsSomeAnd (files file) (λ bytes. bounds.file < length bytes)
+IsWithheld files bounds file (failed name) = name ≡ file
+IsWithheld files bounds file fault = ⊥
+
+-- ---- selections
+-- the selections round the file of an include: those round the include, and its own if it has one
+abbrev pub narrowed : Selection → List (List Name) → List (List Name)
+narrowed all around = around
+narrowed (only names) around = names ∷ around
+
+-- each of these selections lists the name
+abbrev pub IsSelected : List (List Name) → Name → Type 0
+IsSelected around name = AllByRecursion (λ names. IsAmong names name) around
+
+-- ---- reading
+-- where a reading stands: the file, all its bytes, the names of the files that are open, this one
+-- first, the selections round it, and the bytes that are left
+pub record Spot : Type 0 where
+  pub file : Bytes
+  pub bytes : Bytes
+  pub opened : List Bytes
+  pub around : List (List Name)
+  pub rest : Bytes
+
+-- the place behind the blanks is on this line of the file
+abbrev pub IsOnLine : Spot → ℕ → Type 0
+IsOnLine spot line =
+    (before : Bytes) × (place : Bytes) × IsPlace spot.rest place × (spot.bytes ≡ before ++ place)
+    × (line ≡ line_of before)
+
+-- no item stands here, nor the end of the file
+abbrev pub IsStuck : Spot → Fault → Type 0
+IsStuck spot (foreign file line) =
+    (file ≡ spot.file) × IsFaulty spot.rest × IsOnLine spot line × IsForeign spot.rest
+IsStuck spot (malformed file line) =
+    (file ≡ spot.file) × IsFaulty spot.rest × IsOnLine spot line × (IsForeign spot.rest → ⊥)
+IsStuck spot fault = ⊥
+
+module _ (files : Files) (bounds : Bounds) (limit : ℕ) where
+  mutual
+    -- While these files are open, with these selections round it, behind so many fetches and in this
+    -- state, the reading of a file gives these events, and a fault if it ends early.
+    pub data Harvests : List Bytes → List (List Name) → ℕ → List Clause → Bytes → List Event → Option Fault → Type 0 where
+      barred : (opened : List Bytes) (around : List (List Name)) (made : ℕ) (state : List Clause) (file : Bytes) (fault : Fault)
+          → IsBarred bounds opened made file fault
+          → Harvests opened around made state file (ask file ∷ []) (Some fault)
+      withheld : (opened : List Bytes) (around : List (List Name)) (made : ℕ) (state : List Clause) (file : Bytes) (fault : Fault)
+          → MayAsk bounds opened made file → IsWithheld files bounds file fault
+          → Harvests opened around made state file (ask file ∷ []) (Some fault)
+      fetched : (opened : List Bytes) (around : List (List Name)) (made : ℕ) (state : List Clause) (file bytes : Bytes)
+          → MayAsk bounds opened made file → files file ≡ Some bytes → length bytes ≤ bounds.file
+          → (events : List Event) (fault : Option Fault)
+          → Continues (record { file = file; bytes = bytes; opened = file ∷ opened; around = around; rest = bytes }) (made + 1) state
+          events fault
+          → Harvests opened around made state file (ask file ∷ events) fault
+
+    -- From here to the end of the file, behind so many fetches and in this state, the reading gives
+    -- these events, and a fault if it ends early.
+    pub data Continues : Spot → ℕ → List Clause → List Event → Option Fault → Type 0 where
+      ended : (spot : Spot) (made : ℕ) (state : List Clause) → AreBlanks spot.rest → Continues spot made state [] None
+      stuck : (spot : Spot) (made : ℕ) (state : List Clause) (fault : Fault) → IsStuck spot fault
+          → Continues spot made state [] (Some fault)
+      passed_over : (spot : Spot) (made : ℕ) (state : List Clause) (clause : Clause) (after : Bytes)
+          → BeginsWithItem spot.rest (clause_item clause) after → (IsSelected spot.around clause.name → ⊥)
+          → (events : List Event) (fault : Option Fault)
+          → Continues (record spot { rest = after }) made state events fault
+          → Continues spot made state events fault
+      accepted : (spot : Spot) (made : ℕ) (state : List Clause) (clause : Clause) (after : Bytes)
+          → BeginsWithItem spot.rest (clause_item clause) after → IsSelected spot.around clause.name
+          → Accepts limit state clause (state ++ clause ∷ [])
+          → (events : List Event) (fault : Option Fault)
+          → Continues (record spot { rest = after }) made (state ++ clause ∷ []) events fault
+          → Continues spot made state (attempt clause ∷ events) fault
+      refused : (spot : Spot) (made : ℕ) (state : List Clause) (clause : Clause) (after : Bytes)
+          → BeginsWithItem spot.rest (clause_item clause) after → IsSelected spot.around clause.name
+          → (refusal : Refusal) → Refuses limit state clause refusal
+          → Continues spot made state (attempt clause ∷ []) (Some (rejected clause refusal))
+      expanded : (spot : Spot) (made : ℕ) (state : List Clause) (file : Bytes) (selection : Selection) (after : Bytes)
+          → BeginsWithItem spot.rest (include_item file selection) after
+          → (inside events whole : List Event) (fault : Option Fault)
+          → Harvests spot.opened (narrowed selection spot.around) made state file inside None
+          → Continues (record spot { rest = after }) (made + fetches inside) (state ++ tried inside) events fault
+          → whole ≡ inside ++ events → Continues spot made state whole fault
+      broken_off : (spot : Spot) (made : ℕ) (state : List Clause) (file : Bytes) (selection : Selection) (after : Bytes)
+          → BeginsWithItem spot.rest (include_item file selection) after
+          → (events : List Event) (fault : Fault)
+          → Harvests spot.opened (narrowed selection spot.around) made state file events (Some fault)
+          → Continues spot made state events (Some fault)
+
+-- with this limit on entries a load of the file gives these events, and a fault if it is refused
+abbrev pub Loads : Files → Bounds → ℕ → List Clause → Bytes → List Event → Option Fault → Type 0
+Loads files bounds limit state file events fault = Harvests files bounds limit [] [] 0 state file events fault
+
+-- the state behind a load: with the clauses that were tried last, in order, or as it was
+abbrev pub state_behind : List Clause → List Event → Option Fault → List Clause
+state_behind state events None = state ++ tried events
+state_behind state events (Some fault) = state
+
+-- ---- clauses by themselves
+-- the bytes are these clauses, each as an item, and blanks
+abbrev pub AreClauses : List Clause → Bytes → Type 0
+AreClauses [] bytes = AreBlanks bytes
+AreClauses (c ∷ cs) bytes =
+    (after : Bytes) × BeginsWithItem bytes (clause_item c) after × AreClauses cs after
+
+-- tried in order, each is accepted
+abbrev pub AreAccepted : ℕ → List Clause → List Clause → Type 0
+AreAccepted limit state [] = Unit {0}
+AreAccepted limit state (c ∷ cs) =
+    Accepts limit state c (state ++ c ∷ []) × AreAccepted limit (state ++ c ∷ []) cs
+
+-- tried in order, this is the first that is refused
+pub record IsFirstRefused (limit : ℕ) (state clauses : List Clause) (clause : Clause) (refusal : Refusal) : Type 0 where
+  pub before : List Clause
+  pub after : List Clause
+  pub splits : clauses ≡ before ++ clause ∷ after
+  pub earlier : AreAccepted limit state before
+  pub refused : Refuses limit (state ++ before) clause refusal

@@ -1,0 +1,7 @@
+pub mod SymbolLaws
+pub mod KeyLaws
+pub mod SeenLaws
+pub mod UsesOf
+pub mod KeptLaws
+pub mod ChangeLaws
+pub mod TakeLaws

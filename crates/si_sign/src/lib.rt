@@ -5,7 +5,10 @@
 #![tactic(auto)]
 
 pub mod faults;
+mod keys;
 pub mod store;
+mod texts;
+mod uses;
 
 pub use faults::{AddFault, Clash, Rejected, Shape, TakeFault};
 pub use store::ClauseStore;

@@ -5,3 +5,4 @@ pub mod UsesOf
 pub mod KeptLaws
 pub mod ChangeLaws
 pub mod TakeLaws
+pub mod StepLaws

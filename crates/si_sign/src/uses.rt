@@ -1,4 +1,3 @@
-#![tactic(none)]
 // The symbols in use, and how often each occurs.
 ghost use Rattle.std.specs.Prelude.{◌≡◌, ◌+◌, ◌<◌, ◌≤◌, Some, None, [], ◌∷◌, IfOk, OnOk, OnErr, IfErr, length, ◌&&◌, ◌==◌};
 ghost use Rattle.slab.specs.Slab.{get};

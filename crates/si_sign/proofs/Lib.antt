@@ -6,3 +6,4 @@ pub mod KeptLaws
 pub mod ChangeLaws
 pub mod TakeLaws
 pub mod StepLaws
+pub mod SoFar

@@ -118,7 +118,7 @@ removed t v facts s k c known there one keyed gone others sum = record {
 }
 
 -- ---- what a change makes of the uses
-times_one : (s r : Symbol) → s ≡ r → times s (r ∷ []) ≡ 1
+pub times_one : (s r : Symbol) → s ≡ r → times s (r ∷ []) ≡ 1
 times_one s r e = omega (arith, times_cons s r [], ap {B = ℕ} (λ b. cond b 1 0) (symbol_same s r e))
 
 other_symbol : (s r : Symbol) → (s ≡ r → ⊥) → same_symbol s r ≡ false

@@ -1,9 +1,14 @@
 -- What the program keeps of the symbols in use is a signature.
-use Rattle.std.proofs.Common.{◌≡◌, ℕ, suc, ◌+◌, ◌*◌, ◌<◌, ◌≤◌, Bool, true, false, cond, List, [], ◌∷◌, Option, Some, None, refl, sym, ap, ◌∙◌, subst, arith}
-use Rattle.slab.specs.Slab.{get}
+use Rattle.std.proofs.Common.{◌≡◌, ℕ, suc, ◌+◌, ◌*◌, ◌<◌, ◌≤◌, Bool, true, false, cond, List, [], ◌∷◌, Option, Some, None, length, refl, sym, ap, ◌∙◌, subst, arith}
+use Rattle.std.specs.Prelude.{count_by, is_some}
+use Rattle.std.specs.List.{AllByRecursion}
+use Rattle.std.proofs.lemmas.List.Sums.{sum_by-cons}
+use Rattle.slab.specs.Slab.{get, slab_len}
 use Rattle.si_defs.specs.Symbols.{Symbol, Numbering, IsNumbering, same_symbol}
+use Rattle.si_defs.specs.Bytes.{Bytes}
+use Rattle.si_defs.specs.declared.SymKind.{SymKind}
 use Rattle.si_defs.specs.Substitutions.{IsAmong, AreDistinct}
-use Rattle.si_state.specs.Signatures.{Used, Signature, IsSignature, keys, numbering, symbols, uses_of}
+use Rattle.si_state.specs.Signatures.{Used, Signature, IsSignature, keys, numbering, symbols, uses_of, total}
 use Rattle.si_term.specs.Terms.{symbol_of}
 use Rattle.si_sign.specs.Keys.{symbol_key}
 use Rattle.si_sign.specs.Uses.{used_at, seen_from, seen, IsUses}
@@ -108,6 +113,21 @@ module _ (u : Uses) (facts : IsUses u) where
       omega (arith, facts.used t.key t.counted t.there, ap (λ (w : Used). w.uses) t.is));
   }
 
+  -- a kind and text without a key aren't in use
+  pub no_key : (kind : SymKind) (text : Bytes) → symbol_key u.keys kind text ≡ None → IsAmong (keys (seen u)) (kind, text) → ⊥
+  no_key kind text none h =
+      let m = keys_among (seen u) (kind, text) h in
+      let t = seen_among 0 u.slots.slots m.used m.among in
+      let pair : key (used_at (0 + t.key) t.counted) ≡ (kind, text) = ap key t.is ∙ m.is in
+      let clash : None ≡ Some t.key = sym none ∙ (λ n. symbol_key u.keys (sym pair n).0 (sym pair n).1) ∙ facts.held t.key t.counted t.there in
+      cc
+
+  pub no_symbol : (s : Symbol) → symbol_key u.keys s.kind s.text ≡ None → (n : ℕ) → IsAmong (numbering (seen u)) (s, n) → ⊥
+  no_symbol s none n h =
+      let x = slot_of s n h in
+      let clash : None ≡ Some x.slot = sym none ∙ slot_key x.slot x.counted s x.there x.is in
+      cc
+
   -- ---- uses by slots
   pub uses_at : (k : ℕ) (c : Counted) → get u.slots k ≡ Some c → uses_of (seen u) (symbol_of c.sym) ≡ c.uses
   uses_at k c there = uses_among (seen u) (used_at k c) one_shape (in_seen k c there)
@@ -133,3 +153,16 @@ module _ (u : Uses) (facts : IsUses u) (s : Symbol) where
       let slot = some_is t.slot k (sym (slot_key u facts t.slot t.counted s t.there t.is) ∙ known) in
       let same = some_is t.counted c (sym t.there ∙ ap (get u.slots) slot ∙ there) in
       differs (sym e ∙ symbol_same (symbol_of c.sym) s (ap (λ (d : Counted). symbol_of d.sym) (sym same) ∙ t.is)))
+
+-- ---- how many
+count_seen : (n : ℕ) (xs : Slots) → length (seen_from n xs) ≡ count_by is_some xs
+count_seen n [] = refl
+count_seen n (None ∷ xs) = omega (arith, count_seen (1 + n) xs, sum_by-cons (λ (o : Option Counted). cond (is_some o) 1 0) None xs)
+count_seen n (Some c ∷ xs) = omega (arith, count_seen (1 + n) xs, sum_by-cons (λ (o : Option Counted). cond (is_some o) 1 0) (Some c) xs)
+
+pub length_seen : (u : Uses) → length (seen u) ≡ slab_len u.slots
+length_seen u = count_seen 0 u.slots.slots
+
+pub length_total : (us : Signature) → AllByRecursion (λ v. 1 ≤ v.uses) us → length us ≤ total us
+length_total [] all = omega arith
+length_total (u ∷ us) all = omega (arith, all.0, length_total us all.1)

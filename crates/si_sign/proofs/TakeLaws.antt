@@ -1,5 +1,6 @@
 -- Occurrences that are taken, refused and given back one after the other.
 use Rattle.std.proofs.Common.{◌≡◌, ◌⊎◌, inl, inr, ℕ, zero, suc, ◌+◌, ◌≤◌, List, [], ◌∷◌, ◌++◌, length, refl, sym, ap, ◌∙◌, subst, arith, append_assoc, append-nil, length-append}
+use Rattle.std.specs.Prelude.{Result, Ok, Err, OnOk, OnErr}
 use Rattle.si_defs.specs.Symbols.{Symbol, times}
 use Rattle.si_defs.specs.Substitutions.{IsAmong}
 use Rattle.si_state.specs.Acceptance.{Clashes, Agrees, AllAgree}
@@ -146,3 +147,8 @@ undone a b c xs first last rising again taken given =
     same_rising 0 0 c a again rising
       (carried a c first last same numbers)
       (carried c a last first (λ s. sym (same s)) (λ s m n x y. sym (numbers s n m y x)))
+
+-- numbers stay where occurrences are taken, and where nothing changes
+pub keeps_either : {T E : Type 0} (r : Result T E) (own : List Symbol) (a b : Signature) → IsSignature a → OnOk r (Takes own a b) → OnErr r (b ≡ a) → KeepsNumbers a b
+keeps_either (Ok x) own a b is taken same = taken.numbers
+keeps_either (Err e) own a b is taken same = λ s m n x y. is.numbered.one_number s m n x (subst (λ k. IsAmong (numbering k) (s, n)) same y)

@@ -12,7 +12,7 @@ ghost use Rattle.si_sign.specs.Shapes.{Refuses};
 ghost use Rattle.si_sign.specs.declared.uses.TheConstants.{MOST_USES};
 
 use crate::faults::{Shape, TakeFault};
-use crate::uses::{Uses, shape};
+use crate::uses::{Uses, has_shape_of, shape};
 use si_defs::SymKind;
 use si_term::{Clause, Sym, SymTable};
 use std::alloc::Global;
@@ -95,8 +95,10 @@ impl Signature {
         ensures none { IfNone result (IsAmong (keys self.now) (kind, text.now) → ⊥) }
         ensures signature { IsSignature self.now }
     {
-        let key = self.uses.keys.get(kind, text)?;
-        let counted = self.uses.slots.get(key)?;
+        let Some(key) = self.uses.keys.get(kind, text) else {
+            return None;
+        };
+        let counted = &self.uses.slots[key];
         Some(shape(&counted.sym))
     }
 
@@ -122,19 +124,23 @@ impl SymTable for Signature {
     ghost pairs = { λ s. numbering s };
 
     fn id_of(&self, sym: &Sym) -> Option<u32> {
-        let key = self.uses.keys.get(sym.kind, sym.text.as_bytes())?;
-        let counted = self.uses.slots.get(key)?;
-        if shape(&counted.sym) != shape(sym) {
+        let Some(key) = self.uses.keys.get(sym.kind, sym.text.as_bytes()) else {
+            return None;
+        };
+        let counted = &self.uses.slots[key];
+        if !has_shape_of(sym, &counted.sym) {
             return None;
         }
         Some(2 * key as u32)
     }
 
     fn sym_at(&self, id: u32) -> Option<&Sym> {
+        let Some(counted) = self.uses.slots.get(id as usize / 2) else {
+            return None;
+        };
         if id % 2 == 1 {
             return None;
         }
-        let counted = self.uses.slots.get(id as usize / 2)?;
         Some(&counted.sym)
     }
 }

@@ -139,7 +139,7 @@ impl Uses {
 }
 
 /// Whether the symbols have the same side and arity.
-fn has_shape_of(symbol: &Sym, kept: &Sym) -> bool
+pub fn has_shape_of(symbol: &Sym, kept: &Sym) -> bool
     ensures { result ≡ (same_side symbol.now.side kept.now.side
         && symbol.now.arity == kept.now.arity) }
 {

@@ -1,0 +1,9 @@
+pub mod SymbolLaws
+pub mod KeyLaws
+pub mod SeenLaws
+pub mod UsesOf
+pub mod KeptLaws
+pub mod ChangeLaws
+pub mod TakeLaws
+pub mod StepLaws
+pub mod SoFar

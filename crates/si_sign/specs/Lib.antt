@@ -1,2 +1,5 @@
 pub mod Shapes
 pub mod Stores
+pub mod Keys
+pub mod Uses
+pub mod Taking

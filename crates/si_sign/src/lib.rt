@@ -5,7 +5,13 @@
 #![tactic(auto)]
 
 pub mod faults;
+mod keys;
+pub mod signature;
 pub mod store;
+mod texts;
+mod uses;
+mod walk;
 
 pub use faults::{AddFault, Clash, Rejected, Shape, TakeFault};
+pub use signature::Signature;
 pub use store::ClauseStore;

@@ -1,9 +1,8 @@
-ghost use Rattle.std.specs.Prelude.{◌≡◌, ◌≤◌, ◌<◌, ◌+◌, ◌∷◌, [], IfOk, length, map, codes};
-ghost use Rattle.si_defs.specs.Terms.{row, app, none, size, sizes};
+ghost use Rattle.std.specs.Prelude.{◌≡◌, ◌≤◌, ◌<◌, ◌+◌, ◌∷◌, [], IfOk, length, map};
+ghost use Rattle.si_defs.specs.Terms.{row, app, size, sizes};
 ghost use Rattle.si_defs.specs.Entries.{entries};
 ghost use Rattle.si_defs.specs.Clauses.{literals_size, IsSoundTerm, IsSoundClause};
 ghost use Rattle.si_defs.specs.declared.SymKind.TheVariants.{Word};
-ghost use Rattle.si_defs.specs.declared.Side.TheVariants.{Function};
 ghost use Rattle.si_term.specs.Terms.{term_of};
 ghost use Rattle.si_term.specs.Meaning.{clause_of, literal_of};
 
@@ -72,12 +71,6 @@ fn pair(alloc: Global, name: &[u8], second: Term) -> Result<Term, AllocError>
 }
 
 fn constant(alloc: Global) -> Result<Term, AllocError>
-    ensures applied { IfOk result (λ t. term_of t ≡ app (record {
-      kind = Word;
-      text = codes "a";
-      side = Function;
-      arity = 0;
-    }) none) }
     ensures sound { IfOk result (λ t. IsSoundTerm (term_of t)) }
     ensures size { IfOk result (λ t. size (term_of t) ≡ 1) }
 {
@@ -182,8 +175,7 @@ fn a_pattern_is_an_entry(rt: HostRuntime) -> Result<(), Fail> {
 
 /// The clause of the literal `p(g(a))`.
 fn nested(alloc: Global) -> Result<Clause, AllocError>
-    ensures sound { IfOk result (λ c. IsSoundClause (clause_of c)) }
-    ensures three { IfOk result (λ c. length (entries (clause_of c)) ≡ 3) }
+    ensures { IfOk result (λ c. IsSoundClause (clause_of c)) }
 {
     let inner = apply(alloc, Side::Function, b"g", one(alloc, constant(alloc)?)?)?;
     let atom = apply(alloc, Side::Predicate, b"p", one(alloc, inner)?)?;
@@ -202,22 +194,30 @@ fn nested(alloc: Global) -> Result<Clause, AllocError>
     })
 }
 
+/// Appends the head of each entry, and that of the entry as a pattern.
+fn write_heads(alloc: Global, clause: &Clause, page: &mut Vec<u8>) -> Result<(), AllocError>
+    requires { IsSoundClause (clause_of clause.now) }
+{
+    for number in 0..entry_count(clause) {
+        page.extend_from_slice(head_at(clause, number).text.as_bytes())?;
+        let pattern = to_pattern(alloc, entry_at(clause, number))?;
+        page.extend_from_slice(head(pattern.as_entry()))?;
+    }
+    Ok(())
+}
+
 #[test]
 fn symbols_and_copies(rt: HostRuntime) -> Result<(), Fail> {
     let alloc = rt.alloc();
     let clause = nested(alloc)?;
     let mut page = Vec::new(alloc);
-    for number in 0..3u32 {
-        page.extend_from_slice(head_at(&clause, number).text.as_bytes())?;
-    }
+    write_heads(alloc, &clause, &mut page)?;
     let copy = clause.copy(alloc)?;
     for symbol in symbols_of(alloc, &copy)?.as_slice() {
         page.extend_from_slice(symbol.text.as_bytes())?;
     }
     page.extend_from_slice(copy.name.text.as_bytes())?;
     page.extend_from_slice(copy.role.as_bytes())?;
-    let pattern = to_pattern(alloc, entry_at(&clause, 1))?;
-    page.extend_from_slice(head(pattern.as_entry()))?;
-    assert_eq!(rt; page.as_slice(), b"pgapgacaxiomg".as_slice());
+    assert_eq!(rt; page.as_slice(), b"pliteralggaapgacaxiom".as_slice());
     Ok(())
 }

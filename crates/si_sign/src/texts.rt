@@ -1,0 +1,48 @@
+// Keys by texts.
+ghost use Rattle.std.specs.Prelude.{◌≡◌, List, ℕ, Some, None, OnOk, OnErr};
+ghost use Rattle.si_sign.specs.Keys.{text_key, HasAt};
+
+use indexmap::IndexMap;
+use std::alloc::{AllocError, Global};
+
+/// A finite map from texts to keys.
+#[derive(Drop)]
+pub struct TextKeys {
+    keys: IndexMap<Vec<u8>, usize>,
+}
+
+impl TextKeys {
+    /// The empty map.
+    pub fn new(alloc: Global) -> TextKeys
+        ensures { (text : List ℕ) → text_key result text ≡ None }
+    {
+        TextKeys {
+            keys: IndexMap::new(alloc),
+        }
+    }
+
+    /// The key of the text.
+    pub fn get(&self, text: &[u8]) -> Option<usize>
+        ensures { result ≡ text_key self.now text.now }
+    {
+        self.keys.get(text).copied()
+    }
+
+    /// Gives the text this key. At an error the map is as before.
+    pub fn insert(&mut self, text: Vec<u8>, key: usize) -> Result<(), AllocError>
+        ensures ok { OnOk result (HasAt text.items (Some key) (text_key self.old)
+            (text_key self.new)) }
+        ensures err { OnErr result ((other : List ℕ) → text_key self.new other
+            ≡ text_key self.old other) }
+    {
+        self.keys.insert(text, key)?;
+        Ok(())
+    }
+
+    /// Takes the text out.
+    pub fn remove(&mut self, text: &[u8])
+        ensures { HasAt text.now None (text_key self.old) (text_key self.new) }
+    {
+        self.keys.swap_remove(text);
+    }
+}

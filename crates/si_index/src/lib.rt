@@ -1,4 +1,7 @@
 //! The clauses that are kept, and what is asked of them.
 #![tactic(auto)]
 
+mod index;
 mod ranks;
+
+pub use index::{Index, Stats};

@@ -1,0 +1,19 @@
+-- What an index is seen as: the clauses that are kept, in the order of acceptance, the limit on their
+-- entries, and the signature of the clauses.
+use Rattle.std.specs.Prelude.{ℕ, List, refl}
+use Rattle.std.specs.Coded.{Coded, code_by, coded×, coded_ℕ, coded_list}
+use Rattle.si_defs.specs.Clauses.{Clause}
+use Rattle.si_defs.specs.Codes.{clause_code}
+
+pub record Kept : Type 0 where
+  pub clauses : List Clause
+  pub limit : ℕ
+
+abbrev pub kept_code : Coded Kept
+kept_code =
+    code_by
+    (List Clause × ℕ)
+    (coded× (coded_list clause_code) coded_ℕ)
+    (λ k. (k.clauses, k.limit))
+    (λ p. record { clauses = p.0; limit = p.1 })
+    (λ _. refl)

@@ -3,16 +3,16 @@ use Rattle.std.proofs.Common.{◌≡◌, ℕ, List, [], ◌∷◌, ◌++◌, ref
 use Rattle.std.specs.Prelude.{codes, Bool, true, false, IsTrue, IsFalse, ◌↔◌, Option, Some, None}
 use Rattle.std.specs.Borrow.{Bor}
 use Rattle.si_defs.specs.Bytes.{Bytes}
-use Rattle.si_defs.specs.Clauses.{Clause, Pattern, literal_pattern, term_pattern, IsSoundClause}
+use Rattle.si_defs.specs.Clauses.{Name, Clause, Pattern, literal_pattern, term_pattern, IsSoundClause}
 use Rattle.si_defs.specs.declared.Relation.TheVariants.{Instances}
 use Rattle.si_defs.specs.Tokens.{Token, lower, AreBlanks, NextToken, Begins}
 use Rattle.si_defs.specs.Grammar.{IsClause, IsLiteral, IsTerm, left_bracket}
 use Rattle.si_defs.specs.Substitutions.{IsAmong}
 use Rattle.si_defs.specs.Texts.{IsPattern, languages}
 use Rattle.si_steps.specs.declared.word.Word.{Word}
-use Rattle.si_steps.specs.declared.word.Word.TheVariants.{Add, Ask}
+use Rattle.si_steps.specs.declared.word.Word.TheVariants.{Add, Remove, Ask, Stats}
 use Rattle.si_steps.specs.Words.{word_text, is_built}
-use Rattle.si_steps.specs.Commands.{Command, add, query, command_word, IsCommand, IsQuery, AreOperands, Means, IsUnbuilt, AddsForeign}
+use Rattle.si_steps.specs.Commands.{Command, add, remove, query, stats, command_word, IsCommand, IsQuery, AreOperands, Means, IsUnbuilt, AddsForeign}
 use Rattle.si_steps.proofs.WordLaws.{same_word, built_apart}
 use Rattle.si_lex.specs.declared.lexeme.Lexeme.{Lexeme}
 use Rattle.si_lex.specs.declared.lexing.Lexing.{Lexing}
@@ -20,6 +20,7 @@ use Rattle.si_lex.specs.declared.lexing.Stop.{Stop}
 use Rattle.si_lex.specs.declared.lexing.Stop.TheVariants.{End}
 use Rattle.si_lex.specs.Lexemes.{tokens_of}
 use Rattle.si_lex.specs.Lexing.{IsLexing}
+use Rattle.si_parse.specs.GrammarRules.{IsNameToken}
 use Rattle.si_parse.specs.Reading.{AreForeign, IsOfKind, ReadsWhole}
 use Rattle.si_parse.specs.declared.pattern.PatternKind.{PatternKind}
 use Rattle.si_parse.specs.declared.pattern.PatternKind.TheVariants as kind
@@ -28,8 +29,9 @@ use Rattle.si_parse.specs.Parsing.{Anything}
 use Rattle.si_parse.proofs.ParseWhole.{whole_means, whole_none}
 use Rattle.si_parse.proofs.ReadingLaws.{begins_split, foreign_front}
 use Rattle.si_term.specs.declared.clause.Clause as program_clause
+use Rattle.si_term.specs.declared.clause.Name as program_name
 use Rattle.si_term.specs.declared.clause.Pattern as program_pattern
-use Rattle.si_term.specs.Meaning.{clause_of, pattern_of}
+use Rattle.si_term.specs.Meaning.{name_of, clause_of, pattern_of}
 use Rattle.si_session.specs.Commands.{Reads, BeginUnbuilt, AddForeign, Commands, kind_word}
 use Rattle.si_session.specs.declared.command.Command as read
 use Rattle.si_session.specs.declared.command.Command.TheVariants as command
@@ -96,6 +98,16 @@ built_begins w ts b u = built_apart w u.0 (same_text (word_text w) (word_text u.
 other_than_add : (w : Word) (ts : List Token) → (w ≡ Add → ⊥) → AddForeign (lower (word_text w) ∷ ts) → ⊥
 other_than_add w ts n f = n (same_word w Add (same_text (word_text w) (word_text Add) f.0))
 
+-- tokens behind another word than `add` that are no command
+other_wrong : (w : Word) (ts : List Token) (stop : Stop) → IsTrue (is_built w) → (w ≡ Add → ⊥)
+    → (stop ≡ End → (c : Command) → IsCommand c (lower (word_text w) ∷ ts) → ⊥) → Commands (lower (word_text w) ∷ ts) stop command.Wrong
+other_wrong w ts stop built other none = (
+  built_begins w ts built,
+  other_than_add w ts other,
+  λ e s. some_tokens (lower (word_text w)) ts s,
+  none,
+)
+
 -- no word of a command
 pub no_word : (t : Token) (ts : List Token) (stop : Stop) → ((w : Word) → t ≡ lower (word_text w) → ⊥) → Commands (t ∷ ts) stop command.Wrong
 no_word t ts stop n = (
@@ -109,7 +121,9 @@ no_word t ts stop n = (
 -- the only command that such tokens can be
 add_only : (c : Command) (ts : List Token) → IsCommand c (lower (word_text Add) ∷ ts) → (d : Clause) × IsClause d ts
 add_only (add d) ts h = (d, (command_is (add d) (lower (word_text Add)) ts h).1)
+add_only (remove n) ts h = let e = word_is (remove n) Add ts h in cc
 add_only (query r p) ts h = let e = word_is (query r p) Add ts h in cc
+add_only stats ts h = let e = word_is stats Add ts h in cc
 
 -- where no clause was read of all the tokens
 pub add_wrong : (tokens : List Lexeme) (stop : Stop) (found : Option (program_clause.Clause × Bor (List Lexeme))) → reads.Reads clause_of IsClause Anything tokens found
@@ -138,22 +152,50 @@ add_read tokens stop x r e none p sound =
 pub add_foreign : (ts : List Token) (stop : Stop) → AreForeign ts → Commands (lower (word_text Add) ∷ ts) stop command.Foreign
 add_foreign ts stop f = ((refl, f), λ c h. let d = add_only c ts h in clause_not_foreign d.0 ts d.1 f)
 
+-- ---- `remove`
+remove_only : (c : Command) (ts : List Token) → IsCommand c (lower (word_text Remove) ∷ ts) → (n : Name) × IsNameToken n ts
+remove_only (add d) ts h = let e = word_is (add d) Remove ts h in cc
+remove_only (remove n) ts h = (n, (command_is (remove n) (lower (word_text Remove)) ts h).1)
+remove_only (query r p) ts h = let e = word_is (query r p) Remove ts h in cc
+remove_only stats ts h = let e = word_is stats Remove ts h in cc
+
+-- where no name was read of all the tokens
+pub remove_wrong : (tokens : List Lexeme) (stop : Stop) (found : Option (program_name.Name × Bor (List Lexeme))) → reads.Reads name_of IsNameToken Anything tokens found
+    → (stop ≡ End → (x : program_name.Name) (r : Bor (List Lexeme)) → found ≡ Some (x, r) → r.now ≡ [] → ⊥)
+    → Commands (lower (word_text Remove) ∷ tokens_of tokens) stop command.Wrong
+remove_wrong tokens stop found p left =
+    other_wrong Remove (tokens_of tokens) stop refl (λ e. cc)
+    (λ e c h. let n = remove_only c (tokens_of tokens) h in whole_none name_of tokens tt found p (left e) n.0 n.1)
+
+pub remove_read : (tokens : List Lexeme) (stop : Stop) (x : program_name.Name) (r : Bor (List Lexeme)) → stop ≡ End → r.now ≡ []
+    → reads.Reads name_of IsNameToken Anything tokens (Some (x, r)) → Commands (lower (word_text Remove) ∷ tokens_of tokens) stop (command.Remove x)
+remove_read tokens stop x r e none p =
+    (e, record { built = refl; operands = tokens_of tokens; spelled = whole_means name_of tokens tt x r none p; whole = refl })
+
+-- ---- `stats`
+stats_only : (c : Command) (ts : List Token) → IsCommand c (lower (word_text Stats) ∷ ts) → ts ≡ []
+stats_only (add d) ts h = let e = word_is (add d) Stats ts h in cc
+stats_only (remove n) ts h = let e = word_is (remove n) Stats ts h in cc
+stats_only (query r p) ts h = let e = word_is (query r p) Stats ts h in cc
+stats_only stats ts h = (command_is stats (lower (word_text Stats)) ts h).1
+
+-- something stands behind the word
+pub stats_wrong : (ts : List Token) (stop : Stop) → (stop ≡ End → ts ≡ [] → ⊥) → Commands (lower (word_text Stats) ∷ ts) stop command.Wrong
+stats_wrong ts stop some = other_wrong Stats ts stop refl (λ e. cc) (λ e c h. some e (stats_only c ts h))
+
+pub stats_read : (ts : List Token) (stop : Stop) → stop ≡ End → ts ≡ [] → Commands (lower (word_text Stats) ∷ ts) stop command.Stats
+stats_read ts stop e none = (e, record { built = refl; operands = ts; spelled = none; whole = refl })
+
 -- ---- `instances`
 query_only : (c : Command) (ts : List Token) → IsCommand c (lower (word_text (Ask Instances)) ∷ ts) → (p : Pattern) × IsQuery p ts
 query_only (add d) ts h = let e = word_is (add d) (Ask Instances) ts h in cc
+query_only (remove n) ts h = let e = word_is (remove n) (Ask Instances) ts h in cc
 query_only (query r p) ts h = (p, (command_is (query r p) (lower (word_text (Ask Instances))) ts h).1)
-
-instances_own : (ts : List Token) → AddForeign (lower (word_text (Ask Instances)) ∷ ts) → ⊥
-instances_own ts f = other_than_add (Ask Instances) ts (λ e. cc) f
+query_only stats ts h = let e = word_is stats (Ask Instances) ts h in cc
 
 -- what such tokens are where they are no command
 query_wrong : (ts : List Token) (stop : Stop) → (stop ≡ End → (p : Pattern) → IsQuery p ts → ⊥) → Commands (lower (word_text (Ask Instances)) ∷ ts) stop command.Wrong
-query_wrong ts stop n = (
-  built_begins (Ask Instances) ts refl,
-  instances_own ts,
-  λ e s. some_tokens (lower (word_text (Ask Instances))) ts s,
-  λ e c h. let q = query_only c ts h in n e q.0 q.1,
-)
+query_wrong ts stop n = other_wrong (Ask Instances) ts stop refl (λ e. cc) (λ e c h. let q = query_only c ts h in n e q.0 q.1)
 
 -- a query is the word of its kind, and the pattern
 pub record Asks (p : Pattern) (t : Token) (ts : List Token) : Type 0 where
@@ -306,6 +348,16 @@ module _ (line : Bytes) (x : Lexing) (l : IsLexing line 0 x) where
       tokens_mean (add (clause_of a)) h.0 h.1,
     ),
     h.2,
+  )
+  line_read (command.Remove n) h = (
+    λ u. command_built (remove (name_of n)) h.1 (unbuilt_tokens u),
+    λ b. command_some (remove (name_of n)) h.1 (blank_tokens b).1,
+    tokens_mean (remove (name_of n)) h.0 h.1,
+  )
+  line_read command.Stats h = (
+    λ u. command_built stats h.1 (unbuilt_tokens u),
+    λ b. command_some stats h.1 (blank_tokens b).1,
+    tokens_mean stats h.0 h.1,
   )
   line_read (command.Query p) h = (
     λ u. command_built (query Instances (pattern_of p)) h.1 (unbuilt_tokens u),

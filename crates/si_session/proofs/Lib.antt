@@ -9,7 +9,6 @@ pub mod CommandLaws
 pub mod SolutionTexts
 pub mod Told
 pub mod ScanLaws
-pub mod StoreLaws
 pub mod Acting
 pub mod BoundLaws
 pub mod ReplyTexts

@@ -4,14 +4,14 @@ use Rattle.std.specs.Prelude.{bytes_eq, Option, Some, None, option_and_then, is_
 use Rattle.std.specs.List.{AllByRecursion}
 use Rattle.si_defs.specs.Bytes.{Bytes}
 use Rattle.si_defs.specs.Terms as terms
-use Rattle.si_defs.specs.Symbols.{Symbol}
+use Rattle.si_defs.specs.Symbols.{Symbol, same_symbol}
 use Rattle.si_defs.specs.Clauses.{Term, Terms}
 use Rattle.si_defs.specs.Substitutions.{image, apply, lefts, IsOn, IsAmong, Substitution}
 use Rattle.si_defs.specs.declared.Relation.TheVariants.{Instances}
 use Rattle.si_defs.specs.Relations.{IsInstance}
 use Rattle.si_defs.specs.Solutions.{bind, in_sequence, IsCanonical}
 use Rattle.si_defs.specs.Variables.{Variable, of_pattern, of_entry, same_variable, pattern_term, entry_term, Apart}
-use Rattle.si_session.specs.Equality.{term_eq, symbol_eq}
+use Rattle.si_session.specs.Equality.{term_eq}
 use Rattle.si_session.specs.Matching.{Bindings, bound, rebound, matched, all_matched, solution_of}
 use Rattle.si_session.proofs.MatchingLaws.{bytes_eq_same, symbol_eq_true, symbol_eq_same, term_eq_true, term_eq_same}
 use Rattle.si_session.proofs.Renaming.{entry_term_injective, variables-rename}
@@ -66,7 +66,7 @@ mutual
   pub matched_keeps : (t : Term) (bs : Bindings) (u : Term) (cs : Bindings) → matched t bs u ≡ Some cs → Keeps bs cs
   matched_keeps (terms.var x) bs u cs h = rebound_keeps bs x u (bound bs x) cs h
   matched_keeps (terms.app s ts) bs (terms.var y) cs h = cc
-  matched_keeps (terms.app s ts) bs (terms.app r us) cs h = all_matched_keeps ts bs us cs (chosen (symbol_eq s r) (all_matched ts bs us) cs h).1
+  matched_keeps (terms.app s ts) bs (terms.app r us) cs h = all_matched_keeps ts bs us cs (chosen (same_symbol s r) (all_matched ts bs us) cs h).1
 
   pub all_matched_keeps : (ts : Terms) (bs : Bindings) (us : Terms) (cs : Bindings) → all_matched ts bs us ≡ Some cs → Keeps bs cs
   all_matched_keeps terms.none bs terms.none cs h = λ x t e. subst (λ l. bound l x ≡ Some t) (some_injective _ _ h) e
@@ -90,7 +90,7 @@ mutual
   matched_image (terms.var x) bs u cs ds h k = image_bound ds x u (k x u (rebound_bound bs x u (bound bs x) cs refl h))
   matched_image (terms.app s ts) bs (terms.var y) cs ds h k = cc
   matched_image (terms.app s ts) bs (terms.app r us) cs ds h k =
-      let c = chosen (symbol_eq s r) (all_matched ts bs us) cs h in
+      let c = chosen (same_symbol s r) (all_matched ts bs us) cs h in
       λ i. terms.app (symbol_eq_true s r c.0 i) (all_matched_image ts bs us cs ds c.1 k i)
 
   all_matched_image : (ts : Terms) (bs : Bindings) (us : Terms) (cs ds : Bindings) → all_matched ts bs us ≡ Some cs → Keeps cs ds
@@ -129,7 +129,7 @@ mutual
   matched_lefts : (t : Term) (bs : Bindings) (u : Term) (cs : Bindings) → matched t bs u ≡ Some cs → lefts cs ≡ gathered (lefts bs) (terms.variables t)
   matched_lefts (terms.var x) bs u cs h = rebound_lefts bs x u (bound bs x) cs refl h
   matched_lefts (terms.app s ts) bs (terms.var y) cs h = cc
-  matched_lefts (terms.app s ts) bs (terms.app r us) cs h = all_matched_lefts ts bs us cs (chosen (symbol_eq s r) (all_matched ts bs us) cs h).1
+  matched_lefts (terms.app s ts) bs (terms.app r us) cs h = all_matched_lefts ts bs us cs (chosen (same_symbol s r) (all_matched ts bs us) cs h).1
 
   all_matched_lefts : (ts : Terms) (bs : Bindings) (us : Terms) (cs : Bindings) → all_matched ts bs us ≡ Some cs → lefts cs ≡ gathered (lefts bs) (terms.variables_of_all ts)
   all_matched_lefts terms.none bs terms.none cs h = sym (ap lefts (some_injective _ _ h))
@@ -246,7 +246,7 @@ mutual
       let same : r ≡ q = cc in
       let arguments : terms.substitute_all (image same_variable s) (terms.rename_all of_pattern ts) ≡ terms.rename_all of_entry us = cc in
       let g = all_matched_goes s ts bs us a arguments in
-      (g.0, ap (λ b. cond b (all_matched ts bs us) None) (subst (λ z. symbol_eq r z ≡ true) same (symbol_eq_same r)) ∙ g.1, g.2)
+      (g.0, ap (λ b. cond b (all_matched ts bs us) None) (subst (λ z. same_symbol r z ≡ true) same (symbol_eq_same r)) ∙ g.1, g.2)
 
   all_matched_goes : (s : Substitution Symbol Variable) (ts : Terms) (bs : Bindings) (us : Terms) → Agrees s bs
       → terms.substitute_all (image same_variable s) (terms.rename_all of_pattern ts) ≡ terms.rename_all of_entry us → Goes s (all_matched ts bs us)

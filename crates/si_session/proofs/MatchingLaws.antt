@@ -5,10 +5,10 @@ use lib.Pointwise.{bytes_decides}
 use Rattle.std.proofs.lemmas.Bool.{eqb-true, eq-eqb}
 use Rattle.si_defs.specs.Bytes.{Bytes}
 use Rattle.si_defs.specs.Terms as terms
-use Rattle.si_defs.specs.Symbols.{Symbol}
+use Rattle.si_defs.specs.Symbols.{Symbol, same_kind, same_side, same_symbol}
 use Rattle.si_defs.specs.Clauses.{Term, Terms}
 use Rattle.si_term.proofs.Gathered.{bytes_eq_true}
-use Rattle.si_session.specs.Equality.{kind_eq, side_eq, symbol_eq, term_eq, terms_eq}
+use Rattle.si_session.specs.Equality.{term_eq, terms_eq}
 use Rattle.si_defs.specs.declared.SymKind.{SymKind}
 use Rattle.si_defs.specs.declared.SymKind.TheVariants.{Word, Dollar, Number, Distinct, Equal}
 use Rattle.si_defs.specs.declared.Side.{Side}
@@ -19,7 +19,7 @@ both true true h = (refl, refl)
 both true false h = cc
 both false b h = cc
 
-kind_eq_true : (a b : SymKind) → kind_eq a b ≡ true → a ≡ b
+kind_eq_true : (a b : SymKind) → same_kind a b ≡ true → a ≡ b
 kind_eq_true Word Word h = refl
 kind_eq_true Dollar Dollar h = refl
 kind_eq_true Number Number h = refl
@@ -27,30 +27,30 @@ kind_eq_true Distinct Distinct h = refl
 kind_eq_true Equal Equal h = refl
 kind_eq_true _ _ h = cc
 
-kind_eq_same : (a : SymKind) → kind_eq a a ≡ true
+kind_eq_same : (a : SymKind) → same_kind a a ≡ true
 kind_eq_same Word = refl
 kind_eq_same Dollar = refl
 kind_eq_same Number = refl
 kind_eq_same Distinct = refl
 kind_eq_same Equal = refl
 
-side_eq_true : (a b : Side) → side_eq a b ≡ true → a ≡ b
+side_eq_true : (a b : Side) → same_side a b ≡ true → a ≡ b
 side_eq_true Predicate Predicate h = refl
 side_eq_true Function Function h = refl
 side_eq_true _ _ h = cc
 
-side_eq_same : (a : Side) → side_eq a a ≡ true
+side_eq_same : (a : Side) → same_side a a ≡ true
 side_eq_same Predicate = refl
 side_eq_same Function = refl
 
 pub bytes_eq_same : (x : Bytes) → bytes_eq x x ≡ true
 bytes_eq_same x = (bytes_decides x x).1 refl
 
-pub symbol_eq_true : (s r : Symbol) → symbol_eq s r ≡ true → s ≡ r
+pub symbol_eq_true : (s r : Symbol) → same_symbol s r ≡ true → s ≡ r
 symbol_eq_true s r h =
-    let last = both (kind_eq s.kind r.kind && side_eq s.side r.side && s.arity == r.arity) (bytes_eq s.text r.text) h in
-    let third = both (kind_eq s.kind r.kind && side_eq s.side r.side) (s.arity == r.arity) last.0 in
-    let second = both (kind_eq s.kind r.kind) (side_eq s.side r.side) third.0 in
+    let last = both (same_kind s.kind r.kind && same_side s.side r.side && s.arity == r.arity) (bytes_eq s.text r.text) h in
+    let third = both (same_kind s.kind r.kind && same_side s.side r.side) (s.arity == r.arity) last.0 in
+    let second = both (same_kind s.kind r.kind) (same_side s.side r.side) third.0 in
     λ i. record {
       kind = kind_eq_true s.kind r.kind second.0 i;
       text = bytes_eq_true s.text r.text last.1 i;
@@ -58,7 +58,7 @@ symbol_eq_true s r h =
       arity = eqb-true s.arity r.arity third.1 i;
     }
 
-pub symbol_eq_same : (s : Symbol) → symbol_eq s s ≡ true
+pub symbol_eq_same : (s : Symbol) → same_symbol s s ≡ true
 symbol_eq_same s =
     rw (kind_eq_same s.kind, side_eq_same s.side, eq-eqb s.arity s.arity refl, bytes_eq_same s.text) refl
 
@@ -66,7 +66,7 @@ mutual
   pub term_eq_true : (t u : Term) → term_eq t u ≡ true → t ≡ u
   term_eq_true (terms.var x) (terms.var y) h = ap terms.var (bytes_eq_true x y h)
   term_eq_true (terms.app s ts) (terms.app r us) h =
-      let b = both (symbol_eq s r) (terms_eq ts us) h in
+      let b = both (same_symbol s r) (terms_eq ts us) h in
       λ i. terms.app (symbol_eq_true s r b.0 i) (terms_eq_true ts us b.1 i)
   term_eq_true (terms.var x) (terms.app r us) h = cc
   term_eq_true (terms.app s ts) (terms.var y) h = cc

@@ -2,11 +2,17 @@
 use Rattle.std.proofs.Common.{◌≡◌, ℕ, List, [], ◌∷◌, ◌++◌, refl, ap, sym, ◌∙◌, append_assoc}
 use Rattle.std.specs.Prelude.{codes, decimal}
 use Rattle.si_defs.specs.Bytes.{Bytes}
-use Rattle.si_defs.specs.Printing.{name_text}
+use Rattle.std.specs.Borrow.{Bor}
+use Rattle.si_defs.specs.Printing.{name_text, symbol_text, shape_text}
+use Rattle.si_defs.specs.declared.Side.TheVariants.{Predicate, Function}
+use Rattle.si_index.specs.declared.index.Stats.{Stats}
+use Rattle.si_sign.specs.declared.faults.Shape.{Shape}
+use Rattle.si_term.specs.declared.term.Sym.{Sym}
+use Rattle.si_term.specs.Terms.{symbol_of}
 use Rattle.si_term.specs.Meaning.{name_of}
-use Rattle.si_session.specs.Replies.{line_of, ended_line}
+use Rattle.si_session.specs.Replies.{line_of, ended_line, stats_text, closed_shape}
 use Rattle.si_session.specs.Signs.{sign_text}
-use Rattle.si_session.specs.declared.sign.Sign.TheVariants.{LineFeed}
+use Rattle.si_session.specs.declared.sign.Sign.TheVariants.{Space, LineFeed}
 use Rattle.si_session.specs.declared.reply.Reply.{Reply}
 use Rattle.si_session.specs.declared.reply.Reply.TheVariants as reply
 
@@ -30,3 +36,29 @@ ended_is r = refl
 pub feed_is : sign_text LineFeed ≡ 10 ∷ []
 unfolding sign_text
 feed_is = refl
+
+-- ---- counts and shapes
+pub stats_is : (stats : Stats)
+    → (codes "clauses " ++ decimal stats.clauses) ++ ((codes " entries " ++ decimal stats.entries) ++ ((codes " symbols " ++ decimal stats.symbols) ++ sign_text LineFeed))
+    ≡ stats_text stats
+unfolding sign_text stats_text
+stats_is stats = ?
+
+pub predicate_is : (shape : Shape) → shape.side ≡ Predicate → codes "predicate/" ++ decimal shape.arity ≡ closed_shape shape
+unfolding closed_shape
+predicate_is shape e = ap (λ side. shape_text side shape.arity) (sym e)
+
+pub function_is : (shape : Shape) → shape.side ≡ Function → codes "function/" ++ decimal shape.arity ≡ closed_shape shape
+unfolding closed_shape
+function_is shape e = ap (λ side. shape_text side shape.arity) (sym e)
+
+pub misused_is : (r : Reply) (symbol : Bor Sym) (found kept : Shape) → r ≡ reply.Misused symbol found kept
+    → codes "! use " ++ (symbol_text (symbol_of symbol.now) ++ (sign_text Space ++ (closed_shape found ++ (sign_text Space ++ (closed_shape kept ++ sign_text LineFeed)))))
+    ≡ ended_line r
+unfolding sign_text closed_shape ended_line
+misused_is r symbol found kept e = ?
+
+pub full_text : (r : Reply) (needed limit : ℕ) → r ≡ reply.Full needed limit
+    → (codes "! full " ++ decimal needed) ++ ((codes " " ++ decimal limit) ++ sign_text LineFeed) ≡ ended_line r
+unfolding sign_text ended_line
+full_text r needed limit e = four (codes "! full " ++ decimal needed) (codes " ") (decimal limit) (10 ∷ []) ∙ ap ended_line (sym e)

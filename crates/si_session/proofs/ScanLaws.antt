@@ -3,7 +3,7 @@ use Rattle.std.proofs.Common.{◌≡◌, ℕ, zero, suc, ◌+◌, ◌-◌, ◌<�
 use Rattle.std.proofs.Math.Seq.{take-append_seam}
 use Rattle.std.proofs.Math.Bool.{beq}
 use Rattle.std.proofs.lemmas.List.{drop_more, drop_all, map-append}
-use Rattle.std.specs.Prelude.{Option, Some, None, if◌then◌else◌, cond, Bool, true, false, not, codes, decimal}
+use Rattle.std.specs.Prelude.{slice_get, Option, Some, None, if◌then◌else◌, cond, Bool, true, false, not, codes, decimal}
 use Rattle.std.specs.List.{AllByRecursion}
 use Rattle.si_defs.specs.Bytes.{Bytes}
 use Rattle.si_defs.specs.Terms as terms
@@ -20,7 +20,6 @@ use Rattle.si_term.specs.declared.term.Term as program
 use Rattle.si_term.specs.declared.term.Term.TheVariants.{Var, App}
 use Rattle.si_term.specs.declared.term.Sym as symbol
 use Rattle.si_term.specs.declared.clause.Literal as program_literal
-use Rattle.si_term.specs.declared.clause.Clause as program_clause
 use Rattle.si_session.specs.Matching.{Bindings, matched, solution_of}
 use Rattle.si_session.specs.Hits.{same_sign, hit_before, hits, placed_under}
 use Rattle.si_session.specs.Signs.{sign_text}
@@ -244,12 +243,27 @@ literal_size-at ls i l h e = subst (λ k. literal_size (literal_of k) ≤ litera
   at (l ∷ ls) (suc i) d h = omega (arith, at ls i d (omega arith))
 
 -- ---- the lines of clauses
-pub sound-at : (cs : List program_clause.Clause) (i : ℕ) (c : program_clause.Clause) → i < length cs → c ≡ get_or cs i c → AllByRecursion IsSoundClause (map clause_of cs) → IsSoundClause (clause_of c)
-sound-at cs i c h e all = subst (λ k. IsSoundClause (clause_of k)) (sym e) (at cs i c h all) where
-  at : (cs : List program_clause.Clause) (i : ℕ) (d : program_clause.Clause) → i < length cs → AllByRecursion IsSoundClause (map clause_of cs) → IsSoundClause (clause_of (get_or cs i d))
-  at [] i d h all = absurd (omega arith)
-  at (c ∷ cs) zero d h all = all.0
-  at (c ∷ cs) (suc i) d h all = at cs i d (omega arith) all.1
+drop_got : (cs : List Clause) (i : ℕ) (c : Clause) → slice_get cs i ≡ Some c → drop i cs ≡ c ∷ drop (i + 1) cs
+drop_got [] zero c e = absurd (none_some e) where
+  none_some : {A : Type 0} {x : A} → None ≡ Some x → ⊥
+  none_some e = cc
+drop_got [] (suc i) c e = absurd (none_some e) where
+  none_some : {A : Type 0} {x : A} → None ≡ Some x → ⊥
+  none_some e = cc
+drop_got (d ∷ cs) zero c e = let same : d ≡ c = cc in ap (λ k. k ∷ cs) same
+drop_got (d ∷ cs) (suc i) c e = drop_got cs i c e
+
+pub got_inside : (cs : List Clause) (i : ℕ) (c : Clause) → slice_get cs i ≡ Some c → i < length cs
+got_inside [] zero c e = absurd (let wrong : None ≡ Some c = e in cc)
+got_inside [] (suc i) c e = absurd (let wrong : None ≡ Some c = e in cc)
+got_inside (d ∷ cs) zero c e = omega arith
+got_inside (d ∷ cs) (suc i) c e = omega (arith, got_inside cs i c e)
+
+pub sound-at : (cs : List Clause) (i : ℕ) (c : Clause) → slice_get cs i ≡ Some c → AllByRecursion IsSoundClause cs → IsSoundClause c
+sound-at [] zero c e all = absurd (let wrong : None ≡ Some c = e in cc)
+sound-at [] (suc i) c e all = absurd (let wrong : None ≡ Some c = e in cc)
+sound-at (d ∷ cs) zero c e all = let same : d ≡ c = cc in subst IsSoundClause same all.0
+sound-at (d ∷ cs) (suc i) c e all = sound-at cs i c e all.1
 
 clauses_lines-more : (p : Pattern) (c : Clause) (cs : List Clause) → clauses_lines p (c ∷ cs) ≡ clause_lines p c ++ clauses_lines p cs
 unfolding clauses_lines clause_lines
@@ -257,16 +271,14 @@ clauses_lines-more p c cs =
     ap hit_texts (hits-append p (map (placed_in c) (entries_from 1 c.literals)) (state_entries cs))
     ∙ hit_texts-append (hits p (map (placed_in c) (entries_from 1 c.literals))) (hits p (state_entries cs))
 
-pub clauses_lines-next : (p : Pattern) (cs : List program_clause.Clause) (i : ℕ) (c : program_clause.Clause) → i < length cs → c ≡ get_or cs i c
-    → clauses_lines p (map clause_of (drop i cs)) ≡ clause_lines p (clause_of c) ++ clauses_lines p (map clause_of (drop (i + 1) cs))
-clauses_lines-next p cs i c h e =
-    ap (λ k. clauses_lines p (map clause_of k)) (drop_more cs i c h)
-    ∙ ap (λ k. clauses_lines p (clause_of k ∷ map clause_of (drop (i + 1) cs))) (sym e)
-    ∙ clauses_lines-more p (clause_of c) (map clause_of (drop (i + 1) cs))
+-- the lines of the clauses from a position on
+pub clauses_lines-next : (p : Pattern) (cs : List Clause) (i : ℕ) (c : Clause) → slice_get cs i ≡ Some c
+    → clauses_lines p (drop i cs) ≡ clause_lines p c ++ clauses_lines p (drop (i + 1) cs)
+clauses_lines-next p cs i c e = ap (clauses_lines p) (drop_got cs i c e) ∙ clauses_lines-more p c (drop (i + 1) cs)
 
-pub clauses_lines-end : (p : Pattern) (cs : List program_clause.Clause) (i : ℕ) → length cs ≤ i → clauses_lines p (map clause_of (drop i cs)) ≡ []
+pub clauses_lines-end : (p : Pattern) (cs : List Clause) (i : ℕ) → length cs ≤ i → clauses_lines p (drop i cs) ≡ []
 unfolding clauses_lines
-clauses_lines-end p cs i h = ap (λ l. hit_texts (hits p (state_entries (map clause_of l)))) (drop_all i cs h)
+clauses_lines-end p cs i h = ap (λ l. hit_texts (hits p (state_entries l))) (drop_all i cs h)
 
 pub length-clauses_lines : (p : Pattern) (cs : List Clause) → length (clauses_lines p cs) ≤ length (state_entries cs)
 unfolding clauses_lines

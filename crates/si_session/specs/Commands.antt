@@ -15,7 +15,7 @@ use Rattle.si_lex.specs.declared.lexing.Stop.TheVariants.{End}
 use Rattle.si_parse.specs.Reading.{AreForeign}
 use Rattle.si_parse.specs.declared.pattern.PatternKind.{PatternKind}
 use Rattle.si_parse.specs.declared.pattern.PatternKind.TheVariants as kind
-use Rattle.si_term.specs.Meaning.{clause_of, pattern_of}
+use Rattle.si_term.specs.Meaning.{name_of, clause_of, pattern_of}
 use Rattle.si_session.specs.declared.command.Command.{Command}
 use Rattle.si_session.specs.declared.command.Command.TheVariants as command
 
@@ -37,6 +37,8 @@ Reads line command.Later = (AreBlanks line → ⊥) × IsUnbuilt line
 Reads line command.Foreign = (IsUnbuilt line → ⊥) × (AreBlanks line → ⊥) × AddsForeign line × IsNoCommand line
 Reads line command.Wrong = IsWrong line
 Reads line (command.Add c) = IsPerformed (defs.add (clause_of c)) line × IsSoundClause (clause_of c)
+Reads line (command.Remove n) = IsPerformed (defs.remove (name_of n)) line
+Reads line command.Stats = IsPerformed defs.stats line
 Reads line (command.Query p) = IsPerformed (defs.query Instances (pattern_of p)) line
 
 -- ---- the tokens of a line
@@ -59,6 +61,8 @@ Commands ts stop command.Wrong =
     (BeginUnbuilt ts → ⊥) × (AddForeign ts → ⊥) × (stop ≡ End → ts ≡ [] → ⊥)
     × (stop ≡ End → (c : defs.Command) → IsCommand c ts → ⊥)
 Commands ts stop (command.Add c) = (stop ≡ End) × IsCommand (defs.add (clause_of c)) ts × IsSoundClause (clause_of c)
+Commands ts stop (command.Remove n) = (stop ≡ End) × IsCommand (defs.remove (name_of n)) ts
+Commands ts stop command.Stats = (stop ≡ End) × IsCommand defs.stats ts
 Commands ts stop (command.Query p) = (stop ≡ End) × IsCommand (defs.query Instances (pattern_of p)) ts
 
 -- the word of a kind of pattern

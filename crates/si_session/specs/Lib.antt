@@ -7,6 +7,5 @@ pub mod Telling
 pub mod Signs
 pub mod Commands
 pub mod Scan
-pub mod StoreKeys
-pub mod Store
 pub mod Replies
+pub mod Rejections

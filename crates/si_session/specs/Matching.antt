@@ -4,7 +4,8 @@ use Rattle.si_defs.specs.Bytes.{Bytes}
 use Rattle.si_defs.specs.Terms as terms
 use Rattle.si_defs.specs.Clauses.{Term, Terms}
 use Rattle.si_defs.specs.Variables.{Solution, of_pattern, entry_term}
-use Rattle.si_session.specs.Equality.{term_eq, symbol_eq}
+use Rattle.si_session.specs.Equality.{term_eq}
+use Rattle.si_defs.specs.Symbols.{same_symbol}
 
 -- the bindings of the pattern's variables so far, the first one first
 abbrev pub Bindings : Type 0
@@ -23,7 +24,7 @@ abbrev mutual
   pub matched : Term → Bindings → Term → Option Bindings
   matched (terms.var x) bs u = rebound bs x u (bound bs x)
   matched (terms.app s ts) bs (terms.var y) = None
-  matched (terms.app s ts) bs (terms.app r us) = cond (symbol_eq s r) (all_matched ts bs us) None
+  matched (terms.app s ts) bs (terms.app r us) = cond (same_symbol s r) (all_matched ts bs us) None
 
   pub all_matched : Terms → Bindings → Terms → Option Bindings
   all_matched terms.none bs terms.none = Some bs

@@ -1,15 +1,34 @@
 -- The lines of replies that are no hits.
-use Rattle.std.specs.Prelude.{[], ◌∷◌, ◌++◌}
+use Rattle.std.specs.Prelude.{[], ◌∷◌, ◌++◌, codes}
 use Rattle.si_defs.specs.Bytes.{Bytes}
-use Rattle.si_steps.specs.Replies.{ok_line, end_line, taken_line, later_line, language_line, syntax_line, memory_line}
+use Rattle.si_defs.specs.Symbols.{Symbol}
+use Rattle.si_defs.specs.Printing.{symbol_text, shape_text}
+use Rattle.si_steps.specs.Replies.{ok_line, end_line, stats_line, taken_line, full_line, unknown_line, later_line, language_line, syntax_line, memory_line}
+use Rattle.si_sign.specs.declared.faults.Shape.{Shape}
+use Rattle.si_term.specs.Terms.{symbol_of}
 use Rattle.si_term.specs.Meaning.{name_of}
+use Rattle.si_index.specs.declared.index.Stats.{Stats}
 use Rattle.si_session.specs.declared.reply.Reply.{Reply}
 use Rattle.si_session.specs.declared.reply.Reply.TheVariants as reply
+
+-- a side and an arity
+unfoldable pub closed_shape : Shape → Bytes
+closed_shape shape = shape_text shape.side shape.arity
+
+-- a symbol, the shape that it has, and the one that stands against it
+abbrev pub misused_text : Symbol → Shape → Shape → Bytes
+misused_text s found kept =
+    codes "! use " ++ symbol_text s ++ codes " " ++ shape_text found.side found.arity
+    ++ codes " " ++ shape_text kept.side kept.arity
 
 abbrev pub line_of : Reply → Bytes
 line_of (reply.Ok clauses entries) = ok_line clauses entries
 line_of (reply.End lines) = end_line lines
+line_of (reply.Stats stats) = stats_line stats.clauses stats.entries stats.symbols
 line_of (reply.Taken name) = taken_line (name_of name.now)
+line_of (reply.Misused symbol found kept) = misused_text (symbol_of symbol.now) found kept
+line_of (reply.Full needed limit) = full_line needed limit
+line_of (reply.Unknown name) = unknown_line (name_of name.now)
 line_of reply.Later = later_line
 line_of reply.Language = language_line
 line_of reply.Syntax = syntax_line
@@ -18,3 +37,7 @@ line_of reply.Memory = memory_line
 -- with its line feed
 unfoldable pub ended_line : Reply → Bytes
 ended_line r = line_of r ++ 10 ∷ []
+
+-- how much is kept, with its line feed
+unfoldable pub stats_text : Stats → Bytes
+stats_text stats = stats_line stats.clauses stats.entries stats.symbols ++ 10 ∷ []

@@ -10,6 +10,7 @@ use Rattle.si_steps.specs.Steps.{Step}
 use Rattle.si_steps.specs.Runs.{ended}
 use Rattle.si_defs.specs.Codes.{clause_code}
 use Rattle.si_io.specs.Content.{Told, Appends, AppendsPrefix}
+use Rattle.si_index.specs.Kept.{Kept}
 use Rattle.si_session.specs.declared.stepped.Stepped.{Stepped}
 use Rattle.si_session.specs.declared.stepped.Stepped.TheVariants.{Answered, Refused, Silent, SinkFailed}
 
@@ -44,3 +45,8 @@ pub data Acts (P : Reply → List Clause → Type 0) (old new : List Clause) (ou
   at_once : new ≡ old → Writes outcome (memory_line ∷ []) before after → Acts P old new outcome before after
   behind : (whole : Reply) (next : List Clause) → P whole next → (written left : Reply) → whole ≡ written ++ left → (left ≡ [] → ⊥)
       → new ≡ old → Writes outcome (written ++ memory_line ∷ []) before after → Acts P old new outcome before after
+
+-- the same of an index, under limits that allow as many entries as it does
+abbrev pub ActsOn : (Limits → List Clause → Reply → List Clause → Type 0) → Kept → Kept → Stepped → Told → Told → Type 0
+ActsOn P old new outcome before after =
+    (limits : Limits) → limits.entries ≡ old.limit → Acts (P limits old.clauses) old.clauses new.clauses outcome before after

@@ -1,6 +1,5 @@
 // The answer to a query: the entries of clauses that are instances of a pattern, a line for each.
-ghost use Rattle.std.specs.Prelude.{◌≡◌, ◌+◌, ◌<◌, ◌^◌, [], map, length, OnOk};
-ghost use Rattle.std.specs.List.{AllByRecursion};
+ghost use Rattle.std.specs.Prelude.{◌≡◌, ◌+◌, ◌<◌, ◌^◌, [], length, OnOk};
 ghost use Rattle.si_defs.specs.Clauses.{IsSoundClause, literal_size, literal_pattern, term_pattern};
 ghost use Rattle.si_term.specs.Terms.{term_of};
 ghost use Rattle.si_term.specs.Meaning.{literal_of, clause_of, pattern_of};
@@ -9,6 +8,7 @@ ghost use Rattle.si_session.specs.Scan.{literal_lines, clause_lines, clauses_lin
 
 use crate::broken::Broken;
 use crate::scan::{Scratch, put_if_match, search_arguments};
+use si_index::Index;
 use si_io::Sink;
 use si_term::{Clause, Literal, Pattern, Term};
 
@@ -131,25 +131,23 @@ fn answer_clause<'a, K: Sink>(
     Ok(())
 }
 
-/// Writes the lines of the entries of clauses that are instances of a pattern.
+/// Writes the lines of the kept entries that are instances of a pattern.
 pub fn answer_clauses<'a, K: Sink>(
     pattern: &'a Pattern,
-    clauses: &'a [Clause],
+    index: &'a Index,
     scratch: &mut Scratch<'a>,
     sink: &mut K,
 ) -> Result<(), Broken>
     requires root { scratch.old.path.items ≡ [] }
-    requires sound { AllByRecursion IsSoundClause (map clause_of clauses.now) }
-    requires fits { scratch.old.found + length
-        (clauses_lines (pattern_of pattern.now) (map clause_of clauses.now)) < 2 ^ 64 }
-    ensures told { Tells result (clauses_lines (pattern_of pattern.now) (map clause_of clauses.now))
+    requires none { scratch.old.found ≡ 0 }
+    ensures told { Tells result (clauses_lines (pattern_of pattern.now) index.now.clauses)
         (K.written sink.old) (K.written sink.new) }
     ensures cause { Blames result (K.faults sink.old) (K.faults sink.new) }
-    ensures counted { OnOk result (scratch.new.found ≡ scratch.old.found + length
-        (clauses_lines (pattern_of pattern.now) (map clause_of clauses.now))) }
+    ensures counted { OnOk result (scratch.new.found ≡ length
+        (clauses_lines (pattern_of pattern.now) index.now.clauses)) }
 {
-    for i in 0..clauses.len() {
-        answer_clause(pattern, &clauses[i], scratch, sink)?;
+    for at in 0..index.stats().clauses {
+        answer_clause(pattern, index.clause(at), scratch, sink)?;
     }
     Ok(())
 }

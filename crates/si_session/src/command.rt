@@ -6,17 +6,17 @@ ghost use Rattle.si_lex.specs.Lexemes.{token_of, tokens_of};
 ghost use Rattle.si_defs.specs.declared.TheConstants.{MOST_BYTES};
 ghost use Rattle.si_parse.specs.declared.pattern.PatternKind.{PatternKind};
 ghost use Rattle.si_steps.specs.Words.{word_text};
-ghost use Rattle.si_steps.specs.declared.word.Word.TheVariants.{Add, Ask};
+ghost use Rattle.si_steps.specs.declared.word.Word.TheVariants.{Add, Remove, Ask, Stats};
 ghost use Rattle.si_session.specs.Commands.{Commands, Reads, kind_word};
 
 use crate::word::word_of;
 use si_defs::Relation;
 use si_lex::{Lexeme, Stop, lex};
-use si_parse::grammar::clause;
+use si_parse::grammar::{clause, name};
 use si_parse::item::is_foreign;
 use si_parse::pattern::{PatternKind, whole_pattern};
 use si_steps::Word;
-use si_term::{Clause, Pattern};
+use si_term::{Clause, Name, Pattern};
 use std::alloc::{AllocError, Global};
 
 /// What a command line asks for.
@@ -32,8 +32,12 @@ pub enum Command {
     Wrong,
     /// That a clause be kept.
     Add(Clause),
+    /// That the clause with this name go.
+    Remove(Name),
     /// The entries that are instances of a pattern.
     Query(Pattern),
+    /// How much is kept.
+    Stats,
 }
 
 /// The command that a line is.
@@ -63,7 +67,9 @@ fn command_of(alloc: Global, tokens: &[Lexeme<'_>], stop: Stop) -> Result<Comman
     };
     match word_of(first) {
         Some(Word::Add) => add_command(alloc, rest, stop),
+        Some(Word::Remove) => remove_command(alloc, rest, stop),
         Some(Word::Ask(Relation::Instances)) => query_command(alloc, rest, stop),
+        Some(Word::Stats) => Ok(stats_command(rest, stop)),
         Some(_) => Ok(Command::Later),
         None => Ok(Command::Wrong),
     }
@@ -82,6 +88,29 @@ fn add_command(alloc: Global, tokens: &[Lexeme<'_>], stop: Stop) -> Result<Comma
         Some(_) => Ok(Command::Wrong),
         None if is_foreign(tokens) => Ok(Command::Foreign),
         None => Ok(Command::Wrong),
+    }
+}
+
+/// The command that the word `remove` begins, by the tokens behind it.
+fn remove_command(alloc: Global, tokens: &[Lexeme<'_>], stop: Stop) -> Result<Command, AllocError>
+    ensures { IfOk result (Commands (lower (word_text Remove) ∷ tokens_of tokens.now) stop) }
+{
+    match name(alloc, tokens)? {
+        Some((name, rest)) if rest.is_empty() => match stop {
+            Stop::End => Ok(Command::Remove(name)),
+            Stop::Bad | Stop::FullStop => Ok(Command::Wrong),
+        },
+        Some(_) | None => Ok(Command::Wrong),
+    }
+}
+
+/// The command that the word `stats` begins, by the tokens behind it.
+fn stats_command(tokens: &[Lexeme<'_>], stop: Stop) -> Command
+    ensures { Commands (lower (word_text Stats) ∷ tokens_of tokens.now) stop result }
+{
+    match stop {
+        Stop::End if tokens.is_empty() => Command::Stats,
+        Stop::End | Stop::Bad | Stop::FullStop => Command::Wrong,
     }
 }
 

@@ -1,13 +1,14 @@
 // Whether two symbols or two terms are equal.
 ghost use Rattle.std.specs.Prelude.{◌≡◌, map};
-ghost use Rattle.si_session.specs.Equality.{symbol_eq, term_eq, terms_eq};
+ghost use Rattle.si_session.specs.Equality.{term_eq, terms_eq};
+ghost use Rattle.si_defs.specs.Symbols.{same_symbol};
 ghost use Rattle.si_term.specs.Terms.{symbol_of, term_of};
 ghost use Rattle.si_defs.specs.Terms.{row};
 
 use si_term::{Sym, Term};
 
 pub fn same_symbol(a: &Sym, b: &Sym) -> bool
-    ensures { result ≡ symbol_eq (symbol_of a.now) (symbol_of b.now) }
+    ensures { result ≡ same_symbol (symbol_of a.now) (symbol_of b.now) }
 {
     a.kind == b.kind
         && a.side == b.side

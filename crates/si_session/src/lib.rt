@@ -13,7 +13,6 @@ mod session;
 mod sign;
 mod solution;
 mod stepped;
-mod store;
 mod word;
 
 pub use session::Session;

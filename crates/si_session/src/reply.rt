@@ -1,21 +1,24 @@
 // Replies, written to a sink.
 ghost use Rattle.std.specs.Prelude.{◌≡◌, ◌≤◌, ◌++◌, [], ◌∷◌, decimal};
-ghost use Rattle.si_defs.specs.Printing.{name_text};
+ghost use Rattle.si_defs.specs.Printing.{name_text, symbol_text};
 ghost use Rattle.si_steps.specs.Replies.{is_refusal};
 ghost use Rattle.si_io.specs.Faults.{Rose, HasCause};
 ghost use Rattle.si_io.specs.Puts.{Puts};
+ghost use Rattle.si_term.specs.Terms.{symbol_of};
 ghost use Rattle.si_term.specs.Meaning.{name_of};
 ghost use Rattle.si_session.specs.Signs.{sign_text};
-ghost use Rattle.si_session.specs.declared.sign.Sign.TheVariants.{LineFeed};
-ghost use Rattle.si_session.specs.Replies.{line_of, ended_line};
+ghost use Rattle.si_session.specs.declared.sign.Sign.TheVariants.{Space, LineFeed};
+ghost use Rattle.si_session.specs.Replies.{line_of, ended_line, stats_text, closed_shape};
 ghost use Rattle.si_session.specs.Session.{Writes};
 ghost use Rattle.si_session.specs.declared.stepped.Stepped.TheVariants.{SinkFailed};
 
 use crate::sign::{Sign, put_sign};
 use crate::stepped::Stepped;
+use si_index::Stats;
 use si_io::{Failed, Sink};
-use si_reply::{put_bytes, put_name, put_number};
-use si_term::Name;
+use si_reply::{put_bytes, put_name, put_number, put_symbol};
+use si_sign::Shape;
+use si_term::{Name, Side, Sym};
 
 /// A line of a reply that isn't a hit.
 #[derive(Clone, Copy)]
@@ -24,8 +27,20 @@ pub enum Reply<'a> {
     Ok { clauses: u64, entries: u64 },
     /// So many lines of hits stand before this one.
     End(u64),
+    /// So much is kept.
+    Stats(Stats),
     /// A kept clause has this name.
     Taken(&'a Name),
+    /// The symbol has one shape in the tried clause, and another stands against it.
+    Misused {
+        symbol: &'a Sym,
+        found: Shape,
+        kept: Shape,
+    },
+    /// So many entries there would be, and no more than the limit may be.
+    Full { needed: u64, limit: u64 },
+    /// No kept clause has this name.
+    Unknown(&'a Name),
     /// The line's kind isn't built yet.
     Later,
     /// The line adds a formula of another language.
@@ -77,6 +92,66 @@ fn put_counts<K: Sink>(
     put_count(sink, next, count)
 }
 
+/// Writes how much is kept.
+fn put_stats<K: Sink>(sink: &mut K, stats: Stats) -> Result<(), Failed>
+    ensures text { Puts result (stats_text stats) (K.written sink.old) (K.written sink.new) }
+    ensures cause { HasCause (K.faults sink.old) (K.faults sink.new) result }
+{
+    put_number(sink, b"clauses ", u64::from(stats.clauses))?;
+    put_counts(
+        sink,
+        b" entries ",
+        stats.entries,
+        b" symbols ",
+        u64::from(stats.symbols),
+    )
+}
+
+/// Writes a side and an arity.
+fn put_shape<K: Sink>(sink: &mut K, shape: Shape) -> Result<(), Failed>
+    ensures text { Puts result (closed_shape shape) (K.written sink.old) (K.written sink.new) }
+    ensures cause { HasCause (K.faults sink.old) (K.faults sink.new) result }
+{
+    match shape.side {
+        Side::Predicate => put_number(sink, b"predicate/", u64::from(shape.arity)),
+        Side::Function => put_number(sink, b"function/", u64::from(shape.arity)),
+    }
+}
+
+/// Writes two shapes, and ends the line.
+#[tactic(auto, using(si_io::proofs::Content::writes))]
+fn put_shapes<K: Sink>(sink: &mut K, found: Shape, kept: Shape) -> Result<(), Failed>
+    ensures text { Puts result (sign_text Space ++ (closed_shape found ++ (sign_text Space
+        ++ (closed_shape kept ++ sign_text LineFeed)))) (K.written sink.old)
+        (K.written sink.new) }
+    ensures cause { HasCause (K.faults sink.old) (K.faults sink.new) result }
+{
+    put_sign(sink, Sign::Space)?;
+    put_shape(sink, found)?;
+    put_sign(sink, Sign::Space)?;
+    put_shape(sink, kept)?;
+    put_sign(sink, Sign::LineFeed)
+}
+
+/// Writes a word, a symbol and two shapes, and ends the line.
+#[tactic(auto, using(si_io::proofs::Content::writes))]
+fn put_misused<K: Sink>(
+    sink: &mut K,
+    word: &[u8],
+    symbol: &Sym,
+    found: Shape,
+    kept: Shape,
+) -> Result<(), Failed>
+    ensures text { Puts result (word.now ++ (symbol_text (symbol_of symbol.now) ++ (sign_text Space
+        ++ (closed_shape found ++ (sign_text Space ++ (closed_shape kept
+        ++ sign_text LineFeed)))))) (K.written sink.old) (K.written sink.new) }
+    ensures cause { HasCause (K.faults sink.old) (K.faults sink.new) result }
+{
+    put_bytes(sink, word)?;
+    put_symbol(sink, symbol)?;
+    put_shapes(sink, found, kept)
+}
+
 /// Writes a line of a reply. The texts of all lines but those of hits stand here.
 fn put_reply<K: Sink>(sink: &mut K, reply: Reply<'_>) -> Result<(), Failed>
     ensures text { Puts result (ended_line reply.entry) (K.written sink.old) (K.written sink.new) }
@@ -85,7 +160,15 @@ fn put_reply<K: Sink>(sink: &mut K, reply: Reply<'_>) -> Result<(), Failed>
     match reply {
         Reply::Ok { clauses, entries } => put_counts(sink, b"ok ", clauses, b" ", entries),
         Reply::End(lines) => put_count(sink, b"end ", lines),
+        Reply::Stats(stats) => put_stats(sink, stats),
         Reply::Taken(name) => put_named(sink, b"! taken ", name),
+        Reply::Misused {
+            symbol,
+            found,
+            kept,
+        } => put_misused(sink, b"! use ", symbol, found, kept),
+        Reply::Full { needed, limit } => put_counts(sink, b"! full ", needed, b" ", limit),
+        Reply::Unknown(name) => put_named(sink, b"! unknown ", name),
         Reply::Later => put_bytes(sink, b"! later\n"),
         Reply::Language => put_bytes(sink, b"! language\n"),
         Reply::Syntax => put_bytes(sink, b"! syntax\n"),
@@ -98,8 +181,9 @@ fn refuses(reply: Reply<'_>) -> bool
     ensures { result ≡ is_refusal (line_of reply.entry ∷ []) }
 {
     match reply {
-        Reply::Ok { .. } | Reply::End(_) => false,
-        Reply::Taken(_) | Reply::Later | Reply::Language | Reply::Syntax | Reply::Memory => true,
+        Reply::Ok { .. } | Reply::End(_) | Reply::Stats(_) => false,
+        Reply::Taken(_) | Reply::Misused { .. } | Reply::Full { .. } | Reply::Unknown(_) => true,
+        Reply::Later | Reply::Language | Reply::Syntax | Reply::Memory => true,
     }
 }
 

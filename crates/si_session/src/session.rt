@@ -1,14 +1,15 @@
 // A session: the clauses that are kept, and one step for each line.
 ghost use Rattle.std.specs.Prelude.{◌≡◌, ◌↔◌, ◌≤◌, [], IfOk};
 ghost use Rattle.si_steps.specs.Limits.{AllowsLimits};
-ghost use Rattle.si_steps.specs.Commands.{IsSilent, add, query};
+ghost use Rattle.si_steps.specs.Commands.{IsSilent, add, remove, query, stats};
 ghost use Rattle.si_steps.specs.Steps.{Performs};
-ghost use Rattle.si_session.specs.Session.{Steps, Acts};
+ghost use Rattle.si_session.specs.Session.{Steps, ActsOn};
+ghost use Rattle.si_session.specs.Rejections.{HasHead, TellsWhy};
 ghost use Rattle.si_session.specs.declared.stepped.Stepped.TheVariants.{Silent, Refused, SinkFailed};
 ghost use Rattle.si_io.specs.Faults.{Rose};
 ghost use Rattle.si_defs.specs.Clauses.{IsSoundClause};
 ghost use Rattle.si_defs.specs.declared.Relation.TheVariants.{Instances};
-ghost use Rattle.si_term.specs.Meaning.{clause_of, pattern_of};
+ghost use Rattle.si_term.specs.Meaning.{name_of, clause_of, pattern_of};
 
 use crate::answer::answer_clauses;
 use crate::broken::Broken;
@@ -16,10 +17,11 @@ use crate::command::{Command, read_command};
 use crate::reply::{Reply, tell};
 use crate::scan::Scratch;
 use crate::stepped::Stepped;
-use crate::store::{Rejected, Store};
+use si_index::Index;
 use si_io::Sink;
+use si_sign::{AddFault, ClauseStore, Rejected};
 use si_steps::Limits;
-use si_term::{Clause, Pattern};
+use si_term::{Clause, Name, Pattern, head_at};
 use std::alloc::{AllocError, Global};
 use std::marker::Model;
 
@@ -28,17 +30,20 @@ use std::marker::Model;
 pub struct Session {
     alloc: Global,
     limits: Limits,
-    store: Store,
+    index: Index,
 }
 
 impl Model for Session {
+    ghost use Rattle.std.specs.Prelude.{◌≡◌};
     ghost use Rattle.si_session.specs.Session.{State, state_code};
 
     ghost Value = { State };
 
     ghost coded = { state_code };
 
-    ghost view = { λ s. record { clauses = s.store; limits = s.limits } };
+    ghost view = { λ s. record { clauses = s.index.clauses; limits = s.limits } };
+
+    ghost invariant = { λ s. s.index.limit ≡ s.limits.entries };
 }
 
 impl Session {
@@ -50,7 +55,7 @@ impl Session {
         Ok(Session {
             alloc,
             limits: *limits,
-            store: Store::new(alloc),
+            index: Index::new(alloc, limits.entries)?,
         })
     }
 
@@ -73,23 +78,26 @@ impl Session {
             Ok(Command::Later) => tell(sink, Reply::Later),
             Ok(Command::Foreign) => tell(sink, Reply::Language),
             Ok(Command::Wrong) => tell(sink, Reply::Syntax),
-            Ok(Command::Add(clause)) => add(&mut self.store, clause, sink),
-            Ok(Command::Query(pattern)) => answer(self.alloc, &self.store, &pattern, sink),
+            Ok(Command::Add(clause)) => add(&mut self.index, clause, sink),
+            Ok(Command::Remove(name)) => remove(&mut self.index, &name, sink),
+            Ok(Command::Query(pattern)) => answer(self.alloc, &self.index, &pattern, sink),
+            Ok(Command::Stats) => tell(sink, Reply::Stats(self.index.stats())),
             Err(_) => tell(sink, Reply::Memory),
         }
     }
 }
 
-/// Keeps a clause if its name is free, and writes the reply.
-fn add<K: Sink>(store: &mut Store, clause: Clause, sink: &mut K) -> Stepped
+/// Keeps a clause if nothing stands against it, and writes the reply.
+fn add<K: Sink>(index: &mut Index, clause: Clause, sink: &mut K) -> Stepped
     requires { IsSoundClause (clause_of clause) }
-    ensures acts { Acts (Performs (add (clause_of clause)) store.old) store.old store.new result
-        (K.written sink.old) (K.written sink.new) }
+    ensures acts { ActsOn (λ limits. Performs limits (add (clause_of clause))) index.old index.new
+        result (K.written sink.old) (K.written sink.new) }
+    ensures limit { index.new.limit ≡ index.old.limit }
     ensures later { K.faults sink.old ≤ K.faults sink.new }
     ensures kept { (result ≡ SinkFailed → ⊥) → K.faults sink.new ≡ K.faults sink.old }
     ensures failed { result ≡ SinkFailed → Rose (K.faults sink.old) (K.faults sink.new) }
 {
-    match store.add(clause) {
+    match index.add(clause) {
         Ok(gained) => tell(
             sink,
             Reply::Ok {
@@ -97,21 +105,61 @@ fn add<K: Sink>(store: &mut Store, clause: Clause, sink: &mut K) -> Stepped
                 entries: u64::from(gained),
             },
         ),
-        Err(Rejected::Taken(clause)) => tell(sink, Reply::Taken(&clause.name)),
-        Err(Rejected::Memory) => tell(sink, Reply::Memory),
+        Err(rejected) => tell(sink, refusal(&rejected)),
+    }
+}
+
+/// Why a clause isn't kept, as a reply.
+fn refusal(rejected: &Rejected) -> Reply<'_>
+    requires { HasHead rejected.now }
+    ensures { TellsWhy rejected.now result }
+{
+    match &rejected.why {
+        AddFault::Taken => Reply::Taken(&rejected.clause.name),
+        AddFault::Clash(clash) => Reply::Misused {
+            symbol: head_at(&rejected.clause, clash.entry),
+            found: clash.found,
+            kept: clash.kept,
+        },
+        AddFault::Full { needed, limit } => Reply::Full {
+            needed: *needed,
+            limit: *limit,
+        },
+        AddFault::Memory => Reply::Memory,
+    }
+}
+
+/// Lets the clause with this name go, and writes the reply.
+fn remove<K: Sink>(index: &mut Index, name: &Name, sink: &mut K) -> Stepped
+    ensures acts { ActsOn (λ limits. Performs limits (remove (name_of name.now))) index.old
+        index.new result (K.written sink.old) (K.written sink.new) }
+    ensures limit { index.new.limit ≡ index.old.limit }
+    ensures later { K.faults sink.old ≤ K.faults sink.new }
+    ensures kept { (result ≡ SinkFailed → ⊥) → K.faults sink.new ≡ K.faults sink.old }
+    ensures failed { result ≡ SinkFailed → Rose (K.faults sink.old) (K.faults sink.new) }
+{
+    match index.remove(name) {
+        Some(gone) => tell(
+            sink,
+            Reply::Ok {
+                clauses: 1,
+                entries: u64::from(gone),
+            },
+        ),
+        None => tell(sink, Reply::Unknown(name)),
     }
 }
 
 /// Answers which entries are instances of a pattern.
-fn answer<K: Sink>(alloc: Global, store: &Store, pattern: &Pattern, sink: &mut K) -> Stepped
-    ensures acts { Acts (Performs (query Instances (pattern_of pattern.now)) store.now) store.now
-        store.now result (K.written sink.old) (K.written sink.new) }
+fn answer<K: Sink>(alloc: Global, index: &Index, pattern: &Pattern, sink: &mut K) -> Stepped
+    ensures acts { ActsOn (λ limits. Performs limits (query Instances (pattern_of pattern.now)))
+        index.now index.now result (K.written sink.old) (K.written sink.new) }
     ensures later { K.faults sink.old ≤ K.faults sink.new }
     ensures kept { (result ≡ SinkFailed → ⊥) → K.faults sink.new ≡ K.faults sink.old }
     ensures failed { result ≡ SinkFailed → Rose (K.faults sink.old) (K.faults sink.new) }
 {
     let mut scratch = Scratch::new(alloc);
-    match answer_clauses(pattern, store.as_slice(), &mut scratch, sink) {
+    match answer_clauses(pattern, index, &mut scratch, sink) {
         Ok(()) => tell(sink, Reply::End(scratch.found)),
         Err(Broken::Sink) => Stepped::SinkFailed,
         Err(Broken::Memory) => tell(sink, Reply::Memory),

@@ -1,0 +1,32 @@
+-- Why a clause isn't kept, as it is told.
+use Rattle.std.specs.Prelude.{◌≡◌, ◌<◌, Some, length, slice_get}
+use Rattle.si_defs.specs.Symbols.{Symbol}
+use Rattle.si_defs.specs.Clauses.{IsSoundClause}
+use Rattle.si_defs.specs.Entries.{entries, clause_symbols}
+use Rattle.si_steps.specs.Replies.{taken_line, full_line, memory_line}
+use Rattle.si_term.specs.Meaning.{name_of, clause_of}
+use Rattle.si_sign.specs.declared.faults.Rejected.{Rejected}
+use Rattle.si_sign.specs.declared.faults.AddFault.{AddFault}
+use Rattle.si_sign.specs.declared.faults.AddFault.TheVariants as add_fault
+use Rattle.si_session.specs.Replies.{line_of, misused_text}
+use Rattle.si_session.specs.declared.reply.Reply.{Reply}
+
+abbrev NamesEntry : Rejected → AddFault → Type 0
+NamesEntry rejected (add_fault.Clash c) = c.entry < length (entries (clause_of rejected.clause))
+NamesEntry rejected why = Unit {0}
+
+-- the clause is sound, and where a symbol of it clashes, that is the head of one of its entries
+abbrev pub HasHead : Rejected → Type 0
+HasHead rejected = IsSoundClause (clause_of rejected.clause) × NamesEntry rejected rejected.why
+
+abbrev TellsFault : Rejected → Reply → AddFault → Type 0
+TellsFault rejected reply add_fault.Taken = line_of reply ≡ taken_line (name_of rejected.clause.name)
+TellsFault rejected reply (add_fault.Clash c) =
+    (s : Symbol) → slice_get (clause_symbols (clause_of rejected.clause)) c.entry ≡ Some s
+    → line_of reply ≡ misused_text s c.found c.kept
+TellsFault rejected reply (add_fault.Full needed limit) = line_of reply ≡ full_line needed limit
+TellsFault rejected reply add_fault.Memory = line_of reply ≡ memory_line
+
+-- the reply says why
+abbrev pub TellsWhy : Rejected → Reply → Type 0
+TellsWhy rejected reply = TellsFault rejected reply rejected.why

@@ -1,5 +1,5 @@
 -- A table of variables beside the bindings finds what the bindings say.
-use Rattle.std.proofs.Common.{◌≡◌, ℕ, zero, suc, ◌<◌, Bool, true, false, cond, ◌||◌, List, [], ◌∷◌, length, get_or, map, refl, ap, sym, ◌∙◌, arith}
+use Rattle.std.proofs.Common.{◌≡◌, ℕ, zero, suc, ◌<◌, Bool, true, false, cond, ◌||◌, List, [], ◌∷◌, ◌++◌, length, get_or, map, refl, ap, sym, ◌∙◌, arith}
 use Rattle.std.specs.Prelude.{Some, None, bytes_eq, position}
 use Rattle.std.specs.List.{list_any}
 use Rattle.std.proofs.lemmas.List.Quantifiers.{position-Some}
@@ -60,3 +60,7 @@ module _ {K : Type 0} (text : K → Bytes) where
         → (bound bs x ≡ None → list_any (λ l. bytes_eq x (text l)) ks ≡ false) → (bytes_eq x (text k) || list_any (λ l. bytes_eq x (text l)) ks) ≡ false
     by true q h f = cc
     by false q h f = ap (λ c. c || list_any (λ l. bytes_eq x (text l)) ks) (ap (bytes_eq x) first ∙ bytes_eq_swap x b.0 ∙ q) ∙ f h
+
+-- a key that isn't listed goes last
+pub insert_new : {K : Type 0} (b : Bool) (keys : List K) (key : K) → b ≡ false → cond b keys (keys ++ key ∷ []) ≡ keys ++ key ∷ []
+insert_new b keys key e = ap (λ c. cond c keys (keys ++ key ∷ [])) e

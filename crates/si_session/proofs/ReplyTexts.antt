@@ -38,27 +38,50 @@ unfolding sign_text
 feed_is = refl
 
 -- ---- counts and shapes
-pub stats_is : (stats : Stats)
-    → (codes "clauses " ++ decimal stats.clauses) ++ ((codes " entries " ++ decimal stats.entries) ++ ((codes " symbols " ++ decimal stats.symbols) ++ sign_text LineFeed))
-    ≡ stats_text stats
+-- the counts with their words, one behind the other
+abbrev pub counted : ℕ → ℕ → ℕ → Bytes
+counted clauses entries symbols =
+    (codes "clauses " ++ decimal clauses) ++ ((codes " entries " ++ decimal entries) ++ ((codes " symbols " ++ decimal symbols) ++ sign_text LineFeed))
+
+six : (x e d s k f : Bytes) → x ++ ((e ++ d) ++ ((s ++ k) ++ f)) ≡ ((((x ++ e) ++ d) ++ s) ++ k) ++ f
+six x e d s k f = four x e d ((s ++ k) ++ f) ∙ four ((x ++ e) ++ d) s k f
+
+pub stats_is : (stats : Stats) (clauses symbols : ℕ) → clauses ≡ stats.clauses → symbols ≡ stats.symbols
+    → counted clauses stats.entries symbols ≡ stats_text stats
 unfolding sign_text stats_text
-stats_is stats = ?
+stats_is stats clauses symbols c s =
+    ap (λ n. counted n stats.entries symbols) c ∙ ap (counted stats.clauses stats.entries) s
+    ∙ six (codes "clauses " ++ decimal stats.clauses) (codes " entries ") (decimal stats.entries) (codes " symbols ") (decimal stats.symbols) (10 ∷ [])
 
-pub predicate_is : (shape : Shape) → shape.side ≡ Predicate → codes "predicate/" ++ decimal shape.arity ≡ closed_shape shape
+pub predicate_is : (shape : Shape) (arity : ℕ) → shape.side ≡ Predicate → arity ≡ shape.arity → codes "predicate/" ++ decimal arity ≡ closed_shape shape
 unfolding closed_shape
-predicate_is shape e = ap (λ side. shape_text side shape.arity) (sym e)
+predicate_is shape arity e a = ap (shape_text Predicate) a ∙ ap (λ side. shape_text side shape.arity) (sym e)
 
-pub function_is : (shape : Shape) → shape.side ≡ Function → codes "function/" ++ decimal shape.arity ≡ closed_shape shape
+pub function_is : (shape : Shape) (arity : ℕ) → shape.side ≡ Function → arity ≡ shape.arity → codes "function/" ++ decimal arity ≡ closed_shape shape
 unfolding closed_shape
-function_is shape e = ap (λ side. shape_text side shape.arity) (sym e)
+function_is shape arity e a = ap (shape_text Function) a ∙ ap (λ side. shape_text side shape.arity) (sym e)
+
+seven : (a b c d e f g : Bytes) → a ++ (b ++ (c ++ (d ++ (e ++ (f ++ g))))) ≡ (((((a ++ b) ++ c) ++ d) ++ e) ++ f) ++ g
+seven a b c d e f g =
+    sym (append_assoc a b (c ++ (d ++ (e ++ (f ++ g)))))
+    ∙ sym (append_assoc (a ++ b) c (d ++ (e ++ (f ++ g))))
+    ∙ sym (append_assoc ((a ++ b) ++ c) d (e ++ (f ++ g)))
+    ∙ sym (append_assoc (((a ++ b) ++ c) ++ d) e (f ++ g))
+    ∙ sym (append_assoc ((((a ++ b) ++ c) ++ d) ++ e) f g)
 
 pub misused_is : (r : Reply) (symbol : Bor Sym) (found kept : Shape) → r ≡ reply.Misused symbol found kept
     → codes "! use " ++ (symbol_text (symbol_of symbol.now) ++ (sign_text Space ++ (closed_shape found ++ (sign_text Space ++ (closed_shape kept ++ sign_text LineFeed)))))
     ≡ ended_line r
 unfolding sign_text closed_shape ended_line
-misused_is r symbol found kept e = ?
+misused_is r symbol found kept e =
+    seven (codes "! use ") (symbol_text (symbol_of symbol.now)) (codes " ") (shape_text found.side found.arity) (codes " ") (shape_text kept.side kept.arity) (10 ∷ [])
+    ∙ ap ended_line (sym e)
 
 pub full_text : (r : Reply) (needed limit : ℕ) → r ≡ reply.Full needed limit
     → (codes "! full " ++ decimal needed) ++ ((codes " " ++ decimal limit) ++ sign_text LineFeed) ≡ ended_line r
 unfolding sign_text ended_line
 full_text r needed limit e = four (codes "! full " ++ decimal needed) (codes " ") (decimal limit) (10 ∷ []) ∙ ap ended_line (sym e)
+
+pub stats_line_is : (r : Reply) (stats : Stats) → r ≡ reply.Stats stats → stats_text stats ≡ ended_line r
+unfolding stats_text ended_line
+stats_line_is r stats e = ap ended_line (sym e)

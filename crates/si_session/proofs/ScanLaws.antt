@@ -251,7 +251,9 @@ drop_got [] (suc i) c e = absurd (none_some e) where
   none_some : {A : Type 0} {x : A} → None ≡ Some x → ⊥
   none_some e = cc
 drop_got (d ∷ cs) zero c e = let same : d ≡ c = cc in ap (λ k. k ∷ cs) same
-drop_got (d ∷ cs) (suc i) c e = drop_got cs i c e
+drop_got (d ∷ cs) (suc i) c e = drop_got cs i c e ∙ ap (λ n. c ∷ drop n (d ∷ cs)) later where
+  later : suc (i + 1) ≡ suc i + 1
+  later = omega arith
 
 pub got_inside : (cs : List Clause) (i : ℕ) (c : Clause) → slice_get cs i ≡ Some c → i < length cs
 got_inside [] zero c e = absurd (let wrong : None ≡ Some c = e in cc)

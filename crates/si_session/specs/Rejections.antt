@@ -11,7 +11,8 @@ use Rattle.si_sign.specs.declared.faults.AddFault.TheVariants as add_fault
 use Rattle.si_session.specs.Replies.{line_of, misused_text}
 use Rattle.si_session.specs.declared.reply.Reply.{Reply}
 
-abbrev NamesEntry : Rejected → AddFault → Type 0
+-- the entry of a clash is one of the clause
+abbrev pub NamesEntry : Rejected → AddFault → Type 0
 NamesEntry rejected (add_fault.Clash c) = c.entry < length (entries (clause_of rejected.clause))
 NamesEntry rejected why = Unit {0}
 
@@ -19,7 +20,8 @@ NamesEntry rejected why = Unit {0}
 abbrev pub HasHead : Rejected → Type 0
 HasHead rejected = IsSoundClause (clause_of rejected.clause) × NamesEntry rejected rejected.why
 
-abbrev TellsFault : Rejected → Reply → AddFault → Type 0
+-- the reply's line says this fault
+abbrev pub TellsFault : Rejected → Reply → AddFault → Type 0
 TellsFault rejected reply add_fault.Taken = line_of reply ≡ taken_line (name_of rejected.clause.name)
 TellsFault rejected reply (add_fault.Clash c) =
     (s : Symbol) → slice_get (clause_symbols (clause_of rejected.clause)) c.entry ≡ Some s

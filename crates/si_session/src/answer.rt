@@ -146,7 +146,8 @@ pub fn answer_clauses<'a, K: Sink>(
     ensures counted { OnOk result (scratch.new.found ≡ length
         (clauses_lines (pattern_of pattern.now) index.now.clauses)) }
 {
-    for at in 0..index.stats().clauses {
+    let stats = index.stats();
+    for at in 0..stats.clauses {
         answer_clause(pattern, index.clause(at), scratch, sink)?;
     }
     Ok(())

@@ -100,7 +100,8 @@ fn remove_command(alloc: Global, tokens: &[Lexeme<'_>], stop: Stop) -> Result<Co
             Stop::End => Ok(Command::Remove(name)),
             Stop::Bad | Stop::FullStop => Ok(Command::Wrong),
         },
-        Some(_) | None => Ok(Command::Wrong),
+        Some(_) => Ok(Command::Wrong),
+        None => Ok(Command::Wrong),
     }
 }
 

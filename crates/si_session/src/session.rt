@@ -79,7 +79,7 @@ impl Session {
             Ok(Command::Foreign) => tell(sink, Reply::Language),
             Ok(Command::Wrong) => tell(sink, Reply::Syntax),
             Ok(Command::Add(clause)) => add(&mut self.index, clause, sink),
-            Ok(Command::Remove(name)) => remove(&mut self.index, &name, sink),
+            Ok(Command::Remove(name)) => remove(&mut self.index, name, sink),
             Ok(Command::Query(pattern)) => answer(self.alloc, &self.index, &pattern, sink),
             Ok(Command::Stats) => tell(sink, Reply::Stats(self.index.stats())),
             Err(_) => tell(sink, Reply::Memory),
@@ -130,15 +130,15 @@ fn refusal(rejected: &Rejected) -> Reply<'_>
 }
 
 /// Lets the clause with this name go, and writes the reply.
-fn remove<K: Sink>(index: &mut Index, name: &Name, sink: &mut K) -> Stepped
-    ensures acts { ActsOn (λ limits. Performs limits (remove (name_of name.now))) index.old
+fn remove<K: Sink>(index: &mut Index, name: Name, sink: &mut K) -> Stepped
+    ensures acts { ActsOn (λ limits. Performs limits (remove (name_of name))) index.old
         index.new result (K.written sink.old) (K.written sink.new) }
     ensures limit { index.new.limit ≡ index.old.limit }
     ensures later { K.faults sink.old ≤ K.faults sink.new }
     ensures kept { (result ≡ SinkFailed → ⊥) → K.faults sink.new ≡ K.faults sink.old }
     ensures failed { result ≡ SinkFailed → Rose (K.faults sink.old) (K.faults sink.new) }
 {
-    match index.remove(name) {
+    match index.remove(&name) {
         Some(gone) => tell(
             sink,
             Reply::Ok {
@@ -146,7 +146,7 @@ fn remove<K: Sink>(index: &mut Index, name: &Name, sink: &mut K) -> Stepped
                 entries: u64::from(gone),
             },
         ),
-        None => tell(sink, Reply::Unknown(name)),
+        None => tell(sink, Reply::Unknown(&name)),
     }
 }
 

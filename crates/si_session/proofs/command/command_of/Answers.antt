@@ -19,6 +19,18 @@ returns-in-Some-Add-clause-read c =
     (front c.args.tokens.now c.in-Some.first.now c.in-Some.rest.now _ c.in-Some.ensures.cases.0
     (c.in-Some-Add.ensures.found ∙ ap (λ w. lower (word_text w)) c.in-Some-Add.field-0-is)) c.add_command.ensures
 
+pub returns-in-Some-Remove-clause-read : goal.returns-in-Some-Remove-clause-read
+returns-in-Some-Remove-clause-read c =
+    subst (λ ts. IfOk c.remove_command.result (Commands ts c.args.stop))
+    (front c.args.tokens.now c.in-Some.first.now c.in-Some.rest.now _ c.in-Some.ensures.cases.0
+    (c.in-Some-Remove.ensures.found ∙ ap (λ w. lower (word_text w)) c.in-Some-Remove.field-0-is)) c.remove_command.ensures
+
+pub returns-in-Some-Stats-clause-read : goal.returns-in-Some-Stats-clause-read
+returns-in-Some-Stats-clause-read c =
+    subst (λ ts. Commands ts c.args.stop c.stats_command.result)
+    (front c.args.tokens.now c.in-Some.first.now c.in-Some.rest.now _ c.in-Some.ensures.cases.0
+    (c.in-Some-Stats.ensures.found ∙ ap (λ w. lower (word_text w)) c.in-Some-Stats.field-0-is)) c.stats_command.ensures
+
 pub returns-in-Some-Ask-Instances-clause-read : goal.returns-in-Some-Ask-Instances-clause-read
 returns-in-Some-Ask-Instances-clause-read c =
     subst (λ ts. IfOk c.query_command.result (Commands ts c.args.stop))

@@ -7,7 +7,7 @@ use Rattle.si_term.specs.Meaning.{name_of}
 use Rattle.si_session.specs.Replies.{ended_line}
 use Rattle.si_session.specs.Signs.{sign_text}
 use Rattle.si_session.specs.declared.sign.Sign.TheVariants.{LineFeed}
-use Rattle.si_session.proofs.ReplyTexts.{ok_text, end_text}
+use Rattle.si_session.proofs.ReplyTexts.{ok_text, end_text, stats_line_is, misused_is, full_text}
 use Rattle.si_session.proofs.reply.put_reply.Goals as goal
 
 pub returns-in-Ok-clause-text : goal.returns-in-Ok-clause-text
@@ -47,3 +47,23 @@ unfolding ended_line
 returns-in-Memory-clause-text g c =
     subst (λ t. Puts c.put_bytes-in-Memory.result t (g.K.Sink.written c.args.sink.now) (g.K.Sink.written c.put_bytes-in-Memory.new.sink)) (ap ended_line (sym c.in-Memory.is))
     c.put_bytes-in-Memory.ensures.text
+
+pub returns-in-Stats-clause-text : goal.returns-in-Stats-clause-text
+returns-in-Stats-clause-text g c =
+    subst (λ t. Puts c.put_stats.result t (g.K.Sink.written c.args.sink.now) (g.K.Sink.written c.put_stats.new.sink))
+    (stats_line_is c.args.reply c.in-Stats.stats c.in-Stats.is) c.put_stats.ensures.text
+
+pub returns-in-Misused-clause-text : goal.returns-in-Misused-clause-text
+returns-in-Misused-clause-text g c =
+    subst (λ t. Puts c.put_misused.result t (g.K.Sink.written c.args.sink.now) (g.K.Sink.written c.put_misused.new.sink))
+    (misused_is c.args.reply c.in-Misused.symbol c.in-Misused.found c.in-Misused.kept c.in-Misused.is) c.put_misused.ensures.text
+
+pub returns-in-Full-clause-text : goal.returns-in-Full-clause-text
+returns-in-Full-clause-text g c =
+    subst (λ t. Puts c.put_counts-in-Full.result t (g.K.Sink.written c.args.sink.now) (g.K.Sink.written c.put_counts-in-Full.new.sink))
+    (full_text c.args.reply c.in-Full.needed c.in-Full.limit c.in-Full.is) c.put_counts-in-Full.ensures.text
+
+pub returns-in-Unknown-clause-text : goal.returns-in-Unknown-clause-text
+unfolding ended_line sign_text
+returns-in-Unknown-clause-text g c =
+    subst (λ t. Puts c.put_named-in-Unknown.result t (g.K.Sink.written c.args.sink.now) (g.K.Sink.written c.put_named-in-Unknown.new.sink)) (ap ended_line (sym c.in-Unknown.is)) c.put_named-in-Unknown.ensures.text

@@ -1,22 +1,29 @@
-use Rattle.std.proofs.Common.{◌≡◌, [], ◌∷◌, ◌∙◌, subst}
-use Rattle.si_state.specs.Acceptance.{IsTaken}
-use Rattle.si_steps.specs.Replies.{taken_line}
+use Rattle.std.proofs.Common.{◌≡◌, [], ◌∷◌, ◌∙◌, sym, subst}
+use Rattle.si_defs.specs.Clauses.{IsSoundClause}
+use Rattle.si_sign.specs.Stores.{Rejects}
+use Rattle.si_steps.specs.Commands.{add}
+use Rattle.si_steps.specs.Steps.{Performs}
 use Rattle.si_term.specs.Meaning.{clause_of}
-use Rattle.si_session.specs.Session.{Writes}
-use Rattle.si_session.specs.Store.{Rejects}
-use Rattle.si_session.proofs.Acting.{accepts, rejects}
+use Rattle.si_session.specs.Session.{ActsOn}
+use Rattle.si_session.proofs.Acting.{added, refused, has_head}
 use Rattle.si_session.proofs.session.add.Goals as goal
 
 pub returns-in-Ok-clause-acts : goal.returns-in-Ok-clause-acts
 returns-in-Ok-clause-acts g c =
-    accepts (clause_of c.args.clause) c.args.store.now c.add.new.self c.tell.result c.from.result (g.K.Sink.written c.args.sink.now) (g.K.Sink.written c.tell.new.sink)
-    c.in-Ok.ensures.kept (c.from.ensures ∙ c.in-Ok.ensures.entries) c.tell.ensures.written
+    added c.args.index.now c.add.new.self (clause_of c.args.clause) c.tell.result c.from.result (g.K.Sink.written c.args.sink.now) (g.K.Sink.written c.tell.new.sink)
+    c.in-Ok.ensures.added (c.from.ensures ∙ c.in-Ok.ensures.entries) c.tell.ensures.written
 
-pub returns-in-Err-Taken-clause-acts : goal.returns-in-Err-Taken-clause-acts
-returns-in-Err-Taken-clause-acts g c =
+pub refusal-requires : goal.refusal-requires
+refusal-requires g c =
+    has_head c.args.index.now.limit c.args.index.now.clauses c.in-Err.rejected
+    (subst (λ x. IsSoundClause (clause_of x)) (sym c.in-Err.ensures.handed_back) c.requires)
+    (subst (λ x. Rejects c.args.index.now.limit c.args.index.now.clauses (clause_of x) c.in-Err.rejected.why) (sym c.in-Err.ensures.handed_back) c.in-Err.ensures.rejected)
+
+pub returns-in-Err-clause-acts : goal.returns-in-Err-clause-acts
+returns-in-Err-clause-acts g c =
     let a = g.K.Sink.written c.args.sink.now in
-    let b = g.K.Sink.written c.tell-in-Err-Taken.new.sink in
-    let rejected : IsTaken c.args.store.now (clause_of c.args.clause).name × (clause_of c.in-Err-Taken.clause ≡ clause_of c.args.clause) =
-    subst (Rejects c.args.store.now (clause_of c.args.clause)) c.in-Err-Taken.field-0-is c.in-Err-Taken.ensures.rejected in
-    rejects (clause_of c.args.clause) c.args.store.now c.add.new.self c.tell-in-Err-Taken.result a b rejected.0 c.in-Err-Taken.ensures.err
-    (subst (λ d. Writes c.tell-in-Err-Taken.result (taken_line d.name ∷ []) a b) rejected.1 c.tell-in-Err-Taken.ensures.written)
+    let b = g.K.Sink.written c.tell-in-Err.new.sink in
+    subst (λ x. ActsOn (λ limits. Performs limits (add (clause_of x))) c.args.index.now c.add.new.self c.tell-in-Err.result a b) c.in-Err.ensures.handed_back
+    (refused c.args.index.now c.add.new.self c.in-Err.rejected c.refusal.result c.tell-in-Err.result a b
+    (subst (λ x. Rejects c.args.index.now.limit c.args.index.now.clauses (clause_of x) c.in-Err.rejected.why) (sym c.in-Err.ensures.handed_back) c.in-Err.ensures.rejected)
+    c.refusal.ensures c.in-Err.ensures.err c.tell-in-Err.ensures.written)

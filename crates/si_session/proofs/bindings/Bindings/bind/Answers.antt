@@ -5,8 +5,7 @@ use Rattle.std.proofs.lemmas.List.{map-append}
 use Rattle.si_session.specs.Matching.{bound}
 use Rattle.si_session.specs.Bound.{binding_of, bindings_of}
 use Rattle.si_session.specs.declared.bindings.Binding.{Binding}
-use Rattle.si_session.proofs.BoundLaws.{none-listed}
-use Rattle.si_session.proofs.StoreLaws.{insert_new}
+use Rattle.si_session.proofs.BoundLaws.{none-listed, insert_new}
 use Rattle.si_session.proofs.bindings.Bindings.bind.Goals as goal
 
 pub invariant_of-self-in-Ok : goal.invariant_of-self-in-Ok

@@ -1,11 +1,11 @@
-use Rattle.std.proofs.Common.{◌≡◌, ◌≤◌, length, subst, arith}
-use Rattle.si_steps.specs.Commands.{add, query}
+use Rattle.std.proofs.Common.{◌≡◌, ◌≤◌, length, ap, sym, ◌∙◌, subst, arith}
+use Rattle.si_steps.specs.Commands.{add, remove, query, stats}
 use Rattle.si_defs.specs.declared.Relation.TheVariants.{Instances}
-use Rattle.si_term.specs.Meaning.{clause_of, pattern_of}
+use Rattle.si_term.specs.Meaning.{name_of, clause_of, pattern_of}
 use Rattle.si_session.specs.Session.{Steps}
 use Rattle.si_session.specs.Commands.{Reads}
 use Rattle.si_session.specs.declared.command.Command.TheVariants as command
-use Rattle.si_session.proofs.Acting.{state_with, stepped, not_silent}
+use Rattle.si_session.proofs.Acting.{state_with, stepped, not_silent, keeps_clauses, counts}
 use Rattle.si_session.proofs.session.Session.step.Goals as goal
 
 pub returns-in-Ok-Add-clause-step : goal.returns-in-Ok-Add-clause-step
@@ -15,8 +15,8 @@ returns-in-Ok-Add-clause-step g c =
     let limits = c.self.inside.limits in
     let read : Reads c.args.line.now (command.Add c.in-Ok-Add.clause) = subst (Reads c.args.line.now) c.in-Ok-Add.field-0-is c.in-Ok-Add.ensures.read in
     let short : length c.args.line.now ≤ limits.line = omega (arith, c.if-line-self.false) in
-    subst (λ s. Steps s (state_with limits c.add.new.store) c.args.line.now c.add.result a b) c.self.view_is
-    (stepped limits c.self.inside.store c.add.new.store c.args.line.now (add (clause_of c.in-Ok-Add.clause)) c.add.result a b short read.0 c.add.ensures.acts)
+    subst (λ s. Steps s (state_with limits c.add.new.index.clauses) c.args.line.now c.add.result a b) c.self.view_is
+    (stepped limits c.self.inside.index.clauses c.add.new.index.clauses c.args.line.now (add (clause_of c.in-Ok-Add.clause)) c.add.result a b short read.0 (c.add.ensures.acts limits (sym c.self.invariant)))
 
 pub returns-in-Ok-Query-clause-step : goal.returns-in-Ok-Query-clause-step
 returns-in-Ok-Query-clause-step g c =
@@ -26,4 +26,69 @@ returns-in-Ok-Query-clause-step g c =
     let read : Reads c.args.line.now (command.Query c.in-Ok-Query.pattern) = subst (Reads c.args.line.now) c.in-Ok-Query.field-0-is c.in-Ok-Query.ensures.read in
     let short : length c.args.line.now ≤ limits.line = omega (arith, c.if-line-self.false) in
     subst (λ s. Steps s s c.args.line.now c.answer.result a b) c.self.view_is
-    (stepped limits c.self.inside.store c.self.inside.store c.args.line.now (query Instances (pattern_of c.in-Ok-Query.pattern)) c.answer.result a b short read c.answer.ensures.acts)
+    (stepped limits c.self.inside.index.clauses c.self.inside.index.clauses c.args.line.now (query Instances (pattern_of c.in-Ok-Query.pattern)) c.answer.result a b short read (c.answer.ensures.acts limits (sym c.self.invariant)))
+
+pub returns-in-Ok-Remove-clause-step : goal.returns-in-Ok-Remove-clause-step
+returns-in-Ok-Remove-clause-step g c =
+    let a = g.K.Sink.written c.args.sink.now in
+    let b = g.K.Sink.written c.remove.new.sink in
+    let limits = c.self.inside.limits in
+    let read : Reads c.args.line.now (command.Remove c.in-Ok-Remove.name) = subst (Reads c.args.line.now) c.in-Ok-Remove.field-0-is c.in-Ok-Remove.ensures.read in
+    let short : length c.args.line.now ≤ limits.line = omega (arith, c.if-line-self.false) in
+    subst (λ s. Steps s (state_with limits c.remove.new.index.clauses) c.args.line.now c.remove.result a b) c.self.view_is
+    (stepped limits c.self.inside.index.clauses c.remove.new.index.clauses c.args.line.now (remove (name_of c.in-Ok-Remove.name)) c.remove.result a b short read
+    (c.remove.ensures.acts limits (sym c.self.invariant)))
+
+
+pub returns-in-Ok-Add-clause-silent : goal.returns-in-Ok-Add-clause-silent
+returns-in-Ok-Add-clause-silent g c =
+    let a = g.K.Sink.written c.args.sink.now in
+    let b = g.K.Sink.written c.add.new.sink in
+    let limits = c.self.inside.limits in
+    let read : Reads c.args.line.now (command.Add c.in-Ok-Add.clause) = subst (Reads c.args.line.now) c.in-Ok-Add.field-0-is c.in-Ok-Add.ensures.read in
+    ( λ e. absurd (not_silent limits (add (clause_of c.in-Ok-Add.clause)) c.self.inside.index.clauses c.add.new.index.clauses c.add.result a b (c.add.ensures.acts limits (sym c.self.invariant)) e)
+    , λ h. absurd (read.0.1 h.1))
+
+pub returns-in-Ok-Add-clause-refused : goal.returns-in-Ok-Add-clause-refused
+returns-in-Ok-Add-clause-refused g c =
+    let a = g.K.Sink.written c.args.sink.now in
+    let b = g.K.Sink.written c.add.new.sink in
+    let limits = c.self.inside.limits in
+    λ e. keeps_clauses limits (add (clause_of c.in-Ok-Add.clause)) c.self.inside.index.clauses c.add.new.index.clauses c.add.result a b (c.add.ensures.acts limits (sym c.self.invariant)) e ∙ ap (λ s. s.clauses) c.self.view_is
+
+pub returns-in-Ok-Remove-clause-silent : goal.returns-in-Ok-Remove-clause-silent
+returns-in-Ok-Remove-clause-silent g c =
+    let a = g.K.Sink.written c.args.sink.now in
+    let b = g.K.Sink.written c.remove.new.sink in
+    let limits = c.self.inside.limits in
+    let read : Reads c.args.line.now (command.Remove c.in-Ok-Remove.name) = subst (Reads c.args.line.now) c.in-Ok-Remove.field-0-is c.in-Ok-Remove.ensures.read in
+    ( λ e. absurd (not_silent limits (remove (name_of c.in-Ok-Remove.name)) c.self.inside.index.clauses c.remove.new.index.clauses c.remove.result a b (c.remove.ensures.acts limits (sym c.self.invariant)) e)
+    , λ h. absurd (read.1 h.1))
+
+pub returns-in-Ok-Remove-clause-refused : goal.returns-in-Ok-Remove-clause-refused
+returns-in-Ok-Remove-clause-refused g c =
+    let a = g.K.Sink.written c.args.sink.now in
+    let b = g.K.Sink.written c.remove.new.sink in
+    let limits = c.self.inside.limits in
+    λ e. keeps_clauses limits (remove (name_of c.in-Ok-Remove.name)) c.self.inside.index.clauses c.remove.new.index.clauses c.remove.result a b (c.remove.ensures.acts limits (sym c.self.invariant)) e ∙ ap (λ s. s.clauses) c.self.view_is
+
+pub returns-in-Ok-Query-clause-silent : goal.returns-in-Ok-Query-clause-silent
+returns-in-Ok-Query-clause-silent g c =
+    let a = g.K.Sink.written c.args.sink.now in
+    let b = g.K.Sink.written c.answer.new.sink in
+    let limits = c.self.inside.limits in
+    let read : Reads c.args.line.now (command.Query c.in-Ok-Query.pattern) = subst (Reads c.args.line.now) c.in-Ok-Query.field-0-is c.in-Ok-Query.ensures.read in
+    ( λ e. absurd (not_silent limits (query Instances (pattern_of c.in-Ok-Query.pattern)) c.self.inside.index.clauses c.self.inside.index.clauses c.answer.result a b (c.answer.ensures.acts limits (sym c.self.invariant)) e)
+    , λ h. absurd (read.1 h.1))
+
+pub returns-in-Ok-Stats-clause-step : goal.returns-in-Ok-Stats-clause-step
+returns-in-Ok-Stats-clause-step g c =
+    let a = g.K.Sink.written c.args.sink.now in
+    let b = g.K.Sink.written c.tell-in-Ok-Stats.new.sink in
+    let limits = c.self.inside.limits in
+    let read : Reads c.args.line.now command.Stats = subst (Reads c.args.line.now) c.in-Ok-Stats.field-0-is c.in-Ok-Stats.ensures.read in
+    let short : length c.args.line.now ≤ limits.line = omega (arith, c.if-line-self.false) in
+    subst (λ s. Steps s s c.args.line.now c.tell-in-Ok-Stats.result a b) c.self.view_is
+    (stepped limits c.self.inside.index.clauses c.self.inside.index.clauses c.args.line.now stats c.tell-in-Ok-Stats.result a b short read
+    (counts limits c.self.inside.index.clauses c.stats.result c.tell-in-Ok-Stats.result a b c.stats.ensures.clauses c.stats.ensures.entries c.stats.ensures.symbols
+    c.tell-in-Ok-Stats.ensures.written))

@@ -11,11 +11,11 @@ use Rattle.si_flat.specs.declared.Cell.{Cell}
 use Rattle.si_flat.specs.declared.Cell.TheVariants as cell
 use Rattle.si_flat.specs.Cells.{query, entry, ind}
 use Rattle.si_trail.specs.Trails.{value_at, HasDistinctSlots, IsSlotOf}
-use Rattle.si_unify.specs.declared.Slots.{Slots}
-use Rattle.si_unify.specs.declared.State.{State}
-use Rattle.si_unify.specs.declared.State.TheVariants.{New, Open, Done}
-use Rattle.si_unify.specs.declared.Task.{Task}
-use Rattle.si_unify.specs.declared.Task.TheVariants.{Enter}
+use Rattle.si_unify.specs.declared.slots.Slots.{Slots}
+use Rattle.si_unify.specs.declared.circles.State.{State}
+use Rattle.si_unify.specs.declared.circles.State.TheVariants.{New, Open, Done}
+use Rattle.si_unify.specs.declared.circles.Task.{Task}
+use Rattle.si_unify.specs.declared.circles.Task.TheVariants.{Enter}
 use Rattle.si_unify.specs.Solving.{Pairs, slot_count, slot_of, IsTriangularBy, IsTriangular, RanksBelow, IsBinding}
 use Rattle.si_unify.specs.Spots.{cell_slot}
 use Rattle.si_unify.specs.Circles.{if_value, if_bound, with_slot, bound_slots, below_value, enter_each, task_slot, task_slots, IsDone, AreCovered, RanksUnder, ComeDown, IsOrdered, IsSearching, HasSearched, AreEntries, AreNew, IsTold}

@@ -5,11 +5,11 @@ use Rattle.std.specs.Borrow.{Bor}
 use Rattle.si_defs.specs.Substitutions.{IsAmong}
 use Rattle.si_flat.specs.declared.Cell.{Cell}
 use Rattle.si_trail.specs.Trails.{value_at, HasDistinctSlots, IsSlotOf}
-use Rattle.si_unify.specs.declared.Slots.{Slots}
-use Rattle.si_unify.specs.declared.State.{State}
-use Rattle.si_unify.specs.declared.State.TheVariants.{New, Open, Done}
-use Rattle.si_unify.specs.declared.Task.{Task}
-use Rattle.si_unify.specs.declared.Task.TheVariants.{Enter, Leave}
+use Rattle.si_unify.specs.declared.slots.Slots.{Slots}
+use Rattle.si_unify.specs.declared.circles.State.{State}
+use Rattle.si_unify.specs.declared.circles.State.TheVariants.{New, Open, Done}
+use Rattle.si_unify.specs.declared.circles.Task.{Task}
+use Rattle.si_unify.specs.declared.circles.Task.TheVariants.{Enter, Leave}
 use Rattle.si_unify.specs.Solving.{Pairs, slot_count, IsTriangularBy, IsTriangular, IsBinding}
 use Rattle.si_unify.specs.Spots.{cell_slot}
 

@@ -1,7 +1,10 @@
 ghost use Rattle.si_flat.specs.Cells.{IsWhole};
 ghost use Rattle.si_unify.specs.Solving.{AreInRange};
 
-use super::*;
+use crate::{Slots, solve};
+use si_flat::Cell;
+use si_trail::Trail;
+use std::alloc::{AllocError, Global};
 use std::test::Fail;
 
 const A: Cell = Cell::App {

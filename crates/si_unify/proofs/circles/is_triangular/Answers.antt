@@ -1,0 +1,12 @@
+use Rattle.si_unify.proofs.Triangular.{states_new, search_begins, search_tells}
+use Rattle.si_unify.proofs.Comparing.{if_ok}
+use Rattle.si_unify.proofs.circles.is_triangular.Goals as goal
+
+pub returns : goal.returns
+returns c =
+    if_ok c.search.result _ _ (λ b h. search_tells _ _ _ _ _ _ b c.in_ok-enter_bound.ensures c.requires.before h) c.search.ensures
+
+pub search-requires : goal.search-requires
+search-requires c =
+    let e = states_new _ _ _ _ _ c.new-states.ensures.items c.new-states.ensures.len c.count.ensures.count c.in_ok-resize.ensures.items in
+    search_begins _ _ _ _ _ _ c.requires.bindings e.1 e.0 c.in_ok-enter_bound.ensures

@@ -56,6 +56,12 @@ pub if_ok : {E : Type 0} (r : Result Bool E) (P Q : Bool → Type 0) → ((b : B
 if_ok (Ok b) P Q give h = give b h
 if_ok (Err e) P Q give h = h
 
+pub ok_told : {E : Type 0} (r : Result Bool E) (b : Bool) (P : Bool → Type 0) → r ≡ Ok b → P b → IfOk r P
+ok_told r b P e h = subst (λ o. IfOk o P) (sym e) h
+
+pub err_told : {E : Type 0} (r : Result Bool E) (e : E) (P : Bool → Type 0) → r ≡ Err e → IfOk r P
+err_told r e P is = subst (λ o. IfOk o P) (sym is) tt
+
 -- ---- the rest of two terms that are being compared
 pub record IsComparing (q : Question) (old pairs : Pairs) (old_keys keys : List SpotPair) (pair : SpotPair) (left right : List Cell) (i j : ℕ) : Type 0 where
   pub going : IsGoingOn q old pairs old_keys keys

@@ -3,30 +3,21 @@ ghost use Rattle.std.specs.Prelude.{◌≡◌, ◌≤◌, length, take, reverse,
 ghost use Rattle.std.specs.List.{AllByRecursion};
 ghost use Rattle.si_unify.specs.Circles.{if_bound, entries, AreEntered, AreEntries, IsSearching, HasSearched, HasDone, IsTold};
 ghost use Rattle.si_unify.specs.Solving.{IsTriangular, IsBinding};
+ghost use Rattle.si_unify.specs.States.{AreNew};
 ghost use Rattle.si_unify.specs.Spots.{cell_slot};
 
 use crate::slots::Slots;
+use crate::states::{State, States};
 use si_flat::Cell;
 use si_trail::Trail;
-use std::alloc::{AllocError, Global};
+use std::alloc::AllocError;
 
-// How far the search for a circle has come with a slot.
+/// What is left of the search for a circle.
 #[derive(Clone, Copy)]
-enum State {
-    // It hasn't been met.
-    New,
-    // Its value is being searched.
-    Open,
-    // No circle goes through it.
-    Done,
-}
-
-// What is left of the search for a circle.
-#[derive(Clone, Copy)]
-enum Task {
-    // Search the value of a slot.
+pub(crate) enum Task {
+    /// Search the value of a slot.
     Enter(usize),
-    // All that stands in the value of a slot has been searched.
+    /// All that stands in the value of a slot has been searched.
     Leave(usize),
 }
 
@@ -80,25 +71,25 @@ fn enter_all<'a>(
 fn step<'a>(
     trail: &Trail<&'a [Cell]>,
     slots: &Slots,
-    states: &mut Vec<State>,
+    states: &mut States,
     tasks: &mut Vec<Task>,
     task: Task,
 ) -> Result<bool, AllocError>
-    requires { IsSearching slots.now trail.now.pairs states.old.items
+    requires { IsSearching slots.now trail.now.pairs states.old
         (task ∷ reverse tasks.old.items) }
-    ensures { IfOk result (HasDone slots.now trail.now.pairs states.old.items states.new.items
+    ensures { IfOk result (HasDone slots.now trail.now.pairs states.old states.new
         (task ∷ reverse tasks.old.items) (reverse tasks.new.items)) }
 {
     match task {
         Task::Leave(slot) => {
-            states[slot] = State::Done;
+            states.change(slot, State::Done)?;
             Ok(true)
         }
-        Task::Enter(slot) => match states[slot] {
+        Task::Enter(slot) => match states.at(slot) {
             State::Done => Ok(true),
             State::Open => Ok(false),
             State::New => {
-                states[slot] = State::Open;
+                states.change(slot, State::Open)?;
                 tasks.push(Task::Leave(slot))?;
                 enter_all(trail, slots, tasks, slot)?;
                 Ok(true)
@@ -111,11 +102,11 @@ fn step<'a>(
 fn search<'a>(
     trail: &Trail<&'a [Cell]>,
     slots: &Slots,
-    states: &mut Vec<State>,
+    states: &mut States,
     tasks: &mut Vec<Task>,
 ) -> Result<bool, AllocError>
-    requires { IsSearching slots.now trail.now.pairs states.old.items (reverse tasks.old.items) }
-    ensures { IfOk result (HasSearched slots.now trail.now.pairs states.old.items states.new.items
+    requires { IsSearching slots.now trail.now.pairs states.old (reverse tasks.old.items) }
+    ensures { IfOk result (HasSearched slots.now trail.now.pairs states.old states.new
         (reverse tasks.old.items)) }
 {
     while let Some(task) = tasks.pop() {
@@ -145,19 +136,20 @@ fn enter_bound<'a>(
 
 // Whether the list is triangular, where it was so up to the mark.
 pub(crate) fn is_triangular<'a>(
-    alloc: Global,
+    states: &mut States,
+    tasks: &mut Vec<Task>,
     trail: &Trail<&'a [Cell]>,
     slots: &Slots,
     mark: usize,
 ) -> Result<bool, AllocError>
+    requires fresh { AreNew states.old }
+    requires none { tasks.old.items ≡ [] }
     requires bindings { AllByRecursion (IsBinding slots.now) trail.now.pairs }
     requires within { mark ≤ length trail.now.pairs }
     requires before { IsTriangular slots.now (take mark trail.now.pairs) }
     ensures { IfOk result (IsTold slots.now trail.now.pairs) }
 {
-    let mut states = Vec::new(alloc);
-    states.resize(slots.count(), State::New)?;
-    let mut tasks = Vec::new(alloc);
-    enter_bound(trail, mark, &mut tasks)?;
-    search(trail, slots, &mut states, &mut tasks)
+    states.make_room(slots.count())?;
+    enter_bound(trail, mark, tasks)?;
+    search(trail, slots, states, tasks)
 }

@@ -8,11 +8,14 @@
 mod arguments;
 mod circles;
 mod equations;
+mod scratch;
 mod slots;
 mod solver;
 mod spots;
+mod states;
 #[cfg(test)]
 mod tests;
 
+pub use scratch::Scratch;
 pub use slots::Slots;
-pub use solver::solve;
+pub use solver::{solve, solve_with};

@@ -30,7 +30,11 @@ pub(crate) struct Question<'a> {
 }
 
 // The cells of a base: the first term, the second, or the value of a slot.
-pub(crate) fn text<'a>(trail: &Trail<&'a [Cell]>, question: &Question<'a>, base: usize) -> &'a [Cell]
+pub(crate) fn text<'a>(
+    trail: &Trail<&'a [Cell]>,
+    question: &Question<'a>,
+    base: usize,
+) -> &'a [Cell]
     ensures { result.now ≡ text question.now trail.now.pairs base }
 {
     let count = question.slots.count();

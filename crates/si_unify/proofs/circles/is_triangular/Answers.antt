@@ -1,4 +1,5 @@
-use Rattle.si_unify.proofs.Triangular.{states_new, search_begins, search_tells}
+use Rattle.std.proofs.Common.{arith}
+use Rattle.si_unify.proofs.Triangular.{search_begins, search_tells}
 use Rattle.si_unify.proofs.Comparing.{if_ok}
 use Rattle.si_unify.proofs.circles.is_triangular.Goals as goal
 
@@ -8,5 +9,5 @@ returns c =
 
 pub search-requires : goal.search-requires
 search-requires c =
-    let e = states_new _ _ _ _ _ c.new-states.ensures.items c.new-states.ensures.len c.count.ensures.count c.in_ok-resize.ensures.items in
-    search_begins _ _ _ _ _ _ c.requires.bindings e.1 e.0 c.in_ok-enter_bound.ensures
+    search_begins _ _ _ _ _ _ c.requires.bindings (omega (arith, c.count.ensures.count, c.in_ok-make_room.ensures.long)) c.in_ok-make_room.ensures.fresh
+    c.in_ok-enter_bound.ensures

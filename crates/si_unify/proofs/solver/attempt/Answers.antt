@@ -19,11 +19,11 @@ pub returns-then-not-branch-clause-answered : goal.returns-then-not-branch-claus
 returns-then-not-branch-clause-answered c =
     let legal : IsLegal c.args.question.now c.args.trail.now.pairs =
     legal_at_first _ _ c.requires.bindings c.requires.triangular c.requires.left c.requires.right c.requires.left_range c.requires.right_range in
-    answered_unmet c.args.question.now c.args.trail.now.pairs c.meet.new.trail.pairs c.new-keys.result.keys c.meet.new.keys.keys c.count-count.result
-    c.new-keys.ensures.empty c.count-count.ensures.count legal c.meet.new.trail.pairs
+    answered_unmet c.args.question.now c.args.trail.now.pairs c.meet.new.trail.pairs c.args.buffers.now.keys.keys c.meet.new.keys.keys c.count-count.result
+    c.requires.clear.keys c.count-count.ensures.count legal c.meet.new.trail.pairs
     (
     subst
-    (HasMet c.args.question.now c.args.trail.now.pairs c.meet.new.trail.pairs c.new-keys.result.keys c.meet.new.keys.keys (spot c.count-count.result) (spot (c.count-count.result + 1)))
+    (HasMet c.args.question.now c.args.trail.now.pairs c.meet.new.trail.pairs c.args.buffers.now.keys.keys c.meet.new.keys.keys (spot c.count-count.result) (spot (c.count-count.result + 1)))
     c.if-not-branch.true
     c.in_ok-meet.ensures.met
     )
@@ -33,7 +33,7 @@ returns-in_err-close-clause-grows c =
     grows_on _ _ _
     (
     subst
-    (HasMet c.args.question.now c.args.trail.now.pairs c.meet.new.trail.pairs c.new-keys.result.keys c.meet.new.keys.keys (spot c.count-count.result) (spot (c.count-count.result + 1)))
+    (HasMet c.args.question.now c.args.trail.now.pairs c.meet.new.trail.pairs c.args.buffers.now.keys.keys c.meet.new.keys.keys (spot c.count-count.result) (spot (c.count-count.result + 1)))
     c.if-not-branch.false
     c.in_ok-meet.ensures.met
     ).0.grows
@@ -43,11 +43,11 @@ pub returns-then-not-branch-2-clause-answered : goal.returns-then-not-branch-2-c
 returns-then-not-branch-2-clause-answered c =
     let legal : IsLegal c.args.question.now c.args.trail.now.pairs =
     legal_at_first _ _ c.requires.bindings c.requires.triangular c.requires.left c.requires.right c.requires.left_range c.requires.right_range in
-    answered_unclosed c.args.question.now c.args.trail.now.pairs c.meet.new.trail.pairs c.new-keys.result.keys c.meet.new.keys.keys c.count-count.result
-    c.new-keys.ensures.empty c.count-count.ensures.count legal
+    answered_unclosed c.args.question.now c.args.trail.now.pairs c.meet.new.trail.pairs c.args.buffers.now.keys.keys c.meet.new.keys.keys c.count-count.result
+    c.requires.clear.keys c.count-count.ensures.count legal
     (
     subst
-    (HasMet c.args.question.now c.args.trail.now.pairs c.meet.new.trail.pairs c.new-keys.result.keys c.meet.new.keys.keys (spot c.count-count.result) (spot (c.count-count.result + 1)))
+    (HasMet c.args.question.now c.args.trail.now.pairs c.meet.new.trail.pairs c.args.buffers.now.keys.keys c.meet.new.keys.keys (spot c.count-count.result) (spot (c.count-count.result + 1)))
     c.if-not-branch.false
     c.in_ok-meet.ensures.met
     )
@@ -62,7 +62,7 @@ returns-then-not-branch-2-clause-grows c =
     grows_on _ _ _
     (
     subst
-    (HasMet c.args.question.now c.args.trail.now.pairs c.meet.new.trail.pairs c.new-keys.result.keys c.meet.new.keys.keys (spot c.count-count.result) (spot (c.count-count.result + 1)))
+    (HasMet c.args.question.now c.args.trail.now.pairs c.meet.new.trail.pairs c.args.buffers.now.keys.keys c.meet.new.keys.keys (spot c.count-count.result) (spot (c.count-count.result + 1)))
     c.if-not-branch.false
     c.in_ok-meet.ensures.met
     ).0.grows
@@ -74,7 +74,7 @@ is_triangular-requires-clause-before c =
     grows_on c.args.trail.now.pairs c.meet.new.trail.pairs c.close.new.trail.pairs
     (
     subst
-    (HasMet c.args.question.now c.args.trail.now.pairs c.meet.new.trail.pairs c.new-keys.result.keys c.meet.new.keys.keys (spot c.count-count.result) (spot (c.count-count.result + 1)))
+    (HasMet c.args.question.now c.args.trail.now.pairs c.meet.new.trail.pairs c.args.buffers.now.keys.keys c.meet.new.keys.keys (spot c.count-count.result) (spot (c.count-count.result + 1)))
     c.if-not-branch.false
     c.in_ok-meet.ensures.met
     ).0.grows
@@ -89,7 +89,7 @@ is_triangular-requires-clause-within c =
     grows_on c.args.trail.now.pairs c.meet.new.trail.pairs c.close.new.trail.pairs
     (
     subst
-    (HasMet c.args.question.now c.args.trail.now.pairs c.meet.new.trail.pairs c.new-keys.result.keys c.meet.new.keys.keys (spot c.count-count.result) (spot (c.count-count.result + 1)))
+    (HasMet c.args.question.now c.args.trail.now.pairs c.meet.new.trail.pairs c.args.buffers.now.keys.keys c.meet.new.keys.keys (spot c.count-count.result) (spot (c.count-count.result + 1)))
     c.if-not-branch.false
     c.in_ok-meet.ensures.met
     ).0.grows
@@ -103,11 +103,11 @@ returns-clause-answered c =
     legal_at_first _ _ c.requires.bindings c.requires.triangular c.requires.left c.requires.right c.requires.left_range c.requires.right_range in
     if_ok c.is_triangular.result _ _
     (λ b told.
-    answered c.args.question.now c.args.trail.now.pairs c.meet.new.trail.pairs c.new-keys.result.keys c.meet.new.keys.keys c.count-count.result
-    c.new-keys.ensures.empty c.count-count.ensures.count legal
+    answered c.args.question.now c.args.trail.now.pairs c.meet.new.trail.pairs c.args.buffers.now.keys.keys c.meet.new.keys.keys c.count-count.result
+    c.requires.clear.keys c.count-count.ensures.count legal
     (
     subst
-    (HasMet c.args.question.now c.args.trail.now.pairs c.meet.new.trail.pairs c.new-keys.result.keys c.meet.new.keys.keys (spot c.count-count.result) (spot (c.count-count.result + 1)))
+    (HasMet c.args.question.now c.args.trail.now.pairs c.meet.new.trail.pairs c.args.buffers.now.keys.keys c.meet.new.keys.keys (spot c.count-count.result) (spot (c.count-count.result + 1)))
     c.if-not-branch.false
     c.in_ok-meet.ensures.met
     )
@@ -124,7 +124,7 @@ returns-clause-grows c =
     grows_on _ _ _
     (
     subst
-    (HasMet c.args.question.now c.args.trail.now.pairs c.meet.new.trail.pairs c.new-keys.result.keys c.meet.new.keys.keys (spot c.count-count.result) (spot (c.count-count.result + 1)))
+    (HasMet c.args.question.now c.args.trail.now.pairs c.meet.new.trail.pairs c.args.buffers.now.keys.keys c.meet.new.keys.keys (spot c.count-count.result) (spot (c.count-count.result + 1)))
     c.if-not-branch.false
     c.in_ok-meet.ensures.met
     ).0.grows

@@ -1,8 +1,8 @@
 //! Solving equations between flat terms.
 //!
-//! Two terms are made equal pair by pair of places ([`solve`]). A variable is bound to the slice that
-//! stands against it, and nothing is copied. Circles through bound variables are looked for once, when
-//! no pair is left.
+//! Two terms are made equal place by place ([`solve`]). A variable is bound to the slice that
+//! stands against it, and nothing is copied. Circles through bound variables are looked for once,
+//! when no two places are left to compare.
 #![tactic(auto)]
 
 mod arguments;

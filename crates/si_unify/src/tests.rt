@@ -10,9 +10,9 @@ use std::alloc::{AllocError, Global};
 use std::process::Abort;
 use std::test::Fail;
 
-// A term is written by its signs in preorder: a, b and c are constants, g and h have one argument, f
-// has two. The symbols c and g have one number and another arity. The query's variables are x, y and
-// z, the entry's X, Y and Z, the indicators p and q.
+// A term is written by its signs in preorder: a, b and c are constants, g and h have one argument,
+// f has two. The symbols c and g have one number and different arities. The query's variables are
+// x, y and z, the entry's X, Y and Z, the indicators p and q.
 
 fn constant(alloc: Global, sym: u32) -> Result<Flat, AllocError> {
     let cell = Cell::App {

@@ -37,7 +37,7 @@ variables-join terms.none us = refl
 variables-join (terms.more t ts) us =
     ap (λ l. terms.variables t ++ l) (variables-join ts us) ∙ sym (append_assoc (terms.variables t) (terms.variables_of_all ts) (terms.variables_of_all us))
 
-same_value : (cells : List Cell) (t u : Term) → StandsFor cells t → StandsFor cells u → t ≡ u
+pub same_value : (cells : List Cell) (t u : Term) → StandsFor cells t → StandsFor cells u → t ≡ u
 same_value cells t u h k = (same_term t u [] [] h.sound k.sound (append-nil (cells_of t) ∙ sym h.cells_are ∙ k.cells_are ∙ sym (append-nil (cells_of u)))).same
 
 no_number : (owner : Owner) (s a n : ℕ) → variable_number owner (cell.App s a n) ≡ None

@@ -4,3 +4,4 @@ pub mod ImageLaws
 pub mod Agreeing
 pub mod CanonicalLaws
 pub mod AnswerLaws
+pub mod TestTerms

@@ -8,6 +8,8 @@
 mod canonical;
 mod matching;
 mod solution;
+#[cfg(test)]
+mod tests;
 
 pub use canonical::{generalization, instance, variant};
 pub use solution::{Binding, Owner, Solution};

@@ -16,11 +16,11 @@ module _ {X : Type 0} where
   all_from P [] give = tt
   all_from P (x ∷ xs) give = (give x (inl refl), all_from P xs (λ y a. give y (inr a)))
 
-  all_front : (P : X → Type 0) (xs ys : List X) → AllByRecursion P (xs ++ ys) → AllByRecursion P xs
+  pub all_front : (P : X → Type 0) (xs ys : List X) → AllByRecursion P (xs ++ ys) → AllByRecursion P xs
   all_front P [] ys h = tt
   all_front P (x ∷ xs) ys h = (h.0, all_front P xs ys h.1)
 
-  all_back : (P : X → Type 0) (xs ys : List X) → AllByRecursion P (xs ++ ys) → AllByRecursion P ys
+  pub all_back : (P : X → Type 0) (xs ys : List X) → AllByRecursion P (xs ++ ys) → AllByRecursion P ys
   all_back P [] ys h = h
   all_back P (x ∷ xs) ys h = all_back P xs ys h.1
 

@@ -5,3 +5,4 @@ pub mod Agreeing
 pub mod CanonicalLaws
 pub mod AnswerLaws
 pub mod TestTerms
+pub mod UnifierLaws

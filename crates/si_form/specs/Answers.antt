@@ -51,3 +51,11 @@ AnswersTo kind q e (Some bindings) = (list : List (Variable × Term)) × StandsF
 abbrev pub Answers : Relation → List Cell → List Cell → Option (List Binding) → Type 0
 Answers kind query_cells entry_cells answer =
     (q e : Term) → StandsFor query_cells q → StandsFor entry_cells e → AnswersTo kind q e answer
+
+-- no two lists are canonical for one query and one entry
+abbrev pub HasOneCanonicalList : Relation → Type 0
+HasOneCanonicalList kind =
+    (q e : Term) (one other : List (Variable × Term))
+    → IsCanonical same_variable kind q e one
+    → IsCanonical same_variable kind q e other
+    → one ≡ other

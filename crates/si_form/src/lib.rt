@@ -6,10 +6,12 @@
 #![tactic(auto)]
 
 mod canonical;
+mod laws;
 mod matching;
 mod solution;
 #[cfg(test)]
 mod tests;
 
 pub use canonical::{generalization, instance, variant};
+pub use laws::canonical_lists_are_unique;
 pub use solution::{Binding, Owner, Solution};

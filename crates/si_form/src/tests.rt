@@ -3,7 +3,7 @@ ghost use Rattle.std.specs.Prelude.{IfOk};
 ghost use Rattle.si_flat.specs.Cells.{IsWhole};
 ghost use Rattle.si_form.specs.Answers.{AreNumbered};
 
-use crate::{Owner, Solution, generalization, instance, variant};
+use crate::{Owner, Solution, canonical_lists_are_unique, generalization, instance, variant};
 use si_flat::{Cell, Flat};
 use std::alloc::{AllocError, Global};
 use std::process::Abort;
@@ -82,5 +82,6 @@ fn lists_of_each_kind(rt: HostRuntime) -> Result<(), Fail> {
         &[&[left], &[right]],
     );
     assert!(rt; variant(alloc, &query, &below)?.is_none());
+    canonical_lists_are_unique();
     Ok(())
 }

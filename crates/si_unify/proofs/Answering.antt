@@ -8,9 +8,9 @@ use Rattle.std.specs.List.{AllByRecursion}
 use Rattle.si_defs.specs.Terms as terms
 use Rattle.si_flat.specs.Cells.{Symbol, Variable, Term, same_variable, StandsFor, IsWhole}
 use Rattle.si_defs.specs.Substitutions.{Substitution, image}
-use Rattle.si_unify.specs.declared.Spot.{Spot}
-use Rattle.si_unify.specs.declared.SpotPair.{SpotPair}
-use Rattle.si_unify.specs.declared.Question.{Question}
+use Rattle.si_unify.specs.declared.spots.Spot.{Spot}
+use Rattle.si_unify.specs.declared.spots.SpotPair.{SpotPair}
+use Rattle.si_unify.specs.declared.spots.Question.{Question}
 use Rattle.si_unify.specs.Solving.{Pairs, slot_count, AreInRange, Equalizes, IsSolvedBy, IsTriangular, IsBinding, IsSolution, IsCommon, HasSolved}
 use Rattle.si_unify.specs.Spots.{text, IsAt, StandsAt, IsLegal, MakesEqual, MakesEqualUpTo, Grows, HasMet, HasClosed, HasAnswered}
 use Rattle.si_unify.specs.Circles.{IsTold}

@@ -10,10 +10,10 @@ use Rattle.si_defs.specs.Terms as terms
 use Rattle.si_flat.specs.declared.Cell.{Cell}
 use Rattle.si_flat.specs.Cells.{Variable, query, entry, ind, Term, variable_cell, cells_of, StandsFor, IsWhole}
 use Rattle.si_trail.specs.Trails.{value_at}
-use Rattle.si_unify.specs.declared.Slots.{Slots}
-use Rattle.si_unify.specs.declared.Spot.{Spot}
-use Rattle.si_unify.specs.declared.SpotPair.{SpotPair}
-use Rattle.si_unify.specs.declared.Question.{Question}
+use Rattle.si_unify.specs.declared.slots.Slots.{Slots}
+use Rattle.si_unify.specs.declared.spots.Spot.{Spot}
+use Rattle.si_unify.specs.declared.spots.SpotPair.{SpotPair}
+use Rattle.si_unify.specs.declared.spots.Question.{Question}
 use Rattle.si_unify.specs.Solving.{Pairs, slot_count, slot_of, variable_of, is_frozen, IsInRange, CellIsInRange, AreInRange, Equalizes, IsSolvedBy, IsBinding}
 use Rattle.si_unify.specs.Spots.{cells_now, text, IsAt, StandsAt, IsSpot, cell_slot, IsBelow, ComesDown, IsChained, IsLegal, MakesEqual, IsApart, ArePairs, Meets, IsGoingOn, IsUnbound}
 use Rattle.si_unify.proofs.Reading.{same_term}

@@ -6,9 +6,9 @@ use Rattle.si_flat.specs.declared.Cell.{Cell}
 use Rattle.si_flat.specs.declared.Cell.TheVariants as cell
 use Rattle.si_flat.specs.Cells.{Variable, Term, variable_cell, StandsFor}
 use Rattle.si_trail.specs.Trails.{value_at}
-use Rattle.si_unify.specs.declared.Slots.{Slots}
-use Rattle.si_unify.specs.declared.Spot.{Spot}
-use Rattle.si_unify.specs.declared.Question.{Question}
+use Rattle.si_unify.specs.declared.slots.Slots.{Slots}
+use Rattle.si_unify.specs.declared.spots.Spot.{Spot}
+use Rattle.si_unify.specs.declared.spots.Question.{Question}
 use Rattle.si_unify.specs.Solving.{Pairs, variable_of, CellIsInRange, Equalizes, IsSolvedBy, IsBinding}
 use Rattle.si_unify.specs.Spots.{text, IsAt, StandsAt, IsSpot, cell_slot, IsBelow, ComesDown, IsLegal, IsUnbound, slot_at, ComesTo}
 use Rattle.si_unify.proofs.Places.{all_at, whole_at, first_cell, cell-at, inside, in_range-at, in_range-variable, variable_of-slot_of, text-bound, text_in_range, slot_variable}

@@ -6,8 +6,8 @@ use Rattle.std.specs.Prelude.{slice_get}
 use Rattle.std.specs.List.{AllByRecursion}
 use Rattle.si_defs.specs.Terms as terms
 use Rattle.si_flat.specs.Cells.{Variable, Term}
-use Rattle.si_unify.specs.declared.SpotPair.{SpotPair}
-use Rattle.si_unify.specs.declared.Question.{Question}
+use Rattle.si_unify.specs.declared.spots.SpotPair.{SpotPair}
+use Rattle.si_unify.specs.declared.spots.Question.{Question}
 use Rattle.si_unify.specs.Solving.{Pairs, IsSolvedBy}
 use Rattle.si_unify.specs.Spots.{IsLegal, MakesEqual, MakesEqualUpTo, IsApart, ArePairs, Grows, IsGoingOn, Follows, HasCompared, HasClosed}
 use Rattle.si_unify.proofs.Lists.{all_map, all_with, all_append, all_front, all_take}

@@ -10,9 +10,9 @@ use Rattle.std.specs.List.{AllByRecursion}
 use Rattle.si_defs.specs.Terms as terms
 use Rattle.si_flat.specs.declared.Cell.{Cell}
 use Rattle.si_flat.specs.Cells.{Variable, query, entry, ind, Term, Terms, cells_of, cells_of_all, IsSound, AreSound, StandsFor, span}
-use Rattle.si_unify.specs.declared.Spot.{Spot}
-use Rattle.si_unify.specs.declared.SpotPair.{SpotPair}
-use Rattle.si_unify.specs.declared.Question.{Question}
+use Rattle.si_unify.specs.declared.spots.Spot.{Spot}
+use Rattle.si_unify.specs.declared.spots.SpotPair.{SpotPair}
+use Rattle.si_unify.specs.declared.spots.Question.{Question}
 use Rattle.si_unify.specs.Solving.{Pairs, IsSolvedBy}
 use Rattle.si_unify.specs.Spots.{text, StandsAt, IsSpot, IsEnd, ComesTo, common_arity, IsLegal, MakesEqual, MakesEqualUpTo, IsApart, ArePairs, Grows, IsGoingOn, HasMet, HasCompared}
 use Rattle.si_unify.proofs.Lists.{all_map, all_front}
@@ -55,6 +55,12 @@ met_through q old new old_keys new_keys left right left_end right_end true left_
 pub if_ok : {E : Type 0} (r : Result Bool E) (P Q : Bool → Type 0) → ((b : Bool) → P b → Q b) → IfOk r P → IfOk r Q
 if_ok (Ok b) P Q give h = give b h
 if_ok (Err e) P Q give h = h
+
+pub ok_told : {E : Type 0} (r : Result Bool E) (b : Bool) (P : Bool → Type 0) → r ≡ Ok b → P b → IfOk r P
+ok_told r b P e h = subst (λ o. IfOk o P) (sym e) h
+
+pub err_told : {E : Type 0} (r : Result Bool E) (e : E) (P : Bool → Type 0) → r ≡ Err e → IfOk r P
+err_told r e P is = subst (λ o. IfOk o P) (sym is) tt
 
 -- ---- the rest of two terms that are being compared
 pub record IsComparing (q : Question) (old pairs : Pairs) (old_keys keys : List SpotPair) (pair : SpotPair) (left right : List Cell) (i j : ℕ) : Type 0 where

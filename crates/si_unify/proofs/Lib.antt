@@ -1,5 +1,6 @@
 pub mod Reading
 pub mod Lists
+pub mod StateLaws
 pub mod Places
 pub mod Chains
 pub mod Binding
@@ -13,3 +14,4 @@ pub mod Weights
 pub mod Triangular
 pub mod Answering
 pub mod Solutions
+pub mod TestTerms

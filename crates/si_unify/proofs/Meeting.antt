@@ -9,10 +9,10 @@ use Rattle.si_defs.specs.Terms as terms
 use Rattle.si_flat.specs.declared.Cell.{Cell}
 use Rattle.si_flat.specs.declared.Cell.TheVariants as cell
 use Rattle.si_flat.specs.Cells.{Symbol, Variable, query, entry, ind, Term, Terms, variable_cell, IsSound, StandsFor}
-use Rattle.si_unify.specs.declared.Slots.{Slots}
-use Rattle.si_unify.specs.declared.Spot.{Spot}
-use Rattle.si_unify.specs.declared.SpotPair.{SpotPair}
-use Rattle.si_unify.specs.declared.Question.{Question}
+use Rattle.si_unify.specs.declared.slots.Slots.{Slots}
+use Rattle.si_unify.specs.declared.spots.Spot.{Spot}
+use Rattle.si_unify.specs.declared.spots.SpotPair.{SpotPair}
+use Rattle.si_unify.specs.declared.spots.Question.{Question}
 use Rattle.si_unify.specs.Solving.{Pairs, slot_count, slot_of, variable_of, is_frozen, CellIsInRange, AreInRange}
 use Rattle.si_unify.specs.Spots.{StandsAt, IsSpot, IsEnd, cell_at, slot_at, cell_slot, free_slot, same_slot, common_arity, IsLegal, MakesEqual, MakesEqualUpTo, IsApart, ArePairs, Meets, Refutes, IsGoingOn, IsUnbound, Binds, HasMet}
 use Rattle.si_unify.proofs.Lists.{all_append}

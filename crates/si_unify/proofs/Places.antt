@@ -10,8 +10,8 @@ use Rattle.si_flat.specs.declared.Cell.{Cell}
 use Rattle.si_flat.specs.declared.Cell.TheVariants as cell
 use Rattle.si_flat.specs.Cells.{Variable, query, entry, ind, Term, variable_cell, cells_of, StandsFor}
 use Rattle.si_trail.specs.Trails.{value_at}
-use Rattle.si_unify.specs.declared.Slots.{Slots}
-use Rattle.si_unify.specs.declared.Question.{Question}
+use Rattle.si_unify.specs.declared.slots.Slots.{Slots}
+use Rattle.si_unify.specs.declared.spots.Question.{Question}
 use Rattle.si_unify.specs.Solving.{Pairs, slot_count, slot_of, variable_of, IsInRange, CellIsInRange, AreInRange, IsBinding}
 use Rattle.si_unify.specs.Spots.{cells_now, text, IsAt, cell_slot, IsLegal}
 use Rattle.si_unify.proofs.Reading.{same_term}

@@ -8,7 +8,7 @@ use Rattle.std.specs.Borrow.{Bor}
 use Rattle.si_flat.specs.declared.Cell.{Cell}
 use Rattle.si_flat.specs.declared.Cell.TheVariants as cell
 use Rattle.si_trail.specs.Trails.{value_at}
-use Rattle.si_unify.specs.declared.Slots.{Slots}
+use Rattle.si_unify.specs.declared.slots.Slots.{Slots}
 use Rattle.si_unify.specs.Solving.{Pairs, IsTriangular, RanksBelow}
 use Rattle.si_unify.specs.Spots.{cell_slot, IsBelow, ComesDown, IsChained}
 use Rattle.si_unify.proofs.Lists.{all_map, all_with}

@@ -1,5 +1,5 @@
 -- The steps of the search for a circle.
-use Rattle.std.proofs.Common.{◌≡◌, ◌≢◌, ℕ, ◌+◌, ◌<◌, ◌≤◌, ◌⊎◌, inl, inr, true, false, cond, List, [], ◌∷◌, ◌++◌, length, take, get_or, refl, sym, ◌∙◌, ap, subst, arith, suc, zero, Option, None, Some}
+use Rattle.std.proofs.Common.{◌≡◌, ◌≢◌, ℕ, ◌+◌, ◌<◌, ◌≤◌, ◌⊎◌, inl, inr, true, false, cond, List, [], ◌∷◌, ◌++◌, length, take, get_or, refl, sym, ◌∙◌, ap, subst, arith, Option, None, Some}
 use Rattle.std.proofs.Math.ListN.{set}
 use Rattle.std.proofs.lemmas.List.{length-set, take_more}
 use Rattle.std.proofs.lemmas.Bool.Decides.{eqb_tells}
@@ -13,30 +13,19 @@ use Rattle.si_defs.specs.Substitutions.{IsAmong}
 use Rattle.si_flat.specs.declared.Cell.{Cell}
 use Rattle.si_flat.specs.declared.Cell.TheVariants as cell
 use Rattle.si_trail.specs.Trails.{value_at}
-use Rattle.si_unify.specs.declared.Slots.{Slots}
-use Rattle.si_unify.specs.declared.State.{State}
-use Rattle.si_unify.specs.declared.State.TheVariants.{New, Open, Done}
-use Rattle.si_unify.specs.declared.Task.{Task}
-use Rattle.si_unify.specs.declared.Task.TheVariants.{Enter, Leave}
+use Rattle.si_unify.specs.declared.slots.Slots.{Slots}
+use Rattle.si_unify.specs.declared.states.State.{State}
+use Rattle.si_unify.specs.declared.states.State.TheVariants.{New, Open, Done}
+use Rattle.si_unify.specs.declared.circles.Task.{Task}
+use Rattle.si_unify.specs.declared.circles.Task.TheVariants.{Enter, Leave}
 use Rattle.si_unify.specs.Solving.{Pairs, slot_count, IsTriangularBy, RanksBelow, IsBinding}
 use Rattle.si_unify.specs.Spots.{cell_slot}
 use Rattle.si_unify.specs.Circles.{if_value, if_bound, with_slot, bound_slots, weight, HasStepped, HasDone, enter_each, pile, entries, AreEntered, below_value, below, task_slot, task_slots, IsDone, AreCovered, RanksUnder, ComeDown, IsOrdered, leave_slots, IsSearching, StayDone, HasSearched}
 use Rattle.si_unify.proofs.Lists.{all_map}
+use Rattle.si_unify.proofs.StateLaws.{get-set_same, get-set_other}
 use Rattle.si_unify.proofs.Places.{all_at}
 
 -- ---- states of slots
-get-set_same : (states : List State) (slot : ℕ) (s : State) → slot < length states → slice_get (set states slot s) slot ≡ Some s
-get-set_same [] slot s less = absurd (omega arith)
-get-set_same (x ∷ states) zero s less = refl
-get-set_same (x ∷ states) (suc slot) s less = get-set_same states slot s (omega arith)
-
-get-set_other : (states : List State) (slot other : ℕ) (s : State) → other ≢ slot → slice_get (set states slot s) other ≡ slice_get states other
-get-set_other [] slot other s differs = refl
-get-set_other (x ∷ states) zero zero s differs = absurd (differs refl)
-get-set_other (x ∷ states) zero (suc other) s differs = refl
-get-set_other (x ∷ states) (suc slot) zero s differs = refl
-get-set_other (x ∷ states) (suc slot) (suc other) s differs = get-set_other states slot other s (λ e. differs (ap (λ n. suc n) e))
-
 done_stays_at_done : (states : List State) (slot : ℕ) → slot < length states → StayDone states (set states slot Done)
 done_stays_at_done states slot less other done =
     elim (eqb_tells other slot) [
@@ -162,7 +151,7 @@ leave_step slots pairs states slot tasks h =
     let less : slot < length states = omega (arith, h.valid.0, h.long) in
     record {
       bindings = h.bindings;
-      long = length-set states slot Done ∙ h.long;
+      long = omega (arith, length-set states slot Done, h.long);
       ordered = ordered_left (slice_get states slot) refl;
       covered =
           covered_still slots pairs states (set states slot Done) (slot ∷ []) [] tasks (done_stays_at_done states slot less)
@@ -341,7 +330,7 @@ open_step slots pairs states slot tasks h is_new =
     let xs : List ℕ = pile (below slots pairs slot) [] in
     record {
       bindings = h.bindings;
-      long = length-set states slot Open ∙ h.long;
+      long = omega (arith, length-set states slot Open, h.long);
       ordered = record {
         rank = h.ordered.rank;
         top = h.ordered.top;
@@ -465,14 +454,3 @@ pub open_told :
 open_told slots pairs states slot task tasks new_tasks e h is_new is few =
     subst (λ t. HasDone slots pairs states (set states slot Open) (t ∷ tasks) new_tasks true) (sym e)
     (open_done slots pairs states slot tasks new_tasks (subst (λ t. IsSearching slots pairs states (t ∷ tasks)) e h) is_new is few)
-
-pub slot_valid : (slots : Slots) (pairs : Pairs) (states : List State) (slot : ℕ) (task : Task) (tasks : List Task) → task_slot task ≡ slot → IsSearching slots pairs states (task ∷ tasks) → slot < length states
-slot_valid slots pairs states slot task tasks e h = omega (arith, e, h.valid.0, h.long)
-
-pub state_at : (states : List State) (slot : ℕ) (s d : State) → slot < length states → get_or states slot d ≡ s → slice_get states slot ≡ Some s
-state_at states slot s d less e = slice_get-within states slot d less ∙ ap Some e
-  where
-    slice_get-within : (xs : List State) (i : ℕ) (d : State) → i < length xs → slice_get xs i ≡ Some (get_or xs i d)
-    slice_get-within [] i d less = absurd (omega arith)
-    slice_get-within (x ∷ xs) zero d less = refl
-    slice_get-within (x ∷ xs) (suc i) d less = slice_get-within xs i d (omega arith)

@@ -11,7 +11,7 @@ use Rattle.si_defs.specs.Substitutions.{Substitution, image}
 use Rattle.si_flat.specs.declared.Cell.{Cell}
 use Rattle.si_flat.specs.Cells.{Symbol, Variable, query, entry, ind, same_variable, Term, Terms, variable_cell, cells_of, cells_of_all}
 use Rattle.si_trail.specs.Trails.{value_at, HasDistinctSlots}
-use Rattle.si_unify.specs.declared.Slots.{Slots}
+use Rattle.si_unify.specs.declared.slots.Slots.{Slots}
 use Rattle.si_unify.specs.Solving.{Pairs, slot_count, slot_of, variable_of, is_frozen, IsInRange, CellIsInRange, Equalizes, IsBinding, RanksBelow, IsTriangularBy, IsTriangular, IsSolution}
 use Rattle.si_unify.proofs.Reading.{same_term}
 use Rattle.si_unify.proofs.Places.{variable_of-slot_of, in_range-variable}

@@ -1,6 +1,6 @@
 -- A list is triangular where it was so up to a mark, and a search from the bindings behind the mark found no circle.
-use Rattle.std.proofs.Common.{◌≡◌, ◌≢◌, ℕ, ◌+◌, ◌-◌, ◌<◌, ◌≤◌, ◌⊎◌, inl, inr, Bool, true, false, List, [], ◌∷◌, ◌++◌, length, take, drop, replicate, refl, sym, ◌∙◌, ap, subst, arith, suc, zero, Option, None, Some}
-use Rattle.std.proofs.lemmas.List.{take-append-drop, length-replicate}
+use Rattle.std.proofs.Common.{◌≡◌, ◌≢◌, ℕ, ◌+◌, ◌<◌, ◌≤◌, ◌⊎◌, inl, inr, Bool, true, false, List, [], ◌∷◌, length, take, drop, refl, sym, ◌∙◌, ap, subst, arith, suc, zero, Option, None, Some}
+use Rattle.std.proofs.lemmas.List.{take-append-drop}
 use Rattle.std.proofs.lemmas.Bool.Decides.{eqb_tells}
 use Rattle.std.proofs.lemmas.Bool.{eq-eqb}
 use Rattle.std.specs.Prelude.{slice_get}
@@ -11,16 +11,18 @@ use Rattle.si_flat.specs.declared.Cell.{Cell}
 use Rattle.si_flat.specs.declared.Cell.TheVariants as cell
 use Rattle.si_flat.specs.Cells.{query, entry, ind}
 use Rattle.si_trail.specs.Trails.{value_at, HasDistinctSlots, IsSlotOf}
-use Rattle.si_unify.specs.declared.Slots.{Slots}
-use Rattle.si_unify.specs.declared.State.{State}
-use Rattle.si_unify.specs.declared.State.TheVariants.{New, Open, Done}
-use Rattle.si_unify.specs.declared.Task.{Task}
-use Rattle.si_unify.specs.declared.Task.TheVariants.{Enter}
+use Rattle.si_unify.specs.declared.slots.Slots.{Slots}
+use Rattle.si_unify.specs.declared.states.State.{State}
+use Rattle.si_unify.specs.declared.states.State.TheVariants.{New, Open, Done}
+use Rattle.si_unify.specs.declared.circles.Task.{Task}
+use Rattle.si_unify.specs.declared.circles.Task.TheVariants.{Enter}
 use Rattle.si_unify.specs.Solving.{Pairs, slot_count, slot_of, IsTriangularBy, IsTriangular, RanksBelow, IsBinding}
 use Rattle.si_unify.specs.Spots.{cell_slot}
-use Rattle.si_unify.specs.Circles.{if_value, if_bound, with_slot, bound_slots, below_value, enter_each, task_slot, task_slots, IsDone, AreCovered, RanksUnder, ComeDown, IsOrdered, IsSearching, HasSearched, AreEntries, AreNew, IsTold}
+use Rattle.si_unify.specs.Circles.{if_value, if_bound, with_slot, bound_slots, below_value, enter_each, task_slot, task_slots, IsDone, AreCovered, RanksUnder, ComeDown, IsOrdered, IsSearching, HasSearched, AreEntries, IsTold}
 use Rattle.si_unify.proofs.Lists.{all_map, all_with, all_append, all_take, all_drop}
+use Rattle.si_unify.proofs.StateLaws.{new_at}
 use Rattle.si_unify.proofs.Searching.{ranks_below_cell}
+use Rattle.si_unify.specs.States.{AreNew}
 
 -- ---- tasks that enter slots
 covered_alone : (slots : Slots) (pairs : Pairs) (states : List State) (before xs : List ℕ) → AreCovered slots pairs states before (enter_each xs)
@@ -95,33 +97,11 @@ all_told (p ∷ pairs) h = (
 )
 
 -- ---- where the search starts
-new_at : (states : List State) (slot : ℕ) (s : State) → AreNew states → slice_get states slot ≡ Some s → s ≡ New
-new_at [] slot s h e = cc
-new_at (x ∷ states) zero s h e = let same : x ≡ s = cc in sym same ∙ h.0
-new_at (x ∷ states) (suc n) s h e = new_at states n s h.1 e
-
 not_done : {P : Type 0} (states : List State) (slot : ℕ) → AreNew states → IsDone states slot → P
 not_done states slot h d = let bad : Done ≡ New = new_at states slot Done h d in cc
 
 not_open : {P : Type 0} (states : List State) (slot : ℕ) → AreNew states → slice_get states slot ≡ Some Open → P
 not_open states slot h d = let bad : Open ≡ New = new_at states slot Open h d in cc
-
-abbrev no_states : List State
-no_states = []
-
-all_new : (n : ℕ) → AreNew (replicate n New)
-all_new zero = tt
-all_new (suc n) = (refl, all_new n)
-
-pub states_new : (old states : List State) (n m k : ℕ) → old ≡ [] → m ≡ 0 → n ≡ k → states ≡ take n old ++ replicate (n - m) New → AreNew states × (length states ≡ k)
-states_new old states n m k empty zero_m same e =
-    let now : states ≡ replicate n New =
-    e ∙ ap (λ l. take n l ++ replicate (n - m) New) empty ∙ ap (λ l. l ++ replicate (n - m) New) (take_nothing n) ∙ ap (λ j. replicate j New) (omega (arith, zero_m)) in
-    (subst AreNew (sym now) (all_new n), ap length now ∙ length-replicate n New ∙ same)
-  where
-    take_nothing : (n : ℕ) → take n no_states ≡ no_states
-    take_nothing zero = refl
-    take_nothing (suc n) = refl
 
 pub entries_none : (pairs : Pairs) (mark : ℕ) → HasDistinctSlots pairs → AreEntries pairs mark mark []
 entries_none pairs mark distinct = record {
@@ -148,7 +128,7 @@ entries_more pairs mark n slot tasks new h s is = record {
     before : (m n : ℕ) → m < n + 1 → m ≢ n → m < n
     before m n less differs = omega (arith, less, differs)
 
-pub search_begins : (slots : Slots) (pairs : Pairs) (states : List State) (tasks : List Task) (mark n : ℕ) → AllByRecursion (IsBinding slots) pairs → length states ≡ slot_count slots → AreNew states → AreEntries pairs mark n tasks → IsSearching slots pairs states tasks
+pub search_begins : (slots : Slots) (pairs : Pairs) (states : List State) (tasks : List Task) (mark n : ℕ) → AllByRecursion (IsBinding slots) pairs → slot_count slots ≤ length states → AreNew states → AreEntries pairs mark n tasks → IsSearching slots pairs states tasks
 search_begins slots pairs states tasks mark n bindings long fresh e = record {
   bindings = bindings;
   long = long;

@@ -6,7 +6,7 @@ use Rattle.si_defs.specs.Terms as terms
 use Rattle.si_flat.specs.declared.Cell.{Cell}
 use Rattle.si_flat.specs.declared.Cell.TheVariants as cell
 use Rattle.si_flat.specs.Cells.{Variable, query, entry, ind, Term, Terms, variable_cell, cells_of, cells_of_all}
-use Rattle.si_unify.specs.declared.Slots.{Slots}
+use Rattle.si_unify.specs.declared.slots.Slots.{Slots}
 use Rattle.si_unify.specs.Solving.{Pairs, slot_of, variable_of, IsInRange, CellIsInRange, AreInRange, Equalizes, IsSolvedBy, IsBinding, RanksBelow, IsTriangular}
 use Rattle.si_unify.specs.Spots.{IsBelow, ComesDown, IsChained}
 use Rattle.si_unify.proofs.Places.{variable_of-slot_of, in_range-variable}

@@ -5,11 +5,11 @@ use Rattle.std.specs.Borrow.{Bor}
 use Rattle.si_defs.specs.Substitutions.{IsAmong}
 use Rattle.si_flat.specs.declared.Cell.{Cell}
 use Rattle.si_trail.specs.Trails.{value_at, HasDistinctSlots, IsSlotOf}
-use Rattle.si_unify.specs.declared.Slots.{Slots}
-use Rattle.si_unify.specs.declared.State.{State}
-use Rattle.si_unify.specs.declared.State.TheVariants.{New, Open, Done}
-use Rattle.si_unify.specs.declared.Task.{Task}
-use Rattle.si_unify.specs.declared.Task.TheVariants.{Enter, Leave}
+use Rattle.si_unify.specs.declared.slots.Slots.{Slots}
+use Rattle.si_unify.specs.declared.states.State.{State}
+use Rattle.si_unify.specs.declared.states.State.TheVariants.{New, Open, Done}
+use Rattle.si_unify.specs.declared.circles.Task.{Task}
+use Rattle.si_unify.specs.declared.circles.Task.TheVariants.{Enter, Leave}
 use Rattle.si_unify.specs.Solving.{Pairs, slot_count, IsTriangularBy, IsTriangular, IsBinding}
 use Rattle.si_unify.specs.Spots.{cell_slot}
 
@@ -105,7 +105,7 @@ leave_slots (t ∷ ts) = leave_slot t (leave_slots ts)
 -- what is known of the slots and the tasks, the next one first
 pub record IsSearching (slots : Slots) (pairs : Pairs) (states : List State) (tasks : List Task) : Type 0 where
   pub bindings : AllByRecursion (IsBinding slots) pairs
-  pub long : length states ≡ slot_count slots
+  pub long : slot_count slots ≤ length states
   pub ordered : IsOrdered slots pairs states
   pub covered : AreCovered slots pairs states [] tasks
   pub come_down : (rank : ℕ → ℕ) → IsTriangularBy slots rank pairs → ComeDown rank tasks
@@ -148,10 +148,6 @@ pub record AreEntries (pairs : Pairs) (mark n : ℕ) (tasks : List Task) : Type 
   pub sound : AllByRecursion (λ slot. (m : ℕ) × IsSlotOf pairs m slot) slots
   pub complete : (m slot : ℕ) → mark ≤ m → m < n → IsSlotOf pairs m slot → IsAmong slots slot
   pub distinct : HasDistinctSlots pairs
-
--- no slot has been met
-abbrev pub AreNew : List State → Type 0
-AreNew = AllByRecursion (λ s. s ≡ New)
 
 -- whether the list is triangular; its slots are distinct
 abbrev pub IsTold : Slots → Pairs → Bool → Type 0

@@ -1,3 +1,5 @@
 pub mod Solving
 pub mod Spots
 pub mod Circles
+pub mod States
+pub mod Scratch

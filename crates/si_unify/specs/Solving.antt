@@ -7,7 +7,7 @@ use Rattle.si_defs.specs.Substitutions.{Substitution, image}
 use Rattle.si_flat.specs.declared.Cell.{Cell}
 use Rattle.si_flat.specs.declared.Cell.TheVariants as cell
 use Rattle.si_flat.specs.Cells.{Symbol, Variable, query, entry, ind, same_variable, Term, variable_cell, StandsFor, IsWhole}
-use Rattle.si_unify.specs.declared.Slots.{Slots}
+use Rattle.si_unify.specs.declared.slots.Slots.{Slots}
 
 -- bindings: slots with whole slices
 abbrev pub Pairs : Type 0

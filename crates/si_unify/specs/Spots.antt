@@ -7,10 +7,10 @@ use Rattle.si_flat.specs.declared.Cell.{Cell}
 use Rattle.si_flat.specs.declared.Cell.TheVariants as cell
 use Rattle.si_flat.specs.Cells.{Symbol, Variable, query, entry, ind, Term, Terms, cells_of, IsSound, StandsFor, IsWhole}
 use Rattle.si_trail.specs.Trails.{value_at, HasDistinctSlots}
-use Rattle.si_unify.specs.declared.Slots.{Slots}
-use Rattle.si_unify.specs.declared.Spot.{Spot}
-use Rattle.si_unify.specs.declared.SpotPair.{SpotPair}
-use Rattle.si_unify.specs.declared.Question.{Question}
+use Rattle.si_unify.specs.declared.slots.Slots.{Slots}
+use Rattle.si_unify.specs.declared.spots.Spot.{Spot}
+use Rattle.si_unify.specs.declared.spots.SpotPair.{SpotPair}
+use Rattle.si_unify.specs.declared.spots.Question.{Question}
 use Rattle.si_unify.specs.Solving.{Pairs, slot_count, slot_of, Equalizes, IsSolvedBy, IsTriangular, IsBinding, AreInRange}
 
 abbrev pub cells_now : Option (Bor (List Cell)) → List Cell

@@ -1,0 +1,61 @@
+-- What the calls answer: the canonical list of a relation, where it holds.
+use Rattle.std.specs.Prelude.{◌≡◌, ℕ, zero, suc, List, [], ◌∷◌, Option, None, Some}
+use Rattle.si_defs.specs.Terms.{variables, firsts}
+use Rattle.si_defs.specs.declared.Relation.{Relation}
+use Rattle.si_defs.specs.Relations.{Relates}
+use Rattle.si_defs.specs.Solutions.{IsCanonical}
+use Rattle.si_flat.specs.declared.Cell.{Cell}
+use Rattle.si_flat.specs.Cells.{Variable, query, entry, same_variable, Term, StandsFor}
+use Rattle.si_form.specs.declared.solution.Owner.{Owner}
+use Rattle.si_form.specs.declared.solution.Owner.TheVariants.{Query, Entry}
+use Rattle.si_form.specs.declared.solution.Binding.{Binding}
+
+-- ---- numbered variables
+abbrev pub variable_of : Owner → ℕ → Variable
+variable_of Query n = query n
+variable_of Entry n = entry n
+
+-- so many variables of an owner, from a number on
+abbrev pub counted : Owner → ℕ → ℕ → List Variable
+counted owner k zero = []
+counted owner k (suc n) = variable_of owner k ∷ counted owner (suc k) n
+
+-- the variables of the term are the owner's, numbered in the order of their first occurrence
+abbrev pub IsNumbered : Owner → Term → Type 0
+IsNumbered owner t = (n : ℕ) × (firsts same_variable (variables t) ≡ counted owner 0 n)
+
+abbrev pub AreNumbered : Owner → List Cell → Type 0
+AreNumbered owner cells = (t : Term) → StandsFor cells t → IsNumbered owner t
+
+-- ---- lists of bindings
+pub record StandsForPair (b : Binding) (pair : Variable × Term) : Type 0 where
+  pub left : pair.0 ≡ variable_of b.owner b.slot
+  pub right : StandsFor b.value pair.1
+
+abbrev pub StandsForList : List Binding → List (Variable × Term) → Type 0
+StandsForList [] [] = Unit {0}
+StandsForList [] (pair ∷ pairs) = ⊥
+StandsForList (b ∷ bs) [] = ⊥
+StandsForList (b ∷ bs) (pair ∷ pairs) = StandsForPair b pair × StandsForList bs pairs
+
+-- the list is canonical, and no other one is
+pub record IsTheCanonical (kind : Relation) (q e : Term) (list : List (Variable × Term)) : Type 0 where
+  pub canonical : IsCanonical same_variable kind q e list
+  pub only : (other : List (Variable × Term)) → IsCanonical same_variable kind q e other → other ≡ list
+
+-- Where the relation holds, the canonical list is found; else none is, and then only.
+abbrev pub AnswersTo : Relation → Term → Term → Option (List Binding) → Type 0
+AnswersTo kind q e None = Relates same_variable kind q e → ⊥
+AnswersTo kind q e (Some bindings) = (list : List (Variable × Term)) × StandsForList bindings list × IsTheCanonical kind q e list
+
+abbrev pub Answers : Relation → List Cell → List Cell → Option (List Binding) → Type 0
+Answers kind query_cells entry_cells answer =
+    (q e : Term) → StandsFor query_cells q → StandsFor entry_cells e → AnswersTo kind q e answer
+
+-- no two lists are canonical for one query and one entry
+abbrev pub HasOneCanonicalList : Relation → Type 0
+HasOneCanonicalList kind =
+    (q e : Term) (one other : List (Variable × Term))
+    → IsCanonical same_variable kind q e one
+    → IsCanonical same_variable kind q e other
+    → one ≡ other

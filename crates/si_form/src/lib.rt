@@ -1,0 +1,17 @@
+//! Canonical solution lists of matching: which term each variable of one side stands for.
+//!
+//! A term matches another where some substitution on its variables takes it to the other. Both are
+//! read once, from left to right; a variable stands for a slice of the other term, and the slices are
+//! copied only where the whole matches.
+#![tactic(auto)]
+
+mod canonical;
+mod laws;
+mod matching;
+mod solution;
+#[cfg(test)]
+mod tests;
+
+pub use canonical::{generalization, instance, variant};
+pub use laws::canonical_lists_are_unique;
+pub use solution::{Binding, Owner, Solution};

@@ -1,0 +1,76 @@
+// Solution lists: bindings of variables to terms.
+ghost use Rattle.std.specs.Prelude.{◌≡◌, ◌<◌, [], ◌∷◌, ◌++◌, OnOk, OnErr, Some, length, slice_get};
+
+use si_flat::Flat;
+use std::alloc::{AllocError, Global};
+use std::marker::Model;
+
+/// Whose variable it is.
+#[derive(Clone, Copy, Debug, PartialEq, Eq)]
+pub enum Owner {
+    /// The query's.
+    Query,
+    /// The entry's.
+    Entry,
+}
+
+/// A variable and the term that it stands for.
+#[derive(Drop)]
+pub struct Binding {
+    /// Whose variable it is.
+    pub owner: Owner,
+    /// The number of the variable among its owner's.
+    pub slot: u32,
+    /// The term that it stands for.
+    pub value: Flat,
+}
+
+/// A list of bindings, in order.
+#[derive(Drop)]
+pub struct Solution {
+    bindings: Vec<Binding>,
+}
+
+impl Model for Solution {
+    ghost use Rattle.std.specs.Prelude.{List};
+    ghost use Rattle.si_form.specs.declared.solution.Binding.{Binding};
+
+    ghost Value = { List Binding };
+
+    ghost view = { λ s. s.bindings.items };
+}
+
+impl Solution {
+    /// The empty list.
+    pub fn new(alloc: Global) -> Solution
+        ensures { result ≡ [] }
+    {
+        Solution {
+            bindings: Vec::new(alloc),
+        }
+    }
+
+    /// Appends a binding. At an error the list is as before, and the binding is dropped.
+    pub fn push(&mut self, item: Binding) -> Result<(), AllocError>
+        ensures ok { OnOk result (self.new ≡ self.old ++ item ∷ []) }
+        ensures err { OnErr result (self.new ≡ self.old) }
+    {
+        self.bindings.push(item)?;
+        Ok(())
+    }
+
+    /// The number of bindings.
+    pub fn len(&self) -> usize
+        ensures { result ≡ length self.now }
+    {
+        self.bindings.len()
+    }
+
+    /// The binding with this number from 0.
+    pub fn at(&self, n: usize) -> &Binding
+        requires { n < length self.now }
+        ensures { slice_get self.now n ≡ Some result.now }
+    {
+        &self.bindings[n]
+    }
+}

@@ -1,0 +1,87 @@
+// Canonical lists that were worked out by hand.
+ghost use Rattle.std.specs.Prelude.{IfOk};
+ghost use Rattle.si_flat.specs.Cells.{IsWhole};
+ghost use Rattle.si_form.specs.Answers.{AreNumbered};
+
+use crate::{Owner, Solution, canonical_lists_are_unique, generalization, instance, variant};
+use si_flat::{Cell, Flat};
+use std::alloc::{AllocError, Global};
+use std::process::Abort;
+use std::test::Fail;
+
+const A: Cell = Cell::App {
+    sym: 4,
+    arity: 0,
+    len: 1,
+};
+
+const G2: Cell = Cell::App {
+    sym: 2,
+    arity: 1,
+    len: 2,
+};
+
+const F3: Cell = Cell::App {
+    sym: 0,
+    arity: 2,
+    len: 3,
+};
+
+const F4: Cell = Cell::App {
+    sym: 0,
+    arity: 2,
+    len: 4,
+};
+
+fn flat(alloc: Global, owner: Owner, cells: &[Cell]) -> Result<Flat, AllocError>
+    requires whole { IsWhole cells.now }
+    requires numbered { AreNumbered owner cells.now }
+    ensures { IfOk result (AreNumbered owner) }
+{
+    Flat::from_cells(alloc, cells)
+}
+
+// Whether the list binds the owner's variables, from 0 on, to these terms.
+fn assert_binds(rt: &impl Abort, solution: Option<Solution>, owner: Owner, values: &[&[Cell]]) {
+    let solution = solution.expect(rt, "a list");
+    assert_eq!(rt; solution.len(), values.len());
+    for n in 0..solution.len() {
+        let binding = solution.at(n);
+        assert_eq!(rt; binding.owner, owner);
+        assert_eq!(rt; binding.slot as usize, n);
+        assert_eq!(rt; binding.value.cells(), values[n]);
+    }
+}
+
+// The query is f(x, g(y)); the entries f(a, g(X)), f(X, Y), f(X, g(Y)) and f(X, g(X)).
+#[test]
+fn lists_of_each_kind(rt: HostRuntime) -> Result<(), Fail> {
+    let (x, y) = (Cell::Query(0), Cell::Query(1));
+    let (left, right) = (Cell::Entry(0), Cell::Entry(1));
+    let alloc = rt.alloc();
+    let query = flat(alloc, Owner::Query, &[F4, x, G2, y])?;
+    let below = flat(alloc, Owner::Entry, &[F4, A, G2, left])?;
+    let above = flat(alloc, Owner::Entry, &[F3, left, right])?;
+    let renamed = flat(alloc, Owner::Entry, &[F4, left, G2, right])?;
+    assert_binds(
+        &rt,
+        instance(alloc, &query, &below)?,
+        Owner::Query,
+        &[&[A], &[left]],
+    );
+    assert_binds(
+        &rt,
+        generalization(alloc, &query, &above)?,
+        Owner::Entry,
+        &[&[x], &[G2, y]],
+    );
+    assert_binds(
+        &rt,
+        variant(alloc, &query, &renamed)?,
+        Owner::Query,
+        &[&[left], &[right]],
+    );
+    assert!(rt; variant(alloc, &query, &below)?.is_none());
+    canonical_lists_are_unique();
+    Ok(())
+}

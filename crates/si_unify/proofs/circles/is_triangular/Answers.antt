@@ -1,0 +1,13 @@
+use Rattle.std.proofs.Common.{arith}
+use Rattle.si_unify.proofs.Triangular.{search_begins, search_tells}
+use Rattle.si_unify.proofs.Comparing.{if_ok}
+use Rattle.si_unify.proofs.circles.is_triangular.Goals as goal
+
+pub returns : goal.returns
+returns c =
+    if_ok c.search.result _ _ (λ b h. search_tells _ _ _ _ _ _ b c.in_ok-enter_bound.ensures c.requires.before h) c.search.ensures
+
+pub search-requires : goal.search-requires
+search-requires c =
+    search_begins _ _ _ _ _ _ c.requires.bindings (omega (arith, c.count.ensures.count, c.in_ok-make_room.ensures.long)) c.in_ok-make_room.ensures.fresh
+    c.in_ok-enter_bound.ensures

@@ -1,0 +1,99 @@
+use Rattle.std.proofs.Common.{◌<◌, [], Some, sym, ap, ◌∙◌, arith}
+use Rattle.si_unify.specs.Solving.{slot_count}
+use Rattle.si_unify.specs.Spots.{free_slot}
+use Rattle.si_unify.proofs.Meeting.{same_variable_met, left_bound, right_bound, free_below, clash_met, constant_met, pair_met, either, same_pair, same_told, common_told}
+use Rattle.si_unify.proofs.equations.meet_ends.Goals as goal
+
+pub returns-then-same_slot-clause-met : goal.returns-then-same_slot-clause-met
+returns-then-same_slot-clause-met c =
+    same_variable_met _ _ _ _ _ c.requires.legal c.requires.keys
+    (same_told c.args.question.now.slots _ _ _ _ _ _ _ c.slot_of.ensures c.slot_of-2.ensures c.cell_at-left_cell.ensures c.cell_at-right_cell.ensures c.if-same_slot.ensures)
+
+pub bind-requires-clause-room : goal.bind-requires-clause-room
+bind-requires-clause-room c =
+    let free = sym (c.in-Some.ensures ∙ ap (free_slot c.args.question.now.slots) c.cell_at-left_cell.ensures) in
+    let below : c.in-Some.slot < slot_count c.args.question.now.slots = free_below _ _ _ _ c.requires.legal c.requires.left.spot_is free in
+    omega (arith, c.requires.room)
+
+pub returns-in-Some-clause-met : goal.returns-in-Some-clause-met
+returns-in-Some-clause-met c =
+    left_bound _ _ _ _ _ _ _
+    (
+    record {
+      legal = c.requires.legal;
+      apart = c.requires.keys;
+      left_end = c.requires.left;
+      right_end = c.requires.right;
+      differ = same_told c.args.question.now.slots _ _ _ _ _ _ _ c.slot_of.ensures c.slot_of-2.ensures c.cell_at-left_cell.ensures c.cell_at-right_cell.ensures c.if-same_slot.ensures;
+    }
+    )
+    (sym (c.in-Some.ensures ∙ ap (free_slot c.args.question.now.slots) c.cell_at-left_cell.ensures))
+    c.bind.ensures.binds
+
+pub bind-requires-in-Some-free_slot-clause-room : goal.bind-requires-in-Some-free_slot-clause-room
+bind-requires-in-Some-free_slot-clause-room c =
+    let free = sym (c.in-Some-free_slot.ensures ∙ ap (free_slot c.args.question.now.slots) c.cell_at-right_cell.ensures) in
+    let below : c.in-Some-free_slot.slot < slot_count c.args.question.now.slots = free_below _ _ _ _ c.requires.legal c.requires.right.spot_is free in
+    omega (arith, c.requires.room)
+
+pub returns-in-Some-free_slot-clause-met : goal.returns-in-Some-free_slot-clause-met
+returns-in-Some-free_slot-clause-met c =
+    right_bound _ _ _ _ _ _ _
+    (
+    record {
+      legal = c.requires.legal;
+      apart = c.requires.keys;
+      left_end = c.requires.left;
+      right_end = c.requires.right;
+      differ = same_told c.args.question.now.slots _ _ _ _ _ _ _ c.slot_of.ensures c.slot_of-2.ensures c.cell_at-left_cell.ensures c.cell_at-right_cell.ensures c.if-same_slot.ensures;
+    }
+    )
+    (sym (c.in-Some-free_slot.ensures ∙ ap (free_slot c.args.question.now.slots) c.cell_at-right_cell.ensures))
+    c.bind-in-Some-free_slot.ensures.binds
+
+pub returns-in-None-clause-met : goal.returns-in-None-clause-met
+returns-in-None-clause-met c =
+    clash_met _ _ c.args.trail.now.pairs _ [] _ _
+    (
+    record {
+      legal = c.requires.legal;
+      apart = c.requires.keys;
+      left_end = c.requires.left;
+      right_end = c.requires.right;
+      differ = same_told c.args.question.now.slots _ _ _ _ _ _ _ c.slot_of.ensures c.slot_of-2.ensures c.cell_at-left_cell.ensures c.cell_at-right_cell.ensures c.if-same_slot.ensures;
+    }
+    )
+    (sym (c.in_default.ensures ∙ ap (free_slot c.args.question.now.slots) c.cell_at-left_cell.ensures))
+    (sym (c.in_default-free_slot.ensures ∙ ap (free_slot c.args.question.now.slots) c.cell_at-right_cell.ensures))
+    (common_told _ _ _ _ _ c.cell_at-left_cell.ensures c.cell_at-right_cell.ensures c.in-None.ensures)
+
+pub returns-in-Some-eq0-clause-met : goal.returns-in-Some-eq0-clause-met
+returns-in-Some-eq0-clause-met c =
+    constant_met _ _ _ _ _
+    (
+    record {
+      legal = c.requires.legal;
+      apart = c.requires.keys;
+      left_end = c.requires.left;
+      right_end = c.requires.right;
+      differ = same_told c.args.question.now.slots _ _ _ _ _ _ _ c.slot_of.ensures c.slot_of-2.ensures c.cell_at-left_cell.ensures c.cell_at-right_cell.ensures c.if-same_slot.ensures;
+    }
+    )
+    (common_told _ _ _ _ _ c.cell_at-left_cell.ensures c.cell_at-right_cell.ensures c.in-Some-eq0.ensures ∙ ap Some c.in-Some-eq0.field-0-test)
+
+pub returns-in_ok-insert_full-in-Some-common_arity-clause-met : goal.returns-in_ok-insert_full-in-Some-common_arity-clause-met
+returns-in_ok-insert_full-in-Some-common_arity-clause-met c =
+    let stored = c.in_ok-insert_full-in-Some-common_arity.ensures.stored in
+    pair_met _ _ _ _ _ _ _ c.in_ok-insert_full-in-Some-common_arity.field-0.0
+    (
+    record {
+      legal = c.requires.legal;
+      apart = c.requires.keys;
+      left_end = c.requires.left;
+      right_end = c.requires.right;
+      differ = same_told c.args.question.now.slots _ _ _ _ _ _ _ c.slot_of.ensures c.slot_of-2.ensures c.cell_at-left_cell.ensures c.cell_at-right_cell.ensures c.if-same_slot.ensures;
+    }
+    )
+    (common_told _ _ _ _ _ c.cell_at-left_cell.ensures c.cell_at-right_cell.ensures c.in-Some-common_arity.ensures)
+    (either _ _ _ _ c.in_ok-insert_full-in-Some-common_arity.ensures.keys)
+    (stored.1 ∙ ap Some (same_pair c.args.left c.args.right stored.0 stored.2))

@@ -1,6 +1,0 @@
-use Rattle.std.proofs.Common.{sym, subst}
-use Rattle.si_unify.specs.Solving.{IsTriangularBy}
-use Rattle.si_unify.proofs.tests.bound.Goals as goal
-
-pub solve-requires-clause-triangular : goal.solve-requires-clause-triangular
-solve-requires-clause-triangular c = (λ z. 0, subst (λ t. IsTriangularBy c.args.slots.now (λ z. 0) t.pairs) (sym c.in_ok-trail.ensures) tt)

@@ -1,0 +1,66 @@
+// Memory to work in, which is lent from call to call.
+ghost use Rattle.std.specs.Prelude.{◌≡◌, []};
+ghost use Rattle.si_unify.specs.States.{AreNew};
+
+use crate::circles::Task;
+use crate::spots::SpotPair;
+use crate::states::States;
+use indexmap::IndexSet;
+use std::alloc::Global;
+use std::marker::Model;
+
+/// What one call of the solver works in.
+#[derive(Drop)]
+pub(crate) struct Buffers {
+    /// The pairs of spots whose arguments are made equal, in the order in which they came up.
+    pub(crate) keys: IndexSet<SpotPair>,
+    /// How far the search for a circle has come with each slot.
+    pub(crate) states: States,
+    /// What is left of that search.
+    pub(crate) tasks: Vec<Task>,
+}
+
+impl Buffers {
+    /// Empties the buffers, and keeps their memory.
+    pub(crate) fn clear(&mut self)
+        ensures keys { self.new.keys.keys ≡ [] }
+        ensures states { AreNew self.new.states }
+        ensures tasks { self.new.tasks.items ≡ [] }
+    {
+        self.keys.clear();
+        self.states.reset();
+        self.tasks.clear();
+    }
+}
+
+/// Memory for [`solve_with`](crate::solve_with) to work in.
+///
+/// It is made once and lent to each call. It is empty between calls, whatever they answered, and
+/// keeps what its buffers grew to: a call that needs no more takes no memory.
+#[derive(Drop)]
+pub struct Scratch {
+    pub(crate) buffers: Buffers,
+}
+
+impl Model for Scratch {
+    ghost use Rattle.si_unify.specs.Scratch.{AreClear};
+
+    ghost Value = { Unit {0} };
+
+    ghost view = { λ s. tt };
+
+    ghost invariant = { λ s. AreClear s.buffers };
+}
+
+impl Scratch {
+    /// Empty buffers. It takes no memory.
+    pub fn new(alloc: Global) -> Scratch {
+        Scratch {
+            buffers: Buffers {
+                keys: IndexSet::new(alloc),
+                states: States::new(alloc),
+                tasks: Vec::new(alloc),
+            },
+        }
+    }
+}

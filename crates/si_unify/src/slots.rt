@@ -1,0 +1,59 @@
+// Variables and their slots.
+ghost use Rattle.std.specs.Prelude.{◌≡◌, ◌<◌, ◌^◌};
+ghost use Rattle.si_unify.specs.Solving.{slot_count};
+ghost use Rattle.si_unify.specs.Spots.{cell_slot, free_slot};
+
+use si_flat::Cell;
+
+/// How many variables there are of each kind, and which of them are constants.
+///
+/// The slot of `Query(i)` is i, that of `Entry(i)` is `query + i`, and that of `Ind(i)` is `query +
+/// entry + i`.
+#[derive(Clone, Copy, Debug)]
+pub struct Slots {
+    /// How many variables the query has.
+    pub query: u32,
+    /// How many variables the entry has.
+    pub entry: u32,
+    /// How many indicators there are.
+    pub inds: u32,
+    /// Whether the query's variables are constants.
+    pub freeze_query: bool,
+    /// Whether the entry's variables are constants.
+    pub freeze_entry: bool,
+}
+
+impl Slots {
+    /// The number of slots.
+    pub fn count(&self) -> usize
+        ensures count { result ≡ slot_count self.now }
+        ensures small { result < 2 ^ 34 }
+    {
+        self.query as usize + self.entry as usize + self.inds as usize
+    }
+
+    // The slot of a variable's cell.
+    pub(crate) fn slot_of(&self, cell: Cell) -> Option<usize>
+        ensures { result ≡ cell_slot self.now cell }
+    {
+        match cell {
+            Cell::App { .. } => None,
+            Cell::Query(number) => Some(number as usize),
+            Cell::Entry(number) => Some(self.query as usize + number as usize),
+            Cell::Ind(number) => {
+                Some(self.query as usize + self.entry as usize + number as usize)
+            }
+        }
+    }
+
+    // The slot of the cell of a variable that isn't frozen.
+    pub(crate) fn free_slot(&self, cell: Cell) -> Option<usize>
+        ensures { result ≡ free_slot self.now cell }
+    {
+        match cell {
+            Cell::Query(_) if self.freeze_query => None,
+            Cell::Entry(_) if self.freeze_entry => None,
+            _ => self.slot_of(cell),
+        }
+    }
+}

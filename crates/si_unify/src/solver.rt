@@ -1,0 +1,130 @@
+// From two terms to the bindings that make them equal.
+ghost use Rattle.std.specs.Prelude.{◌≡◌, ◌≤◌, true, false, Ok, IfOk, OnErr};
+ghost use Rattle.std.specs.List.{AllByRecursion};
+ghost use Rattle.si_flat.specs.Cells.{IsWhole};
+ghost use Rattle.si_unify.specs.Scratch.{AreClear};
+ghost use Rattle.si_unify.specs.Solving.{slot_count, AreInRange, IsTriangular, IsBinding, HasSolved};
+ghost use Rattle.si_unify.specs.Spots.{Grows, HasAnswered};
+
+use crate::arguments::close;
+use crate::circles::is_triangular;
+use crate::equations::meet;
+use crate::scratch::{Buffers, Scratch};
+use crate::slots::Slots;
+use crate::spots::{Question, Spot};
+use si_flat::Cell;
+use si_trail::Trail;
+use std::alloc::{AllocError, Global};
+
+// Makes two terms equal, and leaves what it bound.
+fn attempt<'a>(
+    buffers: &mut Buffers,
+    trail: &mut Trail<&'a [Cell]>,
+    question: &Question<'a>,
+) -> Result<bool, AllocError>
+    requires clear { AreClear buffers.old }
+    requires left { IsWhole question.now.left.now }
+    requires right { IsWhole question.now.right.now }
+    requires left_range { AreInRange question.now.slots question.now.left.now }
+    requires right_range { AreInRange question.now.slots question.now.right.now }
+    requires room { slot_count question.now.slots ≤ trail.old.slots }
+    requires bindings { AllByRecursion (IsBinding question.now.slots) trail.old.pairs }
+    requires triangular { IsTriangular question.now.slots trail.old.pairs }
+    ensures answered { IfOk result (HasAnswered question.now trail.old.pairs trail.new.pairs) }
+    ensures grows { Grows trail.old.pairs trail.new.pairs }
+    ensures slots { trail.new.slots ≡ trail.old.slots }
+{
+    let mark = trail.mark();
+    let count = question.slots.count();
+    let left = Spot { base: count, at: 0 };
+    let right = Spot {
+        base: count + 1,
+        at: 0,
+    };
+    if !meet(trail, question, &mut buffers.keys, left, right)? {
+        return Ok(false);
+    }
+    if !close(trail, question, &mut buffers.keys)? {
+        return Ok(false);
+    }
+    is_triangular(
+        &mut buffers.states,
+        &mut buffers.tasks,
+        trail,
+        &question.slots,
+        mark,
+    )
+}
+
+/// Makes two terms equal by binding variables, over the bindings that are there.
+///
+/// It tells whether that can be done. Where it can't, and where memory runs out, the bindings are
+/// as before.
+pub fn solve<'a>(
+    alloc: Global,
+    trail: &mut Trail<&'a [Cell]>,
+    slots: &Slots,
+    s: &'a [Cell],
+    t: &'a [Cell],
+) -> Result<bool, AllocError>
+    requires left { IsWhole s.now }
+    requires right { IsWhole t.now }
+    requires left_range { AreInRange slots.now s.now }
+    requires right_range { AreInRange slots.now t.now }
+    requires room { slot_count slots.now ≤ trail.old.slots }
+    requires bindings { AllByRecursion (IsBinding slots.now) trail.old.pairs }
+    requires triangular { IsTriangular slots.now trail.old.pairs }
+    ensures solved { IfOk result (HasSolved slots.now trail.old.pairs trail.new.pairs s.now t.now) }
+    ensures grows { result ≡ Ok true → Grows trail.old.pairs trail.new.pairs }
+    ensures no { result ≡ Ok false → trail.new.pairs ≡ trail.old.pairs }
+    ensures err { OnErr result (trail.new.pairs ≡ trail.old.pairs) }
+    ensures slots { trail.new.slots ≡ trail.old.slots }
+    ensures bindings { AllByRecursion (IsBinding slots.now) trail.new.pairs }
+    ensures triangular { IsTriangular slots.now trail.new.pairs }
+{
+    solve_with(&mut Scratch::new(alloc), trail, slots, s, t)
+}
+
+/// Does the same as [`solve`] in memory that is lent: for callers that solve many times.
+pub fn solve_with<'a>(
+    scratch: &mut Scratch,
+    trail: &mut Trail<&'a [Cell]>,
+    slots: &Slots,
+    s: &'a [Cell],
+    t: &'a [Cell],
+) -> Result<bool, AllocError>
+    requires left { IsWhole s.now }
+    requires right { IsWhole t.now }
+    requires left_range { AreInRange slots.now s.now }
+    requires right_range { AreInRange slots.now t.now }
+    requires room { slot_count slots.now ≤ trail.old.slots }
+    requires bindings { AllByRecursion (IsBinding slots.now) trail.old.pairs }
+    requires triangular { IsTriangular slots.now trail.old.pairs }
+    ensures solved { IfOk result (HasSolved slots.now trail.old.pairs trail.new.pairs s.now t.now) }
+    ensures grows { result ≡ Ok true → Grows trail.old.pairs trail.new.pairs }
+    ensures no { result ≡ Ok false → trail.new.pairs ≡ trail.old.pairs }
+    ensures err { OnErr result (trail.new.pairs ≡ trail.old.pairs) }
+    ensures slots { trail.new.slots ≡ trail.old.slots }
+    ensures bindings { AllByRecursion (IsBinding slots.now) trail.new.pairs }
+    ensures triangular { IsTriangular slots.now trail.new.pairs }
+{
+    let mark = trail.mark();
+    let question = Question {
+        slots: *slots,
+        left: s,
+        right: t,
+    };
+    let answer = attempt(&mut scratch.buffers, trail, &question);
+    scratch.buffers.clear();
+    match answer {
+        Ok(true) => Ok(true),
+        Ok(false) => {
+            trail.undo(mark);
+            Ok(false)
+        }
+        Err(error) => {
+            trail.undo(mark);
+            Err(error)
+        }
+    }
+}

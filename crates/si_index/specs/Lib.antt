@@ -1,3 +1,4 @@
 pub mod Halves
+pub mod Keyed
 pub mod Ranks
 pub mod RanksFall

@@ -1,4 +1,6 @@
 mod HalfLaws
+mod LinkLaws
 mod PutLaws
 mod Results
+mod SlotLaws
 mod SumLaws

@@ -1,4 +1,5 @@
 mod HalfLaws
+mod KeptLaws
 mod LinkLaws
 mod PutLaws
 mod Results

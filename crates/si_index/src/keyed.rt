@@ -1,7 +1,8 @@
 // A list whose items are found by key and by position, and from which any item can be taken.
-ghost use Rattle.std.specs.Prelude.{◌≡◌, ◌<◌, ◌-◌, [], ◌∷◌, ◌++◌, IfOk, IfErr, OnOk, OnErr, IfSome, IfNone, Some, length, slice_get, vec_capacity};
+ghost use Rattle.std.specs.Prelude.{◌≡◌, ◌<◌, ◌-◌, ◌^◌, [], ◌∷◌, ◌++◌, IfOk, IfErr, OnOk, OnErr, IfSome, IfNone, Some, length, slice_get, vec_capacity};
 ghost use Rattle.slab.specs.Slab.{get, slab_len, ContainsKey, HasRoomFor, Updates};
 ghost use Rattle.si_defs.specs.Substitutions.{IsAmong, AreDistinct};
+ghost use Rattle.si_index.specs.Halves.{total};
 ghost use Rattle.si_index.specs.Keyed.{keys, HasKey, HasKeyAt, IsTakenOut, kept, flags, IsLinked, KnowsKeys};
 ghost use Rattle.si_index.specs.KeyedSlots.{IsKept};
 ghost use Rattle.std.specs.Iterator.{YieldsFirstBy, item_count};
@@ -178,6 +179,7 @@ fn kept_at<'a, T>(
 ) -> &'a Kept<T>
     requires counted { ranks.now ≡ flags slots.now }
     requires inside { position < length (kept slots.now) }
+    requires small { total ranks.now < 2 ^ 64 }
     ensures { slice_get (kept slots.now) position ≡ Some (result.now.key, result.now.item) }
 {
     let (place, _) = ranks.find(position);

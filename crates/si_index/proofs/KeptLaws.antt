@@ -16,13 +16,21 @@ pub some_there : {X : Type 0} {o : Option X} (x : X) → o ≡ Some x → IsSome
 some_there x is = ap is_some is
 
 module _ {T : Type 0} where
+  -- ---- an item that was read
+  pub read_there : (slots : List (Option (Kept T))) (place : ℕ) (read : Option (Kept T)) (k : Kept T) → StandsAt slots place k
+      → read ≡ slice_index_or slots place read → read ≡ Some k
+  read_there slots place read k h reads = get_or_read slots place read (stands_inside slots place k h) reads None ∙ h
+
+  pub slot_is : (slots : List (Option (Kept T))) (place : ℕ) (read slot : Option (Kept T)) → place < length slots → read ≡ slice_index_or slots place read
+      → read ≡ slot → slice_index_or slots place None ≡ slot
+  slot_is slots place read slot p reads is = sym (get_or_read slots place read p reads None) ∙ is
+
   -- ---- an item by its key
   pub got : (slots : List (Option (Kept T))) (place_of : ℕ → Option ℕ) (key place : ℕ) (read : Option (Kept T)) (k : Kept T) → IsLinked slots place_of
       → Some place ≡ place_of key → read ≡ slice_index_or slots place read → Some k ≡ read → IsAmong (kept slots) (key, k.item)
   got slots place_of key place read k h leads reads is =
       let found = h.back key place (sym leads) in
-      let item : found.0 ≡ k =
-      same_some (sym found.1 ∙ sym (get_or_read slots place read (stands_inside slots place found.0 found.1) reads None) ∙ sym is) in
+      let item : found.0 ≡ k = same_some (sym (read_there slots place read found.0 found.1 reads) ∙ sym is) in
       subst (λ n. IsAmong (kept slots) (n, k.item)) (ap (λ i. i.key) (sym item) ∙ found.2) (among_there slots place k (found.1 ∙ ap Some item))
 
   pub is_known : (slots : List (Option (Kept T))) (place_of : ℕ → Option ℕ) (key : ℕ) → IsLinked slots place_of → HasKey (kept slots) key → IsSome (place_of key)

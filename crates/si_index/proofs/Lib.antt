@@ -1,5 +1,5 @@
 mod HalfLaws
-mod KeptLaws
+mod IndexedLaws
 mod LinkLaws
 mod PutLaws
 mod Results

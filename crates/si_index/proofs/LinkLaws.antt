@@ -3,7 +3,8 @@ use Rattle.std.proofs.Common.{suc, zero, ◌≡◌, ◌≢◌, ◌⊎◌, ◌<�
 use Rattle.std.proofs.lemmas.Bool.{cases_eq}
 use Rattle.std.proofs.lemmas.List.{get_or-set_same, get_or-set_other, get_or_append_left, get_or-append-add, get_or_past, length-append}
 use Rattle.si_defs.specs.Substitutions.{IsAmong, AreDistinct}
-use Rattle.si_index.specs.Keyed.{keys, HasKey, kept, StandsAt, IsLinked, KnowsKeys}
+use Rattle.si_index.specs.Keyed.{keys, HasKey}
+use Rattle.si_index.specs.KeyedSlots.{kept, StandsAt, IsLinked, KnowsKeys}
 use Rattle.si_index.specs.declared.keyed.Kept.{Kept}
 use Rattle.si_index.proofs.SlotLaws.{same_some, not_none, entry, stands_inside, among_there, key_among, key_stands}
 
@@ -88,9 +89,9 @@ module _ {T : Type 0} where
       → is k.key ≡ None → ((other : ℕ) → other ≢ k.key → is other ≡ was other) → IsLinked (slice_set slots place None) is
   linked_without slots place k was is h at gone others = record {
     there = λ other j s.
-    let stands = stands_other slots place other k j at s in
-    let differ : j.key ≢ k.key = λ same. stands.0 (same_some (sym (h.there other j stands.1) ∙ ap was same ∙ h.there place k at)) in
-    others j.key differ ∙ h.there other j stands.1;
+        let stands = stands_other slots place other k j at s in
+        let differ : j.key ≢ k.key = λ same. stands.0 (same_some (sym (h.there other j stands.1) ∙ ap was same ∙ h.there place k at)) in
+        others j.key differ ∙ h.there other j stands.1;
     back = λ key other s. elim (cases_eq key k.key) [
       | inl same ↦ absurd (not_none (sym gone ∙ ap is (sym same) ∙ s))
       | inr differ ↦
@@ -109,9 +110,9 @@ module _ {T : Type 0} where
       distinct_from slots place_of (n + 1) (λ place k s. h (suc place) k s ∙ ap Some (omega arith))
   distinct_from (Some j ∷ slots) place_of n h = (
     λ among.
-    let found = key_stands slots j.key among in
-    let same : n + suc found.0 ≡ n + 0 = same_some (sym (h (suc found.0) found.1 found.2) ∙ ap place_of found.3 ∙ h zero j refl) in
-    omega (arith, same),
+        let found = key_stands slots j.key among in
+        let same : n + suc found.0 ≡ n + 0 = same_some (sym (h (suc found.0) found.1 found.2) ∙ ap place_of found.3 ∙ h zero j refl) in
+        omega (arith, same),
     distinct_from slots place_of (n + 1) (λ place k s. h (suc place) k s ∙ ap Some (omega arith)),
   )
 
@@ -119,11 +120,11 @@ module _ {T : Type 0} where
   linked_knows slots place_of h = record {
     distinct = distinct_from slots place_of 0 (λ place k s. h.there place k s ∙ ap Some (omega arith));
     known = λ key has.
-    let found = key_stands slots key has in
-    (found.0, ap place_of (sym found.3) ∙ h.there found.0 found.1 found.2);
+        let found = key_stands slots key has in
+        (found.0, ap place_of (sym found.3) ∙ h.there found.0 found.1 found.2);
     only = λ key place s.
-    let found = h.back key place s in
-    subst (HasKey (kept slots)) found.2 (has_key slots place found.0 found.1);
+        let found = h.back key place s in
+        subst (HasKey (kept slots)) found.2 (has_key slots place found.0 found.1);
   }
 
   same_place : (slots : List (Option (Kept T))) (i n : ℕ) (k j : Kept T) → AreDistinct (keys (kept slots)) → StandsAt slots i k → StandsAt slots n j
@@ -164,7 +165,7 @@ module _ {T : Type 0} where
   told_more slots upto next k was is h at new others more = record {
     there = λ place j p s. elim (where_is place upto) [
       | before lower ↦
-          let differ : j.key ≢ k.key = λ same. 
+          let differ : j.key ≢ k.key = λ same.
           let equal : place ≡ upto = same_place slots place upto j k h.knows.distinct s at same in
           omega (arith, lower, equal) in
           others j.key differ ∙ h.there place j lower s
@@ -191,8 +192,8 @@ module _ {T : Type 0} where
   told_all slots upto place_of h all = record {
     there = λ place k s. h.there place k (omega (arith, all, stands_inside slots place k s)) s;
     back = λ key place s.
-    let found = key_stands slots key (h.knows.only key place s) in
-    let told : place_of found.1.key ≡ Some found.0 = h.there found.0 found.1 (omega (arith, all, stands_inside slots found.0 found.1 found.2)) found.2 in
-    let same : found.0 ≡ place = same_some (sym told ∙ ap place_of found.3 ∙ s) in
-    (found.1, subst (λ p. StandsAt slots p found.1) same found.2, found.3);
+        let found = key_stands slots key (h.knows.only key place s) in
+        let told : place_of found.1.key ≡ Some found.0 = h.there found.0 found.1 (omega (arith, all, stands_inside slots found.0 found.1 found.2)) found.2 in
+        let same : found.0 ≡ place = same_some (sym told ∙ ap place_of found.3 ∙ s) in
+        (found.1, subst (λ p. StandsAt slots p found.1) same found.2, found.3);
   }

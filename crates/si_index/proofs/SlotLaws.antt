@@ -3,7 +3,8 @@ use Rattle.std.proofs.Common.{suc, zero, ◌≡◌, ◌<◌, ◌≤◌, ◌+◌,
 use Rattle.std.specs.List.{filter}
 use Rattle.si_defs.specs.Substitutions.{IsAmong}
 use Rattle.si_index.specs.Halves.{total}
-use Rattle.si_index.specs.Keyed.{keys, HasKey, IsTakenOut, kept, flags, StandsAt}
+use Rattle.si_index.specs.Keyed.{keys, HasKey, IsTakenOut}
+use Rattle.si_index.specs.KeyedSlots.{kept, flags, StandsAt}
 use Rattle.si_index.specs.declared.keyed.Kept.{Kept}
 
 pub same_some : {X : Type 0} {x y : X} → Some x ≡ Some y → x ≡ y

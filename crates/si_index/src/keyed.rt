@@ -3,8 +3,8 @@ ghost use Rattle.std.specs.Prelude.{◌≡◌, ◌<◌, ◌-◌, ◌^◌, [], �
 ghost use Rattle.slab.specs.Slab.{get, slab_len, ContainsKey, HasRoomFor, Updates};
 ghost use Rattle.si_defs.specs.Substitutions.{IsAmong, AreDistinct};
 ghost use Rattle.si_index.specs.Halves.{total};
-ghost use Rattle.si_index.specs.Keyed.{keys, HasKey, HasKeyAt, IsTakenOut, kept, flags, IsLinked, KnowsKeys};
-ghost use Rattle.si_index.specs.KeyedSlots.{IsKept};
+ghost use Rattle.si_index.specs.Keyed.{keys, HasKey, HasKeyAt, IsTakenOut};
+ghost use Rattle.si_index.specs.KeyedSlots.{kept, flags, IsLinked, KnowsKeys, IsIndexed};
 ghost use Rattle.std.specs.Iterator.{YieldsFirstBy, item_count};
 
 use crate::ranks::Ranks;
@@ -39,12 +39,11 @@ impl<T> Model for KeyedList<T> {
 
     ghost Value = { List (ℕ × T) };
 
-    ghost use Rattle.si_index.specs.Keyed.{kept};
-    ghost use Rattle.si_index.specs.KeyedSlots.{IsKept};
+    ghost use Rattle.si_index.specs.KeyedSlots.{kept, IsIndexed};
 
     ghost view = { λ l. kept l.slots.items };
 
-    ghost invariant = { λ l. IsKept l.slots.items l.places l.ranks };
+    ghost invariant = { λ l. IsIndexed l.slots.items l.places l.ranks };
 }
 
 impl<T> KeyedList<T> {
@@ -158,7 +157,7 @@ fn make_room<T>(
     places: &mut Slab<usize>,
     ranks: &mut Ranks,
 ) -> Result<(), AllocError>
-    requires { IsKept slots.old.items places.old ranks.old }
+    requires { IsIndexed slots.old.items places.old ranks.old }
     ensures slots { OnOk result (length slots.old.items < vec_capacity slots.new) }
     ensures places { OnOk result (HasRoomFor places.new 1) }
     ensures counted { OnOk result (ranks.new ≡ ranks.old ++ 1 ∷ []) }
@@ -172,11 +171,7 @@ fn make_room<T>(
 }
 
 /// The item at a position.
-fn kept_at<'a, T>(
-    slots: &'a [Option<Kept<T>>],
-    ranks: &Ranks,
-    position: usize,
-) -> &'a Kept<T>
+fn kept_at<'a, T>(slots: &'a [Option<Kept<T>>], ranks: &Ranks, position: usize) -> &'a Kept<T>
     requires counted { ranks.now ≡ flags slots.now }
     requires inside { position < length (kept slots.now) }
     requires small { total ranks.now < 2 ^ 64 }
@@ -192,9 +187,9 @@ fn close_if_sparse<T: Drop>(
     places: &mut Slab<usize>,
     ranks: &mut Ranks,
 )
-    requires { IsKept slots.old.items places.old ranks.old }
+    requires { IsIndexed slots.old.items places.old ranks.old }
     ensures same { kept slots.new.items ≡ kept slots.old.items }
-    ensures kept { IsKept slots.new.items places.new ranks.new }
+    ensures indexed { IsIndexed slots.new.items places.new ranks.new }
 {
     if places.len() >= slots.len() / 2 {
         return;
@@ -239,7 +234,7 @@ impl<'a, T> Model for Items<'a, T> {
 
     ghost Value = { List (ℕ × T) };
 
-    ghost use Rattle.si_index.specs.Keyed.{kept};
+    ghost use Rattle.si_index.specs.KeyedSlots.{kept};
 
     ghost view = { λ items. kept items.slots.now };
 }

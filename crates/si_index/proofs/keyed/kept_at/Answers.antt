@@ -1,7 +1,7 @@
-use Rattle.std.proofs.Common.{◌≡◌, ◌<◌, Some, is_some, length, sym, ◌∙◌, ap, arith}
+use Rattle.std.proofs.Common.{◌≡◌, Some, is_some, sym, ◌∙◌, ap, arith}
 use Rattle.std.specs.Option.{option_copied}
 use Rattle.si_index.proofs.SlotLaws.{same_some, entry, stands_inside}
-use Rattle.si_index.proofs.KeptLaws.{total_kept, read_there, found_at}
+use Rattle.si_index.proofs.IndexedLaws.{total_kept, read_there, found_at}
 use Rattle.si_index.proofs.keyed.kept_at.Goals as goal
 
 pub find-place-requires-clause-inside : goal.find-place-requires-clause-inside

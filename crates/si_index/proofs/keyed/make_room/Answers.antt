@@ -1,5 +1,5 @@
 use Rattle.std.proofs.Common.{arith}
-use Rattle.si_index.proofs.KeptLaws.{total_bound}
+use Rattle.si_index.proofs.IndexedLaws.{total_bound}
 use Rattle.si_index.proofs.keyed.make_room.Goals as goal
 
 pub push-requires : goal.push-requires

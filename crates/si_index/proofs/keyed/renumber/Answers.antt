@@ -1,8 +1,8 @@
-use Rattle.std.proofs.Common.{◌≡◌, ◌<◌, ◌+◌, Some, None, length, refl, sym, ◌∙◌, ap, subst, arith}
+use Rattle.std.proofs.Common.{◌≡◌, ◌+◌, refl, sym, ◌∙◌, subst, arith}
 use Rattle.slab.specs.Slab.{get, slab_len}
-use Rattle.si_index.specs.Keyed.{StandsAt}
+use Rattle.si_index.specs.KeyedSlots.{StandsAt}
 use Rattle.si_index.proofs.LinkLaws.{AreTold, has_key, told_hole, told_more, told_all}
-use Rattle.si_index.proofs.KeptLaws.{some_there, slot_is}
+use Rattle.si_index.proofs.IndexedLaws.{some_there, slot_is}
 use Rattle.si_index.proofs.keyed.renumber.Goals as goal
 use Rattle.si_index.proofs.keyed.renumber.Goals.{in-Some, in_default}
 

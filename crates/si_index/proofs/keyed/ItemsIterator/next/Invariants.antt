@@ -1,5 +1,5 @@
 use Rattle.std.proofs.Common.{◌≡◌, length}
-use Rattle.si_index.specs.Keyed.{kept}
+use Rattle.si_index.specs.KeyedSlots.{kept}
 use Rattle.si_index.proofs.keyed.ItemsIterator.next.Given as goal
 
 -- only holes were passed over

@@ -1,5 +1,5 @@
 use Rattle.std.proofs.Common.{arith}
-use Rattle.si_index.proofs.KeptLaws.{total_bound}
+use Rattle.si_index.proofs.IndexedLaws.{total_bound}
 use Rattle.si_index.proofs.keyed.KeyedList.at.Goals as goal
 
 pub kept_at-kept-requires-clause-small : goal.kept_at-kept-requires-clause-small

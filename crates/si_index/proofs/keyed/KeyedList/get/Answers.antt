@@ -1,8 +1,8 @@
-use Rattle.std.proofs.Common.{◌≡◌, sym, subst, ap}
+use Rattle.std.proofs.Common.{sym, subst}
 use Rattle.si_defs.specs.Substitutions.{IsAmong}
 use Rattle.si_index.specs.Keyed.{HasKey}
 use Rattle.si_index.proofs.LinkLaws.{fresh_key}
-use Rattle.si_index.proofs.KeptLaws.{got}
+use Rattle.si_index.proofs.IndexedLaws.{got}
 use Rattle.si_index.proofs.Results.{if_none}
 use Rattle.si_index.proofs.keyed.KeyedList.get.Goals as goal
 

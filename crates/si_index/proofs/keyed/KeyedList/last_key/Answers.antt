@@ -1,7 +1,8 @@
 use Rattle.std.proofs.Common.{◌≡◌, ◌-◌, Some, length, slice_get, subst, arith}
-use Rattle.si_index.specs.Keyed.{keys, HasKeyAt, kept}
+use Rattle.si_index.specs.Keyed.{HasKeyAt}
+use Rattle.si_index.specs.KeyedSlots.{kept}
 use Rattle.si_index.proofs.SlotLaws.{entry, key_at}
-use Rattle.si_index.proofs.KeptLaws.{total_bound}
+use Rattle.si_index.proofs.IndexedLaws.{total_bound}
 use Rattle.si_index.proofs.keyed.KeyedList.last_key.Goals as goal
 
 pub kept_at-kept-requires-clause-small : goal.kept_at-kept-requires-clause-small

@@ -1,6 +1,6 @@
-use Rattle.std.proofs.Common.{◌≡◌, ◌<◌, ◌≤◌, length, sym, subst, arith}
+use Rattle.std.proofs.Common.{sym, subst, arith}
 use Rattle.si_index.specs.Keyed.{HasKey, HasKeyAt}
-use Rattle.si_index.proofs.KeptLaws.{is_known, place_within, total_bound, position_there}
+use Rattle.si_index.proofs.IndexedLaws.{is_known, place_within, total_bound, position_there}
 use Rattle.si_index.proofs.keyed.KeyedList.position.Goals as goal
 
 pub index-requires : goal.index-requires

@@ -1,8 +1,8 @@
 use Rattle.std.proofs.Common.{◌≡◌, ◌<◌, Some, None, length, slice_index_or, slice_set, sym, ◌∙◌, ap, subst, arith}
-use Rattle.si_index.specs.Keyed.{HasKey, kept, StandsAt}
-use Rattle.si_index.specs.KeyedSlots.{IsKept}
+use Rattle.si_index.specs.Keyed.{HasKey}
+use Rattle.si_index.specs.KeyedSlots.{kept, StandsAt, IsIndexed}
 use Rattle.si_index.proofs.SlotLaws.{stands_inside, flag_there}
-use Rattle.si_index.proofs.KeptLaws.{is_known, place_within, slot_is, kept_less, took}
+use Rattle.si_index.proofs.IndexedLaws.{is_known, place_within, slot_is, indexed_without, took}
 use Rattle.si_index.proofs.keyed.KeyedList.remove.Goals as goal
 
 pub remove-place-requires : goal.remove-place-requires
@@ -27,9 +27,9 @@ pub close_if_sparse-requires : goal.close_if_sparse-requires
 close_if_sparse-requires g c =
     let place = c.remove-place.ensures in
     subst
-    (λ s. IsKept (slice_set c.self.inside.slots.items c.remove-place.result s) c.remove-place.new.self c.lower.new.self)
+    (λ s. IsIndexed (slice_set c.self.inside.slots.items c.remove-place.result s) c.remove-place.new.self c.lower.new.self)
     (sym c.take.ensures.after)
-    (kept_less c.self.inside.slots.items c.self.inside.places _ c.self.inside.ranks _ c.args.key _ c.self.invariant place.value place.updates place.len c.lower.ensures)
+    (indexed_without c.self.inside.slots.items c.self.inside.places _ c.self.inside.ranks _ c.args.key _ c.self.invariant place.value place.updates place.len c.lower.ensures)
 
 pub returns : goal.returns
 returns g c =

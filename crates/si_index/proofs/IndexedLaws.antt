@@ -5,8 +5,8 @@ use Rattle.std.proofs.lemmas.List.{get_or_read, length-append}
 use Rattle.slab.specs.Slab.{Slab, get, slab_len, Updates}
 use Rattle.si_defs.specs.Substitutions.{IsAmong}
 use Rattle.si_index.specs.Halves.{total}
-use Rattle.si_index.specs.Keyed.{keys, HasKey, HasKeyAt, IsTakenOut, kept, flags, StandsAt, IsLinked, KnowsKeys}
-use Rattle.si_index.specs.KeyedSlots.{IsKept}
+use Rattle.si_index.specs.Keyed.{keys, HasKey, HasKeyAt, IsTakenOut}
+use Rattle.si_index.specs.KeyedSlots.{kept, flags, StandsAt, IsLinked, KnowsKeys, IsIndexed}
 use Rattle.si_index.specs.declared.keyed.Kept.{Kept}
 use Rattle.si_index.proofs.SlotLaws.{same_some, entry, stands_inside, kept_pushed, flags_pushed, taken_out, flag_there, flags_without, flags_length, flags_total, kept_bound, rank_there, found_there, key_at, among_there, kept_filtered}
 use Rattle.si_index.proofs.LinkLaws.{linked_pushed, linked_without, linked_knows, fresh_key}
@@ -65,9 +65,9 @@ module _ {T : Type 0} where
       found_there slots place rest position (ap (λ l. total (take place l) + rest) (sym counted) ∙ before) (subst (λ l. rest < slice_index_or l place 0) counted there)
 
   -- ---- the same tables
-  pub kept_same : (slots now : List (Option (Kept T))) (old new : Slab ℕ) (was ranks : List ℕ) → IsKept slots old was → now ≡ slots → new.slots ≡ old.slots
-      → ranks ≡ was → IsKept now new ranks
-  kept_same slots now old new was ranks h same table counts =
+  pub indexed_same : (slots now : List (Option (Kept T))) (old new : Slab ℕ) (was ranks : List ℕ) → IsIndexed slots old was → now ≡ slots → new.slots ≡ old.slots
+      → ranks ≡ was → IsIndexed now new ranks
+  indexed_same slots now old new was ranks h same table counts =
       let linked : IsLinked slots (λ key. get new key) = subst (λ t. IsLinked slots (λ key. slice_index_or t key None)) (sym table) h.linked in
       record {
         linked = subst (λ s. IsLinked s (λ key. get new key)) (sym same) linked;
@@ -76,11 +76,11 @@ module _ {T : Type 0} where
       }
 
   -- ---- one more item
-  pub kept_more : (slots new : List (Option (Kept T))) (old places : Slab ℕ) (was ranks : List ℕ) (k : Kept T) (place : ℕ) → IsKept slots old was
+  pub indexed_pushed : (slots new : List (Option (Kept T))) (old places : Slab ℕ) (was ranks : List ℕ) (k : Kept T) (place : ℕ) → IsIndexed slots old was
       → get old k.key ≡ None → Updates old places k.key (Some place) → place ≡ length slots → slab_len places ≡ slab_len old + 1
-      → ranks ≡ was ++ 1 ∷ [] → new ≡ slots ++ Some k ∷ [] → IsKept new places ranks
-  kept_more slots new old places was ranks k place h free updates last number counts pushed =
-      subst (λ s. IsKept s places ranks) (sym pushed) (record {
+      → ranks ≡ was ++ 1 ∷ [] → new ≡ slots ++ Some k ∷ [] → IsIndexed new places ranks
+  indexed_pushed slots new old places was ranks k place h free updates last number counts pushed =
+      subst (λ s. IsIndexed s places ranks) (sym pushed) (record {
         linked = linked_pushed slots k (λ key. get old key) (λ key. get places key) h.linked free (updates.changed ∙ ap Some last) updates.others;
         number = omega (arith, number, h.number, ap length (kept_pushed slots k), length-append (kept slots) (entry k ∷ []));
         counted = counts ∙ ap (λ l. l ++ 1 ∷ []) h.counted ∙ sym (flags_pushed slots k);
@@ -91,10 +91,10 @@ module _ {T : Type 0} where
   one_fewer old new key item h =
       omega (arith, ap length h.whole, ap length h.rest, length-append h.before ((key, item) ∷ h.after), length-append h.before h.after)
 
-  pub kept_less : (slots : List (Option (Kept T))) (old places : Slab ℕ) (was ranks : List ℕ) (key place : ℕ) → IsKept slots old was → get old key ≡ Some place
+  pub indexed_without : (slots : List (Option (Kept T))) (old places : Slab ℕ) (was ranks : List ℕ) (key place : ℕ) → IsIndexed slots old was → get old key ≡ Some place
       → Updates old places key None → slab_len places + 1 ≡ slab_len old → ranks ≡ slice_set was place (slice_index_or was place 0 - 1)
-      → IsKept (slice_set slots place None) places ranks
-  kept_less slots old places was ranks key place h leads updates number counts =
+      → IsIndexed (slice_set slots place None) places ranks
+  indexed_without slots old places was ranks key place h leads updates number counts =
       let found = h.linked.back key place leads in
       let gone : get places found.0.key ≡ None = ap (get places) found.2 ∙ updates.changed in
       let others : (other : ℕ) → other ≢ found.0.key → get places other ≡ get old other = λ other differ. updates.others other (λ same. differ (same ∙ sym found.2)) in
@@ -138,9 +138,9 @@ module _ {T : Type 0} where
   pub closed_same : (slots now : List (Option (Kept T))) → now ≡ filter is_some slots → kept now ≡ kept slots
   closed_same slots now closed = ap kept closed ∙ kept_filtered slots
 
-  pub kept_closed : (slots now : List (Option (Kept T))) (old places : Slab ℕ) (was ranks : List ℕ) (places_left : ℕ) → IsKept slots old was → now ≡ filter is_some slots
-      → IsLinked now (λ key. get places key) → slab_len places ≡ slab_len old → places_left ≡ length now → ranks ≡ replicate places_left 1 → IsKept now places ranks
-  kept_closed slots now old places was ranks places_left h closed linked number left ones = record {
+  pub indexed_closed : (slots now : List (Option (Kept T))) (old places : Slab ℕ) (was ranks : List ℕ) (places_left : ℕ) → IsIndexed slots old was → now ≡ filter is_some slots
+      → IsLinked now (λ key. get places key) → slab_len places ≡ slab_len old → places_left ≡ length now → ranks ≡ replicate places_left 1 → IsIndexed now places ranks
+  indexed_closed slots now old places was ranks places_left h closed linked number left ones = record {
     linked = linked;
     number = number ∙ h.number ∙ ap length (sym (closed_same slots now closed));
     counted = ones ∙ ap (λ n. replicate n 1) (left ∙ ap length closed) ∙ sym (all_flags slots) ∙ ap flags (sym closed);

@@ -2,6 +2,9 @@
 #![tactic(auto)]
 
 mod index;
+mod keyed;
 mod ranks;
+#[cfg(test)]
+mod tests;
 
 pub use index::{Index, Stats};

@@ -1,5 +1,5 @@
 -- The signature of a list of clauses tells what the list tells.
-use Rattle.std.proofs.Common.{◌≡◌, ◌⊎◌, ◌↔◌, inl, inr, ℕ, ◌+◌, ◌≤◌, List, [], ◌∷◌, ◌++◌, length, refl, sym, ap, ◌∙◌, subst, arith, append_assoc, append-nil}
+use Rattle.std.proofs.Common.{◌≡◌, ◌⊎◌, ◌↔◌, inl, inr, ℕ, suc, ◌+◌, ◌≤◌, List, [], ◌∷◌, ◌++◌, length, refl, sym, ap, ◌∙◌, subst, arith, append_assoc, append-nil}
 use Rattle.si_defs.specs.Symbols.{Symbol, times}
 use Rattle.si_defs.specs.Clauses.{Clause}
 use Rattle.si_defs.specs.Entries.{clause_symbols, state_symbols}
@@ -51,15 +51,20 @@ module _ (state : List Clause) (known : Signature) (is : IsSignature known) (of 
   agrees_in_state own a = agree_within (symbols known) (state_symbols state) own in_signature a
 
   pub clashes_in_state : (own : List Symbol) (c : Clash) → NamesFirstClash (symbols known) own c → NamesFirstClash (state_symbols state) own c
-  clashes_in_state own c (found, kept, first, shapes) = (found, kept, record {
-    before = first.before;
-    after = first.after;
-    splits = first.splits;
-    position = first.position;
-    earlier = agrees_in_state first.before first.earlier;
-    against = by (among_append (symbols known) first.before kept first.against);
-    clashes = first.clashes;
-  }, shapes) where
+  clashes_in_state own c (found, kept, first, shapes) = (
+    found,
+    kept,
+    record {
+      before = first.before;
+      after = first.after;
+      splits = first.splits;
+      position = first.position;
+      earlier = agrees_in_state first.before first.earlier;
+      against = by (among_append (symbols known) first.before kept first.against);
+      clashes = first.clashes;
+    },
+    shapes,
+  ) where
     by : IsAmong (symbols known) kept ⊎ IsAmong first.before kept → IsAmong (state_symbols state ++ first.before) kept
     by (inl h) = among_left (state_symbols state) first.before kept (in_state kept h)
     by (inr h) = among_right (state_symbols state) first.before kept h
@@ -69,12 +74,13 @@ module _ (state : List Clause) (known : Signature) (is : IsSignature known) (of 
   counts_symbols = (symbols known, distinct_symbols known is.one_shape, (λ s. (in_state s, in_signature s)), lengths known) where
     lengths : (us : Signature) → length us ≡ length (symbols us)
     lengths [] = refl
-    lengths (u ∷ us) = ap (λ n. 1 + n) (lengths us)
+    lengths (u ∷ us) = ap suc (lengths us)
 
     distinct_symbols : (us : Signature) → AreDistinct (keys us) → AreDistinct (symbols us)
     distinct_symbols [] d = tt
-    distinct_symbols (u ∷ us) d =
-        (λ h.
+    distinct_symbols (u ∷ us) d = (
+      λ h.
           let m = symbols_among us u.symbol h in
           d.0 (subst (IsAmong (keys us)) (ap (λ (s : Symbol). (s.kind, s.text)) m.is) (among_keys us m.used m.among)),
-          distinct_symbols us d.1)
+      distinct_symbols us d.1,
+    )

@@ -15,6 +15,3 @@ mod walk;
 pub use faults::{AddFault, Clash, Rejected, Shape, TakeFault};
 pub use signature::Signature;
 pub use store::ClauseStore;
-
-#[cfg(test)]
-mod tests;

@@ -27,7 +27,7 @@ record IsKeyOf (k : ℕ) (o : Option Counted) (key : ℕ) : Type 0 where
 
 key_if_some : (k : ℕ) (o : Option Counted) (key : ℕ) → key_if k o ≡ Some key → IsKeyOf k o key
 key_if_some k None key h = cc
-key_if_some k (Some c) key h = record { counted = c; there = refl; same = sym (some_is k key h); }
+key_if_some k (Some c) key h = record { counted = c; there = refl; same = sym (some_is k key h) }
 
 -- The slot with the key k is one of this kind and text, or of no symbol, before and behind.
 pub record Changes (t v : Uses) (kind : SymKind) (text : Bytes) (k : ℕ) : Type 0 where

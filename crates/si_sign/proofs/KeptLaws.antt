@@ -25,14 +25,15 @@ IsOneShape xs = (i j : ℕ) (c d : Counted) → at xs i ≡ Some c → at xs j �
 distinct : (n : ℕ) (xs : Slots) → IsOneShape xs → AreDistinct (keys (seen_from n xs))
 distinct n [] one = tt
 distinct n (None ∷ xs) one = distinct (1 + n) xs (λ i j c d a b k t. let e = one (suc i) (suc j) c d a b k t in omega (arith, e))
-distinct n (Some c ∷ xs) one =
-    (λ h.
+distinct n (Some c ∷ xs) one = (
+  λ h.
       let m = keys_among (seen_from (1 + n) xs) (c.sym.kind, c.sym.text) h in
       let s = seen_among (1 + n) xs m.used m.among in
       let same : key (used_at (1 + n + s.key) s.counted) ≡ (c.sym.kind, c.sym.text) = ap key s.is ∙ m.is in
       let e = one 0 (suc s.key) c s.counted refl s.there (sym (ap (λ p. p.0) same)) (sym (ap (λ p. p.1) same)) in
       omega (arith, e),
-      distinct (1 + n) xs (λ i j c d a b k t. let e = one (suc i) (suc j) c d a b k t in omega (arith, e)))
+  distinct (1 + n) xs (λ i j c d a b k t. let e = one (suc i) (suc j) c d a b k t in omega (arith, e)),
+)
 
 pub some_is : {A : Type 0} (x y : A) → Some x ≡ Some y → x ≡ y
 some_is x y e = cc
@@ -40,7 +41,7 @@ some_is x y e = cc
 module _ (u : Uses) (facts : IsUses u) where
   pub one_shape : AreDistinct (keys (seen u))
   one_shape = distinct 0 u.slots.slots (λ i j c d a b k t.
-    some_is i j (sym (facts.held i c a) ∙ (λ n. symbol_key u.keys (k n) (t n)) ∙ facts.held j d b))
+      some_is i j (sym (facts.held i c a) ∙ (λ n. symbol_key u.keys (k n) (t n)) ∙ facts.held j d b))
 
   -- the slot of a symbol in use
   pub record Kept (s : Symbol) : Type 0 where
@@ -69,7 +70,7 @@ module _ (u : Uses) (facts : IsUses u) where
       let t = seen_among 0 u.slots.slots a.used a.among in
       let pair : (symbol_of t.counted.sym, 2 * (0 + t.key)) ≡ (s, m) = ap (λ (v : Used). (v.symbol, v.number)) t.is ∙ a.is in
       let number : 2 * (0 + t.key) ≡ m = ap (λ p. p.1) pair in
-      record { slot = t.key; counted = t.counted; there = t.there; is = ap (λ p. p.0) pair; twice = omega (arith, number); }
+      record { slot = t.key; counted = t.counted; there = t.there; is = ap (λ p. p.0) pair; twice = omega (arith, number) }
 
   pub in_seen : (k : ℕ) (c : Counted) → get u.slots k ≡ Some c → IsAmong (seen u) (used_at k c)
   in_seen k c there =
@@ -83,25 +84,25 @@ module _ (u : Uses) (facts : IsUses u) where
   kept_of s h =
       let a = symbols_among (seen u) s h in
       let t = seen_among 0 u.slots.slots a.used a.among in
-      record { slot = t.key; counted = t.counted; there = t.there; is = ap (λ (v : Used). v.symbol) t.is ∙ a.is; }
+      record { slot = t.key; counted = t.counted; there = t.there; is = ap (λ (v : Used). v.symbol) t.is ∙ a.is }
 
   numbered : IsNumbering (numbering (seen u))
   numbered = record {
     one_number = λ s m n a b.
-      let x = slot_of s m a in
-      let y = slot_of s n b in
-      let e = one_slot x.slot y.slot x.counted y.counted s x.there y.there x.is y.is in
-      omega (arith, e, x.twice, y.twice);
+        let x = slot_of s m a in
+        let y = slot_of s n b in
+        let e = one_slot x.slot y.slot x.counted y.counted s x.there y.there x.is y.is in
+        omega (arith, e, x.twice, y.twice);
     one_symbol = λ s r n a b.
-      let x = slot_of s n a in
-      let y = slot_of r n b in
-      let e : x.slot ≡ y.slot = omega (arith, x.twice, y.twice) in
-      let c = some_is x.counted y.counted (sym x.there ∙ ap (get u.slots) e ∙ y.there) in
-      sym x.is ∙ ap (λ (d : Counted). symbol_of d.sym) c ∙ y.is;
+        let x = slot_of s n a in
+        let y = slot_of r n b in
+        let e : x.slot ≡ y.slot = omega (arith, x.twice, y.twice) in
+        let c = some_is x.counted y.counted (sym x.there ∙ ap (get u.slots) e ∙ y.there) in
+        sym x.is ∙ ap (λ (d : Counted). symbol_of d.sym) c ∙ y.is;
     even = λ s n a. let x = slot_of s n a in (x.slot, sym x.twice);
     small = λ s n a.
-      let x = slot_of s n a in
-      omega (arith, x.twice, facts.below x.slot x.counted x.there);
+        let x = slot_of s n a in
+        omega (arith, x.twice, facts.below x.slot x.counted x.there);
   }
 
   pub is_signature : IsSignature (seen u)
@@ -109,8 +110,8 @@ module _ (u : Uses) (facts : IsUses u) where
     one_shape = one_shape;
     numbered = numbered;
     used = all_among (λ v. 1 ≤ v.uses) (seen u) (λ v h.
-      let t = seen_among 0 u.slots.slots v h in
-      omega (arith, facts.used t.key t.counted t.there, ap (λ (w : Used). w.uses) t.is));
+        let t = seen_among 0 u.slots.slots v h in
+        omega (arith, facts.used t.key t.counted t.there, ap (λ (w : Used). w.uses) t.is));
   }
 
   -- a kind and text without a key aren't in use
@@ -140,19 +141,19 @@ uses_for (Some c) s = cond (same_symbol (symbol_of c.sym) s) c.uses 0
 module _ (u : Uses) (facts : IsUses u) (s : Symbol) where
   pub uses_unknown : symbol_key u.keys s.kind s.text ≡ None → uses_of (seen u) s ≡ 0
   uses_unknown none = uses_absent (seen u) s (λ v h e.
-    let k = kept_of u facts s (subst (IsAmong (symbols (seen u))) e (among_symbols (seen u) v h)) in
-    let clash : None ≡ Some k.slot = sym none ∙ slot_key u facts k.slot k.counted s k.there k.is in
-    cc)
+      let k = kept_of u facts s (subst (IsAmong (symbols (seen u))) e (among_symbols (seen u) v h)) in
+      let clash : None ≡ Some k.slot = sym none ∙ slot_key u facts k.slot k.counted s k.there k.is in
+      cc)
 
   pub uses_known : (k : ℕ) (c : Counted) → symbol_key u.keys s.kind s.text ≡ Some k → get u.slots k ≡ Some c → uses_of (seen u) s ≡ uses_for (Some c) s
   uses_known k c known there = by (same_symbol (symbol_of c.sym) s) refl where
     by : (b : Bool) → same_symbol (symbol_of c.sym) s ≡ b → uses_of (seen u) s ≡ cond b c.uses 0
     by true e = ap (uses_of (seen u)) (sym (symbol_is (symbol_of c.sym) s e)) ∙ uses_at u facts k c there
     by false e = uses_absent (seen u) s (λ v h f.
-      let t = kept_of u facts s (subst (IsAmong (symbols (seen u))) f (among_symbols (seen u) v h)) in
-      let slot = some_is t.slot k (sym (slot_key u facts t.slot t.counted s t.there t.is) ∙ known) in
-      let same = some_is t.counted c (sym t.there ∙ ap (get u.slots) slot ∙ there) in
-      differs (sym e ∙ symbol_same (symbol_of c.sym) s (ap (λ (d : Counted). symbol_of d.sym) (sym same) ∙ t.is)))
+        let t = kept_of u facts s (subst (IsAmong (symbols (seen u))) f (among_symbols (seen u) v h)) in
+        let slot = some_is t.slot k (sym (slot_key u facts t.slot t.counted s t.there t.is) ∙ known) in
+        let same = some_is t.counted c (sym t.there ∙ ap (get u.slots) slot ∙ there) in
+        differs (sym e ∙ symbol_same (symbol_of c.sym) s (ap (λ (d : Counted). symbol_of d.sym) (sym same) ∙ t.is)))
 
 -- ---- how many
 count_seen : (n : ℕ) (xs : Slots) → length (seen_from n xs) ≡ count_by is_some xs

@@ -7,3 +7,4 @@ pub mod ChangeLaws
 pub mod TakeLaws
 pub mod StepLaws
 pub mod SoFar
+pub mod StateLaws

@@ -36,14 +36,14 @@ pub record Slot (n : ℕ) (xs : Slots) (u : Used) : Type 0 where
 later : (n : ℕ) (x : Option Counted) (xs : Slots) (u : Used) → Slot (1 + n) xs u → Slot n (x ∷ xs) u
 later n x xs u s =
     let e : 1 + n + s.key ≡ n + suc s.key = omega arith in
-    record { key = suc s.key; counted = s.counted; there = s.there; is = subst (λ m. used_at m s.counted ≡ u) e s.is; }
+    record { key = suc s.key; counted = s.counted; there = s.there; is = subst (λ m. used_at m s.counted ≡ u) e s.is }
 
 pub seen_among : (n : ℕ) (xs : Slots) (u : Used) → IsAmong (seen_from n xs) u → Slot n xs u
 seen_among n [] u h = absurd h
 seen_among n (None ∷ xs) u h = later n None xs u (seen_among (1 + n) xs u h)
 seen_among n (Some d ∷ xs) u (inl is) =
     let e : n ≡ n + 0 = omega arith in
-    record { key = 0; counted = d; there = refl; is = subst (λ m. used_at m d ≡ u) e is; }
+    record { key = 0; counted = d; there = refl; is = subst (λ m. used_at m d ≡ u) e is }
 seen_among n (Some d ∷ xs) u (inr h) = later n (Some d) xs u (seen_among (1 + n) xs u h)
 
 -- ---- its numbers rise
@@ -77,8 +77,8 @@ same_rising m n [] (y ∷ ys) r q f g = absurd (g y (inl refl))
 same_rising m n (x ∷ xs) [] r q f g = absurd (f x (inl refl))
 same_rising m n (x ∷ xs) (y ∷ ys) r q f g =
     let rest : x ≡ y → xs ≡ ys = λ e. same_rising (1 + x.number) (1 + y.number) xs ys r.1 q.1
-      (λ u h. tail_of y u ys (subst (λ (w : Used). 1 + w.number ≤ u.number) e (rising_above (1 + x.number) xs u r.1 h)) (f u (inr h)))
-      (λ u h. tail_of x u xs (subst (λ (w : Used). 1 + w.number ≤ u.number) (sym e) (rising_above (1 + y.number) ys u q.1 h)) (g u (inr h))) in
+    (λ u h. tail_of y u ys (subst (λ (w : Used). 1 + w.number ≤ u.number) e (rising_above (1 + x.number) xs u r.1 h)) (f u (inr h)))
+    (λ u h. tail_of x u xs (subst (λ (w : Used). 1 + w.number ≤ u.number) (sym e) (rising_above (1 + y.number) ys u q.1 h)) (g u (inr h))) in
     by (f x (inl refl)) (g y (inl refl)) rest where
       by : (y ≡ x) ⊎ IsAmong ys x → (x ≡ y) ⊎ IsAmong xs y → (x ≡ y → xs ≡ ys) → x ∷ xs ≡ y ∷ ys
       by (inl e) k rest = λ i. sym e i ∷ rest (sym e) i

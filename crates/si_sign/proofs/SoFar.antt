@@ -68,7 +68,7 @@ pub record TakesSoFar (u v : Uses) (own : List Symbol) : Type 0 where
 
 module _ (u : Uses) (facts : IsUses u) where
   pub takes_first : TakesSoFar u u []
-  takes_first = record { uses = facts; takes = takes_none (seen u) (is_signature u facts); }
+  takes_first = record { uses = facts; takes = takes_none (seen u) (is_signature u facts) }
 
   module _ (v : Uses) (own ys : List Symbol) (so_far : TakesSoFar u v own) where
     pub takes_on : (w : Uses) (now : List Symbol) → IsUses w → Takes ys (seen v) (seen w) → now ≡ own ++ ys → TakesSoFar u w now
@@ -105,7 +105,7 @@ pub record GivesSoFar (u v : Uses) (own : List Symbol) : Type 0 where
   pub gives : GivesBack own (seen u) (seen v)
 
 pub gives_first : (u : Uses) → IsUses u → GivesSoFar u u []
-gives_first u facts = record { uses = facts; gives = gives_none (seen u) (is_signature u facts); }
+gives_first u facts = record { uses = facts; gives = gives_none (seen u) (is_signature u facts) }
 
 module _ (u v : Uses) (own ys : List Symbol) (so_far : GivesSoFar u v own) where
   pub gives_on : (w : Uses) (now : List Symbol) → IsUses w → GivesBack ys (seen v) (seen w) → now ≡ own ++ ys → GivesSoFar u w now

@@ -47,7 +47,7 @@ pub record UsedSlot (t : Uses) (s : Symbol) : Type 0 where
 pub used_slot : (t : Uses) → IsUses t → (s : Symbol) → 1 ≤ uses_of (seen t) s → UsedSlot t s
 used_slot t facts s h =
     let k = kept_of t facts s (used_symbols (seen t) s h) in
-    record { slot = k.slot; counted = k.counted; known = slot_key t facts k.slot k.counted s k.there k.is; there = k.there; is = k.is; }
+    record { slot = k.slot; counted = k.counted; known = slot_key t facts k.slot k.counted s k.there k.is; there = k.there; is = k.is }
 
 pub uses_total : (us : Signature) (s : Symbol) → uses_of us s ≤ total us
 uses_total [] s = omega arith
@@ -75,8 +75,8 @@ recounted t facts s k c d n known there same one sum few =
       is = known ∙ ap (key_if k) (sym here);
       before = λ e h. known_slot t facts s k e known h;
       after = λ e h.
-        let f = some_is d e (sym here ∙ h) in
-        (ap (λ (g : Counted). g.sym.kind) (sym f) ∙ ap (λ y. y.kind) same ∙ of.0, ap (λ (g : Counted). g.sym.text) (sym f) ∙ ap (λ y. y.text) same ∙ of.1);
+          let f = some_is d e (sym here ∙ h) in
+          (ap (λ (g : Counted). g.sym.kind) (sym f) ∙ ap (λ y. y.kind) same ∙ of.0, ap (λ (g : Counted). g.sym.text) (sym f) ∙ ap (λ y. y.text) same ∙ of.1);
       used = λ e h. omega (arith, one, ap (λ (g : Counted). g.uses) (some_is d e (sym here ∙ h)));
       small = facts.below k c there;
       sum = omega (arith, sum, ap uses_in there, ap uses_in here);
@@ -93,8 +93,8 @@ admitted t v facts s k d is one none vacant small keyed here others sum room = r
   is = keyed.here ∙ ap (key_if k) (sym here);
   before = λ e h. let clash : None ≡ Some e = sym vacant ∙ h in cc;
   after = λ e h.
-    let f = some_is d e (sym here ∙ h) in
-    (ap (λ (g : Counted). g.sym.kind) (sym f) ∙ ap (λ (r : Symbol). r.kind) is, ap (λ (g : Counted). g.sym.text) (sym f) ∙ ap (λ (r : Symbol). r.text) is);
+      let f = some_is d e (sym here ∙ h) in
+      (ap (λ (g : Counted). g.sym.kind) (sym f) ∙ ap (λ (r : Symbol). r.kind) is, ap (λ (g : Counted). g.sym.text) (sym f) ∙ ap (λ (r : Symbol). r.text) is);
   used = λ e h. omega (arith, one, ap (λ (g : Counted). g.uses) (some_is d e (sym here ∙ h)));
   small = small;
   sum = omega (arith, sum, one, ap uses_in vacant, ap uses_in here);
@@ -199,24 +199,30 @@ pub refuses_known : (begin : ℕ) (t : Uses) → IsUses t → (s : Symbol) (k : 
     → (same_side s.side c.sym.side && s.arity == c.sym.arity) ≡ false → e.found ≡ shape_of s → e.kept ≡ shape_of (symbol_of c.sym) → begin + e.entry ≡ t.total
     → RefusesFrom begin (seen t) (s ∷ []) (take_fault.Clash e)
 refuses_known begin t facts s k c e known there other found kept position =
-    let of = known_slot t facts s k c known there in
-    (0, s, symbol_of c.sym, record {
-      before = [];
-      after = [];
-      splits = refl;
-      position = refl;
-      earlier = tt;
-      against = among_left (symbols (seen t)) [] (symbol_of c.sym) (among_symbols (seen t) (used_at k c) (in_seen t facts k c there));
-      clashes = record {
-        kind = sym of.0;
-        text = sym of.1;
-        differ = λ side arity. differs (sym other ∙ (λ n. same_side s.side (sym side n) && s.arity == sym arity n) ∙ (λ n. side_same s.side n && eq-eqb s.arity s.arity refl n));
-      };
-    }, (found, kept), omega (arith, position, facts.counted))
+    let of = known_slot t facts s k c known there in (
+      0,
+      s,
+      symbol_of c.sym,
+      record {
+        before = [];
+        after = [];
+        splits = refl;
+        position = refl;
+        earlier = tt;
+        against = among_left (symbols (seen t)) [] (symbol_of c.sym) (among_symbols (seen t) (used_at k c) (in_seen t facts k c there));
+        clashes = record {
+          kind = sym of.0;
+          text = sym of.1;
+          differ = λ side arity. differs (sym other ∙ (λ n. same_side s.side (sym side n) && s.arity == sym arity n) ∙ (λ n. side_same s.side n && eq-eqb s.arity s.arity refl n));
+        };
+      },
+      (found, kept),
+      omega (arith, position, facts.counted),
+    )
 
 -- a symbol of the slot's kind and text, with its side and arity, is the slot's
 pub same_shape : (s : Symbol) (c : Counted) → (c.sym.kind ≡ s.kind) × (c.sym.text ≡ s.text) → s.side ≡ c.sym.side → s.arity ≡ c.sym.arity → symbol_of c.sym ≡ s
-same_shape s c of side arity = λ n. record { kind = of.0 n; text = of.1 n; side = sym side n; arity = sym arity n; }
+same_shape s c of side arity = λ n. record { kind = of.0 n; text = of.1 n; side = sym side n; arity = sym arity n }
 
 -- the slot that a used symbol's key names has that symbol
 pub slot_symbol : (t : Uses) → IsUses t → (s : Symbol) (k : ℕ) (c : Counted) → 1 ≤ uses_of (seen t) s → symbol_key t.keys s.kind s.text ≡ Some k → get t.slots k ≡ Some c → symbol_of c.sym ≡ s

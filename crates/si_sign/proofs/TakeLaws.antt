@@ -38,14 +38,15 @@ positive_either zero n h = inr (omega (arith, h))
 positive_either (suc m) n h = inl (omega arith)
 
 -- ---- agreement
-agree_within : (ks ls ss : List Symbol) → ((r : Symbol) → IsAmong ls r → IsAmong ks r) → AllAgree ks ss → AllAgree ls ss
+pub agree_within : (ks ls ss : List Symbol) → ((r : Symbol) → IsAmong ls r → IsAmong ks r) → AllAgree ks ss → AllAgree ls ss
 agree_within ks ls [] sub a = tt
-agree_within ks ls (s ∷ ss) sub a =
-    (all_among (λ r. Clashes s r → ⊥) ls (λ r h. one_of_all (λ r. Clashes s r → ⊥) ks r a.0 (sub r h)),
-      agree_within (ks ++ s ∷ []) (ls ++ s ∷ []) ss (λ r h. by r (among_append ls (s ∷ []) r h)) a.1) where
-        by : (r : Symbol) → IsAmong ls r ⊎ IsAmong (s ∷ []) r → IsAmong (ks ++ s ∷ []) r
-        by r (inl h) = among_left ks (s ∷ []) r (sub r h)
-        by r (inr h) = among_right ks (s ∷ []) r h
+agree_within ks ls (s ∷ ss) sub a = (
+  all_among (λ r. Clashes s r → ⊥) ls (λ r h. one_of_all (λ r. Clashes s r → ⊥) ks r a.0 (sub r h)),
+  agree_within (ks ++ s ∷ []) (ls ++ s ∷ []) ss (λ r h. by r (among_append ls (s ∷ []) r h)) a.1,
+) where
+  by : (r : Symbol) → IsAmong ls r ⊎ IsAmong (s ∷ []) r → IsAmong (ks ++ s ∷ []) r
+  by r (inl h) = among_left ks (s ∷ []) r (sub r h)
+  by r (inr h) = among_right ks (s ∷ []) r h
 
 agree_append : (ks xs ys : List Symbol) → AllAgree ks xs → AllAgree (ks ++ xs) ys → AllAgree ks (xs ++ ys)
 agree_append ks [] ys a b = subst (λ l. AllAgree l ys) (append-nil ks) b
@@ -87,30 +88,42 @@ module _ (a b : Signature) (xs ys : List Symbol) (at_first : IsSignature a) (tak
 
   -- what is refused behind what was taken
   pub refuses_more : IsSignature b → (begin : ℕ) (f : TakeFault) → RefusesFrom begin b ys f → RefusesFrom begin a (xs ++ ys) f
-  refuses_more now begin (take_fault.Clash c) (number, found, kept, first, shapes, position) =
-      (length xs + number, found, kept, record {
-        before = xs ++ first.before;
-        after = first.after;
-        splits = ap (λ l. xs ++ l) first.splits ∙ sym (append_assoc xs first.before (found ∷ first.after));
-        position = omega (arith, first.position, length-append xs first.before);
-        earlier = agree_append (symbols a) xs first.before taken.agree (agree_within (symbols b) (symbols a ++ xs) first.before kept_or_own first.earlier);
-        against = against_more now first.before kept first.against;
-        clashes = first.clashes;
-      }, shapes, omega (arith, position, taken.sum))
+  refuses_more now begin (take_fault.Clash c) (number, found, kept, first, shapes, position) = (
+    length xs + number,
+    found,
+    kept,
+    record {
+      before = xs ++ first.before;
+      after = first.after;
+      splits = ap (λ l. xs ++ l) first.splits ∙ sym (append_assoc xs first.before (found ∷ first.after));
+      position = omega (arith, first.position, length-append xs first.before);
+      earlier = agree_append (symbols a) xs first.before taken.agree (agree_within (symbols b) (symbols a ++ xs) first.before kept_or_own first.earlier);
+      against = against_more now first.before kept first.against;
+      clashes = first.clashes;
+    },
+    shapes,
+    omega (arith, position, taken.sum),
+  )
   refuses_more now begin take_fault.Memory why = tt
 
 -- what is refused already in the front
 pub refuses_front : (begin : ℕ) (a : Signature) (xs ys : List Symbol) (f : TakeFault) → RefusesFrom begin a xs f → RefusesFrom begin a (xs ++ ys) f
-refuses_front begin a xs ys (take_fault.Clash c) (number, found, kept, first, shapes, position) =
-    (number, found, kept, record {
-      before = first.before;
-      after = first.after ++ ys;
-      splits = ap (λ l. l ++ ys) first.splits ∙ append_assoc first.before (found ∷ first.after) ys;
-      position = first.position;
-      earlier = first.earlier;
-      against = first.against;
-      clashes = first.clashes;
-    }, shapes, position)
+refuses_front begin a xs ys (take_fault.Clash c) (number, found, kept, first, shapes, position) = (
+  number,
+  found,
+  kept,
+  record {
+    before = first.before;
+    after = first.after ++ ys;
+    splits = ap (λ l. l ++ ys) first.splits ∙ append_assoc first.before (found ∷ first.after) ys;
+    position = first.position;
+    earlier = first.earlier;
+    against = first.against;
+    clashes = first.clashes;
+  },
+  shapes,
+  position,
+)
 refuses_front begin a xs ys take_fault.Memory why = tt
 
 -- ---- giving back
@@ -137,7 +150,7 @@ carried a c first last same numbers u h =
     let m = uses_positive a u.symbol (omega (arith, uses, one, same u.symbol)) in
     let number = numbers u.symbol m.used.number u.number (subst (λ r. IsAmong (numbering a) (r, m.used.number)) m.is (among_numbering a m.used m.among)) (among_numbering c u h) in
     let times_used : m.used.uses ≡ u.uses = omega (arith, uses, same u.symbol, uses_among a m.used first.one_shape m.among, ap (uses_of a) m.is) in
-    let e : m.used ≡ u = λ i. record { symbol = m.is i; uses = times_used i; number = number i; } in
+    let e : m.used ≡ u = λ i. record { symbol = m.is i; uses = times_used i; number = number i } in
     subst (IsAmong a) e m.among
 
 pub undone : (a b c : Signature) (xs : List Symbol) → IsSignature a → IsSignature c → IsRising 0 a → IsRising 0 c → Takes xs a b → GivesBack xs b c → c ≡ a
@@ -145,8 +158,8 @@ undone a b c xs first last rising again taken given =
     let same : (s : Symbol) → uses_of a s ≡ uses_of c s = λ s. omega (arith, taken.uses s, given.uses s) in
     let numbers = keeps_through a b c (λ s h k. used_symbols b s (omega (arith, taken.uses s, symbols_used a first s h))) taken.numbers given.numbers in
     same_rising 0 0 c a again rising
-      (carried a c first last same numbers)
-      (carried c a last first (λ s. sym (same s)) (λ s m n x y. sym (numbers s n m y x)))
+    (carried a c first last same numbers)
+    (carried c a last first (λ s. sym (same s)) (λ s m n x y. sym (numbers s n m y x)))
 
 -- numbers stay where occurrences are taken, and where nothing changes
 pub keeps_either : {T E : Type 0} (r : Result T E) (own : List Symbol) (a b : Signature) → IsSignature a → OnOk r (Takes own a b) → OnErr r (b ≡ a) → KeepsNumbers a b

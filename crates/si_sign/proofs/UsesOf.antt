@@ -63,21 +63,21 @@ pub record Member {A : Type 0} (f : Used → A) (us : Signature) (x : A) : Type 
   pub is : f used ≡ x
 
 next : {A : Type 0} (f : Used → A) (v : Used) (us : Signature) (x : A) → Member f us x → Member f (v ∷ us) x
-next f v us x m = record { used = m.used; among = inr m.among; is = m.is; }
+next f v us x m = record { used = m.used; among = inr m.among; is = m.is }
 
 pub keys_among : (us : Signature) (k : SymKind × Bytes) → IsAmong (keys us) k → Member key us k
 keys_among [] k h = absurd h
-keys_among (v ∷ us) k (inl e) = record { used = v; among = inl refl; is = e; }
+keys_among (v ∷ us) k (inl e) = record { used = v; among = inl refl; is = e }
 keys_among (v ∷ us) k (inr h) = next key v us k (keys_among us k h)
 
 pub symbols_among : (us : Signature) (s : Symbol) → IsAmong (symbols us) s → Member (λ u. u.symbol) us s
 symbols_among [] s h = absurd h
-symbols_among (v ∷ us) s (inl e) = record { used = v; among = inl refl; is = e; }
+symbols_among (v ∷ us) s (inl e) = record { used = v; among = inl refl; is = e }
 symbols_among (v ∷ us) s (inr h) = next (λ u. u.symbol) v us s (symbols_among us s h)
 
 pub numbering_among : (us : Signature) (p : Symbol × ℕ) → IsAmong (numbering us) p → Member (λ u. (u.symbol, u.number)) us p
 numbering_among [] p h = absurd h
-numbering_among (v ∷ us) p (inl e) = record { used = v; among = inl refl; is = e; }
+numbering_among (v ∷ us) p (inl e) = record { used = v; among = inl refl; is = e }
 numbering_among (v ∷ us) p (inr h) = next (λ u. (u.symbol, u.number)) v us p (numbering_among us p h)
 
 -- ---- uses
@@ -92,7 +92,7 @@ pub uses_positive : (us : Signature) (s : Symbol) → 1 ≤ uses_of us s → Mem
 uses_positive [] s h = absurd (omega arith)
 uses_positive (u ∷ us) s h = by (same_symbol u.symbol s) refl h (λ k. uses_positive us s k) where
   by : (b : Bool) → same_symbol u.symbol s ≡ b → 1 ≤ cond b u.uses (uses_of us s) → (1 ≤ uses_of us s → Member (λ v. v.symbol) us s) → Member (λ v. v.symbol) (u ∷ us) s
-  by true e h rest = record { used = u; among = inl refl; is = symbol_is u.symbol s e; }
+  by true e h rest = record { used = u; among = inl refl; is = symbol_is u.symbol s e }
   by false e h rest = next (λ v. v.symbol) u us s (rest h)
 
 pub uses_among : (us : Signature) (u : Used) → AreDistinct (keys us) → IsAmong us u → uses_of us u.symbol ≡ u.uses

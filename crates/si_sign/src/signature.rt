@@ -90,8 +90,12 @@ impl Signature {
 
     /// The side and arity that the kind and text have here, if they occur.
     pub fn shape_of(&self, kind: SymKind, text: &[u8]) -> Option<Shape>
-        ensures found { IfSome result (λ s. IsAmong (symbols self.now) (record { kind = kind;
-            text = text.now; side = s.side; arity = s.arity })) }
+        ensures found { IfSome result (λ s. IsAmong (symbols self.now) (record {
+          kind = kind;
+          text = text.now;
+          side = s.side;
+          arity = s.arity;
+        })) }
         ensures none { IfNone result (IsAmong (keys self.now) (kind, text.now) → ⊥) }
         ensures signature { IsSignature self.now }
     {

@@ -1,4 +1,4 @@
-use Rattle.std.proofs.Common.{◌≡◌, Some, None, sym, ap, subst, ◌∙◌}
+use Rattle.std.proofs.Common.{◌≡◌, sym, ap, subst, ◌∙◌}
 use Rattle.si_defs.specs.Symbols.{Symbol}
 use Rattle.si_defs.specs.Substitutions.{IsAmong}
 use Rattle.si_state.specs.Signatures.{IsSignature, symbols, keys}
@@ -22,8 +22,8 @@ returns-clause-found c =
     let w = c.index-counted.result.now in
     let r = c.self.invariant.found c.args.kind c.args.text.now c.in-Some.key (sym c.get.ensures ∙ c.in-Some.is) in
     let same = some_is r.0 w (sym r.1 ∙ c.index-counted.ensures) in
-    let s : Symbol = record { kind = c.args.kind; text = c.args.text.now; side = c.shape.result.side; arity = c.shape.result.arity; } in
-    let is : record { kind = w.sym.kind; text = w.sym.text; side = w.sym.side; arity = w.sym.arity; } ≡ s = λ i. record {
+    let s : Symbol = record { kind = c.args.kind; text = c.args.text.now; side = c.shape.result.side; arity = c.shape.result.arity } in
+    let is : record { kind = w.sym.kind; text = w.sym.text; side = w.sym.side; arity = w.sym.arity } ≡ s = λ i. record {
       kind = (ap (λ d. d.sym.kind) (sym same) ∙ r.2) i;
       text = (ap (λ d. d.sym.text) (sym same) ∙ r.3) i;
       side = (sym c.shape.ensures i).side;

@@ -1,4 +1,4 @@
-use Rattle.std.proofs.Common.{sym, subst}
+use Rattle.std.proofs.Common.{subst}
 use Rattle.si_state.specs.Signatures.{IsSignature}
 use Rattle.si_sign.proofs.KeptLaws.{is_signature}
 use Rattle.si_sign.proofs.signature.Signature.total.Goals as goal

@@ -1,4 +1,4 @@
-use Rattle.std.proofs.Common.{◌≡◌, ℕ, ◌*◌, Some, None, Bool, true, false, ◌&&◌, ◌==◌, refl, sym, ap, subst, ◌∙◌}
+use Rattle.std.proofs.Common.{◌≡◌, ℕ, ◌*◌, Some, None, ◌&&◌, ◌==◌, refl, sym, ap, subst, ◌∙◌}
 use Rattle.std.proofs.lemmas.Bool.{eqb-true, eq-eqb}
 use Rattle.slab.specs.Slab.{get}
 use Rattle.si_defs.specs.Symbols.{Symbol, IsNumbering, same_side}
@@ -30,11 +30,11 @@ returns-then-not-has_shape_of-clause-none c =
     let w = c.index-counted.result.now in
     let known : symbol_key u.keys s.kind s.text ≡ Some c.in-Some.key = ap (symbol_key u.keys s.kind) (sym c.as_bytes.ensures) ∙ sym c.get.ensures ∙ c.in-Some.is in
     let none : (n : ℕ) → IsAmong (numbering (seen u)) (s, n) → ⊥ = λ n h.
-      let x = slot_of u c.self.invariant s n h in
-      let slot = some_is x.slot c.in-Some.key (sym (slot_key u c.self.invariant x.slot x.counted s x.there x.is) ∙ known) in
-      let same = some_is x.counted w (sym x.there ∙ ap (λ j. get u.slots j) slot ∙ c.index-counted.ensures) in
-      let is : symbol_of w.sym ≡ s = ap (λ (d : Counted). symbol_of d.sym) (sym same) ∙ x.is in
-      differs (sym c.if-not-has_shape_of.true ∙ c.has_shape_of.ensures ∙ (λ i. same_side s.side (is i).side && s.arity == (is i).arity) ∙ (λ i. side_same s.side i && eq-eqb s.arity s.arity refl i)) in
+    let x = slot_of u c.self.invariant s n h in
+    let slot = some_is x.slot c.in-Some.key (sym (slot_key u c.self.invariant x.slot x.counted s x.there x.is) ∙ known) in
+    let same = some_is x.counted w (sym x.there ∙ ap (λ j. get u.slots j) slot ∙ c.index-counted.ensures) in
+    let is : symbol_of w.sym ≡ s = ap (λ (d : Counted). symbol_of d.sym) (sym same) ∙ x.is in
+    differs (sym c.if-not-has_shape_of.true ∙ c.has_shape_of.ensures ∙ (λ i. same_side s.side (is i).side && s.arity == (is i).arity) ∙ (λ i. side_same s.side i && eq-eqb s.arity s.arity refl i)) in
     subst (λ k. (n : ℕ) → IsAmong (numbering k) (s, n) → ⊥) c.self.view_is none
 
 pub returns-then-not-has_shape_of-clause-numbering : goal.returns-then-not-has_shape_of-clause-numbering

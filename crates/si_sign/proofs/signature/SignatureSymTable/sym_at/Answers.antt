@@ -1,4 +1,4 @@
-use Rattle.std.proofs.Common.{◌≡◌, ℕ, ◌*◌, ◌/◌, Some, None, sym, ap, subst, ◌∙◌, arith}
+use Rattle.std.proofs.Common.{◌≡◌, ◌*◌, ◌/◌, Some, None, sym, ap, subst, ◌∙◌, arith}
 use Rattle.std.specs.Prelude.{option_copied}
 use Rattle.slab.specs.Slab.{get}
 use Rattle.si_defs.specs.Symbols.{Symbol, IsNumbering}
@@ -14,10 +14,10 @@ returns-in_default-clause-none c =
     let u = c.self.inside.uses in
     let none : get u.slots (c.args.id / 2) ≡ None = sym c.get.ensures ∙ ap option_copied c.in_default.is in
     let apart : (s : Symbol) → IsAmong (numbering (seen u)) (s, c.args.id) → ⊥ = λ s h.
-      let x = slot_of u c.self.invariant s c.args.id h in
-      let slot : x.slot ≡ c.args.id / 2 = omega (arith, x.twice) in
-      let clash : None ≡ Some x.counted = sym none ∙ ap (get u.slots) (sym slot) ∙ x.there in
-      cc in
+    let x = slot_of u c.self.invariant s c.args.id h in
+    let slot : x.slot ≡ c.args.id / 2 = omega (arith, x.twice) in
+    let clash : None ≡ Some x.counted = sym none ∙ ap (get u.slots) (sym slot) ∙ x.there in
+    cc in
     subst (λ k. (s : Symbol) → IsAmong (numbering k) (s, c.args.id) → ⊥) c.self.view_is apart
 
 pub returns-in_default-clause-numbering : goal.returns-in_default-clause-numbering
@@ -27,8 +27,8 @@ pub returns-then-id-eq1-clause-none : goal.returns-then-id-eq1-clause-none
 returns-then-id-eq1-clause-none c =
     let u = c.self.inside.uses in
     let apart : (s : Symbol) → IsAmong (numbering (seen u)) (s, c.args.id) → ⊥ = λ s h.
-      let x = slot_of u c.self.invariant s c.args.id h in
-      omega (arith, x.twice, c.if-id-eq1.true) in
+    let x = slot_of u c.self.invariant s c.args.id h in
+    omega (arith, x.twice, c.if-id-eq1.true) in
     subst (λ k. (s : Symbol) → IsAmong (numbering k) (s, c.args.id) → ⊥) c.self.view_is apart
 
 pub returns-then-id-eq1-clause-numbering : goal.returns-then-id-eq1-clause-numbering

@@ -1,14 +1,13 @@
-use Rattle.std.proofs.Common.{◌≡◌, ◌+◌, ◌≤◌, List, [], ◌∷◌, ◌++◌, length, map, take, drop, refl, sym, ap, subst, ◌∙◌, arith, append-nil}
+use Rattle.std.proofs.Common.{◌+◌, [], ◌∷◌, ◌++◌, map, take, drop, refl, sym, ap, subst, ◌∙◌, arith, append-nil}
 use Rattle.si_defs.specs.Symbols.{Symbol, times}
 use Rattle.si_defs.specs.Terms.{row, size, symbols, symbols_of_all}
-use Rattle.si_state.specs.Signatures.{uses_of}
 use Rattle.si_term.specs.Terms.{symbol_of, term_of}
 use Rattle.si_term.proofs.Rows.{app-term, size-read}
 use Rattle.si_sign.specs.Uses.{seen}
 use Rattle.si_sign.specs.Taking.{GivesBack}
 use Rattle.si_sign.proofs.UsesOf.{times_append}
 use Rattle.si_sign.proofs.StepLaws.{times_one}
-use Rattle.si_sign.proofs.SoFar.{GivesSoFar, gather, gather_next, gather_all, gather_split, in_term, in_terms, gives_first, gives_on, still_used}
+use Rattle.si_sign.proofs.SoFar.{gather, gather_next, gather_all, gather_split, in_term, in_terms, gives_first, gives_on, still_used}
 use Rattle.si_sign.proofs.uses.Uses.+give.Goals as goal
 
 pub give_back_term-give_back-requires-clause-used : goal.give_back_term-give_back-requires-clause-used
@@ -24,10 +23,13 @@ give_back_term-give_back_terms-requires t c =
     let own = symbol_of c.in-App.symbol ∷ [] in
     let is = app-term c.args.term.now c.in-App.symbol c.in-App.arguments c.as_slice.result.now c.in-App.is c.as_slice.ensures in
     let rest = symbols_of_all (row (map term_of c.as_slice.result.now)) in
-    let so_far = gives_on u u [] own (gives_first u c.requires.uses) v own c.give_back.ensures.uses c.give_back.ensures.back refl in
-    (omega (arith, ap size is),
-      (c.give_back.ensures.uses,
-      still_used u v own rest so_far (symbols (term_of c.args.term.now)) [] (ap symbols is ∙ sym (append-nil (own ++ rest))) c.requires.used))
+    let so_far = gives_on u u [] own (gives_first u c.requires.uses) v own c.give_back.ensures.uses c.give_back.ensures.back refl in (
+      omega (arith, ap size is),
+      (
+        c.give_back.ensures.uses,
+        still_used u v own rest so_far (symbols (term_of c.args.term.now)) [] (ap symbols is ∙ sym (append-nil (own ++ rest))) c.requires.used,
+      ),
+    )
 
 pub give_back_term-returns-in-Var-clause-back : goal.give_back_term-returns-in-Var-clause-back
 give_back_term-returns-in-Var-clause-back t c =
@@ -51,10 +53,13 @@ give_back_terms-give_back_term-requires t c =
     let ts = c.args.terms.now in
     let i = c.loop-i.i in
     let one = c.index-terms-i.result in
-    let split = in_terms ts ∙ gather_split in_term ts i one c.loop-i-test.true c.index-terms-i.is in
-    (omega (arith, size-read ts i one c.loop-i-test.true c.index-terms-i.is),
-      (c.loop-i.invariant.uses,
-      still_used c.args.self.now c.loop-i.self (gather in_term (take i ts)) (in_term one) c.loop-i.invariant _ (gather in_term (drop (i + 1) ts)) split c.requires.used))
+    let split = in_terms ts ∙ gather_split in_term ts i one c.loop-i-test.true c.index-terms-i.is in (
+      omega (arith, size-read ts i one c.loop-i-test.true c.index-terms-i.is),
+      (
+        c.loop-i.invariant.uses,
+        still_used c.args.self.now c.loop-i.self (gather in_term (take i ts)) (in_term one) c.loop-i.invariant _ (gather in_term (drop (i + 1) ts)) split c.requires.used,
+      ),
+    )
 
 pub give_back_terms-loop-i-preserved : goal.give_back_terms-loop-i-preserved
 give_back_terms-loop-i-preserved t c =
@@ -62,7 +67,7 @@ give_back_terms-loop-i-preserved t c =
     let i = c.loop-i.i in
     let one = c.index-terms-i.result in
     gives_on c.args.self.now c.loop-i.self (gather in_term (take i ts)) (in_term one) c.loop-i.invariant c.give_back_term.new.self _ c.give_back_term.ensures.uses c.give_back_term.ensures.back
-      (gather_next in_term ts i one c.loop-i-test.true c.index-terms-i.is)
+    (gather_next in_term ts i one c.loop-i-test.true c.index-terms-i.is)
 
 pub give_back_terms-returns-clause-uses : goal.give_back_terms-returns-clause-uses
 give_back_terms-returns-clause-uses t c = c.loop-i.invariant.uses

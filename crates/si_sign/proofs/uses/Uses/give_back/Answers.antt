@@ -1,5 +1,4 @@
-use Rattle.std.proofs.Common.{◌≡◌, ℕ, ◌+◌, ◌-◌, ◌<◌, ◌≤◌, Some, None, refl, sym, ap, subst, ◌∙◌, arith}
-use Rattle.slab.specs.Slab.{get}
+use Rattle.std.proofs.Common.{◌≡◌, ◌-◌, ◌<◌, ◌≤◌, Some, None, refl, sym, ap, subst, ◌∙◌, arith}
 use Rattle.si_defs.specs.Symbols.{Symbol}
 use Rattle.si_term.specs.Terms.{symbol_of}
 use Rattle.si_sign.specs.Keys.{symbol_key, HasAtKind}
@@ -33,7 +32,7 @@ returns-then-index-gt1-clause-uses c =
     let known : symbol_key t.keys s.kind s.text ≡ Some key = ap (symbol_key t.keys s.kind) (sym c.as_bytes.ensures) ∙ sym c.get.ensures ∙ c.in-Some.is in
     let w = c.index_mut.result.now in
     let there = c.index_mut.ensures.value in
-    let d : Counted = record { sym = w.sym; uses = w.uses - 1; } in
+    let d : Counted = record { sym = w.sym; uses = w.uses - 1 } in
     let same = ap (λ (x : Counted). x.uses) (some_is c.index.result.now w (sym c.index.ensures ∙ there)) in
     let two : 1 < w.uses = omega (arith, same, c.if-index-gt1.true) in
     let positive : 1 ≤ t.total = omega (arith, uses_total (seen t) s, c.requires.used, c.requires.uses.counted) in
@@ -48,14 +47,14 @@ returns-then-index-gt1-clause-back c =
     let known : symbol_key t.keys s.kind s.text ≡ Some key = ap (symbol_key t.keys s.kind) (sym c.as_bytes.ensures) ∙ sym c.get.ensures ∙ c.in-Some.is in
     let w = c.index_mut.result.now in
     let there = c.index_mut.ensures.value in
-    let d : Counted = record { sym = w.sym; uses = w.uses - 1; } in
+    let d : Counted = record { sym = w.sym; uses = w.uses - 1 } in
     let same = ap (λ (x : Counted). x.uses) (some_is c.index.result.now w (sym c.index.ensures ∙ there)) in
     let two : 1 < w.uses = omega (arith, same, c.if-index-gt1.true) in
     let positive : 1 ≤ t.total = omega (arith, uses_total (seen t) s, c.requires.used, c.requires.uses.counted) in
     let change = recounted t c.requires.uses s key w d (t.total - 1) known there refl (omega arith) (omega arith) (omega (arith, c.requires.uses.few)) in
     let is = slot_symbol t c.requires.uses s key w c.requires.used known there in
     gives_step t _ s key (Some w) (Some d) c.requires.uses change there (recounted_there t key w d (t.total - 1) there)
-      (another_use s d w is is (omega arith)) (omega arith)
+    (another_use s d w is is (omega arith)) (omega arith)
 
 pub returns-clause-uses : goal.returns-clause-uses
 returns-clause-uses c =
@@ -65,7 +64,7 @@ returns-clause-uses c =
     let known : symbol_key t.keys s.kind s.text ≡ Some key = ap (symbol_key t.keys s.kind) (sym c.as_bytes.ensures) ∙ sym c.get.ensures ∙ c.in-Some.is in
     let w = c.index.result.now in
     let there = c.index.ensures in
-    let v : Uses = record { keys = c.remove.new.self; slots = c.remove-counted.new.self; total = t.total - 1; } in
+    let v : Uses = record { keys = c.remove.new.self; slots = c.remove-counted.new.self; total = t.total - 1 } in
     let one : w.uses ≡ 1 = omega (arith, c.if-index-gt1.false, c.requires.uses.used key w there) in
     let positive : 1 ≤ t.total = omega (arith, uses_total (seen t) s, c.requires.used, c.requires.uses.counted) in
     let keyed = subst (λ x. HasAtKind s.kind x None (symbol_key t.keys) (symbol_key v.keys)) c.as_bytes-2.ensures c.remove.ensures in
@@ -81,7 +80,7 @@ returns-clause-back c =
     let known : symbol_key t.keys s.kind s.text ≡ Some key = ap (symbol_key t.keys s.kind) (sym c.as_bytes.ensures) ∙ sym c.get.ensures ∙ c.in-Some.is in
     let w = c.index.result.now in
     let there = c.index.ensures in
-    let v : Uses = record { keys = c.remove.new.self; slots = c.remove-counted.new.self; total = t.total - 1; } in
+    let v : Uses = record { keys = c.remove.new.self; slots = c.remove-counted.new.self; total = t.total - 1 } in
     let one : w.uses ≡ 1 = omega (arith, c.if-index-gt1.false, c.requires.uses.used key w there) in
     let positive : 1 ≤ t.total = omega (arith, uses_total (seen t) s, c.requires.used, c.requires.uses.counted) in
     let keyed = subst (λ x. HasAtKind s.kind x None (symbol_key t.keys) (symbol_key v.keys)) c.as_bytes-2.ensures c.remove.ensures in

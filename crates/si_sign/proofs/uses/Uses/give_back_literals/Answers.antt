@@ -1,4 +1,4 @@
-use Rattle.std.proofs.Common.{◌+◌, ◌≤◌, List, take, drop, sym, ap, subst, ◌∙◌}
+use Rattle.std.proofs.Common.{◌+◌, ◌≤◌, take, drop, sym, subst, ◌∙◌}
 use Rattle.si_defs.specs.Symbols.{Symbol, times}
 use Rattle.si_state.specs.Signatures.{uses_of}
 use Rattle.si_term.specs.declared.clause.Literal.{Literal}
@@ -26,7 +26,7 @@ loop-i-preserved c =
     let one = c.index-literals-i.result in
     let given = subst (λ (l : Literal). GivesBack (in_literal l) (seen c.loop-i.self) (seen c.give_back_term.new.self)) (sym c.index-literals-i.is) c.give_back_term.ensures.back in
     gives_on c.args.self.now c.loop-i.self (gather in_literal (take i ls)) (in_literal one) c.loop-i.invariant c.give_back_term.new.self _ c.give_back_term.ensures.uses given
-      (gather_next in_literal ls i one c.loop-i-test.true c.index-literals-i.is)
+    (gather_next in_literal ls i one c.loop-i-test.true c.index-literals-i.is)
 
 pub returns-clause-back : goal.returns-clause-back
 returns-clause-back c =

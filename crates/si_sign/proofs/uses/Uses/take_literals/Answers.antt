@@ -1,5 +1,4 @@
-use Rattle.std.proofs.Common.{◌+◌, ◌≤◌, List, length, take, drop, sym, ap, subst, ◌∙◌}
-use Rattle.si_defs.specs.Symbols.{Symbol}
+use Rattle.std.proofs.Common.{◌+◌, ◌≤◌, length, take, drop, sym, subst, ◌∙◌}
 use Rattle.si_term.specs.declared.clause.Literal.{Literal}
 use Rattle.si_sign.specs.Uses.{seen}
 use Rattle.si_sign.specs.Taking.{Takes, RefusesFrom}
@@ -37,7 +36,7 @@ pub returns-in-Err-clause-err : goal.returns-in-Err-clause-err
 returns-in-Err-clause-err c =
     let done = take c.loop-i.i c.args.literals.now in
     put_back c.args.self.now c.requires.uses c.loop-i.self (gather in_literal done) _ c.loop-i.invariant (in_literals done) c.take_term.new.self c.in-Err.ensures.err
-      c.give_back_literals.new.self c.give_back_literals.ensures.uses c.give_back_literals.ensures.back
+    c.give_back_literals.new.self c.give_back_literals.ensures.uses c.give_back_literals.ensures.back
 
 pub loop-i-preserved : goal.loop-i-preserved
 loop-i-preserved c =
@@ -46,7 +45,7 @@ loop-i-preserved c =
     let one = c.index-literals-i.result in
     let taken = subst (λ (l : Literal). Takes (in_literal l) (seen c.loop-i.self) (seen c.take_term.new.self)) (sym c.index-literals-i.is) c.in-Ok.ensures.ok in
     takes_on c.args.self.now c.requires.uses c.loop-i.self (gather in_literal (take i ls)) (in_literal one) c.loop-i.invariant c.take_term.new.self _ c.in-Ok.ensures.uses taken
-      (gather_next in_literal ls i one c.loop-i-test.true c.index-literals-i.is)
+    (gather_next in_literal ls i one c.loop-i-test.true c.index-literals-i.is)
 
 pub returns-clause-ok : goal.returns-clause-ok
 returns-clause-ok c =

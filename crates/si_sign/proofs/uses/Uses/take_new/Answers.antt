@@ -1,11 +1,11 @@
-use Rattle.std.proofs.Common.{◌≡◌, ◌+◌, ◌++◌, Some, None, refl, sym, ap, subst, ◌∙◌, arith}
+use Rattle.std.proofs.Common.{◌≡◌, ◌+◌, ◌++◌, Some, None, refl, sym, ap, subst, ◌∙◌}
 use Rattle.slab.specs.Slab.{get}
 use Rattle.si_defs.specs.Symbols.{Symbol}
 use Rattle.si_term.specs.Terms.{symbol_of}
 use Rattle.si_sign.specs.Keys.{symbol_key, HasAtKind}
 use Rattle.si_sign.specs.declared.uses.Counted.{Counted}
 use Rattle.si_sign.specs.declared.uses.Uses.{Uses}
-use Rattle.si_sign.proofs.ChangeLaws.{Changes, changed}
+use Rattle.si_sign.proofs.ChangeLaws.{changed}
 use Rattle.si_sign.proofs.StepLaws.{admitted, first_use, takes_step, agrees_new}
 use Rattle.si_sign.proofs.uses.Uses.take_new.Goals as goal
 
@@ -14,8 +14,8 @@ returns-clause-uses c =
     let t = c.args.self.now in
     let s : Symbol = symbol_of c.args.symbol.now in
     let key = c.vacant_key-key.result in
-    let d : Counted = record { sym = c.in_ok-sym.sym; uses = 1; } in
-    let v : Uses = record { keys = c.insert.new.self; slots = c.insert_reserved.new.self; total = t.total + 1; } in
+    let d : Counted = record { sym = c.in_ok-sym.sym; uses = 1 } in
+    let v : Uses = record { keys = c.insert.new.self; slots = c.insert_reserved.new.self; total = t.total + 1 } in
     let rest = c.in_ok-reserve.ensures.rest_kept in
     let key_is : c.insert_reserved.result ≡ key = c.insert_reserved.ensures.key ∙ ap (λ r. r.vacant_key) rest ∙ sym c.vacant_key-key.ensures.value in
     let text = c.in_ok-extend_from_slice.ensures.items ∙ (λ i. c.new-text.ensures.items i ++ c.as_bytes.ensures i) in
@@ -23,7 +23,7 @@ returns-clause-uses c =
     let is = ap symbol_of c.in_ok-sym.ensures in
     let here = ap (get v.slots) (sym key_is) ∙ c.insert_reserved.ensures.updates.changed in
     let change = admitted t v c.requires.uses s key d is refl c.requires.none c.vacant_key-key.ensures.vacant c.if-key-ge-MOST_USES.false keyed here
-      (λ j apart. c.insert_reserved.ensures.updates.others j (λ e. apart (e ∙ key_is)) ∙ ap (λ r. get r j) rest) refl c.requires.room in
+    (λ j apart. c.insert_reserved.ensures.updates.others j (λ e. apart (e ∙ key_is)) ∙ ap (λ r. get r j) rest) refl c.requires.room in
     changed t v s.kind s.text key c.requires.uses change
 
 pub returns-clause-ok : goal.returns-clause-ok
@@ -31,8 +31,8 @@ returns-clause-ok c =
     let t = c.args.self.now in
     let s : Symbol = symbol_of c.args.symbol.now in
     let key = c.vacant_key-key.result in
-    let d : Counted = record { sym = c.in_ok-sym.sym; uses = 1; } in
-    let v : Uses = record { keys = c.insert.new.self; slots = c.insert_reserved.new.self; total = t.total + 1; } in
+    let d : Counted = record { sym = c.in_ok-sym.sym; uses = 1 } in
+    let v : Uses = record { keys = c.insert.new.self; slots = c.insert_reserved.new.self; total = t.total + 1 } in
     let rest = c.in_ok-reserve.ensures.rest_kept in
     let key_is : c.insert_reserved.result ≡ key = c.insert_reserved.ensures.key ∙ ap (λ r. r.vacant_key) rest ∙ sym c.vacant_key-key.ensures.value in
     let text = c.in_ok-extend_from_slice.ensures.items ∙ (λ i. c.new-text.ensures.items i ++ c.as_bytes.ensures i) in
@@ -40,5 +40,5 @@ returns-clause-ok c =
     let is = ap symbol_of c.in_ok-sym.ensures in
     let here = ap (get v.slots) (sym key_is) ∙ c.insert_reserved.ensures.updates.changed in
     let change = admitted t v c.requires.uses s key d is refl c.requires.none c.vacant_key-key.ensures.vacant c.if-key-ge-MOST_USES.false keyed here
-      (λ j apart. c.insert_reserved.ensures.updates.others j (λ e. apart (e ∙ key_is)) ∙ ap (λ r. get r j) rest) refl c.requires.room in
+    (λ j apart. c.insert_reserved.ensures.updates.others j (λ e. apart (e ∙ key_is)) ∙ ap (λ r. get r j) rest) refl c.requires.room in
     takes_step t v s key None (Some d) c.requires.uses change c.vacant_key-key.ensures.vacant here (first_use s d is refl) refl (agrees_new t c.requires.uses s c.requires.none)

@@ -16,3 +16,4 @@ pub mod OneSample
 pub mod TwoClauses
 pub mod FirstItems
 pub mod OneHarvest
+pub mod OneClash

@@ -64,14 +64,14 @@ answered =
     )
 
 pub added_and_found : AddedAndFound
-added_and_found limits w = (
+added_and_found limits w room = (
   clause ∷ [],
   (
     codes "ok 1 1" ∷ [],
     clause ∷ [],
     codes "c:1 {}\nend 1\n",
     right (performed (not_later limits first_line (omega arith) first_built) (add clause) added_line
-        (inr (record { free = λ h. h; added = refl }, rw (decimal_digit 1 (omega arith)) refl))),
+        (inr (record { free = λ h. h; agree = (tt, tt); room = room; added = refl }, rw (decimal_digit 1 (omega arith)) refl))),
     (
       codes "c:1 {}" ∷ codes "end 1" ∷ [],
       clause ∷ [],

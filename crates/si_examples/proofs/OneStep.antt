@@ -7,11 +7,11 @@ use Rattle.si_defs.specs.Grammar.{left_bracket, full_stop}
 use Rattle.si_defs.specs.declared.TokenKind.TheVariants.{Lower, Single}
 use Rattle.si_steps.specs.declared.limits.Limits.{Limits}
 use Rattle.si_steps.specs.declared.word.Word.{Word}
-use Rattle.si_steps.specs.declared.word.Word.TheVariants.{Add, Load, Ask, Stats}
+use Rattle.si_steps.specs.declared.word.Word.TheVariants.{Add, Load, Remove, Ask, Stats, Tree}
 use Rattle.si_steps.specs.Words.{word_text}
 use Rattle.si_steps.specs.Replies.{Reply}
 use Rattle.si_steps.specs.Steps.{RightStep, later, silent, foreign, wrong, performed, right, memory_at_once, memory_behind, IsNoCommand}
-use Rattle.si_steps.specs.Commands.{IsLater, IsUnbuilt, AddsForeign, Command, add, query, command_word, AreOperands}
+use Rattle.si_steps.specs.Commands.{IsLater, IsUnbuilt, AddsForeign, Command, add, remove, query, stats, command_word, AreOperands}
 use Rattle.si_steps.proofs.WordLaws.{word_with, word_back, same_word}
 use Rattle.si_lex.proofs.BlankLaws.{skips_nothing}
 use Rattle.si_lex.proofs.TokenLaws.{next_unique, blanks_none, begins_prefix, consists_unique}
@@ -120,7 +120,7 @@ open_comment_line =
 
 -- ---- lines for later
 pub unbuilt_word : UnbuiltWord
-unbuilt_word = later_where (codes "stats") (record { word = Stats; unbuilt = refl; rest = []; first = next Lower (codes "stats") [] refl })
+unbuilt_word = later_where (codes "tree") (record { word = Tree; unbuilt = refl; rest = []; first = next Lower (codes "tree") [] refl })
 
 pub unread_operands : UnreadOperands
 unread_operands = later_where (codes "load '") (record { word = Load; unbuilt = refl; rest = codes " '"; first = next Lower (codes "load") (codes " '") refl })
@@ -181,7 +181,9 @@ unfolding operands_of first_text
 no_clause line ts c h command m = by command m.spelled.operands m.spelled.spelled (consists_unique (lower (codes "add") ∷ ts) m.tokens line c m.consists ∙ m.spelled.whole) where
   by : (command : Command) (us : List Token) → AreOperands command us → lower (codes "add") ∷ ts ≡ lower (word_text (command_word command)) ∷ us → ⊥
   by (add clause) us s e = texts_differ (first_text ts) (codes "cnf") h (ap (λ vs. first_text (operands_of vs)) e ∙ ap first_text s.6)
+  by (remove name) us s e = let k = same_word Add Remove (ap first_text e) in cc
   by (query relation pattern) us s e = let k = same_word Add (Ask relation) (ap first_text e) in cc
+  by stats us s e = let k = same_word Add Stats (ap first_text e) in cc
 
 -- they are not for later
 add_built : (line rest : Bytes) → NextToken line (lower (codes "add")) rest → IsUnbuilt line → ⊥

@@ -6,6 +6,7 @@ use Rattle.si_defs.specs.Entries.{term_entry, state_entries}
 use Rattle.si_defs.specs.declared.Relation.TheVariants.{Instances, Generalizations}
 use Rattle.si_defs.specs.Variables.{of_pattern, of_entry}
 use Rattle.si_state.specs.Answers.{Hit, IsAnswer, Stands}
+use Rattle.si_steps.specs.declared.limits.Limits.{Limits}
 use Rattle.si_steps.specs.Commands.{query}
 use Rattle.si_steps.specs.Steps.{Performs}
 use Rattle.si_examples.specs.Entries.{first_atom, fact, f_of_x, a, placed, literal_of}
@@ -33,7 +34,7 @@ OneHit = IsAnswer Instances pattern (state_entries state) (hit ∷ [])
 
 -- so the reply has its line, and then the number of hits
 abbrev pub AnsweredPattern : Type 0
-AnsweredPattern = Performs (query Instances pattern) state (codes "c1:1:1 {?Y -> X}" ∷ codes "end 1" ∷ []) state
+AnsweredPattern = (limits : Limits) → Performs limits (query Instances pattern) state (codes "c1:1:1 {?Y -> X}" ∷ codes "end 1" ∷ []) state
 
 -- it may not be left out
 abbrev pub NoHitLeftOut : Type 0

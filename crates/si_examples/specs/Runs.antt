@@ -5,7 +5,7 @@ use Rattle.si_steps.specs.Runs.{IsOutput}
 
 -- a clause is added, and found
 abbrev pub AddedAndFound : Type 0
-AddedAndFound = (limits : Limits) → 19 ≤ limits.line
+AddedAndFound = (limits : Limits) → 19 ≤ limits.line → 1 ≤ limits.entries
     → IsOutput limits (codes "add cnf(c,axiom,p)." ∷ codes "instances lit p" ∷ []) (codes "ok 1 1\nc:1 {}\nend 1\n")
 
 -- a line of white space alone has no output

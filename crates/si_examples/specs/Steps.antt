@@ -1,14 +1,21 @@
 -- Lines, their replies and the state behind them.
-use Rattle.std.specs.Prelude.{◌≡◌, ◌≤◌, ◌<◌, length, true, List, [], ◌∷◌, codes}
+use Rattle.std.specs.Prelude.{◌≡◌, ℕ, ◌≤◌, ◌<◌, length, true, List, [], ◌∷◌, codes}
 use Rattle.si_defs.specs.Bytes.{Bytes}
 use Rattle.si_defs.specs.Clauses.{Clause}
-use Rattle.si_state.specs.Acceptance.{IsTaken, Accepts}
+use Rattle.si_defs.specs.Symbols.{Symbol}
+use Rattle.si_state.specs.Acceptance.{IsTaken, Accepts, Refuses, misused, AllAgree}
+use Rattle.si_defs.specs.Entries.{clause_symbols, state_symbols}
+use Rattle.si_state.specs.Signatures.{CountsSymbols}
 use Rattle.si_steps.specs.declared.limits.Limits.{Limits}
 use Rattle.si_steps.specs.Replies.{Reply, is_refusal}
-use Rattle.si_steps.specs.Commands.{add}
+use Rattle.si_steps.specs.Commands.{add, remove, stats}
 use Rattle.si_steps.specs.Steps.{RightStep, Step, Performs}
 use Rattle.si_defs.specs.declared.NameKind.TheVariants as named
-use Rattle.si_examples.specs.Entries.{first_atom, second_atom, fact}
+use Rattle.si_defs.specs.Terms as terms
+use Rattle.si_defs.specs.Clauses.{Term}
+use Rattle.si_defs.specs.declared.SymKind.TheVariants.{Word}
+use Rattle.si_defs.specs.declared.Side.TheVariants.{Function}
+use Rattle.si_examples.specs.Entries.{first_atom, second_atom, fact, predicate, constant, a}
 
 -- the clause c1, and another of that name
 abbrev pub kept : Clause
@@ -16,6 +23,15 @@ kept = fact (codes "c1") first_atom
 
 abbrev pub of_taken_name : Clause
 of_taken_name = fact (codes "c1") second_atom
+
+-- the atom a(b)
+abbrev pub a_of_b : Term
+a_of_b = predicate (codes "a") (constant (codes "b") ∷ [])
+
+-- the symbol at the front of a term
+abbrev pub head_symbol : Term → Symbol
+head_symbol (terms.var x) = record { kind = Word; text = x; side = Function; arity = 0 }
+head_symbol (terms.app s ts) = s
 
 -- ---- lines that change nothing
 -- where the line is not too long, this reply is right and no other, and the state stays
@@ -43,7 +59,7 @@ OpenComment = HasOneReply (codes "/* a") (codes "! syntax" ∷ [])
 
 -- the word of a command that is not built is for later
 abbrev pub UnbuiltWord : Type 0
-UnbuiltWord = HasOneReply (codes "stats") (codes "! later" ∷ [])
+UnbuiltWord = HasOneReply (codes "tree") (codes "! later" ∷ [])
 
 -- and what stands behind it is not read: here a quote that is not closed
 abbrev pub UnreadOperands : Type 0
@@ -91,19 +107,61 @@ NoMemoryWhereTooLong = (limits : Limits) (state : List Clause) (line : Bytes) (n
 -- ---- clauses that are added
 -- a clause of a new name is counted, and its three entries
 abbrev pub AddedClause : Type 0
-AddedClause = Performs (add kept) [] (codes "ok 1 3" ∷ []) (kept ∷ [])
+AddedClause = (limits : Limits) → 3 ≤ limits.entries → Performs limits (add kept) [] (codes "ok 1 3" ∷ []) (kept ∷ [])
 
 -- a clause of a taken name is refused, and the state stays
 abbrev pub TakenName : Type 0
-TakenName = Performs (add of_taken_name) (kept ∷ []) (codes "! taken c1" ∷ []) (kept ∷ [])
+TakenName = (limits : Limits) → Performs limits (add of_taken_name) (kept ∷ []) (codes "! taken c1" ∷ []) (kept ∷ [])
 
 -- the reply of an added clause is wrong there
 abbrev pub NoOtherReply : Type 0
-NoOtherReply = (new : List Clause) → Performs (add of_taken_name) (kept ∷ []) (codes "ok 1 3" ∷ []) new → ⊥
+NoOtherReply = (limits : Limits) (new : List Clause) → Performs limits (add of_taken_name) (kept ∷ []) (codes "ok 1 3" ∷ []) new → ⊥
 
 -- it is never accepted, whatever the state behind it
 abbrev pub NoSecondClause : Type 0
-NoSecondClause = (new : List Clause) → Accepts (kept ∷ []) of_taken_name new → ⊥
+NoSecondClause = (limit : ℕ) (new : List Clause) → Accepts limit (kept ∷ []) of_taken_name new → ⊥
+
+-- where two entries may be, three are too many
+abbrev pub FullIndex : Type 0
+FullIndex = (limits : Limits) → limits.entries ≡ 2 → Performs limits (add kept) [] (codes "! full 3 2" ∷ []) []
+
+-- one entry more than may be is not accepted
+abbrev pub NoClauseTooMany : Type 0
+NoClauseTooMany = (new : List Clause) → Accepts 2 [] kept new → ⊥
+
+-- `a` with an argument stands against the constant `a`
+abbrev pub ClashingSymbol : Type 0
+ClashingSymbol = Refuses 9 (kept ∷ []) (fact (codes "d") a_of_b) (misused 0 (head_symbol a_of_b) (head_symbol a))
+
+-- the same symbols in two clauses agree
+abbrev pub NoClash : Type 0
+NoClash = AllAgree (state_symbols (kept ∷ [])) (clause_symbols (fact (codes "d") first_atom))
+
+-- but not with an atom `a(b)` between them
+abbrev pub NoAgreement : Type 0
+NoAgreement = AllAgree (state_symbols (kept ∷ [])) (clause_symbols (fact (codes "d") a_of_b)) → ⊥
+
+-- ---- clauses that go
+-- the clause of this name goes, with its three entries
+abbrev pub RemovedClause : Type 0
+RemovedClause = (limits : Limits) → Performs limits (remove kept.name) (kept ∷ []) (codes "ok 1 3" ∷ []) []
+
+-- none has this name
+abbrev pub UnknownName : Type 0
+UnknownName = (limits : Limits) → Performs limits (remove (record { kind = named.Int; text = codes "1" })) (kept ∷ []) (codes "! unknown 1" ∷ []) (kept ∷ [])
+
+-- a clause that is kept is not unknown
+abbrev pub NoUnknownName : Type 0
+NoUnknownName = (limits : Limits) (new : List Clause) → Performs limits (remove kept.name) (kept ∷ []) (codes "! unknown c1" ∷ []) new → ⊥
+
+-- ---- counts
+-- nothing is kept
+abbrev pub NothingCounted : Type 0
+NothingCounted = (limits : Limits) → Performs limits stats [] (codes "clauses 0 entries 0 symbols 0" ∷ []) []
+
+-- a symbol that occurs is counted
+abbrev pub NoneUncounted : Type 0
+NoneUncounted = CountsSymbols (kept ∷ []) 0 → ⊥
 
 -- `1` and `'1'` are two names
 abbrev pub TwoNames : Type 0

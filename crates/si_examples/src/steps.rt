@@ -1,5 +1,5 @@
 // Lines, their replies and the state behind them.
-ghost use Rattle.si_examples.specs.Steps.{SilentLine, SilentComment, SilentOnly, OpenComment, UnbuiltWord, UnreadOperands, UnknownWord, WordInQuotes, JoinedWord, WordAlone, OtherLanguageAdded, LanguageAlone, TooLong, TooLongBlank, NoMemoryWhereTooLong, AddedClause, TakenName, NoOtherReply, NoSecondClause, TwoNames, Refusal, LateRefusal, NoRefusal, SilenceIsNoRefusal};
+ghost use Rattle.si_examples.specs.Steps.{SilentLine, SilentComment, SilentOnly, OpenComment, UnbuiltWord, UnreadOperands, UnknownWord, WordInQuotes, JoinedWord, WordAlone, OtherLanguageAdded, LanguageAlone, TooLong, TooLongBlank, NoMemoryWhereTooLong, AddedClause, TakenName, NoOtherReply, NoSecondClause, FullIndex, NoClauseTooMany, ClashingSymbol, NoClash, NoAgreement, RemovedClause, UnknownName, NoUnknownName, NothingCounted, NoneUncounted, TwoNames, Refusal, LateRefusal, NoRefusal, SilenceIsNoRefusal};
 
 /// Which lines have no reply.
 pub fn silent_lines()
@@ -34,7 +34,21 @@ pub fn added_clauses()
     ensures taken_name { TakenName }
     ensures no_other_reply { NoOtherReply }
     ensures no_second_clause { NoSecondClause }
+    ensures full_index { FullIndex }
+    ensures no_clause_too_many { NoClauseTooMany }
+    ensures clashing_symbol { ClashingSymbol }
+    ensures no_clash { NoClash }
+    ensures no_agreement { NoAgreement }
     ensures two_names { TwoNames }
+{}
+
+/// Which replies a removal and a count have.
+pub fn removals_and_counts()
+    ensures removed_clause { RemovedClause }
+    ensures unknown_name { UnknownName }
+    ensures no_unknown_name { NoUnknownName }
+    ensures nothing_counted { NothingCounted }
+    ensures none_uncounted { NoneUncounted }
 {}
 
 /// Which replies are refusals.

@@ -1,4 +1,8 @@
 mod HalfLaws
+mod KnownLaws
+mod NameLaws
+mod PlaceLaws
 mod PutLaws
 mod Results
+mod StoreLaws
 mod SumLaws

@@ -2,6 +2,8 @@
 #![tactic(auto)]
 
 mod index;
+mod known;
+mod names;
 mod ranks;
 
 pub use index::{Index, Stats};

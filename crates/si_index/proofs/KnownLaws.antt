@@ -99,12 +99,13 @@ known_back old between new c free enters leaves = record {
 -- symbols that agree with some agree with fewer
 agree_fewer : (ks ls own : List Symbol) → ((r : Symbol) → IsAmong ls r → IsAmong ks r) → AllAgree ks own → AllAgree ls own
 agree_fewer ks ls [] fewer a = tt
-agree_fewer ks ls (s ∷ own) fewer a =
-    (all_among (λ r. Clashes s r → ⊥) ls (λ r h. one_of_all (λ r. Clashes s r → ⊥) ks r a.0 (fewer r h)),
-      agree_fewer (ks ++ s ∷ []) (ls ++ s ∷ []) own (λ r h. by r (among_append ls (s ∷ []) r h)) a.1) where
-        by : (r : Symbol) → IsAmong ls r ⊎ IsAmong (s ∷ []) r → IsAmong (ks ++ s ∷ []) r
-        by r (inl h) = among_left ks (s ∷ []) r (fewer r h)
-        by r (inr h) = among_right ks (s ∷ []) r h
+agree_fewer ks ls (s ∷ own) fewer a = (
+  all_among (λ r. Clashes s r → ⊥) ls (λ r h. one_of_all (λ r. Clashes s r → ⊥) ks r a.0 (fewer r h)),
+  agree_fewer (ks ++ s ∷ []) (ls ++ s ∷ []) own (λ r h. by r (among_append ls (s ∷ []) r h)) a.1,
+) where
+  by : (r : Symbol) → IsAmong ls r ⊎ IsAmong (s ∷ []) r → IsAmong (ks ++ s ∷ []) r
+  by r (inl h) = among_left ks (s ∷ []) r (fewer r h)
+  by r (inr h) = among_right ks (s ∷ []) r h
 
 module _ (cs : List Clause) (us : Signature) (is : IsSignature us) (of : IsSignatureOf cs us) where
   pub known_symbol : (s : Symbol) → IsAmong (symbols us) s → IsAmong (state_symbols cs) s
@@ -155,12 +156,15 @@ module _ (limit : ℕ) (cs : List Clause) (known : Known) (c : Clause) (is : IsK
   rejects sound add_fault.Taken why = is.named c.name why
   rejects sound (add_fault.Clash clash) (free, (found, kept, first, shapes)) =
       (found, kept, (name_free free, clash_known cs known.signature good is.signed (clause_symbols c) clash.entry found kept first), shapes)
-  rejects sound (add_fault.Full needed most) (free, agree, over, number, same) =
-      ((name_free free,
-        agree_known cs known.signature good is.signed (clause_symbols c) agree,
-        omega (arith, over, number, is.counted, length-symbols c sound),
-        omega (arith, number, is.counted, length-symbols c sound)),
-        same)
+  rejects sound (add_fault.Full needed most) (free, agree, over, number, same) = (
+    (
+      name_free free,
+      agree_known cs known.signature good is.signed (clause_symbols c) agree,
+      omega (arith, over, number, is.counted, length-symbols c sound),
+      omega (arith, number, is.counted, length-symbols c sound),
+    ),
+    same,
+  )
   rejects sound add_fault.Memory why = tt
 
   pub accepts : IsSoundClause c → Admits limit known c → Accepts limit cs c (cs ++ c ∷ [])

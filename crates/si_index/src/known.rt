@@ -75,15 +75,15 @@ impl Known {
     }
 
     /// Strikes a clause out, and answers the number of its symbols. It takes no memory.
-    pub fn leave(&mut self, clause: &Clause) -> u32
-        requires used { (s : Symbol) → times s (clause_symbols (clause_of clause.now))
+    pub fn leave(&mut self, gone: &Clause) -> u32
+        requires used { (s : Symbol) → times s (clause_symbols (clause_of gone.now))
             ≤ uses_of self.old.signature s }
-        ensures leaves { Leaves (clause_of clause.now) self.old self.new }
-        ensures number { result ≡ length (clause_symbols (clause_of clause.now)) }
+        ensures leaves { Leaves (clause_of gone.now) self.old self.new }
+        ensures number { result ≡ length (clause_symbols (clause_of gone.now)) }
     {
         let before = self.signature.total();
-        self.names.remove(&clause.name);
-        self.signature.give_back(clause);
+        self.names.remove(&gone.name);
+        self.signature.give_back(gone);
         (before - self.signature.total()) as u32
     }
 }

@@ -5,5 +5,7 @@ mod index;
 mod known;
 mod names;
 mod ranks;
+#[cfg(test)]
+mod tests;
 
 pub use index::{Index, Stats};

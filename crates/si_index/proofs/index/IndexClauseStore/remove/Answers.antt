@@ -44,8 +44,8 @@ returns-clause-removed c =
     let splits = split_there items place gone within c.remove-clause.ensures.value in
     let rest = map clause_of c.remove-clause.new.self.items in
     let is = ap (map clause_of) c.remove-clause.ensures.by_index.2 ∙ map-append clause_of (take place items) (drop (place + 1) items) in
-    let named = subst (λ l. (d : Clause) → name_of (slice_index_or l place d).name ≡ name_of c.args.name.now) c.as_slice.ensures.value c.in_ok-place.ensures.named in
-    (clause_of gone,
+    let named = subst (λ l. (d : Clause) → name_of (slice_index_or l place d).name ≡ name_of c.args.name.now) c.as_slice.ensures.value c.in_ok-place.ensures.named in (
+      clause_of gone,
       record {
         before = before;
         after = after;
@@ -53,7 +53,8 @@ returns-clause-removed c =
         named = ap (λ (d : Clause). name_of d.name) c.remove-clause.ensures.value ∙ named gone;
         rest = is;
       },
-      as_many_entries c.self.inside.limit c.self.inside.known (map clause_of items) before after (clause_of gone) c.self.invariant splits c.leave.result c.leave.ensures.number)
+      as_many_entries c.self.inside.limit c.self.inside.known (map clause_of items) before after (clause_of gone) c.self.invariant splits c.leave.result c.leave.ensures.number,
+    )
 
 pub returns-clause-stored : goal.returns-clause-stored
 returns-clause-stored c =

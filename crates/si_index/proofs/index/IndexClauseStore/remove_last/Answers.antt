@@ -24,11 +24,12 @@ invariant_of-self-2 c =
 pub returns-clause-removed : goal.returns-clause-removed
 returns-clause-removed c =
     let rest = map clause_of c.pop.new.self.items in
-    let splits = ap (map clause_of) c.in_ok-clause.ensures.items ∙ map-append clause_of c.pop.new.self.items (c.in_ok-clause.clause ∷ []) in
-    (clause_of c.in_ok-clause.clause,
+    let splits = ap (map clause_of) c.in_ok-clause.ensures.items ∙ map-append clause_of c.pop.new.self.items (c.in_ok-clause.clause ∷ []) in (
+      clause_of c.in_ok-clause.clause,
       subst (λ (k : Kept). k.clauses ≡ rest ++ clause_of c.in_ok-clause.clause ∷ []) c.self.view_is splits,
       as_many_entries c.self.inside.limit c.self.inside.known (map clause_of c.self.inside.clauses.items) rest [] (clause_of c.in_ok-clause.clause) c.self.invariant splits
-      c.leave.result c.leave.ensures.number)
+          c.leave.result c.leave.ensures.number,
+    )
 
 pub returns-clause-stored : goal.returns-clause-stored
 returns-clause-stored c =

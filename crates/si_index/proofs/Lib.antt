@@ -1,7 +1,11 @@
 mod HalfLaws
 mod IndexedLaws
+mod KnownLaws
 mod LinkLaws
+mod NameLaws
+mod PlaceLaws
 mod PutLaws
 mod Results
 mod SlotLaws
+mod StoreLaws
 mod SumLaws

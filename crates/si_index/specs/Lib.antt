@@ -2,5 +2,9 @@ pub mod Halves
 pub mod Kept
 pub mod Keyed
 pub mod KeyedSlots
+pub mod Known
+pub mod Names
 pub mod Ranks
 pub mod RanksFall
+pub mod SameNames
+pub mod Stored

@@ -1,12 +1,17 @@
 // The index.
-ghost use Rattle.std.specs.Prelude.{◌≡◌, ◌<◌, ◌≤◌, [], IfOk, Some, length, slice_get};
+ghost use Rattle.std.specs.Prelude.{◌≡◌, ◌<◌, ◌≤◌, [], true, false, IfOk, IfSome, IfNone, Some, length, map, slice_get, slice_index_or};
 ghost use Rattle.si_defs.specs.Entries.{state_entries};
 ghost use Rattle.si_defs.specs.declared.TheConstants.{MOST_OCCURRENCES};
-ghost use Rattle.si_state.specs.Signatures.{CountsSymbols};
-ghost use Rattle.si_term.specs.Meaning.{clause_of};
+ghost use Rattle.si_state.specs.Acceptance.{IsTaken};
+ghost use Rattle.si_state.specs.Signatures.{CountsSymbols, IsSignatureOf};
+ghost use Rattle.si_term.specs.Meaning.{clause_of, name_of};
+ghost use Rattle.si_term.specs.declared.clause.Clause as term_clause;
 ghost use Rattle.si_sign.specs.Stores.{IsStored};
+ghost use Rattle.si_index.specs.SameNames.{same_name as is_same};
 
-use si_sign::{AddFault, ClauseStore, Rejected};
+use crate::known::Known;
+use si_defs::NameKind;
+use si_sign::{AddFault, ClauseStore, Rejected, Signature};
 use si_term::{Clause, Name};
 use std::alloc::{AllocError, Global};
 use std::marker::Model;
@@ -25,23 +30,26 @@ pub struct Stats {
 /// The index.
 #[derive(Drop)]
 pub struct Index {
+    alloc: Global,
     limit: u64,
+    clauses: Vec<Clause>,
+    known: Known,
 }
 
 impl Model for Index {
     ghost use Rattle.si_index.specs.Kept.{Kept, kept_code};
-    ghost use Rattle.std.specs.Prelude.{[]};
+    ghost use Rattle.std.specs.Prelude.{map};
+    ghost use Rattle.si_term.specs.Meaning.{clause_of};
 
     ghost Value = { Kept };
 
     ghost coded = { kept_code };
 
-    ghost view = { λ i. record { clauses = []; limit = i.limit } };
+    ghost view = { λ i. record { clauses = map clause_of i.clauses.items; limit = i.limit } };
 
-    ghost use Rattle.si_defs.specs.declared.TheConstants.{MOST_OCCURRENCES};
-    ghost use Rattle.std.specs.Prelude.{◌≤◌};
+    ghost use Rattle.si_index.specs.Stored.{IsKept};
 
-    ghost invariant = { λ i. i.limit ≤ MOST_OCCURRENCES };
+    ghost invariant = { λ i. IsKept i.limit (map clause_of i.clauses.items) i.known };
 }
 
 impl Index {
@@ -50,8 +58,12 @@ impl Index {
         requires { limit ≤ MOST_OCCURRENCES }
         ensures { IfOk result (λ i. i ≡ record { clauses = []; limit = limit }) }
     {
-        let _ = alloc;
-        Ok(Index { limit })
+        Ok(Index {
+            alloc,
+            limit,
+            clauses: Vec::new(alloc),
+            known: Known::new(alloc),
+        })
     }
 
     /// How much is kept.
@@ -62,8 +74,11 @@ impl Index {
         ensures stored { IsStored self.now.limit self.now.clauses }
         ensures small { self.now.limit ≤ MOST_OCCURRENCES }
     {
-        let _limit = self.limit;
-        Stats { clauses: 0, entries: 0, symbols: 0 }
+        Stats {
+            clauses: self.clauses.len() as u32,
+            entries: self.known.signature.total(),
+            symbols: self.known.signature.len(),
+        }
     }
 
     /// The clause at this position, from 0.
@@ -71,8 +86,40 @@ impl Index {
         requires { at < length self.now.clauses }
         ensures { slice_get self.now.clauses at ≡ Some (clause_of result.now) }
     {
-        let _limit = self.limit;
-        unreachable!()
+        &self.clauses[at as usize]
+    }
+
+    /// The symbols of the clauses.
+    pub fn signature(&self) -> &Signature
+        ensures { IsSignatureOf self.now.clauses result.now }
+    {
+        &self.known.signature
+    }
+}
+
+/// The place of the clause with the name.
+fn place_of(clauses: &[Clause], name: &Name) -> Option<usize>
+    ensures within { IfSome result (λ place. place < length clauses.now) }
+    ensures named { IfSome result (λ place. (d : term_clause.Clause) → name_of
+        (slice_index_or clauses.now place d).name ≡ name_of name.now) }
+    ensures none { IfNone result (IsTaken (map clause_of clauses.now) (name_of name.now) → ⊥) }
+{
+    for i in 0..clauses.len() {
+        if same_name(&clauses[i].name, name) {
+            return Some(i);
+        }
+    }
+    None
+}
+
+/// Whether two names are one.
+fn same_name(a: &Name, b: &Name) -> bool
+    ensures { result ≡ is_same (name_of a.now) (name_of b.now) }
+{
+    match (a.kind, b.kind) {
+        (NameKind::Word, NameKind::Word) => a.text.as_bytes() == b.text.as_bytes(),
+        (NameKind::Int, NameKind::Int) => a.text.as_bytes() == b.text.as_bytes(),
+        _ => false,
     }
 }
 
@@ -82,17 +129,34 @@ impl ClauseStore for Index {
     ghost limit = { λ i. i.limit };
 
     fn add(&mut self, clause: Clause) -> Result<u32, Rejected> {
-        let _limit = self.limit;
-        Err(Rejected { clause, why: AddFault::Memory })
+        let entries = match self.known.enter(self.alloc, &clause, self.limit) {
+            Ok(entries) => entries,
+            Err(why) => return Err(Rejected { clause, why }),
+        };
+        match self.clauses.push(clause) {
+            Ok(()) => Ok(entries),
+            Err(failed) => {
+                let clause = failed.value;
+                self.known.leave(&clause);
+                Err(Rejected {
+                    clause,
+                    why: AddFault::Memory,
+                })
+            }
+        }
     }
 
     fn remove(&mut self, name: &Name) -> Option<u32> {
-        let _limit = self.limit;
-        None
+        if !self.known.names.contains(name) {
+            return None;
+        }
+        let place = place_of(self.clauses.as_slice(), name)?;
+        let clause = self.clauses.remove(place);
+        Some(self.known.leave(&clause))
     }
 
     fn remove_last(&mut self) -> Option<u32> {
-        let _limit = self.limit;
-        None
+        let clause = self.clauses.pop()?;
+        Some(self.known.leave(&clause))
     }
 }

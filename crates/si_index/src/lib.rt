@@ -3,6 +3,8 @@
 
 mod index;
 mod keyed;
+mod known;
+mod names;
 mod ranks;
 #[cfg(test)]
 mod tests;

@@ -59,8 +59,8 @@ symbol_of s r number arity =
     ap (λ a. make a s.arity) number ∙ ap (make r.number) arity
 
 -- ---- what is left
--- the rows ts and rs are left to compare; a map takes q to e if and only if it takes ts to rs and each variable that was
--- met to its term
+-- the rows ts and rs are left to compare; a map takes q to e if and only if it takes ts to rs and
+-- each variable that was met to its term
 pub record LeftOf (owner : Owner) (q e : Term) (pattern target : List Cell) (images : List Image) (i j m : ℕ) (ts rs : Terms) (us : List Term) : Type 0 where
   pub pattern_rest : drop i pattern ≡ cells_of_all ts
   pub target_rest : drop j target ≡ cells_of_all rs

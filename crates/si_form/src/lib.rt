@@ -1,8 +1,8 @@
 //! Canonical solution lists of matching: which term each variable of one side stands for.
 //!
 //! A term matches another where some substitution on its variables takes it to the other. Both are
-//! read once, from left to right; a variable stands for a slice of the other term, and the slices are
-//! copied only where the whole matches.
+//! read once, from left to right; a variable stands for a slice of the other term, and the slices
+//! are copied only where the whole matches.
 #![tactic(auto)]
 
 mod canonical;

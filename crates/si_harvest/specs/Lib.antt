@@ -1,0 +1,5 @@
+pub mod Chosen
+pub mod Faults
+pub mod Opened
+pub mod Gains
+pub mod Underway

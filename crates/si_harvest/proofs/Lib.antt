@@ -6,3 +6,6 @@ mod Gaining
 mod NameSets
 mod Refusals
 mod Taking
+mod Errors
+mod Safety
+mod Stepping

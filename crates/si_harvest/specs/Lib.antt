@@ -3,3 +3,4 @@ pub mod Faults
 pub mod Opened
 pub mod Gains
 pub mod Underway
+pub mod Stepping

@@ -3,6 +3,7 @@ ghost use Rattle.std.specs.Prelude.{◌≡◌, ◌≤◌, ℕ, Option, length, t
 ghost use Rattle.si_defs.specs.Texts.{line_of};
 ghost use Rattle.si_state.specs.Harvest.{MayAsk, IsBarred, IsWithheld};
 ghost use Rattle.si_term.specs.Meaning.{name_of};
+ghost use Rattle.si_io.specs.Library.{Counts};
 ghost use Rattle.si_harvest.specs.Faults.{Blames, HasLoadCause, bounds_of};
 ghost use Rattle.si_harvest.specs.Opened.{HasOpened, opened, is_listed, lists, is_selected};
 
@@ -61,6 +62,7 @@ pub fn may_ask(
         name.now) }
     ensures barred { IfErr result (λ e. (limit : ℕ) → Blames limit e (IsBarred
         (bounds_of limits.now) (opened files.now) fetches name.now)) }
+    ensures cause { (counts : Counts) → HasLoadCause counts counts result }
 {
     if has_name(files, name) {
         return Err(HarvestFault::Cycle(Text::from_bytes(alloc, name)?));

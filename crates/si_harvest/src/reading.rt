@@ -1,6 +1,5 @@
 // The reading of files, item by item.
-ghost use Rattle.std.specs.Prelude.{◌≡◌, ◌≤◌, ◌<◌, ℕ, true, false, List, [], ◌∷◌, ◌++◌, Option, IfOk, IfErr, OnOk};
-ghost use Rattle.si_defs.specs.Bytes.{Bytes};
+ghost use Rattle.std.specs.Prelude.{◌≡◌, ◌≤◌, ℕ, true, List, [], ◌∷◌, ◌++◌, Option, IfOk, IfErr, OnOk};
 ghost use Rattle.si_defs.specs.Clauses as defs;
 ghost use Rattle.si_defs.specs.Clauses.{IsSoundClause};
 ghost use Rattle.si_defs.specs.declared.TheConstants.{MOST_OCCURRENCES};
@@ -10,9 +9,10 @@ ghost use Rattle.si_harvest.specs.declared.names.NameSet.{NameSet};
 ghost use Rattle.si_harvest.specs.declared.reading.Reading.{Reading};
 ghost use Rattle.si_parse.specs.Meaning.{selection_of};
 ghost use Rattle.si_harvest.specs.Faults.{Blames, HasLoadCause, bounds_of};
-ghost use Rattle.si_harvest.specs.Opened.{Enters, IsUnopened, Takes, HasFault, is_selected};
+ghost use Rattle.si_harvest.specs.Opened.{Enters, IsUnopened, Takes, is_selected};
+ghost use Rattle.si_harvest.specs.Stepping.{Steps};
 ghost use Rattle.si_harvest.specs.Gains.{Counts, Gained};
-ghost use Rattle.si_harvest.specs.Underway.{IsUnderway, AreWithin, steps_left, Lists};
+ghost use Rattle.si_harvest.specs.Underway.{AreWithin, Lists};
 
 use crate::faults::{HarvestFault, HarvestLimits, Loaded};
 use crate::files::{OpenFile, line_of, may_ask, open, select};
@@ -146,22 +146,8 @@ impl Reading {
         requires file { limits.now.file ≤ MOST_OCCURRENCES }
         requires limit { T.limit store.old ≤ MOST_OCCURRENCES }
         requires counted { Counts loaded.old (T.clauses store.old) }
-        ensures goes_on { IfOk result (λ more. more ≡ true
-            → (start : List defs.Clause) (file : Bytes)
-            → IsUnderway (L.files library.old) (bounds_of limits.now) (T.limit store.old) start file
-                self.old (T.clauses store.old)
-            → IsUnderway (L.files library.old) (bounds_of limits.now) (T.limit store.old) start file
-                self.new (T.clauses store.new)) }
-        ensures over { IfOk result (λ more. more ≡ false → (self.old.files.items ≡ [])
-            × (T.clauses store.new ≡ T.clauses store.old)) }
-        ensures fault { IfErr result (λ e. (start : List defs.Clause) (file : Bytes)
-            → IsUnderway (L.files library.old) (bounds_of limits.now) (T.limit store.old) start file
-                self.old (T.clauses store.old)
-            → Blames (T.limit store.old) e (HasFault (L.files library.old) (bounds_of limits.now)
-                (T.limit store.old) start file)) }
-        ensures within { OnOk result (AreWithin self.new.files.items) }
-        ensures falls { IfOk result (λ more. more ≡ true → steps_left (bounds_of limits.now)
-            self.new < steps_left (bounds_of limits.now) self.old) }
+        ensures stepped { Steps (L.files library.old) (bounds_of limits.now) (T.limit store.old)
+            self.old self.new (T.clauses store.old) (T.clauses store.new) result }
         ensures counted { Counts loaded.new (T.clauses store.new) }
         ensures gained { (start : List defs.Clause)
             → Gained (T.limit store.old) start loaded.old (T.clauses store.old)

@@ -9,7 +9,8 @@ use Rattle.si_defs.specs.Grammar.{Selection, clause_item, include_item}
 use Rattle.si_defs.specs.Texts.{IsFaulty, IsForeign, IsPlace, line_of}
 use Rattle.si_defs.specs.declared.TheConstants.{MOST_OCCURRENCES}
 use Rattle.si_state.specs.Harvest.{Files, Bounds, Fault, foreign, malformed, Spot, IsStuck, IsRejected}
-use Rattle.si_parse.specs.Reading.{IsItemRead, IsFault}
+use Rattle.si_parse.specs.Reading.{IsItemRead, IsFault, IsRead}
+use Rattle.si_parse.specs.declared.item.Read.{Read}
 use Rattle.si_harvest.specs.declared.files.OpenFile.{OpenFile}
 use Rattle.si_harvest.specs.declared.names.NameSet.{NameSet}
 use Rattle.si_harvest.specs.declared.reading.Reading.{Reading}
@@ -22,6 +23,10 @@ use Rattle.si_harvest.specs.Stepping.{StepsOn, Steps}
 use Rattle.si_harvest.proofs.Errors.{blames_weaker}
 use Rattle.si_harvest.proofs.Moves.{at_end, takes, is_refused, is_stuck, enters, is_unopened}
 use Rattle.si_harvest.proofs.Safety.{within_others, within_moved, within_entered, falls_end, falls_item, falls_entered}
+
+-- what was read, in other words
+pub read_as : (bytes bytes' : Bytes) (at : ℕ) (r r' : Read) → bytes ≡ bytes' → r ≡ r' → IsRead bytes at r → IsRead bytes' at r'
+read_as bytes bytes' at r r' b e h = subst (IsRead bytes' at) e (subst (λ l. IsRead l at r) b h)
 
 module _ (told : Option Files) (bounds : Bounds) (limit : ℕ) where
   -- an error that is passed on
@@ -116,3 +121,16 @@ module _ (told : Option Files) (bounds : Bounds) (limit : ℕ) where
     holds = is_stuck told bounds limit start file old state items f (malformed f.name line) e
         (λ s outer h. subst (λ n. IsStuck s (malformed f.name n)) (sym l) (spot_malformed f place outer s r.0 h (λ k. r.1 (subst IsForeign h.left k)))) u;
   })
+
+-- a step where a file was open, of a load with these files and this limit
+pub steps_true : (told told' : Option Files) (bounds : Bounds) (limit limit' : ℕ) (old new : Reading) (before after : List Clause) (more : Bool) → told ≡ told' → limit ≡ limit' → more ≡ true
+    → Steps told bounds limit old new before after (Ok more) → StepsOn told' bounds limit' old new before after
+steps_true told told' bounds limit limit' old new before after more t l m h =
+    subst (λ x. StepsOn x bounds limit' old new before after) t
+    (subst (λ n. StepsOn told bounds n old new before after) l
+    (subst (λ b. Steps told bounds limit old new before after (Ok b)) m h))
+
+-- and one where none was
+pub steps_false : (told : Option Files) (bounds : Bounds) (limit : ℕ) (old new : Reading) (before after : List Clause) (more : Bool) → more ≡ false
+    → Steps told bounds limit old new before after (Ok more) → (old.files.items ≡ []) × (after ≡ before)
+steps_false told bounds limit old new before after more m h = subst (λ b. Steps told bounds limit old new before after (Ok b)) m h

@@ -4,3 +4,4 @@ pub mod Opened
 pub mod Gains
 pub mod Underway
 pub mod Stepping
+pub mod Loading

@@ -1,6 +1,7 @@
 -- What one more clause adds to what a load has gained.
-use Rattle.std.proofs.Common.{◌≡◌, ℕ, ◌+◌, ◌-◌, ◌≤◌, ◌<◌, List, [], ◌∷◌, ◌++◌, map, take, length, length-append, refl, sym, ap, ◌∙◌, subst, append_assoc, append-nil, arith, inl, inr}
+use Rattle.std.proofs.Common.{◌≡◌, ℕ, ◌+◌, ◌-◌, ◌≤◌, ◌<◌, List, [], ◌∷◌, ◌++◌, map, take, length, length-append, refl, sym, ap, ap₂, ◌∙◌, subst, append_assoc, append-nil, arith, inl, inr}
 use Rattle.std.proofs.lemmas.List.{length-map}
+use Rattle.std.proofs.Math.Seq.{take-append_seam}
 use Rattle.si_defs.specs.Clauses.{Literal, Clause, IsSoundClause}
 use Rattle.si_defs.specs.Entries.{entries, entries_from, literal_entries, placed_in, state_entries}
 use Rattle.si_state.specs.Acceptance.{Accepts}
@@ -50,3 +51,14 @@ gained_more loaded limit start state state' c n a e h = record {
 
 pub gained_nothing : (limit : ℕ) (state : List Clause) → Gained limit state (record { clauses = 0; entries = 0 }) state
 gained_nothing limit state = record { gained = []; whole = sym (append-nil state); accepted = tt; clauses = refl; entries = refl }
+
+pub counts_nothing : (state : List Clause) → Counts (record { clauses = 0; entries = 0 }) state
+counts_nothing state = record { clauses = omega arith; entries = omega arith }
+
+-- what was gained is taken away
+pub rolled_back : (limit : ℕ) (start state left : List Clause) (loaded : Loaded) → Gained limit start loaded state → left ≡ take (length state - loaded.clauses) state → left ≡ start
+rolled_back limit start state left loaded h e = e ∙ ap₂ take count h.whole ∙ take-append_seam start h.gained where
+  count : length state - loaded.clauses ≡ length start
+  count = omega (arith, ap (λ l. length l) h.whole, length-append start h.gained, h.clauses)
+
+pub ruleset loads = (gained_nothing, counts_nothing, rolled_back)

@@ -1,5 +1,5 @@
 // Loads: all clauses of a file, or none.
-ghost use Rattle.std.specs.Prelude.{◌≡◌, ◌≤◌, IfOk, IfErr, IfSome, OnErr, Some, None};
+ghost use Rattle.std.specs.Prelude.{◌≡◌, ◌≤◌, IfOk, IfErr, IfSome, OnOk, OnErr};
 ghost use Rattle.si_defs.specs.declared.TheConstants.{MOST_OCCURRENCES};
 ghost use Rattle.si_harvest.specs.Faults.{Blames, HasLoadCause, bounds_of};
 ghost use Rattle.si_harvest.specs.Opened.{HasFault};
@@ -14,6 +14,7 @@ use std::alloc::Global;
 
 /// Adds the clauses of a file and of the files that it includes to a store, and counts them. At an
 /// error the store is as before.
+#[tactic(auto, using(crate::proofs::Gaining::loads))]
 pub fn expand<L: Library, T: ClauseStore>(
     alloc: Global,
     library: &mut L,

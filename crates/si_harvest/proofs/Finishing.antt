@@ -41,44 +41,62 @@ module _ (files : Files) (bounds : Bounds) (limit : ℕ) where
       → Finishes files bounds limit (record s { rest = after } ∷ ss) made (state ++ clause ∷ []) es fault
       → Finishes files bounds limit (s ∷ ss) made state (attempt clause ∷ es) fault
   finishes_accepted s ss made state clause after es fault b n a (inl (own, others, c, f, e)) =
-      inl (attempt clause ∷ own, others, accepted s made state clause after b n a own None c,
-      finishes_as ss _ _ _ _ others fault refl (append_assoc state (clause ∷ []) (tried own)) f, ap (λ l. attempt clause ∷ l) e)
+      inl (
+        attempt clause ∷ own,
+        others,
+        accepted s made state clause after b n a own None c,
+        finishes_as ss _ _ _ _ others fault refl (append_assoc state (clause ∷ []) (tried own)) f,
+        ap (λ l. attempt clause ∷ l) e,
+      )
   finishes_accepted s ss made state clause after es fault b n a (inr (early, c, e)) = inr (early, accepted s made state clause after b n a es (Some early) c, e)
 
   -- a file that is included
   pub finishes_opened : (s : Spot) (ss : List Spot) (made : ℕ) (state : List Clause) (file bytes : Bytes) (selection : Selection) (after : Bytes) (es : List Event) (fault : Option Fault)
       → BeginsWithItem s.rest (include_item file selection) after → MayAsk bounds s.opened made file → files file ≡ Some bytes → length bytes ≤ bounds.file
       → Finishes files bounds limit
-          (record { file = file; bytes = bytes; opened = file ∷ s.opened; around = narrowed selection s.around; rest = bytes } ∷ record s { rest = after } ∷ ss) (made + 1) state es fault
+      (record { file = file; bytes = bytes; opened = file ∷ s.opened; around = narrowed selection s.around; rest = bytes } ∷ record s { rest = after } ∷ ss) (made + 1) state es fault
       → Finishes files bounds limit (s ∷ ss) made state (ask file ∷ es) fault
   finishes_opened s ss made state file bytes selection after es fault b may given small (inr (early, c, e)) =
-      inr (early, broken_off s made state file selection after b (ask file ∷ es) early
-      (fetched s.opened (narrowed selection s.around) made state file bytes may given small es (Some early) c), e)
+      inr (
+        early,
+        broken_off s made state file selection after b (ask file ∷ es) early
+            (fetched s.opened (narrowed selection s.around) made state file bytes may given small es (Some early) c),
+        e,
+      )
   finishes_opened s ss made state file bytes selection after es fault b may given small (inl (own, others, c, f, e)) = behind f where
     whole : Harvests files bounds limit s.opened (narrowed selection s.around) made state file (ask file ∷ own) None
     whole = fetched s.opened (narrowed selection s.around) made state file bytes may given small own None c
+
     as_made : made + 1 + fetches own ≡ made + (1 + fetches own)
     as_made = omega arith
+
     later : (events : List Event) (end : Option Fault) → Continues files bounds limit (record s { rest = after }) (made + 1 + fetches own) (state ++ tried own) events end
         → Continues files bounds limit s made state ((ask file ∷ own) ++ events) end
     later events end k =
         expanded s made state file selection after b (ask file ∷ own) events ((ask file ∷ own) ++ events) end whole
         (subst (λ n. Continues files bounds limit (record s { rest = after }) n (state ++ tried own) events end) as_made k) refl
+
     behind : Finishes files bounds limit (record s { rest = after } ∷ ss) (made + 1 + fetches own) (state ++ tried own) others fault
         → Finishes files bounds limit (s ∷ ss) made state (ask file ∷ es) fault
     behind (inr (early, k, g)) = inr (early, subst (λ l. Continues files bounds limit s made state l (Some early)) (ap (λ l. ask file ∷ l) (sym e)) (later others (Some early) k), g)
     behind (inl (mine, rest, k, h, g)) =
-        inl ((ask file ∷ own) ++ mine, rest, later mine None k,
-        finishes_as ss _ _ _ _ rest fault fetched_all tried_all h,
-        ap (λ l. ask file ∷ l) (e ∙ ap (λ l. own ++ l) g ∙ sym (append_assoc own mine rest))) where
-      fetches-append : (xs ys : List Event) → fetches (xs ++ ys) ≡ fetches xs + fetches ys
-      fetches-append [] ys = omega arith
-      fetches-append (ask x ∷ xs) ys = omega (arith, fetches-append xs ys)
-      fetches-append (attempt x ∷ xs) ys = fetches-append xs ys
-      fetched_all : made + 1 + fetches own + fetches mine ≡ made + fetches ((ask file ∷ own) ++ mine)
-      fetched_all = omega (arith, fetches-append own mine)
-      tried_all : (state ++ tried own) ++ tried mine ≡ state ++ tried ((ask file ∷ own) ++ mine)
-      tried_all = append_assoc state (tried own) (tried mine) ∙ ap (λ l. state ++ l) (sym (tried-append own mine))
+        inl (
+          (ask file ∷ own) ++ mine,
+          rest,
+          later mine None k,
+          finishes_as ss _ _ _ _ rest fault fetched_all tried_all h,
+          ap (λ l. ask file ∷ l) (e ∙ ap (λ l. own ++ l) g ∙ sym (append_assoc own mine rest)),
+        ) where
+          fetches-append : (xs ys : List Event) → fetches (xs ++ ys) ≡ fetches xs + fetches ys
+          fetches-append [] ys = omega arith
+          fetches-append (ask x ∷ xs) ys = omega (arith, fetches-append xs ys)
+          fetches-append (attempt x ∷ xs) ys = fetches-append xs ys
+
+          fetched_all : made + 1 + fetches own + fetches mine ≡ made + fetches ((ask file ∷ own) ++ mine)
+          fetched_all = omega (arith, fetches-append own mine)
+
+          tried_all : (state ++ tried own) ++ tried mine ≡ state ++ tried ((ask file ∷ own) ++ mine)
+          tried_all = append_assoc state (tried own) (tried mine) ∙ ap (λ l. state ++ l) (sym (tried-append own mine))
 
   -- ---- faults
   pub finishes_stuck : (s : Spot) (ss : List Spot) (made : ℕ) (state : List Clause) (early : Fault) → IsStuck s early

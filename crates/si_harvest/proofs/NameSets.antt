@@ -39,6 +39,7 @@ module _ {K : Type 0} (items : K → Bytes) where
     last : (b : Bool) → bytes_eq text (items key) ≡ b → (b || has_key keys text) ≡ true → (has_key keys text ≡ true) ⊎ (items key ≡ text)
     last true q g = inr (sym (bytes_eq_true text (items key) q))
     last false q g = inl g
+
     by : (b : Bool) → has_key keys (items key) ≡ b → (has_key keys text ≡ true) ⊎ (items key ≡ text)
     by true q = inl (subst (λ b. has_key (cond b keys (keys ++ key ∷ [])) text ≡ true) q h)
     by false q =
@@ -87,6 +88,7 @@ pub set_more : (before after : NameSet) (names : List Name) (n : Name) → Grows
 set_more before after names n g s = record { exactly = λ m. (there m, back m) } where
   there : (m : Name) → holds after m ≡ true → IsAmong (names ++ n ∷ []) m
   there m h = elim (g.found m h) [ inl k ↦ among_left names n m ((s.exactly m).0 k) | inr e ↦ among_last names n m e ]
+
   back : (m : Name) → IsAmong (names ++ n ∷ []) m → holds after m ≡ true
   back m h = elim (among_split names n m h) [ inl k ↦ g.kept m ((s.exactly m).1 k) | inr e ↦ g.there m e ]
 
@@ -108,15 +110,15 @@ module _ (kind other : NameKind) (cases : (k : NameKind) → (k ≡ kind) ⊎ (k
       → Grows before after n
   grows before after n key k t c r = record {
     found = λ m h. elim (cases m.kind) [
-      inl q ↦ elim (key_found text_of (column before) key m.text (ap (λ ks. has_key text_of ks m.text) (sym c) ∙ sym (own after m q) ∙ h)) [
-        inl g ↦ inl (own before m q ∙ g)
-      | inr g ↦ inr (same_name n m (k ∙ sym q) (sym t ∙ g))
+      | inl q ↦ elim (key_found text_of (column before) key m.text (ap (λ ks. has_key text_of ks m.text) (sym c) ∙ sym (own after m q) ∙ h)) [
+        | inl g ↦ inl (own before m q ∙ g)
+        | inr g ↦ inr (same_name n m (k ∙ sym q) (sym t ∙ g))
       ]
-    | inr q ↦ inl (apart before m q ∙ ap (λ ks. has_key text_of ks m.text) (sym r) ∙ sym (apart after m q) ∙ h)
+      | inr q ↦ inl (apart before m q ∙ ap (λ ks. has_key text_of ks m.text) (sym r) ∙ sym (apart after m q) ∙ h)
     ];
     kept = λ m h. elim (cases m.kind) [
-      inl q ↦ own after m q ∙ ap (λ ks. has_key text_of ks m.text) c ∙ key_kept text_of (column before) key m.text (sym (own before m q) ∙ h)
-    | inr q ↦ apart after m q ∙ ap (λ ks. has_key text_of ks m.text) r ∙ sym (apart before m q) ∙ h
+      | inl q ↦ own after m q ∙ ap (λ ks. has_key text_of ks m.text) c ∙ key_kept text_of (column before) key m.text (sym (own before m q) ∙ h)
+      | inr q ↦ apart after m q ∙ ap (λ ks. has_key text_of ks m.text) r ∙ sym (apart before m q) ∙ h
     ];
     there = λ m e. subst (λ x. holds after x ≡ true) e
         (own after n k ∙ ap (λ ks. has_key text_of ks n.text) c ∙ ap (has_key text_of (inserted text_of (column before) key)) (sym t) ∙ key_there text_of (column before) key);
@@ -159,5 +161,5 @@ names_more names i x h e =
     ∙ ap (map name_of) (take-suc names i x h)
     ∙ map-append name_of (take i names) (get_or names i x ∷ [])
     ∙ ap (λ y. map name_of (take i names) ++ name_of y ∷ []) (sym e) where
-  next : i + 1 ≡ suc i
-  next = omega arith
+      next : i + 1 ≡ suc i
+      next = omega arith

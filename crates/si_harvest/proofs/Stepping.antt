@@ -87,8 +87,13 @@ module _ (told : Option Files) (bounds : Bounds) (limit : ℕ) where
   spot_stuck f place outer s r h k = (
     sym h.named,
     subst (λ l. IsFaulty l) (sym h.left) r.faulty,
-    (take place f.bytes.items, drop place f.bytes.items, subst (λ l. IsPlace l (drop place f.bytes.items)) (sym h.left) r.behind,
-    h.whole ∙ sym (take-append-drop place f.bytes.items), refl),
+    (
+      take place f.bytes.items,
+      drop place f.bytes.items,
+      subst (λ l. IsPlace l (drop place f.bytes.items)) (sym h.left) r.behind,
+      h.whole ∙ sym (take-append-drop place f.bytes.items),
+      refl,
+    ),
     k,
   )
 
@@ -97,8 +102,13 @@ module _ (told : Option Files) (bounds : Bounds) (limit : ℕ) where
   spot_malformed f place outer s r h k = (
     sym h.named,
     subst (λ l. IsFaulty l) (sym h.left) r.faulty,
-    (take place f.bytes.items, drop place f.bytes.items, subst (λ l. IsPlace l (drop place f.bytes.items)) (sym h.left) r.behind,
-    h.whole ∙ sym (take-append-drop place f.bytes.items), refl),
+    (
+      take place f.bytes.items,
+      drop place f.bytes.items,
+      subst (λ l. IsPlace l (drop place f.bytes.items)) (sym h.left) r.behind,
+      h.whole ∙ sym (take-append-drop place f.bytes.items),
+      refl,
+    ),
     k,
   )
 

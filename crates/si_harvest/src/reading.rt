@@ -173,11 +173,17 @@ impl Reading {
             }
             Read::Syntax(place) => {
                 let line = line_of(&file, place);
-                Err(HarvestFault::Syntax { file: file.name, line })
+                Err(HarvestFault::Syntax {
+                    file: file.name,
+                    line,
+                })
             }
             Read::Language(place) => {
                 let line = line_of(&file, place);
-                Err(HarvestFault::Language { file: file.name, line })
+                Err(HarvestFault::Language {
+                    file: file.name,
+                    line,
+                })
             }
         }
     }

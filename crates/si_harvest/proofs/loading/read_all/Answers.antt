@@ -20,8 +20,8 @@ returns-in_err-enter-clause-fault g c =
     let P : HarvestFault → Type 0 = λ e. Blames limit e (HasFault told bounds limit start c.args.name.now) in
     err_again c.from_residual.result c.in_err-enter.field-0.0 P c.from_residual.ensures.1
     (blames_weaker limit c.in_err-enter.field-0.0 _ _
-        (λ fault h. never_begins told bounds limit start c.args.name.now c.new-reading.result fault c.new-reading.ensures.files c.new-reading.ensures.fetches h)
-        (c.in_err-enter.ensures.unopened limit))
+    (λ fault h. never_begins told bounds limit start c.args.name.now c.new-reading.result fault c.new-reading.ensures.files c.new-reading.ensures.fetches h)
+    (c.in_err-enter.ensures.unopened limit))
 
 pub loop-reading-init : goal.loop-reading-init
 loop-reading-init g c =
@@ -48,6 +48,6 @@ returns-clause-right g c =
     let limit = g.T.ClauseStore.limit c.args.store.now in
     let start = g.T.ClauseStore.clauses c.args.store.now in
     let over = steps_false (g.L.Library.files c.loop-reading.library) bounds (g.T.ClauseStore.limit c.loop-reading.store) c.loop-reading.reading c.step.new.self
-        (g.T.ClauseStore.clauses c.loop-reading.store) (g.T.ClauseStore.clauses c.step.new.store) c.in_ok-step.field-0 c.if-branch.false c.in_ok-step.ensures.stepped in
+    (g.T.ClauseStore.clauses c.loop-reading.store) (g.T.ClauseStore.clauses c.step.new.store) c.in_ok-step.field-0 c.if-branch.false c.in_ok-step.ensures.stepped in
     subst (λ s. IfSome told (λ files. Gains files bounds limit start c.args.name.now s)) (sym over.1)
     (is_over told bounds limit start c.args.name.now c.loop-reading.reading (g.T.ClauseStore.clauses c.loop-reading.store) over.0 c.loop-reading.invariant.loading.under_way)

@@ -19,4 +19,4 @@ returns-in-Err-clause-refused g c =
     let state = g.T.ClauseStore.clauses c.args.store.now in
     subst (λ k. Blames limit c.refusal.result (IsRejected limit state (clause_of k))) c.in-Err.ensures.handed_back
     (c.refusal.ensures limit state
-        (subst (λ k. Rejects limit state (clause_of k) c.in-Err.rejected.why) (sym c.in-Err.ensures.handed_back) c.in-Err.ensures.rejected))
+    (subst (λ k. Rejects limit state (clause_of k) c.in-Err.rejected.why) (sym c.in-Err.ensures.handed_back) c.in-Err.ensures.rejected))

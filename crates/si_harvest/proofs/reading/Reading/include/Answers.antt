@@ -19,7 +19,7 @@ returns-clause-unopened g c =
     let bounds = bounds_of c.args.limits.now in
     let P : HarvestFault → Type 0 = λ e. (limit : ℕ) → Blames limit e (IsUnopened told bounds c.args.name.now c.push.new.self) in
     let Q : HarvestFault → Type 0 = λ e. (limit : ℕ) → Blames limit e (λ fault. (middle : Reading) × (middle.files.items ≡ c.args.self.now.files.items ++ c.args.file ∷ [])
-        × (middle.fetches ≡ c.args.self.now.fetches) × IsUnopened told bounds c.args.name.now middle fault) in
+    × (middle.fetches ≡ c.args.self.now.fetches) × IsUnopened told bounds c.args.name.now middle fault) in
     err_weaker c.enter.result P Q
     (λ e h limit. blames_weaker limit e _ _ (λ fault k. (c.push.new.self, c.in_ok-push.ensures.files, c.push.ensures.fetches, k)) (h limit))
     c.enter.ensures.unopened

@@ -110,6 +110,13 @@ IsStuck spot (malformed file line) =
     (file ≡ spot.file) × IsFaulty spot.rest × IsOnLine spot line × (IsForeign spot.rest → ⊥)
 IsStuck spot fault = ⊥
 
+-- ---- a clause that is refused
+-- the fault is that the clause is refused in this state
+abbrev pub IsRejected : ℕ → List Clause → Clause → Fault → Type 0
+IsRejected limit state clause (rejected c refusal) = (c ≡ clause) × Refuses limit state clause refusal
+IsRejected limit state clause fault = ⊥
+
+-- ---- the reading of files
 module _ (files : Files) (bounds : Bounds) (limit : ℕ) where
   mutual
     -- While these files are open, with these selections round it, behind so many fetches and in this

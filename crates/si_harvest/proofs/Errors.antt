@@ -1,0 +1,27 @@
+-- Faults that are passed on.
+use Rattle.std.proofs.Common.{◌≡◌, ℕ, sym, subst, refl, Option, Some, inl, inr}
+use Rattle.std.specs.Prelude.{Result, Ok, Err, IfErr, IsErrAnd}
+use Rattle.si_defs.specs.Bytes.{Bytes}
+use Rattle.si_state.specs.Harvest.{Files, Bounds, Fault}
+use Rattle.si_io.specs.Library.{Counts}
+use Rattle.si_harvest.specs.declared.faults.HarvestFault.{HarvestFault}
+use Rattle.si_harvest.specs.declared.faults.HarvestFault.TheVariants.{Memory}
+use Rattle.si_harvest.specs.Faults.{Tells, Told, Blames, HasFaultCause, HasLoadCause}
+
+-- the fault is told for another reason
+pub blames_weaker : (limit : ℕ) (e : HarvestFault) (P Q : Fault → Type 0) → ((f : Fault) → P f → Q f) → Blames limit e P → Blames limit e Q
+blames_weaker limit e P Q f (inl m) = inl m
+blames_weaker limit e P Q f (inr t) = inr (record { fault = t.fault; told = t.told; holds = f t.fault t.holds })
+
+pub err_weaker : {T E : Type 0} (r : Result T E) (P Q : E → Type 0) → ((e : E) → P e → Q e) → IfErr r P → IfErr r Q
+err_weaker (Ok x) P Q f h = tt
+err_weaker (Err e) P Q f h = f e h
+
+-- the same fault
+pub err_again : {T E : Type 0} (r : Result T E) (e : E) (P : E → Type 0) → IsErrAnd r (λ x. x ≡ e) → P e → IfErr r P
+err_again (Ok x) e P h p = tt
+err_again (Err x) e P h p = subst P (sym h) p
+
+pub cause_again : {T : Type 0} (r : Result T HarvestFault) (e : HarvestFault) (before now : Counts) → IsErrAnd r (λ x. x ≡ e) → HasFaultCause before now e → HasLoadCause before now r
+cause_again (Ok x) e before now h c = absurd h
+cause_again (Err x) e before now h c = subst (HasFaultCause before now) (sym h) c

@@ -1,0 +1,64 @@
+-- What one more clause adds to what a load has gained.
+use Rattle.std.proofs.Common.{◌≡◌, ℕ, ◌+◌, ◌-◌, ◌≤◌, ◌<◌, List, [], ◌∷◌, ◌++◌, map, take, length, length-append, refl, sym, ap, ap₂, ◌∙◌, subst, append_assoc, append-nil, arith, inl, inr}
+use Rattle.std.proofs.lemmas.List.{length-map}
+use Rattle.std.proofs.Math.Seq.{take-append_seam}
+use Rattle.si_defs.specs.Clauses.{Literal, Clause, IsSoundClause}
+use Rattle.si_defs.specs.Entries.{entries, entries_from, literal_entries, placed_in, state_entries}
+use Rattle.si_state.specs.Acceptance.{Accepts}
+use Rattle.si_state.specs.Harvest.{AreAccepted}
+use Rattle.si_harvest.specs.declared.faults.Loaded.{Loaded}
+use Rattle.si_harvest.specs.Gains.{Counts, Gained}
+
+entries-append : (xs ys : List Clause) → length (state_entries (xs ++ ys)) ≡ length (state_entries xs) + length (state_entries ys)
+entries-append [] ys = omega arith
+entries-append (c ∷ cs) ys =
+    omega (arith, length-append (map (placed_in c) (entries c)) (state_entries (cs ++ ys)), length-append (map (placed_in c) (entries c)) (state_entries cs), entries-append cs ys)
+
+one_entries : (c : Clause) → length (state_entries (c ∷ [])) ≡ length (entries c)
+one_entries c = omega (arith, length-append (map (placed_in c) (entries c)) [], length-map (entries c) (placed_in c))
+
+-- a sound clause has an entry
+some_entries : (c : Clause) → IsSoundClause c → 0 < length (entries c)
+some_entries c s = by c.literals s.some where
+  by : (ls : List Literal) → (ls ≡ [] → ⊥) → 0 < length (entries_from 1 ls)
+  by [] h = absurd (h refl)
+  by (l ∷ ls) h = omega (arith, length-append (literal_entries 1 l) (entries_from (1 + 1) ls))
+
+accepted-append : (limit : ℕ) (start gained : List Clause) (c : Clause) → AreAccepted limit start gained
+    → Accepts limit (start ++ gained) c ((start ++ gained) ++ c ∷ []) → AreAccepted limit start (gained ++ c ∷ [])
+accepted-append limit start [] c h a =
+    (subst (λ l. Accepts limit l c (l ++ c ∷ [])) (append-nil start) a, tt)
+accepted-append limit start (d ∷ ds) c h a =
+    (h.0, accepted-append limit (start ++ d ∷ []) ds c h.1 (subst (λ l. Accepts limit l c (l ++ c ∷ [])) (sym (append_assoc start (d ∷ []) ds)) a))
+
+pub counts_more : (loaded : Loaded) (limit : ℕ) (state state' : List Clause) (c : Clause) (n : ℕ) → IsSoundClause c → Accepts limit state c state' → n ≡ length (entries c)
+    → Counts loaded state → Counts (record { clauses = loaded.clauses + 1; entries = loaded.entries + n }) state'
+counts_more loaded limit state state' c n s a e h = record {
+  clauses = omega (arith, h.clauses, some_entries c s, e);
+  entries = omega (arith, h.entries, e, ap (λ l. length (state_entries l)) a.added, entries-append state (c ∷ []), one_entries c);
+}
+
+pub gained_more : (loaded : Loaded) (limit : ℕ) (start state state' : List Clause) (c : Clause) (n : ℕ) → Accepts limit state c state' → n ≡ length (entries c)
+    → Gained limit start loaded state → Gained limit start (record { clauses = loaded.clauses + 1; entries = loaded.entries + n }) state'
+gained_more loaded limit start state state' c n a e h = record {
+  gained = h.gained ++ c ∷ [];
+  whole = a.added ∙ ap (λ l. l ++ c ∷ []) h.whole ∙ append_assoc start h.gained (c ∷ []);
+  accepted = accepted-append limit start h.gained c h.accepted
+      (subst (λ l. Accepts limit l c (l ++ c ∷ [])) h.whole (subst (Accepts limit state c) a.added a));
+  clauses = omega (arith, h.clauses, length-append h.gained (c ∷ []));
+  entries = omega (arith, h.entries, e, entries-append h.gained (c ∷ []), one_entries c);
+}
+
+pub gained_nothing : (limit : ℕ) (state : List Clause) → Gained limit state (record { clauses = 0; entries = 0 }) state
+gained_nothing limit state = record { gained = []; whole = sym (append-nil state); accepted = tt; clauses = refl; entries = refl }
+
+pub counts_nothing : (state : List Clause) → Counts (record { clauses = 0; entries = 0 }) state
+counts_nothing state = record { clauses = omega arith; entries = omega arith }
+
+-- what was gained is taken away
+pub rolled_back : (limit : ℕ) (start state left : List Clause) (loaded : Loaded) → Gained limit start loaded state → left ≡ take (length state - loaded.clauses) state → left ≡ start
+rolled_back limit start state left loaded h e = e ∙ ap₂ take count h.whole ∙ take-append_seam start h.gained where
+  count : length state - loaded.clauses ≡ length start
+  count = omega (arith, ap (λ l. length l) h.whole, length-append start h.gained, h.clauses)
+
+pub ruleset loads = (gained_nothing, counts_nothing, rolled_back)

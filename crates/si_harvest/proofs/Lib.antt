@@ -1,0 +1,11 @@
+mod Stands
+mod Finishing
+mod Moves
+mod Shorter
+mod Gaining
+mod NameSets
+mod Refusals
+mod Taking
+mod Errors
+mod Safety
+mod Stepping

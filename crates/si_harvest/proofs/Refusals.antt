@@ -1,0 +1,25 @@
+-- Why the store rejects a clause, as a fault of the load.
+use Rattle.std.proofs.Common.{◌≡◌, ℕ, List, refl, sym, subst, ◌⊎◌, inl, inr}
+use Rattle.si_defs.specs.Clauses as clauses
+use Rattle.si_state.specs.Acceptance.{Refusal, Refuses, taken, misused, full}
+use Rattle.si_state.specs.Harvest.{rejected, IsRejected}
+use Rattle.si_term.specs.Meaning.{clause_of}
+use Rattle.si_sign.specs.declared.faults.AddFault.{AddFault}
+use Rattle.si_sign.specs.declared.faults.AddFault.TheVariants as add_fault
+use Rattle.si_sign.specs.declared.faults.Rejected.{Rejected}
+use Rattle.si_sign.specs.Stores.{Rejects}
+use Rattle.si_harvest.specs.declared.faults.HarvestFault.TheVariants as harvest_fault
+use Rattle.si_harvest.specs.Faults.{IsReason, Blames}
+
+reason : (limit : ℕ) (state : List clauses.Clause) (clause : clauses.Clause) (why : AddFault) → (why ≡ add_fault.Memory → ⊥) → Rejects limit state clause why
+    → (refusal : Refusal) × IsReason limit why refusal × Refuses limit state clause refusal
+reason limit state clause add_fault.Taken n r = (taken, refl, r)
+reason limit state clause (add_fault.Clash c) n r = (misused c.entry r.0 r.1, (r.0, r.1, refl, r.3), r.2)
+reason limit state clause (add_fault.Full m most) n r = (full m, (refl, r.1), r.0)
+reason limit state clause add_fault.Memory n r = absurd (n refl)
+
+pub blames_rejected : (r : Rejected) (limit : ℕ) (state : List clauses.Clause) → (r.why ≡ add_fault.Memory → ⊥) → Rejects limit state (clause_of r.clause) r.why
+    → Blames limit (harvest_fault.Rejected r) (IsRejected limit state (clause_of r.clause))
+blames_rejected r limit state n h =
+    let w = reason limit state (clause_of r.clause) r.why n h in
+    inr (record { fault = rejected (clause_of r.clause) w.0; told = (w.0, refl, w.1); holds = (refl, w.2) })

@@ -1,0 +1,95 @@
+-- Each step keeps the places within their files, and leaves less to read.
+use Rattle.std.proofs.Common.{◌≡◌, ℕ, ◌+◌, ◌-◌, ◌*◌, ◌≤◌, ◌<◌, List, [], ◌∷◌, ◌++◌, drop, length, length-drop, refl, sym, ap, ◌∙◌, subst, arith, None, Some, Option}
+use Rattle.std.specs.List.{AllByRecursion}
+use Rattle.si_defs.specs.Bytes.{Bytes}
+use Rattle.si_defs.specs.Grammar.{Item}
+use Rattle.si_defs.specs.Texts.{BeginsWithItem}
+use Rattle.si_defs.specs.declared.TheConstants.{MOST_OCCURRENCES}
+use Rattle.si_state.specs.Harvest.{Files, Bounds}
+use Rattle.si_harvest.specs.declared.files.OpenFile.{OpenFile}
+use Rattle.si_harvest.specs.declared.names.NameSet.{NameSet}
+use Rattle.si_harvest.specs.declared.reading.Reading.{Reading}
+use Rattle.si_harvest.specs.Opened.{Enters}
+use Rattle.si_harvest.specs.Underway.{IsWithin, AreWithin, left_of, steps_left}
+use Rattle.si_harvest.proofs.Shorter.{item_shorter}
+
+-- ---- places
+pub within_others : (items : List OpenFile) (f : OpenFile) → AreWithin (items ++ f ∷ []) → AreWithin items
+within_others [] f h = tt
+within_others (x ∷ xs) f h = (h.0, within_others xs f h.1)
+
+pub within_last : (items : List OpenFile) (f : OpenFile) → AreWithin (items ++ f ∷ []) → IsWithin f
+within_last [] f h = h.0
+within_last (x ∷ xs) f h = within_last xs f h.1
+
+pub within_more : (items : List OpenFile) (f : OpenFile) → AreWithin items → IsWithin f → AreWithin (items ++ f ∷ [])
+within_more [] f h w = (w, tt)
+within_more (x ∷ xs) f h w = (h.0, within_more xs f h.1 w)
+
+-- the file is read on
+pub within_moved : (items : List OpenFile) (f : OpenFile) (end : ℕ) → AreWithin (items ++ f ∷ []) → end ≤ length f.bytes.items → AreWithin (items ++ record f { at = end } ∷ [])
+within_moved items f end h e =
+    within_more items (record f { at = end }) (within_others items f h) (record { place = e; size = (within_last items f h).size })
+
+-- another file is open inside
+pub within_entered : (told : Option Files) (bounds : Bounds) (name : Bytes) (chosen : Option NameSet) (middle new : Reading) → bounds.file ≤ MOST_OCCURRENCES
+    → Enters told bounds name chosen middle new → AreWithin middle.files.items → AreWithin new.files.items
+within_entered told bounds name chosen middle new b h w =
+    subst AreWithin (sym h.inside)
+    (within_more middle.files.items h.file w (record { place = omega (arith, h.given.front); size = omega (arith, h.given.small, b) }))
+
+-- ---- steps
+left-append : (items : List OpenFile) (f : OpenFile) → left_of (items ++ f ∷ []) ≡ left_of items + ((length f.bytes.items - f.at) + 1)
+left-append [] f = omega arith
+left-append (x ∷ xs) f = omega (arith, left-append xs f)
+
+pub falls_end : (bounds : Bounds) (old new : Reading) (items : List OpenFile) (f : OpenFile) → old.files.items ≡ items ++ f ∷ [] → new.files.items ≡ items → new.fetches ≡ old.fetches
+    → steps_left bounds new < steps_left bounds old
+falls_end bounds old new items f e n m =
+    omega (
+      arith,
+      ap left_of e,
+      ap left_of n,
+      left-append items f,
+      ap (λ k. (bounds.fetches - k) * (bounds.file + 2)) m,
+    )
+
+later : (f : OpenFile) (item : Item) (end : ℕ) → BeginsWithItem (drop f.at f.bytes.items) item (drop end f.bytes.items) → length f.bytes.items - end < length f.bytes.items - f.at
+later f item end b = omega (arith, item_shorter (drop f.at f.bytes.items) item (drop end f.bytes.items) b, length-drop f.at f.bytes.items, length-drop end f.bytes.items)
+
+pub falls_item : (bounds : Bounds) (old new : Reading) (items : List OpenFile) (f : OpenFile) (item : Item) (end : ℕ) → old.files.items ≡ items ++ f ∷ []
+    → BeginsWithItem (drop f.at f.bytes.items) item (drop end f.bytes.items) → new.files.items ≡ items ++ record f { at = end } ∷ [] → new.fetches ≡ old.fetches
+    → steps_left bounds new < steps_left bounds old
+falls_item bounds old new items f item end e b n m =
+    omega (
+      arith,
+      ap left_of e,
+      ap left_of n,
+      left-append items f,
+      left-append items (record f { at = end }),
+      later f item end b,
+      ap (λ k. (bounds.fetches - k) * (bounds.file + 2)) m,
+    )
+
+one_fetch : (most made width : ℕ) → made < most → (most - made) * width ≡ (most - (made + 1)) * width + width
+one_fetch most made width h = let split : most - made ≡ (most - (made + 1)) + 1 = omega (arith, h) in omega (arith, ap (λ k. k * width) split)
+
+pub falls_entered : (told : Option Files) (bounds : Bounds) (name : Bytes) (chosen : Option NameSet) (old middle new : Reading) (items : List OpenFile) (f : OpenFile) (item : Item) (end : ℕ)
+    → old.files.items ≡ items ++ f ∷ [] → BeginsWithItem (drop f.at f.bytes.items) item (drop end f.bytes.items) → middle.files.items ≡ items ++ record f { at = end } ∷ []
+    → middle.fetches ≡ old.fetches → Enters told bounds name chosen middle new → steps_left bounds new < steps_left bounds old
+falls_entered told bounds name chosen old middle new items f item end e b n m h =
+    omega (
+      arith,
+      ap left_of e,
+      ap left_of n,
+      ap left_of h.inside,
+      left-append items f,
+      left-append items (record f { at = end }),
+      left-append middle.files.items h.file,
+      later f item end b,
+      h.given.small,
+      h.given.front,
+      ap (λ k. (bounds.fetches - k) * (bounds.file + 2)) m,
+      ap (λ k. (bounds.fetches - k) * (bounds.file + 2)) h.counted,
+      one_fetch bounds.fetches middle.fetches (bounds.file + 2) h.may.few,
+    )

@@ -1,0 +1,22 @@
+use Rattle.std.proofs.Common.{◌≡◌, sym, subst}
+use Rattle.si_state.specs.Harvest.{IsRejected}
+use Rattle.si_term.specs.Meaning.{clause_of}
+use Rattle.si_sign.specs.Stores.{Rejects}
+use Rattle.si_harvest.specs.Faults.{Blames}
+use Rattle.si_harvest.proofs.Gaining.{counts_more, gained_more}
+use Rattle.si_harvest.proofs.store.add.Goals as goal
+
+pub returns-in-Ok-clause-counted : goal.returns-in-Ok-clause-counted
+returns-in-Ok-clause-counted g c =
+    counts_more c.args.loaded.now _ _ _ (clause_of c.args.clause) c.in-Ok.entries c.requires.sound c.in-Ok.ensures.added c.in-Ok.ensures.entries c.requires.counted
+
+pub returns-in-Ok-clause-gained : goal.returns-in-Ok-clause-gained
+returns-in-Ok-clause-gained g c = λ start h. gained_more c.args.loaded.now _ start _ _ (clause_of c.args.clause) c.in-Ok.entries c.in-Ok.ensures.added c.in-Ok.ensures.entries h
+
+pub returns-in-Err-clause-refused : goal.returns-in-Err-clause-refused
+returns-in-Err-clause-refused g c =
+    let limit = g.T.ClauseStore.limit c.args.store.now in
+    let state = g.T.ClauseStore.clauses c.args.store.now in
+    subst (λ k. Blames limit c.refusal.result (IsRejected limit state (clause_of k))) c.in-Err.ensures.handed_back
+    (c.refusal.ensures limit state
+    (subst (λ k. Rejects limit state (clause_of k) c.in-Err.rejected.why) (sym c.in-Err.ensures.handed_back) c.in-Err.ensures.rejected))

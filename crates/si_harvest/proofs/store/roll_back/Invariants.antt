@@ -1,0 +1,8 @@
+use Rattle.std.proofs.Common.{◌≡◌, ◌-◌, length, take}
+use Rattle.si_harvest.proofs.Taking.{IsShortened}
+use Rattle.si_harvest.proofs.store.roll_back.Given as goal
+
+abbrev pub invariant-loop : goal.invariant-loop
+invariant-loop g l =
+    IsShortened (g.T.ClauseStore.clauses l.initial.store) l.counter (g.T.ClauseStore.clauses l.store)
+    × (g.T.ClauseStore.limit l.store ≡ g.T.ClauseStore.limit l.initial.store)

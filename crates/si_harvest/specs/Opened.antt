@@ -1,0 +1,64 @@
+-- The files that are open, and where their reading stands.
+use Rattle.std.specs.Prelude.{◌≡◌, ℕ, ◌+◌, ◌-◌, ◌*◌, ◌≤◌, ◌<◌, ◌⊎◌, Bool, true, false, ◌&&◌, List, [], ◌∷◌, ◌++◌, length, drop, map, reverse, Option, None, Some, IfSome, bytes_eq}
+use Rattle.std.specs.List.{list_any, list_all}
+use Rattle.si_defs.specs.Bytes.{Bytes}
+use Rattle.si_defs.specs.Clauses.{Name, Clause}
+use Rattle.si_defs.specs.declared.TheConstants.{MOST_OCCURRENCES}
+use Rattle.si_state.specs.Harvest.{Files, Bounds, Event, Fault, MayAsk, IsBarred, IsWithheld, Loads}
+use Rattle.si_state.specs.Acceptance.{Accepts}
+use Rattle.si_harvest.specs.declared.files.OpenFile.{OpenFile}
+use Rattle.si_harvest.specs.declared.names.NameSet.{NameSet}
+use Rattle.si_harvest.specs.declared.reading.Reading.{Reading}
+use Rattle.si_harvest.specs.declared.faults.HarvestLimits.{HarvestLimits}
+use Rattle.si_harvest.specs.Chosen.{holds, IsSetOf}
+
+abbrev pub file_names : List OpenFile → List Bytes
+file_names files = map (λ f. f.name) files
+
+-- the innermost first
+abbrev pub opened : List OpenFile → List Bytes
+opened files = file_names (reverse files)
+
+-- one of the files has the name
+abbrev pub is_listed : List OpenFile → Bytes → Bool
+is_listed files name = list_any (λ f. bytes_eq f.name name) files
+
+abbrev pub lists : Option NameSet → Name → Bool
+lists None name = true
+lists (Some set) name = holds set name
+
+-- the selections of all these files list the name
+abbrev pub is_selected : List OpenFile → Name → Bool
+is_selected files name = list_all (λ f. lists f.chosen name) files
+
+-- the library gave the file, which is open at its front
+pub record HasOpened (told : Option Files) (bounds : Bounds) (name : Bytes) (chosen : Option NameSet) (file : OpenFile) : Type 0 where
+  pub named : file.name ≡ name
+  pub given : IfSome told (λ files. files name ≡ Some file.bytes.items)
+  pub small : length file.bytes.items ≤ bounds.file
+  pub front : file.at ≡ 0
+  pub selects : file.chosen ≡ chosen
+
+-- a file is open inside the others, behind one fetch more
+pub record Enters (told : Option Files) (bounds : Bounds) (name : Bytes) (chosen : Option NameSet) (before after : Reading) : Type 0 where
+  pub may : MayAsk bounds (opened before.files.items) before.fetches name
+  pub file : OpenFile
+  pub given : HasOpened told bounds name chosen file
+  pub inside : after.files.items ≡ before.files.items ++ file ∷ []
+  pub counted : after.fetches ≡ before.fetches + 1
+
+-- why it can't be opened
+abbrev pub IsUnopened : Option Files → Bounds → Bytes → Reading → Fault → Type 0
+IsUnopened told bounds name reading fault =
+    IsBarred bounds (opened reading.files.items) reading.fetches name fault
+    ⊎ (MayAsk bounds (opened reading.files.items) reading.fetches name × IfSome told (λ files. IsWithheld files bounds name fault))
+
+-- The clause was passed over where the selections don't all list it, and else it was accepted.
+abbrev pub Takes : ℕ → List OpenFile → Clause → List Clause → List Clause → Type 0
+Takes limit files clause before after =
+    ((is_selected files clause.name ≡ false) × (after ≡ before))
+    ⊎ ((is_selected files clause.name ≡ true) × Accepts limit before clause after)
+
+-- a load of the file has this fault
+abbrev pub HasFault : Option Files → Bounds → ℕ → List Clause → Bytes → Fault → Type 0
+HasFault told bounds limit start file fault = IfSome told (λ files. (events : List Event) × Loads files bounds limit start file events (Some fault))

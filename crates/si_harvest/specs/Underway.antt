@@ -1,0 +1,87 @@
+-- A load that is under way: where the reading of each open file stands, and what is still to come.
+use Rattle.std.specs.Prelude.{◌≡◌, ℕ, ◌+◌, ◌-◌, ◌*◌, ◌≤◌, ◌⊎◌, List, [], ◌∷◌, ◌++◌, length, drop, reverse, Option, None, Some}
+use Rattle.std.specs.List.{AllByRecursion}
+use Rattle.si_defs.specs.Bytes.{Bytes}
+use Rattle.si_defs.specs.Clauses.{Name, Clause}
+use Rattle.si_defs.specs.declared.TheConstants.{MOST_OCCURRENCES}
+use Rattle.si_defs.specs.Grammar.{Selection, all, only}
+use Rattle.si_state.specs.Harvest.{Files, Bounds, Event, Fault, fetches, tried, Spot, Continues, Loads}
+use Rattle.si_harvest.specs.declared.files.OpenFile.{OpenFile}
+use Rattle.si_harvest.specs.declared.names.NameSet.{NameSet}
+use Rattle.si_harvest.specs.declared.reading.Reading.{Reading}
+use Rattle.si_harvest.specs.Chosen.{IsSetOf}
+
+-- ---- spots
+-- the files that are open at the first of these, and the selections round it
+abbrev pub opened_at : List Spot → List Bytes
+opened_at [] = []
+opened_at (s ∷ ss) = s.opened
+
+abbrev pub around_at : List Spot → List (List Name)
+around_at [] = []
+around_at (s ∷ ss) = s.around
+
+-- the set's names are listed too, if there is one
+abbrev pub Narrows : Option NameSet → List (List Name) → List (List Name) → Type 0
+Narrows None outer around = around ≡ outer
+Narrows (Some set) outer around = (names : List Name) × IsSetOf names set × (around ≡ names ∷ outer)
+
+-- the set is that of a selection's names, if it lists any
+abbrev pub Lists : Selection → Option NameSet → Type 0
+Lists all chosen = chosen ≡ None
+Lists (only names) None = ⊥
+Lists (only names) (Some set) = IsSetOf names set
+
+-- the reading of the file, inside those at these spots, stands at this one
+pub record IsSpot (file : OpenFile) (outer : List Spot) (spot : Spot) : Type 0 where
+  pub named : spot.file ≡ file.name
+  pub whole : spot.bytes ≡ file.bytes.items
+  pub among : spot.opened ≡ file.name ∷ opened_at outer
+  pub selects : Narrows file.chosen (around_at outer) spot.around
+  pub left : spot.rest ≡ drop file.at file.bytes.items
+
+-- the readings of these files, the innermost first, stand at these spots
+abbrev pub Stand : List OpenFile → List Spot → Type 0
+Stand [] [] = Unit {0}
+Stand [] (s ∷ ss) = ⊥
+Stand (f ∷ fs) [] = ⊥
+Stand (f ∷ fs) (s ∷ ss) = IsSpot f ss s × Stand fs ss
+
+-- ---- what is to come
+module _ (files : Files) (bounds : Bounds) (limit : ℕ) where
+  -- From these spots on, the innermost first, the readings give these events, and a fault if they end
+  -- early.
+  abbrev pub Finishes : List Spot → ℕ → List Clause → List Event → Option Fault → Type 0
+  Finishes [] made state events fault = (events ≡ []) × (fault ≡ None)
+  Finishes (s ∷ ss) made state events fault =
+      ((own : List Event) × (others : List Event) × Continues files bounds limit s made state own None
+      × Finishes ss (made + fetches own) (state ++ tried own) others fault × (events ≡ own ++ others))
+      ⊎ ((early : Fault) × Continues files bounds limit s made state events (Some early) × (fault ≡ Some early))
+
+-- The load of a file began in the state at the start. Behind some events it is in this state, and what
+-- the readings give from here on, the load gives behind those events.
+pub record IsUnderway (told : Option Files) (bounds : Bounds) (limit : ℕ) (start : List Clause) (file : Bytes) (reading : Reading) (state : List Clause) : Type 0 where
+  pub spots : List Spot
+  pub stand : Stand (reverse reading.files.items) spots
+  pub events : List Event
+  pub gained : state ≡ start ++ tried events
+  pub goes_on : (files : Files) → told ≡ Some files → (others : List Event) (fault : Option Fault)
+      → Finishes files bounds limit spots reading.fetches state others fault → Loads files bounds limit start file (events ++ others) fault
+
+-- ---- safety
+-- no place is behind the end of its file, and no file is larger than may be read
+pub record IsWithin (file : OpenFile) : Type 0 where
+  pub place : file.at ≤ length file.bytes.items
+  pub size : length file.bytes.items ≤ MOST_OCCURRENCES
+
+abbrev pub AreWithin : List OpenFile → Type 0
+AreWithin files = AllByRecursion IsWithin files
+
+-- how much is left to read of the files that are open
+abbrev pub left_of : List OpenFile → ℕ
+left_of [] = 0
+left_of (f ∷ fs) = (length f.bytes.items - f.at) + 1 + left_of fs
+
+-- more than so many steps can't follow
+abbrev pub steps_left : Bounds → Reading → ℕ
+steps_left bounds reading = (bounds.fetches - reading.fetches) * (bounds.file + 2) + left_of reading.files.items

@@ -1,0 +1,119 @@
+// Files that are open, and the fetch of another.
+ghost use Rattle.std.specs.Prelude.{◌≡◌, ◌≤◌, ℕ, Option, length, take, IfOk, IfErr, IfSome, OnOk};
+ghost use Rattle.si_defs.specs.Texts.{line_of};
+ghost use Rattle.si_state.specs.Harvest.{MayAsk, IsBarred, IsWithheld};
+ghost use Rattle.si_term.specs.Meaning.{name_of};
+ghost use Rattle.si_io.specs.Library.{Counts};
+ghost use Rattle.si_harvest.specs.Faults.{Blames, HasLoadCause, bounds_of};
+ghost use Rattle.si_harvest.specs.Opened.{HasOpened, opened, is_listed, lists, is_selected};
+
+use crate::faults::{HarvestFault, HarvestLimits};
+use crate::names::NameSet;
+use si_io::{Fetched, Library};
+use si_term::{Name, Text};
+use std::alloc::Global;
+
+/// A file that is open.
+#[derive(Drop)]
+pub struct OpenFile {
+    pub name: Text,
+    pub bytes: Vec<u8>,
+    /// How many of the bytes were read.
+    pub at: usize,
+    /// The names that its include lists, if it lists any.
+    pub chosen: Option<NameSet>,
+}
+
+impl OpenFile {
+    /// Whether its selection lists the name, if it has one.
+    fn lists(&self, name: &Name) -> bool
+        ensures { result ≡ lists self.now.chosen (name_of name.now) }
+    {
+        match &self.chosen {
+            Some(chosen) => chosen.contains(name),
+            None => true,
+        }
+    }
+}
+
+/// Whether one of these files has the name.
+pub fn has_name(files: &[OpenFile], name: &[u8]) -> bool
+    ensures { result ≡ is_listed files.now name.now }
+{
+    files.iter().any(|file| file.name.as_bytes() == name)
+}
+
+/// Whether the selections of all these files list the name.
+pub fn select(files: &[OpenFile], name: &Name) -> bool
+    ensures { result ≡ is_selected files.now (name_of name.now) }
+{
+    files.iter().all(|file| file.lists(name))
+}
+
+/// Whether a file may be asked for while these are open and behind so many fetches, and else why not.
+pub fn may_ask(
+    alloc: Global,
+    files: &[OpenFile],
+    fetches: u32,
+    limits: &HarvestLimits,
+    name: &[u8],
+) -> Result<(), HarvestFault>
+    ensures may { OnOk result (MayAsk (bounds_of limits.now) (opened files.now) fetches
+        name.now) }
+    ensures barred { IfErr result (λ e. (limit : ℕ) → Blames limit e (IsBarred
+        (bounds_of limits.now) (opened files.now) fetches name.now)) }
+    ensures cause { (counts : Counts) → HasLoadCause counts counts result }
+{
+    if has_name(files, name) {
+        return Err(HarvestFault::Cycle(Text::from_bytes(alloc, name)?));
+    }
+    if files.len() >= limits.depth as usize {
+        return Err(HarvestFault::Depth(Text::from_bytes(alloc, name)?));
+    }
+    if fetches >= limits.fetches {
+        return Err(HarvestFault::Fetches);
+    }
+    Ok(())
+}
+
+/// Fetches a file, which is then open at its front.
+pub fn open<L: Library>(
+    alloc: Global,
+    library: &mut L,
+    limits: &HarvestLimits,
+    name: &[u8],
+    chosen: Option<NameSet>,
+) -> Result<OpenFile, HarvestFault>
+    ensures opened { IfOk result (HasOpened (L.files library.old) (bounds_of limits.now) name.now
+        chosen) }
+    ensures withheld { IfErr result (λ e. (limit : ℕ) → Blames limit e (λ fault. IfSome
+        (L.files library.old) (λ files. IsWithheld files (bounds_of limits.now) name.now fault))) }
+    ensures told { L.files library.new ≡ L.files library.old }
+    ensures cause { HasLoadCause (L.counts library.old) (L.counts library.new) result }
+{
+    let name_text = Text::from_bytes(alloc, name)?;
+    let mut bytes = Vec::new(alloc);
+    match library.fetch(name, &mut bytes, limits.file) {
+        Fetched::Found => Ok(OpenFile {
+            name: name_text,
+            bytes,
+            at: 0,
+            chosen,
+        }),
+        Fetched::Missing => Err(HarvestFault::Missing(name_text)),
+        Fetched::TooBig => Err(HarvestFault::Big(name_text)),
+        Fetched::Failed => Err(HarvestFault::Fault(name_text)),
+        Fetched::Memory => Err(HarvestFault::Memory),
+    }
+}
+
+/// The line of a place in a file, from 1.
+pub fn line_of(file: &OpenFile, place: usize) -> u64
+    requires { place ≤ length file.now.bytes.items }
+    ensures { result ≡ line_of (take place file.now.bytes.items) }
+{
+    1 + file.bytes[..place]
+        .iter()
+        .filter(|byte| **byte == b'\n')
+        .count() as u64
+}

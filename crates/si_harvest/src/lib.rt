@@ -1,0 +1,15 @@
+//! Loads: the clauses of a file and of the files that it includes, added to a store.
+//!
+//! [`expand`] reads files that it fetches from a library, [`take_text`] a text of clauses. What is
+//! refused leaves the store as it was.
+#![tactic(auto)]
+
+mod faults;
+mod files;
+mod loading;
+mod names;
+mod reading;
+mod store;
+
+pub use faults::{HarvestFault, HarvestLimits, Loaded};
+pub use loading::expand;

@@ -1,0 +1,83 @@
+// Loads: all clauses of a file, or none.
+ghost use Rattle.std.specs.Prelude.{◌≡◌, ◌≤◌, IfOk, IfErr, IfSome, OnOk, OnErr};
+ghost use Rattle.si_defs.specs.declared.TheConstants.{MOST_OCCURRENCES};
+ghost use Rattle.si_harvest.specs.Faults.{Blames, HasLoadCause, bounds_of};
+ghost use Rattle.si_harvest.specs.Opened.{HasFault};
+ghost use Rattle.si_harvest.specs.Gains.{Counts, Gained, Gains};
+
+use crate::faults::{HarvestFault, HarvestLimits, Loaded};
+use crate::reading::Reading;
+use crate::store::roll_back;
+use si_io::Library;
+use si_sign::ClauseStore;
+use std::alloc::Global;
+
+/// Adds the clauses of a file and of the files that it includes to a store, and counts them. At an
+/// error the store is as before.
+#[tactic(auto, using(crate::proofs::Gaining::loads))]
+pub fn expand<L: Library, T: ClauseStore>(
+    alloc: Global,
+    library: &mut L,
+    name: &[u8],
+    limits: &HarvestLimits,
+    store: &mut T,
+) -> Result<Loaded, HarvestFault>
+    requires file { limits.now.file ≤ MOST_OCCURRENCES }
+    requires limit { T.limit store.old ≤ MOST_OCCURRENCES }
+    ensures loaded { IfOk result (λ loaded. Gained (T.limit store.old) (T.clauses store.old) loaded
+        (T.clauses store.new)) }
+    ensures right { IfOk result (λ loaded. IfSome (L.files library.old) (λ files. Gains files
+        (bounds_of limits.now) (T.limit store.old) (T.clauses store.old) name.now
+        (T.clauses store.new))) }
+    ensures fault { IfErr result (λ e. Blames (T.limit store.old) e (HasFault
+        (L.files library.old) (bounds_of limits.now) (T.limit store.old) (T.clauses store.old)
+        name.now)) }
+    ensures err { OnErr result (T.clauses store.new ≡ T.clauses store.old) }
+    ensures limit { T.limit store.new ≡ T.limit store.old }
+    ensures told { L.files library.new ≡ L.files library.old }
+    ensures cause { HasLoadCause (L.counts library.old) (L.counts library.new) result }
+{
+    let mut loaded = Loaded {
+        clauses: 0,
+        entries: 0,
+    };
+    match read_all(alloc, library, name, limits, store, &mut loaded) {
+        Ok(()) => Ok(loaded),
+        Err(fault) => {
+            roll_back(store, loaded.clauses);
+            Err(fault)
+        }
+    }
+}
+
+/// Reads a file and what it includes, up to the first fault.
+fn read_all<L: Library, T: ClauseStore>(
+    alloc: Global,
+    library: &mut L,
+    name: &[u8],
+    limits: &HarvestLimits,
+    store: &mut T,
+    loaded: &mut Loaded,
+) -> Result<(), HarvestFault>
+    requires file { limits.now.file ≤ MOST_OCCURRENCES }
+    requires limit { T.limit store.old ≤ MOST_OCCURRENCES }
+    requires counted { Counts loaded.old (T.clauses store.old) }
+    requires gained { Gained (T.limit store.old) (T.clauses store.old) loaded.old
+        (T.clauses store.old) }
+    ensures right { OnOk result (IfSome (L.files library.old) (λ files. Gains files
+        (bounds_of limits.now) (T.limit store.old) (T.clauses store.old) name.now
+        (T.clauses store.new))) }
+    ensures fault { IfErr result (λ e. Blames (T.limit store.old) e (HasFault
+        (L.files library.old) (bounds_of limits.now) (T.limit store.old) (T.clauses store.old)
+        name.now)) }
+    ensures gained { Gained (T.limit store.old) (T.clauses store.old) loaded.new
+        (T.clauses store.new) }
+    ensures limit { T.limit store.new ≡ T.limit store.old }
+    ensures told { L.files library.new ≡ L.files library.old }
+    ensures cause { HasLoadCause (L.counts library.old) (L.counts library.new) result }
+{
+    let mut reading = Reading::new(alloc);
+    reading.enter(alloc, library, limits, name, None)?;
+    while reading.step(alloc, library, limits, store, loaded)? {}
+    Ok(())
+}

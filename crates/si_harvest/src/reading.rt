@@ -1,0 +1,200 @@
+// The reading of files, item by item.
+ghost use Rattle.std.specs.Prelude.{◌≡◌, ◌≤◌, ℕ, true, List, [], ◌∷◌, ◌++◌, Option, IfOk, IfErr, OnOk};
+ghost use Rattle.si_defs.specs.Clauses as defs;
+ghost use Rattle.si_defs.specs.Clauses.{IsSoundClause};
+ghost use Rattle.si_defs.specs.declared.TheConstants.{MOST_OCCURRENCES};
+ghost use Rattle.si_state.specs.Harvest.{IsRejected};
+ghost use Rattle.si_term.specs.Meaning.{clause_of};
+ghost use Rattle.si_harvest.specs.declared.names.NameSet.{NameSet};
+ghost use Rattle.si_harvest.specs.declared.reading.Reading.{Reading};
+ghost use Rattle.si_parse.specs.Meaning.{selection_of};
+ghost use Rattle.si_harvest.specs.Faults.{Blames, HasLoadCause, bounds_of};
+ghost use Rattle.si_harvest.specs.Opened.{Enters, IsUnopened, Takes, is_selected};
+ghost use Rattle.si_harvest.specs.Stepping.{Steps};
+ghost use Rattle.si_harvest.specs.Gains.{Counts, Gained};
+ghost use Rattle.si_harvest.specs.Underway.{AreWithin, Lists};
+
+use crate::faults::{HarvestFault, HarvestLimits, Loaded};
+use crate::files::{OpenFile, line_of, may_ask, open, select};
+use crate::names::NameSet;
+use crate::store::add;
+use si_io::Library;
+use si_parse::grammar::Selection;
+use si_parse::item::{Read, next_item};
+use si_sign::ClauseStore;
+use si_term::Clause;
+use std::alloc::{AllocError, Global};
+
+/// The files that are open, the first one first, and how many were fetched.
+#[derive(Drop)]
+pub struct Reading {
+    files: Vec<OpenFile>,
+    fetches: u32,
+}
+
+impl Reading {
+    /// No file is open, and none was fetched.
+    pub fn new(alloc: Global) -> Reading
+        ensures files { result.files.items ≡ [] }
+        ensures fetches { result.fetches ≡ 0 }
+    {
+        Reading {
+            files: Vec::new(alloc),
+            fetches: 0,
+        }
+    }
+
+    /// Opens a file inside those that are open.
+    pub fn enter<L: Library>(
+        &mut self,
+        alloc: Global,
+        library: &mut L,
+        limits: &HarvestLimits,
+        name: &[u8],
+        chosen: Option<NameSet>,
+    ) -> Result<(), HarvestFault>
+        ensures entered { OnOk result (Enters (L.files library.old) (bounds_of limits.now) name.now
+            chosen self.old self.new) }
+        ensures unopened { IfErr result (λ e. (limit : ℕ) → Blames limit e (IsUnopened
+            (L.files library.old) (bounds_of limits.now) name.now self.old)) }
+        ensures told { L.files library.new ≡ L.files library.old }
+        ensures cause { HasLoadCause (L.counts library.old) (L.counts library.new) result }
+    {
+        may_ask(alloc, self.files.as_slice(), self.fetches, limits, name)?;
+        let file = open(alloc, library, limits, name, chosen)?;
+        self.fetches += 1;
+        self.push(file)?;
+        Ok(())
+    }
+
+    fn push(&mut self, file: OpenFile) -> Result<(), AllocError>
+        ensures files { OnOk result (self.new.files.items ≡ self.old.files.items ++ file ∷ []) }
+        ensures fetches { self.new.fetches ≡ self.old.fetches }
+    {
+        self.files.push(file)?;
+        Ok(())
+    }
+
+    /// Adds a clause that the selections list, and reads on behind it.
+    fn take<T: ClauseStore>(
+        &mut self,
+        file: OpenFile,
+        clause: Clause,
+        store: &mut T,
+        loaded: &mut Loaded,
+    ) -> Result<(), HarvestFault>
+        requires sound { IsSoundClause (clause_of clause) }
+        requires limit { T.limit store.old ≤ MOST_OCCURRENCES }
+        requires counted { Counts loaded.old (T.clauses store.old) }
+        ensures files { OnOk result (self.new.files.items ≡ self.old.files.items ++ file ∷ []) }
+        ensures fetches { self.new.fetches ≡ self.old.fetches }
+        ensures taken { OnOk result (Takes (T.limit store.old) self.new.files.items
+            (clause_of clause) (T.clauses store.old) (T.clauses store.new)) }
+        ensures refused { IfErr result (λ e. Blames (T.limit store.old) e (λ fault.
+            (is_selected (self.old.files.items ++ file ∷ []) (clause_of clause).name ≡ true)
+            × IsRejected (T.limit store.old) (T.clauses store.old) (clause_of clause) fault)) }
+        ensures counted { Counts loaded.new (T.clauses store.new) }
+        ensures gained { (start : List defs.Clause)
+            → Gained (T.limit store.old) start loaded.old (T.clauses store.old)
+            → Gained (T.limit store.old) start loaded.new (T.clauses store.new) }
+        ensures limit { T.limit store.new ≡ T.limit store.old }
+    {
+        self.push(file)?;
+        if !select(self.files.as_slice(), &clause.name) {
+            return Ok(());
+        }
+        add(store, clause, loaded)
+    }
+
+    /// Opens a file that is included, and reads on behind the include later.
+    fn include<L: Library>(
+        &mut self,
+        alloc: Global,
+        library: &mut L,
+        limits: &HarvestLimits,
+        file: OpenFile,
+        name: &[u8],
+        selection: &Selection,
+    ) -> Result<(), HarvestFault>
+        ensures entered { OnOk result ((chosen : Option NameSet) × (middle : Reading)
+            × Lists (selection_of selection.now) chosen
+            × (middle.files.items ≡ self.old.files.items ++ file ∷ [])
+            × (middle.fetches ≡ self.old.fetches)
+            × Enters (L.files library.old) (bounds_of limits.now) name.now chosen middle self.new) }
+        ensures unopened { IfErr result (λ e. (limit : ℕ) → Blames limit e (λ fault.
+            (middle : Reading) × (middle.files.items ≡ self.old.files.items ++ file ∷ [])
+            × (middle.fetches ≡ self.old.fetches)
+            × IsUnopened (L.files library.old) (bounds_of limits.now) name.now middle fault)) }
+        ensures told { L.files library.new ≡ L.files library.old }
+        ensures cause { HasLoadCause (L.counts library.old) (L.counts library.new) result }
+    {
+        self.push(file)?;
+        let chosen = chosen(alloc, selection)?;
+        self.enter(alloc, library, limits, name, chosen)
+    }
+
+    /// Reads on by one item, or leaves the file at its end. Answers whether a file was open.
+    pub fn step<L: Library, T: ClauseStore>(
+        &mut self,
+        alloc: Global,
+        library: &mut L,
+        limits: &HarvestLimits,
+        store: &mut T,
+        loaded: &mut Loaded,
+    ) -> Result<bool, HarvestFault>
+        requires within { AreWithin self.old.files.items }
+        requires file { limits.now.file ≤ MOST_OCCURRENCES }
+        requires limit { T.limit store.old ≤ MOST_OCCURRENCES }
+        requires counted { Counts loaded.old (T.clauses store.old) }
+        ensures stepped { Steps (L.files library.old) (bounds_of limits.now) (T.limit store.old)
+            self.old self.new (T.clauses store.old) (T.clauses store.new) result }
+        ensures counted { Counts loaded.new (T.clauses store.new) }
+        ensures gained { (start : List defs.Clause)
+            → Gained (T.limit store.old) start loaded.old (T.clauses store.old)
+            → Gained (T.limit store.old) start loaded.new (T.clauses store.new) }
+        ensures limit { T.limit store.new ≡ T.limit store.old }
+        ensures told { L.files library.new ≡ L.files library.old }
+        ensures cause { HasLoadCause (L.counts library.old) (L.counts library.new) result }
+    {
+        let Some(mut file) = self.files.pop() else {
+            return Ok(false);
+        };
+        match next_item(alloc, file.bytes.as_slice(), file.at)? {
+            Read::End => Ok(true),
+            Read::Cnf(clause, end) => {
+                file.at = end;
+                self.take(file, clause, store, loaded)?;
+                Ok(true)
+            }
+            Read::Include(name, selection, end) => {
+                file.at = end;
+                self.include(alloc, library, limits, file, name.as_bytes(), &selection)?;
+                Ok(true)
+            }
+            Read::Syntax(place) => {
+                let line = line_of(&file, place);
+                Err(HarvestFault::Syntax {
+                    file: file.name,
+                    line,
+                })
+            }
+            Read::Language(place) => {
+                let line = line_of(&file, place);
+                Err(HarvestFault::Language {
+                    file: file.name,
+                    line,
+                })
+            }
+        }
+    }
+}
+
+/// The names that a selection lists, if it lists any.
+fn chosen(alloc: Global, selection: &Selection) -> Result<Option<NameSet>, AllocError>
+    ensures { IfOk result (Lists (selection_of selection.now)) }
+{
+    match selection {
+        Selection::All => Ok(None),
+        Selection::Only(names) => Ok(Some(NameSet::from_names(alloc, names.as_slice())?)),
+    }
+}

@@ -74,7 +74,7 @@ fn wide(alloc: Global, more: u32) -> Result<Vec<u8>, AllocError> {
 }
 
 /// Inputs with their outputs under the standard limits.
-const ROWS: [(&[u8], &[u8]); 19] = [
+const ROWS: [(&[u8], &[u8]); 22] = [
     (b"", b""),
     (b"\n", b""),
     (b" \t\n\n", b""),
@@ -90,7 +90,7 @@ const ROWS: [(&[u8], &[u8]); 19] = [
     // Refusals change nothing.
     (
         b"add cnf(c1,axiom,p(f(X),a)).\nadd cnf(c1,axiom,r).\nadd cnf(c2,axiom,p(X).\nadd cnf('c2',axiom,r).\nstats\ninstances lit p(Y,Z)\n",
-        b"ok 1 3\n! taken c1\n! syntax\nok 1 1\n! later\nc1:1 {?Y -> f(X); ?Z -> a}\nend 1\n",
+        b"ok 1 3\n! taken c1\n! syntax\nok 1 1\nclauses 2 entries 4 symbols 4\nc1:1 {?Y -> f(X); ?Z -> a}\nend 1\n",
     ),
     // A variable of the pattern that stands twice has one value.
     (
@@ -125,9 +125,24 @@ const ROWS: [(&[u8], &[u8]); 19] = [
         b"% a comment\n\n\r\n/* a */ % b\nadd fof(a,axiom,p).\nadd include('a.p').\nfind p\n'add' cnf(a,axiom,p).\n/* a\n",
         b"! language\n! syntax\n! syntax\n! syntax\n! syntax\n",
     ),
+    // A symbol has one shape, and a clause that goes frees it; no blank has to part the name.
+    (
+        b"add cnf(c1,axiom,p(f(X),a)).\nadd cnf(c2,axiom,q(f(a,b))).\nremove'c1'\nadd cnf(c2,axiom,q(f(a,b))).\nstats\n",
+        b"ok 1 3\n! use f function/2 function/1\nok 1 3\nok 1 4\nclauses 1 entries 4 symbols 4\n",
+    ),
+    // The order is that of acceptance, and an unknown name changes nothing.
+    (
+        b"remove c9\nadd cnf(a1,axiom,p(b)).\nadd cnf(a2,axiom,p(c)).\nremove a1\nadd cnf(a1,axiom,p(b)).\ninstances lit p(X)\nremove\nstats stats\n",
+        b"! unknown c9\nok 1 2\nok 1 2\nok 1 2\nok 1 2\na2:1 {?X -> c}\na1:1 {?X -> b}\nend 2\n! syntax\n! syntax\n",
+    ),
+    // Clauses as a prover writes them.
+    (
+        b"add cnf(e,plain,($false),inference(spm,[status(thm)],[c_0_2,c_0_3])).\nadd cnf(c_0_5, plain, (p(X1)|~q(X1,esk1_0)), inference(rw,[status(thm)],[c_0_2, c_0_3]), ['final']).\nstats\n",
+        b"ok 1 1\nok 1 3\nclauses 2 entries 4 symbols 4\n",
+    ),
     // Words of commands that aren't built.
     (
-        b"stats\nload 'a'\nunifiable lit p\nsample 1 2\n%\n",
+        b"tree\nload 'a'\nunifiable lit p\nsample 1 2\n%\n",
         b"! later\n! later\n! later\n! later\n",
     ),
     // Two spellings of one name, and an integer that is another.
@@ -275,18 +290,48 @@ fn a_device_fails_at_once(rt: HostRuntime) -> Result<(), Fail> {
     Ok(())
 }
 
+#[test]
+fn limits_on_entries_and_input(rt: HostRuntime) -> Result<(), Fail> {
+    let alloc = rt.alloc();
+    let few = Limits {
+        entries: 3,
+        ..Limits::standard()
+    };
+    let input = b"add cnf(c1,axiom,p(f(X),a)).\nadd cnf(u,axiom,r).\nremove c1\nadd cnf(u,axiom,r).\n";
+    let (status, bytes) = written(alloc, &few, input)?;
+    assert_eq!(rt; status, Status::Ended);
+    assert_eq!(rt; bytes.as_slice(), b"ok 1 3\n! full 4 3\nok 1 3\nok 1 1\n".as_slice());
+    let short = Limits {
+        session: 8,
+        ..Limits::standard()
+    };
+    let counted: &[u8] = b"clauses 0 entries 0 symbols 0\n";
+    let (status, bytes) = written(alloc, &short, b"stats\nstats\n")?;
+    assert_eq!(rt; status, Status::SessionLimit);
+    assert_eq!(rt; bytes.as_slice(), counted);
+    let failing = Device {
+        chunk: 1,
+        fails_at: 8,
+    };
+    let limits = Limits::standard();
+    let (status, bytes) = run(alloc, &limits, b"stats\nstats\n", failing, WHOLE, ROOM)?;
+    assert_eq!(rt; status, Status::SourceFault);
+    assert_eq!(rt; bytes.as_slice(), counted);
+    Ok(())
+}
+
 /// Three lines, with the bytes that are read and written up to the end of each.
-const LINES: &[u8] = b"add cnf(c1,axiom,p(f(X),a)).\ninstances lit p(Y,Z)\nstats\n";
+const LINES: &[u8] = b"add cnf(c1,axiom,p(f(X),a)).\ninstances lit p(Y,Z)\ntree\n";
 
 const REPLIES: &[u8] = b"ok 1 3\nc1:1 {?Y -> f(X); ?Z -> a}\nend 1\n! later\n";
 
-const ENDS: [(u32, usize); 3] = [(29, 7), (50, 40), (56, 48)];
+const ENDS: [(u32, usize); 3] = [(29, 7), (50, 40), (55, 48)];
 
 #[test]
 fn each_read_may_fail(rt: HostRuntime) -> Result<(), Fail> {
     let alloc = rt.alloc();
     // The last number is of no call, for the one before it meets the end.
-    for fails_at in 1..=58 {
+    for fails_at in 1..=57 {
         let from = Device { chunk: 1, fails_at };
         let mut count = 0;
         for (read, wrote) in ENDS {
@@ -296,7 +341,7 @@ fn each_read_may_fail(rt: HostRuntime) -> Result<(), Fail> {
         }
         let mut due = REPLIES.to_vec(alloc)?;
         due.truncate(count);
-        let end = if fails_at < 58 {
+        let end = if fails_at < 57 {
             Status::SourceFault
         } else {
             Status::Ended

@@ -16,9 +16,13 @@ use Rattle.si_examples.proofs.Differ.{texts_differ}
 
 -- p, f and a differ in their texts
 agree : AllAgree [] (clause_symbols kept)
-agree = (tt,
-  ((λ h. texts_differ (codes "f") (codes "p") refl h.text, tt),
-  ((λ h. texts_differ (codes "a") (codes "p") refl h.text, (λ h. texts_differ (codes "a") (codes "f") refl h.text, tt)), tt)))
+agree = (
+  tt,
+  (
+    (λ h. texts_differ (codes "f") (codes "p") refl h.text, tt),
+    ((λ h. texts_differ (codes "a") (codes "p") refl h.text, (λ h. texts_differ (codes "a") (codes "f") refl h.text, tt)), tt),
+  ),
+)
 
 pub added_clause : AddedClause
 added_clause limits room = inr (record { free = λ h. h; agree = agree; room = room; added = refl }, rw (decimal_digit 1 (omega arith), decimal_digit 3 (omega arith)) refl)
@@ -27,21 +31,27 @@ pub full_index : FullIndex
 full_index limits two = inl (full 3, (λ h. h, agree, omega (arith, two), refl), rw two (rw (decimal_digit 3 (omega arith), decimal_digit 2 (omega arith)) refl), refl)
 
 pub clashing_symbol : ClashingSymbol
-clashing_symbol = (elim [ inl e ↦ texts_differ (codes "c1") (codes "d") refl (ap (λ n. n.text) e) | inr h ↦ h ], record {
-  before = [];
-  after = _;
-  splits = refl;
-  position = refl;
-  earlier = tt;
-  against = inr (inr (inl refl));
-  clashes = record { kind = refl; text = refl; differ = λ side arity. cc };
-})
+clashing_symbol = (
+  elim [ inl e ↦ texts_differ (codes "c1") (codes "d") refl (ap (λ n. n.text) e) | inr h ↦ h ],
+  record {
+    before = [];
+    after = _;
+    splits = refl;
+    position = refl;
+    earlier = tt;
+    against = inr (inr (inl refl));
+    clashes = record { kind = refl; text = refl; differ = λ side arity. cc };
+  },
+)
 
 pub no_clash : NoClash
-no_clash =
-    ((λ h. h.differ refl refl, (λ h. texts_differ (codes "p") (codes "f") refl h.text, (λ h. texts_differ (codes "p") (codes "a") refl h.text, tt))),
-    ((λ h. texts_differ (codes "f") (codes "p") refl h.text, (λ h. h.differ refl refl, (λ h. texts_differ (codes "f") (codes "a") refl h.text, (λ h. texts_differ (codes "f") (codes "p") refl h.text, tt)))),
-    ((λ h. texts_differ (codes "a") (codes "p") refl h.text, (λ h. texts_differ (codes "a") (codes "f") refl h.text, (λ h. h.differ refl refl, (λ h. texts_differ (codes "a") (codes "p") refl h.text, (λ h. texts_differ (codes "a") (codes "f") refl h.text, tt))))), tt)))
+no_clash = (
+  (λ h. h.differ refl refl, (λ h. texts_differ (codes "p") (codes "f") refl h.text, (λ h. texts_differ (codes "p") (codes "a") refl h.text, tt))),
+  (
+    (λ h. texts_differ (codes "f") (codes "p") refl h.text, (λ h. h.differ refl refl, (λ h. texts_differ (codes "f") (codes "a") refl h.text, (λ h. texts_differ (codes "f") (codes "p") refl h.text, tt)))),
+    ((λ h. texts_differ (codes "a") (codes "p") refl h.text, (λ h. texts_differ (codes "a") (codes "f") refl h.text, (λ h. h.differ refl refl, (λ h. texts_differ (codes "a") (codes "p") refl h.text, (λ h. texts_differ (codes "a") (codes "f") refl h.text, tt))))), tt),
+  ),
+)
 
 pub no_agreement : NoAgreement
 no_agreement h = h.0.1.1.0 (record { kind = refl; text = refl; differ = λ side arity. cc })

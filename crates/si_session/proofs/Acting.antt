@@ -95,9 +95,9 @@ accepts limits clause state new o n a b k e w = rightly (ok_line 1 n ∷ []) (in
 at_seam : (before after own : List Symbol) (s : Symbol) (n : ℕ) → own ≡ before ++ s ∷ after → n ≡ length before → slice_get own n ≡ Some s
 at_seam before after own s n e h =
     subst (λ l. slice_get l n ≡ Some s) (sym e) (subst (λ k. slice_get (before ++ s ∷ after) k ≡ Some s) (sym h) (seam before)) where
-  seam : (before : List Symbol) → slice_get (before ++ s ∷ after) (length before) ≡ Some s
-  seam [] = refl
-  seam (x ∷ xs) = seam xs
+      seam : (before : List Symbol) → slice_get (before ++ s ∷ after) (length before) ≡ Some s
+      seam [] = refl
+      seam (x ∷ xs) = seam xs
 
 -- a clause that isn't kept
 fault_acts : (limits : Limits) (state new : List Clause) (r : Rejected) (told : reply.Reply) (o : Stepped) (a b : Told) (why : AddFault)
@@ -109,7 +109,7 @@ fault_acts limits state new r told o a b (add_fault.Clash c) h t e w =
     let clash = h.2.1 in
     let there : slice_get (clause_symbols (clause_of r.clause)) c.entry ≡ Some h.0 = at_seam clash.before clash.after _ h.0 c.entry clash.splits clash.position in
     let same : misused_text h.0 c.found c.kept ≡ misused_line h.0 h.1 =
-        ap (λ shape. misused_text h.0 shape c.kept) h.3.0 ∙ ap (λ shape. misused_text h.0 (shape_of h.0) shape) h.3.1 in
+    ap (λ shape. misused_text h.0 shape c.kept) h.3.0 ∙ ap (λ shape. misused_text h.0 (shape_of h.0) shape) h.3.1 in
     rightly (line_of told ∷ []) (inl (misused c.entry h.0 h.1, h.2, ap (λ l. l ∷ []) (t h.0 there ∙ same), e)) w
 fault_acts limits state new r told o a b (add_fault.Full needed most) h t e w =
     rightly (line_of told ∷ []) (inl (full needed, h.0, ap (λ l. l ∷ []) (t ∙ ap (full_line needed) h.1), e)) w

@@ -24,7 +24,10 @@ use si_term::{Name, Side, Sym};
 #[derive(Clone, Copy)]
 pub enum Reply<'a> {
     /// So many clauses with so many entries were gained.
-    Ok { clauses: u64, entries: u64 },
+    Ok {
+        clauses: u64,
+        entries: u64,
+    },
     /// So many lines of hits stand before this one.
     End(u64),
     /// So much is kept.
@@ -38,7 +41,10 @@ pub enum Reply<'a> {
         kept: Shape,
     },
     /// So many entries there would be, and no more than the limit may be.
-    Full { needed: u64, limit: u64 },
+    Full {
+        needed: u64,
+        limit: u64,
+    },
     /// No kept clause has this name.
     Unknown(&'a Name),
     /// The line's kind isn't built yet.

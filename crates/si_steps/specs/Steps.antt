@@ -14,7 +14,7 @@ use Rattle.si_steps.specs.Replies.{Reply, refusal_line, unknown_line, ok_line, s
 abbrev pub Performs : Limits → Command → List Clause → Reply → List Clause → Type 0
 Performs limits (add c) state reply new =
     ((why : Refusal) × Refuses limits.entries state c why
-      × (reply ≡ refusal_line limits.entries c.name why ∷ []) × (new ≡ state))
+    × (reply ≡ refusal_line limits.entries c.name why ∷ []) × (new ≡ state))
     ⊎ (Accepts limits.entries state c new × (reply ≡ ok_line 1 (length (entries c)) ∷ []))
 Performs limits (remove name) state reply new =
     ((IsTaken state name → ⊥) × (reply ≡ unknown_line name ∷ []) × (new ≡ state))

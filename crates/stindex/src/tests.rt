@@ -297,10 +297,14 @@ fn limits_on_entries_and_input(rt: HostRuntime) -> Result<(), Fail> {
         entries: 3,
         ..Limits::standard()
     };
-    let input = b"add cnf(c1,axiom,p(f(X),a)).\nadd cnf(u,axiom,r).\nremove c1\nadd cnf(u,axiom,r).\n";
+    let input =
+        b"add cnf(c1,axiom,p(f(X),a)).\nadd cnf(u,axiom,r).\nremove c1\nadd cnf(u,axiom,r).\n";
     let (status, bytes) = written(alloc, &few, input)?;
     assert_eq!(rt; status, Status::Ended);
-    assert_eq!(rt; bytes.as_slice(), b"ok 1 3\n! full 4 3\nok 1 3\nok 1 1\n".as_slice());
+    assert_eq!(rt;
+        bytes.as_slice(),
+        b"ok 1 3\n! full 4 3\nok 1 3\nok 1 1\n".as_slice()
+    );
     let short = Limits {
         session: 8,
         ..Limits::standard()

@@ -80,7 +80,7 @@ impl Sink for MemorySink {
         ensures calls { sink_calls self.new ≡ raised (sink_calls self.old) }
         ensures fails { is_err result ≡ (is_listed (sink_failing self.old) (sink_calls self.new)
             || nat_lt (sink_room self.old)
-                (length (sink_bytes self.old) + min (sink_chunk self.old) (length bytes.now))) }
+            (length (sink_bytes self.old) + min (sink_chunk self.old) (length bytes.now))) }
         ensures faults { CountsErrors (sink_faults self.old) (sink_faults self.new) result }
         ensures same { SameSink self.old self.new }
     {

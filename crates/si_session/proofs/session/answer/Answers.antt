@@ -21,7 +21,7 @@ returns-in-Err-Sink-clause-acts g c limits same =
     let a = g.K.Sink.written c.args.sink.now in
     let b = g.K.Sink.written c.answer_clauses.new.sink in
     let told : AppendsPrefix a (ended (clauses_lines p c.args.index.now.clauses)) b =
-        subst (λ r. Tells r (clauses_lines p c.args.index.now.clauses) a b) (c.in-Err-Sink.is ∙ ap Err c.in-Err-Sink.field-0-is) c.answer_clauses.ensures.told in
+    subst (λ r. Tells r (clauses_lines p c.args.index.now.clauses) a b) (c.in-Err-Sink.is ∙ ap Err c.in-Err-Sink.field-0-is) c.answer_clauses.ensures.told in
     fails_in_hits limits p c.args.index.now.clauses a b told
 
 pub returns-clause-acts : goal.returns-clause-acts
@@ -30,5 +30,5 @@ returns-clause-acts g c limits same =
     let a = g.K.Sink.written c.args.sink.now in
     let b = g.K.Sink.written c.answer_clauses.new.sink in
     let told : Tells (Err Memory) (clauses_lines p c.args.index.now.clauses) a b =
-        subst (λ r. Tells r (clauses_lines p c.args.index.now.clauses) a b) (c.in-Err-Memory.is ∙ ap Err c.in-Err-Memory.field-0-is) c.answer_clauses.ensures.told in
+    subst (λ r. Tells r (clauses_lines p c.args.index.now.clauses) a b) (c.in-Err-Memory.is ∙ ap Err c.in-Err-Memory.field-0-is) c.answer_clauses.ensures.told in
     runs_out limits p c.args.index.now.clauses c.tell-in-Err-Memory.result a b (g.K.Sink.written c.tell-in-Err-Memory.new.sink) told.0 told.1 told.2 told.3 c.tell-in-Err-Memory.ensures.written

@@ -39,15 +39,15 @@ returns-in-Ok-Remove-clause-step g c =
     (stepped limits c.self.inside.index.clauses c.remove.new.index.clauses c.args.line.now (remove (name_of c.in-Ok-Remove.name)) c.remove.result a b short read
     (c.remove.ensures.acts limits (sym c.self.invariant)))
 
-
 pub returns-in-Ok-Add-clause-silent : goal.returns-in-Ok-Add-clause-silent
 returns-in-Ok-Add-clause-silent g c =
     let a = g.K.Sink.written c.args.sink.now in
     let b = g.K.Sink.written c.add.new.sink in
     let limits = c.self.inside.limits in
-    let read : Reads c.args.line.now (command.Add c.in-Ok-Add.clause) = subst (Reads c.args.line.now) c.in-Ok-Add.field-0-is c.in-Ok-Add.ensures.read in
-    ( λ e. absurd (not_silent limits (add (clause_of c.in-Ok-Add.clause)) c.self.inside.index.clauses c.add.new.index.clauses c.add.result a b (c.add.ensures.acts limits (sym c.self.invariant)) e)
-    , λ h. absurd (read.0.1 h.1))
+    let read : Reads c.args.line.now (command.Add c.in-Ok-Add.clause) = subst (Reads c.args.line.now) c.in-Ok-Add.field-0-is c.in-Ok-Add.ensures.read in (
+      λ e. absurd (not_silent limits (add (clause_of c.in-Ok-Add.clause)) c.self.inside.index.clauses c.add.new.index.clauses c.add.result a b (c.add.ensures.acts limits (sym c.self.invariant)) e),
+      λ h. absurd (read.0.1 h.1),
+    )
 
 pub returns-in-Ok-Add-clause-refused : goal.returns-in-Ok-Add-clause-refused
 returns-in-Ok-Add-clause-refused g c =
@@ -61,9 +61,10 @@ returns-in-Ok-Remove-clause-silent g c =
     let a = g.K.Sink.written c.args.sink.now in
     let b = g.K.Sink.written c.remove.new.sink in
     let limits = c.self.inside.limits in
-    let read : Reads c.args.line.now (command.Remove c.in-Ok-Remove.name) = subst (Reads c.args.line.now) c.in-Ok-Remove.field-0-is c.in-Ok-Remove.ensures.read in
-    ( λ e. absurd (not_silent limits (remove (name_of c.in-Ok-Remove.name)) c.self.inside.index.clauses c.remove.new.index.clauses c.remove.result a b (c.remove.ensures.acts limits (sym c.self.invariant)) e)
-    , λ h. absurd (read.1 h.1))
+    let read : Reads c.args.line.now (command.Remove c.in-Ok-Remove.name) = subst (Reads c.args.line.now) c.in-Ok-Remove.field-0-is c.in-Ok-Remove.ensures.read in (
+      λ e. absurd (not_silent limits (remove (name_of c.in-Ok-Remove.name)) c.self.inside.index.clauses c.remove.new.index.clauses c.remove.result a b (c.remove.ensures.acts limits (sym c.self.invariant)) e),
+      λ h. absurd (read.1 h.1),
+    )
 
 pub returns-in-Ok-Remove-clause-refused : goal.returns-in-Ok-Remove-clause-refused
 returns-in-Ok-Remove-clause-refused g c =
@@ -77,9 +78,10 @@ returns-in-Ok-Query-clause-silent g c =
     let a = g.K.Sink.written c.args.sink.now in
     let b = g.K.Sink.written c.answer.new.sink in
     let limits = c.self.inside.limits in
-    let read : Reads c.args.line.now (command.Query c.in-Ok-Query.pattern) = subst (Reads c.args.line.now) c.in-Ok-Query.field-0-is c.in-Ok-Query.ensures.read in
-    ( λ e. absurd (not_silent limits (query Instances (pattern_of c.in-Ok-Query.pattern)) c.self.inside.index.clauses c.self.inside.index.clauses c.answer.result a b (c.answer.ensures.acts limits (sym c.self.invariant)) e)
-    , λ h. absurd (read.1 h.1))
+    let read : Reads c.args.line.now (command.Query c.in-Ok-Query.pattern) = subst (Reads c.args.line.now) c.in-Ok-Query.field-0-is c.in-Ok-Query.ensures.read in (
+      λ e. absurd (not_silent limits (query Instances (pattern_of c.in-Ok-Query.pattern)) c.self.inside.index.clauses c.self.inside.index.clauses c.answer.result a b (c.answer.ensures.acts limits (sym c.self.invariant)) e),
+      λ h. absurd (read.1 h.1),
+    )
 
 pub returns-in-Ok-Stats-clause-step : goal.returns-in-Ok-Stats-clause-step
 returns-in-Ok-Stats-clause-step g c =

@@ -1,4 +1,7 @@
 mod HalfLaws
+mod IndexedLaws
+mod LinkLaws
 mod PutLaws
 mod Results
+mod SlotLaws
 mod SumLaws

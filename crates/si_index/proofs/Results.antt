@@ -1,5 +1,6 @@
 -- Results whose facts are carried on.
-use Rattle.std.proofs.Common.{OnOk, OnErr, Result, Ok, Err}
+use Rattle.std.proofs.Common.{◌≡◌, true, false, Option, None, Some, IfNone, OnOk, OnErr, Result, Ok, Err}
+use Rattle.std.specs.Prelude.{is_err}
 
 pub on_ok_then : {T E : Type 0} (r : Result T E) {P Q : Type 0} → (P → Q) → OnOk r P → OnOk r Q
 on_ok_then (Ok x) f p = f p
@@ -8,3 +9,17 @@ on_ok_then (Err e) f p = p
 pub on_err_then : {T E : Type 0} (r : Result T E) {P Q : Type 0} → (P → Q) → OnErr r P → OnErr r Q
 on_err_then (Ok x) f p = p
 on_err_then (Err e) f p = f p
+
+pub if_none : {T P : Type 0} (r : Option T) → P → IfNone r P
+if_none None p = p
+if_none (Some x) p = tt
+
+-- what holds at an error holds here
+pub at_err : {T E : Type 0} (r : Result T E) {P : Type 0} → true ≡ is_err r → OnErr r P → P
+at_err (Ok x) h p = absurd (cc)
+at_err (Err e) h p = p
+
+-- what holds where all went well holds here
+pub at_ok : {T E : Type 0} (r : Result T E) {P : Type 0} → false ≡ is_err r → OnOk r P → P
+at_ok (Ok x) h p = p
+at_ok (Err e) h p = absurd (cc)

@@ -1,22 +1,23 @@
--- A list with holes whose items go by keys.
-use Rattle.std.specs.Prelude.{◌≡◌, ℕ, List, [], ◌∷◌, Option, None, Some, slice_get}
-use Rattle.si_index.specs.declared.keyed.Kept.{Kept}
+-- A list whose items go by keys.
+use Rattle.std.specs.Prelude.{◌≡◌, ℕ, List, ◌∷◌, ◌++◌, Some, map, slice_get}
+use Rattle.si_defs.specs.Substitutions.{IsAmong}
 
 module _ {T : Type 0} where
-  -- the items in order, each with its key
-  abbrev pub kept : List (Option (Kept T)) → List (ℕ × T)
-  kept [] = []
-  kept (None ∷ slots) = kept slots
-  kept (Some k ∷ slots) = (k.key, k.item) ∷ kept slots
+  -- the keys of the items, in order
+  abbrev pub keys : List (ℕ × T) → List ℕ
+  keys = map (λ e. e.0)
 
-  -- 1 for an item, and 0 for a hole
-  abbrev pub flags : List (Option (Kept T)) → List ℕ
-  flags [] = []
-  flags (None ∷ slots) = 0 ∷ flags slots
-  flags (Some k ∷ slots) = 1 ∷ flags slots
+  -- an item has this key
+  abbrev pub HasKey : List (ℕ × T) → ℕ → Type 0
+  HasKey items key = IsAmong (keys items) key
 
-  -- each item's key leads to its place, and each key that leads anywhere is that of the item there
-  pub record IsLinked (slots : List (Option (Kept T))) (place_of : ℕ → Option ℕ) : Type 0 where
-    pub there : (place : ℕ) (k : Kept T) → slice_get slots place ≡ Some (Some k) → place_of k.key ≡ Some place
-    pub back : (key place : ℕ) → place_of key ≡ Some place
-        → (k : Kept T) × (slice_get slots place ≡ Some (Some k)) × (k.key ≡ key)
+  -- the item at this position has this key
+  abbrev pub HasKeyAt : List (ℕ × T) → ℕ → ℕ → Type 0
+  HasKeyAt items position key = slice_get (keys items) position ≡ Some key
+
+  -- the item with this key was taken from between the others
+  pub record IsTakenOut (old : List (ℕ × T)) (key : ℕ) (item : T) (new : List (ℕ × T)) : Type 0 where
+    pub before : List (ℕ × T)
+    pub after : List (ℕ × T)
+    pub whole : old ≡ before ++ (key, item) ∷ after
+    pub rest : new ≡ before ++ after

@@ -3,3 +3,5 @@
 
 mod keyed;
 mod ranks;
+#[cfg(test)]
+mod tests;

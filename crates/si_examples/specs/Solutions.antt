@@ -55,7 +55,8 @@ NoOtherOrder = Solves Instances first_pattern first_entry ((of_pattern (codes "Z
 abbrev pub NoneLeftOut : Type 0
 NoneLeftOut = Solves Instances first_pattern first_entry ((of_pattern (codes "Y"), f_of_entry) ∷ []) → ⊥
 
--- for the pattern g(X,Y) and the entry g(a,a) {?X -> ?Y; ?Y -> a} is not: a variable is bound to its image
+-- for the pattern g(X,Y) and the entry g(a,a) {?X -> ?Y; ?Y -> a} is not: a variable is bound to
+-- its image
 abbrev pub NoFoldedList : Type 0
 NoFoldedList =
     Solves Instances (term_pattern (function (codes "g") (x ∷ y ∷ []))) (term_entry (function (codes "g") (a ∷ a ∷ [])))

@@ -54,7 +54,8 @@ BoundToTerm = IsCanonical same_variable Unifiable asked_term part ((asked, part)
 abbrev pub NoListOfCycle : Type 0
 NoListOfCycle = (list : Solution) → IsCanonical same_variable Unifiable (function (codes "g") (asked_term ∷ asked_term ∷ [])) (function (codes "g") (kept_term ∷ part ∷ [])) list → ⊥
 
--- the list of g(?X,?Z) and g(f(Y),f(Y)) is {?Z -> ?X; ?X -> f(Y)}: the first of two equal variables stands for both
+-- the list of g(?X,?Z) and g(f(Y),f(Y)) is {?Z -> ?X; ?X -> f(Y)}: the first of two equal variables
+-- stands for both
 abbrev pub EqualVariables : Type 0
 EqualVariables = IsCanonical same_variable Unifiable both_asked (function (codes "g") (part ∷ part ∷ [])) ((other, asked_term) ∷ (asked, part) ∷ [])
 
@@ -62,6 +63,7 @@ EqualVariables = IsCanonical same_variable Unifiable both_asked (function (codes
 abbrev pub NoTermTwice : Type 0
 NoTermTwice = IsCanonical same_variable Unifiable both_asked (function (codes "g") (part ∷ part ∷ [])) ((asked, part) ∷ (other, part) ∷ []) → ⊥
 
--- nor is {?X -> f(Y); ?Z -> h(f(Y))} that of g(?X,?Z) and g(f(Y),h(f(Y))), where ?X stands for the part f(Y)
+-- nor is {?X -> f(Y); ?Z -> h(f(Y))} that of g(?X,?Z) and g(f(Y),h(f(Y))), where ?X stands for the
+-- part f(Y)
 abbrev pub NoPartForVariable : Type 0
 NoPartForVariable = IsCanonical same_variable Unifiable both_asked (function (codes "g") (part ∷ whole ∷ [])) ((asked, part) ∷ (other, whole) ∷ []) → ⊥

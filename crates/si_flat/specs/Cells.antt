@@ -30,7 +30,8 @@ variable_cell (query n) = cell.Query n
 variable_cell (entry n) = cell.Entry n
 variable_cell (ind n) = cell.Ind n
 
--- The cells of a term in preorder. That of a symbol has the number of cells of its subterm, its own included.
+-- The cells of a term in preorder. That of a symbol has the number of cells of its subterm, its own
+-- included.
 abbrev mutual
   pub cells_of : Term → List Cell
   cells_of (terms.var x) = variable_cell x ∷ []

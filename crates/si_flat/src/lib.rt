@@ -1,7 +1,7 @@
 //! Flat terms: the cells of one term in preorder.
 //!
-//! A symbol's cell has the number of cells of its subterm, so a subterm is a slice, and its end is found without a walk. A
-//! slice is whole if it is exactly one term; `specs/Cells.antt` says which.
+//! A symbol's cell has the number of cells of its subterm, so a subterm is a slice, and its end is
+//! found without a walk. A slice is whole if it is exactly one term; `specs/Cells.antt` says which.
 #![tactic(auto)]
 
 ghost use Rattle.std.specs.Prelude.{◌≡◌, ◌<◌, IfOk, length, take, drop};

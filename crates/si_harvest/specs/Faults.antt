@@ -47,8 +47,8 @@ pub record Told (limit : ℕ) (e : HarvestFault) (P : Fault → Type 0) : Type 0
 abbrev pub Blames : ℕ → HarvestFault → (Fault → Type 0) → Type 0
 Blames limit e P = (e ≡ Memory) ⊎ Told limit e P
 
--- A library's failures, missing files and files that are too big have a count each, which rose where a
--- load is refused for it, and no other count moved.
+-- A library's failures, missing files and files that are too big have a count each, which rose
+-- where a load is refused for it, and no other count moved.
 abbrev pub HasFaultCause : Counts → Counts → HarvestFault → Type 0
 HasFaultCause before now (Missing file) = Rose before.misses now.misses × (now ≡ record before { misses = now.misses })
 HasFaultCause before now (Big file) = Rose before.bigs now.bigs × (now ≡ record before { bigs = now.bigs })

@@ -11,7 +11,8 @@ pub record Counts (loaded : Loaded) (state : List Clause) : Type 0 where
   pub clauses : loaded.clauses ≤ loaded.entries
   pub entries : loaded.entries ≤ length (state_entries state)
 
--- the state is that at the start, and then clauses that were accepted one after the other and are counted
+-- the state is that at the start, and then clauses that were accepted one after the other and are
+-- counted
 pub record Gained (limit : ℕ) (start : List Clause) (loaded : Loaded) (state : List Clause) : Type 0 where
   pub gained : List Clause
   pub whole : state ≡ start ++ gained

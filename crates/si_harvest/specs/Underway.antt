@@ -49,8 +49,8 @@ Stand (f ∷ fs) (s ∷ ss) = IsSpot f ss s × Stand fs ss
 
 -- ---- what is to come
 module _ (files : Files) (bounds : Bounds) (limit : ℕ) where
-  -- From these spots on, the innermost first, the readings give these events, and a fault if they end
-  -- early.
+  -- From these spots on, the innermost first, the readings give these events, and a fault if they
+  -- end early.
   abbrev pub Finishes : List Spot → ℕ → List Clause → List Event → Option Fault → Type 0
   Finishes [] made state events fault = (events ≡ []) × (fault ≡ None)
   Finishes (s ∷ ss) made state events fault =
@@ -58,8 +58,8 @@ module _ (files : Files) (bounds : Bounds) (limit : ℕ) where
       × Finishes ss (made + fetches own) (state ++ tried own) others fault × (events ≡ own ++ others))
       ⊎ ((early : Fault) × Continues files bounds limit s made state events (Some early) × (fault ≡ Some early))
 
--- The load of a file began in the state at the start. Behind some events it is in this state, and what
--- the readings give from here on, the load gives behind those events.
+-- The load of a file began in the state at the start. Behind some events it is in this state, and
+-- what the readings give from here on, the load gives behind those events.
 pub record IsUnderway (told : Option Files) (bounds : Bounds) (limit : ℕ) (start : List Clause) (file : Bytes) (reading : Reading) (state : List Clause) : Type 0 where
   pub spots : List Spot
   pub stand : Stand (reverse reading.files.items) spots

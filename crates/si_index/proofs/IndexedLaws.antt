@@ -5,11 +5,11 @@ use Rattle.std.proofs.lemmas.List.{get_or_read, length-append}
 use Rattle.slab.specs.Slab.{Slab, get, slab_len, Updates}
 use Rattle.si_defs.specs.Substitutions.{IsAmong}
 use Rattle.si_index.specs.Halves.{total}
-use Rattle.si_index.specs.Keyed.{keys, HasKey, HasKeyAt, IsTakenOut}
+use Rattle.si_index.specs.Keyed.{HasKey, HasKeyAt, IsTakenOut}
 use Rattle.si_index.specs.KeyedSlots.{kept, flags, StandsAt, IsLinked, KnowsKeys, IsIndexed}
 use Rattle.si_index.specs.declared.keyed.Kept.{Kept}
 use Rattle.si_index.proofs.SlotLaws.{same_some, entry, stands_inside, kept_pushed, flags_pushed, taken_out, flag_there, flags_without, flags_length, flags_total, kept_bound, rank_there, found_there, key_at, among_there, kept_filtered}
-use Rattle.si_index.proofs.LinkLaws.{linked_pushed, linked_without, linked_knows, fresh_key}
+use Rattle.si_index.proofs.LinkLaws.{linked_pushed, linked_without, linked_knows}
 
 -- a value there, by an equation
 pub some_there : {X : Type 0} {o : Option X} (x : X) → o ≡ Some x → IsSome o

@@ -1,8 +1,8 @@
 -- Laws of keys that lead to the places of their items.
 use Rattle.std.proofs.Common.{suc, zero, ◌≡◌, ◌≢◌, ◌⊎◌, ◌<◌, ◌≤◌, ◌+◌, ℕ, List, [], ◌∷◌, ◌++◌, Option, Some, None, length, slice_index_or, slice_set, inl, inr, refl, sym, ◌∙◌, ap, subst, arith}
 use Rattle.std.proofs.lemmas.Bool.{cases_eq}
-use Rattle.std.proofs.lemmas.List.{get_or-set_same, get_or-set_other, get_or_append_left, get_or-append-add, get_or_past, length-append}
-use Rattle.si_defs.specs.Substitutions.{IsAmong, AreDistinct}
+use Rattle.std.proofs.lemmas.List.{get_or-set_same, get_or-set_other, get_or_append_left}
+use Rattle.si_defs.specs.Substitutions.{AreDistinct}
 use Rattle.si_index.specs.Keyed.{keys, HasKey}
 use Rattle.si_index.specs.KeyedSlots.{kept, StandsAt, IsLinked, KnowsKeys}
 use Rattle.si_index.specs.declared.keyed.Kept.{Kept}

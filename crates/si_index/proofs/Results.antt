@@ -1,5 +1,5 @@
 -- Results whose facts are carried on.
-use Rattle.std.proofs.Common.{◌≡◌, Bool, true, false, Option, None, Some, IfNone, OnOk, OnErr, Result, Ok, Err}
+use Rattle.std.proofs.Common.{◌≡◌, true, false, Option, None, Some, IfNone, OnOk, OnErr, Result, Ok, Err}
 use Rattle.std.specs.Prelude.{is_err}
 
 pub on_ok_then : {T E : Type 0} (r : Result T E) {P Q : Type 0} → (P → Q) → OnOk r P → OnOk r Q

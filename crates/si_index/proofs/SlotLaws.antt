@@ -1,5 +1,5 @@
 -- Laws of slots with holes: what is kept there, and how many stand before a place.
-use Rattle.std.proofs.Common.{suc, zero, ◌≡◌, ◌<◌, ◌≤◌, ◌+◌, ◌-◌, ℕ, List, [], ◌∷◌, ◌++◌, Option, Some, None, is_some, length, take, drop, slice_index_or, slice_set, slice_get, inl, inr, refl, sym, ◌∙◌, ap, subst, arith}
+use Rattle.std.proofs.Common.{suc, zero, ◌≡◌, ◌<◌, ◌≤◌, ◌+◌, ℕ, List, [], ◌∷◌, ◌++◌, Option, Some, None, is_some, length, take, drop, slice_index_or, slice_set, slice_get, inl, inr, refl, ◌∙◌, ap, subst, arith}
 use Rattle.std.specs.List.{filter}
 use Rattle.si_defs.specs.Substitutions.{IsAmong}
 use Rattle.si_index.specs.Halves.{total}

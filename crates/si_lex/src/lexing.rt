@@ -39,8 +39,8 @@ pub struct Lexing<'a> {
     pub stop: Stop,
 }
 
-/// All tokens from a place on, up to the first place where none stands, or where more than 512 round
-/// and square brackets would be open at once.
+/// All tokens from a place on, up to the first place where none stands, or where more than 512
+/// round and square brackets would be open at once.
 ///
 /// # Errors
 ///

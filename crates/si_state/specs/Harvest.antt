@@ -1,5 +1,5 @@
--- Harvests: what is read of a file and its includes, in order, up to the first fault (TPTP's include
--- directive; the limits and the order of the faults are this project's profile).
+-- Harvests: what is read of a file and its includes, in order, up to the first fault (TPTP's
+-- include directive; the limits and the order of the faults are this project's profile).
 use Rattle.std.specs.Prelude.{◌≡◌, ℕ, ◌+◌, ◌<◌, ◌≤◌, List, [], ◌∷◌, ◌++◌, length, Option, None, Some, IsSomeAnd}
 use Rattle.std.specs.List.{AllByRecursion}
 use Rattle.si_defs.specs.Bytes.{Bytes}
@@ -38,9 +38,10 @@ fetches [] = 0
 fetches (ask file ∷ events) = 1 + fetches events
 fetches (attempt c ∷ events) = fetches events
 
--- Why a harvest ends early: the file is open already; too many files are open; too many fetches were
--- made; no file has the name; the file has too many bytes; the library failed; no item stands on this
--- line of the file, but a formula of another language does or does not; or the clause is refused.
+-- Why a harvest ends early: the file is open already; too many files are open; too many fetches
+-- were made; no file has the name; the file has too many bytes; the library failed; no item stands
+-- on this line of the file, but a formula of another language does or does not; or the clause is
+-- refused.
 pub data Fault : Type 0 where
   cycle : Bytes → Fault
   too_deep : Bytes → Fault
@@ -119,8 +120,8 @@ IsRejected limit state clause fault = ⊥
 -- ---- the reading of files
 module _ (files : Files) (bounds : Bounds) (limit : ℕ) where
   mutual
-    -- While these files are open, with these selections round it, behind so many fetches and in this
-    -- state, the reading of a file gives these events, and a fault if it ends early.
+    -- While these files are open, with these selections round it, behind so many fetches and in
+    -- this state, the reading of a file gives these events, and a fault if it ends early.
     pub data Harvests : List Bytes → List (List Name) → ℕ → List Clause → Bytes → List Event → Option Fault → Type 0 where
       barred : (opened : List Bytes) (around : List (List Name)) (made : ℕ) (state : List Clause) (file : Bytes) (fault : Fault)
           → IsBarred bounds opened made file fault

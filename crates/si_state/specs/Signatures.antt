@@ -1,5 +1,5 @@
--- The signature of some clauses: which symbols occur in them, how often, and by which number each goes (this project's
--- profile; a signature is the set of symbols with their arities).
+-- The signature of some clauses: which symbols occur in them, how often, and by which number each
+-- goes (this project's profile; a signature is the set of symbols with their arities).
 use Rattle.std.specs.Prelude.{◌≡◌, ◌↔◌, ℕ, ◌≤◌, ◌+◌, cond, List, [], ◌∷◌, length}
 use Rattle.std.specs.List.{AllByRecursion}
 use Rattle.si_defs.specs.Bytes.{Bytes}

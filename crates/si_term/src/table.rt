@@ -14,7 +14,8 @@ pub trait SymTable {
     /// The number of the symbol, if it has one.
     fn id_of(&self, sym: &Sym) -> Option<u32>
         ensures found { IfSome result (λ n. IsAmong (pairs self.now) (symbol_of sym.now, n)) }
-        ensures none { IfNone result ((n : ℕ) → IsAmong (pairs self.now) (symbol_of sym.now, n) → ⊥) }
+        ensures none { IfNone result
+            ((n : ℕ) → IsAmong (pairs self.now) (symbol_of sym.now, n) → ⊥) }
         ensures numbering { IsNumbering (pairs self.now) };
 
     /// The symbol with the number, if there is one.

@@ -1,4 +1,5 @@
--- The search for a circle through bound variables: from slot to slot, by the variables of the values.
+-- The search for a circle through bound variables: from slot to slot, by the variables of the
+-- values.
 use Rattle.std.specs.Prelude.{◌≡◌, ℕ, ◌+◌, ◌<◌, ◌≤◌, ◌*◌, ◌^◌, ◌⊎◌, sum_by, List, [], ◌∷◌, ◌++◌, length, Bool, true, false, Option, None, Some, slice_get}
 use Rattle.std.specs.List.{AllByRecursion}
 use Rattle.std.specs.Borrow.{Bor}
@@ -68,7 +69,8 @@ task_slots (t ∷ ts) = task_slot t ∷ task_slots ts
 abbrev pub IsDone : List State → ℕ → Type 0
 IsDone states slot = slice_get states slot ≡ Some Done
 
--- The tasks, the next one first. What a slot that is being searched leads to is done, or stands among the tasks before it.
+-- The tasks, the next one first. What a slot that is being searched leads to is done, or stands
+-- among the tasks before it.
 abbrev pub IsCovered : Slots → Pairs → List State → List ℕ → Task → Type 0
 IsCovered slots pairs states before (Enter slot) = Unit {0}
 IsCovered slots pairs states before (Leave slot) = AllByRecursion (λ c. IsDone states c ⊎ IsAmong before c) (below slots pairs slot)

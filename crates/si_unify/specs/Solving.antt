@@ -17,7 +17,8 @@ Pairs = List (ℕ × Bor (List Cell))
 abbrev pub slot_count : Slots → ℕ
 slot_count slots = slots.query + slots.entry + slots.inds
 
--- the slots of the query's variables come first, then those of the entry's, then those of the indicators
+-- the slots of the query's variables come first, then those of the entry's, then those of the
+-- indicators
 abbrev pub slot_of : Slots → Variable → ℕ
 slot_of slots (query n) = n
 slot_of slots (entry n) = slots.query + n
@@ -60,8 +61,8 @@ pub record IsSolvedBy (slots : Slots) (pairs : Pairs) (f : Variable → Term) : 
   pub equal : AllByRecursion (λ pair. Equalizes f (variable_cell (variable_of slots pair.0) ∷ []) pair.1.now) pairs
 
 -- ---- legal lists of bindings
--- each variable of a value has a smaller number than the slot of the value; so the pairs can be put in an order in which
--- no left side stands in its own right side or in one behind it
+-- each variable of a value has a smaller number than the slot of the value; so the pairs can be put
+-- in an order in which no left side stands in its own right side or in one behind it
 abbrev pub RanksBelow : Slots → (ℕ → ℕ) → ℕ → Cell → Type 0
 RanksBelow slots rank slot (cell.App s arity n) = Unit {0}
 RanksBelow slots rank slot (cell.Query n) = rank (slot_of slots (query n)) < rank slot

@@ -126,8 +126,9 @@ ArePairs q pairs = AllByRecursion (IsApart q pairs)
 abbrev pub Grows : {X : Type 0} → List X → List X → Type 0
 Grows {X} old new = (more : List X) × (new ≡ old ++ more)
 
--- The two terms t and u are made equal by the new bindings, once the pairs are whose terms are no larger than t; and each
--- solution of the old ones that makes them equal is a solution of the new ones.
+-- The two terms t and u are made equal by the new bindings, once the pairs are whose terms are no
+-- larger than t; and each solution of the old ones that makes them equal is a solution of the new
+-- ones.
 pub record Meets (q : Question) (old new : Pairs) (old_keys new_keys : List SpotPair) (t u : Term) : Type 0 where
   pub sound :
       (f : Variable → Term)
@@ -190,8 +191,8 @@ HasCompared q old new old_keys new_keys pair true =
 HasCompared q old new old_keys new_keys pair false =
     (f : Variable → Term) → IsSolvedBy q.slots old f → AllByRecursion (MakesEqual q old f) old_keys → MakesEqual q old f pair → ⊥
 
--- The new bindings make each pair equal; and each solution of the old ones that makes them equal is a solution of the new
--- ones.
+-- The new bindings make each pair equal; and each solution of the old ones that makes them equal is
+-- a solution of the new ones.
 abbrev pub HasClosed : Question → Pairs → Pairs → List SpotPair → Bool → Type 0
 HasClosed q old new keys true =
     IsLegal q new
@@ -199,7 +200,8 @@ HasClosed q old new keys true =
     × ((f : Variable → Term) → IsSolvedBy q.slots old f → AllByRecursion (MakesEqual q old f) keys → IsSolvedBy q.slots new f)
 HasClosed q old new keys false = (f : Variable → Term) → IsSolvedBy q.slots old f → AllByRecursion (MakesEqual q old f) keys → ⊥
 
--- The new bindings are legal, and solved by just those that solve the old ones and make the two terms equal.
+-- The new bindings are legal, and solved by just those that solve the old ones and make the two
+-- terms equal.
 abbrev pub HasAnswered : Question → Pairs → Pairs → Bool → Type 0
 HasAnswered q old new true =
     AllByRecursion (IsBinding q.slots) new

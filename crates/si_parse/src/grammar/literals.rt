@@ -129,7 +129,8 @@ fn statement<'t, 'b>(
     Ok(Some((Literal { positive, atom }, rest)))
 }
 
-/// Whether a bracket or the sign of an equation stands in front, so that a literal before it goes on.
+/// Whether a bracket or the sign of an equation stands in front, so that a literal before it goes
+/// on.
 fn sign_follows(tokens: &[Lexeme]) -> bool
     ensures { IsFalse result ↔ NoSign (tokens_of tokens.now) }
 {

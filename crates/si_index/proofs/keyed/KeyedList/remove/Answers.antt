@@ -1,4 +1,4 @@
-use Rattle.std.proofs.Common.{◌≡◌, ◌<◌, Some, None, length, slice_index_or, slice_set, sym, ◌∙◌, ap, subst, arith}
+use Rattle.std.proofs.Common.{slice_index_or, slice_set, sym, ◌∙◌, ap, subst, arith}
 use Rattle.si_index.specs.Keyed.{HasKey}
 use Rattle.si_index.specs.KeyedSlots.{kept, StandsAt, IsIndexed}
 use Rattle.si_index.proofs.SlotLaws.{stands_inside, flag_there}

@@ -4,6 +4,7 @@
 
 ghost use Rattle.std.specs.Prelude.{◌≤◌, ◌*◌, IfOk, length};
 ghost use Rattle.si_defs.specs.Generator.{IsSample};
+ghost use Rattle.si_sample.specs.declared.TheConstants.{GREATEST_START, MOST_CLAUSES};
 
 use std::alloc::{AllocError, Global};
 
@@ -21,8 +22,8 @@ pub const MOST_CLAUSES: u32 = 10_000;
 
 /// The text of `count` clauses, a line each, that are drawn from `start`.
 pub fn sample(alloc: Global, start: u32, count: u32) -> Result<Vec<u8>, AllocError>
-    requires start { start ≤ 2147483647 }
-    requires count { (1 ≤ count) × (count ≤ 10000) }
+    requires start { start ≤ GREATEST_START }
+    requires count { (1 ≤ count) × (count ≤ MOST_CLAUSES) }
     ensures drawn { IfOk result (λ text. IsSample start count text.items) }
     ensures short { IfOk result (λ text. length text.items ≤ 95 * count) }
 {

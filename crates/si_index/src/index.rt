@@ -28,7 +28,8 @@ pub struct Stats {
     pub symbols: u32,
 }
 
-/// The index.
+/// The clauses that are kept, in the order of acceptance. A name leads to its clause, and one is
+/// taken away without a pass over the others.
 #[derive(Drop)]
 pub struct Index {
     alloc: Global,
@@ -80,7 +81,7 @@ impl Index {
         }
     }
 
-    /// The clause at this position, from 0.
+    /// The clause at this position, from 0, in logarithmic time.
     pub fn clause(&self, at: u32) -> &Clause
         requires { at < length self.now.clauses }
         ensures { slice_get self.now.clauses at ≡ Some (clause_of result.now) }

@@ -1,99 +1,32 @@
 -- What is known of clauses, as one is added, refused or taken away.
-use Rattle.std.proofs.Common.{◌≡◌, ◌⊎◌, inl, inr, ℕ, suc, ◌+◌, ◌≤◌, true, false, true≢false, List, [], ◌∷◌, ◌++◌, length, refl, sym, ap, ◌∙◌, subst, arith}
+use Rattle.std.proofs.Common.{◌≡◌, ◌⊎◌, inl, inr, ℕ, suc, ◌+◌, ◌-◌, ◌≤◌, List, [], ◌∷◌, ◌++◌, Option, None, Some, IsSome, length, refl, sym, ap, ◌∙◌, subst, arith, length-append}
 use Rattle.std.specs.List.{AllByRecursion}
+use Rattle.std.proofs.lemmas.List.{map-append}
 use Rattle.si_defs.specs.Symbols.{Symbol, times}
 use Rattle.si_defs.specs.Clauses.{Name, Clause, IsSoundClause}
-use Rattle.si_defs.specs.declared.NameKind.{NameKind}
-use Rattle.si_defs.specs.declared.NameKind.TheVariants.{Word, Int}
 use Rattle.si_defs.specs.Entries.{entries, state_entries, clause_symbols, state_symbols}
 use Rattle.si_defs.specs.Substitutions.{IsAmong, AreDistinct}
 use Rattle.si_state.specs.Acceptance.{IsTaken, HasDistinctNames, Clashes, AllAgree, IsFirstClash, Accepts}
 use Rattle.si_state.specs.Signatures.{Signature, IsSignature, IsSignatureOf, symbols, keys, uses_of, total, CountsSymbols}
+use Rattle.si_term.specs.Meaning.{clause_of, name_of}
+use Rattle.si_term.specs.declared.clause.Clause as term
 use Rattle.si_term.proofs.EntryHeads.{length-symbols}
 use Rattle.si_sign.specs.Stores.{IsStored, Rejects}
 use Rattle.si_sign.specs.declared.faults.AddFault.{AddFault}
 use Rattle.si_sign.specs.declared.faults.AddFault.TheVariants as add_fault
 use Rattle.si_sign.specs.declared.uses.TheConstants.{MOST_USES}
-use Rattle.si_sign.proofs.SymbolLaws.{text_either}
+use Rattle.si_sign.proofs.SymbolLaws.{differs}
 use Rattle.si_sign.proofs.UsesOf.{among_left, among_right, among_append, all_among, one_of_all, times_among, among_times}
 use Rattle.si_sign.proofs.TakeLaws.{symbols_used, used_symbols}
-use Rattle.si_index.specs.Names.{has_name}
-use Rattle.si_index.specs.Known.{IsKnownOf, Admits, Enters, Leaves, Stays, Bars}
+use Rattle.si_index.specs.Keyed.{HasKey, HasKeyAt, IsTakenOut}
+use Rattle.si_index.specs.Kept.{clauses_of}
+use Rattle.si_index.specs.Names.{key_of, ChangesName}
+use Rattle.si_index.specs.Known.{AreNamed, IsKnownOf, IsPut, Admits, Enters, Leaves, Stays, Bars}
 use Rattle.si_index.specs.Stored.{IsKept}
 use Rattle.si_index.specs.declared.known.Known.{Known}
-use Rattle.si_index.proofs.StoreLaws.{symbols_few, entries_between, times_between, sound_between, sound_put, taken_split, taken_own, taken_other, distinct_between, distinct_put, none_behind}
-
--- ---- names are one or not
-same_kind_either : (a b : NameKind) → (a ≡ b) ⊎ (a ≡ b → ⊥)
-same_kind_either Word Word = inl refl
-same_kind_either Int Int = inl refl
-same_kind_either Word Int = inr (λ e. cc)
-same_kind_either Int Word = inr (λ e. cc)
-
-name_either : (m n : Name) → (m ≡ n) ⊎ (m ≡ n → ⊥)
-name_either m n = by (same_kind_either m.kind n.kind) (text_either m.text n.text) where
-  by : (m.kind ≡ n.kind) ⊎ (m.kind ≡ n.kind → ⊥) → (m.text ≡ n.text) ⊎ (m.text ≡ n.text → ⊥) → (m ≡ n) ⊎ (m ≡ n → ⊥)
-  by (inl k) (inl t) = inl (λ i. record { kind = k i; text = t i })
-  by (inl k) (inr f) = inr (λ e. f (ap (λ (n : Name). n.text) e))
-  by (inr f) t = inr (λ e. f (ap (λ (n : Name). n.kind) e))
-
--- ---- a clause more
-module _ (old new : Known) (c : Clause) where
-  pub known_more : (cs : List Clause) → IsSoundClause c → IsKnownOf cs old → Enters c old new → IsKnownOf (cs ++ c ∷ []) new
-  known_more cs sound is enters = record {
-    named = λ n h. named n h (name_either n c.name);
-    listed = λ n h. listed n (name_either n c.name) (taken_split c [] cs n h);
-    signed = λ s. omega (arith, enters.uses s, is.signed s, times_between c [] cs s, ap (λ l. times s (state_symbols l)) (none_behind cs));
-    counted = omega (arith, enters.sum, is.counted, entries_between c [] cs, ap (λ l. length (state_entries l)) (none_behind cs), length-symbols c sound);
-  } where
-    named : (n : Name) → has_name new.names n ≡ true → (n ≡ c.name) ⊎ (n ≡ c.name → ⊥) → IsTaken (cs ++ c ∷ []) n
-    named n h (inl e) = subst (IsTaken (cs ++ c ∷ [])) (sym e) (taken_own c [] cs)
-    named n h (inr f) = taken_other c [] cs n (subst (λ l. IsTaken l n) (sym (none_behind cs)) (is.named n (sym (enters.name.others n f) ∙ h)))
-
-    listed : (n : Name) → (n ≡ c.name) ⊎ (n ≡ c.name → ⊥) → (c.name ≡ n) ⊎ IsTaken (cs ++ []) n → has_name new.names n ≡ true
-    listed n (inl e) h = ap (has_name new.names) e ∙ enters.name.here
-    listed n (inr f) (inl e) = absurd (f (sym e))
-    listed n (inr f) (inr h) = enters.name.others n f ∙ is.listed n (subst (λ l. IsTaken l n) (none_behind cs) h)
-
-  -- ---- a clause less
-  pub known_less : (before after : List Clause) → IsSoundClause c → (IsTaken (before ++ after) c.name → ⊥) → IsKnownOf (before ++ c ∷ after) old → Leaves c old new
-      → IsKnownOf (before ++ after) new
-  known_less before after sound free is leaves = record {
-    named = λ n h. named n h (name_either n c.name);
-    listed = λ n h. listed n h (name_either n c.name);
-    signed = λ s. omega (arith, leaves.uses s, is.signed s, times_between c after before s);
-    counted = omega (arith, leaves.sum, is.counted, entries_between c after before, length-symbols c sound);
-  } where
-    named : (n : Name) → has_name new.names n ≡ true → (n ≡ c.name) ⊎ (n ≡ c.name → ⊥) → IsTaken (before ++ after) n
-    named n h (inl e) = absurd (true≢false (sym h ∙ ap (has_name new.names) e ∙ leaves.name.here))
-    named n h (inr f) = by (taken_split c after before n (is.named n (sym (leaves.name.others n f) ∙ h))) where
-      by : (c.name ≡ n) ⊎ IsTaken (before ++ after) n → IsTaken (before ++ after) n
-      by (inl e) = absurd (f (sym e))
-      by (inr k) = k
-
-    listed : (n : Name) → IsTaken (before ++ after) n → (n ≡ c.name) ⊎ (n ≡ c.name → ⊥) → has_name new.names n ≡ true
-    listed n h (inl e) = absurd (free (subst (IsTaken (before ++ after)) e h))
-    listed n h (inr f) = leaves.name.others n f ∙ is.listed n (taken_other c after before n h)
-
--- ---- as many as before
-pub known_stays : (old new : Known) (cs : List Clause) → IsKnownOf cs old → Stays old new → IsKnownOf cs new
-known_stays old new cs is same = record {
-  named = λ n h. is.named n (sym (same.names n) ∙ h);
-  listed = λ n h. same.names n ∙ is.listed n h;
-  signed = λ s. same.uses s ∙ is.signed s;
-  counted = same.sum ∙ is.counted;
-}
-
--- entered and struck out again
-pub known_back : (old between new : Known) (c : Clause) → has_name old.names c.name ≡ false → Enters c old between → Leaves c between new → Stays old new
-known_back old between new c free enters leaves = record {
-  names = λ n. by n (name_either n c.name);
-  uses = λ s. omega (arith, enters.uses s, leaves.uses s);
-  sum = omega (arith, enters.sum, leaves.sum);
-} where
-  by : (n : Name) → (n ≡ c.name) ⊎ (n ≡ c.name → ⊥) → has_name new.names n ≡ has_name old.names n
-  by n (inl e) = ap (has_name new.names) e ∙ leaves.name.here ∙ sym free ∙ ap (has_name old.names) (sym e)
-  by n (inr f) = leaves.name.others n f ∙ enters.name.others n f
+use Rattle.si_index.specs.declared.names.Names.{Names}
+use Rattle.si_index.proofs.NamedLaws.{item_of, key_taken, last_behind, among_taken, leads_taken, unknown_free, named_more, named_less, named_stays}
+use Rattle.si_index.proofs.StoreLaws.{symbols_few, entries_between, times_between, sound_between, sound_put, distinct_between, distinct_put, none_behind}
 
 -- ---- the symbols that are known are those of the clauses
 -- symbols that agree with some agree with fewer
@@ -148,18 +81,22 @@ module _ (cs : List Clause) (us : Signature) (is : IsSignature us) (of : IsSigna
     many (v ∷ vs) = ap suc (many vs)
 
 -- ---- why a clause isn't added
-module _ (limit : ℕ) (cs : List Clause) (known : Known) (c : Clause) (is : IsKnownOf cs known) (good : IsSignature known.signature) where
-  pub name_free : has_name known.names c.name ≡ false → IsTaken cs c.name → ⊥
-  name_free e h = true≢false (sym (is.listed c.name h) ∙ e)
+some_is : {A : Type 0} (o : Option A) → IsSome o → (x : A) × (o ≡ Some x)
+some_is None h = differs h
+some_is (Some x) h = (x, refl)
 
-  pub rejects : IsSoundClause c → (f : AddFault) → Bars limit known c f → Rejects limit cs c f
-  rejects sound add_fault.Taken why = is.named c.name why
+module _ (limit : ℕ) (items : List (ℕ × term.Clause)) (known : Known) (c : Clause) (is : IsKnownOf items known) (good : IsSignature known.signature) where
+  pub name_free : key_of known.names c.name ≡ None → IsTaken (clauses_of items) c.name → ⊥
+  name_free e = unknown_free items known.names is.names c.name e
+
+  pub rejects : IsSoundClause c → (f : AddFault) → Bars limit known c f → Rejects limit (clauses_of items) c f
+  rejects sound add_fault.Taken why = let found = some_is (key_of known.names c.name) why in leads_taken items known.names is.names c.name found.0 found.1
   rejects sound (add_fault.Clash clash) (free, (found, kept, first, shapes)) =
-      (found, kept, (name_free free, clash_known cs known.signature good is.signed (clause_symbols c) clash.entry found kept first), shapes)
+      (found, kept, (name_free free, clash_known (clauses_of items) known.signature good is.signed (clause_symbols c) clash.entry found kept first), shapes)
   rejects sound (add_fault.Full needed most) (free, agree, over, number, same) = (
     (
       name_free free,
-      agree_known cs known.signature good is.signed (clause_symbols c) agree,
+      agree_known (clauses_of items) known.signature good is.signed (clause_symbols c) agree,
       omega (arith, over, number, is.counted, length-symbols c sound),
       omega (arith, number, is.counted, length-symbols c sound),
     ),
@@ -167,10 +104,10 @@ module _ (limit : ℕ) (cs : List Clause) (known : Known) (c : Clause) (is : IsK
   )
   rejects sound add_fault.Memory why = tt
 
-  pub accepts : IsSoundClause c → Admits limit known c → Accepts limit cs c (cs ++ c ∷ [])
+  pub accepts : IsSoundClause c → Admits limit known c → Accepts limit (clauses_of items) c (clauses_of items ++ c ∷ [])
   accepts sound admits = record {
     free = name_free admits.free;
-    agree = agree_known cs known.signature good is.signed (clause_symbols c) admits.agree;
+    agree = agree_known (clauses_of items) known.signature good is.signed (clause_symbols c) admits.agree;
     room = omega (arith, admits.room, is.counted, length-symbols c sound);
     added = refl;
   }
@@ -190,49 +127,171 @@ stored_less limit before c after stored = record {
   few = omega (arith, stored.few, entries_between c after before);
 }
 
-pub kept_more : (limit : ℕ) (old new : Known) (cs ds : List Clause) (c : Clause) → IsSignature old.signature → IsKept limit cs old → IsSoundClause c
-    → Admits limit old c → Enters c old new → ds ≡ cs ++ c ∷ [] → IsKept limit ds new
-kept_more limit old new cs ds c good kept sound admits enters is = subst (λ l. IsKept limit l new) (sym is) (record {
-  small = kept.small;
-  stored = stored_more limit cs c kept.stored sound (accepts limit cs old c kept.is_known good sound admits);
-  is_known = known_more old new c cs sound kept.is_known enters;
-})
+pub room_for : (limit : ℕ) (items : List (ℕ × term.Clause)) (known : Known) (c : Clause) → IsKept limit items known → IsSoundClause c
+    → total known.signature + length (clause_symbols c) ≤ MOST_USES
+room_for limit items known c kept sound = omega (arith, kept.is_known.counted, kept.stored.few, kept.small, symbols_few c sound)
 
-pub accepts_more : (limit : ℕ) (old : Known) (cs ds : List Clause) (c : Clause) → IsSignature old.signature → IsKept limit cs old → IsSoundClause c
-    → Admits limit old c → ds ≡ cs ++ c ∷ [] → Accepts limit cs c ds
-accepts_more limit old cs ds c good kept sound admits is =
-    subst (Accepts limit cs c) (sym is) (accepts limit cs old c kept.is_known good sound admits)
-
-pub room_for : (limit : ℕ) (cs : List Clause) (known : Known) (c : Clause) → IsKept limit cs known → IsSoundClause c → total known.signature + length (clause_symbols c) ≤ MOST_USES
-room_for limit cs known c kept sound = omega (arith, kept.is_known.counted, kept.stored.few, kept.small, symbols_few c sound)
-
-pub kept_stays : (limit : ℕ) (old new : Known) (cs : List Clause) → IsKept limit cs old → Stays old new → IsKept limit cs new
-kept_stays limit old new cs kept same = record {
+pub kept_stays : (limit : ℕ) (old new : Known) (items : List (ℕ × term.Clause)) → IsKept limit items old → Stays old new → IsKept limit items new
+kept_stays limit old new items kept same = record {
   small = kept.small;
   stored = kept.stored;
-  is_known = known_stays old new cs kept.is_known same;
+  is_known = record {
+    names = named_stays items old.names new.names kept.is_known.names same.names;
+    signed = λ s. same.uses s ∙ kept.is_known.signed s;
+    counted = same.sum ∙ kept.is_known.counted;
+  };
+}
+
+-- a clause that is put last
+module _ (limit : ℕ) (old between : Known) (items more : List (ℕ × term.Clause)) (c : term.Clause) (names : Names) (good : IsSignature old.signature)
+    (kept : IsKept limit items old) (sound : IsSoundClause (clause_of c)) (admits : Admits limit old (clause_of c)) (enters : Enters (clause_of c) old between)
+    (put : IsPut c items more between.names names) where
+  clauses_more : clauses_of more ≡ clauses_of items ++ clause_of c ∷ []
+  clauses_more = ap clauses_of put.pushed ∙ map-append (λ p. clause_of p.1) items ((put.key, c) ∷ [])
+
+  pub accepts_more : Accepts limit (clauses_of items) (clause_of c) (clauses_of more)
+  accepts_more = subst (Accepts limit (clauses_of items) (clause_of c)) (sym clauses_more) (accepts limit items old (clause_of c) kept.is_known good sound admits)
+
+  names_more : AreNamed more names
+  names_more =
+      subst (λ l. AreNamed l names) (sym put.pushed)
+      (named_more items put.key c between.names names (subst (AreNamed items) (sym enters.names) kept.is_known.names) put.fresh
+      (ap (λ m. key_of m (name_of c.name)) enters.names ∙ admits.free) put.name)
+
+  pub kept_more : IsKept limit more (record { names = names; signature = between.signature })
+  kept_more =
+      let behind = none_behind (clauses_of items) in
+      record {
+        small = kept.small;
+        stored =
+            subst (IsStored limit) (sym clauses_more)
+            (stored_more limit (clauses_of items) (clause_of c) kept.stored sound (accepts limit items old (clause_of c) kept.is_known good sound admits));
+        is_known = record {
+          names = names_more;
+          signed = λ s.
+              omega (
+                arith,
+                enters.uses s,
+                kept.is_known.signed s,
+                times_between (clause_of c) [] (clauses_of items) s,
+                ap (λ l. times s (state_symbols l)) behind,
+                ap (λ l. times s (state_symbols l)) clauses_more,
+              );
+          counted =
+              omega (
+                arith,
+                enters.sum,
+                kept.is_known.counted,
+                entries_between (clause_of c) [] (clauses_of items),
+                ap (λ l. length (state_entries l)) behind,
+                ap (λ l. length (state_entries l)) clauses_more,
+                length-symbols (clause_of c) sound,
+              );
+        };
+      }
+
+-- a clause that couldn't be put is struck out again
+pub entered_back : (old between : Known) (c : Clause) (names : Names) (signature : Signature) → Enters c old between
+    → ((name : Name) → key_of names name ≡ key_of between.names name)
+    → ((s : Symbol) → uses_of signature s + times s (clause_symbols c) ≡ uses_of between.signature s)
+    → total signature + length (clause_symbols c) ≡ total between.signature → Stays old (record { names = names; signature = signature })
+entered_back old between c names signature enters same uses sum = record {
+  names = λ name. same name ∙ ap (λ m. key_of m name) enters.names;
+  uses = λ s. omega (arith, enters.uses s, uses s);
+  sum = omega (arith, enters.sum, sum);
 }
 
 -- a clause that stands between others
-module _ (limit : ℕ) (old : Known) (cs before after : List Clause) (c : Clause) (kept : IsKept limit cs old) (splits : cs ≡ before ++ c ∷ after) where
-  there : IsKept limit (before ++ c ∷ after) old
-  there = subst (λ l. IsKept limit l old) splits kept
+module _ (limit : ℕ) (old : Known) (items : List (ℕ × term.Clause)) (key : ℕ) (c : term.Clause) (rest : List (ℕ × term.Clause)) (kept : IsKept limit items old)
+    (out : IsTakenOut items key c rest) where
+  pub splits : clauses_of items ≡ clauses_of out.before ++ clause_of c ∷ clauses_of out.after
+  splits = ap clauses_of out.whole ∙ map-append (λ p. clause_of p.1) out.before ((key, c) ∷ out.after)
+
+  pub rest_is : clauses_of rest ≡ clauses_of out.before ++ clauses_of out.after
+  rest_is = ap clauses_of out.rest ∙ map-append (λ p. clause_of p.1) out.before out.after
+
+  stored_there : IsStored limit (clauses_of out.before ++ clause_of c ∷ clauses_of out.after)
+  stored_there = subst (IsStored limit) splits kept.stored
+
+  signed_there : IsSignatureOf (clauses_of out.before ++ clause_of c ∷ clauses_of out.after) old.signature
+  signed_there = subst (λ l. IsSignatureOf l old.signature) splits kept.is_known.signed
 
   -- its symbols are used as often as they occur in it
-  pub uses_few : (s : Symbol) → times s (clause_symbols c) ≤ uses_of old.signature s
-  uses_few s = omega (arith, there.is_known.signed s, times_between c after before s)
+  pub uses_few : (s : Symbol) → times s (clause_symbols (clause_of c)) ≤ uses_of old.signature s
+  uses_few s = omega (arith, signed_there s, times_between (clause_of c) (clauses_of out.after) (clauses_of out.before) s)
 
-  pub as_many_entries : (n : ℕ) → n ≡ length (clause_symbols c) → n ≡ length (entries c)
-  as_many_entries n e = e ∙ sym (length-symbols c (sound_between c after before there.stored.sound).0)
+  sound_there : IsSoundClause (clause_of c)
+  sound_there = (sound_between (clause_of c) (clauses_of out.after) (clauses_of out.before) stored_there.sound).0
 
-  pub kept_less : (new : Known) (rest : List Clause) → Leaves c old new → rest ≡ before ++ after → IsKept limit rest new
-  kept_less new rest leaves is = subst (λ l. IsKept limit l new) (sym is) (record {
-    small = there.small;
-    stored = stored_less limit before c after there.stored;
-    is_known =
-        known_less old new c before after
-        (sound_between c after before there.stored.sound).0
-        (distinct_between c after before there.stored.distinct).0
-        there.is_known
-        leaves;
-  })
+  pub as_many_entries : (n : ℕ) → n ≡ length (clause_symbols (clause_of c)) → n ≡ length (entries (clause_of c))
+  as_many_entries n e = e ∙ sym (length-symbols (clause_of c) sound_there)
+
+  free_without : IsTaken (clauses_of (out.before ++ out.after)) (name_of c.name) → ⊥
+  free_without h =
+      (distinct_between (clause_of c) (clauses_of out.after) (clauses_of out.before) stored_there.distinct).0
+      (subst (λ l. IsTaken l (name_of c.name)) (map-append (λ p. clause_of p.1) out.before out.after) h)
+
+  names_there : AreNamed (out.before ++ (key, c) ∷ out.after) old.names
+  names_there = subst (λ l. AreNamed l old.names) out.whole kept.is_known.names
+
+  names_less : (new : Names) → ChangesName (name_of c.name) None (key_of old.names) (key_of new) → AreNamed rest new
+  names_less new change =
+      subst (λ l. AreNamed l new) (sym out.rest) (named_less out.before key c out.after old.names new names_there free_without change)
+
+  pub kept_less : (new : Known) → Leaves (clause_of c) old new → IsKept limit rest new
+  kept_less new leaves = record {
+    small = kept.small;
+    stored = subst (IsStored limit) (sym rest_is) (stored_less limit (clauses_of out.before) (clause_of c) (clauses_of out.after) stored_there);
+    is_known = record {
+      names = names_less new.names leaves.name;
+      signed = λ s.
+          omega (
+            arith,
+            leaves.uses s,
+            signed_there s,
+            times_between (clause_of c) (clauses_of out.after) (clauses_of out.before) s,
+            ap (λ l. times s (state_symbols l)) rest_is,
+          );
+      counted =
+          omega (
+            arith,
+            leaves.sum,
+            kept.is_known.counted,
+            ap (λ l. length (state_entries l)) splits,
+            entries_between (clause_of c) (clauses_of out.after) (clauses_of out.before),
+            ap (λ l. length (state_entries l)) rest_is,
+            length-symbols (clause_of c) sound_there,
+          );
+    };
+  }
+
+  -- the clause that a name leads to has that name
+  pub named_so : (n : Name) → key_of old.names n ≡ Some key → name_of c.name ≡ n
+  named_so n h = kept.is_known.names.named n key h c (key_taken items key c rest out)
+
+  -- no other clause goes by its key
+  key_once : (d : term.Clause) → IsAmong out.after (key, d) → ⊥
+  key_once d among =
+      free_without
+      (subst (IsTaken (clauses_of (out.before ++ out.after)))
+      (sym (named_so (name_of d.name) (names_there.listed key d (among_right out.before ((key, c) ∷ out.after) (key, d) (inr among)))))
+      (among_taken (out.before ++ out.after) key d (among_right out.before out.after (key, d) among)))
+
+  key_behind : HasKeyAt items (length items - 1) key → 1 ≤ length out.after → HasKey out.after key
+  key_behind last some =
+      last_behind out.before (key, c) out.after (length items - 1) key (subst (λ l. HasKeyAt l (length items - 1) key) out.whole last)
+      (omega (arith, ap length out.whole, length-append out.before ((key, c) ∷ out.after))) some
+
+  last_alone : (after : List (ℕ × term.Clause)) → out.after ≡ after → HasKeyAt items (length items - 1) key → out.after ≡ []
+  last_alone [] e last = e
+  last_alone (x ∷ after) e last =
+      let found = item_of out.after key (key_behind last (omega (arith, ap length e))) in
+      absurd (key_once found.0 found.1)
+
+  -- the clause of the last key is the last one
+  pub last_taken : HasKeyAt items (length items - 1) key → clauses_of items ≡ clauses_of rest ++ clause_of c ∷ []
+  last_taken last =
+      let e = last_alone out.after refl last in
+      splits
+      ∙ ap (λ l. clauses_of out.before ++ clause_of c ∷ clauses_of l) e
+      ∙ ap (λ l. l ++ clause_of c ∷ []) (sym (rest_is ∙ ap (λ l. clauses_of out.before ++ clauses_of l) e ∙ none_behind (clauses_of out.before)))

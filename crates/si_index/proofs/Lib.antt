@@ -3,7 +3,7 @@ mod IndexedLaws
 mod KnownLaws
 mod LinkLaws
 mod NameLaws
-mod PlaceLaws
+mod NamedLaws
 mod PutLaws
 mod Results
 mod SlotLaws

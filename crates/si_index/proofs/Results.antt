@@ -1,5 +1,5 @@
 -- Results whose facts are carried on.
-use Rattle.std.proofs.Common.{◌≡◌, true, false, Option, None, Some, IfNone, OnOk, OnErr, Result, Ok, Err}
+use Rattle.std.proofs.Common.{◌≡◌, true, false, Option, None, Some, IsSome, IfNone, OnOk, OnErr, Result, Ok, Err, refl}
 use Rattle.std.specs.Prelude.{is_err}
 
 pub on_ok_then : {T E : Type 0} (r : Result T E) {P Q : Type 0} → (P → Q) → OnOk r P → OnOk r Q
@@ -13,6 +13,11 @@ on_err_then (Err e) f p = f p
 pub if_none : {T P : Type 0} (r : Option T) → P → IfNone r P
 if_none None p = p
 if_none (Some x) p = tt
+
+-- there is something, as nothing can't be
+pub some_unless : {T P : Type 0} (r : Option T) → IfNone r (P → ⊥) → P → IsSome r
+some_unless None f p = absurd (f p)
+some_unless (Some x) f p = refl
 
 -- what holds at an error holds here
 pub at_err : {T E : Type 0} (r : Result T E) {P : Type 0} → true ≡ is_err r → OnErr r P → P

@@ -1,9 +1,11 @@
 -- What an index is seen as: the clauses that are kept, in the order of acceptance, the limit on
 -- their entries, and the signature of the clauses.
-use Rattle.std.specs.Prelude.{ℕ, List, refl}
+use Rattle.std.specs.Prelude.{ℕ, List, refl, map}
 use Rattle.std.specs.Coded.{Coded, code_by, coded×, coded_ℕ, coded_list}
 use Rattle.si_defs.specs.Clauses.{Clause}
 use Rattle.si_defs.specs.Codes.{clause_code}
+use Rattle.si_term.specs.Meaning.{clause_of}
+use Rattle.si_term.specs.declared.clause.Clause as term
 
 pub record Kept : Type 0 where
   pub clauses : List Clause
@@ -17,3 +19,7 @@ kept_code =
     (λ k. (k.clauses, k.limit))
     (λ p. record { clauses = p.0; limit = p.1 })
     (λ _. refl)
+
+-- the clauses of a list where they go by keys
+abbrev pub clauses_of : List (ℕ × term.Clause) → List Clause
+clauses_of items = map (λ p. clause_of p.1) items

@@ -6,5 +6,4 @@ pub mod Known
 pub mod Names
 pub mod Ranks
 pub mod RanksFall
-pub mod SameNames
 pub mod Stored

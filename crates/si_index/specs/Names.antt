@@ -1,6 +1,6 @@
--- Sets of texts, and of names, and how they change.
-use Rattle.std.specs.Prelude.{◌≡◌, Bool, bytes_eq}
-use Rattle.indexmap.specs.IndexSet.{contains_by}
+-- Maps from texts, and from names, to keys, as functions, and how they change.
+use Rattle.std.specs.Prelude.{◌≡◌, ℕ, Option, bytes_eq}
+use Rattle.std.specs.Map.{lookup}
 use Rattle.si_defs.specs.Bytes.{Bytes}
 use Rattle.si_defs.specs.Clauses.{Name}
 use Rattle.si_defs.specs.declared.NameKind.{NameKind}
@@ -8,25 +8,20 @@ use Rattle.si_defs.specs.declared.NameKind.TheVariants.{Word, Int}
 use Rattle.si_index.specs.declared.names.Texts.{Texts}
 use Rattle.si_index.specs.declared.names.Names.{Names}
 
--- the text is in the set
-abbrev pub has_text : Texts → Bytes → Bool
-has_text s text = contains_by (λ k. bytes_eq text k.items) s.texts
+-- the key of a text
+abbrev pub key_of_text : Texts → Bytes → Option ℕ
+key_of_text m text = lookup (λ k. bytes_eq text k.items) m.keys.entries
 
 -- the one for the kind
-abbrev pub of_kind : Bool → Bool → NameKind → Bool
+abbrev pub of_kind : Option ℕ → Option ℕ → NameKind → Option ℕ
 of_kind word integer Word = word
 of_kind word integer Int = integer
 
--- the name is in the set
-abbrev pub has_name : Names → Name → Bool
-has_name names name = of_kind (has_text names.words name.text) (has_text names.integers name.text) name.kind
+-- the key of a name
+abbrev pub key_of : Names → Name → Option ℕ
+key_of names name = of_kind (key_of_text names.words name.text) (key_of_text names.integers name.text) name.kind
 
--- whether the text is in is this now, and for each other one it is as it was
-pub record ChangesText (text : Bytes) (is : Bool) (old new : Bytes → Bool) : Type 0 where
-  pub here : new text ≡ is
-  pub others : (other : Bytes) → (other ≡ text → ⊥) → new other ≡ old other
-
--- the same for a name
-pub record ChangesName (name : Name) (is : Bool) (old new : Name → Bool) : Type 0 where
+-- the name has this now, and each other one has what it had
+pub record ChangesName (name : Name) (is : Option ℕ) (old new : Name → Option ℕ) : Type 0 where
   pub here : new name ≡ is
   pub others : (other : Name) → (other ≡ name → ⊥) → new other ≡ old other

@@ -1,16 +1,17 @@
 // The index.
-ghost use Rattle.std.specs.Prelude.{◌≡◌, ◌<◌, ◌≤◌, [], true, false, IfOk, IfSome, IfNone, Some, length, map, slice_get, slice_index_or};
+ghost use Rattle.std.specs.Prelude.{◌≡◌, ◌<◌, ◌≤◌, [], IfOk, IfErr, OnOk, OnErr, Some, length, slice_get};
+ghost use Rattle.si_defs.specs.Clauses as defs;
 ghost use Rattle.si_defs.specs.Entries.{state_entries};
 ghost use Rattle.si_defs.specs.declared.TheConstants.{MOST_OCCURRENCES};
-ghost use Rattle.si_state.specs.Acceptance.{IsTaken};
 ghost use Rattle.si_state.specs.Signatures.{CountsSymbols, IsSignatureOf};
-ghost use Rattle.si_term.specs.Meaning.{clause_of, name_of};
-ghost use Rattle.si_term.specs.declared.clause.Clause as term_clause;
+ghost use Rattle.si_term.specs.Meaning.{clause_of};
 ghost use Rattle.si_sign.specs.Stores.{IsStored};
-ghost use Rattle.si_index.specs.SameNames.{same_name as is_same};
+ghost use Rattle.si_index.specs.Known.{IsPut};
+ghost use Rattle.si_index.specs.Names.{key_of};
 
+use crate::keyed::KeyedList;
 use crate::known::Known;
-use si_defs::NameKind;
+use crate::names::Names;
 use si_sign::{AddFault, ClauseStore, Rejected, Signature};
 use si_term::{Clause, Name};
 use std::alloc::{AllocError, Global};
@@ -27,29 +28,28 @@ pub struct Stats {
     pub symbols: u32,
 }
 
-/// The index.
+/// The clauses that are kept, in the order of acceptance. A name leads to its clause, and one is
+/// taken away without a pass over the others.
 #[derive(Drop)]
 pub struct Index {
     alloc: Global,
     limit: u64,
-    clauses: Vec<Clause>,
+    clauses: KeyedList<Clause>,
     known: Known,
 }
 
 impl Model for Index {
-    ghost use Rattle.si_index.specs.Kept.{Kept, kept_code};
-    ghost use Rattle.std.specs.Prelude.{map};
-    ghost use Rattle.si_term.specs.Meaning.{clause_of};
+    ghost use Rattle.si_index.specs.Kept.{Kept, kept_code, clauses_of};
 
     ghost Value = { Kept };
 
     ghost coded = { kept_code };
 
-    ghost view = { λ i. record { clauses = map clause_of i.clauses.items; limit = i.limit } };
+    ghost view = { λ i. record { clauses = clauses_of i.clauses; limit = i.limit } };
 
     ghost use Rattle.si_index.specs.Stored.{IsKept};
 
-    ghost invariant = { λ i. IsKept i.limit (map clause_of i.clauses.items) i.known };
+    ghost invariant = { λ i. IsKept i.limit i.clauses i.known };
 }
 
 impl Index {
@@ -61,7 +61,7 @@ impl Index {
         Ok(Index {
             alloc,
             limit,
-            clauses: Vec::new(alloc),
+            clauses: KeyedList::new(alloc),
             known: Known::new(alloc),
         })
     }
@@ -81,12 +81,12 @@ impl Index {
         }
     }
 
-    /// The clause at this position, from 0.
+    /// The clause at this position, from 0, in logarithmic time.
     pub fn clause(&self, at: u32) -> &Clause
         requires { at < length self.now.clauses }
         ensures { slice_get self.now.clauses at ≡ Some (clause_of result.now) }
     {
-        &self.clauses[at as usize]
+        self.clauses.at(at as usize).1
     }
 
     /// The symbols of the clauses.
@@ -97,29 +97,25 @@ impl Index {
     }
 }
 
-/// The place of the clause with the name.
-fn place_of(clauses: &[Clause], name: &Name) -> Option<usize>
-    ensures within { IfSome result (λ place. place < length clauses.now) }
-    ensures named { IfSome result (λ place. (d : term_clause.Clause) → name_of
-        (slice_index_or clauses.now place d).name ≡ name_of name.now) }
-    ensures none { IfNone result (IsTaken (map clause_of clauses.now) (name_of name.now) → ⊥) }
+/// Appends a clause, and has its name lead to its key. Where memory runs out, both are as before,
+/// and the clause is handed back.
+fn put(
+    alloc: Global,
+    clauses: &mut KeyedList<Clause>,
+    names: &mut Names,
+    clause: Clause,
+) -> Result<(), Clause>
+    ensures put { OnOk result (IsPut clause clauses.old clauses.new names.old names.new) }
+    ensures handed_back { IfErr result (λ back. back ≡ clause) }
+    ensures err { OnErr result (clauses.new ≡ clauses.old) }
+    ensures same_names { OnErr result ((name : defs.Name) → key_of names.new name
+        ≡ key_of names.old name) }
 {
-    for i in 0..clauses.len() {
-        if same_name(&clauses[i].name, name) {
-            return Some(i);
-        }
-    }
-    None
-}
-
-/// Whether two names are one.
-fn same_name(a: &Name, b: &Name) -> bool
-    ensures { result ≡ is_same (name_of a.now) (name_of b.now) }
-{
-    match (a.kind, b.kind) {
-        (NameKind::Word, NameKind::Word) => a.text.as_bytes() == b.text.as_bytes(),
-        (NameKind::Int, NameKind::Int) => a.text.as_bytes() == b.text.as_bytes(),
-        _ => false,
+    let key = clauses.push(clause)?;
+    let kept = clauses.get(key).unwrap();
+    match names.insert(alloc, &kept.name, key) {
+        Ok(()) => Ok(()),
+        Err(_) => Err(clauses.remove(key)),
     }
 }
 
@@ -129,15 +125,14 @@ impl ClauseStore for Index {
     ghost limit = { λ i. i.limit };
 
     fn add(&mut self, clause: Clause) -> Result<u32, Rejected> {
-        let entries = match self.known.enter(self.alloc, &clause, self.limit) {
+        let entries = match self.known.enter(&clause, self.limit) {
             Ok(entries) => entries,
             Err(why) => return Err(Rejected { clause, why }),
         };
-        match self.clauses.push(clause) {
+        match put(self.alloc, &mut self.clauses, &mut self.known.names, clause) {
             Ok(()) => Ok(entries),
-            Err(failed) => {
-                let clause = failed.value;
-                self.known.leave(&clause);
+            Err(clause) => {
+                self.known.signature.give_back(&clause);
                 Err(Rejected {
                     clause,
                     why: AddFault::Memory,
@@ -147,16 +142,14 @@ impl ClauseStore for Index {
     }
 
     fn remove(&mut self, name: &Name) -> Option<u32> {
-        if !self.known.names.contains(name) {
-            return None;
-        }
-        let place = place_of(self.clauses.as_slice(), name)?;
-        let clause = self.clauses.remove(place);
+        let key = self.known.names.get(name)?;
+        let clause = self.clauses.remove(key);
         Some(self.known.leave(&clause))
     }
 
     fn remove_last(&mut self) -> Option<u32> {
-        let clause = self.clauses.pop()?;
+        let key = self.clauses.last_key()?;
+        let clause = self.clauses.remove(key);
         Some(self.known.leave(&clause))
     }
 }

@@ -1,5 +1,5 @@
 // What is known of clauses besides their list.
-ghost use Rattle.std.specs.Prelude.{◌≡◌, ◌+◌, ◌≤◌, [], false, IfOk, OnOk, OnErr, IfErr, length};
+ghost use Rattle.std.specs.Prelude.{◌≡◌, ◌+◌, ◌≤◌, [], None, IfOk, OnOk, OnErr, IfErr, length};
 ghost use Rattle.si_defs.specs.Symbols.{Symbol, times};
 ghost use Rattle.si_defs.specs.Clauses as defs;
 ghost use Rattle.si_defs.specs.Entries.{clause_symbols};
@@ -8,7 +8,7 @@ ghost use Rattle.si_state.specs.Signatures as signatures;
 ghost use Rattle.si_state.specs.Signatures.{IsSignature, uses_of, symbols};
 ghost use Rattle.si_term.specs.Meaning.{clause_of};
 ghost use Rattle.si_sign.specs.declared.uses.TheConstants.{MOST_USES};
-ghost use Rattle.si_index.specs.Names.{has_name};
+ghost use Rattle.si_index.specs.Names.{key_of};
 ghost use Rattle.si_index.specs.Known.{Admits, Enters, Leaves, Stays, Bars};
 
 use crate::names::Names;
@@ -16,7 +16,7 @@ use si_sign::{AddFault, Signature, TakeFault};
 use si_term::Clause;
 use std::alloc::Global;
 
-/// The names of some clauses, and their signature.
+/// The keys of some clauses by their names, and their signature.
 #[derive(Drop)]
 pub struct Known {
     pub names: Names,
@@ -26,7 +26,7 @@ pub struct Known {
 impl Known {
     /// What is known of no clause.
     pub fn new(alloc: Global) -> Known
-        ensures names { (name : defs.Name) → has_name result.names name ≡ false }
+        ensures names { (name : defs.Name) → key_of result.names name ≡ None }
         ensures signature { result.signature ≡ [] }
     {
         Known {
@@ -35,13 +35,13 @@ impl Known {
         }
     }
 
-    /// Enters a clause, and answers the number of its symbols. At an error the same is known as
-    /// before.
+    /// Enters the symbols of a clause, and answers their number. The names stay as they are. At an
+    /// error the same is known as before.
     ///
     /// `Taken`: its name is known. `Clash`: else, a symbol of it has another shape than one that is
     /// known or stands earlier in it. `Full`: else, there would be more uses of symbols than the
     /// limit.
-    pub fn enter(&mut self, alloc: Global, clause: &Clause, limit: u64) -> Result<u32, AddFault>
+    pub fn enter(&mut self, clause: &Clause, limit: u64) -> Result<u32, AddFault>
         requires room { signatures.total self.old.signature
             + length (clause_symbols (clause_of clause.now)) ≤ MOST_USES }
         ensures admits { OnOk result (Admits limit self.old (clause_of clause.now)) }
@@ -52,7 +52,7 @@ impl Known {
         ensures signature { IsSignature self.old.signature }
     {
         let before = self.signature.total();
-        if self.names.contains(&clause.name) {
+        if self.names.get(&clause.name).is_some() {
             return Err(AddFault::Taken);
         }
         match self.signature.take(clause) {
@@ -65,13 +65,7 @@ impl Known {
             self.signature.give_back(clause);
             return Err(AddFault::Full { needed, limit });
         }
-        match self.names.insert(alloc, &clause.name) {
-            Ok(()) => Ok((needed - before) as u32),
-            Err(_) => {
-                self.signature.give_back(clause);
-                Err(AddFault::Memory)
-            }
-        }
+        Ok((needed - before) as u32)
     }
 
     /// Strikes a clause out, and answers the number of its symbols. It takes no memory.

@@ -1,59 +1,61 @@
-// Sets of names.
-ghost use Rattle.std.specs.Prelude.{◌≡◌, Bool, true, false, OnOk, OnErr};
+// Maps from names to keys.
+ghost use Rattle.std.specs.Prelude.{◌≡◌, None, Some, OnOk, OnErr};
 ghost use Rattle.si_defs.specs.Bytes.{Bytes};
 ghost use Rattle.si_defs.specs.Clauses as defs;
 ghost use Rattle.si_term.specs.Meaning.{name_of};
-ghost use Rattle.si_index.specs.Names.{has_text, has_name, ChangesText, ChangesName};
+ghost use Rattle.si_sign.specs.Keys.{HasAt};
+ghost use Rattle.si_index.specs.Names.{key_of_text, key_of, ChangesName};
 
-use indexmap::IndexSet;
+use indexmap::IndexMap;
 use si_defs::NameKind;
 use si_term::Name;
 use std::alloc::{AllocError, Global};
 
-/// A set of texts.
+/// A finite map from texts to keys.
 #[derive(Drop)]
 pub struct Texts {
-    texts: IndexSet<Vec<u8>>,
+    keys: IndexMap<Vec<u8>, usize>,
 }
 
 impl Texts {
-    /// The empty set.
+    /// The empty map.
     fn new(alloc: Global) -> Texts
-        ensures { (text : Bytes) → has_text result text ≡ false }
+        ensures { (text : Bytes) → key_of_text result text ≡ None }
     {
         Texts {
-            texts: IndexSet::new(alloc),
+            keys: IndexMap::new(alloc),
         }
     }
 
-    /// Whether the text is in it. It takes no memory.
-    fn contains(&self, text: &[u8]) -> bool
-        ensures { result ≡ has_text self.now text.now }
+    /// The key of the text. It takes no memory.
+    fn get(&self, text: &[u8]) -> Option<usize>
+        ensures { result ≡ key_of_text self.now text.now }
     {
-        self.texts.contains(text)
+        self.keys.get(text).copied()
     }
 
-    /// Puts the text in. At an error the set is as before.
-    fn insert(&mut self, alloc: Global, text: &[u8]) -> Result<(), AllocError>
-        ensures ok { OnOk result (ChangesText text.now true (has_text self.old)
-            (has_text self.new)) }
-        ensures err { OnErr result ((other : Bytes) → has_text self.new other
-            ≡ has_text self.old other) }
+    /// Gives the text this key. At an error the map is as before.
+    fn insert(&mut self, alloc: Global, text: &[u8], key: usize) -> Result<(), AllocError>
+        ensures ok { OnOk result (HasAt text.now (Some key) (key_of_text self.old)
+            (key_of_text self.new)) }
+        ensures err { OnErr result ((other : Bytes) → key_of_text self.new other
+            ≡ key_of_text self.old other) }
     {
         let copy = Vec::from_slice(alloc, text)?;
-        self.texts.insert(copy)?;
+        self.keys.insert(copy, key)?;
         Ok(())
     }
 
     /// Takes the text out. It takes no memory.
     fn remove(&mut self, text: &[u8])
-        ensures { ChangesText text.now false (has_text self.old) (has_text self.new) }
+        ensures { HasAt text.now None (key_of_text self.old) (key_of_text self.new) }
     {
-        self.texts.swap_remove(text);
+        self.keys.swap_remove(text);
     }
 }
 
-/// A set of names of clauses: one set of texts for each kind, so that a look-up takes no memory.
+/// A finite map from names of clauses to keys: one from texts for each kind, so that a look-up
+/// takes no memory.
 #[derive(Drop)]
 pub struct Names {
     words: Texts,
@@ -61,9 +63,9 @@ pub struct Names {
 }
 
 impl Names {
-    /// The empty set.
+    /// The empty map.
     pub fn new(alloc: Global) -> Names
-        ensures { (name : defs.Name) → has_name result name ≡ false }
+        ensures { (name : defs.Name) → key_of result name ≡ None }
     {
         Names {
             words: Texts::new(alloc),
@@ -71,32 +73,32 @@ impl Names {
         }
     }
 
-    /// Whether the name is in it. It takes no memory.
-    pub fn contains(&self, name: &Name) -> bool
-        ensures { result ≡ has_name self.now (name_of name.now) }
+    /// The key of the name. It takes no memory.
+    pub fn get(&self, name: &Name) -> Option<usize>
+        ensures { result ≡ key_of self.now (name_of name.now) }
     {
         match name.kind {
-            NameKind::Word => self.words.contains(name.text.as_bytes()),
-            NameKind::Int => self.integers.contains(name.text.as_bytes()),
+            NameKind::Word => self.words.get(name.text.as_bytes()),
+            NameKind::Int => self.integers.get(name.text.as_bytes()),
         }
     }
 
-    /// Puts the name in. At an error the set is as before.
-    pub fn insert(&mut self, alloc: Global, name: &Name) -> Result<(), AllocError>
-        ensures ok { OnOk result (ChangesName (name_of name.now) true (has_name self.old)
-            (has_name self.new)) }
-        ensures err { OnErr result ((other : defs.Name) → has_name self.new other
-            ≡ has_name self.old other) }
+    /// Gives the name this key. At an error the map is as before.
+    pub fn insert(&mut self, alloc: Global, name: &Name, key: usize) -> Result<(), AllocError>
+        ensures ok { OnOk result (ChangesName (name_of name.now) (Some key) (key_of self.old)
+            (key_of self.new)) }
+        ensures err { OnErr result ((other : defs.Name) → key_of self.new other
+            ≡ key_of self.old other) }
     {
         match name.kind {
-            NameKind::Word => self.words.insert(alloc, name.text.as_bytes()),
-            NameKind::Int => self.integers.insert(alloc, name.text.as_bytes()),
+            NameKind::Word => self.words.insert(alloc, name.text.as_bytes(), key),
+            NameKind::Int => self.integers.insert(alloc, name.text.as_bytes(), key),
         }
     }
 
     /// Takes the name out. It takes no memory.
     pub fn remove(&mut self, name: &Name)
-        ensures { ChangesName (name_of name.now) false (has_name self.old) (has_name self.new) }
+        ensures { ChangesName (name_of name.now) None (key_of self.old) (key_of self.new) }
     {
         match name.kind {
             NameKind::Word => self.words.remove(name.text.as_bytes()),

@@ -1,8 +1,8 @@
-use Rattle.std.proofs.Common.{map, arith, sym, subst}
+use Rattle.std.proofs.Common.{arith, sym, subst}
 use Rattle.std.proofs.lemmas.List.{length-map}
 use Rattle.si_state.specs.Signatures.{CountsSymbols}
 use Rattle.si_term.specs.Meaning.{clause_of}
-use Rattle.si_index.specs.Kept.{Kept}
+use Rattle.si_index.specs.Kept.{Kept, clauses_of}
 use Rattle.si_index.proofs.StoreLaws.{clauses_few}
 use Rattle.si_index.proofs.KnownLaws.{counts_known}
 use Rattle.si_index.proofs.index.Index.stats.Goals as goal
@@ -11,9 +11,9 @@ pub overflow_cast-result : goal.overflow_cast-result
 overflow_cast-result c =
     omega (
       arith,
-      c.len.ensures,
-      length-map c.self.inside.clauses.items clause_of,
-      clauses_few (map clause_of c.self.inside.clauses.items) c.self.invariant.stored.sound,
+      c.len.ensures.number,
+      length-map c.self.inside.clauses (λ p. clause_of p.1),
+      clauses_few (clauses_of c.self.inside.clauses) c.self.invariant.stored.sound,
       c.self.invariant.stored.few,
       c.self.invariant.small,
     )
@@ -21,5 +21,5 @@ overflow_cast-result c =
 pub returns-clause-symbols : goal.returns-clause-symbols
 returns-clause-symbols c =
     subst (λ (k : Kept). CountsSymbols k.clauses c.len-2.result) c.self.view_is
-    (subst (CountsSymbols (map clause_of c.self.inside.clauses.items)) (sym c.len-2.ensures.number)
-    (counts_known (map clause_of c.self.inside.clauses.items) c.self.inside.known.signature c.len-2.ensures.signature c.self.invariant.is_known.signed))
+    (subst (CountsSymbols (clauses_of c.self.inside.clauses)) (sym c.len-2.ensures.number)
+    (counts_known (clauses_of c.self.inside.clauses) c.self.inside.known.signature c.len-2.ensures.signature c.self.invariant.is_known.signed))

@@ -1,42 +1,59 @@
-use Rattle.std.proofs.Common.{[], ◌∷◌, map, ap, sym, ◌∙◌, subst}
-use Rattle.std.proofs.lemmas.List.{map-append}
+use Rattle.std.proofs.Common.{◌≡◌, ◌+◌, length, sym, ◌∙◌, subst}
+use Rattle.si_defs.specs.Symbols.{Symbol, times}
+use Rattle.si_defs.specs.Entries.{clause_symbols}
 use Rattle.si_state.specs.Acceptance.{Accepts}
+use Rattle.si_state.specs.Signatures.{uses_of, total}
 use Rattle.si_term.specs.Meaning.{clause_of}
+use Rattle.si_term.specs.declared.clause.Clause.{Clause}
 use Rattle.si_term.proofs.EntryHeads.{length-symbols}
 use Rattle.si_sign.specs.Stores.{Rejects}
-use Rattle.si_index.specs.Kept.{Kept}
-use Rattle.si_index.proofs.KnownLaws.{room_for, rejects, kept_more, accepts_more}
+use Rattle.si_index.specs.Kept.{Kept, clauses_of}
+use Rattle.si_index.specs.Stored.{IsKept}
+use Rattle.si_index.proofs.KnownLaws.{room_for, rejects, kept_stays, kept_more, accepts_more, entered_back}
 use Rattle.si_index.proofs.index.IndexClauseStore.add.Goals as goal
 
 pub enter-requires : goal.enter-requires
 enter-requires c = record {
-  room = room_for c.self.inside.limit (map clause_of c.self.inside.clauses.items) c.self.inside.known (clause_of c.args.clause) c.self.invariant c.requires.sound;
+  room = room_for c.self.inside.limit c.self.inside.clauses c.self.inside.known (clause_of c.args.clause) c.self.invariant c.requires.sound;
 }
+
+pub invariant_of-self : goal.invariant_of-self
+invariant_of-self c = kept_stays c.self.inside.limit c.self.inside.known c.enter.new.self c.self.inside.clauses c.self.invariant c.in-Err.ensures.err
 
 pub returns-in-Err-clause-rejected : goal.returns-in-Err-clause-rejected
 returns-in-Err-clause-rejected c =
     subst (λ (k : Kept). Rejects k.limit k.clauses (clause_of c.args.clause) c.in-Err.why) c.self.view_is
-    (rejects c.self.inside.limit (map clause_of c.self.inside.clauses.items) c.self.inside.known (clause_of c.args.clause) c.self.invariant.is_known c.enter.ensures.signature
+    (rejects c.self.inside.limit c.self.inside.clauses c.self.inside.known (clause_of c.args.clause) c.self.invariant.is_known c.enter.ensures.signature
     c.requires.sound c.in-Err.why c.in-Err.ensures.why)
 
-pub invariant_of-self-in-Ok-push : goal.invariant_of-self-in-Ok-push
-invariant_of-self-in-Ok-push c =
-    let more = ap (map clause_of) c.in-Ok-push.ensures.items ∙ map-append clause_of c.self.inside.clauses.items (c.args.clause ∷ []) in
-    kept_more c.self.inside.limit c.self.inside.known c.enter.new.self (map clause_of c.self.inside.clauses.items) (map clause_of c.push.new.self.items) (clause_of c.args.clause)
-    c.enter.ensures.signature c.self.invariant c.requires.sound c.in-Ok.ensures.admits c.in-Ok.ensures.enters more
+pub invariant_of-self-in-Ok-put : goal.invariant_of-self-in-Ok-put
+invariant_of-self-in-Ok-put c =
+    kept_more c.self.inside.limit c.self.inside.known c.enter.new.self c.self.inside.clauses c.put.new.clauses c.args.clause c.put.new.names
+    c.enter.ensures.signature c.self.invariant c.requires.sound c.in-Ok.ensures.admits c.in-Ok.ensures.enters c.in-Ok-put.ensures.put
 
-pub returns-in-Ok-push-clause-added : goal.returns-in-Ok-push-clause-added
-returns-in-Ok-push-clause-added c =
-    let more = ap (map clause_of) c.in-Ok-push.ensures.items ∙ map-append clause_of c.self.inside.clauses.items (c.args.clause ∷ []) in
-    subst (λ (k : Kept). Accepts k.limit k.clauses (clause_of c.args.clause) (map clause_of c.push.new.self.items)) c.self.view_is
-    (accepts_more c.self.inside.limit c.self.inside.known (map clause_of c.self.inside.clauses.items) (map clause_of c.push.new.self.items) (clause_of c.args.clause)
-    c.enter.ensures.signature c.self.invariant c.requires.sound c.in-Ok.ensures.admits more)
+pub invariant_of-self-in-Err-put : goal.invariant_of-self-in-Err-put
+invariant_of-self-in-Err-put c =
+    let back = c.in-Err-put.ensures.handed_back in
+    let between = c.enter.new.self in
+    let signature = c.give_back.new.self in
+    let uses : (s : Symbol) → uses_of signature s + times s (clause_symbols (clause_of c.args.clause)) ≡ uses_of between.signature s =
+    λ s. subst (λ (d : Clause). uses_of signature s + times s (clause_symbols (clause_of d)) ≡ uses_of between.signature s) back (c.give_back.ensures.uses s) in
+    let sum : total signature + length (clause_symbols (clause_of c.args.clause)) ≡ total between.signature =
+    subst (λ (d : Clause). total signature + length (clause_symbols (clause_of d)) ≡ total between.signature) back c.give_back.ensures.total in
+    subst (λ l. IsKept c.self.inside.limit l (record { names = c.put.new.names; signature = signature })) (sym c.in-Err-put.ensures.err)
+    (kept_stays c.self.inside.limit c.self.inside.known (record { names = c.put.new.names; signature = signature }) c.self.inside.clauses c.self.invariant
+    (entered_back c.self.inside.known between (clause_of c.args.clause) c.put.new.names signature c.in-Ok.ensures.enters c.in-Err-put.ensures.same_names uses sum))
 
-pub returns-in-Ok-push-clause-entries : goal.returns-in-Ok-push-clause-entries
-returns-in-Ok-push-clause-entries c = c.in-Ok.ensures.number ∙ sym (length-symbols (clause_of c.args.clause) c.requires.sound)
+pub returns-in-Ok-put-clause-added : goal.returns-in-Ok-put-clause-added
+returns-in-Ok-put-clause-added c =
+    subst (λ (k : Kept). Accepts k.limit k.clauses (clause_of c.args.clause) (clauses_of c.put.new.clauses)) c.self.view_is
+    (accepts_more c.self.inside.limit c.self.inside.known c.enter.new.self c.self.inside.clauses c.put.new.clauses c.args.clause c.put.new.names
+    c.enter.ensures.signature c.self.invariant c.requires.sound c.in-Ok.ensures.admits c.in-Ok.ensures.enters c.in-Ok-put.ensures.put)
 
-pub returns-in-Ok-push-clause-stored : goal.returns-in-Ok-push-clause-stored
-returns-in-Ok-push-clause-stored c =
-    let more = ap (map clause_of) c.in-Ok-push.ensures.items ∙ map-append clause_of c.self.inside.clauses.items (c.args.clause ∷ []) in
-    (kept_more c.self.inside.limit c.self.inside.known c.enter.new.self (map clause_of c.self.inside.clauses.items) (map clause_of c.push.new.self.items) (clause_of c.args.clause)
-    c.enter.ensures.signature c.self.invariant c.requires.sound c.in-Ok.ensures.admits c.in-Ok.ensures.enters more).stored
+pub returns-in-Ok-put-clause-entries : goal.returns-in-Ok-put-clause-entries
+returns-in-Ok-put-clause-entries c = c.in-Ok.ensures.number ∙ sym (length-symbols (clause_of c.args.clause) c.requires.sound)
+
+pub returns-in-Ok-put-clause-stored : goal.returns-in-Ok-put-clause-stored
+returns-in-Ok-put-clause-stored c =
+    (kept_more c.self.inside.limit c.self.inside.known c.enter.new.self c.self.inside.clauses c.put.new.clauses c.args.clause c.put.new.names
+    c.enter.ensures.signature c.self.invariant c.requires.sound c.in-Ok.ensures.admits c.in-Ok.ensures.enters c.in-Ok-put.ensures.put).stored

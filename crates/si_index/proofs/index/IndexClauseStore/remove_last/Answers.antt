@@ -1,39 +1,39 @@
-use Rattle.std.proofs.Common.{◌≡◌, [], ◌∷◌, ◌++◌, map, ap, sym, ◌∙◌, subst}
-use Rattle.std.proofs.lemmas.List.{map-append}
+use Rattle.std.proofs.Common.{◌≡◌, ◌-◌, [], ◌∷◌, ◌++◌, length, subst}
 use Rattle.si_term.specs.Meaning.{clause_of}
-use Rattle.si_index.specs.Kept.{Kept}
-use Rattle.si_index.proofs.StoreLaws.{none_behind}
-use Rattle.si_index.proofs.KnownLaws.{uses_few, as_many_entries, kept_less}
+use Rattle.si_index.specs.Keyed.{keys}
+use Rattle.si_index.specs.Kept.{Kept, clauses_of}
+use Rattle.si_index.proofs.KnownLaws.{uses_few, as_many_entries, kept_less, last_taken}
+use Rattle.si_index.proofs.NamedLaws.{get_among}
 use Rattle.si_index.proofs.index.IndexClauseStore.remove_last.Goals as goal
 
-pub leave-requires : goal.leave-requires
-leave-requires c =
-    let rest = map clause_of c.pop.new.self.items in
-    let splits = ap (map clause_of) c.in_ok-clause.ensures.items ∙ map-append clause_of c.pop.new.self.items (c.in_ok-clause.clause ∷ []) in
-    record {
-      used = uses_few c.self.inside.limit c.self.inside.known (map clause_of c.self.inside.clauses.items) rest [] (clause_of c.in_ok-clause.clause) c.self.invariant splits;
-    }
+pub remove-clause-requires : goal.remove-clause-requires
+remove-clause-requires c = get_among (keys c.self.inside.clauses) (length c.self.inside.clauses - 1) c.in_ok-key.key c.in_ok-key.ensures.some
 
-pub invariant_of-self-2 : goal.invariant_of-self-2
-invariant_of-self-2 c =
-    let rest = map clause_of c.pop.new.self.items in
-    let splits = ap (map clause_of) c.in_ok-clause.ensures.items ∙ map-append clause_of c.pop.new.self.items (c.in_ok-clause.clause ∷ []) in
-    kept_less c.self.inside.limit c.self.inside.known (map clause_of c.self.inside.clauses.items) rest [] (clause_of c.in_ok-clause.clause) c.self.invariant splits
-    c.leave.new.self rest c.leave.ensures.leaves (sym (none_behind rest))
+pub leave-requires : goal.leave-requires
+leave-requires c = record {
+  used =
+      uses_few c.self.inside.limit c.self.inside.known c.self.inside.clauses c.in_ok-key.key c.remove-clause.result c.remove-clause.new.self c.self.invariant c.remove-clause.ensures;
+}
+
+pub invariant_of-self : goal.invariant_of-self
+invariant_of-self c =
+    kept_less c.self.inside.limit c.self.inside.known c.self.inside.clauses c.in_ok-key.key c.remove-clause.result c.remove-clause.new.self c.self.invariant c.remove-clause.ensures
+    c.leave.new.self c.leave.ensures.leaves
 
 pub returns-clause-removed : goal.returns-clause-removed
 returns-clause-removed c =
-    let rest = map clause_of c.pop.new.self.items in
-    let splits = ap (map clause_of) c.in_ok-clause.ensures.items ∙ map-append clause_of c.pop.new.self.items (c.in_ok-clause.clause ∷ []) in (
-      clause_of c.in_ok-clause.clause,
-      subst (λ (k : Kept). k.clauses ≡ rest ++ clause_of c.in_ok-clause.clause ∷ []) c.self.view_is splits,
-      as_many_entries c.self.inside.limit c.self.inside.known (map clause_of c.self.inside.clauses.items) rest [] (clause_of c.in_ok-clause.clause) c.self.invariant splits
-          c.leave.result c.leave.ensures.number,
+    let items = c.self.inside.clauses in
+    let known = c.self.inside.known in
+    let gone = c.remove-clause.result in
+    let rest = c.remove-clause.new.self in
+    let out = c.remove-clause.ensures in (
+      clause_of gone,
+      subst (λ (k : Kept). k.clauses ≡ clauses_of rest ++ clause_of gone ∷ []) c.self.view_is
+          (last_taken c.self.inside.limit known items c.in_ok-key.key gone rest c.self.invariant out c.in_ok-key.ensures.some),
+      as_many_entries c.self.inside.limit known items c.in_ok-key.key gone rest c.self.invariant out c.leave.result c.leave.ensures.number,
     )
 
 pub returns-clause-stored : goal.returns-clause-stored
 returns-clause-stored c =
-    let rest = map clause_of c.pop.new.self.items in
-    let splits = ap (map clause_of) c.in_ok-clause.ensures.items ∙ map-append clause_of c.pop.new.self.items (c.in_ok-clause.clause ∷ []) in
-    (kept_less c.self.inside.limit c.self.inside.known (map clause_of c.self.inside.clauses.items) rest [] (clause_of c.in_ok-clause.clause) c.self.invariant splits
-    c.leave.new.self rest c.leave.ensures.leaves (sym (none_behind rest))).stored
+    (kept_less c.self.inside.limit c.self.inside.known c.self.inside.clauses c.in_ok-key.key c.remove-clause.result c.remove-clause.new.self c.self.invariant c.remove-clause.ensures
+    c.leave.new.self c.leave.ensures.leaves).stored

@@ -1,0 +1,176 @@
+-- Laws of items with keys, and of names that lead to the keys of their clauses.
+use Rattle.std.proofs.Common.{◌≡◌, ◌⊎◌, inl, inr, ℕ, zero, suc, ◌+◌, ◌≤◌, List, [], ◌∷◌, ◌++◌, Some, None, length, slice_get, refl, sym, ap, ◌∙◌, subst, arith, length-append}
+use Rattle.si_defs.specs.Clauses as defs
+use Rattle.si_defs.specs.Substitutions.{IsAmong}
+use Rattle.si_state.specs.Acceptance.{IsTaken}
+use Rattle.si_term.specs.Meaning.{name_of}
+use Rattle.si_term.specs.declared.clause.Clause.{Clause}
+use Rattle.si_sign.proofs.UsesOf.{among_left, among_right, among_append}
+use Rattle.si_index.specs.Keyed.{keys, HasKey, IsTakenOut}
+use Rattle.si_index.specs.Kept.{clauses_of}
+use Rattle.si_index.specs.Known.{AreNamed}
+use Rattle.si_index.specs.Names.{key_of, ChangesName}
+use Rattle.si_index.specs.declared.names.Names.{Names}
+use Rattle.si_index.proofs.NameLaws.{name_either}
+use Rattle.si_index.proofs.SlotLaws.{same_some, not_none, key_among}
+
+same_tail : {A : Type 0} {x y : A} {xs ys : List A} → x ∷ xs ≡ y ∷ ys → xs ≡ ys
+same_tail h = cc
+
+same_head : {A : Type 0} {x y : A} {xs ys : List A} → x ∷ xs ≡ y ∷ ys → x ≡ y
+same_head h = cc
+
+not_empty : {A : Type 0} (xs : List A) (y : A) (ys : List A) → [] ≡ xs ++ y ∷ ys → ⊥
+not_empty [] y ys h = cc
+not_empty (x ∷ xs) y ys h = cc
+
+pub get_among : {A : Type 0} (xs : List A) (n : ℕ) (x : A) → slice_get xs n ≡ Some x → IsAmong xs x
+get_among [] n x h = absurd (not_none h)
+get_among (y ∷ xs) zero x h = inl (same_some h)
+get_among (y ∷ xs) (suc n) x h = inr (get_among xs n x h)
+
+-- what stands last is all that is taken away from there
+split_last : {A : Type 0} (xs before after : List A) (x y : A) → (IsAmong xs y → ⊥) → xs ++ x ∷ [] ≡ before ++ y ∷ after → before ++ after ≡ xs
+split_last [] [] after x y f h = sym (same_tail h)
+split_last [] (b ∷ bs) after x y f h = absurd (not_empty bs y after (same_tail h))
+split_last (z ∷ xs) [] after x y f h = absurd (f (inl (same_head h)))
+split_last (z ∷ xs) (b ∷ bs) after x y f h =
+    let rest = split_last xs bs after x y (λ k. f (inr k)) (same_tail h) in
+    λ i. sym (same_head h) i ∷ rest i
+
+module _ {T : Type 0} where
+  -- ---- items by keys
+  pub item_of : (items : List (ℕ × T)) (key : ℕ) → HasKey items key → (c : T) × IsAmong items (key, c)
+  item_of [] key h = absurd h
+  item_of (x ∷ items) key (inl e) = (x.1, inl (λ i. (e i, x.1)))
+  item_of (x ∷ items) key (inr h) = let found = item_of items key h in (found.0, inr found.1)
+
+  pub key_taken : (items : List (ℕ × T)) (key : ℕ) (c : T) (rest : List (ℕ × T)) → IsTakenOut items key c rest → IsAmong items (key, c)
+  key_taken items key c rest out = subst (λ l. IsAmong l (key, c)) (sym out.whole) (among_right out.before ((key, c) ∷ out.after) (key, c) (inl refl))
+
+  -- where the key is fresh, the item that it leads to is the one that was pushed
+  pub pushed_item : (items : List (ℕ × T)) (key : ℕ) (c d : T) → (HasKey items key → ⊥) → IsAmong (items ++ (key, c) ∷ []) (key, d) → d ≡ c
+  pushed_item items key c d fresh h = by (among_append items ((key, c) ∷ []) (key, d) h) where
+    by : IsAmong items (key, d) ⊎ IsAmong {V = ℕ × T} ((key, c) ∷ []) (key, d) → d ≡ c
+    by (inl k) = absurd (fresh (key_among items (key, d) k))
+    by (inr (inl e)) = ap (λ p. p.1) (sym e)
+    by (inr (inr k)) = absurd k
+
+  pub pushed_key : (items : List (ℕ × T)) (key : ℕ) (c : T) → HasKey (items ++ (key, c) ∷ []) key
+  pushed_key items key c = key_among (items ++ (key, c) ∷ []) (key, c) (among_right items ((key, c) ∷ []) (key, c) (inl refl))
+
+  pub taken_back : (items : List (ℕ × T)) (key : ℕ) (c d : T) (new : List (ℕ × T)) → (HasKey items key → ⊥) → IsTakenOut (items ++ (key, c) ∷ []) key d new
+      → new ≡ items
+  taken_back items key c d new fresh out =
+      out.rest ∙ split_last items out.before out.after (key, c) (key, d) (λ h. fresh (key_among items (key, d) h)) out.whole
+
+  -- the key at the last position stands behind each item that isn't the last
+  pub last_behind : (before : List (ℕ × T)) (x : ℕ × T) (after : List (ℕ × T)) (n key : ℕ) → slice_get (keys (before ++ x ∷ after)) n ≡ Some key
+      → n + 1 ≡ length (before ++ x ∷ after) → 1 ≤ length after → HasKey after key
+  last_behind [] x after zero key h last some = absurd (omega (arith, last, some))
+  last_behind [] x after (suc n) key h last some = get_among (keys after) n key h
+  last_behind (b ∷ bs) x after zero key h last some = absurd (omega (arith, last, length-append bs (x ∷ after)))
+  last_behind (b ∷ bs) x after (suc n) key h last some = last_behind bs x after n key h (omega (arith, last)) some
+
+-- ---- clauses by names
+pub among_taken : (items : List (ℕ × Clause)) (key : ℕ) (c : Clause) → IsAmong items (key, c) → IsTaken (clauses_of items) (name_of c.name)
+among_taken [] key c h = h
+among_taken (x ∷ items) key c (inl e) = inl (ap (λ (p : ℕ × Clause). name_of p.1.name) e)
+among_taken (x ∷ items) key c (inr h) = inr (among_taken items key c h)
+
+taken_among : (items : List (ℕ × Clause)) (n : defs.Name) → IsTaken (clauses_of items) n → (p : ℕ × Clause) × IsAmong items p × (name_of p.1.name ≡ n)
+taken_among [] n h = absurd h
+taken_among (x ∷ items) n (inl e) = (x, inl refl, e)
+taken_among (x ∷ items) n (inr h) = let found = taken_among items n h in (found.0, inr found.1, found.2)
+
+module _ (items : List (ℕ × Clause)) (names : Names) (are : AreNamed items names) where
+  pub leads_taken : (n : defs.Name) (key : ℕ) → key_of names n ≡ Some key → IsTaken (clauses_of items) n
+  leads_taken n key h =
+      let found = item_of items key (are.there n key h) in
+      subst (IsTaken (clauses_of items)) (are.named n key h found.0 found.1) (among_taken items key found.0 found.1)
+
+  pub unknown_free : (n : defs.Name) → key_of names n ≡ None → IsTaken (clauses_of items) n → ⊥
+  unknown_free n h taken =
+      let found = taken_among items n taken in
+      not_none (sym h ∙ ap (key_of names) (sym found.2) ∙ are.listed found.0.0 found.0.1 found.1)
+
+-- ---- a clause more
+module _ (items : List (ℕ × Clause)) (key : ℕ) (c : Clause) (old new : Names) (are : AreNamed items old) (fresh : HasKey items key → ⊥)
+    (free : key_of old (name_of c.name) ≡ None) (change : ChangesName (name_of c.name) (Some key) (key_of old) (key_of new)) where
+  own_key : (n : defs.Name) (k : ℕ) → key_of new n ≡ Some k → n ≡ name_of c.name → key ≡ k
+  own_key n k h e = same_some (sym change.here ∙ ap (key_of new) (sym e) ∙ h)
+
+  other_key : (n : defs.Name) (k : ℕ) → key_of new n ≡ Some k → (n ≡ name_of c.name → ⊥) → key_of old n ≡ Some k
+  other_key n k h f = sym (change.others n f) ∙ h
+
+  more_there : (n : defs.Name) (k : ℕ) → key_of new n ≡ Some k → (n ≡ name_of c.name) ⊎ (n ≡ name_of c.name → ⊥) → HasKey (items ++ (key, c) ∷ []) k
+  more_there n k h (inl e) = subst (HasKey (items ++ (key, c) ∷ [])) (own_key n k h e) (pushed_key items key c)
+  more_there n k h (inr f) =
+      let found = item_of items k (are.there n k (other_key n k h f)) in
+      key_among (items ++ (key, c) ∷ []) (k, found.0) (among_left items ((key, c) ∷ []) (k, found.0) found.1)
+
+  more_named : (n : defs.Name) (k : ℕ) → key_of new n ≡ Some k → (d : Clause) → (n ≡ name_of c.name) ⊎ (n ≡ name_of c.name → ⊥)
+      → IsAmong items (k, d) ⊎ IsAmong {V = ℕ × Clause} ((key, c) ∷ []) (k, d) → name_of d.name ≡ n
+  more_named n k h d (inl e) (inl among) = absurd (fresh (subst (HasKey items) (sym (own_key n k h e)) (key_among items (k, d) among)))
+  more_named n k h d (inl e) (inr (inl is)) = ap (λ (p : ℕ × Clause). name_of p.1.name) (sym is) ∙ sym e
+  more_named n k h d (inr f) (inl among) = are.named n k (other_key n k h f) d among
+  more_named n k h d (inr f) (inr (inl is)) =
+      absurd (fresh (subst (HasKey items) (ap (λ (p : ℕ × Clause). p.0) (sym is)) (are.there n k (other_key n k h f))))
+  more_named n k h d either (inr (inr among)) = absurd among
+
+  more_listed : (k : ℕ) (d : Clause) → IsAmong items (k, d) ⊎ IsAmong {V = ℕ × Clause} ((key, c) ∷ []) (k, d) → key_of new (name_of d.name) ≡ Some k
+  more_listed k d (inl among) =
+      let known = are.listed k d among in
+      change.others (name_of d.name) (λ e. not_none (sym free ∙ ap (key_of old) (sym e) ∙ known)) ∙ known
+  more_listed k d (inr (inl is)) =
+      ap (λ (p : ℕ × Clause). key_of new (name_of p.1.name)) (sym is) ∙ change.here ∙ ap (λ (p : ℕ × Clause). Some p.0) is
+  more_listed k d (inr (inr among)) = absurd among
+
+  pub named_more : AreNamed (items ++ (key, c) ∷ []) new
+  named_more = record {
+    there = λ n k h. more_there n k h (name_either n (name_of c.name));
+    named = λ n k h d among. more_named n k h d (name_either n (name_of c.name)) (among_append items ((key, c) ∷ []) (k, d) among);
+    listed = λ k d among. more_listed k d (among_append items ((key, c) ∷ []) (k, d) among);
+  }
+
+-- ---- a clause less
+module _ (before : List (ℕ × Clause)) (key : ℕ) (c : Clause) (after : List (ℕ × Clause)) (old new : Names) (are : AreNamed (before ++ (key, c) ∷ after) old)
+    (free : IsTaken (clauses_of (before ++ after)) (name_of c.name) → ⊥) (change : ChangesName (name_of c.name) None (key_of old) (key_of new)) where
+  still : (n : defs.Name) (k : ℕ) → key_of new n ≡ Some k → (n ≡ name_of c.name) ⊎ (n ≡ name_of c.name → ⊥) → (key_of old n ≡ Some k) × (n ≡ name_of c.name → ⊥)
+  still n k h (inl e) = absurd (not_none (sym change.here ∙ ap (key_of new) (sym e) ∙ h))
+  still n k h (inr f) = (sym (change.others n f) ∙ h, f)
+
+  around : (k : ℕ) (d : Clause) → IsAmong (before ++ after) (k, d) → IsAmong (before ++ (key, c) ∷ after) (k, d)
+  around k d h = by (among_append before after (k, d) h) where
+    by : IsAmong before (k, d) ⊎ IsAmong after (k, d) → IsAmong (before ++ (key, c) ∷ after) (k, d)
+    by (inl among) = among_left before ((key, c) ∷ after) (k, d) among
+    by (inr among) = among_right before ((key, c) ∷ after) (k, d) (inr among)
+
+  less_there : (n : defs.Name) (k : ℕ) → (key_of old n ≡ Some k) × (n ≡ name_of c.name → ⊥) → HasKey (before ++ after) k
+  less_there n k h =
+      let found = item_of (before ++ (key, c) ∷ after) k (are.there n k h.0) in
+      by found.0 (are.named n k h.0 found.0 found.1) (among_append before ((key, c) ∷ after) (k, found.0) found.1) where
+        by : (d : Clause) → name_of d.name ≡ n → IsAmong before (k, d) ⊎ IsAmong {V = ℕ × Clause} ((key, c) ∷ after) (k, d) → HasKey (before ++ after) k
+        by d e (inl among) = key_among (before ++ after) (k, d) (among_left before after (k, d) among)
+        by d e (inr (inl is)) = absurd (h.1 (sym e ∙ ap (λ (p : ℕ × Clause). name_of p.1.name) (sym is)))
+        by d e (inr (inr among)) = key_among (before ++ after) (k, d) (among_right before after (k, d) among)
+
+  less_listed : (k : ℕ) (d : Clause) → IsAmong (before ++ after) (k, d) → key_of new (name_of d.name) ≡ Some k
+  less_listed k d among =
+      change.others (name_of d.name) (λ e. free (subst (IsTaken (clauses_of (before ++ after))) e (among_taken (before ++ after) k d among)))
+      ∙ are.listed k d (around k d among)
+
+  pub named_less : AreNamed (before ++ after) new
+  named_less = record {
+    there = λ n k h. less_there n k (still n k h (name_either n (name_of c.name)));
+    named = λ n k h d among. are.named n k (still n k h (name_either n (name_of c.name))).0 d (around k d among);
+    listed = less_listed;
+  }
+
+-- ---- as many as before
+pub named_stays : (items : List (ℕ × Clause)) (old new : Names) → AreNamed items old → ((n : defs.Name) → key_of new n ≡ key_of old n) → AreNamed items new
+named_stays items old new are same = record {
+  there = λ n k h. are.there n k (sym (same n) ∙ h);
+  named = λ n k h. are.named n k (sym (same n) ∙ h);
+  listed = λ k c among. same (name_of c.name) ∙ are.listed k c among;
+}

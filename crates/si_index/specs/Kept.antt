@@ -1,5 +1,5 @@
--- What an index is seen as: the clauses that are kept, in the order of acceptance, the limit on
--- their entries, and the signature of the clauses.
+-- What an index is seen as: the clauses that are kept, in the order of acceptance, and the limit on
+-- their entries.
 use Rattle.std.specs.Prelude.{ℕ, List, refl, map}
 use Rattle.std.specs.Coded.{Coded, code_by, coded×, coded_ℕ, coded_list}
 use Rattle.si_defs.specs.Clauses.{Clause}

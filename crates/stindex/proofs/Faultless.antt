@@ -1,5 +1,6 @@
--- A run over a source and a sink that can't fail ends in no fault.
-use Rattle.std.proofs.Common.{◌≡◌, ◌≤◌, Bool, List, [], ◌∷◌, ◌++◌, Option, inl, inr, length, refl, sym, ap, ◌∙◌, append_assoc, arith}
+-- A run over a source and a sink that can't fail ends in no fault, nor does one in which no count
+-- rose.
+use Rattle.std.proofs.Common.{◌≡◌, ◌≤◌, ℕ, Bool, List, [], ◌∷◌, ◌++◌, Option, inl, inr, length, refl, sym, ap, ◌∙◌, append_assoc, arith}
 use Rattle.std.specs.Prelude.{IsTrue, IsFalse}
 use Rattle.si_defs.specs.Bytes.{Bytes}
 use Rattle.si_steps.specs.declared.limits.Limits.{Limits}
@@ -7,7 +8,8 @@ use Rattle.si_steps.specs.Runs.{lines_at_end}
 use Rattle.si_io.specs.Content.{Told}
 use Rattle.stindex.specs.declared.status.Status.{Status}
 use Rattle.stindex.specs.declared.status.Status.TheVariants.{Ended, Refused, Usage, SourceFault, SinkFault, Memory, SessionLimit}
-use Rattle.stindex.specs.Serve.{Serves, IsFaultless, HasRoom}
+use Rattle.si_io.specs.Faults.{Rose}
+use Rattle.stindex.specs.Serve.{Serves, IsFaultless, CountsFaults, HasRoom}
 
 -- the first of the whole lines are the first of the lines at the end of the input
 front_at_end : (lines : List Bytes) (rest : Bytes) (done others : List Bytes) → done ++ others ≡ lines
@@ -37,3 +39,14 @@ faultless_by SourceFault limits left now before after may_fail s sure never room
 faultless_by SinkFault limits left now before after may_fail s sure never room = absurd (no_sink_fault limits left now before after s room)
 faultless_by Memory limits left now before after may_fail s sure never room = tt
 faultless_by SessionLimit limits left now before after may_fail s sure never room = tt
+
+pub faultless_where_none_rose : (status : Status) (limits : Limits) (left now : Option Bytes) (before after : Told) (source source_now sink sink_now : ℕ)
+    → Serves limits status left now before after → CountsFaults status source source_now sink sink_now
+    → (Rose source source_now → ⊥) → (Rose sink sink_now → ⊥) → IsFaultless status
+faultless_where_none_rose Ended limits left now before after source source_now sink sink_now s c a b = tt
+faultless_where_none_rose Refused limits left now before after source source_now sink sink_now s c a b = absurd s.ends
+faultless_where_none_rose Usage limits left now before after source source_now sink sink_now s c a b = absurd s.ends
+faultless_where_none_rose SourceFault limits left now before after source source_now sink sink_now s c a b = absurd (a c.0)
+faultless_where_none_rose SinkFault limits left now before after source source_now sink sink_now s c a b = absurd (b c.1)
+faultless_where_none_rose Memory limits left now before after source source_now sink sink_now s c a b = tt
+faultless_where_none_rose SessionLimit limits left now before after source source_now sink sink_now s c a b = tt

@@ -11,7 +11,7 @@ use Rattle.si_state.specs.Signatures.{CountsSymbols}
 use Rattle.si_steps.specs.Replies.{full_line}
 use Rattle.si_steps.specs.declared.limits.Limits.{Limits}
 use Rattle.si_examples.specs.Entries.{a, first_atom}
-use Rattle.si_examples.specs.Steps.{kept, head_symbol, AddedClause, FullIndex, ClashingSymbol, NoClash, NoAgreement, RemovedClause, NothingCounted, NoneUncounted}
+use Rattle.si_examples.specs.Steps.{kept, front_symbol, AddedClause, FullIndex, ClashingSymbol, NoClash, NoAgreement, RemovedClause, NothingCounted, NoneUncounted}
 use Rattle.si_examples.proofs.Differ.{texts_differ}
 
 -- p, f and a differ in their texts
@@ -63,5 +63,5 @@ pub nothing_counted : NothingCounted
 nothing_counted limits = (0, ([], tt, λ s. (λ h. h, λ h. h), refl), rw (decimal_digit 0 (omega arith)) refl, refl)
 
 pub none_uncounted : NoneUncounted
-none_uncounted ([], distinct, same, count) = (same (head_symbol first_atom)).1 (inl refl)
+none_uncounted ([], distinct, same, count) = (same (front_symbol first_atom)).1 (inl refl)
 none_uncounted (x ∷ xs, distinct, same, count) = absurd (omega (arith, count))

@@ -13,7 +13,7 @@ use Rattle.si_state.specs.Acceptance.{Accepts, taken}
 use Rattle.si_state.specs.Harvest.{Files, Bounds, Event, ask, attempt, fetches, tried, Fault, cycle, too_deep, too_many, missing, too_big, failed, foreign, malformed, rejected, MayAsk, IsSelected, Spot, Harvests, barred, withheld, fetched, Continues, ended, stuck, passed_over, accepted, refused, expanded, broken_off}
 use Rattle.si_lex.proofs.TokenLaws.{next_place}
 use Rattle.si_examples.specs.Entries.{fact, predicate}
-use Rattle.si_examples.specs.Harvests.{bounds, c, plain, selecting, includes, PlainFile, BigFile, MissingFile, NoMissingFile, FailedFile, TakenName, SelectedClause, OwnInclude, NoDepthOfOpenFile, DeepInclude, LateInclude, SecondLine, FirstWord}
+use Rattle.si_examples.specs.Harvests.{bounds, c, plain, selecting, includes, PlainFile, BigFile, MissingFile, NoMissingFile, FailedFile, TakenNameOfALoad, SelectedClause, OwnInclude, NoDepthOfOpenFile, DeepInclude, LateInclude, SecondLine, FirstWord}
 use Rattle.si_examples.proofs.Differ.{first_byte, texts_differ}
 use Rattle.si_examples.proofs.FirstWords.{word_differs}
 use Rattle.si_examples.proofs.Pieces.{space, word, sign, stands_first, nothing, first as at_front, next}
@@ -44,7 +44,7 @@ no_missing_file limits entries kept events (fetched opened around made state fil
 pub failed_file : FailedFile
 failed_file = withheld [] [] 0 [] (codes "a") (failed (codes "a")) (may_begin (bounds 15 1 1) (codes "a") (omega arith) (omega arith)) refl
 
-pub taken_name : TakenName
+pub taken_name : TakenNameOfALoad
 taken_name =
     fetched [] [] 0 (c ∷ []) (codes "a") (codes "cnf(c,axiom,p).") (may_begin (bounds 15 1 1) (codes "a") (omega arith) (omega arith)) refl (omega arith) (attempt c ∷ []) (Some (rejected c taken))
     (refused _ 1 (c ∷ []) c [] (clause_begins (codes "c") (codes "p") [] refl) tt taken (inl refl))

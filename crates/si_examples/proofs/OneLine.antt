@@ -8,7 +8,7 @@ use Rattle.si_defs.specs.Clauses.{Clause, literal_pattern, term_pattern}
 use Rattle.si_defs.specs.declared.Relation.TheVariants.{Variants}
 use Rattle.si_steps.specs.declared.word.Word.{Word}
 use Rattle.si_steps.specs.declared.word.Word.TheVariants.{Ask}
-use Rattle.si_steps.specs.Words.{word_text, is_built}
+use Rattle.si_steps.specs.Words.{command_text, is_built}
 use Rattle.si_steps.specs.Commands.{Command, add, remove, query, stats, command_word, Means, IsUnbuilt}
 use Rattle.si_steps.proofs.WordLaws.{built_apart}
 use Rattle.si_lex.proofs.TokenLaws.{next_unique}
@@ -76,14 +76,14 @@ unfolding text_of
 no_unbuilt_command command h = built_apart (command_word command) (Ask Variants) (sym (ap text_of h.whole)) h.built refl
 
 -- the word that a command begins with
-pub command_next : (command : Command) (line : Bytes) → Means command line → (rest : Bytes) × NextToken line (lower (word_text (command_word command))) rest
+pub command_next : (command : Command) (line : Bytes) → Means command line → (rest : Bytes) × NextToken line (lower (command_text (command_word command))) rest
 command_next command line m =
-    first_next line (lower (word_text (command_word command))) m.spelled.operands m.tokens m.consists.rest m.spelled.whole m.consists.begins
+    first_next line (lower (command_text (command_word command))) m.spelled.operands m.tokens m.consists.rest m.spelled.whole m.consists.begins
 
 -- a line that begins with a word that is built is not for later
-pub not_unbuilt : (line : Bytes) (w : Word) (rest : Bytes) → IsTrue (is_built w) → NextToken line (lower (word_text w)) rest → IsUnbuilt line → ⊥
+pub not_unbuilt : (line : Bytes) (w : Word) (rest : Bytes) → IsTrue (is_built w) → NextToken line (lower (command_text w)) rest → IsUnbuilt line → ⊥
 not_unbuilt line w rest h n u =
-    built_apart w u.word (ap (λ t. t.text) (next_unique line (lower (word_text w)) (lower (word_text u.word)) rest u.rest n u.first).0) h u.unbuilt
+    built_apart w u.word (ap (λ t. t.text) (next_unique line (lower (command_text w)) (lower (command_text u.word)) rest u.rest n u.first).0) h u.unbuilt
 
 pub own_language_added : OwnLanguageAdded
 own_language_added f =

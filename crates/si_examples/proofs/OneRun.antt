@@ -9,7 +9,7 @@ use Rattle.si_defs.specs.Tokens.{lower, Consists}
 use Rattle.si_state.specs.Answers.{Hit, IsAnswer}
 use Rattle.si_steps.specs.declared.limits.Limits.{Limits}
 use Rattle.si_steps.specs.declared.word.Word.TheVariants.{Add, Ask}
-use Rattle.si_steps.specs.Commands.{IsLater, IsUnbuilt, Means, add, query}
+use Rattle.si_steps.specs.Commands.{IsDecided, IsUnbuilt, Means, add, query}
 use Rattle.si_steps.specs.Steps.{performed, right}
 use Rattle.si_examples.specs.Entries.{predicate, placed}
 use Rattle.si_examples.specs.Runs.{AddedAndFound}
@@ -23,9 +23,8 @@ abbrev second_line : Bytes
 second_line = codes "instances lit p"
 
 -- a line of a word that is built is read, where it is not too long
-not_later : (limits : Limits) (line : Bytes) → length line ≤ limits.line → (IsUnbuilt line → ⊥) → IsLater limits line → ⊥
-not_later limits line w u (inl h) = omega arith
-not_later limits line w u (inr h) = u h
+decided : (limits : Limits) (line : Bytes) → length line ≤ limits.line → (IsUnbuilt line → ⊥) → IsDecided limits line
+decided limits line w u = record { short = w; built = u }
 
 first_built : IsUnbuilt first_line → ⊥
 first_built u = let b = add_tokens.begins in not_unbuilt first_line Add b.0 refl b.1 u
@@ -70,13 +69,13 @@ added_and_found limits w room = (
     codes "ok 1 1" ∷ [],
     clause ∷ [],
     codes "c:1 {}\nend 1\n",
-    right (performed (not_later limits first_line (omega arith) first_built) (add clause) added_line
+    right (performed (decided limits first_line (omega arith) first_built) (add clause) added_line
         (inr (record { free = λ h. h; agree = (tt, tt); room = room; added = refl }, rw (decimal_digit 1 (omega arith)) refl))),
     (
       codes "c:1 {}" ∷ codes "end 1" ∷ [],
       clause ∷ [],
       [],
-      right (performed (not_later limits second_line (omega arith) second_built) (query Instances (literal_pattern literal)) asked
+      right (performed (decided limits second_line (omega arith) second_built) (query Instances (literal_pattern literal)) asked
           (hit ∷ [], answered, rw (decimal_digit 1 (omega arith)) refl, refl)),
       (refl, refl),
       refl,

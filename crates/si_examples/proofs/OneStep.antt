@@ -8,10 +8,10 @@ use Rattle.si_defs.specs.declared.TokenKind.TheVariants.{Lower, Single}
 use Rattle.si_steps.specs.declared.limits.Limits.{Limits}
 use Rattle.si_steps.specs.declared.word.Word.{Word}
 use Rattle.si_steps.specs.declared.word.Word.TheVariants.{Add, Load, Remove, Ask, Stats, Tree}
-use Rattle.si_steps.specs.Words.{word_text}
+use Rattle.si_steps.specs.Words.{command_text}
 use Rattle.si_steps.specs.Replies.{Reply}
-use Rattle.si_steps.specs.Steps.{RightStep, later, silent, foreign, wrong, performed, right, memory_at_once, memory_behind, IsNoCommand}
-use Rattle.si_steps.specs.Commands.{IsLater, IsUnbuilt, AddsForeign, Command, add, remove, query, stats, command_word, AreOperands}
+use Rattle.si_steps.specs.Steps.{RightStep, long, later, silent, foreign, wrong, performed, right, memory_at_once, memory_behind, IsNoCommand}
+use Rattle.si_steps.specs.Commands.{IsDecided, IsUnbuilt, AddsForeign, Command, add, remove, query, stats, command_word, AreOperands}
 use Rattle.si_steps.proofs.WordLaws.{word_with, word_back, same_word}
 use Rattle.si_lex.proofs.BlankLaws.{skips_nothing}
 use Rattle.si_lex.proofs.TokenLaws.{next_unique, blanks_none, begins_prefix, consists_unique}
@@ -24,10 +24,10 @@ use Rattle.si_examples.proofs.OneLine.{command_next, not_unbuilt}
 -- ---- what a line is, and what it is not
 -- no word of a command begins the line
 abbrev HasNoWord : Bytes → Type 0
-HasNoWord line = (w : Word) (rest : Bytes) → NextToken line (lower (word_text w)) rest → ⊥
+HasNoWord line = (w : Word) (rest : Bytes) → NextToken line (lower (command_text w)) rest → ⊥
 
 blank_word : (line : Bytes) → AreBlanks line → HasNoWord line
-blank_word line b w rest n = blanks_none line b (lower (word_text w)) rest n
+blank_word line b w rest n = blanks_none line b (lower (command_text w)) rest n
 
 no_command : (line : Bytes) → HasNoWord line → IsNoCommand line
 no_command line h command m = let n = command_next command line m in h (command_word command) n.0 n.1
@@ -35,40 +35,42 @@ no_command line h command m = let n = command_next command line m in h (command_
 silent_where : (line : Bytes) → AreBlanks line → HasOneReply line []
 silent_where line b limits state w = (silent (w, b) refl refl, λ other new r. only other new r) where
   only : (other : Reply) (new : List Clause) → RightStep limits state line other new → (other ≡ []) × (new ≡ state)
-  only other new (later (inl h) r n) = absurd (omega arith)
-  only other new (later (inr u) r n) = absurd (blank_word line b u.word u.rest u.first)
+  only other new (long l r n) = absurd (omega arith)
+  only other new (later l r n) = absurd (blank_word line b l.1.word l.1.rest l.1.first)
   only other new (silent s r n) = (r, n)
   only other new (foreign l a m r n) = absurd (blank_word line b Add a.3.0 a.3.1)
   only other new (wrong l s a m r n) = absurd (s (w, b))
   only other new (performed l command m p) = absurd (no_command line (blank_word line b) command m)
 
 later_where : (line : Bytes) → IsUnbuilt line → HasOneReply line (codes "! later" ∷ [])
-later_where line u limits state w = (later (inr u) refl refl, λ other new r. only other new r) where
+later_where line u limits state w = (later (w, u) refl refl, λ other new r. only other new r) where
   only : (other : Reply) (new : List Clause) → RightStep limits state line other new → (other ≡ codes "! later" ∷ []) × (new ≡ state)
+  only other new (long l r n) = absurd (omega arith)
   only other new (later l r n) = (r, n)
   only other new (silent s r n) = absurd (blank_word line s.1 u.word u.rest u.first)
-  only other new (foreign l a m r n) = absurd (l (inr u))
-  only other new (wrong l s a m r n) = absurd (l (inr u))
-  only other new (performed l command m p) = absurd (l (inr u))
+  only other new (foreign l a m r n) = absurd (l.built u)
+  only other new (wrong l s a m r n) = absurd (l.built u)
+  only other new (performed l command m p) = absurd (l.built u)
 
 -- a line that is not too long, and begins with no word for later
-in_time : (limits : Limits) (line : Bytes) → length line ≤ limits.line → (IsUnbuilt line → ⊥) → IsLater limits line → ⊥
-in_time limits line w u (inl h) = absurd (omega arith)
-in_time limits line w u (inr h) = u h
+decided : (limits : Limits) (line : Bytes) → length line ≤ limits.line → (IsUnbuilt line → ⊥) → IsDecided limits line
+decided limits line w u = record { short = w; built = u }
 
 foreign_where : (line : Bytes) → (IsUnbuilt line → ⊥) → AddsForeign line → IsNoCommand line → HasOneReply line (codes "! language" ∷ [])
-foreign_where line u a m limits state w = (foreign (in_time limits line w u) a m refl refl, λ other new r. only other new r) where
+foreign_where line u a m limits state w = (foreign (decided limits line w u) a m refl refl, λ other new r. only other new r) where
   only : (other : Reply) (new : List Clause) → RightStep limits state line other new → (other ≡ codes "! language" ∷ []) × (new ≡ state)
-  only other new (later l r n) = absurd (in_time limits line w u l)
+  only other new (long l r n) = absurd (omega arith)
+  only other new (later l r n) = absurd (u l.1)
   only other new (silent s r n) = absurd (blank_word line s.1 Add a.3.0 a.3.1)
   only other new (foreign l b n r e) = (r, e)
   only other new (wrong l s b n r e) = absurd (b a)
   only other new (performed l command n p) = absurd (m command n)
 
 wrong_where : (line : Bytes) → (IsUnbuilt line → ⊥) → (AreBlanks line → ⊥) → (AddsForeign line → ⊥) → IsNoCommand line → HasOneReply line (codes "! syntax" ∷ [])
-wrong_where line u b a m limits state w = (wrong (in_time limits line w u) (λ s. b s.1) a m refl refl, λ other new r. only other new r) where
+wrong_where line u b a m limits state w = (wrong (decided limits line w u) (λ s. b s.1) a m refl refl, λ other new r. only other new r) where
   only : (other : Reply) (new : List Clause) → RightStep limits state line other new → (other ≡ codes "! syntax" ∷ []) × (new ≡ state)
-  only other new (later l r n) = absurd (in_time limits line w u l)
+  only other new (long l r n) = absurd (omega arith)
+  only other new (later l r n) = absurd (u l.1)
   only other new (silent s r n) = absurd (b s.1)
   only other new (foreign l c n r e) = absurd (a c)
   only other new (wrong l s c n r e) = (r, e)
@@ -79,12 +81,12 @@ no_word_where : (line : Bytes) → HasNoWord line → (AreBlanks line → ⊥) �
 no_word_where line h b = wrong_where line (λ u. h u.word u.rest u.first) b (λ a. h Add a.3.0 a.3.1) (no_command line h)
 
 -- a line that begins with another token
-other_where : (line : Bytes) (t : Token) (rest : Bytes) → NextToken line t rest → ((w : Word) → t ≡ lower (word_text w) → ⊥) → HasOneReply line (codes "! syntax" ∷ [])
+other_where : (line : Bytes) (t : Token) (rest : Bytes) → NextToken line t rest → ((w : Word) → t ≡ lower (command_text w) → ⊥) → HasOneReply line (codes "! syntax" ∷ [])
 other_where line t rest n d =
-    no_word_where line (λ w r m. d w (next_unique line t (lower (word_text w)) rest r n m).0) (λ b. blanks_none line b t rest n)
+    no_word_where line (λ w r m. d w (next_unique line t (lower (command_text w)) rest r n m).0) (λ b. blanks_none line b t rest n)
 
 -- a text that is not among the words
-no_word_text : (text : Bytes) → word_with text ≡ None → (w : Word) → lower text ≡ lower (word_text w) → ⊥
+no_word_text : (text : Bytes) → word_with text ≡ None → (w : Word) → lower text ≡ lower (command_text w) → ⊥
 no_word_text text h w e =
     let k : Some w ≡ None = sym (word_back w) ∙ ap (λ t. word_with t.text) (sym e) ∙ h in
     cc
@@ -116,7 +118,7 @@ silent_only limits state reply new w (memory_behind whole next r within written 
 
 pub open_comment_line : OpenComment
 open_comment_line =
-    no_word_where (codes "/* a") (λ w rest n. no_token_there (codes " a") refl (lower (word_text w)) rest n) (open_comment (codes " a") refl)
+    no_word_where (codes "/* a") (λ w rest n. no_token_there (codes " a") refl (lower (command_text w)) rest n) (open_comment (codes " a") refl)
 
 -- ---- lines for later
 pub unbuilt_word : UnbuiltWord
@@ -126,20 +128,21 @@ pub unread_operands : UnreadOperands
 unread_operands = later_where (codes "load '") (record { word = Load; unbuilt = refl; rest = codes " '"; first = next Lower (codes "load") (codes " '") refl })
 
 right_too_long : (limits : Limits) (state : List Clause) (line : Bytes) (reply : Reply) (new : List Clause) → limits.line < length line
-    → RightStep limits state line reply new → (reply ≡ codes "! later" ∷ []) × (new ≡ state)
-right_too_long limits state line reply new long (later l r n) = (r, n)
-right_too_long limits state line reply new long (silent s r n) = absurd (omega (arith, s.0))
-right_too_long limits state line reply new long (foreign l a m r n) = absurd (l (inl long))
-right_too_long limits state line reply new long (wrong l s a m r n) = absurd (l (inl long))
-right_too_long limits state line reply new long (performed l command m p) = absurd (l (inl long))
+    → RightStep limits state line reply new → (reply ≡ codes "! long" ∷ []) × (new ≡ state)
+right_too_long limits state line reply new more (long l r n) = (r, n)
+right_too_long limits state line reply new more (later l r n) = absurd (omega (arith, l.0))
+right_too_long limits state line reply new more (silent s r n) = absurd (omega (arith, s.0))
+right_too_long limits state line reply new more (foreign l a m r n) = absurd (omega (arith, l.short))
+right_too_long limits state line reply new more (wrong l s a m r n) = absurd (omega (arith, l.short))
+right_too_long limits state line reply new more (performed l command m p) = absurd (omega (arith, l.short))
 
 pub too_long : TooLong
-too_long limits state line reply new long (right r) = right_too_long limits state line reply new long r
-too_long limits state line reply new long (memory_at_once s within r n) = absurd (omega arith)
-too_long limits state line reply new long (memory_behind whole next r within written left e some reply_is n) = absurd (omega arith)
+too_long limits state line reply new more (right r) = right_too_long limits state line reply new more r
+too_long limits state line reply new more (memory_at_once s within r n) = absurd (omega arith)
+too_long limits state line reply new more (memory_behind whole next r within written left e some reply_is n) = absurd (omega arith)
 
 pub too_long_blank : TooLongBlank
-too_long_blank limits state long = later (inl long) refl refl
+too_long_blank limits state more = long more refl refl
 
 first_line : Reply → Bytes
 first_line [] = []
@@ -151,8 +154,8 @@ third_byte bs = 0
 
 pub no_memory : NoMemoryWhereTooLong
 unfolding first_line third_byte
-no_memory limits state line new long s =
-    differ 109 108 refl (ap (λ r. third_byte (first_line r)) (too_long limits state line (codes "! memory" ∷ []) new long s).0)
+no_memory limits state line new more s =
+    differ 109 108 refl (ap (λ r. third_byte (first_line r)) (too_long limits state line (codes "! memory" ∷ []) new more s).0)
 
 -- ---- wrong lines
 pub unknown_word : UnknownWord
@@ -179,7 +182,7 @@ first_text (t ∷ ts) = t.text
 no_clause : (line : Bytes) (ts : List Token) → Consists line (lower (codes "add") ∷ ts) → first_byte (first_text ts) == 99 ≡ false → IsNoCommand line
 unfolding operands_of first_text
 no_clause line ts c h command m = by command m.spelled.operands m.spelled.spelled (consists_unique (lower (codes "add") ∷ ts) m.tokens line c m.consists ∙ m.spelled.whole) where
-  by : (command : Command) (us : List Token) → AreOperands command us → lower (codes "add") ∷ ts ≡ lower (word_text (command_word command)) ∷ us → ⊥
+  by : (command : Command) (us : List Token) → AreOperands command us → lower (codes "add") ∷ ts ≡ lower (command_text (command_word command)) ∷ us → ⊥
   by (add clause) us s e = texts_differ (first_text ts) (codes "cnf") h (ap (λ vs. first_text (operands_of vs)) e ∙ ap first_text s.6)
   by (remove name) us s e = let k = same_word Add Remove (ap first_text e) in cc
   by (query relation pattern) us s e = let k = same_word Add (Ask relation) (ap first_text e) in cc

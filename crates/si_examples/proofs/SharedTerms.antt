@@ -10,7 +10,7 @@ use Rattle.si_defs.specs.Variables.{Variable, of_pattern, of_entry, same_variabl
 use Rattle.si_defs.specs.declared.SymKind.TheVariants.{Word}
 use Rattle.si_defs.specs.declared.Side.TheVariants.{Function}
 use Rattle.si_examples.specs.Entries.{function}
-use Rattle.si_examples.specs.Unifiers.{asked, kept, other, asked_term, kept_term, part, both_asked, BoundToTerm, NoListOfCycle, EqualVariables, NoTermTwice, NoPartForVariable}
+use Rattle.si_examples.specs.Unifiers.{asked, kept_variable, other, asked_term, kept_term, part, both_asked, BoundToTerm, NoListOfCycle, EqualVariables, NoTermTwice, NoPartForVariable}
 use Rattle.si_examples.proofs.TwoVariables.{first, never_same, apart}
 use Rattle.si_examples.proofs.Differ.{differ, first_byte}
 
@@ -23,7 +23,7 @@ abbrev text_of : Variable → Bytes
 text_of (of_pattern x) = x
 text_of (of_entry x) = x
 
-other_kept : other ≡ kept → ⊥
+other_kept : other ≡ kept_variable → ⊥
 other_kept e = never_same (codes "Z") (codes "Y") e
 
 asked_other : asked ≡ other → ⊥
@@ -66,15 +66,15 @@ no_list_of_cycle bs c =
 abbrev JoinedOne : Variable → Variable → Type 0
 JoinedOne x y = AreJoined same_variable asked_term part (terms.var x) (terms.var y)
 
-one_apart : JoinedOne kept asked → ⊥
-one_apart j = never_variable kept _ _ (j ((asked, part) ∷ []) refl)
+one_apart : JoinedOne kept_variable asked → ⊥
+one_apart j = never_variable kept_variable _ _ (j ((asked, part) ∷ []) refl)
 
-one_followed : (x w : Variable) → IsAmong (asked ∷ kept ∷ []) x → IsLeader same_variable asked_term part x w → (w ≡ x → ⊥) → IsAmong {V = Variable × Apart} ((asked, part) ∷ []) (x, terms.var w)
+one_followed : (x w : Variable) → IsAmong (asked ∷ kept_variable ∷ []) x → IsLeader same_variable asked_term part x w → (w ≡ x → ⊥) → IsAmong {V = Variable × Apart} ((asked, part) ∷ []) (x, terms.var w)
 one_followed x w a l n = absurd (by l.1.0 l.1.1 a l.1.2 l.1.3) where
   joined : JoinedOne x w
   joined = l.0
 
-  by : (before after : List Variable) → IsAmong (asked ∷ kept ∷ []) x → asked ∷ kept ∷ [] ≡ before ++ w ∷ after → AllByRecursion (λ y. JoinedOne x y → ⊥) before → ⊥
+  by : (before after : List Variable) → IsAmong (asked ∷ kept_variable ∷ []) x → asked ∷ kept_variable ∷ [] ≡ before ++ w ∷ after → AllByRecursion (λ y. JoinedOne x y → ⊥) before → ⊥
   by [] after (inl e) h k = n (sym (ap first h) ∙ e)
   by [] after (inr (inl e)) h k = one_apart (subst (λ v. JoinedOne v asked) (sym e) (subst (λ v. JoinedOne x v) (sym (ap first h)) joined))
   by (b ∷ before) after (inl e) h k = k.0 (subst (λ v. JoinedOne x v) (ap first h) (subst (λ v. JoinedOne v asked) e (λ s u. refl)))
@@ -91,9 +91,9 @@ bound_to_term = record {
   leaders = ((((λ s u. refl), (asked ∷ [], [], refl, (one_apart, tt))), tt), tt);
   followers = one_followed;
   folded = ((tt, tt), tt);
-  ordered = (((inl refl, ((λ h. by h), tt)), ([], kept ∷ [], refl, tt)), tt);
+  ordered = (((inl refl, ((λ h. by h), tt)), ([], kept_variable ∷ [], refl, tt)), tt);
 } where
-  by : IsAmong (kept ∷ []) asked → ⊥
+  by : IsAmong (kept_variable ∷ []) asked → ⊥
   by (inl e) = apart (sym e)
   by (inr h) = h
 
@@ -110,18 +110,18 @@ unifier = (asked, part) ∷ (other, part) ∷ []
 other_asked : Joined other asked
 other_asked = λ s u. let k = pair_first _ _ _ _ _ _ u in k.1 ∙ sym k.0
 
-kept_alone : (x : Variable) → (x ≡ asked) ⊎ (x ≡ other) → Joined kept x → ⊥
-kept_alone x (inl e) j = never_variable kept _ _ (subst (λ v. Joined kept v) e j unifier refl)
-kept_alone x (inr e) j = never_variable kept _ _ (subst (λ v. Joined kept v) e j unifier refl)
+kept_alone : (x : Variable) → (x ≡ asked) ⊎ (x ≡ other) → Joined kept_variable x → ⊥
+kept_alone x (inl e) j = never_variable kept_variable _ _ (subst (λ v. Joined kept_variable v) e j unifier refl)
+kept_alone x (inr e) j = never_variable kept_variable _ _ (subst (λ v. Joined kept_variable v) e j unifier refl)
 
 -- ?Z follows ?X, and no other variable follows one
-followed : (x w : Variable) → IsAmong (asked ∷ other ∷ kept ∷ []) x → IsLeader same_variable both_asked both_parts x w → (w ≡ x → ⊥)
+followed : (x w : Variable) → IsAmong (asked ∷ other ∷ kept_variable ∷ []) x → IsLeader same_variable both_asked both_parts x w → (w ≡ x → ⊥)
     → IsAmong {V = Variable × Apart} ((other, asked_term) ∷ (asked, part) ∷ []) (x, terms.var w)
 followed x w a l n = by l.1.0 l.1.1 a l.1.2 l.1.3 where
   joined : Joined x w
   joined = l.0
 
-  by : (before after : List Variable) → IsAmong (asked ∷ other ∷ kept ∷ []) x → asked ∷ other ∷ kept ∷ [] ≡ before ++ w ∷ after → AllByRecursion (λ y. Joined x y → ⊥) before
+  by : (before after : List Variable) → IsAmong (asked ∷ other ∷ kept_variable ∷ []) x → asked ∷ other ∷ kept_variable ∷ [] ≡ before ++ w ∷ after → AllByRecursion (λ y. Joined x y → ⊥) before
       → IsAmong {V = Variable × Apart} ((other, asked_term) ∷ (asked, part) ∷ []) (x, terms.var w)
   by [] after (inl e) h k = absurd (n (sym (ap first h) ∙ e))
   by [] after (inr (inl e)) h k = let f = ap first h in inl (λ i. (e i, terms.var (f i)))
@@ -139,29 +139,29 @@ equal_variables = record {
   achieves = refl;
   most_general = λ s u. let k = pair_first _ _ _ _ _ _ u in (k.1 ∙ sym k.0, (k.0, tt));
   known = ((inr (inl refl), (inl refl, tt)), ((inl refl, (inr (inr (inl refl)), tt)), tt));
-  leaders = ((((λ s u. refl), ([], other ∷ kept ∷ [], refl, tt)), tt), ((((λ s u. refl), (asked ∷ other ∷ [], [], refl, (kept_alone asked (inl refl), (kept_alone other (inr refl), tt)))), tt), tt));
+  leaders = ((((λ s u. refl), ([], other ∷ kept_variable ∷ [], refl, tt)), tt), ((((λ s u. refl), (asked ∷ other ∷ [], [], refl, (kept_alone asked (inl refl), (kept_alone other (inr refl), tt)))), tt), tt));
   followers = followed;
   folded = (tt, ((tt, tt), tt));
   ordered = (
-    ((inl refl, (no_other, (no_kept, tt))), (asked ∷ [], kept ∷ [], refl, ((λ h. h.1.0 (inl refl)), tt))),
-    (((inl refl, (no_asked, tt)), ([], other ∷ kept ∷ [], refl, tt)), tt),
+    ((inl refl, (no_other, (no_kept, tt))), (asked ∷ [], kept_variable ∷ [], refl, ((λ h. h.1.0 (inl refl)), tt))),
+    (((inl refl, (no_asked, tt)), ([], other ∷ kept_variable ∷ [], refl, tt)), tt),
   );
 } where
   no_other : IsAmong (asked ∷ []) other → ⊥
   no_other (inl e) = asked_other e
   no_other (inr h) = h
 
-  no_kept : IsAmong (kept ∷ []) other → ⊥
+  no_kept : IsAmong (kept_variable ∷ []) other → ⊥
   no_kept (inl e) = other_kept (sym e)
   no_kept (inr h) = h
 
-  no_asked : IsAmong (kept ∷ []) asked → ⊥
+  no_asked : IsAmong (kept_variable ∷ []) asked → ⊥
   no_asked (inl e) = apart (sym e)
   no_asked (inr h) = h
 
 -- ?Z is bound to ?X
 pub no_term_twice : NoTermTwice
-no_term_twice c = by (c.followers other asked (inr (inl refl)) (other_asked, ([], other ∷ kept ∷ [], refl, tt)) asked_other) where
+no_term_twice c = by (c.followers other asked (inr (inl refl)) (other_asked, ([], other ∷ kept_variable ∷ [], refl, tt)) asked_other) where
   second : (p q : Variable × Apart) → p ≡ q → p.1 ≡ q.1
   second p q e = ap (λ (r : Variable × Apart). r.1) e
 

@@ -6,7 +6,7 @@ use Rattle.si_defs.specs.Terms as terms
 use Rattle.si_defs.specs.Substitutions.{IsAmong}
 use Rattle.si_defs.specs.Solutions.{AreJoined, IsLeader}
 use Rattle.si_defs.specs.Variables.{Variable, of_pattern, of_entry, same_variable, Apart}
-use Rattle.si_examples.specs.Unifiers.{asked, kept, asked_term, kept_term, FirstVariableLeads, SecondVariableFollows, NoEmptyList}
+use Rattle.si_examples.specs.Unifiers.{asked, kept_variable, asked_term, kept_term, FirstVariableLeads, SecondVariableFollows, NoEmptyList}
 
 abbrev Joined : Variable → Variable → Type 0
 Joined x y = AreJoined same_variable asked_term kept_term (terms.var x) (terms.var y)
@@ -22,25 +22,25 @@ first (x ∷ xs) = x
 self : (x : Variable) → Joined x x
 self x = λ s u. refl
 
-kept_asked : Joined kept asked
+kept_asked : Joined kept_variable asked
 kept_asked = λ s u. sym u
 
 -- no variable of a pattern is one of an entry
 pub never_same : (x y : Bytes) → of_pattern x ≡ of_entry y → ⊥
 never_same x y e = cc
 
-pub apart : asked ≡ kept → ⊥
+pub apart : asked ≡ kept_variable → ⊥
 apart e = never_same (codes "X") (codes "Y") e
 
 -- whatever is joined with the first variable is led by it
 first_leads : (x w : Variable) → Joined x asked → Leads x w → w ≡ asked
 first_leads x w j l = by l.1.0 l.1.1 l.1.2 l.1.3 where
-  by : (before after : List Variable) → asked ∷ kept ∷ [] ≡ before ++ w ∷ after → AllByRecursion (λ y. Joined x y → ⊥) before → w ≡ asked
+  by : (before after : List Variable) → asked ∷ kept_variable ∷ [] ≡ before ++ w ∷ after → AllByRecursion (λ y. Joined x y → ⊥) before → w ≡ asked
   by [] after e n = sym (ap first e)
   by (b ∷ before) after e n = absurd (n.0 (subst (λ v. Joined x v) (ap first e) j))
 
 -- the one binding, where x is the second variable
-followed : (x w : Variable) → IsAmong (asked ∷ kept ∷ []) x → Leads x w → (w ≡ x → ⊥) → IsAmong {V = Variable × Apart} ((kept, asked_term) ∷ []) (x, terms.var w)
+followed : (x w : Variable) → IsAmong (asked ∷ kept_variable ∷ []) x → Leads x w → (w ≡ x → ⊥) → IsAmong {V = Variable × Apart} ((kept_variable, asked_term) ∷ []) (x, terms.var w)
 followed x w (inl e) l n = absurd (n (first_leads x w (subst (λ v. Joined v asked) e (self asked)) l ∙ e))
 followed x w (inr (inl e)) l n =
     let f = first_leads x w (subst (λ v. Joined v asked) e kept_asked) l in
@@ -53,22 +53,22 @@ leads = record {
   achieves = refl;
   most_general = λ s u. (sym u, tt);
   known = ((inr (inl refl), (inl refl, tt)), tt);
-  leaders = (((self asked, ([], kept ∷ [], refl, tt)), tt), tt);
+  leaders = (((self asked, ([], kept_variable ∷ [], refl, tt)), tt), tt);
   followers = followed;
   folded = (tt, tt);
   ordered = (((inl refl, ((λ h. by h), tt)), (asked ∷ [], [], refl, ((λ h. not_among h.0), tt))), tt);
 } where
-  by : IsAmong (asked ∷ []) kept → ⊥
+  by : IsAmong (asked ∷ []) kept_variable → ⊥
   by (inl e) = apart e
   by (inr h) = h
 
-  not_among : IsAmong (kept ∷ []) asked → ⊥
+  not_among : IsAmong (kept_variable ∷ []) asked → ⊥
   not_among (inl e) = apart (sym e)
   not_among (inr h) = h
 
 -- the second variable leads not even itself
 pub follows : SecondVariableFollows
-follows c = apart (sym (first_leads kept kept kept_asked c.leaders.0.0))
+follows c = apart (sym (first_leads kept_variable kept_variable kept_asked c.leaders.0.0))
 
 pub no_list : NoEmptyList
 no_list c = apart (ap name c.achieves) where

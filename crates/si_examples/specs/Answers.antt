@@ -9,7 +9,7 @@ use Rattle.si_state.specs.Answers.{Hit, IsAnswer, Stands}
 use Rattle.si_steps.specs.declared.limits.Limits.{Limits}
 use Rattle.si_steps.specs.Commands.{query}
 use Rattle.si_steps.specs.Steps.{Performs}
-use Rattle.si_examples.specs.Entries.{first_atom, fact, f_of_x, a, placed, literal_of}
+use Rattle.si_examples.specs.Entries.{first_atom, fact, f_of_x, a, placed, positive_literal}
 use Rattle.si_examples.specs.Relations.{x, f_of_y}
 
 -- the clause c1: p(f(X),a)
@@ -50,4 +50,4 @@ NoGeneralization = Stands Generalizations pattern (term_entry a) → ⊥
 
 -- the literal p(f(X),a) is no instance of the term pattern X
 abbrev pub NoLiteralOfTerm : Type 0
-NoLiteralOfTerm = Stands Instances (term_pattern x) (literal_of first_atom) → ⊥
+NoLiteralOfTerm = Stands Instances (term_pattern x) (positive_literal first_atom) → ⊥

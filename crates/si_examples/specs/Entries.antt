@@ -57,20 +57,20 @@ fact name atom = record {
 abbrev pub placed : Entry → List ℕ → Placed
 placed entry path = record { entry = entry; place = record { literal = 1; path = path } }
 
-abbrev pub literal_of : Term → Entry
-literal_of atom = literal_entry (record { positive = true; atom = atom })
+abbrev pub positive_literal : Term → Entry
+positive_literal atom = literal_entry (record { positive = true; atom = atom })
 
 -- the entries of p(f(X),a): the literal, f(X) and a
 abbrev pub FirstEntries : Type 0
 FirstEntries =
     entries (fact (codes "c1") first_atom)
-    ≡ placed (literal_of first_atom) [] ∷ placed (term_entry f_of_x) (1 ∷ []) ∷ placed (term_entry a) (2 ∷ []) ∷ []
+    ≡ placed (positive_literal first_atom) [] ∷ placed (term_entry f_of_x) (1 ∷ []) ∷ placed (term_entry a) (2 ∷ []) ∷ []
 
 -- those of p(X,f(Y,a)): the literal, f(Y,a) at 2 and a at 2.2
 abbrev pub SecondEntries : Type 0
 SecondEntries =
     entries (fact (codes "c2") second_atom)
-    ≡ placed (literal_of second_atom) [] ∷ placed (term_entry f_of_y_a) (2 ∷ []) ∷ placed (term_entry a) (2 ∷ 2 ∷ []) ∷ []
+    ≡ placed (positive_literal second_atom) [] ∷ placed (term_entry f_of_y_a) (2 ∷ []) ∷ placed (term_entry a) (2 ∷ 2 ∷ []) ∷ []
 
 -- a variable is no entry: none of p(X,f(Y,a)) stands at 1
 abbrev pub NoVariableEntry : Type 0

@@ -42,8 +42,8 @@ abbrev pub FailedFile : Type 0
 FailedFile = Loads plain (bounds 15 1 1) 2 [] (codes "a") (ask (codes "a") ∷ []) (Some (failed (codes "a")))
 
 -- a name that is kept is taken
-abbrev pub TakenName : Type 0
-TakenName = Loads plain (bounds 15 1 1) 2 (c ∷ []) (codes "a") (ask (codes "a") ∷ attempt c ∷ []) (Some (rejected c taken))
+abbrev pub TakenNameOfALoad : Type 0
+TakenNameOfALoad = Loads plain (bounds 15 1 1) 2 (c ∷ []) (codes "a") (ask (codes "a") ∷ attempt c ∷ []) (Some (rejected c taken))
 
 -- of two clauses that are included, the one that is listed
 abbrev pub selecting : Files

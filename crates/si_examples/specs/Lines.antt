@@ -5,14 +5,14 @@ use Rattle.si_defs.specs.Grammar.{left_bracket, right_bracket}
 use Rattle.si_defs.specs.declared.Relation.TheVariants.{Variants, Instances}
 use Rattle.si_steps.specs.declared.word.Word.{Word}
 use Rattle.si_steps.specs.declared.word.Word.TheVariants.{Ask}
-use Rattle.si_steps.specs.Words.{word_text, is_built}
+use Rattle.si_steps.specs.Words.{command_text, is_built}
 use Rattle.si_steps.specs.Commands.{Command, IsCommand, add, Means, AddsForeign}
 use Rattle.si_examples.specs.Entries.{fact, predicate}
 
 -- ---- words
 -- two words with the same text are the same word
 abbrev pub SameWord : Type 0
-SameWord = (v w : Word) → word_text v ≡ word_text w → v ≡ w
+SameWord = (v w : Word) → command_text v ≡ command_text w → v ≡ w
 
 -- instances are asked for
 abbrev pub BuiltWord : Type 0

@@ -29,9 +29,9 @@ abbrev pub a_of_b : Term
 a_of_b = predicate (codes "a") (constant (codes "b") ∷ [])
 
 -- the symbol at the front of a term
-abbrev pub head_symbol : Term → Symbol
-head_symbol (terms.var x) = record { kind = Word; text = x; side = Function; arity = 0 }
-head_symbol (terms.app s ts) = s
+abbrev pub front_symbol : Term → Symbol
+front_symbol (terms.var x) = record { kind = Word; text = x; side = Function; arity = 0 }
+front_symbol (terms.app s ts) = s
 
 -- ---- lines that change nothing
 -- where the line is not too long, this reply is right and no other, and the state stays
@@ -93,11 +93,11 @@ LanguageAlone = HasOneReply (codes "add fof.") (codes "! syntax" ∷ [])
 -- a line that is too long has one reply, whatever it says, and the state stays
 abbrev pub TooLong : Type 0
 TooLong = (limits : Limits) (state : List Clause) (line : Bytes) (reply : Reply) (new : List Clause) → limits.line < length line
-    → Step limits state line reply new → (reply ≡ codes "! later" ∷ []) × (new ≡ state)
+    → Step limits state line reply new → (reply ≡ codes "! long" ∷ []) × (new ≡ state)
 
 -- also where it is blank
 abbrev pub TooLongBlank : Type 0
-TooLongBlank = (limits : Limits) (state : List Clause) → limits.line < 2 → RightStep limits state (codes "  ") (codes "! later" ∷ []) state
+TooLongBlank = (limits : Limits) (state : List Clause) → limits.line < 2 → RightStep limits state (codes "  ") (codes "! long" ∷ []) state
 
 -- a line that is too long does not run out of memory
 abbrev pub NoMemoryWhereTooLong : Type 0
@@ -131,7 +131,7 @@ NoClauseTooMany = (new : List Clause) → Accepts 2 [] kept new → ⊥
 
 -- `a` with an argument stands against the constant `a`
 abbrev pub ClashingSymbol : Type 0
-ClashingSymbol = Refuses 9 (kept ∷ []) (fact (codes "d") a_of_b) (misused 0 (head_symbol a_of_b) (head_symbol a))
+ClashingSymbol = Refuses 9 (kept ∷ []) (fact (codes "d") a_of_b) (misused 0 (front_symbol a_of_b) (front_symbol a))
 
 -- the same symbols in two clauses agree
 abbrev pub NoClash : Type 0
@@ -169,8 +169,8 @@ TwoNames = IsTaken (record { name = record { kind = named.Int; text = codes "1" 
 
 -- ---- refusals
 -- a reply that begins with `!` is a refusal
-abbrev pub Refusal : Type 0
-Refusal = is_refusal (codes "! taken c1" ∷ []) ≡ true
+abbrev pub RefusalBeginsSo : Type 0
+RefusalBeginsSo = is_refusal (codes "! taken c1" ∷ []) ≡ true
 
 -- so is one that ends with such a line
 abbrev pub LateRefusal : Type 0

@@ -10,18 +10,18 @@ use Rattle.si_examples.specs.Entries.{function}
 abbrev pub asked : Variable
 asked = of_pattern (codes "X")
 
-abbrev pub kept : Variable
-kept = of_entry (codes "Y")
+abbrev pub kept_variable : Variable
+kept_variable = of_entry (codes "Y")
 
 abbrev pub asked_term : Apart
 asked_term = terms.var asked
 
 abbrev pub kept_term : Apart
-kept_term = terms.var kept
+kept_term = terms.var kept_variable
 
 -- ?X and Y have the list {Y -> ?X}: the pattern's variable comes first, and stands for both
 abbrev pub FirstVariableLeads : Type 0
-FirstVariableLeads = IsCanonical same_variable Unifiable asked_term kept_term ((kept, asked_term) ∷ [])
+FirstVariableLeads = IsCanonical same_variable Unifiable asked_term kept_term ((kept_variable, asked_term) ∷ [])
 
 -- {?X -> Y} is not the list
 abbrev pub SecondVariableFollows : Type 0

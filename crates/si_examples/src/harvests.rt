@@ -1,11 +1,11 @@
 // What is read of files.
-ghost use Rattle.si_examples.specs.Harvests.{PlainFile, BigFile, MissingFile, NoMissingFile, FailedFile, TakenName, SelectedClause, OwnInclude, NoDepthOfOpenFile, DeepInclude, LateInclude, SecondLine, FirstWord};
+ghost use Rattle.si_examples.specs.Harvests.{PlainFile, BigFile, MissingFile, NoMissingFile, FailedFile, TakenNameOfALoad, SelectedClause, OwnInclude, NoDepthOfOpenFile, DeepInclude, LateInclude, SecondLine, FirstWord};
 
 /// Which clauses of a file are tried.
 pub fn clauses_of_files()
     ensures plain_file { PlainFile }
     ensures selected_clause { SelectedClause }
-    ensures taken_name { TakenName }
+    ensures taken_name { TakenNameOfALoad }
 {}
 
 /// Which files can't be opened, and why.

@@ -1,5 +1,5 @@
 // Lines, their replies and the state behind them.
-ghost use Rattle.si_examples.specs.Steps.{SilentLine, SilentComment, SilentOnly, OpenComment, UnbuiltWord, UnreadOperands, UnknownWord, WordInQuotes, JoinedWord, WordAlone, OtherLanguageAdded, LanguageAlone, TooLong, TooLongBlank, NoMemoryWhereTooLong, AddedClause, TakenName, NoOtherReply, NoSecondClause, FullIndex, NoClauseTooMany, ClashingSymbol, NoClash, NoAgreement, RemovedClause, UnknownName, NoUnknownName, NothingCounted, NoneUncounted, TwoNames, Refusal, LateRefusal, NoRefusal, SilenceIsNoRefusal};
+ghost use Rattle.si_examples.specs.Steps.{SilentLine, SilentComment, SilentOnly, OpenComment, UnbuiltWord, UnreadOperands, UnknownWord, WordInQuotes, JoinedWord, WordAlone, OtherLanguageAdded, LanguageAlone, TooLong, TooLongBlank, NoMemoryWhereTooLong, AddedClause, TakenName, NoOtherReply, NoSecondClause, FullIndex, NoClauseTooMany, ClashingSymbol, NoClash, NoAgreement, RemovedClause, UnknownName, NoUnknownName, NothingCounted, NoneUncounted, TwoNames, RefusalBeginsSo, LateRefusal, NoRefusal, SilenceIsNoRefusal};
 
 /// Which lines have no reply.
 pub fn silent_lines()
@@ -53,7 +53,7 @@ pub fn removals_and_counts()
 
 /// Which replies are refusals.
 pub fn refusals()
-    ensures refusal { Refusal }
+    ensures refusal { RefusalBeginsSo }
     ensures late_refusal { LateRefusal }
     ensures no_refusal { NoRefusal }
     ensures silence_is_no_refusal { SilenceIsNoRefusal }

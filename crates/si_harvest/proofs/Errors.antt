@@ -6,10 +6,10 @@ use Rattle.si_state.specs.Harvest.{Files, Bounds, Fault}
 use Rattle.si_io.specs.Library.{Counts}
 use Rattle.si_harvest.specs.declared.faults.HarvestFault.{HarvestFault}
 use Rattle.si_harvest.specs.declared.faults.HarvestFault.TheVariants.{Memory}
-use Rattle.si_harvest.specs.Faults.{Tells, Told, Blames, HasFaultCause, HasLoadCause}
+use Rattle.si_harvest.specs.Faults.{NamesFault, NamesOneOf, Explains, HasFaultCause, HasLoadCause}
 
 -- the fault is told for another reason
-pub blames_weaker : (limit : ℕ) (e : HarvestFault) (P Q : Fault → Type 0) → ((f : Fault) → P f → Q f) → Blames limit e P → Blames limit e Q
+pub blames_weaker : (limit : ℕ) (e : HarvestFault) (P Q : Fault → Type 0) → ((f : Fault) → P f → Q f) → Explains limit e P → Explains limit e Q
 blames_weaker limit e P Q f (inl m) = inl m
 blames_weaker limit e P Q f (inr t) = inr (record { fault = t.fault; told = t.told; holds = f t.fault t.holds })
 

@@ -7,7 +7,7 @@ use Rattle.si_defs.specs.Entries.{entries, entries_from, literal_entries, placed
 use Rattle.si_state.specs.Acceptance.{Accepts}
 use Rattle.si_state.specs.Harvest.{AreAccepted}
 use Rattle.si_harvest.specs.declared.faults.Loaded.{Loaded}
-use Rattle.si_harvest.specs.Gains.{Counts, Gained}
+use Rattle.si_harvest.specs.Gains.{CountsNoMore, Gained}
 
 entries-append : (xs ys : List Clause) → length (state_entries (xs ++ ys)) ≡ length (state_entries xs) + length (state_entries ys)
 entries-append [] ys = omega arith
@@ -32,7 +32,7 @@ accepted-append limit start (d ∷ ds) c h a =
     (h.0, accepted-append limit (start ++ d ∷ []) ds c h.1 (subst (λ l. Accepts limit l c (l ++ c ∷ [])) (sym (append_assoc start (d ∷ []) ds)) a))
 
 pub counts_more : (loaded : Loaded) (limit : ℕ) (state state' : List Clause) (c : Clause) (n : ℕ) → IsSoundClause c → Accepts limit state c state' → n ≡ length (entries c)
-    → Counts loaded state → Counts (record { clauses = loaded.clauses + 1; entries = loaded.entries + n }) state'
+    → CountsNoMore loaded state → CountsNoMore (record { clauses = loaded.clauses + 1; entries = loaded.entries + n }) state'
 counts_more loaded limit state state' c n s a e h = record {
   clauses = omega (arith, h.clauses, some_entries c s, e);
   entries = omega (arith, h.entries, e, ap (λ l. length (state_entries l)) a.added, entries-append state (c ∷ []), one_entries c);
@@ -52,7 +52,7 @@ gained_more loaded limit start state state' c n a e h = record {
 pub gained_nothing : (limit : ℕ) (state : List Clause) → Gained limit state (record { clauses = 0; entries = 0 }) state
 gained_nothing limit state = record { gained = []; whole = sym (append-nil state); accepted = tt; clauses = refl; entries = refl }
 
-pub counts_nothing : (state : List Clause) → Counts (record { clauses = 0; entries = 0 }) state
+pub counts_nothing : (state : List Clause) → CountsNoMore (record { clauses = 0; entries = 0 }) state
 counts_nothing state = record { clauses = omega arith; entries = omega arith }
 
 -- what was gained is taken away

@@ -11,9 +11,9 @@ use Rattle.si_state.specs.Harvest.{Files, Bounds, Event, ask, attempt, Fault, cy
 use Rattle.si_harvest.specs.declared.files.OpenFile.{OpenFile}
 use Rattle.si_harvest.specs.declared.names.NameSet.{NameSet}
 use Rattle.si_harvest.specs.declared.reading.Reading.{Reading}
-use Rattle.si_harvest.specs.Opened.{opened, is_selected, HasOpened, Enters, IsUnopened, Takes, HasFault}
-use Rattle.si_harvest.specs.Underway.{opened_at, around_at, Lists, Narrows, IsSpot, Stand, Finishes, IsUnderway}
-use Rattle.si_harvest.specs.Gains.{Gains}
+use Rattle.si_harvest.specs.Opened.{opened, is_selected, HasOpened, OpensInside, IsUnopened, TriesClause, HasFault}
+use Rattle.si_harvest.specs.Underway.{opened_at, around_at, Lists, Narrows, IsAtSpot, Stand, Finishes, IsUnderway}
+use Rattle.si_harvest.specs.Gains.{GainsByLoad}
 use Rattle.si_harvest.proofs.Stands.{innermost, stand_names, stand_selected, stand_unselected, selected-reverse}
 use Rattle.si_harvest.proofs.Finishing.{tried-append, finishes_end, finishes_over, finishes_accepted, finishes_opened, finishes_stuck, finishes_refused, finishes_barred, finishes_withheld, loads_opened}
 
@@ -22,7 +22,7 @@ pub record Front (f : OpenFile) (fs : List OpenFile) (ss : List Spot) : Type 0 w
   pub spot : Spot
   pub outer : List Spot
   pub first : ss ≡ spot ∷ outer
-  pub own : IsSpot f outer spot
+  pub own : IsAtSpot f outer spot
   pub others : Stand fs outer
 
 front : (f : OpenFile) (fs : List OpenFile) (ss : List Spot) → Stand (f ∷ fs) ss → Front f fs ss
@@ -73,13 +73,13 @@ module _ (told : Option Files) (bounds : Bounds) (limit : ℕ) (start : List Cla
       (subst (λ n. Finishes files bounds limit w.outer n state es fault) made h)))
 
   -- the spot behind an item
-  behind : (f : OpenFile) (outer : List Spot) (s : Spot) (end : ℕ) → IsSpot f outer s → IsSpot (record f { at = end }) outer (record s { rest = drop end f.bytes.items })
+  behind : (f : OpenFile) (outer : List Spot) (s : Spot) (end : ℕ) → IsAtSpot f outer s → IsAtSpot (record f { at = end }) outer (record s { rest = drop end f.bytes.items })
   behind f outer s end h = record { named = h.named; whole = h.whole; among = h.among; selects = h.selects; left = refl }
 
   -- a clause is passed over, or accepted
   pub takes : (old new : Reading) (state state' : List Clause) (items : List OpenFile) (f : OpenFile) (end : ℕ) (clause : Clause) → old.files.items ≡ items ++ f ∷ []
       → BeginsWithItem (drop f.at f.bytes.items) (clause_item clause) (drop end f.bytes.items)
-      → new.files.items ≡ items ++ record f { at = end } ∷ [] → new.fetches ≡ old.fetches → Takes limit new.files.items clause state state'
+      → new.files.items ≡ items ++ record f { at = end } ∷ [] → new.fetches ≡ old.fetches → TriesClause limit new.files.items clause state state'
       → IsUnderway told bounds limit start file old state → IsUnderway told bounds limit start file new state'
   takes old new state state' items f end clause e b same made t u = by t where
     w : Front f (reverse items) u.spots
@@ -151,7 +151,7 @@ module _ (told : Option Files) (bounds : Bounds) (limit : ℕ) (start : List Cla
 
   -- no item stands there
   pub is_stuck : (old : Reading) (state : List Clause) (items : List OpenFile) (f : OpenFile) (fault : Fault) → old.files.items ≡ items ++ f ∷ []
-      → ((s : Spot) (outer : List Spot) → IsSpot f outer s → IsStuck s fault) → IsUnderway told bounds limit start file old state → HasFault told bounds limit start file fault
+      → ((s : Spot) (outer : List Spot) → IsAtSpot f outer s → IsStuck s fault) → IsUnderway told bounds limit start file old state → HasFault told bounds limit start file fault
   is_stuck old state items f fault e h u =
       let w = now_front old state items f e u in
       has_fault old state [] fault u
@@ -168,7 +168,7 @@ module _ (told : Option Files) (bounds : Bounds) (limit : ℕ) (start : List Cla
   -- the file is open inside the others
   pub enters : (old middle new : Reading) (state : List Clause) (items : List OpenFile) (f : OpenFile) (end : ℕ) (name : Bytes) (selection : Selection) (chosen : Option NameSet)
       → old.files.items ≡ items ++ f ∷ [] → BeginsWithItem (drop f.at f.bytes.items) (include_item name selection) (drop end f.bytes.items)
-      → Lists selection chosen → middle.files.items ≡ items ++ record f { at = end } ∷ [] → middle.fetches ≡ old.fetches → Enters told bounds name chosen middle new
+      → Lists selection chosen → middle.files.items ≡ items ++ record f { at = end } ∷ [] → middle.fetches ≡ old.fetches → OpensInside told bounds name chosen middle new
       → IsUnderway told bounds limit start file old state → IsUnderway told bounds limit start file new state
   enters old middle new state items f end name selection chosen e b lists same made h u = by told refl where
     w : Front f (reverse items) u.spots
@@ -189,7 +189,7 @@ module _ (told : Option Files) (bounds : Bounds) (limit : ℕ) (start : List Cla
     inner : Spot
     inner = record { file = name; bytes = h.file.bytes.items; opened = name ∷ w.spot.opened; around = narrowed selection w.spot.around; rest = h.file.bytes.items }
 
-    own : IsSpot h.file (next ∷ w.outer) inner
+    own : IsAtSpot h.file (next ∷ w.outer) inner
     own = record {
       named = sym h.given.named;
       whole = refl;
@@ -251,7 +251,7 @@ module _ (told : Option Files) (bounds : Bounds) (limit : ℕ) (start : List Cla
             (subst (λ x. IfSome x (λ fs. IsWithheld fs bounds name fault)) t no_file)
 
   -- ---- the first file
-  pub begins : (old new : Reading) → old.files.items ≡ [] → old.fetches ≡ 0 → Enters told bounds file None old new → IsUnderway told bounds limit start file new start
+  pub begins : (old new : Reading) → old.files.items ≡ [] → old.fetches ≡ 0 → OpensInside told bounds file None old new → IsUnderway told bounds limit start file new start
   begins old new none zero h = record {
     spots = inner ∷ [];
     stand = subst (λ fs. Stand fs (inner ∷ [])) (sym (ap (λ l. reverse l) (h.inside ∙ ap (λ l. l ++ h.file ∷ []) none))) (own, tt);
@@ -264,7 +264,7 @@ module _ (told : Option Files) (bounds : Bounds) (limit : ℕ) (start : List Cla
     inner : Spot
     inner = record { file = file; bytes = h.file.bytes.items; opened = file ∷ []; around = []; rest = h.file.bytes.items }
 
-    own : IsSpot h.file [] inner
+    own : IsAtSpot h.file [] inner
     own = record {
       named = sym h.given.named;
       whole = refl;
@@ -290,13 +290,13 @@ module _ (told : Option Files) (bounds : Bounds) (limit : ℕ) (start : List Cla
 
   -- no file is open any more
   pub is_over : (old : Reading) (state : List Clause) → old.files.items ≡ [] → IsUnderway told bounds limit start file old state
-      → IfSome told (λ files. Gains files bounds limit start file state)
+      → IfSome told (λ files. GainsByLoad files bounds limit start file state)
   is_over old state none u = by told refl where
     no_spots : (ss : List Spot) → Stand [] ss → ss ≡ []
     no_spots [] h = refl
     no_spots (s ∷ ss) h = absurd h
 
-    by : (t : Option Files) → told ≡ t → IfSome t (λ files. Gains files bounds limit start file state)
+    by : (t : Option Files) → told ≡ t → IfSome t (λ files. GainsByLoad files bounds limit start file state)
     by None e = tt
     by (Some files) e =
         let empty : u.spots ≡ [] = no_spots u.spots (subst (λ fs. Stand (reverse fs) u.spots) none u.stand) in (

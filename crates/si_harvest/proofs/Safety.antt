@@ -9,7 +9,7 @@ use Rattle.si_state.specs.Harvest.{Files, Bounds}
 use Rattle.si_harvest.specs.declared.files.OpenFile.{OpenFile}
 use Rattle.si_harvest.specs.declared.names.NameSet.{NameSet}
 use Rattle.si_harvest.specs.declared.reading.Reading.{Reading}
-use Rattle.si_harvest.specs.Opened.{Enters}
+use Rattle.si_harvest.specs.Opened.{OpensInside}
 use Rattle.si_harvest.specs.Underway.{IsWithin, AreWithin, left_of, steps_left}
 use Rattle.si_harvest.proofs.Shorter.{item_shorter}
 
@@ -33,7 +33,7 @@ within_moved items f end h e =
 
 -- another file is open inside
 pub within_entered : (told : Option Files) (bounds : Bounds) (name : Bytes) (chosen : Option NameSet) (middle new : Reading) → bounds.file ≤ MOST_OCCURRENCES
-    → Enters told bounds name chosen middle new → AreWithin middle.files.items → AreWithin new.files.items
+    → OpensInside told bounds name chosen middle new → AreWithin middle.files.items → AreWithin new.files.items
 within_entered told bounds name chosen middle new b h w =
     subst AreWithin (sym h.inside)
     (within_more middle.files.items h.file w (record { place = omega (arith, h.given.front); size = omega (arith, h.given.small, b) }))
@@ -76,7 +76,7 @@ one_fetch most made width h = let split : most - made ≡ (most - (made + 1)) + 
 
 pub falls_entered : (told : Option Files) (bounds : Bounds) (name : Bytes) (chosen : Option NameSet) (old middle new : Reading) (items : List OpenFile) (f : OpenFile) (item : Item) (end : ℕ)
     → old.files.items ≡ items ++ f ∷ [] → BeginsWithItem (drop f.at f.bytes.items) item (drop end f.bytes.items) → middle.files.items ≡ items ++ record f { at = end } ∷ []
-    → middle.fetches ≡ old.fetches → Enters told bounds name chosen middle new → steps_left bounds new < steps_left bounds old
+    → middle.fetches ≡ old.fetches → OpensInside told bounds name chosen middle new → steps_left bounds new < steps_left bounds old
 falls_entered told bounds name chosen old middle new items f item end e b n m h =
     omega (
       arith,

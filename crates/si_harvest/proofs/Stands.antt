@@ -12,8 +12,8 @@ use Rattle.si_state.specs.Harvest.{Spot, IsSelected}
 use Rattle.si_harvest.specs.declared.files.OpenFile.{OpenFile}
 use Rattle.si_harvest.specs.declared.names.NameSet.{NameSet}
 use Rattle.si_harvest.specs.Chosen.{IsSetOf}
-use Rattle.si_harvest.specs.Opened.{file_names, opened, is_listed, lists, is_selected}
-use Rattle.si_harvest.specs.Underway.{opened_at, around_at, Narrows, IsSpot, Stand}
+use Rattle.si_harvest.specs.Opened.{file_names, opened, has_open, lists, is_selected}
+use Rattle.si_harvest.specs.Underway.{opened_at, around_at, Narrows, IsAtSpot, Stand}
 
 -- the last file is the innermost
 pub innermost : (fs : List OpenFile) (f : OpenFile) → reverse (fs ++ f ∷ []) ≡ f ∷ reverse fs
@@ -79,41 +79,41 @@ selected-reverse (f ∷ fs) name =
 
 -- ---- names
 -- a name that is listed is among the names of the files, in any order
-listed-append : (fs : List OpenFile) (f : OpenFile) (name : Bytes) → is_listed (fs ++ f ∷ []) name ≡ (bytes_eq f.name name || is_listed fs name)
+listed-append : (fs : List OpenFile) (f : OpenFile) (name : Bytes) → has_open (fs ++ f ∷ []) name ≡ (bytes_eq f.name name || has_open fs name)
 listed-append [] f name = refl
-listed-append (e ∷ es) f name = ap (λ b. bytes_eq e.name name || b) (listed-append es f name) ∙ swap (bytes_eq e.name name) (bytes_eq f.name name) (is_listed es name) where
+listed-append (e ∷ es) f name = ap (λ b. bytes_eq e.name name || b) (listed-append es f name) ∙ swap (bytes_eq e.name name) (bytes_eq f.name name) (has_open es name) where
   swap : (a b c : Bool) → (a || (b || c)) ≡ (b || (a || c))
   swap true true c = refl
   swap true false c = refl
   swap false true c = refl
   swap false false c = refl
 
-listed-reverse : (fs : List OpenFile) (name : Bytes) → is_listed (reverse fs) name ≡ is_listed fs name
+listed-reverse : (fs : List OpenFile) (name : Bytes) → has_open (reverse fs) name ≡ has_open fs name
 listed-reverse [] name = refl
 listed-reverse (f ∷ fs) name =
-    ap (λ l. is_listed l name) (reverse-append (f ∷ []) fs)
+    ap (λ l. has_open l name) (reverse-append (f ∷ []) fs)
     ∙ listed-append (reverse fs) f name
     ∙ ap (λ b. bytes_eq f.name name || b) (listed-reverse fs name)
 
-listed_among : (fs : List OpenFile) (name : Bytes) → is_listed fs name ≡ true → IsAmong (file_names fs) name
+listed_among : (fs : List OpenFile) (name : Bytes) → has_open fs name ≡ true → IsAmong (file_names fs) name
 listed_among [] name h = absurd (false≢true h)
 listed_among (f ∷ fs) name h = by (bytes_eq f.name name) refl h (listed_among fs name) where
-  by : (b : Bool) → bytes_eq f.name name ≡ b → (b || is_listed fs name) ≡ true → (is_listed fs name ≡ true → IsAmong (file_names fs) name) → IsAmong (file_names (f ∷ fs)) name
+  by : (b : Bool) → bytes_eq f.name name ≡ b → (b || has_open fs name) ≡ true → (has_open fs name ≡ true → IsAmong (file_names fs) name) → IsAmong (file_names (f ∷ fs)) name
   by true q g k = inl (bytes_eq_true f.name name q)
   by false q g k = inr (k g)
 
-unlisted_among : (fs : List OpenFile) (name : Bytes) → is_listed fs name ≡ false → IsAmong (file_names fs) name → ⊥
+unlisted_among : (fs : List OpenFile) (name : Bytes) → has_open fs name ≡ false → IsAmong (file_names fs) name → ⊥
 unlisted_among [] name h a = a
 unlisted_among (f ∷ fs) name h a = by (bytes_eq f.name name) refl h a (unlisted_among fs name) where
-  by : (b : Bool) → bytes_eq f.name name ≡ b → (b || is_listed fs name) ≡ false → IsAmong (file_names (f ∷ fs)) name → (is_listed fs name ≡ false → IsAmong (file_names fs) name → ⊥) → ⊥
+  by : (b : Bool) → bytes_eq f.name name ≡ b → (b || has_open fs name) ≡ false → IsAmong (file_names (f ∷ fs)) name → (has_open fs name ≡ false → IsAmong (file_names fs) name → ⊥) → ⊥
   by true q g m k = false≢true (sym g)
   by false q g (inl e) k = false≢true (sym q ∙ (bytes_eq-Decides f.name name).1 e)
   by false q g (inr m) k = k g m
 
-pub is_open : (fs : List OpenFile) (name : Bytes) → is_listed fs name ≡ true → IsAmong (opened fs) name
+pub is_open : (fs : List OpenFile) (name : Bytes) → has_open fs name ≡ true → IsAmong (opened fs) name
 is_open fs name h = listed_among (reverse fs) name (listed-reverse fs name ∙ h)
 
-pub is_closed : (fs : List OpenFile) (name : Bytes) → is_listed fs name ≡ false → IsAmong (opened fs) name → ⊥
+pub is_closed : (fs : List OpenFile) (name : Bytes) → has_open fs name ≡ false → IsAmong (opened fs) name → ⊥
 is_closed fs name h a = unlisted_among (reverse fs) name (listed-reverse fs name ∙ h) a
 
 pub opened_count : (fs : List OpenFile) → length (opened fs) ≡ length fs

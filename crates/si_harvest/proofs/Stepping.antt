@@ -16,10 +16,10 @@ use Rattle.si_harvest.specs.declared.names.NameSet.{NameSet}
 use Rattle.si_harvest.specs.declared.reading.Reading.{Reading}
 use Rattle.si_harvest.specs.declared.faults.HarvestFault.{HarvestFault}
 use Rattle.si_harvest.specs.declared.faults.HarvestFault.TheVariants.{Memory, Syntax, Language}
-use Rattle.si_harvest.specs.Faults.{Blames}
-use Rattle.si_harvest.specs.Opened.{is_selected, Enters, IsUnopened, Takes, HasFault}
-use Rattle.si_harvest.specs.Underway.{IsSpot, IsUnderway, AreWithin, Lists}
-use Rattle.si_harvest.specs.Stepping.{StepsOn, Steps}
+use Rattle.si_harvest.specs.Faults.{Explains}
+use Rattle.si_harvest.specs.Opened.{is_selected, OpensInside, IsUnopened, TriesClause, HasFault}
+use Rattle.si_harvest.specs.Underway.{IsAtSpot, IsUnderway, AreWithin, Lists}
+use Rattle.si_harvest.specs.Stepping.{StepsOn, StepsReading}
 use Rattle.si_harvest.proofs.Errors.{blames_weaker}
 use Rattle.si_harvest.proofs.Moves.{at_end, takes, is_refused, is_stuck, enters, is_unopened}
 use Rattle.si_harvest.proofs.Safety.{within_others, within_moved, within_entered, falls_end, falls_item, falls_entered}
@@ -31,13 +31,13 @@ read_as bytes bytes' at r r' b e h = subst (IsRead bytes' at) e (subst (λ l. Is
 module _ (told : Option Files) (bounds : Bounds) (limit : ℕ) where
   -- an error that is passed on
   pub steps_fault : (r : Result Bool HarvestFault) (e : HarvestFault) (old new : Reading) (before after : List Clause) → IsErrAnd r (λ x. x ≡ e)
-      → ((start : List Clause) (file : Bytes) → IsUnderway told bounds limit start file old before → Blames limit e (HasFault told bounds limit start file))
-      → Steps told bounds limit old new before after r
+      → ((start : List Clause) (file : Bytes) → IsUnderway told bounds limit start file old before → Explains limit e (HasFault told bounds limit start file))
+      → StepsReading told bounds limit old new before after r
   steps_fault (Ok x) e old new before after h f = absurd h
-  steps_fault (Err x) e old new before after h f = subst (λ y. Steps told bounds limit old new before after (Err y)) (sym h) f
+  steps_fault (Err x) e old new before after h f = subst (λ y. StepsReading told bounds limit old new before after (Err y)) (sym h) f
 
   pub steps_memory : (r : Result Bool HarvestFault) (old new : Reading) (before after : List Clause) → IsErrAnd r (λ x. x ≡ Memory)
-      → Steps told bounds limit old new before after r
+      → StepsReading told bounds limit old new before after r
   steps_memory r old new before after h = steps_fault r Memory old new before after h (λ start file u. inl refl)
 
   pub step_end : (old new : Reading) (state : List Clause) (items : List OpenFile) (f : OpenFile) → old.files.items ≡ items ++ f ∷ [] → AreBlanks (drop f.at f.bytes.items)
@@ -50,7 +50,7 @@ module _ (told : Option Files) (bounds : Bounds) (limit : ℕ) where
 
   pub step_clause : (old new : Reading) (state state' : List Clause) (items : List OpenFile) (f : OpenFile) (end : ℕ) (clause : Clause) → old.files.items ≡ items ++ f ∷ []
       → IsItemRead f.bytes.items f.at (clause_item clause) end → new.files.items ≡ items ++ record f { at = end } ∷ [] → new.fetches ≡ old.fetches
-      → Takes limit new.files.items clause state state' → AreWithin old.files.items → StepsOn told bounds limit old new state state'
+      → TriesClause limit new.files.items clause state state' → AreWithin old.files.items → StepsOn told bounds limit old new state state'
   step_clause old new state state' items f end clause e r n m t w = record {
     under_way = λ start file u. takes told bounds limit start file old new state state' items f end clause e r.begins n m t u;
     within = subst AreWithin (sym n) (within_moved items f end (subst AreWithin e w) r.within);
@@ -59,14 +59,14 @@ module _ (told : Option Files) (bounds : Bounds) (limit : ℕ) where
 
   pub step_refused : (old : Reading) (state : List Clause) (items : List OpenFile) (f : OpenFile) (end : ℕ) (clause : Clause) (x : HarvestFault) → old.files.items ≡ items ++ f ∷ []
       → IsItemRead f.bytes.items f.at (clause_item clause) end
-      → Blames limit x (λ fault. (is_selected (items ++ record f { at = end } ∷ []) clause.name ≡ true) × IsRejected limit state clause fault)
-      → (start : List Clause) (file : Bytes) → IsUnderway told bounds limit start file old state → Blames limit x (HasFault told bounds limit start file)
+      → Explains limit x (λ fault. (is_selected (items ++ record f { at = end } ∷ []) clause.name ≡ true) × IsRejected limit state clause fault)
+      → (start : List Clause) (file : Bytes) → IsUnderway told bounds limit start file old state → Explains limit x (HasFault told bounds limit start file)
   step_refused old state items f end clause x e r b start file u =
       blames_weaker limit x _ _ (λ fault h. is_refused told bounds limit start file old state items f end clause fault e r.begins h.0 h.1 u) b
 
   pub step_include : (old middle new : Reading) (state : List Clause) (items : List OpenFile) (f : OpenFile) (end : ℕ) (name : Bytes) (selection : Selection) (chosen : Option NameSet)
       → old.files.items ≡ items ++ f ∷ [] → IsItemRead f.bytes.items f.at (include_item name selection) end → Lists selection chosen
-      → middle.files.items ≡ items ++ record f { at = end } ∷ [] → middle.fetches ≡ old.fetches → Enters told bounds name chosen middle new
+      → middle.files.items ≡ items ++ record f { at = end } ∷ [] → middle.fetches ≡ old.fetches → OpensInside told bounds name chosen middle new
       → bounds.file ≤ MOST_OCCURRENCES → AreWithin old.files.items → StepsOn told bounds limit old new state state
   step_include old middle new state items f end name selection chosen e r l n m h b w = record {
     under_way = λ start file u. enters told bounds limit start file old middle new state items f end name selection chosen e r.begins l n m h u;
@@ -76,13 +76,13 @@ module _ (told : Option Files) (bounds : Bounds) (limit : ℕ) where
 
   pub step_unopened : (old : Reading) (state : List Clause) (items : List OpenFile) (f : OpenFile) (end : ℕ) (name : Bytes) (selection : Selection) (x : HarvestFault)
       → old.files.items ≡ items ++ f ∷ [] → IsItemRead f.bytes.items f.at (include_item name selection) end
-      → Blames limit x (λ fault. (middle : Reading) × (middle.files.items ≡ items ++ record f { at = end } ∷ []) × (middle.fetches ≡ old.fetches) × IsUnopened told bounds name middle fault)
-      → (start : List Clause) (file : Bytes) → IsUnderway told bounds limit start file old state → Blames limit x (HasFault told bounds limit start file)
+      → Explains limit x (λ fault. (middle : Reading) × (middle.files.items ≡ items ++ record f { at = end } ∷ []) × (middle.fetches ≡ old.fetches) × IsUnopened told bounds name middle fault)
+      → (start : List Clause) (file : Bytes) → IsUnderway told bounds limit start file old state → Explains limit x (HasFault told bounds limit start file)
   step_unopened old state items f end name selection x e r b start file u =
       blames_weaker limit x _ _ (λ fault h. is_unopened told bounds limit start file old h.0 state items f end name selection fault e r.begins h.1 h.2 h.3 u) b
 
   -- ---- where no item stands
-  spot_stuck : (f : OpenFile) (place : ℕ) (outer : List Spot) (s : Spot) → IsFault f.bytes.items f.at place → IsSpot f outer s
+  spot_stuck : (f : OpenFile) (place : ℕ) (outer : List Spot) (s : Spot) → IsFault f.bytes.items f.at place → IsAtSpot f outer s
       → IsForeign s.rest → IsStuck s (foreign f.name (line_of (take place f.bytes.items)))
   spot_stuck f place outer s r h k = (
     sym h.named,
@@ -97,7 +97,7 @@ module _ (told : Option Files) (bounds : Bounds) (limit : ℕ) where
     k,
   )
 
-  spot_malformed : (f : OpenFile) (place : ℕ) (outer : List Spot) (s : Spot) → IsFault f.bytes.items f.at place → IsSpot f outer s
+  spot_malformed : (f : OpenFile) (place : ℕ) (outer : List Spot) (s : Spot) → IsFault f.bytes.items f.at place → IsAtSpot f outer s
       → (IsForeign s.rest → ⊥) → IsStuck s (malformed f.name (line_of (take place f.bytes.items)))
   spot_malformed f place outer s r h k = (
     sym h.named,
@@ -114,7 +114,7 @@ module _ (told : Option Files) (bounds : Bounds) (limit : ℕ) where
 
   pub step_foreign : (old : Reading) (state : List Clause) (items : List OpenFile) (f : OpenFile) (place line : ℕ) → old.files.items ≡ items ++ f ∷ []
       → IsFault f.bytes.items f.at place × IsForeign (drop f.at f.bytes.items) → line ≡ line_of (take place f.bytes.items)
-      → (start : List Clause) (file : Bytes) → IsUnderway told bounds limit start file old state → Blames limit (Language f.name line) (HasFault told bounds limit start file)
+      → (start : List Clause) (file : Bytes) → IsUnderway told bounds limit start file old state → Explains limit (Language f.name line) (HasFault told bounds limit start file)
   step_foreign old state items f place line e r l start file u = inr (record {
     fault = foreign f.name line;
     told = refl;
@@ -124,7 +124,7 @@ module _ (told : Option Files) (bounds : Bounds) (limit : ℕ) where
 
   pub step_malformed : (old : Reading) (state : List Clause) (items : List OpenFile) (f : OpenFile) (place line : ℕ) → old.files.items ≡ items ++ f ∷ []
       → IsFault f.bytes.items f.at place × (IsForeign (drop f.at f.bytes.items) → ⊥) → line ≡ line_of (take place f.bytes.items)
-      → (start : List Clause) (file : Bytes) → IsUnderway told bounds limit start file old state → Blames limit (Syntax f.name line) (HasFault told bounds limit start file)
+      → (start : List Clause) (file : Bytes) → IsUnderway told bounds limit start file old state → Explains limit (Syntax f.name line) (HasFault told bounds limit start file)
   step_malformed old state items f place line e r l start file u = inr (record {
     fault = malformed f.name line;
     told = refl;
@@ -134,13 +134,13 @@ module _ (told : Option Files) (bounds : Bounds) (limit : ℕ) where
 
 -- a step where a file was open, of a load with these files and this limit
 pub steps_true : (told told' : Option Files) (bounds : Bounds) (limit limit' : ℕ) (old new : Reading) (before after : List Clause) (more : Bool) → told ≡ told' → limit ≡ limit' → more ≡ true
-    → Steps told bounds limit old new before after (Ok more) → StepsOn told' bounds limit' old new before after
+    → StepsReading told bounds limit old new before after (Ok more) → StepsOn told' bounds limit' old new before after
 steps_true told told' bounds limit limit' old new before after more t l m h =
     subst (λ x. StepsOn x bounds limit' old new before after) t
     (subst (λ n. StepsOn told bounds n old new before after) l
-    (subst (λ b. Steps told bounds limit old new before after (Ok b)) m h))
+    (subst (λ b. StepsReading told bounds limit old new before after (Ok b)) m h))
 
 -- and one where none was
 pub steps_false : (told : Option Files) (bounds : Bounds) (limit : ℕ) (old new : Reading) (before after : List Clause) (more : Bool) → more ≡ false
-    → Steps told bounds limit old new before after (Ok more) → (old.files.items ≡ []) × (after ≡ before)
-steps_false told bounds limit old new before after more m h = subst (λ b. Steps told bounds limit old new before after (Ok b)) m h
+    → StepsReading told bounds limit old new before after (Ok more) → (old.files.items ≡ []) × (after ≡ before)
+steps_false told bounds limit old new before after more m h = subst (λ b. StepsReading told bounds limit old new before after (Ok b)) m h

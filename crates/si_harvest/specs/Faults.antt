@@ -26,26 +26,26 @@ IsReason limit (add_fault.Full n most) refusal = (refusal ≡ state.full n) × (
 IsReason limit add_fault.Memory refusal = ⊥
 
 -- with this limit on entries, the program tells this fault
-abbrev pub Tells : ℕ → HarvestFault → Fault → Type 0
-Tells limit (Syntax file line) fault = fault ≡ malformed file line
-Tells limit (Language file line) fault = fault ≡ foreign file line
-Tells limit (Rejected r) fault = (refusal : Refusal) × (fault ≡ rejected (clause_of r.clause) refusal) × IsReason limit r.why refusal
-Tells limit (Missing file) fault = fault ≡ missing file
-Tells limit (Big file) fault = fault ≡ too_big file
-Tells limit (LibraryFault file) fault = fault ≡ failed file
-Tells limit (Cycle file) fault = fault ≡ cycle file
-Tells limit (Depth file) fault = fault ≡ too_deep file
-Tells limit Fetches fault = fault ≡ too_many
-Tells limit Memory fault = ⊥
+abbrev pub NamesFault : ℕ → HarvestFault → Fault → Type 0
+NamesFault limit (Syntax file line) fault = fault ≡ malformed file line
+NamesFault limit (Language file line) fault = fault ≡ foreign file line
+NamesFault limit (Rejected r) fault = (refusal : Refusal) × (fault ≡ rejected (clause_of r.clause) refusal) × IsReason limit r.why refusal
+NamesFault limit (Missing file) fault = fault ≡ missing file
+NamesFault limit (Big file) fault = fault ≡ too_big file
+NamesFault limit (LibraryFault file) fault = fault ≡ failed file
+NamesFault limit (Cycle file) fault = fault ≡ cycle file
+NamesFault limit (Depth file) fault = fault ≡ too_deep file
+NamesFault limit Fetches fault = fault ≡ too_many
+NamesFault limit Memory fault = ⊥
 
 -- memory ran out, or the fault that is told is one of which P holds
-pub record Told (limit : ℕ) (e : HarvestFault) (P : Fault → Type 0) : Type 0 where
+pub record NamesOneOf (limit : ℕ) (e : HarvestFault) (P : Fault → Type 0) : Type 0 where
   pub fault : Fault
-  pub told : Tells limit e fault
+  pub told : NamesFault limit e fault
   pub holds : P fault
 
-abbrev pub Blames : ℕ → HarvestFault → (Fault → Type 0) → Type 0
-Blames limit e P = (e ≡ Memory) ⊎ Told limit e P
+abbrev pub Explains : ℕ → HarvestFault → (Fault → Type 0) → Type 0
+Explains limit e P = (e ≡ Memory) ⊎ NamesOneOf limit e P
 
 -- A library's failures, missing files and files that are too big have a count each, which rose
 -- where a load is refused for it, and no other count moved.

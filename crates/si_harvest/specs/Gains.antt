@@ -7,7 +7,7 @@ use Rattle.si_state.specs.Harvest.{Files, Bounds, Event, tried, Loads, AreAccept
 use Rattle.si_harvest.specs.declared.faults.Loaded.{Loaded}
 
 -- no more is counted than the state has
-pub record Counts (loaded : Loaded) (state : List Clause) : Type 0 where
+pub record CountsNoMore (loaded : Loaded) (state : List Clause) : Type 0 where
   pub clauses : loaded.clauses ≤ loaded.entries
   pub entries : loaded.entries ≤ length (state_entries state)
 
@@ -21,5 +21,5 @@ pub record Gained (limit : ℕ) (start : List Clause) (loaded : Loaded) (state :
   pub entries : loaded.entries ≡ length (state_entries gained)
 
 -- a load of the file gives this state, and no fault
-abbrev pub Gains : Files → Bounds → ℕ → List Clause → Bytes → List Clause → Type 0
-Gains files bounds limit start file state = (events : List Event) × Loads files bounds limit start file events None × (state ≡ start ++ tried events)
+abbrev pub GainsByLoad : Files → Bounds → ℕ → List Clause → Bytes → List Clause → Type 0
+GainsByLoad files bounds limit start file state = (events : List Event) × Loads files bounds limit start file events None × (state ≡ start ++ tried events)

@@ -5,12 +5,12 @@ use Rattle.si_defs.specs.Clauses.{Clause}
 use Rattle.si_state.specs.Harvest.{Files, Bounds}
 use Rattle.si_harvest.specs.declared.reading.Reading.{Reading}
 use Rattle.si_harvest.specs.declared.faults.Loaded.{Loaded}
-use Rattle.si_harvest.specs.Gains.{Counts, Gained}
+use Rattle.si_harvest.specs.Gains.{CountsNoMore, Gained}
 use Rattle.si_harvest.specs.Underway.{IsUnderway, AreWithin}
 
 -- it is under way, its places are within their files, and what it gained is counted
 pub record IsLoading (told : Option Files) (bounds : Bounds) (limit : ℕ) (start : List Clause) (file : Bytes) (reading : Reading) (state : List Clause) (loaded : Loaded) : Type 0 where
   pub under_way : IsUnderway told bounds limit start file reading state
   pub within : AreWithin reading.files.items
-  pub counted : Counts loaded state
+  pub counted : CountsNoMore loaded state
   pub gained : Gained limit start loaded state

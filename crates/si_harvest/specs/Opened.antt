@@ -20,8 +20,8 @@ abbrev pub opened : List OpenFile → List Bytes
 opened files = file_names (reverse files)
 
 -- one of the files has the name
-abbrev pub is_listed : List OpenFile → Bytes → Bool
-is_listed files name = list_any (λ f. bytes_eq f.name name) files
+abbrev pub has_open : List OpenFile → Bytes → Bool
+has_open files name = list_any (λ f. bytes_eq f.name name) files
 
 abbrev pub lists : Option NameSet → Name → Bool
 lists None name = true
@@ -40,7 +40,7 @@ pub record HasOpened (told : Option Files) (bounds : Bounds) (name : Bytes) (cho
   pub selects : file.chosen ≡ chosen
 
 -- a file is open inside the others, behind one fetch more
-pub record Enters (told : Option Files) (bounds : Bounds) (name : Bytes) (chosen : Option NameSet) (before after : Reading) : Type 0 where
+pub record OpensInside (told : Option Files) (bounds : Bounds) (name : Bytes) (chosen : Option NameSet) (before after : Reading) : Type 0 where
   pub may : MayAsk bounds (opened before.files.items) before.fetches name
   pub file : OpenFile
   pub given : HasOpened told bounds name chosen file
@@ -54,8 +54,8 @@ IsUnopened told bounds name reading fault =
     ⊎ (MayAsk bounds (opened reading.files.items) reading.fetches name × IfSome told (λ files. IsWithheld files bounds name fault))
 
 -- The clause was passed over where the selections don't all list it, and else it was accepted.
-abbrev pub Takes : ℕ → List OpenFile → Clause → List Clause → List Clause → Type 0
-Takes limit files clause before after =
+abbrev pub TriesClause : ℕ → List OpenFile → Clause → List Clause → List Clause → Type 0
+TriesClause limit files clause before after =
     ((is_selected files clause.name ≡ false) × (after ≡ before))
     ⊎ ((is_selected files clause.name ≡ true) × Accepts limit before clause after)
 

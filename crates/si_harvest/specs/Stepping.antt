@@ -5,7 +5,7 @@ use Rattle.si_defs.specs.Clauses.{Clause}
 use Rattle.si_state.specs.Harvest.{Files, Bounds}
 use Rattle.si_harvest.specs.declared.reading.Reading.{Reading}
 use Rattle.si_harvest.specs.declared.faults.HarvestFault.{HarvestFault}
-use Rattle.si_harvest.specs.Faults.{Blames}
+use Rattle.si_harvest.specs.Faults.{Explains}
 use Rattle.si_harvest.specs.Opened.{HasFault}
 use Rattle.si_harvest.specs.Underway.{IsUnderway, AreWithin, steps_left}
 
@@ -16,8 +16,8 @@ pub record StepsOn (told : Option Files) (bounds : Bounds) (limit : ℕ) (old ne
   pub falls : steps_left bounds new < steps_left bounds old
 
 -- what a step answers: whether a file was open, or the fault of each load that is under way
-abbrev pub Steps : Option Files → Bounds → ℕ → Reading → Reading → List Clause → List Clause → Result Bool HarvestFault → Type 0
-Steps told bounds limit old new before after (Ok true) = StepsOn told bounds limit old new before after
-Steps told bounds limit old new before after (Ok false) = (old.files.items ≡ []) × (after ≡ before)
-Steps told bounds limit old new before after (Err e) =
-    (start : List Clause) (file : Bytes) → IsUnderway told bounds limit start file old before → Blames limit e (HasFault told bounds limit start file)
+abbrev pub StepsReading : Option Files → Bounds → ℕ → Reading → Reading → List Clause → List Clause → Result Bool HarvestFault → Type 0
+StepsReading told bounds limit old new before after (Ok true) = StepsOn told bounds limit old new before after
+StepsReading told bounds limit old new before after (Ok false) = (old.files.items ≡ []) × (after ≡ before)
+StepsReading told bounds limit old new before after (Err e) =
+    (start : List Clause) (file : Bytes) → IsUnderway told bounds limit start file old before → Explains limit e (HasFault told bounds limit start file)

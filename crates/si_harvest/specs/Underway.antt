@@ -33,7 +33,7 @@ Lists (only names) None = ⊥
 Lists (only names) (Some set) = IsSetOf names set
 
 -- the reading of the file, inside those at these spots, stands at this one
-pub record IsSpot (file : OpenFile) (outer : List Spot) (spot : Spot) : Type 0 where
+pub record IsAtSpot (file : OpenFile) (outer : List Spot) (spot : Spot) : Type 0 where
   pub named : spot.file ≡ file.name
   pub whole : spot.bytes ≡ file.bytes.items
   pub among : spot.opened ≡ file.name ∷ opened_at outer
@@ -45,7 +45,7 @@ abbrev pub Stand : List OpenFile → List Spot → Type 0
 Stand [] [] = Unit {0}
 Stand [] (s ∷ ss) = ⊥
 Stand (f ∷ fs) [] = ⊥
-Stand (f ∷ fs) (s ∷ ss) = IsSpot f ss s × Stand fs ss
+Stand (f ∷ fs) (s ∷ ss) = IsAtSpot f ss s × Stand fs ss
 
 -- ---- what is to come
 module _ (files : Files) (bounds : Bounds) (limit : ℕ) where

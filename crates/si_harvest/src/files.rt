@@ -4,8 +4,8 @@ ghost use Rattle.si_defs.specs.Texts.{line_of};
 ghost use Rattle.si_state.specs.Harvest.{MayAsk, IsBarred, IsWithheld};
 ghost use Rattle.si_term.specs.Meaning.{name_of};
 ghost use Rattle.si_io.specs.Library.{Counts};
-ghost use Rattle.si_harvest.specs.Faults.{Blames, HasLoadCause, bounds_of};
-ghost use Rattle.si_harvest.specs.Opened.{HasOpened, opened, is_listed, lists, is_selected};
+ghost use Rattle.si_harvest.specs.Faults.{Explains, HasLoadCause, bounds_of};
+ghost use Rattle.si_harvest.specs.Opened.{HasOpened, opened, has_open, lists, is_selected};
 
 use crate::faults::{HarvestFault, HarvestLimits};
 use crate::names::NameSet;
@@ -38,7 +38,7 @@ impl OpenFile {
 
 /// Whether one of these files has the name.
 pub fn has_name(files: &[OpenFile], name: &[u8]) -> bool
-    ensures { result ≡ is_listed files.now name.now }
+    ensures { result ≡ has_open files.now name.now }
 {
     files.iter().any(|file| file.name.as_bytes() == name)
 }
@@ -61,7 +61,7 @@ pub fn may_ask(
 ) -> Result<(), HarvestFault>
     ensures may { OnOk result (MayAsk (bounds_of limits.now) (opened files.now) fetches
         name.now) }
-    ensures barred { IfErr result (λ e. (limit : ℕ) → Blames limit e (IsBarred
+    ensures barred { IfErr result (λ e. (limit : ℕ) → Explains limit e (IsBarred
         (bounds_of limits.now) (opened files.now) fetches name.now)) }
     ensures cause { (counts : Counts) → HasLoadCause counts counts result }
 {
@@ -87,7 +87,7 @@ pub fn open<L: Library>(
 ) -> Result<OpenFile, HarvestFault>
     ensures opened { IfOk result (HasOpened (L.files library.old) (bounds_of limits.now) name.now
         chosen) }
-    ensures withheld { IfErr result (λ e. (limit : ℕ) → Blames limit e (λ fault. IfSome
+    ensures withheld { IfErr result (λ e. (limit : ℕ) → Explains limit e (λ fault. IfSome
         (L.files library.old) (λ files. IsWithheld files (bounds_of limits.now) name.now fault))) }
     ensures told { L.files library.new ≡ L.files library.old }
     ensures cause { HasLoadCause (L.counts library.old) (L.counts library.new) result }

@@ -1,9 +1,9 @@
 // Loads: all clauses of a file, or none.
 ghost use Rattle.std.specs.Prelude.{◌≡◌, ◌≤◌, IfOk, IfErr, IfSome, OnOk, OnErr};
 ghost use Rattle.si_defs.specs.declared.TheConstants.{MOST_OCCURRENCES};
-ghost use Rattle.si_harvest.specs.Faults.{Blames, HasLoadCause, bounds_of};
+ghost use Rattle.si_harvest.specs.Faults.{Explains, HasLoadCause, bounds_of};
 ghost use Rattle.si_harvest.specs.Opened.{HasFault};
-ghost use Rattle.si_harvest.specs.Gains.{Counts, Gained, Gains};
+ghost use Rattle.si_harvest.specs.Gains.{CountsNoMore, Gained, GainsByLoad};
 
 use crate::faults::{HarvestFault, HarvestLimits, Loaded};
 use crate::reading::Reading;
@@ -26,10 +26,10 @@ pub fn expand<L: Library, T: ClauseStore>(
     requires limit { T.limit store.old ≤ MOST_OCCURRENCES }
     ensures loaded { IfOk result (λ loaded. Gained (T.limit store.old) (T.clauses store.old) loaded
         (T.clauses store.new)) }
-    ensures right { IfOk result (λ loaded. IfSome (L.files library.old) (λ files. Gains files
+    ensures right { IfOk result (λ loaded. IfSome (L.files library.old) (λ files. GainsByLoad files
         (bounds_of limits.now) (T.limit store.old) (T.clauses store.old) name.now
         (T.clauses store.new))) }
-    ensures fault { IfErr result (λ e. Blames (T.limit store.old) e (HasFault
+    ensures fault { IfErr result (λ e. Explains (T.limit store.old) e (HasFault
         (L.files library.old) (bounds_of limits.now) (T.limit store.old) (T.clauses store.old)
         name.now)) }
     ensures err { OnErr result (T.clauses store.new ≡ T.clauses store.old) }
@@ -61,13 +61,13 @@ fn read_all<L: Library, T: ClauseStore>(
 ) -> Result<(), HarvestFault>
     requires file { limits.now.file ≤ MOST_OCCURRENCES }
     requires limit { T.limit store.old ≤ MOST_OCCURRENCES }
-    requires counted { Counts loaded.old (T.clauses store.old) }
+    requires counted { CountsNoMore loaded.old (T.clauses store.old) }
     requires gained { Gained (T.limit store.old) (T.clauses store.old) loaded.old
         (T.clauses store.old) }
-    ensures right { OnOk result (IfSome (L.files library.old) (λ files. Gains files
+    ensures right { OnOk result (IfSome (L.files library.old) (λ files. GainsByLoad files
         (bounds_of limits.now) (T.limit store.old) (T.clauses store.old) name.now
         (T.clauses store.new))) }
-    ensures fault { IfErr result (λ e. Blames (T.limit store.old) e (HasFault
+    ensures fault { IfErr result (λ e. Explains (T.limit store.old) e (HasFault
         (L.files library.old) (bounds_of limits.now) (T.limit store.old) (T.clauses store.old)
         name.now)) }
     ensures gained { Gained (T.limit store.old) (T.clauses store.old) loaded.new

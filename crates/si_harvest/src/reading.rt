@@ -8,10 +8,10 @@ ghost use Rattle.si_term.specs.Meaning.{clause_of};
 ghost use Rattle.si_harvest.specs.declared.names.NameSet.{NameSet};
 ghost use Rattle.si_harvest.specs.declared.reading.Reading.{Reading};
 ghost use Rattle.si_parse.specs.Meaning.{selection_of};
-ghost use Rattle.si_harvest.specs.Faults.{Blames, HasLoadCause, bounds_of};
-ghost use Rattle.si_harvest.specs.Opened.{Enters, IsUnopened, Takes, is_selected};
-ghost use Rattle.si_harvest.specs.Stepping.{Steps};
-ghost use Rattle.si_harvest.specs.Gains.{Counts, Gained};
+ghost use Rattle.si_harvest.specs.Faults.{Explains, HasLoadCause, bounds_of};
+ghost use Rattle.si_harvest.specs.Opened.{OpensInside, IsUnopened, TriesClause, is_selected};
+ghost use Rattle.si_harvest.specs.Stepping.{StepsReading};
+ghost use Rattle.si_harvest.specs.Gains.{CountsNoMore, Gained};
 ghost use Rattle.si_harvest.specs.Underway.{AreWithin, Lists};
 
 use crate::faults::{HarvestFault, HarvestLimits, Loaded};
@@ -53,9 +53,9 @@ impl Reading {
         name: &[u8],
         chosen: Option<NameSet>,
     ) -> Result<(), HarvestFault>
-        ensures entered { OnOk result (Enters (L.files library.old) (bounds_of limits.now) name.now
-            chosen self.old self.new) }
-        ensures unopened { IfErr result (λ e. (limit : ℕ) → Blames limit e (IsUnopened
+        ensures entered { OnOk result (OpensInside (L.files library.old) (bounds_of limits.now)
+            name.now chosen self.old self.new) }
+        ensures unopened { IfErr result (λ e. (limit : ℕ) → Explains limit e (IsUnopened
             (L.files library.old) (bounds_of limits.now) name.now self.old)) }
         ensures told { L.files library.new ≡ L.files library.old }
         ensures cause { HasLoadCause (L.counts library.old) (L.counts library.new) result }
@@ -85,15 +85,15 @@ impl Reading {
     ) -> Result<(), HarvestFault>
         requires sound { IsSoundClause (clause_of clause) }
         requires limit { T.limit store.old ≤ MOST_OCCURRENCES }
-        requires counted { Counts loaded.old (T.clauses store.old) }
+        requires counted { CountsNoMore loaded.old (T.clauses store.old) }
         ensures files { OnOk result (self.new.files.items ≡ self.old.files.items ++ file ∷ []) }
         ensures fetches { self.new.fetches ≡ self.old.fetches }
-        ensures taken { OnOk result (Takes (T.limit store.old) self.new.files.items
+        ensures taken { OnOk result (TriesClause (T.limit store.old) self.new.files.items
             (clause_of clause) (T.clauses store.old) (T.clauses store.new)) }
-        ensures refused { IfErr result (λ e. Blames (T.limit store.old) e (λ fault.
+        ensures refused { IfErr result (λ e. Explains (T.limit store.old) e (λ fault.
             (is_selected (self.old.files.items ++ file ∷ []) (clause_of clause).name ≡ true)
             × IsRejected (T.limit store.old) (T.clauses store.old) (clause_of clause) fault)) }
-        ensures counted { Counts loaded.new (T.clauses store.new) }
+        ensures counted { CountsNoMore loaded.new (T.clauses store.new) }
         ensures gained { (start : List defs.Clause)
             → Gained (T.limit store.old) start loaded.old (T.clauses store.old)
             → Gained (T.limit store.old) start loaded.new (T.clauses store.new) }
@@ -120,8 +120,9 @@ impl Reading {
             × Lists (selection_of selection.now) chosen
             × (middle.files.items ≡ self.old.files.items ++ file ∷ [])
             × (middle.fetches ≡ self.old.fetches)
-            × Enters (L.files library.old) (bounds_of limits.now) name.now chosen middle self.new) }
-        ensures unopened { IfErr result (λ e. (limit : ℕ) → Blames limit e (λ fault.
+            × OpensInside (L.files library.old) (bounds_of limits.now) name.now chosen middle
+            self.new) }
+        ensures unopened { IfErr result (λ e. (limit : ℕ) → Explains limit e (λ fault.
             (middle : Reading) × (middle.files.items ≡ self.old.files.items ++ file ∷ [])
             × (middle.fetches ≡ self.old.fetches)
             × IsUnopened (L.files library.old) (bounds_of limits.now) name.now middle fault)) }
@@ -145,10 +146,10 @@ impl Reading {
         requires within { AreWithin self.old.files.items }
         requires file { limits.now.file ≤ MOST_OCCURRENCES }
         requires limit { T.limit store.old ≤ MOST_OCCURRENCES }
-        requires counted { Counts loaded.old (T.clauses store.old) }
-        ensures stepped { Steps (L.files library.old) (bounds_of limits.now) (T.limit store.old)
-            self.old self.new (T.clauses store.old) (T.clauses store.new) result }
-        ensures counted { Counts loaded.new (T.clauses store.new) }
+        requires counted { CountsNoMore loaded.old (T.clauses store.old) }
+        ensures stepped { StepsReading (L.files library.old) (bounds_of limits.now)
+            (T.limit store.old) self.old self.new (T.clauses store.old) (T.clauses store.new) result }
+        ensures counted { CountsNoMore loaded.new (T.clauses store.new) }
         ensures gained { (start : List defs.Clause)
             → Gained (T.limit store.old) start loaded.old (T.clauses store.old)
             → Gained (T.limit store.old) start loaded.new (T.clauses store.new) }

@@ -7,8 +7,8 @@ ghost use Rattle.si_state.specs.Acceptance.{Accepts};
 ghost use Rattle.si_state.specs.Harvest.{IsRejected};
 ghost use Rattle.si_term.specs.Meaning.{clause_of};
 ghost use Rattle.si_sign.specs.Stores.{Rejects};
-ghost use Rattle.si_harvest.specs.Faults.{Blames};
-ghost use Rattle.si_harvest.specs.Gains.{Counts, Gained};
+ghost use Rattle.si_harvest.specs.Faults.{Explains};
+ghost use Rattle.si_harvest.specs.Gains.{CountsNoMore, Gained};
 
 use crate::faults::{HarvestFault, Loaded};
 use si_sign::{AddFault, ClauseStore, Rejected};
@@ -22,12 +22,12 @@ pub fn add<T: ClauseStore>(
 ) -> Result<(), HarvestFault>
     requires sound { IsSoundClause (clause_of clause) }
     requires limit { T.limit store.old ≤ MOST_OCCURRENCES }
-    requires counted { Counts loaded.old (T.clauses store.old) }
+    requires counted { CountsNoMore loaded.old (T.clauses store.old) }
     ensures accepted { OnOk result (Accepts (T.limit store.old) (T.clauses store.old)
         (clause_of clause) (T.clauses store.new)) }
-    ensures refused { IfErr result (λ e. Blames (T.limit store.old) e
+    ensures refused { IfErr result (λ e. Explains (T.limit store.old) e
         (IsRejected (T.limit store.old) (T.clauses store.old) (clause_of clause))) }
-    ensures counted { Counts loaded.new (T.clauses store.new) }
+    ensures counted { CountsNoMore loaded.new (T.clauses store.new) }
     ensures gained { (start : List defs.Clause)
         → Gained (T.limit store.old) start loaded.old (T.clauses store.old)
         → Gained (T.limit store.old) start loaded.new (T.clauses store.new) }
@@ -48,7 +48,7 @@ pub fn add<T: ClauseStore>(
 fn refusal(rejected: Rejected) -> HarvestFault
     ensures { (limit : ℕ) (state : List defs.Clause)
         → Rejects limit state (clause_of rejected.clause) rejected.why
-        → Blames limit result (IsRejected limit state (clause_of rejected.clause)) }
+        → Explains limit result (IsRejected limit state (clause_of rejected.clause)) }
 {
     if let AddFault::Memory = rejected.why {
         return HarvestFault::Memory;

@@ -28,12 +28,12 @@ Holds Memory limit into = into ≡ []
 
 -- What a read of a whole file makes of it, whose bytes may be known. Found, these are all its
 -- bytes, no more than the limit; and too big, it has more.
-abbrev pub IsRead : Option (List ℕ) → (limit : ℕ) → Fetched → (into : List ℕ) → Type 0
-IsRead known limit Found into = (length into ≤ limit) × IfSome known (λ bytes. into ≡ bytes)
-IsRead known limit Missing into = ⊥
-IsRead known limit TooBig into = IfSome known (λ bytes. limit < length bytes)
-IsRead known limit Failed into = ⊤
-IsRead known limit Memory into = ⊤
+abbrev pub IsFileRead : Option (List ℕ) → (limit : ℕ) → Fetched → (into : List ℕ) → Type 0
+IsFileRead known limit Found into = (length into ≤ limit) × IfSome known (λ bytes. into ≡ bytes)
+IsFileRead known limit Missing into = ⊥
+IsFileRead known limit TooBig into = IfSome known (λ bytes. limit < length bytes)
+IsFileRead known limit Failed into = ⊤
+IsFileRead known limit Memory into = ⊤
 
 -- How often a library has failed, how often it had no such file, and how often a file was too big.
 -- Each count never falls and stands still at the largest `u64`.

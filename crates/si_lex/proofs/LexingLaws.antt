@@ -14,7 +14,7 @@ use Rattle.si_lex.specs.declared.lexing.Stop.TheVariants.{End, Bad, FullStop}
 use Rattle.si_lex.specs.Lexemes.{token_of, tokens_of}
 use Rattle.si_lex.specs.Places.{IsBehindBlanks, IsLexemeAt, NoTokenWithin}
 use Rattle.si_lex.specs.FullStops.{IsStop, HasNoStop, GoesToStop, EndsAtStop}
-use Rattle.si_lex.specs.Lexing.{IsRead, IsItemLexing, IsLexingUpTo}
+use Rattle.si_lex.specs.Lexing.{IsLexed, IsItemLexing, IsLexingUpTo}
 use Rattle.si_lex.proofs.BlankLaws.{place_unique}
 use Rattle.si_lex.proofs.TokenLaws.{next_place, blanks_none, begins_unique, begins_prefix, begins_append}
 
@@ -209,7 +209,7 @@ over_whole tokens bytes rest stop d b o ts c n = by d (over_every tokens bytes r
 
 -- what was read so far, and no more
 over_read : (item : Bool) (bytes : Bytes) (at : ℕ) (l : Lexing) (depth : ℕ) (s : IsSoFar item bytes at l.start l.tokens.items depth l.end) → IsOver s.rest depth l.stop
-    → IsRead bytes at l s.rest
+    → IsLexed bytes at l s.rest
 over_read item bytes at l depth s o = record {
   from = s.from;
   onward = s.onward;

@@ -11,7 +11,7 @@ use Rattle.si_lex.specs.Lexemes.{tokens_of}
 use Rattle.si_lex.specs.FullStops.{HasNoStop, GoesToStop, EndsAtStop}
 
 -- What was read, whichever tokens are wanted: `start` is the place behind the longest blanks.
-pub record IsRead (bytes : Bytes) (at : ℕ) (l : Lexing) (rest : Bytes) : Type 0 where
+pub record IsLexed (bytes : Bytes) (at : ℕ) (l : Lexing) (rest : Bytes) : Type 0 where
   pub from : at ≤ l.start
   pub onward : l.start ≤ l.end
   pub within : l.end ≤ length bytes
@@ -26,7 +26,7 @@ pub record IsRead (bytes : Bytes) (at : ℕ) (l : Lexing) (rest : Bytes) : Type 
 pub record IsLexing (bytes : Bytes) (at : ℕ) (l : Lexing) : Type 0 where
   -- what stands behind the last token
   pub rest : Bytes
-  pub read : IsRead bytes at l rest
+  pub read : IsLexed bytes at l rest
   pub no_stop : l.stop ≡ FullStop → ⊥
   -- whatever tokens the bytes begin with, nested no deeper, they are the first of these
   pub every : (ts : List Token) (behind : Bytes) → Begins (drop at bytes) ts behind → nesting ts ≤ DEEPEST_NESTING
@@ -38,7 +38,7 @@ pub record IsLexing (bytes : Bytes) (at : ℕ) (l : Lexing) : Type 0 where
 -- The tokens up to the first full stop outside brackets, if one comes before such a place.
 pub record IsItemLexing (bytes : Bytes) (at : ℕ) (l : Lexing) : Type 0 where
   pub rest : Bytes
-  pub read : IsRead bytes at l rest
+  pub read : IsLexed bytes at l rest
   -- behind a full stop nothing was read
   pub stop : l.stop ≡ FullStop → EndsAtStop 0 (tokens_of l.tokens.items) × (rest ≡ drop l.end bytes)
   pub no_stop : (l.stop ≡ FullStop → ⊥) → HasNoStop 0 (tokens_of l.tokens.items)

@@ -16,7 +16,7 @@ use Rattle.si_lex.specs.Lexemes.{tokens_of}
 use Rattle.si_lex.specs.Lexing.{IsLexing}
 use Rattle.si_parse.specs.Parsing.{NoBracket, NoSign, Reads}
 use Rattle.si_parse.proofs.ParseWhole.{whole_means, whole_only, whole_none}
-use Rattle.si_parse.specs.Reading.{IsOfKind, ReadsPattern, IsWhole, ReadsWhole}
+use Rattle.si_parse.specs.Reading.{IsOfKind, ReadsPattern, IsWholePattern, ReadsWhole}
 use Rattle.si_lex.specs.declared.lexeme.Lexeme.{Lexeme}
 use Rattle.si_lex.specs.declared.lexing.Lexing.{Lexing}
 use Rattle.si_lex.specs.declared.lexing.Stop.TheVariants.{End}
@@ -26,7 +26,7 @@ use Rattle.si_parse.specs.declared.pattern.PatternKind.TheVariants as kind
 -- ---- tokens
 -- a literal with nothing left is what all the tokens spell
 pub literal_whole : (tokens : List Lexeme) (l : program.Literal) (r : Bor (List Lexeme)) → r.now ≡ [] → Reads literal_of IsLiteral NoSign tokens (Some (l, r))
-    → IsSoundPattern (literal_pattern (literal_of l)) → IsWhole (tokens_of tokens) kind.Lit (literal_pattern (literal_of l))
+    → IsSoundPattern (literal_pattern (literal_of l)) → IsWholePattern (tokens_of tokens) kind.Lit (literal_pattern (literal_of l))
 literal_whole tokens l r none p sound =
     record {
       of_kind = tt;
@@ -46,7 +46,7 @@ literal_left tokens found p left (term_pattern t) k o = k
 
 -- the same of terms
 pub term_whole : (tokens : List Lexeme) (t : program_term.Term) (r : Bor (List Lexeme)) → r.now ≡ [] → Reads term_of IsTerm NoBracket tokens (Some (t, r))
-    → IsSoundPattern (term_pattern (term_of t)) → IsWhole (tokens_of tokens) kind.Term (term_pattern (term_of t))
+    → IsSoundPattern (term_pattern (term_of t)) → IsWholePattern (tokens_of tokens) kind.Term (term_pattern (term_of t))
 term_whole tokens t r none p sound =
     record {
       of_kind = tt;

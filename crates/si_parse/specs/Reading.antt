@@ -81,14 +81,14 @@ IsOfKind kind.Term (clauses.literal_pattern l) = ⊥
 IsOfKind kind.Term (clauses.term_pattern t) = Unit {0}
 
 -- all the tokens spell this pattern, and no other one of this kind
-pub record IsWhole (ts : List Token) (kind : PatternKind) (p : clauses.Pattern) : Type 0 where
+pub record IsWholePattern (ts : List Token) (kind : PatternKind) (p : clauses.Pattern) : Type 0 where
   pub of_kind : IsOfKind kind p
   pub spelled : IsPattern p ts
   pub only : (other : clauses.Pattern) → IsOfKind kind other → IsPattern other ts → other ≡ p
   pub sound : IsSoundPattern p
 
 abbrev pub ReadsWhole : List Token → PatternKind → Option Pattern → Type 0
-ReadsWhole ts kind (Some p) = IsWhole ts kind (pattern_of p)
+ReadsWhole ts kind (Some p) = IsWholePattern ts kind (pattern_of p)
 ReadsWhole ts kind None = (p : clauses.Pattern) → IsOfKind kind p → IsPattern p ts → ⊥
 
 -- the whole bytes are this pattern, and no other one of this kind

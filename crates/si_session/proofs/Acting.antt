@@ -12,7 +12,7 @@ use Rattle.si_state.specs.Signatures.{CountsSymbols}
 use Rattle.si_state.specs.Answers.{hit_texts}
 use Rattle.si_steps.specs.declared.limits.Limits.{Limits}
 use Rattle.si_steps.specs.Replies.{Reply, is_refusal, ok_line, end_line, stats_line, misused_line, full_line, unknown_line, memory_line}
-use Rattle.si_steps.specs.Commands.{Command, add, remove, query, stats, Means, IsLater, IsSilent}
+use Rattle.si_steps.specs.Commands.{Command, add, remove, query, stats, Means, IsDecided, IsSilent}
 use Rattle.si_steps.specs.Steps.{Performs, Step, right, memory_at_once, memory_behind, performed}
 use Rattle.si_steps.specs.Runs.{ended}
 use Rattle.si_io.specs.Content.{Told, Appends, AppendsPrefix}
@@ -30,9 +30,9 @@ use Rattle.si_sign.specs.declared.faults.AddFault.TheVariants as add_fault
 use Rattle.si_index.specs.Kept.{Kept}
 use Rattle.si_index.specs.declared.index.Stats.{Stats}
 use Rattle.si_session.specs.declared.reply.Reply as reply
-use Rattle.si_session.specs.Replies.{line_of, misused_text}
+use Rattle.si_session.specs.Replies.{reply_line, misused_text}
 use Rattle.si_session.specs.Rejections.{HasHead, NamesEntry, TellsFault, TellsWhy}
-use Rattle.si_session.specs.Session.{State, Steps, Writes, Acts, ActsOn, rightly, at_once, behind}
+use Rattle.si_session.specs.Session.{State, Steps, Writes, HasPerformed, ActsOn, rightly, at_once, behind}
 use Rattle.si_session.specs.declared.stepped.Stepped.{Stepped}
 use Rattle.si_session.specs.declared.stepped.Stepped.TheVariants.{Answered, Refused, Silent, SinkFailed}
 use Rattle.si_session.proofs.HitLaws.{hits_answer}
@@ -73,14 +73,14 @@ module _ (limits : Limits) (p : Pattern) (state : List Clause) where
   performs n e = (hits p (state_entries state), hits_answer p (state_entries state), sym (reply_is p state n e), refl)
 
   pub answers : (o : Stepped) (n : ℕ) (a b c : Told) → n ≡ length (clauses_lines p state) → Appends a (ended (clauses_lines p state)) b
-      → Writes o (end_line n ∷ []) b c → Acts (Performs limits (query Instances p) state) state state o a c
+      → Writes o (end_line n ∷ []) b c → HasPerformed (Performs limits (query Instances p) state) state state o a c
   answers o n a b c e h w = rightly (whole n) (performs n e) (written_behind o a b c (clauses_lines p state) (end_line n) h w)
 
-  pub fails_in_hits : (a b : Told) → AppendsPrefix a (ended (clauses_lines p state)) b → Acts (Performs limits (query Instances p) state) state state SinkFailed a b
+  pub fails_in_hits : (a b : Told) → AppendsPrefix a (ended (clauses_lines p state)) b → HasPerformed (Performs limits (query Instances p) state) state state SinkFailed a b
   fails_in_hits a b h = rightly (whole (length (clauses_lines p state))) (performs _ refl) (failed_before a b (clauses_lines p state) (end_line (length (clauses_lines p state))) h)
 
   pub runs_out : (o : Stepped) (a b c : Told) (front back : List Bytes) → clauses_lines p state ≡ front ++ back → Appends a (ended front) b
-      → Writes o (memory_line ∷ []) b c → Acts (Performs limits (query Instances p) state) state state o a c
+      → Writes o (memory_line ∷ []) b c → HasPerformed (Performs limits (query Instances p) state) state state o a c
   runs_out o a b c front back e h w =
       let n = length (clauses_lines p state) in
       behind (whole n) state (performs n refl) front (back ++ end_line n ∷ []) (ap (λ l. l ++ end_line n ∷ []) e ∙ append_assoc front back (end_line n ∷ []))
@@ -88,7 +88,7 @@ module _ (limits : Limits) (p : Pattern) (state : List Clause) where
 
 -- ---- a clause
 accepts : (limits : Limits) (clause : Clause) (state new : List Clause) (o : Stepped) (n : ℕ) (a b : Told) → Accepts limits.entries state clause new → n ≡ length (entries clause)
-    → Writes o (ok_line 1 n ∷ []) a b → Acts (Performs limits (add clause) state) state new o a b
+    → Writes o (ok_line 1 n ∷ []) a b → HasPerformed (Performs limits (add clause) state) state new o a b
 accepts limits clause state new o n a b k e w = rightly (ok_line 1 n ∷ []) (inr (k, ap (λ m. ok_line 1 m ∷ []) e)) w
 
 -- the symbol at a clash
@@ -101,23 +101,23 @@ at_seam before after own s n e h =
 
 -- a clause that isn't kept
 fault_acts : (limits : Limits) (state new : List Clause) (r : Rejected) (told : reply.Reply) (o : Stepped) (a b : Told) (why : AddFault)
-    → Rejects limits.entries state (clause_of r.clause) why → TellsFault r told why → new ≡ state → Writes o (line_of told ∷ []) a b
-    → Acts (Performs limits (add (clause_of r.clause)) state) state new o a b
+    → Rejects limits.entries state (clause_of r.clause) why → TellsFault r told why → new ≡ state → Writes o (reply_line told ∷ []) a b
+    → HasPerformed (Performs limits (add (clause_of r.clause)) state) state new o a b
 fault_acts limits state new r told o a b add_fault.Taken h t e w =
-    rightly (line_of told ∷ []) (inl (taken, h, ap (λ l. l ∷ []) t, e)) w
+    rightly (reply_line told ∷ []) (inl (taken, h, ap (λ l. l ∷ []) t, e)) w
 fault_acts limits state new r told o a b (add_fault.Clash c) h t e w =
     let clash = h.2.1 in
     let there : slice_get (clause_symbols (clause_of r.clause)) c.entry ≡ Some h.0 = at_seam clash.before clash.after _ h.0 c.entry clash.splits clash.position in
     let same : misused_text h.0 c.found c.kept ≡ misused_line h.0 h.1 =
     ap (λ shape. misused_text h.0 shape c.kept) h.3.0 ∙ ap (λ shape. misused_text h.0 (shape_of h.0) shape) h.3.1 in
-    rightly (line_of told ∷ []) (inl (misused c.entry h.0 h.1, h.2, ap (λ l. l ∷ []) (t h.0 there ∙ same), e)) w
+    rightly (reply_line told ∷ []) (inl (misused c.entry h.0 h.1, h.2, ap (λ l. l ∷ []) (t h.0 there ∙ same), e)) w
 fault_acts limits state new r told o a b (add_fault.Full needed most) h t e w =
-    rightly (line_of told ∷ []) (inl (full needed, h.0, ap (λ l. l ∷ []) (t ∙ ap (full_line needed) h.1), e)) w
+    rightly (reply_line told ∷ []) (inl (full needed, h.0, ap (λ l. l ∷ []) (t ∙ ap (full_line needed) h.1), e)) w
 fault_acts limits state new r told o a b add_fault.Memory h t e w = at_once e (subst (λ l. Writes o (l ∷ []) a b) t w)
 
 pub refuses : (limits : Limits) (state new : List Clause) (r : Rejected) (told : reply.Reply) (o : Stepped) (a b : Told)
-    → Rejects limits.entries state (clause_of r.clause) r.why → TellsWhy r told → new ≡ state → Writes o (line_of told ∷ []) a b
-    → Acts (Performs limits (add (clause_of r.clause)) state) state new o a b
+    → Rejects limits.entries state (clause_of r.clause) r.why → TellsWhy r told → new ≡ state → Writes o (reply_line told ∷ []) a b
+    → HasPerformed (Performs limits (add (clause_of r.clause)) state) state new o a b
 refuses limits state new r told o a b h t e w = fault_acts limits state new r told o a b r.why h t e w
 
 -- the clash is named at an entry
@@ -138,7 +138,7 @@ added old new clause o n a b k e w limits same =
     accepts limits clause old.clauses new.clauses o n a b (subst (λ l. Accepts l old.clauses clause new.clauses) (sym same) k) e w
 
 pub refused : (old new : Kept) (r : Rejected) (told : reply.Reply) (o : Stepped) (a b : Told)
-    → Rejects old.limit old.clauses (clause_of r.clause) r.why → TellsWhy r told → new.clauses ≡ old.clauses → Writes o (line_of told ∷ []) a b
+    → Rejects old.limit old.clauses (clause_of r.clause) r.why → TellsWhy r told → new.clauses ≡ old.clauses → Writes o (reply_line told ∷ []) a b
     → ActsOn (λ limits. Performs limits (add (clause_of r.clause))) old new o a b
 refused old new r told o a b h t e w limits same =
     refuses limits old.clauses new.clauses r told o a b (subst (λ l. Rejects l old.clauses (clause_of r.clause) r.why) (sym same) h) t e w
@@ -154,7 +154,7 @@ unknown old new name o a b h e w limits same = rightly (unknown_line name ∷ []
 
 -- ---- counts
 pub counts : (limits : Limits) (state : List Clause) (told : Stats) (o : Stepped) (a b : Told) → told.clauses ≡ length state → told.entries ≡ length (state_entries state)
-    → CountsSymbols state told.symbols → Writes o (stats_line told.clauses told.entries told.symbols ∷ []) a b → Acts (Performs limits stats state) state state o a b
+    → CountsSymbols state told.symbols → Writes o (stats_line told.clauses told.entries told.symbols ∷ []) a b → HasPerformed (Performs limits stats state) state state o a b
 counts limits state told o a b clauses entries symbols w =
     rightly (stats_line told.clauses told.entries told.symbols ∷ [])
     (told.symbols, symbols, ap (λ n. stats_line n told.entries told.symbols ∷ []) clauses ∙ ap (λ n. stats_line (length state) n told.symbols ∷ []) entries, refl) w
@@ -169,7 +169,7 @@ some_reply limits (remove name) state new reply (inr h) e = some_line [] _ (sym 
 some_reply limits (query relation pattern) state new reply h e = some_line (hit_texts h.0) _ (sym h.2 ∙ e)
 some_reply limits stats state new reply h e = some_line [] _ (sym h.2 ∙ e)
 
-pub not_silent : (limits : Limits) (command : Command) (state new : List Clause) (o : Stepped) (a b : Told) → Acts (Performs limits command state) state new o a b → o ≡ Silent → ⊥
+pub not_silent : (limits : Limits) (command : Command) (state new : List Clause) (o : Stepped) (a b : Told) → HasPerformed (Performs limits command state) state new o a b → o ≡ Silent → ⊥
 not_silent limits command state new o a b (rightly reply p w) e = let v : Writes Silent reply a b = subst (λ x. Writes x reply a b) e w in some_reply limits command state new reply p v.1
 not_silent limits command state new o a b (at_once same w) e = let v : Writes Silent (memory_line ∷ []) a b = subst (λ x. Writes x (memory_line ∷ []) a b) e w in some_line [] memory_line v.1
 not_silent limits command state new o a b (behind reply next p written left split some same w) e =
@@ -184,7 +184,7 @@ performs_refused limits (remove name) state new reply (inr h) t = let wrong : Is
 performs_refused limits (query relation pattern) state new reply h t = h.3
 performs_refused limits stats state new reply h t = h.3
 
-pub keeps_clauses : (limits : Limits) (command : Command) (state new : List Clause) (o : Stepped) (a b : Told) → Acts (Performs limits command state) state new o a b → o ≡ Refused → new ≡ state
+pub keeps_clauses : (limits : Limits) (command : Command) (state new : List Clause) (o : Stepped) (a b : Told) → HasPerformed (Performs limits command state) state new o a b → o ≡ Refused → new ≡ state
 keeps_clauses limits command state new o a b (rightly reply p w) e =
     let v : Writes Refused reply a b = subst (λ x. Writes x reply a b) e w in performs_refused limits command state new reply p v.1
 keeps_clauses limits command state new o a b (at_once same w) e = same
@@ -199,17 +199,16 @@ abbrev pub state_with : Limits → List Clause → State
 state_with limits state = record { clauses = state; limits = limits }
 
 pub stepped : (limits : Limits) (state new : List Clause) (line : Bytes) (command : Command) (o : Stepped) (a b : Told)
-    → length line ≤ limits.line → IsPerformed command line → Acts (Performs limits command state) state new o a b
+    → length line ≤ limits.line → IsPerformed command line → HasPerformed (Performs limits command state) state new o a b
     → Steps (state_with limits state) (state_with limits new) line o a b
 stepped limits state new line command o a b short performs acts = by acts where
-  now : IsLater limits line → ⊥
-  now (inl long) = absurd (omega arith)
-  now (inr h) = performs.0 h
+  now : IsDecided limits line
+  now = record { short = short; built = performs.0 }
 
   loud : IsSilent limits line → ⊥
   loud h = performs.1 h.1
 
-  by : Acts (Performs limits command state) state new o a b → Steps (state_with limits state) (state_with limits new) line o a b
+  by : HasPerformed (Performs limits command state) state new o a b → Steps (state_with limits state) (state_with limits new) line o a b
   by (rightly reply p w) = record { reply = reply; step = right (performed now command performs.2 p); limits = refl; written = w }
   by (at_once same w) = record { reply = memory_line ∷ []; step = memory_at_once loud short refl same; limits = refl; written = w }
   by (behind whole next p written left split rest same w) =

@@ -11,7 +11,7 @@ use Rattle.si_defs.specs.Substitutions.{IsAmong}
 use Rattle.si_defs.specs.Texts.{IsPattern, languages}
 use Rattle.si_steps.specs.declared.word.Word.{Word}
 use Rattle.si_steps.specs.declared.word.Word.TheVariants.{Add, Remove, Ask, Stats}
-use Rattle.si_steps.specs.Words.{word_text, is_built}
+use Rattle.si_steps.specs.Words.{command_text, is_built}
 use Rattle.si_steps.specs.Commands.{Command, add, remove, query, stats, command_word, IsCommand, IsQuery, AreOperands, Means, IsUnbuilt, AddsForeign}
 use Rattle.si_steps.proofs.WordLaws.{same_word, built_apart}
 use Rattle.si_lex.specs.declared.lexeme.Lexeme.{Lexeme}
@@ -32,7 +32,7 @@ use Rattle.si_term.specs.declared.clause.Clause as program_clause
 use Rattle.si_term.specs.declared.clause.Name as program_name
 use Rattle.si_term.specs.declared.clause.Pattern as program_pattern
 use Rattle.si_term.specs.Meaning.{name_of, clause_of, pattern_of}
-use Rattle.si_session.specs.Commands.{Reads, BeginUnbuilt, AddForeign, Commands, kind_word}
+use Rattle.si_session.specs.Commands.{ReadsCommand, BeginUnbuilt, AddForeign, Commands, kind_word}
 use Rattle.si_session.specs.declared.command.Command as read
 use Rattle.si_session.specs.declared.command.Command.TheVariants as command
 
@@ -83,33 +83,33 @@ clause_not_foreign c ts h f = cnf_not_foreign ts _ h.6 f
 
 -- ---- the word of a command
 -- a command is its word and its operands
-command_is : (c : Command) (t : Token) (ts : List Token) → IsCommand c (t ∷ ts) → (t ≡ lower (word_text (command_word c))) × AreOperands c ts
+command_is : (c : Command) (t : Token) (ts : List Token) → IsCommand c (t ∷ ts) → (t ≡ lower (command_text (command_word c))) × AreOperands c ts
 command_is c t ts h = (ap head h.whole, subst (AreOperands c) (sym (ap others h.whole)) h.spelled)
 
 -- the word says which command it is
-word_is : (c : Command) (w : Word) (ts : List Token) → IsCommand c (lower (word_text w) ∷ ts) → w ≡ command_word c
-word_is c w ts h = same_word w (command_word c) (same_text (word_text w) (word_text (command_word c)) (command_is c (lower (word_text w)) ts h).0)
+word_is : (c : Command) (w : Word) (ts : List Token) → IsCommand c (lower (command_text w) ∷ ts) → w ≡ command_word c
+word_is c w ts h = same_word w (command_word c) (same_text (command_text w) (command_text (command_word c)) (command_is c (lower (command_text w)) ts h).0)
 
 -- behind the word of a command that is built
-built_begins : (w : Word) (ts : List Token) → IsTrue (is_built w) → BeginUnbuilt (lower (word_text w) ∷ ts) → ⊥
-built_begins w ts b u = built_apart w u.0 (same_text (word_text w) (word_text u.0) u.2) b u.1
+built_begins : (w : Word) (ts : List Token) → IsTrue (is_built w) → BeginUnbuilt (lower (command_text w) ∷ ts) → ⊥
+built_begins w ts b u = built_apart w u.0 (same_text (command_text w) (command_text u.0) u.2) b u.1
 
 -- another word than `add`
-other_than_add : (w : Word) (ts : List Token) → (w ≡ Add → ⊥) → AddForeign (lower (word_text w) ∷ ts) → ⊥
-other_than_add w ts n f = n (same_word w Add (same_text (word_text w) (word_text Add) f.0))
+other_than_add : (w : Word) (ts : List Token) → (w ≡ Add → ⊥) → AddForeign (lower (command_text w) ∷ ts) → ⊥
+other_than_add w ts n f = n (same_word w Add (same_text (command_text w) (command_text Add) f.0))
 
 -- tokens behind another word than `add` that are no command
 other_wrong : (w : Word) (ts : List Token) (stop : Stop) → IsTrue (is_built w) → (w ≡ Add → ⊥)
-    → (stop ≡ End → (c : Command) → IsCommand c (lower (word_text w) ∷ ts) → ⊥) → Commands (lower (word_text w) ∷ ts) stop command.Wrong
+    → (stop ≡ End → (c : Command) → IsCommand c (lower (command_text w) ∷ ts) → ⊥) → Commands (lower (command_text w) ∷ ts) stop command.Wrong
 other_wrong w ts stop built other none = (
   built_begins w ts built,
   other_than_add w ts other,
-  λ e s. some_tokens (lower (word_text w)) ts s,
+  λ e s. some_tokens (lower (command_text w)) ts s,
   none,
 )
 
 -- no word of a command
-pub no_word : (t : Token) (ts : List Token) (stop : Stop) → ((w : Word) → t ≡ lower (word_text w) → ⊥) → Commands (t ∷ ts) stop command.Wrong
+pub no_word : (t : Token) (ts : List Token) (stop : Stop) → ((w : Word) → t ≡ lower (command_text w) → ⊥) → Commands (t ∷ ts) stop command.Wrong
 no_word t ts stop n = (
   λ u. n u.0 u.2,
   λ f. n Add f.0,
@@ -119,8 +119,8 @@ no_word t ts stop n = (
 
 -- ---- `add`
 -- the only command that such tokens can be
-add_only : (c : Command) (ts : List Token) → IsCommand c (lower (word_text Add) ∷ ts) → (d : Clause) × IsClause d ts
-add_only (add d) ts h = (d, (command_is (add d) (lower (word_text Add)) ts h).1)
+add_only : (c : Command) (ts : List Token) → IsCommand c (lower (command_text Add) ∷ ts) → (d : Clause) × IsClause d ts
+add_only (add d) ts h = (d, (command_is (add d) (lower (command_text Add)) ts h).1)
 add_only (remove n) ts h = let e = word_is (remove n) Add ts h in cc
 add_only (query r p) ts h = let e = word_is (query r p) Add ts h in cc
 add_only stats ts h = let e = word_is stats Add ts h in cc
@@ -128,11 +128,11 @@ add_only stats ts h = let e = word_is stats Add ts h in cc
 -- where no clause was read of all the tokens
 pub add_wrong : (tokens : List Lexeme) (stop : Stop) (found : Option (program_clause.Clause × Bor (List Lexeme))) → reads.Reads clause_of IsClause Anything tokens found
     → (AreForeign (tokens_of tokens) → ⊥) → (stop ≡ End → (x : program_clause.Clause) (r : Bor (List Lexeme)) → found ≡ Some (x, r) → r.now ≡ [] → ⊥)
-    → Commands (lower (word_text Add) ∷ tokens_of tokens) stop command.Wrong
+    → Commands (lower (command_text Add) ∷ tokens_of tokens) stop command.Wrong
 add_wrong tokens stop found p own left = (
   built_begins Add (tokens_of tokens) refl,
   λ f. own f.1,
-  λ e s. some_tokens (lower (word_text Add)) (tokens_of tokens) s,
+  λ e s. some_tokens (lower (command_text Add)) (tokens_of tokens) s,
   λ e c h. let d = add_only c (tokens_of tokens) h in whole_none clause_of tokens tt found p (left e) d.0 d.1,
 )
 
@@ -144,57 +144,57 @@ found_not_foreign tokens x r p f =
     cnf_not_foreign (tokens_of tokens) _ (u.1 ∙ ap (λ ts. ts ++ tokens_of r.now) s.6) f
 
 pub add_read : (tokens : List Lexeme) (stop : Stop) (x : program_clause.Clause) (r : Bor (List Lexeme)) → stop ≡ End → r.now ≡ [] → reads.Reads clause_of IsClause Anything tokens (Some (x, r))
-    → IsSoundClause (clause_of x) → Commands (lower (word_text Add) ∷ tokens_of tokens) stop (command.Add x)
+    → IsSoundClause (clause_of x) → Commands (lower (command_text Add) ∷ tokens_of tokens) stop (command.Add x)
 add_read tokens stop x r e none p sound =
     (e, record { built = refl; operands = tokens_of tokens; spelled = whole_means clause_of tokens tt x r none p; whole = refl }, sound)
 
 -- a formula of another language
-pub add_foreign : (ts : List Token) (stop : Stop) → AreForeign ts → Commands (lower (word_text Add) ∷ ts) stop command.Foreign
+pub add_foreign : (ts : List Token) (stop : Stop) → AreForeign ts → Commands (lower (command_text Add) ∷ ts) stop command.Foreign
 add_foreign ts stop f = ((refl, f), λ c h. let d = add_only c ts h in clause_not_foreign d.0 ts d.1 f)
 
 -- ---- `remove`
-remove_only : (c : Command) (ts : List Token) → IsCommand c (lower (word_text Remove) ∷ ts) → (n : Name) × IsNameToken n ts
+remove_only : (c : Command) (ts : List Token) → IsCommand c (lower (command_text Remove) ∷ ts) → (n : Name) × IsNameToken n ts
 remove_only (add d) ts h = let e = word_is (add d) Remove ts h in cc
-remove_only (remove n) ts h = (n, (command_is (remove n) (lower (word_text Remove)) ts h).1)
+remove_only (remove n) ts h = (n, (command_is (remove n) (lower (command_text Remove)) ts h).1)
 remove_only (query r p) ts h = let e = word_is (query r p) Remove ts h in cc
 remove_only stats ts h = let e = word_is stats Remove ts h in cc
 
 -- where no name was read of all the tokens
 pub remove_wrong : (tokens : List Lexeme) (stop : Stop) (found : Option (program_name.Name × Bor (List Lexeme))) → reads.Reads name_of IsNameToken Anything tokens found
     → (stop ≡ End → (x : program_name.Name) (r : Bor (List Lexeme)) → found ≡ Some (x, r) → r.now ≡ [] → ⊥)
-    → Commands (lower (word_text Remove) ∷ tokens_of tokens) stop command.Wrong
+    → Commands (lower (command_text Remove) ∷ tokens_of tokens) stop command.Wrong
 remove_wrong tokens stop found p left =
     other_wrong Remove (tokens_of tokens) stop refl (λ e. cc)
     (λ e c h. let n = remove_only c (tokens_of tokens) h in whole_none name_of tokens tt found p (left e) n.0 n.1)
 
 pub remove_read : (tokens : List Lexeme) (stop : Stop) (x : program_name.Name) (r : Bor (List Lexeme)) → stop ≡ End → r.now ≡ []
-    → reads.Reads name_of IsNameToken Anything tokens (Some (x, r)) → Commands (lower (word_text Remove) ∷ tokens_of tokens) stop (command.Remove x)
+    → reads.Reads name_of IsNameToken Anything tokens (Some (x, r)) → Commands (lower (command_text Remove) ∷ tokens_of tokens) stop (command.Remove x)
 remove_read tokens stop x r e none p =
     (e, record { built = refl; operands = tokens_of tokens; spelled = whole_means name_of tokens tt x r none p; whole = refl })
 
 -- ---- `stats`
-stats_only : (c : Command) (ts : List Token) → IsCommand c (lower (word_text Stats) ∷ ts) → ts ≡ []
+stats_only : (c : Command) (ts : List Token) → IsCommand c (lower (command_text Stats) ∷ ts) → ts ≡ []
 stats_only (add d) ts h = let e = word_is (add d) Stats ts h in cc
 stats_only (remove n) ts h = let e = word_is (remove n) Stats ts h in cc
 stats_only (query r p) ts h = let e = word_is (query r p) Stats ts h in cc
-stats_only stats ts h = (command_is stats (lower (word_text Stats)) ts h).1
+stats_only stats ts h = (command_is stats (lower (command_text Stats)) ts h).1
 
 -- something stands behind the word
-pub stats_wrong : (ts : List Token) (stop : Stop) → (stop ≡ End → ts ≡ [] → ⊥) → Commands (lower (word_text Stats) ∷ ts) stop command.Wrong
+pub stats_wrong : (ts : List Token) (stop : Stop) → (stop ≡ End → ts ≡ [] → ⊥) → Commands (lower (command_text Stats) ∷ ts) stop command.Wrong
 stats_wrong ts stop some = other_wrong Stats ts stop refl (λ e. cc) (λ e c h. some e (stats_only c ts h))
 
-pub stats_read : (ts : List Token) (stop : Stop) → stop ≡ End → ts ≡ [] → Commands (lower (word_text Stats) ∷ ts) stop command.Stats
+pub stats_read : (ts : List Token) (stop : Stop) → stop ≡ End → ts ≡ [] → Commands (lower (command_text Stats) ∷ ts) stop command.Stats
 stats_read ts stop e none = (e, record { built = refl; operands = ts; spelled = none; whole = refl })
 
 -- ---- `instances`
-query_only : (c : Command) (ts : List Token) → IsCommand c (lower (word_text (Ask Instances)) ∷ ts) → (p : Pattern) × IsQuery p ts
+query_only : (c : Command) (ts : List Token) → IsCommand c (lower (command_text (Ask Instances)) ∷ ts) → (p : Pattern) × IsQuery p ts
 query_only (add d) ts h = let e = word_is (add d) (Ask Instances) ts h in cc
 query_only (remove n) ts h = let e = word_is (remove n) (Ask Instances) ts h in cc
-query_only (query r p) ts h = (p, (command_is (query r p) (lower (word_text (Ask Instances))) ts h).1)
+query_only (query r p) ts h = (p, (command_is (query r p) (lower (command_text (Ask Instances))) ts h).1)
 query_only stats ts h = let e = word_is stats (Ask Instances) ts h in cc
 
 -- what such tokens are where they are no command
-query_wrong : (ts : List Token) (stop : Stop) → (stop ≡ End → (p : Pattern) → IsQuery p ts → ⊥) → Commands (lower (word_text (Ask Instances)) ∷ ts) stop command.Wrong
+query_wrong : (ts : List Token) (stop : Stop) → (stop ≡ End → (p : Pattern) → IsQuery p ts → ⊥) → Commands (lower (command_text (Ask Instances)) ∷ ts) stop command.Wrong
 query_wrong ts stop n = other_wrong (Ask Instances) ts stop refl (λ e. cc) (λ e c h. let q = query_only c ts h in n e q.0 q.1)
 
 -- a query is the word of its kind, and the pattern
@@ -231,22 +231,22 @@ nothing_asked (literal_pattern l) h = let e = h.2 in cc
 nothing_asked (term_pattern t) h = let e = h.2 in cc
 
 -- nothing stands behind the word
-pub query_empty : (ts : List Token) (stop : Stop) → ts ≡ [] → Commands (lower (word_text (Ask Instances)) ∷ ts) stop command.Wrong
+pub query_empty : (ts : List Token) (stop : Stop) → ts ≡ [] → Commands (lower (command_text (Ask Instances)) ∷ ts) stop command.Wrong
 query_empty ts stop none = query_wrong ts stop (λ e p q. nothing_asked p (subst (IsQuery p) none q))
 
 -- another word than that of a kind does
 pub query_other : (whole : List Token) (stop : Stop) (t : Token) (ts : List Token) → whole ≡ t ∷ ts → ((k : PatternKind) → t ≡ lower (kind_word k) → ⊥)
-    → Commands (lower (word_text (Ask Instances)) ∷ whole) stop command.Wrong
+    → Commands (lower (command_text (Ask Instances)) ∷ whole) stop command.Wrong
 query_other whole stop t ts front other =
     query_wrong whole stop (λ e p q. let a = asks p t ts (subst (IsQuery p) front q) in other a.kind a.word)
 
 -- something else than blanks stands behind the last token
-pub query_bad : (ts : List Token) (stop : Stop) → (stop ≡ End → ⊥) → Commands (lower (word_text (Ask Instances)) ∷ ts) stop command.Wrong
+pub query_bad : (ts : List Token) (stop : Stop) → (stop ≡ End → ⊥) → Commands (lower (command_text (Ask Instances)) ∷ ts) stop command.Wrong
 query_bad ts stop bad = query_wrong ts stop (λ e p q. bad e)
 
 -- the rest is no pattern of the kind
 pub query_none : (whole : List Token) (stop : Stop) (t : Token) (ts : List Token) (k : PatternKind) → whole ≡ t ∷ ts → t ≡ lower (kind_word k) → ReadsWhole ts k None
-    → Commands (lower (word_text (Ask Instances)) ∷ whole) stop command.Wrong
+    → Commands (lower (command_text (Ask Instances)) ∷ whole) stop command.Wrong
 query_none whole stop t ts k front word none =
     query_wrong whole stop
     (λ e p q.
@@ -255,7 +255,7 @@ query_none whole stop t ts k front word none =
 
 -- or it is one
 pub query_read : (whole : List Token) (stop : Stop) (t : Token) (ts : List Token) (k : PatternKind) (p : program_pattern.Pattern) → stop ≡ End → whole ≡ t ∷ ts → t ≡ lower (kind_word k)
-    → ReadsWhole ts k (Some p) → Commands (lower (word_text (Ask Instances)) ∷ whole) stop (command.Query p)
+    → ReadsWhole ts k (Some p) → Commands (lower (command_text (Ask Instances)) ∷ whole) stop (command.Query p)
 query_read whole stop t ts k p e front word read =
     (e, record { built = refl; operands = whole; spelled = subst (IsQuery (pattern_of p)) (sym front) (asks_query k (pattern_of p) t ts word read.of_kind read.spelled); whole = refl })
 
@@ -266,7 +266,7 @@ module _ (line : Bytes) (x : Lexing) (l : IsLexing line 0 x) where
 
   unbuilt_tokens : IsUnbuilt line → BeginUnbuilt these
   unbuilt_tokens u =
-      let k = l.every (lower (word_text u.word) ∷ []) u.rest (u.rest, u.first, refl) (omega arith) in
+      let k = l.every (lower (command_text u.word) ∷ []) u.rest (u.rest, u.first, refl) (omega arith) in
       subst BeginUnbuilt (sym k.1) (u.word, u.unbuilt, refl)
 
   unbuilt_line : BeginUnbuilt these → IsUnbuilt line
@@ -285,7 +285,7 @@ module _ (line : Bytes) (x : Lexing) (l : IsLexing line 0 x) where
 
   foreign_tokens : AddsForeign line → AddForeign these
   foreign_tokens f =
-      let k = l.every (lower (word_text Add) ∷ lower f.0 ∷ left_bracket ∷ []) f.1 f.3 (omega arith) in
+      let k = l.every (lower (command_text Add) ∷ lower f.0 ∷ left_bracket ∷ []) f.1 f.3 (omega arith) in
       subst AddForeign (sym k.1) (refl, ((refl, f.2), refl))
 
   foreign_line : AddForeign these → AddsForeign line
@@ -294,8 +294,8 @@ module _ (line : Bytes) (x : Lexing) (l : IsLexing line 0 x) where
     by [] f g = absurd f
     by (t ∷ ts) f g =
         let w = foreign_front ts f.1 in
-        let front : t ∷ ts ≡ (lower (word_text Add) ∷ lower w.0 ∷ left_bracket ∷ []) ++ w.1 = ap₂ (λ x xs. x ∷ xs) f.0 w.3 in
-        let s = begins_split (lower (word_text Add) ∷ lower w.0 ∷ left_bracket ∷ []) w.1 line l.rest (subst (λ ts. Begins line ts l.rest) front g) in
+        let front : t ∷ ts ≡ (lower (command_text Add) ∷ lower w.0 ∷ left_bracket ∷ []) ++ w.1 = ap₂ (λ x xs. x ∷ xs) f.0 w.3 in
+        let s = begins_split (lower (command_text Add) ∷ lower w.0 ∷ left_bracket ∷ []) w.1 line l.rest (subst (λ ts. Begins line ts l.rest) front g) in
         (w.0, s.0, w.2, s.1)
 
   tokens_mean : (c : Command) → x.stop ≡ End → IsCommand c these → Means c line
@@ -310,7 +310,7 @@ module _ (line : Bytes) (x : Lexing) (l : IsLexing line 0 x) where
   command_built c h b = built_begins (command_word c) h.operands h.built (subst BeginUnbuilt h.whole b)
 
   command_some : (c : Command) → IsCommand c these → these ≡ [] → ⊥
-  command_some c h none = some_tokens (lower (word_text (command_word c))) h.operands (sym h.whole ∙ none)
+  command_some c h none = some_tokens (lower (command_text (command_word c))) h.operands (sym h.whole ∙ none)
 
   -- tokens that add a formula of another language
   foreign_built : AddForeign these → BeginUnbuilt these → ⊥
@@ -326,7 +326,7 @@ module _ (line : Bytes) (x : Lexing) (l : IsLexing line 0 x) where
   unbuilt_some b none = let g : BeginUnbuilt [] = subst BeginUnbuilt none b in g
 
   -- what its tokens are, the line is
-  pub line_read : (c : read.Command) → Commands these x.stop c → Reads line c
+  pub line_read : (c : read.Command) → Commands these x.stop c → ReadsCommand line c
   line_read command.Blank h = (λ u. unbuilt_some (unbuilt_tokens u) h.1, blank_line h.0 h.1)
   line_read command.Later h = (λ b. unbuilt_some h (blank_tokens b).1, unbuilt_line h)
   line_read command.Foreign h = (

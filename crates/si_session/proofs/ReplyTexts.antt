@@ -10,7 +10,7 @@ use Rattle.si_sign.specs.declared.faults.Shape.{Shape}
 use Rattle.si_term.specs.declared.term.Sym.{Sym}
 use Rattle.si_term.specs.Terms.{symbol_of}
 use Rattle.si_term.specs.Meaning.{name_of}
-use Rattle.si_session.specs.Replies.{line_of, ended_line, stats_text, closed_shape}
+use Rattle.si_session.specs.Replies.{reply_line, ended_line, stats_text, closed_shape}
 use Rattle.si_session.specs.Signs.{sign_text}
 use Rattle.si_session.specs.declared.sign.Sign.TheVariants.{Space, LineFeed}
 use Rattle.si_session.specs.declared.reply.Reply.{Reply}
@@ -29,7 +29,7 @@ unfolding sign_text ended_line
 end_text r lines e = ap ended_line (sym e)
 
 -- a line and its line feed
-pub ended_is : (r : Reply) → ended_line r ≡ line_of r ++ 10 ∷ []
+pub ended_is : (r : Reply) → ended_line r ≡ reply_line r ++ 10 ∷ []
 unfolding ended_line
 ended_is r = refl
 

@@ -8,7 +8,7 @@ use Rattle.si_defs.specs.Variables.{of_entry, variable_text}
 use Rattle.si_defs.specs.Printing as printing
 use Rattle.si_defs.specs.Printing.{symbol_text, separated, term_text, more_texts, bindings_texts}
 use Rattle.si_session.specs.Matching.{Bindings, solution_of}
-use Rattle.si_session.specs.Signs.{sign_text, binding_text, more_bindings_text, bindings_text, solution_text}
+use Rattle.si_session.specs.Signs.{sign_text, binding_text, more_bindings_text, bindings_text, matched_text}
 
 -- the variables of an entry are printed by their names
 mutual
@@ -36,7 +36,7 @@ bindings_text_is b (c ∷ bs) =
     ∙ ap (λ l. (binding_text b ++ codes "; ") ++ l) (bindings_text_is c bs)
     ∙ append_assoc (binding_text b) (codes "; ") (binding_text c ++ more_bindings_text bs)
 
-pub solution_text_is : (bs : Bindings) → solution_text bs ≡ printing.solution_text variable_text (solution_of bs)
-unfolding solution_text bindings_text more_bindings_text sign_text
+pub solution_text_is : (bs : Bindings) → matched_text bs ≡ printing.solution_text variable_text (solution_of bs)
+unfolding matched_text bindings_text more_bindings_text sign_text
 solution_text_is [] = refl
 solution_text_is (b ∷ bs) = ap (λ l. (codes "{" ++ l) ++ codes "}") (sym (bindings_text_is b bs))

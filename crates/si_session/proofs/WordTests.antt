@@ -6,7 +6,7 @@ use Rattle.si_defs.specs.declared.Relation.{Relation}
 use Rattle.si_defs.specs.declared.Relation.TheVariants.{Variants, Instances, Generalizations, Unifiable}
 use Rattle.si_steps.specs.declared.word.Word.{Word}
 use Rattle.si_steps.specs.declared.word.Word.TheVariants.{Add, Load, Remove, Ask, Subsumers, Subsumed, Stats, Tree, Explain, Sample}
-use Rattle.si_steps.specs.Words.{word_text, relation_text}
+use Rattle.si_steps.specs.Words.{command_text, relation_text}
 
 -- a test that failed
 pub not_true : (b : Bool) (P : Type 0) → IsTrue b ↔ P → b ≡ false → P → ⊥
@@ -23,7 +23,7 @@ no_relation text v i g u Unifiable e = u e
 -- nor of any other word
 pub no_word_text : (text : Bytes) → (codes "add" ≡ text → ⊥) → (codes "load" ≡ text → ⊥) → (codes "remove" ≡ text → ⊥) → (codes "subsumers" ≡ text → ⊥) → (codes "subsumed" ≡ text → ⊥)
     → (codes "stats" ≡ text → ⊥) → (codes "tree" ≡ text → ⊥) → (codes "explain" ≡ text → ⊥) → (codes "sample" ≡ text → ⊥)
-    → ((relation : Relation) → relation_text relation ≡ text → ⊥) → (word : Word) → word_text word ≡ text → ⊥
+    → ((relation : Relation) → relation_text relation ≡ text → ⊥) → (word : Word) → command_text word ≡ text → ⊥
 no_word_text text a l r s d t k x m n Add e = a e
 no_word_text text a l r s d t k x m n Load e = l e
 no_word_text text a l r s d t k x m n Remove e = r e

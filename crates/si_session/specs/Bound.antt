@@ -5,8 +5,8 @@ use Rattle.si_defs.specs.Clauses as clauses
 use Rattle.si_term.specs.Terms.{term_of}
 use Rattle.si_session.specs.declared.bindings.Binding.{Binding}
 
-abbrev pub binding_of : Binding → Bytes × clauses.Term
-binding_of b = (b.variable.now, term_of b.value.now)
+abbrev pub bound_pair : Binding → Bytes × clauses.Term
+bound_pair b = (b.variable.now, term_of b.value.now)
 
 abbrev pub bindings_of : List Binding → List (Bytes × clauses.Term)
-bindings_of bs = map binding_of bs
+bindings_of bs = map bound_pair bs

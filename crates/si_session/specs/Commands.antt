@@ -6,7 +6,7 @@ use Rattle.si_defs.specs.declared.Relation.TheVariants.{Instances}
 use Rattle.si_defs.specs.Tokens.{Token, lower, AreBlanks}
 use Rattle.si_steps.specs.declared.word.Word.{Word}
 use Rattle.si_steps.specs.declared.word.Word.TheVariants.{Add}
-use Rattle.si_steps.specs.Words.{word_text, is_built}
+use Rattle.si_steps.specs.Words.{command_text, is_built}
 use Rattle.si_steps.specs.Commands as defs
 use Rattle.si_steps.specs.Commands.{IsUnbuilt, AddsForeign, IsCommand, Means}
 use Rattle.si_steps.specs.Steps.{IsNoCommand}
@@ -31,26 +31,26 @@ pub record IsWrong (line : Bytes) : Type 0 where
 abbrev pub IsPerformed : defs.Command → Bytes → Type 0
 IsPerformed c line = (IsUnbuilt line → ⊥) × (AreBlanks line → ⊥) × Means c line
 
-abbrev pub Reads : Bytes → Command → Type 0
-Reads line command.Blank = (IsUnbuilt line → ⊥) × AreBlanks line
-Reads line command.Later = (AreBlanks line → ⊥) × IsUnbuilt line
-Reads line command.Foreign = (IsUnbuilt line → ⊥) × (AreBlanks line → ⊥) × AddsForeign line × IsNoCommand line
-Reads line command.Wrong = IsWrong line
-Reads line (command.Add c) = IsPerformed (defs.add (clause_of c)) line × IsSoundClause (clause_of c)
-Reads line (command.Remove n) = IsPerformed (defs.remove (name_of n)) line
-Reads line command.Stats = IsPerformed defs.stats line
-Reads line (command.Query p) = IsPerformed (defs.query Instances (pattern_of p)) line
+abbrev pub ReadsCommand : Bytes → Command → Type 0
+ReadsCommand line command.Blank = (IsUnbuilt line → ⊥) × AreBlanks line
+ReadsCommand line command.Later = (AreBlanks line → ⊥) × IsUnbuilt line
+ReadsCommand line command.Foreign = (IsUnbuilt line → ⊥) × (AreBlanks line → ⊥) × AddsForeign line × IsNoCommand line
+ReadsCommand line command.Wrong = IsWrong line
+ReadsCommand line (command.Add c) = IsPerformed (defs.add (clause_of c)) line × IsSoundClause (clause_of c)
+ReadsCommand line (command.Remove n) = IsPerformed (defs.remove (name_of n)) line
+ReadsCommand line command.Stats = IsPerformed defs.stats line
+ReadsCommand line (command.Query p) = IsPerformed (defs.query Instances (pattern_of p)) line
 
 -- ---- the tokens of a line
 -- the first of them is the word of a command that isn't built
 abbrev pub BeginUnbuilt : List Token → Type 0
 BeginUnbuilt [] = ⊥
-BeginUnbuilt (t ∷ ts) = (word : Word) × IsFalse (is_built word) × (t ≡ lower (word_text word))
+BeginUnbuilt (t ∷ ts) = (word : Word) × IsFalse (is_built word) × (t ≡ lower (command_text word))
 
 -- they add a formula of another language
 abbrev pub AddForeign : List Token → Type 0
 AddForeign [] = ⊥
-AddForeign (t ∷ ts) = (t ≡ lower (word_text Add)) × AreForeign ts
+AddForeign (t ∷ ts) = (t ≡ lower (command_text Add)) × AreForeign ts
 
 -- the command that they are, by what stands behind them
 abbrev pub Commands : List Token → Stop → Command → Type 0

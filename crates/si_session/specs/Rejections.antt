@@ -8,7 +8,7 @@ use Rattle.si_term.specs.Meaning.{name_of, clause_of}
 use Rattle.si_sign.specs.declared.faults.Rejected.{Rejected}
 use Rattle.si_sign.specs.declared.faults.AddFault.{AddFault}
 use Rattle.si_sign.specs.declared.faults.AddFault.TheVariants as add_fault
-use Rattle.si_session.specs.Replies.{line_of, misused_text}
+use Rattle.si_session.specs.Replies.{reply_line, misused_text}
 use Rattle.si_session.specs.declared.reply.Reply.{Reply}
 
 -- the entry of a clash is one of the clause
@@ -22,12 +22,12 @@ HasHead rejected = IsSoundClause (clause_of rejected.clause) × NamesEntry rejec
 
 -- the reply's line says this fault
 abbrev pub TellsFault : Rejected → Reply → AddFault → Type 0
-TellsFault rejected reply add_fault.Taken = line_of reply ≡ taken_line (name_of rejected.clause.name)
+TellsFault rejected reply add_fault.Taken = reply_line reply ≡ taken_line (name_of rejected.clause.name)
 TellsFault rejected reply (add_fault.Clash c) =
     (s : Symbol) → slice_get (clause_symbols (clause_of rejected.clause)) c.entry ≡ Some s
-    → line_of reply ≡ misused_text s c.found c.kept
-TellsFault rejected reply (add_fault.Full needed limit) = line_of reply ≡ full_line needed limit
-TellsFault rejected reply add_fault.Memory = line_of reply ≡ memory_line
+    → reply_line reply ≡ misused_text s c.found c.kept
+TellsFault rejected reply (add_fault.Full needed limit) = reply_line reply ≡ full_line needed limit
+TellsFault rejected reply add_fault.Memory = reply_line reply ≡ memory_line
 
 -- the reply says why
 abbrev pub TellsWhy : Rejected → Reply → Type 0

@@ -3,7 +3,7 @@ use Rattle.std.specs.Prelude.{[], ◌∷◌, ◌++◌, codes}
 use Rattle.si_defs.specs.Bytes.{Bytes}
 use Rattle.si_defs.specs.Symbols.{Symbol}
 use Rattle.si_defs.specs.Printing.{symbol_text, shape_text}
-use Rattle.si_steps.specs.Replies.{ok_line, end_line, stats_line, taken_line, full_line, unknown_line, later_line, language_line, syntax_line, memory_line}
+use Rattle.si_steps.specs.Replies.{ok_line, end_line, stats_line, taken_line, full_line, unknown_line, long_line, later_line, language_line, syntax_line, memory_line}
 use Rattle.si_sign.specs.declared.faults.Shape.{Shape}
 use Rattle.si_term.specs.Terms.{symbol_of}
 use Rattle.si_term.specs.Meaning.{name_of}
@@ -21,22 +21,23 @@ misused_text s found kept =
     codes "! use " ++ symbol_text s ++ codes " " ++ shape_text found.side found.arity
     ++ codes " " ++ shape_text kept.side kept.arity
 
-abbrev pub line_of : Reply → Bytes
-line_of (reply.Ok clauses entries) = ok_line clauses entries
-line_of (reply.End lines) = end_line lines
-line_of (reply.Stats stats) = stats_line stats.clauses stats.entries stats.symbols
-line_of (reply.Taken name) = taken_line (name_of name.now)
-line_of (reply.Misused symbol found kept) = misused_text (symbol_of symbol.now) found kept
-line_of (reply.Full needed limit) = full_line needed limit
-line_of (reply.Unknown name) = unknown_line (name_of name.now)
-line_of reply.Later = later_line
-line_of reply.Language = language_line
-line_of reply.Syntax = syntax_line
-line_of reply.Memory = memory_line
+abbrev pub reply_line : Reply → Bytes
+reply_line (reply.Ok clauses entries) = ok_line clauses entries
+reply_line (reply.End lines) = end_line lines
+reply_line (reply.Stats stats) = stats_line stats.clauses stats.entries stats.symbols
+reply_line (reply.Taken name) = taken_line (name_of name.now)
+reply_line (reply.Misused symbol found kept) = misused_text (symbol_of symbol.now) found kept
+reply_line (reply.Full needed limit) = full_line needed limit
+reply_line (reply.Unknown name) = unknown_line (name_of name.now)
+reply_line reply.Long = long_line
+reply_line reply.Later = later_line
+reply_line reply.Language = language_line
+reply_line reply.Syntax = syntax_line
+reply_line reply.Memory = memory_line
 
 -- with its line feed
 unfoldable pub ended_line : Reply → Bytes
-ended_line r = line_of r ++ 10 ∷ []
+ended_line r = reply_line r ++ 10 ∷ []
 
 -- how much is kept, with its line feed
 unfoldable pub stats_text : Stats → Bytes

@@ -7,16 +7,16 @@ use Rattle.si_defs.specs.Printing.{place_text}
 use Rattle.si_state.specs.Answers.{hit_texts}
 use Rattle.si_session.specs.Matching.{Bindings}
 use Rattle.si_session.specs.Hits.{hits, placed_under}
-use Rattle.si_session.specs.Signs.{sign_text, solution_text}
+use Rattle.si_session.specs.Signs.{sign_text, matched_text}
 use Rattle.si_session.specs.declared.sign.Sign.TheVariants.{Space, LineFeed}
 
 -- the line of a hit at a place, without its line feed and with it
 unfoldable pub hit_line : Name → ℕ → List ℕ → Bindings → Bytes
-hit_line name number path bs = place_text name (record { literal = number; path = path }) ++ sign_text Space ++ solution_text bs
+hit_line name number path bs = place_text name (record { literal = number; path = path }) ++ sign_text Space ++ matched_text bs
 
 unfoldable pub ended_hit_line : Name → ℕ → List ℕ → Bindings → Bytes
 ended_hit_line name number path bs =
-    place_text name (record { literal = number; path = path }) ++ sign_text Space ++ solution_text bs ++ sign_text LineFeed
+    place_text name (record { literal = number; path = path }) ++ sign_text Space ++ matched_text bs ++ sign_text LineFeed
 
 -- the line of an entry, if it is a hit
 unfoldable pub entry_lines : Name → ℕ → List ℕ → Option Bindings → List Bytes

@@ -40,13 +40,13 @@ pub record Steps (old new : State) (line : Bytes) (outcome : Stepped) (before af
 -- ---- parts of a step
 -- What a command did: its reply P was right, and so is the state behind it; or memory ran out, at
 -- once or behind some of the lines of the right reply, and the state stayed.
-pub data Acts (P : Reply → List Clause → Type 0) (old new : List Clause) (outcome : Stepped) (before after : Told) : Type 0 where
-  rightly : (reply : Reply) → P reply new → Writes outcome reply before after → Acts P old new outcome before after
-  at_once : new ≡ old → Writes outcome (memory_line ∷ []) before after → Acts P old new outcome before after
+pub data HasPerformed (P : Reply → List Clause → Type 0) (old new : List Clause) (outcome : Stepped) (before after : Told) : Type 0 where
+  rightly : (reply : Reply) → P reply new → Writes outcome reply before after → HasPerformed P old new outcome before after
+  at_once : new ≡ old → Writes outcome (memory_line ∷ []) before after → HasPerformed P old new outcome before after
   behind : (whole : Reply) (next : List Clause) → P whole next → (written left : Reply) → whole ≡ written ++ left → (left ≡ [] → ⊥)
-      → new ≡ old → Writes outcome (written ++ memory_line ∷ []) before after → Acts P old new outcome before after
+      → new ≡ old → Writes outcome (written ++ memory_line ∷ []) before after → HasPerformed P old new outcome before after
 
 -- the same of an index, under limits that allow as many entries as it does
 abbrev pub ActsOn : (Limits → List Clause → Reply → List Clause → Type 0) → Kept → Kept → Stepped → Told → Told → Type 0
 ActsOn P old new outcome before after =
-    (limits : Limits) → limits.entries ≡ old.limit → Acts (P limits old.clauses) old.clauses new.clauses outcome before after
+    (limits : Limits) → limits.entries ≡ old.limit → HasPerformed (P limits old.clauses) old.clauses new.clauses outcome before after

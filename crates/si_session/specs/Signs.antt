@@ -28,5 +28,5 @@ unfoldable pub bindings_text : List (Bytes × Term) → Bytes
 bindings_text [] = []
 bindings_text (b ∷ bs) = binding_text b ++ more_bindings_text bs
 
-unfoldable pub solution_text : List (Bytes × Term) → Bytes
-solution_text bs = sign_text OpenBrace ++ bindings_text bs ++ sign_text CloseBrace
+unfoldable pub matched_text : List (Bytes × Term) → Bytes
+matched_text bs = sign_text OpenBrace ++ bindings_text bs ++ sign_text CloseBrace

@@ -5,9 +5,9 @@ ghost use Rattle.si_defs.specs.declared.Relation.TheVariants.{Instances};
 ghost use Rattle.si_lex.specs.Lexemes.{token_of, tokens_of};
 ghost use Rattle.si_defs.specs.declared.TheConstants.{MOST_BYTES};
 ghost use Rattle.si_parse.specs.declared.pattern.PatternKind.{PatternKind};
-ghost use Rattle.si_steps.specs.Words.{word_text};
+ghost use Rattle.si_steps.specs.Words.{command_text};
 ghost use Rattle.si_steps.specs.declared.word.Word.TheVariants.{Add, Remove, Ask, Stats};
-ghost use Rattle.si_session.specs.Commands.{Commands, Reads, kind_word};
+ghost use Rattle.si_session.specs.Commands.{Commands, ReadsCommand, kind_word};
 
 use crate::word::word_of;
 use si_defs::Relation;
@@ -46,7 +46,7 @@ pub enum Command {
 /// `AllocError` where memory runs out, which never happens at a line of blanks.
 pub fn read_command(alloc: Global, line: &[u8]) -> Result<Command, AllocError>
     requires { length line.now ≤ MOST_BYTES }
-    ensures read { IfOk result (Reads line.now) }
+    ensures read { IfOk result (ReadsCommand line.now) }
     ensures refused { OnErr result (AreBlanks line.now → ⊥) }
 {
     let lexing = lex(alloc, line, 0)?;
@@ -78,7 +78,7 @@ fn command_of(alloc: Global, tokens: &[Lexeme<'_>], stop: Stop) -> Result<Comman
 /// The command that the word `add` begins, by the tokens behind it.
 fn add_command(alloc: Global, tokens: &[Lexeme<'_>], stop: Stop) -> Result<Command, AllocError>
     requires { length tokens.now ≤ MOST_BYTES }
-    ensures { IfOk result (Commands (lower (word_text Add) ∷ tokens_of tokens.now) stop) }
+    ensures { IfOk result (Commands (lower (command_text Add) ∷ tokens_of tokens.now) stop) }
 {
     match clause(alloc, tokens)? {
         Some((clause, rest)) if rest.is_empty() => match stop {
@@ -93,7 +93,7 @@ fn add_command(alloc: Global, tokens: &[Lexeme<'_>], stop: Stop) -> Result<Comma
 
 /// The command that the word `remove` begins, by the tokens behind it.
 fn remove_command(alloc: Global, tokens: &[Lexeme<'_>], stop: Stop) -> Result<Command, AllocError>
-    ensures { IfOk result (Commands (lower (word_text Remove) ∷ tokens_of tokens.now) stop) }
+    ensures { IfOk result (Commands (lower (command_text Remove) ∷ tokens_of tokens.now) stop) }
 {
     match name(alloc, tokens)? {
         Some((name, rest)) if rest.is_empty() => match stop {
@@ -107,7 +107,7 @@ fn remove_command(alloc: Global, tokens: &[Lexeme<'_>], stop: Stop) -> Result<Co
 
 /// The command that the word `stats` begins, by the tokens behind it.
 fn stats_command(tokens: &[Lexeme<'_>], stop: Stop) -> Command
-    ensures { Commands (lower (word_text Stats) ∷ tokens_of tokens.now) stop result }
+    ensures { Commands (lower (command_text Stats) ∷ tokens_of tokens.now) stop result }
 {
     match stop {
         Stop::End if tokens.is_empty() => Command::Stats,
@@ -118,7 +118,7 @@ fn stats_command(tokens: &[Lexeme<'_>], stop: Stop) -> Command
 /// The command that the word `instances` begins, by the tokens behind it.
 fn query_command(alloc: Global, tokens: &[Lexeme<'_>], stop: Stop) -> Result<Command, AllocError>
     requires { length tokens.now ≤ MOST_BYTES }
-    ensures { IfOk result (Commands (lower (word_text (Ask Instances)) ∷ tokens_of tokens.now)
+    ensures { IfOk result (Commands (lower (command_text (Ask Instances)) ∷ tokens_of tokens.now)
         stop) }
 {
     let Some((word, rest)) = tokens.split_first() else {

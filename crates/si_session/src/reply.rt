@@ -8,7 +8,7 @@ ghost use Rattle.si_term.specs.Terms.{symbol_of};
 ghost use Rattle.si_term.specs.Meaning.{name_of};
 ghost use Rattle.si_session.specs.Signs.{sign_text};
 ghost use Rattle.si_session.specs.declared.sign.Sign.TheVariants.{Space, LineFeed};
-ghost use Rattle.si_session.specs.Replies.{line_of, ended_line, stats_text, closed_shape};
+ghost use Rattle.si_session.specs.Replies.{reply_line, ended_line, stats_text, closed_shape};
 ghost use Rattle.si_session.specs.Session.{Writes};
 ghost use Rattle.si_session.specs.declared.stepped.Stepped.TheVariants.{SinkFailed};
 
@@ -47,6 +47,8 @@ pub enum Reply<'a> {
     },
     /// No kept clause has this name.
     Unknown(&'a Name),
+    /// The line has more bytes than a line may have.
+    Long,
     /// The line's kind isn't built yet.
     Later,
     /// The line adds a formula of another language.
@@ -175,6 +177,7 @@ fn put_reply<K: Sink>(sink: &mut K, reply: Reply<'_>) -> Result<(), Failed>
         } => put_misused(sink, b"! use ", symbol, found, kept),
         Reply::Full { needed, limit } => put_counts(sink, b"! full ", needed, b" ", limit),
         Reply::Unknown(name) => put_named(sink, b"! unknown ", name),
+        Reply::Long => put_bytes(sink, b"! long\n"),
         Reply::Later => put_bytes(sink, b"! later\n"),
         Reply::Language => put_bytes(sink, b"! language\n"),
         Reply::Syntax => put_bytes(sink, b"! syntax\n"),
@@ -184,18 +187,19 @@ fn put_reply<K: Sink>(sink: &mut K, reply: Reply<'_>) -> Result<(), Failed>
 
 /// Whether the line is a refusal.
 fn refuses(reply: Reply<'_>) -> bool
-    ensures { result ≡ is_refusal (line_of reply.entry ∷ []) }
+    ensures { result ≡ is_refusal (reply_line reply.entry ∷ []) }
 {
     match reply {
         Reply::Ok { .. } | Reply::End(_) | Reply::Stats(_) => false,
         Reply::Taken(_) | Reply::Misused { .. } | Reply::Full { .. } | Reply::Unknown(_) => true,
-        Reply::Later | Reply::Language | Reply::Syntax | Reply::Memory => true,
+        Reply::Long | Reply::Later | Reply::Language => true,
+        Reply::Syntax | Reply::Memory => true,
     }
 }
 
 /// Writes a line of a reply, and says what became of the command line.
 pub fn tell<K: Sink>(sink: &mut K, reply: Reply<'_>) -> Stepped
-    ensures written { Writes result (line_of reply.entry ∷ []) (K.written sink.old)
+    ensures written { Writes result (reply_line reply.entry ∷ []) (K.written sink.old)
         (K.written sink.new) }
     ensures later { K.faults sink.old ≤ K.faults sink.new }
     ensures kept { (result ≡ SinkFailed → ⊥) → K.faults sink.new ≡ K.faults sink.old }

@@ -71,7 +71,7 @@ impl Session {
         ensures failed { result ≡ SinkFailed → Rose (K.faults sink.old) (K.faults sink.new) }
     {
         if line.len() > self.limits.line {
-            return tell(sink, Reply::Later);
+            return tell(sink, Reply::Long);
         }
         match read_command(self.alloc, line) {
             Ok(Command::Blank) => Stepped::Silent,

@@ -2,8 +2,8 @@
 ghost use Rattle.std.specs.Prelude.{◌++◌, OnOk, OnErr};
 ghost use Rattle.si_io.specs.Puts.{Puts};
 ghost use Rattle.si_io.specs.Faults.{HasCause};
-ghost use Rattle.si_session.specs.Bound.{binding_of, bindings_of};
-ghost use Rattle.si_session.specs.Signs.{sign_text, binding_text, more_bindings_text, bindings_text, solution_text};
+ghost use Rattle.si_session.specs.Bound.{bound_pair, bindings_of};
+ghost use Rattle.si_session.specs.Signs.{sign_text, binding_text, more_bindings_text, bindings_text, matched_text};
 ghost use Rattle.si_session.specs.declared.sign.Sign.TheVariants.{Semicolon};
 
 use crate::bindings::Binding;
@@ -14,7 +14,7 @@ use si_reply::{put_bytes, put_term};
 /// Writes a variable of the pattern and its term.
 #[tactic(auto, using(si_io::proofs::Content::writes), unfolding(crate::specs::Signs::binding_text))]
 fn put_binding<K: Sink>(sink: &mut K, binding: &Binding<'_>) -> Result<(), Failed>
-    ensures text { Puts result (binding_text (binding_of binding.now)) (K.written sink.old)
+    ensures text { Puts result (binding_text (bound_pair binding.now)) (K.written sink.old)
         (K.written sink.new) }
     ensures cause { HasCause (K.faults sink.old) (K.faults sink.new) result }
 {
@@ -27,7 +27,7 @@ fn put_binding<K: Sink>(sink: &mut K, binding: &Binding<'_>) -> Result<(), Faile
 /// Writes a semicolon, and then a binding.
 #[tactic(auto, using(si_io::proofs::Content::writes))]
 fn put_next_binding<K: Sink>(sink: &mut K, binding: &Binding<'_>) -> Result<(), Failed>
-    ensures text { Puts result (sign_text Semicolon ++ binding_text (binding_of binding.now))
+    ensures text { Puts result (sign_text Semicolon ++ binding_text (bound_pair binding.now))
         (K.written sink.old) (K.written sink.new) }
     ensures cause { HasCause (K.faults sink.old) (K.faults sink.new) result }
 {
@@ -62,9 +62,9 @@ fn put_bindings<K: Sink>(sink: &mut K, bindings: &[Binding<'_>]) -> Result<(), F
 }
 
 /// Writes the list that bindings stand for.
-#[tactic(auto, using(si_io::proofs::Content::writes), unfolding(crate::specs::Signs::solution_text))]
+#[tactic(auto, using(si_io::proofs::Content::writes), unfolding(crate::specs::Signs::matched_text))]
 pub fn put_solution<K: Sink>(sink: &mut K, bindings: &[Binding<'_>]) -> Result<(), Failed>
-    ensures text { Puts result (solution_text (bindings_of bindings.now)) (K.written sink.old)
+    ensures text { Puts result (matched_text (bindings_of bindings.now)) (K.written sink.old)
         (K.written sink.new) }
     ensures cause { HasCause (K.faults sink.old) (K.faults sink.new) result }
 {

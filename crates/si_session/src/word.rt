@@ -3,7 +3,7 @@ ghost use Rattle.std.specs.Prelude.{◌≡◌, ◌↔◌, IfSome, IfNone, IsTrue
 ghost use Rattle.si_defs.specs.Tokens.{lower};
 ghost use Rattle.si_defs.specs.declared.Relation.{Relation};
 ghost use Rattle.si_lex.specs.Lexemes.{token_of};
-ghost use Rattle.si_steps.specs.Words.{relation_text, word_text};
+ghost use Rattle.si_steps.specs.Words.{relation_text, command_text};
 ghost use Rattle.si_steps.specs.declared.word.Word.{Word};
 
 use si_defs::{Relation, TokenKind};
@@ -12,9 +12,9 @@ use si_steps::Word;
 
 /// The word of a command that a token is.
 pub fn word_of(token: &Lexeme<'_>) -> Option<Word>
-    ensures found { IfSome result (λ word. token_of token.now ≡ lower (word_text word)) }
+    ensures found { IfSome result (λ word. token_of token.now ≡ lower (command_text word)) }
     ensures none { IfNone result
-        ((word : Word) → token_of token.now ≡ lower (word_text word) → ⊥) }
+        ((word : Word) → token_of token.now ≡ lower (command_text word) → ⊥) }
 {
     match token.kind {
         TokenKind::Lower => word_with(token.spelling),
@@ -24,8 +24,8 @@ pub fn word_of(token: &Lexeme<'_>) -> Option<Word>
 
 /// The word with this text.
 fn word_with(text: &[u8]) -> Option<Word>
-    ensures found { IfSome result (λ word. word_text word ≡ text.now) }
-    ensures none { IfNone result ((word : Word) → word_text word ≡ text.now → ⊥) }
+    ensures found { IfSome result (λ word. command_text word ≡ text.now) }
+    ensures none { IfNone result ((word : Word) → command_text word ≡ text.now → ⊥) }
 {
     if is(text, b"add") {
         return Some(Word::Add);

@@ -5,7 +5,7 @@ use Rattle.si_defs.specs.Bytes.{Bytes}
 use Rattle.si_defs.specs.declared.Relation.TheVariants.{Variants, Instances, Generalizations, Unifiable}
 use Rattle.si_steps.specs.declared.word.Word.{Word}
 use Rattle.si_steps.specs.declared.word.Word.TheVariants.{Add, Load, Remove, Ask, Subsumers, Subsumed, Stats, Tree, Explain, Sample}
-use Rattle.si_steps.specs.Words.{word_text, is_built}
+use Rattle.si_steps.specs.Words.{command_text, is_built}
 
 -- the word with this text
 abbrev pub word_with : Bytes → Option Word
@@ -24,7 +24,7 @@ word_with text =
     (cond (bytes_eq text (codes "explain")) (Some Explain)
     (cond (bytes_eq text (codes "sample")) (Some Sample) None))))))))))))
 
-pub word_back : (word : Word) → word_with (word_text word) ≡ Some word
+pub word_back : (word : Word) → word_with (command_text word) ≡ Some word
 word_back Add = refl
 word_back Load = refl
 word_back Remove = refl
@@ -39,9 +39,9 @@ word_back Tree = refl
 word_back Explain = refl
 word_back Sample = refl
 
-pub same_word : (v w : Word) → word_text v ≡ word_text w → v ≡ w
+pub same_word : (v w : Word) → command_text v ≡ command_text w → v ≡ w
 same_word v w e = let both : Some v ≡ Some w = sym (word_back v) ∙ ap word_with e ∙ word_back w in cc
 
 -- a word that is built has not the text of one that isn't
-pub built_apart : (v w : Word) → word_text v ≡ word_text w → IsTrue (is_built v) → IsFalse (is_built w) → ⊥
+pub built_apart : (v w : Word) → command_text v ≡ command_text w → IsTrue (is_built v) → IsFalse (is_built w) → ⊥
 built_apart v w e t f = let b : true ≡ false = sym t ∙ ap is_built (same_word v w e) ∙ f in cc

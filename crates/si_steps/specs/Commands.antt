@@ -1,5 +1,5 @@
 -- Which lines are commands, and what they ask for (this project's profile).
-use Rattle.std.specs.Prelude.{◌≡◌, ◌<◌, ◌≤◌, ◌⊎◌, List, ◌∷◌, [], length, IsTrue, IsFalse, codes}
+use Rattle.std.specs.Prelude.{◌≡◌, ◌<◌, ◌≤◌, List, ◌∷◌, [], length, IsTrue, IsFalse, codes}
 use Rattle.si_defs.specs.Bytes.{Bytes}
 use Rattle.si_defs.specs.Clauses.{Name, Clause, Pattern, literal_pattern, term_pattern}
 use Rattle.si_defs.specs.Substitutions.{IsAmong}
@@ -10,7 +10,7 @@ use Rattle.si_defs.specs.Texts.{IsText, languages}
 use Rattle.si_steps.specs.declared.limits.Limits.{Limits}
 use Rattle.si_steps.specs.declared.word.Word.{Word}
 use Rattle.si_steps.specs.declared.word.Word.TheVariants.{Add, Remove, Ask, Stats}
-use Rattle.si_steps.specs.Words.{word_text, is_built}
+use Rattle.si_steps.specs.Words.{command_text, is_built}
 
 -- ---- commands
 pub data Command : Type 0 where
@@ -42,7 +42,7 @@ pub record IsCommand (command : Command) (ts : List Token) : Type 0 where
   pub built : IsTrue (is_built (command_word command))
   pub operands : List Token
   pub spelled : AreOperands command operands
-  pub whole : ts ≡ lower (word_text (command_word command)) ∷ operands
+  pub whole : ts ≡ lower (command_text (command_word command)) ∷ operands
 
 -- the line, blanks aside, is this command
 abbrev pub Means : Command → Bytes → Type 0
@@ -54,11 +54,20 @@ pub record IsUnbuilt (line : Bytes) : Type 0 where
   pub word : Word
   pub unbuilt : IsFalse (is_built word)
   pub rest : Bytes
-  pub first : NextToken line (lower (word_text word)) rest
+  pub first : NextToken line (lower (command_text word)) rest
 
--- too long, or not built yet
+-- more bytes than a line may have
+abbrev pub IsLong : Limits → Bytes → Type 0
+IsLong limits line = limits.line < length line
+
+-- no more, and the first word is one of a command that is not built yet
 abbrev pub IsLater : Limits → Bytes → Type 0
-IsLater limits line = (limits.line < length line) ⊎ IsUnbuilt line
+IsLater limits line = (length line ≤ limits.line) × IsUnbuilt line
+
+-- neither, so what it means decides
+pub record IsDecided (limits : Limits) (line : Bytes) : Type 0 where
+  pub short : length line ≤ limits.line
+  pub built : IsUnbuilt line → ⊥
 
 -- blanks alone
 abbrev pub IsSilent : Limits → Bytes → Type 0
@@ -68,4 +77,4 @@ IsSilent limits line = (length line ≤ limits.line) × AreBlanks line
 abbrev pub AddsForeign : Bytes → Type 0
 AddsForeign line =
     (language : Bytes) × (rest : Bytes) × IsAmong languages language
-    × Begins line (lower (word_text Add) ∷ lower language ∷ left_bracket ∷ []) rest
+    × Begins line (lower (command_text Add) ∷ lower language ∷ left_bracket ∷ []) rest

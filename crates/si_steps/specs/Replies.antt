@@ -47,6 +47,9 @@ refusal_line limit name taken = taken_line name
 refusal_line limit name (misused number found kept) = misused_line found kept
 refusal_line limit name (full needed) = full_line needed limit
 
+abbrev pub long_line : Bytes
+long_line = codes "! long"
+
 abbrev pub later_line : Bytes
 later_line = codes "! later"
 

@@ -7,8 +7,8 @@ use Rattle.si_state.specs.Acceptance.{IsTaken, Accepts, Refusal, Refuses, Remove
 use Rattle.si_state.specs.Signatures.{CountsSymbols}
 use Rattle.si_state.specs.Answers.{Hit, IsAnswer}
 use Rattle.si_steps.specs.declared.limits.Limits.{Limits}
-use Rattle.si_steps.specs.Commands.{Command, add, remove, query, stats, Means, IsLater, IsSilent, AddsForeign}
-use Rattle.si_steps.specs.Replies.{Reply, refusal_line, unknown_line, ok_line, stats_line, answer_reply, later_line, language_line, syntax_line, memory_line}
+use Rattle.si_steps.specs.Commands.{Command, add, remove, query, stats, Means, IsLong, IsLater, IsDecided, IsSilent, AddsForeign}
+use Rattle.si_steps.specs.Replies.{Reply, refusal_line, unknown_line, ok_line, stats_line, answer_reply, long_line, later_line, language_line, syntax_line, memory_line}
 
 -- the command's reply and the state behind it
 abbrev pub Performs : Limits → Command → List Clause → Reply → List Clause → Type 0
@@ -31,13 +31,14 @@ IsNoCommand line = (command : Command) → Means command line → ⊥
 
 -- the right reply to a line, and the right state behind it
 pub data RightStep (limits : Limits) (state : List Clause) (line : Bytes) (reply : Reply) (new : List Clause) : Type 0 where
+  long : IsLong limits line → reply ≡ long_line ∷ [] → new ≡ state → RightStep limits state line reply new
   later : IsLater limits line → reply ≡ later_line ∷ [] → new ≡ state → RightStep limits state line reply new
   silent : IsSilent limits line → reply ≡ [] → new ≡ state → RightStep limits state line reply new
-  foreign : (IsLater limits line → ⊥) → AddsForeign line → IsNoCommand line
+  foreign : IsDecided limits line → AddsForeign line → IsNoCommand line
       → reply ≡ language_line ∷ [] → new ≡ state → RightStep limits state line reply new
-  wrong : (IsLater limits line → ⊥) → (IsSilent limits line → ⊥) → (AddsForeign line → ⊥) → IsNoCommand line
+  wrong : IsDecided limits line → (IsSilent limits line → ⊥) → (AddsForeign line → ⊥) → IsNoCommand line
       → reply ≡ syntax_line ∷ [] → new ≡ state → RightStep limits state line reply new
-  performed : (IsLater limits line → ⊥) → (command : Command) → Means command line
+  performed : IsDecided limits line → (command : Command) → Means command line
       → Performs limits command state reply new → RightStep limits state line reply new
 
 -- A step is right, or memory runs out, and the state stays: at once, whatever the right reply is,

@@ -13,17 +13,17 @@ relation_text Instances = codes "instances"
 relation_text Generalizations = codes "generalizations"
 relation_text Unifiable = codes "unifiable"
 
-abbrev pub word_text : Word → Bytes
-word_text Add = codes "add"
-word_text Load = codes "load"
-word_text Remove = codes "remove"
-word_text (Ask relation) = relation_text relation
-word_text Subsumers = codes "subsumers"
-word_text Subsumed = codes "subsumed"
-word_text Stats = codes "stats"
-word_text Tree = codes "tree"
-word_text Explain = codes "explain"
-word_text Sample = codes "sample"
+abbrev pub command_text : Word → Bytes
+command_text Add = codes "add"
+command_text Load = codes "load"
+command_text Remove = codes "remove"
+command_text (Ask relation) = relation_text relation
+command_text Subsumers = codes "subsumers"
+command_text Subsumed = codes "subsumed"
+command_text Stats = codes "stats"
+command_text Tree = codes "tree"
+command_text Explain = codes "explain"
+command_text Sample = codes "sample"
 
 -- the words of the commands built so far
 abbrev pub is_built : Word → Bool

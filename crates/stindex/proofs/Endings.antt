@@ -7,12 +7,12 @@ use Rattle.si_io.specs.Content.{Told, prepend_told, Takes, IsAtEnd}
 use Rattle.si_io.proofs.Content.{Takes_none, Takes_then, prepend_told-nil}
 use Rattle.stindex.specs.declared.status.Status.TheVariants.{Ended, SourceFault, SinkFault, Memory, SessionLimit}
 use Rattle.stindex.specs.Serve.{Serves}
-use Rattle.stindex.specs.Progress.{Progress, Advances, Fails, Closes, Cuts, Stands}
+use Rattle.stindex.specs.Progress.{Progress, Advances, Fails, Closes, Cuts, HasProgressed}
 use Rattle.stindex.proofs.Progress.{Progress_start}
 use Rattle.stindex.proofs.Splitting.{Splits_none}
 
 -- ---- how it stands
-pub Stands_start : (limits : Limits) (left : Option Bytes) (before : Told) (clauses : List Clause) (held : Bytes) → clauses ≡ [] → held ≡ [] → Stands limits 0 left left before clauses held before
+pub Stands_start : (limits : Limits) (left : Option Bytes) (before : Told) (clauses : List Clause) (held : Bytes) → clauses ≡ [] → held ≡ [] → HasProgressed limits 0 left left before clauses held before
 Stands_start limits left before clauses held none empty = record {
   taken = [];
   size = refl;
@@ -23,8 +23,8 @@ Stands_start limits left before clauses held none empty = record {
 
 -- a read gave these bytes, which were acted on
 pub Stands_more : (limits lims : Limits) (n m : ℕ) (bytes fed : Bytes) (left now next : Option Bytes) (before : Told) (old new : List Clause) (held holds : Bytes) (x after : Told)
-    → Stands limits n left now before old held x → lims ≡ limits → Takes now bytes next → length bytes ≡ m → fed ≡ bytes
-    → Advances lims fed old held x new holds after → Stands limits (n + m) left next before new holds after
+    → HasProgressed limits n left now before old held x → lims ≡ limits → Takes now bytes next → length bytes ≡ m → fed ≡ bytes
+    → Advances lims fed old held x new holds after → HasProgressed limits (n + m) left next before new holds after
 Stands_more limits lims n m bytes fed left now next before old new held holds x after s same takes size is advances = record {
   taken = s.taken ++ bytes;
   size = omega (arith, length-append s.taken bytes, s.size);
@@ -46,7 +46,7 @@ Serves_memory limits left before = record {
 }
 
 pub Serves_limit : (limits : Limits) (n : ℕ) (left now : Option Bytes) (before : Told) (clauses : List Clause) (held : Bytes) (after : Told)
-    → Stands limits n left now before clauses held after → n ≡ limits.session → Serves limits SessionLimit left now before after
+    → HasProgressed limits n left now before clauses held after → n ≡ limits.session → Serves limits SessionLimit left now before after
 Serves_limit limits n left now before clauses held after s full = record {
   taken = s.taken;
   lines = s.progress.lines;
@@ -59,7 +59,7 @@ Serves_limit limits n left now before clauses held after s full = record {
 
 -- the source failed, and took nothing
 pub Serves_source : (limits : Limits) (n : ℕ) (left now next : Option Bytes) (before : Told) (clauses : List Clause) (held : Bytes) (after : Told)
-    → Stands limits n left now before clauses held after → n < limits.session → next ≡ now → Serves limits SourceFault left next before after
+    → HasProgressed limits n left now before clauses held after → n < limits.session → next ≡ now → Serves limits SourceFault left next before after
 Serves_source limits n left now next before clauses held after s below kept = record {
   taken = s.taken;
   lines = s.progress.lines;
@@ -72,7 +72,7 @@ Serves_source limits n left now next before clauses held after s below kept = re
 
 -- the sink failed at a line that is whole in the bytes of the last read
 pub Serves_sink : (limits lims : Limits) (n m : ℕ) (bytes fed : Bytes) (left now next : Option Bytes) (before : Told) (clauses : List Clause) (held : Bytes) (x after : Told)
-    → Stands limits n left now before clauses held x → lims ≡ limits → Takes now bytes next → length bytes ≡ m → n + m ≤ limits.session → fed ≡ bytes
+    → HasProgressed limits n left now before clauses held x → lims ≡ limits → Takes now bytes next → length bytes ≡ m → n + m ≤ limits.session → fed ≡ bytes
     → Fails lims fed clauses held x after → Serves limits SinkFault left next before after
 Serves_sink limits lims n m bytes fed left now next before clauses held x after s same takes size within is fails =
     let all : Fails limits bytes clauses held x after =
@@ -93,7 +93,7 @@ end_left : (now next : Option Bytes) (bytes : Bytes) → Takes now bytes next �
 end_left now next bytes takes none = sym (takes ∙ ap (λ (b : Bytes). prepend_told b next) none ∙ prepend_told-nil next)
 
 pub Serves_ended : (limits lims : Limits) (n : ℕ) (bytes : Bytes) (left now next : Option Bytes) (before : Told) (clauses : List Clause) (held : Bytes) (x after : Told)
-    → Stands limits n left now before clauses held x → lims ≡ limits → n < limits.session → Takes now bytes next → bytes ≡ [] → IsAtEnd now
+    → HasProgressed limits n left now before clauses held x → lims ≡ limits → n < limits.session → Takes now bytes next → bytes ≡ [] → IsAtEnd now
     → Closes lims clauses held x after → Serves limits Ended left next before after
 Serves_ended limits lims n bytes left now next before clauses held x after s same below takes none ended closes =
     let all : Closes limits clauses held x after = subst (λ (l : Limits). Closes l clauses held x after) same closes in
@@ -111,7 +111,7 @@ Serves_ended limits lims n bytes left now next before clauses held x after s sam
 
 -- and then the sink failed at the last line
 pub Serves_cut : (limits lims : Limits) (n : ℕ) (bytes : Bytes) (left now next : Option Bytes) (before : Told) (clauses : List Clause) (held : Bytes) (x after : Told)
-    → Stands limits n left now before clauses held x → lims ≡ limits → n < limits.session → Takes now bytes next → bytes ≡ [] → IsAtEnd now
+    → HasProgressed limits n left now before clauses held x → lims ≡ limits → n < limits.session → Takes now bytes next → bytes ≡ [] → IsAtEnd now
     → Cuts lims clauses held x after → Serves limits SinkFault left next before after
 Serves_cut limits lims n bytes left now next before clauses held x after s same below takes none ended cuts =
     let all : Cuts limits clauses held x after = subst (λ (l : Limits). Cuts l clauses held x after) same cuts in

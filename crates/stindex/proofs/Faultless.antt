@@ -9,7 +9,7 @@ use Rattle.si_io.specs.Content.{Told}
 use Rattle.stindex.specs.declared.status.Status.{Status}
 use Rattle.stindex.specs.declared.status.Status.TheVariants.{Ended, Refused, Usage, SourceFault, SinkFault, Memory, SessionLimit}
 use Rattle.si_io.specs.Faults.{Rose}
-use Rattle.stindex.specs.Serve.{Serves, IsFaultless, CountsFaults, HasRoom}
+use Rattle.stindex.specs.Serve.{Serves, IsFaultless, CountsFaults, HasRoomForOutputs}
 
 -- the first of the whole lines are the first of the lines at the end of the input
 front_at_end : (lines : List Bytes) (rest : Bytes) (done others : List Bytes) → done ++ others ≡ lines
@@ -18,7 +18,7 @@ front_at_end lines [] done others front = (others, front)
 front_at_end lines (c ∷ cs) done others front =
     (others ++ (c ∷ cs) ∷ [], sym (append_assoc done others ((c ∷ cs) ∷ [])) ∙ ap (λ (ls : List Bytes). ls ++ (c ∷ cs) ∷ []) front)
 
-no_sink_fault : (limits : Limits) (left now : Option Bytes) (before after : Told) → Serves limits SinkFault left now before after → HasRoom limits left before.room → ⊥
+no_sink_fault : (limits : Limits) (left now : Option Bytes) (before after : Told) → Serves limits SinkFault left now before after → HasRoomForOutputs limits left before.room → ⊥
 no_sink_fault limits left now before after s room = elim s.ends [
   | inl part ↦
       let more = front_at_end s.lines s.rest part.done part.others part.front in
@@ -31,7 +31,7 @@ no_sink_fault limits left now before after s room = elim s.ends [
 ]
 
 pub faultless_by : (status : Status) (limits : Limits) (left now : Option Bytes) (before after : Told) (may_fail : Bool)
-    → Serves limits status left now before after → (status ≡ SourceFault → IsTrue may_fail) → IsFalse may_fail → HasRoom limits left before.room → IsFaultless status
+    → Serves limits status left now before after → (status ≡ SourceFault → IsTrue may_fail) → IsFalse may_fail → HasRoomForOutputs limits left before.room → IsFaultless status
 faultless_by Ended limits left now before after may_fail s sure never room = tt
 faultless_by Refused limits left now before after may_fail s sure never room = absurd s.ends
 faultless_by Usage limits left now before after may_fail s sure never room = absurd s.ends

@@ -12,7 +12,7 @@ use Rattle.si_io.proofs.Content.{Appends_then, AppendsPrefix_then, append_told-n
 use Rattle.si_session.specs.Session.{State, Writes, Steps}
 use Rattle.si_session.specs.declared.stepped.Stepped.{Stepped}
 use Rattle.si_session.specs.declared.stepped.Stepped.TheVariants.{Answered, Refused, Silent, SinkFailed}
-use Rattle.stindex.specs.Progress.{shown, Acts, Breaks, Progress, Advances, Feeds, Failed, Fails, Closes, Cuts}
+use Rattle.stindex.specs.Progress.{shown, ActsOnLine, Breaks, Progress, Advances, Feeds, Failed, Fails, Closes, Cuts}
 use Rattle.stindex.proofs.Steps.{shown_step}
 use Rattle.std.specs.Prelude.{◌==◌, Some, None}
 use Rattle.std.specs.List.{position}
@@ -63,7 +63,7 @@ Advances_more limits bytes held holds clauses now one filled before taken p = re
 
 -- a line feed ends that line, which is acted on
 pub Advances_line : (limits : Limits) (old new : List Clause) (held : Bytes) (now after : Told)
-    → Acts limits old new held now after → Advances limits (10 ∷ []) old held now new [] after
+    → ActsOnLine limits old new held now after → Advances limits (10 ∷ []) old held now new [] after
 Advances_line limits old new held now after acts before taken p =
     let step = shown_step limits old new p.rest acts.reply (subst (λ (l : Bytes). Step limits old l acts.reply new) p.holds acts.step) in
     record {
@@ -106,13 +106,13 @@ Fails_then limits bs cs s t f g x y z first second before taken p =
 pub Feeds_line : (limits lims : Limits) (bytes rest front left : Bytes) (at n : ℕ) (old mid new : List Clause) (held holds filled none : Bytes) (now x after : Told)
     → Feeds limits bytes old held now rest mid holds x → lims ≡ limits → n ≡ limits.line
     → Some at ≡ position (λ c. c == 10) rest → front ≡ take at rest → filled ≡ take (n + 1) (holds ++ front)
-    → Acts lims mid new filled x after → none ≡ [] → left ≡ drop (at + 1) rest
+    → ActsOnLine lims mid new filled x after → none ≡ [] → left ≡ drop (at + 1) rest
     → Feeds limits bytes old held now left new none after
 Feeds_line limits lims bytes rest front left at n old mid new held holds filled none now x after f same line some cut full acts cleared behind =
     let end = line_end rest at some in
     let fill : filled ≡ take (limits.line + 1) (holds ++ take at rest) = full ∙ ap (λ (m : ℕ). take (m + 1) (holds ++ front)) line ∙ ap (λ (b : Bytes). take (limits.line + 1) (holds ++ b)) cut in
     let more = Advances_more limits (take at rest) holds filled mid x end.line fill in
-    let acted = Advances_line limits mid new filled x after (subst (λ (l : Limits). Acts l mid new filled x after) same acts) in
+    let acted = Advances_line limits mid new filled x after (subst (λ (l : Limits). ActsOnLine l mid new filled x after) same acts) in
     let both = Advances_then limits (take at rest) (10 ∷ []) mid mid new holds filled [] x x after more acted in
     let all = Advances_then limits f.done (take at rest ++ 10 ∷ []) old mid new held holds [] now x after f.advances both in
     record {
@@ -152,7 +152,7 @@ rest_some limits held rest some holds none = some (holds ∙ ap (shown limits) n
 
 -- the line that was begun is the last one
 pub Closes_line : (limits : Limits) (old new : List Clause) (held : Bytes) (now after : Told)
-    → (held ≡ [] → ⊥) → Acts limits old new held now after → Closes limits old held now after
+    → (held ≡ [] → ⊥) → ActsOnLine limits old new held now after → Closes limits old held now after
 Closes_line limits old new held now after some acts before taken p =
     let step = shown_step limits old new p.rest acts.reply (subst (λ (l : Bytes). Step limits old l acts.reply new) p.holds acts.step) in
     let same : lines_at_end p.lines p.rest ≡ p.lines ++ p.rest ∷ [] = lines_at_end-some p.lines p.rest (rest_some limits held p.rest some p.holds) in
@@ -195,7 +195,7 @@ written_whole Silent reply now after whole w = w.0
 written_whole SinkFailed reply now after whole w = absurd (whole refl)
 
 pub Acts_by : (old new : State) (line held : Bytes) (outcome : Stepped) (now after : Told)
-    → line ≡ held → (outcome ≡ SinkFailed → ⊥) → Steps old new line outcome now after → Acts old.limits old.clauses new.clauses held now after
+    → line ≡ held → (outcome ≡ SinkFailed → ⊥) → Steps old new line outcome now after → ActsOnLine old.limits old.clauses new.clauses held now after
 Acts_by old new line held outcome now after same whole s = record {
   reply = s.reply;
   step = subst (λ (l : Bytes). Step old.limits old.clauses l s.reply new.clauses) same s.step;

@@ -14,7 +14,7 @@ abbrev pub shown : Limits → Bytes → Bytes
 shown limits rest = take (limits.line + 1) rest
 
 -- One line was acted on, and its reply written.
-pub record Acts (limits : Limits) (old new : List Clause) (line : Bytes) (before after : Told) : Type 0 where
+pub record ActsOnLine (limits : Limits) (old new : List Clause) (line : Bytes) (before after : Told) : Type 0 where
   pub reply : Reply
   pub step : Step limits old line reply new
   pub written : Appends before (ended reply) after
@@ -85,7 +85,7 @@ Cuts limits clauses held now after =
     (before : Told) (taken : Bytes) → Progress limits before taken clauses held now → Cut limits before taken after
 
 -- So many bytes were taken from the source so far, and this is the progress over them.
-pub record Stands (limits : Limits) (count : ℕ) (left now : Option Bytes) (before : Told) (clauses : List Clause) (held : Bytes) (after : Told) : Type 0 where
+pub record HasProgressed (limits : Limits) (count : ℕ) (left now : Option Bytes) (before : Told) (clauses : List Clause) (held : Bytes) (after : Told) : Type 0 where
   pub taken : Bytes
   pub size : length taken ≡ count
   pub takes : Takes left taken now

@@ -74,8 +74,8 @@ CountsFaults Memory source source_now sink sink_now = (source_now ≡ source) ×
 CountsFaults SessionLimit source source_now sink sink_now = (source_now ≡ source) × (sink_now ≡ sink)
 
 -- Each output of the first lines of what the source has left fits the room.
-abbrev pub HasRoom : Limits → (left : Option Bytes) → (room : ℕ) → Type 0
-HasRoom limits left room =
+abbrev pub HasRoomForOutputs : Limits → (left : Option Bytes) → (room : ℕ) → Type 0
+HasRoomForOutputs limits left room =
     (taken : Bytes) (now : Option Bytes) (lines : List Bytes) (rest : Bytes) (done others : List Bytes) (output : Bytes)
     → Takes left taken now → Splits taken lines rest → done ++ others ≡ lines_at_end lines rest → IsOutput limits done output
     → length output ≤ room

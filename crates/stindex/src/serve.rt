@@ -3,9 +3,9 @@ ghost use Rattle.std.specs.Prelude.{◌≡◌, ◌+◌, ◌<◌, ◌≤◌, [], 
 ghost use Rattle.si_steps.specs.Limits.{AllowsLimits};
 ghost use Rattle.si_io.specs.Faults.{HasCause, Rose};
 ghost use Rattle.stindex.specs.Lines.{held_of, limit_of};
-ghost use Rattle.stindex.specs.Serve.{Serves, IsFaultless, CountsFaults, HasRoom};
+ghost use Rattle.stindex.specs.Serve.{Serves, IsFaultless, CountsFaults, HasRoomForOutputs};
 ghost use Rattle.stindex.specs.declared.status.Status.TheVariants.{SourceFault, SinkFault, Memory};
-ghost use Rattle.stindex.specs.Progress.{Acts, Breaks, Advances, Fails, Closes, Cuts};
+ghost use Rattle.stindex.specs.Progress.{ActsOnLine, Breaks, Advances, Fails, Closes, Cuts};
 
 use crate::lines::{Pending, line_feed};
 use crate::status::Status;
@@ -35,7 +35,7 @@ pub fn serve<S: Source, K: Sink>(
         (K.faults sink.old) (K.faults sink.new) }
     ensures source_sure { result ≡ SourceFault → IsTrue (S.may_fail source.old) }
     ensures sure { IsFalse (S.may_fail source.old)
-        → HasRoom limits.now (S.left source.old) (K.written sink.old).room
+        → HasRoomForOutputs limits.now (S.left source.old) (K.written sink.old).room
         → IsFaultless result }
     ensures faultless { (Rose (S.faults source.old) (S.faults source.new) → ⊥) →
         (Rose (K.faults sink.old) (K.faults sink.new) → ⊥) → IsFaultless result }
@@ -95,8 +95,8 @@ fn run<S: Source, K: Sink>(
 /// Acts on the line that was begun, which ends here.
 fn act<K: Sink>(session: &mut Session, pending: &mut Pending, sink: &mut K) -> Result<(), Failed>
     requires { AllowsLimits session.old.limits }
-    ensures acted { OnOk result (Acts session.old.limits session.old.clauses session.new.clauses
-        (held_of pending.old) (K.written sink.old) (K.written sink.new)) }
+    ensures acted { OnOk result (ActsOnLine session.old.limits session.old.clauses
+        session.new.clauses (held_of pending.old) (K.written sink.old) (K.written sink.new)) }
     ensures broken { OnErr result (Breaks session.old.limits session.old.clauses session.new.clauses
         (held_of pending.old) (K.written sink.old) (K.written sink.new)) }
     ensures limits { session.new.limits ≡ session.old.limits }

@@ -198,14 +198,14 @@ fn chunks_and_the_length_of_a_line(rt: HostRuntime) -> Result<(), Fail> {
         // As many bytes as a line may have, and one more, which hides what was read.
         (
             b"add cnf(a,axiom,p). \nadd cnf(b,axiom,p).  \ninstances lit p\n",
-            b"ok 1 1\n! later\na:1 {}\nend 1\n",
+            b"ok 1 1\n! long\na:1 {}\nend 1\n",
         ),
         (b"                    \n", b""),
-        (b"                     \n", b"! later\n"),
-        (b"                     ", b"! later\n"),
+        (b"                     \n", b"! long\n"),
+        (b"                     ", b"! long\n"),
         (
             b"                                                            \nx\n",
-            b"! later\n! syntax\n",
+            b"! long\n! syntax\n",
         ),
     ];
     for chunk in 1..=7 {

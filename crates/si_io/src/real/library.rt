@@ -1,7 +1,7 @@
 ghost use Rattle.std.specs.Prelude.{◌≡◌, ◌-◌, ◌<◌, ◌≤◌, [], length, take, drop, vec_len, IfOk, OnOk};
 ghost use Rattle.std.specs.Io.KnownBytes.{Consumes, IsAtEnd};
 ghost use Rattle.si_io.specs.Folder.{counts_of, CountsRead};
-ghost use Rattle.si_io.specs.Library.{counted, IsRead};
+ghost use Rattle.si_io.specs.Library.{counted, IsFileRead};
 
 use super::folder::{Folder, Unopened};
 use crate::{Failed, Fetched, Library};
@@ -80,7 +80,7 @@ fn read_file<S, F: Read>(
     limit: usize,
 ) -> Fetched
     requires { into.old.items ≡ [] }
-    ensures read { IsRead (F.remaining file.old) limit result into.new.items }
+    ensures read { IsFileRead (F.remaining file.old) limit result into.new.items }
     ensures counts { counts_of folder.new ≡ counted result (counts_of folder.old) }
 {
     let most = limit.saturating_add(1);

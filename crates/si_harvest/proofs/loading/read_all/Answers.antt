@@ -1,9 +1,9 @@
 use Rattle.std.proofs.Common.{◌≡◌, None, Ok, refl, sym, subst}
 use Rattle.std.specs.Prelude.{IfSome}
 use Rattle.si_harvest.specs.declared.faults.HarvestFault.{HarvestFault}
-use Rattle.si_harvest.specs.Faults.{Blames, bounds_of}
+use Rattle.si_harvest.specs.Faults.{Explains, bounds_of}
 use Rattle.si_harvest.specs.Opened.{HasFault}
-use Rattle.si_harvest.specs.Gains.{Gains}
+use Rattle.si_harvest.specs.Gains.{GainsByLoad}
 use Rattle.si_harvest.specs.Underway.{AreWithin}
 use Rattle.si_harvest.proofs.Errors.{blames_weaker, err_again}
 use Rattle.si_harvest.proofs.Moves.{begins, never_begins, is_over}
@@ -17,7 +17,7 @@ returns-in_err-enter-clause-fault g c =
     let bounds = bounds_of c.args.limits.now in
     let limit = g.T.ClauseStore.limit c.args.store.now in
     let start = g.T.ClauseStore.clauses c.args.store.now in
-    let P : HarvestFault → Type 0 = λ e. Blames limit e (HasFault told bounds limit start c.args.name.now) in
+    let P : HarvestFault → Type 0 = λ e. Explains limit e (HasFault told bounds limit start c.args.name.now) in
     err_again c.from_residual.result c.in_err-enter.field-0.0 P c.from_residual.ensures.1
     (blames_weaker limit c.in_err-enter.field-0.0 _ _
     (λ fault h. never_begins told bounds limit start c.args.name.now c.new-reading.result fault c.new-reading.ensures.files c.new-reading.ensures.fetches h)
@@ -49,5 +49,5 @@ returns-clause-right g c =
     let start = g.T.ClauseStore.clauses c.args.store.now in
     let over = steps_false (g.L.Library.files c.loop-reading.library) bounds (g.T.ClauseStore.limit c.loop-reading.store) c.loop-reading.reading c.step.new.self
     (g.T.ClauseStore.clauses c.loop-reading.store) (g.T.ClauseStore.clauses c.step.new.store) c.in_ok-step.field-0 c.if-branch.false c.in_ok-step.ensures.stepped in
-    subst (λ s. IfSome told (λ files. Gains files bounds limit start c.args.name.now s)) (sym over.1)
+    subst (λ s. IfSome told (λ files. GainsByLoad files bounds limit start c.args.name.now s)) (sym over.1)
     (is_over told bounds limit start c.args.name.now c.loop-reading.reading (g.T.ClauseStore.clauses c.loop-reading.store) over.0 c.loop-reading.invariant.loading.under_way)

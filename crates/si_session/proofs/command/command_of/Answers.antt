@@ -1,7 +1,7 @@
 use Rattle.std.proofs.Common.{◌≡◌, List, ◌∷◌, ap, sym, ◌∙◌, subst}
 use Rattle.std.specs.Prelude.{IfOk}
 use Rattle.si_defs.specs.Tokens.{Token, lower}
-use Rattle.si_steps.specs.Words.{word_text}
+use Rattle.si_steps.specs.Words.{command_text}
 use Rattle.si_steps.specs.declared.word.Word.TheVariants.{Ask}
 use Rattle.si_lex.specs.Lexemes.{token_of, tokens_of}
 use Rattle.si_lex.specs.declared.lexeme.Lexeme.{Lexeme}
@@ -17,26 +17,26 @@ pub returns-in-Some-Add-clause-read : goal.returns-in-Some-Add-clause-read
 returns-in-Some-Add-clause-read c =
     subst (λ ts. IfOk c.add_command.result (Commands ts c.args.stop))
     (front c.args.tokens.now c.in-Some.first.now c.in-Some.rest.now _ c.in-Some.ensures.cases.0
-    (c.in-Some-Add.ensures.found ∙ ap (λ w. lower (word_text w)) c.in-Some-Add.field-0-is)) c.add_command.ensures
+    (c.in-Some-Add.ensures.found ∙ ap (λ w. lower (command_text w)) c.in-Some-Add.field-0-is)) c.add_command.ensures
 
 pub returns-in-Some-Remove-clause-read : goal.returns-in-Some-Remove-clause-read
 returns-in-Some-Remove-clause-read c =
     subst (λ ts. IfOk c.remove_command.result (Commands ts c.args.stop))
     (front c.args.tokens.now c.in-Some.first.now c.in-Some.rest.now _ c.in-Some.ensures.cases.0
-    (c.in-Some-Remove.ensures.found ∙ ap (λ w. lower (word_text w)) c.in-Some-Remove.field-0-is)) c.remove_command.ensures
+    (c.in-Some-Remove.ensures.found ∙ ap (λ w. lower (command_text w)) c.in-Some-Remove.field-0-is)) c.remove_command.ensures
 
 pub returns-in-Some-Stats-clause-read : goal.returns-in-Some-Stats-clause-read
 returns-in-Some-Stats-clause-read c =
     subst (λ ts. Commands ts c.args.stop c.stats_command.result)
     (front c.args.tokens.now c.in-Some.first.now c.in-Some.rest.now _ c.in-Some.ensures.cases.0
-    (c.in-Some-Stats.ensures.found ∙ ap (λ w. lower (word_text w)) c.in-Some-Stats.field-0-is)) c.stats_command.ensures
+    (c.in-Some-Stats.ensures.found ∙ ap (λ w. lower (command_text w)) c.in-Some-Stats.field-0-is)) c.stats_command.ensures
 
 pub returns-in-Some-Ask-Instances-clause-read : goal.returns-in-Some-Ask-Instances-clause-read
 returns-in-Some-Ask-Instances-clause-read c =
     subst (λ ts. IfOk c.query_command.result (Commands ts c.args.stop))
     (front c.args.tokens.now c.in-Some.first.now c.in-Some.rest.now _ c.in-Some.ensures.cases.0
     (c.in-Some-Ask-Instances.ensures.found
-    ∙ ap (λ w. lower (word_text w)) (c.in-Some-Ask-Instances.field-0-is ∙ ap Ask c.in-Some-Ask-Instances.field-0-0-is))) c.query_command.ensures
+    ∙ ap (λ w. lower (command_text w)) (c.in-Some-Ask-Instances.field-0-is ∙ ap Ask c.in-Some-Ask-Instances.field-0-0-is))) c.query_command.ensures
 
 pub returns-in-None-clause-read : goal.returns-in-None-clause-read
 returns-in-None-clause-read c =

@@ -25,6 +25,11 @@ unfolding ended_line sign_text
 returns-in-Taken-clause-text g c =
     subst (λ t. Puts c.put_named.result t (g.K.Sink.written c.args.sink.now) (g.K.Sink.written c.put_named.new.sink)) (ap ended_line (sym c.in-Taken.is)) c.put_named.ensures.text
 
+pub returns-in-Long-clause-text : goal.returns-in-Long-clause-text
+unfolding ended_line
+returns-in-Long-clause-text g c =
+    subst (λ t. Puts c.put_bytes.result t (g.K.Sink.written c.args.sink.now) (g.K.Sink.written c.put_bytes.new.sink)) (ap ended_line (sym c.in-Long.is)) c.put_bytes.ensures.text
+
 pub returns-in-Later-clause-text : goal.returns-in-Later-clause-text
 unfolding ended_line
 returns-in-Later-clause-text g c =

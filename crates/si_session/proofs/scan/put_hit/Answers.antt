@@ -5,7 +5,7 @@ use Rattle.si_io.specs.Content.{Told, Appends, AppendsPrefix}
 use Rattle.si_io.proofs.Content.{Appends_then, AppendsPrefix_then, AppendsPrefix_more, Puts_then}
 use Rattle.si_term.specs.Meaning.{name_of}
 use Rattle.si_session.specs.Bound.{bindings_of}
-use Rattle.si_session.specs.Signs.{sign_text, solution_text}
+use Rattle.si_session.specs.Signs.{sign_text, matched_text}
 use Rattle.si_session.specs.declared.sign.Sign.TheVariants.{Space, LineFeed}
 use Rattle.si_session.specs.Scan.{ended_hit_line}
 use Rattle.si_term.proofs.Results.{on_err}
@@ -24,7 +24,7 @@ unfolding ended_hit_line
 returns-in_err-put_sign-clause-text g c =
     record {
       all = search rules;
-      part = on_err _ (second _ _ _ (place_text (name_of c.args.name.now) (record { literal = c.args.number; path = c.args.path.now })) (sign_text Space) (solution_text (bindings_of c.args.bindings.now)) (sign_text LineFeed)
+      part = on_err _ (second _ _ _ (place_text (name_of c.args.name.now) (record { literal = c.args.number; path = c.args.path.now })) (sign_text Space) (matched_text (bindings_of c.args.bindings.now)) (sign_text LineFeed)
           c.in_ok-put_place.ensures.text.all c.in_err-put_sign.ensures.text.part);
     }
 
@@ -33,7 +33,7 @@ unfolding ended_hit_line
 returns-in_err-put_solution-clause-text g c =
     record {
       all = search rules;
-      part = on_err _ (third _ _ _ _ (place_text (name_of c.args.name.now) (record { literal = c.args.number; path = c.args.path.now })) (sign_text Space) (solution_text (bindings_of c.args.bindings.now)) (sign_text LineFeed)
+      part = on_err _ (third _ _ _ _ (place_text (name_of c.args.name.now) (record { literal = c.args.number; path = c.args.path.now })) (sign_text Space) (matched_text (bindings_of c.args.bindings.now)) (sign_text LineFeed)
           c.in_ok-put_place.ensures.text.all c.in_ok-put_sign.ensures.text.all c.in_err-put_solution.ensures.text.part);
     }
 
@@ -41,7 +41,7 @@ pub returns-clause-text : goal.returns-clause-text
 unfolding ended_hit_line
 returns-clause-text g c =
     let place = place_text (name_of c.args.name.now) (record { literal = c.args.number; path = c.args.path.now }) in
-    let list = solution_text (bindings_of c.args.bindings.now) in
+    let list = matched_text (bindings_of c.args.bindings.now) in
     Puts_then c.put_sign-2.result _ _ _ (place ++ sign_text Space ++ list) (sign_text LineFeed)
     (Appends_then _ _ _ (place ++ sign_text Space) list (Appends_then _ _ _ place (sign_text Space) c.in_ok-put_place.ensures.text.all c.in_ok-put_sign.ensures.text.all) c.in_ok-put_solution.ensures.text.all)
     c.put_sign-2.ensures.text

@@ -1,11 +1,11 @@
 use Rattle.std.proofs.Common.{◌≡◌, ◌≤◌, ◌-◌}
 use Rattle.stindex.specs.Lines.{held_of, limit_of}
-use Rattle.stindex.specs.Progress.{Stands}
+use Rattle.stindex.specs.Progress.{HasProgressed}
 use Rattle.stindex.proofs.serve.run.Given as goal
 
 abbrev pub invariant-loop-taken : goal.invariant-loop-taken
 invariant-loop-taken g l = record {
-  stands : Stands l.limits l.taken (g.S.Source.left l.fn.source) (g.S.Source.left l.source) (g.K.Sink.written l.fn.sink)
+  stands : HasProgressed l.limits l.taken (g.S.Source.left l.fn.source) (g.S.Source.left l.source) (g.K.Sink.written l.fn.sink)
       l.session.clauses (held_of l.pending) (g.K.Sink.written l.sink);
   within : l.taken ≤ l.limits.session;
   limits : l.session.limits ≡ l.limits;

@@ -1,7 +1,7 @@
 use Rattle.std.proofs.Common.{◌≡◌, ℕ, subst, inl, inr}
 use Rattle.si_state.specs.Harvest.{MayAsk, IsBarred}
 use Rattle.si_harvest.specs.declared.faults.HarvestFault.{HarvestFault}
-use Rattle.si_harvest.specs.Faults.{Blames, bounds_of}
+use Rattle.si_harvest.specs.Faults.{Explains, bounds_of}
 use Rattle.si_harvest.specs.Opened.{opened, IsUnopened}
 use Rattle.si_harvest.proofs.Errors.{blames_weaker, err_again, cause_again}
 use Rattle.si_harvest.proofs.reading.Reading.enter.Goals as goal
@@ -10,7 +10,7 @@ pub returns-in_err-may_ask-clause-unopened : goal.returns-in_err-may_ask-clause-
 returns-in_err-may_ask-clause-unopened g c =
     let told = g.L.Library.files c.args.library.now in
     let bounds = bounds_of c.args.limits.now in
-    let P : HarvestFault → Type 0 = λ e. (limit : ℕ) → Blames limit e (IsUnopened told bounds c.args.name.now c.args.self.now) in
+    let P : HarvestFault → Type 0 = λ e. (limit : ℕ) → Explains limit e (IsUnopened told bounds c.args.name.now c.args.self.now) in
     err_again c.from_residual.result c.in_err-may_ask.field-0.0 P c.from_residual.ensures.1
     (λ limit. blames_weaker limit c.in_err-may_ask.field-0.0 _ _ (λ fault h. inl (subst (λ fs. IsBarred bounds (opened fs) c.args.self.now.fetches c.args.name.now fault) c.as_slice.ensures.value h)) (c.in_err-may_ask.ensures.barred limit))
 
@@ -22,7 +22,7 @@ pub returns-in_err-file-clause-unopened : goal.returns-in_err-file-clause-unopen
 returns-in_err-file-clause-unopened g c =
     let told = g.L.Library.files c.args.library.now in
     let bounds = bounds_of c.args.limits.now in
-    let P : HarvestFault → Type 0 = λ e. (limit : ℕ) → Blames limit e (IsUnopened told bounds c.args.name.now c.args.self.now) in
+    let P : HarvestFault → Type 0 = λ e. (limit : ℕ) → Explains limit e (IsUnopened told bounds c.args.name.now c.args.self.now) in
     err_again c.from_residual-in_err-file.result c.in_err-file.field-0.0 P c.from_residual-in_err-file.ensures.1
     (λ limit. blames_weaker limit c.in_err-file.field-0.0 _ _ (λ fault h. inr (subst (λ fs. MayAsk bounds (opened fs) c.args.self.now.fetches c.args.name.now) c.as_slice.ensures.value c.in_ok-may_ask.ensures.may, h)) (c.in_err-file.ensures.withheld limit))
 

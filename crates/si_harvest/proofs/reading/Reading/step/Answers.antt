@@ -2,8 +2,8 @@ use Rattle.std.proofs.Common.{◌≡◌, ◌++◌, ◌∷◌, [], refl, subst}
 use Rattle.si_term.specs.Meaning.{clause_of}
 use Rattle.si_parse.specs.Meaning.{selection_of}
 use Rattle.si_harvest.specs.declared.reading.Reading.{Reading}
-use Rattle.si_harvest.specs.Faults.{Blames, bounds_of}
-use Rattle.si_harvest.specs.Opened.{Enters, IsUnopened}
+use Rattle.si_harvest.specs.Faults.{Explains, bounds_of}
+use Rattle.si_harvest.specs.Opened.{OpensInside, IsUnopened}
 use Rattle.si_harvest.proofs.Stepping.{read_as, steps_fault, step_end, step_clause, step_refused, step_include, step_unopened, step_foreign, step_malformed}
 use Rattle.si_harvest.proofs.reading.Reading.step.Goals as goal
 
@@ -36,7 +36,7 @@ returns-in_ok-include-in-Include-clause-stepped g c =
     c.pop.new.self.items c.in-Some.file c.in-Include.end c.in-Include.name (selection_of c.in-Include.selection) h.0 c.in-Some.ensures.items
     (read_as _ _ c.in-Some.file.at _ _ c.as_slice.ensures.value c.in-Include.is c.in_ok-next_item.ensures)
     h.2 h.3 h.4
-    (subst (λ n. Enters (g.L.Library.files c.args.library.now) (bounds_of c.args.limits.now) n h.0 h.1 c.include.new.self) c.as_bytes.ensures h.5) c.requires.file c.requires.within
+    (subst (λ n. OpensInside (g.L.Library.files c.args.library.now) (bounds_of c.args.limits.now) n h.0 h.1 c.include.new.self) c.as_bytes.ensures h.5) c.requires.file c.requires.within
 
 pub returns-in_err-include-in-Include-clause-stepped : goal.returns-in_err-include-in-Include-clause-stepped
 returns-in_err-include-in-Include-clause-stepped g c =
@@ -47,7 +47,7 @@ returns-in_err-include-in-Include-clause-stepped g c =
     (step_unopened told (bounds_of c.args.limits.now) limit c.args.self.now _ c.pop.new.self.items c.in-Some.file c.in-Include.end c.in-Include.name (selection_of c.in-Include.selection)
     c.in_err-include-in-Include.field-0.0 c.in-Some.ensures.items
     (read_as _ _ c.in-Some.file.at _ _ c.as_slice.ensures.value c.in-Include.is c.in_ok-next_item.ensures)
-    (subst (λ n. Blames limit c.in_err-include-in-Include.field-0.0 (λ fault. (middle : Reading) × (middle.files.items ≡ c.pop.new.self.items ++ record c.in-Some.file { at = c.in-Include.end } ∷ [])
+    (subst (λ n. Explains limit c.in_err-include-in-Include.field-0.0 (λ fault. (middle : Reading) × (middle.files.items ≡ c.pop.new.self.items ++ record c.in-Some.file { at = c.in-Include.end } ∷ [])
     × (middle.fetches ≡ c.args.self.now.fetches) × IsUnopened told (bounds_of c.args.limits.now) n middle fault))
     c.as_bytes.ensures (c.in_err-include-in-Include.ensures.unopened limit)))
 

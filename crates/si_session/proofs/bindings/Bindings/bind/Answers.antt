@@ -3,7 +3,7 @@ use Rattle.std.specs.Prelude.{None, bytes_eq}
 use Rattle.std.specs.List.{list_any}
 use Rattle.std.proofs.lemmas.List.{map-append}
 use Rattle.si_session.specs.Matching.{bound}
-use Rattle.si_session.specs.Bound.{binding_of, bindings_of}
+use Rattle.si_session.specs.Bound.{bound_pair, bindings_of}
 use Rattle.si_session.specs.declared.bindings.Binding.{Binding}
 use Rattle.si_session.proofs.BoundLaws.{none-listed, insert_new}
 use Rattle.si_session.proofs.bindings.Bindings.bind.Goals as goal
@@ -18,6 +18,6 @@ invariant_of-self-in-Ok c =
     let grown : c.insert.new.self.keys ≡ cond (list_any (λ v. bytes_eq k.now v.now) ks) ks (ks ++ k ∷ []) = c.in-Ok.ensures.keys in
     let keys : c.insert.new.self.keys ≡ ks ++ k ∷ [] = grown ∙ insert_new (list_any (λ v. bytes_eq k.now v.now) ks) ks k (none-listed (λ v. v.now) ks bs k.now listed unbound) in
     let one : Binding = record { variable = c.args.variable; value = c.args.value } in
-    let bound_more : bindings_of c.push.new.self.items ≡ bs ++ binding_of one ∷ [] = ap bindings_of c.in_ok-push.ensures.items ∙ map-append binding_of c.self.inside.list.items (one ∷ []) in
+    let bound_more : bindings_of c.push.new.self.items ≡ bs ++ bound_pair one ∷ [] = ap bindings_of c.in_ok-push.ensures.items ∙ map-append bound_pair c.self.inside.list.items (one ∷ []) in
     ap (map (λ v. v.now)) keys ∙ map-append (λ v. v.now) ks (k ∷ []) ∙ (λ j. listed j ++ c.as_bytes.ensures j ∷ [])
-    ∙ sym (ap (map (λ b. b.0)) bound_more ∙ map-append (λ b. b.0) bs (binding_of one ∷ []))
+    ∙ sym (ap (map (λ b. b.0)) bound_more ∙ map-append (λ b. b.0) bs (bound_pair one ∷ []))

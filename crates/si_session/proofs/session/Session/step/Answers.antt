@@ -3,7 +3,7 @@ use Rattle.si_steps.specs.Commands.{add, remove, query, stats}
 use Rattle.si_defs.specs.declared.Relation.TheVariants.{Instances}
 use Rattle.si_term.specs.Meaning.{name_of, clause_of, pattern_of}
 use Rattle.si_session.specs.Session.{Steps}
-use Rattle.si_session.specs.Commands.{Reads}
+use Rattle.si_session.specs.Commands.{ReadsCommand}
 use Rattle.si_session.specs.declared.command.Command.TheVariants as command
 use Rattle.si_session.proofs.Acting.{state_with, stepped, not_silent, keeps_clauses, counts}
 use Rattle.si_session.proofs.session.Session.step.Goals as goal
@@ -13,7 +13,7 @@ returns-in-Ok-Add-clause-step g c =
     let a = g.K.Sink.written c.args.sink.now in
     let b = g.K.Sink.written c.add.new.sink in
     let limits = c.self.inside.limits in
-    let read : Reads c.args.line.now (command.Add c.in-Ok-Add.clause) = subst (Reads c.args.line.now) c.in-Ok-Add.field-0-is c.in-Ok-Add.ensures.read in
+    let read : ReadsCommand c.args.line.now (command.Add c.in-Ok-Add.clause) = subst (ReadsCommand c.args.line.now) c.in-Ok-Add.field-0-is c.in-Ok-Add.ensures.read in
     let short : length c.args.line.now ≤ limits.line = omega (arith, c.if-line-self.false) in
     subst (λ s. Steps s (state_with limits c.add.new.index.clauses) c.args.line.now c.add.result a b) c.self.view_is
     (stepped limits c.self.inside.index.clauses c.add.new.index.clauses c.args.line.now (add (clause_of c.in-Ok-Add.clause)) c.add.result a b short read.0 (c.add.ensures.acts limits (sym c.self.invariant)))
@@ -23,7 +23,7 @@ returns-in-Ok-Query-clause-step g c =
     let a = g.K.Sink.written c.args.sink.now in
     let b = g.K.Sink.written c.answer.new.sink in
     let limits = c.self.inside.limits in
-    let read : Reads c.args.line.now (command.Query c.in-Ok-Query.pattern) = subst (Reads c.args.line.now) c.in-Ok-Query.field-0-is c.in-Ok-Query.ensures.read in
+    let read : ReadsCommand c.args.line.now (command.Query c.in-Ok-Query.pattern) = subst (ReadsCommand c.args.line.now) c.in-Ok-Query.field-0-is c.in-Ok-Query.ensures.read in
     let short : length c.args.line.now ≤ limits.line = omega (arith, c.if-line-self.false) in
     subst (λ s. Steps s s c.args.line.now c.answer.result a b) c.self.view_is
     (stepped limits c.self.inside.index.clauses c.self.inside.index.clauses c.args.line.now (query Instances (pattern_of c.in-Ok-Query.pattern)) c.answer.result a b short read (c.answer.ensures.acts limits (sym c.self.invariant)))
@@ -33,7 +33,7 @@ returns-in-Ok-Remove-clause-step g c =
     let a = g.K.Sink.written c.args.sink.now in
     let b = g.K.Sink.written c.remove.new.sink in
     let limits = c.self.inside.limits in
-    let read : Reads c.args.line.now (command.Remove c.in-Ok-Remove.name) = subst (Reads c.args.line.now) c.in-Ok-Remove.field-0-is c.in-Ok-Remove.ensures.read in
+    let read : ReadsCommand c.args.line.now (command.Remove c.in-Ok-Remove.name) = subst (ReadsCommand c.args.line.now) c.in-Ok-Remove.field-0-is c.in-Ok-Remove.ensures.read in
     let short : length c.args.line.now ≤ limits.line = omega (arith, c.if-line-self.false) in
     subst (λ s. Steps s (state_with limits c.remove.new.index.clauses) c.args.line.now c.remove.result a b) c.self.view_is
     (stepped limits c.self.inside.index.clauses c.remove.new.index.clauses c.args.line.now (remove (name_of c.in-Ok-Remove.name)) c.remove.result a b short read
@@ -44,7 +44,7 @@ returns-in-Ok-Add-clause-silent g c =
     let a = g.K.Sink.written c.args.sink.now in
     let b = g.K.Sink.written c.add.new.sink in
     let limits = c.self.inside.limits in
-    let read : Reads c.args.line.now (command.Add c.in-Ok-Add.clause) = subst (Reads c.args.line.now) c.in-Ok-Add.field-0-is c.in-Ok-Add.ensures.read in (
+    let read : ReadsCommand c.args.line.now (command.Add c.in-Ok-Add.clause) = subst (ReadsCommand c.args.line.now) c.in-Ok-Add.field-0-is c.in-Ok-Add.ensures.read in (
       λ e. absurd (not_silent limits (add (clause_of c.in-Ok-Add.clause)) c.self.inside.index.clauses c.add.new.index.clauses c.add.result a b (c.add.ensures.acts limits (sym c.self.invariant)) e),
       λ h. absurd (read.0.1 h.1),
     )
@@ -61,7 +61,7 @@ returns-in-Ok-Remove-clause-silent g c =
     let a = g.K.Sink.written c.args.sink.now in
     let b = g.K.Sink.written c.remove.new.sink in
     let limits = c.self.inside.limits in
-    let read : Reads c.args.line.now (command.Remove c.in-Ok-Remove.name) = subst (Reads c.args.line.now) c.in-Ok-Remove.field-0-is c.in-Ok-Remove.ensures.read in (
+    let read : ReadsCommand c.args.line.now (command.Remove c.in-Ok-Remove.name) = subst (ReadsCommand c.args.line.now) c.in-Ok-Remove.field-0-is c.in-Ok-Remove.ensures.read in (
       λ e. absurd (not_silent limits (remove (name_of c.in-Ok-Remove.name)) c.self.inside.index.clauses c.remove.new.index.clauses c.remove.result a b (c.remove.ensures.acts limits (sym c.self.invariant)) e),
       λ h. absurd (read.1 h.1),
     )
@@ -78,7 +78,7 @@ returns-in-Ok-Query-clause-silent g c =
     let a = g.K.Sink.written c.args.sink.now in
     let b = g.K.Sink.written c.answer.new.sink in
     let limits = c.self.inside.limits in
-    let read : Reads c.args.line.now (command.Query c.in-Ok-Query.pattern) = subst (Reads c.args.line.now) c.in-Ok-Query.field-0-is c.in-Ok-Query.ensures.read in (
+    let read : ReadsCommand c.args.line.now (command.Query c.in-Ok-Query.pattern) = subst (ReadsCommand c.args.line.now) c.in-Ok-Query.field-0-is c.in-Ok-Query.ensures.read in (
       λ e. absurd (not_silent limits (query Instances (pattern_of c.in-Ok-Query.pattern)) c.self.inside.index.clauses c.self.inside.index.clauses c.answer.result a b (c.answer.ensures.acts limits (sym c.self.invariant)) e),
       λ h. absurd (read.1 h.1),
     )
@@ -88,7 +88,7 @@ returns-in-Ok-Stats-clause-step g c =
     let a = g.K.Sink.written c.args.sink.now in
     let b = g.K.Sink.written c.tell-in-Ok-Stats.new.sink in
     let limits = c.self.inside.limits in
-    let read : Reads c.args.line.now command.Stats = subst (Reads c.args.line.now) c.in-Ok-Stats.field-0-is c.in-Ok-Stats.ensures.read in
+    let read : ReadsCommand c.args.line.now command.Stats = subst (ReadsCommand c.args.line.now) c.in-Ok-Stats.field-0-is c.in-Ok-Stats.ensures.read in
     let short : length c.args.line.now ≤ limits.line = omega (arith, c.if-line-self.false) in
     subst (λ s. Steps s s c.args.line.now c.tell-in-Ok-Stats.result a b) c.self.view_is
     (stepped limits c.self.inside.index.clauses c.self.inside.index.clauses c.args.line.now stats c.tell-in-Ok-Stats.result a b short read

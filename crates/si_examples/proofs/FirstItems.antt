@@ -1,11 +1,10 @@
 -- Items at the front of a text.
-use Rattle.std.proofs.Common.{◌≡◌, ℕ, Bool, true, false, ◌&&◌, ◌==◌, ◌≤◌, List, [], ◌∷◌, ◌++◌, codes, refl, sym, ap, subst, inl, inr, arith}
+use Rattle.std.proofs.Common.{◌≡◌, false, ◌==◌, List, [], ◌∷◌, codes, refl, inl, arith}
 use Rattle.std.specs.Prelude.{IsTrue}
 use Rattle.std.proofs.lemmas.Bool.{and_parts}
 use Rattle.si_defs.specs.Bytes.{Bytes}
-use Rattle.si_defs.specs.Clauses.{Clause}
-use Rattle.si_defs.specs.Tokens.{Token, lower, mark, NextToken, Begins}
-use Rattle.si_defs.specs.Grammar.{Item, clause_item, include_item, Selection, all, only, IsItem, IsClause, nesting}
+use Rattle.si_defs.specs.Tokens.{Token, lower, NextToken, Begins}
+use Rattle.si_defs.specs.Grammar.{Item, clause_item, include_item, all, only}
 use Rattle.si_defs.specs.Texts.{BeginsWithItem, IsFaulty}
 use Rattle.si_defs.specs.declared.TokenKind.{TokenKind}
 use Rattle.si_defs.specs.declared.TokenKind.TheVariants.{Lower, Single, Mark}
@@ -14,7 +13,7 @@ use Rattle.si_lex.proofs.TokenLaws.{blanks_none}
 use Rattle.si_examples.specs.Entries.{fact, predicate}
 use Rattle.si_examples.proofs.Differ.{first_byte}
 use Rattle.si_examples.proofs.FirstWords.{first_next, word_differs}
-use Rattle.si_examples.proofs.Pieces.{Piece, token, token_of, word, sign, bytes_of, tokens_of, are_read, next}
+use Rattle.si_examples.proofs.Pieces.{Piece, token, token_of, word, bytes_of, are_read, next}
 
 -- tokens without blanks between them
 abbrev pub spelled_out : List (TokenKind × Bytes) → List Piece → List Piece

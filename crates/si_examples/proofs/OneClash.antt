@@ -1,16 +1,10 @@
 -- Symbols of two clauses, and a clause that is tried.
-use Rattle.std.proofs.Common.{◌≡◌, ◌<◌, ◌≤◌, ◌+◌, [], ◌∷◌, length, refl, sym, ap, inl, inr, subst, arith}
+use Rattle.std.proofs.Common.{[], ◌∷◌, refl, ap, inl, inr, arith}
 use Rattle.std.specs.Prelude.{codes}
 use Rattle.std.proofs.lemmas.Fmt.{decimal_digit}
-use Rattle.si_defs.specs.Substitutions.{IsAmong}
-use Rattle.si_defs.specs.Clauses.{Clause}
-use Rattle.si_defs.specs.Entries.{clause_symbols, state_symbols}
-use Rattle.si_defs.specs.declared.Side.TheVariants.{Predicate, Function}
-use Rattle.si_state.specs.Acceptance.{AllAgree, Refuses, full, misused}
-use Rattle.si_state.specs.Signatures.{CountsSymbols}
-use Rattle.si_steps.specs.Replies.{full_line}
-use Rattle.si_steps.specs.declared.limits.Limits.{Limits}
-use Rattle.si_examples.specs.Entries.{a, first_atom}
+use Rattle.si_defs.specs.Entries.{clause_symbols}
+use Rattle.si_state.specs.Acceptance.{AllAgree, full}
+use Rattle.si_examples.specs.Entries.{first_atom}
 use Rattle.si_examples.specs.Steps.{kept, front_symbol, AddedClause, FullIndex, ClashingSymbol, NoClash, NoAgreement, RemovedClause, NothingCounted, NoneUncounted}
 use Rattle.si_examples.proofs.Differ.{texts_differ}
 

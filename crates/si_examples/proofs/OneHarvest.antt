@@ -1,19 +1,18 @@
 -- Harvests of small files.
-use Rattle.std.proofs.Common.{◌≡◌, ℕ, ◌≤◌, ◌<◌, false, ◌==◌, List, [], ◌∷◌, ◌++◌, length, codes, refl, sym, ap, ◌∙◌, inl, inr, arith, Option, None, Some}
+use Rattle.std.proofs.Common.{◌≡◌, ℕ, ◌<◌, false, ◌==◌, [], ◌∷◌, ◌++◌, codes, refl, sym, ap, inl, inr, arith, None, Some}
 use Rattle.si_defs.specs.Bytes.{Bytes, is_white}
-use Rattle.si_defs.specs.Clauses.{Name, Clause}
 use Rattle.std.specs.Prelude.{IsTrue}
 use Rattle.si_defs.specs.Tokens.{lower, white, NextToken}
-use Rattle.si_defs.specs.Grammar.{Selection, all, only, left_bracket}
+use Rattle.si_defs.specs.Grammar.{all, only}
 use Rattle.si_defs.specs.Texts.{IsForeign, languages}
 use Rattle.si_defs.specs.Substitutions.{IsAmong}
 use Rattle.si_defs.specs.declared.TokenKind.TheVariants.{Lower, Mark}
 use Rattle.si_defs.specs.declared.NameKind.TheVariants.{Word}
 use Rattle.si_state.specs.Acceptance.{Accepts, taken}
-use Rattle.si_state.specs.Harvest.{Files, Bounds, Event, ask, attempt, fetches, tried, Fault, cycle, too_deep, too_many, missing, too_big, failed, foreign, malformed, rejected, MayAsk, IsSelected, Spot, Harvests, barred, withheld, fetched, Continues, ended, stuck, passed_over, accepted, refused, expanded, broken_off}
+use Rattle.si_state.specs.Harvest.{Bounds, ask, attempt, cycle, too_deep, too_many, missing, too_big, failed, foreign, malformed, rejected, MayAsk, IsSelected, Harvests, barred, withheld, fetched, ended, stuck, passed_over, accepted, refused, expanded, broken_off}
 use Rattle.si_lex.proofs.TokenLaws.{next_place}
 use Rattle.si_examples.specs.Entries.{fact, predicate}
-use Rattle.si_examples.specs.Harvests.{bounds, c, plain, selecting, includes, PlainFile, BigFile, MissingFile, NoMissingFile, FailedFile, TakenNameOfALoad, SelectedClause, OwnInclude, NoDepthOfOpenFile, DeepInclude, LateInclude, SecondLine, FirstWord}
+use Rattle.si_examples.specs.Harvests.{bounds, c, selecting, PlainFile, BigFile, MissingFile, NoMissingFile, FailedFile, TakenNameOfALoad, SelectedClause, OwnInclude, NoDepthOfOpenFile, DeepInclude, LateInclude, SecondLine, FirstWord}
 use Rattle.si_examples.proofs.Differ.{first_byte, texts_differ}
 use Rattle.si_examples.proofs.FirstWords.{word_differs}
 use Rattle.si_examples.proofs.Pieces.{space, word, sign, stands_first, nothing, first as at_front, next}

@@ -1,9 +1,9 @@
 -- Two clauses that are drawn from the start 1, draw by draw.
-use Rattle.std.proofs.Common.{◌≡◌, ℕ, List, [], ◌∷◌, ◌++◌, length, refl, ap, arith, codes, drop, false, ◌==◌}
+use Rattle.std.proofs.Common.{◌≡◌, ℕ, List, [], ◌++◌, length, refl, ap, arith, codes, drop, false, ◌==◌}
 use Rattle.std.specs.Prelude.{decimal}
 use Rattle.std.proofs.lemmas.Fmt.{decimal_digit}
 use Rattle.si_defs.specs.Bytes.{Bytes}
-use Rattle.si_defs.specs.Generator.{Rule, exactly, ◌before◌, one_of, rule_at, drawn, next, leaves, term, sign, atom, literal, literals, clause, clauses, IsSample}
+use Rattle.si_defs.specs.Generator.{Rule, exactly, ◌before◌, one_of, rule_at, drawn, next, term, literal, literals, clause, clauses, IsSample}
 use Rattle.si_examples.specs.Samples.{TwoClauses, NoOtherVariable, NoClauseZero}
 use Rattle.si_examples.proofs.Differ.{first_byte, texts_differ}
 use Rattle.si_examples.proofs.OneSample.{no_other_text}

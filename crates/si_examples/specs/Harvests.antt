@@ -1,9 +1,9 @@
 -- What is read of files.
-use Rattle.std.specs.Prelude.{ℕ, cond, List, [], ◌∷◌, ◌++◌, Option, None, Some, bytes_eq, codes}
+use Rattle.std.specs.Prelude.{ℕ, cond, List, [], ◌∷◌, ◌++◌, None, Some, bytes_eq, codes}
 use Rattle.si_defs.specs.Bytes.{Bytes}
 use Rattle.si_defs.specs.Clauses.{Clause}
 use Rattle.si_state.specs.Acceptance.{taken}
-use Rattle.si_state.specs.Harvest.{Files, Bounds, Event, ask, attempt, Fault, cycle, too_deep, too_many, missing, too_big, failed, foreign, malformed, rejected, IsBarred, Loads}
+use Rattle.si_state.specs.Harvest.{Files, Bounds, Event, ask, attempt, cycle, too_deep, too_many, missing, too_big, failed, foreign, malformed, rejected, IsBarred, Loads}
 use Rattle.si_examples.specs.Entries.{fact, predicate}
 
 -- these files and no others

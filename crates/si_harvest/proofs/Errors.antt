@@ -1,12 +1,10 @@
 -- Faults that are passed on.
-use Rattle.std.proofs.Common.{◌≡◌, ℕ, sym, subst, refl, Option, Some, inl, inr}
+use Rattle.std.proofs.Common.{◌≡◌, ℕ, sym, subst, inl, inr}
 use Rattle.std.specs.Prelude.{Result, Ok, Err, IfErr, IsErrAnd}
-use Rattle.si_defs.specs.Bytes.{Bytes}
-use Rattle.si_state.specs.Harvest.{Files, Bounds, Fault}
+use Rattle.si_state.specs.Harvest.{Fault}
 use Rattle.si_io.specs.Library.{Counts}
 use Rattle.si_harvest.specs.declared.faults.HarvestFault.{HarvestFault}
-use Rattle.si_harvest.specs.declared.faults.HarvestFault.TheVariants.{Memory}
-use Rattle.si_harvest.specs.Faults.{NamesFault, NamesOneOf, Explains, HasFaultCause, HasLoadCause}
+use Rattle.si_harvest.specs.Faults.{Explains, HasFaultCause, HasLoadCause}
 
 -- the fault is told for another reason
 pub blames_weaker : (limit : ℕ) (e : HarvestFault) (P Q : Fault → Type 0) → ((f : Fault) → P f → Q f) → Explains limit e P → Explains limit e Q

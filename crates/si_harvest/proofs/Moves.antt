@@ -1,18 +1,18 @@
 -- A load goes on by one item, or ends with a fault.
-use Rattle.std.proofs.Common.{◌≡◌, ℕ, ◌+◌, ◌≤◌, true, false, List, [], ◌∷◌, ◌++◌, drop, length, reverse, refl, sym, ap, ◌∙◌, subst, Option, None, Some, ◌⊎◌, inl, inr, append_assoc, append-nil, arith}
+use Rattle.std.proofs.Common.{◌≡◌, ℕ, ◌+◌, true, false, List, [], ◌∷◌, ◌++◌, drop, reverse, refl, sym, ap, ◌∙◌, subst, Option, None, Some, ◌⊎◌, inl, inr, append_assoc, append-nil}
 use Rattle.std.specs.Prelude.{IfSome}
 use Rattle.si_defs.specs.Bytes.{Bytes}
 use Rattle.si_defs.specs.Clauses.{Name, Clause}
 use Rattle.si_defs.specs.Tokens.{AreBlanks}
 use Rattle.si_defs.specs.Grammar.{Selection, all, only, clause_item, include_item}
 use Rattle.si_defs.specs.Texts.{BeginsWithItem}
-use Rattle.si_state.specs.Acceptance.{Refusal, Accepts, Refuses}
-use Rattle.si_state.specs.Harvest.{Files, Bounds, Event, ask, attempt, Fault, cycle, too_deep, too_many, missing, too_big, failed, foreign, malformed, rejected, fetches, tried, MayAsk, IsBarred, IsWithheld, narrowed, IsSelected, Spot, IsStuck, IsRejected, Loads, barred, withheld}
+use Rattle.si_state.specs.Acceptance.{Accepts}
+use Rattle.si_state.specs.Harvest.{Files, Bounds, Event, ask, attempt, Fault, cycle, too_deep, too_many, missing, too_big, failed, foreign, malformed, rejected, tried, MayAsk, IsBarred, IsWithheld, narrowed, IsSelected, Spot, IsStuck, IsRejected, Loads, barred, withheld}
 use Rattle.si_harvest.specs.declared.files.OpenFile.{OpenFile}
 use Rattle.si_harvest.specs.declared.names.NameSet.{NameSet}
 use Rattle.si_harvest.specs.declared.reading.Reading.{Reading}
-use Rattle.si_harvest.specs.Opened.{opened, is_selected, HasOpened, OpensInside, IsUnopened, TriesClause, HasFault}
-use Rattle.si_harvest.specs.Underway.{opened_at, around_at, Lists, Narrows, IsAtSpot, Stand, Finishes, IsUnderway}
+use Rattle.si_harvest.specs.Opened.{opened, is_selected, OpensInside, IsUnopened, TriesClause, HasFault}
+use Rattle.si_harvest.specs.Underway.{Lists, Narrows, IsAtSpot, Stand, Finishes, IsUnderway}
 use Rattle.si_harvest.specs.Gains.{GainsByLoad}
 use Rattle.si_harvest.proofs.Stands.{innermost, stand_names, stand_selected, stand_unselected, selected-reverse}
 use Rattle.si_harvest.proofs.Finishing.{tried-append, finishes_end, finishes_over, finishes_accepted, finishes_opened, finishes_stuck, finishes_refused, finishes_barred, finishes_withheld, loads_opened}

@@ -1,5 +1,5 @@
 -- Why the store rejects a clause, as a fault of the load.
-use Rattle.std.proofs.Common.{◌≡◌, ℕ, List, refl, sym, subst, ◌⊎◌, inl, inr}
+use Rattle.std.proofs.Common.{◌≡◌, ℕ, List, refl, inr}
 use Rattle.si_defs.specs.Clauses as clauses
 use Rattle.si_state.specs.Acceptance.{Refusal, Refuses, taken, misused, full}
 use Rattle.si_state.specs.Harvest.{rejected, IsRejected}

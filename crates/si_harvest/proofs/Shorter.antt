@@ -1,8 +1,8 @@
 -- Behind an item fewer bytes are left.
-use Rattle.std.proofs.Common.{◌≡◌, ℕ, ◌+◌, ◌≤◌, ◌<◌, true, false, List, [], ◌∷◌, ◌++◌, codes, length, length-append, refl, sym, ap, ◌∙◌, subst, arith}
+use Rattle.std.proofs.Common.{◌≡◌, ◌≤◌, ◌<◌, List, [], ◌∷◌, codes, length, length-append, refl, sym, ap, ◌∙◌, subst, arith}
 use Rattle.std.proofs.lemmas.Bool.{false≢true}
 use Rattle.si_defs.specs.Bytes.{Bytes}
-use Rattle.si_defs.specs.Tokens.{Token, Spells, TokenAt, NextToken, Begins, joined, lower}
+use Rattle.si_defs.specs.Tokens.{Token, Spells, NextToken, Begins, joined, lower}
 use Rattle.si_defs.specs.Grammar.{Item, clause_item, include_item}
 use Rattle.si_defs.specs.Texts.{BeginsWithItem}
 use Rattle.si_defs.specs.declared.TokenKind.{TokenKind}

@@ -1,5 +1,5 @@
 -- The spots of the files that are open.
-use Rattle.std.proofs.Common.{◌≡◌, ℕ, Bool, true, false, ◌&&◌, ◌||◌, List, [], ◌∷◌, ◌++◌, map, length, reverse, refl, sym, ap, ◌∙◌, subst, Option, None, Some, inl, inr}
+use Rattle.std.proofs.Common.{◌≡◌, Bool, true, false, ◌&&◌, ◌||◌, List, [], ◌∷◌, ◌++◌, length, reverse, refl, sym, ap, ◌∙◌, subst, Option, None, Some, inl, inr}
 use Rattle.std.proofs.lemmas.Bool.{and_parts, false≢true}
 use Rattle.std.specs.Prelude.{bytes_eq}
 use Rattle.std.proofs.lemmas.Slice.Eq.{bytes_eq-Decides}
@@ -11,9 +11,8 @@ use Rattle.si_defs.specs.Substitutions.{IsAmong}
 use Rattle.si_state.specs.Harvest.{Spot, IsSelected}
 use Rattle.si_harvest.specs.declared.files.OpenFile.{OpenFile}
 use Rattle.si_harvest.specs.declared.names.NameSet.{NameSet}
-use Rattle.si_harvest.specs.Chosen.{IsSetOf}
 use Rattle.si_harvest.specs.Opened.{file_names, opened, has_open, lists, is_selected}
-use Rattle.si_harvest.specs.Underway.{opened_at, around_at, Narrows, IsAtSpot, Stand}
+use Rattle.si_harvest.specs.Underway.{opened_at, around_at, Narrows, Stand}
 
 -- the last file is the innermost
 pub innermost : (fs : List OpenFile) (f : OpenFile) → reverse (fs ++ f ∷ []) ≡ f ∷ reverse fs

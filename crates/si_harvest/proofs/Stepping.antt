@@ -1,5 +1,5 @@
 -- The steps of a load, item by item.
-use Rattle.std.proofs.Common.{◌≡◌, ℕ, ◌+◌, ◌≤◌, ◌<◌, true, false, Bool, List, [], ◌∷◌, ◌++◌, take, drop, length, refl, sym, ap, ◌∙◌, subst, Option, None, Some, inl, inr, arith}
+use Rattle.std.proofs.Common.{◌≡◌, ℕ, ◌≤◌, true, false, Bool, List, [], ◌∷◌, ◌++◌, take, drop, refl, sym, ◌∙◌, subst, Option, inl, inr}
 use Rattle.std.proofs.lemmas.List.{take-append-drop}
 use Rattle.std.specs.Prelude.{Result, Ok, Err, IsErrAnd}
 use Rattle.si_defs.specs.Bytes.{Bytes}
@@ -8,7 +8,7 @@ use Rattle.si_defs.specs.Tokens.{AreBlanks}
 use Rattle.si_defs.specs.Grammar.{Selection, clause_item, include_item}
 use Rattle.si_defs.specs.Texts.{IsFaulty, IsForeign, IsPlace, line_of}
 use Rattle.si_defs.specs.declared.TheConstants.{MOST_OCCURRENCES}
-use Rattle.si_state.specs.Harvest.{Files, Bounds, Fault, foreign, malformed, Spot, IsStuck, IsRejected}
+use Rattle.si_state.specs.Harvest.{Files, Bounds, foreign, malformed, Spot, IsStuck, IsRejected}
 use Rattle.si_parse.specs.Reading.{IsItemRead, IsFault, IsRead}
 use Rattle.si_parse.specs.declared.item.Read.{Read}
 use Rattle.si_harvest.specs.declared.files.OpenFile.{OpenFile}

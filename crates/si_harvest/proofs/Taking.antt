@@ -1,7 +1,6 @@
 -- Clauses that are taken away one by one, the last first.
-use Rattle.std.proofs.Common.{◌≡◌, ℕ, zero, suc, ◌+◌, ◌-◌, ◌≤◌, ◌<◌, List, [], ◌∷◌, ◌++◌, take, length, length-append, refl, sym, ap, ap₂, ◌∙◌, subst, Option, None, Some, IfSome, arith}
+use Rattle.std.proofs.Common.{◌≡◌, ℕ, zero, suc, ◌+◌, ◌-◌, ◌≤◌, List, [], ◌∷◌, ◌++◌, take, length, refl, sym, ap, ap₂, ◌∙◌, Option, None, Some, IfSome, arith}
 use Rattle.std.specs.Prelude.{IfNone}
-use Rattle.std.proofs.Math.Seq.{take-append_seam}
 use Rattle.si_defs.specs.Clauses.{Clause}
 
 -- so many of the last are gone

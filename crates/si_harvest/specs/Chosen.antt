@@ -1,7 +1,6 @@
 -- Which names a set of them holds.
 use Rattle.std.specs.Prelude.{◌≡◌, ◌↔◌, Bool, true, List, bytes_eq}
 use Rattle.std.specs.List.{list_any}
-use Rattle.si_defs.specs.Bytes.{Bytes}
 use Rattle.si_defs.specs.Clauses.{Name}
 use Rattle.si_defs.specs.Substitutions.{IsAmong}
 use Rattle.si_defs.specs.declared.NameKind.{NameKind}

@@ -1,5 +1,5 @@
 -- Why a load is refused, as the program tells it.
-use Rattle.std.specs.Prelude.{◌≡◌, ◌⊎◌, ℕ, ◌+◌, Result, Ok, Err}
+use Rattle.std.specs.Prelude.{◌≡◌, ◌⊎◌, ℕ, Result, Ok, Err}
 use Rattle.si_defs.specs.Symbols.{Symbol}
 use Rattle.si_state.specs.Acceptance as state
 use Rattle.si_state.specs.Acceptance.{Refusal}

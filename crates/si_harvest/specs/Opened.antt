@@ -1,16 +1,14 @@
 -- The files that are open, and where their reading stands.
-use Rattle.std.specs.Prelude.{◌≡◌, ℕ, ◌+◌, ◌-◌, ◌*◌, ◌≤◌, ◌<◌, ◌⊎◌, Bool, true, false, ◌&&◌, List, [], ◌∷◌, ◌++◌, length, drop, map, reverse, Option, None, Some, IfSome, bytes_eq}
+use Rattle.std.specs.Prelude.{◌≡◌, ℕ, ◌+◌, ◌≤◌, ◌⊎◌, Bool, true, false, List, [], ◌∷◌, ◌++◌, length, map, reverse, Option, None, Some, IfSome, bytes_eq}
 use Rattle.std.specs.List.{list_any, list_all}
 use Rattle.si_defs.specs.Bytes.{Bytes}
 use Rattle.si_defs.specs.Clauses.{Name, Clause}
-use Rattle.si_defs.specs.declared.TheConstants.{MOST_OCCURRENCES}
 use Rattle.si_state.specs.Harvest.{Files, Bounds, Event, Fault, MayAsk, IsBarred, IsWithheld, Loads}
 use Rattle.si_state.specs.Acceptance.{Accepts}
 use Rattle.si_harvest.specs.declared.files.OpenFile.{OpenFile}
 use Rattle.si_harvest.specs.declared.names.NameSet.{NameSet}
 use Rattle.si_harvest.specs.declared.reading.Reading.{Reading}
-use Rattle.si_harvest.specs.declared.faults.HarvestLimits.{HarvestLimits}
-use Rattle.si_harvest.specs.Chosen.{holds, IsSetOf}
+use Rattle.si_harvest.specs.Chosen.{holds}
 
 abbrev pub file_names : List OpenFile → List Bytes
 file_names files = map (λ f. f.name) files

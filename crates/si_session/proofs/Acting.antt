@@ -1,8 +1,8 @@
 -- What a command did, from what its parts wrote; and the step that its line made.
-use Rattle.std.proofs.Common.{◌≡◌, ℕ, ◌≤◌, List, [], ◌∷◌, ◌++◌, length, refl, ap, sym, ◌∙◌, subst, inl, inr, arith, append_assoc, length-append, true, false}
-use Rattle.std.specs.Prelude.{Option, Some, codes, slice_get, IsTrue}
+use Rattle.std.proofs.Common.{◌≡◌, ℕ, ◌≤◌, List, [], ◌∷◌, ◌++◌, length, refl, ap, sym, ◌∙◌, subst, inl, inr, arith, append_assoc, length-append}
+use Rattle.std.specs.Prelude.{Some, slice_get, IsTrue}
 use Rattle.si_defs.specs.Bytes.{Bytes}
-use Rattle.si_defs.specs.Tokens.{begins_with, AreBlanks}
+use Rattle.si_defs.specs.Tokens.{begins_with}
 use Rattle.si_defs.specs.Symbols.{Symbol}
 use Rattle.si_defs.specs.Clauses.{Name, Clause, Pattern, IsSoundClause}
 use Rattle.si_defs.specs.Entries.{entries, state_entries, clause_symbols}
@@ -12,8 +12,8 @@ use Rattle.si_state.specs.Signatures.{CountsSymbols}
 use Rattle.si_state.specs.Answers.{hit_texts}
 use Rattle.si_steps.specs.declared.limits.Limits.{Limits}
 use Rattle.si_steps.specs.Replies.{Reply, is_refusal, ok_line, end_line, stats_line, misused_line, full_line, unknown_line, memory_line}
-use Rattle.si_steps.specs.Commands.{Command, add, remove, query, stats, Means, IsDecided, IsSilent}
-use Rattle.si_steps.specs.Steps.{Performs, Step, right, memory_at_once, memory_behind, performed}
+use Rattle.si_steps.specs.Commands.{Command, add, remove, query, stats, IsDecided, IsSilent}
+use Rattle.si_steps.specs.Steps.{Performs, right, memory_at_once, memory_behind, performed}
 use Rattle.si_steps.specs.Runs.{ended}
 use Rattle.si_io.specs.Content.{Told, Appends, AppendsPrefix}
 use Rattle.si_io.proofs.Content.{Appends_then, AppendsPrefix_then, AppendsPrefix_more}

@@ -1,6 +1,6 @@
 -- Which command a line is, by its tokens.
 use Rattle.std.proofs.Common.{◌≡◌, ℕ, List, [], ◌∷◌, ◌++◌, refl, ap, sym, ◌∙◌, ap₂, subst, inl, inr, arith}
-use Rattle.std.specs.Prelude.{codes, Bool, true, false, IsTrue, IsFalse, ◌↔◌, Option, Some, None}
+use Rattle.std.specs.Prelude.{codes, IsTrue, Option, Some, None}
 use Rattle.std.specs.Borrow.{Bor}
 use Rattle.si_defs.specs.Bytes.{Bytes}
 use Rattle.si_defs.specs.Clauses.{Name, Clause, Pattern, literal_pattern, term_pattern, IsSoundClause}

@@ -1,15 +1,14 @@
 -- The lines of replies, as they are written.
-use Rattle.std.proofs.Common.{◌≡◌, ℕ, List, [], ◌∷◌, ◌++◌, refl, ap, sym, ◌∙◌, append_assoc}
+use Rattle.std.proofs.Common.{◌≡◌, ℕ, [], ◌∷◌, ◌++◌, refl, ap, sym, ◌∙◌, append_assoc}
 use Rattle.std.specs.Prelude.{codes, decimal}
 use Rattle.si_defs.specs.Bytes.{Bytes}
 use Rattle.std.specs.Borrow.{Bor}
-use Rattle.si_defs.specs.Printing.{name_text, symbol_text, shape_text}
+use Rattle.si_defs.specs.Printing.{symbol_text, shape_text}
 use Rattle.si_defs.specs.declared.Side.TheVariants.{Predicate, Function}
 use Rattle.si_index.specs.declared.index.Stats.{Stats}
 use Rattle.si_sign.specs.declared.faults.Shape.{Shape}
 use Rattle.si_term.specs.declared.term.Sym.{Sym}
 use Rattle.si_term.specs.Terms.{symbol_of}
-use Rattle.si_term.specs.Meaning.{name_of}
 use Rattle.si_session.specs.Replies.{reply_line, ended_line, stats_text, closed_shape}
 use Rattle.si_session.specs.Signs.{sign_text}
 use Rattle.si_session.specs.declared.sign.Sign.TheVariants.{Space, LineFeed}

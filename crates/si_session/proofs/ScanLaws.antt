@@ -3,7 +3,7 @@ use Rattle.std.proofs.Common.{◌≡◌, ℕ, zero, suc, ◌+◌, ◌-◌, ◌<�
 use Rattle.std.proofs.Math.Seq.{take-append_seam}
 use Rattle.std.proofs.Math.Bool.{beq}
 use Rattle.std.proofs.lemmas.List.{drop_more, drop_all, map-append}
-use Rattle.std.specs.Prelude.{slice_get, Option, Some, None, if◌then◌else◌, cond, Bool, true, false, not, codes, decimal}
+use Rattle.std.specs.Prelude.{slice_get, Option, Some, None, if◌then◌else◌, cond, Bool, true, false, not, codes}
 use Rattle.std.specs.List.{AllByRecursion}
 use Rattle.si_defs.specs.Bytes.{Bytes}
 use Rattle.si_defs.specs.Terms as terms
@@ -15,7 +15,7 @@ use Rattle.si_state.specs.Answers.{Hit, hit_text, hit_texts}
 use Rattle.si_steps.specs.Runs.{ended}
 use Rattle.si_steps.specs.Replies.{answer_reply, end_line}
 use Rattle.si_term.specs.Terms.{term_of}
-use Rattle.si_term.specs.Meaning.{literal_of, clause_of}
+use Rattle.si_term.specs.Meaning.{literal_of}
 use Rattle.si_term.specs.declared.term.Term as program
 use Rattle.si_term.specs.declared.term.Term.TheVariants.{Var, App}
 use Rattle.si_term.specs.declared.term.Sym as symbol

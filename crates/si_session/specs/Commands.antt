@@ -1,5 +1,5 @@
 -- What the reader of command lines gives.
-use Rattle.std.specs.Prelude.{◌≡◌, List, [], ◌∷◌, IsTrue, IsFalse, codes}
+use Rattle.std.specs.Prelude.{◌≡◌, List, [], ◌∷◌, IsFalse, codes}
 use Rattle.si_defs.specs.Bytes.{Bytes}
 use Rattle.si_defs.specs.Clauses.{IsSoundClause}
 use Rattle.si_defs.specs.declared.Relation.TheVariants.{Instances}

@@ -1,5 +1,5 @@
 -- Lines written to a sink, and what stands there where they were broken off.
-use Rattle.std.specs.Prelude.{◌≡◌, ◌≤◌, ℕ, List, ◌++◌, Option, Result, Ok, Err}
+use Rattle.std.specs.Prelude.{◌≡◌, ◌≤◌, ℕ, List, ◌++◌, Result, Ok, Err}
 use Rattle.si_defs.specs.Bytes.{Bytes}
 use Rattle.si_steps.specs.Runs.{ended}
 use Rattle.si_io.specs.Content.{Told, Appends, AppendsPrefix}

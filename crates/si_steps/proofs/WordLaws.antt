@@ -1,6 +1,6 @@
 -- No two words of commands have the same text: each text gives its word back.
 use Rattle.std.proofs.Common.{◌≡◌, refl, ap, sym, ◌∙◌}
-use Rattle.std.specs.Prelude.{Bool, true, false, cond, bytes_eq, codes, Option, Some, None, IsTrue, IsFalse}
+use Rattle.std.specs.Prelude.{true, false, cond, bytes_eq, codes, Option, Some, None, IsTrue, IsFalse}
 use Rattle.si_defs.specs.Bytes.{Bytes}
 use Rattle.si_defs.specs.declared.Relation.TheVariants.{Variants, Instances, Generalizations, Unifiable}
 use Rattle.si_steps.specs.declared.word.Word.{Word}

@@ -1,6 +1,5 @@
-use Rattle.std.proofs.Common.{◌≡◌, ◌<◌, ◌≤◌, true, false, length, refl, sym, inr, arith}
+use Rattle.std.proofs.Common.{refl, sym, inr, arith}
 use Rattle.si_state.specs.Harvest.{cycle, too_deep, too_many}
-use Rattle.si_harvest.specs.Opened.{opened, has_open}
 use Rattle.si_harvest.proofs.Stands.{is_open, is_closed, opened_count}
 use Rattle.si_harvest.proofs.files.may_ask.Goals as goal
 

@@ -1,4 +1,4 @@
-use Rattle.std.proofs.Common.{◌≡◌, sym, subst}
+use Rattle.std.proofs.Common.{sym, subst}
 use Rattle.si_state.specs.Harvest.{IsRejected}
 use Rattle.si_term.specs.Meaning.{clause_of}
 use Rattle.si_sign.specs.Stores.{Rejects}

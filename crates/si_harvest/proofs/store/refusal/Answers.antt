@@ -1,5 +1,4 @@
 use Rattle.si_harvest.proofs.Refusals.{blames_rejected}
-use Rattle.si_harvest.proofs.Stepping.{step_foreign}
 use Rattle.si_harvest.proofs.store.refusal.Goals as goal
 
 pub returns : goal.returns

@@ -1,4 +1,4 @@
-use Rattle.std.proofs.Common.{◌≡◌, ◌-◌, length, take}
+use Rattle.std.proofs.Common.{◌≡◌}
 use Rattle.si_harvest.proofs.Taking.{IsShortened}
 use Rattle.si_harvest.proofs.store.roll_back.Given as goal
 

@@ -1,4 +1,4 @@
-use Rattle.std.proofs.Common.{◌≡◌, ◌+◌, ◌≤◌, [], drop, map}
+use Rattle.std.proofs.Common.{◌≡◌, ◌+◌, [], drop, map}
 use Rattle.si_term.specs.Meaning.{literal_of, clause_of, pattern_of}
 use Rattle.si_session.specs.Scan.{literals_lines, clause_lines}
 use Rattle.si_session.proofs.Told.{SoFar}

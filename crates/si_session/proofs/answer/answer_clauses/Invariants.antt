@@ -1,4 +1,4 @@
-use Rattle.std.proofs.Common.{◌≡◌, ◌≤◌, [], drop}
+use Rattle.std.proofs.Common.{◌≡◌, [], drop}
 use Rattle.si_term.specs.Meaning.{pattern_of}
 use Rattle.si_session.specs.Scan.{clauses_lines}
 use Rattle.si_session.proofs.Told.{SoFar}

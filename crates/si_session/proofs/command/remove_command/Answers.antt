@@ -1,4 +1,4 @@
-use Rattle.std.proofs.Common.{sym, ◌∙◌, subst}
+use Rattle.std.proofs.Common.{sym, ◌∙◌}
 use Rattle.si_parse.proofs.ParseWhole.{not_empty, same_left}
 use Rattle.si_session.proofs.CommandLaws.{remove_wrong}
 use Rattle.si_session.proofs.command.remove_command.Goals as goal

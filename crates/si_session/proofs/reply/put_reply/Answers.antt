@@ -1,12 +1,7 @@
-use Rattle.std.proofs.Common.{◌≡◌, [], ◌∷◌, ◌++◌, ap, sym, ◌∙◌, subst, refl}
-use Rattle.std.specs.Prelude.{codes}
-use Rattle.si_defs.specs.Bytes.{Bytes}
-use Rattle.si_defs.specs.Printing.{name_text}
+use Rattle.std.proofs.Common.{ap, sym, subst}
 use Rattle.si_io.specs.Puts.{Puts}
-use Rattle.si_term.specs.Meaning.{name_of}
 use Rattle.si_session.specs.Replies.{ended_line}
 use Rattle.si_session.specs.Signs.{sign_text}
-use Rattle.si_session.specs.declared.sign.Sign.TheVariants.{LineFeed}
 use Rattle.si_session.proofs.ReplyTexts.{ok_text, end_text, stats_line_is, misused_is, full_text}
 use Rattle.si_session.proofs.reply.put_reply.Goals as goal
 
@@ -33,7 +28,7 @@ returns-in-Long-clause-text g c =
 pub returns-in-Later-clause-text : goal.returns-in-Later-clause-text
 unfolding ended_line
 returns-in-Later-clause-text g c =
-    subst (λ t. Puts c.put_bytes.result t (g.K.Sink.written c.args.sink.now) (g.K.Sink.written c.put_bytes.new.sink)) (ap ended_line (sym c.in-Later.is)) c.put_bytes.ensures.text
+    subst (λ t. Puts c.put_bytes-in-Later.result t (g.K.Sink.written c.args.sink.now) (g.K.Sink.written c.put_bytes-in-Later.new.sink)) (ap ended_line (sym c.in-Later.is)) c.put_bytes-in-Later.ensures.text
 
 pub returns-in-Language-clause-text : goal.returns-in-Language-clause-text
 unfolding ended_line

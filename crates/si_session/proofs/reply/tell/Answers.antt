@@ -1,6 +1,5 @@
-use Rattle.std.proofs.Common.{◌≡◌, [], ◌∷◌, ◌++◌, sym, ◌∙◌, subst}
+use Rattle.std.proofs.Common.{sym, ◌∙◌, subst}
 use Rattle.si_io.specs.Content.{Appends, AppendsPrefix}
-use Rattle.si_session.specs.Replies.{reply_line, ended_line}
 use Rattle.si_session.proofs.ReplyTexts.{ended_is}
 use Rattle.si_session.proofs.reply.tell.Goals as goal
 

@@ -1,4 +1,4 @@
-use Rattle.std.proofs.Common.{◌≡◌, [], ◌∷◌, ◌∙◌, sym, subst}
+use Rattle.std.proofs.Common.{◌∙◌, sym, subst}
 use Rattle.si_defs.specs.Clauses.{IsSoundClause}
 use Rattle.si_sign.specs.Stores.{Rejects}
 use Rattle.si_steps.specs.Commands.{add}

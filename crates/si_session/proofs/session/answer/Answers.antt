@@ -1,4 +1,4 @@
-use Rattle.std.proofs.Common.{◌≡◌, length, ap, sym, ◌∙◌, subst, arith}
+use Rattle.std.proofs.Common.{ap, ◌∙◌, subst}
 use Rattle.std.specs.Prelude.{Err}
 use Rattle.si_io.specs.Content.{AppendsPrefix}
 use Rattle.si_steps.specs.Runs.{ended}

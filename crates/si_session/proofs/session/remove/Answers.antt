@@ -1,4 +1,4 @@
-use Rattle.std.proofs.Common.{◌≡◌, [], ◌∷◌, ◌∙◌, ap, subst}
+use Rattle.std.proofs.Common.{◌∙◌}
 use Rattle.si_term.specs.Meaning.{name_of}
 use Rattle.si_session.proofs.Acting.{removed, unknown}
 use Rattle.si_session.proofs.session.remove.Goals as goal

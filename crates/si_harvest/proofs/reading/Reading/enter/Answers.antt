@@ -1,4 +1,4 @@
-use Rattle.std.proofs.Common.{◌≡◌, ℕ, subst, inl, inr}
+use Rattle.std.proofs.Common.{ℕ, subst, inl, inr}
 use Rattle.si_state.specs.Harvest.{MayAsk, IsBarred}
 use Rattle.si_harvest.specs.declared.faults.HarvestFault.{HarvestFault}
 use Rattle.si_harvest.specs.Faults.{Explains, bounds_of}

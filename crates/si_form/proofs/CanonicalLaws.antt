@@ -28,7 +28,7 @@ module _ {X : Type 0} where
   all_append P [] ys h k = k
   all_append P (x ∷ xs) ys h k = (h.0, all_append P xs ys h.1 k)
 
-  among_parts : (xs ys : List X) (x : X) → IsAmong (xs ++ ys) x → IsAmong xs x ⊎ IsAmong ys x
+  pub among_parts : (xs ys : List X) (x : X) → IsAmong (xs ++ ys) x → IsAmong xs x ⊎ IsAmong ys x
   among_parts [] ys x a = inr a
   among_parts (y ∷ xs) ys x a =
       elim a [
@@ -124,7 +124,7 @@ module _ {S V : Type 0} where
 
 -- ---- first occurrences
 module _ {V : Type 0} (same : V → V → Bool) (tells : (x y : V) → same x y ≡ true → x ≡ y) (itself : (x : V) → same x x ≡ true) where
-  firsts_among : (xs : List V) (x : V) → IsAmong (firsts same xs) x → IsAmong xs x
+  pub firsts_among : (xs : List V) (x : V) → IsAmong (firsts same xs) x → IsAmong xs x
   firsts_among [] x a = a
   firsts_among (y ∷ xs) x a =
       elim a [
@@ -132,7 +132,7 @@ module _ {V : Type 0} (same : V → V → Bool) (tells : (x y : V) → same x y 
         | inr b ↦ inr (firsts_among xs x (among_filter (λ z. not (same y z)) (firsts same xs) x b).0)
       ]
 
-  distinct_firsts : (xs : List V) → AreDistinct (firsts same xs)
+  pub distinct_firsts : (xs : List V) → AreDistinct (firsts same xs)
   distinct_firsts [] = tt
   distinct_firsts (x ∷ xs) = (
     λ a. let bad : false ≡ true = sym (ap not (itself x)) ∙ (among_filter (λ z. not (same x z)) (firsts same xs) x a).1 in cc,

@@ -139,7 +139,7 @@ module _ {V : Type 0} (same : V → V → Bool) (tells : (x y : V) → same x y 
     distinct_filter (λ z. not (same x z)) (firsts same xs) (distinct_firsts xs),
   )
 
-  differs : (x y : V) → (x ≡ y → ⊥) → same x y ≡ false
+  pub differs : (x y : V) → (x ≡ y → ⊥) → same x y ≡ false
   differs x y apart = by (same x y) refl
     where
       by : (b : Bool) → same x y ≡ b → same x y ≡ false
@@ -148,10 +148,10 @@ module _ {V : Type 0} (same : V → V → Bool) (tells : (x y : V) → same x y 
 
 -- ---- lists of bindings, where `same` tells variables apart
 module _ {S V : Type 0} (same : V → V → Bool) (tells : (x y : V) → same x y ≡ true → x ≡ y) (itself : (x : V) → same x x ≡ true) where
-  image_first : (x : V) (u : Term S V) (bs : List (V × Term S V)) → image same ((x, u) ∷ bs) x ≡ u
+  pub image_first : (x : V) (u : Term S V) (bs : List (V × Term S V)) → image same ((x, u) ∷ bs) x ≡ u
   image_first x u bs = ap (λ b. cond b u (image same bs x)) (itself x)
 
-  image_other : (x y : V) (u : Term S V) (bs : List (V × Term S V)) → (x ≡ y → ⊥) → image same ((x, u) ∷ bs) y ≡ image same bs y
+  pub image_other : (x y : V) (u : Term S V) (bs : List (V × Term S V)) → (x ≡ y → ⊥) → image same ((x, u) ∷ bs) y ≡ image same bs y
   image_other x y u bs apart = ap (λ b. cond b u (image same bs y)) (differs same tells itself x y apart)
 
   untouched : (bs : List (V × Term S V)) (y : V) → (IsAmong (lefts bs) y → ⊥) → image same bs y ≡ var y

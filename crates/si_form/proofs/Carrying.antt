@@ -39,7 +39,7 @@ module _ {R W : Type 0} (same : W → W → Bool) (tells : (x y : W) → same x 
   tabulate [] = []
   tabulate (y ∷ ys) = (y, h y) ∷ tabulate ys
 
-  image_tabulated : (ys : List W) (y : W) → IsAmong ys y → image same (tabulate ys) y ≡ h y
+  pub image_tabulated : (ys : List W) (y : W) → IsAmong ys y → image same (tabulate ys) y ≡ h y
   image_tabulated [] y a = elim a [ ]
   image_tabulated (z ∷ ys) y a = by (same z y) refl (image_tabulated ys y)
     where

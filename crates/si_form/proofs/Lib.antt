@@ -8,3 +8,4 @@ pub mod TestTerms
 pub mod UnifierLaws
 pub mod Translating
 pub mod Carrying
+pub mod Returning

@@ -31,22 +31,6 @@ module _ {S V : Type 0} (P : S → Type 0) (Q : V → Type 0) where
     )
 
   mutual
-    pub symbol_made : (t : Term S V) (s : S) → IsMadeOf t → IsAmong (symbols t) s → P s
-    symbol_made (var x) s h a = elim a [ ]
-    symbol_made (app r ts) s h a = elim a [ inl e ↦ at e h.0 | inr b ↦ symbols_made ts s h.1 b ]
-      where
-        at : r ≡ s → P r → P s
-        at e p = subst P e p
-
-    symbols_made : (ts : Terms S V) (s : S) → AreMadeOf ts → IsAmong (symbols_of_all ts) s → P s
-    symbols_made none s h a = elim a [ ]
-    symbols_made (more t ts) s h a =
-        elim (among_parts (symbols t) (symbols_of_all ts) s a) [
-          | inl b ↦ symbol_made t s h.0 b
-          | inr b ↦ symbols_made ts s h.1 b
-        ]
-
-  mutual
     pub variable_made : (t : Term S V) (x : V) → IsMadeOf t → IsAmong (variables t) x → Q x
     variable_made (var y) x h a = elim a [ inl e ↦ subst Q e h | inr n ↦ elim n [ ] ]
     variable_made (app r ts) x h a = variables_made ts x h.1 a
@@ -83,15 +67,19 @@ module _ {S V : Type 0} (P : S → Type 0) (Q : V → Type 0) where
     substitutes_made f none h give = tt
     substitutes_made f (more t ts) h give = (substitute_made f t h.0 give, substitutes_made f ts h.1 give)
 
-module _ {S V : Type 0} (P : S → Type 0) (Q : V → Type 0) (P' : S → Type 0) (Q' : V → Type 0) (symbol : (s : S) → P s → P' s) (variable : (x : V) → Q x → Q' x) where
+-- the same symbols, and this of the variables
+module _ {S V : Type 0} (P : S → Type 0) (Q Q' : V → Type 0) where
   mutual
-    pub made_of_more : (t : Term S V) → IsMadeOf P Q t → IsMadeOf P' Q' t
-    made_of_more (var x) h = variable x h
-    made_of_more (app s ts) h = (symbol s h.0, all_made_of_more ts h.1)
+    pub made_with : (t : Term S V) → IsMadeOf P Q t → AllByRecursion Q' (variables t) → IsMadeOf P Q' t
+    made_with (var x) h q = q.0
+    made_with (app s ts) h q = (h.0, all_made_with ts h.1 q)
 
-    all_made_of_more : (ts : Terms S V) → AreMadeOf P Q ts → AreMadeOf P' Q' ts
-    all_made_of_more none h = tt
-    all_made_of_more (more t ts) h = (made_of_more t h.0, all_made_of_more ts h.1)
+    all_made_with : (ts : Terms S V) → AreMadeOf P Q ts → AllByRecursion Q' (variables_of_all ts) → AreMadeOf P Q' ts
+    all_made_with none h q = tt
+    all_made_with (more t ts) h q = (
+      made_with t h.0 (all_front Q' (variables t) (variables_of_all ts) q),
+      all_made_with ts h.1 (all_back Q' (variables t) (variables_of_all ts) q),
+    )
 
 -- ---- other symbols and variables
 module _ {S V R W : Type 0} (f : S → R) (g : V → W) where

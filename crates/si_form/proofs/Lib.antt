@@ -9,3 +9,4 @@ pub mod UnifierLaws
 pub mod Translating
 pub mod Carrying
 pub mod Returning
+pub mod Moving

@@ -10,3 +10,5 @@ pub mod Translating
 pub mod Carrying
 pub mod Returning
 pub mod Moving
+pub mod LeadersThere
+pub mod CanonicalThere

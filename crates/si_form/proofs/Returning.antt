@@ -84,7 +84,7 @@ module _ {S V R W : Type 0} (A : Vocabulary S V) (k : Translation S V R W) where
         ∙ ap change (joined s unifies)
         )
 
-    order_returns : AllByRecursion (variable_returns k) (order A.same q e)
+    pub order_returns : AllByRecursion (variable_returns k) (order A.same q e)
     order_returns =
         all_from (variable_returns k) (order A.same q e)
         (λ x a.

@@ -12,3 +12,5 @@ pub mod Returning
 pub mod Moving
 pub mod LeadersThere
 pub mod CanonicalThere
+pub mod Vocabularies
+pub mod NumberingLaws

@@ -2,7 +2,7 @@
 use Rattle.std.proofs.Common.{◌≡◌, Bool, true, List, [], ◌∷◌, ◌++◌, map, inl, inr, refl, sym, ◌∙◌, ap, subst}
 use Rattle.std.specs.List.{AllByRecursion}
 use Rattle.std.proofs.lemmas.List.{map-append}
-use Rattle.si_defs.specs.Terms.{Term, Terms, var, app, none, more, variables, variables_of_all, symbols, symbols_of_all, substitute, substitute_all}
+use Rattle.si_defs.specs.Terms.{Term, Terms, var, app, none, more, variables, variables_of_all, symbols, symbols_of_all, substitute, substitute_all, rename, rename_all}
 use Rattle.si_defs.specs.Substitutions.{IsAmong}
 use Rattle.si_form.proofs.CanonicalLaws.{all_front, all_back, among_parts}
 
@@ -17,18 +17,6 @@ module _ {S V : Type 0} (P : S → Type 0) (Q : V → Type 0) where
     pub AreMadeOf : Terms S V → Type 0
     AreMadeOf none = Unit {0}
     AreMadeOf (more t ts) = IsMadeOf t × AreMadeOf ts
-
-  mutual
-    pub made : (t : Term S V) → AllByRecursion P (symbols t) → AllByRecursion Q (variables t) → IsMadeOf t
-    made (var x) p q = q.0
-    made (app s ts) p q = (p.0, all_made ts p.1 q)
-
-    all_made : (ts : Terms S V) → AllByRecursion P (symbols_of_all ts) → AllByRecursion Q (variables_of_all ts) → AreMadeOf ts
-    all_made none p q = tt
-    all_made (more t ts) p q = (
-      made t (all_front P (symbols t) (symbols_of_all ts) p) (all_front Q (variables t) (variables_of_all ts) q),
-      all_made ts (all_back P (symbols t) (symbols_of_all ts) p) (all_back Q (variables t) (variables_of_all ts) q),
-    )
 
   mutual
     pub variable_made : (t : Term S V) (x : V) → IsMadeOf t → IsAmong (variables t) x → Q x
@@ -81,6 +69,20 @@ module _ {S V : Type 0} (P : S → Type 0) (Q Q' : V → Type 0) where
       all_made_with ts h.1 (all_back Q' (variables t) (variables_of_all ts) q),
     )
 
+-- a term with other variables
+module _ {S U V : Type 0} (P : S → Type 0) (Q : V → Type 0) (g : U → V) where
+  mutual
+    pub renamed_made : (t : Term S U) → AllByRecursion P (symbols t) → AllByRecursion (λ x. Q (g x)) (variables t) → IsMadeOf P Q (rename g t)
+    renamed_made (var x) p q = q.0
+    renamed_made (app s ts) p q = (p.0, all_renamed_made ts p.1 q)
+
+    all_renamed_made : (ts : Terms S U) → AllByRecursion P (symbols_of_all ts) → AllByRecursion (λ x. Q (g x)) (variables_of_all ts) → AreMadeOf P Q (rename_all g ts)
+    all_renamed_made none p q = tt
+    all_renamed_made (more t ts) p q = (
+      renamed_made t (all_front P (symbols t) (symbols_of_all ts) p) (all_front (λ x. Q (g x)) (variables t) (variables_of_all ts) q),
+      all_renamed_made ts (all_back P (symbols t) (symbols_of_all ts) p) (all_back (λ x. Q (g x)) (variables t) (variables_of_all ts) q),
+    )
+
 -- ---- other symbols and variables
 module _ {S V R W : Type 0} (f : S → R) (g : V → W) where
   abbrev mutual
@@ -107,6 +109,18 @@ module _ {S V R W : Type 0} (f : S → R) (g : V → W) where
         ap (λ l. l ++ variables_of_all (translate_all ts)) (translated_variables t)
         ∙ ap (λ l. map g (variables t) ++ l) (all_translated_variables ts)
         ∙ sym (map-append g (variables t) (variables_of_all ts))
+
+-- other variables first
+module _ {S U V R W : Type 0} (f : S → R) (g : V → W) (h : U → V) where
+  mutual
+    pub translate_renamed : (t : Term S U) → translate f (λ x. g (h x)) t ≡ translate f g (rename h t)
+    translate_renamed (var x) = refl
+    translate_renamed (app s ts) = ap (app (f s)) (all_translate_renamed ts)
+
+    all_translate_renamed : (ts : Terms S U) → translate_all f (λ x. g (h x)) ts ≡ translate_all f g (rename_all h ts)
+    all_translate_renamed none = refl
+    all_translate_renamed (more t ts) =
+        ap (λ u. more u (translate_all f (λ x. g (h x)) ts)) (translate_renamed t) ∙ ap (more (translate f g (rename h t))) (all_translate_renamed ts)
 
 -- A translation, and the way back.
 pub record Translation (S V R W : Type 0) : Type 0 where

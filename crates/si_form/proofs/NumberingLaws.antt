@@ -1,0 +1,213 @@
+-- Answers to terms with numbers hold of the terms with texts.
+use Rattle.std.proofs.Common.{◌≡◌, ℕ, ◌+◌, ◌*◌, Bool, true, false, cond, List, [], ◌∷◌, ◌++◌, suc, zero, inl, inr, refl, sym, ◌∙◌, ap, subst, arith, Option, Some, None}
+use Rattle.std.specs.Prelude.{bytes_eq}
+use Rattle.std.specs.List.{AllByRecursion}
+use Rattle.std.proofs.lemmas.Slice.Eq.{bytes_eq-Decides}
+use Rattle.si_defs.specs.Bytes.{Bytes}
+use Rattle.si_defs.specs.Terms as terms
+use Rattle.si_defs.specs.Terms.{var, app, none, more, variables, symbols, rename, rename_all}
+use Rattle.si_defs.specs.Symbols.{Symbol}
+use Rattle.si_defs.specs.Clauses.{Term, Terms}
+use Rattle.si_defs.specs.Substitutions.{Substitution, IsAmong}
+use Rattle.si_defs.specs.declared.SymKind.TheVariants.{Word}
+use Rattle.si_defs.specs.declared.Side.{Side}
+use Rattle.si_defs.specs.declared.Side.TheVariants.{Predicate, Function}
+use Rattle.si_defs.specs.declared.Relation.{Relation}
+use Rattle.si_defs.specs.declared.Relation.TheVariants.{Variants, Instances, Generalizations, Unifiable}
+use Rattle.si_defs.specs.Relations.{Relates}
+use Rattle.si_defs.specs.Solutions.{IsCanonical}
+use Rattle.si_defs.specs.Variables.{Variable, of_pattern, of_entry, pattern_term, entry_term, Solution}
+use Rattle.si_flat.specs.Cells as cells
+use Rattle.si_flat.specs.Numbered.{one_above, signed, place_in, numbered, all_numbered}
+use Rattle.si_form.specs.declared.solution.Binding.{Binding}
+use Rattle.si_form.specs.Answers.{StandsForList, AnswersTo}
+use Rattle.si_form.specs.Numberings.{placed, numbered_pattern, numbered_entry, numbered_list, TellsApart, IsFor, AnswersToTexts, KeepAnswers, TellsSigns}
+use Rattle.si_form.proofs.CanonicalLaws.{all_at, all_from}
+use Rattle.si_form.proofs.UnifierLaws.{sequence_map, sequence_is}
+use Rattle.si_form.proofs.Translating.{renamed_made, translate, translate_all, translate_renamed, Translation, there, list_there, symbol_returns, variable_returns, Returns}
+use Rattle.si_form.proofs.Carrying.{Vocabulary, among_front, among_back, relates_there}
+use Rattle.si_form.proofs.CanonicalThere.{canonical_before}
+use Rattle.si_form.proofs.Vocabularies.{with_texts, same_number, number_tells, number_itself, with_numbers}
+
+-- where there is a canonical list, the relation holds
+relates_of_canonical : {S V : Type 0} (A : Vocabulary S V) (kind : Relation) (q e : terms.Term S V) (bs : Substitution S V) → IsCanonical A.same kind q e bs → Relates A.same kind q e
+relates_of_canonical A Unifiable q e bs h = (
+  sequence_map A.same A.tells A.itself bs,
+  sym (sequence_is A.same A.tells A.itself bs q) ∙ h.achieves ∙ sequence_is A.same A.tells A.itself bs e,
+)
+relates_of_canonical A Instances q e bs h = (bs, h.matches)
+relates_of_canonical A Generalizations q e bs h = (bs, h.matches)
+relates_of_canonical A Variants q e bs h = h.0
+
+-- ---- back from numbers
+-- the text at this place
+abbrev text_at : List Bytes → ℕ → Bytes
+text_at [] n = []
+text_at (x ∷ xs) zero = x
+text_at (x ∷ xs) (suc n) = text_at xs n
+
+next : (n : ℕ) → 1 + n ≡ suc n
+next n = omega arith
+
+at_place : (xs : List Bytes) (x : Bytes) → IsAmong xs x → text_at xs (place_in bytes_eq xs x) ≡ x
+at_place [] x a = elim a [ ]
+at_place (y ∷ xs) x a = by (bytes_eq y x) refl (at_place xs x)
+  where
+    by : (b : Bool) → bytes_eq y x ≡ b → (IsAmong xs x → text_at xs (place_in bytes_eq xs x) ≡ x) → text_at (y ∷ xs) (cond b 0 (1 + place_in bytes_eq xs x)) ≡ x
+    by true e rest = (bytes_eq-Decides y x).0 e
+    by false e rest =
+        elim a [
+          | inl same ↦ (let bad : true ≡ false = sym ((bytes_eq-Decides y x).1 same) ∙ e in cc)
+          | inr b ↦ ap (text_at (y ∷ xs)) (next (place_in bytes_eq xs x)) ∙ rest b
+        ]
+
+-- the first of these symbols that has the number
+module _ (f : Symbol → cells.Symbol) where
+  abbrev symbol_with : List Symbol → cells.Symbol → Symbol
+  symbol_with [] r = record { kind = Word; text = []; side = Function; arity = 0 }
+  symbol_with (s ∷ ss) r = cond (same_number (f s) r) s (symbol_with ss r)
+
+  with_number : (ss : List Symbol) (s : Symbol) → IsAmong ss s → ((r : Symbol) → IsAmong ss r → f r ≡ f s → r ≡ s) → symbol_with ss (f s) ≡ s
+  with_number [] s a one = elim a [ ]
+  with_number (r ∷ ss) s a one = by (same_number (f r) (f s)) refl (with_number ss s)
+    where
+      by :
+          (b : Bool)
+          → same_number (f r) (f s) ≡ b
+          → (IsAmong ss s → ((z : Symbol) → IsAmong ss z → f z ≡ f s → z ≡ s) → symbol_with ss (f s) ≡ s)
+          → cond b r (symbol_with ss (f s)) ≡ s
+      by true e rest = one r (inl refl) (number_tells (f r) (f s) e)
+      by false e rest =
+          elim a [
+            | inl same ↦ (let bad : true ≡ false = sym (number_itself (f s)) ∙ ap (λ z. same_number (f z) (f s)) (sym same) ∙ e in cc)
+            | inr b ↦ rest b (λ z c. one z (inr c))
+          ]
+
+abbrev number_symbol : (Symbol → ℕ) → Symbol → cells.Symbol
+number_symbol number s = record { number = number s; arity = s.arity }
+
+module _ {V : Type 0} (number : Symbol → ℕ) (variable : V → cells.Variable) where
+  mutual
+    numbered_is : (t : terms.Term Symbol V) → numbered number variable t ≡ translate (number_symbol number) variable t
+    numbered_is (var x) = refl
+    numbered_is (app s ts) = ap (app (number_symbol number s)) (all_numbered_is ts)
+
+    all_numbered_is : (ts : terms.Terms Symbol V) → all_numbered number variable ts ≡ translate_all (number_symbol number) variable ts
+    all_numbered_is none = refl
+    all_numbered_is (more t ts) = ap (λ u. more u (all_numbered number variable ts)) (numbered_is t) ∙ ap (more (translate (number_symbol number) variable t)) (all_numbered_is ts)
+
+-- ---- symbols that are told apart by their numbers
+module _
+    (number : Symbol → ℕ) (known : List Symbol) (xs ys : List Bytes)
+    (one : (s r : Symbol) → IsAmong known s → IsAmong known r → number s ≡ number r → s ≡ r)
+    where
+  abbrev text_of : cells.Variable → Variable
+  text_of (cells.query n) = of_pattern (text_at xs n)
+  text_of (cells.entry n) = of_entry (text_at ys n)
+  text_of (cells.ind n) = of_pattern []
+
+  abbrev numbering : Translation Symbol Variable cells.Symbol cells.Variable
+  numbering = record {
+    symbol = number_symbol number;
+    variable = placed xs ys;
+    symbol_back = symbol_with (number_symbol number) known;
+    variable_back = text_of;
+  }
+
+  list_numbered : (bs : Solution) → list_there numbering bs ≡ numbered_list number (placed xs ys) bs
+  list_numbered [] = refl
+  list_numbered (b ∷ bs) =
+      ap (λ t. (placed xs ys b.0, t) ∷ list_there numbering bs) (sym (numbered_is number (placed xs ys) b.1))
+      ∙ ap (λ l. (placed xs ys b.0, numbered number (placed xs ys) b.1) ∷ l) (list_numbered bs)
+
+  known_return : (ss : List Symbol) → ((s : Symbol) → IsAmong ss s → IsAmong known s) → AllByRecursion (symbol_returns numbering) ss
+  known_return ss inside =
+      all_from (symbol_returns numbering) ss
+      (λ s a. with_number (number_symbol number) known s (inside s a) (λ r c e. one r s c (inside s a) (ap (λ (z : cells.Symbol). z.number) e)))
+
+  module _ (p u : Term) (in_p : (s : Symbol) → IsAmong (symbols p) s → IsAmong known s) (in_u : (s : Symbol) → IsAmong (symbols u) s → IsAmong known s) (p_placed : AllByRecursion (IsAmong xs) (variables p)) (u_placed : AllByRecursion (IsAmong ys) (variables u)) where
+    pattern_returns : Returns numbering (pattern_term p)
+    pattern_returns =
+        renamed_made (symbol_returns numbering) (variable_returns numbering) of_pattern p (known_return (symbols p) in_p)
+        (all_from (λ x. variable_returns numbering (of_pattern x)) (variables p) (λ x a. ap of_pattern (at_place xs x (all_at (IsAmong xs) (variables p) x p_placed a))))
+
+    entry_returns : Returns numbering (entry_term u)
+    entry_returns =
+        renamed_made (symbol_returns numbering) (variable_returns numbering) of_entry u (known_return (symbols u) in_u)
+        (all_from (λ x. variable_returns numbering (of_entry x)) (variables u) (λ x a. ap of_entry (at_place ys x (all_at (IsAmong ys) (variables u) x u_placed a))))
+
+    pattern_there : numbered_pattern number xs p ≡ there numbering (pattern_term p)
+    pattern_there = numbered_is number (λ x. placed xs ys (of_pattern x)) p ∙ translate_renamed (number_symbol number) (placed xs ys) of_pattern p
+
+    entry_there : numbered_entry number ys u ≡ there numbering (entry_term u)
+    entry_there = numbered_is number (λ x. placed xs ys (of_entry x)) u ∙ translate_renamed (number_symbol number) (placed xs ys) of_entry u
+
+    kept : (kind : Relation) (answer : Option (List Binding)) → AnswersTo kind (there numbering (pattern_term p)) (there numbering (entry_term u)) answer → AnswersToTexts kind p u number (placed xs ys) answer
+    kept kind None h = λ r. h (relates_there with_texts with_numbers numbering kind (pattern_term p) (entry_term u) pattern_returns entry_returns r)
+    kept kind (Some bindings) h =
+        let found = canonical_before with_texts with_numbers numbering kind (pattern_term p) (entry_term u) pattern_returns entry_returns h.0 h.2.canonical in
+        record {
+          relates = relates_of_canonical with_texts kind (pattern_term p) (entry_term u) found.0 found.2;
+          solution = found.0;
+          canonical = found.2;
+          stands = subst (StandsForList bindings) (sym found.1 ∙ list_numbered found.0) h.1;
+        }
+
+    keep : (kind : Relation) (answer : Option (List Binding)) → AnswersTo kind (numbered_pattern number xs p) (numbered_entry number ys u) answer → AnswersToTexts kind p u number (placed xs ys) answer
+    keep kind answer h =
+        kept kind answer
+        (subst (λ t. AnswersTo kind (there numbering (pattern_term p)) t answer) entry_there (subst (λ t. AnswersTo kind t (numbered_entry number ys u) answer) pattern_there h))
+
+-- ---- numbers and signs
+abbrev IsEven : ℕ → Type 0
+IsEven n = (half : ℕ) × (n ≡ 2 * half)
+
+above_tells : (one other : Side) (m n : ℕ) → IsEven m → IsEven n → one_above one m ≡ one_above other n → m ≡ n
+above_tells Predicate Predicate m n h k e = omega (arith, e)
+above_tells Predicate Function m n h k e = omega (arith, e, h.1, k.1)
+above_tells Function Predicate m n h k e = omega (arith, e, h.1, k.1)
+above_tells Function Function m n h k e = e
+
+signed_tells : (number : Symbol → ℕ) (positive : Bool) (s r : Symbol) → IsEven (number s) → IsEven (number r) → signed positive number s ≡ signed positive number r → number s ≡ number r
+signed_tells number true s r h k e = e
+signed_tells number false s r h k e = above_tells s.side r.side (number s) (number r) h k e
+
+pub keeps_answers : (number : Symbol → ℕ) → KeepAnswers number
+keeps_answers number = λ kind p u xs ys positive answer h.
+    keep (signed positive number) (symbols p ++ symbols u) xs ys
+    (λ s r a b e. h.symbols.one_symbol s r a b (signed_tells number positive s r (h.symbols.even s a) (h.symbols.even r b) e)) p u
+    (λ s a. among_front (symbols p) (symbols u) s a)
+    (λ s a. among_back (symbols p) (symbols u) s a) h.pattern_variables h.entry_variables kind answer
+
+-- ---- heads that differ
+module _ {S V : Type 0} (A : Vocabulary S V) (s r : S) (ts us : terms.Terms S V) where
+  head_is : (vs ws : terms.Terms S V) → app s vs ≡ app r ws → s ≡ r
+  head_is vs ws h = cc
+
+  relates_heads : (kind : Relation) → Relates A.same kind (app s ts) (app r us) → s ≡ r
+  relates_heads Unifiable h = head_is _ _ h.1
+  relates_heads Instances h = head_is _ _ h.1.takes
+  relates_heads Generalizations h = head_is _ _ (sym h.1.takes)
+  relates_heads Variants h = head_is _ _ h.0.1.takes
+
+signs_apart : (number : Symbol → ℕ) (s r : Symbol) (one other : Bool) → s.side ≡ Predicate → r.side ≡ Predicate → IsEven (number s) → IsEven (number r) → (one ≡ other → ⊥) → signed one number s ≡ signed other number r → ⊥
+signs_apart number s r true true at_s at_r h k distinct e = distinct refl
+signs_apart number s r false false at_s at_r h k distinct e = distinct refl
+signs_apart number s r true false at_s at_r h k distinct e =
+    let is : number s ≡ 1 + number r = e ∙ ap (λ side. one_above side (number r)) at_r in
+    omega (arith, is, h.1, k.1)
+signs_apart number s r false true at_s at_r h k distinct e =
+    let is : 1 + number s ≡ number r = sym (ap (λ side. one_above side (number s)) at_s) ∙ e in
+    omega (arith, is, h.1, k.1)
+
+pub tells_signs : (number : Symbol → ℕ) → TellsSigns number
+tells_signs number kind (var x) u xs ys one other answer p_sound u_sound h distinct told = elim p_sound [ ]
+tells_signs number kind (app s ts) (var x) xs ys one other answer p_sound u_sound h distinct told = elim u_sound [ ]
+tells_signs number kind (app s ts) (app r us) xs ys one other None p_sound u_sound h distinct told = refl
+tells_signs number kind (app s ts) (app r us) xs ys one other (Some bindings) p_sound u_sound h distinct told =
+    let q = numbered_pattern (signed one number) xs (app s ts) in
+    let e = numbered_entry (signed other number) ys (app r us) in
+    let heads = relates_heads with_numbers (number_symbol (signed one number) s) (number_symbol (signed other number) r) _ _ kind (relates_of_canonical with_numbers kind q e told.0 told.2.canonical) in
+    absurd
+    (signs_apart number s r one other p_sound.0.on_side u_sound.0.on_side (h.even s (inl refl))
+    (h.even r (among_back (symbols (app s ts)) (symbols (app r us)) r (inl refl))) distinct (ap (λ (z : cells.Symbol). z.number) heads))

@@ -10,8 +10,8 @@ use Rattle.si_defs.specs.Relations.{Relates}
 use Rattle.si_defs.specs.Solutions.{IsMostGeneral, order, AreJoined, IsFirstOf, IsLeader, IsFolded, AreFolded, IsFoldedInside, IsOrdered, IsCanonicalUnifier, IsCanonicalMatch, IsCanonical}
 use Rattle.si_form.proofs.CanonicalLaws.{all_at, all_from}
 use Rattle.si_form.proofs.Translating.{variable_made, translated_variables, translate_all, Translation, back, there, list_there, symbol_returns, variable_returns, Returns, AllReturn, ListReturns, returned, returns_there, list_returned}
-use Rattle.si_form.proofs.Carrying.{Vocabulary, among_front, among_back, relates_there, joined_back}
-use Rattle.si_form.proofs.Returning.{order_returns, unifier_returns, match_returns}
+use Rattle.si_form.proofs.Carrying.{Vocabulary, returns_or_not, among_front, among_back, relates_there, joined_back}
+use Rattle.si_form.proofs.MadeLaws.{order_made, canonical_made}
 use Rattle.si_form.proofs.Moving.{among_map, among_mapped, all_map, firsts_of_there, order_there, apply_there, sequence_there, lefts_there, left_before, variable_there, clear_there, clear_before, triangular_there}
 use Rattle.si_form.proofs.LeadersThere.{each_there, pair_there, known_returns, known_there, leader_there, inside_there, most_general_there, ordered_there}
 
@@ -20,7 +20,7 @@ module _ {S V R W : Type 0} (A : Vocabulary S V) (B : Vocabulary R W) (k : Trans
     mapped_returns : (y : W) → IsAmong (order B.same (there k q) (there k e)) y → k.variable (k.variable_back y) ≡ y
     mapped_returns y a =
         all_at (variable_returns (back k)) (order B.same (there k q) (there k e)) y
-        (order_returns B (back k) (there k q) (there k e) (returns_there k q q_returns) (returns_there k e e_returns)) a
+        (order_made B (symbol_returns (back k)) (variable_returns (back k)) (returns_or_not B (back k)) (there k q) (there k e) (returns_there k q q_returns) (returns_there k e e_returns)) a
 
     known_before : (y : W) → IsAmong (order B.same (there k q) (there k e)) y → IsAmong (order A.same q e) (k.variable_back y)
     known_before y a =
@@ -63,7 +63,7 @@ module _ {S V R W : Type 0} (A : Vocabulary S V) (B : Vocabulary R W) (k : Trans
 
     unifier_there : (bs : List (V × Term S V)) → IsCanonicalUnifier A.same q e bs → IsCanonicalUnifier B.same (there k q) (there k e) (list_there k bs)
     unifier_there bs h =
-        let all = unifier_returns A k q e q_returns e_returns bs h in
+        let all = canonical_made A (symbol_returns k) (variable_returns k) (returns_or_not A k) Unifiable q e bs q_returns e_returns h in
         let right : (b : V × Term S V) → IsAmong bs b → Returns k b.1 = λ b a. (all_at (λ c. variable_returns k c.0 × Returns k c.1) bs b all a).1 in
         let known : (b : V × Term S V) → IsAmong bs b → IsAmong (order A.same q e) b.0 × AllByRecursion (IsAmong (order A.same q e)) (variables b.1) =
         λ b a. all_at (λ c. IsAmong (order A.same q e) c.0 × AllByRecursion (IsAmong (order A.same q e)) (variables c.1)) bs b h.known a in
@@ -93,7 +93,7 @@ module _ {S V R W : Type 0} (A : Vocabulary S V) (B : Vocabulary R W) (k : Trans
 
     match_there : (bs : List (V × Term S V)) → IsCanonicalMatch A.same q e bs → IsCanonicalMatch B.same (there k q) (there k e) (list_there k bs)
     match_there bs h =
-        let all = match_returns A k q e bs q_returns e_returns h in
+        let all = canonical_made A (symbol_returns k) (variable_returns k) (returns_or_not A k) Instances q e bs q_returns e_returns h in
         let on : IsOn (variables (there k q)) (list_there k bs) =
         subst (AllByRecursion (IsAmong (variables (there k q)))) (sym (lefts_there A B k bs))
         (
@@ -113,12 +113,6 @@ module _ {S V R W : Type 0} (A : Vocabulary S V) (B : Vocabulary R W) (k : Trans
   canonical_there Generalizations q e bs q_returns e_returns h = match_there e q e_returns q_returns bs h
   canonical_there Variants q e bs q_returns e_returns h = (relates_there A B k Variants q e q_returns e_returns h.0, match_there q e q_returns e_returns bs h.1)
 
-  canonical_returns : (kind : Relation) (q e : Term S V) (bs : List (V × Term S V)) → Returns k q → Returns k e → IsCanonical A.same kind q e bs → ListReturns k bs
-  canonical_returns Unifiable q e bs q_returns e_returns h = unifier_returns A k q e q_returns e_returns bs h
-  canonical_returns Instances q e bs q_returns e_returns h = match_returns A k q e bs q_returns e_returns h
-  canonical_returns Generalizations q e bs q_returns e_returns h = match_returns A k e q bs e_returns q_returns h
-  canonical_returns Variants q e bs q_returns e_returns h = match_returns A k q e bs q_returns e_returns h.1
-
 -- ---- from the translated terms
 module _ {S V R W : Type 0} (A : Vocabulary S V) (B : Vocabulary R W) (k : Translation S V R W) (kind : Relation) (q e : Term S V) (q_returns : Returns k q) (e_returns : Returns k e) where
   pub relates_before : Relates B.same kind (there k q) (there k e) → Relates A.same kind q e
@@ -132,7 +126,7 @@ module _ {S V R W : Type 0} (A : Vocabulary S V) (B : Vocabulary R W) (k : Trans
   pub canonical_before : (bs : List (W × Term R W)) → IsCanonical B.same kind (there k q) (there k e) bs → (list : List (V × Term S V)) × (list_there k list ≡ bs) × IsCanonical A.same kind q e list
   canonical_before bs h = (
     list_there (back k) bs,
-    list_returned (back k) bs (canonical_returns B A (back k) kind (there k q) (there k e) bs (returns_there k q q_returns) (returns_there k e e_returns) h),
+    list_returned (back k) bs (canonical_made B (symbol_returns (back k)) (variable_returns (back k)) (returns_or_not B (back k)) kind (there k q) (there k e) bs (returns_there k q q_returns) (returns_there k e e_returns) h),
     subst (λ t. IsCanonical A.same kind t e (list_there (back k) bs)) (returned k q q_returns)
         (
         subst (λ t. IsCanonical A.same kind (there (back k) (there k q)) t (list_there (back k) bs)) (returned k e e_returns)

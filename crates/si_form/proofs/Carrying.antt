@@ -82,6 +82,15 @@ module _ {S V R W : Type 0} (B : Vocabulary R W) (k : Translation S V R W) where
           ∙ ap (more (translate f g (substitute σ t)))
           (all_carried ts h.1 (all_back (IsAmong ys) (variables (there k t)) (variables_of_all (translate_all k.symbol k.variable ts)) a))
 
+-- a symbol returns, or it doesn't
+module _ {S V R W : Type 0} (A : Vocabulary S V) (k : Translation S V R W) where
+  pub returns_or_not : (s : S) → symbol_returns k s ⊎ (symbol_returns k s → ⊥)
+  returns_or_not s = by (A.same_symbol (k.symbol_back (k.symbol s)) s) refl
+    where
+      by : (b : Bool) → A.same_symbol (k.symbol_back (k.symbol s)) s ≡ b → symbol_returns k s ⊎ (symbol_returns k s → ⊥)
+      by true e = inl (A.symbol_tells (k.symbol_back (k.symbol s)) s e)
+      by false e = inr (λ h. let bad : true ≡ false = sym (A.symbol_itself s) ∙ ap (λ z. A.same_symbol z s) (sym h) ∙ e in cc)
+
 -- ---- relations are kept
 module _ {S V R W : Type 0} (A : Vocabulary S V) (B : Vocabulary R W) (k : Translation S V R W) where
   unifiable_there : (q e : Term S V) → Returns k q → Returns k e → IsUnifiable A.same q e → IsUnifiable B.same (there k q) (there k e)
@@ -130,19 +139,12 @@ module _ {S V R W : Type 0} (A : Vocabulary S V) (B : Vocabulary R W) (k : Trans
         λ e. B.differs (k.symbol s) (sym (ap (λ b. cond b c (k.symbol r)) (A.symbol_itself r)) ∙ e ∙ elsewhere r s c distinct),
       )
 
-  returns_or_not : (s : S) → symbol_returns k s ⊎ (symbol_returns k s → ⊥)
-  returns_or_not s = by (A.same_symbol (k.symbol_back (k.symbol s)) s) refl
-    where
-      by : (b : Bool) → A.same_symbol (k.symbol_back (k.symbol s)) s ≡ b → symbol_returns k s ⊎ (symbol_returns k s → ⊥)
-      by true e = inl (A.symbol_tells (k.symbol_back (k.symbol s)) s e)
-      by false e = inr (λ h. let bad : true ≡ false = sym (A.symbol_itself s) ∙ ap (λ z. A.same_symbol z s) (sym h) ∙ e in cc)
-
   separate : (r s : S) → (r ≡ s → ⊥) → (f : S → R) × Follows B k f × (f r ≡ f s → ⊥)
   separate r s distinct =
-      elim (returns_or_not r) [
+      elim (returns_or_not A k r) [
         | inr lost ↦ parted r s lost distinct
         | inl h ↦
-            elim (returns_or_not s) [
+            elim (returns_or_not A k s) [
               | inr lost ↦ let p = parted s r lost (λ e. distinct (sym e)) in (p.0, p.1, λ e. p.2 (sym e))
               | inl m ↦ (k.symbol, λ z c. refl, λ e. distinct (sym h ∙ ap k.symbol_back e ∙ m))
             ]

@@ -11,8 +11,8 @@ use Rattle.si_defs.specs.Relations.{Relates}
 use Rattle.si_defs.specs.Solutions.{IsMostGeneral, order, AreJoined, IsFirstOf, IsLeader, IsFolded, AreFolded, IsFoldedInside, IsOrdered, IsCanonicalUnifier, IsCanonicalMatch, IsCanonical}
 use Rattle.si_form.proofs.CanonicalLaws.{all_at, all_from}
 use Rattle.si_form.proofs.Translating.{variable_made, translated_variables, translate_all, Translation, back, there, list_there, symbol_returns, variable_returns, Returns, AllReturn, ListReturns, returned, returns_there, list_returned}
-use Rattle.si_form.proofs.Carrying.{Vocabulary, among_front, among_back, relates_there, joined_back}
-use Rattle.si_form.proofs.Returning.{order_returns, unifier_returns, match_returns}
+use Rattle.si_form.proofs.Carrying.{Vocabulary, returns_or_not, among_front, among_back, relates_there, joined_back}
+use Rattle.si_form.proofs.MadeLaws.{order_made, canonical_made}
 use Rattle.si_form.proofs.Moving.{among_map, among_mapped, all_map, firsts_of_there, order_there, apply_there, sequence_there, lefts_there, left_before, variable_there, clear_there, clear_before, triangular_there}
 
 joined_same : {S V : Type 0} (same : V → V → Bool) (q e t u q' e' t' u' : Term S V) → q ≡ q' → e ≡ e' → t ≡ t' → u ≡ u' → AreJoined same q e t u → AreJoined same q' e' t' u'
@@ -41,7 +41,7 @@ module _ {S V R W : Type 0} (A : Vocabulary S V) (B : Vocabulary R W) (k : Trans
     joined_before t u h m joined = joined_back A B k q e t u q_returns e_returns h m joined
 
     pub known_returns : (x : V) → IsAmong (order A.same q e) x → variable_returns k x
-    known_returns x a = all_at (variable_returns k) (order A.same q e) x (order_returns A k q e q_returns e_returns) a
+    known_returns x a = all_at (variable_returns k) (order A.same q e) x (order_made A (symbol_returns k) (variable_returns k) (returns_or_not A k) q e q_returns e_returns) a
 
     pub known_there : (x : V) → IsAmong (order A.same q e) x → IsAmong (order B.same (there k q) (there k e)) (k.variable x)
     known_there x a = subst (λ l. IsAmong l (k.variable x)) (sym (order_there A B k q e q_returns e_returns)) (among_map k.variable (order A.same q e) x a)

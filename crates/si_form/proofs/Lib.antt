@@ -8,7 +8,7 @@ pub mod TestTerms
 pub mod UnifierLaws
 pub mod Translating
 pub mod Carrying
-pub mod Returning
+pub mod MadeLaws
 pub mod Moving
 pub mod LeadersThere
 pub mod CanonicalThere

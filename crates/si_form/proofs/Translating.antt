@@ -23,7 +23,7 @@ module _ {S V : Type 0} (P : S → Type 0) (Q : V → Type 0) where
     variable_made (var y) x h a = elim a [ inl e ↦ subst Q e h | inr n ↦ elim n [ ] ]
     variable_made (app r ts) x h a = variables_made ts x h.1 a
 
-    variables_made : (ts : Terms S V) (x : V) → AreMadeOf ts → IsAmong (variables_of_all ts) x → Q x
+    pub variables_made : (ts : Terms S V) (x : V) → AreMadeOf ts → IsAmong (variables_of_all ts) x → Q x
     variables_made none x h a = elim a [ ]
     variables_made (more t ts) x h a =
         elim (among_parts (variables t) (variables_of_all ts) x a) [
@@ -37,7 +37,7 @@ module _ {S V : Type 0} (P : S → Type 0) (Q : V → Type 0) where
     image_made f (var y) x h a = elim a [ inl e ↦ subst (λ z. IsMadeOf (f z)) e h | inr n ↦ elim n [ ] ]
     image_made f (app s ts) x h a = images_made f ts x h.1 a
 
-    images_made : (f : V → Term S V) (ts : Terms S V) (x : V) → AreMadeOf (substitute_all f ts) → IsAmong (variables_of_all ts) x → IsMadeOf (f x)
+    pub images_made : (f : V → Term S V) (ts : Terms S V) (x : V) → AreMadeOf (substitute_all f ts) → IsAmong (variables_of_all ts) x → IsMadeOf (f x)
     images_made f none x h a = elim a [ ]
     images_made f (more t ts) x h a =
         elim (among_parts (variables t) (variables_of_all ts) x a) [
@@ -62,7 +62,7 @@ module _ {S V : Type 0} (P : S → Type 0) (Q Q' : V → Type 0) where
     made_with (var x) h q = q.0
     made_with (app s ts) h q = (h.0, all_made_with ts h.1 q)
 
-    all_made_with : (ts : Terms S V) → AreMadeOf P Q ts → AllByRecursion Q' (variables_of_all ts) → AreMadeOf P Q' ts
+    pub all_made_with : (ts : Terms S V) → AreMadeOf P Q ts → AllByRecursion Q' (variables_of_all ts) → AreMadeOf P Q' ts
     all_made_with none h q = tt
     all_made_with (more t ts) h q = (
       made_with t h.0 (all_front Q' (variables t) (variables_of_all ts) q),

@@ -9,7 +9,7 @@ use Rattle.si_defs.specs.declared.Relation.TheVariants.{Variants, Instances, Gen
 use Rattle.si_defs.specs.Relations.{Unifies, IsInstance, IsUnifiable, Relates}
 use Rattle.si_defs.specs.Solutions.{AreJoined}
 use Rattle.si_form.proofs.CanonicalLaws.{all_front, all_back, all_from}
-use Rattle.si_form.proofs.Translating.{IsMadeOf, AreMadeOf, translate, translate_all, Translation, back, there, symbol_returns, variable_returns, Returns, AllReturn}
+use Rattle.si_form.proofs.Translating.{IsMadeOf, AreMadeOf, translate, translate_all, Translation, back, translated, symbol_returns, variable_returns, Returns, AllReturn}
 
 -- Symbols and variables that are told apart, and more than one of each.
 pub record Vocabulary (S V : Type 0) : Type 0 where
@@ -58,29 +58,29 @@ module _ {R W : Type 0} (same : W → W → Bool) (tells : (x y : W) → same x 
 -- ---- carried over
 module _ {S V R W : Type 0} (B : Vocabulary R W) (k : Translation S V R W) where
   -- f goes by the translation at each symbol that returns
-  abbrev pub Follows : (S → R) → Type 0
-  Follows f = (s : S) → symbol_returns k s → f s ≡ k.symbol s
+  abbrev pub GoesBy : (S → R) → Type 0
+  GoesBy f = (s : S) → symbol_returns k s → f s ≡ k.symbol s
 
-  module _ (f : S → R) (g : V → W) (follows : Follows f) (σ : V → Term S V) (ys : List W) where
+  module _ (f : S → R) (g : V → W) (goes_by : GoesBy f) (σ : V → Term S V) (ys : List W) where
     abbrev carrier : Substitution R W
     carrier = tabulate B.same B.tells B.itself (λ y. translate f g (σ (k.variable_back y))) ys
 
     mutual
-      carried : (t : Term S V) → Returns k t → AllByRecursion (IsAmong ys) (variables (there k t)) → apply B.same carrier (there k t) ≡ translate f g (substitute σ t)
+      carried : (t : Term S V) → Returns k t → AllByRecursion (IsAmong ys) (variables (translated k t)) → apply B.same carrier (translated k t) ≡ translate f g (substitute σ t)
       carried (var x) h a =
           image_tabulated B.same B.tells B.itself (λ y. translate f g (σ (k.variable_back y))) ys (k.variable x) a.0
           ∙ ap (λ y. translate f g (σ y)) h
       carried (app s ts) h a =
-          ap (λ r. app r (substitute_all (image B.same carrier) (translate_all k.symbol k.variable ts))) (sym (follows s h.0))
+          ap (λ r. app r (substitute_all (image B.same carrier) (translate_all k.symbol k.variable ts))) (sym (goes_by s h.0))
           ∙ ap (app (f s)) (all_carried ts h.1 a)
 
       all_carried : (ts : Terms S V) → AllReturn k ts → AllByRecursion (IsAmong ys) (variables_of_all (translate_all k.symbol k.variable ts)) → substitute_all (image B.same carrier) (translate_all k.symbol k.variable ts) ≡ translate_all f g (substitute_all σ ts)
       all_carried none h a = refl
       all_carried (more t ts) h a =
           ap (λ u. more u (substitute_all (image B.same carrier) (translate_all k.symbol k.variable ts)))
-          (carried t h.0 (all_front (IsAmong ys) (variables (there k t)) (variables_of_all (translate_all k.symbol k.variable ts)) a))
+          (carried t h.0 (all_front (IsAmong ys) (variables (translated k t)) (variables_of_all (translate_all k.symbol k.variable ts)) a))
           ∙ ap (more (translate f g (substitute σ t)))
-          (all_carried ts h.1 (all_back (IsAmong ys) (variables (there k t)) (variables_of_all (translate_all k.symbol k.variable ts)) a))
+          (all_carried ts h.1 (all_back (IsAmong ys) (variables (translated k t)) (variables_of_all (translate_all k.symbol k.variable ts)) a))
 
 -- a symbol returns, or it doesn't
 module _ {S V R W : Type 0} (A : Vocabulary S V) (k : Translation S V R W) where
@@ -93,28 +93,28 @@ module _ {S V R W : Type 0} (A : Vocabulary S V) (k : Translation S V R W) where
 
 -- ---- relations are kept
 module _ {S V R W : Type 0} (A : Vocabulary S V) (B : Vocabulary R W) (k : Translation S V R W) where
-  unifiable_there : (q e : Term S V) → Returns k q → Returns k e → IsUnifiable A.same q e → IsUnifiable B.same (there k q) (there k e)
+  unifiable_there : (q e : Term S V) → Returns k q → Returns k e → IsUnifiable A.same q e → IsUnifiable B.same (translated k q) (translated k e)
   unifiable_there q e h m s =
-      let us = variables (there k q) in
-      let vs = variables (there k e) in (
+      let us = variables (translated k q) in
+      let vs = variables (translated k e) in (
         carrier B k k.symbol k.variable (λ r c. refl) (image A.same s.0) (us ++ vs),
         carried B k k.symbol k.variable (λ r c. refl) (image A.same s.0) (us ++ vs) q h (all_from (IsAmong (us ++ vs)) us (λ x a. among_front us vs x a))
-            ∙ ap (there k) s.1
+            ∙ ap (translated k) s.1
             ∙ sym (carried B k k.symbol k.variable (λ r c. refl) (image A.same s.0) (us ++ vs) e m (all_from (IsAmong (us ++ vs)) vs (λ x a. among_back us vs x a))),
       )
 
-  instance_there : (q e : Term S V) → Returns k q → IsInstance A.same q e → IsInstance B.same (there k q) (there k e)
+  instance_there : (q e : Term S V) → Returns k q → IsInstance A.same q e → IsInstance B.same (translated k q) (translated k e)
   instance_there q e h s =
-      let us = variables (there k q) in
+      let us = variables (translated k q) in
       let all : AllByRecursion (IsAmong us) us = all_from (IsAmong us) us (λ x a. a) in (
         carrier B k k.symbol k.variable (λ r c. refl) (image A.same s.0) us,
         record {
-          on = subst (AllByRecursion (IsAmong us)) (sym (lefts_tabulated B.same B.tells B.itself (λ y. there k (image A.same s.0 (k.variable_back y))) us)) all;
-          takes = carried B k k.symbol k.variable (λ r c. refl) (image A.same s.0) us q h all ∙ ap (there k) s.1.takes;
+          on = subst (AllByRecursion (IsAmong us)) (sym (lefts_tabulated B.same B.tells B.itself (λ y. translated k (image A.same s.0 (k.variable_back y))) us)) all;
+          takes = carried B k k.symbol k.variable (λ r c. refl) (image A.same s.0) us q h all ∙ ap (translated k) s.1.takes;
         },
       )
 
-  pub relates_there : (kind : Relation) (q e : Term S V) → Returns k q → Returns k e → Relates A.same kind q e → Relates B.same kind (there k q) (there k e)
+  pub relates_there : (kind : Relation) (q e : Term S V) → Returns k q → Returns k e → Relates A.same kind q e → Relates B.same kind (translated k q) (translated k e)
   relates_there Unifiable q e h m r = unifiable_there q e h m r
   relates_there Instances q e h m r = instance_there q e h r
   relates_there Generalizations q e h m r = instance_there e q m r
@@ -131,7 +131,7 @@ module _ {S V R W : Type 0} (A : Vocabulary S V) (B : Vocabulary R W) (k : Trans
       by true e = absurd (distinct (A.symbol_tells r z e))
       by false e = refl
 
-  parted : (r s : S) → (symbol_returns k r → ⊥) → (r ≡ s → ⊥) → (f : S → R) × Follows B k f × (f r ≡ f s → ⊥)
+  parted : (r s : S) → (symbol_returns k r → ⊥) → (r ≡ s → ⊥) → (f : S → R) × GoesBy B k f × (f r ≡ f s → ⊥)
   parted r s lost distinct =
       let c = B.other (k.symbol s) in (
         changed_at r c,
@@ -139,7 +139,7 @@ module _ {S V R W : Type 0} (A : Vocabulary S V) (B : Vocabulary R W) (k : Trans
         λ e. B.differs (k.symbol s) (sym (ap (λ b. cond b c (k.symbol r)) (A.symbol_itself r)) ∙ e ∙ elsewhere r s c distinct),
       )
 
-  separate : (r s : S) → (r ≡ s → ⊥) → (f : S → R) × Follows B k f × (f r ≡ f s → ⊥)
+  separate : (r s : S) → (r ≡ s → ⊥) → (f : S → R) × GoesBy B k f × (f r ≡ f s → ⊥)
   separate r s distinct =
       elim (returns_or_not A k r) [
         | inr lost ↦ parted r s lost distinct
@@ -154,7 +154,7 @@ module _ {S V R W : Type 0} (A : Vocabulary S V) (B : Vocabulary R W) (k : Trans
   either x z = cond (A.same x z) B.first B.second
 
   mutual
-    separated : (t u : Term S V) → ((f : S → R) (g : V → W) → Follows B k f → translate f g t ≡ translate f g u) → t ≡ u
+    separated : (t u : Term S V) → ((f : S → R) (g : V → W) → GoesBy B k f → translate f g t ≡ translate f g u) → t ≡ u
     separated (var x) (var y) give = ap var (by (A.same x y) refl)
       where
         picked : A.same x y ≡ false → translate k.symbol (either x) (var x) ≡ translate k.symbol (either x) (var y) → B.first ≡ B.second
@@ -181,7 +181,7 @@ module _ {S V R W : Type 0} (A : Vocabulary S V) (B : Vocabulary R W) (k : Trans
             let p = separate r s (λ same. let bad : true ≡ false = sym (A.symbol_itself r) ∙ ap (A.same_symbol r) same ∙ e in cc) in
             absurd (p.2 (head p.0 k.variable (give p.0 k.variable p.1)))
 
-    all_separated : (ts us : Terms S V) → ((f : S → R) (g : V → W) → Follows B k f → translate_all f g ts ≡ translate_all f g us) → ts ≡ us
+    all_separated : (ts us : Terms S V) → ((f : S → R) (g : V → W) → GoesBy B k f → translate_all f g ts ≡ translate_all f g us) → ts ≡ us
     all_separated none none give = refl
     all_separated none (more u us) give = let bad = give k.symbol k.variable (λ s c. refl) in cc
     all_separated (more t ts) none give = let bad = give k.symbol k.variable (λ s c. refl) in cc
@@ -196,20 +196,20 @@ module _ {S V R W : Type 0} (A : Vocabulary S V) (B : Vocabulary R W) (k : Trans
         behind f g h = cc
 
   -- ---- what all unifiers of the translated terms make equal, all of the terms themselves do
-  pub joined_back : (q e t u : Term S V) → Returns k q → Returns k e → Returns k t → Returns k u → AreJoined B.same (there k q) (there k e) (there k t) (there k u) → AreJoined A.same q e t u
+  pub joined_back : (q e t u : Term S V) → Returns k q → Returns k e → Returns k t → Returns k u → AreJoined B.same (translated k q) (translated k e) (translated k t) (translated k u) → AreJoined A.same q e t u
   joined_back q e t u h m c d joined s unifies =
-      let vq = variables (there k q) in
-      let ve = variables (there k e) in
-      let vt = variables (there k t) in
-      let vu = variables (there k u) in
+      let vq = variables (translated k q) in
+      let ve = variables (translated k e) in
+      let vt = variables (translated k t) in
+      let vu = variables (translated k u) in
       let ys = vq ++ (ve ++ (vt ++ vu)) in
       separated (apply A.same s t) (apply A.same s u)
-      (λ f g follows.
-      sym (carried B k f g follows (image A.same s) ys t c (all_from (IsAmong ys) vt (λ x a. among_back vq (ve ++ (vt ++ vu)) x (among_back ve (vt ++ vu) x (among_front vt vu x a)))))
-      ∙ joined (carrier B k f g follows (image A.same s) ys)
+      (λ f g goes_by.
+      sym (carried B k f g goes_by (image A.same s) ys t c (all_from (IsAmong ys) vt (λ x a. among_back vq (ve ++ (vt ++ vu)) x (among_back ve (vt ++ vu) x (among_front vt vu x a)))))
+      ∙ joined (carrier B k f g goes_by (image A.same s) ys)
       (
-      carried B k f g follows (image A.same s) ys q h (all_from (IsAmong ys) vq (λ x a. among_front vq (ve ++ (vt ++ vu)) x a))
+      carried B k f g goes_by (image A.same s) ys q h (all_from (IsAmong ys) vq (λ x a. among_front vq (ve ++ (vt ++ vu)) x a))
       ∙ ap (translate f g) unifies
-      ∙ sym (carried B k f g follows (image A.same s) ys e m (all_from (IsAmong ys) ve (λ x a. among_back vq (ve ++ (vt ++ vu)) x (among_front ve (vt ++ vu) x a))))
+      ∙ sym (carried B k f g goes_by (image A.same s) ys e m (all_from (IsAmong ys) ve (λ x a. among_back vq (ve ++ (vt ++ vu)) x (among_front ve (vt ++ vu) x a))))
       )
-      ∙ carried B k f g follows (image A.same s) ys u d (all_from (IsAmong ys) vu (λ x a. among_back vq (ve ++ (vt ++ vu)) x (among_back ve (vt ++ vu) x (among_back vt vu x a)))))
+      ∙ carried B k f g goes_by (image A.same s) ys u d (all_from (IsAmong ys) vu (λ x a. among_back vq (ve ++ (vt ++ vu)) x (among_back ve (vt ++ vu) x (among_back vt vu x a)))))

@@ -10,7 +10,7 @@ use Rattle.si_defs.specs.declared.Relation.TheVariants.{Variants, Instances, Gen
 use Rattle.si_defs.specs.Relations.{Relates}
 use Rattle.si_defs.specs.Solutions.{IsMostGeneral, order, AreJoined, IsFirstOf, IsLeader, IsFolded, AreFolded, IsFoldedInside, IsOrdered, IsCanonicalUnifier, IsCanonicalMatch, IsCanonical}
 use Rattle.si_form.proofs.CanonicalLaws.{all_at, all_from}
-use Rattle.si_form.proofs.Translating.{variable_made, translated_variables, translate_all, Translation, back, there, list_there, symbol_returns, variable_returns, Returns, AllReturn, ListReturns, returned, returns_there, list_returned}
+use Rattle.si_form.proofs.Translating.{variable_made, translated_variables, translate_all, Translation, back, translated, translated_list, symbol_returns, variable_returns, Returns, AllReturn, ListReturns, returned, returns_there, list_returned}
 use Rattle.si_form.proofs.Carrying.{Vocabulary, returns_or_not, among_front, among_back, relates_there, joined_back}
 use Rattle.si_form.proofs.MadeLaws.{order_made, canonical_made}
 use Rattle.si_form.proofs.Moving.{among_map, among_mapped, all_map, firsts_of_there, order_there, apply_there, sequence_there, lefts_there, left_before, variable_there, clear_there, clear_before, triangular_there}
@@ -21,29 +21,29 @@ joined_same same q e t u q' e' t' u' at_q at_e at_t at_u h =
     (subst (λ z. AreJoined same q z t' u') at_e (subst (λ z. AreJoined same q e z u') at_t (subst (λ z. AreJoined same q e t z) at_u h)))
 
 module _ {S V R W : Type 0} (A : Vocabulary S V) (B : Vocabulary R W) (k : Translation S V R W) where
-  pub each_there : (P : W × Term R W → Type 0) (bs : List (V × Term S V)) → ((b : V × Term S V) → IsAmong bs b → P (k.variable b.0, there k b.1)) → AllByRecursion P (list_there k bs)
+  pub each_there : (P : W × Term R W → Type 0) (bs : List (V × Term S V)) → ((b : V × Term S V) → IsAmong bs b → P (k.variable b.0, translated k b.1)) → AllByRecursion P (translated_list k bs)
   each_there P [] give = tt
   each_there P (b ∷ bs) give = (give b (inl refl), each_there P bs (λ c a. give c (inr a)))
 
-  pub pair_there : (bs : List (V × Term S V)) (b : V × Term S V) → IsAmong bs b → IsAmong (list_there k bs) (k.variable b.0, there k b.1)
+  pub pair_there : (bs : List (V × Term S V)) (b : V × Term S V) → IsAmong bs b → IsAmong (translated_list k bs) (k.variable b.0, translated k b.1)
   pair_there [] b a = elim a [ ]
-  pair_there (c ∷ bs) b a = elim a [ inl e ↦ inl (ap (λ z. (k.variable z.0, there k z.1)) e) | inr d ↦ inr (pair_there bs b d) ]
+  pair_there (c ∷ bs) b a = elim a [ inl e ↦ inl (ap (λ z. (k.variable z.0, translated k z.1)) e) | inr d ↦ inr (pair_there bs b d) ]
 
   module _ (q e : Term S V) (q_returns : Returns k q) (e_returns : Returns k e) where
     -- ---- what unifiers make equal
-    joined_there : (t u : Term S V) → Returns k t → Returns k u → AreJoined A.same q e t u → AreJoined B.same (there k q) (there k e) (there k t) (there k u)
+    joined_there : (t u : Term S V) → Returns k t → Returns k u → AreJoined A.same q e t u → AreJoined B.same (translated k q) (translated k e) (translated k t) (translated k u)
     joined_there t u h m joined =
-        joined_back B A (back k) (there k q) (there k e) (there k t) (there k u) (returns_there k q q_returns) (returns_there k e e_returns)
+        joined_back B A (back k) (translated k q) (translated k e) (translated k t) (translated k u) (returns_there k q q_returns) (returns_there k e e_returns)
         (returns_there k t h) (returns_there k u m)
         (joined_same A.same q e t u _ _ _ _ (sym (returned k q q_returns)) (sym (returned k e e_returns)) (sym (returned k t h)) (sym (returned k u m)) joined)
 
-    joined_before : (t u : Term S V) → Returns k t → Returns k u → AreJoined B.same (there k q) (there k e) (there k t) (there k u) → AreJoined A.same q e t u
+    joined_before : (t u : Term S V) → Returns k t → Returns k u → AreJoined B.same (translated k q) (translated k e) (translated k t) (translated k u) → AreJoined A.same q e t u
     joined_before t u h m joined = joined_back A B k q e t u q_returns e_returns h m joined
 
     pub known_returns : (x : V) → IsAmong (order A.same q e) x → variable_returns k x
     known_returns x a = all_at (variable_returns k) (order A.same q e) x (order_made A (symbol_returns k) (variable_returns k) (returns_or_not A k) q e q_returns e_returns) a
 
-    pub known_there : (x : V) → IsAmong (order A.same q e) x → IsAmong (order B.same (there k q) (there k e)) (k.variable x)
+    pub known_there : (x : V) → IsAmong (order A.same q e) x → IsAmong (order B.same (translated k q) (translated k e)) (k.variable x)
     known_there x a = subst (λ l. IsAmong l (k.variable x)) (sym (order_there A B k q e q_returns e_returns)) (among_map k.variable (order A.same q e) x a)
 
     -- ---- the first in the order
@@ -52,7 +52,7 @@ module _ {S V R W : Type 0} (A : Vocabulary S V) (B : Vocabulary R W) (k : Trans
         → (P x → P' (k.variable x))
         → ((z : V) → IsAmong (order A.same q e) z → P' (k.variable z) → P z)
         → IsFirstOf A.same q e P x
-        → IsFirstOf B.same (there k q) (there k e) P' (k.variable x)
+        → IsFirstOf B.same (translated k q) (translated k e) P' (k.variable x)
     first_there P P' x to from h =
         let before = h.1.0 in
         let after = h.1.1 in (
@@ -66,35 +66,35 @@ module _ {S V R W : Type 0} (A : Vocabulary S V) (B : Vocabulary R W) (k : Trans
           ),
         )
 
-    pub leader_there : (x w : V) → variable_returns k x → variable_returns k w → IsLeader A.same q e x w → IsLeader B.same (there k q) (there k e) (k.variable x) (k.variable w)
+    pub leader_there : (x w : V) → variable_returns k x → variable_returns k w → IsLeader A.same q e x w → IsLeader B.same (translated k q) (translated k e) (k.variable x) (k.variable w)
     leader_there x w h m leader =
-        first_there (λ y. AreJoined A.same q e (var x) (var y)) (λ y. AreJoined B.same (there k q) (there k e) (var (k.variable x)) (var y)) w
+        first_there (λ y. AreJoined A.same q e (var x) (var y)) (λ y. AreJoined B.same (translated k q) (translated k e) (var (k.variable x)) (var y)) w
         (joined_there (var x) (var w) h m)
         (λ z a j. joined_before (var x) (var z) h (known_returns z a) j)
         leader
 
     -- ---- folded
     mutual
-      folded_there : (t : Term S V) → Returns k t → IsFolded A.same q e t → IsFolded B.same (there k q) (there k e) (there k t)
+      folded_there : (t : Term S V) → Returns k t → IsFolded A.same q e t → IsFolded B.same (translated k q) (translated k e) (translated k t)
       folded_there (var x) h f = tt
       folded_there (app s ts) h f = (
-        subst (AllByRecursion (λ y. AreJoined B.same (there k q) (there k e) (there k (app s ts)) (var y) → ⊥)) (sym (order_there A B k q e q_returns e_returns))
+        subst (AllByRecursion (λ y. AreJoined B.same (translated k q) (translated k e) (translated k (app s ts)) (var y) → ⊥)) (sym (order_there A B k q e q_returns e_returns))
             (
-            all_map k.variable (λ y. AreJoined B.same (there k q) (there k e) (there k (app s ts)) (var y) → ⊥) (order A.same q e)
+            all_map k.variable (λ y. AreJoined B.same (translated k q) (translated k e) (translated k (app s ts)) (var y) → ⊥) (order A.same q e)
             (λ y a j. all_at (λ z. AreJoined A.same q e (app s ts) (var z) → ⊥) (order A.same q e) y f.0 a (joined_before (app s ts) (var y) h (known_returns y a) j))
             ),
         all_folded_there ts h.1 f.1,
       )
 
-      all_folded_there : (ts : Terms S V) → AllReturn k ts → AreFolded A.same q e ts → AreFolded B.same (there k q) (there k e) (translate_all k.symbol k.variable ts)
+      all_folded_there : (ts : Terms S V) → AllReturn k ts → AreFolded A.same q e ts → AreFolded B.same (translated k q) (translated k e) (translate_all k.symbol k.variable ts)
       all_folded_there none h f = tt
       all_folded_there (more t ts) h f = (folded_there t h.0 f.0, all_folded_there ts h.1 f.1)
 
-    pub inside_there : (t : Term S V) → Returns k t → IsFoldedInside A.same q e t → IsFoldedInside B.same (there k q) (there k e) (there k t)
+    pub inside_there : (t : Term S V) → Returns k t → IsFoldedInside A.same q e t → IsFoldedInside B.same (translated k q) (translated k e) (translated k t)
     inside_there (var x) h f = tt
     inside_there (app s ts) h f = all_folded_there ts h.1 f
 
-    pub most_general_there : (bs : List (V × Term S V)) → ListReturns k bs → IsMostGeneral A.same q e bs → IsMostGeneral B.same (there k q) (there k e) (list_there k bs)
+    pub most_general_there : (bs : List (V × Term S V)) → ListReturns k bs → IsMostGeneral A.same q e bs → IsMostGeneral B.same (translated k q) (translated k e) (translated_list k bs)
     most_general_there [] h m s u = tt
     most_general_there (b ∷ bs) h m s u = (
       joined_there (var b.0) b.1 h.0.0 h.0.1 (λ r v. (m r v).0) s u,
@@ -102,11 +102,11 @@ module _ {S V R W : Type 0} (A : Vocabulary S V) (B : Vocabulary R W) (k : Trans
     )
 
     -- ---- in the order that the definition asks for
-    pub ordered_there : (bs : List (V × Term S V)) → ListReturns k bs → IsOrdered A.same q e bs → IsOrdered B.same (there k q) (there k e) (list_there k bs)
+    pub ordered_there : (bs : List (V × Term S V)) → ListReturns k bs → IsOrdered A.same q e bs → IsOrdered B.same (translated k q) (translated k e) (translated_list k bs)
     ordered_there [] h o = tt
     ordered_there (b ∷ bs) h o = (
       first_there (λ x. IsAmong (lefts (b ∷ bs)) x × AllByRecursion (λ t. IsAmong (variables t) x → ⊥) (rights (b ∷ bs)))
-          (λ x. IsAmong (lefts (list_there k (b ∷ bs))) x × AllByRecursion (λ t. IsAmong (variables t) x → ⊥) (rights (list_there k (b ∷ bs)))) b.0
+          (λ x. IsAmong (lefts (translated_list k (b ∷ bs))) x × AllByRecursion (λ t. IsAmong (variables t) x → ⊥) (rights (translated_list k (b ∷ bs)))) b.0
           (λ f. (
             subst (λ l. IsAmong l (k.variable b.0)) (sym (lefts_there A B k (b ∷ bs))) (among_map k.variable (lefts (b ∷ bs)) b.0 f.0),
             clear_there A B k (b ∷ bs) b.0 h h.0.0 f.1,

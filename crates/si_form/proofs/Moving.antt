@@ -7,7 +7,7 @@ use Rattle.si_defs.specs.Terms.{Term, Terms, var, app, none, more, variables, va
 use Rattle.si_defs.specs.Substitutions.{image, apply, lefts, rights, IsAmong}
 use Rattle.si_defs.specs.Solutions.{bind, in_sequence, IsTriangular, order}
 use Rattle.si_form.proofs.CanonicalLaws.{all_at, all_from, firsts_among, differs}
-use Rattle.si_form.proofs.Translating.{variable_made, substitute_made, translated_variables, translate_all, Translation, there, list_there, symbol_returns, variable_returns, Returns, AllReturn, ListReturns}
+use Rattle.si_form.proofs.Translating.{variable_made, substitute_made, translated_variables, translate_all, Translation, translated, translated_list, symbol_returns, variable_returns, Returns, AllReturn, ListReturns}
 use Rattle.si_form.proofs.Carrying.{Vocabulary}
 
 -- ---- lists under a map
@@ -76,12 +76,12 @@ module _ {S V R W : Type 0} (A : Vocabulary S V) (B : Vocabulary R W) (k : Trans
   pub variables_return : (t : Term S V) → Returns k t → AllByRecursion (variable_returns k) (variables t)
   variables_return t h = all_from (variable_returns k) (variables t) (λ x a. variable_made (symbol_returns k) (variable_returns k) t x h a)
 
-  pub firsts_of_there : (t : Term S V) → Returns k t → firsts B.same (variables (there k t)) ≡ map k.variable (firsts A.same (variables t))
+  pub firsts_of_there : (t : Term S V) → Returns k t → firsts B.same (variables (translated k t)) ≡ map k.variable (firsts A.same (variables t))
   firsts_of_there t h = ap (firsts B.same) (translated_variables k.symbol k.variable t) ∙ firsts_there (variables t) (variables_return t h)
 
-  pub order_there : (q e : Term S V) → Returns k q → Returns k e → order B.same (there k q) (there k e) ≡ map k.variable (order A.same q e)
+  pub order_there : (q e : Term S V) → Returns k q → Returns k e → order B.same (translated k q) (translated k e) ≡ map k.variable (order A.same q e)
   order_there q e h m =
-      ap (λ l. firsts B.same (l ++ variables (there k e))) (translated_variables k.symbol k.variable q)
+      ap (λ l. firsts B.same (l ++ variables (translated k e))) (translated_variables k.symbol k.variable q)
       ∙ ap (λ l. firsts B.same (map k.variable (variables q) ++ l)) (translated_variables k.symbol k.variable e)
       ∙ ap (firsts B.same) (sym (map-append k.variable (variables q) (variables e)))
       ∙ firsts_there (variables q ++ variables e)
@@ -93,34 +93,34 @@ module _ {S V R W : Type 0} (A : Vocabulary S V) (B : Vocabulary R W) (k : Trans
 
   -- ---- substitutions
   mutual
-    substituted_there : (ρ : W → Term R W) (σ : V → Term S V) (t : Term S V) → ((x : V) → variable_returns k x → ρ (k.variable x) ≡ there k (σ x)) → Returns k t → substitute ρ (there k t) ≡ there k (substitute σ t)
+    substituted_there : (ρ : W → Term R W) (σ : V → Term S V) (t : Term S V) → ((x : V) → variable_returns k x → ρ (k.variable x) ≡ translated k (σ x)) → Returns k t → substitute ρ (translated k t) ≡ translated k (substitute σ t)
     substituted_there ρ σ (var x) give h = give x h
     substituted_there ρ σ (app s ts) give h = ap (app (k.symbol s)) (all_substituted_there ρ σ ts give h.1)
 
-    all_substituted_there : (ρ : W → Term R W) (σ : V → Term S V) (ts : Terms S V) → ((x : V) → variable_returns k x → ρ (k.variable x) ≡ there k (σ x)) → AllReturn k ts → substitute_all ρ (translate_all k.symbol k.variable ts) ≡ translate_all k.symbol k.variable (substitute_all σ ts)
+    all_substituted_there : (ρ : W → Term R W) (σ : V → Term S V) (ts : Terms S V) → ((x : V) → variable_returns k x → ρ (k.variable x) ≡ translated k (σ x)) → AllReturn k ts → substitute_all ρ (translate_all k.symbol k.variable ts) ≡ translate_all k.symbol k.variable (substitute_all σ ts)
     all_substituted_there ρ σ none give h = refl
     all_substituted_there ρ σ (more t ts) give h =
         ap (λ u. more u (substitute_all ρ (translate_all k.symbol k.variable ts))) (substituted_there ρ σ t give h.0)
-        ∙ ap (more (there k (substitute σ t))) (all_substituted_there ρ σ ts give h.1)
+        ∙ ap (more (translated k (substitute σ t))) (all_substituted_there ρ σ ts give h.1)
 
-  chosen_there : (b : Bool) (t u : Term S V) → cond b (there k t) (there k u) ≡ there k (cond b t u)
+  chosen_there : (b : Bool) (t u : Term S V) → cond b (translated k t) (translated k u) ≡ translated k (cond b t u)
   chosen_there true t u = refl
   chosen_there false t u = refl
 
-  image_there : (bs : List (V × Term S V)) (x : V) → ListReturns k bs → variable_returns k x → image B.same (list_there k bs) (k.variable x) ≡ there k (image A.same bs x)
+  image_there : (bs : List (V × Term S V)) (x : V) → ListReturns k bs → variable_returns k x → image B.same (translated_list k bs) (k.variable x) ≡ translated k (image A.same bs x)
   image_there [] x h m = refl
   image_there (b ∷ bs) x h m =
-      ap (λ c. cond c (there k b.1) (image B.same (list_there k bs) (k.variable x))) (same_there b.0 x h.0.0 m)
-      ∙ ap (cond (A.same b.0 x) (there k b.1)) (image_there bs x h.1 m)
+      ap (λ c. cond c (translated k b.1) (image B.same (translated_list k bs) (k.variable x))) (same_there b.0 x h.0.0 m)
+      ∙ ap (cond (A.same b.0 x) (translated k b.1)) (image_there bs x h.1 m)
       ∙ chosen_there (A.same b.0 x) b.1 (image A.same bs x)
 
-  pub apply_there : (bs : List (V × Term S V)) (t : Term S V) → ListReturns k bs → Returns k t → apply B.same (list_there k bs) (there k t) ≡ there k (apply A.same bs t)
-  apply_there bs t h m = substituted_there (image B.same (list_there k bs)) (image A.same bs) t (λ x c. image_there bs x h c) m
+  pub apply_there : (bs : List (V × Term S V)) (t : Term S V) → ListReturns k bs → Returns k t → apply B.same (translated_list k bs) (translated k t) ≡ translated k (apply A.same bs t)
+  apply_there bs t h m = substituted_there (image B.same (translated_list k bs)) (image A.same bs) t (λ x c. image_there bs x h c) m
 
-  bind_there : (x : V) (u t : Term S V) → variable_returns k x → Returns k t → bind B.same (k.variable x) (there k u) (there k t) ≡ there k (bind A.same x u t)
+  bind_there : (x : V) (u t : Term S V) → variable_returns k x → Returns k t → bind B.same (k.variable x) (translated k u) (translated k t) ≡ translated k (bind A.same x u t)
   bind_there x u t h m =
-      substituted_there (λ y. cond (B.same (k.variable x) y) (there k u) (var y)) (λ y. cond (A.same x y) u (var y)) t
-      (λ y c. ap (λ b. cond b (there k u) (var (k.variable y))) (same_there x y h c) ∙ chosen_there (A.same x y) u (var y))
+      substituted_there (λ y. cond (B.same (k.variable x) y) (translated k u) (var y)) (λ y. cond (A.same x y) u (var y)) t
+      (λ y c. ap (λ b. cond b (translated k u) (var (k.variable y))) (same_there x y h c) ∙ chosen_there (A.same x y) u (var y))
       m
 
   bind_returns : (x : V) (u t : Term S V) → Returns k u → Returns k t → Returns k (bind A.same x u t)
@@ -130,14 +130,14 @@ module _ {S V R W : Type 0} (A : Vocabulary S V) (B : Vocabulary R W) (k : Trans
       by y true c = h
       by y false c = c
 
-  pub sequence_there : (bs : List (V × Term S V)) (t : Term S V) → ListReturns k bs → Returns k t → in_sequence B.same (list_there k bs) (there k t) ≡ there k (in_sequence A.same bs t)
+  pub sequence_there : (bs : List (V × Term S V)) (t : Term S V) → ListReturns k bs → Returns k t → in_sequence B.same (translated_list k bs) (translated k t) ≡ translated k (in_sequence A.same bs t)
   sequence_there [] t h m = refl
   sequence_there (b ∷ bs) t h m =
-      ap (in_sequence B.same (list_there k bs)) (bind_there b.0 b.1 t h.0.0 m)
+      ap (in_sequence B.same (translated_list k bs)) (bind_there b.0 b.1 t h.0.0 m)
       ∙ sequence_there bs (bind A.same b.0 b.1 t) h.1 (bind_returns b.0 b.1 t h.0.1 m)
 
   -- ---- sides of bindings
-  pub lefts_there : (bs : List (V × Term S V)) → lefts (list_there k bs) ≡ map k.variable (lefts bs)
+  pub lefts_there : (bs : List (V × Term S V)) → lefts (translated_list k bs) ≡ map k.variable (lefts bs)
   lefts_there [] = refl
   lefts_there (b ∷ bs) = ap (λ l. k.variable b.0 ∷ l) (lefts_there bs)
 
@@ -145,27 +145,27 @@ module _ {S V R W : Type 0} (A : Vocabulary S V) (B : Vocabulary R W) (k : Trans
   lefts_return [] h = tt
   lefts_return (b ∷ bs) h = (h.0.0, lefts_return bs h.1)
 
-  pub left_before : (bs : List (V × Term S V)) (x : V) → ListReturns k bs → variable_returns k x → IsAmong (lefts (list_there k bs)) (k.variable x) → IsAmong (lefts bs) x
+  pub left_before : (bs : List (V × Term S V)) (x : V) → ListReturns k bs → variable_returns k x → IsAmong (lefts (translated_list k bs)) (k.variable x) → IsAmong (lefts bs) x
   left_before bs x h m a = among_before k.variable k.variable_back (lefts bs) x (lefts_return bs h) m (subst (λ l. IsAmong l (k.variable x)) (lefts_there bs) a)
 
-  variable_before : (t : Term S V) (x : V) → Returns k t → variable_returns k x → IsAmong (variables (there k t)) (k.variable x) → IsAmong (variables t) x
+  variable_before : (t : Term S V) (x : V) → Returns k t → variable_returns k x → IsAmong (variables (translated k t)) (k.variable x) → IsAmong (variables t) x
   variable_before t x h m a =
       among_before k.variable k.variable_back (variables t) x (variables_return t h) m
       (subst (λ l. IsAmong l (k.variable x)) (translated_variables k.symbol k.variable t) a)
 
-  pub variable_there : (t : Term S V) (x : V) → IsAmong (variables t) x → IsAmong (variables (there k t)) (k.variable x)
+  pub variable_there : (t : Term S V) (x : V) → IsAmong (variables t) x → IsAmong (variables (translated k t)) (k.variable x)
   variable_there t x a = subst (λ l. IsAmong l (k.variable x)) (sym (translated_variables k.symbol k.variable t)) (among_map k.variable (variables t) x a)
 
   -- no right side has the variable
-  pub clear_there : (bs : List (V × Term S V)) (x : V) → ListReturns k bs → variable_returns k x → AllByRecursion (λ t. IsAmong (variables t) x → ⊥) (rights bs) → AllByRecursion (λ t. IsAmong (variables t) (k.variable x) → ⊥) (rights (list_there k bs))
+  pub clear_there : (bs : List (V × Term S V)) (x : V) → ListReturns k bs → variable_returns k x → AllByRecursion (λ t. IsAmong (variables t) x → ⊥) (rights bs) → AllByRecursion (λ t. IsAmong (variables t) (k.variable x) → ⊥) (rights (translated_list k bs))
   clear_there [] x h m c = tt
   clear_there (b ∷ bs) x h m c = (λ a. c.0 (variable_before b.1 x h.0.1 m a), clear_there bs x h.1 m c.1)
 
-  pub clear_before : (bs : List (V × Term S V)) (x : V) → AllByRecursion (λ t. IsAmong (variables t) (k.variable x) → ⊥) (rights (list_there k bs)) → AllByRecursion (λ t. IsAmong (variables t) x → ⊥) (rights bs)
+  pub clear_before : (bs : List (V × Term S V)) (x : V) → AllByRecursion (λ t. IsAmong (variables t) (k.variable x) → ⊥) (rights (translated_list k bs)) → AllByRecursion (λ t. IsAmong (variables t) x → ⊥) (rights bs)
   clear_before [] x c = tt
   clear_before (b ∷ bs) x c = (λ a. c.0 (variable_there b.1 x a), clear_before bs x c.1)
 
-  pub triangular_there : (bs : List (V × Term S V)) → ListReturns k bs → IsTriangular A.same bs → IsTriangular B.same (list_there k bs)
+  pub triangular_there : (bs : List (V × Term S V)) → ListReturns k bs → IsTriangular A.same bs → IsTriangular B.same (translated_list k bs)
   triangular_there [] h c = tt
   triangular_there (b ∷ bs) h c = (
     λ a. c.0 (left_before bs b.0 h.1 h.0.0 a),

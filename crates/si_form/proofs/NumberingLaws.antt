@@ -21,12 +21,12 @@ use Rattle.si_flat.specs.Cells as cells
 use Rattle.si_flat.specs.Numbered.{one_above, signed, place_in, numbered, all_numbered}
 use Rattle.si_form.specs.declared.solution.Binding.{Binding}
 use Rattle.si_form.specs.Answers.{StandsForList, AnswersTo}
-use Rattle.si_form.specs.Numberings.{placed, numbered_pattern, numbered_entry, numbered_list, TellsApart, IsFor, AnswersToTexts, KeepAnswers, TellsSigns}
+use Rattle.si_form.specs.Numberings.{query_by, entry_by, variable_by, list_by, symbols_of, TellsApart, IsFor, TextsRelate, NumbersRelate, RelationsAreKept, PlacesAreFree, AnswersToTexts, AnswersAreKept, SignsAreTold}
 use Rattle.si_form.proofs.CanonicalLaws.{all_at, all_from}
 use Rattle.si_form.proofs.UnifierLaws.{sequence_map, sequence_is}
-use Rattle.si_form.proofs.Translating.{renamed_made, translate, translate_all, translate_renamed, Translation, there, list_there, symbol_returns, variable_returns, Returns}
+use Rattle.si_form.proofs.Translating.{renamed_made, translate, translate_all, translate_renamed, Translation, translated, translated_list, symbol_returns, variable_returns, Returns}
 use Rattle.si_form.proofs.Carrying.{Vocabulary, among_front, among_back, relates_there}
-use Rattle.si_form.proofs.CanonicalThere.{canonical_before}
+use Rattle.si_form.proofs.CanonicalThere.{relates_before, canonical_before}
 use Rattle.si_form.proofs.Vocabularies.{with_texts, same_number, number_tells, number_itself, with_numbers}
 
 -- where there is a canonical list, the relation holds
@@ -109,16 +109,16 @@ module _
   abbrev numbering : Translation Symbol Variable cells.Symbol cells.Variable
   numbering = record {
     symbol = number_symbol number;
-    variable = placed xs ys;
+    variable = variable_by xs ys;
     symbol_back = symbol_with (number_symbol number) known;
     variable_back = text_of;
   }
 
-  list_numbered : (bs : Solution) → list_there numbering bs ≡ numbered_list number (placed xs ys) bs
+  list_numbered : (bs : Solution) → translated_list numbering bs ≡ list_by number (variable_by xs ys) bs
   list_numbered [] = refl
   list_numbered (b ∷ bs) =
-      ap (λ t. (placed xs ys b.0, t) ∷ list_there numbering bs) (sym (numbered_is number (placed xs ys) b.1))
-      ∙ ap (λ l. (placed xs ys b.0, numbered number (placed xs ys) b.1) ∷ l) (list_numbered bs)
+      ap (λ t. (variable_by xs ys b.0, t) ∷ translated_list numbering bs) (sym (numbered_is number (variable_by xs ys) b.1))
+      ∙ ap (λ l. (variable_by xs ys b.0, numbered number (variable_by xs ys) b.1) ∷ l) (list_numbered bs)
 
   known_return : (ss : List Symbol) → ((s : Symbol) → IsAmong ss s → IsAmong known s) → AllByRecursion (symbol_returns numbering) ss
   known_return ss inside =
@@ -136,27 +136,41 @@ module _
         renamed_made (symbol_returns numbering) (variable_returns numbering) of_entry u (known_return (symbols u) in_u)
         (all_from (λ x. variable_returns numbering (of_entry x)) (variables u) (λ x a. ap of_entry (at_place ys x (all_at (IsAmong ys) (variables u) x u_placed a))))
 
-    pattern_there : numbered_pattern number xs p ≡ there numbering (pattern_term p)
-    pattern_there = numbered_is number (λ x. placed xs ys (of_pattern x)) p ∙ translate_renamed (number_symbol number) (placed xs ys) of_pattern p
+    pattern_there : query_by number xs p ≡ translated numbering (pattern_term p)
+    pattern_there = numbered_is number (λ x. variable_by xs ys (of_pattern x)) p ∙ translate_renamed (number_symbol number) (variable_by xs ys) of_pattern p
 
-    entry_there : numbered_entry number ys u ≡ there numbering (entry_term u)
-    entry_there = numbered_is number (λ x. placed xs ys (of_entry x)) u ∙ translate_renamed (number_symbol number) (placed xs ys) of_entry u
+    entry_there : entry_by number ys u ≡ translated numbering (entry_term u)
+    entry_there = numbered_is number (λ x. variable_by xs ys (of_entry x)) u ∙ translate_renamed (number_symbol number) (variable_by xs ys) of_entry u
 
-    kept : (kind : Relation) (answer : Option (List Binding)) → AnswersTo kind (there numbering (pattern_term p)) (there numbering (entry_term u)) answer → AnswersToTexts kind p u number (placed xs ys) answer
-    kept kind None h = λ r. h (relates_there with_texts with_numbers numbering kind (pattern_term p) (entry_term u) pattern_returns entry_returns r)
-    kept kind (Some bindings) h =
-        let found = canonical_before with_texts with_numbers numbering kind (pattern_term p) (entry_term u) pattern_returns entry_returns h.0 h.2.canonical in
+    relation_kept : (kind : Relation) → TextsRelate kind p u → NumbersRelate kind p u number xs ys
+    relation_kept kind r =
+        subst (λ t. Relates cells.same_variable kind (query_by number xs p) t) (sym entry_there)
+        (
+        subst (λ t. Relates cells.same_variable kind t (translated numbering (entry_term u))) (sym pattern_there)
+        (relates_there with_texts with_numbers numbering kind (pattern_term p) (entry_term u) pattern_returns entry_returns r)
+        )
+
+    relation_before : (kind : Relation) → NumbersRelate kind p u number xs ys → TextsRelate kind p u
+    relation_before kind r =
+        relates_before with_texts with_numbers numbering kind (pattern_term p) (entry_term u) pattern_returns entry_returns
+        (
+        subst (λ t. Relates cells.same_variable kind (translated numbering (pattern_term p)) t) entry_there
+        (subst (λ t. Relates cells.same_variable kind t (entry_by number ys u)) pattern_there r)
+        )
+
+    keep : (kind : Relation) (answer : Option (List Binding)) → AnswersTo kind (query_by number xs p) (entry_by number ys u) answer → AnswersToTexts kind p u number (variable_by xs ys) answer
+    keep kind None h = λ r. h (relation_kept kind r)
+    keep kind (Some bindings) h =
+        let canonical : IsCanonical cells.same_variable kind (translated numbering (pattern_term p)) (translated numbering (entry_term u)) h.0 =
+        subst (λ t. IsCanonical cells.same_variable kind (translated numbering (pattern_term p)) t h.0) entry_there
+        (subst (λ t. IsCanonical cells.same_variable kind t (entry_by number ys u) h.0) pattern_there h.2.canonical) in
+        let found = canonical_before with_texts with_numbers numbering kind (pattern_term p) (entry_term u) pattern_returns entry_returns h.0 canonical in
         record {
           relates = relates_of_canonical with_texts kind (pattern_term p) (entry_term u) found.0 found.2;
           solution = found.0;
           canonical = found.2;
           stands = subst (StandsForList bindings) (sym found.1 ∙ list_numbered found.0) h.1;
         }
-
-    keep : (kind : Relation) (answer : Option (List Binding)) → AnswersTo kind (numbered_pattern number xs p) (numbered_entry number ys u) answer → AnswersToTexts kind p u number (placed xs ys) answer
-    keep kind answer h =
-        kept kind answer
-        (subst (λ t. AnswersTo kind (there numbering (pattern_term p)) t answer) entry_there (subst (λ t. AnswersTo kind t (numbered_entry number ys u) answer) pattern_there h))
 
 -- ---- numbers and signs
 abbrev IsEven : ℕ → Type 0
@@ -172,12 +186,34 @@ signed_tells : (number : Symbol → ℕ) (positive : Bool) (s r : Symbol) → Is
 signed_tells number true s r h k e = e
 signed_tells number false s r h k e = above_tells s.side r.side (number s) (number r) h k e
 
-pub keeps_answers : (number : Symbol → ℕ) → KeepAnswers number
-keeps_answers number = λ kind p u xs ys positive answer h.
-    keep (signed positive number) (symbols p ++ symbols u) xs ys
-    (λ s r a b e. h.symbols.one_symbol s r a b (signed_tells number positive s r (h.symbols.even s a) (h.symbols.even r b) e)) p u
-    (λ s a. among_front (symbols p) (symbols u) s a)
-    (λ s a. among_back (symbols p) (symbols u) s a) h.pattern_variables h.entry_variables kind answer
+-- ---- the laws
+module _ (p u : Term) (number : Symbol → ℕ) (xs ys : List Bytes) (positive : Bool) (h : IsFor p u number xs ys) where
+  signed_one : (s r : Symbol) → IsAmong (symbols_of p u) s → IsAmong (symbols_of p u) r → signed positive number s ≡ signed positive number r → s ≡ r
+  signed_one s r a b e = h.symbols.one_symbol s r a b (signed_tells number positive s r (h.symbols.even s a) (h.symbols.even r b) e)
+
+  in_pattern : (s : Symbol) → IsAmong (symbols p) s → IsAmong (symbols_of p u) s
+  in_pattern s a = among_front (symbols p) (symbols u) s a
+
+  in_entry : (s : Symbol) → IsAmong (symbols u) s → IsAmong (symbols_of p u) s
+  in_entry s a = among_back (symbols p) (symbols u) s a
+
+  texts_of_numbers : (kind : Relation) → NumbersRelate kind p u (signed positive number) xs ys → TextsRelate kind p u
+  texts_of_numbers kind r = relation_before (signed positive number) (symbols_of p u) xs ys signed_one p u in_pattern in_entry h.pattern_variables h.entry_variables kind r
+
+  numbers_of_texts : (kind : Relation) → TextsRelate kind p u → NumbersRelate kind p u (signed positive number) xs ys
+  numbers_of_texts kind r = relation_kept (signed positive number) (symbols_of p u) xs ys signed_one p u in_pattern in_entry h.pattern_variables h.entry_variables kind r
+
+  answer_kept : (kind : Relation) (answer : Option (List Binding)) → AnswersTo kind (query_by (signed positive number) xs p) (entry_by (signed positive number) ys u) answer → AnswersToTexts kind p u (signed positive number) (variable_by xs ys) answer
+  answer_kept kind answer told = keep (signed positive number) (symbols_of p u) xs ys signed_one p u in_pattern in_entry h.pattern_variables h.entry_variables kind answer told
+
+pub relations_are_kept : RelationsAreKept
+relations_are_kept kind p u number xs ys positive h = (numbers_of_texts p u number xs ys positive h kind, texts_of_numbers p u number xs ys positive h kind)
+
+pub places_are_free : PlacesAreFree
+places_are_free kind p u number xs ys xs' ys' positive h h' r = numbers_of_texts p u number xs' ys' positive h' kind (texts_of_numbers p u number xs ys positive h kind r)
+
+pub answers_are_kept : AnswersAreKept
+answers_are_kept kind p u number xs ys positive answer h told = answer_kept p u number xs ys positive h kind answer told
 
 -- ---- heads that differ
 module _ {S V : Type 0} (A : Vocabulary S V) (s r : S) (ts us : terms.Terms S V) where
@@ -200,14 +236,18 @@ signs_apart number s r false true at_s at_r h k distinct e =
     let is : 1 + number s ≡ number r = sym (ap (λ side. one_above side (number s)) at_s) ∙ e in
     omega (arith, is, h.1, k.1)
 
-pub tells_signs : (number : Symbol → ℕ) → TellsSigns number
-tells_signs number kind (var x) u xs ys one other answer p_sound u_sound h distinct told = elim p_sound [ ]
-tells_signs number kind (app s ts) (var x) xs ys one other answer p_sound u_sound h distinct told = elim u_sound [ ]
-tells_signs number kind (app s ts) (app r us) xs ys one other None p_sound u_sound h distinct told = refl
-tells_signs number kind (app s ts) (app r us) xs ys one other (Some bindings) p_sound u_sound h distinct told =
-    let q = numbered_pattern (signed one number) xs (app s ts) in
-    let e = numbered_entry (signed other number) ys (app r us) in
-    let heads = relates_heads with_numbers (number_symbol (signed one number) s) (number_symbol (signed other number) r) _ _ kind (relates_of_canonical with_numbers kind q e told.0 told.2.canonical) in
+pub signs_are_told : SignsAreTold
+signs_are_told kind (var x) u number xs ys one other answer p_sound u_sound h distinct told = elim p_sound [ ]
+signs_are_told kind (app s ts) (var x) number xs ys one other answer p_sound u_sound h distinct told = elim u_sound [ ]
+signs_are_told kind (app s ts) (app r us) number xs ys one other None p_sound u_sound h distinct told = refl
+signs_are_told kind (app s ts) (app r us) number xs ys one other (Some bindings) p_sound u_sound h distinct told =
+    let q = query_by (signed one number) xs (app s ts) in
+    let e = entry_by (signed other number) ys (app r us) in
+    let heads =
+    relates_heads with_numbers (number_symbol (signed one number) s) (number_symbol (signed other number) r) _ _ kind
+    (relates_of_canonical with_numbers kind q e told.0 told.2.canonical) in
     absurd
-    (signs_apart number s r one other p_sound.0.on_side u_sound.0.on_side (h.even s (inl refl))
-    (h.even r (among_back (symbols (app s ts)) (symbols (app r us)) r (inl refl))) distinct (ap (λ (z : cells.Symbol). z.number) heads))
+    (
+    signs_apart number s r one other p_sound.0.on_side u_sound.0.on_side (h.even s (inl refl))
+    (h.even r (among_back (symbols (app s ts)) (symbols (app r us)) r (inl refl))) distinct (ap (λ (z : cells.Symbol). z.number) heads)
+    )

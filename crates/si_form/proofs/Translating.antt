@@ -133,11 +133,11 @@ abbrev pub back : {S V R W : Type 0} → Translation S V R W → Translation R W
 back k = record { symbol = k.symbol_back; variable = k.variable_back; symbol_back = k.symbol; variable_back = k.variable }
 
 module _ {S V R W : Type 0} (k : Translation S V R W) where
-  abbrev pub there : Term S V → Term R W
-  there t = translate k.symbol k.variable t
+  abbrev pub translated : Term S V → Term R W
+  translated t = translate k.symbol k.variable t
 
-  abbrev pub list_there : List (V × Term S V) → List (W × Term R W)
-  list_there bs = translate_list k.symbol k.variable bs
+  abbrev pub translated_list : List (V × Term S V) → List (W × Term R W)
+  translated_list bs = translate_list k.symbol k.variable bs
 
   -- there and back again it is the same
   abbrev pub symbol_returns : S → Type 0
@@ -157,7 +157,7 @@ module _ {S V R W : Type 0} (k : Translation S V R W) where
 
 module _ {S V R W : Type 0} (k : Translation S V R W) where
   mutual
-    pub returned : (t : Term S V) → Returns k t → there (back k) (there k t) ≡ t
+    pub returned : (t : Term S V) → Returns k t → translated (back k) (translated k t) ≡ t
     returned (var x) h = ap var h
     returned (app s ts) h = ap (λ r. app r (translate_all k.symbol_back k.variable_back (translate_all k.symbol k.variable ts))) h.0 ∙ ap (app s) (all_returned ts h.1)
 
@@ -168,7 +168,7 @@ module _ {S V R W : Type 0} (k : Translation S V R W) where
         ∙ ap (more t) (all_returned ts h.1)
 
   mutual
-    pub returns_there : (t : Term S V) → Returns k t → Returns (back k) (there k t)
+    pub returns_there : (t : Term S V) → Returns k t → Returns (back k) (translated k t)
     returns_there (var x) h = ap k.variable h
     returns_there (app s ts) h = (ap k.symbol h.0, all_return_there ts h.1)
 
@@ -176,9 +176,9 @@ module _ {S V R W : Type 0} (k : Translation S V R W) where
     all_return_there none h = tt
     all_return_there (more t ts) h = (returns_there t h.0, all_return_there ts h.1)
 
-  pub list_returned : (bs : List (V × Term S V)) → ListReturns k bs → list_there (back k) (list_there k bs) ≡ bs
+  pub list_returned : (bs : List (V × Term S V)) → ListReturns k bs → translated_list (back k) (translated_list k bs) ≡ bs
   list_returned [] h = refl
   list_returned (b ∷ bs) h =
-      ap (λ x. (x, there (back k) (there k b.1)) ∷ list_there (back k) (list_there k bs)) h.0.0
-      ∙ ap (λ t. (b.0, t) ∷ list_there (back k) (list_there k bs)) (returned b.1 h.0.1)
+      ap (λ x. (x, translated (back k) (translated k b.1)) ∷ translated_list (back k) (translated_list k bs)) h.0.0
+      ∙ ap (λ t. (b.0, t) ∷ translated_list (back k) (translated_list k bs)) (returned b.1 h.0.1)
       ∙ ap (λ l. b ∷ l) (list_returned bs h.1)

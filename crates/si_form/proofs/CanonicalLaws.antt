@@ -24,7 +24,7 @@ module _ {X : Type 0} where
   all_back P [] ys h = h
   all_back P (x ∷ xs) ys h = all_back P xs ys h.1
 
-  all_append : (P : X → Type 0) (xs ys : List X) → AllByRecursion P xs → AllByRecursion P ys → AllByRecursion P (xs ++ ys)
+  pub all_append : (P : X → Type 0) (xs ys : List X) → AllByRecursion P xs → AllByRecursion P ys → AllByRecursion P (xs ++ ys)
   all_append P [] ys h k = k
   all_append P (x ∷ xs) ys h k = (h.0, all_append P xs ys h.1 k)
 

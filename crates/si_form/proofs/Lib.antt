@@ -14,3 +14,4 @@ pub mod LeadersThere
 pub mod CanonicalThere
 pub mod Vocabularies
 pub mod NumberingLaws
+pub mod SolutionLaws

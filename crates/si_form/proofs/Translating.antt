@@ -4,7 +4,7 @@ use Rattle.std.specs.List.{AllByRecursion}
 use Rattle.std.proofs.lemmas.List.{map-append}
 use Rattle.si_defs.specs.Terms.{Term, Terms, var, app, none, more, variables, variables_of_all, symbols, symbols_of_all, substitute, substitute_all, rename, rename_all}
 use Rattle.si_defs.specs.Substitutions.{IsAmong}
-use Rattle.si_form.proofs.CanonicalLaws.{all_front, all_back, among_parts}
+use Rattle.si_form.proofs.CanonicalLaws.{all_front, all_back, all_append, among_parts}
 
 -- ---- the symbols and the variables of a term, each by a property
 module _ {S V : Type 0} (P : S → Type 0) (Q : V → Type 0) where
@@ -30,6 +30,15 @@ module _ {S V : Type 0} (P : S → Type 0) (Q : V → Type 0) where
           | inl b ↦ variable_made t x h.0 b
           | inr b ↦ variables_made ts x h.1 b
         ]
+
+  mutual
+    pub symbols_made : (t : Term S V) → IsMadeOf t → AllByRecursion P (symbols t)
+    symbols_made (var x) h = tt
+    symbols_made (app s ts) h = (h.0, all_symbols_made ts h.1)
+
+    all_symbols_made : (ts : Terms S V) → AreMadeOf ts → AllByRecursion P (symbols_of_all ts)
+    all_symbols_made none h = tt
+    all_symbols_made (more t ts) h = all_append P (symbols t) (symbols_of_all ts) (symbols_made t h.0) (all_symbols_made ts h.1)
 
   -- what replaces a variable is part of the whole
   mutual

@@ -42,7 +42,7 @@ pair_of_right (b ∷ bs) t a =
     ]
 
 module _ {V : Type 0} (same : V → V → Bool) (tells : (x y : V) → same x y ≡ true → x ≡ y) (itself : (x : V) → same x x ≡ true) where
-  among_tells : (xs : List V) (x : V) → IsAmong xs x ⊎ (IsAmong xs x → ⊥)
+  pub among_tells : (xs : List V) (x : V) → IsAmong xs x ⊎ (IsAmong xs x → ⊥)
   among_tells [] x = inr (λ a. elim a [ ])
   among_tells (y ∷ ys) x = by (same y x) refl (among_tells ys x)
     where

@@ -1,5 +1,3 @@
-use Rattle.si_form.proofs.NumberingLaws.{signs_are_told}
-use Rattle.si_form.specs.SolutionParts.{HaveNumbers}
 use Rattle.si_flat.specs.Cells.{same_variable}
 use Rattle.si_form.proofs.VariableLaws.{same_tells, same_itself}
 use Rattle.si_form.proofs.CanonicalLaws.{one_match}

@@ -28,6 +28,14 @@ module _ {X : Type 0} where
   all_append P [] ys h k = k
   all_append P (x ∷ xs) ys h k = (h.0, all_append P xs ys h.1 k)
 
+  pub among_front : (xs ys : List X) (x : X) → IsAmong xs x → IsAmong (xs ++ ys) x
+  among_front [] ys x a = elim a [ ]
+  among_front (z ∷ xs) ys x a = elim a [ inl e ↦ inl e | inr b ↦ inr (among_front xs ys x b) ]
+
+  pub among_back : (xs ys : List X) (x : X) → IsAmong ys x → IsAmong (xs ++ ys) x
+  among_back [] ys x a = a
+  among_back (z ∷ xs) ys x a = inr (among_back xs ys x a)
+
   pub among_parts : (xs ys : List X) (x : X) → IsAmong (xs ++ ys) x → IsAmong xs x ⊎ IsAmong ys x
   among_parts [] ys x a = inr a
   among_parts (y ∷ xs) ys x a =

@@ -1,18 +1,17 @@
 -- A canonical list, translated, is canonical for the translated terms.
-use Rattle.std.proofs.Common.{◌≡◌, Bool, List, [], ◌∷◌, ◌++◌, map, inl, inr, refl, sym, ◌∙◌, ap, subst}
+use Rattle.std.proofs.Common.{◌≡◌, List, ◌∷◌, map, inl, refl, sym, ◌∙◌, ap, subst}
 use Rattle.std.specs.List.{AllByRecursion}
-use Rattle.std.proofs.lemmas.List.{map-append}
-use Rattle.si_defs.specs.Terms.{Term, Terms, var, app, none, more, variables}
-use Rattle.si_defs.specs.Substitutions.{Substitution, lefts, rights, IsAmong, IsOn}
+use Rattle.si_defs.specs.Terms.{Term, var, variables}
+use Rattle.si_defs.specs.Substitutions.{lefts, IsAmong, IsOn}
 use Rattle.si_defs.specs.declared.Relation.{Relation}
 use Rattle.si_defs.specs.declared.Relation.TheVariants.{Variants, Instances, Generalizations, Unifiable}
 use Rattle.si_defs.specs.Relations.{Relates}
-use Rattle.si_defs.specs.Solutions.{IsMostGeneral, order, AreJoined, IsFirstOf, IsLeader, IsFolded, AreFolded, IsFoldedInside, IsOrdered, IsCanonicalUnifier, IsCanonicalMatch, IsCanonical}
-use Rattle.si_form.proofs.CanonicalLaws.{all_at, all_from}
-use Rattle.si_form.proofs.Translating.{variable_made, translated_variables, translate_all, Translation, back, translated, translated_list, symbol_returns, variable_returns, Returns, AllReturn, ListReturns, returned, returns_there, list_returned}
-use Rattle.si_form.proofs.Carrying.{Vocabulary, returns_or_not, among_front, among_back, relates_there, joined_back}
+use Rattle.si_defs.specs.Solutions.{order, IsLeader, IsFoldedInside, IsCanonicalUnifier, IsCanonicalMatch, IsCanonical}
+use Rattle.si_form.proofs.CanonicalLaws.{all_at, among_back}
+use Rattle.si_form.proofs.Translating.{variable_made, translated_variables, Translation, back, translated, translated_list, symbol_returns, variable_returns, Returns, returned, returns_there, list_returned}
+use Rattle.si_form.proofs.Carrying.{Vocabulary, returns_or_not, relates_there}
 use Rattle.si_form.proofs.MadeLaws.{order_made, canonical_made}
-use Rattle.si_form.proofs.Moving.{among_map, among_mapped, all_map, firsts_of_there, order_there, apply_there, sequence_there, lefts_there, left_before, variable_there, clear_there, clear_before, triangular_there}
+use Rattle.si_form.proofs.Moving.{among_mapped, all_map, firsts_of_there, order_there, apply_there, sequence_there, lefts_there, variable_there, triangular_there}
 use Rattle.si_form.proofs.LeadersThere.{each_there, pair_there, known_returns, known_there, leader_there, inside_there, most_general_there, ordered_there}
 
 module _ {S V R W : Type 0} (A : Vocabulary S V) (B : Vocabulary R W) (k : Translation S V R W) where

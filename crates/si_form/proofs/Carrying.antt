@@ -6,10 +6,10 @@ use Rattle.si_defs.specs.Terms.{Term, Terms, var, app, none, more, variables, va
 use Rattle.si_defs.specs.Substitutions.{Substitution, image, apply, lefts, IsAmong}
 use Rattle.si_defs.specs.declared.Relation.{Relation}
 use Rattle.si_defs.specs.declared.Relation.TheVariants.{Variants, Instances, Generalizations, Unifiable}
-use Rattle.si_defs.specs.Relations.{Unifies, IsInstance, IsUnifiable, Relates}
+use Rattle.si_defs.specs.Relations.{IsInstance, IsUnifiable, Relates}
 use Rattle.si_defs.specs.Solutions.{AreJoined}
-use Rattle.si_form.proofs.CanonicalLaws.{all_front, all_back, all_from}
-use Rattle.si_form.proofs.Translating.{IsMadeOf, AreMadeOf, translate, translate_all, Translation, back, translated, symbol_returns, variable_returns, Returns, AllReturn}
+use Rattle.si_form.proofs.CanonicalLaws.{all_front, all_back, all_from, among_front, among_back}
+use Rattle.si_form.proofs.Translating.{translate, translate_all, Translation, translated, symbol_returns, Returns, AllReturn}
 
 -- Symbols and variables that are told apart, and more than one of each.
 pub record Vocabulary (S V : Type 0) : Type 0 where
@@ -24,14 +24,6 @@ pub record Vocabulary (S V : Type 0) : Type 0 where
   pub first : V
   pub second : V
   pub apart : first ≡ second → ⊥
-
-pub among_front : {X : Type 0} (xs ys : List X) (x : X) → IsAmong xs x → IsAmong (xs ++ ys) x
-among_front [] ys x a = elim a [ ]
-among_front (z ∷ xs) ys x a = elim a [ inl e ↦ inl e | inr b ↦ inr (among_front xs ys x b) ]
-
-pub among_back : {X : Type 0} (xs ys : List X) (x : X) → IsAmong ys x → IsAmong (xs ++ ys) x
-among_back [] ys x a = a
-among_back (z ∷ xs) ys x a = inr (among_back xs ys x a)
 
 -- ---- the map h at these variables
 module _ {R W : Type 0} (same : W → W → Bool) (tells : (x y : W) → same x y ≡ true → x ≡ y) (itself : (x : W) → same x x ≡ true) (h : W → Term R W) where

@@ -1,19 +1,16 @@
 -- What all unifiers make equal, and by it leaders, folded terms and the order of a canonical list,
 -- of translated terms.
-use Rattle.std.proofs.Common.{◌≡◌, Bool, List, [], ◌∷◌, ◌++◌, map, inl, inr, refl, sym, ◌∙◌, ap, subst}
+use Rattle.std.proofs.Common.{◌≡◌, Bool, List, [], ◌∷◌, map, inl, inr, refl, sym, ◌∙◌, ap, subst}
 use Rattle.std.specs.List.{AllByRecursion}
 use Rattle.std.proofs.lemmas.List.{map-append}
 use Rattle.si_defs.specs.Terms.{Term, Terms, var, app, none, more, variables}
-use Rattle.si_defs.specs.Substitutions.{Substitution, lefts, rights, IsAmong, IsOn}
-use Rattle.si_defs.specs.declared.Relation.{Relation}
-use Rattle.si_defs.specs.declared.Relation.TheVariants.{Variants, Instances, Generalizations, Unifiable}
-use Rattle.si_defs.specs.Relations.{Relates}
-use Rattle.si_defs.specs.Solutions.{IsMostGeneral, order, AreJoined, IsFirstOf, IsLeader, IsFolded, AreFolded, IsFoldedInside, IsOrdered, IsCanonicalUnifier, IsCanonicalMatch, IsCanonical}
-use Rattle.si_form.proofs.CanonicalLaws.{all_at, all_from}
-use Rattle.si_form.proofs.Translating.{variable_made, translated_variables, translate_all, Translation, back, translated, translated_list, symbol_returns, variable_returns, Returns, AllReturn, ListReturns, returned, returns_there, list_returned}
-use Rattle.si_form.proofs.Carrying.{Vocabulary, returns_or_not, among_front, among_back, relates_there, joined_back}
-use Rattle.si_form.proofs.MadeLaws.{order_made, canonical_made}
-use Rattle.si_form.proofs.Moving.{among_map, among_mapped, all_map, firsts_of_there, order_there, apply_there, sequence_there, lefts_there, left_before, variable_there, clear_there, clear_before, triangular_there}
+use Rattle.si_defs.specs.Substitutions.{lefts, rights, IsAmong}
+use Rattle.si_defs.specs.Solutions.{IsMostGeneral, order, AreJoined, IsFirstOf, IsLeader, IsFolded, AreFolded, IsFoldedInside, IsOrdered}
+use Rattle.si_form.proofs.CanonicalLaws.{all_at, among_front}
+use Rattle.si_form.proofs.Translating.{translate_all, Translation, back, translated, translated_list, symbol_returns, variable_returns, Returns, AllReturn, ListReturns, returned, returns_there}
+use Rattle.si_form.proofs.Carrying.{Vocabulary, returns_or_not, joined_back}
+use Rattle.si_form.proofs.MadeLaws.{order_made}
+use Rattle.si_form.proofs.Moving.{among_map, all_map, order_there, lefts_there, left_before, clear_there, clear_before}
 
 joined_same : {S V : Type 0} (same : V → V → Bool) (q e t u q' e' t' u' : Term S V) → q ≡ q' → e ≡ e' → t ≡ t' → u ≡ u' → AreJoined same q e t u → AreJoined same q' e' t' u'
 joined_same same q e t u q' e' t' u' at_q at_e at_t at_u h =

@@ -13,5 +13,7 @@ pub mod Moving
 pub mod LeadersThere
 pub mod CanonicalThere
 pub mod Vocabularies
+pub mod SignLaws
 pub mod NumberingLaws
 pub mod SolutionLaws
+pub mod TableLaws

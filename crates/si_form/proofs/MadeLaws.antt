@@ -7,10 +7,10 @@ use Rattle.si_defs.specs.declared.Relation.{Relation}
 use Rattle.si_defs.specs.declared.Relation.TheVariants.{Variants, Instances, Generalizations, Unifiable}
 use Rattle.si_defs.specs.Relations.{Unifies}
 use Rattle.si_defs.specs.Solutions.{order, AreJoined, IsMostGeneral, IsCanonicalUnifier, IsCanonicalMatch, IsCanonical}
-use Rattle.si_form.proofs.CanonicalLaws.{all_at, all_from, AreDistinct, distinct_firsts, firsts_among, among_parts, image_first, image_other}
+use Rattle.si_form.proofs.CanonicalLaws.{all_at, all_from, AreDistinct, distinct_firsts, firsts_among, among_parts, image_first, image_other, among_front, among_back}
 use Rattle.si_form.proofs.UnifierLaws.{sequence_map, sequence_is}
 use Rattle.si_form.proofs.Translating.{IsMadeOf, AreMadeOf, made_with, all_made_with, variable_made, variables_made, image_made, images_made, translate, translate_all}
-use Rattle.si_form.proofs.Carrying.{Vocabulary, among_front, among_back, tabulate, image_tabulated}
+use Rattle.si_form.proofs.Carrying.{Vocabulary, tabulate, image_tabulated}
 
 -- P holds of each symbol of a list, and Q of each variable
 abbrev pub IsListOf : {S V : Type 0} → (S → Type 0) → (V → Type 0) → List (V × Term S V) → Type 0

@@ -3,7 +3,7 @@ use Rattle.std.proofs.Common.{◌≡◌, Bool, true, false, cond, not, List, [],
 use Rattle.std.specs.Prelude.{filter}
 use Rattle.std.specs.List.{AllByRecursion}
 use Rattle.std.proofs.lemmas.List.{map-append}
-use Rattle.si_defs.specs.Terms.{Term, Terms, var, app, none, more, variables, variables_of_all, substitute, substitute_all, firsts}
+use Rattle.si_defs.specs.Terms.{Term, Terms, var, app, none, more, variables, substitute, substitute_all, firsts}
 use Rattle.si_defs.specs.Substitutions.{image, apply, lefts, rights, IsAmong}
 use Rattle.si_defs.specs.Solutions.{bind, in_sequence, IsTriangular, order}
 use Rattle.si_form.proofs.CanonicalLaws.{all_at, all_from, firsts_among, differs}

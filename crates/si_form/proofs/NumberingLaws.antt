@@ -1,5 +1,5 @@
 -- Answers to terms with numbers hold of the terms with texts.
-use Rattle.std.proofs.Common.{◌≡◌, ℕ, ◌+◌, ◌*◌, Bool, true, false, cond, List, [], ◌∷◌, ◌++◌, suc, zero, inl, inr, refl, sym, ◌∙◌, ap, subst, arith, Option, Some, None}
+use Rattle.std.proofs.Common.{◌≡◌, ℕ, ◌+◌, ◌*◌, Bool, true, false, cond, List, [], ◌∷◌, suc, zero, inl, inr, refl, sym, ◌∙◌, ap, subst, arith, Option, Some, None}
 use Rattle.std.specs.Prelude.{bytes_eq}
 use Rattle.std.specs.List.{AllByRecursion}
 use Rattle.std.proofs.lemmas.Slice.Eq.{bytes_eq-Decides}
@@ -7,7 +7,7 @@ use Rattle.si_defs.specs.Bytes.{Bytes}
 use Rattle.si_defs.specs.Terms as terms
 use Rattle.si_defs.specs.Terms.{var, app, none, more, variables, symbols, rename, rename_all}
 use Rattle.si_defs.specs.Symbols.{Symbol}
-use Rattle.si_defs.specs.Clauses.{Term, Terms}
+use Rattle.si_defs.specs.Clauses.{Term}
 use Rattle.si_defs.specs.Substitutions.{Substitution, IsAmong}
 use Rattle.si_defs.specs.declared.SymKind.TheVariants.{Word}
 use Rattle.si_defs.specs.declared.Side.{Side}
@@ -21,23 +21,14 @@ use Rattle.si_flat.specs.Cells as cells
 use Rattle.si_flat.specs.Numbered.{one_above, signed, place_in, numbered, all_numbered}
 use Rattle.si_form.specs.declared.solution.Binding.{Binding}
 use Rattle.si_form.specs.Answers.{StandsForList, AnswersTo}
-use Rattle.si_form.specs.Numberings.{query_by, entry_by, variable_by, list_by, symbols_of, TellsApart, IsFor, TextsRelate, NumbersRelate, RelationsAreKept, PlacesAreFree, AnswersToTexts, AnswersAreKept, SignsAreTold}
-use Rattle.si_form.proofs.CanonicalLaws.{all_at, all_from}
+use Rattle.si_form.specs.Numberings.{query_by, entry_by, variable_by, list_by, symbols_of, IsFor, TextsRelate, NumbersRelate, RelationsAreKept, PlacesAreFree, AnswersToTexts, AnswersAreKept, SignsAreTold}
+use Rattle.si_form.proofs.CanonicalLaws.{all_at, all_from, among_front, among_back}
 use Rattle.si_form.proofs.UnifierLaws.{sequence_map, sequence_is}
 use Rattle.si_form.proofs.Translating.{renamed_made, translate, translate_all, translate_renamed, Translation, translated, translated_list, symbol_returns, variable_returns, Returns}
-use Rattle.si_form.proofs.Carrying.{Vocabulary, among_front, among_back, relates_there}
+use Rattle.si_form.proofs.Carrying.{Vocabulary, relates_there}
 use Rattle.si_form.proofs.CanonicalThere.{relates_before, canonical_before}
+use Rattle.si_form.proofs.SignLaws.{relates_of_canonical, signed_tells}
 use Rattle.si_form.proofs.Vocabularies.{with_texts, same_number, number_tells, number_itself, with_numbers}
-
--- where there is a canonical list, the relation holds
-relates_of_canonical : {S V : Type 0} (A : Vocabulary S V) (kind : Relation) (q e : terms.Term S V) (bs : Substitution S V) → IsCanonical A.same kind q e bs → Relates A.same kind q e
-relates_of_canonical A Unifiable q e bs h = (
-  sequence_map A.same A.tells A.itself bs,
-  sym (sequence_is A.same A.tells A.itself bs q) ∙ h.achieves ∙ sequence_is A.same A.tells A.itself bs e,
-)
-relates_of_canonical A Instances q e bs h = (bs, h.matches)
-relates_of_canonical A Generalizations q e bs h = (bs, h.matches)
-relates_of_canonical A Variants q e bs h = h.0
 
 -- ---- back from numbers
 -- the text at this place
@@ -100,91 +91,77 @@ module _ {V : Type 0} (number : Symbol → ℕ) (variable : V → cells.Variable
 module _
     (number : Symbol → ℕ) (known : List Symbol) (xs ys : List Bytes)
     (one : (s r : Symbol) → IsAmong known s → IsAmong known r → number s ≡ number r → s ≡ r)
-    where
-  abbrev text_of : cells.Variable → Variable
-  text_of (cells.query n) = of_pattern (text_at xs n)
-  text_of (cells.entry n) = of_entry (text_at ys n)
-  text_of (cells.ind n) = of_pattern []
+  where
+    abbrev text_of : cells.Variable → Variable
+    text_of (cells.query n) = of_pattern (text_at xs n)
+    text_of (cells.entry n) = of_entry (text_at ys n)
+    text_of (cells.ind n) = of_pattern []
 
-  abbrev numbering : Translation Symbol Variable cells.Symbol cells.Variable
-  numbering = record {
-    symbol = number_symbol number;
-    variable = variable_by xs ys;
-    symbol_back = symbol_with (number_symbol number) known;
-    variable_back = text_of;
-  }
+    abbrev numbering : Translation Symbol Variable cells.Symbol cells.Variable
+    numbering = record {
+      symbol = number_symbol number;
+      variable = variable_by xs ys;
+      symbol_back = symbol_with (number_symbol number) known;
+      variable_back = text_of;
+    }
 
-  list_numbered : (bs : Solution) → translated_list numbering bs ≡ list_by number (variable_by xs ys) bs
-  list_numbered [] = refl
-  list_numbered (b ∷ bs) =
-      ap (λ t. (variable_by xs ys b.0, t) ∷ translated_list numbering bs) (sym (numbered_is number (variable_by xs ys) b.1))
-      ∙ ap (λ l. (variable_by xs ys b.0, numbered number (variable_by xs ys) b.1) ∷ l) (list_numbered bs)
+    list_numbered : (bs : Solution) → translated_list numbering bs ≡ list_by number (variable_by xs ys) bs
+    list_numbered [] = refl
+    list_numbered (b ∷ bs) =
+        ap (λ t. (variable_by xs ys b.0, t) ∷ translated_list numbering bs) (sym (numbered_is number (variable_by xs ys) b.1))
+        ∙ ap (λ l. (variable_by xs ys b.0, numbered number (variable_by xs ys) b.1) ∷ l) (list_numbered bs)
 
-  known_return : (ss : List Symbol) → ((s : Symbol) → IsAmong ss s → IsAmong known s) → AllByRecursion (symbol_returns numbering) ss
-  known_return ss inside =
-      all_from (symbol_returns numbering) ss
-      (λ s a. with_number (number_symbol number) known s (inside s a) (λ r c e. one r s c (inside s a) (ap (λ (z : cells.Symbol). z.number) e)))
+    known_return : (ss : List Symbol) → ((s : Symbol) → IsAmong ss s → IsAmong known s) → AllByRecursion (symbol_returns numbering) ss
+    known_return ss inside =
+        all_from (symbol_returns numbering) ss
+        (λ s a. with_number (number_symbol number) known s (inside s a) (λ r c e. one r s c (inside s a) (ap (λ (z : cells.Symbol). z.number) e)))
 
-  module _ (p u : Term) (in_p : (s : Symbol) → IsAmong (symbols p) s → IsAmong known s) (in_u : (s : Symbol) → IsAmong (symbols u) s → IsAmong known s) (p_placed : AllByRecursion (IsAmong xs) (variables p)) (u_placed : AllByRecursion (IsAmong ys) (variables u)) where
-    pattern_returns : Returns numbering (pattern_term p)
-    pattern_returns =
-        renamed_made (symbol_returns numbering) (variable_returns numbering) of_pattern p (known_return (symbols p) in_p)
-        (all_from (λ x. variable_returns numbering (of_pattern x)) (variables p) (λ x a. ap of_pattern (at_place xs x (all_at (IsAmong xs) (variables p) x p_placed a))))
+    module _ (p u : Term) (in_p : (s : Symbol) → IsAmong (symbols p) s → IsAmong known s) (in_u : (s : Symbol) → IsAmong (symbols u) s → IsAmong known s) (p_placed : AllByRecursion (IsAmong xs) (variables p)) (u_placed : AllByRecursion (IsAmong ys) (variables u)) where
+      pattern_returns : Returns numbering (pattern_term p)
+      pattern_returns =
+          renamed_made (symbol_returns numbering) (variable_returns numbering) of_pattern p (known_return (symbols p) in_p)
+          (all_from (λ x. variable_returns numbering (of_pattern x)) (variables p) (λ x a. ap of_pattern (at_place xs x (all_at (IsAmong xs) (variables p) x p_placed a))))
 
-    entry_returns : Returns numbering (entry_term u)
-    entry_returns =
-        renamed_made (symbol_returns numbering) (variable_returns numbering) of_entry u (known_return (symbols u) in_u)
-        (all_from (λ x. variable_returns numbering (of_entry x)) (variables u) (λ x a. ap of_entry (at_place ys x (all_at (IsAmong ys) (variables u) x u_placed a))))
+      entry_returns : Returns numbering (entry_term u)
+      entry_returns =
+          renamed_made (symbol_returns numbering) (variable_returns numbering) of_entry u (known_return (symbols u) in_u)
+          (all_from (λ x. variable_returns numbering (of_entry x)) (variables u) (λ x a. ap of_entry (at_place ys x (all_at (IsAmong ys) (variables u) x u_placed a))))
 
-    pattern_there : query_by number xs p ≡ translated numbering (pattern_term p)
-    pattern_there = numbered_is number (λ x. variable_by xs ys (of_pattern x)) p ∙ translate_renamed (number_symbol number) (variable_by xs ys) of_pattern p
+      pattern_there : query_by number xs p ≡ translated numbering (pattern_term p)
+      pattern_there = numbered_is number (λ x. variable_by xs ys (of_pattern x)) p ∙ translate_renamed (number_symbol number) (variable_by xs ys) of_pattern p
 
-    entry_there : entry_by number ys u ≡ translated numbering (entry_term u)
-    entry_there = numbered_is number (λ x. variable_by xs ys (of_entry x)) u ∙ translate_renamed (number_symbol number) (variable_by xs ys) of_entry u
+      entry_there : entry_by number ys u ≡ translated numbering (entry_term u)
+      entry_there = numbered_is number (λ x. variable_by xs ys (of_entry x)) u ∙ translate_renamed (number_symbol number) (variable_by xs ys) of_entry u
 
-    relation_kept : (kind : Relation) → TextsRelate kind p u → NumbersRelate kind p u number xs ys
-    relation_kept kind r =
-        subst (λ t. Relates cells.same_variable kind (query_by number xs p) t) (sym entry_there)
-        (
-        subst (λ t. Relates cells.same_variable kind t (translated numbering (entry_term u))) (sym pattern_there)
-        (relates_there with_texts with_numbers numbering kind (pattern_term p) (entry_term u) pattern_returns entry_returns r)
-        )
+      relation_kept : (kind : Relation) → TextsRelate kind p u → NumbersRelate kind p u number xs ys
+      relation_kept kind r =
+          subst (λ t. Relates cells.same_variable kind (query_by number xs p) t) (sym entry_there)
+          (
+          subst (λ t. Relates cells.same_variable kind t (translated numbering (entry_term u))) (sym pattern_there)
+          (relates_there with_texts with_numbers numbering kind (pattern_term p) (entry_term u) pattern_returns entry_returns r)
+          )
 
-    relation_before : (kind : Relation) → NumbersRelate kind p u number xs ys → TextsRelate kind p u
-    relation_before kind r =
-        relates_before with_texts with_numbers numbering kind (pattern_term p) (entry_term u) pattern_returns entry_returns
-        (
-        subst (λ t. Relates cells.same_variable kind (translated numbering (pattern_term p)) t) entry_there
-        (subst (λ t. Relates cells.same_variable kind t (entry_by number ys u)) pattern_there r)
-        )
+      relation_before : (kind : Relation) → NumbersRelate kind p u number xs ys → TextsRelate kind p u
+      relation_before kind r =
+          relates_before with_texts with_numbers numbering kind (pattern_term p) (entry_term u) pattern_returns entry_returns
+          (
+          subst (λ t. Relates cells.same_variable kind (translated numbering (pattern_term p)) t) entry_there
+          (subst (λ t. Relates cells.same_variable kind t (entry_by number ys u)) pattern_there r)
+          )
 
-    keep : (kind : Relation) (answer : Option (List Binding)) → AnswersTo kind (query_by number xs p) (entry_by number ys u) answer → AnswersToTexts kind p u number (variable_by xs ys) answer
-    keep kind None h = λ r. h (relation_kept kind r)
-    keep kind (Some bindings) h =
-        let canonical : IsCanonical cells.same_variable kind (translated numbering (pattern_term p)) (translated numbering (entry_term u)) h.0 =
-        subst (λ t. IsCanonical cells.same_variable kind (translated numbering (pattern_term p)) t h.0) entry_there
-        (subst (λ t. IsCanonical cells.same_variable kind t (entry_by number ys u) h.0) pattern_there h.2.canonical) in
-        let found = canonical_before with_texts with_numbers numbering kind (pattern_term p) (entry_term u) pattern_returns entry_returns h.0 canonical in
-        record {
-          relates = relates_of_canonical with_texts kind (pattern_term p) (entry_term u) found.0 found.2;
-          solution = found.0;
-          canonical = found.2;
-          stands = subst (StandsForList bindings) (sym found.1 ∙ list_numbered found.0) h.1;
-        }
-
--- ---- numbers and signs
-abbrev IsEven : ℕ → Type 0
-IsEven n = (half : ℕ) × (n ≡ 2 * half)
-
-above_tells : (one other : Side) (m n : ℕ) → IsEven m → IsEven n → one_above one m ≡ one_above other n → m ≡ n
-above_tells Predicate Predicate m n h k e = omega (arith, e)
-above_tells Predicate Function m n h k e = omega (arith, e, h.1, k.1)
-above_tells Function Predicate m n h k e = omega (arith, e, h.1, k.1)
-above_tells Function Function m n h k e = e
-
-signed_tells : (number : Symbol → ℕ) (positive : Bool) (s r : Symbol) → IsEven (number s) → IsEven (number r) → signed positive number s ≡ signed positive number r → number s ≡ number r
-signed_tells number true s r h k e = e
-signed_tells number false s r h k e = above_tells s.side r.side (number s) (number r) h k e
+      keep : (kind : Relation) (answer : Option (List Binding)) → AnswersTo kind (query_by number xs p) (entry_by number ys u) answer → AnswersToTexts kind p u number (variable_by xs ys) answer
+      keep kind None h = λ r. h (relation_kept kind r)
+      keep kind (Some bindings) h =
+          let canonical : IsCanonical cells.same_variable kind (translated numbering (pattern_term p)) (translated numbering (entry_term u)) h.0 =
+          subst (λ t. IsCanonical cells.same_variable kind (translated numbering (pattern_term p)) t h.0) entry_there
+          (subst (λ t. IsCanonical cells.same_variable kind t (entry_by number ys u) h.0) pattern_there h.2.canonical) in
+          let found = canonical_before with_texts with_numbers numbering kind (pattern_term p) (entry_term u) pattern_returns entry_returns h.0 canonical in
+          record {
+            relates = relates_of_canonical with_texts kind (pattern_term p) (entry_term u) found.0 found.2;
+            solution = found.0;
+            canonical = found.2;
+            stands = subst (StandsForList bindings) (sym found.1 ∙ list_numbered found.0) h.1;
+          }
 
 -- ---- the laws
 module _ (p u : Term) (number : Symbol → ℕ) (xs ys : List Bytes) (positive : Bool) (h : IsFor p u number xs ys) where
@@ -214,40 +191,3 @@ places_are_free kind p u number xs ys xs' ys' positive h h' r = numbers_of_texts
 
 pub answers_are_kept : AnswersAreKept
 answers_are_kept kind p u number xs ys positive answer h told = answer_kept p u number xs ys positive h kind answer told
-
--- ---- heads that differ
-module _ {S V : Type 0} (A : Vocabulary S V) (s r : S) (ts us : terms.Terms S V) where
-  head_is : (vs ws : terms.Terms S V) → app s vs ≡ app r ws → s ≡ r
-  head_is vs ws h = cc
-
-  relates_heads : (kind : Relation) → Relates A.same kind (app s ts) (app r us) → s ≡ r
-  relates_heads Unifiable h = head_is _ _ h.1
-  relates_heads Instances h = head_is _ _ h.1.takes
-  relates_heads Generalizations h = head_is _ _ (sym h.1.takes)
-  relates_heads Variants h = head_is _ _ h.0.1.takes
-
-signs_apart : (number : Symbol → ℕ) (s r : Symbol) (one other : Bool) → s.side ≡ Predicate → r.side ≡ Predicate → IsEven (number s) → IsEven (number r) → (one ≡ other → ⊥) → signed one number s ≡ signed other number r → ⊥
-signs_apart number s r true true at_s at_r h k distinct e = distinct refl
-signs_apart number s r false false at_s at_r h k distinct e = distinct refl
-signs_apart number s r true false at_s at_r h k distinct e =
-    let is : number s ≡ 1 + number r = e ∙ ap (λ side. one_above side (number r)) at_r in
-    omega (arith, is, h.1, k.1)
-signs_apart number s r false true at_s at_r h k distinct e =
-    let is : 1 + number s ≡ number r = sym (ap (λ side. one_above side (number s)) at_s) ∙ e in
-    omega (arith, is, h.1, k.1)
-
-pub signs_are_told : SignsAreTold
-signs_are_told kind (var x) u number xs ys one other answer p_sound u_sound h distinct told = elim p_sound [ ]
-signs_are_told kind (app s ts) (var x) number xs ys one other answer p_sound u_sound h distinct told = elim u_sound [ ]
-signs_are_told kind (app s ts) (app r us) number xs ys one other None p_sound u_sound h distinct told = refl
-signs_are_told kind (app s ts) (app r us) number xs ys one other (Some bindings) p_sound u_sound h distinct told =
-    let q = query_by (signed one number) xs (app s ts) in
-    let e = entry_by (signed other number) ys (app r us) in
-    let heads =
-    relates_heads with_numbers (number_symbol (signed one number) s) (number_symbol (signed other number) r) _ _ kind
-    (relates_of_canonical with_numbers kind q e told.0 told.2.canonical) in
-    absurd
-    (
-    signs_apart number s r one other p_sound.0.on_side u_sound.0.on_side (h.even s (inl refl))
-    (h.even r (among_back (symbols (app s ts)) (symbols (app r us)) r (inl refl))) distinct (ap (λ (z : cells.Symbol). z.number) heads)
-    )

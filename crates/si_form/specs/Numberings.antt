@@ -1,17 +1,17 @@
 -- Terms with numbers for their symbols and variables, beside the terms with texts.
-use Rattle.std.specs.Prelude.{◌≡◌, ℕ, ◌≤◌, ◌*◌, ◌^◌, Bool, List, [], ◌∷◌, ◌++◌, Option, None, Some, bytes_eq}
+use Rattle.std.specs.Prelude.{◌≡◌, ℕ, ◌*◌, Bool, List, [], ◌∷◌, ◌++◌, Option, None, Some, bytes_eq}
 use Rattle.std.specs.List.{AllByRecursion}
 use Rattle.si_defs.specs.Bytes.{Bytes}
-use Rattle.si_defs.specs.Terms.{variables, symbols}
-use Rattle.si_defs.specs.Symbols.{Symbol, Numbering, IsNumbering}
-use Rattle.si_defs.specs.Clauses.{Term, IsSoundAtom}
+use Rattle.si_defs.specs.Terms.{app, variables, symbols}
+use Rattle.si_defs.specs.Symbols.{Symbol}
+use Rattle.si_defs.specs.Clauses.{Term, Terms, IsSoundAtom}
 use Rattle.si_defs.specs.Substitutions.{IsAmong}
 use Rattle.si_defs.specs.declared.Relation.{Relation}
 use Rattle.si_defs.specs.Relations.{Relates}
 use Rattle.si_defs.specs.Solutions.{IsCanonical}
 use Rattle.si_defs.specs.Variables.{Variable, of_pattern, of_entry, same_variable, pattern_term, entry_term, Solution}
 use Rattle.si_flat.specs.Cells as cells
-use Rattle.si_flat.specs.Numbered.{number_in, signed, place_in, numbered}
+use Rattle.si_flat.specs.Numbered.{signed, place_in, numbered}
 use Rattle.si_form.specs.declared.solution.Binding.{Binding}
 use Rattle.si_form.specs.Answers.{StandsForList, AnswersTo}
 
@@ -54,7 +54,6 @@ pub record IsFor (p u : Term) (number : Symbol → ℕ) (xs ys : List Bytes) : T
 abbrev pub TextsRelate : Relation → Term → Term → Type 0
 TextsRelate kind p u = Relates same_variable kind (pattern_term p) (entry_term u)
 
--- those with numbers, of literals with this sign
 abbrev pub NumbersRelate : Relation → Term → Term → (Symbol → ℕ) → List Bytes → List Bytes → Type 0
 NumbersRelate kind p u number xs ys = Relates cells.same_variable kind (query_by number xs p) (entry_by number ys u)
 
@@ -106,4 +105,13 @@ SignsAreTold =
     → TellsApart number (symbols_of p u)
     → (one ≡ other → ⊥)
     → AnswersTo kind (query_by (signed one number) xs p) (entry_by (signed other number) ys u) answer
+    → answer ≡ None
+
+-- nor are terms whose heads stand on different sides, as an atom and a term inside one
+abbrev pub SidesAreTold : Type 0
+SidesAreTold =
+    (kind : Relation) (s r : Symbol) (ts us : Terms) (number : Symbol → ℕ) (xs ys : List Bytes) (one other : Bool) (answer : Option (List Binding))
+    → TellsApart number (symbols_of (app s ts) (app r us))
+    → (s.side ≡ r.side → ⊥)
+    → AnswersTo kind (query_by (signed one number) xs (app s ts)) (entry_by (signed other number) ys (app r us)) answer
     → answer ≡ None

@@ -1,5 +1,5 @@
 -- What stands in the canonical list of two terms, and which numbers it has.
-use Rattle.std.specs.Prelude.{◌≡◌, ℕ, ◌≤◌, ◌*◌, ◌^◌, Bool, List, ◌++◌}
+use Rattle.std.specs.Prelude.{◌≡◌, ℕ, ◌≤◌, ◌*◌, ◌^◌, Bool, List, ◌++◌, Option}
 use Rattle.std.specs.List.{AllByRecursion}
 use Rattle.si_defs.specs.Bytes.{Bytes}
 use Rattle.si_defs.specs.Terms.{variables, symbols}
@@ -11,7 +11,8 @@ use Rattle.si_defs.specs.declared.Side.TheVariants.{Function}
 use Rattle.si_defs.specs.Variables.{Variable, Solution}
 use Rattle.si_flat.specs.Cells as cells
 use Rattle.si_flat.specs.Numbered.{number_in, signed}
-use Rattle.si_form.specs.Numberings.{entry_by, list_by, symbols_of, IsVariableOf, TellsApart, IsSolution}
+use Rattle.si_form.specs.declared.solution.Binding.{Binding}
+use Rattle.si_form.specs.Numberings.{entry_by, list_by, symbols_of, IsVariableOf, TellsApart, IsSolution, AnswersToTexts}
 
 -- ---- symbols and variables of a solution
 -- all of them are of the two terms
@@ -42,6 +43,15 @@ SignsStayOut =
     (number : Symbol → ℕ) (variable : Variable → cells.Variable) (positive : Bool) (solution : Solution)
     → HasFunctionsAlone solution
     → list_by (signed positive number) variable solution ≡ list_by number variable solution
+
+-- So bindings of atoms stand for a solution with numbers that have no sign.
+abbrev pub AtomsAreAnswered : Type 0
+AtomsAreAnswered =
+    (kind : Relation) (p u : Term) (number : Symbol → ℕ) (variable : Variable → cells.Variable) (positive : Bool) (answer : Option (List Binding))
+    → IsSoundAtom p
+    → IsSoundAtom u
+    → AnswersToTexts kind p u (signed positive number) variable answer
+    → AnswersToTexts kind p u number variable answer
 
 -- ---- numbers of a table, and behind them those of a query
 abbrev pub HaveNumbers : Numbering → List Symbol → Type 0

@@ -1,8 +1,11 @@
 // Laws of the definitions, which stand here as contracts. No function here does anything.
 ghost use Rattle.si_defs.specs.declared.Relation.TheVariants.{Variants, Instances, Generalizations, Unifiable};
 ghost use Rattle.si_form.specs.Answers.{HasOneCanonicalList};
-ghost use Rattle.si_form.specs.Numberings.{RelationsAreKept, PlacesAreFree, AnswersAreKept, SignsAreTold};
-ghost use Rattle.si_form.specs.SolutionParts.{SolutionsAreOfTerms, PredicatesStayOut, SignsStayOut, NumbersTellApart, EntriesNeedTheTableAlone};
+ghost use Rattle.si_form.specs.Numberings.{RelationsAreKept, PlacesAreFree};
+ghost use Rattle.si_form.specs.Numberings.{AnswersAreKept, SignsAreTold, SidesAreTold};
+ghost use Rattle.si_form.specs.SolutionParts.{SolutionsAreOfTerms, PredicatesStayOut};
+ghost use Rattle.si_form.specs.SolutionParts.{SignsStayOut, AtomsAreAnswered};
+ghost use Rattle.si_form.specs.SolutionParts.{NumbersTellApart, EntriesNeedTheTableAlone};
 
 /// Of each relation there is one canonical list at most.
 pub fn canonical_lists_are_unique()
@@ -22,6 +25,8 @@ pub fn numbers_keep_relations()
 pub fn numbers_keep_answers()
     ensures answers { AnswersAreKept }
     ensures signs { SignsAreTold }
+    ensures sides { SidesAreTold }
+    ensures atoms { AtomsAreAnswered }
 {}
 
 /// A solution has symbols and variables of its two terms alone, and not the predicates of atoms.

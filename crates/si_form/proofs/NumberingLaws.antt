@@ -1,5 +1,5 @@
 -- Answers to terms with numbers hold of the terms with texts.
-use Rattle.std.proofs.Common.{◌≡◌, ℕ, ◌+◌, ◌*◌, Bool, true, false, cond, List, [], ◌∷◌, suc, zero, inl, inr, refl, sym, ◌∙◌, ap, subst, arith, Option, Some, None}
+use Rattle.std.proofs.Common.{◌≡◌, ℕ, ◌+◌, Bool, true, false, cond, List, [], ◌∷◌, suc, zero, inl, inr, refl, sym, ◌∙◌, ap, subst, arith, Option, Some, None}
 use Rattle.std.specs.Prelude.{bytes_eq}
 use Rattle.std.specs.List.{AllByRecursion}
 use Rattle.std.proofs.lemmas.Slice.Eq.{bytes_eq-Decides}
@@ -8,26 +8,23 @@ use Rattle.si_defs.specs.Terms as terms
 use Rattle.si_defs.specs.Terms.{var, app, none, more, variables, symbols, rename, rename_all}
 use Rattle.si_defs.specs.Symbols.{Symbol}
 use Rattle.si_defs.specs.Clauses.{Term}
-use Rattle.si_defs.specs.Substitutions.{Substitution, IsAmong}
+use Rattle.si_defs.specs.Substitutions.{IsAmong}
 use Rattle.si_defs.specs.declared.SymKind.TheVariants.{Word}
-use Rattle.si_defs.specs.declared.Side.{Side}
-use Rattle.si_defs.specs.declared.Side.TheVariants.{Predicate, Function}
+use Rattle.si_defs.specs.declared.Side.TheVariants.{Function}
 use Rattle.si_defs.specs.declared.Relation.{Relation}
-use Rattle.si_defs.specs.declared.Relation.TheVariants.{Variants, Instances, Generalizations, Unifiable}
 use Rattle.si_defs.specs.Relations.{Relates}
 use Rattle.si_defs.specs.Solutions.{IsCanonical}
 use Rattle.si_defs.specs.Variables.{Variable, of_pattern, of_entry, pattern_term, entry_term, Solution}
 use Rattle.si_flat.specs.Cells as cells
-use Rattle.si_flat.specs.Numbered.{one_above, signed, place_in, numbered, all_numbered}
+use Rattle.si_flat.specs.Numbered.{signed, place_in, numbered, all_numbered}
 use Rattle.si_form.specs.declared.solution.Binding.{Binding}
 use Rattle.si_form.specs.Answers.{StandsForList, AnswersTo}
-use Rattle.si_form.specs.Numberings.{query_by, entry_by, variable_by, list_by, symbols_of, IsFor, TextsRelate, NumbersRelate, RelationsAreKept, PlacesAreFree, AnswersToTexts, AnswersAreKept, SignsAreTold}
+use Rattle.si_form.specs.Numberings.{query_by, entry_by, variable_by, list_by, symbols_of, IsFor, TextsRelate, NumbersRelate, RelationsAreKept, PlacesAreFree, AnswersToTexts, AnswersAreKept}
 use Rattle.si_form.proofs.CanonicalLaws.{all_at, all_from, among_front, among_back}
-use Rattle.si_form.proofs.UnifierLaws.{sequence_map, sequence_is}
 use Rattle.si_form.proofs.Translating.{renamed_made, translate, translate_all, translate_renamed, Translation, translated, translated_list, symbol_returns, variable_returns, Returns}
-use Rattle.si_form.proofs.Carrying.{Vocabulary, relates_there}
+use Rattle.si_form.proofs.Carrying.{relates_there}
 use Rattle.si_form.proofs.CanonicalThere.{relates_before, canonical_before}
-use Rattle.si_form.proofs.SignLaws.{relates_of_canonical, signed_tells}
+use Rattle.si_form.proofs.SignLaws.{relates_of_canonical, one_number}
 use Rattle.si_form.proofs.Vocabularies.{with_texts, same_number, number_tells, number_itself, with_numbers}
 
 -- ---- back from numbers
@@ -166,7 +163,7 @@ module _
 -- ---- the laws
 module _ (p u : Term) (number : Symbol → ℕ) (xs ys : List Bytes) (positive : Bool) (h : IsFor p u number xs ys) where
   signed_one : (s r : Symbol) → IsAmong (symbols_of p u) s → IsAmong (symbols_of p u) r → signed positive number s ≡ signed positive number r → s ≡ r
-  signed_one s r a b e = h.symbols.one_symbol s r a b (signed_tells number positive s r (h.symbols.even s a) (h.symbols.even r b) e)
+  signed_one s r a b e = h.symbols.one_symbol s r a b (one_number number s r positive positive (h.symbols.even s a) (h.symbols.even r b) e)
 
   in_pattern : (s : Symbol) → IsAmong (symbols p) s → IsAmong (symbols_of p u) s
   in_pattern s a = among_front (symbols p) (symbols u) s a

@@ -1,33 +1,26 @@
 -- Terms with numbers whose heads differ are never answered.
-use Rattle.std.proofs.Common.{◌≡◌, ◌⊎◌, ℕ, ◌+◌, ◌*◌, Bool, true, false, cond, List, [], ◌∷◌, suc, zero, inl, inr, refl, sym, ◌∙◌, ap, subst, arith, Option, Some, None}
-use Rattle.std.specs.Prelude.{bytes_eq}
-use Rattle.std.specs.List.{AllByRecursion}
-use Rattle.std.proofs.lemmas.Slice.Eq.{bytes_eq-Decides}
+use Rattle.std.proofs.Common.{◌≡◌, ◌⊎◌, ℕ, ◌+◌, ◌*◌, Bool, true, false, List, inl, inr, refl, sym, ◌∙◌, ap, arith, Option, Some, None}
 use Rattle.si_defs.specs.Bytes.{Bytes}
 use Rattle.si_defs.specs.Terms as terms
 use Rattle.si_defs.specs.Terms.{var, app, none, more, variables, symbols, rename, rename_all}
 use Rattle.si_defs.specs.Symbols.{Symbol}
-use Rattle.si_defs.specs.Clauses.{Term, Terms}
+use Rattle.si_defs.specs.Clauses.{Terms}
 use Rattle.si_defs.specs.Substitutions.{Substitution, IsAmong}
-use Rattle.si_defs.specs.declared.SymKind.TheVariants.{Word}
 use Rattle.si_defs.specs.declared.Side.{Side}
 use Rattle.si_defs.specs.declared.Side.TheVariants.{Predicate, Function}
 use Rattle.si_defs.specs.declared.Relation.{Relation}
 use Rattle.si_defs.specs.declared.Relation.TheVariants.{Variants, Instances, Generalizations, Unifiable}
 use Rattle.si_defs.specs.Relations.{Relates}
 use Rattle.si_defs.specs.Solutions.{IsCanonical}
-use Rattle.si_defs.specs.Variables.{Variable, of_pattern, of_entry, pattern_term, entry_term, Solution}
 use Rattle.si_flat.specs.Cells as cells
-use Rattle.si_flat.specs.Numbered.{one_above, signed, place_in, numbered, all_numbered}
+use Rattle.si_flat.specs.Numbered.{one_above, signed}
 use Rattle.si_form.specs.declared.solution.Binding.{Binding}
-use Rattle.si_form.specs.Answers.{StandsForList, AnswersTo}
-use Rattle.si_form.specs.Numberings.{query_by, entry_by, variable_by, list_by, symbols_of, IsFor, TextsRelate, NumbersRelate, RelationsAreKept, PlacesAreFree, AnswersToTexts, AnswersAreKept, SignsAreTold, SidesAreTold}
-use Rattle.si_form.proofs.CanonicalLaws.{all_at, all_from, among_front, among_back}
+use Rattle.si_form.specs.Answers.{AnswersTo}
+use Rattle.si_form.specs.Numberings.{query_by, entry_by, symbols_of, SignsAreTold, SidesAreTold}
+use Rattle.si_form.proofs.CanonicalLaws.{among_back}
 use Rattle.si_form.proofs.UnifierLaws.{sequence_map, sequence_is}
-use Rattle.si_form.proofs.Translating.{renamed_made, translate, translate_all, translate_renamed, Translation, translated, translated_list, symbol_returns, variable_returns, Returns}
-use Rattle.si_form.proofs.Carrying.{Vocabulary, relates_there}
-use Rattle.si_form.proofs.CanonicalThere.{relates_before, canonical_before}
-use Rattle.si_form.proofs.Vocabularies.{with_texts, same_number, number_tells, number_itself, with_numbers}
+use Rattle.si_form.proofs.Carrying.{Vocabulary}
+use Rattle.si_form.proofs.Vocabularies.{with_numbers}
 
 -- where there is a canonical list, the relation holds
 pub relates_of_canonical : {S V : Type 0} (A : Vocabulary S V) (kind : Relation) (q e : terms.Term S V) (bs : Substitution S V) → IsCanonical A.same kind q e bs → Relates A.same kind q e
@@ -43,15 +36,32 @@ relates_of_canonical A Variants q e bs h = h.0
 abbrev pub IsEven : ℕ → Type 0
 IsEven n = (half : ℕ) × (n ≡ 2 * half)
 
-above_tells : (one other : Side) (m n : ℕ) → IsEven m → IsEven n → one_above one m ≡ one_above other n → m ≡ n
-above_tells Predicate Predicate m n h k e = omega (arith, e)
-above_tells Predicate Function m n h k e = omega (arith, e, h.1, k.1)
-above_tells Function Predicate m n h k e = omega (arith, e, h.1, k.1)
-above_tells Function Function m n h k e = e
+even_apart : (m n : ℕ) → IsEven m → IsEven n → 1 + m ≡ n → ⊥
+even_apart m n h k e = omega (arith, e, h.1, k.1)
 
-pub signed_tells : (number : Symbol → ℕ) (positive : Bool) (s r : Symbol) → IsEven (number s) → IsEven (number r) → signed positive number s ≡ signed positive number r → number s ≡ number r
-signed_tells number true s r h k e = e
-signed_tells number false s r h k e = above_tells s.side r.side (number s) (number r) h k e
+-- a number with a sign is the symbol's own, or one above it
+own_or_above : (number : Symbol → ℕ) (positive : Bool) (s : Symbol) → (signed positive number s ≡ number s) ⊎ (signed positive number s ≡ 1 + number s)
+own_or_above number true s = inl refl
+own_or_above number false s = by s.side
+  where
+    by : (side : Side) → (one_above side (number s) ≡ number s) ⊎ (one_above side (number s) ≡ 1 + number s)
+    by Predicate = inr refl
+    by Function = inl refl
+
+pub one_number : (number : Symbol → ℕ) (s r : Symbol) (one other : Bool) → IsEven (number s) → IsEven (number r) → signed one number s ≡ signed other number r → number s ≡ number r
+one_number number s r one other h k e =
+    elim (own_or_above number one s) [
+      | inl a ↦
+          elim (own_or_above number other r) [
+            | inl b ↦ sym a ∙ e ∙ b
+            | inr b ↦ absurd (even_apart (number r) (number s) k h (sym b ∙ sym e ∙ a))
+          ]
+      | inr a ↦
+          elim (own_or_above number other r) [
+            | inl b ↦ absurd (even_apart (number s) (number r) h k (sym a ∙ e ∙ b))
+            | inr b ↦ (let both : 1 + number s ≡ 1 + number r = sym a ∙ e ∙ b in omega (arith, both))
+          ]
+    ]
 
 -- ---- heads
 module _ {S V : Type 0} (A : Vocabulary S V) (s r : S) (ts us : terms.Terms S V) where
@@ -98,33 +108,6 @@ signs_are_told kind (app s ts) (app r us) number xs ys one other answer p_sound 
     )
 
 -- ---- sides
-even_apart : (m n : ℕ) → IsEven m → IsEven n → 1 + m ≡ n → ⊥
-even_apart m n h k e = omega (arith, e, h.1, k.1)
-
--- a number with a sign is the symbol's own, or one above it
-own_or_above : (number : Symbol → ℕ) (positive : Bool) (s : Symbol) → (signed positive number s ≡ number s) ⊎ (signed positive number s ≡ 1 + number s)
-own_or_above number true s = inl refl
-own_or_above number false s = by s.side
-  where
-    by : (side : Side) → (one_above side (number s) ≡ number s) ⊎ (one_above side (number s) ≡ 1 + number s)
-    by Predicate = inr refl
-    by Function = inl refl
-
-one_number : (number : Symbol → ℕ) (s r : Symbol) (one other : Bool) → IsEven (number s) → IsEven (number r) → signed one number s ≡ signed other number r → number s ≡ number r
-one_number number s r one other h k e =
-    elim (own_or_above number one s) [
-      | inl a ↦
-          elim (own_or_above number other r) [
-            | inl b ↦ sym a ∙ e ∙ b
-            | inr b ↦ absurd (even_apart (number r) (number s) k h (sym b ∙ sym e ∙ a))
-          ]
-      | inr a ↦
-          elim (own_or_above number other r) [
-            | inl b ↦ absurd (even_apart (number s) (number r) h k (sym a ∙ e ∙ b))
-            | inr b ↦ (let both : 1 + number s ≡ 1 + number r = sym a ∙ e ∙ b in omega (arith, both))
-          ]
-    ]
-
 pub sides_are_told : SidesAreTold
 sides_are_told kind s r ts us number xs ys one other answer h distinct told =
     let in_entry : IsAmong (symbols_of (app s ts) (app r us)) r = among_back (symbols (app s ts)) (symbols (app r us)) r (inl refl) in

@@ -1,39 +1,45 @@
--- What stands in the canonical list of two terms, and which numbers it has.
-use Rattle.std.proofs.Common.{◌≡◌, ◌⊎◌, ℕ, ◌*◌, Bool, true, false, cond, [], ◌∷◌, ◌++◌, inl, inr, refl, sym, ◌∙◌, ap, subst, arith, Some, None}
+-- What stands in the canonical list of two terms.
+use Rattle.std.proofs.Common.{◌≡◌, ◌⊎◌, ℕ, Bool, true, false, [], ◌∷◌, inl, inr, refl, ◌∙◌, ap, subst, Some, None}
 use Rattle.std.specs.List.{AllByRecursion}
 use Rattle.si_defs.specs.Bytes.{Bytes}
 use Rattle.si_defs.specs.Terms as terms
 use Rattle.si_defs.specs.Terms.{var, app, none, more, variables, symbols, symbols_of_all, rename, rename_all}
-use Rattle.si_defs.specs.Symbols.{Symbol, Numbering, IsNumbering, same_symbol}
+use Rattle.si_defs.specs.Symbols.{Symbol, same_symbol}
 use Rattle.si_defs.specs.Clauses.{Term, Terms, IsSoundTerm, AreSoundTerms}
 use Rattle.si_defs.specs.Substitutions.{IsAmong}
 use Rattle.si_defs.specs.declared.Side.{Side}
 use Rattle.si_defs.specs.declared.Side.TheVariants.{Predicate, Function}
 use Rattle.si_defs.specs.Variables.{Variable, of_pattern, of_entry, pattern_term, entry_term, Solution}
 use Rattle.si_flat.specs.Cells as cells
-use Rattle.si_flat.specs.Numbered.{number_in, one_above, signed, numbered, all_numbered}
+use Rattle.si_flat.specs.Numbered.{one_above, signed, numbered, all_numbered}
 use Rattle.si_form.specs.Answers.{StandsForList}
 use Rattle.si_form.specs.Numberings.{list_by, symbols_of, IsVariableOf}
-use Rattle.si_form.specs.SolutionParts.{SolutionsAreOfTerms, HasFunctionsAlone, PredicatesStayOut, SignsStayOut, AtomsAreAnswered, AreQueryNumbers, NumbersTellApart, EntriesNeedTheTableAlone}
-use Rattle.si_form.proofs.CanonicalLaws.{all_at, all_from, all_front, all_back, among_parts, among_front, among_back}
+use Rattle.si_form.specs.SolutionParts.{IsBindingOf, SolutionsAreOfTerms, HasFunctionsAlone, PredicatesStayOut, SignsStayOut, AtomsAreAnswered}
+use Rattle.si_form.proofs.CanonicalLaws.{all_at, all_from, all_front, all_back, among_front, among_back}
 use Rattle.si_form.proofs.UnifierLaws.{among_tells}
 use Rattle.si_form.proofs.Translating.{IsMadeOf, AreMadeOf, symbols_made, variable_made, renamed_made}
 use Rattle.si_form.proofs.MadeLaws.{IsListOf, canonical_made, canonical_made_inside}
 use Rattle.si_form.proofs.Vocabularies.{with_texts, symbol_tells, symbol_itself}
 
 -- ---- symbols and variables of a solution
-each_of : (P : Symbol → Type 0) (Q : Variable → Type 0) (bs : Solution) → IsListOf P Q bs → AllByRecursion (λ b. Q b.0 × AllByRecursion Q (variables b.1) × AllByRecursion P (symbols b.1)) bs
-each_of P Q [] h = tt
-each_of P Q (b ∷ bs) h = (
-  (h.0.0, all_from Q (variables b.1) (λ x a. variable_made P Q b.1 x h.0.1 a), symbols_made P Q b.1 h.0.1),
-  each_of P Q bs h.1,
-)
+bindings_of : (p u : Term) (bs : Solution) → IsListOf (IsAmong (symbols_of p u)) (IsVariableOf p u) bs → AllByRecursion (IsBindingOf p u) bs
+bindings_of p u [] h = tt
+bindings_of p u (b ∷ bs) h =
+    let P = IsAmong (symbols_of p u) in
+    let Q = IsVariableOf p u in (
+      record {
+        left = h.0.0;
+        variables = all_from Q (variables b.1) (λ x a. variable_made P Q b.1 x h.0.1 a);
+        symbols = symbols_made P Q b.1 h.0.1;
+      },
+      bindings_of p u bs h.1,
+    )
 
 pub solutions_are_of_terms : SolutionsAreOfTerms
 solutions_are_of_terms kind p u solution h =
     let P = IsAmong (symbols_of p u) in
     let Q = IsVariableOf p u in
-    each_of P Q solution
+    bindings_of p u solution
     (
     canonical_made with_texts P Q (among_tells same_symbol symbol_tells symbol_itself (symbols_of p u)) kind (pattern_term p) (entry_term u) solution
     (renamed_made P Q of_pattern p (all_from P (symbols p) (λ s a. among_front (symbols p) (symbols u) s a)) (all_from (λ x. Q (of_pattern x)) (variables p) (λ x a. a)))

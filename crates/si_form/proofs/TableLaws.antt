@@ -1,24 +1,12 @@
 -- Numbers of a table, and of a query behind them.
-use Rattle.std.proofs.Common.{◌≡◌, ◌⊎◌, ℕ, ◌*◌, Bool, true, false, cond, [], ◌∷◌, ◌++◌, inl, inr, refl, sym, ◌∙◌, ap, subst, arith}
-use Rattle.std.specs.List.{AllByRecursion}
-use Rattle.si_defs.specs.Bytes.{Bytes}
-use Rattle.si_defs.specs.Terms as terms
-use Rattle.si_defs.specs.Terms.{var, app, none, more, variables, symbols, symbols_of_all, rename, rename_all}
+use Rattle.std.proofs.Common.{◌≡◌, ℕ, ◌*◌, Bool, true, false, cond, [], ◌∷◌, ◌++◌, inl, inr, refl, sym, ◌∙◌, ap, subst, arith}
+use Rattle.si_defs.specs.Terms.{symbols}
 use Rattle.si_defs.specs.Symbols.{Symbol, Numbering, IsNumbering, same_symbol}
-use Rattle.si_defs.specs.Clauses.{Term, Terms, IsSoundTerm, AreSoundTerms}
 use Rattle.si_defs.specs.Substitutions.{IsAmong}
-use Rattle.si_defs.specs.declared.Side.{Side}
-use Rattle.si_defs.specs.declared.Side.TheVariants.{Predicate, Function}
-use Rattle.si_defs.specs.Variables.{Variable, of_pattern, of_entry, pattern_term, entry_term, Solution}
-use Rattle.si_flat.specs.Cells as cells
-use Rattle.si_flat.specs.Numbered.{number_in, one_above, signed, numbered, all_numbered}
-use Rattle.si_form.specs.Numberings.{list_by, symbols_of, IsVariableOf}
-use Rattle.si_form.specs.SolutionParts.{SolutionsAreOfTerms, HasFunctionsAlone, PredicatesStayOut, SignsStayOut, AreQueryNumbers, NumbersTellApart, EntriesNeedTheTableAlone}
-use Rattle.si_form.proofs.CanonicalLaws.{all_at, all_from, all_front, all_back, among_parts, among_front, among_back}
-use Rattle.si_form.proofs.UnifierLaws.{among_tells}
-use Rattle.si_form.proofs.Translating.{IsMadeOf, AreMadeOf, symbols_made, variable_made, renamed_made}
-use Rattle.si_form.proofs.MadeLaws.{IsListOf, canonical_made, canonical_made_inside}
-use Rattle.si_form.proofs.Vocabularies.{with_texts, symbol_tells, symbol_itself}
+use Rattle.si_flat.specs.Numbered.{number_in, one_above, signed}
+use Rattle.si_form.specs.TableNumbers.{AreQueryNumbers, NumbersTellApart, EntriesNeedTheTableAlone}
+use Rattle.si_form.proofs.CanonicalLaws.{all_from, among_parts}
+use Rattle.si_form.proofs.Vocabularies.{symbol_tells, symbol_itself}
 use Rattle.si_form.proofs.SolutionLaws.{numbered_same}
 
 number_among : (pairs : Numbering) (s : Symbol) (n : ℕ) → IsAmong pairs (s, n) → IsAmong pairs (s, number_in pairs s)

@@ -5,7 +5,7 @@ ghost use Rattle.si_form.specs.Numberings.{RelationsAreKept, PlacesAreFree};
 ghost use Rattle.si_form.specs.Numberings.{AnswersAreKept, SignsAreTold, SidesAreTold};
 ghost use Rattle.si_form.specs.SolutionParts.{SolutionsAreOfTerms, PredicatesStayOut};
 ghost use Rattle.si_form.specs.SolutionParts.{SignsStayOut, AtomsAreAnswered};
-ghost use Rattle.si_form.specs.SolutionParts.{NumbersTellApart, EntriesNeedTheTableAlone};
+ghost use Rattle.si_form.specs.TableNumbers.{NumbersTellApart, EntriesNeedTheTableAlone};
 
 /// Of each relation there is one canonical list at most.
 pub fn canonical_lists_are_unique()

@@ -24,11 +24,19 @@ module _ {X : Type 0} where
   all_back P [] ys h = h
   all_back P (x ∷ xs) ys h = all_back P xs ys h.1
 
-  all_append : (P : X → Type 0) (xs ys : List X) → AllByRecursion P xs → AllByRecursion P ys → AllByRecursion P (xs ++ ys)
+  pub all_append : (P : X → Type 0) (xs ys : List X) → AllByRecursion P xs → AllByRecursion P ys → AllByRecursion P (xs ++ ys)
   all_append P [] ys h k = k
   all_append P (x ∷ xs) ys h k = (h.0, all_append P xs ys h.1 k)
 
-  among_parts : (xs ys : List X) (x : X) → IsAmong (xs ++ ys) x → IsAmong xs x ⊎ IsAmong ys x
+  pub among_front : (xs ys : List X) (x : X) → IsAmong xs x → IsAmong (xs ++ ys) x
+  among_front [] ys x a = elim a [ ]
+  among_front (z ∷ xs) ys x a = elim a [ inl e ↦ inl e | inr b ↦ inr (among_front xs ys x b) ]
+
+  pub among_back : (xs ys : List X) (x : X) → IsAmong ys x → IsAmong (xs ++ ys) x
+  among_back [] ys x a = a
+  among_back (z ∷ xs) ys x a = inr (among_back xs ys x a)
+
+  pub among_parts : (xs ys : List X) (x : X) → IsAmong (xs ++ ys) x → IsAmong xs x ⊎ IsAmong ys x
   among_parts [] ys x a = inr a
   among_parts (y ∷ xs) ys x a =
       elim a [
@@ -124,7 +132,7 @@ module _ {S V : Type 0} where
 
 -- ---- first occurrences
 module _ {V : Type 0} (same : V → V → Bool) (tells : (x y : V) → same x y ≡ true → x ≡ y) (itself : (x : V) → same x x ≡ true) where
-  firsts_among : (xs : List V) (x : V) → IsAmong (firsts same xs) x → IsAmong xs x
+  pub firsts_among : (xs : List V) (x : V) → IsAmong (firsts same xs) x → IsAmong xs x
   firsts_among [] x a = a
   firsts_among (y ∷ xs) x a =
       elim a [
@@ -132,14 +140,14 @@ module _ {V : Type 0} (same : V → V → Bool) (tells : (x y : V) → same x y 
         | inr b ↦ inr (firsts_among xs x (among_filter (λ z. not (same y z)) (firsts same xs) x b).0)
       ]
 
-  distinct_firsts : (xs : List V) → AreDistinct (firsts same xs)
+  pub distinct_firsts : (xs : List V) → AreDistinct (firsts same xs)
   distinct_firsts [] = tt
   distinct_firsts (x ∷ xs) = (
     λ a. let bad : false ≡ true = sym (ap not (itself x)) ∙ (among_filter (λ z. not (same x z)) (firsts same xs) x a).1 in cc,
     distinct_filter (λ z. not (same x z)) (firsts same xs) (distinct_firsts xs),
   )
 
-  differs : (x y : V) → (x ≡ y → ⊥) → same x y ≡ false
+  pub differs : (x y : V) → (x ≡ y → ⊥) → same x y ≡ false
   differs x y apart = by (same x y) refl
     where
       by : (b : Bool) → same x y ≡ b → same x y ≡ false
@@ -148,10 +156,10 @@ module _ {V : Type 0} (same : V → V → Bool) (tells : (x y : V) → same x y 
 
 -- ---- lists of bindings, where `same` tells variables apart
 module _ {S V : Type 0} (same : V → V → Bool) (tells : (x y : V) → same x y ≡ true → x ≡ y) (itself : (x : V) → same x x ≡ true) where
-  image_first : (x : V) (u : Term S V) (bs : List (V × Term S V)) → image same ((x, u) ∷ bs) x ≡ u
+  pub image_first : (x : V) (u : Term S V) (bs : List (V × Term S V)) → image same ((x, u) ∷ bs) x ≡ u
   image_first x u bs = ap (λ b. cond b u (image same bs x)) (itself x)
 
-  image_other : (x y : V) (u : Term S V) (bs : List (V × Term S V)) → (x ≡ y → ⊥) → image same ((x, u) ∷ bs) y ≡ image same bs y
+  pub image_other : (x y : V) (u : Term S V) (bs : List (V × Term S V)) → (x ≡ y → ⊥) → image same ((x, u) ∷ bs) y ≡ image same bs y
   image_other x y u bs apart = ap (λ b. cond b u (image same bs y)) (differs same tells itself x y apart)
 
   untouched : (bs : List (V × Term S V)) (y : V) → (IsAmong (lefts bs) y → ⊥) → image same bs y ≡ var y

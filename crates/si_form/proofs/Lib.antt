@@ -6,3 +6,14 @@ pub mod CanonicalLaws
 pub mod AnswerLaws
 pub mod TestTerms
 pub mod UnifierLaws
+pub mod Translating
+pub mod Carrying
+pub mod MadeLaws
+pub mod Moving
+pub mod LeadersThere
+pub mod CanonicalThere
+pub mod Vocabularies
+pub mod SignLaws
+pub mod NumberingLaws
+pub mod SolutionLaws
+pub mod TableLaws

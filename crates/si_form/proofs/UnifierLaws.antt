@@ -4,7 +4,7 @@ use Rattle.std.specs.List.{AllByRecursion}
 use Rattle.si_defs.specs.Terms.{Term, Terms, var, app, none, more, variables, variables_of_all, substitute, substitute_all}
 use Rattle.si_defs.specs.Substitutions.{Substitution, image, apply, lefts, rights, IsAmong}
 use Rattle.si_defs.specs.Relations.{Unifies}
-use Rattle.si_defs.specs.Solutions.{bind, in_sequence, IsTriangular, IsMostGeneral, order, AreJoined, IsFirstOf, IsLeader, IsFolded, AreFolded, IsFoldedInside, IsOrdered, IsCanonicalUnifier}
+use Rattle.si_defs.specs.Solutions.{bind, in_sequence, IsTriangular, order, AreJoined, IsLeader, IsFolded, AreFolded, IsFoldedInside, IsOrdered, IsCanonicalUnifier}
 use Rattle.si_form.proofs.CanonicalLaws.{all_at, all_from, all_front, all_back, stays, twice}
 
 -- ---- the first of a list with a property
@@ -17,11 +17,11 @@ first_unique P Q (z ∷ b1) a1 (w ∷ b2) a2 x y e p q h k to from =
     first_unique P Q b1 a1 b2 a2 x y rest p q h.1 k.1 to from
 
 -- ---- pairs of a list
-left_among : {S V : Type 0} (bs : List (V × Term S V)) (p : V × Term S V) → IsAmong bs p → IsAmong (lefts bs) p.0
+pub left_among : {S V : Type 0} (bs : List (V × Term S V)) (p : V × Term S V) → IsAmong bs p → IsAmong (lefts bs) p.0
 left_among [] p a = elim a [ ]
 left_among (b ∷ bs) p a = elim a [ inl e ↦ inl (ap (λ x. x.0) e) | inr k ↦ inr (left_among bs p k) ]
 
-right_among : {S V : Type 0} (bs : List (V × Term S V)) (p : V × Term S V) → IsAmong bs p → IsAmong (rights bs) p.1
+pub right_among : {S V : Type 0} (bs : List (V × Term S V)) (p : V × Term S V) → IsAmong bs p → IsAmong (rights bs) p.1
 right_among [] p a = elim a [ ]
 right_among (b ∷ bs) p a = elim a [ inl e ↦ inl (ap (λ x. x.1) e) | inr k ↦ inr (right_among bs p k) ]
 
@@ -42,7 +42,7 @@ pair_of_right (b ∷ bs) t a =
     ]
 
 module _ {V : Type 0} (same : V → V → Bool) (tells : (x y : V) → same x y ≡ true → x ≡ y) (itself : (x : V) → same x x ≡ true) where
-  among_tells : (xs : List V) (x : V) → IsAmong xs x ⊎ (IsAmong xs x → ⊥)
+  pub among_tells : (xs : List V) (x : V) → IsAmong xs x ⊎ (IsAmong xs x → ⊥)
   among_tells [] x = inr (λ a. elim a [ ])
   among_tells (y ∷ ys) x = by (same y x) refl (among_tells ys x)
     where
@@ -82,11 +82,11 @@ module _ {S V : Type 0} (same : V → V → Bool) (tells : (x y : V) → same x 
       ]
 
   -- ---- one after the other as one map
-  abbrev sequence_map : List (V × Term S V) → Substitution S V
+  abbrev pub sequence_map : List (V × Term S V) → Substitution S V
   sequence_map [] = []
   sequence_map (b ∷ bs) = (b.0, in_sequence same bs b.1) ∷ sequence_map bs
 
-  sequence_is : (bs : List (V × Term S V)) (t : Term S V) → in_sequence same bs t ≡ apply same (sequence_map bs) t
+  pub sequence_is : (bs : List (V × Term S V)) (t : Term S V) → in_sequence same bs t ≡ apply same (sequence_map bs) t
   sequence_is [] t = sym (stays (image same []) t (all_from (λ x. var x ≡ var x) (variables t) (λ x a. refl)))
   sequence_is (b ∷ bs) t =
       sequence_is bs (bind same b.0 b.1 t)

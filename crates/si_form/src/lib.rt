@@ -13,5 +13,8 @@ mod solution;
 mod tests;
 
 pub use canonical::{generalization, instance, variant};
-pub use laws::canonical_lists_are_unique;
+pub use laws::{
+    canonical_lists_are_unique, numbers_keep_answers, numbers_keep_relations,
+    numbers_tell_symbols_apart, solutions_are_of_their_terms,
+};
 pub use solution::{Binding, Owner, Solution};

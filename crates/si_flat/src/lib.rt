@@ -7,6 +7,12 @@
 ghost use Rattle.std.specs.Prelude.{◌≡◌, ◌<◌, IfOk, length, take, drop};
 ghost use Rattle.si_flat.specs.Cells.{IsWhole, span};
 
+mod flatten;
+mod met;
+mod walk;
+
+pub use flatten::{FlatQuery, flatten_entry, flatten_pattern};
+pub use si_defs::Relation as Kind;
 use std::alloc::{AllocError, Global};
 use std::marker::Model;
 

@@ -1,0 +1,85 @@
+// Entries and patterns as flat terms.
+ghost use Rattle.std.specs.Prelude.{◌≤◌, IfOk};
+ghost use Rattle.si_defs.specs.Terms.{size};
+ghost use Rattle.si_defs.specs.Clauses.{IsSoundPattern};
+ghost use Rattle.si_defs.specs.declared.TheConstants.{MOST_OCCURRENCES};
+ghost use Rattle.si_term.specs.Terms.{term_of};
+ghost use Rattle.si_term.specs.Meaning.{entry_of, pattern_of};
+ghost use Rattle.si_flat.specs.Flattened.{IsSoundEntry, FlattensEntry, FlattensPattern, is_positive, whole_of};
+ghost use Rattle.si_flat.specs.Flattening.{Writes};
+
+use crate::Flat;
+use crate::met::Met;
+use crate::walk::{Owner, Role, Written, write_term};
+use si_term::{Entry, Pattern, SymTable, Syms, Term};
+use std::alloc::{AllocError, Global};
+
+/// The flat term of a pattern.
+#[derive(Drop)]
+pub struct FlatQuery {
+    pub flat: Flat,
+    /// The symbols that the table lacks, each once, in the order of their first occurrence. The
+    /// one at place `k` has the number `2_147_483_648 + 2 * k`.
+    pub extra: Syms,
+}
+
+/// The flat term of an entry, with the table's numbers for its symbols. Its variables are numbered
+/// from 0 in the order of their first occurrence. `None` where the table lacks a symbol.
+///
+/// The predicate of a negative literal has the number that is one above.
+pub fn flatten_entry<T: SymTable>(
+    alloc: Global,
+    table: &T,
+    entry: Entry<'_>,
+) -> Result<Option<Flat>, AllocError>
+    requires { IsSoundEntry (entry_of entry) }
+    ensures { IfOk result (FlattensEntry (T.pairs table.now) (entry_of entry.entry)) }
+{
+    let written = write_entry(alloc, table, Owner::Entry, entry)?;
+    if written.met.has_extra() {
+        return Ok(None);
+    }
+    Ok(Some(Flat {
+        cells: written.cells,
+    }))
+}
+
+/// The flat term of a pattern, numbered in the same way, as a query's. Symbols that the table lacks
+/// have numbers of their own.
+pub fn flatten_pattern<T: SymTable>(
+    alloc: Global,
+    table: &T,
+    pattern: &Pattern,
+) -> Result<FlatQuery, AllocError>
+    requires { IsSoundPattern (pattern_of pattern.now) }
+    ensures { IfOk result (FlattensPattern (T.pairs table.now) (pattern_of pattern.now)) }
+{
+    let written = write_entry(alloc, table, Owner::Query, pattern.as_entry())?;
+    let extra = written.met.extra_symbols(alloc)?;
+    Ok(FlatQuery {
+        flat: Flat {
+            cells: written.cells,
+        },
+        extra,
+    })
+}
+
+// The cells of an entry, and what was met.
+fn write_entry<'a, T: SymTable>(
+    alloc: Global,
+    table: &T,
+    owner: Owner,
+    entry: Entry<'a>,
+) -> Result<Written<'a>, AllocError>
+    requires { size (whole_of (entry_of entry)) ≤ MOST_OCCURRENCES }
+    ensures { IfOk result (Writes (T.pairs table.now) owner (entry_of entry.entry)) }
+{
+    let (positive, term) = match entry {
+        Entry::Lit(literal) => (literal.positive, &literal.atom),
+        Entry::Sub(term) => (true, term),
+    };
+    let mut met = Met::new(alloc);
+    let mut cells = Vec::new(alloc);
+    write_term(table, Role { positive, owner }, term, &mut met, &mut cells)?;
+    Ok(Written { met, cells })
+}

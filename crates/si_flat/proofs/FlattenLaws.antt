@@ -1,6 +1,7 @@
 -- The cells of an entry stand for its numbered term.
-use Rattle.std.proofs.Common.{◌≡◌, ℕ, ◌+◌, Bool, ◌==◌, List, [], ◌∷◌, ◌++◌, map, refl, ap, subst, sym, ◌∙◌, append-nil}
-use Rattle.std.specs.Prelude.{bytes_eq}
+use Rattle.std.proofs.Common.{◌≡◌, ℕ, ◌+◌, ◌≤◌, Bool, ◌==◌, List, [], ◌∷◌, ◌++◌, length, map, refl, ap, subst, sym, ◌∙◌, arith, append-nil}
+use Rattle.std.specs.Prelude.{bytes_eq, Some}
+use Rattle.si_defs.specs.declared.TheConstants.{MOST_OCCURRENCES}
 use Rattle.std.proofs.lemmas.Slice.Eq.{bytes_eq-Decides}
 use Rattle.si_defs.specs.Bytes.{Bytes}
 use Rattle.si_defs.specs.Terms as terms
@@ -15,9 +16,10 @@ use Rattle.si_flat.specs.declared.walk.Owner.TheVariants.{Query, Entry}
 use Rattle.si_flat.specs.declared.walk.Written.{Written}
 use Rattle.si_flat.specs.Cells.{Variable, query, same_variable, cells_of, IsSound, AreSound}
 use Rattle.si_flat.specs.Numbered.{number_in, signed, place_in, numbered, all_numbered}
-use Rattle.si_flat.specs.Flattened.{extra_numbers, unnumbered, whole_of, is_positive, IsSoundEntry, numbered_entry, IsNumberedBy, IsFlatOf, FlattensPattern}
-use Rattle.si_flat.specs.Flattening.{variable_of, names_of, extra_of, number_by, Writes}
-use Rattle.si_flat.proofs.Inserted.{inserted-firsts}
+use Rattle.si_flat.specs.Flattened.{extra_numbers, unnumbered, whole_of, is_positive, IsSoundEntry, numbered_entry, IsNumberedBy, IsFlatOf, FlattensPattern, FillsLiteral}
+use Rattle.si_flat.specs.Flattening.{variable_of, names_of, extra_of, number_by, State, state, nothing, term_piece, Flattens, Writes}
+use Rattle.si_flat.proofs.Inserted.{inserted-firsts, inserted_length}
+use Rattle.si_flat.proofs.Walking.{variables_few}
 use Rattle.si_flat.proofs.Keys.{symbol-Decides}
 use Rattle.si_flat.proofs.FirstPlaces.{numbered_by}
 
@@ -104,3 +106,29 @@ pattern_written pairs p e w extra is sound h copied =
       extra = copied ∙ extra_written pairs Query (entries.pattern_entry p) w own;
       flat = subst (λ ss. IsFlatOf (pairs ++ extra_numbers ss) query (entries.pattern_entry p) w.cells.items) (sym copied) flat;
     }
+
+-- ---- a literal's atom in a buffer
+pub literal_written : (pairs : Numbering) (l : clauses.Literal) (old : State) (w : Written)
+    → old.names ≡ []
+    → old.extra ≡ []
+    → old.cells ≡ []
+    → Flattens pairs (record { positive = l.positive; owner = Entry }) old (state w.met w.cells.items) (term_piece l.atom)
+    → Writes pairs Entry (entries.literal_entry l) w
+literal_written pairs l old w names extra cells h =
+    let none : old ≡ nothing = λ i. record { names = names i; extra = extra i; cells = cells i } in
+    subst (λ s. Flattens pairs (record { positive = l.positive; owner = Entry }) s (state w.met w.cells.items) (term_piece l.atom)) none h
+
+pub names_few : (pairs : Numbering) (l : clauses.Literal) (w : Written) → IsSoundEntry (entries.literal_entry l) → Writes pairs Entry (entries.literal_entry l) w → length (names_of w.met) ≤ MOST_OCCURRENCES
+names_few pairs l w sound h = omega (arith, ap length h.names, inserted_length bytes_eq [] (terms.variables l.atom), variables_few l.atom, sound.1)
+
+pub literal_filled : (pairs : Numbering) (l : clauses.Literal) (w : Written) (n : ℕ)
+    → IsSoundEntry (entries.literal_entry l)
+    → Writes pairs Entry (entries.literal_entry l) w
+    → extra_of w.met ≡ []
+    → n ≡ length (names_of w.met)
+    → FillsLiteral pairs l w.cells.items (Some n)
+literal_filled pairs l w n sound h none counted = (
+  all_numbered_of pairs Entry (entries.literal_entry l) w h none,
+  flat_known pairs Entry (entries.literal_entry l) w sound h none,
+  counted ∙ ap length (h.names ∙ inserted-firsts bytes_eq bytes_eq-Decides (terms.variables l.atom)),
+)

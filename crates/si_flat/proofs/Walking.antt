@@ -1,5 +1,5 @@
 -- Walks over terms, one after the other.
-use Rattle.std.proofs.Common.{◌≡◌, ℕ, ◌+◌, ◌-◌, ◌≤◌, Bool, true, false, cond, not, List, [], ◌∷◌, ◌++◌, length, refl, ap, sym, ◌∙◌, arith, append_assoc, append-nil, length-append}
+use Rattle.std.proofs.Common.{◌≡◌, ℕ, ◌+◌, ◌-◌, ◌≤◌, Bool, true, false, cond, not, List, [], ◌∷◌, ◌++◌, length, refl, ap, sym, ◌∙◌, arith, subst, append_assoc, append-nil, length-append}
 use Rattle.std.specs.Prelude.{bytes_eq, slice_set}
 use Rattle.std.proofs.Math.Seq.{set-append_seam}
 use Rattle.indexmap.specs.IndexSet.{insert_all}
@@ -20,7 +20,7 @@ use Rattle.si_flat.proofs.Inserted.{inserted-append, inserted_extends, inserted_
 
 -- ---- how many
 mutual
-  variables_few : (t : clauses.Term) → length (terms.variables t) ≤ terms.size t
+  pub variables_few : (t : clauses.Term) → length (terms.variables t) ≤ terms.size t
   variables_few (terms.var x) = omega arith
   variables_few (terms.app s ts) = omega (arith, all_variables_few ts)
 
@@ -167,7 +167,7 @@ module _ (pairs : Numbering) (role : Role) where
       omega (arith, length_after b c ts walked, ap length cells_are, length-append cs (first ∷ []))
 
   -- a symbol, whose cell is put before its arguments when they have been written
-  pub flattens_app : (a b c : State) (s : Symbol) (ts : clauses.Terms) (first : Cell) (n at m : ℕ)
+  app_placed : (a b c : State) (s : Symbol) (ts : clauses.Terms) (first : Cell) (n at m : ℕ)
       → b.names ≡ a.names
       → b.extra ≡ insert_all same_symbol a.extra (unnumbered pairs (s ∷ []))
       → IsNumber pairs role.positive b.extra s n
@@ -176,7 +176,7 @@ module _ (pairs : Numbering) (role : Role) where
       → at ≡ length a.cells
       → m ≡ length c.cells - at
       → Flattens pairs role a (record { names = c.names; extra = c.extra; cells = slice_set c.cells at (cell.App n s.arity m) }) (term_piece (terms.app s ts))
-  flattens_app a b c s ts first n at m names_are extra_is number cells_are walked at_is m_is = record {
+  app_placed a b c s ts first n at m names_are extra_is number cells_are walked at_is m_is = record {
     names = walked.names ∙ ap (λ l. insert_all bytes_eq l (terms.variables_of_all ts)) names_are;
     extra =
         walked.extra
@@ -196,3 +196,21 @@ module _ (pairs : Numbering) (role : Role) where
         (λ i. slice_set (all i) (at_is i) (cell.App (is_number i) s.arity (is_length i)))
         ∙ set-append_seam a.cells first (cells_of_all us) (cell.App (f s) s.arity (1 + terms.sizes us));
   }
+
+  -- the same of a term and of cells that are told by equations
+  pub flattens_app : (a b c : State) (s : Symbol) (ts : clauses.Terms) (first : Cell) (n at m : ℕ)
+      → b.names ≡ a.names
+      → b.extra ≡ insert_all same_symbol a.extra (unnumbered pairs (s ∷ []))
+      → IsNumber pairs role.positive b.extra s n
+      → b.cells ≡ a.cells ++ first ∷ []
+      → Flattens pairs role b c (terms_piece ts)
+      → at ≡ length a.cells
+      → m ≡ length c.cells - at
+      → (t : clauses.Term) (ds : List Cell)
+      → t ≡ terms.app s ts
+      → ds ≡ slice_set c.cells at (cell.App n s.arity m)
+      → Flattens pairs role a (record { names = c.names; extra = c.extra; cells = ds }) (term_piece t)
+  flattens_app a b c s ts first n at m names_are extra_is number cells_are walked at_is m_is t ds is placed =
+      let told = app_placed a b c s ts first n at m names_are extra_is number cells_are walked at_is m_is in
+      let closed = subst (λ cs. Flattens pairs role a (record { names = c.names; extra = c.extra; cells = cs }) (term_piece (terms.app s ts))) (sym placed) told in
+      subst (λ u. Flattens pairs role a (record { names = c.names; extra = c.extra; cells = ds }) (term_piece u)) (sym is) closed

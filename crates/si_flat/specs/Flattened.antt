@@ -1,5 +1,5 @@
 -- What the flat terms of entries and of patterns stand for.
-use Rattle.std.specs.Prelude.{◌≡◌, ℕ, zero, suc, ◌+◌, ◌^◌, ◌≤◌, Bool, true, false, not, ◌||◌, List, [], ◌∷◌, ◌++◌, map, filter, bytes_eq, Option, Some, None}
+use Rattle.std.specs.Prelude.{◌≡◌, ℕ, zero, suc, ◌+◌, ◌^◌, ◌≤◌, Bool, true, false, not, ◌||◌, List, [], ◌∷◌, ◌++◌, length, map, filter, bytes_eq, Option, Some, None}
 use Rattle.si_defs.specs.Terms.{size, variables, symbols, firsts}
 use Rattle.si_defs.specs.Symbols.{Symbol, Numbering, same_symbol}
 use Rattle.si_defs.specs.Clauses as clauses
@@ -75,3 +75,12 @@ FlattensEntry pairs e (Some cells) = (unnumbered pairs (symbols (whole_of e)) �
 pub record FlattensPattern (pairs : Numbering) (p : clauses.Pattern) (q : FlatQuery) : Type 0 where
   pub extra : map symbol_of q.extra ≡ firsts same_symbol (unnumbered pairs (symbols (whole_of (pattern_entry p))))
   pub flat : IsFlatOf (pairs ++ extra_numbers (map symbol_of q.extra)) query (pattern_entry p) q.flat
+
+-- The cells are those of the literal's term, where each of its symbols has a number, and else there
+-- are none. Its variables are so many.
+abbrev pub FillsLiteral : Numbering → clauses.Literal → List Cell → Option ℕ → Type 0
+FillsLiteral pairs l cells None = (unnumbered pairs (symbols l.atom) ≡ [] → ⊥) × (cells ≡ [])
+FillsLiteral pairs l cells (Some n) =
+    (unnumbered pairs (symbols l.atom) ≡ [])
+    × IsFlatOf pairs entry (literal_entry l) cells
+    × (n ≡ length (firsts bytes_eq (variables l.atom)))

@@ -1,17 +1,17 @@
 // Entries and patterns as flat terms.
-ghost use Rattle.std.specs.Prelude.{◌≤◌, IfOk};
+ghost use Rattle.std.specs.Prelude.{◌≡◌, ◌≤◌, [], IfOk, OnErr};
 ghost use Rattle.si_defs.specs.Terms.{size};
 ghost use Rattle.si_defs.specs.Clauses.{IsSoundPattern};
+ghost use Rattle.si_defs.specs.Entries.{literal_entry};
 ghost use Rattle.si_defs.specs.declared.TheConstants.{MOST_OCCURRENCES};
-ghost use Rattle.si_term.specs.Terms.{term_of};
-ghost use Rattle.si_term.specs.Meaning.{entry_of, pattern_of};
-ghost use Rattle.si_flat.specs.Flattened.{IsSoundEntry, FlattensEntry, FlattensPattern, is_positive, whole_of};
+ghost use Rattle.si_term.specs.Meaning.{literal_of, entry_of, pattern_of};
+ghost use Rattle.si_flat.specs.Flattened.{IsSoundEntry, FlattensEntry, FlattensPattern, FillsLiteral, whole_of};
 ghost use Rattle.si_flat.specs.Flattening.{Writes};
 
-use crate::Flat;
 use crate::met::Met;
 use crate::walk::{Owner, Role, Written, write_term};
-use si_term::{Entry, Pattern, SymTable, Syms, Term};
+use crate::{Cell, Flat};
+use si_term::{Entry, Literal, Pattern, SymTable, Syms};
 use std::alloc::{AllocError, Global};
 
 /// The flat term of a pattern.
@@ -62,6 +62,42 @@ pub fn flatten_pattern<T: SymTable>(
         },
         extra,
     })
+}
+
+/// Fills a buffer with the cells of a literal's atom, numbered as an entry's. The subterms of the
+/// literal are slices of it, which [`sub`](crate::sub) gives, so a scan flattens each literal once.
+///
+/// It answers the number of the literal's variables; `None` where the table lacks a symbol. The
+/// buffer is empty then, and at an error.
+pub fn flatten_literal<T: SymTable>(
+    alloc: Global,
+    table: &T,
+    literal: &Literal,
+    cells: &mut Vec<Cell>,
+) -> Result<Option<u32>, AllocError>
+    requires { IsSoundEntry (literal_entry (literal_of literal.now)) }
+    ensures fills { IfOk result (FillsLiteral (T.pairs table.now) (literal_of literal.now)
+        cells.new.items) }
+    ensures err { OnErr result (cells.new.items ≡ []) }
+{
+    let role = Role {
+        positive: literal.positive,
+        owner: Owner::Entry,
+    };
+    let mut met = Met::new(alloc);
+    cells.clear();
+    match write_term(table, role, &literal.atom, &mut met, cells) {
+        Ok(()) => {}
+        Err(error) => {
+            cells.clear();
+            return Err(error);
+        }
+    }
+    if met.has_extra() {
+        cells.clear();
+        return Ok(None);
+    }
+    Ok(Some(met.variable_count()))
 }
 
 // The cells of an entry, and what was met.

@@ -11,7 +11,7 @@ mod flatten;
 mod met;
 mod walk;
 
-pub use flatten::{FlatQuery, flatten_entry, flatten_pattern};
+pub use flatten::{FlatQuery, flatten_entry, flatten_literal, flatten_pattern};
 pub use si_defs::Relation as Kind;
 use std::alloc::{AllocError, Global};
 use std::marker::Model;

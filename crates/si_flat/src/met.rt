@@ -1,5 +1,5 @@
 // The variables and symbols that a walk has met.
-ghost use Rattle.std.specs.Prelude.{◌≡◌, ◌<◌, ◌-◌, ◌^◌, ◌↔◌, [], ◌∷◌, IfOk, OnOk, IsFalse, length, map, cond, bytes_eq};
+ghost use Rattle.std.specs.Prelude.{◌≡◌, ◌<◌, ◌≤◌, ◌-◌, ◌^◌, ◌↔◌, [], ◌∷◌, IfOk, OnOk, IsFalse, length, map, cond, bytes_eq};
 ghost use Rattle.indexmap.specs.IndexSet.{insert_all};
 ghost use Rattle.si_defs.specs.Symbols.{same_symbol};
 ghost use Rattle.si_defs.specs.declared.TheConstants.{MOST_OCCURRENCES};
@@ -59,6 +59,14 @@ impl<'a> Met<'a> {
             names: IndexSet::new(alloc),
             extra: IndexSet::new(alloc),
         }
+    }
+
+    // How many variables were met.
+    pub(crate) fn variable_count(&self) -> u32
+        requires { length (names_of self.now) ≤ MOST_OCCURRENCES }
+        ensures { result ≡ length (names_of self.now) }
+    {
+        self.names.len() as u32
     }
 
     // Whether a symbol was met that isn't in the table.

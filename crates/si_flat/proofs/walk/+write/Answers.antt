@@ -39,15 +39,11 @@ write_term-returns-in_ok-write_terms-in-App g t c =
     let start = state c.args.met.now c.args.cells.now.items in
     let inside = state c.symbol.new.self c.push-in-App.new.self.items in
     let after = state c.write_terms.new.met c.write_terms.new.cells.items in
-    let last = state c.write_terms.new.met c.close.new.cells.items in
     let us = row (map term_of c.as_slice.result.now) in
-    let is : term_of c.args.term.now ≡ app (symbol_of c.in-App.symbol) us = app-term c.args.term.now c.in-App.symbol c.in-App.arguments c.as_slice.result.now c.in-App.is c.as_slice.ensures in
+    let is = app-term c.args.term.now c.in-App.symbol c.in-App.arguments c.as_slice.result.now c.in-App.is c.as_slice.ensures in
     let n = c.in_ok-number-in-App.number in
     let m = length c.write_terms.new.cells.items - c.len-at.result in
-    let walked =
-    flattens_app pairs c.args.role start inside after (symbol_of c.in-App.symbol) us (cell.App n c.in-App.symbol.arity 1) n c.len-at.result m c.in_ok-number-in-App.ensures.names c.in_ok-number-in-App.ensures.extra c.in_ok-number-in-App.ensures.number c.in_ok-push-in-App.ensures.items c.in_ok-write_terms-in-App.ensures (c.len-at.ensures ∙ c.args.cells.now.ok.0) refl in
-    let closed = subst (λ cs. Flattens pairs c.args.role start (state c.write_terms.new.met cs) (term_piece (app (symbol_of c.in-App.symbol) us))) (sym c.close.ensures) walked in
-    subst (λ u. Flattens pairs c.args.role start last (term_piece u)) (sym is) closed
+    flattens_app pairs c.args.role start inside after (symbol_of c.in-App.symbol) us (cell.App n c.in-App.symbol.arity 1) n c.len-at.result m c.in_ok-number-in-App.ensures.names c.in_ok-number-in-App.ensures.extra c.in_ok-number-in-App.ensures.number c.in_ok-push-in-App.ensures.items c.in_ok-write_terms-in-App.ensures (c.len-at.ensures ∙ c.args.cells.now.ok.0) refl (term_of c.args.term.now) c.close.new.cells.items is c.close.ensures
 
 pub write_terms-write_term-requires : goal.write_terms-write_term-requires
 write_terms-write_term-requires g t c =

@@ -5,3 +5,4 @@ pub mod Numbers
 pub mod Walking
 pub mod FirstPlaces
 pub mod FlattenLaws
+pub mod OneSymbol

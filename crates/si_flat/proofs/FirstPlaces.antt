@@ -16,7 +16,7 @@ use Rattle.si_flat.specs.Flattened.{counted_from, IsNumberedBy}
 
 module _ {V : Type 0} where
   -- members of a filtered list
-  among_filter : (p : V → Bool) (xs : List V) (y : V) → IsAmong (filter p xs) y → IsAmong xs y × (p y ≡ true)
+  pub among_filter : (p : V → Bool) (xs : List V) (y : V) → IsAmong (filter p xs) y → IsAmong xs y × (p y ≡ true)
   among_filter p [] y h = absurd h
   among_filter p (x ∷ xs) y h = by (p x) refl h (among_filter p xs y) where
     by : (b : Bool) → p x ≡ b → IsAmong (cond b (x ∷ filter p xs) (filter p xs)) y
@@ -26,7 +26,7 @@ module _ {V : Type 0} where
     by true e (inr h) later = let found = later h in (inr found.0, found.1)
     by false e h later = let found = later h in (inr found.0, found.1)
 
-  filter_among : (p : V → Bool) (xs : List V) (y : V) → IsAmong xs y → p y ≡ true → IsAmong (filter p xs) y
+  pub filter_among : (p : V → Bool) (xs : List V) (y : V) → IsAmong xs y → p y ≡ true → IsAmong (filter p xs) y
   filter_among p [] y h t = absurd h
   filter_among p (x ∷ xs) y (inl same) t = rw (ap p same ∙ t) (inl same)
   filter_among p (x ∷ xs) y (inr h) t = by (p x) (filter_among p xs y h t) where
@@ -55,7 +55,7 @@ module _ {V : Type 0} where
 
 module _ {V : Type 0} (same : V → V → Bool) (decides : (x y : V) → Decides (same x y) (x ≡ y)) where
   -- the first occurrences are the members
-  among_firsts : (xs : List V) (y : V) → IsAmong xs y → IsAmong (firsts same xs) y
+  pub among_firsts : (xs : List V) (y : V) → IsAmong xs y → IsAmong (firsts same xs) y
   among_firsts [] y h = absurd h
   among_firsts (x ∷ xs) y (inl e) = inl e
   among_firsts (x ∷ xs) y (inr h) = by (same x y) refl (among_firsts xs y h) where
@@ -63,13 +63,13 @@ module _ {V : Type 0} (same : V → V → Bool) (decides : (x y : V) → Decides
     by true e g = inl ((decides x y).0 e)
     by false e g = inr (filter_among (λ z. not (same x z)) (firsts same xs) y g (ap not e))
 
-  firsts_among : (xs : List V) (y : V) → IsAmong (firsts same xs) y → IsAmong xs y
+  pub firsts_among : (xs : List V) (y : V) → IsAmong (firsts same xs) y → IsAmong xs y
   firsts_among [] y h = h
   firsts_among (x ∷ xs) y (inl e) = inl e
   firsts_among (x ∷ xs) y (inr h) = inr (firsts_among xs y (among_filter (λ z. not (same x z)) (firsts same xs) y h).0)
 
   -- none of them comes again
-  abbrev AreApart : List V → Type 0
+  abbrev pub AreApart : List V → Type 0
   AreApart [] = Unit {0}
   AreApart (x ∷ xs) = ((y : V) → IsAmong xs y → same x y ≡ false) × AreApart xs
 
@@ -84,7 +84,7 @@ module _ {V : Type 0} (same : V → V → Bool) (decides : (x y : V) → Decides
     by true g = (λ y m. apart.0 y (among_filter p xs y m).0, g)
     by false g = g
 
-  firsts_apart : (xs : List V) → AreApart (firsts same xs)
+  pub firsts_apart : (xs : List V) → AreApart (firsts same xs)
   firsts_apart [] = tt
   firsts_apart (x ∷ xs) = (
     λ y m. not_true (same x y) (among_filter (λ z. not (same x z)) (firsts same xs) y m).1,

@@ -16,9 +16,10 @@ use Rattle.si_flat.specs.declared.walk.Owner.TheVariants.{Query, Entry}
 use Rattle.si_flat.specs.declared.walk.Written.{Written}
 use Rattle.si_flat.specs.Cells.{Variable, query, same_variable, cells_of, IsSound, AreSound}
 use Rattle.si_flat.specs.Numbered.{number_in, signed, place_in, numbered, all_numbered}
-use Rattle.si_flat.specs.Flattened.{extra_numbers, unnumbered, whole_of, is_positive, IsSoundEntry, numbered_entry, IsNumberedBy, IsFlatOf, FlattensPattern, FillsLiteral}
+use Rattle.si_flat.specs.Flattened.{extra_numbers, unnumbered, whole_of, is_positive, IsSoundEntry, numbered_entry, IsNumberedBy, IsFlatOf, IsQueryNumbering, FlattensPattern, FillsLiteral}
 use Rattle.si_flat.specs.Flattening.{variable_of, names_of, extra_of, number_by, State, state, nothing, term_piece, Flattens, Writes}
 use Rattle.si_flat.proofs.Inserted.{inserted-firsts, inserted_length}
+use Rattle.si_flat.proofs.ExtraNumbers.{all_have, extra_numbering}
 use Rattle.si_flat.proofs.Walking.{variables_few}
 use Rattle.si_flat.proofs.Keys.{symbol-Decides}
 use Rattle.si_flat.proofs.FirstPlaces.{numbered_by}
@@ -102,9 +103,13 @@ pub pattern_written : (pairs : Numbering) (p : clauses.Pattern) (e : entries.Ent
 pattern_written pairs p e w extra is sound h copied =
     let own : Writes pairs Query (entries.pattern_entry p) w = subst (λ k. Writes pairs Query k w) is h in
     let flat = flat_written pairs Query (entries.pattern_entry p) w (sound_pattern p sound) own in
+    let all = terms.symbols (whole_of (entries.pattern_entry p)) in
+    let lacks = copied ∙ extra_written pairs Query (entries.pattern_entry p) w own in
     record {
-      extra = copied ∙ extra_written pairs Query (entries.pattern_entry p) w own;
+      extra = lacks;
       flat = subst (λ ss. IsFlatOf (pairs ++ extra_numbers ss) query (entries.pattern_entry p) w.cells.items) (sym copied) flat;
+      complete = ap (λ ss. unnumbered (pairs ++ extra_numbers ss) all) lacks ∙ all_have pairs all;
+      numbering = λ numbering. subst (λ ss. IsQueryNumbering (pairs ++ extra_numbers ss)) (sym lacks) (extra_numbering pairs all numbering);
     }
 
 -- ---- a literal's atom in a buffer

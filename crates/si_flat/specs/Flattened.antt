@@ -1,12 +1,14 @@
 -- What the flat terms of entries and of patterns stand for.
-use Rattle.std.specs.Prelude.{◌≡◌, ℕ, zero, suc, ◌+◌, ◌^◌, ◌≤◌, Bool, true, false, not, ◌||◌, List, [], ◌∷◌, ◌++◌, length, map, filter, bytes_eq, Option, Some, None}
+use Rattle.std.specs.Prelude.{◌≡◌, ℕ, zero, suc, ◌+◌, ◌*◌, ◌^◌, ◌≤◌, Bool, true, false, not, ◌||◌, List, [], ◌∷◌, ◌++◌, length, map, filter, bytes_eq, Option, Some, None}
 use Rattle.si_defs.specs.Terms.{size, variables, symbols, firsts}
-use Rattle.si_defs.specs.Symbols.{Symbol, Numbering, same_symbol}
+use Rattle.si_defs.specs.Symbols.{Symbol, Numbering, IsNumbering, same_symbol}
+use Rattle.si_defs.specs.Substitutions.{IsAmong}
 use Rattle.si_defs.specs.Clauses as clauses
 use Rattle.si_defs.specs.Clauses.{IsSoundTerm, IsSoundLiteral, literal_size}
 use Rattle.si_defs.specs.Entries.{Entry, literal_entry, term_entry, entry_variables, pattern_entry}
 use Rattle.si_defs.specs.declared.TheConstants.{MOST_OCCURRENCES}
 use Rattle.si_term.specs.Terms.{symbol_of}
+use Rattle.si_term.specs.declared.term.Sym.{Sym}
 use Rattle.si_flat.specs.declared.Cell.{Cell}
 use Rattle.si_flat.specs.declared.flatten.FlatQuery.{FlatQuery}
 use Rattle.si_flat.specs.Cells.{Variable, query, entry, same_variable, Term, StandsFor}
@@ -24,6 +26,13 @@ extra_numbers ss = numbers_from (2 ^ 31) ss
 abbrev pub has_number : Numbering → Symbol → Bool
 has_number [] s = false
 has_number (pair ∷ pairs) s = same_symbol pair.0 s || has_number pairs s
+
+-- As in a table a symbol has one number, no two have the same, and all are even. But they may be
+-- larger.
+pub record IsQueryNumbering (pairs : Numbering) : Type 0 where
+  pub one_number : (s : Symbol) (m n : ℕ) → IsAmong pairs (s, m) → IsAmong pairs (s, n) → m ≡ n
+  pub one_symbol : (s r : Symbol) (n : ℕ) → IsAmong pairs (s, n) → IsAmong pairs (r, n) → s ≡ r
+  pub even : (s : Symbol) (n : ℕ) → IsAmong pairs (s, n) → (half : ℕ) × (n ≡ 2 * half)
 
 -- those of the symbols that have no number
 abbrev pub unnumbered : Numbering → List Symbol → List Symbol
@@ -71,10 +80,17 @@ abbrev pub FlattensEntry : Numbering → Entry → Option (List Cell) → Type 0
 FlattensEntry pairs e None = unnumbered pairs (symbols (whole_of e)) ≡ [] → ⊥
 FlattensEntry pairs e (Some cells) = (unnumbered pairs (symbols (whole_of e)) ≡ []) × IsFlatOf pairs entry e cells
 
--- Each of the symbols that have no number comes once, and they are numbered behind the others.
+-- a table's pairs, and then those of the symbols that it lacks
+abbrev pub query_numbers : Numbering → List Sym → Numbering
+query_numbers pairs extra = pairs ++ extra_numbers (map symbol_of extra)
+
+-- Each of the symbols that have no number comes once, and they are numbered behind the others. All
+-- symbols have numbers then.
 pub record FlattensPattern (pairs : Numbering) (p : clauses.Pattern) (q : FlatQuery) : Type 0 where
   pub extra : map symbol_of q.extra ≡ firsts same_symbol (unnumbered pairs (symbols (whole_of (pattern_entry p))))
-  pub flat : IsFlatOf (pairs ++ extra_numbers (map symbol_of q.extra)) query (pattern_entry p) q.flat
+  pub flat : IsFlatOf (query_numbers pairs q.extra) query (pattern_entry p) q.flat
+  pub complete : unnumbered (query_numbers pairs q.extra) (symbols (whole_of (pattern_entry p))) ≡ []
+  pub numbering : IsNumbering pairs → IsQueryNumbering (query_numbers pairs q.extra)
 
 -- The cells are those of the literal's term, where each of its symbols has a number, and else there
 -- are none. Its variables are so many.

@@ -16,10 +16,11 @@ use Rattle.si_flat.specs.declared.walk.Owner.TheVariants.{Query, Entry}
 use Rattle.si_flat.specs.declared.walk.Written.{Written}
 use Rattle.si_flat.specs.Cells.{Variable, query, same_variable, cells_of, IsSound, AreSound}
 use Rattle.si_flat.specs.Numbered.{number_in, signed, place_in, numbered, all_numbered}
-use Rattle.si_flat.specs.Flattened.{extra_numbers, unnumbered, whole_of, is_positive, IsSoundEntry, numbered_entry, IsNumberedBy, IsFlatOf, IsQueryNumbering, FlattensPattern, FillsLiteral}
+use Rattle.si_flat.specs.Flattened.{extra_numbers, unnumbered, whole_of, is_positive, IsSoundEntry, numbered_entry, IsNumberedBy, IsFlatOf, IsQueryNumbering, FlattensPattern, symbol_slices, FillsLiteral}
 use Rattle.si_flat.specs.Flattening.{variable_of, names_of, extra_of, number_by, State, state, nothing, term_piece, Flattens, Writes}
 use Rattle.si_flat.proofs.Inserted.{inserted-firsts, inserted_length}
 use Rattle.si_flat.proofs.ExtraNumbers.{all_have, extra_numbering}
+use Rattle.si_flat.proofs.Slices.{slices-numbered}
 use Rattle.si_flat.proofs.Walking.{variables_few}
 use Rattle.si_flat.proofs.Keys.{symbol-Decides}
 use Rattle.si_flat.proofs.FirstPlaces.{numbered_by}
@@ -132,8 +133,11 @@ pub literal_filled : (pairs : Numbering) (l : clauses.Literal) (w : Written) (n 
     → extra_of w.met ≡ []
     → n ≡ length (names_of w.met)
     → FillsLiteral pairs l w.cells.items (Some n)
-literal_filled pairs l w n sound h none counted = (
-  all_numbered_of pairs Entry (entries.literal_entry l) w h none,
-  flat_known pairs Entry (entries.literal_entry l) w sound h none,
-  counted ∙ ap length (h.names ∙ inserted-firsts bytes_eq bytes_eq-Decides (terms.variables l.atom)),
-)
+literal_filled pairs l w n sound h none counted =
+    let flat = flat_known pairs Entry (entries.literal_entry l) w sound h none in
+    record {
+      known = all_numbered_of pairs Entry (entries.literal_entry l) w h none;
+      flat = flat;
+      slices = ap symbol_slices flat.stands.cells_are ∙ slices-numbered (signed l.positive (number_in pairs)) _ l.atom;
+      count = counted ∙ ap length (h.names ∙ inserted-firsts bytes_eq bytes_eq-Decides (terms.variables l.atom));
+    }

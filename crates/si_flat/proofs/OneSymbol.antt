@@ -1,5 +1,5 @@
 -- A table of one symbol.
-use Rattle.std.proofs.Common.{◌≡◌, inl, inr, ℕ, [], ◌∷◌, ap, sym, ◌∙◌, refl, arith}
+use Rattle.std.proofs.Common.{◌≡◌, inl, inr, ℕ, [], ◌∷◌, ap, sym, ◌∙◌, arith}
 use Rattle.si_defs.specs.Symbols.{Symbol, IsNumbering}
 use Rattle.si_defs.specs.Substitutions.{IsAmong}
 
@@ -13,6 +13,7 @@ only s = record {
   number : (r : Symbol) (n : ℕ) → IsAmong {V = Symbol × ℕ} ((s, 4) ∷ []) (r, n) → 4 ≡ n
   number r n (inl e) = ap (λ p. p.1) e
   number r n (inr h) = absurd h
+
   symbol : (r : Symbol) (n : ℕ) → IsAmong {V = Symbol × ℕ} ((s, 4) ∷ []) (r, n) → s ≡ r
   symbol r n (inl e) = ap (λ p. p.0) e
   symbol r n (inr h) = absurd h

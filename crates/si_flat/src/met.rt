@@ -95,8 +95,8 @@ impl<'a> Met<'a> {
         ensures extra { OnOk result (extra_of self.new ≡ extra_of self.old) }
         ensures number { IfOk result (λ n. IsPlace bytes_eq (names_of self.new) name.now n) }
     {
-        let (place, _) = self.names.insert_full(name)?;
-        Ok(place as u32)
+        let (number, _) = self.names.insert_full(name)?;
+        Ok(number as u32)
     }
 
     // The number of a symbol.

@@ -1,9 +1,7 @@
 use Rattle.std.proofs.Common.{◌≡◌, []}
-use Rattle.si_defs.specs.Entries.{literal_entry}
 use Rattle.si_term.specs.Meaning.{literal_of}
-use Rattle.si_flat.specs.declared.walk.Owner.TheVariants.{Entry}
 use Rattle.si_flat.specs.declared.walk.Written.{Written}
-use Rattle.si_flat.specs.Flattening.{extra_of, state, Writes}
+use Rattle.si_flat.specs.Flattening.{extra_of, state}
 use Rattle.si_flat.proofs.FlattenLaws.{literal_written, names_few, literal_filled}
 use Rattle.si_flat.proofs.flatten.flatten_literal.Goals as goal
 

@@ -1,9 +1,9 @@
-use Rattle.std.proofs.Common.{◌≡◌, ◌+◌, ◌-◌, length, map, ap, subst, sym, refl, ◌∙◌, arith}
-use Rattle.si_defs.specs.Terms.{row, size, sizes, app}
+use Rattle.std.proofs.Common.{◌+◌, ◌-◌, length, map, ap, subst, sym, refl, ◌∙◌, arith}
+use Rattle.si_defs.specs.Terms.{row, size, sizes}
 use Rattle.si_term.specs.Terms.{symbol_of, term_of}
 use Rattle.si_term.proofs.Rows.{from, from-read, from-end, size-read, app-term}
 use Rattle.si_flat.specs.declared.Cell.TheVariants as cell
-use Rattle.si_flat.specs.Flattening.{state, HasRoom, Flattens, term_piece, terms_piece}
+use Rattle.si_flat.specs.Flattening.{state, HasRoom, Flattens, terms_piece}
 use Rattle.si_flat.proofs.Walking.{room_after, room_symbol, flattens_none, flattens_more, flattens_app, length_behind}
 use Rattle.si_flat.proofs.walk.+write.Goals as goal
 

@@ -8,7 +8,7 @@ use Rattle.si_flat.proofs.met.Met.variable.Goals as goal
 
 pub returns-clause-names : goal.returns-clause-names
 returns-clause-names c =
-    ap (map (λ k. k.now)) c.in_ok-place.ensures.keys ∙ key-shown (λ k. k.now) lent_eq bytes_eq (λ k l. refl) c.args.self.now.names.keys c.args.name
+    ap (map (λ k. k.now)) c.in_ok-number.ensures.keys ∙ key-shown (λ k. k.now) lent_eq bytes_eq (λ k l. refl) c.args.self.now.names.keys c.args.name
 
 pub returns-clause-number : goal.returns-clause-number
 returns-clause-number c more =
@@ -16,4 +16,4 @@ returns-clause-number c more =
     ap (λ l. place_in bytes_eq (l ++ more) c.args.name.now) names
     ∙ inserted-place bytes_eq bytes_eq-Decides (names_of c.args.self.now) c.args.name.now more
     ∙ sym (place-shown (λ k. k.now) lent_eq bytes_eq (λ k l. refl) c.args.name c.args.self.now.names.keys)
-    ∙ sym c.in_ok-place.ensures.index
+    ∙ sym c.in_ok-number.ensures.index

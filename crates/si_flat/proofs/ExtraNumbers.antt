@@ -7,7 +7,7 @@ use Rattle.si_defs.specs.Terms.{firsts}
 use Rattle.si_flat.specs.Flattened.{numbers_from, extra_numbers, has_number, unnumbered, IsQueryNumbering}
 use Rattle.si_flat.proofs.Keys.{symbol-Decides}
 use Rattle.si_flat.proofs.Numbers.{has-among}
-use Rattle.si_flat.proofs.FirstPlaces.{AreApart, among_filter, filter_among, among_firsts, firsts_among, firsts_apart}
+use Rattle.si_flat.proofs.FirstPlaces.{NoneAgain, among_filter, filter_among, among_firsts, firsts_among, firsts_apart}
 
 -- ---- members of two lists
 pub among_either : {V : Type 0} (xs ys : List V) (x : V) → IsAmong (xs ++ ys) x → IsAmong xs x ⊎ IsAmong ys x
@@ -59,7 +59,7 @@ from_symbol m (q ∷ ss) s r n (inl e) (inr g) = absurd (omega (arith, ap (λ p.
 from_symbol m (q ∷ ss) s r n (inr h) (inl f) = absurd (omega (arith, ap (λ p. p.1) f, from_least (2 + m) ss s n h))
 from_symbol m (q ∷ ss) s r n (inr h) (inr g) = from_symbol (2 + m) ss s r n h g
 
-from_number : (m : ℕ) (ss : List Symbol) → AreApart same_symbol symbol-Decides ss → (s : Symbol) (a b : ℕ) → IsFrom m ss s a → IsFrom m ss s b → a ≡ b
+from_number : (m : ℕ) (ss : List Symbol) → NoneAgain same_symbol symbol-Decides ss → (s : Symbol) (a b : ℕ) → IsFrom m ss s a → IsFrom m ss s b → a ≡ b
 from_number m [] apart s a b h g = absurd h
 from_number m (q ∷ ss) apart s a b (inl e) (inl f) = sym (ap (λ p. p.1) e) ∙ ap (λ p. p.1) f
 from_number m (q ∷ ss) apart s a b (inl e) (inr g) =

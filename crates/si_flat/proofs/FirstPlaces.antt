@@ -69,22 +69,22 @@ module _ {V : Type 0} (same : V → V → Bool) (decides : (x y : V) → Decides
   firsts_among (x ∷ xs) y (inr h) = inr (firsts_among xs y (among_filter (λ z. not (same x z)) (firsts same xs) y h).0)
 
   -- none of them comes again
-  abbrev pub AreApart : List V → Type 0
-  AreApart [] = Unit {0}
-  AreApart (x ∷ xs) = ((y : V) → IsAmong xs y → same x y ≡ false) × AreApart xs
+  abbrev pub NoneAgain : List V → Type 0
+  NoneAgain [] = Unit {0}
+  NoneAgain (x ∷ xs) = ((y : V) → IsAmong xs y → same x y ≡ false) × NoneAgain xs
 
   not_true : (b : Bool) → not b ≡ true → b ≡ false
   not_true true h = absurd (true≢false (sym h))
   not_true false h = refl
 
-  filter_apart : (p : V → Bool) (xs : List V) → AreApart xs → AreApart (filter p xs)
+  filter_apart : (p : V → Bool) (xs : List V) → NoneAgain xs → NoneAgain (filter p xs)
   filter_apart p [] apart = tt
   filter_apart p (x ∷ xs) apart = by (p x) (filter_apart p xs apart.1) where
-    by : (b : Bool) → AreApart (filter p xs) → AreApart (cond b (x ∷ filter p xs) (filter p xs))
+    by : (b : Bool) → NoneAgain (filter p xs) → NoneAgain (cond b (x ∷ filter p xs) (filter p xs))
     by true g = (λ y m. apart.0 y (among_filter p xs y m).0, g)
     by false g = g
 
-  pub firsts_apart : (xs : List V) → AreApart (firsts same xs)
+  pub firsts_apart : (xs : List V) → NoneAgain (firsts same xs)
   firsts_apart [] = tt
   firsts_apart (x ∷ xs) = (
     λ y m. not_true (same x y) (among_filter (λ z. not (same x z)) (firsts same xs) y m).1,
@@ -110,7 +110,7 @@ module _ {V : Type 0} (same : V → V → Bool) (decides : (x y : V) → Decides
     by false false ex ey e mx my later = later (of_rest x ex mx) (of_rest y ey my) (omega (arith, e))
 
   -- the places of a list's own members
-  places_counted : (variable : ℕ → Variable) (k : ℕ) (xs : List V) → AreApart xs → map (λ x. variable (k + place_in same xs x)) xs ≡ counted_from variable k (length xs)
+  places_counted : (variable : ℕ → Variable) (k : ℕ) (xs : List V) → NoneAgain xs → map (λ x. variable (k + place_in same xs x)) xs ≡ counted_from variable k (length xs)
   places_counted variable k [] apart = refl
   places_counted variable k (z ∷ xs) apart =
       let here : k + place_in same (z ∷ xs) z ≡ k = ap (λ b. k + cond b 0 (1 + place_in same xs z)) ((decides z z).1 refl) ∙ omega arith in

@@ -9,7 +9,7 @@ use Rattle.std.specs.List.{list_any, position_or_len}
 use Rattle.indexmap.specs.IndexSet.{insert_key, insert_all}
 use Rattle.si_defs.specs.Terms.{firsts}
 use Rattle.si_flat.specs.Numbered.{place_in}
-use Rattle.si_flat.specs.Flattening.{IsPlace}
+use Rattle.si_flat.specs.Flattening.{IsIndex}
 
 or_true : (b : Bool) → (b || true) ≡ true
 or_true true = refl
@@ -123,7 +123,7 @@ module _ {V : Type 0} (same : V → V → Bool) (decides : (x y : V) → Decides
   inserted-firsts xs = inserted-is [] xs ∙ all_pass (unknown []) (λ x. refl) (firsts same xs)
 
   -- the place of the one that was inserted, whatever comes behind
-  pub inserted-place : (known : List V) (x : V) → IsPlace same (insert_key same known x) x (position_or_len (same x) known)
+  pub inserted-place : (known : List V) (x : V) → IsIndex same (insert_key same known x) x (position_or_len (same x) known)
   inserted-place [] x more = rw ((decides x x).1 refl) refl
   inserted-place (y ∷ known) x more =
       step (same x y || list_any (same x) known)

@@ -9,12 +9,12 @@ use Rattle.si_defs.specs.Symbols.{Symbol, Numbering, same_symbol}
 use Rattle.si_defs.specs.Clauses as clauses
 use Rattle.si_flat.specs.declared.Cell.{Cell}
 use Rattle.si_flat.specs.declared.Cell.TheVariants as cell
-use Rattle.si_flat.specs.declared.walk.Role.{Role}
+use Rattle.si_flat.specs.declared.walk.Scheme.{Scheme}
 use Rattle.si_flat.specs.declared.met.Met.{Met}
 use Rattle.si_flat.specs.Cells.{Variable, variable_cell, cells_of, cells_of_all}
 use Rattle.si_flat.specs.Numbered.{place_in, numbered, all_numbered}
 use Rattle.si_flat.specs.Flattened.{unnumbered, has_number}
-use Rattle.si_flat.specs.Flattening.{variable_of, number_by, IsPlace, IsNumber, HasRoom, names_of, extra_of, State, state, term_piece, terms_piece, Flattens}
+use Rattle.si_flat.specs.Flattening.{variable_of, number_by, IsIndex, IsNumber, MayMeet, met_names, met_extra, WalkState, walk_state, term_piece, terms_piece, Flattens}
 use Rattle.si_flat.proofs.Subterms.{length-cells_of_all}
 use Rattle.si_flat.proofs.Inserted.{inserted-append, inserted_extends, inserted_length}
 
@@ -54,31 +54,31 @@ mutual
   numbered_sizes n v (terms.more t ts) = λ i. numbered_size n v t i + numbered_sizes n v ts i
 
 -- ---- room for what is left
-pub room_after : (pairs : Numbering) (role : Role) (old new : Met) (cs ds : List Cell) (t : clauses.Term) (k : ℕ)
-    → HasRoom old (terms.size t + k)
-    → Flattens pairs role (state old cs) (state new ds) (term_piece t)
-    → HasRoom new k
-room_after pairs role old new cs ds t k room walked = record {
-  names = omega (arith, room.names, ap length walked.names, inserted_length bytes_eq (names_of old) (terms.variables t), variables_few t);
+pub room_after : (pairs : Numbering) (scheme : Scheme) (old new : Met) (cs ds : List Cell) (t : clauses.Term) (k : ℕ)
+    → MayMeet old (terms.size t + k)
+    → Flattens pairs scheme (walk_state old cs) (walk_state new ds) (term_piece t)
+    → MayMeet new k
+room_after pairs scheme old new cs ds t k room walked = record {
+  names = omega (arith, room.names, ap length walked.names, inserted_length bytes_eq (met_names old) (terms.variables t), variables_few t);
   extra =
       omega (
         arith,
         room.extra,
         ap length walked.extra,
-        inserted_length same_symbol (extra_of old) (unnumbered pairs (terms.symbols t)),
+        inserted_length same_symbol (met_extra old) (unnumbered pairs (terms.symbols t)),
         unnumbered_few pairs (terms.symbols t),
         symbols_few t,
       );
 }
 
 pub room_symbol : (pairs : Numbering) (old new : Met) (s : Symbol) (k : ℕ)
-    → HasRoom old (1 + k)
-    → names_of new ≡ names_of old
-    → extra_of new ≡ insert_all same_symbol (extra_of old) (unnumbered pairs (s ∷ []))
-    → HasRoom new k
+    → MayMeet old (1 + k)
+    → met_names new ≡ met_names old
+    → met_extra new ≡ insert_all same_symbol (met_extra old) (unnumbered pairs (s ∷ []))
+    → MayMeet new k
 room_symbol pairs old new s k room names extra = record {
   names = omega (arith, room.names, ap length names);
-  extra = omega (arith, room.extra, ap length extra, inserted_length same_symbol (extra_of old) (unnumbered pairs (s ∷ [])), unnumbered_few pairs (s ∷ []));
+  extra = omega (arith, room.extra, ap length extra, inserted_length same_symbol (met_extra old) (unnumbered pairs (s ∷ [])), unnumbered_few pairs (s ∷ []));
 }
 
 -- ---- one after the other
@@ -90,32 +90,32 @@ unnumbered-append pairs (s ∷ ss) rs = by (has_number pairs s) (unnumbered-appe
   by true h = h
   by false h = ap (λ l. s ∷ l) h
 
-module _ (pairs : Numbering) (role : Role) where
+module _ (pairs : Numbering) (scheme : Scheme) where
   -- the numbers once these have been met, and more
   abbrev symbols_by : List Symbol → List Symbol → Symbol → ℕ
-  symbols_by extra more = number_by pairs role.positive (extra ++ more)
+  symbols_by extra more = number_by pairs scheme.positive (extra ++ more)
 
   abbrev variables_by : List Bytes → List Bytes → Bytes → Variable
-  variables_by names more x = variable_of role.owner (place_in bytes_eq (names ++ more) x)
+  variables_by names more x = variable_of scheme.owner (place_in bytes_eq (names ++ more) x)
 
   -- what was met before is met still, with what came later
-  names_later : (b c : State) (vs : List Bytes) → c.names ≡ insert_all bytes_eq b.names vs → (more : List Bytes) × ((xs : List Bytes) → b.names ++ (more ++ xs) ≡ c.names ++ xs)
+  names_later : (b c : WalkState) (vs : List Bytes) → c.names ≡ insert_all bytes_eq b.names vs → (more : List Bytes) × ((xs : List Bytes) → b.names ++ (more ++ xs) ≡ c.names ++ xs)
   names_later b c vs e =
       let later = inserted_extends bytes_eq b.names vs in
       (later.0, λ xs. sym (append_assoc b.names later.0 xs) ∙ ap (λ l. l ++ xs) (sym (e ∙ later.1)))
 
-  extra_later : (b c : State) (rs : List Symbol) → c.extra ≡ insert_all same_symbol b.extra rs → (more : List Symbol) × ((ss : List Symbol) → b.extra ++ (more ++ ss) ≡ c.extra ++ ss)
+  extra_later : (b c : WalkState) (rs : List Symbol) → c.extra ≡ insert_all same_symbol b.extra rs → (more : List Symbol) × ((ss : List Symbol) → b.extra ++ (more ++ ss) ≡ c.extra ++ ss)
   extra_later b c rs e =
       let later = inserted_extends same_symbol b.extra rs in
       (later.0, λ ss. sym (append_assoc b.extra later.0 ss) ∙ ap (λ l. l ++ ss) (sym (e ∙ later.1)))
 
-  pub flattens_none : (a : State) → Flattens pairs role a a (terms_piece terms.none)
+  pub flattens_none : (a : WalkState) → Flattens pairs scheme a a (terms_piece terms.none)
   flattens_none a = record { names = refl; extra = refl; cells = λ xs ss. sym (append-nil a.cells) }
 
-  pub flattens_more : (a b c : State) (t : clauses.Term) (ts : clauses.Terms)
-      → Flattens pairs role a b (term_piece t)
-      → Flattens pairs role b c (terms_piece ts)
-      → Flattens pairs role a c (terms_piece (terms.more t ts))
+  pub flattens_more : (a b c : WalkState) (t : clauses.Term) (ts : clauses.Terms)
+      → Flattens pairs scheme a b (term_piece t)
+      → Flattens pairs scheme b c (terms_piece ts)
+      → Flattens pairs scheme a c (terms_piece (terms.more t ts))
   flattens_more a b c t ts first rest = record {
     names =
         rest.names
@@ -133,24 +133,24 @@ module _ (pairs : Numbering) (role : Role) where
         let v = variables_by c.names xs in
         let one : b.cells ≡ a.cells ++ cells_of (numbered n v t) =
         first.cells (names.0 ++ xs) (extra.0 ++ ss)
-        ∙ λ i. a.cells ++ cells_of (numbered (number_by pairs role.positive (extra.1 ss i)) (λ x. variable_of role.owner (place_in bytes_eq (names.1 xs i) x)) t) in
+        ∙ λ i. a.cells ++ cells_of (numbered (number_by pairs scheme.positive (extra.1 ss i)) (λ x. variable_of scheme.owner (place_in bytes_eq (names.1 xs i) x)) t) in
         rest.cells xs ss ∙ ap (λ l. l ++ cells_of_all (all_numbered n v ts)) one ∙ append_assoc a.cells (cells_of (numbered n v t)) (cells_of_all (all_numbered n v ts));
   }
 
   -- a variable
-  pub flattens_variable : (a : State) (names : List Bytes) (extra : List Symbol) (x : Bytes) (n : ℕ)
+  pub flattens_variable : (a : WalkState) (names : List Bytes) (extra : List Symbol) (x : Bytes) (n : ℕ)
       → names ≡ insert_all bytes_eq a.names (x ∷ [])
       → extra ≡ a.extra
-      → IsPlace bytes_eq names x n
-      → Flattens pairs role a (record { names = names; extra = extra; cells = a.cells ++ variable_cell (variable_of role.owner n) ∷ [] }) (term_piece (terms.var x))
+      → IsIndex bytes_eq names x n
+      → Flattens pairs scheme a (record { names = names; extra = extra; cells = a.cells ++ variable_cell (variable_of scheme.owner n) ∷ [] }) (term_piece (terms.var x))
   flattens_variable a names extra x n names_are extra_is place = record {
     names = names_are;
     extra = extra_is;
-    cells = λ xs ss. ap (λ k. a.cells ++ variable_cell (variable_of role.owner k) ∷ []) (sym (place xs));
+    cells = λ xs ss. ap (λ k. a.cells ++ variable_cell (variable_of scheme.owner k) ∷ []) (sym (place xs));
   }
 
   -- so many cells more
-  length_after : (b c : State) (ts : clauses.Terms) → Flattens pairs role b c (terms_piece ts) → length c.cells ≡ length b.cells + terms.sizes ts
+  length_after : (b c : WalkState) (ts : clauses.Terms) → Flattens pairs scheme b c (terms_piece ts) → length c.cells ≡ length b.cells + terms.sizes ts
   length_after b c ts walked =
       let n = symbols_by c.extra [] in
       let v = variables_by c.names [] in
@@ -159,23 +159,23 @@ module _ (pairs : Numbering) (role : Role) where
       ∙ ap (λ k. length b.cells + k) (length-cells_of_all (all_numbered n v ts) ∙ numbered_sizes n v ts)
 
   -- behind the cell of a symbol, its arguments
-  pub length_behind : (cs : List Cell) (first : Cell) (b c : State) (ts : clauses.Terms)
+  pub length_behind : (cs : List Cell) (first : Cell) (b c : WalkState) (ts : clauses.Terms)
       → b.cells ≡ cs ++ first ∷ []
-      → Flattens pairs role b c (terms_piece ts)
+      → Flattens pairs scheme b c (terms_piece ts)
       → length c.cells ≡ length cs + (1 + terms.sizes ts)
   length_behind cs first b c ts cells_are walked =
       omega (arith, length_after b c ts walked, ap length cells_are, length-append cs (first ∷ []))
 
   -- a symbol, whose cell is put before its arguments when they have been written
-  app_placed : (a b c : State) (s : Symbol) (ts : clauses.Terms) (first : Cell) (n at m : ℕ)
+  app_placed : (a b c : WalkState) (s : Symbol) (ts : clauses.Terms) (first : Cell) (n at m : ℕ)
       → b.names ≡ a.names
       → b.extra ≡ insert_all same_symbol a.extra (unnumbered pairs (s ∷ []))
-      → IsNumber pairs role.positive b.extra s n
+      → IsNumber pairs scheme.positive b.extra s n
       → b.cells ≡ a.cells ++ first ∷ []
-      → Flattens pairs role b c (terms_piece ts)
+      → Flattens pairs scheme b c (terms_piece ts)
       → at ≡ length a.cells
       → m ≡ length c.cells - at
-      → Flattens pairs role a (record { names = c.names; extra = c.extra; cells = slice_set c.cells at (cell.App n s.arity m) }) (term_piece (terms.app s ts))
+      → Flattens pairs scheme a (record { names = c.names; extra = c.extra; cells = slice_set c.cells at (cell.App n s.arity m) }) (term_piece (terms.app s ts))
   app_placed a b c s ts first n at m names_are extra_is number cells_are walked at_is m_is = record {
     names = walked.names ∙ ap (λ l. insert_all bytes_eq l (terms.variables_of_all ts)) names_are;
     extra =
@@ -188,7 +188,7 @@ module _ (pairs : Numbering) (role : Role) where
         let f = symbols_by c.extra ss in
         let v = variables_by c.names xs in
         let us = all_numbered f v ts in
-        let is_number : n ≡ f s = sym (number (extra.0 ++ ss)) ∙ ap (λ l. number_by pairs role.positive l s) (extra.1 ss) in
+        let is_number : n ≡ f s = sym (number (extra.0 ++ ss)) ∙ ap (λ l. number_by pairs scheme.positive l s) (extra.1 ss) in
         let is_length : m ≡ 1 + terms.sizes us =
         omega (arith, m_is, at_is, length_behind a.cells first b c ts cells_are walked, numbered_sizes f v ts) in
         let all : c.cells ≡ a.cells ++ first ∷ cells_of_all us =
@@ -198,19 +198,19 @@ module _ (pairs : Numbering) (role : Role) where
   }
 
   -- the same of a term and of cells that are told by equations
-  pub flattens_app : (a b c : State) (s : Symbol) (ts : clauses.Terms) (first : Cell) (n at m : ℕ)
+  pub flattens_app : (a b c : WalkState) (s : Symbol) (ts : clauses.Terms) (first : Cell) (n at m : ℕ)
       → b.names ≡ a.names
       → b.extra ≡ insert_all same_symbol a.extra (unnumbered pairs (s ∷ []))
-      → IsNumber pairs role.positive b.extra s n
+      → IsNumber pairs scheme.positive b.extra s n
       → b.cells ≡ a.cells ++ first ∷ []
-      → Flattens pairs role b c (terms_piece ts)
+      → Flattens pairs scheme b c (terms_piece ts)
       → at ≡ length a.cells
       → m ≡ length c.cells - at
       → (t : clauses.Term) (ds : List Cell)
       → t ≡ terms.app s ts
       → ds ≡ slice_set c.cells at (cell.App n s.arity m)
-      → Flattens pairs role a (record { names = c.names; extra = c.extra; cells = ds }) (term_piece t)
+      → Flattens pairs scheme a (record { names = c.names; extra = c.extra; cells = ds }) (term_piece t)
   flattens_app a b c s ts first n at m names_are extra_is number cells_are walked at_is m_is t ds is placed =
       let told = app_placed a b c s ts first n at m names_are extra_is number cells_are walked at_is m_is in
-      let closed = subst (λ cs. Flattens pairs role a (record { names = c.names; extra = c.extra; cells = cs }) (term_piece (terms.app s ts))) (sym placed) told in
-      subst (λ u. Flattens pairs role a (record { names = c.names; extra = c.extra; cells = ds }) (term_piece u)) (sym is) closed
+      let closed = subst (λ cs. Flattens pairs scheme a (record { names = c.names; extra = c.extra; cells = cs }) (term_piece (terms.app s ts))) (sym placed) told in
+      subst (λ u. Flattens pairs scheme a (record { names = c.names; extra = c.extra; cells = ds }) (term_piece u)) (sym is) closed

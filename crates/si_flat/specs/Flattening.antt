@@ -1,4 +1,4 @@
--- What the cells of entries and patterns stand for.
+-- What a walk over terms of the program has met and written.
 use Rattle.std.specs.Prelude.{◌≡◌, ℕ, ◌+◌, ◌≤◌, Bool, List, [], ◌++◌, length, map, bytes_eq}
 use Rattle.indexmap.specs.IndexSet.{insert_all}
 use Rattle.si_defs.specs.Bytes.{Bytes}
@@ -10,8 +10,8 @@ use Rattle.si_defs.specs.declared.TheConstants.{MOST_OCCURRENCES}
 use Rattle.si_flat.specs.declared.Cell.{Cell}
 use Rattle.si_flat.specs.declared.walk.Owner.{Owner}
 use Rattle.si_flat.specs.declared.walk.Owner.TheVariants.{Query, Entry}
-use Rattle.si_flat.specs.declared.walk.Role.{Role}
-use Rattle.si_flat.specs.declared.walk.Written.{Written}
+use Rattle.si_flat.specs.declared.walk.Scheme.{Scheme}
+use Rattle.si_flat.specs.declared.walk.WrittenEntry.{WrittenEntry}
 use Rattle.si_flat.specs.declared.met.Met.{Met}
 use Rattle.si_flat.specs.declared.met.SymbolKey.{SymbolKey}
 use Rattle.si_flat.specs.Cells.{Variable, query, entry, cells_of, cells_of_all}
@@ -26,28 +26,28 @@ variable_of Entry n = entry n
 abbrev pub symbol_of_key : SymbolKey → Symbol
 symbol_of_key k = record { kind = k.kind; text = k.text.now; side = k.side; arity = k.arity }
 
-abbrev pub names_of : Met → List Bytes
-names_of m = map (λ k. k.now) m.names.keys
+abbrev pub met_names : Met → List Bytes
+met_names m = map (λ k. k.now) m.names.keys
 
-abbrev pub extra_of : Met → List Symbol
-extra_of m = map symbol_of_key m.extra.keys
+abbrev pub met_extra : Met → List Symbol
+met_extra m = map symbol_of_key m.extra.keys
 
 -- it may meet so many more
-pub record HasRoom (m : Met) (n : ℕ) : Type 0 where
-  pub names : length (names_of m) + n ≤ MOST_OCCURRENCES
-  pub extra : length (extra_of m) + n ≤ MOST_OCCURRENCES
+pub record MayMeet (m : Met) (n : ℕ) : Type 0 where
+  pub names : length (met_names m) + n ≤ MOST_OCCURRENCES
+  pub extra : length (met_extra m) + n ≤ MOST_OCCURRENCES
 
-pub record State : Type 0 where
+pub record WalkState : Type 0 where
   pub names : List Bytes
   pub extra : List Symbol
   pub cells : List Cell
 
-abbrev pub state : Met → List Cell → State
-state m cells = record { names = names_of m; extra = extra_of m; cells = cells }
+abbrev pub walk_state : Met → List Cell → WalkState
+walk_state m cells = record { names = met_names m; extra = met_extra m; cells = cells }
 
 -- so many stand before x, whatever comes behind
-abbrev pub IsPlace : {V : Type 0} → (V → V → Bool) → List V → V → ℕ → Type 0
-IsPlace {V} same xs x n = (more : List V) → place_in same (xs ++ more) x ≡ n
+abbrev pub IsIndex : {V : Type 0} → (V → V → Bool) → List V → V → ℕ → Type 0
+IsIndex {V} same xs x n = (more : List V) → place_in same (xs ++ more) x ≡ n
 
 -- the number of a symbol, whatever is met later
 abbrev pub number_by : Numbering → Bool → List Symbol → Symbol → ℕ
@@ -57,19 +57,19 @@ abbrev pub IsNumber : Numbering → Bool → List Symbol → Symbol → ℕ → 
 IsNumber pairs positive extra s n = (more : List Symbol) → number_by pairs positive (extra ++ more) s ≡ n
 
 -- what is walked over: its variables and symbols, and its cells by their numbers
-pub record Piece : Type 0 where
+pub record WalkPiece : Type 0 where
   pub variables : List Bytes
   pub symbols : List Symbol
   pub cells : (Symbol → ℕ) → (Bytes → Variable) → List Cell
 
-abbrev pub term_piece : clauses.Term → Piece
+abbrev pub term_piece : clauses.Term → WalkPiece
 term_piece t = record {
   variables = terms.variables t;
   symbols = terms.symbols t;
   cells = λ number variable. cells_of (numbered number variable t);
 }
 
-abbrev pub terms_piece : clauses.Terms → Piece
+abbrev pub terms_piece : clauses.Terms → WalkPiece
 terms_piece ts = record {
   variables = terms.variables_of_all ts;
   symbols = terms.symbols_of_all ts;
@@ -77,20 +77,20 @@ terms_piece ts = record {
 }
 
 -- Its variables and symbols were met in turn, and its cells were written, whatever is met later.
-pub record Flattens (pairs : Numbering) (role : Role) (old new : State) (piece : Piece) : Type 0 where
+pub record Flattens (pairs : Numbering) (scheme : Scheme) (old new : WalkState) (piece : WalkPiece) : Type 0 where
   pub names : new.names ≡ insert_all bytes_eq old.names piece.variables
   pub extra : new.extra ≡ insert_all same_symbol old.extra (unnumbered pairs piece.symbols)
   pub cells : (xs : List Bytes) (ss : List Symbol)
       → new.cells
       ≡ old.cells
       ++ piece.cells
-      (number_by pairs role.positive (new.extra ++ ss))
-      (λ x. variable_of role.owner (place_in bytes_eq (new.names ++ xs) x))
+      (number_by pairs scheme.positive (new.extra ++ ss))
+      (λ x. variable_of scheme.owner (place_in bytes_eq (new.names ++ xs) x))
 
 -- ---- an entry by itself
-abbrev pub nothing : State
-nothing = record { names = []; extra = []; cells = [] }
+abbrev pub empty_walk : WalkState
+empty_walk = record { names = []; extra = []; cells = [] }
 
-abbrev pub Writes : Numbering → Owner → entries.Entry → Written → Type 0
-Writes pairs owner e w =
-    Flattens pairs (record { positive = is_positive e; owner = owner }) nothing (state w.met w.cells.items) (term_piece (whole_of e))
+abbrev pub WritesEntry : Numbering → Owner → entries.Entry → WrittenEntry → Type 0
+WritesEntry pairs owner e w =
+    Flattens pairs (record { positive = is_positive e; owner = owner }) empty_walk (walk_state w.met w.cells.items) (term_piece (whole_of e))

@@ -6,10 +6,10 @@ ghost use Rattle.si_defs.specs.Entries.{literal_entry};
 ghost use Rattle.si_defs.specs.declared.TheConstants.{MOST_OCCURRENCES};
 ghost use Rattle.si_term.specs.Meaning.{literal_of, entry_of, pattern_of};
 ghost use Rattle.si_flat.specs.Flattened.{IsSoundEntry, FlattensEntry, FlattensPattern, FillsLiteral, whole_of};
-ghost use Rattle.si_flat.specs.Flattening.{Writes};
+ghost use Rattle.si_flat.specs.Flattening.{WritesEntry};
 
 use crate::met::Met;
-use crate::walk::{Owner, Role, Written, write_term};
+use crate::walk::{Owner, Scheme, WrittenEntry, write_term};
 use crate::{Cell, Flat};
 use si_term::{Entry, Literal, Pattern, SymTable, Syms};
 use std::alloc::{AllocError, Global};
@@ -80,13 +80,13 @@ pub fn flatten_literal<T: SymTable>(
         cells.new.items) }
     ensures err { OnErr result (cells.new.items ≡ []) }
 {
-    let role = Role {
+    let scheme = Scheme {
         positive: literal.positive,
         owner: Owner::Entry,
     };
     let mut met = Met::new(alloc);
     cells.clear();
-    match write_term(table, role, &literal.atom, &mut met, cells) {
+    match write_term(table, scheme, &literal.atom, &mut met, cells) {
         Ok(()) => {}
         Err(error) => {
             cells.clear();
@@ -106,9 +106,9 @@ fn write_entry<'a, T: SymTable>(
     table: &T,
     owner: Owner,
     entry: Entry<'a>,
-) -> Result<Written<'a>, AllocError>
+) -> Result<WrittenEntry<'a>, AllocError>
     requires { size (whole_of (entry_of entry)) ≤ MOST_OCCURRENCES }
-    ensures { IfOk result (Writes (T.pairs table.now) owner (entry_of entry.entry)) }
+    ensures { IfOk result (WritesEntry (T.pairs table.now) owner (entry_of entry.entry)) }
 {
     let (positive, term) = match entry {
         Entry::Lit(literal) => (literal.positive, &literal.atom),
@@ -116,6 +116,12 @@ fn write_entry<'a, T: SymTable>(
     };
     let mut met = Met::new(alloc);
     let mut cells = Vec::new(alloc);
-    write_term(table, Role { positive, owner }, term, &mut met, &mut cells)?;
-    Ok(Written { met, cells })
+    write_term(
+        table,
+        Scheme { positive, owner },
+        term,
+        &mut met,
+        &mut cells,
+    )?;
+    Ok(WrittenEntry { met, cells })
 }

@@ -2,6 +2,9 @@
 //!
 //! A symbol's cell has the number of cells of its subterm, so a subterm is a slice, and its end is
 //! found without a walk. A slice is whole if it is exactly one term; `specs/Cells.antt` says which.
+//!
+//! Entries and patterns of clauses are flattened with the numbers of a table of symbols:
+//! `specs/Flattened.antt` says what their cells stand for.
 #![tactic(auto)]
 
 ghost use Rattle.std.specs.Prelude.{◌≡◌, ◌<◌, IfOk, length, take, drop};

@@ -6,7 +6,7 @@ ghost use Rattle.si_defs.specs.declared.TheConstants.{MOST_OCCURRENCES};
 ghost use Rattle.si_term.specs.Terms.{symbol_of};
 ghost use Rattle.si_flat.specs.Numbered.{one_above};
 ghost use Rattle.si_flat.specs.Flattened.{unnumbered};
-ghost use Rattle.si_flat.specs.Flattening.{names_of, symbol_of_key, extra_of, IsPlace, IsNumber};
+ghost use Rattle.si_flat.specs.Flattening.{met_names, symbol_of_key, met_extra, IsIndex, IsNumber};
 
 use indexmap::IndexSet;
 use si_defs::{Side, SymKind};
@@ -52,8 +52,8 @@ pub(crate) struct Met<'a> {
 
 impl<'a> Met<'a> {
     pub(crate) fn new(alloc: Global) -> Met<'a>
-        ensures names { names_of result ≡ [] }
-        ensures extra { extra_of result ≡ [] }
+        ensures names { met_names result ≡ [] }
+        ensures extra { met_extra result ≡ [] }
     {
         Met {
             names: IndexSet::new(alloc),
@@ -63,22 +63,22 @@ impl<'a> Met<'a> {
 
     // How many variables were met.
     pub(crate) fn variable_count(&self) -> u32
-        requires { length (names_of self.now) ≤ MOST_OCCURRENCES }
-        ensures { result ≡ length (names_of self.now) }
+        requires { length (met_names self.now) ≤ MOST_OCCURRENCES }
+        ensures { result ≡ length (met_names self.now) }
     {
         self.names.len() as u32
     }
 
     // Whether a symbol was met that isn't in the table.
     pub(crate) fn has_extra(&self) -> bool
-        ensures { IsFalse result ↔ (extra_of self.now ≡ []) }
+        ensures { IsFalse result ↔ (met_extra self.now ≡ []) }
     {
         !self.extra.is_empty()
     }
 
     // The symbols that aren't in the table.
     pub(crate) fn extra_symbols(&self, alloc: Global) -> Result<Syms, AllocError>
-        ensures { IfOk result (λ ss. map symbol_of ss ≡ extra_of self.now) }
+        ensures { IfOk result (λ ss. map symbol_of ss ≡ met_extra self.now) }
     {
         let mut symbols = Syms::new(alloc);
         for key in self.extra.as_slice() {
@@ -89,11 +89,11 @@ impl<'a> Met<'a> {
 
     // The number of a variable.
     pub(crate) fn variable(&mut self, name: &'a [u8]) -> Result<u32, AllocError>
-        requires { length (names_of self.old) < MOST_OCCURRENCES }
-        ensures names { OnOk result (names_of self.new
-            ≡ insert_all bytes_eq (names_of self.old) (name.now ∷ [])) }
-        ensures extra { OnOk result (extra_of self.new ≡ extra_of self.old) }
-        ensures number { IfOk result (λ n. IsPlace bytes_eq (names_of self.new) name.now n) }
+        requires { length (met_names self.old) < MOST_OCCURRENCES }
+        ensures names { OnOk result (met_names self.new
+            ≡ insert_all bytes_eq (met_names self.old) (name.now ∷ [])) }
+        ensures extra { OnOk result (met_extra self.new ≡ met_extra self.old) }
+        ensures number { IfOk result (λ n. IsIndex bytes_eq (met_names self.new) name.now n) }
     {
         let (number, _) = self.names.insert_full(name)?;
         Ok(number as u32)
@@ -106,11 +106,11 @@ impl<'a> Met<'a> {
         positive: bool,
         symbol: &'a Sym,
     ) -> Result<u32, AllocError>
-        requires { length (extra_of self.old) < MOST_OCCURRENCES }
-        ensures names { OnOk result (names_of self.new ≡ names_of self.old) }
-        ensures extra { OnOk result (extra_of self.new ≡ insert_all same_symbol (extra_of self.old)
+        requires { length (met_extra self.old) < MOST_OCCURRENCES }
+        ensures names { OnOk result (met_names self.new ≡ met_names self.old) }
+        ensures extra { OnOk result (met_extra self.new ≡ insert_all same_symbol (met_extra self.old)
             (unnumbered (T.pairs table.now) (symbol_of symbol.now ∷ []))) }
-        ensures number { IfOk result (IsNumber (T.pairs table.now) positive (extra_of self.new)
+        ensures number { IfOk result (IsNumber (T.pairs table.now) positive (met_extra self.new)
             (symbol_of symbol.now)) }
     {
         match table.id_of(symbol) {
@@ -124,11 +124,11 @@ impl<'a> Met<'a> {
 
     // The place of a symbol among those outside the table.
     fn outside(&mut self, symbol: &'a Sym) -> Result<u32, AllocError>
-        requires { length (extra_of self.old) < MOST_OCCURRENCES }
-        ensures names { OnOk result (names_of self.new ≡ names_of self.old) }
-        ensures extra { OnOk result (extra_of self.new ≡ insert_all same_symbol (extra_of self.old)
+        requires { length (met_extra self.old) < MOST_OCCURRENCES }
+        ensures names { OnOk result (met_names self.new ≡ met_names self.old) }
+        ensures extra { OnOk result (met_extra self.new ≡ insert_all same_symbol (met_extra self.old)
             (symbol_of symbol.now ∷ [])) }
-        ensures place { IfOk result (λ n. IsPlace same_symbol (extra_of self.new)
+        ensures place { IfOk result (λ n. IsIndex same_symbol (met_extra self.new)
             (symbol_of symbol.now) n) }
         ensures small { IfOk result (λ n. n < MOST_OCCURRENCES) }
     {

@@ -4,7 +4,7 @@ ghost use Rattle.si_defs.specs.Terms.{row, size, sizes};
 ghost use Rattle.si_term.specs.Terms.{term_of};
 ghost use Rattle.si_flat.specs.declared.Cell.TheVariants.{App};
 ghost use Rattle.si_flat.specs.Cells.{variable_cell};
-ghost use Rattle.si_flat.specs.Flattening.{variable_of, state, HasRoom, Flattens, term_piece, terms_piece};
+ghost use Rattle.si_flat.specs.Flattening.{variable_of, walk_state, MayMeet, Flattens, term_piece, terms_piece};
 
 use crate::Cell;
 use crate::met::Met;
@@ -20,7 +20,7 @@ pub(crate) enum Owner {
 
 /// What the numbers of symbols and the kind of variables go by.
 #[derive(Clone, Copy)]
-pub(crate) struct Role {
+pub(crate) struct Scheme {
     /// Whether the atom is that of a positive literal, or a term by itself.
     pub(crate) positive: bool,
     pub(crate) owner: Owner,
@@ -28,7 +28,7 @@ pub(crate) struct Role {
 
 /// What was met, and the cells that were written.
 #[derive(Drop)]
-pub(crate) struct Written<'a> {
+pub(crate) struct WrittenEntry<'a> {
     pub(crate) met: Met<'a>,
     pub(crate) cells: Vec<Cell>,
 }
@@ -49,31 +49,31 @@ impl Owner {
 #[cycle(write)]
 pub(crate) fn write_term<'a, T: SymTable>(
     table: &T,
-    role: Role,
+    scheme: Scheme,
     term: &'a Term,
     met: &mut Met<'a>,
     cells: &mut Vec<Cell>,
 ) -> Result<(), AllocError>
-    requires room { HasRoom met.old (size (term_of term.now)) }
-    ensures { OnOk result (Flattens (T.pairs table.now) role (state met.old cells.old.items)
-        (state met.new cells.new.items) (term_piece (term_of term.now))) }
+    requires room { MayMeet met.old (size (term_of term.now)) }
+    ensures { OnOk result (Flattens (T.pairs table.now) scheme (walk_state met.old cells.old.items)
+        (walk_state met.new cells.new.items) (term_piece (term_of term.now))) }
 {
     match term {
         Term::Var(name) => {
             let number = met.variable(name.as_bytes())?;
-            cells.push(role.owner.cell(number))?;
+            cells.push(scheme.owner.cell(number))?;
             Ok(())
         }
         Term::App(symbol, arguments) => {
             let arity = symbol.arity;
-            let number = met.symbol(table, role.positive, symbol)?;
+            let number = met.symbol(table, scheme.positive, symbol)?;
             let at = cells.len();
             cells.push(Cell::App {
                 sym: number,
                 arity,
                 len: 1,
             })?;
-            write_terms(table, role, arguments.as_slice(), met, cells)?;
+            write_terms(table, scheme, arguments.as_slice(), met, cells)?;
             close(cells, at, number, arity);
             Ok(())
         }
@@ -98,17 +98,17 @@ fn close(cells: &mut Vec<Cell>, at: usize, number: u32, arity: u32)
 #[cycle(write)]
 fn write_terms<'a, T: SymTable>(
     table: &T,
-    role: Role,
+    scheme: Scheme,
     terms: &'a [Term],
     met: &mut Met<'a>,
     cells: &mut Vec<Cell>,
 ) -> Result<(), AllocError>
-    requires room { HasRoom met.old (sizes (row (map term_of terms.now))) }
-    ensures { OnOk result (Flattens (T.pairs table.now) role (state met.old cells.old.items)
-        (state met.new cells.new.items) (terms_piece (row (map term_of terms.now)))) }
+    requires room { MayMeet met.old (sizes (row (map term_of terms.now))) }
+    ensures { OnOk result (Flattens (T.pairs table.now) scheme (walk_state met.old cells.old.items)
+        (walk_state met.new cells.new.items) (terms_piece (row (map term_of terms.now)))) }
 {
     for i in 0..terms.len() {
-        write_term(table, role, &terms[i], met, cells)?;
+        write_term(table, scheme, &terms[i], met, cells)?;
     }
     Ok(())
 }

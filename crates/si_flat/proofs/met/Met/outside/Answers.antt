@@ -6,7 +6,7 @@ use Rattle.si_term.specs.Terms.{symbol_of}
 use Rattle.si_flat.specs.declared.met.SymbolKey.{SymbolKey}
 use Rattle.si_flat.specs.contracts.met.SymbolKeyPartialEq.TheImpl as key_eq
 use Rattle.si_flat.specs.Numbered.{place_in}
-use Rattle.si_flat.specs.Flattening.{symbol_of_key, extra_of}
+use Rattle.si_flat.specs.Flattening.{symbol_of_key, met_extra}
 use Rattle.si_flat.proofs.Inserted.{inserted-place, key-shown, place-shown}
 use Rattle.si_flat.proofs.Keys.{key_is, symbol-Decides}
 use Rattle.si_flat.proofs.met.Met.outside.Goals as goal
@@ -19,12 +19,12 @@ returns-clause-extra c =
     let key : SymbolKey = record { kind = c.args.symbol.now.kind; side = c.args.symbol.now.side; arity = c.args.symbol.now.arity; text = c.as_bytes.result } in
     ap (map symbol_of_key) c.in_ok-place.ensures.keys
     ∙ key-shown symbol_of_key key_eq.eq-value.it same_symbol key_is c.args.self.now.extra.keys key
-    ∙ ap (insert_key same_symbol (extra_of c.args.self.now)) (same_parts c)
+    ∙ ap (insert_key same_symbol (met_extra c.args.self.now)) (same_parts c)
 
 pub returns-clause-place : goal.returns-clause-place
 returns-clause-place c more =
     let key : SymbolKey = record { kind = c.args.symbol.now.kind; side = c.args.symbol.now.side; arity = c.args.symbol.now.arity; text = c.as_bytes.result } in
-    let known = extra_of c.args.self.now in
+    let known = met_extra c.args.self.now in
     ap (λ l. place_in same_symbol (l ++ more) (symbol_of c.args.symbol.now)) (returns-clause-extra c)
     ∙ inserted-place same_symbol symbol-Decides known (symbol_of c.args.symbol.now) more
     ∙ ap (λ s. position_or_len (same_symbol s) known) (sym (same_parts c))

@@ -2,7 +2,7 @@ use Rattle.std.proofs.Common.{◌++◌, map, refl, ap, sym, ◌∙◌}
 use Rattle.std.specs.Prelude.{bytes_eq}
 use Rattle.std.proofs.lemmas.Slice.Eq.{bytes_eq-Decides}
 use Rattle.si_flat.specs.Numbered.{place_in}
-use Rattle.si_flat.specs.Flattening.{names_of}
+use Rattle.si_flat.specs.Flattening.{met_names}
 use Rattle.si_flat.proofs.Inserted.{inserted-place, key-shown, place-shown, lent_eq}
 use Rattle.si_flat.proofs.met.Met.variable.Goals as goal
 
@@ -14,6 +14,6 @@ pub returns-clause-number : goal.returns-clause-number
 returns-clause-number c more =
     let names = returns-clause-names c in
     ap (λ l. place_in bytes_eq (l ++ more) c.args.name.now) names
-    ∙ inserted-place bytes_eq bytes_eq-Decides (names_of c.args.self.now) c.args.name.now more
+    ∙ inserted-place bytes_eq bytes_eq-Decides (met_names c.args.self.now) c.args.name.now more
     ∙ sym (place-shown (λ k. k.now) lent_eq bytes_eq (λ k l. refl) c.args.name c.args.self.now.names.keys)
     ∙ sym c.in_ok-number.ensures.index

@@ -108,7 +108,8 @@ impl<'a> Met<'a> {
     ) -> Result<u32, AllocError>
         requires { length (met_extra self.old) < MOST_OCCURRENCES }
         ensures names { OnOk result (met_names self.new ≡ met_names self.old) }
-        ensures extra { OnOk result (met_extra self.new ≡ insert_all same_symbol (met_extra self.old)
+        ensures extra { OnOk result (met_extra self.new
+            ≡ insert_all same_symbol (met_extra self.old)
             (unnumbered (T.pairs table.now) (symbol_of symbol.now ∷ []))) }
         ensures number { IfOk result (IsNumber (T.pairs table.now) positive (met_extra self.new)
             (symbol_of symbol.now)) }
@@ -126,8 +127,8 @@ impl<'a> Met<'a> {
     fn outside(&mut self, symbol: &'a Sym) -> Result<u32, AllocError>
         requires { length (met_extra self.old) < MOST_OCCURRENCES }
         ensures names { OnOk result (met_names self.new ≡ met_names self.old) }
-        ensures extra { OnOk result (met_extra self.new ≡ insert_all same_symbol (met_extra self.old)
-            (symbol_of symbol.now ∷ [])) }
+        ensures extra { OnOk result (met_extra self.new
+            ≡ insert_all same_symbol (met_extra self.old) (symbol_of symbol.now ∷ [])) }
         ensures place { IfOk result (λ n. IsIndex same_symbol (met_extra self.new)
             (symbol_of symbol.now) n) }
         ensures small { IfOk result (λ n. n < MOST_OCCURRENCES) }

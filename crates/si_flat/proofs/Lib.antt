@@ -1,1 +1,10 @@
 pub mod Subterms
+pub mod Inserted
+pub mod Keys
+pub mod Numbers
+pub mod Walking
+pub mod FirstPlaces
+pub mod Slices
+pub mod ExtraNumbers
+pub mod FlattenLaws
+pub mod OneSymbol

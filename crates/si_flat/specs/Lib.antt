@@ -1,2 +1,4 @@
 pub mod Cells
 pub mod Numbered
+pub mod Flattened
+pub mod Flattening

@@ -2,11 +2,20 @@
 //!
 //! A symbol's cell has the number of cells of its subterm, so a subterm is a slice, and its end is
 //! found without a walk. A slice is whole if it is exactly one term; `specs/Cells.antt` says which.
+//!
+//! Entries and patterns of clauses are flattened with the numbers of a table of symbols:
+//! `specs/Flattened.antt` says what their cells stand for.
 #![tactic(auto)]
 
 ghost use Rattle.std.specs.Prelude.{◌≡◌, ◌<◌, IfOk, length, take, drop};
 ghost use Rattle.si_flat.specs.Cells.{IsWhole, span};
 
+mod flatten;
+mod met;
+mod walk;
+
+pub use flatten::{FlatQuery, flatten_entry, flatten_literal, flatten_pattern};
+pub use si_defs::Relation as Kind;
 use std::alloc::{AllocError, Global};
 use std::marker::Model;
 

@@ -1,0 +1,143 @@
+-- The cells of an entry stand for its numbered term.
+use Rattle.std.proofs.Common.{◌≡◌, ℕ, ◌+◌, ◌≤◌, Bool, ◌==◌, List, [], ◌∷◌, ◌++◌, length, map, refl, ap, subst, sym, ◌∙◌, arith, append-nil}
+use Rattle.std.specs.Prelude.{bytes_eq, Some}
+use Rattle.si_defs.specs.declared.TheConstants.{MOST_OCCURRENCES}
+use Rattle.std.proofs.lemmas.Slice.Eq.{bytes_eq-Decides}
+use Rattle.si_defs.specs.Bytes.{Bytes}
+use Rattle.si_defs.specs.Terms as terms
+use Rattle.si_defs.specs.Symbols.{Symbol, Numbering, same_symbol}
+use Rattle.si_defs.specs.Clauses as clauses
+use Rattle.si_defs.specs.Clauses.{IsSoundTerm, AreSoundTerms, IsSoundAtom}
+use Rattle.si_defs.specs.Entries as entries
+use Rattle.si_term.specs.Terms.{symbol_of}
+use Rattle.si_term.specs.declared.term.Sym.{Sym}
+use Rattle.si_flat.specs.declared.walk.Owner.{Owner}
+use Rattle.si_flat.specs.declared.walk.Owner.TheVariants.{Query, Entry}
+use Rattle.si_flat.specs.declared.walk.WrittenEntry.{WrittenEntry}
+use Rattle.si_flat.specs.Cells.{Variable, query, same_variable, cells_of, IsSound, AreSound}
+use Rattle.si_flat.specs.Numbered.{number_in, signed, place_in, numbered, all_numbered}
+use Rattle.si_flat.specs.Flattened.{extra_numbers, unnumbered, whole_of, is_positive, IsSoundEntry, numbered_entry, IsNumberedBy, IsFlatOf, IsQueryNumbering, FlattensPattern, symbol_slices, FillsLiteral}
+use Rattle.si_flat.specs.Flattening.{variable_of, met_names, met_extra, number_by, WalkState, walk_state, empty_walk, term_piece, Flattens, WritesEntry}
+use Rattle.si_flat.proofs.Inserted.{inserted-firsts, inserted_length}
+use Rattle.si_flat.proofs.ExtraNumbers.{all_have, extra_numbering}
+use Rattle.si_flat.proofs.Slices.{slices-numbered}
+use Rattle.si_flat.proofs.Walking.{variables_few}
+use Rattle.si_flat.proofs.Keys.{symbol-Decides}
+use Rattle.si_flat.proofs.FirstPlaces.{numbered_by}
+
+-- ---- each symbol keeps its arguments
+count-numbered : (n : Symbol → ℕ) (v : Bytes → Variable) (ts : clauses.Terms) → terms.count (all_numbered n v ts) ≡ terms.count ts
+count-numbered n v terms.none = refl
+count-numbered n v (terms.more t ts) = ap (λ k. 1 + k) (count-numbered n v ts)
+
+mutual
+  sound_numbered : (n : Symbol → ℕ) (v : Bytes → Variable) (t : clauses.Term) → IsSoundTerm t → IsSound (numbered n v t)
+  sound_numbered n v (terms.var x) h = tt
+  sound_numbered n v (terms.app s ts) h = (count-numbered n v ts ∙ sym h.0.with_arity, sound_all_numbered n v ts h.1)
+
+  sound_all_numbered : (n : Symbol → ℕ) (v : Bytes → Variable) (ts : clauses.Terms) → AreSoundTerms ts → AreSound (all_numbered n v ts)
+  sound_all_numbered n v terms.none h = tt
+  sound_all_numbered n v (terms.more t ts) h = (sound_numbered n v t h.0, sound_all_numbered n v ts h.1)
+
+sound_atom : (n : Symbol → ℕ) (v : Bytes → Variable) (t : clauses.Term) → IsSoundAtom t → IsSound (numbered n v t)
+sound_atom n v (terms.var x) h = absurd h
+sound_atom n v (terms.app s ts) h = (count-numbered n v ts ∙ sym h.0.with_arity, sound_all_numbered n v ts h.1)
+
+sound_whole : (n : Symbol → ℕ) (v : Bytes → Variable) (e : entries.Entry) → IsSoundEntry e → IsSound (numbered n v (whole_of e))
+sound_whole n v (entries.literal_entry l) h = sound_atom n v l.atom h.0
+sound_whole n v (entries.term_entry t) h = sound_numbered n v t h.0
+
+-- ---- variables
+variables-whole : (e : entries.Entry) → terms.variables (whole_of e) ≡ entries.entry_variables e
+variables-whole (entries.literal_entry l) = refl
+variables-whole (entries.term_entry t) = refl
+
+-- ---- what was written
+pub extra_written : (pairs : Numbering) (owner : Owner) (e : entries.Entry) (w : WrittenEntry) → WritesEntry pairs owner e w → met_extra w.met ≡ terms.firsts same_symbol (unnumbered pairs (terms.symbols (whole_of e)))
+extra_written pairs owner e w h = h.extra ∙ inserted-firsts same_symbol symbol-Decides (unnumbered pairs (terms.symbols (whole_of e)))
+
+cells_written : (pairs : Numbering) (owner : Owner) (e : entries.Entry) (w : WrittenEntry) → WritesEntry pairs owner e w → w.cells.items ≡ cells_of (numbered_entry (pairs ++ extra_numbers (met_extra w.met)) (variable_of owner) e)
+cells_written pairs owner e w h =
+    let names : met_names w.met ++ [] ≡ terms.firsts bytes_eq (entries.entry_variables e) =
+    append-nil (met_names w.met) ∙ h.names ∙ inserted-firsts bytes_eq bytes_eq-Decides (terms.variables (whole_of e)) ∙ ap (terms.firsts bytes_eq) (variables-whole e) in
+    h.cells [] []
+    ∙ λ i. cells_of (numbered (number_by pairs (is_positive e) (append-nil (met_extra w.met) i)) (λ x. variable_of owner (place_in bytes_eq (names i) x)) (whole_of e))
+
+numbered_whole : (pairs : Numbering) (variable : ℕ → Variable) (e : entries.Entry) → ((i j : ℕ) → same_variable (variable i) (variable j) ≡ (i == j)) → IsNumberedBy variable (numbered_entry pairs variable e)
+numbered_whole pairs variable (entries.literal_entry l) tells = numbered_by (signed l.positive (number_in pairs)) variable tells l.atom
+numbered_whole pairs variable (entries.term_entry t) tells = numbered_by (number_in pairs) variable tells t
+
+owner_tells : (owner : Owner) (i j : ℕ) → same_variable (variable_of owner i) (variable_of owner j) ≡ (i == j)
+owner_tells Query i j = refl
+owner_tells Entry i j = refl
+
+pub flat_written : (pairs : Numbering) (owner : Owner) (e : entries.Entry) (w : WrittenEntry) → IsSoundEntry e → WritesEntry pairs owner e w → IsFlatOf (pairs ++ extra_numbers (met_extra w.met)) (variable_of owner) e w.cells.items
+flat_written pairs owner e w sound h = record {
+  stands = record { cells_are = cells_written pairs owner e w h; sound = sound_whole _ _ e sound };
+  numbered = numbered_whole (pairs ++ extra_numbers (met_extra w.met)) (variable_of owner) e (owner_tells owner);
+}
+
+-- of an entry whose symbols all have numbers
+pub flat_known : (pairs : Numbering) (owner : Owner) (e : entries.Entry) (w : WrittenEntry) → IsSoundEntry e → WritesEntry pairs owner e w → met_extra w.met ≡ [] → IsFlatOf pairs (variable_of owner) e w.cells.items
+flat_known pairs owner e w sound h none =
+    subst (λ ps. IsFlatOf ps (variable_of owner) e w.cells.items) (ap (λ ss. pairs ++ extra_numbers ss) none ∙ append-nil pairs) (flat_written pairs owner e w sound h)
+
+-- none was met where none lacks a number, and the other way round
+firsts_none : {V : Type 0} (same : V → V → Bool) (xs : List V) → terms.firsts same xs ≡ [] → xs ≡ []
+firsts_none same [] h = refl
+firsts_none same (x ∷ xs) h = cc
+
+pub all_numbered_of : (pairs : Numbering) (owner : Owner) (e : entries.Entry) (w : WrittenEntry) → WritesEntry pairs owner e w → met_extra w.met ≡ [] → unnumbered pairs (terms.symbols (whole_of e)) ≡ []
+all_numbered_of pairs owner e w h none = firsts_none same_symbol _ (sym (extra_written pairs owner e w h) ∙ none)
+
+pub sound_pattern : (p : clauses.Pattern) → clauses.IsSoundPattern p → IsSoundEntry (entries.pattern_entry p)
+sound_pattern (clauses.literal_pattern l) h = h
+sound_pattern (clauses.term_pattern t) h = h
+
+-- what was written for a pattern is its flat term
+pub pattern_written : (pairs : Numbering) (p : clauses.Pattern) (e : entries.Entry) (w : WrittenEntry) (extra : List Sym)
+    → e ≡ entries.pattern_entry p
+    → clauses.IsSoundPattern p
+    → WritesEntry pairs Query e w
+    → map symbol_of extra ≡ met_extra w.met
+    → FlattensPattern pairs p (record { flat = w.cells.items; extra = extra })
+pattern_written pairs p e w extra is sound h copied =
+    let own : WritesEntry pairs Query (entries.pattern_entry p) w = subst (λ k. WritesEntry pairs Query k w) is h in
+    let flat = flat_written pairs Query (entries.pattern_entry p) w (sound_pattern p sound) own in
+    let all = terms.symbols (whole_of (entries.pattern_entry p)) in
+    let lacks = copied ∙ extra_written pairs Query (entries.pattern_entry p) w own in
+    record {
+      extra = lacks;
+      flat = subst (λ ss. IsFlatOf (pairs ++ extra_numbers ss) query (entries.pattern_entry p) w.cells.items) (sym copied) flat;
+      complete = ap (λ ss. unnumbered (pairs ++ extra_numbers ss) all) lacks ∙ all_have pairs all;
+      numbering = λ numbering. subst (λ ss. IsQueryNumbering (pairs ++ extra_numbers ss)) (sym lacks) (extra_numbering pairs all numbering);
+    }
+
+-- ---- a literal's atom in a buffer
+pub literal_written : (pairs : Numbering) (l : clauses.Literal) (old : WalkState) (w : WrittenEntry)
+    → old.names ≡ []
+    → old.extra ≡ []
+    → old.cells ≡ []
+    → Flattens pairs (record { positive = l.positive; owner = Entry }) old (walk_state w.met w.cells.items) (term_piece l.atom)
+    → WritesEntry pairs Entry (entries.literal_entry l) w
+literal_written pairs l old w names extra cells h =
+    let none : old ≡ empty_walk = λ i. record { names = names i; extra = extra i; cells = cells i } in
+    subst (λ s. Flattens pairs (record { positive = l.positive; owner = Entry }) s (walk_state w.met w.cells.items) (term_piece l.atom)) none h
+
+pub names_few : (pairs : Numbering) (l : clauses.Literal) (w : WrittenEntry) → IsSoundEntry (entries.literal_entry l) → WritesEntry pairs Entry (entries.literal_entry l) w → length (met_names w.met) ≤ MOST_OCCURRENCES
+names_few pairs l w sound h = omega (arith, ap length h.names, inserted_length bytes_eq [] (terms.variables l.atom), variables_few l.atom, sound.1)
+
+pub literal_filled : (pairs : Numbering) (l : clauses.Literal) (w : WrittenEntry) (n : ℕ)
+    → IsSoundEntry (entries.literal_entry l)
+    → WritesEntry pairs Entry (entries.literal_entry l) w
+    → met_extra w.met ≡ []
+    → n ≡ length (met_names w.met)
+    → FillsLiteral pairs l w.cells.items (Some n)
+literal_filled pairs l w n sound h none counted =
+    let flat = flat_known pairs Entry (entries.literal_entry l) w sound h none in
+    record {
+      known = all_numbered_of pairs Entry (entries.literal_entry l) w h none;
+      flat = flat;
+      slices = ap symbol_slices flat.stands.cells_are ∙ slices-numbered (signed l.positive (number_in pairs)) _ l.atom;
+      count = counted ∙ ap length (h.names ∙ inserted-firsts bytes_eq bytes_eq-Decides (terms.variables l.atom));
+    }

@@ -1,0 +1,20 @@
+use Rattle.std.proofs.Common.{◌≡◌, []}
+use Rattle.si_term.specs.Meaning.{entry_of}
+use Rattle.si_flat.specs.declared.walk.Owner.TheVariants.{Entry}
+use Rattle.si_flat.specs.Flattening.{met_extra}
+use Rattle.si_flat.proofs.FlattenLaws.{flat_known, all_numbered_of}
+use Rattle.si_flat.proofs.flatten.flatten_entry.Goals as goal
+
+pub invariant_of-result : goal.invariant_of-result
+invariant_of-result g c =
+    let none : met_extra c.in_ok-written.written.met ≡ [] = c.has_extra.ensures.0 c.if-has_extra.false in
+    let flat = flat_known (g.T.SymTable.pairs c.args.table.now) Entry (entry_of c.args.entry) c.in_ok-written.written c.requires c.in_ok-written.ensures none in
+    (_, flat.stands)
+
+pub returns : goal.returns
+returns g c =
+    let none : met_extra c.in_ok-written.written.met ≡ [] = c.has_extra.ensures.0 c.if-has_extra.false in
+    let pairs = g.T.SymTable.pairs c.args.table.now in (
+      all_numbered_of pairs Entry (entry_of c.args.entry) c.in_ok-written.written c.in_ok-written.ensures none,
+      flat_known pairs Entry (entry_of c.args.entry) c.in_ok-written.written c.requires c.in_ok-written.ensures none,
+    )

@@ -1,0 +1,20 @@
+use Rattle.std.proofs.Common.{◌+◌, ◌*◌, map}
+use Rattle.si_defs.specs.Terms.{row, size, sizes}
+use Rattle.si_term.specs.Terms.{term_of}
+use Rattle.si_term.proofs.Rows.{from}
+use Rattle.si_flat.specs.Flattening.{WalkState, walk_state, MayMeet, Flattens, terms_piece}
+use Rattle.si_flat.proofs.walk.+write.Given as goal
+
+-- what follows from here, with what is left, follows from the start
+abbrev pub invariant-write_terms-loop-i : goal.invariant-write_terms-loop-i
+invariant-write_terms-loop-i g l =
+    ((new : WalkState)
+    → Flattens (g.T.SymTable.pairs l.table) l.scheme (walk_state l.met l.cells.items) new (terms_piece (from l.terms l.i))
+    → Flattens (g.T.SymTable.pairs l.table) l.scheme (walk_state l.fn.met l.fn.cells.items) new (terms_piece (row (map term_of l.terms))))
+    × MayMeet l.met (sizes (from l.terms l.i))
+
+abbrev pub decreases-write_term : goal.decreases-write_term
+decreases-write_term g l = 2 * size (term_of l.term.now)
+
+abbrev pub decreases-write_terms : goal.decreases-write_terms
+decreases-write_terms g l = 2 * sizes (row (map term_of l.terms.now)) + 1

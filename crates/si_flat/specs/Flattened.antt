@@ -1,0 +1,123 @@
+-- What the flat terms of entries and of patterns stand for.
+use Rattle.std.specs.Prelude.{◌≡◌, ℕ, zero, suc, ◌+◌, ◌*◌, ◌^◌, ◌≤◌, Bool, true, false, not, ◌||◌, List, [], ◌∷◌, ◌++◌, length, map, take, filter, bytes_eq, Option, Some, None}
+use Rattle.si_defs.specs.Terms.{size, variables, symbols, firsts}
+use Rattle.si_defs.specs.Symbols.{Symbol, Numbering, IsNumbering, same_symbol}
+use Rattle.si_defs.specs.Substitutions.{IsAmong}
+use Rattle.si_defs.specs.Clauses as clauses
+use Rattle.si_defs.specs.Clauses.{IsSoundTerm, IsSoundLiteral, literal_size}
+use Rattle.si_defs.specs.Entries.{Entry, literal_entry, term_entry, entry_variables, pattern_entry}
+use Rattle.si_defs.specs.declared.TheConstants.{MOST_OCCURRENCES}
+use Rattle.si_term.specs.Terms.{symbol_of}
+use Rattle.si_term.specs.declared.term.Sym.{Sym}
+use Rattle.si_term.specs.Walks.{subterms}
+use Rattle.si_flat.specs.declared.Cell.{Cell}
+use Rattle.si_flat.specs.declared.Cell.TheVariants as cell
+use Rattle.si_flat.specs.declared.flatten.FlatQuery.{FlatQuery}
+use Rattle.si_flat.specs.Cells.{Variable, query, entry, same_variable, Term, StandsFor, cells_of}
+use Rattle.si_flat.specs.Numbered.{number_in, signed, place_in, numbered}
+
+-- ---- numbers for the symbols that a table lacks
+abbrev pub numbers_from : ℕ → List Symbol → Numbering
+numbers_from n [] = []
+numbers_from n (s ∷ ss) = (s, n) ∷ numbers_from (2 + n) ss
+
+-- Each gets an even number, and no table has one of these.
+abbrev pub extra_numbers : List Symbol → Numbering
+extra_numbers ss = numbers_from (2 ^ 31) ss
+
+abbrev pub has_number : Numbering → Symbol → Bool
+has_number [] s = false
+has_number (pair ∷ pairs) s = same_symbol pair.0 s || has_number pairs s
+
+-- As in a table a symbol has one number, no two have the same, and all are even. But they may be
+-- larger.
+pub record IsQueryNumbering (pairs : Numbering) : Type 0 where
+  pub one_number : (s : Symbol) (m n : ℕ) → IsAmong pairs (s, m) → IsAmong pairs (s, n) → m ≡ n
+  pub one_symbol : (s r : Symbol) (n : ℕ) → IsAmong pairs (s, n) → IsAmong pairs (r, n) → s ≡ r
+  pub even : (s : Symbol) (n : ℕ) → IsAmong pairs (s, n) → (half : ℕ) × (n ≡ 2 * half)
+
+-- those of the symbols that have no number
+abbrev pub unnumbered : Numbering → List Symbol → List Symbol
+unnumbered pairs ss = filter (λ s. not (has_number pairs s)) ss
+
+-- ---- entries
+-- the atom, or the term
+abbrev pub whole_of : Entry → clauses.Term
+whole_of (literal_entry l) = l.atom
+whole_of (term_entry t) = t
+
+-- a term by itself has no sign
+abbrev pub is_positive : Entry → Bool
+is_positive (literal_entry l) = l.positive
+is_positive (term_entry t) = true
+
+abbrev pub IsSoundEntry : Entry → Type 0
+IsSoundEntry (literal_entry l) = IsSoundLiteral l × (literal_size l ≤ MOST_OCCURRENCES)
+IsSoundEntry (term_entry t) = IsSoundTerm t × (size t ≤ MOST_OCCURRENCES)
+
+-- The entry with these numbers for its symbols. Its variables are numbered from 0 in the order of
+-- their first occurrence.
+abbrev pub numbered_entry : Numbering → (ℕ → Variable) → Entry → Term
+numbered_entry pairs variable e =
+    numbered
+    (signed (is_positive e) (number_in pairs))
+    (λ x. variable (place_in bytes_eq (firsts bytes_eq (entry_variables e)) x))
+    (whole_of e)
+
+-- so many variables, from a number on
+abbrev pub counted_from : (ℕ → Variable) → ℕ → ℕ → List Variable
+counted_from variable k zero = []
+counted_from variable k (suc n) = variable k ∷ counted_from variable (suc k) n
+
+-- its variables are numbered from 0 in the order of their first occurrence
+abbrev pub IsNumberedBy : (ℕ → Variable) → Term → Type 0
+IsNumberedBy variable t = (n : ℕ) × (firsts same_variable (variables t) ≡ counted_from variable 0 n)
+
+pub record IsFlatOf (pairs : Numbering) (variable : ℕ → Variable) (e : Entry) (cells : List Cell) : Type 0 where
+  pub stands : StandsFor cells (numbered_entry pairs variable e)
+  pub numbered : IsNumberedBy variable (numbered_entry pairs variable e)
+
+-- the entry's term, where each of its symbols has a number, and else none
+abbrev pub FlattensEntry : Numbering → Entry → Option (List Cell) → Type 0
+FlattensEntry pairs e None = unnumbered pairs (symbols (whole_of e)) ≡ [] → ⊥
+FlattensEntry pairs e (Some cells) = (unnumbered pairs (symbols (whole_of e)) ≡ []) × IsFlatOf pairs entry e cells
+
+-- a table's pairs, and then those of the symbols that it lacks
+abbrev pub query_numbers : Numbering → List Sym → Numbering
+query_numbers pairs extra = pairs ++ extra_numbers (map symbol_of extra)
+
+-- Each of the symbols that have no number comes once, and they are numbered behind the others. All
+-- symbols have numbers then.
+pub record FlattensPattern (pairs : Numbering) (p : clauses.Pattern) (q : FlatQuery) : Type 0 where
+  pub extra : map symbol_of q.extra ≡ firsts same_symbol (unnumbered pairs (symbols (whole_of (pattern_entry p))))
+  pub flat : IsFlatOf (query_numbers pairs q.extra) query (pattern_entry p) q.flat
+  pub complete : unnumbered (query_numbers pairs q.extra) (symbols (whole_of (pattern_entry p))) ≡ []
+  pub numbering : IsNumbering pairs → IsQueryNumbering (query_numbers pairs q.extra)
+
+-- ---- a literal in a buffer
+-- a term of the literal, its variables numbered by their first occurrence in the literal
+abbrev pub numbered_within : Numbering → clauses.Literal → clauses.Term → Term
+numbered_within pairs l t =
+    numbered
+    (signed l.positive (number_in pairs))
+    (λ x. entry (place_in bytes_eq (firsts bytes_eq (variables l.atom)) x))
+    t
+
+-- the slices that begin with the cell of a symbol, in order
+abbrev pub symbol_slices : List Cell → List (List Cell)
+symbol_slices [] = []
+symbol_slices (cell.App s a n ∷ cells) = take n (cell.App s a n ∷ cells) ∷ symbol_slices cells
+symbol_slices (_ ∷ cells) = symbol_slices cells
+
+-- The cells are those of the literal's term, and the slices are those of its subterms, the atom
+-- first. The literal has n variables.
+pub record HoldsLiteral (pairs : Numbering) (l : clauses.Literal) (cells : List Cell) (n : ℕ) : Type 0 where
+  pub known : unnumbered pairs (symbols l.atom) ≡ []
+  pub flat : IsFlatOf pairs entry (literal_entry l) cells
+  pub slices : symbol_slices cells ≡ map (λ t. cells_of (numbered_within pairs l t)) (subterms l.atom)
+  pub count : n ≡ length (firsts bytes_eq (variables l.atom))
+
+-- the literal's cells, where each of its symbols has a number, and else none
+abbrev pub FillsLiteral : Numbering → clauses.Literal → List Cell → Option ℕ → Type 0
+FillsLiteral pairs l cells None = (unnumbered pairs (symbols l.atom) ≡ [] → ⊥) × (cells ≡ [])
+FillsLiteral pairs l cells (Some n) = HoldsLiteral pairs l cells n

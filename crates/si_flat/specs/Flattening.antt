@@ -1,0 +1,96 @@
+-- What a walk over terms of the program has met and written.
+use Rattle.std.specs.Prelude.{◌≡◌, ℕ, ◌+◌, ◌≤◌, Bool, List, [], ◌++◌, length, map, bytes_eq}
+use Rattle.indexmap.specs.IndexSet.{insert_all}
+use Rattle.si_defs.specs.Bytes.{Bytes}
+use Rattle.si_defs.specs.Terms as terms
+use Rattle.si_defs.specs.Symbols.{Symbol, Numbering, same_symbol}
+use Rattle.si_defs.specs.Clauses as clauses
+use Rattle.si_defs.specs.Entries as entries
+use Rattle.si_defs.specs.declared.TheConstants.{MOST_OCCURRENCES}
+use Rattle.si_flat.specs.declared.Cell.{Cell}
+use Rattle.si_flat.specs.declared.walk.Owner.{Owner}
+use Rattle.si_flat.specs.declared.walk.Owner.TheVariants.{Query, Entry}
+use Rattle.si_flat.specs.declared.walk.Scheme.{Scheme}
+use Rattle.si_flat.specs.declared.walk.WrittenEntry.{WrittenEntry}
+use Rattle.si_flat.specs.declared.met.Met.{Met}
+use Rattle.si_flat.specs.declared.met.SymbolKey.{SymbolKey}
+use Rattle.si_flat.specs.Cells.{Variable, query, entry, cells_of, cells_of_all}
+use Rattle.si_flat.specs.Flattened.{extra_numbers, unnumbered, is_positive, whole_of}
+use Rattle.si_flat.specs.Numbered.{number_in, signed, place_in, numbered, all_numbered}
+
+-- ---- a walk over terms that has met some variables and symbols, and has written some cells
+abbrev pub variable_of : Owner → ℕ → Variable
+variable_of Query n = query n
+variable_of Entry n = entry n
+
+abbrev pub symbol_of_key : SymbolKey → Symbol
+symbol_of_key k = record { kind = k.kind; text = k.text.now; side = k.side; arity = k.arity }
+
+abbrev pub met_names : Met → List Bytes
+met_names m = map (λ k. k.now) m.names.keys
+
+abbrev pub met_extra : Met → List Symbol
+met_extra m = map symbol_of_key m.extra.keys
+
+-- it may meet so many more
+pub record MayMeet (m : Met) (n : ℕ) : Type 0 where
+  pub names : length (met_names m) + n ≤ MOST_OCCURRENCES
+  pub extra : length (met_extra m) + n ≤ MOST_OCCURRENCES
+
+pub record WalkState : Type 0 where
+  pub names : List Bytes
+  pub extra : List Symbol
+  pub cells : List Cell
+
+abbrev pub walk_state : Met → List Cell → WalkState
+walk_state m cells = record { names = met_names m; extra = met_extra m; cells = cells }
+
+-- so many stand before x, whatever comes behind
+abbrev pub IsIndex : {V : Type 0} → (V → V → Bool) → List V → V → ℕ → Type 0
+IsIndex {V} same xs x n = (more : List V) → place_in same (xs ++ more) x ≡ n
+
+-- the number of a symbol, whatever is met later
+abbrev pub number_by : Numbering → Bool → List Symbol → Symbol → ℕ
+number_by pairs positive extra = signed positive (number_in (pairs ++ extra_numbers extra))
+
+abbrev pub IsNumber : Numbering → Bool → List Symbol → Symbol → ℕ → Type 0
+IsNumber pairs positive extra s n = (more : List Symbol) → number_by pairs positive (extra ++ more) s ≡ n
+
+-- what is walked over: its variables and symbols, and its cells by their numbers
+pub record WalkPiece : Type 0 where
+  pub variables : List Bytes
+  pub symbols : List Symbol
+  pub cells : (Symbol → ℕ) → (Bytes → Variable) → List Cell
+
+abbrev pub term_piece : clauses.Term → WalkPiece
+term_piece t = record {
+  variables = terms.variables t;
+  symbols = terms.symbols t;
+  cells = λ number variable. cells_of (numbered number variable t);
+}
+
+abbrev pub terms_piece : clauses.Terms → WalkPiece
+terms_piece ts = record {
+  variables = terms.variables_of_all ts;
+  symbols = terms.symbols_of_all ts;
+  cells = λ number variable. cells_of_all (all_numbered number variable ts);
+}
+
+-- Its variables and symbols were met in turn, and its cells were written, whatever is met later.
+pub record Flattens (pairs : Numbering) (scheme : Scheme) (old new : WalkState) (piece : WalkPiece) : Type 0 where
+  pub names : new.names ≡ insert_all bytes_eq old.names piece.variables
+  pub extra : new.extra ≡ insert_all same_symbol old.extra (unnumbered pairs piece.symbols)
+  pub cells : (xs : List Bytes) (ss : List Symbol)
+      → new.cells
+      ≡ old.cells
+      ++ piece.cells
+      (number_by pairs scheme.positive (new.extra ++ ss))
+      (λ x. variable_of scheme.owner (place_in bytes_eq (new.names ++ xs) x))
+
+-- ---- an entry by itself
+abbrev pub empty_walk : WalkState
+empty_walk = record { names = []; extra = []; cells = [] }
+
+abbrev pub WritesEntry : Numbering → Owner → entries.Entry → WrittenEntry → Type 0
+WritesEntry pairs owner e w =
+    Flattens pairs (record { positive = is_positive e; owner = owner }) empty_walk (walk_state w.met w.cells.items) (term_piece (whole_of e))

@@ -1,0 +1,114 @@
+// A walk over a term of the program, which writes its cells.
+ghost use Rattle.std.specs.Prelude.{◌≡◌, ◌<◌, ◌-◌, ◌^◌, OnOk, length, map, slice_set};
+ghost use Rattle.si_defs.specs.Terms.{row, size, sizes};
+ghost use Rattle.si_term.specs.Terms.{term_of};
+ghost use Rattle.si_flat.specs.declared.Cell.TheVariants.{App};
+ghost use Rattle.si_flat.specs.Cells.{variable_cell};
+ghost use Rattle.si_flat.specs.Flattening.{variable_of, walk_state, MayMeet, Flattens, term_piece, terms_piece};
+
+use crate::Cell;
+use crate::met::Met;
+use si_term::{SymTable, Term};
+use std::alloc::AllocError;
+
+/// Whose variables they are.
+#[derive(Clone, Copy)]
+pub(crate) enum Owner {
+    Query,
+    Entry,
+}
+
+/// What the numbers of symbols and the kind of variables go by.
+#[derive(Clone, Copy)]
+pub(crate) struct Scheme {
+    /// Whether the atom is that of a positive literal, or a term by itself.
+    pub(crate) positive: bool,
+    pub(crate) owner: Owner,
+}
+
+/// What was met, and the cells that were written.
+#[derive(Drop)]
+pub(crate) struct WrittenEntry<'a> {
+    pub(crate) met: Met<'a>,
+    pub(crate) cells: Vec<Cell>,
+}
+
+impl Owner {
+    // The cell of a variable.
+    fn cell(self, number: u32) -> Cell
+        ensures { result ≡ variable_cell (variable_of self number) }
+    {
+        match self {
+            Owner::Query => Cell::Query(number),
+            Owner::Entry => Cell::Entry(number),
+        }
+    }
+}
+
+// Appends the cells of a term.
+#[cycle(write)]
+pub(crate) fn write_term<'a, T: SymTable>(
+    table: &T,
+    scheme: Scheme,
+    term: &'a Term,
+    met: &mut Met<'a>,
+    cells: &mut Vec<Cell>,
+) -> Result<(), AllocError>
+    requires room { MayMeet met.old (size (term_of term.now)) }
+    ensures { OnOk result (Flattens (T.pairs table.now) scheme (walk_state met.old cells.old.items)
+        (walk_state met.new cells.new.items) (term_piece (term_of term.now))) }
+{
+    match term {
+        Term::Var(name) => {
+            let number = met.variable(name.as_bytes())?;
+            cells.push(scheme.owner.cell(number))?;
+            Ok(())
+        }
+        Term::App(symbol, arguments) => {
+            let arity = symbol.arity;
+            let number = met.symbol(table, scheme.positive, symbol)?;
+            let at = cells.len();
+            cells.push(Cell::App {
+                sym: number,
+                arity,
+                len: 1,
+            })?;
+            write_terms(table, scheme, arguments.as_slice(), met, cells)?;
+            close(cells, at, number, arity);
+            Ok(())
+        }
+    }
+}
+
+// Puts the cell of a symbol before its arguments, which are all that stands behind.
+fn close(cells: &mut Vec<Cell>, at: usize, number: u32, arity: u32)
+    requires inside { at < length cells.old.items }
+    requires short { length cells.old.items - at < 2 ^ 32 }
+    ensures { cells.new.items ≡ slice_set cells.old.items at
+        (App number arity (length cells.old.items - at)) }
+{
+    let len = (cells.len() - at) as u32;
+    cells[at] = Cell::App {
+        sym: number,
+        arity,
+        len,
+    };
+}
+
+#[cycle(write)]
+fn write_terms<'a, T: SymTable>(
+    table: &T,
+    scheme: Scheme,
+    terms: &'a [Term],
+    met: &mut Met<'a>,
+    cells: &mut Vec<Cell>,
+) -> Result<(), AllocError>
+    requires room { MayMeet met.old (sizes (row (map term_of terms.now))) }
+    ensures { OnOk result (Flattens (T.pairs table.now) scheme (walk_state met.old cells.old.items)
+        (walk_state met.new cells.new.items) (terms_piece (row (map term_of terms.now)))) }
+{
+    for i in 0..terms.len() {
+        write_term(table, scheme, &terms[i], met, cells)?;
+    }
+    Ok(())
+}

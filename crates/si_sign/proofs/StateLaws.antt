@@ -12,7 +12,7 @@ use Rattle.si_sign.proofs.UsesOf.{among_left, among_right, among_append, key, am
 use Rattle.si_sign.proofs.TakeLaws.{symbols_used, used_symbols, agree_within}
 
 -- ---- one clause more or less
-state_append : (cs ds : List Clause) → state_symbols (cs ++ ds) ≡ state_symbols cs ++ state_symbols ds
+pub state_append : (cs ds : List Clause) → state_symbols (cs ++ ds) ≡ state_symbols cs ++ state_symbols ds
 state_append [] ds = refl
 state_append (c ∷ cs) ds = ap (λ l. clause_symbols c ++ l) (state_append cs ds) ∙ sym (append_assoc (clause_symbols c) (state_symbols cs) (state_symbols ds))
 

@@ -9,3 +9,4 @@ pub mod StepLaws
 pub mod SoFar
 pub mod StateLaws
 pub mod StoreLaws
+pub mod PlainLaws

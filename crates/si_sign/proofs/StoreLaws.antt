@@ -1,8 +1,8 @@
 -- A list of clauses that is stored stays so when a clause is accepted, and when one goes.
-use Rattle.std.proofs.Common.{◌≡◌, ◌⊎◌, inl, inr, ℕ, ◌+◌, ◌≤◌, List, [], ◌∷◌, ◌++◌, length, map, refl, sym, ap, ◌∙◌, subst, arith, append_assoc, append-nil, length-append}
+use Rattle.std.proofs.Common.{◌≡◌, ◌⊎◌, inl, inr, ℕ, ◌+◌, List, [], ◌∷◌, ◌++◌, length, map, refl, sym, ap, ◌∙◌, subst, arith, append-nil, length-append}
 use Rattle.std.specs.List.{AllByRecursion}
 use Rattle.std.proofs.lemmas.List.{length-map}
-use Rattle.si_defs.specs.Clauses.{Name, Clause, IsSoundClause}
+use Rattle.si_defs.specs.Clauses.{Clause, IsSoundClause}
 use Rattle.si_defs.specs.Entries.{entries, placed_in, state_entries, clause_symbols, state_symbols}
 use Rattle.si_defs.specs.Substitutions.{IsAmong, AreDistinct}
 use Rattle.si_state.specs.Acceptance.{names, AllAgree, Accepts}
@@ -30,6 +30,10 @@ module _ {A : Type 0} where
   all_more : (P : A → Type 0) (xs : List A) (x : A) → AllByRecursion P xs → P x → AllByRecursion P (xs ++ x ∷ [])
   all_more P [] x all one = (one, tt)
   all_more P (y ∷ ys) x all one = (all.0, all_more P ys x all.1 one)
+
+  pub all_here : (P : A → Type 0) (xs : List A) (y : A) (zs : List A) → AllByRecursion P (xs ++ y ∷ zs) → P y
+  all_here P [] y zs all = all.0
+  all_here P (x ∷ xs) y zs all = all_here P xs y zs all.1
 
   all_less : (P : A → Type 0) (xs : List A) (y : A) (zs : List A) → AllByRecursion P (xs ++ y ∷ zs) → AllByRecursion P (xs ++ zs)
   all_less P [] y zs all = all.1

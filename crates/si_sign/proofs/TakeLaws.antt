@@ -1,9 +1,9 @@
 -- Occurrences that are taken, refused and given back one after the other.
-use Rattle.std.proofs.Common.{◌≡◌, ◌⊎◌, inl, inr, ℕ, zero, suc, ◌+◌, ◌≤◌, List, [], ◌∷◌, ◌++◌, length, refl, sym, ap, ◌∙◌, subst, arith, append_assoc, append-nil, length-append}
+use Rattle.std.proofs.Common.{◌≡◌, ◌⊎◌, inl, inr, ℕ, zero, suc, ◌+◌, ◌≤◌, List, [], ◌∷◌, ◌++◌, length, sym, ap, ◌∙◌, subst, arith, append_assoc, append-nil, length-append}
 use Rattle.std.specs.Prelude.{Result, Ok, Err, OnOk, OnErr}
 use Rattle.si_defs.specs.Symbols.{Symbol, times}
 use Rattle.si_defs.specs.Substitutions.{IsAmong}
-use Rattle.si_state.specs.Acceptance.{Clashes, Agrees, AllAgree}
+use Rattle.si_state.specs.Acceptance.{Clashes, AllAgree}
 use Rattle.si_state.specs.Signatures.{Used, Signature, IsSignature, symbols, numbering, uses_of, KeepsNumbers}
 use Rattle.si_sign.specs.Taking.{Takes, GivesBack, RefusesFrom}
 use Rattle.si_sign.specs.declared.faults.TakeFault.{TakeFault}

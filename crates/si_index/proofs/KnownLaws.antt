@@ -1,13 +1,12 @@
 -- What is known of clauses, as one is added, refused or taken away.
-use Rattle.std.proofs.Common.{◌≡◌, ◌⊎◌, inl, inr, ℕ, suc, ◌+◌, ◌-◌, ◌≤◌, List, [], ◌∷◌, ◌++◌, Option, None, Some, IsSome, length, refl, sym, ap, ◌∙◌, subst, arith, length-append}
-use Rattle.std.specs.List.{AllByRecursion}
+use Rattle.std.proofs.Common.{◌≡◌, inr, ℕ, ◌+◌, ◌-◌, ◌≤◌, List, [], ◌∷◌, ◌++◌, Option, None, Some, IsSome, length, refl, sym, ap, ◌∙◌, subst, arith, append-nil, length-append}
 use Rattle.std.proofs.lemmas.List.{map-append}
 use Rattle.si_defs.specs.Symbols.{Symbol, times}
 use Rattle.si_defs.specs.Clauses.{Name, Clause, IsSoundClause}
 use Rattle.si_defs.specs.Entries.{entries, state_entries, clause_symbols, state_symbols}
-use Rattle.si_defs.specs.Substitutions.{IsAmong, AreDistinct}
-use Rattle.si_state.specs.Acceptance.{IsTaken, HasDistinctNames, Clashes, AllAgree, IsFirstClash, Accepts}
-use Rattle.si_state.specs.Signatures.{Signature, IsSignature, IsSignatureOf, symbols, keys, uses_of, total, CountsSymbols}
+use Rattle.si_defs.specs.Substitutions.{IsAmong}
+use Rattle.si_state.specs.Acceptance.{IsTaken, Accepts}
+use Rattle.si_state.specs.Signatures.{Signature, IsSignature, IsSignatureOf, uses_of, total}
 use Rattle.si_term.specs.Meaning.{clause_of, name_of}
 use Rattle.si_term.specs.declared.clause.Clause as term
 use Rattle.si_term.proofs.EntryHeads.{length-symbols}
@@ -16,8 +15,10 @@ use Rattle.si_sign.specs.declared.faults.AddFault.{AddFault}
 use Rattle.si_sign.specs.declared.faults.AddFault.TheVariants as add_fault
 use Rattle.si_sign.specs.declared.uses.TheConstants.{MOST_USES}
 use Rattle.si_sign.proofs.SymbolLaws.{differs}
-use Rattle.si_sign.proofs.UsesOf.{among_left, among_right, among_append, all_among, one_of_all, times_among, among_times}
-use Rattle.si_sign.proofs.TakeLaws.{symbols_used, used_symbols}
+use Rattle.si_sign.specs.Shapes.{NamesFirstClash}
+use Rattle.si_sign.proofs.StateLaws.{agrees_in_state, clashes_in_state}
+use Rattle.si_sign.proofs.StoreLaws.{stored_more, stored_less}
+use Rattle.si_sign.proofs.UsesOf.{among_right}
 use Rattle.si_index.specs.Keyed.{HasKey, HasKeyAt, IsTakenOut}
 use Rattle.si_index.specs.Kept.{clauses_of}
 use Rattle.si_index.specs.Names.{key_of, ChangesName}
@@ -26,59 +27,7 @@ use Rattle.si_index.specs.Stored.{IsKept}
 use Rattle.si_index.specs.declared.known.Known.{Known}
 use Rattle.si_index.specs.declared.names.Names.{Names}
 use Rattle.si_index.proofs.NamedLaws.{item_of, key_taken, last_behind, among_taken, leads_taken, unknown_free, named_more, named_less, named_stays}
-use Rattle.si_index.proofs.StoreLaws.{symbols_few, entries_between, times_between, sound_between, sound_put, distinct_between, distinct_put, none_behind}
-
--- ---- the symbols that are known are those of the clauses
--- symbols that agree with some agree with fewer
-agree_fewer : (ks ls own : List Symbol) → ((r : Symbol) → IsAmong ls r → IsAmong ks r) → AllAgree ks own → AllAgree ls own
-agree_fewer ks ls [] fewer a = tt
-agree_fewer ks ls (s ∷ own) fewer a = (
-  all_among (λ r. Clashes s r → ⊥) ls (λ r h. one_of_all (λ r. Clashes s r → ⊥) ks r a.0 (fewer r h)),
-  agree_fewer (ks ++ s ∷ []) (ls ++ s ∷ []) own (λ r h. by r (among_append ls (s ∷ []) r h)) a.1,
-) where
-  by : (r : Symbol) → IsAmong ls r ⊎ IsAmong (s ∷ []) r → IsAmong (ks ++ s ∷ []) r
-  by r (inl h) = among_left ks (s ∷ []) r (fewer r h)
-  by r (inr h) = among_right ks (s ∷ []) r h
-
-module _ (cs : List Clause) (us : Signature) (is : IsSignature us) (of : IsSignatureOf cs us) where
-  pub known_symbol : (s : Symbol) → IsAmong (symbols us) s → IsAmong (state_symbols cs) s
-  known_symbol s h = among_times s (state_symbols cs) (omega (arith, of s, symbols_used us is s h))
-
-  pub symbol_known : (s : Symbol) → IsAmong (state_symbols cs) s → IsAmong (symbols us) s
-  symbol_known s h = used_symbols us s (omega (arith, of s, times_among s (state_symbols cs) h))
-
-  pub agree_known : (own : List Symbol) → AllAgree (symbols us) own → AllAgree (state_symbols cs) own
-  agree_known own a = agree_fewer (symbols us) (state_symbols cs) own symbol_known a
-
-  pub clash_known : (own : List Symbol) (number : ℕ) (found kept : Symbol) → IsFirstClash (symbols us) own number found kept
-      → IsFirstClash (state_symbols cs) own number found kept
-  clash_known own number found kept first = record {
-    before = first.before;
-    after = first.after;
-    splits = first.splits;
-    position = first.position;
-    earlier = agree_known first.before first.earlier;
-    against = by (among_append (symbols us) first.before kept first.against);
-    clashes = first.clashes;
-  } where
-    by : IsAmong (symbols us) kept ⊎ IsAmong first.before kept → IsAmong (state_symbols cs ++ first.before) kept
-    by (inl h) = among_left (state_symbols cs) first.before kept (known_symbol kept h)
-    by (inr h) = among_right (state_symbols cs) first.before kept h
-
-  pub counts_known : CountsSymbols cs (length us)
-  counts_known = (symbols us, distinct us is.one_shape, λ s. (known_symbol s, symbol_known s), many us) where
-    apart : (vs : Signature) (s : Symbol) → IsAmong (symbols vs) s → IsAmong (keys vs) (s.kind, s.text)
-    apart [] s h = h
-    apart (v ∷ vs) s (inl e) = inl (ap (λ (r : Symbol). (r.kind, r.text)) e)
-    apart (v ∷ vs) s (inr h) = inr (apart vs s h)
-
-    distinct : (vs : Signature) → AreDistinct (keys vs) → AreDistinct (symbols vs)
-    distinct [] d = tt
-    distinct (v ∷ vs) d = (λ h. d.0 (apart vs v.symbol h), distinct vs d.1)
-
-    many : (vs : Signature) → length vs ≡ length (symbols vs)
-    many [] = refl
-    many (v ∷ vs) = ap suc (many vs)
+use Rattle.si_index.proofs.StoreLaws.{symbols_few, entries_between, times_between, sound_between, distinct_between}
 
 -- ---- why a clause isn't added
 some_is : {A : Type 0} (o : Option A) → IsSome o → (x : A) × (o ≡ Some x)
@@ -91,12 +40,13 @@ module _ (limit : ℕ) (items : List (ℕ × term.Clause)) (known : Known) (c : 
 
   pub rejects : IsSoundClause c → (f : AddFault) → Bars limit known c f → Rejects limit (clauses_of items) c f
   rejects sound add_fault.Taken why = let found = some_is (key_of known.names c.name) why in leads_taken items known.names is.names c.name found.0 found.1
-  rejects sound (add_fault.Clash clash) (free, (found, kept, first, shapes)) =
-      (found, kept, (name_free free, clash_known (clauses_of items) known.signature good is.signed (clause_symbols c) clash.entry found kept first), shapes)
+  rejects sound (add_fault.Clash clash) (free, names) = by (clashes_in_state (clauses_of items) known.signature good is.signed (clause_symbols c) clash names) where
+    by : NamesFirstClash (state_symbols (clauses_of items)) (clause_symbols c) clash → Rejects limit (clauses_of items) c (add_fault.Clash clash)
+    by (found, kept, first, shapes) = (found, kept, (name_free free, first), shapes)
   rejects sound (add_fault.Full needed most) (free, agree, over, number, same) = (
     (
       name_free free,
-      agree_known (clauses_of items) known.signature good is.signed (clause_symbols c) agree,
+      agrees_in_state (clauses_of items) known.signature good is.signed (clause_symbols c) agree,
       omega (arith, over, number, is.counted, length-symbols c sound),
       omega (arith, number, is.counted, length-symbols c sound),
     ),
@@ -107,26 +57,12 @@ module _ (limit : ℕ) (items : List (ℕ × term.Clause)) (known : Known) (c : 
   pub accepts : IsSoundClause c → Admits limit known c → Accepts limit (clauses_of items) c (clauses_of items ++ c ∷ [])
   accepts sound admits = record {
     free = name_free admits.free;
-    agree = agree_known (clauses_of items) known.signature good is.signed (clause_symbols c) admits.agree;
+    agree = agrees_in_state (clauses_of items) known.signature good is.signed (clause_symbols c) admits.agree;
     room = omega (arith, admits.room, is.counted, length-symbols c sound);
     added = refl;
   }
 
 -- ---- what is kept, before and behind a change
-pub stored_more : (limit : ℕ) (cs : List Clause) (c : Clause) → IsStored limit cs → IsSoundClause c → Accepts limit cs c (cs ++ c ∷ []) → IsStored limit (cs ++ c ∷ [])
-stored_more limit cs c stored sound accepts = record {
-  distinct = distinct_put c [] cs (λ h. accepts.free (subst (λ l. IsTaken l c.name) (none_behind cs) h)) (subst HasDistinctNames (sym (none_behind cs)) stored.distinct);
-  sound = sound_put c [] cs sound (subst (AllByRecursion IsSoundClause) (sym (none_behind cs)) stored.sound);
-  few = omega (arith, accepts.room, entries_between c [] cs, ap (λ l. length (state_entries l)) (none_behind cs));
-}
-
-pub stored_less : (limit : ℕ) (before : List Clause) (c : Clause) (after : List Clause) → IsStored limit (before ++ c ∷ after) → IsStored limit (before ++ after)
-stored_less limit before c after stored = record {
-  distinct = (distinct_between c after before stored.distinct).1;
-  sound = (sound_between c after before stored.sound).1;
-  few = omega (arith, stored.few, entries_between c after before);
-}
-
 pub room_for : (limit : ℕ) (items : List (ℕ × term.Clause)) (known : Known) (c : Clause) → IsKept limit items known → IsSoundClause c
     → total known.signature + length (clause_symbols c) ≤ MOST_USES
 room_for limit items known c kept sound = omega (arith, kept.is_known.counted, kept.stored.few, kept.small, symbols_few c sound)
@@ -160,7 +96,7 @@ module _ (limit : ℕ) (old between : Known) (items more : List (ℕ × term.Cla
 
   pub kept_more : IsKept limit more (record { names = names; signature = between.signature })
   kept_more =
-      let behind = none_behind (clauses_of items) in
+      let behind = append-nil (clauses_of items) in
       record {
         small = kept.small;
         stored =
@@ -294,4 +230,4 @@ module _ (limit : ℕ) (old : Known) (items : List (ℕ × term.Clause)) (key : 
       let e = last_alone out.after refl last in
       splits
       ∙ ap (λ l. clauses_of out.before ++ clause_of c ∷ clauses_of l) e
-      ∙ ap (λ l. l ++ clause_of c ∷ []) (sym (rest_is ∙ ap (λ l. clauses_of out.before ++ clauses_of l) e ∙ none_behind (clauses_of out.before)))
+      ∙ ap (λ l. l ++ clause_of c ∷ []) (sym (rest_is ∙ ap (λ l. clauses_of out.before ++ clauses_of l) e ∙ append-nil (clauses_of out.before)))

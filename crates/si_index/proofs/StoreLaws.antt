@@ -1,5 +1,5 @@
 -- Names, entries and symbols of lists of clauses, where one goes or one more comes.
-use Rattle.std.proofs.Common.{◌≡◌, ◌⊎◌, inl, inr, ◌+◌, ◌≤◌, List, [], ◌∷◌, ◌++◌, length, map, refl, sym, ap, subst, arith, length-append}
+use Rattle.std.proofs.Common.{◌≡◌, inl, inr, ◌+◌, ◌≤◌, List, [], ◌∷◌, ◌++◌, length, map, refl, sym, subst, arith, length-append}
 use Rattle.std.specs.List.{AllByRecursion}
 use Rattle.std.proofs.lemmas.List.{length-map}
 use Rattle.si_defs.specs.Symbols.{Symbol, times}
@@ -41,19 +41,6 @@ module _ (c : Clause) (after : List Clause) where
   sound_between [] all = (all.0, all.1)
   sound_between (d ∷ ds) all = let rest = sound_between ds all.1 in (rest.0, (all.0, rest.1))
 
-  pub sound_put : (before : List Clause) → IsSoundClause c → AllByRecursion IsSoundClause (before ++ after) → AllByRecursion IsSoundClause (before ++ c ∷ after)
-  sound_put [] s all = (s, all)
-  sound_put (d ∷ ds) s all = (all.0, sound_put ds s all.1)
-
-  -- the name is taken by the clause, or by another one
-  pub taken_split : (before : List Clause) (n : Name) → IsTaken (before ++ c ∷ after) n → (c.name ≡ n) ⊎ IsTaken (before ++ after) n
-  taken_split [] n h = h
-  taken_split (d ∷ ds) n (inl e) = inr (inl e)
-  taken_split (d ∷ ds) n (inr h) = by (taken_split ds n h) where
-    by : (c.name ≡ n) ⊎ IsTaken (ds ++ after) n → (c.name ≡ n) ⊎ IsTaken ((d ∷ ds) ++ after) n
-    by (inl e) = inl e
-    by (inr k) = inr (inr k)
-
   pub taken_own : (before : List Clause) → IsTaken (before ++ c ∷ after) c.name
   taken_own [] = inl refl
   taken_own (d ∷ ds) = inr (taken_own ds)
@@ -70,13 +57,6 @@ module _ (c : Clause) (after : List Clause) where
     by free (inl e) = d.0 (subst (IsTaken (bs ++ c ∷ after)) (sym e) (taken_own bs))
     by free (inr h) = free h
 
-  pub distinct_put : (before : List Clause) → (IsTaken (before ++ after) c.name → ⊥) → HasDistinctNames (before ++ after) → HasDistinctNames (before ++ c ∷ after)
-  distinct_put [] free d = (free, d)
-  distinct_put (b ∷ bs) free d = (λ h. by h (taken_split bs b.name h), distinct_put bs (λ h. free (inr h)) d.1) where
-    by : IsTaken (bs ++ c ∷ after) b.name → (c.name ≡ b.name) ⊎ IsTaken (bs ++ after) b.name → ⊥
-    by h (inl e) = free (inl (sym e))
-    by h (inr k) = d.0 k
-
 -- there are no more clauses than entries
 pub clauses_few : (cs : List Clause) → AllByRecursion IsSoundClause cs → length cs ≤ length (state_entries cs)
 clauses_few [] all = omega arith
@@ -86,8 +66,3 @@ clauses_few (c ∷ cs) all = omega (arith, length-append (map (placed_in c) (ent
     by : (ls : List Literal) → c.literals ≡ ls → 1 ≤ length (entries c)
     by [] e = absurd (s.some e)
     by (l ∷ ls) e = subst (λ ls. 1 ≤ length (entries_from 1 ls)) (sym e) (omega arith)
-
--- nothing is put behind the last
-pub none_behind : (cs : List Clause) → cs ++ [] ≡ cs
-none_behind [] = refl
-none_behind (c ∷ cs) = ap (λ l. c ∷ l) (none_behind cs)

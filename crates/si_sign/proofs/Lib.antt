@@ -8,3 +8,5 @@ pub mod TakeLaws
 pub mod StepLaws
 pub mod SoFar
 pub mod StateLaws
+pub mod StoreLaws
+pub mod PlainLaws

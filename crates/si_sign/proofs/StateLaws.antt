@@ -1,18 +1,18 @@
 -- The signature of a list of clauses tells what the list tells.
-use Rattle.std.proofs.Common.{◌≡◌, ◌⊎◌, ◌↔◌, inl, inr, ℕ, suc, ◌+◌, ◌≤◌, List, [], ◌∷◌, ◌++◌, length, refl, sym, ap, ◌∙◌, subst, arith, append_assoc, append-nil}
+use Rattle.std.proofs.Common.{◌≡◌, ◌⊎◌, inl, inr, suc, ◌+◌, ◌≤◌, List, [], ◌∷◌, ◌++◌, length, refl, sym, ap, ◌∙◌, subst, arith, append_assoc, append-nil}
 use Rattle.si_defs.specs.Symbols.{Symbol, times}
 use Rattle.si_defs.specs.Clauses.{Clause}
 use Rattle.si_defs.specs.Entries.{clause_symbols, state_symbols}
 use Rattle.si_defs.specs.Substitutions.{IsAmong, AreDistinct}
 use Rattle.si_state.specs.Acceptance.{AllAgree}
-use Rattle.si_state.specs.Signatures.{Used, Signature, IsSignature, IsSignatureOf, CountsSymbols, keys, symbols, uses_of}
+use Rattle.si_state.specs.Signatures.{Signature, IsSignature, IsSignatureOf, CountsSymbols, keys, symbols, uses_of}
 use Rattle.si_sign.specs.Shapes.{NamesFirstClash}
 use Rattle.si_sign.specs.declared.faults.Clash.{Clash}
-use Rattle.si_sign.proofs.UsesOf.{among_left, among_right, among_append, key, among_keys, symbols_among, times_append, times_among, among_times}
+use Rattle.si_sign.proofs.UsesOf.{among_left, among_right, among_append, among_keys, symbols_among, times_append, times_among, among_times}
 use Rattle.si_sign.proofs.TakeLaws.{symbols_used, used_symbols, agree_within}
 
 -- ---- one clause more or less
-state_append : (cs ds : List Clause) → state_symbols (cs ++ ds) ≡ state_symbols cs ++ state_symbols ds
+pub state_append : (cs ds : List Clause) → state_symbols (cs ++ ds) ≡ state_symbols cs ++ state_symbols ds
 state_append [] ds = refl
 state_append (c ∷ cs) ds = ap (λ l. clause_symbols c ++ l) (state_append cs ds) ∙ sym (append_assoc (clause_symbols c) (state_symbols cs) (state_symbols ds))
 

@@ -1,13 +1,11 @@
 -- One occurrence of a symbol is taken, refused or given back.
-use Rattle.std.proofs.Common.{◌≡◌, ◌⊎◌, inl, inr, ℕ, zero, suc, ◌+◌, ◌<◌, ◌≤◌, Bool, true, false, ◌&&◌, ◌==◌, cond, List, [], ◌∷◌, ◌++◌, Option, Some, None, length, refl, sym, ap, ◌∙◌, subst, arith}
-use Rattle.std.specs.Prelude.{slice_set}
+use Rattle.std.proofs.Common.{◌≡◌, ◌⊎◌, inl, inr, ℕ, zero, suc, ◌+◌, ◌<◌, ◌≤◌, Bool, true, false, ◌&&◌, ◌==◌, cond, [], ◌∷◌, Option, Some, None, length, refl, sym, ap, ◌∙◌, arith}
 use Rattle.std.proofs.lemmas.List.{get_or-set_same, get_or-set_other}
 use Rattle.std.proofs.lemmas.Bool.{eq-eqb}
 use Rattle.slab.specs.Slab.{get, with_value}
 use Rattle.si_defs.specs.Symbols.{Symbol, same_side, same_symbol, times}
-use Rattle.si_defs.specs.Substitutions.{IsAmong}
 use Rattle.si_state.specs.Acceptance.{Clashes, Agrees}
-use Rattle.si_state.specs.Signatures.{Used, Signature, IsSignature, total, symbols, uses_of}
+use Rattle.si_state.specs.Signatures.{Signature, total, symbols, uses_of}
 use Rattle.si_term.specs.Terms.{symbol_of}
 use Rattle.si_sign.specs.Keys.{symbol_key, HasAtKind}
 use Rattle.si_sign.specs.Shapes.{shape_of}

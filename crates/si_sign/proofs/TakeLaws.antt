@@ -1,9 +1,9 @@
 -- Occurrences that are taken, refused and given back one after the other.
-use Rattle.std.proofs.Common.{◌≡◌, ◌⊎◌, inl, inr, ℕ, zero, suc, ◌+◌, ◌≤◌, List, [], ◌∷◌, ◌++◌, length, refl, sym, ap, ◌∙◌, subst, arith, append_assoc, append-nil, length-append}
+use Rattle.std.proofs.Common.{◌≡◌, ◌⊎◌, inl, inr, ℕ, zero, suc, ◌+◌, ◌≤◌, List, [], ◌∷◌, ◌++◌, length, sym, ap, ◌∙◌, subst, arith, append_assoc, append-nil, length-append}
 use Rattle.std.specs.Prelude.{Result, Ok, Err, OnOk, OnErr}
 use Rattle.si_defs.specs.Symbols.{Symbol, times}
 use Rattle.si_defs.specs.Substitutions.{IsAmong}
-use Rattle.si_state.specs.Acceptance.{Clashes, Agrees, AllAgree}
+use Rattle.si_state.specs.Acceptance.{Clashes, AllAgree}
 use Rattle.si_state.specs.Signatures.{Used, Signature, IsSignature, symbols, numbering, uses_of, KeepsNumbers}
 use Rattle.si_sign.specs.Taking.{Takes, GivesBack, RefusesFrom}
 use Rattle.si_sign.specs.declared.faults.TakeFault.{TakeFault}
@@ -48,9 +48,22 @@ agree_within ks ls (s ∷ ss) sub a = (
   by r (inl h) = among_left ks (s ∷ []) r (sub r h)
   by r (inr h) = among_right ks (s ∷ []) r h
 
-agree_append : (ks xs ys : List Symbol) → AllAgree ks xs → AllAgree (ks ++ xs) ys → AllAgree ks (xs ++ ys)
+pub agree_append : (ks xs ys : List Symbol) → AllAgree ks xs → AllAgree (ks ++ xs) ys → AllAgree ks (xs ++ ys)
 agree_append ks [] ys a b = subst (λ l. AllAgree l ys) (append-nil ks) b
 agree_append ks (x ∷ xs) ys a b = (a.0, agree_append (ks ++ x ∷ []) xs ys a.1 (subst (λ l. AllAgree l ys) (sym (append_assoc ks (x ∷ []) xs)) b))
+
+pub agree_split : (ks xs ys : List Symbol) → AllAgree ks (xs ++ ys) → AllAgree ks xs × AllAgree (ks ++ xs) ys
+agree_split ks [] ys a = (tt, subst (λ l. AllAgree l ys) (sym (append-nil ks)) a)
+agree_split ks (x ∷ xs) ys a =
+    let rest = agree_split (ks ++ x ∷ []) xs ys a.1 in
+    ((a.0, rest.0), subst (λ l. AllAgree l ys) (append_assoc ks (x ∷ []) xs) rest.1)
+
+-- those that stay agree without those between them
+pub agree_between : (xs own ys : List Symbol) → AllAgree [] (xs ++ (own ++ ys)) → AllAgree [] (xs ++ ys)
+agree_between xs own ys a =
+    let front = agree_split [] xs (own ++ ys) a in
+    let back = agree_split xs own ys front.1 in
+    agree_append [] xs ys front.0 (agree_within (xs ++ own) xs ys (among_left xs own) back.1)
 
 -- ---- taking
 pub takes_none : (a : Signature) → IsSignature a → Takes [] a a

@@ -1,5 +1,5 @@
 -- How often symbols occur by a signature, and in a list.
-use Rattle.std.proofs.Common.{◌≡◌, ◌⊎◌, inl, inr, ℕ, ◌+◌, ◌≤◌, Bool, true, false, cond, List, [], ◌∷◌, ◌++◌, refl, sym, ap, ◌∙◌, subst, arith}
+use Rattle.std.proofs.Common.{◌≡◌, ◌⊎◌, inl, inr, ℕ, ◌+◌, ◌≤◌, Bool, true, false, cond, List, [], ◌∷◌, ◌++◌, refl, sym, ap, subst, arith}
 use Rattle.std.specs.List.{AllByRecursion}
 use Rattle.std.proofs.lemmas.List.Sums.{sum_by-append, sum_by-cons}
 use Rattle.si_defs.specs.Symbols.{Symbol, same_symbol, times}
@@ -7,7 +7,7 @@ use Rattle.si_defs.specs.Substitutions.{IsAmong, AreDistinct}
 use Rattle.si_defs.specs.Bytes.{Bytes}
 use Rattle.si_defs.specs.declared.SymKind.{SymKind}
 use Rattle.si_state.specs.Signatures.{Used, Signature, keys, numbering, symbols, uses_of}
-use Rattle.si_sign.proofs.SymbolLaws.{symbol_is, symbol_self, symbol_same, differs}
+use Rattle.si_sign.proofs.SymbolLaws.{symbol_is, symbol_self, symbol_same}
 
 -- ---- members of lists
 module _ {A : Type 0} where

@@ -1,5 +1,5 @@
 -- Finite maps from texts, and from kinds and texts, to keys, as functions.
-use Rattle.std.specs.Prelude.{◌≡◌, ℕ, List, Option, bytes_eq}
+use Rattle.std.specs.Prelude.{◌≡◌, ℕ, Option, bytes_eq}
 use Rattle.std.specs.Map.{lookup}
 use Rattle.si_defs.specs.Bytes.{Bytes}
 use Rattle.si_defs.specs.declared.SymKind.{SymKind}

@@ -3,3 +3,4 @@ pub mod Stores
 pub mod Keys
 pub mod Uses
 pub mod Taking
+pub mod Plain

@@ -1,5 +1,5 @@
 -- The shape of a symbol, and clashes of shapes.
-use Rattle.std.specs.Prelude.{◌≡◌, ℕ, List}
+use Rattle.std.specs.Prelude.{◌≡◌, List}
 use Rattle.si_defs.specs.Symbols.{Symbol}
 use Rattle.si_state.specs.Acceptance.{IsFirstClash}
 use Rattle.si_sign.specs.declared.faults.Shape.{Shape}

@@ -1,18 +1,20 @@
 -- Lists of clauses that are kept, and why a clause isn't.
-use Rattle.std.specs.Prelude.{◌≡◌, ℕ, ◌≤◌, List, length}
+use Rattle.std.specs.Prelude.{◌≡◌, ℕ, ◌≤◌, List, [], length}
 use Rattle.std.specs.List.{AllByRecursion}
 use Rattle.si_defs.specs.Symbols.{Symbol}
 use Rattle.si_defs.specs.Clauses as clauses
 use Rattle.si_defs.specs.Clauses.{IsSoundClause}
-use Rattle.si_defs.specs.Entries.{state_entries}
-use Rattle.si_state.specs.Acceptance.{HasDistinctNames, Refuses, taken, misused, full}
+use Rattle.si_defs.specs.Entries.{state_entries, state_symbols}
+use Rattle.si_state.specs.Acceptance.{HasDistinctNames, AllAgree, Refuses, taken, misused, full}
 use Rattle.si_sign.specs.Shapes.{HasShapes}
 use Rattle.si_sign.specs.declared.faults.AddFault.{AddFault}
 use Rattle.si_sign.specs.declared.faults.AddFault.TheVariants as add_fault
 
--- the names are distinct, each clause is sound, and there are no more entries than the limit
+-- the names are distinct, each symbol has one side and one arity, each clause is sound, and there
+-- are no more entries than the limit
 pub record IsStored (limit : ℕ) (state : List clauses.Clause) : Type 0 where
   pub distinct : HasDistinctNames state
+  pub agree : AllAgree [] (state_symbols state)
   pub sound : AllByRecursion IsSoundClause state
   pub few : length (state_entries state) ≤ limit
 

@@ -6,6 +6,7 @@
 
 pub mod faults;
 mod keys;
+mod plain;
 pub mod signature;
 pub mod store;
 mod texts;
@@ -13,5 +14,6 @@ mod uses;
 mod walk;
 
 pub use faults::{AddFault, Clash, Rejected, Shape, TakeFault};
+pub use plain::PlainStore;
 pub use signature::Signature;
 pub use store::ClauseStore;

@@ -4,7 +4,7 @@ use Rattle.si_state.specs.Signatures.{CountsSymbols}
 use Rattle.si_term.specs.Meaning.{clause_of}
 use Rattle.si_index.specs.Kept.{Kept, clauses_of}
 use Rattle.si_index.proofs.StoreLaws.{clauses_few}
-use Rattle.si_index.proofs.KnownLaws.{counts_known}
+use Rattle.si_sign.proofs.StateLaws.{counts_symbols}
 use Rattle.si_index.proofs.index.Index.stats.Goals as goal
 
 pub overflow_cast-result : goal.overflow_cast-result
@@ -22,4 +22,4 @@ pub returns-clause-symbols : goal.returns-clause-symbols
 returns-clause-symbols c =
     subst (λ (k : Kept). CountsSymbols k.clauses c.len-2.result) c.self.view_is
     (subst (CountsSymbols (clauses_of c.self.inside.clauses)) (sym c.len-2.ensures.number)
-    (counts_known (clauses_of c.self.inside.clauses) c.self.inside.known.signature c.len-2.ensures.signature c.self.invariant.is_known.signed))
+    (counts_symbols (clauses_of c.self.inside.clauses) c.self.inside.known.signature c.len-2.ensures.signature c.self.invariant.is_known.signed))

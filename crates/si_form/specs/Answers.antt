@@ -1,11 +1,11 @@
 -- What the calls answer: the canonical list of a relation, where it holds.
-use Rattle.std.specs.Prelude.{◌≡◌, ℕ, zero, suc, List, [], ◌∷◌, Option, None, Some}
-use Rattle.si_defs.specs.Terms.{variables, firsts}
+use Rattle.std.specs.Prelude.{◌≡◌, ℕ, List, [], ◌∷◌, Option, None, Some}
 use Rattle.si_defs.specs.declared.Relation.{Relation}
 use Rattle.si_defs.specs.Relations.{Relates}
 use Rattle.si_defs.specs.Solutions.{IsCanonical}
 use Rattle.si_flat.specs.declared.Cell.{Cell}
 use Rattle.si_flat.specs.Cells.{Variable, query, entry, same_variable, Term, StandsFor}
+use Rattle.si_flat.specs.Flattened.{counted_from, IsNumberedBy}
 use Rattle.si_form.specs.declared.solution.Owner.{Owner}
 use Rattle.si_form.specs.declared.solution.Owner.TheVariants.{Query, Entry}
 use Rattle.si_form.specs.declared.solution.Binding.{Binding}
@@ -17,12 +17,11 @@ variable_of Entry n = entry n
 
 -- so many variables of an owner, from a number on
 abbrev pub counted : Owner → ℕ → ℕ → List Variable
-counted owner k zero = []
-counted owner k (suc n) = variable_of owner k ∷ counted owner (suc k) n
+counted owner k n = counted_from (variable_of owner) k n
 
 -- the variables of the term are the owner's, numbered in the order of their first occurrence
 abbrev pub IsNumbered : Owner → Term → Type 0
-IsNumbered owner t = (n : ℕ) × (firsts same_variable (variables t) ≡ counted owner 0 n)
+IsNumbered owner t = IsNumberedBy (variable_of owner) t
 
 abbrev pub AreNumbered : Owner → List Cell → Type 0
 AreNumbered owner cells = (t : Term) → StandsFor cells t → IsNumbered owner t

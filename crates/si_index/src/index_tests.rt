@@ -110,9 +110,8 @@ fn calls<T: ClauseStore>(
     Ok(told)
 }
 
-#[test]
-fn indexes_forget(rt: HostRuntime) -> Result<(), Fail> {
-    let alloc = rt.alloc();
+/// What an index tells of some calls, and how much it keeps behind them.
+fn forget(alloc: Global) -> Result<(Vec<u8>, Stats), AllocError> {
     let mut index = Index::new(alloc, 6)?;
     let told = calls(
         alloc,
@@ -122,12 +121,18 @@ fn indexes_forget(rt: HostRuntime) -> Result<(), Fail> {
             *b"-2  ", *b"+4bq", *b"last", *b"last", *b"last", *b"last", *b"+1ap",
         ],
     )?;
+    Ok((told, index.stats()))
+}
+
+#[test]
+fn indexes_forget(rt: HostRuntime) -> Result<(), Fail> {
+    let (told, stats) = forget(rt.alloc())?;
     assert_eq!(rt; told.as_slice(), b"22tcc2f2n2222n2".as_slice());
-    let stats = Stats {
+    let kept = Stats {
         clauses: 1,
         entries: 2,
         symbols: 2,
     };
-    assert_eq!(rt; index.stats(), stats);
+    assert_eq!(rt; stats, kept);
     Ok(())
 }

@@ -2,10 +2,13 @@
 use Rattle.std.proofs.Common.{◌≡◌, ◌⊎◌, inl, inr, ◌≤◌, ◌<◌, ◌++◌, List, [], ◌∷◌, length, refl, sym, ap, ◌∙◌, subst, arith}
 use Rattle.si_defs.specs.Bytes.{Bytes}
 use Rattle.si_defs.specs.Clauses.{Clause}
-use Rattle.si_defs.specs.Tokens.{Token, AreBlanks, Begins, NextToken}
+use Rattle.si_defs.specs.Tokens.{Token, lower, AreBlanks, Begins}
+use Rattle.si_defs.specs.Grammar.{left_bracket}
+use Rattle.si_steps.specs.Words.{word_text}
+use Rattle.si_steps.specs.declared.word.Word.TheVariants.{Add}
 use Rattle.si_lex.proofs.TokenLaws.{blanks_none}
 use Rattle.si_steps.specs.declared.limits.Limits.{Limits}
-use Rattle.si_steps.specs.Commands.{Command, Means, IsLater, IsSilent, AddsForeign}
+use Rattle.si_steps.specs.Commands.{Command, command_word, Means, IsLater, IsSilent, AddsForeign}
 use Rattle.si_steps.specs.Replies.{Reply}
 use Rattle.si_steps.specs.Steps.{Performs, RightStep, later, silent, foreign, wrong, performed}
 use Rattle.si_laws.specs.OneReply.{IsConsistent, HasOneMeaning, OneRightStep}
@@ -17,14 +20,14 @@ begins_some line t ts rest h blanks = blanks_none line blanks t h.0 h.1
 
 silent_no_later : (limits : Limits) (line : Bytes) → IsSilent limits line → IsLater limits line → ⊥
 silent_no_later limits line quiet (inl long) = absurd (omega (arith, quiet.0, long))
-silent_no_later limits line quiet (inr unbuilt) = blanks_none line quiet.1 _ unbuilt.rest unbuilt.first
+silent_no_later limits line quiet (inr unbuilt) = blanks_none line quiet.1 (lower (word_text unbuilt.word)) unbuilt.rest unbuilt.first
 
 silent_no_foreign : (limits : Limits) (line : Bytes) → IsSilent limits line → AddsForeign line → ⊥
-silent_no_foreign limits line quiet (language, rest, among, begins) = begins_some line _ _ rest begins quiet.1
+silent_no_foreign limits line quiet (language, rest, among, begins) = begins_some line (lower (word_text Add)) (lower language ∷ left_bracket ∷ []) rest begins quiet.1
 
 silent_no_command : (limits : Limits) (line : Bytes) → IsSilent limits line → (command : Command) → Means command line → ⊥
 silent_no_command limits line quiet command means =
-    begins_some line _ _ means.consists.rest (subst (λ ts. Begins line ts means.consists.rest) means.spelled.whole means.consists.begins) quiet.1
+    begins_some line (lower (word_text (command_word command))) means.spelled.operands means.consists.rest (subst (λ ts. Begins line ts means.consists.rest) means.spelled.whole means.consists.begins) quiet.1
 
 -- ---- two steps
 module _ (limits : Limits) (state : List Clause) (line : Bytes) (is : IsConsistent state) (one : HasOneMeaning line) where

@@ -2,6 +2,8 @@
 #![tactic(auto)]
 
 mod index;
+#[cfg(test)]
+mod index_tests;
 mod keyed;
 mod known;
 mod names;

@@ -5,7 +5,7 @@ use Rattle.std.proofs.lemmas.List.{length-map}
 use Rattle.si_defs.specs.Clauses.{Clause, IsSoundClause}
 use Rattle.si_defs.specs.Entries.{entries, placed_in, state_entries, clause_symbols, state_symbols}
 use Rattle.si_defs.specs.Substitutions.{IsAmong, AreDistinct}
-use Rattle.si_state.specs.Acceptance.{names, AllAgree, Accepts}
+use Rattle.si_state.specs.Acceptance.{names, IsTaken, HasDistinctNames, AllAgree, Accepts}
 use Rattle.si_sign.specs.Stores.{IsStored}
 use Rattle.si_sign.proofs.UsesOf.{among_left, among_right, among_append}
 use Rattle.si_sign.proofs.TakeLaws.{agree_append, agree_between}
@@ -51,27 +51,42 @@ pub count_append : (cs ds : List Clause) → length (state_entries (cs ++ ds)) �
 count_append [] ds = omega arith
 count_append (c ∷ cs) ds = omega (arith, count_front c (cs ++ ds), count_front c cs, count_append cs ds)
 
+-- ---- names and symbols, with one clause more or less
+pub names_more : (state : List Clause) (c : Clause) → HasDistinctNames state → (IsTaken state c.name → ⊥) → HasDistinctNames (state ++ c ∷ [])
+names_more state c distinct free = subst AreDistinct (sym (names_append state (c ∷ []))) (distinct_more (names state) c.name distinct free)
+
+pub names_less : (before : List Clause) (c : Clause) (after : List Clause) → HasDistinctNames (before ++ c ∷ after) → HasDistinctNames (before ++ after)
+names_less before c after distinct =
+    subst AreDistinct (sym (names_append before after))
+    (distinct_less (names before) c.name (names after) (subst AreDistinct (names_append before (c ∷ after)) distinct))
+
+pub symbols_more : (state : List Clause) (c : Clause) → AllAgree [] (state_symbols state) → AllAgree (state_symbols state) (clause_symbols c)
+    → AllAgree [] (state_symbols (state ++ c ∷ []))
+symbols_more state c agree own =
+    subst (AllAgree []) (sym (state_append state (c ∷ []) ∙ ap (λ l. state_symbols state ++ l) (append-nil (clause_symbols c))))
+    (agree_append [] (state_symbols state) (clause_symbols c) agree own)
+
+pub symbols_less : (before : List Clause) (c : Clause) (after : List Clause) → AllAgree [] (state_symbols (before ++ c ∷ after)) → AllAgree [] (state_symbols (before ++ after))
+symbols_less before c after agree =
+    subst (AllAgree []) (sym (state_append before after))
+    (agree_between (state_symbols before) (clause_symbols c) (state_symbols after) (subst (AllAgree []) (state_append before (c ∷ after)) agree))
+
+-- ---- a list of clauses that is stored
 pub stored_none : (limit : ℕ) → IsStored limit []
 stored_none limit = record { distinct = tt; agree = tt; sound = tt; few = omega arith }
 
 pub stored_more : (limit : ℕ) (state : List Clause) (c : Clause) → IsStored limit state → IsSoundClause c → Accepts limit state c (state ++ c ∷ []) → IsStored limit (state ++ c ∷ [])
 stored_more limit state c is sound accepts = record {
-  distinct = subst AreDistinct (sym (names_append state (c ∷ []))) (distinct_more (names state) c.name is.distinct accepts.free);
-  agree =
-      subst (AllAgree []) (sym (state_append state (c ∷ []) ∙ ap (λ l. state_symbols state ++ l) (append-nil (clause_symbols c))))
-      (agree_append [] (state_symbols state) (clause_symbols c) is.agree accepts.agree);
+  distinct = names_more state c is.distinct accepts.free;
+  agree = symbols_more state c is.agree accepts.agree;
   sound = all_more IsSoundClause state c is.sound sound;
   few = omega (arith, accepts.room, count_append state (c ∷ []), count_front c []);
 }
 
 pub stored_less : (limit : ℕ) (before : List Clause) (c : Clause) (after : List Clause) → IsStored limit (before ++ c ∷ after) → IsStored limit (before ++ after)
 stored_less limit before c after is = record {
-  distinct =
-      subst AreDistinct (sym (names_append before after))
-      (distinct_less (names before) c.name (names after) (subst AreDistinct (names_append before (c ∷ after)) is.distinct));
-  agree =
-      subst (AllAgree []) (sym (state_append before after))
-      (agree_between (state_symbols before) (clause_symbols c) (state_symbols after) (subst (AllAgree []) (state_append before (c ∷ after)) is.agree));
+  distinct = names_less before c after is.distinct;
+  agree = symbols_less before c after is.agree;
   sound = all_less IsSoundClause before c after is.sound;
   few = omega (arith, is.few, count_append before (c ∷ after), count_append before after, count_front c after);
 }

@@ -1,0 +1,3 @@
+mod StateLaws
+mod OutcomeLaws
+mod StepLaws

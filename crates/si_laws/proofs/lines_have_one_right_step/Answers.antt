@@ -1,0 +1,5 @@
+use Rattle.si_laws.proofs.StepLaws.{one_step}
+use Rattle.si_laws.proofs.lines_have_one_right_step.Goals as goal
+
+pub returns : goal.returns
+returns c = one_step

@@ -14,7 +14,7 @@ use Rattle.si_state.specs.Answers.{Hit, IsAnswer, Solves, Stands}
 use Rattle.si_steps.specs.declared.limits.Limits.{Limits}
 use Rattle.si_steps.specs.Commands.{Command, add, remove, query, stats}
 use Rattle.si_steps.specs.Replies.{Reply, refusal_line, ok_line, stats_line, answer_reply}
-use Rattle.si_steps.specs.Steps.{Performs, RightStep, later, silent, foreign, wrong, performed}
+use Rattle.si_steps.specs.Steps.{Performs, RightStep, long, later, silent, foreign, wrong, performed}
 use Rattle.si_sign.proofs.SymbolLaws.{text_is, text_same}
 use Rattle.si_form.proofs.CanonicalLaws.{one_match}
 use Rattle.si_form.proofs.UnifierLaws.{one_unifier}
@@ -104,6 +104,7 @@ performs_stays limits (query relation p) state reply new is h = subst IsConsiste
 performs_stays limits stats state reply new is h = subst IsConsistent (sym h.3) is
 
 pub step_stays : (limits : Limits) (state : List Clause) (line : List ℕ) → StaysConsistent limits state line
+step_stays limits state line reply new is (long h said stays) = subst IsConsistent (sym stays) is
 step_stays limits state line reply new is (later h said stays) = subst IsConsistent (sym stays) is
 step_stays limits state line reply new is (silent h said stays) = subst IsConsistent (sym stays) is
 step_stays limits state line reply new is (foreign g h n said stays) = subst IsConsistent (sym stays) is

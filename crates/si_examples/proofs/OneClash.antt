@@ -5,11 +5,11 @@ use Rattle.std.proofs.lemmas.Fmt.{decimal_digit}
 use Rattle.si_defs.specs.Entries.{clause_symbols}
 use Rattle.si_state.specs.Acceptance.{AllAgree, full}
 use Rattle.si_examples.specs.Entries.{first_atom}
-use Rattle.si_examples.specs.Steps.{kept, front_symbol, AddedClause, FullIndex, ClashingSymbol, NoClash, NoAgreement, RemovedClause, NothingCounted, NoneUncounted}
+use Rattle.si_examples.specs.Steps.{kept_clause, front_symbol, AddedClause, FullIndex, ClashingSymbol, NoClash, NoAgreement, RemovedClause, NothingCounted, NoneUncounted}
 use Rattle.si_examples.proofs.Differ.{texts_differ}
 
 -- p, f and a differ in their texts
-agree : AllAgree [] (clause_symbols kept)
+agree : AllAgree [] (clause_symbols kept_clause)
 agree = (
   tt,
   (
@@ -51,7 +51,7 @@ pub no_agreement : NoAgreement
 no_agreement h = h.0.1.1.0 (record { kind = refl; text = refl; differ = λ side arity. cc })
 
 pub removed_clause : RemovedClause
-removed_clause limits = inr (kept, record { before = []; after = []; splits = refl; named = refl; rest = refl }, rw (decimal_digit 1 (omega arith), decimal_digit 3 (omega arith)) refl)
+removed_clause limits = inr (kept_clause, record { before = []; after = []; splits = refl; named = refl; rest = refl }, rw (decimal_digit 1 (omega arith), decimal_digit 3 (omega arith)) refl)
 
 pub nothing_counted : NothingCounted
 nothing_counted limits = (0, ([], tt, λ s. (λ h. h, λ h. h), refl), rw (decimal_digit 0 (omega arith)) refl, refl)

@@ -18,8 +18,8 @@ use Rattle.si_defs.specs.declared.Side.TheVariants.{Function}
 use Rattle.si_examples.specs.Entries.{first_atom, second_atom, fact, predicate, constant, a}
 
 -- the clause c1, and another of that name
-abbrev pub kept : Clause
-kept = fact (codes "c1") first_atom
+abbrev pub kept_clause : Clause
+kept_clause = fact (codes "c1") first_atom
 
 abbrev pub of_taken_name : Clause
 of_taken_name = fact (codes "c1") second_atom
@@ -107,61 +107,61 @@ NoMemoryWhereTooLong = (limits : Limits) (state : List Clause) (line : Bytes) (n
 -- ---- clauses that are added
 -- a clause of a new name is counted, and its three entries
 abbrev pub AddedClause : Type 0
-AddedClause = (limits : Limits) → 3 ≤ limits.entries → Performs limits (add kept) [] (codes "ok 1 3" ∷ []) (kept ∷ [])
+AddedClause = (limits : Limits) → 3 ≤ limits.entries → Performs limits (add kept_clause) [] (codes "ok 1 3" ∷ []) (kept_clause ∷ [])
 
 -- a clause of a taken name is refused, and the state stays
 abbrev pub TakenName : Type 0
-TakenName = (limits : Limits) → Performs limits (add of_taken_name) (kept ∷ []) (codes "! taken c1" ∷ []) (kept ∷ [])
+TakenName = (limits : Limits) → Performs limits (add of_taken_name) (kept_clause ∷ []) (codes "! taken c1" ∷ []) (kept_clause ∷ [])
 
 -- the reply of an added clause is wrong there
 abbrev pub NoOtherReply : Type 0
-NoOtherReply = (limits : Limits) (new : List Clause) → Performs limits (add of_taken_name) (kept ∷ []) (codes "ok 1 3" ∷ []) new → ⊥
+NoOtherReply = (limits : Limits) (new : List Clause) → Performs limits (add of_taken_name) (kept_clause ∷ []) (codes "ok 1 3" ∷ []) new → ⊥
 
 -- it is never accepted, whatever the state behind it
 abbrev pub NoSecondClause : Type 0
-NoSecondClause = (limit : ℕ) (new : List Clause) → Accepts limit (kept ∷ []) of_taken_name new → ⊥
+NoSecondClause = (limit : ℕ) (new : List Clause) → Accepts limit (kept_clause ∷ []) of_taken_name new → ⊥
 
 -- where two entries may be, three are too many
 abbrev pub FullIndex : Type 0
-FullIndex = (limits : Limits) → limits.entries ≡ 2 → Performs limits (add kept) [] (codes "! full 3 2" ∷ []) []
+FullIndex = (limits : Limits) → limits.entries ≡ 2 → Performs limits (add kept_clause) [] (codes "! full 3 2" ∷ []) []
 
 -- one entry more than may be is not accepted
 abbrev pub NoClauseTooMany : Type 0
-NoClauseTooMany = (new : List Clause) → Accepts 2 [] kept new → ⊥
+NoClauseTooMany = (new : List Clause) → Accepts 2 [] kept_clause new → ⊥
 
 -- `a` with an argument stands against the constant `a`
 abbrev pub ClashingSymbol : Type 0
-ClashingSymbol = Refuses 9 (kept ∷ []) (fact (codes "d") a_of_b) (misused 0 (front_symbol a_of_b) (front_symbol a))
+ClashingSymbol = Refuses 9 (kept_clause ∷ []) (fact (codes "d") a_of_b) (misused 0 (front_symbol a_of_b) (front_symbol a))
 
 -- the same symbols in two clauses agree
 abbrev pub NoClash : Type 0
-NoClash = AllAgree (state_symbols (kept ∷ [])) (clause_symbols (fact (codes "d") first_atom))
+NoClash = AllAgree (state_symbols (kept_clause ∷ [])) (clause_symbols (fact (codes "d") first_atom))
 
 -- but not with an atom `a(b)` between them
 abbrev pub NoAgreement : Type 0
-NoAgreement = AllAgree (state_symbols (kept ∷ [])) (clause_symbols (fact (codes "d") a_of_b)) → ⊥
+NoAgreement = AllAgree (state_symbols (kept_clause ∷ [])) (clause_symbols (fact (codes "d") a_of_b)) → ⊥
 
 -- ---- clauses that go
 -- the clause of this name goes, with its three entries
 abbrev pub RemovedClause : Type 0
-RemovedClause = (limits : Limits) → Performs limits (remove kept.name) (kept ∷ []) (codes "ok 1 3" ∷ []) []
+RemovedClause = (limits : Limits) → Performs limits (remove kept_clause.name) (kept_clause ∷ []) (codes "ok 1 3" ∷ []) []
 
 -- none has this name
 abbrev pub UnknownName : Type 0
-UnknownName = (limits : Limits) → Performs limits (remove (record { kind = named.Int; text = codes "1" })) (kept ∷ []) (codes "! unknown 1" ∷ []) (kept ∷ [])
+UnknownName = (limits : Limits) → Performs limits (remove (record { kind = named.Int; text = codes "1" })) (kept_clause ∷ []) (codes "! unknown 1" ∷ []) (kept_clause ∷ [])
 
--- a clause that is kept is not unknown
+-- a clause that is kept_clause is not unknown
 abbrev pub NoUnknownName : Type 0
-NoUnknownName = (limits : Limits) (new : List Clause) → Performs limits (remove kept.name) (kept ∷ []) (codes "! unknown c1" ∷ []) new → ⊥
+NoUnknownName = (limits : Limits) (new : List Clause) → Performs limits (remove kept_clause.name) (kept_clause ∷ []) (codes "! unknown c1" ∷ []) new → ⊥
 
 -- ---- counts
--- nothing is kept
+-- nothing is kept_clause
 abbrev pub NothingCounted : Type 0
 NothingCounted = (limits : Limits) → Performs limits stats [] (codes "clauses 0 entries 0 symbols 0" ∷ []) []
 
 -- a symbol that occurs is counted
 abbrev pub NoneUncounted : Type 0
-NoneUncounted = CountsSymbols (kept ∷ []) 0 → ⊥
+NoneUncounted = CountsSymbols (kept_clause ∷ []) 0 → ⊥
 
 -- `1` and `'1'` are two names
 abbrev pub TwoNames : Type 0

@@ -11,13 +11,13 @@ use Rattle.si_defs.specs.Clauses.{IsSoundTerm, AreSoundTerms, IsSoundAtom}
 use Rattle.si_defs.specs.Entries as entries
 use Rattle.si_term.specs.Terms.{symbol_of}
 use Rattle.si_term.specs.declared.term.Sym.{Sym}
-use Rattle.si_flat.specs.declared.walk.Owner.{Owner}
-use Rattle.si_flat.specs.declared.walk.Owner.TheVariants.{Query, Entry}
+use Rattle.si_flat.specs.declared.Owner.{Owner}
+use Rattle.si_flat.specs.declared.Owner.TheVariants.{Query, Entry}
 use Rattle.si_flat.specs.declared.walk.WrittenEntry.{WrittenEntry}
 use Rattle.si_flat.specs.Cells.{Variable, query, same_variable, cells_of, IsSound, AreSound}
 use Rattle.si_flat.specs.Numbered.{number_in, signed, place_in, numbered, all_numbered}
 use Rattle.si_flat.specs.Flattened.{extra_numbers, unnumbered, whole_of, is_positive, IsSoundEntry, numbered_entry, IsNumberedBy, IsFlatOf, IsQueryNumbering, FlattensPattern, symbol_slices, FillsLiteral}
-use Rattle.si_flat.specs.Flattening.{variable_of, met_names, met_extra, number_by, WalkState, walk_state, empty_walk, term_piece, Flattens, WritesEntry}
+use Rattle.si_flat.specs.Flattening.{owners_variable, met_names, met_extra, number_by, WalkState, walk_state, empty_walk, term_piece, Flattens, WritesEntry}
 use Rattle.si_flat.proofs.Inserted.{inserted-firsts, inserted_length}
 use Rattle.si_flat.proofs.ExtraNumbers.{all_have, extra_numbering}
 use Rattle.si_flat.proofs.Slices.{slices-numbered}
@@ -56,31 +56,31 @@ variables-whole (entries.term_entry t) = refl
 pub extra_written : (pairs : Numbering) (owner : Owner) (e : entries.Entry) (w : WrittenEntry) → WritesEntry pairs owner e w → met_extra w.met ≡ terms.firsts same_symbol (unnumbered pairs (terms.symbols (whole_of e)))
 extra_written pairs owner e w h = h.extra ∙ inserted-firsts same_symbol symbol-Decides (unnumbered pairs (terms.symbols (whole_of e)))
 
-cells_written : (pairs : Numbering) (owner : Owner) (e : entries.Entry) (w : WrittenEntry) → WritesEntry pairs owner e w → w.cells.items ≡ cells_of (numbered_entry (pairs ++ extra_numbers (met_extra w.met)) (variable_of owner) e)
+cells_written : (pairs : Numbering) (owner : Owner) (e : entries.Entry) (w : WrittenEntry) → WritesEntry pairs owner e w → w.cells.items ≡ cells_of (numbered_entry (pairs ++ extra_numbers (met_extra w.met)) (owners_variable owner) e)
 cells_written pairs owner e w h =
     let names : met_names w.met ++ [] ≡ terms.firsts bytes_eq (entries.entry_variables e) =
     append-nil (met_names w.met) ∙ h.names ∙ inserted-firsts bytes_eq bytes_eq-Decides (terms.variables (whole_of e)) ∙ ap (terms.firsts bytes_eq) (variables-whole e) in
     h.cells [] []
-    ∙ λ i. cells_of (numbered (number_by pairs (is_positive e) (append-nil (met_extra w.met) i)) (λ x. variable_of owner (place_in bytes_eq (names i) x)) (whole_of e))
+    ∙ λ i. cells_of (numbered (number_by pairs (is_positive e) (append-nil (met_extra w.met) i)) (λ x. owners_variable owner (place_in bytes_eq (names i) x)) (whole_of e))
 
 numbered_whole : (pairs : Numbering) (variable : ℕ → Variable) (e : entries.Entry) → ((i j : ℕ) → same_variable (variable i) (variable j) ≡ (i == j)) → IsNumberedBy variable (numbered_entry pairs variable e)
 numbered_whole pairs variable (entries.literal_entry l) tells = numbered_by (signed l.positive (number_in pairs)) variable tells l.atom
 numbered_whole pairs variable (entries.term_entry t) tells = numbered_by (number_in pairs) variable tells t
 
-owner_tells : (owner : Owner) (i j : ℕ) → same_variable (variable_of owner i) (variable_of owner j) ≡ (i == j)
+owner_tells : (owner : Owner) (i j : ℕ) → same_variable (owners_variable owner i) (owners_variable owner j) ≡ (i == j)
 owner_tells Query i j = refl
 owner_tells Entry i j = refl
 
-pub flat_written : (pairs : Numbering) (owner : Owner) (e : entries.Entry) (w : WrittenEntry) → IsSoundEntry e → WritesEntry pairs owner e w → IsFlatOf (pairs ++ extra_numbers (met_extra w.met)) (variable_of owner) e w.cells.items
+pub flat_written : (pairs : Numbering) (owner : Owner) (e : entries.Entry) (w : WrittenEntry) → IsSoundEntry e → WritesEntry pairs owner e w → IsFlatOf (pairs ++ extra_numbers (met_extra w.met)) (owners_variable owner) e w.cells.items
 flat_written pairs owner e w sound h = record {
   stands = record { cells_are = cells_written pairs owner e w h; sound = sound_whole _ _ e sound };
-  numbered = numbered_whole (pairs ++ extra_numbers (met_extra w.met)) (variable_of owner) e (owner_tells owner);
+  numbered = numbered_whole (pairs ++ extra_numbers (met_extra w.met)) (owners_variable owner) e (owner_tells owner);
 }
 
 -- of an entry whose symbols all have numbers
-pub flat_known : (pairs : Numbering) (owner : Owner) (e : entries.Entry) (w : WrittenEntry) → IsSoundEntry e → WritesEntry pairs owner e w → met_extra w.met ≡ [] → IsFlatOf pairs (variable_of owner) e w.cells.items
+pub flat_known : (pairs : Numbering) (owner : Owner) (e : entries.Entry) (w : WrittenEntry) → IsSoundEntry e → WritesEntry pairs owner e w → met_extra w.met ≡ [] → IsFlatOf pairs (owners_variable owner) e w.cells.items
 flat_known pairs owner e w sound h none =
-    subst (λ ps. IsFlatOf ps (variable_of owner) e w.cells.items) (ap (λ ss. pairs ++ extra_numbers ss) none ∙ append-nil pairs) (flat_written pairs owner e w sound h)
+    subst (λ ps. IsFlatOf ps (owners_variable owner) e w.cells.items) (ap (λ ss. pairs ++ extra_numbers ss) none ∙ append-nil pairs) (flat_written pairs owner e w sound h)
 
 -- none was met where none lacks a number, and the other way round
 firsts_none : {V : Type 0} (same : V → V → Bool) (xs : List V) → terms.firsts same xs ≡ [] → xs ≡ []

@@ -14,7 +14,7 @@ use Rattle.si_flat.specs.declared.met.Met.{Met}
 use Rattle.si_flat.specs.Cells.{Variable, variable_cell, cells_of, cells_of_all}
 use Rattle.si_flat.specs.Numbered.{place_in, numbered, all_numbered}
 use Rattle.si_flat.specs.Flattened.{unnumbered, has_number}
-use Rattle.si_flat.specs.Flattening.{variable_of, number_by, IsIndex, IsNumber, MayMeet, met_names, met_extra, WalkState, walk_state, term_piece, terms_piece, Flattens}
+use Rattle.si_flat.specs.Flattening.{owners_variable, number_by, IsIndex, IsNumber, MayMeet, met_names, met_extra, WalkState, walk_state, term_piece, terms_piece, Flattens}
 use Rattle.si_flat.proofs.Subterms.{length-cells_of_all}
 use Rattle.si_flat.proofs.Inserted.{inserted-append, inserted_extends, inserted_length}
 
@@ -96,7 +96,7 @@ module _ (pairs : Numbering) (scheme : Scheme) where
   symbols_by extra more = number_by pairs scheme.positive (extra ++ more)
 
   abbrev variables_by : List Bytes → List Bytes → Bytes → Variable
-  variables_by names more x = variable_of scheme.owner (place_in bytes_eq (names ++ more) x)
+  variables_by names more x = owners_variable scheme.owner (place_in bytes_eq (names ++ more) x)
 
   -- what was met before is met still, with what came later
   names_later : (b c : WalkState) (vs : List Bytes) → c.names ≡ insert_all bytes_eq b.names vs → (more : List Bytes) × ((xs : List Bytes) → b.names ++ (more ++ xs) ≡ c.names ++ xs)
@@ -133,7 +133,7 @@ module _ (pairs : Numbering) (scheme : Scheme) where
         let v = variables_by c.names xs in
         let one : b.cells ≡ a.cells ++ cells_of (numbered n v t) =
         first.cells (names.0 ++ xs) (extra.0 ++ ss)
-        ∙ λ i. a.cells ++ cells_of (numbered (number_by pairs scheme.positive (extra.1 ss i)) (λ x. variable_of scheme.owner (place_in bytes_eq (names.1 xs i) x)) t) in
+        ∙ λ i. a.cells ++ cells_of (numbered (number_by pairs scheme.positive (extra.1 ss i)) (λ x. owners_variable scheme.owner (place_in bytes_eq (names.1 xs i) x)) t) in
         rest.cells xs ss ∙ ap (λ l. l ++ cells_of_all (all_numbered n v ts)) one ∙ append_assoc a.cells (cells_of (numbered n v t)) (cells_of_all (all_numbered n v ts));
   }
 
@@ -142,11 +142,11 @@ module _ (pairs : Numbering) (scheme : Scheme) where
       → names ≡ insert_all bytes_eq a.names (x ∷ [])
       → extra ≡ a.extra
       → IsIndex bytes_eq names x n
-      → Flattens pairs scheme a (record { names = names; extra = extra; cells = a.cells ++ variable_cell (variable_of scheme.owner n) ∷ [] }) (term_piece (terms.var x))
+      → Flattens pairs scheme a (record { names = names; extra = extra; cells = a.cells ++ variable_cell (owners_variable scheme.owner n) ∷ [] }) (term_piece (terms.var x))
   flattens_variable a names extra x n names_are extra_is place = record {
     names = names_are;
     extra = extra_is;
-    cells = λ xs ss. ap (λ k. a.cells ++ variable_cell (variable_of scheme.owner k) ∷ []) (sym (place xs));
+    cells = λ xs ss. ap (λ k. a.cells ++ variable_cell (owners_variable scheme.owner k) ∷ []) (sym (place xs));
   }
 
   -- so many cells more

@@ -8,8 +8,8 @@ use Rattle.si_defs.specs.Clauses as clauses
 use Rattle.si_defs.specs.Entries as entries
 use Rattle.si_defs.specs.declared.TheConstants.{MOST_OCCURRENCES}
 use Rattle.si_flat.specs.declared.Cell.{Cell}
-use Rattle.si_flat.specs.declared.walk.Owner.{Owner}
-use Rattle.si_flat.specs.declared.walk.Owner.TheVariants.{Query, Entry}
+use Rattle.si_flat.specs.declared.Owner.{Owner}
+use Rattle.si_flat.specs.declared.Owner.TheVariants.{Query, Entry}
 use Rattle.si_flat.specs.declared.walk.Scheme.{Scheme}
 use Rattle.si_flat.specs.declared.walk.WrittenEntry.{WrittenEntry}
 use Rattle.si_flat.specs.declared.met.Met.{Met}
@@ -19,9 +19,9 @@ use Rattle.si_flat.specs.Flattened.{extra_numbers, unnumbered, is_positive, whol
 use Rattle.si_flat.specs.Numbered.{number_in, signed, place_in, numbered, all_numbered}
 
 -- ---- a walk over terms that has met some variables and symbols, and has written some cells
-abbrev pub variable_of : Owner → ℕ → Variable
-variable_of Query n = query n
-variable_of Entry n = entry n
+abbrev pub owners_variable : Owner → ℕ → Variable
+owners_variable Query n = query n
+owners_variable Entry n = entry n
 
 abbrev pub symbol_of_key : SymbolKey → Symbol
 symbol_of_key k = record { kind = k.kind; text = k.text.now; side = k.side; arity = k.arity }
@@ -85,7 +85,7 @@ pub record Flattens (pairs : Numbering) (scheme : Scheme) (old new : WalkState) 
       ≡ old.cells
       ++ piece.cells
       (number_by pairs scheme.positive (new.extra ++ ss))
-      (λ x. variable_of scheme.owner (place_in bytes_eq (new.names ++ xs) x))
+      (λ x. owners_variable scheme.owner (place_in bytes_eq (new.names ++ xs) x))
 
 -- ---- an entry by itself
 abbrev pub empty_walk : WalkState

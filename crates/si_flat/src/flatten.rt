@@ -9,8 +9,8 @@ ghost use Rattle.si_flat.specs.Flattened.{IsSoundEntry, FlattensEntry, FlattensP
 ghost use Rattle.si_flat.specs.Flattening.{WritesEntry};
 
 use crate::met::Met;
-use crate::walk::{Owner, Scheme, WrittenEntry, write_term};
-use crate::{Cell, Flat};
+use crate::walk::{Scheme, WrittenEntry, write_term};
+use crate::{Cell, Flat, Owner};
 use si_term::{Entry, Literal, Pattern, SymTable, Syms};
 use std::alloc::{AllocError, Global};
 

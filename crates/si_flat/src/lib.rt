@@ -39,6 +39,15 @@ pub enum Cell {
     Ind(u32),
 }
 
+/// Whose variable it is.
+#[derive(Clone, Copy, Debug, PartialEq, Eq)]
+pub enum Owner {
+    /// The query's.
+    Query,
+    /// The entry's.
+    Entry,
+}
+
 impl Cell {
     /// The number of cells of the subterm that begins with this cell.
     pub fn span(self) -> usize

@@ -4,19 +4,12 @@ ghost use Rattle.si_defs.specs.Terms.{row, size, sizes};
 ghost use Rattle.si_term.specs.Terms.{term_of};
 ghost use Rattle.si_flat.specs.declared.Cell.TheVariants.{App};
 ghost use Rattle.si_flat.specs.Cells.{variable_cell};
-ghost use Rattle.si_flat.specs.Flattening.{variable_of, walk_state, MayMeet, Flattens, term_piece, terms_piece};
+ghost use Rattle.si_flat.specs.Flattening.{owners_variable, walk_state, MayMeet, Flattens, term_piece, terms_piece};
 
-use crate::Cell;
 use crate::met::Met;
+use crate::{Cell, Owner};
 use si_term::{SymTable, Term};
 use std::alloc::AllocError;
-
-/// Whose variables they are.
-#[derive(Clone, Copy)]
-pub(crate) enum Owner {
-    Query,
-    Entry,
-}
 
 /// What the numbers of symbols and the kind of variables go by.
 #[derive(Clone, Copy)]
@@ -36,7 +29,7 @@ pub(crate) struct WrittenEntry<'a> {
 impl Owner {
     // The cell of a variable.
     fn cell(self, number: u32) -> Cell
-        ensures { result ≡ variable_cell (variable_of self number) }
+        ensures { result ≡ variable_cell (owners_variable self number) }
     {
         match self {
             Owner::Query => Cell::Query(number),

@@ -11,11 +11,12 @@ use Rattle.si_flat.specs.Cells.{Symbol, Variable, query, entry, ind, same_variab
 use Rattle.si_flat.proofs.Subterms.{length-cells_of}
 use Rattle.si_unify.proofs.Reading.{same_term}
 use Rattle.si_unify.proofs.Rows.{join, cells-join, sound-join, count-join, substitute-join, count-substitute, join_injective}
-use Rattle.si_form.specs.declared.solution.Owner.{Owner}
-use Rattle.si_form.specs.declared.solution.Owner.TheVariants.{Query, Entry}
+use Rattle.si_flat.specs.declared.Owner.{Owner}
+use Rattle.si_flat.specs.declared.Owner.TheVariants.{Query, Entry}
 use Rattle.si_form.specs.declared.matching.Image.{Image}
-use Rattle.si_form.specs.Answers.{variable_of, counted, AreNumbered}
-use Rattle.si_form.specs.Matching.{variable_number, HaveSameSymbol, HasKnownAs, StepsOver, ComparesSymbols, StepsAs, Steps, AreImages, Agrees, NoMatch, IsMatchedBy, IsMatched}
+use Rattle.si_flat.specs.Flattening.{owners_variable}
+use Rattle.si_form.specs.Answers.{variables_from, AreNumbered}
+use Rattle.si_form.specs.Matching.{variable_number, HaveSameSymbol, HasKnownAs, StepsOver, ComparesSymbols, StepsAs, StepsOnCell, AreImages, Assigns, NoMatch, IsMatchedBy, IsMatched}
 use Rattle.si_form.proofs.VariableLaws.{number_of}
 use Rattle.si_form.proofs.Counting.{NumberedTo, numbered_to}
 use Rattle.si_form.proofs.ImageLaws.{HasImage, image_at, no_image, image_added, agrees_at, agrees_front, agrees_more}
@@ -69,13 +70,13 @@ pub record LeftOf (owner : Owner) (q e : Term) (pattern target : List Cell) (ima
   pub same_count : terms.count ts ≡ terms.count rs
   pub are_images : AreImages 0 images us
   pub numbered : NumberedTo owner (length us) (terms.variables_of_all ts) m
-  pub tells : (f : Variable → Term) → (terms.substitute f q ≡ e) ↔ ((terms.substitute_all f ts ≡ rs) × Agrees owner f 0 us)
+  pub tells : (f : Variable → Term) → (terms.substitute f q ≡ e) ↔ ((terms.substitute_all f ts ≡ rs) × Assigns owner f 0 us)
 
 abbrev pub Left : Owner → Term → Term → List Cell → List Cell → List Image → ℕ → ℕ → ℕ → Type 0
 Left owner q e pattern target images i j m =
     (ts : Terms) × (rs : Terms) × (us : List Term) × LeftOf owner q e pattern target images i j m ts rs us
 
-pub begins : (owner : Owner) (q e : Term) (pattern target : List Cell) (m : ℕ) → StandsFor pattern q → StandsFor target e → terms.firsts same_variable (terms.variables q) ≡ counted owner 0 m → Left owner q e pattern target [] 0 0 m
+pub begins : (owner : Owner) (q e : Term) (pattern target : List Cell) (m : ℕ) → StandsFor pattern q → StandsFor target e → terms.firsts same_variable (terms.variables q) ≡ variables_from owner 0 m → Left owner q e pattern target [] 0 0 m
 begins owner q e pattern target m p t numbered = (
   terms.more q terms.none,
   terms.more e terms.none,
@@ -192,7 +193,7 @@ module _ (owner : Owner) (q e : Term) (pattern target : List Cell) (i j m : ℕ)
       (old : List Image) (x : Variable) (k : ℕ) (ts : Terms) (r : Term) (others : Terms) (us : List Term) (value : List Cell)
       → Rest old (terms.more (terms.var x) ts) (terms.more r others) us
       → k < length us
-      → x ≡ variable_of owner k
+      → x ≡ owners_variable owner k
       → NumberedTo owner (length us) (terms.variables_of_all ts) m
       → StandsFor value r
       → (image : HasImage old us k)
@@ -225,7 +226,7 @@ module _ (owner : Owner) (q e : Term) (pattern target : List Cell) (i j m : ℕ)
   known_off :
       (old : List Image) (x : Variable) (k : ℕ) (ts : Terms) (r : Term) (others : Terms) (us : List Term) (value : List Cell)
       → Rest old (terms.more (terms.var x) ts) (terms.more r others) us
-      → x ≡ variable_of owner k
+      → x ≡ owners_variable owner k
       → StandsFor value r
       → (image : HasImage old us k)
       → (image.image.value.now ≡ value → ⊥)
@@ -242,7 +243,7 @@ module _ (owner : Owner) (q e : Term) (pattern target : List Cell) (i j m : ℕ)
   new_on :
       (old : List Image) (x : Variable) (ts : Terms) (r : Term) (others : Terms) (us : List Term) (value : Bor (List Cell))
       → Rest old (terms.more (terms.var x) ts) (terms.more r others) us
-      → x ≡ variable_of owner (length us)
+      → x ≡ owners_variable owner (length us)
       → NumberedTo owner (suc (length us)) (terms.variables_of_all ts) m
       → StandsFor value.now r
       → LeftOf owner q e pattern target (old ++ (record { number = length us; value = value }) ∷ []) (i + 1) (j + length value.now) m ts others (us ++ r ∷ [])
@@ -279,7 +280,7 @@ module _ (owner : Owner) (q e : Term) (pattern target : List Cell) (i j m : ℕ)
       (old new : List Image) (x : Variable) (k : ℕ) (ts : Terms) (r : Term) (others : Terms) (us : List Term) (value : Bor (List Cell)) (fits : Bool) (answer : Option ℕ)
       → Rest old (terms.more (terms.var x) ts) (terms.more r others) us
       → k < length us
-      → x ≡ variable_of owner k
+      → x ≡ owners_variable owner k
       → NumberedTo owner (length us) (terms.variables_of_all ts) m
       → StandsFor value.now r
       → (image : HasImage old us k)
@@ -301,7 +302,7 @@ module _ (owner : Owner) (q e : Term) (pattern target : List Cell) (i j m : ℕ)
       (old new : List Image) (x : Variable) (k : ℕ) (ts : Terms) (r : Term) (others : Terms) (us : List Term) (value : Bor (List Cell)) (fits : Bool) (answer : Option ℕ)
       → Rest old (terms.more (terms.var x) ts) (terms.more r others) us
       → k ≡ length us
-      → x ≡ variable_of owner (length us)
+      → x ≡ owners_variable owner (length us)
       → NumberedTo owner (suc (length us)) (terms.variables_of_all ts) m
       → StandsFor value.now r
       → fits ≡ true
@@ -331,7 +332,7 @@ module _ (owner : Owner) (q e : Term) (pattern target : List Cell) (i j m : ℕ)
             let image : HasImage old us k = image_at 0 k old us h.are_images (omega (arith, same, met.1)) in
             let known : HasKnownAs k step.value old new (Some image.image) step.fits =
             subst (λ o. HasKnownAs k step.value old new o step.fits) image.image_is step.known in
-            known_told old new x k ts r others us step.value step.fits answer h (omega (arith, same, met.1)) (met.2 ∙ ap (variable_of owner) (sym same)) met.3 stands image known.0 known.1 step.answer_is
+            known_told old new x k ts r others us step.value step.fits answer h (omega (arith, same, met.1)) (met.2 ∙ ap (owners_variable owner) (sym same)) met.3 stands image known.0 known.1 step.answer_is
         | inr next ↦
             let same : k ≡ length us = number_is (length us) next.0 in
             let known : HasKnownAs k step.value old new None step.fits =
@@ -339,7 +340,7 @@ module _ (owner : Owner) (q e : Term) (pattern target : List Cell) (i j m : ℕ)
             new_told old new x k ts r others us step.value step.fits answer h same next.0 next.1 stands known.0 known.1 step.answer_is
       ]
     where
-      number_is : (n : ℕ) → x ≡ variable_of owner n → k ≡ n
+      number_is : (n : ℕ) → x ≡ owners_variable owner n → k ≡ n
       number_is n is = let both : Some k ≡ Some n = number ∙ ap (λ y. variable_number owner (variable_cell y)) is ∙ number_of owner n in cc
 
   number_of_left : (old : List Image) (x : Variable) (ts rs : Terms) (us : List Term) → Rest old (terms.more (terms.var x) ts) rs us → (k : ℕ) × (variable_number owner (variable_cell x) ≡ Some k)
@@ -354,7 +355,7 @@ module _ (owner : Owner) (q e : Term) (pattern target : List Cell) (i j m : ℕ)
       → Rest old ts rs us
       → i < length pattern
       → c ≡ get_or pattern i (cell.App 0 0 0)
-      → Steps owner c target j old new answer
+      → StepsOnCell owner c target j old new answer
       → Goes owner q e pattern target new i j m answer
   goes old new c terms.none rs us answer h less is steps =
       absurd (omega (arith, less, ap length h.pattern_rest, length-drop i pattern))
@@ -385,14 +386,14 @@ module _ (owner : Owner) (q e : Term) (pattern target : List Cell) (i j m : ℕ)
       omega (arith, ap length h.target_rest, length-drop j target, length-append (cells_of r) (cells_of_all others), length-cells_of r, size_positive r)
 
   -- the whole pattern has been compared
-  pub ends : (images : List Image) (ts rs : Terms) (us : List Term) → Rest images ts rs us → length pattern ≤ i → terms.firsts same_variable (terms.variables q) ≡ counted owner 0 m → IsMatchedBy owner q e images true
+  pub ends : (images : List Image) (ts rs : Terms) (us : List Term) → Rest images ts rs us → length pattern ≤ i → terms.firsts same_variable (terms.variables q) ≡ variables_from owner 0 m → IsMatchedBy owner q e images true
   ends images (terms.more t ts) rs us h done numbered =
       absurd (omega (arith, done, ap length h.pattern_rest, length-drop i pattern, length-append (cells_of t) (cells_of_all ts), length-cells_of t, size_positive t))
   ends images terms.none (terms.more r others) us h done numbered = absurd (omega (arith, h.same_count))
   ends images terms.none terms.none us h done numbered = (
     us,
     h.are_images,
-    record { numbered = numbered ∙ ap (counted owner 0) (sym h.numbered); takes = λ f agrees. (h.tells f).1 (refl, agrees) },
+    record { numbered = numbered ∙ ap (variables_from owner 0) (sym h.numbered); takes = λ f agrees. (h.tells f).1 (refl, agrees) },
   )
 
 -- ---- the loop over the pattern
@@ -402,7 +403,7 @@ pub record IsGoing (owner : Owner) (pattern target : List Cell) (images : List I
       (q e : Term) (m : ℕ)
       → StandsFor pattern q
       → StandsFor target e
-      → terms.firsts same_variable (terms.variables q) ≡ counted owner 0 m
+      → terms.firsts same_variable (terms.variables q) ≡ variables_from owner 0 m
       → Left owner q e pattern target images i j m
 
 pub going_at_first : (owner : Owner) (pattern target : List Cell) (images : List Image) → images ≡ [] → IsGoing owner pattern target images 0 0
@@ -418,7 +419,7 @@ going_inside owner pattern target images i j h p t numbered less =
     still_inside owner p.0 t.0 pattern target i j n.0 images left.0 left.1 left.2 left.3 less
 
 -- what a step passed over is inside
-pub passed_within : (owner : Owner) (c : Cell) (target : List Cell) (j n : ℕ) (old new : List Image) → Steps owner c target j old new (Some n) → j < length target → j + n ≤ length target
+pub passed_within : (owner : Owner) (c : Cell) (target : List Cell) (j n : ℕ) (old new : List Image) → StepsOnCell owner c target j old new (Some n) → j < length target → j + n ≤ length target
 passed_within owner c target j n old new steps less = by (variable_number owner c) steps
   where
     long : (value : List Cell) → value ≡ take (length value) (drop j target) → length value ≤ length target - j
@@ -432,7 +433,7 @@ passed_within owner c target j n old new steps less = by (variable_number owner 
     by (Some k) h = passed h.value.now h.fits h.place h.answer_is
     by None h = omega (arith, h.1.1, less)
 
-pub going_on : (owner : Owner) (pattern target : List Cell) (old new : List Image) (i j n : ℕ) (c : Cell) → IsGoing owner pattern target old i j → i < length pattern → j < length target → c ≡ get_or pattern i (cell.App 0 0 0) → Steps owner c target j old new (Some n) → IsGoing owner pattern target new (i + 1) (j + n)
+pub going_on : (owner : Owner) (pattern target : List Cell) (old new : List Image) (i j n : ℕ) (c : Cell) → IsGoing owner pattern target old i j → i < length pattern → j < length target → c ≡ get_or pattern i (cell.App 0 0 0) → StepsOnCell owner c target j old new (Some n) → IsGoing owner pattern target new (i + 1) (j + n)
 going_on owner pattern target old new i j n c h less inside is steps = record {
   within = passed_within owner c target j n old new steps inside;
   left = λ q e m p t numbered.
@@ -440,7 +441,7 @@ going_on owner pattern target old new i j n c h less inside is steps = record {
       goes owner q e pattern target i j m old new c left.0 left.1 left.2 (Some n) left.3 less is steps;
 }
 
-pub going_wrong : (owner : Owner) (pattern target : List Cell) (old new : List Image) (i j : ℕ) (c : Cell) → IsGoing owner pattern target old i j → AreNumbered owner pattern → i < length pattern → c ≡ get_or pattern i (cell.App 0 0 0) → Steps owner c target j old new None → IsMatched owner pattern target new false
+pub going_wrong : (owner : Owner) (pattern target : List Cell) (old new : List Image) (i j : ℕ) (c : Cell) → IsGoing owner pattern target old i j → AreNumbered owner pattern → i < length pattern → c ≡ get_or pattern i (cell.App 0 0 0) → StepsOnCell owner c target j old new None → IsMatched owner pattern target new false
 going_wrong owner pattern target old new i j c h numbered less is steps = λ q e p t.
     let n = numbered q p in
     let left = h.left q e n.0 p t n.1 in

@@ -9,12 +9,13 @@ use Rattle.si_defs.specs.declared.Relation.TheVariants.{Variants, Instances, Gen
 use Rattle.si_defs.specs.Solutions.{IsCanonicalMatch}
 use Rattle.si_flat.specs.declared.Cell.{Cell}
 use Rattle.si_flat.specs.Cells.{Variable, same_variable, Term}
-use Rattle.si_form.specs.declared.solution.Owner.{Owner}
-use Rattle.si_form.specs.declared.solution.Owner.TheVariants.{Query, Entry}
+use Rattle.si_flat.specs.declared.Owner.{Owner}
+use Rattle.si_flat.specs.declared.Owner.TheVariants.{Query, Entry}
 use Rattle.si_form.specs.declared.solution.Binding.{Binding}
 use Rattle.si_form.specs.declared.matching.Image.{Image}
-use Rattle.si_form.specs.Answers.{variable_of, counted, IsNumbered, AreNumbered, StandsForList, AnswersTo, Answers}
-use Rattle.si_form.specs.Matching.{AreImages, AreWholeImages, pairs, Agrees, Matches, NoMatch, IsMatched, binding_of, MatchAnswersTo, MatchAnswers}
+use Rattle.si_flat.specs.Flattening.{owners_variable}
+use Rattle.si_form.specs.Answers.{variables_from, IsNumbered, AreNumbered, StandsForList, AnswersTo, Answers}
+use Rattle.si_form.specs.Matching.{AreImages, AreWholeImages, pairs, Assigns, MatchesBy, NoMatch, IsMatched, binding_of, MatchAnswersTo, MatchAnswers}
 use Rattle.si_form.proofs.VariableLaws.{same_tells, same_itself, variable_injective}
 use Rattle.si_form.proofs.Counting.{NumberedTo, numbered_to}
 use Rattle.si_form.proofs.CanonicalLaws.{canonical_match, one_match}
@@ -24,7 +25,7 @@ pub images_stand : (owner : Owner) (k : ℕ) (images : List Image) (us : List Te
 images_stand owner k [] [] h = tt
 images_stand owner k [] (u ∷ us) h = elim h [ ]
 images_stand owner k (i ∷ is) [] h = elim h [ ]
-images_stand owner k (i ∷ is) (u ∷ us) h = (record { left = ap (variable_of owner) (sym h.0); right = h.1 }, images_stand owner (suc k) is us h.2)
+images_stand owner k (i ∷ is) (u ∷ us) h = (record { left = ap (owners_variable owner) (sym h.0); right = h.1 }, images_stand owner (suc k) is us h.2)
 
 pub images_whole : (k : ℕ) (images : List Image) (us : List Term) → AreImages k images us → AreWholeImages images
 images_whole k [] [] h = tt
@@ -33,39 +34,39 @@ images_whole k (i ∷ is) [] h = elim h [ ]
 images_whole k (i ∷ is) (u ∷ us) h = ((u, h.1), images_whole (suc k) is us h.2)
 
 -- ---- the map that the pairs make
-lefts_counted : (owner : Owner) (k : ℕ) (us : List Term) → lefts (pairs owner k us) ≡ counted owner k (length us)
+lefts_counted : (owner : Owner) (k : ℕ) (us : List Term) → lefts (pairs owner k us) ≡ variables_from owner k (length us)
 lefts_counted owner k [] = refl
-lefts_counted owner k (u ∷ us) = ap (λ l. variable_of owner k ∷ l) (lefts_counted owner (suc k) us)
+lefts_counted owner k (u ∷ us) = ap (λ l. owners_variable owner k ∷ l) (lefts_counted owner (suc k) us)
 
 -- f goes by the pairs at each of these variables
-later_image : (owner : Owner) (k m : ℕ) (u : Term) (bs : List (Variable × Term)) → k < m → image same_variable ((variable_of owner k, u) ∷ bs) (variable_of owner m) ≡ image same_variable bs (variable_of owner m)
-later_image owner k m u bs less = by (same_variable (variable_of owner k) (variable_of owner m)) refl
+later_image : (owner : Owner) (k m : ℕ) (u : Term) (bs : List (Variable × Term)) → k < m → image same_variable ((owners_variable owner k, u) ∷ bs) (owners_variable owner m) ≡ image same_variable bs (owners_variable owner m)
+later_image owner k m u bs less = by (same_variable (owners_variable owner k) (owners_variable owner m)) refl
   where
-    by : (b : Bool) → same_variable (variable_of owner k) (variable_of owner m) ≡ b → cond b u (image same_variable bs (variable_of owner m)) ≡ image same_variable bs (variable_of owner m)
-    by true e = absurd (omega (arith, less, variable_injective owner k m (same_tells (variable_of owner k) (variable_of owner m) e)))
+    by : (b : Bool) → same_variable (owners_variable owner k) (owners_variable owner m) ≡ b → cond b u (image same_variable bs (owners_variable owner m)) ≡ image same_variable bs (owners_variable owner m)
+    by true e = absurd (omega (arith, less, variable_injective owner k m (same_tells (owners_variable owner k) (owners_variable owner m) e)))
     by false e = refl
 
-agrees_later : (owner : Owner) (f g : Variable → Term) (k : ℕ) (us : List Term) → ((m : ℕ) → k < suc m → f (variable_of owner m) ≡ g (variable_of owner m)) → Agrees owner g k us → Agrees owner f k us
+agrees_later : (owner : Owner) (f g : Variable → Term) (k : ℕ) (us : List Term) → ((m : ℕ) → k < suc m → f (owners_variable owner m) ≡ g (owners_variable owner m)) → Assigns owner g k us → Assigns owner f k us
 agrees_later owner f g k [] give h = tt
 agrees_later owner f g k (u ∷ us) give h = (give k (omega arith) ∙ h.0, agrees_later owner f g (suc k) us (λ m less. give m (omega (arith, less))) h.1)
 
-image_agrees : (owner : Owner) (k : ℕ) (us : List Term) → Agrees owner (image same_variable (pairs owner k us)) k us
+image_agrees : (owner : Owner) (k : ℕ) (us : List Term) → Assigns owner (image same_variable (pairs owner k us)) k us
 image_agrees owner k [] = tt
 image_agrees owner k (u ∷ us) = (
-  ap (λ b. cond b u (image same_variable (pairs owner (suc k) us) (variable_of owner k))) (same_itself (variable_of owner k)),
+  ap (λ b. cond b u (image same_variable (pairs owner (suc k) us) (owners_variable owner k))) (same_itself (owners_variable owner k)),
   agrees_later owner (image same_variable (pairs owner k (u ∷ us))) (image same_variable (pairs owner (suc k) us)) (suc k) us
       (λ m less. later_image owner k m u (pairs owner (suc k) us) (omega (arith, less))) (image_agrees owner (suc k) us),
 )
 
 -- ---- variables apart
 abbrev IsNot : Owner → Variable → Type 0
-IsNot owner x = (n : ℕ) → x ≡ variable_of owner n → ⊥
+IsNot owner x = (n : ℕ) → x ≡ owners_variable owner n → ⊥
 
 abbrev other : Owner → Owner
 other Query = Entry
 other Entry = Query
 
-other_is_not : (owner : Owner) (k : ℕ) → IsNot owner (variable_of (other owner) k)
+other_is_not : (owner : Owner) (k : ℕ) → IsNot owner (owners_variable (other owner) k)
 other_is_not Query k n e = cc
 other_is_not Entry k n e = cc
 
@@ -77,7 +78,7 @@ none_numbered owner n m (x ∷ xs) h =
       | inr next ↦ (subst (IsNot owner) (sym next.0) (other_is_not owner n), none_numbered owner (suc n) m xs next.1)
     ]
 
-some_numbered : (owner : Owner) (n m : ℕ) (xs : List Variable) (x : Variable) → NumberedTo owner n xs m → IsAmong xs x → (k : ℕ) × (x ≡ variable_of owner k)
+some_numbered : (owner : Owner) (n m : ℕ) (xs : List Variable) (x : Variable) → NumberedTo owner n xs m → IsAmong xs x → (k : ℕ) × (x ≡ owners_variable owner k)
 some_numbered owner n m [] x h a = elim a [ ]
 some_numbered owner n m (y ∷ xs) x h a =
     elim h [
@@ -86,7 +87,7 @@ some_numbered owner n m (y ∷ xs) x h a =
     ]
 
 -- ---- canonical
-canonical_of : (owner : Owner) (q e : Term) (us : List Term) → Matches owner q e us → IsNumbered (other owner) e → IsCanonicalMatch same_variable q e (pairs owner 0 us)
+canonical_of : (owner : Owner) (q e : Term) (us : List Term) → MatchesBy owner q e us → IsNumbered (other owner) e → IsCanonicalMatch same_variable q e (pairs owner 0 us)
 canonical_of owner q e us h numbered =
     canonical_match same_variable same_tells same_itself (IsNot owner) q e (pairs owner 0 us)
     (lefts_counted owner 0 us ∙ sym h.numbered)
@@ -114,7 +115,7 @@ generalization_told q e (Some bindings) h numbered =
     (pairs Entry 0 h.0, h.1, record { canonical = canonical; only = λ cs k. only_one e q (pairs Entry 0 h.0) cs canonical k })
 
 -- the entry takes the query as an instance too
-pub variant_told : (q e : Term) (answer : Option (List Binding)) (vs : List Term) → Matches Entry e q vs → MatchAnswersTo Query q e answer → IsNumbered Query q → IsNumbered Entry e → AnswersTo Variants q e answer
+pub variant_told : (q e : Term) (answer : Option (List Binding)) (vs : List Term) → MatchesBy Entry e q vs → MatchAnswersTo Query q e answer → IsNumbered Query q → IsNumbered Entry e → AnswersTo Variants q e answer
 variant_told q e None vs back h q_numbered numbered = λ both. no_instance q e h both.0
 variant_told q e (Some bindings) vs back h q_numbered numbered =
     let canonical = canonical_of Query q e h.0 h.2 numbered in

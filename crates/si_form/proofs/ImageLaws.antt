@@ -4,10 +4,10 @@ use Rattle.std.specs.Prelude.{slice_get}
 use Rattle.std.specs.Borrow.{Bor}
 use Rattle.si_flat.specs.declared.Cell.{Cell}
 use Rattle.si_flat.specs.Cells.{Variable, Term, StandsFor}
-use Rattle.si_form.specs.declared.solution.Owner.{Owner}
+use Rattle.si_flat.specs.declared.Owner.{Owner}
 use Rattle.si_form.specs.declared.matching.Image.{Image}
-use Rattle.si_form.specs.Answers.{variable_of}
-use Rattle.si_form.specs.Matching.{AreImages, Agrees}
+use Rattle.si_flat.specs.Flattening.{owners_variable}
+use Rattle.si_form.specs.Matching.{AreImages, Assigns}
 
 -- the image with this number, and its term
 pub record HasImage (images : List Image) (us : List Term) (n : ℕ) : Type 0 where
@@ -39,19 +39,19 @@ image_added k n (i ∷ is) [] value u h e s = elim h [ ]
 image_added k n (i ∷ is) (v ∷ us) value u h e s = (h.0, h.1, image_added (suc k) n is us value u h.2 (omega (arith, e)) s)
 
 -- ---- agreeing
-pub agrees_at : (owner : Owner) (f : Variable → Term) (k n m : ℕ) (us : List Term) (u : Term) → m ≡ k + n → Agrees owner f k us → slice_get us n ≡ Some u → f (variable_of owner m) ≡ u
+pub agrees_at : (owner : Owner) (f : Variable → Term) (k n m : ℕ) (us : List Term) (u : Term) → m ≡ k + n → Assigns owner f k us → slice_get us n ≡ Some u → f (owners_variable owner m) ≡ u
 agrees_at owner f k n m [] u place h e = cc
 agrees_at owner f k zero m (v ∷ us) u place h e =
     let same : v ≡ u = cc in
-    ap (λ l. f (variable_of owner l)) (omega (arith, place)) ∙ h.0 ∙ same
+    ap (λ l. f (owners_variable owner l)) (omega (arith, place)) ∙ h.0 ∙ same
 agrees_at owner f k (suc n) m (v ∷ us) u place h e = agrees_at owner f (suc k) n m us u (omega (arith, place)) h.1 e
 
-pub agrees_front : (owner : Owner) (f : Variable → Term) (k m : ℕ) (us : List Term) (u : Term) → m ≡ k + length us → Agrees owner f k (us ++ u ∷ []) → Agrees owner f k us × (f (variable_of owner m) ≡ u)
-agrees_front owner f k m [] u place h = (tt, ap (λ l. f (variable_of owner l)) (omega (arith, place)) ∙ h.0)
+pub agrees_front : (owner : Owner) (f : Variable → Term) (k m : ℕ) (us : List Term) (u : Term) → m ≡ k + length us → Assigns owner f k (us ++ u ∷ []) → Assigns owner f k us × (f (owners_variable owner m) ≡ u)
+agrees_front owner f k m [] u place h = (tt, ap (λ l. f (owners_variable owner l)) (omega (arith, place)) ∙ h.0)
 agrees_front owner f k m (v ∷ us) u place h =
     let rest = agrees_front owner f (suc k) m us u (omega (arith, place)) h.1 in
     ((h.0, rest.0), rest.1)
 
-pub agrees_more : (owner : Owner) (f : Variable → Term) (k m : ℕ) (us : List Term) (u : Term) → m ≡ k + length us → Agrees owner f k us → f (variable_of owner m) ≡ u → Agrees owner f k (us ++ u ∷ [])
-agrees_more owner f k m [] u place h e = (ap (λ l. f (variable_of owner l)) (omega (arith, place)) ∙ e, tt)
+pub agrees_more : (owner : Owner) (f : Variable → Term) (k m : ℕ) (us : List Term) (u : Term) → m ≡ k + length us → Assigns owner f k us → f (owners_variable owner m) ≡ u → Assigns owner f k (us ++ u ∷ [])
+agrees_more owner f k m [] u place h e = (ap (λ l. f (owners_variable owner l)) (omega (arith, place)) ∙ e, tt)
 agrees_more owner f k m (v ∷ us) u place h e = (h.0, agrees_more owner f (suc k) m us u (omega (arith, place)) h.1 e)

@@ -4,7 +4,7 @@ use Rattle.si_defs.specs.Terms.{var, app, none, more}
 use Rattle.si_flat.specs.declared.Cell.{Cell}
 use Rattle.si_flat.specs.Cells as cells
 use Rattle.si_flat.specs.Cells.{query, entry, StandsFor, IsWhole}
-use Rattle.si_form.specs.declared.solution.Owner.{Owner}
+use Rattle.si_flat.specs.declared.Owner.{Owner}
 use Rattle.si_form.specs.Answers.{IsNumbered, AreNumbered}
 use Rattle.si_form.proofs.Agreeing.{same_value}
 

@@ -3,9 +3,9 @@ use Rattle.std.proofs.Common.{◌≡◌, ℕ, true, false, refl, sym, ◌∙◌,
 use Rattle.std.proofs.lemmas.Bool.Decides.{eqb_tells}
 use Rattle.std.proofs.lemmas.Bool.{eq-eqb}
 use Rattle.si_flat.specs.Cells.{Variable, query, entry, ind, same_variable, variable_cell}
-use Rattle.si_form.specs.declared.solution.Owner.{Owner}
-use Rattle.si_form.specs.declared.solution.Owner.TheVariants.{Query, Entry}
-use Rattle.si_form.specs.Answers.{variable_of}
+use Rattle.si_flat.specs.declared.Owner.{Owner}
+use Rattle.si_flat.specs.declared.Owner.TheVariants.{Query, Entry}
+use Rattle.si_flat.specs.Flattening.{owners_variable}
 use Rattle.si_form.specs.Matching.{variable_number}
 
 pub same_tells : (x y : Variable) → same_variable x y ≡ true → x ≡ y
@@ -24,10 +24,10 @@ same_itself (query n) = eq-eqb n n refl
 same_itself (entry n) = eq-eqb n n refl
 same_itself (ind n) = eq-eqb n n refl
 
-pub number_of : (owner : Owner) (n : ℕ) → variable_number owner (variable_cell (variable_of owner n)) ≡ Some n
+pub number_of : (owner : Owner) (n : ℕ) → variable_number owner (variable_cell (owners_variable owner n)) ≡ Some n
 number_of Query n = refl
 number_of Entry n = refl
 
-pub variable_injective : (owner : Owner) (m n : ℕ) → variable_of owner m ≡ variable_of owner n → m ≡ n
+pub variable_injective : (owner : Owner) (m n : ℕ) → owners_variable owner m ≡ owners_variable owner n → m ≡ n
 variable_injective Query m n e = cc
 variable_injective Entry m n e = cc

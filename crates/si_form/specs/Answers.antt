@@ -6,29 +6,26 @@ use Rattle.si_defs.specs.Solutions.{IsCanonical}
 use Rattle.si_flat.specs.declared.Cell.{Cell}
 use Rattle.si_flat.specs.Cells.{Variable, query, entry, same_variable, Term, StandsFor}
 use Rattle.si_flat.specs.Flattened.{counted_from, IsNumberedBy}
-use Rattle.si_form.specs.declared.solution.Owner.{Owner}
-use Rattle.si_form.specs.declared.solution.Owner.TheVariants.{Query, Entry}
+use Rattle.si_flat.specs.Flattening.{owners_variable}
+use Rattle.si_flat.specs.declared.Owner.{Owner}
+use Rattle.si_flat.specs.declared.Owner.TheVariants.{Query, Entry}
 use Rattle.si_form.specs.declared.solution.Binding.{Binding}
 
 -- ---- numbered variables
-abbrev pub variable_of : Owner → ℕ → Variable
-variable_of Query n = query n
-variable_of Entry n = entry n
-
 -- so many variables of an owner, from a number on
-abbrev pub counted : Owner → ℕ → ℕ → List Variable
-counted owner k n = counted_from (variable_of owner) k n
+abbrev pub variables_from : Owner → ℕ → ℕ → List Variable
+variables_from owner k n = counted_from (owners_variable owner) k n
 
 -- the variables of the term are the owner's, numbered in the order of their first occurrence
 abbrev pub IsNumbered : Owner → Term → Type 0
-IsNumbered owner t = IsNumberedBy (variable_of owner) t
+IsNumbered owner t = IsNumberedBy (owners_variable owner) t
 
 abbrev pub AreNumbered : Owner → List Cell → Type 0
 AreNumbered owner cells = (t : Term) → StandsFor cells t → IsNumbered owner t
 
 -- ---- lists of bindings
 pub record StandsForPair (b : Binding) (pair : Variable × Term) : Type 0 where
-  pub left : pair.0 ≡ variable_of b.owner b.slot
+  pub left : pair.0 ≡ owners_variable b.owner b.slot
   pub right : StandsFor b.value pair.1
 
 abbrev pub StandsForList : List Binding → List (Variable × Term) → Type 0

@@ -6,11 +6,12 @@ use Rattle.si_defs.specs.Terms as terms
 use Rattle.si_flat.specs.declared.Cell.{Cell}
 use Rattle.si_flat.specs.declared.Cell.TheVariants as cell
 use Rattle.si_flat.specs.Cells.{Variable, same_variable, Term, StandsFor, IsWhole}
-use Rattle.si_form.specs.declared.solution.Owner.{Owner}
-use Rattle.si_form.specs.declared.solution.Owner.TheVariants.{Query, Entry}
+use Rattle.si_flat.specs.declared.Owner.{Owner}
+use Rattle.si_flat.specs.declared.Owner.TheVariants.{Query, Entry}
 use Rattle.si_form.specs.declared.solution.Binding.{Binding}
 use Rattle.si_form.specs.declared.matching.Image.{Image}
-use Rattle.si_form.specs.Answers.{variable_of, counted, StandsForList}
+use Rattle.si_flat.specs.Flattening.{owners_variable}
+use Rattle.si_form.specs.Answers.{variables_from, StandsForList}
 
 -- ---- cells
 abbrev pub variable_number : Owner → Cell → Option ℕ
@@ -47,8 +48,8 @@ abbrev pub StepsAs : Cell → List Cell → ℕ → List Image → List Image �
 StepsAs c target at old new (Some number) answer = StepsOver number target at old new answer
 StepsAs c target at old new None answer = (new ≡ old) × ComparesSymbols c (get_or target at (cell.App 0 0 0)) answer
 
-abbrev pub Steps : Owner → Cell → List Cell → ℕ → List Image → List Image → Option ℕ → Type 0
-Steps owner c target at old new = StepsAs c target at old new (variable_number owner c)
+abbrev pub StepsOnCell : Owner → Cell → List Cell → ℕ → List Image → List Image → Option ℕ → Type 0
+StepsOnCell owner c target at old new = StepsAs c target at old new (variable_number owner c)
 
 -- ---- a whole pattern
 -- the images are numbered from k on, and their slices stand for these terms
@@ -64,23 +65,23 @@ AreWholeImages = AllByRecursion (λ i. IsWhole i.value.now)
 -- the variables from number k on, each with its term
 abbrev pub pairs : Owner → ℕ → List Term → List (Variable × Term)
 pairs owner k [] = []
-pairs owner k (u ∷ us) = (variable_of owner k, u) ∷ pairs owner (suc k) us
+pairs owner k (u ∷ us) = (owners_variable owner k, u) ∷ pairs owner (suc k) us
 
 -- f takes the variables from number k on to these terms
-abbrev pub Agrees : Owner → (Variable → Term) → ℕ → List Term → Type 0
-Agrees owner f k [] = Unit {0}
-Agrees owner f k (u ∷ us) = (f (variable_of owner k) ≡ u) × Agrees owner f (suc k) us
+abbrev pub Assigns : Owner → (Variable → Term) → ℕ → List Term → Type 0
+Assigns owner f k [] = Unit {0}
+Assigns owner f k (u ∷ us) = (f (owners_variable owner k) ≡ u) × Assigns owner f (suc k) us
 
 -- q has as many variables as there are terms, and becomes e where they are replaced by these
-pub record Matches (owner : Owner) (q e : Term) (us : List Term) : Type 0 where
-  pub numbered : terms.firsts same_variable (terms.variables q) ≡ counted owner 0 (length us)
-  pub takes : (f : Variable → Term) → Agrees owner f 0 us → terms.substitute f q ≡ e
+pub record MatchesBy (owner : Owner) (q e : Term) (us : List Term) : Type 0 where
+  pub numbered : terms.firsts same_variable (terms.variables q) ≡ variables_from owner 0 (length us)
+  pub takes : (f : Variable → Term) → Assigns owner f 0 us → terms.substitute f q ≡ e
 
 abbrev pub NoMatch : Term → Term → Type 0
 NoMatch q e = (f : Variable → Term) → terms.substitute f q ≡ e → ⊥
 
 abbrev pub IsMatchedBy : Owner → Term → Term → List Image → Bool → Type 0
-IsMatchedBy owner q e images true = (us : List Term) × AreImages 0 images us × Matches owner q e us
+IsMatchedBy owner q e images true = (us : List Term) × AreImages 0 images us × MatchesBy owner q e us
 IsMatchedBy owner q e images false = NoMatch q e
 
 abbrev pub IsMatched : Owner → List Cell → List Cell → List Image → Bool → Type 0
@@ -93,7 +94,7 @@ binding_of owner i = record { owner = owner; slot = i.number; value = i.value.no
 
 abbrev pub MatchAnswersTo : Owner → Term → Term → Option (List Binding) → Type 0
 MatchAnswersTo owner q e None = NoMatch q e
-MatchAnswersTo owner q e (Some bindings) = (us : List Term) × StandsForList bindings (pairs owner 0 us) × Matches owner q e us
+MatchAnswersTo owner q e (Some bindings) = (us : List Term) × StandsForList bindings (pairs owner 0 us) × MatchesBy owner q e us
 
 abbrev pub MatchAnswers : Owner → List Cell → List Cell → Option (List Binding) → Type 0
 MatchAnswers owner pattern target answer =

@@ -74,14 +74,14 @@ PlacesAreFree =
     → NumbersRelate kind p u (signed positive number) xs ys
     → NumbersRelate kind p u (signed positive number) xs' ys'
 
-abbrev pub IsSolution : Relation → Term → Term → Solution → Type 0
-IsSolution kind p u solution = IsCanonical same_variable kind (pattern_term p) (entry_term u) solution
+abbrev pub IsCanonicalFor : Relation → Term → Term → Solution → Type 0
+IsCanonicalFor kind p u solution = IsCanonical same_variable kind (pattern_term p) (entry_term u) solution
 
 -- the terms stand in the relation, and the bindings stand for a canonical list of theirs
 pub record StandForSolution (kind : Relation) (p u : Term) (number : Symbol → ℕ) (variable : Variable → cells.Variable) (bindings : List Binding) : Type 0 where
   pub relates : TextsRelate kind p u
   pub solution : Solution
-  pub canonical : IsSolution kind p u solution
+  pub canonical : IsCanonicalFor kind p u solution
   pub stands : StandsForList bindings (list_by number variable solution)
 
 abbrev pub AnswersToTexts : Relation → Term → Term → (Symbol → ℕ) → (Variable → cells.Variable) → Option (List Binding) → Type 0

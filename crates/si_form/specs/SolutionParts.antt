@@ -11,7 +11,7 @@ use Rattle.si_defs.specs.Variables.{Variable, Apart, Solution}
 use Rattle.si_flat.specs.Cells as cells
 use Rattle.si_flat.specs.Numbered.{signed}
 use Rattle.si_form.specs.declared.solution.Binding.{Binding}
-use Rattle.si_form.specs.Numberings.{list_by, symbols_of, IsVariableOf, IsSolution, AnswersToTexts}
+use Rattle.si_form.specs.Numberings.{list_by, symbols_of, IsVariableOf, IsCanonicalFor, AnswersToTexts}
 
 -- all variables and symbols of a binding are of the two terms
 pub record IsBindingOf (p u : Term) (b : Variable × Apart) : Type 0 where
@@ -22,7 +22,7 @@ pub record IsBindingOf (p u : Term) (b : Variable × Apart) : Type 0 where
 abbrev pub SolutionsAreOfTerms : Type 0
 SolutionsAreOfTerms =
     (kind : Relation) (p u : Term) (solution : Solution)
-    → IsSolution kind p u solution
+    → IsCanonicalFor kind p u solution
     → AllByRecursion (IsBindingOf p u) solution
 
 -- that of two atoms has no predicate
@@ -35,7 +35,7 @@ PredicatesStayOut =
     (kind : Relation) (p u : Term) (solution : Solution)
     → IsSoundAtom p
     → IsSoundAtom u
-    → IsSolution kind p u solution
+    → IsCanonicalFor kind p u solution
     → HasFunctionsAlone solution
 
 -- so its numbers don't depend on the sign

@@ -2,13 +2,13 @@
 ghost use Rattle.std.specs.Prelude.{◌≡◌, IfOk, map};
 ghost use Rattle.si_flat.specs.Cells.{IsWhole};
 ghost use Rattle.si_defs.specs.declared.Relation.TheVariants.{Variants, Instances, Generalizations};
-ghost use Rattle.si_form.specs.declared.solution.Owner.TheVariants.{Query, Entry};
+ghost use Rattle.si_flat.specs.declared.Owner.TheVariants.{Query, Entry};
 ghost use Rattle.si_form.specs.Answers.{AreNumbered, Answers};
 ghost use Rattle.si_form.specs.Matching.{binding_of, AreWholeImages, MatchAnswers};
 
 use crate::matching::{Image, matches};
-use crate::solution::{Binding, Owner, Solution};
-use si_flat::{Cell, Flat};
+use crate::solution::{Binding, Solution};
+use si_flat::{Cell, Flat, Owner};
 use std::alloc::{AllocError, Global};
 
 // The bindings of variables to copies of what they stand for.

@@ -17,4 +17,5 @@ pub use laws::{
     canonical_lists_are_unique, numbers_keep_answers, numbers_keep_relations,
     numbers_tell_symbols_apart, solutions_are_of_their_terms,
 };
-pub use solution::{Binding, Owner, Solution};
+pub use si_flat::Owner;
+pub use solution::{Binding, Solution};

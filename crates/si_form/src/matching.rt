@@ -2,10 +2,9 @@
 ghost use Rattle.std.specs.Prelude.{◌≡◌, ◌<◌, ◌↔◌, IsTrue, IfOk, [], length};
 ghost use Rattle.si_flat.specs.Cells.{IsWhole};
 ghost use Rattle.si_form.specs.Answers.{AreNumbered};
-ghost use Rattle.si_form.specs.Matching.{variable_number, HaveSameSymbol, HasKnown, Steps, IsMatched};
+ghost use Rattle.si_form.specs.Matching.{variable_number, HaveSameSymbol, HasKnown, StepsOnCell, IsMatched};
 
-use crate::solution::Owner;
-use si_flat::{Cell, sub};
+use si_flat::{Cell, Owner, sub};
 use std::alloc::AllocError;
 
 /// A variable, by its number, and the slice that it stands for.
@@ -103,7 +102,7 @@ fn step<'a>(
 ) -> Result<Option<usize>, AllocError>
     requires whole { IsWhole target.now }
     requires inside { at < length target.now }
-    ensures { IfOk result (Steps owner cell target.now at images.old.items images.new.items) }
+    ensures { IfOk result (StepsOnCell owner cell target.now at images.old.items images.new.items) }
 {
     let Some(number) = variable_number(owner, cell) else {
         if have_same_symbol(cell, target[at]) {

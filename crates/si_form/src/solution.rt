@@ -1,18 +1,9 @@
 // Solution lists: bindings of variables to terms.
 ghost use Rattle.std.specs.Prelude.{◌≡◌, ◌<◌, [], ◌∷◌, ◌++◌, OnOk, OnErr, Some, length, slice_get};
 
-use si_flat::Flat;
+use si_flat::{Flat, Owner};
 use std::alloc::{AllocError, Global};
 use std::marker::Model;
-
-/// Whose variable it is.
-#[derive(Clone, Copy, Debug, PartialEq, Eq)]
-pub enum Owner {
-    /// The query's.
-    Query,
-    /// The entry's.
-    Entry,
-}
 
 /// A variable and the term that it stands for.
 #[derive(Drop)]

@@ -1,15 +1,15 @@
 -- Laws of the sums of neighbours.
 use Rattle.std.proofs.Common.{suc, zero, ◌≡◌, ◌<◌, ◌≤◌, ◌+◌, ◌-◌, ◌*◌, ℕ, List, [], ◌∷◌, ◌++◌, length, take, replicate, refl, sym, ◌∙◌, ap, subst, arith}
 use Rattle.std.specs.Prelude.{◌/◌, ◌%◌, slice_index_or, slice_set}
-use Rattle.si_index.specs.Halves.{halves, total}
+use Rattle.si_index.specs.Halves.{halves, sum_of}
 
 half_more : (i : ℕ) → suc (suc i) / 2 ≡ suc (i / 2)
 half_more i = omega arith
 
-pub sum_halves : (xs : List ℕ) → total (halves xs) ≡ total xs
+pub sum_halves : (xs : List ℕ) → sum_of (halves xs) ≡ sum_of xs
 sum_halves [] = refl
 sum_halves (x ∷ []) = refl
-sum_halves (x ∷ y ∷ zs) = let more : total (halves zs) ≡ total zs = sum_halves zs in omega (arith, more)
+sum_halves (x ∷ y ∷ zs) = let more : sum_of (halves zs) ≡ sum_of zs = sum_halves zs in omega (arith, more)
 
 -- a place in the list stands above half as far
 pub half_inside : (xs : List ℕ) (i : ℕ) → i < length xs → i / 2 < length (halves xs)
@@ -73,47 +73,47 @@ take_none : (n : ℕ) → take {A = ℕ} n [] ≡ []
 take_none zero = refl
 take_none (suc n) = refl
 
-pub front_even : (xs : List ℕ) (k : ℕ) → total (take (k + k) xs) ≡ total (take k (halves xs))
+pub front_even : (xs : List ℕ) (k : ℕ) → sum_of (take (k + k) xs) ≡ sum_of (take k (halves xs))
 front_even xs zero = refl
-front_even [] (suc k) = ap total (take_none (suc k + suc k))
+front_even [] (suc k) = ap sum_of (take_none (suc k + suc k))
 front_even (x ∷ []) (suc k) =
     subst
-    (λ n. total (take n (x ∷ [])) ≡ x + total (take k []))
+    (λ n. sum_of (take n (x ∷ [])) ≡ x + sum_of (take k []))
     {x = suc (suc (k + k))}
     (omega arith)
-    (ap (λ l. x + total l) (take_none (suc (k + k)) ∙ sym (take_none k)))
+    (ap (λ l. x + sum_of l) (take_none (suc (k + k)) ∙ sym (take_none k)))
 front_even (x ∷ y ∷ zs) (suc k) =
     subst
-    (λ n. total (take n (x ∷ y ∷ zs)) ≡ total (take (suc k) (halves (x ∷ y ∷ zs))))
+    (λ n. sum_of (take n (x ∷ y ∷ zs)) ≡ sum_of (take (suc k) (halves (x ∷ y ∷ zs))))
     {x = suc (suc (k + k))}
     (omega arith)
-    (let more : total (take (k + k) zs) ≡ total (take k (halves zs)) = front_even zs k in omega (arith, more))
+    (let more : sum_of (take (k + k) zs) ≡ sum_of (take k (halves zs)) = front_even zs k in omega (arith, more))
 
-pub front_odd : (xs : List ℕ) (k : ℕ) → k + k < length xs → total (take (suc (k + k)) xs) ≡ total (take k (halves xs)) + slice_index_or xs (k + k) 0
+pub front_odd : (xs : List ℕ) (k : ℕ) → k + k < length xs → sum_of (take (suc (k + k)) xs) ≡ sum_of (take k (halves xs)) + slice_index_or xs (k + k) 0
 front_odd [] k p = absurd (omega (arith, p))
 front_odd (x ∷ xs) zero p = omega arith
 front_odd (x ∷ []) (suc k) p = absurd (omega (arith, p))
 front_odd (x ∷ y ∷ zs) (suc k) p =
     subst
-    (λ n. total (take (suc n) (x ∷ y ∷ zs)) ≡ total (take (suc k) (halves (x ∷ y ∷ zs))) + slice_index_or (x ∷ y ∷ zs) n 0)
+    (λ n. sum_of (take (suc n) (x ∷ y ∷ zs)) ≡ sum_of (take (suc k) (halves (x ∷ y ∷ zs))) + slice_index_or (x ∷ y ∷ zs) n 0)
     {x = suc (suc (k + k))}
     (omega arith)
-    (let more : total (take (suc (k + k)) zs) ≡ total (take k (halves zs)) + slice_index_or zs (k + k) 0 = front_odd zs k (omega (arith, p)) in omega (arith, more))
+    (let more : sum_of (take (suc (k + k)) zs) ≡ sum_of (take k (halves zs)) + slice_index_or zs (k + k) 0 = front_odd zs k (omega (arith, p)) in omega (arith, more))
 
 -- the same by the half of a place
-pub front_at_even : (xs : List ℕ) (n : ℕ) → n % 2 ≡ 0 → total (take n xs) ≡ total (take (n / 2) (halves xs))
+pub front_at_even : (xs : List ℕ) (n : ℕ) → n % 2 ≡ 0 → sum_of (take n xs) ≡ sum_of (take (n / 2) (halves xs))
 front_at_even xs n p =
-    subst (λ m. total (take m xs) ≡ total (take (n / 2) (halves xs))) {x = n / 2 + n / 2} (omega (arith, p)) (front_even xs (n / 2))
+    subst (λ m. sum_of (take m xs) ≡ sum_of (take (n / 2) (halves xs))) {x = n / 2 + n / 2} (omega (arith, p)) (front_even xs (n / 2))
 
 pub front_at_odd : (xs : List ℕ) (n : ℕ) → (n % 2 ≡ 0 → ⊥) → n ≤ length xs
-    → total (take n xs) ≡ total (take (n / 2) (halves xs)) + slice_index_or xs (n - 1) 0
+    → sum_of (take n xs) ≡ sum_of (take (n / 2) (halves xs)) + slice_index_or xs (n - 1) 0
 front_at_odd xs n odd p =
     subst
-    (λ m. total (take n xs) ≡ total (take (n / 2) (halves xs)) + slice_index_or xs m 0)
+    (λ m. sum_of (take n xs) ≡ sum_of (take (n / 2) (halves xs)) + slice_index_or xs m 0)
     {x = n / 2 + n / 2}
     (omega (arith, odd))
     (subst
-    (λ m. total (take m xs) ≡ total (take (n / 2) (halves xs)) + slice_index_or xs (n / 2 + n / 2) 0)
+    (λ m. sum_of (take m xs) ≡ sum_of (take (n / 2) (halves xs)) + slice_index_or xs (n / 2 + n / 2) 0)
     {x = suc (n / 2 + n / 2)}
     (omega (arith, odd))
     (front_odd xs (n / 2) (omega (arith, odd, p))))
@@ -159,7 +159,7 @@ length_halves (x ∷ y ∷ zs) = omega (arith, length_halves zs)
 pub fewer_halves : (xs : List ℕ) → 2 ≤ length xs → length (halves xs) < length xs
 fewer_halves xs p = omega (arith, p, length_halves xs)
 
-pub total_front : (xs : List ℕ) (n : ℕ) → total (take n xs) ≤ total xs
+pub total_front : (xs : List ℕ) (n : ℕ) → sum_of (take n xs) ≤ sum_of xs
 total_front xs zero = omega arith
 total_front [] (suc n) = omega arith
 total_front (x ∷ xs) (suc n) = omega (arith, total_front xs n)
@@ -170,7 +170,7 @@ at_any [] i d p = absurd (omega (arith, p))
 at_any (x ∷ xs) zero d p = refl
 at_any (x ∷ xs) (suc i) d p = at_any xs i d (omega (arith, p))
 
-pub total_single : (xs : List ℕ) → length xs ≤ 1 → total xs ≡ slice_index_or xs 0 0
+pub total_single : (xs : List ℕ) → length xs ≤ 1 → sum_of xs ≡ slice_index_or xs 0 0
 total_single [] p = refl
 total_single (x ∷ []) p = omega arith
 total_single (x ∷ y ∷ zs) p = absurd (omega (arith, p))
@@ -179,17 +179,17 @@ total_single (x ∷ y ∷ zs) p = absurd (omega (arith, p))
 twice : (k : ℕ) → k + k ≡ 2 * k
 twice k = omega arith
 
-pub first_before : (xs : List ℕ) (k rest number : ℕ) → total (take k (halves xs)) + rest ≡ number → total (take (2 * k) xs) + rest ≡ number
-first_before xs k rest number p = subst (λ n. total (take n xs) + rest ≡ number) (twice k) (omega (arith, p, front_even xs k))
+pub first_before : (xs : List ℕ) (k rest number : ℕ) → sum_of (take k (halves xs)) + rest ≡ number → sum_of (take (2 * k) xs) + rest ≡ number
+first_before xs k rest number p = subst (λ n. sum_of (take n xs) + rest ≡ number) (twice k) (omega (arith, p, front_even xs k))
 
-pub second_before : (xs : List ℕ) (k rest number : ℕ) → k + k < length xs → total (take k (halves xs)) + rest ≡ number
-    → slice_index_or xs (2 * k) 0 ≤ rest → total (take (2 * k + 1) xs) + (rest - slice_index_or xs (2 * k) 0) ≡ number
+pub second_before : (xs : List ℕ) (k rest number : ℕ) → k + k < length xs → sum_of (take k (halves xs)) + rest ≡ number
+    → slice_index_or xs (2 * k) 0 ≤ rest → sum_of (take (2 * k + 1) xs) + (rest - slice_index_or xs (2 * k) 0) ≡ number
 second_before xs k rest number inside p =
     subst
-    (λ n. slice_index_or xs n 0 ≤ rest → total (take (n + 1) xs) + (rest - slice_index_or xs n 0) ≡ number)
+    (λ n. slice_index_or xs n 0 ≤ rest → sum_of (take (n + 1) xs) + (rest - slice_index_or xs n 0) ≡ number)
     (twice k)
     (λ q. subst
-    (λ n. total (take n xs) + (rest - slice_index_or xs (k + k) 0) ≡ number)
+    (λ n. sum_of (take n xs) + (rest - slice_index_or xs (k + k) 0) ≡ number)
     {x = suc (k + k)}
     (omega arith)
     (omega (arith, p, q, front_odd xs k inside)))
@@ -207,11 +207,11 @@ second_there xs k rest p =
     (omega (arith, p, q, pair_sum xs k)))
 
 -- what is found among the sums of neighbours
-pub found_above : (xs sums : List ℕ) (k rest number : ℕ) → sums ≡ halves xs → total (take k sums) + rest ≡ number → rest < slice_index_or sums k 0
-    → (total (take k (halves xs)) + rest ≡ number) × (rest < slice_index_or (halves xs) k 0) × (k + k < length xs)
+pub found_above : (xs sums : List ℕ) (k rest number : ℕ) → sums ≡ halves xs → sum_of (take k sums) + rest ≡ number → rest < slice_index_or sums k 0
+    → (sum_of (take k (halves xs)) + rest ≡ number) × (rest < slice_index_or (halves xs) k 0) × (k + k < length xs)
 found_above xs sums k rest number is before there =
     let in_pair : rest < slice_index_or (halves xs) k 0 = subst (λ l. rest < slice_index_or l k 0) is there in (
-      subst (λ l. total (take k l) + rest ≡ number) is before,
+      subst (λ l. sum_of (take k l) + rest ≡ number) is before,
       in_pair,
       double_inside xs k (some_inside (halves xs) k rest in_pair),
     )
@@ -234,7 +234,7 @@ raised_above xs above new i was inside is at done =
     ∙ ap (λ n. halves (slice_set xs i (n + 1))) (sym (at ∙ at_any xs i was inside))
 
 -- no count is more than all together
-pub at_most_total : (xs : List ℕ) (i d : ℕ) → i < length xs → slice_index_or xs i d ≤ total xs
+pub at_most_total : (xs : List ℕ) (i d : ℕ) → i < length xs → slice_index_or xs i d ≤ sum_of xs
 at_most_total [] i d p = absurd (omega (arith, p))
 at_most_total (x ∷ xs) zero d p = omega arith
 at_most_total (x ∷ xs) (suc i) d p = omega (arith, at_most_total xs i d (omega (arith, p)))
@@ -262,6 +262,6 @@ halves_shorter (x ∷ []) (y ∷ z ∷ ys) p = omega arith
 halves_shorter (x ∷ w ∷ xs) (y ∷ []) p = absurd (omega (arith, p))
 halves_shorter (x ∷ w ∷ xs) (y ∷ z ∷ ys) p = omega (arith, halves_shorter xs ys (omega (arith, p)))
 
-pub total_ones : (n : ℕ) → total (replicate n 1) ≡ n
+pub total_ones : (n : ℕ) → sum_of (replicate n 1) ≡ n
 total_ones zero = refl
 total_ones (suc n) = omega (arith, total_ones n)

@@ -4,9 +4,9 @@ use Rattle.std.specs.List.{filter}
 use Rattle.std.proofs.lemmas.List.{get_or_read, length-append}
 use Rattle.slab.specs.Slab.{Slab, get, slab_len, Updates}
 use Rattle.si_defs.specs.Substitutions.{IsAmong}
-use Rattle.si_index.specs.Halves.{total}
+use Rattle.si_index.specs.Halves.{sum_of}
 use Rattle.si_index.specs.Keyed.{HasKey, HasKeyAt, IsTakenOut}
-use Rattle.si_index.specs.KeyedSlots.{kept, flags, StandsAt, IsLinked, KnowsKeys, IsIndexed}
+use Rattle.si_index.specs.KeyedSlots.{kept, flags, HoldsAt, IsLinked, KnowsKeys, IsIndexed}
 use Rattle.si_index.specs.declared.keyed.Kept.{Kept}
 use Rattle.si_index.proofs.SlotLaws.{same_some, entry, stands_inside, kept_pushed, flags_pushed, taken_out, flag_there, flags_without, flags_length, flags_total, kept_bound, rank_there, found_there, key_at, among_there, kept_filtered}
 use Rattle.si_index.proofs.LinkLaws.{linked_pushed, linked_without, linked_knows}
@@ -17,7 +17,7 @@ some_there x is = ap is_some is
 
 module _ {T : Type 0} where
   -- ---- an item that was read
-  pub read_there : (slots : List (Option (Kept T))) (place : ℕ) (read : Option (Kept T)) (k : Kept T) → StandsAt slots place k
+  pub read_there : (slots : List (Option (Kept T))) (place : ℕ) (read : Option (Kept T)) (k : Kept T) → HoldsAt slots place k
       → read ≡ slice_index_or slots place read → read ≡ Some k
   read_there slots place read k h reads = get_or_read slots place read (stands_inside slots place k h) reads None ∙ h
 
@@ -43,26 +43,26 @@ module _ {T : Type 0} where
       let found = h.back key place leads in
       omega (arith, ap length counted, flags_length slots, stands_inside slots place found.0 found.1)
 
-  pub total_bound : (slots : List (Option (Kept T))) (ranks : List ℕ) → ranks ≡ flags slots → total ranks ≤ length slots
-  total_bound slots ranks counted = omega (arith, ap total counted, flags_total slots, kept_bound slots)
+  pub total_bound : (slots : List (Option (Kept T))) (ranks : List ℕ) → ranks ≡ flags slots → sum_of ranks ≤ length slots
+  total_bound slots ranks counted = omega (arith, ap sum_of counted, flags_total slots, kept_bound slots)
 
-  pub total_kept : (slots : List (Option (Kept T))) (ranks : List ℕ) → ranks ≡ flags slots → total ranks ≡ length (kept slots)
-  total_kept slots ranks counted = ap total counted ∙ flags_total slots
+  pub total_kept : (slots : List (Option (Kept T))) (ranks : List ℕ) → ranks ≡ flags slots → sum_of ranks ≡ length (kept slots)
+  total_kept slots ranks counted = ap sum_of counted ∙ flags_total slots
 
   pub position_there : (slots : List (Option (Kept T))) (ranks : List ℕ) (place_of : ℕ → Option ℕ) (key place position : ℕ) → IsLinked slots place_of
-      → ranks ≡ flags slots → place_of key ≡ Some place → position ≡ total (take place ranks) → HasKeyAt (kept slots) position key
+      → ranks ≡ flags slots → place_of key ≡ Some place → position ≡ sum_of (take place ranks) → HasKeyAt (kept slots) position key
   position_there slots ranks place_of key place position h counted leads is =
       let found = h.back key place leads in
       subst
       (λ n. HasKeyAt (kept slots) n key)
-      (ap (λ l. total (take place l)) (sym counted) ∙ sym is)
-      (key_at (kept slots) (total (take place (flags slots))) (entry found.0) (rank_there slots place found.0 found.1) ∙ ap Some found.2)
+      (ap (λ l. sum_of (take place l)) (sym counted) ∙ sym is)
+      (key_at (kept slots) (sum_of (take place (flags slots))) (entry found.0) (rank_there slots place found.0 found.1) ∙ ap Some found.2)
 
   pub found_at : (slots : List (Option (Kept T))) (ranks : List ℕ) (place rest position : ℕ) → ranks ≡ flags slots
-      → total (take place ranks) + rest ≡ position → rest < slice_index_or ranks place 0
-      → (k : Kept T) × StandsAt slots place k × (slice_get (kept slots) position ≡ Some (entry k))
+      → sum_of (take place ranks) + rest ≡ position → rest < slice_index_or ranks place 0
+      → (k : Kept T) × HoldsAt slots place k × (slice_get (kept slots) position ≡ Some (entry k))
   found_at slots ranks place rest position counted before there =
-      found_there slots place rest position (ap (λ l. total (take place l) + rest) (sym counted) ∙ before) (subst (λ l. rest < slice_index_or l place 0) counted there)
+      found_there slots place rest position (ap (λ l. sum_of (take place l) + rest) (sym counted) ∙ before) (subst (λ l. rest < slice_index_or l place 0) counted there)
 
   -- ---- the same tables
   pub indexed_same : (slots now : List (Option (Kept T))) (old new : Slab ℕ) (was ranks : List ℕ) → IsIndexed slots old was → now ≡ slots → new.slots ≡ old.slots
@@ -107,7 +107,7 @@ module _ {T : Type 0} where
 
   -- the item that was read at the place is the one of the key
   pub took : (slots : List (Option (Kept T))) (place_of : ℕ → Option ℕ) (key place : ℕ) (k : Kept T) (items new : List (ℕ × T)) → IsLinked slots place_of
-      → place_of key ≡ Some place → StandsAt slots place k → kept slots ≡ items → new ≡ kept (slice_set slots place None) → IsTakenOut items key k.item new
+      → place_of key ≡ Some place → HoldsAt slots place k → kept slots ≡ items → new ≡ kept (slice_set slots place None) → IsTakenOut items key k.item new
   took slots place_of key place k items new h leads at is rest =
       let found = h.back key place leads in
       let same : k.key ≡ key = ap (λ i. i.key) (same_some (sym at ∙ found.1)) ∙ found.2 in

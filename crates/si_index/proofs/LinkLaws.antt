@@ -1,10 +1,10 @@
--- Laws of keys that lead to the places of their items.
+-- Laws of item_keys that lead to the places of their items.
 use Rattle.std.proofs.Common.{suc, zero, ◌≡◌, ◌≢◌, ◌⊎◌, ◌<◌, ◌≤◌, ◌+◌, ℕ, List, [], ◌∷◌, ◌++◌, Option, Some, None, length, slice_index_or, slice_set, inl, inr, refl, sym, ◌∙◌, ap, subst, arith}
 use Rattle.std.proofs.lemmas.Bool.{cases_eq}
 use Rattle.std.proofs.lemmas.List.{get_or-set_same, get_or-set_other, get_or_append_left}
 use Rattle.si_defs.specs.Substitutions.{AreDistinct}
-use Rattle.si_index.specs.Keyed.{keys, HasKey}
-use Rattle.si_index.specs.KeyedSlots.{kept, StandsAt, IsLinked, KnowsKeys}
+use Rattle.si_index.specs.Keyed.{item_keys, HasKey}
+use Rattle.si_index.specs.KeyedSlots.{kept, HoldsAt, IsLinked, KnowsKeys}
 use Rattle.si_index.specs.declared.keyed.Kept.{Kept}
 use Rattle.si_index.proofs.SlotLaws.{same_some, not_none, entry, stands_inside, among_there, key_among, key_stands}
 
@@ -25,7 +25,7 @@ where_is (suc i) (suc n) = elim (where_is i n) [
 ]
 
 module _ {T : Type 0} where
-  pub has_key : (slots : List (Option (Kept T))) (place : ℕ) (k : Kept T) → StandsAt slots place k → HasKey (kept slots) k.key
+  pub has_key : (slots : List (Option (Kept T))) (place : ℕ) (k : Kept T) → HoldsAt slots place k → HasKey (kept slots) k.key
   has_key slots place k h = key_among (kept slots) (entry k) (among_there slots place k h)
 
   -- ---- no slots
@@ -36,8 +36,8 @@ module _ {T : Type 0} where
   }
 
   -- ---- one more item
-  stands_pushed : (slots : List (Option (Kept T))) (k j : Kept T) (place : ℕ) → StandsAt (slots ++ Some k ∷ []) place j
-      → StandsAt slots place j ⊎ ((place ≡ length slots) × (k ≡ j))
+  stands_pushed : (slots : List (Option (Kept T))) (k j : Kept T) (place : ℕ) → HoldsAt (slots ++ Some k ∷ []) place j
+      → HoldsAt slots place j ⊎ ((place ≡ length slots) × (k ≡ j))
   stands_pushed [] k j zero h = inr (refl, same_some h)
   stands_pushed [] k j (suc place) h = absurd (not_none h)
   stands_pushed (s ∷ slots) k j zero h = inl h
@@ -46,10 +46,10 @@ module _ {T : Type 0} where
     | inr is ↦ inr (ap suc is.0, is.1)
   ]
 
-  still_stands : (slots : List (Option (Kept T))) (k j : Kept T) (place : ℕ) → StandsAt slots place j → StandsAt (slots ++ Some k ∷ []) place j
+  still_stands : (slots : List (Option (Kept T))) (k j : Kept T) (place : ℕ) → HoldsAt slots place j → HoldsAt (slots ++ Some k ∷ []) place j
   still_stands slots k j place h = get_or_append_left slots (Some k ∷ []) None place (stands_inside slots place j h) ∙ h
 
-  stands_last : (slots : List (Option (Kept T))) (k : Kept T) → StandsAt (slots ++ Some k ∷ []) (length slots) k
+  stands_last : (slots : List (Option (Kept T))) (k : Kept T) → HoldsAt (slots ++ Some k ∷ []) (length slots) k
   stands_last [] k = refl
   stands_last (s ∷ slots) k = stands_last slots k
 
@@ -65,7 +65,7 @@ module _ {T : Type 0} where
     back = λ key place s. elim (cases_eq key k.key) [
       | inl same ↦
           let at : length slots ≡ place = same_some (sym new ∙ ap is (sym same) ∙ s) in
-          (k, subst (λ p. StandsAt (slots ++ Some k ∷ []) p k) at (stands_last slots k), sym same)
+          (k, subst (λ p. HoldsAt (slots ++ Some k ∷ []) p k) at (stands_last slots k), sym same)
       | inr differ ↦
           let found = h.back key place (sym (others key differ) ∙ s) in
           (found.0, still_stands slots k found.0 place found.1, found.2)
@@ -78,14 +78,14 @@ module _ {T : Type 0} where
       not_none (sym free ∙ ap was (sym found.3) ∙ h.there found.0 found.1 found.2)
 
   -- ---- an item taken out
-  stands_other : (slots : List (Option (Kept T))) (place other : ℕ) (k j : Kept T) → StandsAt slots place k
-      → StandsAt (slice_set slots place None) other j → (other ≢ place) × StandsAt slots other j
+  stands_other : (slots : List (Option (Kept T))) (place other : ℕ) (k j : Kept T) → HoldsAt slots place k
+      → HoldsAt (slice_set slots place None) other j → (other ≢ place) × HoldsAt slots other j
   stands_other slots place other k j at h =
       let differ : other ≢ place = λ same.
       not_none (sym (get_or-set_same slots place None None (stands_inside slots place k at)) ∙ ap (λ p. slice_index_or (slice_set slots place None) p None) (sym same) ∙ h) in
       (differ, sym (get_or-set_other slots place other None None differ) ∙ h)
 
-  pub linked_without : (slots : List (Option (Kept T))) (place : ℕ) (k : Kept T) (was is : ℕ → Option ℕ) → IsLinked slots was → StandsAt slots place k
+  pub linked_without : (slots : List (Option (Kept T))) (place : ℕ) (k : Kept T) (was is : ℕ → Option ℕ) → IsLinked slots was → HoldsAt slots place k
       → is k.key ≡ None → ((other : ℕ) → other ≢ k.key → is other ≡ was other) → IsLinked (slice_set slots place None) is
   linked_without slots place k was is h at gone others = record {
     there = λ other j s.
@@ -102,9 +102,9 @@ module _ {T : Type 0} where
     ];
   }
 
-  -- ---- which keys are known
+  -- ---- which item_keys are known
   distinct_from : (slots : List (Option (Kept T))) (place_of : ℕ → Option ℕ) (n : ℕ)
-      → ((place : ℕ) (k : Kept T) → StandsAt slots place k → place_of k.key ≡ Some (n + place)) → AreDistinct (keys (kept slots))
+      → ((place : ℕ) (k : Kept T) → HoldsAt slots place k → place_of k.key ≡ Some (n + place)) → AreDistinct (item_keys (kept slots))
   distinct_from [] place_of n h = tt
   distinct_from (None ∷ slots) place_of n h =
       distinct_from slots place_of (n + 1) (λ place k s. h (suc place) k s ∙ ap Some (omega arith))
@@ -127,7 +127,7 @@ module _ {T : Type 0} where
         subst (HasKey (kept slots)) found.2 (has_key slots place found.0 found.1);
   }
 
-  same_place : (slots : List (Option (Kept T))) (i n : ℕ) (k j : Kept T) → AreDistinct (keys (kept slots)) → StandsAt slots i k → StandsAt slots n j
+  same_place : (slots : List (Option (Kept T))) (i n : ℕ) (k j : Kept T) → AreDistinct (item_keys (kept slots)) → HoldsAt slots i k → HoldsAt slots n j
       → k.key ≡ j.key → i ≡ n
   same_place [] i n k j d s t same = absurd (not_none s)
   same_place (None ∷ slots) zero n k j d s t same = absurd (not_none s)
@@ -141,9 +141,9 @@ module _ {T : Type 0} where
   same_place (Some x ∷ slots) (suc i) (suc n) k j d s t same = ap suc (same_place slots i n k j d.1 s t same)
 
   -- ---- places told anew
-  -- the keys of the items before this place lead there
+  -- the item_keys of the items before this place lead there
   pub record AreTold (slots : List (Option (Kept T))) (upto : ℕ) (place_of : ℕ → Option ℕ) : Type 0 where
-    pub there : (place : ℕ) (k : Kept T) → place < upto → StandsAt slots place k → place_of k.key ≡ Some place
+    pub there : (place : ℕ) (k : Kept T) → place < upto → HoldsAt slots place k → place_of k.key ≡ Some place
     pub knows : KnowsKeys (kept slots) place_of
 
   pub told_none : (slots : List (Option (Kept T))) (place_of : ℕ → Option ℕ) → KnowsKeys (kept slots) place_of → AreTold slots 0 place_of
@@ -160,7 +160,7 @@ module _ {T : Type 0} where
     knows = h.knows;
   }
 
-  pub told_more : (slots : List (Option (Kept T))) (upto next : ℕ) (k : Kept T) (was is : ℕ → Option ℕ) → AreTold slots upto was → StandsAt slots upto k
+  pub told_more : (slots : List (Option (Kept T))) (upto next : ℕ) (k : Kept T) (was is : ℕ → Option ℕ) → AreTold slots upto was → HoldsAt slots upto k
       → is k.key ≡ Some upto → ((other : ℕ) → other ≢ k.key → is other ≡ was other) → next ≡ upto + 1 → AreTold slots next is
   told_more slots upto next k was is h at new others more = record {
     there = λ place j p s. elim (where_is place upto) [
@@ -195,5 +195,5 @@ module _ {T : Type 0} where
         let found = key_stands slots key (h.knows.only key place s) in
         let told : place_of found.1.key ≡ Some found.0 = h.there found.0 found.1 (omega (arith, all, stands_inside slots found.0 found.1 found.2)) found.2 in
         let same : found.0 ≡ place = same_some (sym told ∙ ap place_of found.3 ∙ s) in
-        (found.1, subst (λ p. StandsAt slots p found.1) same found.2, found.3);
+        (found.1, subst (λ p. HoldsAt slots p found.1) same found.2, found.3);
   }

@@ -1,4 +1,4 @@
--- Laws of items with keys, and of names that lead to the keys of their clauses.
+-- Laws of items with item_keys, and of names that lead to the item_keys of their clauses.
 use Rattle.std.proofs.Common.{◌≡◌, ◌⊎◌, inl, inr, ℕ, zero, suc, ◌+◌, ◌≤◌, List, [], ◌∷◌, ◌++◌, Some, None, length, slice_get, refl, sym, ap, ◌∙◌, subst, arith, length-append}
 use Rattle.si_defs.specs.Clauses as defs
 use Rattle.si_defs.specs.Substitutions.{IsAmong}
@@ -6,7 +6,7 @@ use Rattle.si_state.specs.Acceptance.{IsTaken}
 use Rattle.si_term.specs.Meaning.{name_of}
 use Rattle.si_term.specs.declared.clause.Clause.{Clause}
 use Rattle.si_sign.proofs.UsesOf.{among_left, among_right, among_append}
-use Rattle.si_index.specs.Keyed.{keys, HasKey, IsTakenOut}
+use Rattle.si_index.specs.Keyed.{item_keys, HasKey, IsTakenOut}
 use Rattle.si_index.specs.Kept.{clauses_of}
 use Rattle.si_index.specs.Known.{AreNamed}
 use Rattle.si_index.specs.Names.{key_of, ChangesName}
@@ -39,7 +39,7 @@ split_last (z ∷ xs) (b ∷ bs) after x y f h =
     λ i. sym (same_head h) i ∷ rest i
 
 module _ {T : Type 0} where
-  -- ---- items by keys
+  -- ---- items by item_keys
   pub item_of : (items : List (ℕ × T)) (key : ℕ) → HasKey items key → (c : T) × IsAmong items (key, c)
   item_of [] key h = absurd h
   item_of (x ∷ items) key (inl e) = (x.1, inl (λ i. (e i, x.1)))
@@ -65,10 +65,10 @@ module _ {T : Type 0} where
       out.rest ∙ split_last items out.before out.after (key, c) (key, d) (λ h. fresh (key_among items (key, d) h)) out.whole
 
   -- the key at the last position stands behind each item that isn't the last
-  pub last_behind : (before : List (ℕ × T)) (x : ℕ × T) (after : List (ℕ × T)) (n key : ℕ) → slice_get (keys (before ++ x ∷ after)) n ≡ Some key
+  pub last_behind : (before : List (ℕ × T)) (x : ℕ × T) (after : List (ℕ × T)) (n key : ℕ) → slice_get (item_keys (before ++ x ∷ after)) n ≡ Some key
       → n + 1 ≡ length (before ++ x ∷ after) → 1 ≤ length after → HasKey after key
   last_behind [] x after zero key h last some = absurd (omega (arith, last, some))
-  last_behind [] x after (suc n) key h last some = get_among (keys after) n key h
+  last_behind [] x after (suc n) key h last some = get_among (item_keys after) n key h
   last_behind (b ∷ bs) x after zero key h last some = absurd (omega (arith, last, length-append bs (x ∷ after)))
   last_behind (b ∷ bs) x after (suc n) key h last some = last_behind bs x after n key h (omega (arith, last)) some
 

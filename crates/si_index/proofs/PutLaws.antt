@@ -1,19 +1,19 @@
 -- Sums of neighbours that are written one after the other.
 use Rattle.std.proofs.Common.{suc, zero, ◌≡◌, ◌<◌, ◌≤◌, ◌+◌, ℕ, List, [], ◌∷◌, ◌++◌, length, replicate, refl, sym, ◌∙◌, ap, subst, arith, append_assoc, length-append}
 use Rattle.std.proofs.lemmas.List.{append-nil}
-use Rattle.si_index.specs.Halves.{halves, total}
+use Rattle.si_index.specs.Halves.{halves, sum_of}
 
 -- these sums were written, and those of the rest are still to come
 pub record IsPut (counts rest sums : List ℕ) (room was : ℕ) : Type 0 where
   pub whole : sums ++ halves rest ≡ halves counts
-  pub small : total rest ≤ total counts
+  pub small : sum_of rest ≤ sum_of counts
   pub same : was ≤ room
 
 pub put_none : (counts : List ℕ) (sums : List ℕ) (room was : ℕ) → sums ≡ [] → was ≤ room → IsPut counts counts sums room was
 put_none counts sums room was is same = record { whole = ap (λ s. s ++ halves counts) is; small = omega arith; same = same }
 
 pub put_next : (counts rest sums more new : List ℕ) (sum room was now : ℕ) → IsPut counts rest sums room was
-    → halves rest ≡ sum ∷ halves more → total more ≤ total rest → new ≡ sums ++ sum ∷ [] → room ≤ now → IsPut counts more new now was
+    → halves rest ≡ sum ∷ halves more → sum_of more ≤ sum_of rest → new ≡ sums ++ sum ∷ [] → room ≤ now → IsPut counts more new now was
 put_next counts rest sums more new sum room was now h is fewer pushed kept = record {
   whole = ap (λ s. s ++ halves more) pushed ∙ append_assoc sums (sum ∷ []) (halves more) ∙ ap (λ s. sums ++ s) (sym is) ∙ h.whole;
   small = omega (arith, fewer, h.small);

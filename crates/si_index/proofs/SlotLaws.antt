@@ -2,9 +2,9 @@
 use Rattle.std.proofs.Common.{suc, zero, ◌≡◌, ◌<◌, ◌≤◌, ◌+◌, ℕ, List, [], ◌∷◌, ◌++◌, Option, Some, None, is_some, length, take, drop, slice_index_or, slice_set, slice_get, inl, inr, refl, ◌∙◌, ap, subst, arith}
 use Rattle.std.specs.List.{filter}
 use Rattle.si_defs.specs.Substitutions.{IsAmong}
-use Rattle.si_index.specs.Halves.{total}
-use Rattle.si_index.specs.Keyed.{keys, HasKey, IsTakenOut}
-use Rattle.si_index.specs.KeyedSlots.{kept, flags, StandsAt}
+use Rattle.si_index.specs.Halves.{sum_of}
+use Rattle.si_index.specs.Keyed.{item_keys, HasKey, IsTakenOut}
+use Rattle.si_index.specs.KeyedSlots.{kept, flags, HoldsAt}
 use Rattle.si_index.specs.declared.keyed.Kept.{Kept}
 
 pub same_some : {X : Type 0} {x y : X} → Some x ≡ Some y → x ≡ y
@@ -21,7 +21,7 @@ module _ {T : Type 0} where
   abbrev pub entry : Kept T → ℕ × T
   entry k = (k.key, k.item)
 
-  pub stands_inside : (slots : List (Option (Kept T))) (place : ℕ) (k : Kept T) → StandsAt slots place k → place < length slots
+  pub stands_inside : (slots : List (Option (Kept T))) (place : ℕ) (k : Kept T) → HoldsAt slots place k → place < length slots
   stands_inside [] place k h = absurd (not_none h)
   stands_inside (s ∷ slots) zero k h = omega arith
   stands_inside (s ∷ slots) (suc place) k h = omega (arith, stands_inside slots place k h)
@@ -38,7 +38,7 @@ module _ {T : Type 0} where
   flags_pushed (Some j ∷ slots) k = ap (λ l. 1 ∷ l) (flags_pushed slots k)
 
   -- ---- an item taken out
-  pub kept_around : (slots : List (Option (Kept T))) (place : ℕ) (k : Kept T) → StandsAt slots place k
+  pub kept_around : (slots : List (Option (Kept T))) (place : ℕ) (k : Kept T) → HoldsAt slots place k
       → kept slots ≡ kept (take place slots) ++ entry k ∷ kept (drop (suc place) slots)
   kept_around [] place k h = absurd (not_none h)
   kept_around (None ∷ slots) zero k h = absurd (not_none h)
@@ -46,14 +46,14 @@ module _ {T : Type 0} where
   kept_around (None ∷ slots) (suc place) k h = kept_around slots place k h
   kept_around (Some j ∷ slots) (suc place) k h = ap (λ l. entry j ∷ l) (kept_around slots place k h)
 
-  kept_without : (slots : List (Option (Kept T))) (place : ℕ) (k : Kept T) → StandsAt slots place k
+  kept_without : (slots : List (Option (Kept T))) (place : ℕ) (k : Kept T) → HoldsAt slots place k
       → kept (slice_set slots place None) ≡ kept (take place slots) ++ kept (drop (suc place) slots)
   kept_without [] place k h = absurd (not_none h)
   kept_without (s ∷ slots) zero k h = refl
   kept_without (None ∷ slots) (suc place) k h = kept_without slots place k h
   kept_without (Some j ∷ slots) (suc place) k h = ap (λ l. entry j ∷ l) (kept_without slots place k h)
 
-  pub taken_out : (slots : List (Option (Kept T))) (place : ℕ) (k : Kept T) → StandsAt slots place k
+  pub taken_out : (slots : List (Option (Kept T))) (place : ℕ) (k : Kept T) → HoldsAt slots place k
       → IsTakenOut (kept slots) k.key k.item (kept (slice_set slots place None))
   taken_out slots place k h = record {
     before = kept (take place slots);
@@ -62,7 +62,7 @@ module _ {T : Type 0} where
     rest = kept_without slots place k h;
   }
 
-  pub flag_there : (slots : List (Option (Kept T))) (place : ℕ) (k : Kept T) → StandsAt slots place k → slice_index_or (flags slots) place 0 ≡ 1
+  pub flag_there : (slots : List (Option (Kept T))) (place : ℕ) (k : Kept T) → HoldsAt slots place k → slice_index_or (flags slots) place 0 ≡ 1
   flag_there [] place k h = absurd (not_none h)
   flag_there (None ∷ slots) zero k h = absurd (not_none h)
   flag_there (Some j ∷ slots) zero k h = refl
@@ -82,10 +82,10 @@ module _ {T : Type 0} where
   flags_length (None ∷ slots) = ap suc (flags_length slots)
   flags_length (Some j ∷ slots) = ap suc (flags_length slots)
 
-  pub flags_total : (slots : List (Option (Kept T))) → total (flags slots) ≡ length (kept slots)
+  pub flags_total : (slots : List (Option (Kept T))) → sum_of (flags slots) ≡ length (kept slots)
   flags_total [] = refl
-  flags_total (None ∷ slots) = let more : total (flags slots) ≡ length (kept slots) = flags_total slots in omega (arith, more)
-  flags_total (Some j ∷ slots) = let more : total (flags slots) ≡ length (kept slots) = flags_total slots in omega (arith, more)
+  flags_total (None ∷ slots) = let more : sum_of (flags slots) ≡ length (kept slots) = flags_total slots in omega (arith, more)
+  flags_total (Some j ∷ slots) = let more : sum_of (flags slots) ≡ length (kept slots) = flags_total slots in omega (arith, more)
 
   pub kept_bound : (slots : List (Option (Kept T))) → length (kept slots) ≤ length slots
   kept_bound [] = omega arith
@@ -94,18 +94,18 @@ module _ {T : Type 0} where
 
   -- ---- ranks
   -- the item at a place has as many before it as stand at the places before
-  pub rank_there : (slots : List (Option (Kept T))) (place : ℕ) (k : Kept T) → StandsAt slots place k
-      → slice_get (kept slots) (total (take place (flags slots))) ≡ Some (entry k)
+  pub rank_there : (slots : List (Option (Kept T))) (place : ℕ) (k : Kept T) → HoldsAt slots place k
+      → slice_get (kept slots) (sum_of (take place (flags slots))) ≡ Some (entry k)
   rank_there [] place k h = absurd (not_none h)
   rank_there (None ∷ slots) zero k h = absurd (not_none h)
   rank_there (Some j ∷ slots) zero k h = ap (λ i. Some (entry i)) (same_some h)
   rank_there (None ∷ slots) (suc place) k h =
-      subst (λ m. slice_get (kept slots) m ≡ Some (entry k)) {x = total (take place (flags slots))} (omega arith) (rank_there slots place k h)
-  rank_there (Some j ∷ slots) (suc place) k h = get_next (entry j) (kept slots) (total (take place (flags slots))) ∙ rank_there slots place k h
+      subst (λ m. slice_get (kept slots) m ≡ Some (entry k)) {x = sum_of (take place (flags slots))} (omega arith) (rank_there slots place k h)
+  rank_there (Some j ∷ slots) (suc place) k h = get_next (entry j) (kept slots) (sum_of (take place (flags slots))) ∙ rank_there slots place k h
 
   -- where something is counted, an item stands, and just one
   pub counted_there : (slots : List (Option (Kept T))) (place rest : ℕ) → rest < slice_index_or (flags slots) place 0
-      → (k : Kept T) × StandsAt slots place k × (rest ≡ 0)
+      → (k : Kept T) × HoldsAt slots place k × (rest ≡ 0)
   counted_there [] place rest h = absurd (omega (arith, h))
   counted_there (None ∷ slots) zero rest h = absurd (omega (arith, h))
   counted_there (Some j ∷ slots) zero rest h = (j, refl, omega (arith, h))
@@ -113,23 +113,23 @@ module _ {T : Type 0} where
   counted_there (Some j ∷ slots) (suc place) rest h = counted_there slots place rest h
 
   -- the item of a rank is found at its place
-  pub found_there : (slots : List (Option (Kept T))) (place rest position : ℕ) → total (take place (flags slots)) + rest ≡ position
+  pub found_there : (slots : List (Option (Kept T))) (place rest position : ℕ) → sum_of (take place (flags slots)) + rest ≡ position
       → rest < slice_index_or (flags slots) place 0
-      → (k : Kept T) × StandsAt slots place k × (slice_get (kept slots) position ≡ Some (entry k))
+      → (k : Kept T) × HoldsAt slots place k × (slice_get (kept slots) position ≡ Some (entry k))
   found_there slots place rest position is h =
       let k = counted_there slots place rest h in (
         k.0,
         k.1,
-        subst (λ m. slice_get (kept slots) m ≡ Some (entry k.0)) {x = total (take place (flags slots))} (omega (arith, is, k.2)) (rank_there slots place k.0 k.1),
+        subst (λ m. slice_get (kept slots) m ≡ Some (entry k.0)) {x = sum_of (take place (flags slots))} (omega (arith, is, k.2)) (rank_there slots place k.0 k.1),
       )
 
-  pub key_at : (items : List (ℕ × T)) (position : ℕ) (e : ℕ × T) → slice_get items position ≡ Some e → slice_get (keys items) position ≡ Some e.0
+  pub key_at : (items : List (ℕ × T)) (position : ℕ) (e : ℕ × T) → slice_get items position ≡ Some e → slice_get (item_keys items) position ≡ Some e.0
   key_at [] position e h = absurd (not_none h)
   key_at (x ∷ items) zero e h = ap (λ y. Some y.0) (same_some h)
   key_at (x ∷ items) (suc position) e h = key_at items position e h
 
-  -- ---- keys
-  pub among_there : (slots : List (Option (Kept T))) (place : ℕ) (k : Kept T) → StandsAt slots place k → IsAmong (kept slots) (entry k)
+  -- ---- item_keys
+  pub among_there : (slots : List (Option (Kept T))) (place : ℕ) (k : Kept T) → HoldsAt slots place k → IsAmong (kept slots) (entry k)
   among_there [] place k h = absurd (not_none h)
   among_there (None ∷ slots) zero k h = absurd (not_none h)
   among_there (Some j ∷ slots) zero k h = inl (ap (λ i. entry i) (same_some h))
@@ -142,7 +142,7 @@ module _ {T : Type 0} where
   key_among (x ∷ items) e (inr h) = inr (key_among items e h)
 
   pub key_stands : (slots : List (Option (Kept T))) (key : ℕ) → HasKey (kept slots) key
-      → (place : ℕ) × (k : Kept T) × StandsAt slots place k × (k.key ≡ key)
+      → (place : ℕ) × (k : Kept T) × HoldsAt slots place k × (k.key ≡ key)
   key_stands [] key h = absurd h
   key_stands (None ∷ slots) key h = let found = key_stands slots key h in (suc found.0, found.1, found.2, found.3)
   key_stands (Some j ∷ slots) key (inl h) = (zero, j, refl, h)

@@ -8,6 +8,6 @@ halves (x ∷ []) = x ∷ []
 halves (x ∷ y ∷ zs) = (x + y) ∷ halves zs
 
 -- all of them together
-abbrev pub total : List ℕ → ℕ
-total [] = 0
-total (x ∷ xs) = x + total xs
+abbrev pub sum_of : List ℕ → ℕ
+sum_of [] = 0
+sum_of (x ∷ xs) = x + sum_of xs

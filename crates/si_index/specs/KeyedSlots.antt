@@ -1,8 +1,8 @@
--- How a list whose items go by keys is kept: slots with holes, and tables beside them.
+-- How a list whose items go by item_keys is kept: slots with holes, and tables beside them.
 use Rattle.std.specs.Prelude.{◌≡◌, ℕ, List, [], ◌∷◌, Option, None, Some, length, slice_index_or}
 use Rattle.slab.specs.Slab.{Slab, get, slab_len}
 use Rattle.si_defs.specs.Substitutions.{AreDistinct}
-use Rattle.si_index.specs.Keyed.{keys, HasKey}
+use Rattle.si_index.specs.Keyed.{item_keys, HasKey}
 use Rattle.si_index.specs.declared.keyed.Kept.{Kept}
 
 module _ {T : Type 0} where
@@ -19,18 +19,18 @@ module _ {T : Type 0} where
   flags (Some k ∷ slots) = 1 ∷ flags slots
 
   -- this item stands at this place
-  abbrev pub StandsAt : List (Option (Kept T)) → ℕ → Kept T → Type 0
-  StandsAt slots place k = slice_index_or slots place None ≡ Some k
+  abbrev pub HoldsAt : List (Option (Kept T)) → ℕ → Kept T → Type 0
+  HoldsAt slots place k = slice_index_or slots place None ≡ Some k
 
   -- each item's key leads to its place, and each key that leads anywhere is that of the item there
   pub record IsLinked (slots : List (Option (Kept T))) (place_of : ℕ → Option ℕ) : Type 0 where
-    pub there : (place : ℕ) (k : Kept T) → StandsAt slots place k → place_of k.key ≡ Some place
+    pub there : (place : ℕ) (k : Kept T) → HoldsAt slots place k → place_of k.key ≡ Some place
     pub back : (key place : ℕ) → place_of key ≡ Some place
-        → (k : Kept T) × StandsAt slots place k × (k.key ≡ key)
+        → (k : Kept T) × HoldsAt slots place k × (k.key ≡ key)
 
-  -- the keys of these items are distinct, and just these lead anywhere
+  -- the item_keys of these items are distinct, and just these lead anywhere
   pub record KnowsKeys (items : List (ℕ × T)) (place_of : ℕ → Option ℕ) : Type 0 where
-    pub distinct : AreDistinct (keys items)
+    pub distinct : AreDistinct (item_keys items)
     pub known : (key : ℕ) → HasKey items key → (place : ℕ) × (place_of key ≡ Some place)
     pub only : (key place : ℕ) → place_of key ≡ Some place → HasKey items key
 

@@ -1,11 +1,11 @@
--- What is known of some clauses besides their list: the keys of their names, and their symbols.
+-- What is known of some clauses besides their list: the keys of their names, and their known_symbols.
 use Rattle.std.specs.Prelude.{◌≡◌, ℕ, ◌+◌, ◌<◌, ◌≤◌, List, [], ◌∷◌, ◌++◌, None, Some, IsSome, length}
 use Rattle.si_defs.specs.Clauses.{Name, Clause}
 use Rattle.si_defs.specs.Symbols.{Symbol, times}
 use Rattle.si_defs.specs.Entries.{clause_symbols, state_entries}
 use Rattle.si_defs.specs.Substitutions.{IsAmong}
 use Rattle.si_state.specs.Acceptance.{AllAgree}
-use Rattle.si_state.specs.Signatures.{IsSignatureOf, symbols, uses_of, total}
+use Rattle.si_state.specs.Signatures.{IsSignatureOf, known_symbols, uses_of, total}
 use Rattle.si_term.specs.Meaning.{name_of}
 use Rattle.si_term.specs.declared.clause.Clause as term
 use Rattle.si_sign.specs.Shapes.{NamesFirstClash}
@@ -40,10 +40,10 @@ pub record IsPut (clause : term.Clause) (items new : List (ℕ × term.Clause)) 
 -- the clause may be entered, with this limit on uses
 pub record Admits (limit : ℕ) (known : Known) (clause : Clause) : Type 0 where
   pub free : key_of known.names clause.name ≡ None
-  pub agree : AllAgree (symbols known.signature) (clause_symbols clause)
+  pub agree : AllAgree (known_symbols known.signature) (clause_symbols clause)
   pub room : total known.signature + length (clause_symbols clause) ≤ limit
 
--- the symbols of the clause are entered
+-- the known_symbols of the clause are entered
 pub record Enters (clause : Clause) (old new : Known) : Type 0 where
   pub names : new.names ≡ old.names
   pub uses : (s : Symbol) → uses_of new.signature s ≡ uses_of old.signature s + times s (clause_symbols clause)
@@ -65,8 +65,8 @@ pub record Stays (old new : Known) : Type 0 where
 abbrev pub Bars : ℕ → Known → Clause → AddFault → Type 0
 Bars limit known clause add_fault.Taken = IsSome (key_of known.names clause.name)
 Bars limit known clause (add_fault.Clash c) =
-    (key_of known.names clause.name ≡ None) × NamesFirstClash (symbols known.signature) (clause_symbols clause) c
+    (key_of known.names clause.name ≡ None) × NamesFirstClash (known_symbols known.signature) (clause_symbols clause) c
 Bars limit known clause (add_fault.Full needed most) =
-    (key_of known.names clause.name ≡ None) × AllAgree (symbols known.signature) (clause_symbols clause)
+    (key_of known.names clause.name ≡ None) × AllAgree (known_symbols known.signature) (clause_symbols clause)
     × (limit < needed) × (needed ≡ total known.signature + length (clause_symbols clause)) × (most ≡ limit)
 Bars limit known clause add_fault.Memory = Unit {0}

@@ -13,13 +13,13 @@ abbrev pub key_of_text : Texts → Bytes → Option ℕ
 key_of_text m text = lookup (λ k. bytes_eq text k.items) m.keys.entries
 
 -- the one for the kind
-abbrev pub of_kind : Option ℕ → Option ℕ → NameKind → Option ℕ
-of_kind word integer Word = word
-of_kind word integer Int = integer
+abbrev pub of_name_kind : Option ℕ → Option ℕ → NameKind → Option ℕ
+of_name_kind word integer Word = word
+of_name_kind word integer Int = integer
 
 -- the key of a name
 abbrev pub key_of : Names → Name → Option ℕ
-key_of names name = of_kind (key_of_text names.words name.text) (key_of_text names.integers name.text) name.kind
+key_of names name = of_name_kind (key_of_text names.words name.text) (key_of_text names.integers name.text) name.kind
 
 -- the name has this now, and each other one has what it had
 pub record ChangesName (name : Name) (is : Option ℕ) (old new : Name → Option ℕ) : Type 0 where

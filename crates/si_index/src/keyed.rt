@@ -2,8 +2,8 @@
 ghost use Rattle.std.specs.Prelude.{◌≡◌, ◌<◌, ◌-◌, ◌^◌, [], ◌∷◌, ◌++◌, IfOk, IfErr, OnOk, OnErr, IfSome, IfNone, Some, length, slice_get, vec_capacity};
 ghost use Rattle.slab.specs.Slab.{get, slab_len, ContainsKey, HasRoomFor, Updates};
 ghost use Rattle.si_defs.specs.Substitutions.{IsAmong, AreDistinct};
-ghost use Rattle.si_index.specs.Halves.{total};
-ghost use Rattle.si_index.specs.Keyed.{keys, HasKey, HasKeyAt, IsTakenOut};
+ghost use Rattle.si_index.specs.Halves.{sum_of};
+ghost use Rattle.si_index.specs.Keyed.{item_keys, HasKey, HasKeyAt, IsTakenOut};
 ghost use Rattle.si_index.specs.KeyedSlots.{kept, flags, IsLinked, KnowsKeys, IsIndexed};
 ghost use Rattle.std.specs.Iterator.{YieldsFirstBy, item_count};
 
@@ -23,7 +23,7 @@ struct Kept<T> {
 /// can be taken from anywhere without a pass over the items behind it: a hole is left, and where
 /// most places are holes, they are closed.
 ///
-/// Contracts see the list of the keys and items.
+/// Contracts see the list of the item_keys and items.
 #[derive(Drop)]
 pub struct KeyedList<T> {
     alloc: Global,
@@ -62,7 +62,7 @@ impl<T> KeyedList<T> {
     /// The number of items. No two have the same key.
     pub fn len(&self) -> usize
         ensures number { result ≡ length self.now }
-        ensures distinct { AreDistinct (keys self.now) }
+        ensures distinct { AreDistinct (item_keys self.now) }
     {
         self.places.len()
     }
@@ -104,7 +104,7 @@ impl<T> KeyedList<T> {
         self.ranks.before(self.places[key])
     }
 
-    /// The keys and items, in order.
+    /// The item_keys and items, in order.
     pub fn iter(&self) -> Items<'_, T>
         ensures { result ≡ self.now }
     {
@@ -174,7 +174,7 @@ fn make_room<T>(
 fn kept_at<'a, T>(slots: &'a [Option<Kept<T>>], ranks: &Ranks, position: usize) -> &'a Kept<T>
     requires counted { ranks.now ≡ flags slots.now }
     requires inside { position < length (kept slots.now) }
-    requires small { total ranks.now < 2 ^ 64 }
+    requires small { sum_of ranks.now < 2 ^ 64 }
     ensures { slice_get (kept slots.now) position ≡ Some (result.now.key, result.now.item) }
 {
     let (place, _) = ranks.find(position);
@@ -223,7 +223,7 @@ fn lead(key: usize, place: usize, places: &mut Slab<usize>)
     }
 }
 
-/// The keys and items of a list, in order, seen as the list of those that are left.
+/// The item_keys and items of a list, in order, seen as the list of those that are left.
 #[derive(Drop)]
 pub struct Items<'a, T> {
     slots: &'a [Option<Kept<T>>],

@@ -1,7 +1,7 @@
 // Counts of a list of places, from which a rank and the place of a rank are found in logarithmic
 // time.
 ghost use Rattle.std.specs.Prelude.{◌≡◌, ◌<◌, ◌≤◌, ◌+◌, ◌-◌, ◌^◌, [], ◌∷◌, ◌++◌, IfSome, IfNone, OnOk, OnErr, length, take, replicate, slice_index_or, slice_set, vec_capacity};
-ghost use Rattle.si_index.specs.Halves.{halves, total};
+ghost use Rattle.si_index.specs.Halves.{halves, sum_of};
 ghost use Rattle.si_index.specs.Ranks.{IsSummed, HasRoom};
 
 use std::alloc::{AllocError, Global};
@@ -57,8 +57,8 @@ impl Ranks {
     /// What stands before a place.
     pub fn before(&self, place: usize) -> usize
         requires inside { place ≤ length self.now }
-        requires small { total self.now < 2 ^ 64 }
-        ensures { result ≡ total (take place self.now) }
+        requires small { sum_of self.now < 2 ^ 64 }
+        ensures { result ≡ sum_of (take place self.now) }
     {
         match &self.above {
             Above::Nothing if place == 0 => 0,
@@ -77,9 +77,9 @@ impl Ranks {
     /// The place at which the item with this number from 0 stands, and how many stand there before
     /// it.
     pub fn find(&self, number: usize) -> (usize, usize)
-        requires inside { number < total self.now }
-        requires small { total self.now < 2 ^ 64 }
-        ensures before { total (take result.0 self.now) + result.1 ≡ number }
+        requires inside { number < sum_of self.now }
+        requires small { sum_of self.now < 2 ^ 64 }
+        ensures before { sum_of (take result.0 self.now) + result.1 ≡ number }
         ensures there { result.1 < slice_index_or self.now result.0 0 }
     {
         match &self.above {
@@ -99,7 +99,7 @@ impl Ranks {
     /// One more at a place.
     pub fn raise(&mut self, place: usize)
         requires inside { place < length self.old }
-        requires small { total self.old + 1 < 2 ^ 64 }
+        requires small { sum_of self.old + 1 < 2 ^ 64 }
         ensures { self.new ≡ slice_set self.old place (slice_index_or self.old place 0 + 1) }
     {
         self.counts[place] += 1;
@@ -123,7 +123,7 @@ impl Ranks {
     /// A further place, with one item. At an error all is as before.
     #[cycle(push)]
     pub fn push(&mut self, alloc: Global) -> Result<(), AllocError>
-        requires small { total self.old + 1 < 2 ^ 64 }
+        requires small { sum_of self.old + 1 < 2 ^ 64 }
         ensures ok { OnOk result (self.new ≡ self.old ++ 1 ∷ []) }
         ensures err { OnErr result (self.new ≡ self.old) }
     {
@@ -147,7 +147,7 @@ impl Ranks {
     fn sum_up(&mut self, below: &[usize])
         requires some { 2 ≤ length below.now }
         requires room { length (halves below.now) ≤ length self.old }
-        requires small { total below.now < 2 ^ 64 }
+        requires small { sum_of below.now < 2 ^ 64 }
         ensures { self.new ≡ halves below.now }
     {
         put_halves(below, &mut self.counts);
@@ -170,7 +170,7 @@ fn put_ones(places: usize, counts: &mut Vec<usize>)
 #[cycle(settle)]
 fn settle(counts: &[usize], above: &mut Above)
     requires room { HasRoom counts.now above.old }
-    requires small { total counts.now < 2 ^ 64 }
+    requires small { sum_of counts.now < 2 ^ 64 }
     ensures { IsSummed counts.now above.new }
 {
     if counts.len() <= 1 {
@@ -186,7 +186,7 @@ fn settle(counts: &[usize], above: &mut Above)
 /// Writes the sums of neighbours in place of what was there, within its room.
 fn put_halves(counts: &[usize], sums: &mut Vec<usize>)
     requires room { length (halves counts.now) ≤ vec_capacity sums.old }
-    requires small { total counts.now < 2 ^ 64 }
+    requires small { sum_of counts.now < 2 ^ 64 }
     ensures { sums.new.items ≡ halves counts.now }
 {
     sums.clear();
@@ -199,10 +199,10 @@ fn put_halves(counts: &[usize], sums: &mut Vec<usize>)
 
 /// The sum of the first two counts, or the only one, and the counts behind.
 fn next_sum(counts: &[usize]) -> Option<(usize, &[usize])>
-    requires { total counts.now < 2 ^ 64 }
+    requires { sum_of counts.now < 2 ^ 64 }
     ensures some { IfSome result (λ next. halves counts.now ≡ next.0 ∷ halves next.1.now) }
     ensures fewer { IfSome result (λ next. length next.1.now < length counts.now) }
-    ensures small { IfSome result (λ next. total next.1.now ≤ total counts.now) }
+    ensures small { IfSome result (λ next. sum_of next.1.now ≤ sum_of counts.now) }
     ensures none { IfNone result (halves counts.now ≡ []) }
 {
     let (first, others) = counts.split_first()?;
@@ -216,7 +216,7 @@ fn next_sum(counts: &[usize]) -> Option<(usize, &[usize])>
 #[cycle(push)]
 fn grow(alloc: Global, counts: &[usize], above: &mut Above) -> Result<(), AllocError>
     requires summed { IsSummed counts.now above.old }
-    requires small { total counts.now + 1 < 2 ^ 64 }
+    requires small { sum_of counts.now + 1 < 2 ^ 64 }
     ensures ok { OnOk result (IsSummed (counts.now ++ 1 ∷ []) above.new) }
     ensures err { OnErr result (above.new ≡ above.old) }
 {

@@ -1,4 +1,4 @@
--- What the program keeps of the symbols in use is a signature.
+-- What the program keeps of the known_symbols in use is a signature.
 use Rattle.std.proofs.Common.{◌≡◌, ℕ, suc, ◌+◌, ◌*◌, ◌≤◌, Bool, true, false, cond, [], ◌∷◌, Option, Some, None, length, refl, sym, ap, ◌∙◌, subst, arith}
 use Rattle.std.specs.Prelude.{count_by, is_some}
 use Rattle.std.specs.List.{AllByRecursion}
@@ -8,7 +8,7 @@ use Rattle.si_defs.specs.Symbols.{Symbol, IsNumbering, same_symbol}
 use Rattle.si_defs.specs.Bytes.{Bytes}
 use Rattle.si_defs.specs.declared.SymKind.{SymKind}
 use Rattle.si_defs.specs.Substitutions.{IsAmong, AreDistinct}
-use Rattle.si_state.specs.Signatures.{Used, Signature, IsSignature, keys, numbering, symbols, uses_of, total}
+use Rattle.si_state.specs.Signatures.{Used, Signature, IsSignature, keys, numbering, known_symbols, uses_of, total}
 use Rattle.si_term.specs.Terms.{symbol_of}
 use Rattle.si_sign.specs.Keys.{symbol_key}
 use Rattle.si_sign.specs.Uses.{used_at, seen_from, seen, IsUses}
@@ -80,7 +80,7 @@ module _ (u : Uses) (facts : IsUses u) where
   pub number_of : (k : ℕ) (c : Counted) → get u.slots k ≡ Some c → IsAmong (numbering (seen u)) (symbol_of c.sym, 2 * k)
   number_of k c there = among_numbering (seen u) (used_at k c) (in_seen k c there)
 
-  pub kept_of : (s : Symbol) → IsAmong (symbols (seen u)) s → Kept s
+  pub kept_of : (s : Symbol) → IsAmong (known_symbols (seen u)) s → Kept s
   kept_of s h =
       let a = symbols_among (seen u) s h in
       let t = seen_among 0 u.slots.slots a.used a.among in
@@ -141,7 +141,7 @@ uses_for (Some c) s = cond (same_symbol (symbol_of c.sym) s) c.uses 0
 module _ (u : Uses) (facts : IsUses u) (s : Symbol) where
   pub uses_unknown : symbol_key u.keys s.kind s.text ≡ None → uses_of (seen u) s ≡ 0
   uses_unknown none = uses_absent (seen u) s (λ v h e.
-      let k = kept_of u facts s (subst (IsAmong (symbols (seen u))) e (among_symbols (seen u) v h)) in
+      let k = kept_of u facts s (subst (IsAmong (known_symbols (seen u))) e (among_symbols (seen u) v h)) in
       let clash : None ≡ Some k.slot = sym none ∙ slot_key u facts k.slot k.counted s k.there k.is in
       cc)
 
@@ -150,7 +150,7 @@ module _ (u : Uses) (facts : IsUses u) (s : Symbol) where
     by : (b : Bool) → same_symbol (symbol_of c.sym) s ≡ b → uses_of (seen u) s ≡ cond b c.uses 0
     by true e = ap (uses_of (seen u)) (sym (symbol_is (symbol_of c.sym) s e)) ∙ uses_at u facts k c there
     by false e = uses_absent (seen u) s (λ v h f.
-        let t = kept_of u facts s (subst (IsAmong (symbols (seen u))) f (among_symbols (seen u) v h)) in
+        let t = kept_of u facts s (subst (IsAmong (known_symbols (seen u))) f (among_symbols (seen u) v h)) in
         let slot = some_is t.slot k (sym (slot_key u facts t.slot t.counted s t.there t.is) ∙ known) in
         let same = some_is t.counted c (sym t.there ∙ ap (get u.slots) slot ∙ there) in
         differs (sym e ∙ symbol_same (symbol_of c.sym) s (ap (λ (d : Counted). symbol_of d.sym) (sym same) ∙ t.is)))

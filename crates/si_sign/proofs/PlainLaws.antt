@@ -19,7 +19,7 @@ use Rattle.si_term.specs.Meaning.{clause_of, name_of}
 use Rattle.si_term.specs.declared.clause.Clause as term
 use Rattle.si_term.proofs.Alone.{entries_few}
 use Rattle.si_sign.specs.Stores.{IsStored}
-use Rattle.si_sign.specs.Plain.{shown, is_clash}
+use Rattle.si_sign.specs.Plain.{lent_symbols, is_clash}
 use Rattle.si_sign.proofs.SymbolLaws.{both, differs, kind_is, kind_same, side_is, side_same, text_is, text_same}
 use Rattle.si_sign.proofs.UsesOf.{among_right, among_append, all_among, one_of_all}
 use Rattle.si_sign.proofs.StateLaws.{state_append}
@@ -52,18 +52,18 @@ no_clash s r h clash = by (same_side s.side r.side && s.arity == r.arity) refl w
   by false e = differs (sym h ∙ (λ n. names n && not (e n)))
 
 -- ---- one more of the symbols that are lent
-pub shown_next : (ss : List (Bor Sym)) (i : ℕ) (d : Bor Sym) → i < length ss → shown (take (i + 1) ss) ≡ shown (take i ss) ++ symbol_of (get_or ss i d).now ∷ []
+pub shown_next : (ss : List (Bor Sym)) (i : ℕ) (d : Bor Sym) → i < length ss → lent_symbols (take (i + 1) ss) ≡ lent_symbols (take i ss) ++ symbol_of (get_or ss i d).now ∷ []
 shown_next ss i d h =
-    ap (λ n. shown (take n ss)) (add-one i) ∙ ap shown (take-suc ss i d h) ∙ map-append (λ s. symbol_of s.now) (take i ss) (get_or ss i d ∷ [])
+    ap (λ n. lent_symbols (take n ss)) (add-one i) ∙ ap lent_symbols (take-suc ss i d h) ∙ map-append (λ s. symbol_of s.now) (take i ss) (get_or ss i d ∷ [])
 
-pub shown_split : (ss : List (Bor Sym)) (i : ℕ) (d : Bor Sym) → i < length ss → shown ss ≡ shown (take i ss) ++ symbol_of (get_or ss i d).now ∷ shown (drop (i + 1) ss)
+pub shown_split : (ss : List (Bor Sym)) (i : ℕ) (d : Bor Sym) → i < length ss → lent_symbols ss ≡ lent_symbols (take i ss) ++ symbol_of (get_or ss i d).now ∷ lent_symbols (drop (i + 1) ss)
 shown_split ss i d h =
-    ap shown (sym (take-append-drop (i + 1) ss))
+    ap lent_symbols (sym (take-append-drop (i + 1) ss))
     ∙ map-append (λ s. symbol_of s.now) (take (i + 1) ss) (drop (i + 1) ss)
-    ∙ ap (λ l. l ++ shown (drop (i + 1) ss)) (shown_next ss i d h)
-    ∙ append_assoc (shown (take i ss)) (symbol_of (get_or ss i d).now ∷ []) (shown (drop (i + 1) ss))
+    ∙ ap (λ l. l ++ lent_symbols (drop (i + 1) ss)) (shown_next ss i d h)
+    ∙ append_assoc (lent_symbols (take i ss)) (symbol_of (get_or ss i d).now ∷ []) (lent_symbols (drop (i + 1) ss))
 
-pub shown_among : (ss : List (Bor Sym)) (i : ℕ) (d : Bor Sym) → i < length ss → IsAmong (shown ss) (symbol_of (get_or ss i d).now)
+pub shown_among : (ss : List (Bor Sym)) (i : ℕ) (d : Bor Sym) → i < length ss → IsAmong (lent_symbols ss) (symbol_of (get_or ss i d).now)
 shown_among [] i d h = absurd (omega arith)
 shown_among (s ∷ ss) zero d h = inl refl
 shown_among (s ∷ ss) (suc i) d h = inr (shown_among ss i d (omega arith))
@@ -87,12 +87,12 @@ take_length (suc i) [] h = absurd (omega arith)
 take_length (suc i) (x ∷ xs) h = omega (arith, take_length i xs (omega arith))
 
 -- the symbol with this number clashes, and those before it agree
-pub first_at : (ks : List Symbol) (os : List (Bor Sym)) (i : ℕ) (one : Bor Sym) (kept : Symbol) → i < length os → one ≡ get_or os i one → AllAgree ks (shown (take i os))
-    → IsAmong (ks ++ shown (take i os)) kept → Clashes (symbol_of one.now) kept → IsFirstClash ks (shown os) i (symbol_of one.now) kept
+pub first_at : (ks : List Symbol) (os : List (Bor Sym)) (i : ℕ) (one : Bor Sym) (kept : Symbol) → i < length os → one ≡ get_or os i one → AllAgree ks (lent_symbols (take i os))
+    → IsAmong (ks ++ lent_symbols (take i os)) kept → Clashes (symbol_of one.now) kept → IsFirstClash ks (lent_symbols os) i (symbol_of one.now) kept
 first_at ks os i one kept h read agree against clashes = record {
-  before = shown (take i os);
-  after = shown (drop (i + 1) os);
-  splits = shown_split os i one h ∙ ap (λ o. shown (take i os) ++ symbol_of o.now ∷ shown (drop (i + 1) os)) (sym read);
+  before = lent_symbols (take i os);
+  after = lent_symbols (drop (i + 1) os);
+  splits = shown_split os i one h ∙ ap (λ o. lent_symbols (take i os) ++ symbol_of o.now ∷ lent_symbols (drop (i + 1) os)) (sym read);
   position = omega (arith, length-map (take i os) (λ s. symbol_of s.now), take_length i os (omega arith));
   earlier = agree;
   against = against;

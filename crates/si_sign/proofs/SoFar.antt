@@ -12,7 +12,7 @@ use Rattle.si_term.specs.Meaning.{literal_of}
 use Rattle.si_term.specs.declared.term.Term.{Term}
 use Rattle.si_term.specs.declared.clause.Literal.{Literal}
 use Rattle.si_sign.specs.Uses.{seen, IsUses}
-use Rattle.si_sign.specs.Taking.{Takes, GivesBack, RefusesFrom}
+use Rattle.si_sign.specs.Taking.{TakesUses, GivesBack, RefusesFrom}
 use Rattle.si_sign.specs.declared.faults.TakeFault.{TakeFault}
 use Rattle.si_sign.specs.declared.uses.Uses.{Uses}
 use Rattle.si_sign.proofs.SeenLaws.{seen_rising}
@@ -64,17 +64,17 @@ in_literals (l ∷ ls) = ap (λ k. symbols (term_of l.atom) ++ k) (in_literals l
 -- ---- taking
 pub record TakesSoFar (u v : Uses) (own : List Symbol) : Type 0 where
   pub uses : IsUses v
-  pub takes : Takes own (seen u) (seen v)
+  pub takes : TakesUses own (seen u) (seen v)
 
 module _ (u : Uses) (facts : IsUses u) where
   pub takes_first : TakesSoFar u u []
   takes_first = record { uses = facts; takes = takes_none (seen u) (is_signature u facts) }
 
   module _ (v : Uses) (own ys : List Symbol) (so_far : TakesSoFar u v own) where
-    pub takes_on : (w : Uses) (now : List Symbol) → IsUses w → Takes ys (seen v) (seen w) → now ≡ own ++ ys → TakesSoFar u w now
+    pub takes_on : (w : Uses) (now : List Symbol) → IsUses w → TakesUses ys (seen v) (seen w) → now ≡ own ++ ys → TakesSoFar u w now
     takes_on w now uses more e = record {
       uses = uses;
-      takes = subst (λ l. Takes l (seen u) (seen w)) (sym e) (takes_more (seen u) (seen v) own ys (is_signature u facts) so_far.takes (seen w) more);
+      takes = subst (λ l. TakesUses l (seen u) (seen w)) (sym e) (takes_more (seen u) (seen v) own ys (is_signature u facts) so_far.takes (seen w) more);
     }
 
     pub total_so_far : v.total ≡ u.total + length own

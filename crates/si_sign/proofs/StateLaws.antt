@@ -5,7 +5,7 @@ use Rattle.si_defs.specs.Clauses.{Clause}
 use Rattle.si_defs.specs.Entries.{clause_symbols, state_symbols}
 use Rattle.si_defs.specs.Substitutions.{IsAmong, AreDistinct}
 use Rattle.si_state.specs.Acceptance.{AllAgree}
-use Rattle.si_state.specs.Signatures.{Signature, IsSignature, IsSignatureOf, CountsSymbols, keys, symbols, uses_of}
+use Rattle.si_state.specs.Signatures.{Signature, IsSignature, IsSignatureOf, CountsSymbols, keys, known_symbols, uses_of}
 use Rattle.si_sign.specs.Shapes.{NamesFirstClash}
 use Rattle.si_sign.specs.declared.faults.Clash.{Clash}
 use Rattle.si_sign.proofs.UsesOf.{among_left, among_right, among_append, among_keys, symbols_among, times_append, times_among, among_times}
@@ -39,18 +39,18 @@ pub signature_removed : (before after : List Clause) (c : Clause) (known new : S
 signature_removed before after c known new of uses s =
     omega (arith, uses s, of s, times_state s before (c ∷ after), times_state s before after, times_append s (clause_symbols c) (state_symbols after))
 
--- ---- which symbols occur
+-- ---- which known_symbols occur
 module _ (state : List Clause) (known : Signature) (is : IsSignature known) (of : IsSignatureOf state known) where
-  pub in_state : (s : Symbol) → IsAmong (symbols known) s → IsAmong (state_symbols state) s
+  pub in_state : (s : Symbol) → IsAmong (known_symbols known) s → IsAmong (state_symbols state) s
   in_state s h = among_times s (state_symbols state) (omega (arith, of s, symbols_used known is s h))
 
-  pub in_signature : (s : Symbol) → IsAmong (state_symbols state) s → IsAmong (symbols known) s
+  pub in_signature : (s : Symbol) → IsAmong (state_symbols state) s → IsAmong (known_symbols known) s
   in_signature s h = used_symbols known s (omega (arith, of s, times_among s (state_symbols state) h))
 
-  pub agrees_in_state : (own : List Symbol) → AllAgree (symbols known) own → AllAgree (state_symbols state) own
-  agrees_in_state own a = agree_within (symbols known) (state_symbols state) own in_signature a
+  pub agrees_in_state : (own : List Symbol) → AllAgree (known_symbols known) own → AllAgree (state_symbols state) own
+  agrees_in_state own a = agree_within (known_symbols known) (state_symbols state) own in_signature a
 
-  pub clashes_in_state : (own : List Symbol) (c : Clash) → NamesFirstClash (symbols known) own c → NamesFirstClash (state_symbols state) own c
+  pub clashes_in_state : (own : List Symbol) (c : Clash) → NamesFirstClash (known_symbols known) own c → NamesFirstClash (state_symbols state) own c
   clashes_in_state own c (found, kept, first, shapes) = (
     found,
     kept,
@@ -60,23 +60,23 @@ module _ (state : List Clause) (known : Signature) (is : IsSignature known) (of 
       splits = first.splits;
       position = first.position;
       earlier = agrees_in_state first.before first.earlier;
-      against = by (among_append (symbols known) first.before kept first.against);
+      against = by (among_append (known_symbols known) first.before kept first.against);
       clashes = first.clashes;
     },
     shapes,
   ) where
-    by : IsAmong (symbols known) kept ⊎ IsAmong first.before kept → IsAmong (state_symbols state ++ first.before) kept
+    by : IsAmong (known_symbols known) kept ⊎ IsAmong first.before kept → IsAmong (state_symbols state ++ first.before) kept
     by (inl h) = among_left (state_symbols state) first.before kept (in_state kept h)
     by (inr h) = among_right (state_symbols state) first.before kept h
 
-  -- as many symbols as `len` tells
+  -- as many known_symbols as `len` tells
   pub counts_symbols : CountsSymbols state (length known)
-  counts_symbols = (symbols known, distinct_symbols known is.one_shape, (λ s. (in_state s, in_signature s)), lengths known) where
-    lengths : (us : Signature) → length us ≡ length (symbols us)
+  counts_symbols = (known_symbols known, distinct_symbols known is.one_shape, (λ s. (in_state s, in_signature s)), lengths known) where
+    lengths : (us : Signature) → length us ≡ length (known_symbols us)
     lengths [] = refl
     lengths (u ∷ us) = ap suc (lengths us)
 
-    distinct_symbols : (us : Signature) → AreDistinct (keys us) → AreDistinct (symbols us)
+    distinct_symbols : (us : Signature) → AreDistinct (keys us) → AreDistinct (known_symbols us)
     distinct_symbols [] d = tt
     distinct_symbols (u ∷ us) d = (
       λ h.

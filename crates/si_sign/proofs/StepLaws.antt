@@ -5,12 +5,12 @@ use Rattle.std.proofs.lemmas.Bool.{eq-eqb}
 use Rattle.slab.specs.Slab.{get, with_value}
 use Rattle.si_defs.specs.Symbols.{Symbol, same_side, same_symbol, times}
 use Rattle.si_state.specs.Acceptance.{Clashes, Agrees}
-use Rattle.si_state.specs.Signatures.{Signature, total, symbols, uses_of}
+use Rattle.si_state.specs.Signatures.{Signature, total, known_symbols, uses_of}
 use Rattle.si_term.specs.Terms.{symbol_of}
 use Rattle.si_sign.specs.Keys.{symbol_key, HasAtKind}
 use Rattle.si_sign.specs.Shapes.{shape_of}
 use Rattle.si_sign.specs.Uses.{used_at, seen, IsUses}
-use Rattle.si_sign.specs.Taking.{Takes, GivesBack, RefusesFrom}
+use Rattle.si_sign.specs.Taking.{TakesUses, GivesBack, RefusesFrom}
 use Rattle.si_sign.specs.declared.faults.Clash.{Clash}
 use Rattle.si_sign.specs.declared.faults.TakeFault.TheVariants as take_fault
 use Rattle.si_sign.specs.declared.uses.Counted.{Counted}
@@ -163,7 +163,7 @@ module _ (t v : Uses) (s : Symbol) (k : ℕ) (b o : Option Counted) (facts : IsU
         ap (λ x. uses_for x r) is,
       )
 
-  pub takes_step : IsOneMore s b o → v.total ≡ t.total + 1 → Agrees (symbols (seen t)) s → Takes (s ∷ []) (seen t) (seen v)
+  pub takes_step : IsOneMore s b o → v.total ≡ t.total + 1 → Agrees (known_symbols (seen t)) s → TakesUses (s ∷ []) (seen t) (seen v)
   takes_step more sum agrees = record {
     agree = (agrees, tt);
     uses = λ r. omega (arith, uses r, more r);
@@ -179,14 +179,14 @@ module _ (t v : Uses) (s : Symbol) (k : ℕ) (b o : Option Counted) (facts : IsU
   }
 
 -- ---- whether a symbol agrees
-pub agrees_new : (t : Uses) → IsUses t → (s : Symbol) → symbol_key t.keys s.kind s.text ≡ None → Agrees (symbols (seen t)) s
-agrees_new t facts s none = all_among (λ r. Clashes s r → ⊥) (symbols (seen t)) (λ r h clash.
+pub agrees_new : (t : Uses) → IsUses t → (s : Symbol) → symbol_key t.keys s.kind s.text ≡ None → Agrees (known_symbols (seen t)) s
+agrees_new t facts s none = all_among (λ r. Clashes s r → ⊥) (known_symbols (seen t)) (λ r h clash.
     let k = kept_of t facts r h in
     let e : None ≡ Some k.slot = sym none ∙ (λ n. symbol_key t.keys (clash.kind n) (clash.text n)) ∙ slot_key t facts k.slot k.counted r k.there k.is in
     cc)
 
-pub agrees_known : (t : Uses) → IsUses t → (s : Symbol) (k : ℕ) (c : Counted) → symbol_key t.keys s.kind s.text ≡ Some k → get t.slots k ≡ Some c → symbol_of c.sym ≡ s → Agrees (symbols (seen t)) s
-agrees_known t facts s k c known there is = all_among (λ r. Clashes s r → ⊥) (symbols (seen t)) (λ r h clash.
+pub agrees_known : (t : Uses) → IsUses t → (s : Symbol) (k : ℕ) (c : Counted) → symbol_key t.keys s.kind s.text ≡ Some k → get t.slots k ≡ Some c → symbol_of c.sym ≡ s → Agrees (known_symbols (seen t)) s
+agrees_known t facts s k c known there is = all_among (λ r. Clashes s r → ⊥) (known_symbols (seen t)) (λ r h clash.
     let m = kept_of t facts r h in
     let slot = some_is m.slot k (sym (slot_key t facts m.slot m.counted r m.there m.is) ∙ (λ n. symbol_key t.keys (sym clash.kind n) (sym clash.text n)) ∙ known) in
     let same = some_is m.counted c (sym m.there ∙ ap (get t.slots) slot ∙ there) in
@@ -207,7 +207,7 @@ refuses_known begin t facts s k c e known there other found kept position =
         splits = refl;
         position = refl;
         earlier = tt;
-        against = among_left (symbols (seen t)) [] (symbol_of c.sym) (among_symbols (seen t) (used_at k c) (in_seen t facts k c there));
+        against = among_left (known_symbols (seen t)) [] (symbol_of c.sym) (among_symbols (seen t) (used_at k c) (in_seen t facts k c there));
         clashes = record {
           kind = sym of.0;
           text = sym of.1;

@@ -4,29 +4,29 @@ use Rattle.std.specs.Prelude.{Result, Ok, Err, OnOk, OnErr}
 use Rattle.si_defs.specs.Symbols.{Symbol, times}
 use Rattle.si_defs.specs.Substitutions.{IsAmong}
 use Rattle.si_state.specs.Acceptance.{Clashes, AllAgree}
-use Rattle.si_state.specs.Signatures.{Used, Signature, IsSignature, symbols, numbering, uses_of, KeepsNumbers}
-use Rattle.si_sign.specs.Taking.{Takes, GivesBack, RefusesFrom}
+use Rattle.si_state.specs.Signatures.{Used, Signature, IsSignature, known_symbols, numbering, uses_of, KeepsNumbers}
+use Rattle.si_sign.specs.Taking.{TakesUses, GivesBack, RefusesFrom}
 use Rattle.si_sign.specs.declared.faults.TakeFault.{TakeFault}
 use Rattle.si_sign.specs.declared.faults.TakeFault.TheVariants as take_fault
 use Rattle.si_sign.proofs.SeenLaws.{IsRising, same_rising}
 use Rattle.si_sign.proofs.UsesOf.{among_left, among_right, among_append, all_among, one_of_all, among_symbols, among_numbering, symbols_among, numbering_among, uses_positive, uses_among, times_append, times_among, among_times}
 
--- ---- which symbols are in use
-pub symbols_used : (us : Signature) → IsSignature us → (s : Symbol) → IsAmong (symbols us) s → 1 ≤ uses_of us s
+-- ---- which known_symbols are in use
+pub symbols_used : (us : Signature) → IsSignature us → (s : Symbol) → IsAmong (known_symbols us) s → 1 ≤ uses_of us s
 symbols_used us is s h =
     let m = symbols_among us s h in
     let one = one_of_all (λ (u : Used). 1 ≤ u.uses) us m.used is.used m.among in
     omega (arith, one, uses_among us m.used is.one_shape m.among, ap (uses_of us) m.is)
 
-pub used_symbols : (us : Signature) (s : Symbol) → 1 ≤ uses_of us s → IsAmong (symbols us) s
-used_symbols us s h = let m = uses_positive us s h in subst (IsAmong (symbols us)) m.is (among_symbols us m.used m.among)
+pub used_symbols : (us : Signature) (s : Symbol) → 1 ≤ uses_of us s → IsAmong (known_symbols us) s
+used_symbols us s h = let m = uses_positive us s h in subst (IsAmong (known_symbols us)) m.is (among_symbols us m.used m.among)
 
-numbered_symbols : (us : Signature) (s : Symbol) (n : ℕ) → IsAmong (numbering us) (s, n) → IsAmong (symbols us) s
+numbered_symbols : (us : Signature) (s : Symbol) (n : ℕ) → IsAmong (numbering us) (s, n) → IsAmong (known_symbols us) s
 numbered_symbols us s n h =
     let m = numbering_among us (s, n) h in
-    subst (IsAmong (symbols us)) (ap (λ p. p.0) m.is) (among_symbols us m.used m.among)
+    subst (IsAmong (known_symbols us)) (ap (λ p. p.0) m.is) (among_symbols us m.used m.among)
 
-keeps_through : (a b c : Signature) → ((s : Symbol) → IsAmong (symbols a) s → IsAmong (symbols c) s → IsAmong (symbols b) s)
+keeps_through : (a b c : Signature) → ((s : Symbol) → IsAmong (known_symbols a) s → IsAmong (known_symbols c) s → IsAmong (known_symbols b) s)
     → KeepsNumbers a b → KeepsNumbers b c → KeepsNumbers a c
 keeps_through a b c between f g s m n x y =
     let u = symbols_among b s (between s (numbered_symbols a s m x) (numbered_symbols c s n y)) in
@@ -66,7 +66,7 @@ agree_between xs own ys a =
     agree_append [] xs ys front.0 (agree_within (xs ++ own) xs ys (among_left xs own) back.1)
 
 -- ---- taking
-pub takes_none : (a : Signature) → IsSignature a → Takes [] a a
+pub takes_none : (a : Signature) → IsSignature a → TakesUses [] a a
 takes_none a is = record {
   agree = tt;
   uses = λ s. omega arith;
@@ -74,30 +74,30 @@ takes_none a is = record {
   sum = omega arith;
 }
 
-module _ (a b : Signature) (xs ys : List Symbol) (at_first : IsSignature a) (taken : Takes xs a b) where
-  kept_or_own : (r : Symbol) → IsAmong (symbols a ++ xs) r → IsAmong (symbols b) r
-  kept_or_own r h = by (among_append (symbols a) xs r h) where
-    by : IsAmong (symbols a) r ⊎ IsAmong xs r → IsAmong (symbols b) r
+module _ (a b : Signature) (xs ys : List Symbol) (at_first : IsSignature a) (taken : TakesUses xs a b) where
+  kept_or_own : (r : Symbol) → IsAmong (known_symbols a ++ xs) r → IsAmong (known_symbols b) r
+  kept_or_own r h = by (among_append (known_symbols a) xs r h) where
+    by : IsAmong (known_symbols a) r ⊎ IsAmong xs r → IsAmong (known_symbols b) r
     by (inl k) = used_symbols b r (omega (arith, taken.uses r, symbols_used a at_first r k))
     by (inr k) = used_symbols b r (omega (arith, taken.uses r, times_among r xs k))
 
-  pub takes_more : (c : Signature) → Takes ys b c → Takes (xs ++ ys) a c
+  pub takes_more : (c : Signature) → TakesUses ys b c → TakesUses (xs ++ ys) a c
   takes_more c more = record {
-    agree = agree_append (symbols a) xs ys taken.agree (agree_within (symbols b) (symbols a ++ xs) ys kept_or_own more.agree);
+    agree = agree_append (known_symbols a) xs ys taken.agree (agree_within (known_symbols b) (known_symbols a ++ xs) ys kept_or_own more.agree);
     uses = λ s. omega (arith, taken.uses s, more.uses s, times_append s xs ys);
     numbers = keeps_through a b c (λ s h k. used_symbols b s (omega (arith, taken.uses s, symbols_used a at_first s h))) taken.numbers more.numbers;
     sum = omega (arith, taken.sum, more.sum, length-append xs ys);
   }
 
-  against_more : IsSignature b → (before : List Symbol) (r : Symbol) → IsAmong (symbols b ++ before) r → IsAmong (symbols a ++ (xs ++ before)) r
-  against_more now before r h = by (among_append (symbols b) before r h) where
-    of : (1 ≤ uses_of a r) ⊎ (1 ≤ times r xs) → IsAmong (symbols a ++ (xs ++ before)) r
-    of (inl k) = among_left (symbols a) (xs ++ before) r (used_symbols a r k)
-    of (inr k) = among_right (symbols a) (xs ++ before) r (among_left xs before r (among_times r xs k))
+  against_more : IsSignature b → (before : List Symbol) (r : Symbol) → IsAmong (known_symbols b ++ before) r → IsAmong (known_symbols a ++ (xs ++ before)) r
+  against_more now before r h = by (among_append (known_symbols b) before r h) where
+    of : (1 ≤ uses_of a r) ⊎ (1 ≤ times r xs) → IsAmong (known_symbols a ++ (xs ++ before)) r
+    of (inl k) = among_left (known_symbols a) (xs ++ before) r (used_symbols a r k)
+    of (inr k) = among_right (known_symbols a) (xs ++ before) r (among_left xs before r (among_times r xs k))
 
-    by : IsAmong (symbols b) r ⊎ IsAmong before r → IsAmong (symbols a ++ (xs ++ before)) r
+    by : IsAmong (known_symbols b) r ⊎ IsAmong before r → IsAmong (known_symbols a ++ (xs ++ before)) r
     by (inl k) = of (positive_either (uses_of a r) (times r xs) (omega (arith, taken.uses r, symbols_used b now r k)))
-    by (inr k) = among_right (symbols a) (xs ++ before) r (among_right xs before r k)
+    by (inr k) = among_right (known_symbols a) (xs ++ before) r (among_right xs before r k)
 
   -- what is refused behind what was taken
   pub refuses_more : IsSignature b → (begin : ℕ) (f : TakeFault) → RefusesFrom begin b ys f → RefusesFrom begin a (xs ++ ys) f
@@ -110,7 +110,7 @@ module _ (a b : Signature) (xs ys : List Symbol) (at_first : IsSignature a) (tak
       after = first.after;
       splits = ap (λ l. xs ++ l) first.splits ∙ sym (append_assoc xs first.before (found ∷ first.after));
       position = omega (arith, first.position, length-append xs first.before);
-      earlier = agree_append (symbols a) xs first.before taken.agree (agree_within (symbols b) (symbols a ++ xs) first.before kept_or_own first.earlier);
+      earlier = agree_append (known_symbols a) xs first.before taken.agree (agree_within (known_symbols b) (known_symbols a ++ xs) first.before kept_or_own first.earlier);
       against = against_more now first.before kept first.against;
       clashes = first.clashes;
     },
@@ -166,7 +166,7 @@ carried a c first last same numbers u h =
     let e : m.used ≡ u = λ i. record { symbol = m.is i; uses = times_used i; number = number i } in
     subst (IsAmong a) e m.among
 
-pub undone : (a b c : Signature) (xs : List Symbol) → IsSignature a → IsSignature c → IsRising 0 a → IsRising 0 c → Takes xs a b → GivesBack xs b c → c ≡ a
+pub undone : (a b c : Signature) (xs : List Symbol) → IsSignature a → IsSignature c → IsRising 0 a → IsRising 0 c → TakesUses xs a b → GivesBack xs b c → c ≡ a
 undone a b c xs first last rising again taken given =
     let same : (s : Symbol) → uses_of a s ≡ uses_of c s = λ s. omega (arith, taken.uses s, given.uses s) in
     let numbers = keeps_through a b c (λ s h k. used_symbols b s (omega (arith, taken.uses s, symbols_used a first s h))) taken.numbers given.numbers in
@@ -175,6 +175,6 @@ undone a b c xs first last rising again taken given =
     (carried c a last first (λ s. sym (same s)) (λ s m n x y. sym (numbers s n m y x)))
 
 -- numbers stay where occurrences are taken, and where nothing changes
-pub keeps_either : {T E : Type 0} (r : Result T E) (own : List Symbol) (a b : Signature) → IsSignature a → OnOk r (Takes own a b) → OnErr r (b ≡ a) → KeepsNumbers a b
+pub keeps_either : {T E : Type 0} (r : Result T E) (own : List Symbol) (a b : Signature) → IsSignature a → OnOk r (TakesUses own a b) → OnErr r (b ≡ a) → KeepsNumbers a b
 keeps_either (Ok x) own a b is taken same = taken.numbers
 keeps_either (Err e) own a b is taken same = λ s m n x y. is.numbered.one_number s m n x (subst (λ k. IsAmong (numbering k) (s, n)) same y)

@@ -1,4 +1,4 @@
--- How often symbols occur by a signature, and in a list.
+-- How often known_symbols occur by a signature, and in a list.
 use Rattle.std.proofs.Common.{◌≡◌, ◌⊎◌, inl, inr, ℕ, ◌+◌, ◌≤◌, Bool, true, false, cond, List, [], ◌∷◌, ◌++◌, refl, sym, ap, subst, arith}
 use Rattle.std.specs.List.{AllByRecursion}
 use Rattle.std.proofs.lemmas.List.Sums.{sum_by-append, sum_by-cons}
@@ -6,7 +6,7 @@ use Rattle.si_defs.specs.Symbols.{Symbol, same_symbol, times}
 use Rattle.si_defs.specs.Substitutions.{IsAmong, AreDistinct}
 use Rattle.si_defs.specs.Bytes.{Bytes}
 use Rattle.si_defs.specs.declared.SymKind.{SymKind}
-use Rattle.si_state.specs.Signatures.{Used, Signature, keys, numbering, symbols, uses_of}
+use Rattle.si_state.specs.Signatures.{Used, Signature, keys, numbering, known_symbols, uses_of}
 use Rattle.si_sign.proofs.SymbolLaws.{symbol_is, symbol_self, symbol_same}
 
 -- ---- members of lists
@@ -46,7 +46,7 @@ among_keys [] u h = absurd h
 among_keys (v ∷ us) u (inl e) = inl (ap key e)
 among_keys (v ∷ us) u (inr h) = inr (among_keys us u h)
 
-pub among_symbols : (us : Signature) (u : Used) → IsAmong us u → IsAmong (symbols us) u.symbol
+pub among_symbols : (us : Signature) (u : Used) → IsAmong us u → IsAmong (known_symbols us) u.symbol
 among_symbols [] u h = absurd h
 among_symbols (v ∷ us) u (inl e) = inl (ap (λ (w : Used). w.symbol) e)
 among_symbols (v ∷ us) u (inr h) = inr (among_symbols us u h)
@@ -70,7 +70,7 @@ keys_among [] k h = absurd h
 keys_among (v ∷ us) k (inl e) = record { used = v; among = inl refl; is = e }
 keys_among (v ∷ us) k (inr h) = next key v us k (keys_among us k h)
 
-pub symbols_among : (us : Signature) (s : Symbol) → IsAmong (symbols us) s → Member (λ u. u.symbol) us s
+pub symbols_among : (us : Signature) (s : Symbol) → IsAmong (known_symbols us) s → Member (λ u. u.symbol) us s
 symbols_among [] s h = absurd h
 symbols_among (v ∷ us) s (inl e) = record { used = v; among = inl refl; is = e }
 symbols_among (v ∷ us) s (inr h) = next (λ u. u.symbol) v us s (symbols_among us s h)

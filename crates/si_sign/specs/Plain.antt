@@ -6,8 +6,8 @@ use Rattle.si_term.specs.Terms.{symbol_of}
 use Rattle.si_term.specs.declared.term.Sym.{Sym}
 
 -- the symbols that are lent
-abbrev pub shown : List (Bor Sym) → List Symbol
-shown ss = map (λ s. symbol_of s.now) ss
+abbrev pub lent_symbols : List (Bor Sym) → List Symbol
+lent_symbols ss = map (λ s. symbol_of s.now) ss
 
 -- whether they are of one kind and text, but not of one side and arity
 abbrev pub is_clash : Symbol → Symbol → Bool

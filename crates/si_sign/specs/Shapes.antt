@@ -20,6 +20,6 @@ abbrev pub NamesFirstClash : List Symbol → List Symbol → Clash → Type 0
 NamesFirstClash known own c = (found : Symbol) × (kept : Symbol) × IsFirstClash known own c.entry found kept × HasShapes c found kept
 
 -- why symbols aren't taken: the first of them that clashes is named, or memory ran out
-abbrev pub Refuses : List Symbol → List Symbol → TakeFault → Type 0
-Refuses known own (take_fault.Clash c) = NamesFirstClash known own c
-Refuses known own take_fault.Memory = Unit {0}
+abbrev pub RefusesSymbols : List Symbol → List Symbol → TakeFault → Type 0
+RefusesSymbols known own (take_fault.Clash c) = NamesFirstClash known own c
+RefusesSymbols known own take_fault.Memory = Unit {0}

@@ -1,15 +1,15 @@
--- What taking occurrences of symbols, and giving them back, makes of a signature.
+-- What taking occurrences of known_symbols, and giving them back, makes of a signature.
 use Rattle.std.specs.Prelude.{◌≡◌, ℕ, ◌+◌, List, length}
 use Rattle.si_defs.specs.Symbols.{Symbol, times}
 use Rattle.si_state.specs.Acceptance.{AllAgree, IsFirstClash}
-use Rattle.si_state.specs.Signatures.{Signature, symbols, uses_of, total, KeepsNumbers}
+use Rattle.si_state.specs.Signatures.{Signature, known_symbols, uses_of, total, KeepsNumbers}
 use Rattle.si_sign.specs.Shapes.{HasShapes}
 use Rattle.si_sign.specs.declared.faults.TakeFault.{TakeFault}
 use Rattle.si_sign.specs.declared.faults.TakeFault.TheVariants as take_fault
 
 -- These occurrences agree with what was in use, and are counted in addition.
-pub record Takes (own : List Symbol) (old new : Signature) : Type 0 where
-  pub agree : AllAgree (symbols old) own
+pub record TakesUses (own : List Symbol) (old new : Signature) : Type 0 where
+  pub agree : AllAgree (known_symbols old) own
   pub uses : (s : Symbol) → uses_of new s ≡ uses_of old s + times s own
   pub numbers : KeepsNumbers old new
   pub sum : total new ≡ total old + length own
@@ -24,6 +24,6 @@ pub record GivesBack (own : List Symbol) (old new : Signature) : Type 0 where
 -- `begin`; or memory ran out.
 abbrev pub RefusesFrom : ℕ → Signature → List Symbol → TakeFault → Type 0
 RefusesFrom begin old own (take_fault.Clash c) =
-    (number : ℕ) × (found : Symbol) × (kept : Symbol) × IsFirstClash (symbols old) own number found kept × HasShapes c found kept
+    (number : ℕ) × (found : Symbol) × (kept : Symbol) × IsFirstClash (known_symbols old) own number found kept × HasShapes c found kept
     × (begin + c.entry ≡ total old + number)
 RefusesFrom begin old own take_fault.Memory = Unit {0}

@@ -13,7 +13,7 @@ ghost use Rattle.si_term.specs.Terms.{symbol_of};
 ghost use Rattle.si_term.specs.Meaning.{clause_of, name_of};
 ghost use Rattle.si_sign.specs.Shapes.{shape_of, NamesFirstClash};
 ghost use Rattle.si_sign.specs.Stores.{IsStored, Rejects};
-ghost use Rattle.si_sign.specs.Plain.{shown, is_clash};
+ghost use Rattle.si_sign.specs.Plain.{lent_symbols, is_clash};
 
 use crate::faults::{AddFault, Clash, Rejected, Shape};
 use crate::store::ClauseStore;
@@ -179,7 +179,7 @@ fn clash_with(
 
 /// The symbols of these clauses.
 fn kept_symbols<'a>(alloc: Global, clauses: &'a [Clause]) -> Result<Vec<&'a Sym>, AllocError>
-    ensures { IfOk result (λ v. shown v.items ≡ state_symbols (map clause_of clauses.now)) }
+    ensures { IfOk result (λ v. lent_symbols v.items ≡ state_symbols (map clause_of clauses.now)) }
 {
     let mut all = Vec::new(alloc);
     for i in 0..clauses.len() {
@@ -191,8 +191,8 @@ fn kept_symbols<'a>(alloc: Global, clauses: &'a [Clause]) -> Result<Vec<&'a Sym>
 /// The first of these symbols that clashes with a known one or an earlier one.
 fn first_clash(known: &[&Sym], own: &[&Sym]) -> Option<Clash>
     requires { length own.now ≤ MOST_OCCURRENCES }
-    ensures clash { IfSome result (NamesFirstClash (shown known.now) (shown own.now)) }
-    ensures agree { IfNone result (AllAgree (shown known.now) (shown own.now)) }
+    ensures clash { IfSome result (NamesFirstClash (lent_symbols known.now) (lent_symbols own.now)) }
+    ensures agree { IfNone result (AllAgree (lent_symbols known.now) (lent_symbols own.now)) }
 {
     for i in 0..own.len() {
         let symbol = own[i];
@@ -210,9 +210,9 @@ fn first_clash(known: &[&Sym], own: &[&Sym]) -> Option<Clash>
 
 /// The shape of the first of these symbols that clashes with this one.
 fn find_clash(symbol: &Sym, others: &[&Sym]) -> Option<Shape>
-    ensures clash { IfSome result (λ r. (kept : Symbol) × IsAmong (shown others.now) kept
+    ensures clash { IfSome result (λ r. (kept : Symbol) × IsAmong (lent_symbols others.now) kept
         × Clashes (symbol_of symbol.now) kept × (r ≡ shape_of kept)) }
-    ensures agrees { IfNone result (Agrees (shown others.now) (symbol_of symbol.now)) }
+    ensures agrees { IfNone result (Agrees (lent_symbols others.now) (symbol_of symbol.now)) }
 {
     for i in 0..others.len() {
         let other = others[i];

@@ -5,10 +5,10 @@ ghost use Rattle.si_defs.specs.Entries.{clause_symbols};
 ghost use Rattle.si_defs.specs.Substitutions.{IsAmong};
 ghost use Rattle.si_state.specs.Acceptance.{AllAgree};
 ghost use Rattle.si_state.specs.Signatures as signatures;
-ghost use Rattle.si_state.specs.Signatures.{IsSignature, KeepsNumbers, uses_of, symbols, keys, numbering};
+ghost use Rattle.si_state.specs.Signatures.{IsSignature, KeepsNumbers, uses_of, known_symbols, keys, numbering};
 ghost use Rattle.si_term.specs.Terms.{symbol_of};
 ghost use Rattle.si_term.specs.Meaning.{clause_of};
-ghost use Rattle.si_sign.specs.Shapes.{Refuses};
+ghost use Rattle.si_sign.specs.Shapes.{RefusesSymbols};
 ghost use Rattle.si_sign.specs.declared.uses.TheConstants.{MOST_USES};
 
 use crate::faults::{Shape, TakeFault};
@@ -18,7 +18,7 @@ use si_term::{Clause, Sym, SymTable};
 use std::alloc::Global;
 use std::marker::Model;
 
-/// The symbols that occur in some clauses, how often, and by which number each goes.
+/// The known_symbols that occur in some clauses, how often, and by which number each goes.
 ///
 /// A symbol keeps its number while it occurs. Contracts see a signature as a finite map from kind
 /// and text to side, arity, uses and number.
@@ -50,7 +50,7 @@ impl Signature {
         }
     }
 
-    /// Counts the occurrences of symbols in a clause. At an error nothing has changed.
+    /// Counts the occurrences of known_symbols in a clause. At an error nothing has changed.
     ///
     /// `Clash`: a symbol of the clause has another side or arity than one of the same kind and text
     /// that occurs here or earlier in the clause. The first such is named.
@@ -59,11 +59,11 @@ impl Signature {
             ≤ MOST_USES }
         ensures uses { OnOk result ((s : Symbol) → uses_of self.new s
             ≡ uses_of self.old s + times s (clause_symbols (clause_of clause.now))) }
-        ensures agree { OnOk result (AllAgree (symbols self.old)
+        ensures agree { OnOk result (AllAgree (known_symbols self.old)
             (clause_symbols (clause_of clause.now))) }
         ensures total { OnOk result (signatures.total self.new ≡ signatures.total self.old
             + length (clause_symbols (clause_of clause.now))) }
-        ensures refused { IfErr result (Refuses (symbols self.old)
+        ensures refused { IfErr result (RefusesSymbols (known_symbols self.old)
             (clause_symbols (clause_of clause.now))) }
         ensures err { OnErr result (self.new ≡ self.old) }
         ensures numbers { KeepsNumbers self.old self.new }
@@ -74,7 +74,7 @@ impl Signature {
             .take_literals(self.alloc, clause.literals.as_slice(), begin)
     }
 
-    /// Counts the occurrences of symbols in a clause no more.
+    /// Counts the occurrences of known_symbols in a clause no more.
     pub fn give_back(&mut self, clause: &Clause)
         requires used { (s : Symbol) → times s (clause_symbols (clause_of clause.now))
             ≤ uses_of self.old s }
@@ -90,7 +90,7 @@ impl Signature {
 
     /// The side and arity that the kind and text have here, if they occur.
     pub fn shape_of(&self, kind: SymKind, text: &[u8]) -> Option<Shape>
-        ensures found { IfSome result (λ s. IsAmong (symbols self.now) (record {
+        ensures found { IfSome result (λ s. IsAmong (known_symbols self.now) (record {
           kind = kind;
           text = text.now;
           side = s.side;
@@ -106,7 +106,7 @@ impl Signature {
         Some(shape(&counted.sym))
     }
 
-    /// The number of symbols.
+    /// The number of known_symbols.
     pub fn len(&self) -> u32
         ensures number { result ≡ length self.now }
         ensures signature { IsSignature self.now }

@@ -7,7 +7,7 @@ ghost use Rattle.si_term.specs.Terms.{symbol_of};
 ghost use Rattle.si_sign.specs.Keys.{symbol_key};
 ghost use Rattle.si_sign.specs.Shapes.{shape_of};
 ghost use Rattle.si_sign.specs.Uses.{seen, IsUses};
-ghost use Rattle.si_sign.specs.Taking.{Takes, GivesBack, RefusesFrom};
+ghost use Rattle.si_sign.specs.Taking.{TakesUses, GivesBack, RefusesFrom};
 
 use crate::faults::{Clash, Shape, TakeFault};
 use crate::keys::SymbolKeys;
@@ -53,7 +53,7 @@ impl Uses {
         requires begun { begin ≤ self.old.total }
         requires room { self.old.total < MOST_USES }
         ensures uses { IsUses self.new }
-        ensures ok { OnOk result (Takes (symbol_of symbol.now ∷ []) (seen self.old)
+        ensures ok { OnOk result (TakesUses (symbol_of symbol.now ∷ []) (seen self.old)
             (seen self.new)) }
         ensures why { IfErr result (RefusesFrom begin (seen self.old)
             (symbol_of symbol.now ∷ [])) }
@@ -75,7 +75,7 @@ impl Uses {
         requires room { self.old.total < MOST_USES }
         requires key { symbol_key self.old.keys symbol.now.kind symbol.now.text ≡ Some key }
         ensures uses { IsUses self.new }
-        ensures ok { OnOk result (Takes (symbol_of symbol.now ∷ []) (seen self.old)
+        ensures ok { OnOk result (TakesUses (symbol_of symbol.now ∷ []) (seen self.old)
             (seen self.new)) }
         ensures why { IfErr result (RefusesFrom begin (seen self.old)
             (symbol_of symbol.now ∷ [])) }
@@ -100,7 +100,7 @@ impl Uses {
         requires room { self.old.total < MOST_USES }
         requires none { symbol_key self.old.keys symbol.now.kind symbol.now.text ≡ None }
         ensures uses { IsUses self.new }
-        ensures ok { OnOk result (Takes (symbol_of symbol.now ∷ []) (seen self.old)
+        ensures ok { OnOk result (TakesUses (symbol_of symbol.now ∷ []) (seen self.old)
             (seen self.new)) }
         ensures err { OnErr result (seen self.new ≡ seen self.old) }
     {

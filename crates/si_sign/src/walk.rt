@@ -7,7 +7,7 @@ ghost use Rattle.si_state.specs.Signatures.{uses_of};
 ghost use Rattle.si_term.specs.Terms.{term_of};
 ghost use Rattle.si_term.specs.Meaning.{literal_of};
 ghost use Rattle.si_sign.specs.Uses.{seen, IsUses};
-ghost use Rattle.si_sign.specs.Taking.{Takes, GivesBack, RefusesFrom};
+ghost use Rattle.si_sign.specs.Taking.{TakesUses, GivesBack, RefusesFrom};
 ghost use Rattle.si_sign.specs.declared.uses.TheConstants.{MOST_USES};
 
 use crate::faults::TakeFault;
@@ -29,7 +29,7 @@ impl Uses {
         requires room { self.old.total + length (literals_symbols (map literal_of literals.now))
             ≤ MOST_USES }
         ensures uses { IsUses self.new }
-        ensures ok { OnOk result (Takes (literals_symbols (map literal_of literals.now))
+        ensures ok { OnOk result (TakesUses (literals_symbols (map literal_of literals.now))
             (seen self.old) (seen self.new)) }
         ensures why { IfErr result (RefusesFrom begin (seen self.old)
             (literals_symbols (map literal_of literals.now))) }
@@ -68,7 +68,7 @@ impl Uses {
         requires begun { begin ≤ self.old.total }
         requires room { self.old.total + length (symbols (term_of term.now)) ≤ MOST_USES }
         ensures uses { IsUses self.new }
-        ensures ok { OnOk result (Takes (symbols (term_of term.now)) (seen self.old)
+        ensures ok { OnOk result (TakesUses (symbols (term_of term.now)) (seen self.old)
             (seen self.new)) }
         ensures why { IfErr result (RefusesFrom begin (seen self.old)
             (symbols (term_of term.now))) }
@@ -99,7 +99,7 @@ impl Uses {
         requires room { self.old.total + length (symbols_of_all (row (map term_of terms.now)))
             ≤ MOST_USES }
         ensures uses { IsUses self.new }
-        ensures ok { OnOk result (Takes (symbols_of_all (row (map term_of terms.now)))
+        ensures ok { OnOk result (TakesUses (symbols_of_all (row (map term_of terms.now)))
             (seen self.old) (seen self.new)) }
         ensures why { IfErr result (RefusesFrom begin (seen self.old)
             (symbols_of_all (row (map term_of terms.now)))) }

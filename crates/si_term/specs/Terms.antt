@@ -17,18 +17,18 @@ term_of (Var x) = terms.var x
 term_of (App s ts) = terms.app (symbol_of s) (terms.row ts)
 
 -- how deep the arguments of a term nest, as the checker counts it
-abbrev pub below : Term → ℕ
-below (Var x) = 0
-below (App s ts) = max (terms.sizes (terms.row ts) + 1) 0
+abbrev pub nested_below : Term → ℕ
+nested_below (Var x) = 0
+nested_below (App s ts) = max (terms.sizes (terms.row ts) + 1) 0
 
-below_size : (t : Term) → below t ≤ terms.size (term_of t)
+below_size : (t : Term) → nested_below t ≤ terms.size (term_of t)
 below_size (Var x) = omega arith
 below_size (App s ts) = omega arith
 
-most_below : (items : List Term) → most below items ≤ terms.sizes (terms.row (map term_of items))
+most_below : (items : List Term) → most nested_below items ≤ terms.sizes (terms.row (map term_of items))
 most_below [] = omega arith
 most_below (t ∷ ts) = omega (arith, below_size t, most_below ts)
 
 -- an argument is smaller than its term
-pub deepest : (items : List Term) → max (most below items) 0 ≤ terms.sizes (terms.row (map term_of items))
+pub deepest : (items : List Term) → max (most nested_below items) 0 ≤ terms.sizes (terms.row (map term_of items))
 deepest items = omega (arith, most_below items)

@@ -11,7 +11,7 @@ use Rattle.si_defs.specs.Substitutions.{Substitution, image}
 use Rattle.si_unify.specs.declared.spots.Spot.{Spot}
 use Rattle.si_unify.specs.declared.spots.SpotPair.{SpotPair}
 use Rattle.si_unify.specs.declared.spots.Question.{Question}
-use Rattle.si_unify.specs.Solving.{Pairs, slot_count, AreInRange, Equalizes, IsSolvedBy, IsTriangular, IsBinding, IsSolution, IsCommon, HasSolved}
+use Rattle.si_unify.specs.Solving.{Pairs, slot_count, AreInRange, Equalizes, IsSolvedBy, IsAcyclic, IsBinding, IsSolution, IsCommon, HasSolved}
 use Rattle.si_unify.specs.Spots.{text, IsAt, StandsAt, IsLegal, MakesEqual, MakesEqualUpTo, Grows, HasMet, HasClosed, HasAnswered}
 use Rattle.si_unify.specs.Circles.{IsTold}
 use Rattle.si_unify.proofs.Lists.{all_map}
@@ -40,7 +40,7 @@ right_stands q pairs n t e h = subst (λ l. IsAt l 0 t) (sym here) (whole_at q.r
     here : text q pairs (n + 1) ≡ q.right.now
     here = rw (differs n (slot_count q.slots) e, eq-eqb (n + 1) (slot_count q.slots + 1) (ap (λ k. k + 1) e)) refl
 
-pub legal_at_first : (q : Question) (pairs : Pairs) → AllByRecursion (IsBinding q.slots) pairs → IsTriangular q.slots pairs → IsWhole q.left.now → IsWhole q.right.now → AreInRange q.slots q.left.now → AreInRange q.slots q.right.now → IsLegal q pairs
+pub legal_at_first : (q : Question) (pairs : Pairs) → AllByRecursion (IsBinding q.slots) pairs → IsAcyclic q.slots pairs → IsWhole q.left.now → IsWhole q.right.now → AreInRange q.slots q.left.now → AreInRange q.slots q.right.now → IsLegal q pairs
 legal_at_first q pairs bindings triangular left right left_range right_range = record {
   bindings = bindings;
   left_whole = left;

@@ -9,7 +9,7 @@ use Rattle.si_flat.specs.declared.Cell.{Cell}
 use Rattle.si_flat.specs.declared.Cell.TheVariants as cell
 use Rattle.si_trail.specs.Trails.{value_at}
 use Rattle.si_unify.specs.declared.slots.Slots.{Slots}
-use Rattle.si_unify.specs.Solving.{Pairs, IsTriangular, RanksBelow}
+use Rattle.si_unify.specs.Solving.{Pairs, IsAcyclic, RanksBelow}
 use Rattle.si_unify.specs.Spots.{cell_slot, IsBelow, ComesDown, IsChained}
 use Rattle.si_unify.proofs.Lists.{all_map, all_with}
 
@@ -83,7 +83,7 @@ down_of_ranks slots rank pairs slot [] v e h = tt
 down_of_ranks slots rank pairs slot (c ∷ cells) v e h = below_at_most slots rank pairs slot (cell_slot slots c) v e (below_of_ranks slots rank slot c h.0)
 
 -- a triangular list has ranks that are no larger than its length
-pub chained_of_triangular : (slots : Slots) (pairs : Pairs) → IsTriangular slots pairs → IsChained slots pairs
+pub chained_of_triangular : (slots : Slots) (pairs : Pairs) → IsAcyclic slots pairs → IsChained slots pairs
 chained_of_triangular slots pairs t =
     let rank : ℕ → ℕ = λ z. at_most t.0 (t.0 z) pairs in
     record {

@@ -20,7 +20,7 @@ use Rattle.si_unify.specs.declared.circles.Task.{Task}
 use Rattle.si_unify.specs.declared.circles.Task.TheVariants.{Enter, Leave}
 use Rattle.si_unify.specs.Solving.{Pairs, slot_count, IsTriangularBy, RanksBelow, IsBinding}
 use Rattle.si_unify.specs.Spots.{cell_slot}
-use Rattle.si_unify.specs.Circles.{if_value, if_bound, with_slot, bound_slots, weight, HasStepped, HasDone, enter_each, pile, entries, AreEntered, below_value, below, task_slot, task_slots, IsDone, AreCovered, RanksUnder, ComeDown, IsOrdered, leave_slots, IsSearching, StayDone, HasSearched}
+use Rattle.si_unify.specs.Circles.{if_value, if_bound, with_slot, bound_slots, weight, HasStepped, HasDone, enter_each, pile, tasks_of, AreEntered, below_value, slots_below, task_slot, task_slots, IsDone, AreCovered, RanksUnder, ComeDown, IsRanked, leave_slots, IsSearching, StayDone, HasSearched}
 use Rattle.si_unify.proofs.Lists.{all_map}
 use Rattle.si_unify.proofs.StateLaws.{get-set_same, get-set_other}
 use Rattle.si_unify.proofs.Places.{all_at}
@@ -65,7 +65,7 @@ covered_still slots pairs states new one two [] stay give h = tt
 covered_still slots pairs states new one two (Enter slot ∷ tasks) stay give h =
     (tt, covered_still slots pairs states new (slot ∷ one) (slot ∷ two) tasks stay (still_among new one two slot give) h.1)
 covered_still slots pairs states new one two (Leave slot ∷ tasks) stay give h = (
-  all_map (λ c. IsDone states c ⊎ IsAmong one c) (λ c. IsDone new c ⊎ IsAmong two c) (below slots pairs slot)
+  all_map (λ c. IsDone states c ⊎ IsAmong one c) (λ c. IsDone new c ⊎ IsAmong two c) (slots_below slots pairs slot)
       (λ c k. elim k [ inl d ↦ inl (stay c d) | inr a ↦ give c a ]) h.0,
   covered_still slots pairs states new (slot ∷ one) (slot ∷ two) tasks stay (still_among new one two slot give) h.1,
 )
@@ -88,7 +88,7 @@ all_among P (x ∷ xs) give = (give x (inl refl), all_among P xs (λ z h. give z
 
 -- ---- ranks of what is done
 -- a slot that was done is done again
-ordered_kept : (slots : Slots) (pairs : Pairs) (states : List State) (slot : ℕ) → IsOrdered slots pairs states → IsDone states slot → IsOrdered slots pairs (set states slot Done)
+ordered_kept : (slots : Slots) (pairs : Pairs) (states : List State) (slot : ℕ) → IsRanked slots pairs states → IsDone states slot → IsRanked slots pairs (set states slot Done)
 ordered_kept slots pairs states slot h was =
     let less : slot < length states = slice_get_within states slot Done was in
     let back : (z : ℕ) → IsDone (set states slot Done) z → IsDone states z =
@@ -98,7 +98,7 @@ ordered_kept slots pairs states slot h was =
       top = h.top;
       few = λ z d. h.few z (back z d);
       down = λ z d.
-          all_map (λ c. IsDone states c × (h.rank c < h.rank z)) (λ c. IsDone (set states slot Done) c × (h.rank c < h.rank z)) (below slots pairs z)
+          all_map (λ c. IsDone states c × (h.rank c < h.rank z)) (λ c. IsDone (set states slot Done) c × (h.rank c < h.rank z)) (slots_below slots pairs z)
           (λ c k. (done_stays_at_done states slot less c k.0, k.1)) (h.down z (back z d));
     }
 
@@ -112,7 +112,7 @@ raised_same : (rank : ℕ → ℕ) (top slot z : ℕ) → z ≡ slot → raised 
 raised_same rank top slot z e = rw (eq-eqb z slot e) refl
 
 -- a slot comes behind all that were done before
-ordered_more : (slots : Slots) (pairs : Pairs) (states : List State) (slot : ℕ) → slot < length states → IsOrdered slots pairs states → (IsDone states slot → ⊥) → AllByRecursion (IsDone states) (below slots pairs slot) → IsOrdered slots pairs (set states slot Done)
+ordered_more : (slots : Slots) (pairs : Pairs) (states : List State) (slot : ℕ) → slot < length states → IsRanked slots pairs states → (IsDone states slot → ⊥) → AllByRecursion (IsDone states) (slots_below slots pairs slot) → IsRanked slots pairs (set states slot Done)
 ordered_more slots pairs states slot less h not_done children =
     let other : (c : ℕ) → IsDone states c → c ≢ slot = λ c d e. not_done (subst (IsDone states) e d) in
     record {
@@ -126,9 +126,9 @@ ordered_more slots pairs states slot less h not_done children =
       down = λ z d.
           elim (eqb_tells z slot) [
             | inl k ↦
-                subst (λ y. AllByRecursion (λ c. IsDone (set states slot Done) c × (raised h.rank h.top slot c < raised h.rank h.top slot y)) (below slots pairs y)) (sym k.1)
+                subst (λ y. AllByRecursion (λ c. IsDone (set states slot Done) c × (raised h.rank h.top slot c < raised h.rank h.top slot y)) (slots_below slots pairs y)) (sym k.1)
                 (
-                all_map (IsDone states) (λ c. IsDone (set states slot Done) c × (raised h.rank h.top slot c < raised h.rank h.top slot slot)) (below slots pairs slot)
+                all_map (IsDone states) (λ c. IsDone (set states slot Done) c × (raised h.rank h.top slot c < raised h.rank h.top slot slot)) (slots_below slots pairs slot)
                 (λ c e. (
                   done_stays_at_done states slot less c e,
                   omega (arith, raised_other h.rank h.top slot c (other c e), raised_same h.rank h.top slot slot refl, h.few c e),
@@ -136,7 +136,7 @@ ordered_more slots pairs states slot less h not_done children =
                 children
                 )
             | inr k ↦
-                all_map (λ c. IsDone states c × (h.rank c < h.rank z)) (λ c. IsDone (set states slot Done) c × (raised h.rank h.top slot c < raised h.rank h.top slot z)) (below slots pairs z)
+                all_map (λ c. IsDone states c × (h.rank c < h.rank z)) (λ c. IsDone (set states slot Done) c × (raised h.rank h.top slot c < raised h.rank h.top slot z)) (slots_below slots pairs z)
                 (λ c e. (
                   done_stays_at_done states slot less c e.0,
                   omega (arith, raised_other h.rank h.top slot c (other c e.0), raised_other h.rank h.top slot z k.1, e.1),
@@ -169,10 +169,10 @@ leave_step slots pairs states slot tasks h =
       valid = h.valid.1;
     }
   where
-    children_done : AllByRecursion (IsDone states) (below slots pairs slot)
-    children_done = all_map (λ c. IsDone states c ⊎ IsAmong [] c) (IsDone states) (below slots pairs slot) (λ c k. elim k [ inl d ↦ d | inr n ↦ elim n [ ] ]) h.covered.0
+    children_done : AllByRecursion (IsDone states) (slots_below slots pairs slot)
+    children_done = all_map (λ c. IsDone states c ⊎ IsAmong [] c) (IsDone states) (slots_below slots pairs slot) (λ c k. elim k [ inl d ↦ d | inr n ↦ elim n [ ] ]) h.covered.0
 
-    ordered_left : (o : Option State) → slice_get states slot ≡ o → IsOrdered slots pairs (set states slot Done)
+    ordered_left : (o : Option State) → slice_get states slot ≡ o → IsRanked slots pairs (set states slot Done)
     ordered_left (Some Done) e = ordered_kept slots pairs states slot h.ordered e
     ordered_left (Some New) e = ordered_more slots pairs states slot (omega (arith, h.valid.0, h.long)) h.ordered (λ d. let bad : Some New ≡ Some Done = sym e ∙ d in cc) children_done
     ordered_left (Some Open) e = ordered_more slots pairs states slot (omega (arith, h.valid.0, h.long)) h.ordered (λ d. let bad : Some Open ≡ Some Done = sym e ∙ d in cc) children_done
@@ -275,7 +275,7 @@ bound_valid slots pairs (c ∷ cells) h =
     (λ z e. let b = bound_value pairs (cell_slot slots c) z e in (all_at (IsBinding slots) pairs z b.1.0 h b.1.1).below)
     (bound_valid slots pairs cells h)
 
-below_valid : (slots : Slots) (pairs : Pairs) (slot : ℕ) → AllByRecursion (IsBinding slots) pairs → AllByRecursion (λ z. z < slot_count slots) (below slots pairs slot)
+below_valid : (slots : Slots) (pairs : Pairs) (slot : ℕ) → AllByRecursion (IsBinding slots) pairs → AllByRecursion (λ z. z < slot_count slots) (slots_below slots pairs slot)
 below_valid slots pairs slot h = go (value_at pairs slot)
   where
     go : (o : Option (Bor (List Cell))) → AllByRecursion (λ z. z < slot_count slots) (below_value slots pairs o)
@@ -289,7 +289,7 @@ bound_ranks slots pairs rank slot (c ∷ cells) h =
     (λ z e. ranks_below_cell slots rank slot z c h.0 (bound_value pairs (cell_slot slots c) z e).0)
     (bound_ranks slots pairs rank slot cells h.1)
 
-below_ranks : (slots : Slots) (pairs : Pairs) (rank : ℕ → ℕ) (slot : ℕ) → IsTriangularBy slots rank pairs → AllByRecursion (λ z. rank z < rank slot) (below slots pairs slot)
+below_ranks : (slots : Slots) (pairs : Pairs) (rank : ℕ → ℕ) (slot : ℕ) → IsTriangularBy slots rank pairs → AllByRecursion (λ z. rank z < rank slot) (slots_below slots pairs slot)
 below_ranks slots pairs rank slot t = go (value_at pairs slot) refl
   where
     go : (o : Option (Bor (List Cell))) → value_at pairs slot ≡ o → AllByRecursion (λ z. rank z < rank slot) (below_value slots pairs o)
@@ -324,10 +324,10 @@ among_behind : (xs : List ℕ) (tasks : List Task) (z : ℕ) → IsAmong (task_s
 among_behind [] tasks z h = h
 among_behind (x ∷ xs) tasks z h = inr (among_behind xs tasks z h)
 
-pub open_step : (slots : Slots) (pairs : Pairs) (states : List State) (slot : ℕ) (tasks : List Task) → IsSearching slots pairs states (Enter slot ∷ tasks) → slice_get states slot ≡ Some New → IsSearching slots pairs (set states slot Open) (entries slots pairs slot ++ Leave slot ∷ tasks)
+pub open_step : (slots : Slots) (pairs : Pairs) (states : List State) (slot : ℕ) (tasks : List Task) → IsSearching slots pairs states (Enter slot ∷ tasks) → slice_get states slot ≡ Some New → IsSearching slots pairs (set states slot Open) (tasks_of slots pairs slot ++ Leave slot ∷ tasks)
 open_step slots pairs states slot tasks h is_new =
     let less : slot < length states = slice_get_within states slot New is_new in
-    let xs : List ℕ = pile (below slots pairs slot) [] in
+    let xs : List ℕ = pile (slots_below slots pairs slot) [] in
     record {
       bindings = h.bindings;
       long = omega (arith, length-set states slot Open, h.long);
@@ -336,19 +336,19 @@ open_step slots pairs states slot tasks h is_new =
         top = h.ordered.top;
         few = λ z d. h.ordered.few z (done_before_open states slot z less d);
         down = λ z d.
-            all_map (λ c. IsDone states c × (h.ordered.rank c < h.ordered.rank z)) (λ c. IsDone (set states slot Open) c × (h.ordered.rank c < h.ordered.rank z)) (below slots pairs z)
+            all_map (λ c. IsDone states c × (h.ordered.rank c < h.ordered.rank z)) (λ c. IsDone (set states slot Open) c × (h.ordered.rank c < h.ordered.rank z)) (slots_below slots pairs z)
             (λ c k. (done_stays_at_open states slot is_new c k.0, k.1)) (h.ordered.down z (done_before_open states slot z less d));
       };
       covered =
           covered_entries slots pairs (set states slot Open) [] xs (Leave slot ∷ tasks) (
-            all_among (λ c. IsDone (set states slot Open) c ⊎ IsAmong (pile xs []) c) (below slots pairs slot)
-                (λ c a. inr (among_piled xs [] c (among_piled (below slots pairs slot) [] c a))),
+            all_among (λ c. IsDone (set states slot Open) c ⊎ IsAmong (pile xs []) c) (slots_below slots pairs slot)
+                (λ c a. inr (among_piled xs [] c (among_piled (slots_below slots pairs slot) [] c a))),
             covered_still slots pairs states (set states slot Open) (slot ∷ []) (slot ∷ pile xs []) tasks (done_stays_at_open states slot is_new)
                 (λ z a. elim a [ inl e ↦ inr (inl e) | inr n ↦ elim n [ ] ]) h.covered.1,
           );
       come_down = λ rank t.
           let k = h.come_down rank t in
-          come_down_entries rank slot xs tasks (all_pile (λ z. rank z < rank slot) (below slots pairs slot) [] (below_ranks slots pairs rank slot t) tt) k.0 k.1;
+          come_down_entries rank slot xs tasks (all_pile (λ z. rank z < rank slot) (slots_below slots pairs slot) [] (below_ranks slots pairs rank slot t) tt) k.0 k.1;
       opened = λ z e.
           subst (λ l. IsAmong l z) (sym (leaves-entries xs (Leave slot ∷ tasks)))
           (
@@ -359,7 +359,7 @@ open_step slots pairs states slot tasks h is_new =
           );
       valid =
           valid_entries slots xs (Leave slot ∷ tasks)
-          (all_pile (λ z. z < slot_count slots) (below slots pairs slot) [] (below_valid slots pairs slot h.bindings) tt)
+          (all_pile (λ z. z < slot_count slots) (slots_below slots pairs slot) [] (below_valid slots pairs slot h.bindings) tt)
           (h.valid.0, h.valid.1);
     }
 
@@ -393,7 +393,7 @@ pub open_done :
     (slots : Slots) (pairs : Pairs) (states : List State) (slot : ℕ) (tasks new_tasks : List Task)
     → IsSearching slots pairs states (Enter slot ∷ tasks)
     → slice_get states slot ≡ Some New
-    → new_tasks ≡ entries slots pairs slot ++ Leave slot ∷ tasks
+    → new_tasks ≡ tasks_of slots pairs slot ++ Leave slot ∷ tasks
     → length new_tasks < 2 ^ 64
     → HasDone slots pairs states (set states slot Open) (Enter slot ∷ tasks) new_tasks true
 open_done slots pairs states slot tasks new_tasks h is_new e few =
@@ -405,7 +405,7 @@ open_done slots pairs states slot tasks new_tasks h is_new e few =
     record {
       searching = subst (IsSearching slots pairs (set states slot Open)) (sym e) (open_step slots pairs states slot tasks h is_new);
       stay = done_stays_at_open states slot is_new;
-      kept = λ z a. inr (subst (λ l. IsAmong (task_slots l) z) (sym e) (among_behind (pile (below slots pairs slot) []) (Leave slot ∷ tasks) z a));
+      kept = λ z a. inr (subst (λ l. IsAmong (task_slots l) z) (sym e) (among_behind (pile (slots_below slots pairs slot) []) (Leave slot ∷ tasks) z a));
       less = omega (arith, fewer, few);
     }
 
@@ -448,7 +448,7 @@ pub open_told :
     → task ≡ Enter slot
     → IsSearching slots pairs states (task ∷ tasks)
     → slice_get states slot ≡ Some New
-    → new_tasks ≡ entries slots pairs slot ++ Leave slot ∷ tasks
+    → new_tasks ≡ tasks_of slots pairs slot ++ Leave slot ∷ tasks
     → length new_tasks < 2 ^ 64
     → HasDone slots pairs states (set states slot Open) (task ∷ tasks) new_tasks true
 open_told slots pairs states slot task tasks new_tasks e h is_new is few =

@@ -12,7 +12,7 @@ use Rattle.si_flat.specs.declared.Cell.{Cell}
 use Rattle.si_flat.specs.Cells.{Symbol, Variable, query, entry, ind, same_variable, Term, Terms, variable_cell, cells_of, cells_of_all}
 use Rattle.si_trail.specs.Trails.{value_at, HasDistinctSlots}
 use Rattle.si_unify.specs.declared.slots.Slots.{Slots}
-use Rattle.si_unify.specs.Solving.{Pairs, slot_count, slot_of, variable_of, is_frozen, IsInRange, CellIsInRange, Equalizes, IsBinding, RanksBelow, IsTriangularBy, IsTriangular, IsSolution}
+use Rattle.si_unify.specs.Solving.{Pairs, slot_count, slot_of, variable_of, is_frozen, IsInRange, CellIsInRange, Equalizes, IsBinding, RanksBelow, IsTriangularBy, IsAcyclic, IsSolution}
 use Rattle.si_unify.proofs.Reading.{same_term}
 use Rattle.si_unify.proofs.Places.{variable_of-slot_of, in_range-variable}
 use Rattle.si_unify.proofs.Lists.{all_with, all_front, all_back, apart_from}
@@ -283,6 +283,6 @@ module _ (slots : Slots) (rank : ℕ → ℕ) (pairs : Pairs) (bindings : AllByR
   }
 
 -- a triangular list has a solution
-pub solved_of_triangular : (slots : Slots) (pairs : Pairs) → AllByRecursion (IsBinding slots) pairs → HasDistinctSlots pairs → IsTriangular slots pairs → (s : Substitution Symbol Variable) × IsSolution slots pairs s
+pub solved_of_triangular : (slots : Slots) (pairs : Pairs) → AllByRecursion (IsBinding slots) pairs → HasDistinctSlots pairs → IsAcyclic slots pairs → (s : Substitution Symbol Variable) × IsSolution slots pairs s
 solved_of_triangular slots pairs bindings distinct triangular =
     (map_of slots triangular.0 pairs bindings distinct triangular.1, solved_by_map slots triangular.0 pairs bindings distinct triangular.1)

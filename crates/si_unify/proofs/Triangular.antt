@@ -16,9 +16,9 @@ use Rattle.si_unify.specs.declared.states.State.{State}
 use Rattle.si_unify.specs.declared.states.State.TheVariants.{New, Open, Done}
 use Rattle.si_unify.specs.declared.circles.Task.{Task}
 use Rattle.si_unify.specs.declared.circles.Task.TheVariants.{Enter}
-use Rattle.si_unify.specs.Solving.{Pairs, slot_count, slot_of, IsTriangularBy, IsTriangular, RanksBelow, IsBinding}
+use Rattle.si_unify.specs.Solving.{Pairs, slot_count, slot_of, IsTriangularBy, IsAcyclic, RanksBelow, IsBinding}
 use Rattle.si_unify.specs.Spots.{cell_slot}
-use Rattle.si_unify.specs.Circles.{if_value, if_bound, with_slot, bound_slots, below_value, enter_each, task_slot, task_slots, IsDone, AreCovered, RanksUnder, ComeDown, IsOrdered, IsSearching, HasSearched, AreEntries, IsTold}
+use Rattle.si_unify.specs.Circles.{if_value, if_bound, with_slot, bound_slots, below_value, enter_each, task_slot, task_slots, IsDone, AreCovered, RanksUnder, ComeDown, IsRanked, IsSearching, HasSearched, AreEntries, IsTold}
 use Rattle.si_unify.proofs.Lists.{all_map, all_with, all_append, all_take, all_drop}
 use Rattle.si_unify.proofs.StateLaws.{new_at}
 use Rattle.si_unify.proofs.Searching.{ranks_below_cell}
@@ -166,7 +166,7 @@ tells_done (Some New) = inr refl
 tells_done (Some Open) = inr refl
 tells_done (Some Done) = inl refl
 
-module _ (slots : Slots) (pairs : Pairs) (states : List State) (ordered : IsOrdered slots pairs states) (rank : ℕ → ℕ) where
+module _ (slots : Slots) (pairs : Pairs) (states : List State) (ordered : IsRanked slots pairs states) (rank : ℕ → ℕ) where
   -- an unbound slot comes first, then those that are done, then the others
   abbrev rank_by : Option (Bor (List Cell)) → Bool → ℕ → ℕ
   rank_by None b z = 0
@@ -233,7 +233,7 @@ module _ (slots : Slots) (pairs : Pairs) (states : List State) (ordered : IsOrde
             old
       ]
 
-  pub triangular_behind : (mark : ℕ) → HasDistinctSlots pairs → IsTriangularBy slots rank (take mark pairs) → AllByRecursion (HasSlot (IsDone states)) (drop mark pairs) → IsTriangular slots pairs
+  pub triangular_behind : (mark : ℕ) → HasDistinctSlots pairs → IsTriangularBy slots rank (take mark pairs) → AllByRecursion (HasSlot (IsDone states)) (drop mark pairs) → IsAcyclic slots pairs
   triangular_behind mark distinct old done =
       let told : AllByRecursion (IsFound pairs) pairs = all_told pairs distinct in (
         all_rank,
@@ -256,7 +256,7 @@ module _ (slots : Slots) (pairs : Pairs) (states : List State) (ordered : IsOrde
 pub search_tells :
     (slots : Slots) (pairs : Pairs) (states new : List State) (tasks : List Task) (mark : ℕ) (b : Bool)
     → AreEntries pairs mark (length pairs) tasks
-    → IsTriangular slots (take mark pairs)
+    → IsAcyclic slots (take mark pairs)
     → HasSearched slots pairs states new tasks b
     → IsTold slots pairs b
 search_tells slots pairs states new tasks mark false e old h = λ t. h t.0 t.1

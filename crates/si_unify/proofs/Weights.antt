@@ -7,7 +7,7 @@ use Rattle.si_flat.specs.declared.Cell.{Cell}
 use Rattle.si_flat.specs.declared.Cell.TheVariants as cell
 use Rattle.si_flat.specs.Cells.{Variable, query, entry, ind, Term, Terms, variable_cell, cells_of, cells_of_all}
 use Rattle.si_unify.specs.declared.slots.Slots.{Slots}
-use Rattle.si_unify.specs.Solving.{Pairs, slot_of, variable_of, IsInRange, CellIsInRange, AreInRange, Equalizes, IsSolvedBy, IsBinding, RanksBelow, IsTriangular}
+use Rattle.si_unify.specs.Solving.{Pairs, slot_of, variable_of, IsInRange, CellIsInRange, AreInRange, Equalizes, IsSolvedBy, IsBinding, RanksBelow, IsAcyclic}
 use Rattle.si_unify.specs.Spots.{IsBelow, ComesDown, IsChained}
 use Rattle.si_unify.proofs.Places.{variable_of-slot_of, in_range-variable}
 use Rattle.si_unify.proofs.Meeting.{slot_of-cell}
@@ -95,7 +95,7 @@ module _ (slots : Slots) (pairs : Pairs) (chained : IsChained slots pairs) (f : 
       )
 
 -- a list of bindings that has a solution is triangular
-pub triangular_of_solved : (slots : Slots) (pairs : Pairs) (f : Variable → Term) → AllByRecursion (IsBinding slots) pairs → IsChained slots pairs → IsSolvedBy slots pairs f → IsTriangular slots pairs
+pub triangular_of_solved : (slots : Slots) (pairs : Pairs) (f : Variable → Term) → AllByRecursion (IsBinding slots) pairs → IsChained slots pairs → IsSolvedBy slots pairs f → IsAcyclic slots pairs
 triangular_of_solved slots pairs f bindings chained solved = (
   weight_of slots pairs chained f,
   all_with (λ pair. IsBinding slots pair × ComesDown slots chained.rank pair.0 pair.1.now) (λ pair. Equalizes f (variable_cell (variable_of slots pair.0) ∷ []) pair.1.now)

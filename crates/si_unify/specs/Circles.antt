@@ -11,7 +11,7 @@ use Rattle.si_unify.specs.declared.states.State.{State}
 use Rattle.si_unify.specs.declared.states.State.TheVariants.{New, Open, Done}
 use Rattle.si_unify.specs.declared.circles.Task.{Task}
 use Rattle.si_unify.specs.declared.circles.Task.TheVariants.{Enter, Leave}
-use Rattle.si_unify.specs.Solving.{Pairs, slot_count, IsTriangularBy, IsTriangular, IsBinding}
+use Rattle.si_unify.specs.Solving.{Pairs, slot_count, IsTriangularBy, IsAcyclic, IsBinding}
 use Rattle.si_unify.specs.Spots.{cell_slot}
 
 -- the slot, if it is bound
@@ -47,12 +47,12 @@ abbrev pub below_value : Slots → Pairs → Option (Bor (List Cell)) → List �
 below_value slots pairs None = []
 below_value slots pairs (Some v) = bound_slots slots pairs v.now
 
-abbrev pub below : Slots → Pairs → ℕ → List ℕ
-below slots pairs slot = below_value slots pairs (value_at pairs slot)
+abbrev pub slots_below : Slots → Pairs → ℕ → List ℕ
+slots_below slots pairs slot = below_value slots pairs (value_at pairs slot)
 
 -- the tasks that come up for a slot, the next one first
-abbrev pub entries : Slots → Pairs → ℕ → List Task
-entries slots pairs slot = enter_each (pile (below slots pairs slot) [])
+abbrev pub tasks_of : Slots → Pairs → ℕ → List Task
+tasks_of slots pairs slot = enter_each (pile (slots_below slots pairs slot) [])
 
 -- the tasks that come up for these cells stand before the others
 abbrev pub AreEntered : Slots → Pairs → List Cell → List Task → List Task → Type 0
@@ -73,7 +73,7 @@ IsDone states slot = slice_get states slot ≡ Some Done
 -- among the tasks before it.
 abbrev pub IsCovered : Slots → Pairs → List State → List ℕ → Task → Type 0
 IsCovered slots pairs states before (Enter slot) = Unit {0}
-IsCovered slots pairs states before (Leave slot) = AllByRecursion (λ c. IsDone states c ⊎ IsAmong before c) (below slots pairs slot)
+IsCovered slots pairs states before (Leave slot) = AllByRecursion (λ c. IsDone states c ⊎ IsAmong before c) (slots_below slots pairs slot)
 
 abbrev pub AreCovered : Slots → Pairs → List State → List ℕ → List Task → Type 0
 AreCovered slots pairs states before [] = Unit {0}
@@ -89,11 +89,11 @@ ComeDown rank [] = Unit {0}
 ComeDown rank (t ∷ ts) = AllByRecursion (RanksUnder rank (task_slot t)) ts × ComeDown rank ts
 
 -- what is known of the slots that are done
-pub record IsOrdered (slots : Slots) (pairs : Pairs) (states : List State) : Type 0 where
+pub record IsRanked (slots : Slots) (pairs : Pairs) (states : List State) : Type 0 where
   pub rank : ℕ → ℕ
   pub top : ℕ
   pub few : (slot : ℕ) → IsDone states slot → rank slot < top
-  pub down : (slot : ℕ) → IsDone states slot → AllByRecursion (λ c. IsDone states c × (rank c < rank slot)) (below slots pairs slot)
+  pub down : (slot : ℕ) → IsDone states slot → AllByRecursion (λ c. IsDone states c × (rank c < rank slot)) (slots_below slots pairs slot)
 
 -- the slots that are being searched
 abbrev pub leave_slot : Task → List ℕ → List ℕ
@@ -108,7 +108,7 @@ leave_slots (t ∷ ts) = leave_slot t (leave_slots ts)
 pub record IsSearching (slots : Slots) (pairs : Pairs) (states : List State) (tasks : List Task) : Type 0 where
   pub bindings : AllByRecursion (IsBinding slots) pairs
   pub long : slot_count slots ≤ length states
-  pub ordered : IsOrdered slots pairs states
+  pub ordered : IsRanked slots pairs states
   pub covered : AreCovered slots pairs states [] tasks
   pub come_down : (rank : ℕ → ℕ) → IsTriangularBy slots rank pairs → ComeDown rank tasks
   pub opened : (slot : ℕ) → slice_get states slot ≡ Some Open → IsAmong (leave_slots tasks) slot
@@ -153,5 +153,5 @@ pub record AreEntries (pairs : Pairs) (mark n : ℕ) (tasks : List Task) : Type 
 
 -- whether the list is triangular; its slots are distinct
 abbrev pub IsTold : Slots → Pairs → Bool → Type 0
-IsTold slots pairs true = IsTriangular slots pairs × HasDistinctSlots pairs
-IsTold slots pairs false = IsTriangular slots pairs → ⊥
+IsTold slots pairs true = IsAcyclic slots pairs × HasDistinctSlots pairs
+IsTold slots pairs false = IsAcyclic slots pairs → ⊥

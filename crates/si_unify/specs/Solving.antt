@@ -72,8 +72,8 @@ RanksBelow slots rank slot (cell.Ind n) = rank (slot_of slots (ind n)) < rank sl
 abbrev pub IsTriangularBy : Slots → (ℕ → ℕ) → Pairs → Type 0
 IsTriangularBy slots rank = AllByRecursion (λ pair. AllByRecursion (RanksBelow slots rank pair.0) pair.1.now)
 
-abbrev pub IsTriangular : Slots → Pairs → Type 0
-IsTriangular slots pairs = (rank : ℕ → ℕ) × IsTriangularBy slots rank pairs
+abbrev pub IsAcyclic : Slots → Pairs → Type 0
+IsAcyclic slots pairs = (rank : ℕ → ℕ) × IsTriangularBy slots rank pairs
 
 -- one binding: the slot is one of an unfrozen variable, and the value is whole and in range
 pub record IsBinding (slots : Slots) (pair : ℕ × Bor (List Cell)) : Type 0 where

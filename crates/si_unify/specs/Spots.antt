@@ -11,7 +11,7 @@ use Rattle.si_unify.specs.declared.slots.Slots.{Slots}
 use Rattle.si_unify.specs.declared.spots.Spot.{Spot}
 use Rattle.si_unify.specs.declared.spots.SpotPair.{SpotPair}
 use Rattle.si_unify.specs.declared.spots.Question.{Question}
-use Rattle.si_unify.specs.Solving.{Pairs, slot_count, slot_of, Equalizes, IsSolvedBy, IsTriangular, IsBinding, AreInRange}
+use Rattle.si_unify.specs.Solving.{Pairs, slot_count, slot_of, Equalizes, IsSolvedBy, IsAcyclic, IsBinding, AreInRange}
 
 abbrev pub cells_now : Option (Bor (List Cell)) → List Cell
 cells_now None = []
@@ -205,7 +205,7 @@ HasClosed q old new keys false = (f : Variable → Term) → IsSolvedBy q.slots 
 abbrev pub HasAnswered : Question → Pairs → Pairs → Bool → Type 0
 HasAnswered q old new true =
     AllByRecursion (IsBinding q.slots) new
-    × IsTriangular q.slots new
+    × IsAcyclic q.slots new
     × ((f : Variable → Term) → IsSolvedBy q.slots new f → Equalizes f q.left.now q.right.now)
     × ((f : Variable → Term) → IsSolvedBy q.slots old f → Equalizes f q.left.now q.right.now → IsSolvedBy q.slots new f)
     × HasDistinctSlots new

@@ -1,8 +1,8 @@
 // The search for a circle through bound variables.
 ghost use Rattle.std.specs.Prelude.{◌≡◌, ◌≤◌, length, take, reverse, ◌++◌, ◌∷◌, [], IfOk, OnOk};
 ghost use Rattle.std.specs.List.{AllByRecursion};
-ghost use Rattle.si_unify.specs.Circles.{if_bound, entries, AreEntered, AreEntries, IsSearching, HasSearched, HasDone, IsTold};
-ghost use Rattle.si_unify.specs.Solving.{IsTriangular, IsBinding};
+ghost use Rattle.si_unify.specs.Circles.{if_bound, tasks_of, AreEntered, AreEntries, IsSearching, HasSearched, HasDone, IsTold};
+ghost use Rattle.si_unify.specs.Solving.{IsAcyclic, IsBinding};
 ghost use Rattle.si_unify.specs.States.{AreNew};
 ghost use Rattle.si_unify.specs.Spots.{cell_slot};
 
@@ -58,7 +58,7 @@ fn enter_all<'a>(
     tasks: &mut Vec<Task>,
     slot: usize,
 ) -> Result<(), AllocError>
-    ensures { OnOk result (reverse tasks.new.items ≡ entries slots.now trail.now.pairs slot ++
+    ensures { OnOk result (reverse tasks.new.items ≡ tasks_of slots.now trail.now.pairs slot ++
         reverse tasks.old.items) }
 {
     match trail.get(slot) {
@@ -146,7 +146,7 @@ pub(crate) fn is_triangular<'a>(
     requires none { tasks.old.items ≡ [] }
     requires bindings { AllByRecursion (IsBinding slots.now) trail.now.pairs }
     requires within { mark ≤ length trail.now.pairs }
-    requires before { IsTriangular slots.now (take mark trail.now.pairs) }
+    requires before { IsAcyclic slots.now (take mark trail.now.pairs) }
     ensures { IfOk result (IsTold slots.now trail.now.pairs) }
 {
     states.make_room(slots.count())?;

@@ -3,7 +3,7 @@ ghost use Rattle.std.specs.Prelude.{◌≡◌, ◌≤◌, true, false, Ok, IfOk,
 ghost use Rattle.std.specs.List.{AllByRecursion};
 ghost use Rattle.si_flat.specs.Cells.{IsWhole};
 ghost use Rattle.si_unify.specs.Scratch.{AreClear};
-ghost use Rattle.si_unify.specs.Solving.{slot_count, AreInRange, IsTriangular, IsBinding, HasSolved};
+ghost use Rattle.si_unify.specs.Solving.{slot_count, AreInRange, IsAcyclic, IsBinding, HasSolved};
 ghost use Rattle.si_unify.specs.Spots.{Grows, HasAnswered};
 
 use crate::arguments::close;
@@ -29,7 +29,7 @@ fn attempt<'a>(
     requires right_range { AreInRange question.now.slots question.now.right.now }
     requires room { slot_count question.now.slots ≤ trail.old.slots }
     requires bindings { AllByRecursion (IsBinding question.now.slots) trail.old.pairs }
-    requires triangular { IsTriangular question.now.slots trail.old.pairs }
+    requires triangular { IsAcyclic question.now.slots trail.old.pairs }
     ensures answered { IfOk result (HasAnswered question.now trail.old.pairs trail.new.pairs) }
     ensures grows { Grows trail.old.pairs trail.new.pairs }
     ensures slots { trail.new.slots ≡ trail.old.slots }
@@ -73,14 +73,14 @@ pub fn solve<'a>(
     requires right_range { AreInRange slots.now t.now }
     requires room { slot_count slots.now ≤ trail.old.slots }
     requires bindings { AllByRecursion (IsBinding slots.now) trail.old.pairs }
-    requires triangular { IsTriangular slots.now trail.old.pairs }
+    requires triangular { IsAcyclic slots.now trail.old.pairs }
     ensures solved { IfOk result (HasSolved slots.now trail.old.pairs trail.new.pairs s.now t.now) }
     ensures grows { result ≡ Ok true → Grows trail.old.pairs trail.new.pairs }
     ensures no { result ≡ Ok false → trail.new.pairs ≡ trail.old.pairs }
     ensures err { OnErr result (trail.new.pairs ≡ trail.old.pairs) }
     ensures slots { trail.new.slots ≡ trail.old.slots }
     ensures bindings { AllByRecursion (IsBinding slots.now) trail.new.pairs }
-    ensures triangular { IsTriangular slots.now trail.new.pairs }
+    ensures triangular { IsAcyclic slots.now trail.new.pairs }
 {
     solve_with(&mut Scratch::new(alloc), trail, slots, s, t)
 }
@@ -99,14 +99,14 @@ pub fn solve_with<'a>(
     requires right_range { AreInRange slots.now t.now }
     requires room { slot_count slots.now ≤ trail.old.slots }
     requires bindings { AllByRecursion (IsBinding slots.now) trail.old.pairs }
-    requires triangular { IsTriangular slots.now trail.old.pairs }
+    requires triangular { IsAcyclic slots.now trail.old.pairs }
     ensures solved { IfOk result (HasSolved slots.now trail.old.pairs trail.new.pairs s.now t.now) }
     ensures grows { result ≡ Ok true → Grows trail.old.pairs trail.new.pairs }
     ensures no { result ≡ Ok false → trail.new.pairs ≡ trail.old.pairs }
     ensures err { OnErr result (trail.new.pairs ≡ trail.old.pairs) }
     ensures slots { trail.new.slots ≡ trail.old.slots }
     ensures bindings { AllByRecursion (IsBinding slots.now) trail.new.pairs }
-    ensures triangular { IsTriangular slots.now trail.new.pairs }
+    ensures triangular { IsAcyclic slots.now trail.new.pairs }
 {
     let mark = trail.mark();
     let question = Question {

@@ -1,6 +1,6 @@
 use Rattle.std.proofs.Common.{◌≡◌, []}
 use Rattle.si_term.specs.Meaning.{entry_of}
-use Rattle.si_flat.specs.declared.walk.Owner.TheVariants.{Entry}
+use Rattle.si_flat.specs.declared.Owner.TheVariants.{Entry}
 use Rattle.si_flat.specs.Flattening.{met_extra}
 use Rattle.si_flat.proofs.FlattenLaws.{flat_known, all_numbered_of}
 use Rattle.si_flat.proofs.flatten.flatten_entry.Goals as goal

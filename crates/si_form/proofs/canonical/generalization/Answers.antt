@@ -1,6 +1,6 @@
 use Rattle.std.proofs.Common.{subst}
 use Rattle.std.specs.Prelude.{IfOk}
-use Rattle.si_form.specs.declared.solution.Owner.TheVariants.{Entry}
+use Rattle.si_flat.specs.declared.Owner.TheVariants.{Entry}
 use Rattle.si_form.specs.Matching.{MatchAnswers}
 use Rattle.si_form.proofs.AnswerLaws.{generalization_answers}
 use Rattle.si_form.proofs.canonical.generalization.Goals as goal

@@ -1,6 +1,6 @@
 use Rattle.std.proofs.Common.{true, subst}
 use Rattle.std.specs.Prelude.{IfOk}
-use Rattle.si_form.specs.declared.solution.Owner.TheVariants.{Query, Entry}
+use Rattle.si_flat.specs.declared.Owner.TheVariants.{Query, Entry}
 use Rattle.si_form.specs.Matching.{MatchAnswers, IsMatched}
 use Rattle.si_form.proofs.AnswerLaws.{variant_answers}
 use Rattle.si_form.proofs.canonical.variant.Goals as goal

@@ -1,7 +1,7 @@
 use Rattle.std.proofs.Common.{refl}
 use Rattle.si_defs.specs.Terms.{var}
 use Rattle.si_flat.specs.Cells.{query, entry}
-use Rattle.si_form.specs.declared.solution.Owner.TheVariants.{Query, Entry}
+use Rattle.si_flat.specs.declared.Owner.TheVariants.{Query, Entry}
 use Rattle.si_form.proofs.TestTerms.{a, g, f, numbered_by, query_stands, below_stands, above_stands, renamed_stands}
 use Rattle.si_form.proofs.tests.lists_of_each_kind.Goals as goal
 

@@ -1,5 +1,5 @@
 use Rattle.std.proofs.Common.{◌≡◌, [], ◌∷◌, length, sym, ◌∙◌, ap, arith, length-append}
-use Rattle.si_index.specs.Halves.{halves, total}
+use Rattle.si_index.specs.Halves.{halves, sum_of}
 use Rattle.si_index.proofs.SumLaws.{where_summed}
 use Rattle.si_index.proofs.HalfLaws.{sum_halves, fewer_halves, pushed_even, pushed_odd, half_of_odd}
 use Rattle.std.specs.Box.{with_value}
@@ -12,7 +12,7 @@ grow-push-requires t c =
     let h = where_summed _ c.requires.summed _ c.in-Sums.is in
     let sums : c.deref_mut.result.now ≡ halves c.args.counts.now = c.deref_mut.ensures.value ∙ h.1 in (
       omega (arith, c.decreases, ap length sums, fewer_halves c.args.counts.now h.0),
-      omega (arith, c.requires.small, ap total sums, sum_halves c.args.counts.now),
+      omega (arith, c.requires.small, ap sum_of sums, sum_halves c.args.counts.now),
     )
 
 pub grow-raise-requires-clause-inside : goal.grow-raise-requires-clause-inside
@@ -25,7 +25,7 @@ pub grow-raise-requires-clause-small : goal.grow-raise-requires-clause-small
 grow-raise-requires-clause-small t c =
     let h = where_summed _ c.requires.summed _ c.in-Sums.is in
     let sums : c.deref_mut-in-Sums-2.result.now ≡ halves c.args.counts.now = c.deref_mut-in-Sums-2.ensures.value ∙ h.1 in
-    omega (arith, c.requires.small, ap total sums, sum_halves c.args.counts.now)
+    omega (arith, c.requires.small, ap sum_of sums, sum_halves c.args.counts.now)
 
 pub grow-returns-in-Sums-clause-ok : goal.grow-returns-in-Sums-clause-ok
 grow-returns-in-Sums-clause-ok t c =

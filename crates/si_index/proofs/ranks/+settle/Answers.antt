@@ -1,5 +1,5 @@
 use Rattle.std.proofs.Common.{◌≡◌, length, ◌∙◌, ap, arith}
-use Rattle.si_index.specs.Halves.{halves, total}
+use Rattle.si_index.specs.Halves.{halves, sum_of}
 use Rattle.si_index.proofs.SumLaws.{leaves_room}
 use Rattle.si_index.proofs.HalfLaws.{sum_halves, fewer_halves}
 use Rattle.si_index.proofs.ranks.+settle.Goals as goal
@@ -10,6 +10,6 @@ Ranks::sum_up-settle-requires t c =
       omega (arith, c.decreases, ap length sums, fewer_halves c.args.below.now c.requires.some),
       (
         leaves_room c.self.inside.counts.items c.as_slice.result.now c.self.inside.above c.self.invariant (omega (arith, ap length sums, c.requires.room, ap length c.self.view_is)),
-        omega (arith, ap total sums, sum_halves c.args.below.now, c.requires.small),
+        omega (arith, ap sum_of sums, sum_halves c.args.below.now, c.requires.small),
       ),
     )

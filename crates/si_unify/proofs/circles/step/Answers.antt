@@ -1,5 +1,5 @@
 use Rattle.std.proofs.Common.{[], ◌∷◌, ◌++◌, reverse, sym, ◌∙◌, ap, subst, arith}
-use Rattle.si_unify.specs.Circles.{entries, HasStepped}
+use Rattle.si_unify.specs.Circles.{tasks_of, HasStepped}
 use Rattle.std.proofs.lemmas.List.{reverse-append, length-reverse}
 use Rattle.si_unify.specs.declared.circles.Task.TheVariants.{Leave}
 use Rattle.si_unify.proofs.Searching.{left_told, done_told, circle_told, open_told}
@@ -27,7 +27,7 @@ returns-in_ok-enter_all-in-New c =
     open_told _ _ _ _ _ _ _ c.in-Enter.is c.requires c.in-New.ensures
     (
     c.in_ok-enter_all-in-New.ensures
-    ∙ ap (λ l. entries c.args.slots.now c.args.trail.now.pairs c.in-Enter.slot ++ l)
+    ∙ ap (λ l. tasks_of c.args.slots.now c.args.trail.now.pairs c.in-Enter.slot ++ l)
     (ap reverse c.in_ok-push-in-New.ensures.items ∙ reverse-append c.args.tasks.now.items (Leave c.in-Enter.slot ∷ []))
     )
     (omega (arith, length-reverse c.enter_all.new.tasks.items, few))

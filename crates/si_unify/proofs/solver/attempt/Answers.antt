@@ -1,5 +1,5 @@
 use Rattle.std.proofs.Common.{◌+◌, take, sym, ap, ◌∙◌, subst, arith}
-use Rattle.si_unify.specs.Solving.{IsTriangular}
+use Rattle.si_unify.specs.Solving.{IsAcyclic}
 use Rattle.si_unify.specs.Spots.{HasMet, HasClosed, IsLegal}
 use Rattle.si_unify.proofs.Comparing.{if_ok, grows_on}
 use Rattle.si_unify.proofs.Answering.{spot, legal_at_first, left_stands, right_stands, front_of, front_within, answered, answered_unclosed, answered_unmet}
@@ -79,7 +79,7 @@ is_triangular-requires-clause-before c =
     c.in_ok-meet.ensures.met
     ).0.grows
     c.in_ok-close.ensures.grows in
-    subst (IsTriangular c.args.question.now.slots)
+    subst (IsAcyclic c.args.question.now.slots)
     (sym (ap (λ n. take n c.close.new.trail.pairs) c.mark-mark.ensures.number ∙ front_of c.args.trail.now.pairs c.close.new.trail.pairs grows))
     c.requires.triangular
 

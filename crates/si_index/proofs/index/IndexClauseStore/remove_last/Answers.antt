@@ -1,13 +1,13 @@
 use Rattle.std.proofs.Common.{◌≡◌, ◌-◌, [], ◌∷◌, ◌++◌, length, subst}
 use Rattle.si_term.specs.Meaning.{clause_of}
-use Rattle.si_index.specs.Keyed.{keys}
+use Rattle.si_index.specs.Keyed.{item_keys}
 use Rattle.si_index.specs.Kept.{Kept, clauses_of}
 use Rattle.si_index.proofs.KnownLaws.{uses_few, as_many_entries, kept_less, last_taken}
 use Rattle.si_index.proofs.NamedLaws.{get_among}
 use Rattle.si_index.proofs.index.IndexClauseStore.remove_last.Goals as goal
 
 pub remove-clause-requires : goal.remove-clause-requires
-remove-clause-requires c = get_among (keys c.self.inside.clauses) (length c.self.inside.clauses - 1) c.in_ok-key.key c.in_ok-key.ensures.some
+remove-clause-requires c = get_among (item_keys c.self.inside.clauses) (length c.self.inside.clauses - 1) c.in_ok-key.key c.in_ok-key.ensures.some
 
 pub leave-requires : goal.leave-requires
 leave-requires c = record {

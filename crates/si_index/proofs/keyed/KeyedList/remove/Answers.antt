@@ -1,6 +1,6 @@
 use Rattle.std.proofs.Common.{slice_index_or, slice_set, sym, ◌∙◌, ap, subst, arith}
 use Rattle.si_index.specs.Keyed.{HasKey}
-use Rattle.si_index.specs.KeyedSlots.{kept, StandsAt, IsIndexed}
+use Rattle.si_index.specs.KeyedSlots.{kept, HoldsAt, IsIndexed}
 use Rattle.si_index.proofs.SlotLaws.{stands_inside, flag_there}
 use Rattle.si_index.proofs.IndexedLaws.{is_known, place_within, slot_is, indexed_without, took}
 use Rattle.si_index.proofs.keyed.KeyedList.remove.Goals as goal
@@ -35,7 +35,7 @@ pub returns : goal.returns
 returns g c =
     let slots = c.self.inside.slots.items in
     let found = c.self.invariant.linked.back c.args.key _ c.remove-place.ensures.value in
-    let at : StandsAt slots c.remove-place.result c.unwrap-taken.result =
+    let at : HoldsAt slots c.remove-place.result c.unwrap-taken.result =
     slot_is slots _ _ _ (stands_inside slots _ found.0 found.1) c.index_mut.ensures.value (sym c.take.ensures.value ∙ c.unwrap-taken.ensures) in
     took slots _ c.args.key _ c.unwrap-taken.result _ _ c.self.invariant.linked c.remove-place.ensures.value at c.self.view_is
     (c.close_if_sparse.ensures.same ∙ ap (λ s. kept (slice_set slots c.remove-place.result s)) c.take.ensures.after)

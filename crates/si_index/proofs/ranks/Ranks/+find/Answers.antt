@@ -1,5 +1,5 @@
 use Rattle.std.proofs.Common.{◌≡◌, ◌<◌, ◌≤◌, ◌+◌, ◌-◌, ◌*◌, length, take, slice_index_or, sym, ◌∙◌, ap, subst, arith}
-use Rattle.si_index.specs.Halves.{halves, total}
+use Rattle.si_index.specs.Halves.{halves, sum_of}
 use Rattle.si_index.proofs.SumLaws.{where_summed}
 use Rattle.si_index.proofs.HalfLaws.{sum_halves, fewer_halves, found_above, at_any, first_before, second_before, second_there}
 use Rattle.si_index.proofs.ranks.Ranks.+find.Goals as goal
@@ -11,8 +11,8 @@ find-pair-requires t c =
     let two : 2 ≤ length c.args.self.now = subst (λ l. 2 ≤ length l) c.self.view_is h.0 in (
       omega (arith, c.decreases, ap length sums, fewer_halves c.args.self.now two),
       (
-        omega (arith, c.requires.inside, ap total sums, sum_halves c.args.self.now),
-        omega (arith, c.requires.small, ap total sums, sum_halves c.args.self.now),
+        omega (arith, c.requires.inside, ap sum_of sums, sum_halves c.args.self.now),
+        omega (arith, c.requires.small, ap sum_of sums, sum_halves c.args.self.now),
       ),
     )
 
@@ -50,7 +50,7 @@ returns-else-rest-first-clause-before t c =
     ∙ at_any c.args.self.now (2 * c.find-pair.result.0) c.index-first.result.now inside in
     let rest : slice_index_or c.args.self.now (2 * c.find-pair.result.0) 0 ≤ c.find-pair.result.1 = omega (arith, first, c.if-rest-first.false) in
     subst
-    (λ n. total (take (2 * c.find-pair.result.0 + 1) c.args.self.now) + (c.find-pair.result.1 - n) ≡ c.args.number)
+    (λ n. sum_of (take (2 * c.find-pair.result.0 + 1) c.args.self.now) + (c.find-pair.result.1 - n) ≡ c.args.number)
     (sym first)
     (second_before c.args.self.now c.find-pair.result.0 c.find-pair.result.1 c.args.number found.2 found.0 rest)
 

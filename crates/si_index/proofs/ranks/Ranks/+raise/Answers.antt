@@ -1,6 +1,6 @@
 use Rattle.std.proofs.Common.{◌≡◌, ◌<◌, ◌≤◌, ◌+◌, length, slice_set, sym, ◌∙◌, ap, subst, arith}
 use Rattle.std.proofs.lemmas.List.{length-set}
-use Rattle.si_index.specs.Halves.{halves, total}
+use Rattle.si_index.specs.Halves.{halves, sum_of}
 use Rattle.si_index.specs.Ranks.{IsSummed}
 use Rattle.si_index.specs.contracts.ranks.Ranks.{the_invariant}
 use Rattle.si_index.proofs.SumLaws.{where_summed, where_single}
@@ -16,7 +16,7 @@ raise-requires t c =
       omega (arith, c.decreases, ap length sums, fewer_halves c.args.self.now two),
       (
         omega (arith, ap length sums, half_inside c.args.self.now c.args.place c.requires.inside),
-        omega (arith, c.requires.small, ap total sums, sum_halves c.args.self.now),
+        omega (arith, c.requires.small, ap sum_of sums, sum_halves c.args.self.now),
       ),
     )
 
@@ -43,4 +43,4 @@ invariant_of-self t c =
 
 pub overflow_add-index_mut : goal.overflow_add-index_mut
 overflow_add-index_mut t c =
-    omega (arith, c.index_mut.ensures.value, c.requires.small, ap total c.self.view_is, at_most_total c.self.inside.counts.items c.args.place c.index_mut.result.now (subst (λ l. c.args.place < length l) (sym c.self.view_is) c.requires.inside))
+    omega (arith, c.index_mut.ensures.value, c.requires.small, ap sum_of c.self.view_is, at_most_total c.self.inside.counts.items c.args.place c.index_mut.result.now (subst (λ l. c.args.place < length l) (sym c.self.view_is) c.requires.inside))

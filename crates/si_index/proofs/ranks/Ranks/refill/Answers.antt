@@ -1,5 +1,5 @@
 use Rattle.std.proofs.Common.{length, ◌∙◌, ap, arith}
-use Rattle.si_index.specs.Halves.{total}
+use Rattle.si_index.specs.Halves.{sum_of}
 use Rattle.si_index.proofs.HalfLaws.{total_ones}
 use Rattle.si_index.proofs.PutLaws.{ones_length}
 use Rattle.si_index.proofs.SumLaws.{leaves_room}
@@ -11,4 +11,4 @@ settle-requires-clause-room c =
     (omega (arith, ones_length _ _ (c.as_slice.ensures.value ∙ c.put_ones.ensures), c.requires, ap length c.self.view_is))
 
 pub settle-requires-clause-small : goal.settle-requires-clause-small
-settle-requires-clause-small c = omega (arith, ap total (c.as_slice.ensures.value ∙ c.put_ones.ensures), total_ones c.args.places, c.ranges.places.fits)
+settle-requires-clause-small c = omega (arith, ap sum_of (c.as_slice.ensures.value ∙ c.put_ones.ensures), total_ones c.args.places, c.ranges.places.fits)

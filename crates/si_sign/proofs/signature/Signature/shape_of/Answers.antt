@@ -1,7 +1,7 @@
 use Rattle.std.proofs.Common.{◌≡◌, sym, ap, subst, ◌∙◌}
 use Rattle.si_defs.specs.Symbols.{Symbol}
 use Rattle.si_defs.specs.Substitutions.{IsAmong}
-use Rattle.si_state.specs.Signatures.{IsSignature, symbols, keys}
+use Rattle.si_state.specs.Signatures.{IsSignature, known_symbols, keys}
 use Rattle.si_sign.specs.Uses.{used_at, seen}
 use Rattle.si_sign.proofs.UsesOf.{among_symbols}
 use Rattle.si_sign.proofs.KeptLaws.{is_signature, no_key, in_seen, some_is}
@@ -29,8 +29,8 @@ returns-clause-found c =
       side = (sym c.shape.ensures i).side;
       arity = (sym c.shape.ensures i).arity;
     } in
-    subst (λ k. IsAmong (symbols k) s) c.self.view_is
-    (subst (IsAmong (symbols (seen u))) is (among_symbols (seen u) (used_at c.in-Some.key w) (in_seen u c.self.invariant c.in-Some.key w c.index-counted.ensures)))
+    subst (λ k. IsAmong (known_symbols k) s) c.self.view_is
+    (subst (IsAmong (known_symbols (seen u))) is (among_symbols (seen u) (used_at c.in-Some.key w) (in_seen u c.self.invariant c.in-Some.key w c.index-counted.ensures)))
 
 pub returns-clause-signature : goal.returns-clause-signature
 returns-clause-signature c = subst IsSignature c.self.view_is (is_signature c.self.inside.uses c.self.invariant)

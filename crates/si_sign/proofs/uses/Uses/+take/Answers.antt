@@ -3,7 +3,7 @@ use Rattle.si_defs.specs.Terms.{row, size, symbols, symbols_of_all}
 use Rattle.si_term.specs.Terms.{symbol_of, term_of}
 use Rattle.si_term.proofs.Rows.{app-term, size-read}
 use Rattle.si_sign.specs.Uses.{seen}
-use Rattle.si_sign.specs.Taking.{Takes}
+use Rattle.si_sign.specs.Taking.{TakesUses}
 use Rattle.si_sign.proofs.SoFar.{gather, gather_next, gather_all, gather_split, in_term, in_terms, takes_first, takes_on, total_so_far, leaves_room, refused, enough, put_back}
 use Rattle.si_sign.proofs.uses.Uses.+take.Goals as goal
 
@@ -35,7 +35,7 @@ take_term-take_terms-requires t c =
 
 pub take_term-returns-in-Var-clause-ok : goal.take_term-returns-in-Var-clause-ok
 take_term-returns-in-Var-clause-ok t c =
-    subst (λ t. Takes (symbols (term_of t)) (seen c.args.self.now) (seen c.args.self.now)) (sym c.in-Var.is) (takes_first c.args.self.now c.requires.uses).takes
+    subst (λ t. TakesUses (symbols (term_of t)) (seen c.args.self.now) (seen c.args.self.now)) (sym c.in-Var.is) (takes_first c.args.self.now c.requires.uses).takes
 
 pub take_term-returns-in-Ok-take_terms-clause-ok :
     goal.take_term-returns-in-Ok-take_terms-clause-ok
@@ -125,4 +125,4 @@ pub take_terms-returns-clause-ok : goal.take_terms-returns-clause-ok
 take_terms-returns-clause-ok t c =
     let ts = c.args.terms.now in
     let all = gather_all in_term ts c.loop-i.i c.loop-i-test.false ∙ sym (in_terms ts) in
-    subst (λ l. Takes l (seen c.args.self.now) (seen c.loop-i.self)) all c.loop-i.invariant.takes
+    subst (λ l. TakesUses l (seen c.args.self.now) (seen c.loop-i.self)) all c.loop-i.invariant.takes

@@ -1,7 +1,7 @@
 use Rattle.std.proofs.Common.{◌+◌, ◌≤◌, length, take, drop, sym, subst, ◌∙◌}
 use Rattle.si_term.specs.declared.clause.Literal.{Literal}
 use Rattle.si_sign.specs.Uses.{seen}
-use Rattle.si_sign.specs.Taking.{Takes, RefusesFrom}
+use Rattle.si_sign.specs.Taking.{TakesUses, RefusesFrom}
 use Rattle.si_sign.specs.declared.uses.TheConstants.{MOST_USES}
 use Rattle.si_sign.proofs.SoFar.{gather, gather_next, gather_all, gather_split, in_literal, in_literals, takes_first, takes_on, leaves_room, refused, enough, put_back}
 use Rattle.si_sign.proofs.uses.Uses.take_literals.Goals as goal
@@ -43,7 +43,7 @@ loop-i-preserved c =
     let ls = c.args.literals.now in
     let i = c.loop-i.i in
     let one = c.index-literals-i.result in
-    let taken = subst (λ (l : Literal). Takes (in_literal l) (seen c.loop-i.self) (seen c.take_term.new.self)) (sym c.index-literals-i.is) c.in-Ok.ensures.ok in
+    let taken = subst (λ (l : Literal). TakesUses (in_literal l) (seen c.loop-i.self) (seen c.take_term.new.self)) (sym c.index-literals-i.is) c.in-Ok.ensures.ok in
     takes_on c.args.self.now c.requires.uses c.loop-i.self (gather in_literal (take i ls)) (in_literal one) c.loop-i.invariant c.take_term.new.self _ c.in-Ok.ensures.uses taken
     (gather_next in_literal ls i one c.loop-i-test.true c.index-literals-i.is)
 
@@ -51,4 +51,4 @@ pub returns-clause-ok : goal.returns-clause-ok
 returns-clause-ok c =
     let ls = c.args.literals.now in
     let all = gather_all in_literal ls c.loop-i.i c.loop-i-test.false ∙ sym (in_literals ls) in
-    subst (λ l. Takes l (seen c.args.self.now) (seen c.loop-i.self)) all c.loop-i.invariant.takes
+    subst (λ l. TakesUses l (seen c.args.self.now) (seen c.loop-i.self)) all c.loop-i.invariant.takes

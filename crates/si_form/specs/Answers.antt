@@ -13,8 +13,8 @@ use Rattle.si_form.specs.declared.solution.Binding.{Binding}
 
 -- ---- numbered variables
 -- so many variables of an owner, from a number on
-abbrev pub variables_from : Owner → ℕ → ℕ → List Variable
-variables_from owner k n = counted_from (owners_variable owner) k n
+abbrev pub owners_variables : Owner → ℕ → ℕ → List Variable
+owners_variables owner k n = counted_from (owners_variable owner) k n
 
 -- the variables of the term are the owner's, numbered in the order of their first occurrence
 abbrev pub IsNumbered : Owner → Term → Type 0

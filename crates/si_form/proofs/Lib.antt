@@ -8,3 +8,4 @@ pub mod TestTerms
 pub mod UnifierLaws
 pub mod GeneralLaws
 pub mod FoldedLaws
+pub mod OrderingLaws

@@ -1,14 +1,21 @@
 -- How far an ordering has come.
-use Rattle.std.proofs.Common.{◌≡◌, ◌≢◌, ℕ, ◌+◌, ◌-◌, ◌<◌, ◌≤◌, ◌↔◌, ◌⊎◌, inl, inr, Bool, true, false, if◌then◌else◌, List, [], ◌∷◌, ◌++◌, length, get_or, suc, zero, refl, sym, ◌∙◌, ap, subst, arith, append_assoc, append-nil, length-append, Option, Some, None}
+use Rattle.std.proofs.Common.{◌≡◌, ◌≢◌, ℕ, ◌+◌, ◌-◌, ◌<◌, ◌≤◌, ◌↔◌, ◌⊎◌, inl, inr, Bool, true, false, if◌then◌else◌, List, [], ◌∷◌, ◌++◌, length, take, drop, get_or, suc, zero, refl, sym, ◌∙◌, ap, subst, arith, append_assoc, append-nil, length-append, Option, Some, None}
 use Rattle.std.proofs.lemmas.Bool.Decides.{eqb_tells}
 use Rattle.std.proofs.lemmas.Bool.{eq-eqb}
 use Rattle.std.proofs.lemmas.Bool.{cases_lt}
-use Rattle.std.specs.Prelude.{◌==◌}
+use Rattle.std.proofs.lemmas.List.{drop_more, get_or_default, get_or-set_same, get_or-set_other, length-set, length-take}
+use Rattle.std.proofs.Math.ListN.{set}
+use Rattle.std.proofs.Math.Seq.{take-suc}
+use Rattle.std.specs.Prelude.{◌==◌, Vec}
+use Rattle.std.proofs.Common.{Ordering, Less, Equal, Greater}
+use Rattle.std.specs.Ordering.{nat_cmp, match_ordering, MatchOrdering}
+use Rattle.std.specs.Cmp.{ranks}
+use Rattle.std.specs.BTreeSet.{insert_key}
 use Rattle.std.specs.List.{AllByRecursion}
 use Rattle.si_defs.specs.Substitutions.{IsAmong}
 use Rattle.si_form.proofs.CanonicalLaws.{all_at, all_from, AreDistinct, among_parts}
 use Rattle.si_form.proofs.FoldedLaws.{among_front, among_back}
-use Rattle.si_form.specs.Ordering.{list_or_none, times_among, IsListed, IsOpen, IsNext, AreNext, AreOrdered, HasNoCircle, times_used, with_listed, listed_below}
+use Rattle.si_form.specs.Ordering.{list_of, used_at, list_or_none, times_among, IsListed, IsOpen, IsNext, AreNext, AreOrdered, HasNoCircle, times_used, with_listed, listed_below, IsUnderway, IsListedFree}
 
 -- ---- occurrences
 times_of_among : (xs : List ℕ) (j : ℕ) → IsAmong xs j → 0 < times_among xs j
@@ -117,22 +124,6 @@ module _ (used : ℕ → Option (List ℕ)) where
   next_more before [] k h next = (subst (λ l. IsNext used l k) (append-nil before) next, tt)
   next_more before (x ∷ ks) k h next = (h.0, next_more (before ++ x ∷ []) ks k h.1 (subst (λ l. IsNext used l k) (sym (append_assoc before (x ∷ []) ks)) next))
 
-  -- The order so far; what is left, and what the last of the order uses, of which xs hasn't been
-  -- taken from the counts.
-  pub record IsUnderway (n : ℕ) (counts free order xs : List ℕ) : Type 0 where
-    pub rest : List ℕ
-    pub long : length counts ≡ n
-    pub next : AreNext used [] order
-    pub all : (k : ℕ) → IsListed used k → IsAmong order k ⊎ IsAmong rest k
-    pub listed : AllByRecursion (IsListed used) rest
-    pub behind : AllByRecursion (λ k. IsAmong order k → ⊥) rest
-    pub distinct : AreDistinct rest
-    pub counted : (j : ℕ) → get_or counts j 0 ≡ times_used used rest j + times_among xs j
-    pub passed : (j : ℕ) → IsAmong order j → get_or counts j 0 ≡ 0
-    pub free_is : (j : ℕ) → IsAmong free j ↔ (IsAmong rest j × (get_or counts j 0 ≡ 0))
-    pub few : length order + length rest ≤ n
-    pub left_inside : AllByRecursion (λ j. j < n) xs
-
   -- ---- the start
   listed_among : (n k : ℕ) → IsAmong (listed_below used n) k → (k < n) × IsListed used k
   listed_among zero k a = elim a [ ]
@@ -187,7 +178,7 @@ module _ (used : ℕ → Option (List ℕ)) where
       → length counts ≡ n
       → ((j : ℕ) → get_or counts j 0 ≡ times_used used (listed_below used n) j)
       → ((j : ℕ) → IsAmong free j ↔ (IsAmong (listed_below used n) j × (get_or counts j 0 ≡ 0)))
-      → IsUnderway n counts free [] []
+      → IsUnderway used n counts free [] []
   begins n counts free circle long counted free_is = record {
     rest = listed_below used n;
     long = long;
@@ -214,14 +205,14 @@ module _ (used : ℕ → Option (List ℕ)) where
   pub takes :
       (n : ℕ) (counts free free' order order' xs : List ℕ) (k : ℕ)
       → HasNoCircle used n
-      → IsUnderway n counts free order []
+      → IsUnderway used n counts free order []
       → free ≡ k ∷ free'
       → AllByRecursion (λ i. k < i) free'
       → order' ≡ order ++ k ∷ []
       → list_or_none (used k) ≡ xs
-      → IsUnderway n counts free' order' xs
+      → IsUnderway used n counts free' order' xs
   takes n counts free free' order order' xs k circle h is above order_is xs_are =
-      subst (λ l. IsUnderway n counts free' l xs) (sym order_is) (subst (IsUnderway n counts free' (order ++ k ∷ [])) xs_are taken)
+      subst (λ l. IsUnderway used n counts free' l xs) (sym order_is) (subst (IsUnderway used n counts free' (order ++ k ∷ [])) xs_are taken)
     where
       is_free : IsAmong free k
       is_free = subst (λ l. IsAmong l k) (sym is) (inl refl)
@@ -258,7 +249,7 @@ module _ (used : ℕ → Option (List ℕ)) where
       old : (j : ℕ) → IsAmong (order ++ k ∷ []) j → IsAmong order j ⊎ (k ≡ j)
       old j a = elim (among_parts order (k ∷ []) j a) [ inl b ↦ inl b | inr b ↦ elim b [ inl e ↦ inr e | inr n ↦ elim n [ ] ] ]
 
-      taken : IsUnderway n counts free' (order ++ k ∷ []) (list_or_none (used k))
+      taken : IsUnderway used n counts free' (order ++ k ∷ []) (list_or_none (used k))
       taken = record {
         rest = without k h.rest;
         long = h.long;
@@ -300,7 +291,7 @@ module _ (used : ℕ → Option (List ℕ)) where
   abbrev pub IsReleased : List ℕ → List ℕ → ℕ → Type 0
   IsReleased free free' y = (j : ℕ) → IsAmong free' j ↔ ((j ≡ y) ⊎ IsAmong free j)
 
-  module _ (n : ℕ) (counts counts' free order xs : List ℕ) (y : ℕ) (h : IsUnderway n counts free order (y ∷ xs)) where
+  module _ (n : ℕ) (counts counts' free order xs : List ℕ) (y : ℕ) (h : IsUnderway used n counts free order (y ∷ xs)) where
     pub used_now : 0 < get_or counts y 0
     used_now = let k = times_of_among (y ∷ xs) y (inl refl) in omega (arith, k, h.counted y)
 
@@ -315,7 +306,7 @@ module _ (used : ℕ → Option (List ℕ)) where
             | inr e ↦ (let k = h.counted j in let was : get_or counts j 0 ≡ times_used used h.rest j + (0 + times_among xs j) = rw e.0 at k in omega (arith, was, others j (λ s. e.1 (sym s))))
           ]
 
-      released : (free' : List ℕ) → ((j : ℕ) → IsAmong free' j ↔ (IsAmong h.rest j × (get_or counts' j 0 ≡ 0))) → IsUnderway n counts' free' order xs
+      released : (free' : List ℕ) → ((j : ℕ) → IsAmong free' j ↔ (IsAmong h.rest j × (get_or counts' j 0 ≡ 0))) → IsUnderway used n counts' free' order xs
       released free' free_is = record {
         rest = h.rest;
         long = long;
@@ -338,7 +329,7 @@ module _ (used : ℕ → Option (List ℕ)) where
       free_before j apart r = (h.free_is j).1 (r.0, sym (others j apart) ∙ r.1)
 
       -- another uses it, or it isn't listed
-      pub passes : (get_or counts' y 0 ≡ 0 → IsListed used y → ⊥) → IsUnderway n counts' free order xs
+      pub passes : (get_or counts' y 0 ≡ 0 → IsListed used y → ⊥) → IsUnderway used n counts' free order xs
       passes held =
           released free
           (λ j. (
@@ -347,7 +338,7 @@ module _ (used : ℕ → Option (List ℕ)) where
           ))
 
       -- no other uses it
-      pub frees : (free' : List ℕ) → get_or counts' y 0 ≡ 0 → IsListed used y → IsReleased free free' y → IsUnderway n counts' free' order xs
+      pub frees : (free' : List ℕ) → get_or counts' y 0 ≡ 0 → IsListed used y → IsReleased free free' y → IsUnderway used n counts' free' order xs
       frees free' none listed gains =
           released free'
           (λ j. (
@@ -359,7 +350,7 @@ module _ (used : ℕ → Option (List ℕ)) where
           in_rest = elim (h.all y listed) [ inl a ↦ absurd (not_now y (h.passed y a) refl) | inr a ↦ a ]
 
   -- ---- none is free
-  pub ends : (n : ℕ) (counts free order : List ℕ) → HasNoCircle used n → IsUnderway n counts free order [] → free ≡ [] → AreOrdered used order
+  pub ends : (n : ℕ) (counts free order : List ℕ) → HasNoCircle used n → IsUnderway used n counts free order [] → free ≡ [] → AreOrdered used order
   ends n counts free order circle h is = record {
     next = h.next;
     all = λ k l. elim (h.all k l) [ inl a ↦ a | inr a ↦ absurd (none h.rest k h.counted h.free_is a) ];
@@ -382,3 +373,141 @@ module _ (used : ℕ → Option (List ℕ)) where
                 let top = all_at (λ j. circle.rank j ≤ circle.rank m.0) (x ∷ rest) r.0 m.2 r.1 in
                 omega (arith, falls, top)
           ]
+
+-- ---- keys of a set
+inserted_by : (ks : List ℕ) (k x j : ℕ) (r : Ordering) → MatchOrdering r (k < x) (k ≡ x) (x < k) → (IsAmong (insert_key nat_cmp ks k) j ↔ ((j ≡ k) ⊎ IsAmong ks j)) → IsAmong (match_ordering r (k ∷ x ∷ ks) (x ∷ ks) (x ∷ insert_key nat_cmp ks k)) j ↔ ((j ≡ k) ⊎ IsAmong (x ∷ ks) j)
+inserted_by ks k x j Less m h = ((λ a. elim a [ inl e ↦ inl (sym e) | inr b ↦ inr b ]), (λ a. elim a [ inl e ↦ inl (sym e) | inr b ↦ inr b ]))
+inserted_by ks k x j Equal m h = ((λ a. inr a), (λ a. elim a [ inl e ↦ inl (sym m ∙ sym e) | inr b ↦ b ]))
+inserted_by ks k x j Greater m h = (
+  (λ a. elim a [ inl e ↦ inr (inl e) | inr b ↦ elim (h.0 b) [ inl e ↦ inl e | inr c ↦ inr (inr c) ] ]),
+  (λ a. elim a [ inl e ↦ inr (h.1 (inl e)) | inr b ↦ elim b [ inl e ↦ inl e | inr c ↦ inr (h.1 (inr c)) ] ]),
+)
+
+pub inserted : (ks : List ℕ) (k j : ℕ) → IsAmong (insert_key nat_cmp ks k) j ↔ ((j ≡ k) ⊎ IsAmong ks j)
+inserted [] k j = ((λ a. elim a [ inl e ↦ inl (sym e) | inr n ↦ elim n [ ] ]), (λ a. elim a [ inl e ↦ inl (sym e) | inr n ↦ elim n [ ] ]))
+inserted (x ∷ ks) k j = inserted_by ks k x j (nat_cmp k x) (ranks k x) (inserted ks k j)
+
+less_tells : (a b : ℕ) (r : Ordering) → r ≡ Less → MatchOrdering r (a < b) (a ≡ b) (b < a) → a < b
+less_tells a b Less e m = m
+less_tells a b Equal e m = cc
+less_tells a b Greater e m = cc
+
+pub all_above : (k : ℕ) (ks : List ℕ) → ((i d : ℕ) → i < length ks → nat_cmp k (get_or ks i d) ≡ Less) → AllByRecursion (λ j. k < j) ks
+all_above k [] h = tt
+all_above k (x ∷ ks) h = (less_tells k x (nat_cmp k x) (h 0 0 (omega arith)) (ranks k x), all_above k ks (λ i d less. h (suc i) d (omega (arith, less))))
+
+-- ---- counting
+times_append : (xs ys : List ℕ) (j : ℕ) → times_among (xs ++ ys) j ≡ times_among xs j + times_among ys j
+times_append [] ys j = omega arith
+times_append (x ∷ xs) ys j = omega (arith, times_append xs ys j)
+
+pub times_few : (xs : List ℕ) (j : ℕ) → times_among xs j ≤ length xs
+times_few [] j = omega arith
+times_few (x ∷ xs) j = elim (eqb_tells x j) [ inl e ↦ rw e.0 (omega (arith, times_few xs j)) | inr e ↦ rw e.0 (omega (arith, times_few xs j)) ]
+
+-- the counts with one use more
+pub raised_more :
+    (old now new : List ℕ) (used : List ℕ) (i : ℕ)
+    → i < length used
+    → new ≡ set now (get_or used i 0) (get_or now (get_or used i 0) 0 + 1)
+    → get_or used i 0 < length now
+    → ((j : ℕ) → get_or now j 0 ≡ get_or old j 0 + times_among (take i used) j)
+    → (j : ℕ) → get_or new j 0 ≡ get_or old j 0 + times_among (take (i + 1) used) j
+raised_more old now new used i less is inside so_far j =
+    let x : ℕ = get_or used i 0 in
+    let taken : times_among (take (i + 1) used) j ≡ times_among (take i used) j + times_among (get_or used i 0 ∷ []) j =
+    ap (λ l. times_among l j) (take-more i used 0 less) ∙ times_append (take i used) (get_or used i 0 ∷ []) j in
+    elim (eqb_tells (get_or used i 0) j) [
+      | inl e ↦
+          let one : times_among (get_or used i 0 ∷ []) j ≡ 1 = rw e.0 refl in
+          let now_is : get_or new j 0 ≡ get_or now (get_or used i 0) 0 + 1 =
+          ap (λ l. get_or l j 0) is ∙ ap (λ k. get_or (set now (get_or used i 0) (get_or now (get_or used i 0) 0 + 1)) k 0) (sym e.1)
+          ∙ get_or-set_same now (get_or used i 0) (get_or now (get_or used i 0) 0 + 1) 0 inside in
+          omega (arith, one, taken, now_is, so_far j, ap (λ k. get_or now k 0) e.1)
+      | inr e ↦
+          let none : times_among (get_or used i 0 ∷ []) j ≡ 0 = rw e.0 refl in
+          let now_is : get_or new j 0 ≡ get_or now j 0 =
+          ap (λ l. get_or l j 0) is
+          ∙ get_or-set_other now (get_or used i 0) j (get_or now (get_or used i 0) 0 + 1) 0 (λ k. e.1 (sym k)) in
+          omega (arith, none, taken, now_is, so_far j)
+    ]
+  where
+    take-more : (i : ℕ) (xs : List ℕ) (d : ℕ) → i < length xs → take (i + 1) xs ≡ take i xs ++ get_or xs i d ∷ []
+    take-more i xs d less = (let n : i + 1 ≡ suc i = omega arith in ap (λ m. take m xs) n) ∙ take-suc xs i d less
+
+-- each count stays small
+pub raised_room : (old now : List ℕ) (used : List ℕ) (i k n : ℕ) → i < length used → get_or old k 0 + length used < n → ((j : ℕ) → get_or now j 0 ≡ get_or old j 0 + times_among (take i used) j) → get_or now k 0 + 1 < n
+raised_room old now used i k n less room so_far = let few = times_few (take i used) k in omega (arith, few, so_far k, room, length-take i used, less)
+
+-- ---- the steps of the loops
+module _ (used : ℕ → Option (List ℕ)) where
+  module _ (n : ℕ) (counts counts' free order xs : List ℕ) (y m : ℕ) (h : IsUnderway used n counts free order (y ∷ xs)) (is : counts' ≡ set counts y m) (less : m + 1 ≡ get_or counts y 0) where
+    inside : y < length counts
+    inside = omega (arith, h.long, h.left_inside.0)
+
+    now_is : get_or counts' y 0 ≡ m
+    now_is = ap (λ l. get_or l y 0) is ∙ get_or-set_same counts y m 0 inside
+
+    others_are : (j : ℕ) → j ≢ y → get_or counts' j 0 ≡ get_or counts j 0
+    others_are j apart = ap (λ l. get_or l j 0) is ∙ get_or-set_other counts y j m 0 apart
+
+    long_as : length counts' ≡ n
+    long_as = ap length is ∙ length-set counts y m ∙ h.long
+
+    pub passes_over : (m ≡ 0 → IsListed used y → ⊥) → IsUnderway used n counts' free order xs
+    passes_over held = passes used n counts counts' free order xs y h (omega (arith, now_is, less)) others_are long_as (λ e. held (sym now_is ∙ e))
+
+    pub sets_free : (free' : List ℕ) → m ≡ 0 → IsListed used y → free' ≡ insert_key nat_cmp free y → IsUnderway used n counts' free' order xs
+    sets_free free' none listed free_is =
+        subst (λ l. IsUnderway used n counts' l order xs) (sym free_is)
+        (frees used n counts counts' free order xs y h (omega (arith, now_is, less)) others_are long_as (insert_key nat_cmp free y) (now_is ∙ none) listed (λ j. inserted free y j))
+
+  -- what is free among one number more
+  pub free_more : (counts keys keys' : List ℕ) (k : ℕ) → get_or counts k 0 ≡ 0 → IsListed used k → keys' ≡ insert_key nat_cmp keys k → ((j : ℕ) → IsAmong keys j ↔ IsListedFree used k counts j) → (j : ℕ) → IsAmong keys' j ↔ IsListedFree used (k + 1) counts j
+  free_more counts keys keys' k none listed is so_far j =
+      subst (λ l. IsAmong l j ↔ IsListedFree used (k + 1) counts j) (sym is)
+      (subst (λ l. IsAmong (insert_key nat_cmp keys k) j ↔ (IsAmong l j × (get_or counts j 0 ≡ 0))) (sym below_is) (
+        (λ a. elim ((inserted keys k j).0 a) [ inl e ↦ (inl (sym e), ap (λ i. get_or counts i 0) e ∙ none) | inr b ↦ (let r = (so_far j).0 b in (inr r.0, r.1)) ]),
+        (λ r. (inserted keys k j).1 (elim r.0 [ inl e ↦ inl (sym e) | inr b ↦ inr ((so_far j).1 (b, r.1)) ])),
+      ))
+    where
+      below_is : listed_below used (k + 1) ≡ k ∷ listed_below used k
+      below_is = (let n : k + 1 ≡ suc k = omega arith in ap (listed_below used) n) ∙ ap (λ o. with_listed k o (listed_below used k)) listed.1
+
+  -- the uses counted among one number more
+  pub below_more : (k : ℕ) (xs : List ℕ) (j : ℕ) → used k ≡ Some xs → times_used used (listed_below used (k + 1)) j ≡ times_used used (listed_below used k) j + times_among xs j
+  below_more k xs j e =
+      ap (λ l. times_used used l j) ((let n : k + 1 ≡ suc k = omega arith in ap (listed_below used) n) ∙ ap (λ o. with_listed k o (listed_below used k)) e)
+      ∙ omega (arith, ap (λ o. times_among (list_or_none o) j) e)
+
+-- ---- the lists as they stand in memory
+pub listed_at : {A : Type 0} (lists : List (Option (Vec ℕ A))) (k : ℕ) (o : Option (Vec ℕ A)) (v : Vec ℕ A) → k < length lists → o ≡ get_or lists k o → o ≡ Some v → used_at lists k ≡ Some v.items
+listed_at lists k o v less is some = ap list_of (get_or_default lists k None o less ∙ sym is ∙ some)
+
+pub unlisted_at : {A : Type 0} (lists : List (Option (Vec ℕ A))) (k : ℕ) (o : Option (Vec ℕ A)) → k < length lists → o ≡ get_or lists k o → o ≡ None → used_at lists k ≡ None
+unlisted_at lists k o less is none = ap list_of (get_or_default lists k None o less ∙ sym is ∙ none)
+
+pub not_listed : (used : ℕ → Option (List ℕ)) (k : ℕ) → used k ≡ None → IsListed used k → ⊥
+not_listed used k none l = let bad : None ≡ Some l.0 = sym none ∙ l.1 in cc
+
+pub place_inside : (P : ℕ → Type 0) (xs : List ℕ) (i : ℕ) → AllByRecursion P xs → i < length xs → P (get_or xs i 0)
+place_inside P [] i h less = absurd (omega (arith, less))
+place_inside P (x ∷ xs) zero h less = h.0
+place_inside P (x ∷ xs) (suc i) h less = place_inside P xs i h.1 (omega (arith, less))
+
+module _ (used : ℕ → Option (List ℕ)) (n : ℕ) (counts free free' order : List ℕ) (k : ℕ) (h : IsUnderway used n counts free order []) (is : free ≡ k ∷ free') where
+  first_left : IsAmong h.rest k
+  first_left = ((h.free_is k).0 (subst (λ l. IsAmong l k) (sym is) (inl refl))).0
+
+  pub first_inside : HasNoCircle used n → k < n
+  first_inside circle = circle.inside k (all_at (IsListed used) h.rest k h.listed first_left)
+
+  pub fewer_left : (order' : List ℕ) → order' ≡ order ++ k ∷ [] → n - length order' < n - length order
+  fewer_left order' e = omega (arith, h.few, length_without k h.rest first_left, ap length e, length-append order (k ∷ []))
+
+pub left_now : (used : ℕ → Option (List ℕ)) (n : ℕ) (counts free order xs : List ℕ) (i : ℕ) → i < length xs → IsUnderway used n counts free order (drop i xs) → IsUnderway used n counts free order (get_or xs i 0 ∷ drop (i + 1) xs)
+left_now used n counts free order xs i less h = subst (IsUnderway used n counts free order) (drop_more xs i 0 less) h
+
+pub no_keys : (keys : List ℕ) → (0 < length keys → false ≡ true) → keys ≡ []
+no_keys [] give = refl
+no_keys (k ∷ keys) give = let bad = give (omega arith) in cc

@@ -1,7 +1,7 @@
 -- Numbers in an order in which none stands behind one that it uses.
-use Rattle.std.specs.Prelude.{◌≡◌, ℕ, zero, suc, ◌+◌, ◌<◌, ◌==◌, if◌then◌else◌, List, [], ◌∷◌, ◌++◌, length, slice_index_or, Option, None, Some, Vec}
+use Rattle.std.specs.Prelude.{◌≡◌, ℕ, zero, suc, ◌+◌, ◌<◌, ◌≤◌, ◌↔◌, ◌⊎◌, ◌==◌, if◌then◌else◌, List, [], ◌∷◌, ◌++◌, length, slice_index_or, Option, None, Some, Vec}
 use Rattle.std.specs.List.{AllByRecursion}
-use Rattle.si_defs.specs.Substitutions.{IsAmong}
+use Rattle.si_defs.specs.Substitutions.{IsAmong, AreDistinct}
 
 -- the numbers that a number uses; None where it isn't to be ordered
 abbrev pub list_of : {A : Type 0} → Option (Vec ℕ A) → Option (List ℕ)
@@ -67,3 +67,23 @@ module _ (used : ℕ → Option (List ℕ)) where
   abbrev pub listed_below : ℕ → List ℕ
   listed_below zero = []
   listed_below (suc k) = with_listed k (used k) (listed_below k)
+
+  -- The order so far; what is left, and what the last of the order uses, of which xs hasn't been
+  -- taken from the counts.
+  pub record IsUnderway (n : ℕ) (counts free order xs : List ℕ) : Type 0 where
+    pub rest : List ℕ
+    pub long : length counts ≡ n
+    pub next : AreNext [] order
+    pub all : (k : ℕ) → IsListed k → IsAmong order k ⊎ IsAmong rest k
+    pub listed : AllByRecursion (IsListed) rest
+    pub behind : AllByRecursion (λ k. IsAmong order k → ⊥) rest
+    pub distinct : AreDistinct rest
+    pub counted : (j : ℕ) → slice_index_or counts j 0 ≡ times_used rest j + times_among xs j
+    pub passed : (j : ℕ) → IsAmong order j → slice_index_or counts j 0 ≡ 0
+    pub free_is : (j : ℕ) → IsAmong free j ↔ (IsAmong rest j × (slice_index_or counts j 0 ≡ 0))
+    pub few : length order + length rest ≤ n
+    pub left_inside : AllByRecursion (λ j. j < n) xs
+
+  -- it is listed, and none uses it
+  abbrev pub IsListedFree : ℕ → List ℕ → ℕ → Type 0
+  IsListedFree n counts j = IsAmong (listed_below n) j × (slice_index_or counts j 0 ≡ 0)

@@ -8,6 +8,7 @@
 mod canonical;
 mod laws;
 mod matching;
+mod order;
 mod solution;
 #[cfg(test)]
 mod tests;

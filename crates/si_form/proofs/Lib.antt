@@ -9,3 +9,4 @@ pub mod UnifierLaws
 pub mod GeneralLaws
 pub mod FoldedLaws
 pub mod OrderingLaws
+pub mod NodeLaws

@@ -6,6 +6,7 @@
 #![tactic(auto)]
 
 mod canonical;
+mod classes;
 mod laws;
 mod matching;
 mod order;

@@ -1,0 +1,90 @@
+-- Classes of terms that a list of bindings makes equal, each with a number.
+use Rattle.std.specs.Prelude.{◌≡◌, ℕ, ◌<◌, ◌⊎◌, List, [], ◌∷◌, ◌++◌, length, slice_get, Option, None, Some}
+use Rattle.si_defs.specs.Substitutions.{IsAmong}
+use Rattle.si_defs.specs.Terms as terms
+use Rattle.si_flat.specs.Cells.{Symbol, Variable, Term, Terms}
+use Rattle.si_unify.specs.declared.slots.Slots.{Slots}
+use Rattle.si_unify.specs.Solving.{slot_count, variable_of}
+use Rattle.si_form.specs.declared.classes.Node.{Node}
+use Rattle.si_form.specs.declared.classes.Node.TheVariants.{Free, Head, With}
+
+-- the node has this number from now on; it is added if it wasn't there
+abbrev pub Interns : List Node → List Node → Node → ℕ → Type 0
+Interns old new node n =
+    ((new ≡ old) × (slice_get old n ≡ Some node))
+    ⊎ ((new ≡ old ++ node ∷ []) × (n ≡ length old) × (IsAmong old node → ⊥))
+
+-- rows of arguments, one behind the other, and one argument more
+abbrev pub chain : Terms → Terms → Terms
+chain terms.none us = us
+chain (terms.more t ts) us = terms.more t (chain ts us)
+
+abbrev pub with_last : Terms → Term → Terms
+with_last ts u = chain ts (terms.more u terms.none)
+
+-- what a node stands for, where numbers stand for these terms
+pub record HasOneMore (known : List Term) (front argument n : ℕ) (t : Term) : Type 0 where
+  pub symbol : Symbol
+  pub arguments : Terms
+  pub last : Term
+  pub front_is : slice_get known front ≡ Some (terms.app symbol arguments)
+  pub last_is : slice_get known argument ≡ Some last
+  pub term_is : t ≡ terms.app symbol (with_last arguments last)
+  pub front_before : front < n
+  pub argument_before : argument < n
+
+abbrev pub StandsForNode : Slots → List Term → ℕ → Node → Term → Type 0
+StandsForNode slots known n (Free slot) t = (slot < slot_count slots) × (t ≡ terms.var (variable_of slots slot))
+StandsForNode slots known n (Head sym arity) t = t ≡ terms.app (record { number = sym; arity = arity }) terms.none
+StandsForNode slots known n (With front argument) t = HasOneMore known front argument n t
+
+-- each node stands for a term, and no two for the same
+pub record AreNodes (slots : Slots) (nodes : List Node) (known : List Term) : Type 0 where
+  pub long : length known ≡ length nodes
+  pub stands : (n : ℕ) (node : Node) (t : Term) → slice_get nodes n ≡ Some node → slice_get known n ≡ Some t → StandsForNode slots known n node t
+  pub distinct : (m n : ℕ) (t : Term) → slice_get known m ≡ Some t → slice_get known n ≡ Some t → m ≡ n
+
+-- the nodes stand for these terms, of which those that stood there before are the first
+pub record GrowsTo (slots : Slots) (old : List Term) (nodes : List Node) (known : List Term) : Type 0 where
+  pub more : List Term
+  pub known_is : known ≡ old ++ more
+  pub nodes_are : AreNodes slots nodes known
+
+-- the numbers stand for what f makes of these terms
+abbrev pub HaveNumbers : (Variable → Term) → List Term → List ℕ → Terms → Type 0
+HaveNumbers f known [] terms.none = Unit {0}
+HaveNumbers f known [] (terms.more t ts) = ⊥
+HaveNumbers f known (n ∷ ns) terms.none = ⊥
+HaveNumbers f known (n ∷ ns) (terms.more t ts) = (slice_get known n ≡ Some (terms.substitute f t)) × HaveNumbers f known ns ts
+
+-- the number is that of the symbol with as many of these as it has arguments; the others stay
+abbrev pub Applies : List Node → List Node → List ℕ → List ℕ → Symbol → ℕ → Type 0
+Applies nodes nodes' numbers numbers' s n =
+    (slots : Slots) (f : Variable → Term) (known : List Term) (us rest : Terms)
+    → AreNodes slots nodes known
+    → HaveNumbers f known numbers (chain us rest)
+    → terms.count us ≡ s.arity
+    → (known' : List Term)
+    × GrowsTo slots known nodes' known'
+    × (slice_get known' n ≡ Some (terms.app s (terms.substitute_all f us)))
+    × HaveNumbers f known' numbers' rest
+
+-- ---- how far an application has come
+-- so many arguments stand behind the symbol
+pub record HasApplied (slots : Slots) (f : Variable → Term) (known : List Term) (nodes : List Node) (numbers : List ℕ) (s : Symbol) (us rest : Terms) (k n : ℕ) : Type 0 where
+  pub known' : List Term
+  pub done : Terms
+  pub left : Terms
+  pub grows : GrowsTo slots known nodes known'
+  pub arguments : us ≡ chain done left
+  pub count_is : terms.count done ≡ k
+  pub front_is : slice_get known' n ≡ Some (terms.app s (terms.substitute_all f done))
+  pub others : HaveNumbers f known' numbers (chain left rest)
+
+abbrev pub IsApplying : List Node → List Node → List ℕ → List ℕ → Symbol → ℕ → ℕ → Type 0
+IsApplying nodes nodes' numbers numbers' s k n =
+    (slots : Slots) (f : Variable → Term) (known : List Term) (us rest : Terms)
+    → AreNodes slots nodes known
+    → HaveNumbers f known numbers (chain us rest)
+    → terms.count us ≡ s.arity
+    → HasApplied slots f known nodes' numbers' s us rest k n

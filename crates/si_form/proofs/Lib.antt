@@ -10,3 +10,4 @@ pub mod GeneralLaws
 pub mod FoldedLaws
 pub mod OrderingLaws
 pub mod NodeLaws
+pub mod CellNumbering

@@ -1,10 +1,14 @@
 -- Classes of terms that a list of bindings makes equal, each with a number.
-use Rattle.std.specs.Prelude.{◌≡◌, ℕ, ◌<◌, ◌⊎◌, List, [], ◌∷◌, ◌++◌, length, slice_get, Option, None, Some}
+use Rattle.std.specs.Prelude.{◌≡◌, ℕ, ◌<◌, ◌⊎◌, List, [], ◌∷◌, ◌++◌, length, drop, slice_get, Option, None, Some}
 use Rattle.si_defs.specs.Substitutions.{IsAmong}
 use Rattle.si_defs.specs.Terms as terms
-use Rattle.si_flat.specs.Cells.{Symbol, Variable, Term, Terms}
+use Rattle.si_flat.specs.declared.Cell.{Cell}
+use Rattle.si_flat.specs.declared.Cell.TheVariants as cell
+use Rattle.si_flat.specs.Cells.{Symbol, Variable, query, entry, ind, Term, Terms, cells_of_all, AreSound, StandsFor}
+use Rattle.si_unify.specs.Spots.{cell_slot}
+use Rattle.si_unify.specs.Circles.{with_slot}
 use Rattle.si_unify.specs.declared.slots.Slots.{Slots}
-use Rattle.si_unify.specs.Solving.{slot_count, variable_of}
+use Rattle.si_unify.specs.Solving.{slot_count, slot_of, variable_of}
 use Rattle.si_form.specs.declared.classes.Node.{Node}
 use Rattle.si_form.specs.declared.classes.Node.TheVariants.{Free, Head, With}
 
@@ -88,3 +92,52 @@ IsApplying nodes nodes' numbers numbers' s k n =
     → HaveNumbers f known numbers (chain us rest)
     → terms.count us ≡ s.arity
     → HasApplied slots f known nodes' numbers' s us rest k n
+
+-- ---- cells
+-- the slots of the variables among the cells, in order
+abbrev pub slots_of : Slots → List Cell → List ℕ
+slots_of slots [] = []
+slots_of slots (c ∷ cells) = with_slot (cell_slot slots c) (slots_of slots cells)
+
+-- the class of the slot's variable stands for its image
+pub record KnowsSlot (slots : Slots) (f : Variable → Term) (known : List Term) (classes : List ℕ) (slot : ℕ) : Type 0 where
+  pub number : ℕ
+  pub class_is : slice_get classes slot ≡ Some number
+  pub image_is : slice_get known number ≡ Some (f (variable_of slots slot))
+
+-- the number is that of the term that begins with the cell; the numbers of its arguments go
+abbrev pub IsSlotsClass : Slots → List ℕ → List Node → List Node → List ℕ → List ℕ → Variable → ℕ → Type 0
+IsSlotsClass slots classes nodes nodes' numbers numbers' x n =
+    (nodes' ≡ nodes) × (numbers' ≡ numbers) × (slice_get classes (slot_of slots x) ≡ Some n)
+
+abbrev pub NumbersCell : Slots → List ℕ → List Node → List Node → List ℕ → List ℕ → Cell → ℕ → Type 0
+NumbersCell slots classes nodes nodes' numbers numbers' (cell.App sym arity len) n = Applies nodes nodes' numbers numbers' (record { number = sym; arity = arity }) n
+NumbersCell slots classes nodes nodes' numbers numbers' (cell.Query k) n = IsSlotsClass slots classes nodes nodes' numbers numbers' (query k) n
+NumbersCell slots classes nodes nodes' numbers numbers' (cell.Entry k) n = IsSlotsClass slots classes nodes nodes' numbers numbers' (entry k) n
+NumbersCell slots classes nodes nodes' numbers numbers' (cell.Ind k) n = IsSlotsClass slots classes nodes nodes' numbers numbers' (ind k) n
+
+-- the number is that of what f makes of the cells' term
+abbrev pub HasClass : List Node → List Node → Slots → List ℕ → List Cell → ℕ → Type 0
+HasClass nodes nodes' slots classes cells n =
+    (t : Term) (f : Variable → Term) (known : List Term)
+    → StandsFor cells t
+    → AreNodes slots nodes known
+    → ((slot : ℕ) → IsAmong (slots_of slots cells) slot → KnowsSlot slots f known classes slot)
+    → (known' : List Term) × GrowsTo slots known nodes' known' × (slice_get known' n ≡ Some (terms.substitute f t))
+
+-- the numbers are those of the terms from a place on
+pub record HaveRow (slots : Slots) (f : Variable → Term) (known : List Term) (nodes : List Node) (cells : List Cell) (at : ℕ) (numbers : List ℕ) : Type 0 where
+  pub known' : List Term
+  pub row : Terms
+  pub grows : GrowsTo slots known nodes known'
+  pub sound : AreSound row
+  pub cells_are : drop at cells ≡ cells_of_all row
+  pub numbers_are : HaveNumbers f known' numbers row
+
+abbrev pub IsNumbering : List Node → List Node → Slots → List ℕ → List Cell → ℕ → List ℕ → Type 0
+IsNumbering nodes nodes' slots classes cells at numbers =
+    (t : Term) (f : Variable → Term) (known : List Term)
+    → StandsFor cells t
+    → AreNodes slots nodes known
+    → ((slot : ℕ) → IsAmong (slots_of slots cells) slot → KnowsSlot slots f known classes slot)
+    → HaveRow slots f known nodes' cells at numbers

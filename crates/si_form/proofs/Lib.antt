@@ -11,3 +11,4 @@ pub mod FoldedLaws
 pub mod OrderingLaws
 pub mod NodeLaws
 pub mod CellNumbering
+pub mod UsesLaws

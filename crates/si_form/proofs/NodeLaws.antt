@@ -10,7 +10,7 @@ use Rattle.si_flat.specs.Cells.{Symbol, Variable, query, entry, ind, Term, Terms
 use Rattle.si_unify.specs.declared.slots.Slots.{Slots}
 use Rattle.si_unify.specs.Solving.{slot_count, slot_of, variable_of}
 use Rattle.si_form.specs.declared.classes.Node.{Node}
-use Rattle.si_form.specs.declared.classes.Node.TheVariants.{Free, Head, With}
+use Rattle.si_form.specs.declared.classes.Node.TheVariants.{Variable as Of, Head, With}
 use Rattle.si_form.specs.contracts.classes.NodePartialEq.TheImpl.{eq-value}
 use Rattle.si_form.specs.Classes.{Interns, chain, with_last, HasOneMore, StandsForNode, AreNodes, GrowsTo, HaveNumbers, Applies, HasApplied, IsApplying}
 
@@ -23,18 +23,18 @@ both_true true b e = (refl, e)
 both_true false b e = cc
 
 eq_tells : (a b : Node) → eq-value.it a b ≡ true → a ≡ b
-eq_tells (Free m) (Free n) e = ap Free (number_tells m n e)
-eq_tells (Free m) (Head s a) e = cc
-eq_tells (Free m) (With p q) e = cc
-eq_tells (Head s a) (Free n) e = cc
+eq_tells (Of m) (Of n) e = ap Of (number_tells m n e)
+eq_tells (Of m) (Head s a) e = cc
+eq_tells (Of m) (With p q) e = cc
+eq_tells (Head s a) (Of n) e = cc
 eq_tells (Head s a) (Head r b) e = let both = both_true (s == r) (a == b) e in ap (λ x. Head x a) (number_tells s r both.0) ∙ ap (Head r) (number_tells a b both.1)
 eq_tells (Head s a) (With p q) e = cc
-eq_tells (With f g) (Free n) e = cc
+eq_tells (With f g) (Of n) e = cc
 eq_tells (With f g) (Head r b) e = cc
 eq_tells (With f g) (With p q) e = let both = both_true (f == p) (g == q) e in ap (λ x. With x g) (number_tells f p both.0) ∙ ap (With p) (number_tells g q both.1)
 
 eq_itself : (a : Node) → eq-value.it a a ≡ true
-eq_itself (Free m) = eq-eqb m m refl
+eq_itself (Of m) = eq-eqb m m refl
 eq_itself (Head s a) = ap (λ b. b && a == a) (eq-eqb s s refl) ∙ eq-eqb a a refl
 eq_itself (With f g) = ap (λ b. b && g == g) (eq-eqb f f refl) ∙ eq-eqb g g refl
 
@@ -161,7 +161,7 @@ slot_again slots k =
 
 -- ---- what nodes stand for
 node_known : (slots : Slots) (known more : List Term) (n : ℕ) (node : Node) (t : Term) → StandsForNode slots known n node t → StandsForNode slots (known ++ more) n node t
-node_known slots known more n (Free k) t h = h
+node_known slots known more n (Of k) t h = h
 node_known slots known more n (Head s a) t h = h
 node_known slots known more n (With p q) t h = record {
   symbol = h.symbol;
@@ -175,7 +175,7 @@ node_known slots known more n (With p q) t h = record {
 }
 
 node_term : (slots : Slots) (known : List Term) (m n : ℕ) (node : Node) (t u : Term) → StandsForNode slots known m node t → StandsForNode slots known n node u → t ≡ u
-node_term slots known m n (Free k) t u h j = h.1 ∙ sym j.1
+node_term slots known m n (Of k) t u h j = h.1 ∙ sym j.1
 node_term slots known m n (Head s a) t u h j = h ∙ sym j
 node_term slots known m n (With p q) t u h j =
     let fronts = same_app h.symbol j.symbol h.arguments j.arguments (same_some (terms.app h.symbol h.arguments) (terms.app j.symbol j.arguments) (sym h.front_is ∙ j.front_is)) in
@@ -188,18 +188,18 @@ node_term slots known m n (With p q) t u h j =
 
 module _ (slots : Slots) (nodes : List Node) (known : List Term) (are : AreNodes slots nodes known) where
   same_node : (m n : ℕ) (a b : Node) (t : Term) → StandsForNode slots known m a t → StandsForNode slots known n b t → a ≡ b
-  same_node m n (Free k) (Free l) t h j =
+  same_node m n (Of k) (Of l) t h j =
       let variables_same : variable_of slots k ≡ variable_of slots l = same_variables (variable_of slots k) (variable_of slots l) t h.1 j.1 in
-      ap Free (sym (slot_again slots k) ∙ ap (slot_of slots) variables_same ∙ slot_again slots l)
-  same_node m n (Free k) (Head s a) t h j = let bad : terms.var (variable_of slots k) ≡ terms.app (record { number = s; arity = a }) terms.none = sym h.1 ∙ j in cc
-  same_node m n (Free k) (With p q) t h j = let bad : terms.var (variable_of slots k) ≡ terms.app j.symbol (with_last j.arguments j.last) = sym h.1 ∙ j.term_is in cc
-  same_node m n (Head s a) (Free k) t h j = let bad : terms.var (variable_of slots k) ≡ terms.app (record { number = s; arity = a }) terms.none = sym j.1 ∙ h in cc
+      ap Of (sym (slot_again slots k) ∙ ap (slot_of slots) variables_same ∙ slot_again slots l)
+  same_node m n (Of k) (Head s a) t h j = let bad : terms.var (variable_of slots k) ≡ terms.app (record { number = s; arity = a }) terms.none = sym h.1 ∙ j in cc
+  same_node m n (Of k) (With p q) t h j = let bad : terms.var (variable_of slots k) ≡ terms.app j.symbol (with_last j.arguments j.last) = sym h.1 ∙ j.term_is in cc
+  same_node m n (Head s a) (Of k) t h j = let bad : terms.var (variable_of slots k) ≡ terms.app (record { number = s; arity = a }) terms.none = sym j.1 ∙ h in cc
   same_node m n (Head s a) (Head r b) t h j =
       let make : ℕ → ℕ → Symbol = λ x y. record { number = x; arity = y } in
       let symbols = (same_app (record { number = s; arity = a }) (record { number = r; arity = b }) terms.none terms.none (sym h ∙ j)).0 in
       ap (λ x. Head x a) (ap (λ y. y.number) symbols) ∙ ap (Head r) (ap (λ y. y.arity) symbols)
   same_node m n (Head s a) (With p q) t h j = absurd (last_of_none j.arguments j.last (sym (same_app (record { number = s; arity = a }) j.symbol terms.none (with_last j.arguments j.last) (sym h ∙ j.term_is)).1))
-  same_node m n (With p q) (Free k) t h j = let bad : terms.var (variable_of slots k) ≡ terms.app h.symbol (with_last h.arguments h.last) = sym j.1 ∙ h.term_is in cc
+  same_node m n (With p q) (Of k) t h j = let bad : terms.var (variable_of slots k) ≡ terms.app h.symbol (with_last h.arguments h.last) = sym j.1 ∙ h.term_is in cc
   same_node m n (With p q) (Head s a) t h j = absurd (last_of_none h.arguments h.last (sym (same_app (record { number = s; arity = a }) h.symbol terms.none (with_last h.arguments h.last) (sym j ∙ h.term_is)).1))
   same_node m n (With p q) (With v w) t h j =
       let whole = same_app h.symbol j.symbol (with_last h.arguments h.last) (with_last j.arguments j.last) (sym h.term_is ∙ j.term_is) in

@@ -10,7 +10,7 @@ use Rattle.si_unify.specs.Circles.{with_slot}
 use Rattle.si_unify.specs.declared.slots.Slots.{Slots}
 use Rattle.si_unify.specs.Solving.{slot_count, slot_of, variable_of}
 use Rattle.si_form.specs.declared.classes.Node.{Node}
-use Rattle.si_form.specs.declared.classes.Node.TheVariants.{Free, Head, With}
+use Rattle.si_form.specs.declared.classes.Node.TheVariants.{Variable as Of, Head, With}
 
 -- the node has this number from now on; it is added if it wasn't there
 abbrev pub Interns : List Node → List Node → Node → ℕ → Type 0
@@ -38,7 +38,7 @@ pub record HasOneMore (known : List Term) (front argument n : ℕ) (t : Term) : 
   pub argument_before : argument < n
 
 abbrev pub StandsForNode : Slots → List Term → ℕ → Node → Term → Type 0
-StandsForNode slots known n (Free slot) t = (slot < slot_count slots) × (t ≡ terms.var (variable_of slots slot))
+StandsForNode slots known n (Of slot) t = (slot < slot_count slots) × (t ≡ terms.var (variable_of slots slot))
 StandsForNode slots known n (Head sym arity) t = t ≡ terms.app (record { number = sym; arity = arity }) terms.none
 StandsForNode slots known n (With front argument) t = HasOneMore known front argument n t
 

@@ -2,3 +2,4 @@ pub mod Answers
 pub mod Matching
 pub mod Ordering
 pub mod Classes
+pub mod Uses

@@ -12,8 +12,8 @@ use std::alloc::{AllocError, Global};
 /// What the terms of a class are, by the numbers of other classes. Equal terms have one number.
 #[derive(Clone, Copy, Debug, PartialEq, Eq, Hash)]
 pub(crate) enum Node {
-    /// A variable that isn't bound, by its slot.
-    Free(usize),
+    /// A variable, by its slot.
+    Variable(usize),
     /// A symbol, without its arguments.
     Head { sym: u32, arity: u32 },
     /// A term with one argument more.

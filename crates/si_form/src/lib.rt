@@ -11,6 +11,7 @@ mod laws;
 mod matching;
 mod order;
 mod solution;
+mod uses;
 #[cfg(test)]
 mod tests;
 

@@ -12,3 +12,4 @@ pub mod OrderingLaws
 pub mod NodeLaws
 pub mod CellNumbering
 pub mod UsesLaws
+pub mod ClassLaws

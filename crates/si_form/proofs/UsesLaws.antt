@@ -60,7 +60,7 @@ uses_more slots pairs lists new used h is last = subst (UsesBelow slots pairs) (
         ]
 
 -- ---- no circle
-range_slots : (slots : Slots) (cells : List Cell) → AreInRange slots cells → AllByRecursion (λ j. j < slot_count slots) (slots_of slots cells)
+pub range_slots : (slots : Slots) (cells : List Cell) → AreInRange slots cells → AllByRecursion (λ j. j < slot_count slots) (slots_of slots cells)
 range_slots slots [] h = tt
 range_slots slots (cell.App s a n ∷ cells) h = range_slots slots cells h.1
 range_slots slots (cell.Query n ∷ cells) h = (omega (arith, h.0), range_slots slots cells h.1)

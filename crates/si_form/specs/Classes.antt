@@ -5,10 +5,12 @@ use Rattle.si_defs.specs.Terms as terms
 use Rattle.si_flat.specs.declared.Cell.{Cell}
 use Rattle.si_flat.specs.declared.Cell.TheVariants as cell
 use Rattle.si_flat.specs.Cells.{Symbol, Variable, query, entry, ind, Term, Terms, cells_of_all, AreSound, StandsFor}
+use Rattle.si_trail.specs.Trails.{value_at}
 use Rattle.si_unify.specs.Spots.{cell_slot}
 use Rattle.si_unify.specs.Circles.{with_slot}
 use Rattle.si_unify.specs.declared.slots.Slots.{Slots}
-use Rattle.si_unify.specs.Solving.{slot_count, slot_of, variable_of}
+use Rattle.si_unify.specs.Solving.{Pairs, slot_count, slot_of, variable_of, IsSolvedBy}
+use Rattle.si_form.specs.Ordering.{AreOrdered}
 use Rattle.si_form.specs.declared.classes.Node.{Node}
 use Rattle.si_form.specs.declared.classes.Node.TheVariants.{Variable as Of, Head, With}
 
@@ -141,3 +143,33 @@ IsNumbering nodes nodes' slots classes cells at numbers =
     → AreNodes slots nodes known
     → ((slot : ℕ) → IsAmong (slots_of slots cells) slot → KnowsSlot slots f known classes slot)
     → HaveRow slots f known nodes' cells at numbers
+
+-- ---- all slots
+-- each of the first so many variables has a class of its own
+pub record HasSingles (slots : Slots) (nodes : List Node) (classes : List ℕ) (count : ℕ) : Type 0 where
+  pub known : List Term
+  pub are : AreNodes slots nodes known
+  pub long : length classes ≡ count
+  pub knows : (slot : ℕ) → slot < count → KnowsSlot slots terms.var known classes slot
+
+-- f leaves the variables that aren't bound
+abbrev pub LeavesUnbound : Slots → Pairs → (Variable → Term) → Type 0
+LeavesUnbound slots pairs f = (slot : ℕ) → slot < slot_count slots → value_at pairs slot ≡ None → f (variable_of slots slot) ≡ terms.var (variable_of slots slot)
+
+-- the nodes stand for terms, and the classes of the variables are those of their images
+abbrev pub KnowsWhere : Slots → (Variable → Term) → List Node → List ℕ → (ℕ → Type 0) → Type 0
+KnowsWhere slots f nodes classes P = (known : List Term) × AreNodes slots nodes known × ((slot : ℕ) → slot < slot_count slots → P slot → KnowsSlot slots f known classes slot)
+
+-- The classes of the variables are those of their images under the map that solves the list and
+-- leaves the variables that aren't bound.
+pub record HasClasses (slots : Slots) (pairs : Pairs) (nodes : List Node) (classes : List ℕ) : Type 0 where
+  pub long : length classes ≡ slot_count slots
+  pub knows : (f : Variable → Term) → IsSolvedBy slots pairs f → LeavesUnbound slots pairs f → KnowsWhere slots f nodes classes (λ slot. Unit {0})
+
+-- the same of the variables that aren't bound and those that are done; the others are left, in the
+-- order that `used` makes
+pub record IsClassing (used : ℕ → Option (List ℕ)) (slots : Slots) (pairs : Pairs) (nodes : List Node) (classes left : List ℕ) : Type 0 where
+  pub done : List ℕ
+  pub ordered : AreOrdered used (left ++ done)
+  pub long : length classes ≡ slot_count slots
+  pub knows : (f : Variable → Term) → IsSolvedBy slots pairs f → LeavesUnbound slots pairs f → KnowsWhere slots f nodes classes (λ slot. (value_at pairs slot ≡ None) ⊎ IsAmong done slot)

@@ -1,11 +1,16 @@
 // Classes of terms that a list of bindings makes equal, each with a number.
-ghost use Rattle.std.specs.Prelude.{◌≡◌, ◌<◌, ◌≤◌, length, reverse, IfOk};
+ghost use Rattle.std.specs.Prelude.{◌≡◌, ◌<◌, ◌≤◌, length, set, reverse, IfOk};
+ghost use Rattle.std.specs.List.{AllByRecursion};
 ghost use Rattle.si_flat.specs.Cells.{IsWhole};
 ghost use Rattle.si_unify.specs.Solving.{slot_count, CellIsInRange, AreInRange};
-ghost use Rattle.si_form.specs.Classes.{Interns, Applies, NumbersCell, HasClass};
+ghost use Rattle.si_unify.specs.Solving.{IsTriangular, IsBinding};
+ghost use Rattle.si_form.specs.Classes.{Interns, Applies, NumbersCell, HasClass, HasSingles, HasClasses};
 
+use crate::order::order;
+use crate::uses::uses;
 use indexmap::IndexSet;
 use si_flat::Cell;
+use si_trail::Trail;
 use si_unify::Slots;
 use std::alloc::{AllocError, Global};
 
@@ -18,6 +23,13 @@ pub(crate) enum Node {
     Head { sym: u32, arity: u32 },
     /// A term with one argument more.
     With { front: usize, argument: usize },
+}
+
+/// The classes of terms, and those of the variables, by their slots.
+#[derive(Drop)]
+pub(crate) struct Classes {
+    pub(crate) nodes: IndexSet<Node>,
+    pub(crate) of_slots: Vec<usize>,
 }
 
 // The number of a node.
@@ -93,4 +105,54 @@ fn class_of(
         numbers.push(number)?;
     }
     number_of(nodes, &mut numbers, slots, classes, cells[0])
+}
+
+// For each variable a class of its own.
+fn single_classes(alloc: Global, slots: &Slots) -> Result<Classes, AllocError>
+    ensures { IfOk result (λ c. HasSingles slots.now c.nodes.keys c.of_slots.items
+        (slot_count slots.now)) }
+{
+    let mut nodes = IndexSet::new(alloc);
+    let mut of_slots = Vec::new(alloc);
+    for slot in 0..slots.count() {
+        let number = intern(&mut nodes, Node::Variable(slot))?;
+        of_slots.push(number)?;
+    }
+    Ok(Classes { nodes, of_slots })
+}
+
+// Gives a slot another class.
+fn change(of_slots: &mut Vec<usize>, slot: usize, number: usize)
+    requires { slot < length of_slots.old.items }
+    ensures { of_slots.new.items ≡ set of_slots.old.items slot number }
+{
+    of_slots[slot] = number;
+}
+
+/// The classes that a list of bindings makes: two terms have one number where it makes them equal.
+pub(crate) fn find_classes<'a>(
+    alloc: Global,
+    slots: &Slots,
+    trail: &Trail<&'a [Cell]>,
+) -> Result<Classes, AllocError>
+    requires bindings { AllByRecursion (IsBinding slots.now) trail.now.pairs }
+    requires triangular { IsTriangular slots.now trail.now.pairs }
+    ensures { IfOk result (λ c. HasClasses slots.now trail.now.pairs c.nodes.keys
+        c.of_slots.items) }
+{
+    let lists = uses(alloc, slots, trail)?;
+    let mut left = order(alloc, &lists)?;
+    let Classes {
+        mut nodes,
+        mut of_slots,
+    } = single_classes(alloc, slots)?;
+    // From the last to the first: the variables in a value come before its own.
+    while let Some(slot) = left.pop() {
+        let Some(value) = trail.get(slot) else {
+            continue;
+        };
+        let number = class_of(alloc, &mut nodes, slots, &of_slots, value)?;
+        change(&mut of_slots, slot, number);
+    }
+    Ok(Classes { nodes, of_slots })
 }

@@ -13,3 +13,5 @@ pub mod NodeLaws
 pub mod CellNumbering
 pub mod UsesLaws
 pub mod ClassLaws
+pub mod TrailLaws
+pub mod OrderedLaws

@@ -15,3 +15,5 @@ pub mod UsesLaws
 pub mod ClassLaws
 pub mod TrailLaws
 pub mod OrderedLaws
+pub mod FoldingLaws
+pub mod RightSides

@@ -15,10 +15,10 @@ use Rattle.si_form.specs.contracts.classes.NodePartialEq.TheImpl.{eq-value}
 use Rattle.si_form.specs.Classes.{Interns, chain, with_last, HasOneMore, StandsForNode, AreNodes, GrowsTo, HaveNumbers, Applies, HasApplied, IsApplying}
 
 -- ---- equal nodes
-number_tells : (m n : ℕ) → (m == n) ≡ true → m ≡ n
+pub number_tells : (m n : ℕ) → (m == n) ≡ true → m ≡ n
 number_tells m n e = elim (eqb_tells m n) [ inl h ↦ h.1 | inr h ↦ let bad : true ≡ false = sym e ∙ h.0 in cc ]
 
-both_true : (a b : Bool) → (a && b) ≡ true → (a ≡ true) × (b ≡ true)
+pub both_true : (a b : Bool) → (a && b) ≡ true → (a ≡ true) × (b ≡ true)
 both_true true b e = (refl, e)
 both_true false b e = cc
 

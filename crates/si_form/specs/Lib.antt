@@ -3,3 +3,4 @@ pub mod Matching
 pub mod Ordering
 pub mod Classes
 pub mod Uses
+pub mod Folding

@@ -8,6 +8,7 @@
 mod canonical;
 mod classes;
 mod laws;
+mod leaders;
 mod matching;
 mod order;
 mod solution;

@@ -1,0 +1,69 @@
+-- Terms folded by variables: where the image of a variable stands, the first such variable is
+-- written.
+use Rattle.std.specs.Prelude.{◌≡◌, ℕ, zero, suc, ◌<◌, ◌==◌, ◌&&◌, if◌then◌else◌, Bool, true, false, List, length, slice_get, Option, None, Some}
+use Rattle.si_defs.specs.Terms as terms
+use Rattle.si_flat.specs.Cells.{Symbol, Variable, same_variable, Term, Terms}
+use Rattle.si_unify.specs.declared.slots.Slots.{Slots}
+use Rattle.si_unify.specs.Solving.{slot_count, variable_of}
+use Rattle.si_form.specs.declared.classes.Node.{Node}
+use Rattle.si_form.specs.Classes.{AreNodes, KnowsSlot}
+
+abbrev pub same_symbol : Symbol → Symbol → Bool
+same_symbol s r = s.number == r.number && s.arity == r.arity
+
+abbrev mutual
+  pub same_terms : Term → Term → Bool
+  same_terms (terms.var x) (terms.var y) = same_variable x y
+  same_terms (terms.var x) (terms.app r us) = false
+  same_terms (terms.app s ts) (terms.var y) = false
+  same_terms (terms.app s ts) (terms.app r us) = same_symbol s r && same_rows ts us
+
+  pub same_rows : Terms → Terms → Bool
+  same_rows terms.none terms.none = true
+  same_rows terms.none (terms.more u us) = false
+  same_rows (terms.more t ts) terms.none = false
+  same_rows (terms.more t ts) (terms.more u us) = same_terms t u && same_rows ts us
+
+-- the slot that is there, or else this one where it fits
+abbrev pub or_slot : Option ℕ → Bool → ℕ → Option ℕ
+or_slot (Some k) fits slot = Some k
+or_slot None true slot = Some slot
+or_slot None false slot = None
+
+module _ (slots : Slots) (f : Variable → Term) where
+  -- the first of so many slots whose variable has this image
+  abbrev pub leader_below : ℕ → Term → Option ℕ
+  leader_below zero t = None
+  leader_below (suc k) t = or_slot (leader_below k t) (same_terms (f (variable_of slots k)) t) k
+
+  abbrev pub leader : Term → Option ℕ
+  leader t = leader_below (slot_count slots) t
+
+  abbrev pub variable_or : Option ℕ → Term → Term
+  variable_or (Some k) t = terms.var (variable_of slots k)
+  variable_or None t = t
+
+  -- the term with its proper parts folded
+  abbrev mutual
+    pub folded : Term → Term
+    folded (terms.var x) = terms.var x
+    folded (terms.app s ts) = terms.app s (folded_all ts)
+
+    pub folded_all : Terms → Terms
+    folded_all terms.none = terms.none
+    folded_all (terms.more t ts) = terms.more (variable_or (leader t) (folded t)) (folded_all ts)
+
+  -- the nodes stand for terms, and the classes of the variables are those of their images
+  pub record AreClasses (nodes : List Node) (classes : List ℕ) (known : List Term) : Type 0 where
+    pub are : AreNodes slots nodes known
+    pub long : length classes ≡ slot_count slots
+    pub knows : (slot : ℕ) → slot < slot_count slots → KnowsSlot slots f known classes slot
+
+  -- the leaders of the classes, among so many slots
+  abbrev pub AreLeaders : ℕ → List Term → List (Option ℕ) → Type 0
+  AreLeaders k known leaders = (m : ℕ) (t : Term) → slice_get known m ≡ Some t → slice_get leaders m ≡ Some (leader_below k t)
+
+-- the leaders of the classes, whatever they stand for
+abbrev pub LeadClasses : Slots → List Node → List ℕ → ℕ → List (Option ℕ) → Type 0
+LeadClasses slots nodes classes k leaders =
+    (f : Variable → Term) (known : List Term) → AreClasses slots f nodes classes known → AreLeaders slots f k known leaders

@@ -63,7 +63,7 @@ module _ {S V : Type 0} (same : V → V → Bool) (tells : (x y : V) → same x 
       by y true give = k
       by y false give = (give refl, tt)
 
-  sequence_inside : (P : V → Type 0) (bs : List (V × Term S V)) (t : Term S V) → AllByRecursion P (variables t) → AllByRecursion (λ u. AllByRecursion P (variables u)) (rights bs) → AllByRecursion P (variables (in_sequence same bs t))
+  pub sequence_inside : (P : V → Type 0) (bs : List (V × Term S V)) (t : Term S V) → AllByRecursion P (variables t) → AllByRecursion (λ u. AllByRecursion P (variables u)) (rights bs) → AllByRecursion P (variables (in_sequence same bs t))
   sequence_inside P [] t h k = h
   sequence_inside P (b ∷ bs) t h k =
       sequence_inside P bs (bind same b.0 b.1 t)
@@ -71,7 +71,7 @@ module _ {S V : Type 0} (same : V → V → Bool) (tells : (x y : V) → same x 
       k.1
 
   -- no left side is left
-  lefts_gone : (bs : List (V × Term S V)) (t : Term S V) (x : V) → IsTriangular same bs → IsAmong (lefts bs) x → IsAmong (variables (in_sequence same bs t)) x → ⊥
+  pub lefts_gone : (bs : List (V × Term S V)) (t : Term S V) (x : V) → IsTriangular same bs → IsAmong (lefts bs) x → IsAmong (variables (in_sequence same bs t)) x → ⊥
   lefts_gone [] t x h a v = elim a [ ]
   lefts_gone (b ∷ bs) t x h a v =
       elim a [

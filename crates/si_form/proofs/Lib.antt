@@ -17,3 +17,4 @@ pub mod TrailLaws
 pub mod OrderedLaws
 pub mod FoldingLaws
 pub mod RightSides
+pub mod OrderOfSlots

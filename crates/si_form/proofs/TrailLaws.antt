@@ -23,6 +23,10 @@ use Rattle.si_form.proofs.UnifierLaws.{sequence_is, free_stays, pair_of_left}
 use Rattle.si_form.proofs.GeneralLaws.{Solves, general, general_solves, HasUnifiers}
 use Rattle.si_form.proofs.Agreeing.{same_value}
 use Rattle.si_form.proofs.NodeLaws.{slot_again}
+use Rattle.si_unify.specs.Solving.{CellIsInRange}
+use Rattle.si_unify.proofs.Places.{variable_of-slot_of, in_range-variable}
+use Rattle.si_form.proofs.FoldedLaws.{sequence_inside, lefts_gone}
+use Rattle.si_form.proofs.RightSides.{Stays}
 use Rattle.si_form.specs.Classes.{LeavesUnbound}
 
 -- ---- rows of slots and terms
@@ -204,6 +208,35 @@ of_rows_equal slots f (pair ∷ pairs) b h = (
   of_rows_equal slots f pairs b.1 h.1,
 )
 
+-- ---- the variables of rows
+abbrev pub HasSlot : Slots → Variable → Type 0
+HasSlot slots y = (j : ℕ) × (j < slot_count slots) × (y ≡ variable_of slots j)
+
+slot_below : (slots : Slots) (x : Variable) → IsInRange slots x → slot_of slots x < slot_count slots
+slot_below slots (query n) h = omega (arith, h)
+slot_below slots (entry n) h = omega (arith, h)
+slot_below slots (ind n) h = omega (arith, h)
+
+cell_has_slot : (slots : Slots) (x : Variable) → CellIsInRange slots (variable_cell x) → HasSlot slots x
+cell_has_slot slots x h =
+    let range = in_range-variable slots x h in
+    (slot_of slots x, slot_below slots x range, sym (variable_of-slot_of slots x range))
+
+abbrev HasSlots : Slots → ℕ × Term → Type 0
+HasSlots slots row = AllByRecursion (HasSlot slots) (terms.variables row.1)
+
+rows_have_slots : (slots : Slots) (pairs : Pairs) (b : AllByRecursion (IsBinding slots) pairs) → AllByRecursion (HasSlots slots) (rows slots pairs b)
+rows_have_slots slots [] b = tt
+rows_have_slots slots (pair ∷ pairs) b = (
+  variables_ranked (CellIsInRange slots) (HasSlot slots) b.0.whole.0 (λ x h. cell_has_slot slots x h)
+      (subst (AllByRecursion (CellIsInRange slots)) b.0.whole.1.cells_are b.0.in_range),
+  rows_have_slots slots pairs b.1,
+)
+
+named_rights : (slots : Slots) (rs : List (ℕ × Term)) → AllByRecursion (HasSlots slots) rs → AllByRecursion (λ u. AllByRecursion (HasSlot slots) (terms.variables u)) (rights (named slots rs))
+named_rights slots [] h = tt
+named_rights slots (r ∷ rs) h = (h.0, named_rights slots rs h.1)
+
 -- ---- nothing is frozen
 none_frozen : {P : Type 0} (slots : Slots) → slots.freeze_query ≡ false → slots.freeze_entry ≡ false → (x : Variable) → is_frozen slots x ≡ true → P
 none_frozen slots a b (query n) e = let bad : true ≡ false = sym e ∙ a in cc
@@ -241,6 +274,27 @@ module _ (slots : Slots) (free_query : slots.freeze_query ≡ false) (free_entry
       ∙ free_stays same_variable same_tells same_itself bound_list (variable_of slots slot)
       (not_named slots (sorted triangular.0 (rows slots pairs bindings)) slot
       (sorted_all triangular.0 (IsApartFrom slot) (rows slots pairs bindings) (rows_from slots pairs bindings slot (apart_from pairs slot unbound))))
+
+  -- the variables of images are variables of slots that the map leaves
+  pub general_stays : (k : ℕ) → k < slot_count slots → AllByRecursion (Stays slots (general same_variable same_tells same_itself bound_list)) (terms.variables (general same_variable same_tells same_itself bound_list (variable_of slots k)))
+  general_stays k less =
+      subst (λ t. AllByRecursion (Stays slots (general same_variable same_tells same_itself bound_list)) (terms.variables t)) (sequence_is same_variable same_tells same_itself bound_list (terms.var (variable_of slots k)))
+      (
+      members.all_from (Stays slots (general same_variable same_tells same_itself bound_list)) (terms.variables (in_sequence same_variable bound_list (terms.var (variable_of slots k))))
+      (λ y a.
+      let known =
+      members.all_at (HasSlot slots) (terms.variables (in_sequence same_variable bound_list (terms.var (variable_of slots k)))) y
+      (sequence_inside same_variable same_tells same_itself (HasSlot slots) bound_list (terms.var (variable_of slots k)) ((k, less, refl), tt)
+      (named_rights slots (sorted triangular.0 (rows slots pairs bindings)) (sorted_all triangular.0 (HasSlots slots) (rows slots pairs bindings) (rows_have_slots slots pairs bindings))))
+      a in (
+        known.0,
+        known.1,
+        known.2,
+        sym (sequence_is same_variable same_tells same_itself bound_list (terms.var y))
+        ∙ free_stays same_variable same_tells same_itself bound_list y
+        (λ l. lefts_gone same_variable same_tells same_itself bound_list (terms.var (variable_of slots k)) y bound_triangular l a),
+      ))
+      )
 
   -- its solutions are the unifiers of the two terms that were solved
   pub has_unifiers : (left right : List Cell) (q e : Term) → StandsFor left q → StandsFor right e → HasSolved slots [] pairs left right true → HasUnifiers same_variable same_tells same_itself q e bound_list

@@ -10,9 +10,11 @@ use Rattle.si_flat.specs.Cells.{Symbol, Variable, same_variable, Term, Terms}
 use Rattle.si_unify.specs.declared.slots.Slots.{Slots}
 use Rattle.si_unify.specs.Solving.{slot_count, variable_of}
 use Rattle.si_form.specs.declared.classes.Node.{Node}
-use Rattle.si_form.specs.Folding.{same_symbol, same_terms, same_rows, or_slot, leader_below, leader, variable_or, folded, folded_all, AreClasses, AreLeaders, LeadClasses}
+use Rattle.si_form.specs.declared.classes.Node.TheVariants.{Variable as Of, Head, With}
+use Rattle.si_form.specs.Classes.{chain, with_last, StandsForNode, AreNodes}
+use Rattle.si_form.specs.Folding.{same_symbol, same_terms, same_rows, or_slot, leader_below, leader, variable_or, folded, folded_all, AreClasses, AreLeaders, LeadClasses, HaveKnown, Descends, HasDescended, IsDescending, HasTerms}
 use Rattle.si_form.proofs.VariableLaws.{same_tells, same_itself}
-use Rattle.si_form.proofs.NodeLaws.{number_tells, both_true, get_inside, get_some, same_some}
+use Rattle.si_form.proofs.NodeLaws.{number_tells, both_true, get_inside, get_some, same_some, same_app, chain_last, chain_none, known_of}
 
 -- ---- equal terms
 symbol_tells : (s r : Symbol) → same_symbol s r ≡ true → s ≡ r
@@ -137,3 +139,53 @@ pub all_fresh : {X : Type 0} (x : X) (n k : ℕ) (old new : List X) → old ≡ 
 all_fresh x n k old new none zero_is is =
     let few : n - k ≡ n = omega (arith, zero_is) in
     is ∙ ap (λ l. l ++ replicate (n - k) x) (take_none n old none) ∙ ap (λ m. replicate m x) few
+
+-- ---- from a class to its symbol
+pub descending_begins : (nodes : List Node) (left : List ℕ) (class : ℕ) → IsDescending nodes left left class class
+descending_begins nodes left class slots known s ts rest are class_is have = record {
+  before = ts;
+  behind = terms.none;
+  parts = sym (chain_none ts);
+  front_is = class_is;
+  piled = have;
+}
+
+front_known : (slots : Slots) (nodes : List Node) (known : List Term) (n : ℕ) (node : Node) (s : Symbol) (ts : Terms) → AreNodes slots nodes known → slice_get nodes n ≡ Some node → slice_get known n ≡ Some (terms.app s ts) → StandsForNode slots known n node (terms.app s ts)
+front_known slots nodes known n node s ts are at_node at_term = are.stands n node (terms.app s ts) at_node at_term
+
+pub descending_more : (nodes : List Node) (left left1 left2 : List ℕ) (class front before argument : ℕ) → IsDescending nodes left left1 class front → Some (With before argument) ≡ slice_get nodes front → left2 ≡ argument ∷ left1 → IsDescending nodes left left2 class before
+descending_more nodes left left1 left2 class front before argument h node pushed slots known s ts rest are class_is have =
+    let d = h slots known s ts rest are class_is have in
+    let m = front_known slots nodes known front (With before argument) s d.before are (sym node) d.front_is in
+    let same = same_app s m.symbol d.before (with_last m.arguments m.last) m.term_is in
+    subst (λ l. HasDescended known l s ts rest before) (sym pushed) (record {
+      before = m.arguments;
+      behind = terms.more m.last d.behind;
+      parts = d.parts ∙ ap (λ us. chain us d.behind) same.1 ∙ sym (chain_last m.arguments d.behind m.last);
+      front_is = m.front_is ∙ ap (λ r. Some (terms.app r m.arguments)) (sym same.0);
+      piled = (m.last_is, d.piled);
+    })
+
+pub descending_lower : (nodes : List Node) (front before argument : ℕ) → HasTerms nodes → Some (With before argument) ≡ slice_get nodes front → before < front
+descending_lower nodes front before argument has node = (known_of has.0 nodes has.1 has.2 front (With before argument) (sym node)).2.front_before
+
+pub descending_ends : (nodes : List Node) (left left1 : List ℕ) (class front a b : ℕ) → IsDescending nodes left left1 class front → Some (Head a b) ≡ slice_get nodes front → Descends nodes left left1 class (Some (a, b))
+descending_ends nodes left left1 class front a b h node slots known s ts rest are class_is have =
+    let d = h slots known s ts rest are class_is have in
+    let m = front_known slots nodes known front (Head a b) s d.before are (sym node) d.front_is in
+    let same = same_app s (record { number = a; arity = b }) d.before terms.none m in (
+      ap (λ x. Some (x, b)) (ap (λ r. r.number) (sym same.0)) ∙ ap (λ y. Some (s.number, y)) (ap (λ r. r.arity) (sym same.0)),
+      subst (λ us. HaveKnown known left1 (chain us rest)) (sym (d.parts ∙ ap (λ us. chain us d.behind) same.1)) d.piled,
+    )
+
+pub descending_no_variable : (nodes : List Node) (left left1 : List ℕ) (class front slot : ℕ) → IsDescending nodes left left1 class front → Some (Of slot) ≡ slice_get nodes front → Descends nodes left left1 class None
+descending_no_variable nodes left left1 class front slot h node slots known s ts rest are class_is have =
+    let d = h slots known s ts rest are class_is have in
+    let m = front_known slots nodes known front (Of slot) s d.before are (sym node) d.front_is in
+    let bad : terms.app s d.before ≡ terms.var (variable_of slots slot) = m.1 in cc
+
+pub descending_inside : (nodes : List Node) (left left1 : List ℕ) (class front : ℕ) → IsDescending nodes left left1 class front → None ≡ slice_get nodes front → Descends nodes left left1 class None
+descending_inside nodes left left1 class front h none slots known s ts rest are class_is have =
+    let d = h slots known s ts rest are class_is have in
+    let r = get_some nodes front (omega (arith, get_inside known front (terms.app s d.before) d.front_is, are.long)) in
+    let bad : None ≡ Some r.0 = none ∙ r.1 in cc

@@ -114,7 +114,7 @@ same_last (terms.more v ts) (terms.more w us) t u e =
     let r = same_last ts us t u others in
     (ap (λ x. terms.more x ts) first ∙ ap (terms.more w) r.0, r.1)
 
-same_app : (s r : Symbol) (ts us : Terms) → terms.app s ts ≡ terms.app r us → (s ≡ r) × (ts ≡ us)
+pub same_app : (s r : Symbol) (ts us : Terms) → terms.app s ts ≡ terms.app r us → (s ≡ r) × (ts ≡ us)
 same_app s r ts us e = (cc, cc)
 
 same_variables : (x y : Variable) (t : Term) → t ≡ terms.var x → t ≡ terms.var y → x ≡ y
@@ -124,7 +124,7 @@ substitute_last : (f : Variable → Term) (ts : Terms) (u : Term) → terms.subs
 substitute_last f terms.none u = refl
 substitute_last f (terms.more t ts) u = ap (terms.more (terms.substitute f t)) (substitute_last f ts u)
 
-chain_last : (ts us : Terms) (u : Term) → chain ts (terms.more u us) ≡ chain (with_last ts u) us
+pub chain_last : (ts us : Terms) (u : Term) → chain ts (terms.more u us) ≡ chain (with_last ts u) us
 chain_last terms.none us u = refl
 chain_last (terms.more t ts) us u = ap (terms.more t) (chain_last ts us u)
 

@@ -1,12 +1,12 @@
 -- Terms folded by variables: where the image of a variable stands, the first such variable is
 -- written.
-use Rattle.std.specs.Prelude.{◌≡◌, ℕ, zero, suc, ◌<◌, ◌==◌, ◌&&◌, if◌then◌else◌, Bool, true, false, List, length, slice_get, Option, None, Some}
+use Rattle.std.specs.Prelude.{◌≡◌, ℕ, zero, suc, ◌<◌, ◌==◌, ◌&&◌, if◌then◌else◌, Bool, true, false, List, [], ◌∷◌, length, slice_get, Option, None, Some}
 use Rattle.si_defs.specs.Terms as terms
 use Rattle.si_flat.specs.Cells.{Symbol, Variable, same_variable, Term, Terms}
 use Rattle.si_unify.specs.declared.slots.Slots.{Slots}
 use Rattle.si_unify.specs.Solving.{slot_count, variable_of}
 use Rattle.si_form.specs.declared.classes.Node.{Node}
-use Rattle.si_form.specs.Classes.{AreNodes, KnowsSlot}
+use Rattle.si_form.specs.Classes.{chain, AreNodes, KnowsSlot}
 
 abbrev pub same_symbol : Symbol → Symbol → Bool
 same_symbol s r = s.number == r.number && s.arity == r.arity
@@ -67,3 +67,39 @@ module _ (slots : Slots) (f : Variable → Term) where
 abbrev pub LeadClasses : Slots → List Node → List ℕ → ℕ → List (Option ℕ) → Type 0
 LeadClasses slots nodes classes k leaders =
     (f : Variable → Term) (known : List Term) → AreClasses slots f nodes classes known → AreLeaders slots f k known leaders
+
+-- ---- from a class to its symbol
+-- the numbers stand for these terms
+abbrev pub HaveKnown : List Term → List ℕ → Terms → Type 0
+HaveKnown known [] terms.none = Unit {0}
+HaveKnown known [] (terms.more t ts) = ⊥
+HaveKnown known (n ∷ ns) terms.none = ⊥
+HaveKnown known (n ∷ ns) (terms.more t ts) = (slice_get known n ≡ Some t) × HaveKnown known ns ts
+
+-- the answer is the symbol of the class's term; its arguments stand before the others
+abbrev pub Descends : List Node → List ℕ → List ℕ → ℕ → Option (ℕ × ℕ) → Type 0
+Descends nodes left left' class answer =
+    (slots : Slots) (known : List Term) (s : Symbol) (ts rest : Terms)
+    → AreNodes slots nodes known
+    → slice_get known class ≡ Some (terms.app s ts)
+    → HaveKnown known left rest
+    → (answer ≡ Some (s.number, s.arity)) × HaveKnown known left' (chain ts rest)
+
+-- so far the arguments behind a front have been piled up
+pub record HasDescended (known : List Term) (left : List ℕ) (s : Symbol) (ts rest : Terms) (front : ℕ) : Type 0 where
+  pub before : Terms
+  pub behind : Terms
+  pub parts : ts ≡ chain before behind
+  pub front_is : slice_get known front ≡ Some (terms.app s before)
+  pub piled : HaveKnown known left (chain behind rest)
+
+abbrev pub IsDescending : List Node → List ℕ → List ℕ → ℕ → ℕ → Type 0
+IsDescending nodes left left' class front =
+    (slots : Slots) (known : List Term) (s : Symbol) (ts rest : Terms)
+    → AreNodes slots nodes known
+    → slice_get known class ≡ Some (terms.app s ts)
+    → HaveKnown known left rest
+    → HasDescended known left' s ts rest front
+
+abbrev pub HasTerms : List Node → Type 0
+HasTerms nodes = (slots : Slots) × (known : List Term) × AreNodes slots nodes known

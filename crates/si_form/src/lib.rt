@@ -7,6 +7,7 @@
 
 mod canonical;
 mod classes;
+mod folding;
 mod laws;
 mod leaders;
 mod matching;

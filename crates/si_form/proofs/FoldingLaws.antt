@@ -1,9 +1,9 @@
 -- Leaders of classes, and folded terms.
-use Rattle.std.proofs.Common.{◌≡◌, ◌≢◌, ℕ, ◌+◌, ◌-◌, ◌<◌, ◌≤◌, ◌⊎◌, inl, inr, Bool, true, false, List, [], ◌∷◌, ◌++◌, length, take, get_or, replicate, suc, zero, refl, sym, ◌∙◌, ap, subst, arith, Option, Some, None}
+use Rattle.std.proofs.Common.{◌≡◌, ◌≢◌, ℕ, ◌+◌, ◌-◌, ◌<◌, ◌≤◌, ◌⊎◌, inl, inr, Bool, true, false, List, [], ◌∷◌, ◌++◌, length, take, get_or, replicate, suc, zero, refl, sym, ◌∙◌, ap, subst, arith, length-append, Option, Some, None}
 use Rattle.std.proofs.lemmas.Bool.Decides.{eqb_tells}
 use Rattle.std.proofs.lemmas.Bool.{eq-eqb}
 use Rattle.std.proofs.Math.ListN.{set}
-use Rattle.std.specs.Prelude.{slice_get, ◌==◌, ◌&&◌}
+use Rattle.std.specs.Prelude.{slice_get, min, ◌^◌, ◌==◌, ◌&&◌}
 use Rattle.std.specs.List.{AllByRecursion}
 use Rattle.si_defs.specs.Terms as terms
 use Rattle.si_flat.specs.Cells.{Symbol, Variable, same_variable, Term, Terms}
@@ -12,9 +12,9 @@ use Rattle.si_unify.specs.Solving.{slot_count, variable_of}
 use Rattle.si_form.specs.declared.classes.Node.{Node}
 use Rattle.si_form.specs.declared.classes.Node.TheVariants.{Variable as Of, Head, With}
 use Rattle.si_form.specs.Classes.{chain, with_last, StandsForNode, AreNodes}
-use Rattle.si_form.specs.Folding.{same_symbol, same_terms, same_rows, or_slot, leader_below, leader, variable_or, folded, folded_all, AreClasses, AreLeaders, LeadClasses, HaveKnown, Descends, HasDescended, IsDescending, HasTerms}
+use Rattle.si_form.specs.Folding.{same_symbol, same_terms, same_rows, or_slot, leader_below, leader, variable_or, folded, folded_all, AreClasses, AreLeaders, LeadClasses, HaveKnown, Descends, HasDescended, IsDescending, HasTerms, IsBefore, AreSizes, node_size, part_size}
 use Rattle.si_form.proofs.VariableLaws.{same_tells, same_itself}
-use Rattle.si_form.proofs.NodeLaws.{number_tells, both_true, get_inside, get_some, same_some, same_app, chain_last, chain_none, known_of}
+use Rattle.si_form.proofs.NodeLaws.{number_tells, both_true, get_inside, get_some, same_some, same_app, chain_last, chain_none, known_of, get_last, get_front}
 
 -- ---- equal terms
 symbol_tells : (s r : Symbol) → same_symbol s r ≡ true → s ≡ r
@@ -189,3 +189,43 @@ descending_inside nodes left left1 class front h none slots known s ts rest are 
     let d = h slots known s ts rest are class_is have in
     let r = get_some nodes front (omega (arith, get_inside known front (terms.app s d.before) d.front_is, are.long)) in
     let bad : None ≡ Some r.0 = none ∙ r.1 in cc
+
+-- ---- sizes
+pub is_before : (nodes : List Node) (n : ℕ) (node : Node) → HasTerms nodes → Some node ≡ slice_get nodes n → IsBefore n node
+is_before nodes n (Of slot) has at = tt
+is_before nodes n (Head s a) has at = tt
+is_before nodes n (With p q) has at = let m = (known_of has.0 nodes has.1 has.2 n (With p q) (sym at)).2 in (m.front_before, m.argument_before)
+
+pub sizes_begin : (nodes : List Node) (leaders : List (Option ℕ)) (sizes : List ℕ) → sizes ≡ [] → AreSizes nodes leaders 0 sizes
+sizes_begin nodes leaders sizes none = record { long = ap length none; sizes_are = λ n node less at. absurd (omega (arith, less)) }
+
+get_or_front : (xs ys : List ℕ) (i : ℕ) → i < length xs → get_or (xs ++ ys) i 0 ≡ get_or xs i 0
+get_or_front [] ys i less = absurd (omega (arith, less))
+get_or_front (x ∷ xs) ys zero less = refl
+get_or_front (x ∷ xs) ys (suc i) less = get_or_front xs ys i (omega (arith, less))
+
+size_front : (sizes more : List ℕ) (leaders : List (Option ℕ)) (node : Node) → IsBefore (length sizes) node → node_size (sizes ++ more) leaders node ≡ node_size sizes leaders node
+size_front sizes more leaders (Of slot) h = refl
+size_front sizes more leaders (Head s a) h = refl
+size_front sizes more leaders (With p q) h =
+    ap (λ x. min (x + part_size (get_or leaders q None) (get_or (sizes ++ more) q 0)) (2 ^ 32 - 1)) (get_or_front sizes more p h.0)
+    ∙ ap (λ x. min (get_or sizes p 0 + part_size (get_or leaders q None) x) (2 ^ 32 - 1)) (get_or_front sizes more q h.1)
+
+later_before : (m n : ℕ) (node : Node) → m ≤ n → IsBefore m node → IsBefore n node
+later_before m n (Of slot) less h = tt
+later_before m n (Head s a) less h = tt
+later_before m n (With p q) less h = (omega (arith, less, h.0), omega (arith, less, h.1))
+
+pub sizes_more : (nodes : List Node) (leaders : List (Option ℕ)) (sizes new : List ℕ) (k size : ℕ) (node : Node) → HasTerms nodes → Some node ≡ slice_get nodes k → AreSizes nodes leaders k sizes → size ≡ node_size sizes leaders node → new ≡ sizes ++ size ∷ [] → AreSizes nodes leaders (k + 1) new
+sizes_more nodes leaders sizes new k size node has at h size_is is = subst (AreSizes nodes leaders (k + 1)) (sym is) (record {
+  long = length-append sizes (size ∷ []) ∙ omega (arith, h.long);
+  sizes_are = λ n other less here.
+      let before : IsBefore (length sizes) other = later_before n (length sizes) other (omega (arith, less, h.long)) (is_before nodes n other has (sym here)) in
+      let same : node_size (sizes ++ size ∷ []) leaders other ≡ node_size sizes leaders other = size_front sizes (size ∷ []) leaders other before in
+      elim (eqb_tells n k) [
+        | inl e ↦
+            let node_is : other ≡ node = same_some other node (sym here ∙ ap (slice_get nodes) e.1 ∙ sym at) in
+            ap (slice_get (sizes ++ size ∷ [])) (e.1 ∙ sym h.long) ∙ get_last sizes size ∙ ap Some (size_is ∙ ap (node_size sizes leaders) (sym node_is) ∙ sym same)
+        | inr e ↦ get_front sizes (size ∷ []) n (node_size sizes leaders other) (h.sizes_are n other (omega (arith, less, e.1)) here) ∙ ap Some (sym same)
+      ];
+})

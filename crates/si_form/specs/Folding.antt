@@ -1,11 +1,12 @@
 -- Terms folded by variables: where the image of a variable stands, the first such variable is
 -- written.
-use Rattle.std.specs.Prelude.{◌≡◌, ℕ, zero, suc, ◌<◌, ◌==◌, ◌&&◌, if◌then◌else◌, Bool, true, false, List, [], ◌∷◌, length, slice_get, Option, None, Some}
+use Rattle.std.specs.Prelude.{◌≡◌, ℕ, zero, suc, ◌+◌, ◌-◌, ◌^◌, ◌<◌, min, slice_index_or, ◌==◌, ◌&&◌, if◌then◌else◌, Bool, true, false, List, [], ◌∷◌, length, slice_get, Option, None, Some}
 use Rattle.si_defs.specs.Terms as terms
 use Rattle.si_flat.specs.Cells.{Symbol, Variable, same_variable, Term, Terms}
 use Rattle.si_unify.specs.declared.slots.Slots.{Slots}
 use Rattle.si_unify.specs.Solving.{slot_count, variable_of}
 use Rattle.si_form.specs.declared.classes.Node.{Node}
+use Rattle.si_form.specs.declared.classes.Node.TheVariants.{Variable as Of, Head, With}
 use Rattle.si_form.specs.Classes.{chain, AreNodes, KnowsSlot}
 
 abbrev pub same_symbol : Symbol → Symbol → Bool
@@ -103,3 +104,25 @@ IsDescending nodes left left' class front =
 
 abbrev pub HasTerms : List Node → Type 0
 HasTerms nodes = (slots : Slots) × (known : List Term) × AreNodes slots nodes known
+
+-- ---- sizes
+abbrev pub part_size : Option ℕ → ℕ → ℕ
+part_size None size = size
+part_size (Some slot) size = 1
+
+-- the number of cells of a folded class, as far as it can be told, from those of the classes before
+abbrev pub node_size : List ℕ → List (Option ℕ) → Node → ℕ
+node_size sizes leaders (Of slot) = 1
+node_size sizes leaders (Head sym arity) = 1
+node_size sizes leaders (With front argument) =
+    min (slice_index_or sizes front 0 + part_size (slice_index_or leaders argument None) (slice_index_or sizes argument 0)) (2 ^ 32 - 1)
+
+-- the node's parts are among the first so many
+abbrev pub IsBefore : ℕ → Node → Type 0
+IsBefore n (Of slot) = Unit {0}
+IsBefore n (Head sym arity) = Unit {0}
+IsBefore n (With front argument) = (front < n) × (argument < n)
+
+pub record AreSizes (nodes : List Node) (leaders : List (Option ℕ)) (k : ℕ) (sizes : List ℕ) : Type 0 where
+  pub long : length sizes ≡ k
+  pub sizes_are : (n : ℕ) (node : Node) → n < k → slice_get nodes n ≡ Some node → slice_get sizes n ≡ Some (node_size sizes leaders node)

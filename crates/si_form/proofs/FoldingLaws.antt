@@ -73,7 +73,7 @@ set_other (y ∷ xs) zero (suc j) x apart = refl
 set_other (y ∷ xs) (suc i) zero x apart = refl
 set_other (y ∷ xs) (suc i) (suc j) x apart = set_other xs i j x (λ e. apart (ap suc e))
 
-at_default : {X : Type 0} (xs : List X) (i : ℕ) (d x : X) → slice_get xs i ≡ Some x → get_or xs i d ≡ x
+pub at_default : {X : Type 0} (xs : List X) (i : ℕ) (d x : X) → slice_get xs i ≡ Some x → get_or xs i d ≡ x
 at_default [] i d x e = cc
 at_default (y ∷ xs) zero d x e = same_some y x e
 at_default (y ∷ xs) (suc i) d x e = at_default xs i d x e

@@ -18,3 +18,4 @@ pub mod OrderedLaws
 pub mod FoldingLaws
 pub mod RightSides
 pub mod OrderOfSlots
+pub mod SizeLaws

@@ -215,7 +215,7 @@ module _ (slots : Slots) (nodes : List Node) (known : List Term) (are : AreNodes
       let r = get_some known n (omega (arith, get_inside nodes n node e, are.long)) in
       (r.0, r.1, are.stands n node r.0 e r.1)
 
-  node_of : (n : ℕ) (t : Term) → slice_get known n ≡ Some t → (node : Node) × (slice_get nodes n ≡ Some node) × StandsForNode slots known n node t
+  pub node_of : (n : ℕ) (t : Term) → slice_get known n ≡ Some t → (node : Node) × (slice_get nodes n ≡ Some node) × StandsForNode slots known n node t
   node_of n t e =
       let r = get_some nodes n (omega (arith, get_inside known n t e, are.long)) in
       (r.0, r.1, are.stands n r.0 t r.1 e)

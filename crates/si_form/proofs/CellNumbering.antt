@@ -1,23 +1,20 @@
 -- The numbers of the terms from a place among cells on.
-use Rattle.std.proofs.Common.{◌≡◌, ℕ, ◌+◌, ◌<◌, ◌≤◌, inl, inr, List, [], ◌∷◌, ◌++◌, length, drop, get_or, suc, zero, refl, sym, ◌∙◌, ap, subst, arith, append_assoc, append-nil, Option, Some, None, Result, Ok, Err}
+use Rattle.std.proofs.Common.{◌≡◌, ℕ, ◌+◌, ◌<◌, ◌≤◌, inl, inr, List, [], ◌∷◌, ◌++◌, length, drop, get_or, suc, zero, refl, sym, ◌∙◌, ap, subst, arith, append_assoc, append-nil, Some, Result, Ok, Err}
 use Rattle.std.proofs.lemmas.List.{drop_more, drop_all}
 use Rattle.std.specs.Prelude.{slice_get, IfOk}
-use Rattle.std.specs.List.{AllByRecursion}
 use Rattle.si_defs.specs.Substitutions.{IsAmong}
 use Rattle.si_defs.specs.Terms as terms
 use Rattle.si_flat.specs.declared.Cell.{Cell}
 use Rattle.si_flat.specs.declared.Cell.TheVariants as cell
-use Rattle.si_flat.specs.Cells.{Symbol, Variable, query, entry, ind, Term, Terms, variable_cell, cells_of, cells_of_all, IsSound, AreSound, StandsFor, IsWhole}
-use Rattle.si_flat.proofs.Subterms.{length-cells_of, Found, found_in, from_place}
+use Rattle.si_flat.specs.Cells.{Variable, query, entry, ind, Term, Terms, variable_cell, cells_of, cells_of_all, IsSound, AreSound, StandsFor, IsWhole}
+use Rattle.si_flat.proofs.Subterms.{Found, found_in, from_place}
 use Rattle.si_unify.specs.declared.slots.Slots.{Slots}
-use Rattle.si_unify.specs.Solving.{slot_count, slot_of, variable_of, IsInRange, CellIsInRange, AreInRange}
-use Rattle.si_unify.specs.Spots.{cell_slot}
-use Rattle.si_unify.specs.Circles.{with_slot}
+use Rattle.si_unify.specs.Solving.{slot_of, AreInRange}
 use Rattle.si_unify.proofs.Places.{variable_of-slot_of, in_range-variable}
 use Rattle.si_unify.proofs.Reading.{same_term}
 use Rattle.si_form.specs.declared.classes.Node.{Node}
-use Rattle.si_form.specs.Classes.{chain, AreNodes, GrowsTo, HaveNumbers, Applies, slots_of, KnowsSlot, IsSlotsClass, NumbersCell, HasClass, HaveRow, IsNumbering}
-use Rattle.si_form.proofs.NodeLaws.{get_inside, grows_on, still_known, same_some}
+use Rattle.si_form.specs.Classes.{chain, GrowsTo, HaveNumbers, Applies, slots_of, KnowsSlot, IsSlotsClass, NumbersCell, HasClass, HaveRow, IsNumbering}
+use Rattle.si_form.proofs.NodeLaws.{grows_on, still_known, same_some}
 
 -- ---- rows of cells
 -- a row that begins with the cells of others begins with them

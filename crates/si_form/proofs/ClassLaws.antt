@@ -1,5 +1,5 @@
 -- The classes of slots, from the last of an order to the first.
-use Rattle.std.proofs.Common.{◌≡◌, ◌≢◌, ℕ, ◌+◌, ◌<◌, ◌≤◌, ◌⊎◌, inl, inr, List, [], ◌∷◌, ◌++◌, length, suc, zero, refl, sym, ◌∙◌, ap, subst, arith, append_assoc, append-nil, length-append, Option, Some, None, Vec}
+use Rattle.std.proofs.Common.{◌≡◌, ◌≢◌, ℕ, ◌+◌, ◌<◌, ◌⊎◌, inl, inr, List, [], ◌∷◌, ◌++◌, length, suc, zero, refl, sym, ◌∙◌, ap, subst, arith, append_assoc, append-nil, length-append, Option, Some, None, Vec}
 use Rattle.std.proofs.lemmas.Bool.Decides.{eqb_tells}
 use Rattle.std.proofs.lemmas.List.{length-set}
 use Rattle.std.proofs.Math.ListN.{set}
@@ -9,21 +9,21 @@ use Rattle.std.specs.Borrow.{Bor}
 use Rattle.si_defs.specs.Substitutions.{IsAmong}
 use Rattle.si_defs.specs.Terms as terms
 use Rattle.si_flat.specs.declared.Cell.{Cell}
-use Rattle.si_flat.specs.Cells.{Variable, Term, variable_cell, StandsFor}
+use Rattle.si_flat.specs.Cells.{Variable, Term, variable_cell}
 use Rattle.si_trail.specs.Trails.{value_at}
 use Rattle.si_unify.specs.declared.slots.Slots.{Slots}
-use Rattle.si_unify.specs.Solving.{Pairs, slot_count, slot_of, variable_of, Equalizes, IsSolvedBy, IsBinding}
+use Rattle.si_unify.specs.Solving.{Pairs, slot_count, variable_of, Equalizes, IsSolvedBy, IsBinding}
 use Rattle.si_unify.proofs.Places.{all_at}
 use Rattle.si_form.specs.declared.classes.Node.{Node}
 use Rattle.si_form.specs.declared.classes.Node.TheVariants.{Variable as Of}
-use Rattle.si_form.specs.Classes.{Interns, AreNodes, GrowsTo, slots_of, KnowsSlot, HasClass, HasSingles, LeavesUnbound, KnowsWhere, HasClasses, IsClassing}
-use Rattle.si_form.specs.Ordering.{used_at, list_or_none, IsListed, IsOpen, IsNext, AreNext, AreOrdered}
+use Rattle.si_form.specs.Classes.{Interns, AreNodes, slots_of, KnowsSlot, HasClass, HasSingles, LeavesUnbound, KnowsWhere, HasClasses, IsClassing}
+use Rattle.si_form.specs.Ordering.{used_at, list_or_none, IsListed, IsOpen, AreNext, AreOrdered}
 use Rattle.si_form.specs.Uses.{used_in, UsesBelow}
 use Rattle.si_form.proofs.CanonicalLaws.{among_parts}
 use Rattle.si_form.proofs.CanonicalLaws as members
-use Rattle.si_form.proofs.FoldedLaws.{among_front, among_back}
+use Rattle.si_form.proofs.FoldedLaws.{among_front}
 use Rattle.si_form.proofs.NodeLaws.{grows, still_known, get_front, get_last}
-use Rattle.si_form.proofs.UsesLaws.{listed_inside, bound_of_listed, listed_of_bound, range_slots}
+use Rattle.si_form.proofs.UsesLaws.{listed_inside, listed_of_bound, range_slots}
 
 -- ---- single classes
 pub singles_begin : (slots : Slots) (nodes : List Node) (classes : List ℕ) → nodes ≡ [] → classes ≡ [] → HasSingles slots nodes classes 0

@@ -3,11 +3,10 @@ use Rattle.std.proofs.Common.{◌≡◌, inl, inr, Bool, true, false, cond, not,
 use Rattle.std.specs.Prelude.{filter}
 use Rattle.std.specs.List.{AllByRecursion}
 use Rattle.si_defs.specs.Terms.{Term, Terms, var, app, none, more, variables, variables_of_all, substitute, substitute_all, firsts}
-use Rattle.si_defs.specs.Substitutions.{Substitution, image, apply, lefts, rights, IsAmong}
-use Rattle.si_defs.specs.Relations.{Unifies}
-use Rattle.si_defs.specs.Solutions.{bind, in_sequence, IsTriangular, IsMostGeneral, order, AreJoined, IsFirstOf, IsLeader, IsFolded, AreFolded, IsFoldedInside, IsOrdered, IsCanonicalUnifier}
+use Rattle.si_defs.specs.Substitutions.{apply, lefts, rights, IsAmong}
+use Rattle.si_defs.specs.Solutions.{bind, in_sequence, IsTriangular, order, AreJoined, IsFirstOf, IsLeader, IsFolded, AreFolded, IsFoldedInside, IsOrdered, IsCanonicalUnifier}
 use Rattle.si_form.proofs.CanonicalLaws.{all_at, all_from, all_front, all_back, all_append}
-use Rattle.si_form.proofs.UnifierLaws.{first_unique, right_among, pair_of_left, pair_of_right, sequence_is}
+use Rattle.si_form.proofs.UnifierLaws.{first_unique, pair_of_right}
 use Rattle.si_form.proofs.GeneralLaws.{Solves, solved_stays, general, HasUnifiers, general_unifies, equal_of_joined, joined_of_equal}
 
 module _ {S V : Type 0} where

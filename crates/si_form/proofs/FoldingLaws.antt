@@ -1,18 +1,17 @@
 -- Leaders of classes, and folded terms.
-use Rattle.std.proofs.Common.{◌≡◌, ◌≢◌, ℕ, ◌+◌, ◌-◌, ◌<◌, ◌≤◌, ◌⊎◌, inl, inr, Bool, true, false, List, [], ◌∷◌, ◌++◌, length, take, get_or, replicate, suc, zero, refl, sym, ◌∙◌, ap, subst, arith, length-append, Option, Some, None}
+use Rattle.std.proofs.Common.{◌≡◌, ◌≢◌, ℕ, ◌+◌, ◌-◌, ◌<◌, ◌≤◌, inl, inr, Bool, true, false, List, [], ◌∷◌, ◌++◌, length, take, get_or, replicate, suc, zero, refl, sym, ◌∙◌, ap, subst, arith, length-append, Option, Some, None}
 use Rattle.std.proofs.lemmas.Bool.Decides.{eqb_tells}
 use Rattle.std.proofs.lemmas.Bool.{eq-eqb}
 use Rattle.std.proofs.Math.ListN.{set}
 use Rattle.std.specs.Prelude.{slice_get, min, ◌^◌, ◌==◌, ◌&&◌}
-use Rattle.std.specs.List.{AllByRecursion}
 use Rattle.si_defs.specs.Terms as terms
-use Rattle.si_flat.specs.Cells.{Symbol, Variable, same_variable, Term, Terms}
+use Rattle.si_flat.specs.Cells.{Symbol, Term, Terms}
 use Rattle.si_unify.specs.declared.slots.Slots.{Slots}
-use Rattle.si_unify.specs.Solving.{slot_count, variable_of}
+use Rattle.si_unify.specs.Solving.{variable_of}
 use Rattle.si_form.specs.declared.classes.Node.{Node}
 use Rattle.si_form.specs.declared.classes.Node.TheVariants.{Variable as Of, Head, With}
 use Rattle.si_form.specs.Classes.{chain, with_last, StandsForNode, AreNodes}
-use Rattle.si_form.specs.Folding.{same_symbol, same_terms, same_rows, or_slot, leader_below, leader, variable_or, folded, folded_all, AreClasses, AreLeaders, LeadClasses, HaveKnown, Descends, HasDescended, IsDescending, HasTerms, IsBefore, AreSizes, node_size, part_size}
+use Rattle.si_form.specs.Folding.{same_symbol, same_terms, same_rows, or_slot, leader_below, LeadClasses, HaveKnown, Descends, HasDescended, IsDescending, HasTerms, IsBefore, AreSizes, node_size, part_size}
 use Rattle.si_form.proofs.VariableLaws.{same_tells, same_itself}
 use Rattle.si_form.proofs.NodeLaws.{number_tells, both_true, get_inside, get_some, same_some, same_app, chain_last, chain_none, known_of, get_last, get_front}
 

@@ -1,14 +1,14 @@
 -- Nodes and their numbers.
-use Rattle.std.proofs.Common.{◌≡◌, ℕ, ◌+◌, ◌<◌, ◌≤◌, ◌⊎◌, inl, inr, Bool, true, false, cond, not, List, [], ◌∷◌, ◌++◌, length, suc, zero, refl, sym, ◌∙◌, ap, subst, arith, append_assoc, append-nil, length-append, reverse, Option, Some, None}
+use Rattle.std.proofs.Common.{◌≡◌, ℕ, ◌+◌, ◌<◌, ◌≤◌, ◌⊎◌, inl, inr, Bool, true, false, List, [], ◌∷◌, ◌++◌, length, suc, zero, refl, sym, ◌∙◌, ap, subst, arith, append_assoc, append-nil, length-append, reverse, Some}
 use Rattle.std.proofs.lemmas.Bool.Decides.{eqb_tells, nat_tests}
-use Rattle.std.proofs.lemmas.Bool.{eq-eqb, cases_lt}
-use Rattle.std.specs.Prelude.{◌==◌, ◌&&◌, ◌||◌, nat_lt, slice_get, if◌then◌else◌}
-use Rattle.std.specs.List.{list_any, position_or_len, prefix_len}
+use Rattle.std.proofs.lemmas.Bool.{eq-eqb}
+use Rattle.std.specs.Prelude.{◌==◌, ◌&&◌, nat_lt, slice_get, if◌then◌else◌}
+use Rattle.std.specs.List.{list_any, position_or_len}
 use Rattle.si_defs.specs.Substitutions.{IsAmong}
 use Rattle.si_defs.specs.Terms as terms
-use Rattle.si_flat.specs.Cells.{Symbol, Variable, query, entry, ind, Term, Terms}
+use Rattle.si_flat.specs.Cells.{Symbol, Variable, Term, Terms}
 use Rattle.si_unify.specs.declared.slots.Slots.{Slots}
-use Rattle.si_unify.specs.Solving.{slot_count, slot_of, variable_of}
+use Rattle.si_unify.specs.Solving.{slot_of, variable_of}
 use Rattle.si_form.specs.declared.classes.Node.{Node}
 use Rattle.si_form.specs.declared.classes.Node.TheVariants.{Variable as Of, Head, With}
 use Rattle.si_form.specs.contracts.classes.NodePartialEq.TheImpl.{eq-value}
@@ -271,14 +271,14 @@ module _ (slots : Slots) (nodes : List Node) (known : List Term) (are : AreNodes
               r.1 ∙ ap Some same,
             )
         | inr new ↦ (
-            known ++ t ∷ [],
-            record {
-              more = t ∷ [];
-              known_is = refl;
-              nodes_are = subst (λ l. AreNodes slots l (known ++ t ∷ [])) (sym new.0) (one_more node t new.2 means);
-            },
-            ap (slice_get (known ++ t ∷ [])) (new.1 ∙ sym are.long) ∙ get_last known t,
-          )
+          known ++ t ∷ [],
+          record {
+            more = t ∷ [];
+            known_is = refl;
+            nodes_are = subst (λ l. AreNodes slots l (known ++ t ∷ [])) (sym new.0) (one_more node t new.2 means);
+          },
+          ap (slice_get (known ++ t ∷ [])) (new.1 ∙ sym are.long) ∙ get_last known t,
+        )
       ]
 
 pub grows_on : (slots : Slots) (known known1 known2 : List Term) (nodes1 nodes2 : List Node) → GrowsTo slots known nodes1 known1 → GrowsTo slots known1 nodes2 known2 → GrowsTo slots known nodes2 known2

@@ -1,18 +1,18 @@
 -- The order of the variables of a query and an entry is that of their slots.
-use Rattle.std.proofs.Common.{◌≡◌, ◌≢◌, ℕ, ◌+◌, ◌-◌, ◌<◌, ◌≤◌, inl, inr, Bool, true, false, cond, not, List, [], ◌∷◌, ◌++◌, suc, zero, refl, sym, ◌∙◌, ap, subst, arith}
+use Rattle.std.proofs.Common.{◌≡◌, ℕ, ◌+◌, ◌<◌, ◌≤◌, inl, inr, Bool, true, false, cond, not, List, [], ◌∷◌, ◌++◌, suc, zero, refl, sym, ◌∙◌, ap, arith}
 use Rattle.std.proofs.lemmas.Bool.Decides.{nat_tests}
 use Rattle.std.specs.Prelude.{filter, nat_lt}
 use Rattle.si_defs.specs.Terms as terms
 use Rattle.si_defs.specs.Substitutions.{IsAmong}
 use Rattle.si_defs.specs.Solutions.{order}
-use Rattle.si_flat.specs.Cells.{Variable, query, entry, ind, same_variable, Term}
+use Rattle.si_flat.specs.Cells.{Variable, query, entry, same_variable, Term}
 use Rattle.si_unify.specs.declared.slots.Slots.{Slots}
 use Rattle.si_unify.specs.Solving as solving
 use Rattle.si_unify.specs.Solving.{slot_count}
 use Rattle.si_form.specs.declared.solution.Owner.TheVariants.{Query, Entry}
-use Rattle.si_form.specs.Answers.{variable_of, counted}
+use Rattle.si_form.specs.Answers.{counted}
 use Rattle.si_form.proofs.VariableLaws.{same_tells}
-use Rattle.si_form.proofs.CanonicalLaws.{among_parts, firsts_among}
+use Rattle.si_form.proofs.CanonicalLaws.{firsts_among}
 use Rattle.si_form.proofs.VariableLaws.{same_itself}
 use Rattle.si_form.proofs.OrderedLaws.{variables_from}
 

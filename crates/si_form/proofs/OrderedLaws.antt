@@ -1,17 +1,17 @@
 -- A list of bindings in the order of numbers is ordered and triangular.
-use Rattle.std.proofs.Common.{◌≡◌, ◌≢◌, ℕ, ◌+◌, ◌<◌, ◌≤◌, ◌⊎◌, inl, inr, List, [], ◌∷◌, ◌++◌, suc, zero, refl, sym, ◌∙◌, ap, subst, arith, append_assoc, append-nil}
+use Rattle.std.proofs.Common.{◌≡◌, ℕ, ◌+◌, ◌<◌, inl, inr, List, [], ◌∷◌, ◌++◌, suc, zero, refl, sym, ◌∙◌, ap, subst, arith, append_assoc}
 use Rattle.std.specs.Prelude.{Option}
 use Rattle.std.specs.List.{AllByRecursion}
 use Rattle.si_defs.specs.Terms as terms
 use Rattle.si_defs.specs.Substitutions.{lefts, rights, IsAmong}
-use Rattle.si_defs.specs.Solutions.{order, IsFirstOf, IsTriangular, IsOrdered}
+use Rattle.si_defs.specs.Solutions.{order, IsTriangular, IsOrdered}
 use Rattle.si_flat.specs.Cells.{Variable, same_variable, Term}
 use Rattle.si_unify.specs.declared.slots.Slots.{Slots}
 use Rattle.si_unify.specs.Solving.{slot_of, variable_of}
 use Rattle.si_form.proofs.CanonicalLaws.{all_at, all_from, among_parts}
 use Rattle.si_form.proofs.FoldedLaws.{among_front, among_back}
 use Rattle.si_form.proofs.NodeLaws.{slot_again}
-use Rattle.si_form.specs.Ordering.{list_or_none, IsListed, IsOpen, IsNext, AreNext, AreOrdered}
+use Rattle.si_form.specs.Ordering.{list_or_none, IsListed, AreNext}
 
 -- ---- the variables of the first slots
 abbrev pub variables_from : Slots → ℕ → ℕ → List Variable

@@ -1,7 +1,6 @@
 -- How far an ordering has come.
-use Rattle.std.proofs.Common.{◌≡◌, ◌≢◌, ℕ, ◌+◌, ◌-◌, ◌<◌, ◌≤◌, ◌↔◌, ◌⊎◌, inl, inr, Bool, true, false, if◌then◌else◌, List, [], ◌∷◌, ◌++◌, length, take, drop, get_or, suc, zero, refl, sym, ◌∙◌, ap, subst, arith, append_assoc, append-nil, length-append, Option, Some, None}
+use Rattle.std.proofs.Common.{◌≡◌, ◌≢◌, ℕ, ◌+◌, ◌-◌, ◌<◌, ◌≤◌, ◌↔◌, ◌⊎◌, inl, inr, true, false, if◌then◌else◌, List, [], ◌∷◌, ◌++◌, length, take, drop, get_or, suc, zero, refl, sym, ◌∙◌, ap, subst, arith, append_assoc, append-nil, length-append, Option, Some, None}
 use Rattle.std.proofs.lemmas.Bool.Decides.{eqb_tells}
-use Rattle.std.proofs.lemmas.Bool.{eq-eqb}
 use Rattle.std.proofs.lemmas.Bool.{cases_lt}
 use Rattle.std.proofs.lemmas.List.{drop_more, get_or_default, get_or-set_same, get_or-set_other, length-set, length-take}
 use Rattle.std.proofs.Math.ListN.{set}
@@ -15,7 +14,7 @@ use Rattle.std.specs.List.{AllByRecursion}
 use Rattle.si_defs.specs.Substitutions.{IsAmong}
 use Rattle.si_form.proofs.CanonicalLaws.{all_at, all_from, AreDistinct, among_parts}
 use Rattle.si_form.proofs.FoldedLaws.{among_front, among_back}
-use Rattle.si_form.specs.Ordering.{list_of, used_at, list_or_none, times_among, IsListed, IsOpen, IsNext, AreNext, AreOrdered, HasNoCircle, times_used, with_listed, listed_below, IsUnderway, IsListedFree}
+use Rattle.si_form.specs.Ordering.{list_of, used_at, list_or_none, times_among, IsListed, IsNext, AreNext, AreOrdered, HasNoCircle, times_used, with_listed, listed_below, IsUnderway, IsListedFree}
 
 -- ---- occurrences
 times_of_among : (xs : List ℕ) (j : ℕ) → IsAmong xs j → 0 < times_among xs j

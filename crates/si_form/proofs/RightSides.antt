@@ -1,24 +1,24 @@
 -- The right sides that a most general map makes, folded by leaders, make a canonical list.
-use Rattle.std.proofs.Common.{◌≡◌, ◌≢◌, ℕ, ◌+◌, ◌<◌, ◌≤◌, ◌⊎◌, inl, inr, Bool, true, false, cond, List, [], ◌∷◌, ◌++◌, suc, zero, refl, sym, ◌∙◌, ap, subst, arith, Option, Some, None}
+use Rattle.std.proofs.Common.{◌≡◌, ◌≢◌, ℕ, ◌+◌, ◌<◌, ◌≤◌, ◌⊎◌, inl, inr, Bool, true, false, List, [], ◌∷◌, suc, zero, refl, sym, ◌∙◌, ap, subst, arith, Option, Some, None}
 use Rattle.std.proofs.lemmas.Bool.Decides.{eqb_tells}
 use Rattle.std.proofs.lemmas.Bool.{eq-eqb}
 use Rattle.std.specs.Prelude.{◌==◌, if◌then◌else◌}
 use Rattle.std.specs.List.{AllByRecursion}
 use Rattle.si_defs.specs.Terms as terms
-use Rattle.si_defs.specs.Substitutions.{lefts, rights, IsAmong}
+use Rattle.si_defs.specs.Substitutions.{lefts, IsAmong}
 use Rattle.si_defs.specs.Solutions.{order}
 use Rattle.si_flat.specs.Cells.{Symbol, Variable, same_variable, Term, Terms}
 use Rattle.si_unify.specs.declared.slots.Slots.{Slots}
-use Rattle.si_unify.specs.Solving.{slot_count, slot_of, variable_of}
+use Rattle.si_unify.specs.Solving.{slot_count, variable_of}
 use Rattle.si_form.specs.Folding.{same_terms, or_slot, leader_below, leader, variable_or, folded, folded_all}
-use Rattle.si_form.specs.Ordering.{list_or_none, IsListed, AreOrdered}
+use Rattle.si_form.specs.Ordering.{IsListed, AreOrdered}
 use Rattle.si_form.proofs.VariableLaws.{same_tells, same_itself}
 use Rattle.si_form.proofs.CanonicalLaws.{all_at, all_from, all_front, all_back, all_append}
-use Rattle.si_form.proofs.UnifierLaws.{first_unique, left_among}
-use Rattle.si_form.proofs.FoldedLaws.{among_front, among_back, Leads, IsFoldedBy, AreFoldedBy, IsFoldedInsideBy, IsFree, IsFoldedList}
-use Rattle.si_form.proofs.NodeLaws.{same_some, slot_again}
-use Rattle.si_form.proofs.FoldingLaws.{terms_tell, terms_differ, terms_itself}
-use Rattle.si_form.proofs.OrderedLaws.{variables_from, Parts, parts_at, HasUses, bindings_of, left_of, listed_all, triangular_of, ordered_of}
+use Rattle.si_form.proofs.UnifierLaws.{first_unique}
+use Rattle.si_form.proofs.FoldedLaws.{Leads, IsFoldedBy, AreFoldedBy, IsFoldedInsideBy, IsFree, IsFoldedList}
+use Rattle.si_form.proofs.NodeLaws.{same_some}
+use Rattle.si_form.proofs.FoldingLaws.{terms_tell, terms_itself}
+use Rattle.si_form.proofs.OrderedLaws.{variables_from, parts_at, HasUses, bindings_of, left_of, listed_all, triangular_of, ordered_of}
 
 module _ (slots : Slots) (f : Variable → Term) where
   -- ---- leaders

@@ -1,5 +1,5 @@
 -- The sizes of classes are those of their folded terms.
-use Rattle.std.proofs.Common.{◌≡◌, ℕ, ◌+◌, ◌-◌, ◌^◌, ◌<◌, ◌≤◌, List, ◌∷◌, length, get_or, suc, zero, refl, sym, ◌∙◌, ap, subst, arith, Option, Some, None}
+use Rattle.std.proofs.Common.{◌≡◌, ℕ, ◌+◌, ◌-◌, ◌^◌, ◌<◌, ◌≤◌, List, length, get_or, suc, zero, refl, sym, ◌∙◌, ap, arith, Option, Some, None}
 use Rattle.std.specs.Prelude.{slice_get, min}
 use Rattle.si_defs.specs.Terms as terms
 use Rattle.si_flat.specs.Cells.{Variable, Term, Terms}
@@ -7,7 +7,7 @@ use Rattle.si_unify.specs.declared.slots.Slots.{Slots}
 use Rattle.si_unify.specs.Solving.{slot_count}
 use Rattle.si_form.specs.declared.classes.Node.{Node}
 use Rattle.si_form.specs.declared.classes.Node.TheVariants.{Variable as Of, Head, With}
-use Rattle.si_form.specs.Classes.{with_last, HasOneMore, StandsForNode, AreNodes}
+use Rattle.si_form.specs.Classes.{with_last, StandsForNode, AreNodes}
 use Rattle.si_form.specs.Folding.{leader, variable_or, folded, folded_all, AreLeaders, part_size, node_size, AreSizes}
 use Rattle.si_form.proofs.NodeLaws.{get_inside, node_of}
 use Rattle.si_form.proofs.FoldingLaws.{at_default}

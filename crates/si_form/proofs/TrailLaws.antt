@@ -1,25 +1,22 @@
 -- A triangular list of bindings that solves two terms, as a list whose solutions are their unifiers.
-use Rattle.std.proofs.Common.{◌≡◌, ◌≢◌, ℕ, ◌+◌, ◌<◌, ◌≤◌, ◌↔◌, ◌⊎◌, inl, inr, Bool, true, false, cond, List, [], ◌∷◌, ◌++◌, suc, zero, refl, sym, ◌∙◌, ap, subst, arith, append-nil, Option, Some, None}
-use Rattle.std.proofs.lemmas.Bool.Decides.{eqb_tells, nat_tests}
-use Rattle.std.proofs.lemmas.Bool.{eq-eqb}
-use Rattle.std.specs.Prelude.{nat_lt, ◌==◌}
+use Rattle.std.proofs.Common.{◌≡◌, ◌≢◌, ℕ, ◌<◌, ◌≤◌, inl, inr, Bool, true, false, cond, List, [], ◌∷◌, refl, sym, ◌∙◌, ap, subst, arith}
+use Rattle.std.proofs.lemmas.Bool.Decides.{nat_tests}
+use Rattle.std.specs.Prelude.{nat_lt}
 use Rattle.std.specs.List.{AllByRecursion}
-use Rattle.std.specs.Borrow.{Bor}
 use Rattle.si_defs.specs.Terms as terms
 use Rattle.si_defs.specs.Substitutions.{Substitution, image, lefts, rights, IsAmong}
 use Rattle.si_defs.specs.Relations.{Unifies}
 use Rattle.si_defs.specs.Solutions.{IsTriangular, in_sequence}
 use Rattle.si_flat.specs.declared.Cell.{Cell}
-use Rattle.si_flat.specs.declared.Cell.TheVariants as cell
 use Rattle.si_flat.specs.Cells.{Symbol, Variable, query, entry, ind, same_variable, Term, Terms, variable_cell, cells_of, cells_of_all, StandsFor}
-use Rattle.si_trail.specs.Trails.{value_at, HasDistinctSlots}
+use Rattle.si_trail.specs.Trails.{HasDistinctSlots}
 use Rattle.si_unify.specs.declared.slots.Slots.{Slots}
 use Rattle.si_unify.specs.Solving as solving
 use Rattle.si_unify.specs.Solving.{Pairs, slot_count, slot_of, variable_of, is_frozen, IsInRange, Equalizes, IsSolvedBy, IsBinding, RanksBelow, IsTriangularBy, IsSolution, HasSolved}
-use Rattle.si_unify.proofs.Lists.{all_map, all_with, all_front, all_back, apart_from}
+use Rattle.si_unify.proofs.Lists.{all_map, all_front, all_back, apart_from}
 use Rattle.si_form.proofs.VariableLaws.{same_tells, same_itself}
 use Rattle.si_form.proofs.CanonicalLaws as members
-use Rattle.si_form.proofs.UnifierLaws.{sequence_is, free_stays, pair_of_left}
+use Rattle.si_form.proofs.UnifierLaws.{sequence_is, free_stays}
 use Rattle.si_form.proofs.GeneralLaws.{Solves, general, general_solves, HasUnifiers}
 use Rattle.si_form.proofs.Agreeing.{same_value}
 use Rattle.si_form.proofs.NodeLaws.{slot_again}
@@ -291,8 +288,8 @@ module _ (slots : Slots) (free_query : slots.freeze_query ≡ false) (free_entry
         known.1,
         known.2,
         sym (sequence_is same_variable same_tells same_itself bound_list (terms.var y))
-        ∙ free_stays same_variable same_tells same_itself bound_list y
-        (λ l. lefts_gone same_variable same_tells same_itself bound_list (terms.var (variable_of slots k)) y bound_triangular l a),
+            ∙ free_stays same_variable same_tells same_itself bound_list y
+            (λ l. lefts_gone same_variable same_tells same_itself bound_list (terms.var (variable_of slots k)) y bound_triangular l a),
       ))
       )
 

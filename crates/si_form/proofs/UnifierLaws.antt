@@ -4,7 +4,7 @@ use Rattle.std.specs.List.{AllByRecursion}
 use Rattle.si_defs.specs.Terms.{Term, Terms, var, app, none, more, variables, variables_of_all, substitute, substitute_all}
 use Rattle.si_defs.specs.Substitutions.{Substitution, image, apply, lefts, rights, IsAmong}
 use Rattle.si_defs.specs.Relations.{Unifies}
-use Rattle.si_defs.specs.Solutions.{bind, in_sequence, IsTriangular, IsMostGeneral, order, AreJoined, IsFirstOf, IsLeader, IsFolded, AreFolded, IsFoldedInside, IsOrdered, IsCanonicalUnifier}
+use Rattle.si_defs.specs.Solutions.{bind, in_sequence, IsTriangular, order, AreJoined, IsLeader, IsFolded, AreFolded, IsFoldedInside, IsOrdered, IsCanonicalUnifier}
 use Rattle.si_form.proofs.CanonicalLaws.{all_at, all_from, all_front, all_back, stays, twice}
 
 -- ---- the first of a list with a property

@@ -1,17 +1,16 @@
 -- Which slots the values of bindings use.
-use Rattle.std.proofs.Common.{◌≡◌, ◌≢◌, ℕ, ◌+◌, ◌<◌, ◌≤◌, ◌⊎◌, inl, inr, List, [], ◌∷◌, ◌++◌, length, take, get_or, suc, zero, refl, sym, ◌∙◌, ap, subst, arith, length-append, append_assoc, Option, Some, None}
+use Rattle.std.proofs.Common.{◌≡◌, ℕ, ◌+◌, ◌<◌, ◌≤◌, inl, inr, List, [], ◌∷◌, ◌++◌, length, take, get_or, suc, zero, refl, sym, ◌∙◌, ap, subst, arith, length-append, Option, Some, None}
 use Rattle.std.proofs.Math.Seq.{take-suc}
 use Rattle.std.proofs.lemmas.Bool.Decides.{eqb_tells}
 use Rattle.std.proofs.lemmas.Bool.{cases_lt}
-use Rattle.std.specs.Prelude.{slice_get, Vec}
+use Rattle.std.specs.Prelude.{Vec}
 use Rattle.std.specs.List.{AllByRecursion}
 use Rattle.std.specs.Borrow.{Bor}
-use Rattle.si_defs.specs.Substitutions.{IsAmong}
 use Rattle.si_flat.specs.declared.Cell.{Cell}
 use Rattle.si_flat.specs.declared.Cell.TheVariants as cell
 use Rattle.si_trail.specs.Trails.{value_at}
 use Rattle.si_unify.specs.declared.slots.Slots.{Slots}
-use Rattle.si_unify.specs.Solving.{Pairs, slot_count, slot_of, CellIsInRange, AreInRange, RanksBelow, IsTriangularBy, IsTriangular, IsBinding}
+use Rattle.si_unify.specs.Solving.{Pairs, slot_count, AreInRange, RanksBelow, IsTriangular, IsBinding}
 use Rattle.si_unify.specs.Spots.{cell_slot}
 use Rattle.si_unify.specs.Circles.{with_slot}
 use Rattle.si_unify.proofs.Places.{all_at}

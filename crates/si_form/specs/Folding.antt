@@ -1,6 +1,6 @@
 -- Terms folded by variables: where the image of a variable stands, the first such variable is
 -- written.
-use Rattle.std.specs.Prelude.{◌≡◌, ℕ, zero, suc, ◌+◌, ◌-◌, ◌^◌, ◌<◌, min, slice_index_or, ◌==◌, ◌&&◌, if◌then◌else◌, Bool, true, false, List, [], ◌∷◌, length, slice_get, Option, None, Some}
+use Rattle.std.specs.Prelude.{◌≡◌, ℕ, zero, suc, ◌+◌, ◌-◌, ◌^◌, ◌<◌, min, slice_index_or, ◌==◌, ◌&&◌, Bool, true, false, List, [], ◌∷◌, length, slice_get, Option, None, Some}
 use Rattle.si_defs.specs.Terms as terms
 use Rattle.si_flat.specs.Cells.{Symbol, Variable, same_variable, Term, Terms}
 use Rattle.si_unify.specs.declared.slots.Slots.{Slots}

@@ -20,10 +20,12 @@ fn descend(
     let mut front = class;
     loop {
         match nodes.get_index(front) {
-            Some(&Node::With {
-                front: before,
-                argument,
-            }) => {
+            Some(
+                &Node::With {
+                    front: before,
+                    argument,
+                },
+            ) => {
                 left.push(argument)?;
                 front = before;
             }

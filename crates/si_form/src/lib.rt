@@ -13,9 +13,9 @@ mod leaders;
 mod matching;
 mod order;
 mod solution;
-mod uses;
 #[cfg(test)]
 mod tests;
+mod uses;
 
 pub use canonical::{generalization, instance, variant};
 pub use laws::canonical_lists_are_unique;

@@ -120,10 +120,7 @@ fn list_at(lists: &[Option<Vec<usize>>], number: usize) -> &[usize]
 
 /// The numbers that have a list, in order: at each place stands the least that no other from there
 /// on uses.
-pub(crate) fn order(
-    alloc: Global,
-    lists: &[Option<Vec<usize>>],
-) -> Result<Vec<usize>, AllocError>
+pub(crate) fn order(alloc: Global, lists: &[Option<Vec<usize>>]) -> Result<Vec<usize>, AllocError>
     requires { HasNoCircle (used_at lists.now) (length lists.now) }
     ensures { IfOk result (λ order. AreOrdered (used_at lists.now) order.items) }
 {

@@ -1,6 +1,5 @@
-use Rattle.std.proofs.Common.{◌≡◌, ◌-◌, [], reverse, ◌∷◌, refl, sym, ◌∙◌, ap, subst, arith}
+use Rattle.std.proofs.Common.{◌-◌, [], reverse, ◌∷◌, refl, ◌∙◌, ap, arith}
 use Rattle.std.proofs.lemmas.List.{reverse-append}
-use Rattle.si_form.specs.Classes.{NumbersCell}
 use Rattle.si_form.proofs.CellNumbering.{numbering_begins, numbering_more, numbering_ends, some_cell, if_class}
 use Rattle.si_form.proofs.classes.class_of.Goals as goal
 

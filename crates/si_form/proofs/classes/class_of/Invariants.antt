@@ -1,6 +1,5 @@
 use Rattle.std.proofs.Common.{◌≤◌, ◌<◌, length, reverse}
 use Rattle.si_form.specs.Classes.{IsNumbering}
-use Rattle.si_form.proofs.CellNumbering.{some_cell}
 use Rattle.si_form.proofs.classes.class_of.Given as goal
 
 abbrev pub invariant-loop-at : goal.invariant-loop-at

@@ -1,5 +1,5 @@
-use Rattle.std.proofs.Common.{◌≡◌, ◌<◌, length, sym, ◌∙◌, ap, subst, arith}
-use Rattle.si_unify.specs.Solving.{slot_count, IsBinding}
+use Rattle.std.proofs.Common.{length, sym, subst, arith}
+use Rattle.si_unify.specs.Solving.{IsBinding}
 use Rattle.si_unify.proofs.Places.{all_at}
 use Rattle.si_form.specs.Ordering.{used_at, HasNoCircle, AreOrdered}
 use Rattle.si_form.specs.Classes.{HasClass}

@@ -1,7 +1,6 @@
 use Rattle.std.proofs.Common.{length}
 use Rattle.si_form.specs.Classes.{IsClassing}
 use Rattle.si_form.specs.Ordering.{used_at}
-use Rattle.si_form.proofs.ClassLaws.{classing_begins}
 use Rattle.si_form.proofs.classes.find_classes.Given as goal
 
 abbrev pub invariant-loop-slot : goal.invariant-loop-slot

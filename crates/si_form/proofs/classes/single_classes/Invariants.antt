@@ -1,5 +1,4 @@
 use Rattle.si_form.specs.Classes.{HasSingles}
-use Rattle.si_form.proofs.ClassLaws.{singles_begin}
 use Rattle.si_form.proofs.classes.single_classes.Given as goal
 
 abbrev pub invariant-loop-slot : goal.invariant-loop-slot

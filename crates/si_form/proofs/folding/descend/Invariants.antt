@@ -1,6 +1,5 @@
 use Rattle.std.proofs.Common.{reverse}
 use Rattle.si_form.specs.Folding.{IsDescending}
-use Rattle.si_form.proofs.FoldingLaws.{descending_begins}
 use Rattle.si_form.proofs.folding.descend.Given as goal
 
 abbrev pub invariant-loop-before : goal.invariant-loop-before

@@ -1,4 +1,4 @@
-use Rattle.std.proofs.Common.{◌≡◌, length, Some, refl, sym, ◌∙◌, ap, subst, arith}
+use Rattle.std.proofs.Common.{length, sym, ◌∙◌, ap, subst}
 use Rattle.si_form.specs.Folding.{IsBefore, node_size}
 use Rattle.si_form.proofs.FoldingLaws.{sizes_begin, sizes_more, is_before}
 use Rattle.si_form.proofs.folding.sizes.Goals as goal

@@ -1,4 +1,4 @@
-use Rattle.std.proofs.Common.{◌≡◌, ◌<◌, length, replicate, None, sym, ◌∙◌, ap, subst, arith}
+use Rattle.std.proofs.Common.{◌≡◌, ◌<◌, length, replicate, None, ◌∙◌, ap, subst, arith}
 use Rattle.std.proofs.lemmas.List.{length-set, length-replicate}
 use Rattle.si_form.specs.Folding.{LeadClasses}
 use Rattle.si_form.proofs.FoldingLaws.{leads_begin, leads_more, read_at, all_fresh}

@@ -1,7 +1,6 @@
 use Rattle.std.proofs.Common.{◌≡◌, length}
 use Rattle.si_unify.specs.declared.slots.Slots.{Slots}
 use Rattle.si_form.specs.Folding.{LeadClasses}
-use Rattle.si_form.proofs.FoldingLaws.{leads_begin}
 use Rattle.si_form.proofs.leaders.leaders.Given as goal
 
 abbrev pub invariant-loop-slot : goal.invariant-loop-slot

@@ -1,7 +1,6 @@
-use Rattle.std.proofs.Common.{◌≡◌, ℕ, Option, Some, None, ◌↔◌, sym, ◌∙◌, ap, arith, subst}
+use Rattle.std.proofs.Common.{◌≡◌, arith}
 use Rattle.std.specs.Prelude.{slice_index_or}
-use Rattle.si_defs.specs.Substitutions.{IsAmong}
-use Rattle.si_form.specs.Ordering.{used_at, listed_below, IsListedFree}
+use Rattle.si_form.specs.Ordering.{used_at}
 use Rattle.si_form.proofs.OrderingLaws.{free_more, listed_at}
 use Rattle.si_form.proofs.order.find_free.Goals as goal
 

@@ -1,4 +1,4 @@
-use Rattle.std.proofs.Common.{◌≡◌, ℕ, ◌↔◌, List, [], length, sym, ◌∙◌, ap, subst, arith}
+use Rattle.std.proofs.Common.{◌↔◌, [], length, sym, subst}
 use Rattle.si_defs.specs.Substitutions.{IsAmong}
 use Rattle.si_form.specs.Ordering.{used_at, IsUnderway, IsListedFree}
 use Rattle.si_form.proofs.OrderingLaws.{begins, takes, ends, all_above, first_inside, fewer_left, no_keys}

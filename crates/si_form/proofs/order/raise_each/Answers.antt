@@ -1,4 +1,4 @@
-use Rattle.std.proofs.Common.{◌<◌, length, sym, ◌∙◌, ap, arith}
+use Rattle.std.proofs.Common.{◌<◌, length, ◌∙◌, ap, arith}
 use Rattle.std.proofs.lemmas.List.{length-set}
 use Rattle.si_form.proofs.OrderingLaws.{raised_more, raised_room, place_inside}
 use Rattle.si_form.proofs.order.raise_each.Goals as goal

@@ -1,5 +1,5 @@
-use Rattle.std.proofs.Common.{◌≡◌, ℕ, ◌+◌, ◌<◌, List, ◌∷◌, drop, length, get_or, sym, ◌∙◌, ap, subst, arith}
-use Rattle.std.proofs.lemmas.List.{drop_more, drop_all}
+use Rattle.std.proofs.Common.{◌≡◌, length, subst, arith}
+use Rattle.std.proofs.lemmas.List.{drop_all}
 use Rattle.si_form.specs.Ordering.{used_at, IsUnderway}
 use Rattle.si_form.proofs.OrderingLaws.{used_now, passes_over, sets_free, listed_at, unlisted_at, not_listed, left_now}
 use Rattle.si_form.proofs.order.release.Goals as goal

@@ -1,6 +1,5 @@
-use Rattle.std.proofs.Common.{[], sym, ◌∙◌, ap}
-use Rattle.std.proofs.Common.{append-nil, ◌++◌}
-use Rattle.si_unify.specs.Circles.{with_slot}
+use Rattle.std.proofs.Common.{sym, ◌∙◌}
+use Rattle.std.proofs.Common.{append-nil}
 use Rattle.si_form.proofs.UsesLaws.{slots_more}
 use Rattle.si_form.proofs.uses.slots_of.Goals as goal
 

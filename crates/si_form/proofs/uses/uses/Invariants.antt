@@ -1,4 +1,4 @@
-use Rattle.std.proofs.Common.{◌≡◌, ◌≤◌, length}
+use Rattle.std.proofs.Common.{◌≡◌, length}
 use Rattle.si_form.specs.Uses.{UsesBelow}
 use Rattle.si_form.proofs.uses.uses.Given as goal
 

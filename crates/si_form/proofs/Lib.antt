@@ -19,3 +19,4 @@ pub mod FoldingLaws
 pub mod RightSides
 pub mod OrderOfSlots
 pub mod SizeLaws
+pub mod WritingLaws

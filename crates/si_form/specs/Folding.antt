@@ -1,8 +1,11 @@
 -- Terms folded by variables: where the image of a variable stands, the first such variable is
 -- written.
-use Rattle.std.specs.Prelude.{◌≡◌, ℕ, zero, suc, ◌+◌, ◌-◌, ◌^◌, ◌<◌, min, slice_index_or, ◌==◌, ◌&&◌, Bool, true, false, List, [], ◌∷◌, length, slice_get, Option, None, Some}
+use Rattle.std.specs.Prelude.{◌≡◌, ℕ, zero, suc, ◌+◌, ◌-◌, ◌^◌, ◌<◌, ◌≤◌, min, slice_index_or, ◌==◌, ◌&&◌, Bool, true, false, List, [], ◌∷◌, ◌++◌, length, slice_get, Option, None, Some}
 use Rattle.si_defs.specs.Terms as terms
-use Rattle.si_flat.specs.Cells.{Symbol, Variable, same_variable, Term, Terms}
+use Rattle.std.specs.List.{AllByRecursion}
+use Rattle.si_flat.specs.declared.Cell.{Cell}
+use Rattle.si_flat.specs.declared.Cell.TheVariants as cell
+use Rattle.si_flat.specs.Cells.{Symbol, Variable, same_variable, Term, Terms, cells_of, cells_of_all}
 use Rattle.si_unify.specs.declared.slots.Slots.{Slots}
 use Rattle.si_unify.specs.Solving.{slot_count, variable_of}
 use Rattle.si_form.specs.declared.classes.Node.{Node}
@@ -126,3 +129,41 @@ IsBefore n (With front argument) = (front < n) × (argument < n)
 pub record AreSizes (nodes : List Node) (leaders : List (Option ℕ)) (k : ℕ) (sizes : List ℕ) : Type 0 where
   pub long : length sizes ≡ k
   pub sizes_are : (n : ℕ) (node : Node) → n < k → slice_get nodes n ≡ Some node → slice_get sizes n ≡ Some (node_size sizes leaders node)
+
+-- ---- writing
+-- what is asked where the folded term of a class is to be written
+pub record CanFold (slots : Slots) (nodes : List Node) (leaders : List (Option ℕ)) (sizes : List ℕ) (class : ℕ) (f : Variable → Term) (known : List Term) (t : Term) : Type 0 where
+  pub are : AreNodes slots nodes known
+  pub led : AreLeaders slots f (slot_count slots) known leaders
+  pub sized : AreSizes nodes leaders (length nodes) sizes
+  pub class_is : slice_get known class ≡ Some t
+  pub symbol : Symbol
+  pub arguments : Terms
+  pub term_is : t ≡ terms.app symbol arguments
+  pub leads : AllByRecursion (λ y. leader slots f (terms.var y) ≡ None → ⊥) (terms.variables t)
+  pub fits : terms.size (folded slots f t) ≤ 2 ^ 32 - 1
+
+abbrev pub HasFolded : Slots → List Node → List (Option ℕ) → List ℕ → ℕ → List Cell → Type 0
+HasFolded slots nodes leaders sizes class cells =
+    (f : Variable → Term) (known : List Term) (t : Term) → CanFold slots nodes leaders sizes class f known t → cells ≡ cells_of (folded slots f t)
+
+-- a class's symbol has been written; its arguments stand before the others
+abbrev pub Writes : List Node → List ℕ → List ℕ → List ℕ → List Cell → List Cell → ℕ → Type 0
+Writes nodes sizes left left' cells cells' class =
+    (slots : Slots) (known : List Term) (s : Symbol) (ts rest : Terms)
+    → AreNodes slots nodes known
+    → slice_get known class ≡ Some (terms.app s ts)
+    → HaveKnown known left rest
+    → (cells' ≡ cells ++ cell.App s.number s.arity (slice_index_or sizes class 0) ∷ []) × HaveKnown known left' (chain ts rest)
+
+-- so many cells have been written, and these classes are left
+pub record HasWritten (slots : Slots) (f : Variable → Term) (known : List Term) (t : Term) (cells : List Cell) (left : List ℕ) (k : ℕ) : Type 0 where
+  pub rest : Terms
+  pub piled : HaveKnown known left rest
+  pub leads : AllByRecursion (λ y. leader slots f (terms.var y) ≡ None → ⊥) (terms.variables_of_all rest)
+  pub whole : cells ++ cells_of_all (folded_all slots f rest) ≡ cells_of (folded slots f t)
+  pub count_is : length cells ≡ k
+
+abbrev pub IsWriting : Slots → List Node → List (Option ℕ) → List ℕ → ℕ → List Cell → List ℕ → ℕ → Type 0
+IsWriting slots nodes leaders sizes class cells left k =
+    (f : Variable → Term) (known : List Term) (t : Term) → CanFold slots nodes leaders sizes class f known t → HasWritten slots f known t cells left k

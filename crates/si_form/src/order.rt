@@ -7,7 +7,8 @@ ghost use Rattle.si_form.specs.Ordering.{used_at, list_or_none, times_among, tim
 use std::alloc::{AllocError, Global};
 use std::collections::BTreeSet;
 
-// Counts one use more. No count overflows: there are fewer than 2 ^ 64 lists, each shorter than that.
+// Counts one use more. No count overflows: there are fewer than 2 ^ 64 lists, each shorter than
+// that.
 fn raise(counts: &mut Vec<u128>, at: usize)
     requires inside { at < length counts.old.items }
     requires room { slice_index_or counts.old.items at 0 + 1 < 2 ^ 128 }

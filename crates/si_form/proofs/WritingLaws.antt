@@ -1,5 +1,5 @@
 -- How far a folded term has been written.
-use Rattle.std.proofs.Common.{◌≡◌, ℕ, ◌+◌, ◌-◌, ◌^◌, ◌<◌, ◌≤◌, List, [], ◌∷◌, ◌++◌, length, get_or, suc, zero, refl, sym, ◌∙◌, ap, subst, arith, append_assoc, append-nil, length-append, Option, Some, None}
+use Rattle.std.proofs.Common.{◌≡◌, ℕ, ◌+◌, ◌-◌, ◌^◌, ◌<◌, ◌≤◌, List, [], ◌∷◌, ◌++◌, length, get_or, refl, sym, ◌∙◌, ap, subst, arith, append_assoc, append-nil, length-append, Option, Some, None}
 use Rattle.std.specs.Prelude.{slice_get}
 use Rattle.std.specs.List.{AllByRecursion}
 use Rattle.si_defs.specs.Terms as terms
@@ -10,7 +10,7 @@ use Rattle.si_flat.proofs.Subterms.{length-cells_of, length-cells_of_all}
 use Rattle.si_unify.specs.declared.slots.Slots.{Slots}
 use Rattle.si_unify.specs.Solving.{slot_count, variable_of}
 use Rattle.si_form.specs.declared.classes.Node.{Node}
-use Rattle.si_form.specs.Classes.{chain, AreNodes}
+use Rattle.si_form.specs.Classes.{chain}
 use Rattle.si_form.specs.Folding.{leader, variable_or, folded, folded_all, HaveKnown, CanFold, HasFolded, Descends, Writes, HasWritten, IsWriting}
 use Rattle.si_form.proofs.CanonicalLaws.{all_front, all_back, all_append}
 use Rattle.si_form.proofs.NodeLaws.{get_inside}
@@ -182,8 +182,8 @@ symbol_written nodes sizes left left' cells cells' class a b size h size_is is s
     let r = h slots known s ts rest are at have in
     let pair : (a, b) ≡ (s.number, s.arity) = same_pair (a, b) (s.number, s.arity) r.0 in (
       is
-      ∙ ap (λ n. cells ++ cell.App a b n ∷ []) size_is
-      ∙ ap (λ p. cells ++ cell.App p.0 p.1 (get_or sizes class 0) ∷ []) pair,
+          ∙ ap (λ n. cells ++ cell.App a b n ∷ []) size_is
+          ∙ ap (λ p. cells ++ cell.App p.0 p.1 (get_or sizes class 0) ∷ []) pair,
       r.1,
     )
   where

@@ -24,11 +24,11 @@ module _ {X : Type 0} where
   all_back P [] ys h = h
   all_back P (x ∷ xs) ys h = all_back P xs ys h.1
 
-  all_append : (P : X → Type 0) (xs ys : List X) → AllByRecursion P xs → AllByRecursion P ys → AllByRecursion P (xs ++ ys)
+  pub all_append : (P : X → Type 0) (xs ys : List X) → AllByRecursion P xs → AllByRecursion P ys → AllByRecursion P (xs ++ ys)
   all_append P [] ys h k = k
   all_append P (x ∷ xs) ys h k = (h.0, all_append P xs ys h.1 k)
 
-  among_parts : (xs ys : List X) (x : X) → IsAmong (xs ++ ys) x → IsAmong xs x ⊎ IsAmong ys x
+  pub among_parts : (xs ys : List X) (x : X) → IsAmong (xs ++ ys) x → IsAmong xs x ⊎ IsAmong ys x
   among_parts [] ys x a = inr a
   among_parts (y ∷ xs) ys x a =
       elim a [
@@ -41,7 +41,7 @@ module _ {X : Type 0} where
   AreDistinct [] = Unit {0}
   AreDistinct (x ∷ xs) = (IsAmong xs x → ⊥) × AreDistinct xs
 
-  among_filter : (p : X → Bool) (xs : List X) (x : X) → IsAmong (filter p xs) x → IsAmong xs x × (p x ≡ true)
+  pub among_filter : (p : X → Bool) (xs : List X) (x : X) → IsAmong (filter p xs) x → IsAmong xs x × (p x ≡ true)
   among_filter p [] x a = elim a [ ]
   among_filter p (y ∷ xs) x a = by (p y) refl a (among_filter p xs x)
     where
@@ -124,7 +124,7 @@ module _ {S V : Type 0} where
 
 -- ---- first occurrences
 module _ {V : Type 0} (same : V → V → Bool) (tells : (x y : V) → same x y ≡ true → x ≡ y) (itself : (x : V) → same x x ≡ true) where
-  firsts_among : (xs : List V) (x : V) → IsAmong (firsts same xs) x → IsAmong xs x
+  pub firsts_among : (xs : List V) (x : V) → IsAmong (firsts same xs) x → IsAmong xs x
   firsts_among [] x a = a
   firsts_among (y ∷ xs) x a =
       elim a [
@@ -139,7 +139,7 @@ module _ {V : Type 0} (same : V → V → Bool) (tells : (x y : V) → same x y 
     distinct_filter (λ z. not (same x z)) (firsts same xs) (distinct_firsts xs),
   )
 
-  differs : (x y : V) → (x ≡ y → ⊥) → same x y ≡ false
+  pub differs : (x y : V) → (x ≡ y → ⊥) → same x y ≡ false
   differs x y apart = by (same x y) refl
     where
       by : (b : Bool) → same x y ≡ b → same x y ≡ false

@@ -6,3 +6,5 @@ pub mod CanonicalLaws
 pub mod AnswerLaws
 pub mod TestTerms
 pub mod UnifierLaws
+pub mod GeneralLaws
+pub mod FoldedLaws

@@ -13,7 +13,7 @@ use Rattle.si_unify.specs.Solving.{slot_of, AreInRange}
 use Rattle.si_unify.proofs.Places.{variable_of-slot_of, in_range-variable}
 use Rattle.si_unify.proofs.Reading.{same_term}
 use Rattle.si_form.specs.declared.classes.Node.{Node}
-use Rattle.si_form.specs.Classes.{chain, GrowsTo, HaveNumbers, Applies, slots_of, KnowsSlot, IsSlotsClass, NumbersCell, HasClass, HaveRow, IsNumbering}
+use Rattle.si_form.specs.Classes.{chain, GrowsTo, HaveClasses, Applies, slots_of, KnowsSlot, IsSlotsClass, NumbersCell, HasClass, HaveRow, IsClassNumbering}
 use Rattle.si_form.proofs.NodeLaws.{grows_on, still_known, same_some}
 
 -- ---- rows of cells
@@ -99,13 +99,13 @@ module _ (slots : Slots) (classes : List ℕ) (cells : List Cell) (nodes1 nodes2
             grows = grown;
             sound = (tt, h.sound);
             cells_are = here ∙ ap (λ l. variable_cell x ∷ l) h.cells_are;
-            numbers_are = (still_known slots known nodes2 h.known' n (f x) grown image, subst (λ l. HaveNumbers f h.known' l h.row) (sym own.1) h.numbers_are);
+            numbers_are = (still_known slots known nodes2 h.known' n (f x) grown image, subst (λ l. HaveClasses f h.known' l h.row) (sym own.1) h.numbers_are);
           }
       by (terms.app s us) from sound =
           let heads = same_heads c (cell.App s.number s.arity (1 + terms.sizes us)) (drop (at + 1) cells) (cells_of_all us ++ found.after) (sym place ∙ from) in
           let parts = splits us h.row found.after sound.1 h.sound (sym heads.1 ∙ h.cells_are) in
           let applies : Applies nodes1 nodes2 numbers1 numbers2 s n = subst (λ d. NumbersCell slots classes nodes1 nodes2 numbers1 numbers2 d n) heads.0 numbered in
-          let r = applies slots f h.known' us parts.rest h.grows.nodes_are (subst (HaveNumbers f h.known' numbers1) parts.row_is h.numbers_are) sound.0 in
+          let r = applies slots f h.known' us parts.rest h.grows.nodes_are (subst (HaveClasses f h.known' numbers1) parts.row_is h.numbers_are) sound.0 in
           record {
             known' = r.0;
             row = terms.more (terms.app s us) parts.rest;
@@ -115,14 +115,14 @@ module _ (slots : Slots) (classes : List ℕ) (cells : List Cell) (nodes1 nodes2
             numbers_are = (r.2, r.3);
           }
 
-pub numbering_begins : (nodes : List Node) (slots : Slots) (classes : List ℕ) (cells : List Cell) (at : ℕ) (numbers : List ℕ) → length cells ≤ at → numbers ≡ [] → IsNumbering nodes nodes slots classes cells at numbers
+pub numbering_begins : (nodes : List Node) (slots : Slots) (classes : List ℕ) (cells : List Cell) (at : ℕ) (numbers : List ℕ) → length cells ≤ at → numbers ≡ [] → IsClassNumbering nodes nodes slots classes cells at numbers
 numbering_begins nodes slots classes cells at numbers less none t f known stands are knows = record {
   known' = known;
   row = terms.none;
   grows = record { more = []; known_is = sym (append-nil known); nodes_are = are };
   sound = tt;
   cells_are = drop_all at cells less;
-  numbers_are = subst (λ l. HaveNumbers f known l terms.none) (sym none) tt;
+  numbers_are = subst (λ l. HaveClasses f known l terms.none) (sym none) tt;
 }
 
 pub numbering_more :
@@ -131,10 +131,10 @@ pub numbering_more :
     → at < length cells
     → AreInRange slots cells
     → c ≡ get_or cells at (cell.App 0 0 0)
-    → IsNumbering nodes nodes1 slots classes cells before numbers1
+    → IsClassNumbering nodes nodes1 slots classes cells before numbers1
     → NumbersCell slots classes nodes1 nodes2 numbers1 numbers2 c n
     → numbers3 ≡ n ∷ numbers2
-    → IsNumbering nodes nodes2 slots classes cells at numbers3
+    → IsClassNumbering nodes nodes2 slots classes cells at numbers3
 numbering_more nodes nodes1 nodes2 slots classes cells at before n numbers1 numbers2 numbers3 c is less range c_is h numbered pushed t f known stands are knows =
     subst (HaveRow slots f known nodes2 cells at) (sym pushed)
     (row_more slots classes cells nodes1 nodes2 numbers1 numbers2 at n c range numbered f known t stands less c_is knows
@@ -146,7 +146,7 @@ pub numbering_ends :
     → 0 < length cells
     → AreInRange slots cells
     → c ≡ get_or cells 0 (cell.App 0 0 0)
-    → IsNumbering nodes nodes1 slots classes cells before numbers1
+    → IsClassNumbering nodes nodes1 slots classes cells before numbers1
     → NumbersCell slots classes nodes1 nodes2 numbers1 numbers2 c n
     → HasClass nodes nodes2 slots classes cells n
 numbering_ends nodes nodes1 nodes2 slots classes cells before n numbers1 numbers2 c is less range c_is h numbered t f known stands are knows =
@@ -157,7 +157,7 @@ numbering_ends nodes nodes1 nodes2 slots classes cells before n numbers1 numbers
     drop_none [] = refl
     drop_none (x ∷ xs) = refl
 
-    by : (row : Terms) (known' : List Term) → GrowsTo slots known nodes2 known' → AreSound row → cells ≡ cells_of_all row → HaveNumbers f known' (n ∷ numbers2) row → (known' : List Term) × GrowsTo slots known nodes2 known' × (slice_get known' n ≡ Some (terms.substitute f t))
+    by : (row : Terms) (known' : List Term) → GrowsTo slots known nodes2 known' → AreSound row → cells ≡ cells_of_all row → HaveClasses f known' (n ∷ numbers2) row → (known' : List Term) × GrowsTo slots known nodes2 known' × (slice_get known' n ≡ Some (terms.substitute f t))
     by terms.none known' grown sound e have = elim have [ ]
     by (terms.more u us) known' grown sound e have =
         let same = same_term u t (cells_of_all us) [] sound.0 stands.sound (sym e ∙ stands.cells_are ∙ sym (append-nil (cells_of t))) in

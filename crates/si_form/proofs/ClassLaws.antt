@@ -17,7 +17,7 @@ use Rattle.si_unify.proofs.Places.{all_at}
 use Rattle.si_form.specs.declared.classes.Node.{Node}
 use Rattle.si_form.specs.declared.classes.Node.TheVariants.{Variable as Of}
 use Rattle.si_form.specs.Classes.{Interns, AreNodes, slots_of, KnowsSlot, HasClass, HasSingles, LeavesUnbound, KnowsWhere, HasClasses, IsClassing}
-use Rattle.si_form.specs.Ordering.{used_at, list_or_none, IsListed, IsOpen, AreNext, AreOrdered}
+use Rattle.si_form.specs.Ordering.{uses_at, list_or_none, IsListed, IsOpen, AreFirstUnused, AreOrdered}
 use Rattle.si_form.specs.Uses.{used_in, UsesBelow}
 use Rattle.si_form.proofs.CanonicalLaws.{among_parts}
 use Rattle.si_form.proofs.CanonicalLaws as members
@@ -52,11 +52,11 @@ singles_more slots nodes new classes classes' count n less h adds is =
 
 -- ---- places in an order
 module _ (used : ℕ → Option (List ℕ)) where
-  open_at : (before left : List ℕ) (slot : ℕ) (done : List ℕ) → AreNext used before (left ++ slot ∷ done) → IsOpen used (before ++ left) slot
+  open_at : (before left : List ℕ) (slot : ℕ) (done : List ℕ) → AreFirstUnused used before (left ++ slot ∷ done) → IsOpen used (before ++ left) slot
   open_at before [] slot done h = subst (λ l. IsOpen used l slot) (sym (append-nil before)) h.0.is_open
   open_at before (k ∷ left) slot done h = subst (λ l. IsOpen used l slot) (append_assoc before (k ∷ []) left) (open_at (before ++ k ∷ []) left slot done h.1)
 
-  not_used_before : (before left : List ℕ) (slot : ℕ) (done : List ℕ) (y : ℕ) → AreNext used before (left ++ slot ∷ done) → IsAmong left y → IsAmong (list_or_none (used slot)) y → ⊥
+  not_used_before : (before left : List ℕ) (slot : ℕ) (done : List ℕ) (y : ℕ) → AreFirstUnused used before (left ++ slot ∷ done) → IsAmong left y → IsAmong (list_or_none (used slot)) y → ⊥
   not_used_before before [] slot done y h a u = elim a [ ]
   not_used_before before (k ∷ left) slot done y h a u =
       elim a [
@@ -91,10 +91,10 @@ get_set_other (x ∷ xs) (suc i) zero n apart = refl
 get_set_other (x ∷ xs) (suc i) (suc j) n apart = get_set_other xs i j n (λ e. apart (ap suc e))
 
 module _ {A : Type 0} (slots : Slots) (pairs : Pairs) (lists : List (Option (Vec ℕ A))) (long : length lists ≡ slot_count slots) (below : UsesBelow slots pairs lists) (bindings : AllByRecursion (IsBinding slots) pairs) where
-  pub classing_begins : (nodes : List Node) (classes order : List ℕ) → AreOrdered (used_at lists) order → HasSingles slots nodes classes (slot_count slots) → IsClassing (used_at lists) slots pairs nodes classes order
+  pub classing_begins : (nodes : List Node) (classes order : List ℕ) → AreOrdered (uses_at lists) order → HasSingles slots nodes classes (slot_count slots) → IsClassing (uses_at lists) slots pairs nodes classes order
   classing_begins nodes classes order ordered h = record {
     done = [];
-    ordered = subst (AreOrdered (used_at lists)) (sym (append-nil order)) ordered;
+    ordered = subst (AreOrdered (uses_at lists)) (sym (append-nil order)) ordered;
     long = h.long;
     knows = λ f solves leaves. (
       h.known,
@@ -107,17 +107,17 @@ module _ {A : Type 0} (slots : Slots) (pairs : Pairs) (lists : List (Option (Vec
     );
   }
 
-  module _ (nodes : List Node) (classes left left' : List ℕ) (slot : ℕ) (is : left ≡ left' ++ slot ∷ []) (h : IsClassing (used_at lists) slots pairs nodes classes left) where
+  module _ (nodes : List Node) (classes left left' : List ℕ) (slot : ℕ) (is : left ≡ left' ++ slot ∷ []) (h : IsClassing (uses_at lists) slots pairs nodes classes left) where
     order_is : left ++ h.done ≡ left' ++ slot ∷ h.done
     order_is = ap (λ l. l ++ h.done) is ∙ append_assoc left' (slot ∷ []) h.done
 
-    ordered_on : AreOrdered (used_at lists) (left' ++ slot ∷ h.done)
-    ordered_on = subst (AreOrdered (used_at lists)) order_is h.ordered
+    ordered_on : AreOrdered (uses_at lists) (left' ++ slot ∷ h.done)
+    ordered_on = subst (AreOrdered (uses_at lists)) order_is h.ordered
 
     pub slot_inside : slot < slot_count slots
-    slot_inside = listed_inside slots pairs lists long below bindings slot (open_at (used_at lists) [] left' slot h.done ordered_on.next).listed
+    slot_inside = listed_inside slots pairs lists long below bindings slot (open_at (uses_at lists) [] left' slot h.done ordered_on.next).listed
 
-    pub classing_skips : value_at pairs slot ≡ None → IsClassing (used_at lists) slots pairs nodes classes left'
+    pub classing_skips : value_at pairs slot ≡ None → IsClassing (uses_at lists) slots pairs nodes classes left'
     classing_skips unbound = record {
       done = slot ∷ h.done;
       ordered = ordered_on;
@@ -130,8 +130,8 @@ module _ {A : Type 0} (slots : Slots) (pairs : Pairs) (lists : List (Option (Vec
           );
     }
 
-    pub classing_more : (new : List Node) (classes' : List ℕ) (n : ℕ) (v : Bor (List Cell)) → value_at pairs slot ≡ Some v → HasClass nodes new slots classes v.now n → classes' ≡ set classes slot n → IsClassing (used_at lists) slots pairs new classes' left'
-    classing_more new classes' n v bound numbered changed = subst (λ l. IsClassing (used_at lists) slots pairs new l left') (sym changed) (record {
+    pub classing_more : (new : List Node) (classes' : List ℕ) (n : ℕ) (v : Bor (List Cell)) → value_at pairs slot ≡ Some v → HasClass nodes new slots classes v.now n → classes' ≡ set classes slot n → IsClassing (uses_at lists) slots pairs new classes' left'
+    classing_more new classes' n v bound numbered changed = subst (λ l. IsClassing (uses_at lists) slots pairs new l left') (sym changed) (record {
       done = slot ∷ h.done;
       ordered = ordered_on;
       long = length-set classes slot n ∙ h.long;
@@ -141,10 +141,10 @@ module _ {A : Type 0} (slots : Slots) (pairs : Pairs) (lists : List (Option (Vec
         binding : IsBinding slots (slot, v)
         binding = all_at (IsBinding slots) pairs slot v bindings bound
 
-        listed : IsListed (used_at lists) slot
+        listed : IsListed (uses_at lists) slot
         listed = listed_of_bound slots pairs lists long below bindings slot v slot_inside bound
 
-        uses_are : list_or_none (used_at lists slot) ≡ slots_of slots v.now
+        uses_are : list_or_none (uses_at lists slot) ≡ slots_of slots v.now
         uses_are = ap list_or_none (below slot (omega (arith, slot_inside, long)) ∙ ap (used_in slots) bound)
 
         ready : (y : ℕ) → IsAmong (slots_of slots v.now) y → (value_at pairs y ≡ None) ⊎ IsAmong h.done y
@@ -153,7 +153,7 @@ module _ {A : Type 0} (slots : Slots) (pairs : Pairs) (lists : List (Option (Vec
             by : (o : Option (Bor (List Cell))) → value_at pairs y ≡ o → (value_at pairs y ≡ None) ⊎ IsAmong h.done y
             by None e = inl e
             by (Some w) e =
-                inr (used_done (used_at lists) left' slot h.done y ordered_on
+                inr (used_done (uses_at lists) left' slot h.done y ordered_on
                 (listed_of_bound slots pairs lists long below bindings y w (members.all_at (λ j. j < slot_count slots) (slots_of slots v.now) y (range_slots slots v.now binding.in_range) a) e)
                 (subst (λ l. IsAmong l y) (sym uses_are) a))
 
@@ -182,7 +182,7 @@ module _ {A : Type 0} (slots : Slots) (pairs : Pairs) (lists : List (Option (Vec
                   ]),
             )
 
-  pub classing_ends : (nodes : List Node) (classes left : List ℕ) → left ≡ [] → IsClassing (used_at lists) slots pairs nodes classes left → HasClasses slots pairs nodes classes
+  pub classing_ends : (nodes : List Node) (classes left : List ℕ) → left ≡ [] → IsClassing (uses_at lists) slots pairs nodes classes left → HasClasses slots pairs nodes classes
   classing_ends nodes classes left none h = record {
     long = h.long;
     knows = λ f solves leaves.

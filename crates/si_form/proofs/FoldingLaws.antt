@@ -11,12 +11,12 @@ use Rattle.si_unify.specs.Solving.{variable_of}
 use Rattle.si_form.specs.declared.classes.Node.{Node}
 use Rattle.si_form.specs.declared.classes.Node.TheVariants.{Variable as Of, Head, With}
 use Rattle.si_form.specs.Classes.{chain, with_last, StandsForNode, AreNodes}
-use Rattle.si_form.specs.Folding.{same_symbol, same_terms, same_rows, or_slot, leader_below, LeadClasses, HaveKnown, Descends, HasDescended, IsDescending, HasTerms, IsBefore, AreSizes, node_size, part_size}
+use Rattle.si_form.specs.Folding.{same_numbered, same_terms, same_rows, or_slot, leader_below, LeadClasses, HaveKnown, Descends, HasDescended, IsDescending, HasTerms, IsBefore, AreSizes, node_size, part_size}
 use Rattle.si_form.proofs.VariableLaws.{same_tells, same_itself}
 use Rattle.si_form.proofs.NodeLaws.{number_tells, both_true, get_inside, get_some, same_some, same_app, chain_last, chain_none, known_of, get_last, get_front}
 
 -- ---- equal terms
-symbol_tells : (s r : Symbol) → same_symbol s r ≡ true → s ≡ r
+symbol_tells : (s r : Symbol) → same_numbered s r ≡ true → s ≡ r
 symbol_tells s r e =
     let both = both_true (s.number == r.number) (s.arity == r.arity) e in
     let make : ℕ → ℕ → Symbol = λ a b. record { number = a; arity = b } in
@@ -28,7 +28,7 @@ mutual
   terms_tell (terms.var x) (terms.app r us) e = cc
   terms_tell (terms.app s ts) (terms.var y) e = cc
   terms_tell (terms.app s ts) (terms.app r us) e =
-      let both = both_true (same_symbol s r) (same_rows ts us) e in
+      let both = both_true (same_numbered s r) (same_rows ts us) e in
       ap (λ x. terms.app x ts) (symbol_tells s r both.0) ∙ ap (terms.app r) (rows_tell ts us both.1)
 
   pub rows_tell : (ts us : Terms) → same_rows ts us ≡ true → ts ≡ us
@@ -46,7 +46,7 @@ mutual
   pub terms_itself : (t : Term) → same_terms t t ≡ true
   terms_itself (terms.var x) = same_itself x
   terms_itself (terms.app s ts) =
-      and_true (same_symbol s s) (same_rows ts ts) (and_true (s.number == s.number) (s.arity == s.arity) (eq-eqb s.number s.number refl) (eq-eqb s.arity s.arity refl)) (rows_itself ts)
+      and_true (same_numbered s s) (same_rows ts ts) (and_true (s.number == s.number) (s.arity == s.arity) (eq-eqb s.number s.number refl) (eq-eqb s.arity s.arity refl)) (rows_itself ts)
 
   pub rows_itself : (ts : Terms) → same_rows ts ts ≡ true
   rows_itself terms.none = refl

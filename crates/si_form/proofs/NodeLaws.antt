@@ -12,7 +12,7 @@ use Rattle.si_unify.specs.Solving.{slot_of, variable_of}
 use Rattle.si_form.specs.declared.classes.Node.{Node}
 use Rattle.si_form.specs.declared.classes.Node.TheVariants.{Variable as Of, Head, With}
 use Rattle.si_form.specs.contracts.classes.NodePartialEq.TheImpl.{eq-value}
-use Rattle.si_form.specs.Classes.{Interns, chain, with_last, HasOneMore, StandsForNode, AreNodes, GrowsTo, HaveNumbers, Applies, HasApplied, IsApplying}
+use Rattle.si_form.specs.Classes.{Interns, chain, with_last, HasOneMore, StandsForNode, AreNodes, GrowsTo, HaveClasses, Applies, HasApplied, IsApplying}
 
 -- ---- equal nodes
 pub number_tells : (m n : ℕ) → (m == n) ≡ true → m ≡ n
@@ -291,7 +291,7 @@ grows_on slots known known1 known2 nodes1 nodes2 h j = record {
 pub still_known : (slots : Slots) (old : List Term) (nodes : List Node) (known : List Term) (n : ℕ) (t : Term) → GrowsTo slots old nodes known → slice_get old n ≡ Some t → slice_get known n ≡ Some t
 still_known slots old nodes known n t h e = subst (λ l. slice_get l n ≡ Some t) (sym h.known_is) (get_front old h.more n t e)
 
-pub still_numbers : (slots : Slots) (f : Variable → Term) (old : List Term) (nodes : List Node) (known : List Term) (ns : List ℕ) (ts : Terms) → GrowsTo slots old nodes known → HaveNumbers f old ns ts → HaveNumbers f known ns ts
+pub still_numbers : (slots : Slots) (f : Variable → Term) (old : List Term) (nodes : List Node) (known : List Term) (ns : List ℕ) (ts : Terms) → GrowsTo slots old nodes known → HaveClasses f old ns ts → HaveClasses f known ns ts
 still_numbers slots f old nodes known [] terms.none h k = tt
 still_numbers slots f old nodes known [] (terms.more t ts) h k = k
 still_numbers slots f old nodes known (n ∷ ns) terms.none h k = k
@@ -317,14 +317,14 @@ module _ (slots : Slots) (f : Variable → Term) (known : List Term) (nodes node
   applied_none : HasApplied slots f known nodes [] s us rest k front → ⊥
   applied_none h = by h.left h.arguments h.others
     where
-      by : (left : Terms) → us ≡ chain h.done left → HaveNumbers f h.known' [] (chain left rest) → ⊥
+      by : (left : Terms) → us ≡ chain h.done left → HaveClasses f h.known' [] (chain left rest) → ⊥
       by terms.none e have = omega (arith, ap terms.count e, count_chain h.done terms.none, h.count_is, count_all, less)
       by (terms.more u left) e have = have
 
   applied_more : (argument n : ℕ) (numbers : List ℕ) → HasApplied slots f known nodes (argument ∷ numbers) s us rest k front → Interns nodes nodes' (With front argument) n → HasApplied slots f known nodes' numbers s us rest (k + 1) n
   applied_more argument n numbers h adds = by h.left h.arguments h.others
     where
-      by : (left : Terms) → us ≡ chain h.done left → HaveNumbers f h.known' (argument ∷ numbers) (chain left rest) → HasApplied slots f known nodes' numbers s us rest (k + 1) n
+      by : (left : Terms) → us ≡ chain h.done left → HaveClasses f h.known' (argument ∷ numbers) (chain left rest) → HasApplied slots f known nodes' numbers s us rest (k + 1) n
       by terms.none e have = absurd (omega (arith, ap terms.count e, count_chain h.done terms.none, h.count_is, count_all, less))
       by (terms.more u left) e have =
           let means : HasOneMore h.known' front argument (length nodes) (terms.app s (with_last (terms.substitute_all f h.done) (terms.substitute f u))) =
@@ -365,7 +365,7 @@ applying_ends nodes nodes1 numbers numbers1 s k front less h slots f known us re
     let a = h slots f known us rest are have count_is in
     by a a.left a.arguments a.others
   where
-    by : (a : HasApplied slots f known nodes1 numbers1 s us rest k front) (left : Terms) → us ≡ chain a.done left → HaveNumbers f a.known' numbers1 (chain left rest) → (known' : List Term) × GrowsTo slots known nodes1 known' × (slice_get known' front ≡ Some (terms.app s (terms.substitute_all f us))) × HaveNumbers f known' numbers1 rest
+    by : (a : HasApplied slots f known nodes1 numbers1 s us rest k front) (left : Terms) → us ≡ chain a.done left → HaveClasses f a.known' numbers1 (chain left rest) → (known' : List Term) × GrowsTo slots known nodes1 known' × (slice_get known' front ≡ Some (terms.app s (terms.substitute_all f us))) × HaveClasses f known' numbers1 rest
     by a terms.none e others = (a.known', a.grows, a.front_is ∙ ap (λ ts. Some (terms.app s (terms.substitute_all f ts))) (sym (e ∙ chain_none a.done)), others)
     by a (terms.more u left) e others = absurd (omega (arith, ap terms.count e, count_chain a.done (terms.more u left), a.count_is, count_is, less))
 

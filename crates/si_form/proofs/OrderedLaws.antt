@@ -11,7 +11,7 @@ use Rattle.si_unify.specs.Solving.{slot_of, variable_of}
 use Rattle.si_form.proofs.CanonicalLaws.{all_at, all_from, among_parts}
 use Rattle.si_form.proofs.FoldedLaws.{among_front, among_back}
 use Rattle.si_form.proofs.NodeLaws.{slot_again}
-use Rattle.si_form.specs.Ordering.{list_or_none, IsListed, AreNext}
+use Rattle.si_form.specs.Ordering.{list_or_none, IsListed, AreFirstUnused}
 
 -- ---- the variables of the first slots
 abbrev pub variables_from : Slots → ℕ → ℕ → List Variable
@@ -44,14 +44,14 @@ parts_at slots k (suc n) (suc d) i e less =
 
 -- ---- places in an order
 module _ (used : ℕ → Option (List ℕ)) where
-  pub behind_all : (before ks : List ℕ) → AreNext used before ks → AllByRecursion (λ j. IsAmong before j → ⊥) ks
+  pub behind_all : (before ks : List ℕ) → AreFirstUnused used before ks → AllByRecursion (λ j. IsAmong before j → ⊥) ks
   behind_all before [] h = tt
   behind_all before (k ∷ ks) h = (
     h.0.is_open.behind,
     all_from (λ j. IsAmong before j → ⊥) ks (λ j a b. all_at (λ i. IsAmong (before ++ k ∷ []) i → ⊥) ks j (behind_all (before ++ k ∷ []) ks h.1) a (among_front before (k ∷ []) j b)),
   )
 
-  pub listed_all : (before ks : List ℕ) → AreNext used before ks → AllByRecursion (IsListed used) ks
+  pub listed_all : (before ks : List ℕ) → AreFirstUnused used before ks → AllByRecursion (IsListed used) ks
   listed_all before [] h = tt
   listed_all before (k ∷ ks) h = (h.0.is_open.listed, listed_all (before ++ k ∷ []) ks h.1)
 
@@ -102,15 +102,15 @@ module _ (used : ℕ → Option (List ℕ)) where
     of_clear ks j has h i a u = all_at (λ t. IsAmong (terms.variables t) (variable_of slots j) → ⊥) (rights (bindings_of ks)) (right i) h (right_of ks i a) ((has i a).used_in j u)
 
     module _ (q e : Term) (n : ℕ) (order_is : order same_variable q e ≡ variables_from slots 0 n) (inside : (k : ℕ) → IsListed used k → k < n) (has : (k : ℕ) → IsListed used k → HasUses k) where
-      has_all : (before ks : List ℕ) → AreNext used before ks → (k : ℕ) → IsAmong ks k → HasUses k
+      has_all : (before ks : List ℕ) → AreFirstUnused used before ks → (k : ℕ) → IsAmong ks k → HasUses k
       has_all before ks h k a = has k (all_at (IsListed used) ks k (listed_all before ks h) a)
 
       -- none of those from the place on uses the slot at the place
-      unused_here : (before : List ℕ) (k : ℕ) (ks : List ℕ) → AreNext used before (k ∷ ks) → IsUnused (k ∷ ks) k
+      unused_here : (before : List ℕ) (k : ℕ) (ks : List ℕ) → AreFirstUnused used before (k ∷ ks) → IsUnused (k ∷ ks) k
       unused_here before k ks h i a u =
           h.0.is_open.unused i (all_at (IsListed used) (k ∷ ks) i (listed_all before (k ∷ ks) h) a) (all_at (λ j. IsAmong before j → ⊥) (k ∷ ks) i (behind_all before (k ∷ ks) h) a) u
 
-      pub triangular_of : (before ks : List ℕ) → AreNext used before ks → IsTriangular same_variable (bindings_of ks)
+      pub triangular_of : (before ks : List ℕ) → AreFirstUnused used before ks → IsTriangular same_variable (bindings_of ks)
       triangular_of before [] h = tt
       triangular_of before (k ∷ ks) h = (
         (λ a.
@@ -121,7 +121,7 @@ module _ (used : ℕ → Option (List ℕ)) where
         triangular_of (before ++ k ∷ []) ks h.1,
       )
 
-      pub ordered_of : (before ks : List ℕ) → AreNext used before ks → ((k : ℕ) → IsListed used k → IsAmong (before ++ ks) k) → IsOrdered same_variable q e (bindings_of ks)
+      pub ordered_of : (before ks : List ℕ) → AreFirstUnused used before ks → ((k : ℕ) → IsListed used k → IsAmong (before ++ ks) k) → IsOrdered same_variable q e (bindings_of ks)
       ordered_of before [] h all = tt
       ordered_of before (k ∷ ks) h all = (
         (

@@ -14,7 +14,7 @@ use Rattle.std.specs.List.{AllByRecursion}
 use Rattle.si_defs.specs.Substitutions.{IsAmong}
 use Rattle.si_form.proofs.CanonicalLaws.{all_at, all_from, AreDistinct, among_parts}
 use Rattle.si_form.proofs.FoldedLaws.{among_front, among_back}
-use Rattle.si_form.specs.Ordering.{list_of, used_at, list_or_none, times_among, IsListed, IsNext, AreNext, AreOrdered, HasNoCircle, times_used, with_listed, listed_below, IsUnderway, IsListedFree}
+use Rattle.si_form.specs.Ordering.{list_of, uses_at, list_or_none, times_among, IsListed, IsFirstUnused, AreFirstUnused, AreOrdered, HasNoCircle, times_used, with_listed, listed_below, IsPartlyOrdered, IsListedFree}
 
 -- ---- occurrences
 times_of_among : (xs : List ℕ) (j : ℕ) → IsAmong xs j → 0 < times_among xs j
@@ -119,9 +119,9 @@ module _ (used : ℕ → Option (List ℕ)) where
   zero_or_more (suc n) = inr (omega arith)
 
   -- ---- one place more
-  next_more : (before ks : List ℕ) (k : ℕ) → AreNext used before ks → IsNext used (before ++ ks) k → AreNext used before (ks ++ k ∷ [])
-  next_more before [] k h next = (subst (λ l. IsNext used l k) (append-nil before) next, tt)
-  next_more before (x ∷ ks) k h next = (h.0, next_more (before ++ x ∷ []) ks k h.1 (subst (λ l. IsNext used l k) (sym (append_assoc before (x ∷ []) ks)) next))
+  next_more : (before ks : List ℕ) (k : ℕ) → AreFirstUnused used before ks → IsFirstUnused used (before ++ ks) k → AreFirstUnused used before (ks ++ k ∷ [])
+  next_more before [] k h next = (subst (λ l. IsFirstUnused used l k) (append-nil before) next, tt)
+  next_more before (x ∷ ks) k h next = (h.0, next_more (before ++ x ∷ []) ks k h.1 (subst (λ l. IsFirstUnused used l k) (sym (append_assoc before (x ∷ []) ks)) next))
 
   -- ---- the start
   listed_among : (n k : ℕ) → IsAmong (listed_below used n) k → (k < n) × IsListed used k
@@ -177,7 +177,7 @@ module _ (used : ℕ → Option (List ℕ)) where
       → length counts ≡ n
       → ((j : ℕ) → get_or counts j 0 ≡ times_used used (listed_below used n) j)
       → ((j : ℕ) → IsAmong free j ↔ (IsAmong (listed_below used n) j × (get_or counts j 0 ≡ 0)))
-      → IsUnderway used n counts free [] []
+      → IsPartlyOrdered used n counts free [] []
   begins n counts free circle long counted free_is = record {
     rest = listed_below used n;
     long = long;
@@ -204,14 +204,14 @@ module _ (used : ℕ → Option (List ℕ)) where
   pub takes :
       (n : ℕ) (counts free free' order order' xs : List ℕ) (k : ℕ)
       → HasNoCircle used n
-      → IsUnderway used n counts free order []
+      → IsPartlyOrdered used n counts free order []
       → free ≡ k ∷ free'
       → AllByRecursion (λ i. k < i) free'
       → order' ≡ order ++ k ∷ []
       → list_or_none (used k) ≡ xs
-      → IsUnderway used n counts free' order' xs
+      → IsPartlyOrdered used n counts free' order' xs
   takes n counts free free' order order' xs k circle h is above order_is xs_are =
-      subst (λ l. IsUnderway used n counts free' l xs) (sym order_is) (subst (IsUnderway used n counts free' (order ++ k ∷ [])) xs_are taken)
+      subst (λ l. IsPartlyOrdered used n counts free' l xs) (sym order_is) (subst (IsPartlyOrdered used n counts free' (order ++ k ∷ [])) xs_are taken)
     where
       is_free : IsAmong free k
       is_free = subst (λ l. IsAmong l k) (sym is) (inl refl)
@@ -222,7 +222,7 @@ module _ (used : ℕ → Option (List ℕ)) where
       unused : (j : ℕ) → get_or counts j 0 ≡ 0 → times_used used h.rest j ≡ 0
       unused j e = omega (arith, e, h.counted j)
 
-      is_next : IsNext used order k
+      is_next : IsFirstUnused used order k
       is_next = record {
         is_open = record {
           listed = all_at (IsListed used) h.rest k h.listed both.0;
@@ -248,7 +248,7 @@ module _ (used : ℕ → Option (List ℕ)) where
       old : (j : ℕ) → IsAmong (order ++ k ∷ []) j → IsAmong order j ⊎ (k ≡ j)
       old j a = elim (among_parts order (k ∷ []) j a) [ inl b ↦ inl b | inr b ↦ elim b [ inl e ↦ inr e | inr n ↦ elim n [ ] ] ]
 
-      taken : IsUnderway used n counts free' (order ++ k ∷ []) (list_or_none (used k))
+      taken : IsPartlyOrdered used n counts free' (order ++ k ∷ []) (list_or_none (used k))
       taken = record {
         rest = without k h.rest;
         long = h.long;
@@ -290,7 +290,7 @@ module _ (used : ℕ → Option (List ℕ)) where
   abbrev pub IsReleased : List ℕ → List ℕ → ℕ → Type 0
   IsReleased free free' y = (j : ℕ) → IsAmong free' j ↔ ((j ≡ y) ⊎ IsAmong free j)
 
-  module _ (n : ℕ) (counts counts' free order xs : List ℕ) (y : ℕ) (h : IsUnderway used n counts free order (y ∷ xs)) where
+  module _ (n : ℕ) (counts counts' free order xs : List ℕ) (y : ℕ) (h : IsPartlyOrdered used n counts free order (y ∷ xs)) where
     pub used_now : 0 < get_or counts y 0
     used_now = let k = times_of_among (y ∷ xs) y (inl refl) in omega (arith, k, h.counted y)
 
@@ -305,7 +305,7 @@ module _ (used : ℕ → Option (List ℕ)) where
             | inr e ↦ (let k = h.counted j in let was : get_or counts j 0 ≡ times_used used h.rest j + (0 + times_among xs j) = rw e.0 at k in omega (arith, was, others j (λ s. e.1 (sym s))))
           ]
 
-      released : (free' : List ℕ) → ((j : ℕ) → IsAmong free' j ↔ (IsAmong h.rest j × (get_or counts' j 0 ≡ 0))) → IsUnderway used n counts' free' order xs
+      released : (free' : List ℕ) → ((j : ℕ) → IsAmong free' j ↔ (IsAmong h.rest j × (get_or counts' j 0 ≡ 0))) → IsPartlyOrdered used n counts' free' order xs
       released free' free_is = record {
         rest = h.rest;
         long = long;
@@ -328,7 +328,7 @@ module _ (used : ℕ → Option (List ℕ)) where
       free_before j apart r = (h.free_is j).1 (r.0, sym (others j apart) ∙ r.1)
 
       -- another uses it, or it isn't listed
-      pub passes : (get_or counts' y 0 ≡ 0 → IsListed used y → ⊥) → IsUnderway used n counts' free order xs
+      pub passes : (get_or counts' y 0 ≡ 0 → IsListed used y → ⊥) → IsPartlyOrdered used n counts' free order xs
       passes held =
           released free
           (λ j. (
@@ -337,7 +337,7 @@ module _ (used : ℕ → Option (List ℕ)) where
           ))
 
       -- no other uses it
-      pub frees : (free' : List ℕ) → get_or counts' y 0 ≡ 0 → IsListed used y → IsReleased free free' y → IsUnderway used n counts' free' order xs
+      pub frees : (free' : List ℕ) → get_or counts' y 0 ≡ 0 → IsListed used y → IsReleased free free' y → IsPartlyOrdered used n counts' free' order xs
       frees free' none listed gains =
           released free'
           (λ j. (
@@ -349,7 +349,7 @@ module _ (used : ℕ → Option (List ℕ)) where
           in_rest = elim (h.all y listed) [ inl a ↦ absurd (not_now y (h.passed y a) refl) | inr a ↦ a ]
 
   -- ---- none is free
-  pub ends : (n : ℕ) (counts free order : List ℕ) → HasNoCircle used n → IsUnderway used n counts free order [] → free ≡ [] → AreOrdered used order
+  pub ends : (n : ℕ) (counts free order : List ℕ) → HasNoCircle used n → IsPartlyOrdered used n counts free order [] → free ≡ [] → AreOrdered used order
   ends n counts free order circle h is = record {
     next = h.next;
     all = λ k l. elim (h.all k l) [ inl a ↦ a | inr a ↦ absurd (none h.rest k h.counted h.free_is a) ];
@@ -440,7 +440,7 @@ raised_room old now used i k n less room so_far = let few = times_few (take i us
 
 -- ---- the steps of the loops
 module _ (used : ℕ → Option (List ℕ)) where
-  module _ (n : ℕ) (counts counts' free order xs : List ℕ) (y m : ℕ) (h : IsUnderway used n counts free order (y ∷ xs)) (is : counts' ≡ set counts y m) (less : m + 1 ≡ get_or counts y 0) where
+  module _ (n : ℕ) (counts counts' free order xs : List ℕ) (y m : ℕ) (h : IsPartlyOrdered used n counts free order (y ∷ xs)) (is : counts' ≡ set counts y m) (less : m + 1 ≡ get_or counts y 0) where
     inside : y < length counts
     inside = omega (arith, h.long, h.left_inside.0)
 
@@ -453,12 +453,12 @@ module _ (used : ℕ → Option (List ℕ)) where
     long_as : length counts' ≡ n
     long_as = ap length is ∙ length-set counts y m ∙ h.long
 
-    pub passes_over : (m ≡ 0 → IsListed used y → ⊥) → IsUnderway used n counts' free order xs
+    pub passes_over : (m ≡ 0 → IsListed used y → ⊥) → IsPartlyOrdered used n counts' free order xs
     passes_over held = passes used n counts counts' free order xs y h (omega (arith, now_is, less)) others_are long_as (λ e. held (sym now_is ∙ e))
 
-    pub sets_free : (free' : List ℕ) → m ≡ 0 → IsListed used y → free' ≡ insert_key nat_cmp free y → IsUnderway used n counts' free' order xs
+    pub sets_free : (free' : List ℕ) → m ≡ 0 → IsListed used y → free' ≡ insert_key nat_cmp free y → IsPartlyOrdered used n counts' free' order xs
     sets_free free' none listed free_is =
-        subst (λ l. IsUnderway used n counts' l order xs) (sym free_is)
+        subst (λ l. IsPartlyOrdered used n counts' l order xs) (sym free_is)
         (frees used n counts counts' free order xs y h (omega (arith, now_is, less)) others_are long_as (insert_key nat_cmp free y) (now_is ∙ none) listed (λ j. inserted free y j))
 
   -- what is free among one number more
@@ -480,10 +480,10 @@ module _ (used : ℕ → Option (List ℕ)) where
       ∙ omega (arith, ap (λ o. times_among (list_or_none o) j) e)
 
 -- ---- the lists as they stand in memory
-pub listed_at : {A : Type 0} (lists : List (Option (Vec ℕ A))) (k : ℕ) (o : Option (Vec ℕ A)) (v : Vec ℕ A) → k < length lists → o ≡ get_or lists k o → o ≡ Some v → used_at lists k ≡ Some v.items
+pub listed_at : {A : Type 0} (lists : List (Option (Vec ℕ A))) (k : ℕ) (o : Option (Vec ℕ A)) (v : Vec ℕ A) → k < length lists → o ≡ get_or lists k o → o ≡ Some v → uses_at lists k ≡ Some v.items
 listed_at lists k o v less is some = ap list_of (get_or_default lists k None o less ∙ sym is ∙ some)
 
-pub unlisted_at : {A : Type 0} (lists : List (Option (Vec ℕ A))) (k : ℕ) (o : Option (Vec ℕ A)) → k < length lists → o ≡ get_or lists k o → o ≡ None → used_at lists k ≡ None
+pub unlisted_at : {A : Type 0} (lists : List (Option (Vec ℕ A))) (k : ℕ) (o : Option (Vec ℕ A)) → k < length lists → o ≡ get_or lists k o → o ≡ None → uses_at lists k ≡ None
 unlisted_at lists k o less is none = ap list_of (get_or_default lists k None o less ∙ sym is ∙ none)
 
 pub not_listed : (used : ℕ → Option (List ℕ)) (k : ℕ) → used k ≡ None → IsListed used k → ⊥
@@ -494,7 +494,7 @@ place_inside P [] i h less = absurd (omega (arith, less))
 place_inside P (x ∷ xs) zero h less = h.0
 place_inside P (x ∷ xs) (suc i) h less = place_inside P xs i h.1 (omega (arith, less))
 
-module _ (used : ℕ → Option (List ℕ)) (n : ℕ) (counts free free' order : List ℕ) (k : ℕ) (h : IsUnderway used n counts free order []) (is : free ≡ k ∷ free') where
+module _ (used : ℕ → Option (List ℕ)) (n : ℕ) (counts free free' order : List ℕ) (k : ℕ) (h : IsPartlyOrdered used n counts free order []) (is : free ≡ k ∷ free') where
   first_left : IsAmong h.rest k
   first_left = ((h.free_is k).0 (subst (λ l. IsAmong l k) (sym is) (inl refl))).0
 
@@ -504,8 +504,8 @@ module _ (used : ℕ → Option (List ℕ)) (n : ℕ) (counts free free' order :
   pub fewer_left : (order' : List ℕ) → order' ≡ order ++ k ∷ [] → n - length order' < n - length order
   fewer_left order' e = omega (arith, h.few, length_without k h.rest first_left, ap length e, length-append order (k ∷ []))
 
-pub left_now : (used : ℕ → Option (List ℕ)) (n : ℕ) (counts free order xs : List ℕ) (i : ℕ) → i < length xs → IsUnderway used n counts free order (drop i xs) → IsUnderway used n counts free order (get_or xs i 0 ∷ drop (i + 1) xs)
-left_now used n counts free order xs i less h = subst (IsUnderway used n counts free order) (drop_more xs i 0 less) h
+pub left_now : (used : ℕ → Option (List ℕ)) (n : ℕ) (counts free order xs : List ℕ) (i : ℕ) → i < length xs → IsPartlyOrdered used n counts free order (drop i xs) → IsPartlyOrdered used n counts free order (get_or xs i 0 ∷ drop (i + 1) xs)
+left_now used n counts free order xs i less h = subst (IsPartlyOrdered used n counts free order) (drop_more xs i 0 less) h
 
 pub no_keys : (keys : List ℕ) → (0 < length keys → false ≡ true) → keys ≡ []
 no_keys [] give = refl

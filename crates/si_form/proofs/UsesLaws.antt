@@ -15,7 +15,7 @@ use Rattle.si_unify.specs.Spots.{cell_slot}
 use Rattle.si_unify.specs.Circles.{with_slot}
 use Rattle.si_unify.proofs.Places.{all_at}
 use Rattle.si_form.specs.Classes.{slots_of}
-use Rattle.si_form.specs.Ordering.{list_of, used_at, list_or_none, IsListed, HasNoCircle}
+use Rattle.si_form.specs.Ordering.{list_of, uses_at, list_or_none, IsListed, HasNoCircle}
 use Rattle.si_form.proofs.NodeLaws.{same_some}
 use Rattle.si_form.specs.Uses.{used_in, used_by, UsesBelow}
 
@@ -79,7 +79,7 @@ module _ {A : Type 0} (slots : Slots) (pairs : Pairs) (lists : List (Option (Vec
   beyond (x ∷ xs) zero less = absurd (omega (arith, less))
   beyond (x ∷ xs) (suc k) less = beyond xs k (omega (arith, less))
 
-  pub listed_inside : (k : ℕ) → IsListed (used_at lists) k → k < slot_count slots
+  pub listed_inside : (k : ℕ) → IsListed (uses_at lists) k → k < slot_count slots
   listed_inside k l =
       elim (cases_lt k (length lists)) [
         | inl less ↦ omega (arith, less, long)
@@ -87,30 +87,30 @@ module _ {A : Type 0} (slots : Slots) (pairs : Pairs) (lists : List (Option (Vec
       ]
 
   -- a number that has a list is a bound slot
-  pub bound_of_listed : (k : ℕ) → IsListed (used_at lists) k → (v : Bor (List Cell)) × (value_at pairs k ≡ Some v) × (used_at lists k ≡ Some (slots_of slots v.now))
+  pub bound_of_listed : (k : ℕ) → IsListed (uses_at lists) k → (v : Bor (List Cell)) × (value_at pairs k ≡ Some v) × (uses_at lists k ≡ Some (slots_of slots v.now))
   bound_of_listed k l = by (value_at pairs k) refl
     where
-      at : used_at lists k ≡ used_by slots pairs k
+      at : uses_at lists k ≡ used_by slots pairs k
       at = below k (omega (arith, listed_inside k l, long))
 
-      by : (o : Option (Bor (List Cell))) → value_at pairs k ≡ o → (v : Bor (List Cell)) × (value_at pairs k ≡ Some v) × (used_at lists k ≡ Some (slots_of slots v.now))
+      by : (o : Option (Bor (List Cell))) → value_at pairs k ≡ o → (v : Bor (List Cell)) × (value_at pairs k ≡ Some v) × (uses_at lists k ≡ Some (slots_of slots v.now))
       by None e = let bad : None ≡ Some l.0 = sym (at ∙ ap (used_in slots) e) ∙ l.1 in cc
       by (Some v) e = (v, e, at ∙ ap (used_in slots) e)
 
-  pub listed_of_bound : (k : ℕ) (v : Bor (List Cell)) → k < slot_count slots → value_at pairs k ≡ Some v → IsListed (used_at lists) k
+  pub listed_of_bound : (k : ℕ) (v : Bor (List Cell)) → k < slot_count slots → value_at pairs k ≡ Some v → IsListed (uses_at lists) k
   listed_of_bound k v less e = (slots_of slots v.now, below k (omega (arith, less, long)) ∙ ap (used_in slots) e)
 
-  of_list : (P : ℕ → ℕ → Type 0) (k : ℕ) → ((v : Bor (List Cell)) → value_at pairs k ≡ Some v → AllByRecursion (P k) (slots_of slots v.now)) → AllByRecursion (P k) (list_or_none (used_at lists k))
-  of_list P k give = by (used_at lists k) refl
+  of_list : (P : ℕ → ℕ → Type 0) (k : ℕ) → ((v : Bor (List Cell)) → value_at pairs k ≡ Some v → AllByRecursion (P k) (slots_of slots v.now)) → AllByRecursion (P k) (list_or_none (uses_at lists k))
+  of_list P k give = by (uses_at lists k) refl
     where
-      by : (o : Option (List ℕ)) → used_at lists k ≡ o → AllByRecursion (P k) (list_or_none o)
+      by : (o : Option (List ℕ)) → uses_at lists k ≡ o → AllByRecursion (P k) (list_or_none o)
       by None e = tt
       by (Some xs) e =
           let b = bound_of_listed k (xs, e) in
           let same : xs ≡ slots_of slots b.0.now = same_some xs (slots_of slots b.0.now) (sym e ∙ b.2) in
           subst (AllByRecursion (P k)) (sym same) (give b.0 b.1)
 
-  pub no_circle : IsAcyclic slots pairs → HasNoCircle (used_at lists) (length lists)
+  pub no_circle : IsAcyclic slots pairs → HasNoCircle (uses_at lists) (length lists)
   no_circle t = record {
     inside = λ k l. omega (arith, listed_inside k l, long);
     used_inside = λ k. of_list (λ i j. j < length lists) k (λ v e. subst (λ n. AllByRecursion (λ j. j < n) (slots_of slots v.now)) (sym long) (range_slots slots v.now (all_at (IsBinding slots) pairs k v bindings e).in_range));

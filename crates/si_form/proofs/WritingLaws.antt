@@ -11,7 +11,7 @@ use Rattle.si_unify.specs.declared.slots.Slots.{Slots}
 use Rattle.si_unify.specs.Solving.{slot_count, variable_of}
 use Rattle.si_form.specs.declared.classes.Node.{Node}
 use Rattle.si_form.specs.Classes.{chain}
-use Rattle.si_form.specs.Folding.{leader, variable_or, folded, folded_all, HaveKnown, CanFold, HasFolded, Descends, Writes, HasWritten, IsWriting}
+use Rattle.si_form.specs.Folding.{leader, variable_or, folded, folded_all, HaveKnown, CanFold, HasFolded, Descends, WritesCells, HasWritten, IsWriting}
 use Rattle.si_form.proofs.CanonicalLaws.{all_front, all_back, all_append}
 use Rattle.si_form.proofs.NodeLaws.{get_inside}
 use Rattle.si_form.proofs.FoldingLaws.{at_default}
@@ -44,7 +44,7 @@ module _ (slots : Slots) (nodes : List Node) (leaders : List (Option ℕ)) (size
   size_at f known t can n u at fits = at_default sizes n 0 (terms.size (folded slots f u)) (exact_sizes slots f nodes known leaders sizes can.are can.led can.sized n u at fits)
 
   -- the symbol has been written
-  pub writing_begins : (left : List ℕ) (cells : List Cell) → Writes nodes sizes [] left [] cells class → IsWriting slots nodes leaders sizes class cells left 1
+  pub writing_begins : (left : List ℕ) (cells : List Cell) → WritesCells nodes sizes [] left [] cells class → IsWriting slots nodes leaders sizes class cells left 1
   writing_begins left cells h f known t can =
       let w = h slots known can.symbol can.arguments terms.none can.are (can.class_is ∙ ap Some can.term_is) tt in
       let size = size_at f known t can class t can.class_is can.fits in
@@ -135,7 +135,7 @@ module _ (slots : Slots) (nodes : List Node) (leaders : List (Option ℕ)) (size
           count_is = ap length is ∙ length-append cells (variable_cell (variable_of slots slot) ∷ []) ∙ omega (arith, h.count_is);
         }
 
-    pub written_symbol : (next : ℕ) (left left' : List ℕ) (cells cells' : List Cell) (k : ℕ) → HasNext next left cells k → get_or leaders next None ≡ None → Writes nodes sizes left left' cells cells' next → HasWritten slots f known t cells' left' (k + 1)
+    pub written_symbol : (next : ℕ) (left left' : List ℕ) (cells cells' : List Cell) (k : ℕ) → HasNext next left cells k → get_or leaders next None ≡ None → WritesCells nodes sizes left left' cells cells' next → HasWritten slots f known t cells' left' (k + 1)
     written_symbol next left left' cells cells' k h led writes = by h.term h.term_is h.term_leads (leader_none) (ap (λ o. cells ++ (cells_of (variable_or slots f o (folded slots f h.term)) ++ cells_of_all (folded_all slots f h.rest))) (sym leader_none) ∙ h.whole)
       where
         leader_none : leader slots f h.term ≡ None
@@ -170,14 +170,14 @@ module _ (slots : Slots) (nodes : List Node) (leaders : List (Option ℕ)) (size
             }
 
 -- ---- a symbol
-pub symbol_refused : (nodes : List Node) (sizes left left' : List ℕ) (cells cells' : List Cell) (class : ℕ) → Descends nodes left left' class None → Writes nodes sizes left left' cells cells' class
+pub symbol_refused : (nodes : List Node) (sizes left left' : List ℕ) (cells cells' : List Cell) (class : ℕ) → Descends nodes left left' class None → WritesCells nodes sizes left left' cells cells' class
 symbol_refused nodes sizes left left' cells cells' class h slots known s ts rest are at have =
     let bad : None ≡ Some (s.number, s.arity) = (h slots known s ts rest are at have).0 in absurd (not_some (s.number, s.arity) bad)
   where
     not_some : (p : ℕ × ℕ) → None ≡ Some p → ⊥
     not_some p e = cc
 
-pub symbol_written : (nodes : List Node) (sizes left left' : List ℕ) (cells cells' : List Cell) (class a b size : ℕ) → Descends nodes left left' class (Some (a, b)) → size ≡ get_or sizes class 0 → cells' ≡ cells ++ cell.App a b size ∷ [] → Writes nodes sizes left left' cells cells' class
+pub symbol_written : (nodes : List Node) (sizes left left' : List ℕ) (cells cells' : List Cell) (class a b size : ℕ) → Descends nodes left left' class (Some (a, b)) → size ≡ get_or sizes class 0 → cells' ≡ cells ++ cell.App a b size ∷ [] → WritesCells nodes sizes left left' cells cells' class
 symbol_written nodes sizes left left' cells cells' class a b size h size_is is slots known s ts rest are at have =
     let r = h slots known s ts rest are at have in
     let pair : (a, b) ≡ (s.number, s.arity) = same_pair (a, b) (s.number, s.arity) r.0 in (
@@ -220,7 +220,7 @@ module _ (slots : Slots) (nodes : List Node) (leaders : List (Option ℕ)) (size
   writes_variable slot cells' led is' f known t can =
       written_variable slots nodes leaders sizes class f known t can next slot left' cells cells' k (next_of slots nodes leaders sizes class f known t can next left' cells k (taken f known t can)) led is'
 
-  pub writes_symbol : (left2 : List ℕ) (cells' : List Cell) → get_or leaders next None ≡ None → Writes nodes sizes left' left2 cells cells' next → IsWriting slots nodes leaders sizes class cells' left2 (k + 1)
+  pub writes_symbol : (left2 : List ℕ) (cells' : List Cell) → get_or leaders next None ≡ None → WritesCells nodes sizes left' left2 cells cells' next → IsWriting slots nodes leaders sizes class cells' left2 (k + 1)
   writes_symbol left2 cells' led writes f known t can =
       written_symbol slots nodes leaders sizes class f known t can next left' left2 cells cells' k (next_of slots nodes leaders sizes class f known t can next left' cells k (taken f known t can)) led writes
 

@@ -57,23 +57,23 @@ pub record GrowsTo (slots : Slots) (old : List Term) (nodes : List Node) (known 
   pub nodes_are : AreNodes slots nodes known
 
 -- the numbers stand for what f makes of these terms
-abbrev pub HaveNumbers : (Variable → Term) → List Term → List ℕ → Terms → Type 0
-HaveNumbers f known [] terms.none = Unit {0}
-HaveNumbers f known [] (terms.more t ts) = ⊥
-HaveNumbers f known (n ∷ ns) terms.none = ⊥
-HaveNumbers f known (n ∷ ns) (terms.more t ts) = (slice_get known n ≡ Some (terms.substitute f t)) × HaveNumbers f known ns ts
+abbrev pub HaveClasses : (Variable → Term) → List Term → List ℕ → Terms → Type 0
+HaveClasses f known [] terms.none = Unit {0}
+HaveClasses f known [] (terms.more t ts) = ⊥
+HaveClasses f known (n ∷ ns) terms.none = ⊥
+HaveClasses f known (n ∷ ns) (terms.more t ts) = (slice_get known n ≡ Some (terms.substitute f t)) × HaveClasses f known ns ts
 
 -- the number is that of the symbol with as many of these as it has arguments; the others stay
 abbrev pub Applies : List Node → List Node → List ℕ → List ℕ → Symbol → ℕ → Type 0
 Applies nodes nodes' numbers numbers' s n =
     (slots : Slots) (f : Variable → Term) (known : List Term) (us rest : Terms)
     → AreNodes slots nodes known
-    → HaveNumbers f known numbers (chain us rest)
+    → HaveClasses f known numbers (chain us rest)
     → terms.count us ≡ s.arity
     → (known' : List Term)
     × GrowsTo slots known nodes' known'
     × (slice_get known' n ≡ Some (terms.app s (terms.substitute_all f us)))
-    × HaveNumbers f known' numbers' rest
+    × HaveClasses f known' numbers' rest
 
 -- ---- how far an application has come
 -- so many arguments stand behind the symbol
@@ -85,13 +85,13 @@ pub record HasApplied (slots : Slots) (f : Variable → Term) (known : List Term
   pub arguments : us ≡ chain done left
   pub count_is : terms.count done ≡ k
   pub front_is : slice_get known' n ≡ Some (terms.app s (terms.substitute_all f done))
-  pub others : HaveNumbers f known' numbers (chain left rest)
+  pub others : HaveClasses f known' numbers (chain left rest)
 
 abbrev pub IsApplying : List Node → List Node → List ℕ → List ℕ → Symbol → ℕ → ℕ → Type 0
 IsApplying nodes nodes' numbers numbers' s k n =
     (slots : Slots) (f : Variable → Term) (known : List Term) (us rest : Terms)
     → AreNodes slots nodes known
-    → HaveNumbers f known numbers (chain us rest)
+    → HaveClasses f known numbers (chain us rest)
     → terms.count us ≡ s.arity
     → HasApplied slots f known nodes' numbers' s us rest k n
 
@@ -134,10 +134,10 @@ pub record HaveRow (slots : Slots) (f : Variable → Term) (known : List Term) (
   pub grows : GrowsTo slots known nodes known'
   pub sound : AreSound row
   pub cells_are : drop at cells ≡ cells_of_all row
-  pub numbers_are : HaveNumbers f known' numbers row
+  pub numbers_are : HaveClasses f known' numbers row
 
-abbrev pub IsNumbering : List Node → List Node → Slots → List ℕ → List Cell → ℕ → List ℕ → Type 0
-IsNumbering nodes nodes' slots classes cells at numbers =
+abbrev pub IsClassNumbering : List Node → List Node → Slots → List ℕ → List Cell → ℕ → List ℕ → Type 0
+IsClassNumbering nodes nodes' slots classes cells at numbers =
     (t : Term) (f : Variable → Term) (known : List Term)
     → StandsFor cells t
     → AreNodes slots nodes known

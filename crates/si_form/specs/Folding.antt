@@ -12,15 +12,15 @@ use Rattle.si_form.specs.declared.classes.Node.{Node}
 use Rattle.si_form.specs.declared.classes.Node.TheVariants.{Variable as Of, Head, With}
 use Rattle.si_form.specs.Classes.{chain, AreNodes, KnowsSlot}
 
-abbrev pub same_symbol : Symbol → Symbol → Bool
-same_symbol s r = s.number == r.number && s.arity == r.arity
+abbrev pub same_numbered : Symbol → Symbol → Bool
+same_numbered s r = s.number == r.number && s.arity == r.arity
 
 abbrev mutual
   pub same_terms : Term → Term → Bool
   same_terms (terms.var x) (terms.var y) = same_variable x y
   same_terms (terms.var x) (terms.app r us) = false
   same_terms (terms.app s ts) (terms.var y) = false
-  same_terms (terms.app s ts) (terms.app r us) = same_symbol s r && same_rows ts us
+  same_terms (terms.app s ts) (terms.app r us) = same_numbered s r && same_rows ts us
 
   pub same_rows : Terms → Terms → Bool
   same_rows terms.none terms.none = true
@@ -148,8 +148,8 @@ HasFolded slots nodes leaders sizes class cells =
     (f : Variable → Term) (known : List Term) (t : Term) → CanFold slots nodes leaders sizes class f known t → cells ≡ cells_of (folded slots f t)
 
 -- a class's symbol has been written; its arguments stand before the others
-abbrev pub Writes : List Node → List ℕ → List ℕ → List ℕ → List Cell → List Cell → ℕ → Type 0
-Writes nodes sizes left left' cells cells' class =
+abbrev pub WritesCells : List Node → List ℕ → List ℕ → List ℕ → List Cell → List Cell → ℕ → Type 0
+WritesCells nodes sizes left left' cells cells' class =
     (slots : Slots) (known : List Term) (s : Symbol) (ts rest : Terms)
     → AreNodes slots nodes known
     → slice_get known class ≡ Some (terms.app s ts)

@@ -8,8 +8,8 @@ abbrev pub list_of : {A : Type 0} → Option (Vec ℕ A) → Option (List ℕ)
 list_of None = None
 list_of (Some v) = Some v.items
 
-abbrev pub used_at : {A : Type 0} → List (Option (Vec ℕ A)) → ℕ → Option (List ℕ)
-used_at lists k = list_of (slice_index_or lists k None)
+abbrev pub uses_at : {A : Type 0} → List (Option (Vec ℕ A)) → ℕ → Option (List ℕ)
+uses_at lists k = list_of (slice_index_or lists k None)
 
 abbrev pub list_or_none : Option (List ℕ) → List ℕ
 list_or_none None = []
@@ -36,17 +36,17 @@ module _ (used : ℕ → Option (List ℕ)) where
     pub unused : (i : ℕ) → IsListed i → (IsAmong before i → ⊥) → IsAmong (list_or_none (used i)) j → ⊥
 
   -- the least of these
-  pub record IsNext (before : List ℕ) (k : ℕ) : Type 0 where
+  pub record IsFirstUnused (before : List ℕ) (k : ℕ) : Type 0 where
     pub is_open : IsOpen before k
     pub first : (j : ℕ) → j < k → IsOpen before j → ⊥
 
-  abbrev pub AreNext : List ℕ → List ℕ → Type 0
-  AreNext before [] = Unit {0}
-  AreNext before (k ∷ ks) = IsNext before k × AreNext (before ++ k ∷ []) ks
+  abbrev pub AreFirstUnused : List ℕ → List ℕ → Type 0
+  AreFirstUnused before [] = Unit {0}
+  AreFirstUnused before (k ∷ ks) = IsFirstUnused before k × AreFirstUnused (before ++ k ∷ []) ks
 
   -- all numbers that are listed, the least first that no other of those from there on uses
   pub record AreOrdered (order : List ℕ) : Type 0 where
-    pub next : AreNext [] order
+    pub next : AreFirstUnused [] order
     pub all : (k : ℕ) → IsListed k → IsAmong order k
 
   -- ---- what is known of the lists
@@ -70,10 +70,10 @@ module _ (used : ℕ → Option (List ℕ)) where
 
   -- The order so far; what is left, and what the last of the order uses, of which xs hasn't been
   -- taken from the counts.
-  pub record IsUnderway (n : ℕ) (counts free order xs : List ℕ) : Type 0 where
+  pub record IsPartlyOrdered (n : ℕ) (counts free order xs : List ℕ) : Type 0 where
     pub rest : List ℕ
     pub long : length counts ≡ n
-    pub next : AreNext [] order
+    pub next : AreFirstUnused [] order
     pub all : (k : ℕ) → IsListed k → IsAmong order k ⊎ IsAmong rest k
     pub listed : AllByRecursion (IsListed) rest
     pub behind : AllByRecursion (λ k. IsAmong order k → ⊥) rest

@@ -6,7 +6,7 @@ use Rattle.si_trail.specs.Trails.{value_at}
 use Rattle.si_unify.specs.declared.slots.Slots.{Slots}
 use Rattle.si_unify.specs.Solving.{Pairs}
 use Rattle.si_form.specs.Classes.{slots_of}
-use Rattle.si_form.specs.Ordering.{used_at}
+use Rattle.si_form.specs.Ordering.{uses_at}
 
 abbrev pub used_in : Slots → Option (Bor (List Cell)) → Option (List ℕ)
 used_in slots None = None
@@ -18,4 +18,4 @@ used_by slots pairs slot = used_in slots (value_at pairs slot)
 
 -- the lists are those of the first slots
 abbrev pub UsesBelow : {A : Type 0} → Slots → Pairs → List (Option (Vec ℕ A)) → Type 0
-UsesBelow slots pairs lists = (slot : ℕ) → slot < length lists → used_at lists slot ≡ used_by slots pairs slot
+UsesBelow slots pairs lists = (slot : ℕ) → slot < length lists → uses_at lists slot ≡ used_by slots pairs slot

@@ -4,7 +4,7 @@ ghost use Rattle.std.specs.Prelude.{IfOk, OnOk};
 ghost use Rattle.si_flat.specs.Cells.{Variable, Term, variable_cell};
 ghost use Rattle.si_unify.specs.Solving.{slot_count, variable_of};
 ghost use Rattle.si_form.specs.Folding.{HasTerms, Descends, part_size, node_size, IsBefore};
-ghost use Rattle.si_form.specs.Folding.{AreSizes, Writes, CanFold, HasFolded};
+ghost use Rattle.si_form.specs.Folding.{AreSizes, WritesCells, CanFold, HasFolded};
 
 use crate::classes::Node;
 use indexmap::IndexSet;
@@ -105,7 +105,7 @@ fn variable(slots: Slots, slot: usize) -> Cell
     Cell::Entry((slot - queries) as u32)
 }
 
-// Writes the symbol of a class, and piles up the classes of its arguments.
+// WritesCells the symbol of a class, and piles up the classes of its arguments.
 fn write_symbol(
     nodes: &IndexSet<Node>,
     sizes: &[u32],
@@ -115,7 +115,7 @@ fn write_symbol(
 ) -> Result<(), AllocError>
     requires terms { HasTerms nodes.now.keys }
     requires sized { class < length sizes.now }
-    ensures { OnOk result (Writes nodes.now.keys sizes.now (reverse left.old.items)
+    ensures { OnOk result (WritesCells nodes.now.keys sizes.now (reverse left.old.items)
         (reverse left.new.items) cells.old.items cells.new.items class) }
 {
     let Some((sym, arity)) = descend(nodes, left, class)? else {

@@ -2,7 +2,7 @@
 ghost use Rattle.std.specs.Prelude.{◌≡◌, ℕ, ◌+◌, ◌<◌, ◌^◌, ◌↔◌, [], List, length, set, slice_index_or, IfOk, OnOk};
 ghost use Rattle.std.specs.List.{AllByRecursion};
 ghost use Rattle.si_defs.specs.Substitutions.{IsAmong};
-ghost use Rattle.si_form.specs.Ordering.{used_at, list_or_none, times_among, times_used, listed_below, HasNoCircle, AreOrdered, IsUnderway, IsListedFree};
+ghost use Rattle.si_form.specs.Ordering.{uses_at, list_or_none, times_among, times_used, listed_below, HasNoCircle, AreOrdered, IsPartlyOrdered, IsListedFree};
 
 use std::alloc::{AllocError, Global};
 use std::collections::BTreeSet;
@@ -44,10 +44,10 @@ fn raise_each(counts: &mut Vec<u128>, used: &[usize])
 
 // How often each number is used.
 fn count(alloc: Global, lists: &[Option<Vec<usize>>]) -> Result<Vec<u128>, AllocError>
-    requires { HasNoCircle (used_at lists.now) (length lists.now) }
+    requires { HasNoCircle (uses_at lists.now) (length lists.now) }
     ensures long { IfOk result (λ counts. length counts.items ≡ length lists.now) }
     ensures counted { IfOk result (λ counts. (j : ℕ) → slice_index_or counts.items j 0
-        ≡ times_used (used_at lists.now) (listed_below (used_at lists.now) (length lists.now)) j) }
+        ≡ times_used (uses_at lists.now) (listed_below (uses_at lists.now) (length lists.now)) j) }
 {
     let mut counts = Vec::new(alloc);
     counts.resize(lists.len(), 0)?;
@@ -68,7 +68,7 @@ fn find_free(
 ) -> Result<BTreeSet<usize>, AllocError>
     requires { length counts.now ≡ length lists.now }
     ensures { IfOk result (λ free. (j : ℕ) → IsAmong free.keys j
-        ↔ IsListedFree (used_at lists.now) (length lists.now) counts.now j) }
+        ↔ IsListedFree (uses_at lists.now) (length lists.now) counts.now j) }
 {
     let mut free = BTreeSet::new(alloc);
     for k in 0..lists.len() {
@@ -90,10 +90,10 @@ fn release(
     free: &mut BTreeSet<usize>,
     used: &[usize],
 ) -> Result<(), AllocError>
-    requires { (order : List ℕ) × IsUnderway (used_at lists.now) (length lists.now)
+    requires { (order : List ℕ) × IsPartlyOrdered (uses_at lists.now) (length lists.now)
         counts.old.items free.old.keys order used.now }
-    ensures { OnOk result ((order : List ℕ) → IsUnderway (used_at lists.now) (length lists.now)
-        counts.old.items free.old.keys order used.now → IsUnderway (used_at lists.now)
+    ensures { OnOk result ((order : List ℕ) → IsPartlyOrdered (uses_at lists.now) (length lists.now)
+        counts.old.items free.old.keys order used.now → IsPartlyOrdered (uses_at lists.now)
         (length lists.now) counts.new.items free.new.keys order []) }
 {
     for &number in used {
@@ -111,7 +111,7 @@ fn release(
 // The list of a number; empty where it has none.
 fn list_at(lists: &[Option<Vec<usize>>], number: usize) -> &[usize]
     requires { number < length lists.now }
-    ensures { result.now ≡ list_or_none (used_at lists.now number) }
+    ensures { result.now ≡ list_or_none (uses_at lists.now number) }
 {
     match &lists[number] {
         Some(used) => used,
@@ -122,8 +122,8 @@ fn list_at(lists: &[Option<Vec<usize>>], number: usize) -> &[usize]
 /// The numbers that have a list, in order: at each place stands the least that no other from there
 /// on uses.
 pub(crate) fn order(alloc: Global, lists: &[Option<Vec<usize>>]) -> Result<Vec<usize>, AllocError>
-    requires { HasNoCircle (used_at lists.now) (length lists.now) }
-    ensures { IfOk result (λ order. AreOrdered (used_at lists.now) order.items) }
+    requires { HasNoCircle (uses_at lists.now) (length lists.now) }
+    ensures { IfOk result (λ order. AreOrdered (uses_at lists.now) order.items) }
 {
     let mut counts = count(alloc, lists)?;
     let mut free = find_free(alloc, lists, &counts)?;

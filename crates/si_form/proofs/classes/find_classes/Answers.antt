@@ -1,7 +1,7 @@
 use Rattle.std.proofs.Common.{length, sym, subst, arith}
 use Rattle.si_unify.specs.Solving.{IsBinding}
 use Rattle.si_unify.proofs.Places.{all_at}
-use Rattle.si_form.specs.Ordering.{used_at, HasNoCircle, AreOrdered}
+use Rattle.si_form.specs.Ordering.{uses_at, HasNoCircle, AreOrdered}
 use Rattle.si_form.specs.Classes.{HasClass}
 use Rattle.si_form.proofs.UsesLaws.{no_circle}
 use Rattle.si_form.proofs.ClassLaws.{classing_begins, classing_skips, classing_more, classing_ends, slot_inside, no_items}
@@ -9,13 +9,13 @@ use Rattle.si_form.proofs.classes.find_classes.Goals as goal
 
 pub order-requires : goal.order-requires
 order-requires c =
-    subst (λ l. HasNoCircle (used_at l) (length l)) (sym c.deref.ensures.value)
+    subst (λ l. HasNoCircle (uses_at l) (length l)) (sym c.deref.ensures.value)
     (no_circle c.args.slots.now c.args.trail.now.pairs c.in_ok-lists.lists.items c.in_ok-lists.ensures.long c.in_ok-lists.ensures.lists c.requires.bindings c.requires.triangular)
 
 pub loop-slot-init : goal.loop-slot-init
 loop-slot-init c =
     classing_begins c.args.slots.now c.args.trail.now.pairs c.in_ok-lists.lists.items c.in_ok-lists.ensures.long c.in_ok-lists.ensures.lists c.requires.bindings
-    _ _ c.in_ok-left.left.items (subst (λ l. AreOrdered (used_at l) c.in_ok-left.left.items) c.deref.ensures.value c.in_ok-left.ensures) c.in_ok-nodes.ensures
+    _ _ c.in_ok-left.left.items (subst (λ l. AreOrdered (uses_at l) c.in_ok-left.left.items) c.deref.ensures.value c.in_ok-left.ensures) c.in_ok-nodes.ensures
 
 pub loop-slot-preserved-in_default-get : goal.loop-slot-preserved-in_default-get
 loop-slot-preserved-in_default-get c =

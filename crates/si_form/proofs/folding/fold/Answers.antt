@@ -1,6 +1,6 @@
 use Rattle.std.proofs.Common.{◌∷◌, ◌++◌, [], reverse, sym, ◌∙◌, ap, subst, arith}
 use Rattle.std.proofs.lemmas.List.{reverse-append}
-use Rattle.si_form.specs.Folding.{Writes}
+use Rattle.si_form.specs.Folding.{WritesCells}
 use Rattle.si_form.proofs.NodeLaws.{none_piled}
 use Rattle.si_form.proofs.WritingLaws.{writing_begins, all_written, none_left, asked_of, writes_variable, writes_symbol}
 use Rattle.si_form.proofs.folding.fold.Goals as goal
@@ -13,8 +13,8 @@ pub loop-init : goal.loop-init
 loop-init c =
     writing_begins c.args.slots.now c.args.nodes.now.keys c.args.leaders.now c.args.sizes.now c.args.class (reverse c.write_symbol.new.left.items) c.write_symbol.new.cells.items
     (
-    subst (λ l. Writes c.args.nodes.now.keys c.args.sizes.now l (reverse c.write_symbol.new.left.items) [] c.write_symbol.new.cells.items c.args.class) (ap reverse c.new-left.ensures.items)
-    (subst (λ l. Writes c.args.nodes.now.keys c.args.sizes.now (reverse c.new-left.result.items) (reverse c.write_symbol.new.left.items) l c.write_symbol.new.cells.items c.args.class) c.new-cells.ensures.items c.in_ok-write_symbol.ensures)
+    subst (λ l. WritesCells c.args.nodes.now.keys c.args.sizes.now l (reverse c.write_symbol.new.left.items) [] c.write_symbol.new.cells.items c.args.class) (ap reverse c.new-left.ensures.items)
+    (subst (λ l. WritesCells c.args.nodes.now.keys c.args.sizes.now (reverse c.new-left.result.items) (reverse c.write_symbol.new.left.items) l c.write_symbol.new.cells.items c.args.class) c.new-cells.ensures.items c.in_ok-write_symbol.ensures)
     )
 
 pub leader_of-requires : goal.leader_of-requires

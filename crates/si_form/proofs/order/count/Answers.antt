@@ -1,6 +1,6 @@
 use Rattle.std.proofs.Common.{◌<◌, length, sym, ◌∙◌, ap, subst, arith}
 use Rattle.std.specs.List.{AllByRecursion}
-use Rattle.si_form.specs.Ordering.{used_at, list_or_none, times_among}
+use Rattle.si_form.specs.Ordering.{uses_at, list_or_none, times_among}
 use Rattle.si_form.proofs.OrderingLaws.{listed_at, below_more, times_few}
 use Rattle.si_form.proofs.order.count.Goals as goal
 
@@ -20,7 +20,7 @@ loop-k-preserved c =
       c.raise_each.ensures.long ∙ c.loop-k.invariant.0,
       (λ j.
           c.raise_each.ensures.counted j
-          ∙ omega (arith, c.loop-k.invariant.1 j, below_more (used_at c.args.lists.now) c.loop-k.k _ j listed, ap (λ l. times_among l j) c.deref.ensures.value)),
+          ∙ omega (arith, c.loop-k.invariant.1 j, below_more (uses_at c.args.lists.now) c.loop-k.k _ j listed, ap (λ l. times_among l j) c.deref.ensures.value)),
       (λ j.
           omega (arith, c.raise_each.ensures.counted j, c.loop-k.invariant.2 j, times_few c.deref.result.now j, c.in-Some.used.small, c.in-Some.used.ok, ap length c.deref.ensures.value)),
     )

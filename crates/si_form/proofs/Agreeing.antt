@@ -15,7 +15,7 @@ use Rattle.si_flat.specs.declared.Owner.{Owner}
 use Rattle.si_flat.specs.declared.Owner.TheVariants.{Query, Entry}
 use Rattle.si_form.specs.declared.matching.Image.{Image}
 use Rattle.si_flat.specs.Flattening.{owners_variable}
-use Rattle.si_form.specs.Answers.{variables_from, AreNumbered}
+use Rattle.si_form.specs.Answers.{owners_variables, AreNumbered}
 use Rattle.si_form.specs.Matching.{variable_number, HaveSameSymbol, HasKnownAs, StepsOver, ComparesSymbols, StepsAs, StepsOnCell, AreImages, Assigns, NoMatch, IsMatchedBy, IsMatched}
 use Rattle.si_form.proofs.VariableLaws.{number_of}
 use Rattle.si_form.proofs.Counting.{NumberedTo, numbered_to}
@@ -76,7 +76,7 @@ abbrev pub Left : Owner → Term → Term → List Cell → List Cell → List I
 Left owner q e pattern target images i j m =
     (ts : Terms) × (rs : Terms) × (us : List Term) × LeftOf owner q e pattern target images i j m ts rs us
 
-pub begins : (owner : Owner) (q e : Term) (pattern target : List Cell) (m : ℕ) → StandsFor pattern q → StandsFor target e → terms.firsts same_variable (terms.variables q) ≡ variables_from owner 0 m → Left owner q e pattern target [] 0 0 m
+pub begins : (owner : Owner) (q e : Term) (pattern target : List Cell) (m : ℕ) → StandsFor pattern q → StandsFor target e → terms.firsts same_variable (terms.variables q) ≡ owners_variables owner 0 m → Left owner q e pattern target [] 0 0 m
 begins owner q e pattern target m p t numbered = (
   terms.more q terms.none,
   terms.more e terms.none,
@@ -386,14 +386,14 @@ module _ (owner : Owner) (q e : Term) (pattern target : List Cell) (i j m : ℕ)
       omega (arith, ap length h.target_rest, length-drop j target, length-append (cells_of r) (cells_of_all others), length-cells_of r, size_positive r)
 
   -- the whole pattern has been compared
-  pub ends : (images : List Image) (ts rs : Terms) (us : List Term) → Rest images ts rs us → length pattern ≤ i → terms.firsts same_variable (terms.variables q) ≡ variables_from owner 0 m → IsMatchedBy owner q e images true
+  pub ends : (images : List Image) (ts rs : Terms) (us : List Term) → Rest images ts rs us → length pattern ≤ i → terms.firsts same_variable (terms.variables q) ≡ owners_variables owner 0 m → IsMatchedBy owner q e images true
   ends images (terms.more t ts) rs us h done numbered =
       absurd (omega (arith, done, ap length h.pattern_rest, length-drop i pattern, length-append (cells_of t) (cells_of_all ts), length-cells_of t, size_positive t))
   ends images terms.none (terms.more r others) us h done numbered = absurd (omega (arith, h.same_count))
   ends images terms.none terms.none us h done numbered = (
     us,
     h.are_images,
-    record { numbered = numbered ∙ ap (variables_from owner 0) (sym h.numbered); takes = λ f agrees. (h.tells f).1 (refl, agrees) },
+    record { numbered = numbered ∙ ap (owners_variables owner 0) (sym h.numbered); takes = λ f agrees. (h.tells f).1 (refl, agrees) },
   )
 
 -- ---- the loop over the pattern
@@ -403,7 +403,7 @@ pub record IsGoing (owner : Owner) (pattern target : List Cell) (images : List I
       (q e : Term) (m : ℕ)
       → StandsFor pattern q
       → StandsFor target e
-      → terms.firsts same_variable (terms.variables q) ≡ variables_from owner 0 m
+      → terms.firsts same_variable (terms.variables q) ≡ owners_variables owner 0 m
       → Left owner q e pattern target images i j m
 
 pub going_at_first : (owner : Owner) (pattern target : List Cell) (images : List Image) → images ≡ [] → IsGoing owner pattern target images 0 0

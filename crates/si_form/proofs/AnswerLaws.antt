@@ -14,7 +14,7 @@ use Rattle.si_flat.specs.declared.Owner.TheVariants.{Query, Entry}
 use Rattle.si_form.specs.declared.solution.Binding.{Binding}
 use Rattle.si_form.specs.declared.matching.Image.{Image}
 use Rattle.si_flat.specs.Flattening.{owners_variable}
-use Rattle.si_form.specs.Answers.{variables_from, IsNumbered, AreNumbered, StandsForList, AnswersTo, Answers}
+use Rattle.si_form.specs.Answers.{owners_variables, IsNumbered, AreNumbered, StandsForList, AnswersTo, Answers}
 use Rattle.si_form.specs.Matching.{AreImages, AreWholeImages, pairs, Assigns, MatchesBy, NoMatch, IsMatched, binding_of, MatchAnswersTo, MatchAnswers}
 use Rattle.si_form.proofs.VariableLaws.{same_tells, same_itself, variable_injective}
 use Rattle.si_form.proofs.Counting.{NumberedTo, numbered_to}
@@ -34,7 +34,7 @@ images_whole k (i ∷ is) [] h = elim h [ ]
 images_whole k (i ∷ is) (u ∷ us) h = ((u, h.1), images_whole (suc k) is us h.2)
 
 -- ---- the map that the pairs make
-lefts_counted : (owner : Owner) (k : ℕ) (us : List Term) → lefts (pairs owner k us) ≡ variables_from owner k (length us)
+lefts_counted : (owner : Owner) (k : ℕ) (us : List Term) → lefts (pairs owner k us) ≡ owners_variables owner k (length us)
 lefts_counted owner k [] = refl
 lefts_counted owner k (u ∷ us) = ap (λ l. owners_variable owner k ∷ l) (lefts_counted owner (suc k) us)
 

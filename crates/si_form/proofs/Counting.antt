@@ -5,7 +5,7 @@ use Rattle.si_defs.specs.Terms.{firsts}
 use Rattle.si_flat.specs.Cells.{Variable, same_variable}
 use Rattle.si_flat.specs.declared.Owner.{Owner}
 use Rattle.si_flat.specs.Flattening.{owners_variable}
-use Rattle.si_form.specs.Answers.{variables_from}
+use Rattle.si_form.specs.Answers.{owners_variables}
 use Rattle.si_form.proofs.VariableLaws.{same_tells}
 
 -- each variable is one of the first n, or the next one; m is how many there are at the end
@@ -63,33 +63,33 @@ module _ (owner : Owner) where
       by true same = ap (λ c. not (c || below n y)) (sym same ∙ ap (λ v. same_variable v y) e)
       by false same = ap (λ c. not (c || below n y)) (sym same ∙ ap (λ v. same_variable v y) e)
 
-  none_counted : (n d : ℕ) → [] ≡ variables_from owner n d → n ≡ n + d
+  none_counted : (n d : ℕ) → [] ≡ owners_variables owner n d → n ≡ n + d
   none_counted n zero e = omega arith
   none_counted n (suc d) e = cc
 
   numbered_next :
       (n d : ℕ) (x : Variable) (xs : List Variable)
-      → ((m : ℕ) → filter (keep (suc n)) (firsts same_variable xs) ≡ variables_from owner (suc n) m → NumberedTo owner (suc n) xs (suc n + m))
-      → x ∷ filter (keep n) (filter (λ y. not (same_variable x y)) (firsts same_variable xs)) ≡ variables_from owner n d
+      → ((m : ℕ) → filter (keep (suc n)) (firsts same_variable xs) ≡ owners_variables owner (suc n) m → NumberedTo owner (suc n) xs (suc n + m))
+      → x ∷ filter (keep n) (filter (λ y. not (same_variable x y)) (firsts same_variable xs)) ≡ owners_variables owner n d
       → NumberedTo owner n (x ∷ xs) (n + d)
   numbered_next n zero x xs give e = cc
   numbered_next n (suc d) x xs give e =
       let first : x ≡ owners_variable owner n = cc in
-      let others : filter (keep n) (filter (λ y. not (same_variable x y)) (firsts same_variable xs)) ≡ variables_from owner (suc n) d = cc in
+      let others : filter (keep n) (filter (λ y. not (same_variable x y)) (firsts same_variable xs)) ≡ owners_variables owner (suc n) d = cc in
       inr (
         first,
         subst (NumberedTo owner (suc n) xs) (omega arith)
             (give d (sym (filter_filter (keep n) (λ y. not (same_variable x y)) (keep (suc n)) (firsts same_variable xs) (λ y. joined n x y first)) ∙ others)),
       )
 
-  numbered_from : (n d : ℕ) (xs : List Variable) → filter (keep n) (firsts same_variable xs) ≡ variables_from owner n d → NumberedTo owner n xs (n + d)
+  numbered_from : (n d : ℕ) (xs : List Variable) → filter (keep n) (firsts same_variable xs) ≡ owners_variables owner n d → NumberedTo owner n xs (n + d)
   numbered_from n d [] e = none_counted n d e
   numbered_from n d (x ∷ xs) e =
       let behind : List Variable = filter (λ y. not (same_variable x y)) (firsts same_variable xs) in
       elim (bool_tells (below n x)) [
         | inl known ↦
             let k = below_tells n x known in
-            let rest : filter (keep n) behind ≡ variables_from owner n d =
+            let rest : filter (keep n) behind ≡ owners_variables owner n d =
             sym (ap (λ b. cond (not b) (x ∷ filter (keep n) behind) (filter (keep n) behind)) known) ∙ e in
             inl (
               k.0,
@@ -107,5 +107,5 @@ module _ (owner : Owner) where
   all_kept (x ∷ xs) = ap (λ l. x ∷ l) (all_kept xs)
 
 -- the same from the start on
-pub numbered_to : (owner : Owner) (m : ℕ) (xs : List Variable) → firsts same_variable xs ≡ variables_from owner 0 m → NumberedTo owner 0 xs m
+pub numbered_to : (owner : Owner) (m : ℕ) (xs : List Variable) → firsts same_variable xs ≡ owners_variables owner 0 m → NumberedTo owner 0 xs m
 numbered_to owner m xs e = subst (NumberedTo owner 0 xs) (omega arith) (numbered_from owner 0 m xs (all_kept owner (firsts same_variable xs) ∙ e))

@@ -4,17 +4,16 @@ use Rattle.si_defs.specs.declared.Relation.{Relation}
 use Rattle.si_defs.specs.Relations.{Relates}
 use Rattle.si_defs.specs.Solutions.{IsCanonical}
 use Rattle.si_flat.specs.declared.Cell.{Cell}
-use Rattle.si_flat.specs.Cells.{Variable, query, entry, same_variable, Term, StandsFor}
+use Rattle.si_flat.specs.Cells.{Variable, same_variable, Term, StandsFor}
 use Rattle.si_flat.specs.Flattened.{counted_from, IsNumberedBy}
 use Rattle.si_flat.specs.Flattening.{owners_variable}
 use Rattle.si_flat.specs.declared.Owner.{Owner}
-use Rattle.si_flat.specs.declared.Owner.TheVariants.{Query, Entry}
 use Rattle.si_form.specs.declared.solution.Binding.{Binding}
 
 -- ---- numbered variables
 -- so many variables of an owner, from a number on
-abbrev pub variables_from : Owner → ℕ → ℕ → List Variable
-variables_from owner k n = counted_from (owners_variable owner) k n
+abbrev pub owners_variables : Owner → ℕ → ℕ → List Variable
+owners_variables owner k n = counted_from (owners_variable owner) k n
 
 -- the variables of the term are the owner's, numbered in the order of their first occurrence
 abbrev pub IsNumbered : Owner → Term → Type 0

@@ -11,7 +11,7 @@ use Rattle.si_flat.specs.declared.Owner.TheVariants.{Query, Entry}
 use Rattle.si_form.specs.declared.solution.Binding.{Binding}
 use Rattle.si_form.specs.declared.matching.Image.{Image}
 use Rattle.si_flat.specs.Flattening.{owners_variable}
-use Rattle.si_form.specs.Answers.{variables_from, StandsForList}
+use Rattle.si_form.specs.Answers.{owners_variables, StandsForList}
 
 -- ---- cells
 abbrev pub variable_number : Owner → Cell → Option ℕ
@@ -74,7 +74,7 @@ Assigns owner f k (u ∷ us) = (f (owners_variable owner k) ≡ u) × Assigns ow
 
 -- q has as many variables as there are terms, and becomes e where they are replaced by these
 pub record MatchesBy (owner : Owner) (q e : Term) (us : List Term) : Type 0 where
-  pub numbered : terms.firsts same_variable (terms.variables q) ≡ variables_from owner 0 (length us)
+  pub numbered : terms.firsts same_variable (terms.variables q) ≡ owners_variables owner 0 (length us)
   pub takes : (f : Variable → Term) → Assigns owner f 0 us → terms.substitute f q ≡ e
 
 abbrev pub NoMatch : Term → Term → Type 0

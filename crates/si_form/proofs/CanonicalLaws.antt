@@ -49,7 +49,7 @@ module _ {X : Type 0} where
   AreDistinct [] = Unit {0}
   AreDistinct (x ∷ xs) = (IsAmong xs x → ⊥) × AreDistinct xs
 
-  among_filter : (p : X → Bool) (xs : List X) (x : X) → IsAmong (filter p xs) x → IsAmong xs x × (p x ≡ true)
+  pub among_filter : (p : X → Bool) (xs : List X) (x : X) → IsAmong (filter p xs) x → IsAmong xs x × (p x ≡ true)
   among_filter p [] x a = elim a [ ]
   among_filter p (y ∷ xs) x a = by (p y) refl a (among_filter p xs x)
     where

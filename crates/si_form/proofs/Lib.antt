@@ -17,3 +17,17 @@ pub mod SignLaws
 pub mod NumberingLaws
 pub mod SolutionLaws
 pub mod TableLaws
+pub mod GeneralLaws
+pub mod FoldedLaws
+pub mod OrderingLaws
+pub mod NodeLaws
+pub mod CellNumbering
+pub mod UsesLaws
+pub mod ClassLaws
+pub mod TrailLaws
+pub mod OrderedLaws
+pub mod FoldingLaws
+pub mod RightSides
+pub mod OrderOfSlots
+pub mod SizeLaws
+pub mod WritingLaws

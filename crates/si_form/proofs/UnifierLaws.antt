@@ -8,7 +8,7 @@ use Rattle.si_defs.specs.Solutions.{bind, in_sequence, IsTriangular, order, AreJ
 use Rattle.si_form.proofs.CanonicalLaws.{all_at, all_from, all_front, all_back, stays, twice}
 
 -- ---- the first of a list with a property
-first_unique : {X : Type 0} (P Q : X → Type 0) (b1 a1 b2 a2 : List X) (x y : X) → b1 ++ x ∷ a1 ≡ b2 ++ y ∷ a2 → P x → Q y → AllByRecursion (λ z. P z → ⊥) b1 → AllByRecursion (λ z. Q z → ⊥) b2 → ((z : X) → P z → Q z) → ((z : X) → Q z → P z) → x ≡ y
+pub first_unique : {X : Type 0} (P Q : X → Type 0) (b1 a1 b2 a2 : List X) (x y : X) → b1 ++ x ∷ a1 ≡ b2 ++ y ∷ a2 → P x → Q y → AllByRecursion (λ z. P z → ⊥) b1 → AllByRecursion (λ z. Q z → ⊥) b2 → ((z : X) → P z → Q z) → ((z : X) → Q z → P z) → x ≡ y
 first_unique P Q [] a1 [] a2 x y e p q h k to from = cc
 first_unique P Q [] a1 (z ∷ b2) a2 x y e p q h k to from = let same : x ≡ z = cc in absurd (k.0 (subst Q same (to x p)))
 first_unique P Q (z ∷ b1) a1 [] a2 x y e p q h k to from = let same : z ≡ y = cc in absurd (h.0 (subst P (sym same) (from y q)))
@@ -25,7 +25,7 @@ pub right_among : {S V : Type 0} (bs : List (V × Term S V)) (p : V × Term S V)
 right_among [] p a = elim a [ ]
 right_among (b ∷ bs) p a = elim a [ inl e ↦ inl (ap (λ x. x.1) e) | inr k ↦ inr (right_among bs p k) ]
 
-pair_of_left : {S V : Type 0} (bs : List (V × Term S V)) (x : V) → IsAmong (lefts bs) x → (t : Term S V) × IsAmong bs (x, t)
+pub pair_of_left : {S V : Type 0} (bs : List (V × Term S V)) (x : V) → IsAmong (lefts bs) x → (t : Term S V) × IsAmong bs (x, t)
 pair_of_left [] x a = elim a [ ]
 pair_of_left (b ∷ bs) x a =
     elim a [
@@ -33,7 +33,7 @@ pair_of_left (b ∷ bs) x a =
       | inr k ↦ let r = pair_of_left bs x k in (r.0, inr r.1)
     ]
 
-pair_of_right : {S V : Type 0} (bs : List (V × Term S V)) (t : Term S V) → IsAmong (rights bs) t → (x : V) × IsAmong bs (x, t)
+pub pair_of_right : {S V : Type 0} (bs : List (V × Term S V)) (t : Term S V) → IsAmong (rights bs) t → (x : V) × IsAmong bs (x, t)
 pair_of_right [] t a = elim a [ ]
 pair_of_right (b ∷ bs) t a =
     elim a [
@@ -96,7 +96,7 @@ module _ {S V : Type 0} (same : V → V → Bool) (tells : (x y : V) → same x 
       by y true e = e
       by y false e = refl
 
-  free_stays : (bs : List (V × Term S V)) (y : V) → (IsAmong (lefts bs) y → ⊥) → in_sequence same bs (var y) ≡ var y
+  pub free_stays : (bs : List (V × Term S V)) (y : V) → (IsAmong (lefts bs) y → ⊥) → in_sequence same bs (var y) ≡ var y
   free_stays [] y apart = refl
   free_stays (b ∷ bs) y apart = by (same b.0 y) refl (free_stays bs y (λ a. apart (inr a)))
     where

@@ -3,3 +3,7 @@ pub mod Matching
 pub mod Numberings
 pub mod SolutionParts
 pub mod TableNumbers
+pub mod Ordering
+pub mod Classes
+pub mod Uses
+pub mod Folding

@@ -6,11 +6,16 @@
 #![tactic(auto)]
 
 mod canonical;
+mod classes;
+mod folding;
 mod laws;
+mod leaders;
 mod matching;
+mod order;
 mod solution;
 #[cfg(test)]
 mod tests;
+mod uses;
 
 pub use canonical::{generalization, instance, variant};
 pub use laws::{

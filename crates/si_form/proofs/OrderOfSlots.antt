@@ -1,0 +1,84 @@
+-- The order of the variables of a query and an entry is that of their slots.
+use Rattle.std.proofs.Common.{◌≡◌, ℕ, ◌+◌, ◌<◌, ◌≤◌, inl, inr, Bool, true, false, cond, not, List, [], ◌∷◌, ◌++◌, suc, zero, refl, sym, ◌∙◌, ap, arith}
+use Rattle.std.proofs.lemmas.Bool.Decides.{nat_tests}
+use Rattle.std.specs.Prelude.{filter, nat_lt}
+use Rattle.si_defs.specs.Terms as terms
+use Rattle.si_defs.specs.Substitutions.{IsAmong}
+use Rattle.si_defs.specs.Solutions.{order}
+use Rattle.si_flat.specs.Cells.{Variable, query, entry, same_variable, Term}
+use Rattle.si_unify.specs.declared.slots.Slots.{Slots}
+use Rattle.si_unify.specs.Solving as solving
+use Rattle.si_unify.specs.Solving.{slot_count}
+use Rattle.si_flat.specs.declared.Owner.TheVariants.{Query, Entry}
+use Rattle.si_form.specs.Answers.{owners_variables}
+use Rattle.si_form.proofs.VariableLaws.{same_tells}
+use Rattle.si_form.proofs.CanonicalLaws.{firsts_among}
+use Rattle.si_form.proofs.VariableLaws.{same_itself}
+use Rattle.si_form.proofs.OrderedLaws.{variables_from}
+
+-- ---- first occurrences in two lists that are apart
+kept_all : (x : Variable) (ys : List Variable) → (IsAmong ys x → ⊥) → filter (λ y. not (same_variable x y)) ys ≡ ys
+kept_all x [] apart = refl
+kept_all x (y ∷ ys) apart = by (same_variable x y) refl (kept_all x ys (λ a. apart (inr a)))
+  where
+    by : (b : Bool) → same_variable x y ≡ b → filter (λ z. not (same_variable x z)) ys ≡ ys → cond (not b) (y ∷ filter (λ z. not (same_variable x z)) ys) (filter (λ z. not (same_variable x z)) ys) ≡ y ∷ ys
+    by true e rest = absurd (apart (inl (sym (same_tells x y e))))
+    by false e rest = ap (λ l. y ∷ l) rest
+
+filter_parts : (p : Variable → Bool) (xs ys : List Variable) → filter p (xs ++ ys) ≡ filter p xs ++ filter p ys
+filter_parts p [] ys = refl
+filter_parts p (x ∷ xs) ys = by (p x) (filter_parts p xs ys)
+  where
+    by : (b : Bool) → filter p (xs ++ ys) ≡ filter p xs ++ filter p ys → cond b (x ∷ filter p (xs ++ ys)) (filter p (xs ++ ys)) ≡ cond b (x ∷ filter p xs) (filter p xs) ++ filter p ys
+    by true e = ap (λ l. x ∷ l) e
+    by false e = e
+
+firsts_parts : (xs ys : List Variable) → ((x : Variable) → IsAmong xs x → IsAmong ys x → ⊥) → terms.firsts same_variable (xs ++ ys) ≡ terms.firsts same_variable xs ++ terms.firsts same_variable ys
+firsts_parts [] ys apart = refl
+firsts_parts (x ∷ xs) ys apart =
+    ap (λ l. x ∷ filter (λ y. not (same_variable x y)) l) (firsts_parts xs ys (λ y a b. apart y (inr a) b))
+    ∙ ap (λ l. x ∷ l) (filter_parts (λ y. not (same_variable x y)) (terms.firsts same_variable xs) (terms.firsts same_variable ys))
+    ∙ ap (λ l. x ∷ (filter (λ y. not (same_variable x y)) (terms.firsts same_variable xs) ++ l))
+    (kept_all x (terms.firsts same_variable ys) (λ a. apart x (inl refl) (firsts_among same_variable same_tells same_itself ys x a)))
+
+-- ---- the variables of the slots
+below : (m n : ℕ) → m < n → nat_lt m n ≡ true
+below m n h = grind (arith, nat_tests)
+
+not_below : (m n : ℕ) → n ≤ m → nat_lt m n ≡ false
+not_below m n h = grind (arith, nat_tests)
+
+query_slot : (slots : Slots) (k : ℕ) → k < slots.query → solving.variable_of slots k ≡ query k
+query_slot slots k less = rw (below k slots.query less) refl
+
+entry_slot : (slots : Slots) (k : ℕ) → k < slots.entry → solving.variable_of slots (slots.query + k) ≡ entry k
+entry_slot slots k less = rw (not_below (slots.query + k) slots.query (omega arith), below (slots.query + k) (slots.query + slots.entry) (omega (arith, less))) (ap entry (omega arith))
+
+query_slots : (slots : Slots) (k n : ℕ) (rest : ℕ) → k + n ≤ slots.query → variables_from slots k (n + rest) ≡ owners_variables Query k n ++ variables_from slots (k + n) rest
+query_slots slots k zero rest less = (let e : 0 + rest ≡ rest = omega arith in ap (variables_from slots k) e) ∙ (let e : k ≡ k + 0 = omega arith in ap (λ j. variables_from slots j rest) e)
+query_slots slots k (suc n) rest less =
+    (let e : suc n + rest ≡ suc (n + rest) = omega arith in ap (variables_from slots k) e)
+    ∙ ap (λ x. x ∷ variables_from slots (suc k) (n + rest)) (query_slot slots k (omega (arith, less)))
+    ∙ ap (λ l. query k ∷ l) (query_slots slots (suc k) n rest (omega (arith, less)))
+    ∙ (let e : suc k + n ≡ k + suc n = omega arith in ap (λ j. query k ∷ (owners_variables Query (suc k) n ++ variables_from slots j rest)) e)
+
+entry_slots : (slots : Slots) (k n : ℕ) → k + n ≤ slots.entry → variables_from slots (slots.query + k) n ≡ owners_variables Entry k n
+entry_slots slots k zero less = refl
+entry_slots slots k (suc n) less =
+    ap (λ x. x ∷ variables_from slots (suc (slots.query + k)) n) (entry_slot slots k (omega (arith, less)))
+    ∙ ap (λ l. entry k ∷ l) ((let e : suc (slots.query + k) ≡ slots.query + suc k = omega arith in ap (λ j. variables_from slots j n) e) ∙ entry_slots slots (suc k) n (omega (arith, less)))
+
+pub order_of_slots :
+    (slots : Slots) (q e : Term)
+    → slots.inds ≡ 0
+    → terms.firsts same_variable (terms.variables q) ≡ owners_variables Query 0 slots.query
+    → terms.firsts same_variable (terms.variables e) ≡ owners_variables Entry 0 slots.entry
+    → ((x : Variable) → IsAmong (terms.variables q) x → IsAmong (terms.variables e) x → ⊥)
+    → order same_variable q e ≡ variables_from slots 0 (slot_count slots)
+order_of_slots slots q e none of_q of_e apart =
+    firsts_parts (terms.variables q) (terms.variables e) apart
+    ∙ ap (λ l. l ++ terms.firsts same_variable (terms.variables e)) of_q
+    ∙ ap (λ l. owners_variables Query 0 slots.query ++ l) (of_e ∙ sym (entry_slots slots 0 slots.entry (omega arith)))
+    ∙ (let e : slots.query + 0 ≡ 0 + slots.query = omega arith in ap (λ j. owners_variables Query 0 slots.query ++ variables_from slots j slots.entry) e)
+    ∙ sym (query_slots slots 0 slots.query slots.entry (omega arith))
+    ∙ (let e : slots.query + slots.entry ≡ slot_count slots = omega (arith, none) in ap (variables_from slots 0) e)

@@ -1,0 +1,230 @@
+-- How far a folded term has been written.
+use Rattle.std.proofs.Common.{◌≡◌, ℕ, ◌+◌, ◌-◌, ◌^◌, ◌<◌, ◌≤◌, List, [], ◌∷◌, ◌++◌, length, get_or, refl, sym, ◌∙◌, ap, subst, arith, append_assoc, append-nil, length-append, Option, Some, None}
+use Rattle.std.specs.Prelude.{slice_get}
+use Rattle.std.specs.List.{AllByRecursion}
+use Rattle.si_defs.specs.Terms as terms
+use Rattle.si_flat.specs.declared.Cell.{Cell}
+use Rattle.si_flat.specs.declared.Cell.TheVariants as cell
+use Rattle.si_flat.specs.Cells.{Variable, Term, Terms, variable_cell, cells_of, cells_of_all}
+use Rattle.si_flat.proofs.Subterms.{length-cells_of, length-cells_of_all}
+use Rattle.si_unify.specs.declared.slots.Slots.{Slots}
+use Rattle.si_unify.specs.Solving.{slot_count, variable_of}
+use Rattle.si_form.specs.declared.classes.Node.{Node}
+use Rattle.si_form.specs.Classes.{chain}
+use Rattle.si_form.specs.Folding.{leader, variable_or, folded, folded_all, HaveKnown, CanFold, HasFolded, Descends, WritesCells, HasWritten, IsWriting}
+use Rattle.si_form.proofs.CanonicalLaws.{all_front, all_back, all_append}
+use Rattle.si_form.proofs.NodeLaws.{get_inside}
+use Rattle.si_form.proofs.FoldingLaws.{at_default}
+use Rattle.si_form.proofs.SizeLaws.{exact_sizes}
+use Rattle.si_form.proofs.RightSides.{led}
+
+cells-chain : (ts us : Terms) → cells_of_all (chain ts us) ≡ cells_of_all ts ++ cells_of_all us
+cells-chain terms.none us = refl
+cells-chain (terms.more t ts) us = ap (λ l. cells_of t ++ l) (cells-chain ts us) ∙ sym (append_assoc (cells_of t) (cells_of_all ts) (cells_of_all us))
+
+folded-chain : (slots : Slots) (f : Variable → Term) (ts us : Terms) → folded_all slots f (chain ts us) ≡ chain (folded_all slots f ts) (folded_all slots f us)
+folded-chain slots f terms.none us = refl
+folded-chain slots f (terms.more t ts) us = ap (terms.more (variable_or slots f (leader slots f t) (folded slots f t))) (folded-chain slots f ts us)
+
+variables-chain : (P : Variable → Type 0) (ts us : Terms) → AllByRecursion P (terms.variables_of_all ts) → AllByRecursion P (terms.variables_of_all us) → AllByRecursion P (terms.variables_of_all (chain ts us))
+variables-chain P terms.none us h k = k
+variables-chain P (terms.more t ts) us h k =
+    all_append P (terms.variables t) (terms.variables_of_all (chain ts us)) (all_front P (terms.variables t) (terms.variables_of_all ts) h)
+    (variables-chain P ts us (all_back P (terms.variables t) (terms.variables_of_all ts) h) k)
+
+some_size : (u : Term) → 0 < terms.size u
+some_size (terms.var x) = omega arith
+some_size (terms.app s us) = omega arith
+
+module _ (slots : Slots) (nodes : List Node) (leaders : List (Option ℕ)) (sizes : List ℕ) (class : ℕ) where
+  abbrev IsLed : (Variable → Term) → Variable → Type 0
+  IsLed f y = leader slots f (terms.var y) ≡ None → ⊥
+
+  size_at : (f : Variable → Term) (known : List Term) (t : Term) → CanFold slots nodes leaders sizes class f known t → (n : ℕ) (u : Term) → slice_get known n ≡ Some u → terms.size (folded slots f u) ≤ 2 ^ 32 - 1 → get_or sizes n 0 ≡ terms.size (folded slots f u)
+  size_at f known t can n u at fits = at_default sizes n 0 (terms.size (folded slots f u)) (exact_sizes slots f nodes known leaders sizes can.are can.led can.sized n u at fits)
+
+  -- the symbol has been written
+  pub writing_begins : (left : List ℕ) (cells : List Cell) → WritesCells nodes sizes [] left [] cells class → IsWriting slots nodes leaders sizes class cells left 1
+  writing_begins left cells h f known t can =
+      let w = h slots known can.symbol can.arguments terms.none can.are (can.class_is ∙ ap Some can.term_is) tt in
+      let size = size_at f known t can class t can.class_is can.fits in
+      let whole : cells_of (folded slots f t) ≡ cell.App can.symbol.number can.symbol.arity (terms.size (folded slots f t)) ∷ cells_of_all (folded_all slots f can.arguments) =
+      ap (λ u. cells_of (folded slots f u)) can.term_is
+      ∙ ap (λ u. cell.App can.symbol.number can.symbol.arity (terms.size (folded slots f u)) ∷ cells_of_all (folded_all slots f can.arguments)) (sym can.term_is) in
+      record {
+        rest = chain can.arguments terms.none;
+        piled = w.1;
+        leads = variables-chain (IsLed f) can.arguments terms.none (subst (λ u. AllByRecursion (IsLed f) (terms.variables u)) can.term_is can.leads) tt;
+        whole =
+            ap (λ l. l ++ cells_of_all (folded_all slots f (chain can.arguments terms.none))) w.0
+            ∙ ap (λ n. cell.App can.symbol.number can.symbol.arity n ∷ cells_of_all (folded_all slots f (chain can.arguments terms.none))) size
+            ∙ ap (λ us. cell.App can.symbol.number can.symbol.arity (terms.size (folded slots f t)) ∷ cells_of_all us) (folded-chain slots f can.arguments terms.none)
+            ∙ ap (λ l. cell.App can.symbol.number can.symbol.arity (terms.size (folded slots f t)) ∷ l) (cells-chain (folded_all slots f can.arguments) terms.none ∙ append-nil (cells_of_all (folded_all slots f can.arguments)))
+            ∙ sym whole;
+        count_is = ap length w.0;
+      }
+
+  module _ (f : Variable → Term) (known : List Term) (t : Term) (can : CanFold slots nodes leaders sizes class f known t) where
+    -- nothing is left
+    pub written_none : (cells : List Cell) (k : ℕ) → HasWritten slots f known t cells [] k → cells ≡ cells_of (folded slots f t)
+    written_none cells k h = by h.rest h.piled h.whole
+      where
+        by : (rest : Terms) → HaveKnown known [] rest → cells ++ cells_of_all (folded_all slots f rest) ≡ cells_of (folded slots f t) → cells ≡ cells_of (folded slots f t)
+        by terms.none p w = sym (append-nil cells) ∙ w
+        by (terms.more u rest) p w = elim p [ ]
+
+    -- so much is written as the whole has
+    pub written_all : (cells : List Cell) (left : List ℕ) (k : ℕ) → terms.size (folded slots f t) ≤ k → HasWritten slots f known t cells left k → cells ≡ cells_of (folded slots f t)
+    written_all cells left k less h = by h.rest h.whole
+      where
+        by : (rest : Terms) → cells ++ cells_of_all (folded_all slots f rest) ≡ cells_of (folded slots f t) → cells ≡ cells_of (folded slots f t)
+        by terms.none w = sym (append-nil cells) ∙ w
+        by (terms.more u rest) w =
+            absurd (omega (
+              arith,
+              less,
+              h.count_is,
+              ap length w,
+              length-append cells (cells_of_all (folded_all slots f (terms.more u rest))),
+              length-cells_of_all (folded_all slots f (terms.more u rest)),
+              length-cells_of (folded slots f t),
+              some_size (variable_or slots f (leader slots f u) (folded slots f u)),
+            ))
+
+    -- the next one
+    pub record HasNext (next : ℕ) (left : List ℕ) (cells : List Cell) (k : ℕ) : Type 0 where
+      pub term : Term
+      pub rest : Terms
+      pub term_is : slice_get known next ≡ Some term
+      pub piled : HaveKnown known left rest
+      pub term_leads : AllByRecursion (IsLed f) (terms.variables term)
+      pub leads : AllByRecursion (IsLed f) (terms.variables_of_all rest)
+      pub whole : cells ++ (cells_of (variable_or slots f (leader slots f term) (folded slots f term)) ++ cells_of_all (folded_all slots f rest)) ≡ cells_of (folded slots f t)
+      pub count_is : length cells ≡ k
+      pub leader_at : slice_get leaders next ≡ Some (leader slots f term)
+
+    pub next_of : (next : ℕ) (left : List ℕ) (cells : List Cell) (k : ℕ) → HasWritten slots f known t cells (next ∷ left) k → HasNext next left cells k
+    next_of next left cells k h = by h.rest h.piled h.leads h.whole
+      where
+        by : (rest : Terms) → HaveKnown known (next ∷ left) rest → AllByRecursion (IsLed f) (terms.variables_of_all rest) → cells ++ cells_of_all (folded_all slots f rest) ≡ cells_of (folded slots f t) → HasNext next left cells k
+        by terms.none p l w = elim p [ ]
+        by (terms.more u rest) p l w = record {
+          term = u;
+          rest = rest;
+          term_is = p.0;
+          piled = p.1;
+          term_leads = all_front (IsLed f) (terms.variables u) (terms.variables_of_all rest) l;
+          leads = all_back (IsLed f) (terms.variables u) (terms.variables_of_all rest) l;
+          whole = w;
+          count_is = h.count_is;
+          leader_at = can.led next u p.0;
+        }
+
+    pub written_variable : (next slot : ℕ) (left : List ℕ) (cells cells' : List Cell) (k : ℕ) → HasNext next left cells k → get_or leaders next None ≡ Some slot → cells' ≡ cells ++ variable_cell (variable_of slots slot) ∷ [] → HasWritten slots f known t cells' left (k + 1)
+    written_variable next slot left cells cells' k h led is =
+        let leader_is : leader slots f h.term ≡ Some slot = sym (at_default leaders next None (leader slots f h.term) h.leader_at) ∙ led in
+        record {
+          rest = h.rest;
+          piled = h.piled;
+          leads = h.leads;
+          whole =
+              ap (λ l. l ++ cells_of_all (folded_all slots f h.rest)) is
+              ∙ append_assoc cells (variable_cell (variable_of slots slot) ∷ []) (cells_of_all (folded_all slots f h.rest))
+              ∙ ap (λ o. cells ++ (cells_of (variable_or slots f o (folded slots f h.term)) ++ cells_of_all (folded_all slots f h.rest))) (sym leader_is)
+              ∙ h.whole;
+          count_is = ap length is ∙ length-append cells (variable_cell (variable_of slots slot) ∷ []) ∙ omega (arith, h.count_is);
+        }
+
+    pub written_symbol : (next : ℕ) (left left' : List ℕ) (cells cells' : List Cell) (k : ℕ) → HasNext next left cells k → get_or leaders next None ≡ None → WritesCells nodes sizes left left' cells cells' next → HasWritten slots f known t cells' left' (k + 1)
+    written_symbol next left left' cells cells' k h led writes = by h.term h.term_is h.term_leads (leader_none) (ap (λ o. cells ++ (cells_of (variable_or slots f o (folded slots f h.term)) ++ cells_of_all (folded_all slots f h.rest))) (sym leader_none) ∙ h.whole)
+      where
+        leader_none : leader slots f h.term ≡ None
+        leader_none = sym (at_default leaders next None (leader slots f h.term) h.leader_at) ∙ led
+
+        by : (u : Term) → slice_get known next ≡ Some u → AllByRecursion (IsLed f) (terms.variables u) → leader slots f u ≡ None → cells ++ (cells_of (folded slots f u) ++ cells_of_all (folded_all slots f h.rest)) ≡ cells_of (folded slots f t) → HasWritten slots f known t cells' left' (k + 1)
+        by (terms.var y) at l none whole = absurd (l.0 none)
+        by (terms.app s us) at l none whole =
+            let w = writes slots known s us h.rest can.are at h.piled in
+            let few : terms.size (folded slots f (terms.app s us)) ≤ 2 ^ 32 - 1 =
+            omega (
+              arith,
+              can.fits,
+              ap length whole,
+              length-append cells (cells_of (folded slots f (terms.app s us)) ++ cells_of_all (folded_all slots f h.rest)),
+              length-append (cells_of (folded slots f (terms.app s us))) (cells_of_all (folded_all slots f h.rest)),
+              length-cells_of (folded slots f (terms.app s us)),
+              length-cells_of (folded slots f t),
+            ) in
+            let size = size_at f known t can next (terms.app s us) at few in
+            record {
+              rest = chain us h.rest;
+              piled = w.1;
+              leads = variables-chain (IsLed f) us h.rest l h.leads;
+              whole =
+                  ap (λ m. m ++ cells_of_all (folded_all slots f (chain us h.rest))) w.0
+                  ∙ append_assoc cells (cell.App s.number s.arity (get_or sizes next 0) ∷ []) (cells_of_all (folded_all slots f (chain us h.rest)))
+                  ∙ ap (λ n. cells ++ (cell.App s.number s.arity n ∷ cells_of_all (folded_all slots f (chain us h.rest)))) size
+                  ∙ ap (λ m. cells ++ (cell.App s.number s.arity (terms.size (folded slots f (terms.app s us))) ∷ m)) (ap cells_of_all (folded-chain slots f us h.rest) ∙ cells-chain (folded_all slots f us) (folded_all slots f h.rest))
+                  ∙ whole;
+              count_is = ap length w.0 ∙ length-append cells (cell.App s.number s.arity (get_or sizes next 0) ∷ []) ∙ omega (arith, h.count_is);
+            }
+
+-- ---- a symbol
+pub symbol_refused : (nodes : List Node) (sizes left left' : List ℕ) (cells cells' : List Cell) (class : ℕ) → Descends nodes left left' class None → WritesCells nodes sizes left left' cells cells' class
+symbol_refused nodes sizes left left' cells cells' class h slots known s ts rest are at have =
+    let bad : None ≡ Some (s.number, s.arity) = (h slots known s ts rest are at have).0 in absurd (not_some (s.number, s.arity) bad)
+  where
+    not_some : (p : ℕ × ℕ) → None ≡ Some p → ⊥
+    not_some p e = cc
+
+pub symbol_written : (nodes : List Node) (sizes left left' : List ℕ) (cells cells' : List Cell) (class a b size : ℕ) → Descends nodes left left' class (Some (a, b)) → size ≡ get_or sizes class 0 → cells' ≡ cells ++ cell.App a b size ∷ [] → WritesCells nodes sizes left left' cells cells' class
+symbol_written nodes sizes left left' cells cells' class a b size h size_is is slots known s ts rest are at have =
+    let r = h slots known s ts rest are at have in
+    let pair : (a, b) ≡ (s.number, s.arity) = same_pair (a, b) (s.number, s.arity) r.0 in (
+      is
+          ∙ ap (λ n. cells ++ cell.App a b n ∷ []) size_is
+          ∙ ap (λ p. cells ++ cell.App p.0 p.1 (get_or sizes class 0) ∷ []) pair,
+      r.1,
+    )
+  where
+    same_pair : (p q : ℕ × ℕ) → Some p ≡ Some q → p ≡ q
+    same_pair p q e = cc
+
+pub none_left : (nodes : List Node) (slots : Slots) (leaders : List (Option ℕ)) (sizes : List ℕ) (class : ℕ) (left : List ℕ) (cells : List Cell) (k : ℕ) → left ≡ [] → IsWriting slots nodes leaders sizes class cells left k → HasFolded slots nodes leaders sizes class cells
+none_left nodes slots leaders sizes class left cells k none h f known t can =
+    written_none slots nodes leaders sizes class f known t can cells k (subst (λ l. HasWritten slots f known t cells l k) none (h f known t can))
+
+-- what is asked has a witness
+pub record IsAsked (slots : Slots) (leaders : List (Option ℕ)) (sizes : List ℕ) (next : ℕ) : Type 0 where
+  pub led : next < length leaders
+  pub sized : next < length sizes
+  pub slot_inside : (slot : ℕ) → get_or leaders next None ≡ Some slot → slot < slot_count slots
+
+pub asked : (slots : Slots) (nodes : List Node) (leaders : List (Option ℕ)) (sizes : List ℕ) (class next : ℕ) (left : List ℕ) (cells : List Cell) (k : ℕ) (f : Variable → Term) (known : List Term) (t : Term) → CanFold slots nodes leaders sizes class f known t → HasWritten slots f known t cells (next ∷ left) k → IsAsked slots leaders sizes next
+asked slots nodes leaders sizes class next left cells k f known t can h =
+    let n = next_of slots nodes leaders sizes class f known t can next left cells k h in
+    record {
+      led = get_inside leaders next (leader slots f n.term) n.leader_at;
+      sized = omega (arith, get_inside known next n.term n.term_is, can.are.long, can.sized.long);
+      slot_inside = λ slot e. (led slots f (slot_count slots) slot n.term (sym (at_default leaders next None (leader slots f n.term) n.leader_at) ∙ e)).below;
+    }
+
+module _ (slots : Slots) (nodes : List Node) (leaders : List (Option ℕ)) (sizes : List ℕ) (class next : ℕ) (left left' : List ℕ) (cells : List Cell) (k : ℕ) (is : left ≡ next ∷ left') (h : IsWriting slots nodes leaders sizes class cells left k) where
+  taken : (f : Variable → Term) (known : List Term) (t : Term) → CanFold slots nodes leaders sizes class f known t → HasWritten slots f known t cells (next ∷ left') k
+  taken f known t can = subst (λ l. HasWritten slots f known t cells l k) is (h f known t can)
+
+  pub asked_of : (f : Variable → Term) × (known : List Term) × (t : Term) × CanFold slots nodes leaders sizes class f known t → IsAsked slots leaders sizes next
+  asked_of w = asked slots nodes leaders sizes class next left' cells k w.0 w.1 w.2 w.3 (taken w.0 w.1 w.2 w.3)
+
+  pub writes_variable : (slot : ℕ) (cells' : List Cell) → get_or leaders next None ≡ Some slot → cells' ≡ cells ++ variable_cell (variable_of slots slot) ∷ [] → IsWriting slots nodes leaders sizes class cells' left' (k + 1)
+  writes_variable slot cells' led is' f known t can =
+      written_variable slots nodes leaders sizes class f known t can next slot left' cells cells' k (next_of slots nodes leaders sizes class f known t can next left' cells k (taken f known t can)) led is'
+
+  pub writes_symbol : (left2 : List ℕ) (cells' : List Cell) → get_or leaders next None ≡ None → WritesCells nodes sizes left' left2 cells cells' next → IsWriting slots nodes leaders sizes class cells' left2 (k + 1)
+  writes_symbol left2 cells' led writes f known t can =
+      written_symbol slots nodes leaders sizes class f known t can next left' left2 cells cells' k (next_of slots nodes leaders sizes class f known t can next left' cells k (taken f known t can)) led writes
+
+pub all_written : (slots : Slots) (nodes : List Node) (leaders : List (Option ℕ)) (sizes : List ℕ) (class : ℕ) (left : List ℕ) (cells : List Cell) (k : ℕ) → get_or sizes class 0 ≤ k → IsWriting slots nodes leaders sizes class cells left k → HasFolded slots nodes leaders sizes class cells
+all_written slots nodes leaders sizes class left cells k less h f known t can =
+    let size = size_at slots nodes leaders sizes class f known t can class t can.class_is can.fits in
+    written_all slots nodes leaders sizes class f known t can cells left k (omega (arith, less, size)) (h f known t can)

@@ -1,0 +1,44 @@
+use Rattle.std.proofs.Common.{◌∷◌, ◌++◌, [], reverse, sym, ◌∙◌, ap, subst, arith}
+use Rattle.std.proofs.lemmas.List.{reverse-append}
+use Rattle.si_form.specs.Folding.{WritesCells}
+use Rattle.si_form.proofs.NodeLaws.{none_piled}
+use Rattle.si_form.proofs.WritingLaws.{writing_begins, all_written, none_left, asked_of, writes_variable, writes_symbol}
+use Rattle.si_form.proofs.folding.fold.Goals as goal
+
+pub returns-in_default : goal.returns-in_default
+returns-in_default c =
+    none_left _ c.args.slots.now _ _ _ _ c.loop.cells.items c.loop.counter (none_piled c.loop.left.items (omega (arith, c.in_default.ensures.cases.0, c.loop.left.ok))) c.loop.invariant
+
+pub loop-init : goal.loop-init
+loop-init c =
+    writing_begins c.args.slots.now c.args.nodes.now.keys c.args.leaders.now c.args.sizes.now c.args.class (reverse c.write_symbol.new.left.items) c.write_symbol.new.cells.items
+    (
+    subst (λ l. WritesCells c.args.nodes.now.keys c.args.sizes.now l (reverse c.write_symbol.new.left.items) [] c.write_symbol.new.cells.items c.args.class) (ap reverse c.new-left.ensures.items)
+    (subst (λ l. WritesCells c.args.nodes.now.keys c.args.sizes.now (reverse c.new-left.result.items) (reverse c.write_symbol.new.left.items) l c.write_symbol.new.cells.items c.args.class) c.new-cells.ensures.items c.in_ok-write_symbol.ensures)
+    )
+
+pub leader_of-requires : goal.leader_of-requires
+leader_of-requires c =
+    (asked_of c.args.slots.now _ _ _ _ c.in-Some.next _ (reverse c.pop.new.self.items) _ _ (ap reverse c.in-Some.ensures.items ∙ reverse-append c.pop.new.self.items (c.in-Some.next ∷ [])) c.loop.invariant c.requires.folds).led
+
+pub write_symbol-requires-in_default-leader_of-clause-sized : goal.write_symbol-requires-in_default-leader_of-clause-sized
+write_symbol-requires-in_default-leader_of-clause-sized c =
+    (asked_of c.args.slots.now _ _ _ _ c.in-Some.next _ (reverse c.pop.new.self.items) _ _ (ap reverse c.in-Some.ensures.items ∙ reverse-append c.pop.new.self.items (c.in-Some.next ∷ [])) c.loop.invariant c.requires.folds).sized
+
+pub variable-requires-clause-inside : goal.variable-requires-clause-inside
+variable-requires-clause-inside c =
+    (asked_of c.args.slots.now _ _ _ _ c.in-Some.next _ (reverse c.pop.new.self.items) _ _ (ap reverse c.in-Some.ensures.items ∙ reverse-append c.pop.new.self.items (c.in-Some.next ∷ [])) c.loop.invariant c.requires.folds).slot_inside c.in-Some-leader_of.slot (sym c.leader_of.ensures ∙ c.in-Some-leader_of.is)
+
+pub loop-preserved-in_default-leader_of : goal.loop-preserved-in_default-leader_of
+loop-preserved-in_default-leader_of c =
+    writes_symbol c.args.slots.now _ _ _ _ c.in-Some.next _ (reverse c.pop.new.self.items) c.loop.cells.items c.loop.counter (ap reverse c.in-Some.ensures.items ∙ reverse-append c.pop.new.self.items (c.in-Some.next ∷ [])) c.loop.invariant
+    _ _ (sym c.leader_of.ensures ∙ c.in_default-leader_of.is) c.in_ok-write_symbol-2.ensures
+
+pub loop-preserved : goal.loop-preserved
+loop-preserved c =
+    writes_variable c.args.slots.now _ _ _ _ c.in-Some.next _ (reverse c.pop.new.self.items) c.loop.cells.items c.loop.counter (ap reverse c.in-Some.ensures.items ∙ reverse-append c.pop.new.self.items (c.in-Some.next ∷ [])) c.loop.invariant
+    c.in-Some-leader_of.slot _ (sym c.leader_of.ensures ∙ c.in-Some-leader_of.is) (c.in_ok-push.ensures.items ∙ ap (λ x. c.loop.cells.items ++ x ∷ []) c.variable.ensures)
+
+pub returns : goal.returns
+returns c =
+    all_written c.args.slots.now _ _ _ _ (reverse c.loop.left.items) c.loop.cells.items c.loop.counter c.loop-test.false c.loop.invariant

@@ -1,0 +1,167 @@
+// Folded terms, from the numbers of classes.
+ghost use Rattle.std.specs.Prelude.{◌≡◌, ◌<◌, ◌≤◌, List, None, length, slice_index_or, reverse};
+ghost use Rattle.std.specs.Prelude.{IfOk, OnOk};
+ghost use Rattle.si_flat.specs.Cells.{Variable, Term, variable_cell};
+ghost use Rattle.si_unify.specs.Solving.{slot_count, variable_of};
+ghost use Rattle.si_form.specs.Folding.{HasTerms, Descends, part_size, node_size, IsBefore};
+ghost use Rattle.si_form.specs.Folding.{AreSizes, WritesCells, CanFold, HasFolded};
+
+use crate::classes::Node;
+use indexmap::IndexSet;
+use si_flat::Cell;
+use si_unify::Slots;
+use std::alloc::{AllocError, Global};
+
+// The symbol of a class and its arity. The classes of the arguments are piled up, the first one on
+// top.
+fn descend(
+    nodes: &IndexSet<Node>,
+    left: &mut Vec<usize>,
+    class: usize,
+) -> Result<Option<(u32, u32)>, AllocError>
+    requires { HasTerms nodes.now.keys }
+    ensures { IfOk result (Descends nodes.now.keys (reverse left.old.items)
+        (reverse left.new.items) class) }
+{
+    let mut front = class;
+    loop {
+        match nodes.get_index(front) {
+            Some(
+                &Node::With {
+                    front: before,
+                    argument,
+                },
+            ) => {
+                left.push(argument)?;
+                front = before;
+            }
+            Some(&Node::Head { sym, arity }) => return Ok(Some((sym, arity))),
+            Some(&Node::Variable(_)) => return Ok(None),
+            None => return Ok(None),
+        }
+    }
+}
+
+// How many cells are written for a class as a part of another: one for its leader, if it has one.
+fn part_size(sizes: &[u32], leaders: &[Option<usize>], class: usize) -> u32
+    requires sized { class < length sizes.now }
+    requires led { class < length leaders.now }
+    ensures { result ≡ part_size (slice_index_or leaders.now class None)
+        (slice_index_or sizes.now class 0) }
+{
+    match leaders[class] {
+        Some(_) => 1,
+        None => sizes[class],
+    }
+}
+
+// How many cells are written for a class, from the sizes of those before.
+fn node_size(sizes: &[u32], leaders: &[Option<usize>], node: Node) -> u32
+    requires before { IsBefore (length sizes.now) node }
+    requires led { length sizes.now ≤ length leaders.now }
+    ensures { result ≡ node_size sizes.now leaders.now node }
+{
+    match node {
+        Node::Variable(_) => 1,
+        Node::Head { .. } => 1,
+        Node::With { front, argument } => {
+            sizes[front].saturating_add(part_size(sizes, leaders, argument))
+        }
+    }
+}
+
+// The number of cells of each class. A class that is too large to be written has the largest one.
+fn sizes(
+    alloc: Global,
+    nodes: &IndexSet<Node>,
+    leaders: &[Option<usize>],
+) -> Result<Vec<u32>, AllocError>
+    requires terms { HasTerms nodes.now.keys }
+    requires led { length leaders.now ≡ length nodes.now.keys }
+    ensures { IfOk result (λ sizes. AreSizes nodes.now.keys leaders.now
+        (length nodes.now.keys) sizes.items) }
+{
+    let mut sizes = Vec::new(alloc);
+    for n in 0..nodes.len() {
+        let Some(&node) = nodes.get_index(n) else {
+            continue;
+        };
+        let size = node_size(&sizes, leaders, node);
+        sizes.push(size)?;
+    }
+    Ok(sizes)
+}
+
+// The cell of the variable of a slot.
+fn variable(slots: Slots, slot: usize) -> Cell
+    requires none { slots.inds ≡ 0 }
+    requires inside { slot < slot_count slots }
+    ensures { result ≡ variable_cell (variable_of slots slot) }
+{
+    let queries = slots.query as usize;
+    if slot < queries {
+        return Cell::Query(slot as u32);
+    }
+    Cell::Entry((slot - queries) as u32)
+}
+
+// WritesCells the symbol of a class, and piles up the classes of its arguments.
+fn write_symbol(
+    nodes: &IndexSet<Node>,
+    sizes: &[u32],
+    left: &mut Vec<usize>,
+    cells: &mut Vec<Cell>,
+    class: usize,
+) -> Result<(), AllocError>
+    requires terms { HasTerms nodes.now.keys }
+    requires sized { class < length sizes.now }
+    ensures { OnOk result (WritesCells nodes.now.keys sizes.now (reverse left.old.items)
+        (reverse left.new.items) cells.old.items cells.new.items class) }
+{
+    let Some((sym, arity)) = descend(nodes, left, class)? else {
+        return Ok(());
+    };
+    let len = sizes[class];
+    cells.push(Cell::App { sym, arity, len })?;
+    Ok(())
+}
+
+// The leader of a class.
+fn leader_of(leaders: &[Option<usize>], class: usize) -> Option<usize>
+    requires { class < length leaders.now }
+    ensures { result ≡ slice_index_or leaders.now class None }
+{
+    leaders[class]
+}
+
+// The cells of what a class stands for, its proper parts folded: where a class has a leader, that
+// is written.
+fn fold(
+    alloc: Global,
+    slots: &Slots,
+    nodes: &IndexSet<Node>,
+    leaders: &[Option<usize>],
+    sizes: &[u32],
+    class: usize,
+) -> Result<Vec<Cell>, AllocError>
+    requires none { slots.now.inds ≡ 0 }
+    requires folds { (f : Variable → Term) × (known : List Term) × (t : Term)
+        × CanFold slots.now nodes.now.keys leaders.now sizes.now class f known t }
+    ensures { IfOk result (λ cells. HasFolded slots.now nodes.now.keys leaders.now sizes.now class
+        cells.items) }
+{
+    let mut left = Vec::new(alloc);
+    let mut cells = Vec::new(alloc);
+    write_symbol(nodes, sizes, &mut left, &mut cells, class)?;
+    for _ in 1..sizes[class] {
+        let Some(next) = left.pop() else {
+            return Ok(cells);
+        };
+        let Some(slot) = leader_of(leaders, next) else {
+            write_symbol(nodes, sizes, &mut left, &mut cells, next)?;
+            continue;
+        };
+        cells.push(variable(*slots, slot))?;
+    }
+    Ok(cells)
+}

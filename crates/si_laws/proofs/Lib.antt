@@ -1,3 +1,6 @@
 mod StateLaws
 mod OutcomeLaws
+mod GrammarLaws
+mod CommandLaws
 mod StepLaws
+mod RunLaws

@@ -1,20 +1,19 @@
 -- A command has one right outcome in a consistent state.
-use Rattle.std.proofs.Common.{◌≡◌, ◌⊎◌, inl, inr, ℕ, ◌≤◌, true, List, [], ◌∷◌, length, refl, sym, ap, ◌∙◌, subst, arith}
+use Rattle.std.proofs.Common.{◌≡◌, inl, inr, ℕ, true, List, [], ◌∷◌, length, refl, sym, ap, ◌∙◌, subst, arith}
 use Rattle.std.specs.Prelude.{codes, ◌++◌}
-use Rattle.si_defs.specs.Symbols.{Symbol}
-use Rattle.si_defs.specs.Clauses.{Name, Clause, Pattern, literal_pattern, term_pattern}
+use Rattle.si_defs.specs.Clauses.{Clause, Pattern, literal_pattern, term_pattern}
 use Rattle.si_defs.specs.Entries.{Entry, literal_entry, term_entry, Placed, entries, state_entries, clause_symbols, state_symbols}
 use Rattle.si_defs.specs.Printing.{symbol_text, shape_text}
 use Rattle.si_defs.specs.Variables.{Variable, of_pattern, of_entry, same_variable, Apart, Solution}
 use Rattle.si_defs.specs.Solutions.{IsCanonical}
 use Rattle.si_defs.specs.declared.Relation.{Relation}
 use Rattle.si_defs.specs.declared.Relation.TheVariants.{Variants, Instances, Generalizations, Unifiable}
-use Rattle.si_state.specs.Acceptance.{Accepts, Refusal, taken, misused, full, Refuses, Removes}
-use Rattle.si_state.specs.Answers.{Hit, IsAnswer, Solves, Stands}
+use Rattle.si_state.specs.Acceptance.{Accepts, Refusal, taken, misused, full, Refuses}
+use Rattle.si_state.specs.Answers.{Hit, IsAnswer, Solves}
 use Rattle.si_steps.specs.declared.limits.Limits.{Limits}
 use Rattle.si_steps.specs.Commands.{Command, add, remove, query, stats}
 use Rattle.si_steps.specs.Replies.{Reply, refusal_line, ok_line, stats_line, answer_reply}
-use Rattle.si_steps.specs.Steps.{Performs, RightStep, long, later, silent, foreign, wrong, performed}
+use Rattle.si_steps.specs.Steps.{Performs, long, later, silent, foreign, wrong, performed}
 use Rattle.si_sign.proofs.SymbolLaws.{text_is, text_same}
 use Rattle.si_form.proofs.CanonicalLaws.{one_match}
 use Rattle.si_form.proofs.UnifierLaws.{one_unifier}

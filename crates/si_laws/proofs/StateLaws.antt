@@ -1,10 +1,9 @@
 -- What a consistent list of clauses determines: first clashes, the clause that goes, the number of
 -- symbols, and that it stays consistent.
-use Rattle.std.proofs.Common.{◌≡◌, ◌⊎◌, inl, inr, ℕ, ◌+◌, ◌≤◌, Bool, true, false, ◌&&◌, ◌==◌, List, [], ◌∷◌, ◌++◌, length, refl, sym, ap, ◌∙◌, subst, arith, append_assoc, append-nil, length-append}
+use Rattle.std.proofs.Common.{◌≡◌, ◌⊎◌, inl, inr, ℕ, ◌≤◌, Bool, true, false, ◌&&◌, ◌==◌, List, [], ◌∷◌, ◌++◌, length, refl, sym, ap, ◌∙◌, subst, arith, append_assoc, append-nil, length-append}
 use Rattle.std.proofs.lemmas.Bool.{eq-eqb, eqb-true}
 use Rattle.si_defs.specs.Symbols.{Symbol, same_side}
 use Rattle.si_defs.specs.Clauses.{Name, Clause}
-use Rattle.si_defs.specs.Entries.{state_symbols, clause_symbols}
 use Rattle.si_defs.specs.Substitutions.{IsAmong, AreDistinct}
 use Rattle.si_state.specs.Acceptance.{names, IsTaken, HasDistinctNames, Clashes, Agrees, AllAgree, IsFirstClash, Accepts, Removes}
 use Rattle.si_state.specs.Signatures.{CountsSymbols}
@@ -51,8 +50,8 @@ shape_is s r kind text agree = by (same_side s.side r.side && s.arity == r.arity
 
 -- ---- the first clash
 -- no clash stands before symbols that agree
-clash_agrees : (known own : List Symbol) (n : ℕ) (f k : Symbol) → IsFirstClash known own n f k → AllAgree known own → ⊥
-clash_agrees known own n f k first agree =
+pub no_clash : (known own : List Symbol) (n : ℕ) (f k : Symbol) → IsFirstClash known own n f k → AllAgree known own → ⊥
+no_clash known own n f k first agree =
     let behind = agree_split known first.before (f ∷ first.after) (subst (AllAgree known) first.splits agree) in
     one_of_all (λ r. Clashes f r → ⊥) (known ++ first.before) k behind.1.0 first.against first.clashes
 
@@ -83,9 +82,6 @@ same_clash known own m n f g k l agree one other =
     let text = sym one.clashes.text ∙ ap (λ (s : Symbol). s.text) front.1 ∙ other.clashes.text in
     let shape = shape_is k l kind text (agree_two [] (known ++ one.before) k l (agree_append [] known one.before agree one.earlier) one.against there) in
     (front.1, shape.0, shape.1)
-
-pub no_clash : (known own : List Symbol) (n : ℕ) (f k : Symbol) → IsFirstClash known own n f k → AllAgree known own → ⊥
-no_clash known own n f k first agree = clash_agrees known own n f k first agree
 
 -- ---- the clause that goes
 name_among : (bs : List Clause) (c : Clause) (ds : List Clause) → IsAmong (names (bs ++ c ∷ ds)) c.name

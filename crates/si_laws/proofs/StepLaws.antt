@@ -1,5 +1,5 @@
 -- A line has one right step in a consistent state, where it means one command at most.
-use Rattle.std.proofs.Common.{◌≡◌, ◌⊎◌, inl, inr, ◌≤◌, ◌<◌, ◌++◌, List, [], ◌∷◌, length, refl, sym, ap, ◌∙◌, subst, arith}
+use Rattle.std.proofs.Common.{◌≡◌, inl, inr, List, [], ◌∷◌, sym, ◌∙◌, subst, arith}
 use Rattle.si_defs.specs.Bytes.{Bytes}
 use Rattle.si_defs.specs.Clauses.{Clause}
 use Rattle.si_defs.specs.Tokens.{Token, lower, AreBlanks, Begins}
@@ -10,7 +10,7 @@ use Rattle.si_lex.proofs.TokenLaws.{blanks_none}
 use Rattle.si_steps.specs.declared.limits.Limits.{Limits}
 use Rattle.si_steps.specs.Commands.{Command, command_word, Means, IsLong, IsLater, IsDecided, IsSilent, AddsForeign}
 use Rattle.si_steps.specs.Replies.{Reply}
-use Rattle.si_steps.specs.Steps.{Performs, RightStep, long, later, silent, foreign, wrong, performed}
+use Rattle.si_steps.specs.Steps.{Performs, long, later, silent, foreign, wrong, performed}
 use Rattle.si_laws.specs.OneReply.{IsConsistent, HasOneMeaning, OneRightStep}
 use Rattle.si_laws.proofs.OutcomeLaws.{one_outcome}
 

@@ -1,5 +1,5 @@
 -- That there is one right reply, and one right state behind it.
-use Rattle.std.specs.Prelude.{◌≡◌, List, []}
+use Rattle.std.specs.Prelude.{◌≡◌, List, [], ◌∷◌}
 use Rattle.si_defs.specs.Bytes.{Bytes}
 use Rattle.si_defs.specs.Clauses.{Clause}
 use Rattle.si_defs.specs.Entries.{state_symbols}
@@ -36,3 +36,17 @@ OneRightStep limits state line =
 abbrev pub StaysConsistent : Limits → List Clause → Bytes → Type 0
 StaysConsistent limits state line =
     (reply : Reply) (new : List Clause) → IsConsistent state → RightStep limits state line reply new → IsConsistent new
+
+-- From this state on the lines have these right replies, and the new state stands behind them.
+abbrev pub RightRun : Limits → List Clause → List Bytes → List Reply → List Clause → Type 0
+RightRun limits state [] replies new = (replies ≡ []) × (new ≡ state)
+RightRun limits state (line ∷ lines) replies new =
+    (reply : Reply) × (next : List Clause) × (others : List Reply)
+    × RightStep limits state line reply next × RightRun limits next lines others new × (replies ≡ reply ∷ others)
+
+-- two right runs over the lines, from no clause, are the same
+abbrev pub OneRightRun : Limits → List Bytes → Type 0
+OneRightRun limits lines =
+    (replies others : List Reply) (new behind : List Clause)
+    → RightRun limits [] lines replies new → RightRun limits [] lines others behind
+    → (replies ≡ others) × (new ≡ behind)

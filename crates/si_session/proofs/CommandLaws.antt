@@ -90,6 +90,31 @@ command_is c t ts h = (ap head h.whole, subst (AreOperands c) (sym (ap others h.
 word_is : (c : Command) (w : Word) (ts : List Token) → IsCommand c (lower (command_text w) ∷ ts) → w ≡ command_word c
 word_is c w ts h = same_word w (command_word c) (same_text (command_text w) (command_text (command_word c)) (command_is c (lower (command_text w)) ts h).0)
 
+-- what stands behind a word, one row a word
+abbrev OperandsOf : Word → Type 0
+OperandsOf Add = Clause
+OperandsOf Remove = Name
+OperandsOf (Ask relation) = Pattern
+OperandsOf w = Unit {0}
+
+abbrev AreSpelled : (w : Word) → OperandsOf w → List Token → Type 0
+AreSpelled Add c ts = IsClause c ts
+AreSpelled Remove n ts = IsNameToken n ts
+AreSpelled (Ask relation) p ts = IsQuery p ts
+AreSpelled Stats none ts = ts ≡ []
+AreSpelled w none ts = Unit {0}
+
+own : (c : Command) (ts : List Token) → AreOperands c ts → (o : OperandsOf (command_word c)) × AreSpelled (command_word c) o ts
+own (add c) ts h = (c, h)
+own (remove n) ts h = (n, h)
+own (query r p) ts h = (p, h)
+own stats ts h = (tt, h)
+
+-- what stands behind the word in any command that begins with it
+only : (w : Word) (c : Command) (ts : List Token) → IsCommand c (lower (command_text w) ∷ ts) → (o : OperandsOf w) × AreSpelled w o ts
+only w c ts h =
+    subst (λ v. (o : OperandsOf v) × AreSpelled v o ts) (sym (word_is c w ts h)) (own c ts (command_is c (lower (command_text w)) ts h).1)
+
 -- behind the word of a command that is built
 built_begins : (w : Word) (ts : List Token) → IsTrue (is_built w) → BeginUnbuilt (lower (command_text w) ∷ ts) → ⊥
 built_begins w ts b u = built_apart w u.0 (same_text (command_text w) (command_text u.0) u.2) b u.1
@@ -118,13 +143,6 @@ no_word t ts stop n = (
 )
 
 -- ---- `add`
--- the only command that such tokens can be
-add_only : (c : Command) (ts : List Token) → IsCommand c (lower (command_text Add) ∷ ts) → (d : Clause) × IsClause d ts
-add_only (add d) ts h = (d, (command_is (add d) (lower (command_text Add)) ts h).1)
-add_only (remove n) ts h = let e = word_is (remove n) Add ts h in cc
-add_only (query r p) ts h = let e = word_is (query r p) Add ts h in cc
-add_only stats ts h = let e = word_is stats Add ts h in cc
-
 -- where no clause was read of all the tokens
 pub add_wrong : (tokens : List Lexeme) (stop : Stop) (found : Option (program_clause.Clause × Bor (List Lexeme))) → reads.Reads clause_of IsClause Anything tokens found
     → (AreForeign (tokens_of tokens) → ⊥) → (stop ≡ End → (x : program_clause.Clause) (r : Bor (List Lexeme)) → found ≡ Some (x, r) → r.now ≡ [] → ⊥)
@@ -133,7 +151,7 @@ add_wrong tokens stop found p own left = (
   built_begins Add (tokens_of tokens) refl,
   λ f. own f.1,
   λ e s. some_tokens (lower (command_text Add)) (tokens_of tokens) s,
-  λ e c h. let d = add_only c (tokens_of tokens) h in whole_none clause_of tokens tt found p (left e) d.0 d.1,
+  λ e c h. let d = only Add c (tokens_of tokens) h in whole_none clause_of tokens tt found p (left e) d.0 d.1,
 )
 
 -- where one was, no formula of another language stands
@@ -150,22 +168,16 @@ add_read tokens stop x r e none p sound =
 
 -- a formula of another language
 pub add_foreign : (ts : List Token) (stop : Stop) → AreForeign ts → Commands (lower (command_text Add) ∷ ts) stop command.Foreign
-add_foreign ts stop f = ((refl, f), λ c h. let d = add_only c ts h in clause_not_foreign d.0 ts d.1 f)
+add_foreign ts stop f = ((refl, f), λ c h. let d = only Add c ts h in clause_not_foreign d.0 ts d.1 f)
 
 -- ---- `remove`
-remove_only : (c : Command) (ts : List Token) → IsCommand c (lower (command_text Remove) ∷ ts) → (n : Name) × IsNameToken n ts
-remove_only (add d) ts h = let e = word_is (add d) Remove ts h in cc
-remove_only (remove n) ts h = (n, (command_is (remove n) (lower (command_text Remove)) ts h).1)
-remove_only (query r p) ts h = let e = word_is (query r p) Remove ts h in cc
-remove_only stats ts h = let e = word_is stats Remove ts h in cc
-
 -- where no name was read of all the tokens
 pub remove_wrong : (tokens : List Lexeme) (stop : Stop) (found : Option (program_name.Name × Bor (List Lexeme))) → reads.Reads name_of IsNameToken Anything tokens found
     → (stop ≡ End → (x : program_name.Name) (r : Bor (List Lexeme)) → found ≡ Some (x, r) → r.now ≡ [] → ⊥)
     → Commands (lower (command_text Remove) ∷ tokens_of tokens) stop command.Wrong
 remove_wrong tokens stop found p left =
     other_wrong Remove (tokens_of tokens) stop refl (λ e. cc)
-    (λ e c h. let n = remove_only c (tokens_of tokens) h in whole_none name_of tokens tt found p (left e) n.0 n.1)
+    (λ e c h. let n = only Remove c (tokens_of tokens) h in whole_none name_of tokens tt found p (left e) n.0 n.1)
 
 pub remove_read : (tokens : List Lexeme) (stop : Stop) (x : program_name.Name) (r : Bor (List Lexeme)) → stop ≡ End → r.now ≡ []
     → reads.Reads name_of IsNameToken Anything tokens (Some (x, r)) → Commands (lower (command_text Remove) ∷ tokens_of tokens) stop (command.Remove x)
@@ -173,29 +185,17 @@ remove_read tokens stop x r e none p =
     (e, record { built = refl; operands = tokens_of tokens; spelled = whole_means name_of tokens tt x r none p; whole = refl })
 
 -- ---- `stats`
-stats_only : (c : Command) (ts : List Token) → IsCommand c (lower (command_text Stats) ∷ ts) → ts ≡ []
-stats_only (add d) ts h = let e = word_is (add d) Stats ts h in cc
-stats_only (remove n) ts h = let e = word_is (remove n) Stats ts h in cc
-stats_only (query r p) ts h = let e = word_is (query r p) Stats ts h in cc
-stats_only stats ts h = (command_is stats (lower (command_text Stats)) ts h).1
-
 -- something stands behind the word
 pub stats_wrong : (ts : List Token) (stop : Stop) → (stop ≡ End → ts ≡ [] → ⊥) → Commands (lower (command_text Stats) ∷ ts) stop command.Wrong
-stats_wrong ts stop some = other_wrong Stats ts stop refl (λ e. cc) (λ e c h. some e (stats_only c ts h))
+stats_wrong ts stop some = other_wrong Stats ts stop refl (λ e. cc) (λ e c h. some e (only Stats c ts h).1)
 
 pub stats_read : (ts : List Token) (stop : Stop) → stop ≡ End → ts ≡ [] → Commands (lower (command_text Stats) ∷ ts) stop command.Stats
 stats_read ts stop e none = (e, record { built = refl; operands = ts; spelled = none; whole = refl })
 
 -- ---- `instances`
-query_only : (c : Command) (ts : List Token) → IsCommand c (lower (command_text (Ask Instances)) ∷ ts) → (p : Pattern) × IsQuery p ts
-query_only (add d) ts h = let e = word_is (add d) (Ask Instances) ts h in cc
-query_only (remove n) ts h = let e = word_is (remove n) (Ask Instances) ts h in cc
-query_only (query r p) ts h = (p, (command_is (query r p) (lower (command_text (Ask Instances))) ts h).1)
-query_only stats ts h = let e = word_is stats (Ask Instances) ts h in cc
-
 -- what such tokens are where they are no command
 query_wrong : (ts : List Token) (stop : Stop) → (stop ≡ End → (p : Pattern) → IsQuery p ts → ⊥) → Commands (lower (command_text (Ask Instances)) ∷ ts) stop command.Wrong
-query_wrong ts stop n = other_wrong (Ask Instances) ts stop refl (λ e. cc) (λ e c h. let q = query_only c ts h in n e q.0 q.1)
+query_wrong ts stop n = other_wrong (Ask Instances) ts stop refl (λ e. cc) (λ e c h. let q = only (Ask Instances) c ts h in n e q.0 q.1)
 
 -- a query is the word of its kind, and the pattern
 pub record Asks (p : Pattern) (t : Token) (ts : List Token) : Type 0 where

@@ -1,5 +1,5 @@
 -- A line has one right step in a consistent state, where it means one command at most.
-use Rattle.std.proofs.Common.{◌≡◌, inl, inr, List, [], ◌∷◌, sym, ◌∙◌, subst, arith}
+use Rattle.std.proofs.Common.{◌≡◌, List, [], ◌∷◌, sym, ◌∙◌, subst, arith, ◌≤◌, length}
 use Rattle.si_defs.specs.Bytes.{Bytes}
 use Rattle.si_defs.specs.Clauses.{Clause}
 use Rattle.si_defs.specs.Tokens.{Token, lower, AreBlanks, Begins}

@@ -15,3 +15,6 @@ mod texts;
 pub use faults::{HarvestFault, HarvestLimits, Loaded};
 pub use loading::expand;
 pub use texts::take_text;
+
+#[cfg(test)]
+mod tests;

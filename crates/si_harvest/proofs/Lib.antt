@@ -9,3 +9,4 @@ mod Taking
 mod Errors
 mod Safety
 mod Stepping
+mod TakingTexts

@@ -5,3 +5,4 @@ pub mod Gains
 pub mod Underway
 pub mod Stepping
 pub mod Loading
+pub mod Texts

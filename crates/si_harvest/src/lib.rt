@@ -1,7 +1,7 @@
 //! Loads: the clauses of a file and of the files that it includes, added to a store.
 //!
-//! [`expand`] reads files that it fetches from a library. A load that is refused leaves the store as
-//! it was.
+//! [`expand`] reads files that it fetches from a library, [`take_text`] one text of clauses alone. A
+//! load that is refused leaves the store as it was.
 #![tactic(auto)]
 
 mod faults;
@@ -10,6 +10,11 @@ mod loading;
 mod names;
 mod reading;
 mod store;
+mod texts;
 
 pub use faults::{HarvestFault, HarvestLimits, Loaded};
 pub use loading::expand;
+pub use texts::take_text;
+
+#[cfg(test)]
+mod tests;

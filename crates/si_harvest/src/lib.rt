@@ -1,7 +1,7 @@
 //! Loads: the clauses of a file and of the files that it includes, added to a store.
 //!
-//! [`expand`] reads files that it fetches from a library, [`take_text`] one text of clauses alone. A
-//! load that is refused leaves the store as it was.
+//! [`expand`] reads files that it fetches from a library, [`take_text`] one text of clauses alone.
+//! A load that is refused leaves the store as it was.
 #![tactic(auto)]
 
 mod faults;

@@ -462,7 +462,8 @@ const LIMITS: [Row; 15] = [
         b"c",
         &[b"k"],
     ),
-    // Of two, the earlier: a cycle before a depth, a depth before the fetches, and these before the library.
+    // Of two, the earlier: a cycle before a depth, a depth before the fetches, and these before the
+    // library.
     (
         &[(b"m", b"include('m').")],
         Bound::Open(1, 1),

@@ -31,3 +31,4 @@ pub mod RightSides
 pub mod OrderOfSlots
 pub mod SizeLaws
 pub mod WritingLaws
+pub mod VariableCounts

@@ -16,6 +16,7 @@ mod solution;
 #[cfg(test)]
 mod tests;
 mod uses;
+mod variables;
 
 pub use canonical::{generalization, instance, variant};
 pub use laws::{

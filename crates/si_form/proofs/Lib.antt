@@ -32,3 +32,5 @@ pub mod OrderOfSlots
 pub mod SizeLaws
 pub mod WritingLaws
 pub mod VariableCounts
+pub mod UnifierThere
+pub mod DownLaws

@@ -23,7 +23,7 @@ use Rattle.si_form.proofs.NodeLaws.{slot_again}
 use Rattle.si_unify.specs.Solving.{CellIsInRange}
 use Rattle.si_unify.proofs.Places.{variable_of-slot_of, in_range-variable}
 use Rattle.si_form.proofs.FoldedLaws.{sequence_inside, lefts_gone}
-use Rattle.si_form.proofs.RightSides.{Stays}
+use Rattle.si_form.specs.Unifying.{Stays}
 use Rattle.si_form.specs.Classes.{LeavesUnbound}
 
 -- ---- rows of slots and terms
@@ -147,11 +147,11 @@ module _ (slots : Slots) (rank : ℕ → ℕ) where
 
 -- ---- the rows of bindings
 mutual
-  variables_ranked : (C : Cell → Type 0) (P : Variable → Type 0) (t : Term) → ((x : Variable) → C (variable_cell x) → P x) → AllByRecursion C (cells_of t) → AllByRecursion P (terms.variables t)
+  pub variables_ranked : (C : Cell → Type 0) (P : Variable → Type 0) (t : Term) → ((x : Variable) → C (variable_cell x) → P x) → AllByRecursion C (cells_of t) → AllByRecursion P (terms.variables t)
   variables_ranked C P (terms.var x) give h = (give x h.0, tt)
   variables_ranked C P (terms.app s ts) give h = all_variables_ranked C P ts give h.1
 
-  all_variables_ranked : (C : Cell → Type 0) (P : Variable → Type 0) (ts : Terms) → ((x : Variable) → C (variable_cell x) → P x) → AllByRecursion C (cells_of_all ts) → AllByRecursion P (terms.variables_of_all ts)
+  pub all_variables_ranked : (C : Cell → Type 0) (P : Variable → Type 0) (ts : Terms) → ((x : Variable) → C (variable_cell x) → P x) → AllByRecursion C (cells_of_all ts) → AllByRecursion P (terms.variables_of_all ts)
   all_variables_ranked C P terms.none give h = tt
   all_variables_ranked C P (terms.more t ts) give h =
       members.all_append P (terms.variables t) (terms.variables_of_all ts)
@@ -209,12 +209,12 @@ of_rows_equal slots f (pair ∷ pairs) b h = (
 abbrev pub HasSlot : Slots → Variable → Type 0
 HasSlot slots y = (j : ℕ) × (j < slot_count slots) × (y ≡ variable_of slots j)
 
-slot_below : (slots : Slots) (x : Variable) → IsInRange slots x → slot_of slots x < slot_count slots
+pub slot_below : (slots : Slots) (x : Variable) → IsInRange slots x → slot_of slots x < slot_count slots
 slot_below slots (query n) h = omega (arith, h)
 slot_below slots (entry n) h = omega (arith, h)
 slot_below slots (ind n) h = omega (arith, h)
 
-cell_has_slot : (slots : Slots) (x : Variable) → CellIsInRange slots (variable_cell x) → HasSlot slots x
+pub cell_has_slot : (slots : Slots) (x : Variable) → CellIsInRange slots (variable_cell x) → HasSlot slots x
 cell_has_slot slots x h =
     let range = in_range-variable slots x h in
     (slot_of slots x, slot_below slots x range, sym (variable_of-slot_of slots x range))

@@ -15,6 +15,7 @@ mod order;
 mod solution;
 #[cfg(test)]
 mod tests;
+mod unifier;
 mod uses;
 mod variables;
 

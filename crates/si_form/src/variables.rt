@@ -8,7 +8,7 @@ use crate::matching::variable_number;
 use si_flat::{Cell, Owner};
 
 // The number of cells of a term.
-fn size(cells: &[Cell]) -> u32
+pub(crate) fn size(cells: &[Cell]) -> u32
     requires { IsWhole cells.now }
     ensures { result ≡ length cells.now }
 {

@@ -34,3 +34,4 @@ pub mod WritingLaws
 pub mod VariableCounts
 pub mod UnifierThere
 pub mod DownLaws
+pub mod FoundLaws

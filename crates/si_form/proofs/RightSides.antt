@@ -64,7 +64,7 @@ module _ (slots : Slots) (f : Variable → Term) where
   abbrev pub LeadsItself : Variable → Type 0
   LeadsItself y = (w : ℕ) × (w < slot_count slots) × (y ≡ variable_of slots w) × (leader slots f (f (variable_of slots w)) ≡ Some w)
 
-  no_leader : {P : Type 0} (y : Variable) → Stays slots f y → leader slots f (terms.var y) ≡ None → P
+  pub no_leader : {P : Type 0} (y : Variable) → Stays slots f y → leader slots f (terms.var y) ≡ None → P
   no_leader y s e = absurd (none_led (slot_count slots) (terms.var y) e s.0 s.1 (ap f (sym s.2) ∙ s.3))
 
   mutual

@@ -1,5 +1,6 @@
 -- The right side of a slot, from its class.
-use Rattle.std.proofs.Common.{◌≡◌, ◌≢◌, ℕ, ◌+◌, ◌-◌, ◌^◌, ◌<◌, ◌≤◌, inl, inr, List, [], ◌∷◌, length, get_or, suc, zero, refl, sym, ◌∙◌, ap, subst, arith, Option, Some, None}
+use Rattle.std.proofs.Common.{◌≡◌, ◌≢◌, ℕ, ◌+◌, ◌-◌, ◌^◌, ◌<◌, ◌≤◌, inl, inr, List, [], ◌∷◌, ◌++◌, length, length-append, get_or, suc, zero, refl, sym, ◌∙◌, ap, subst, arith, Option, Some, None, Vec}
+use Rattle.std.proofs.lemmas.Bool.Decides.{eqb_tells}
 use Rattle.std.specs.Prelude.{slice_get}
 use Rattle.std.specs.List.{AllByRecursion}
 use Rattle.si_defs.specs.Substitutions.{IsAmong}
@@ -11,7 +12,9 @@ use Rattle.si_unify.specs.Solving.{Pairs, slot_count, variable_of}
 use Rattle.si_form.specs.declared.classes.Node.{Node}
 use Rattle.si_form.specs.Classes.{AreNodes, KnowsSlot, HasClasses}
 use Rattle.si_form.specs.Folding.{leader, variable_or, folded, folded_all, AreClasses, AreLeaders, HasTerms, CanFold, HasFolded}
-use Rattle.si_form.specs.Unifying.{IsApplication, Stays, right_side, IsToBind, IsRightSide, IsGeneral, HasApplication, AreFound, IsBoundTo, HasRightSide}
+use Rattle.si_form.specs.Unifying.{IsApplication, Stays, right_side, IsToBind, IsRightSide, IsGeneral, HasApplication, AreFound, IsBoundTo, HasRightSide, HaveRightSides}
+use Rattle.si_form.specs.Ordering.{list_of}
+use Rattle.si_form.proofs.UsesLaws.{get_or_front, get_or_last}
 use Rattle.si_form.proofs.CanonicalLaws.{all_from, all_at}
 use Rattle.si_form.proofs.NodeLaws.{same_some, get_inside}
 use Rattle.si_form.proofs.FoldingLaws.{at_default}
@@ -158,3 +161,18 @@ module _ (slots : Slots) (pairs : Pairs) (nodes : List Node) (classes : List ℕ
 
   pub has_terms : HasTerms nodes
   has_terms = let knows = h.knows f general.solves general.leaves in (slots, knows.0, knows.1)
+
+-- ---- all right sides
+pub sides_more : {A : Type 0} (slots : Slots) (pairs : Pairs) (rights new : List (Option (Vec Cell A))) (right : Option (Vec Cell A)) (k : ℕ) → length rights ≡ k → HaveRightSides slots pairs rights → new ≡ rights ++ right ∷ [] → HasRightSide slots pairs k (list_of right) → HaveRightSides slots pairs new
+sides_more slots pairs rights new right k long h is side = subst (HaveRightSides slots pairs) (sym is) both
+  where
+    both : HaveRightSides slots pairs (rights ++ right ∷ [])
+    both f general j less =
+        elim (eqb_tells j k) [
+          | inl e ↦
+              subst (λ o. IsRightSide slots f j (list_of o)) (sym (ap (λ n. get_or (rights ++ right ∷ []) n None) (e.1 ∙ sym long) ∙ get_or_last rights right None))
+              (subst (λ i. IsRightSide slots f i (list_of right)) (sym e.1) (side f general))
+          | inr e ↦
+              let before : j < length rights = omega (arith, e.1, less, long, length-append rights (right ∷ [])) in
+              subst (λ o. IsRightSide slots f j (list_of o)) (sym (get_or_front rights (right ∷ []) j None before)) (h f general j before)
+        ]

@@ -1,5 +1,5 @@
 -- The canonical list of two terms that can be unified.
-use Rattle.std.proofs.Common.{◌≡◌, ◌≢◌, ℕ, ◌+◌, ◌*◌, ◌^◌, ◌-◌, ◌<◌, ◌≤◌, ◌⊎◌, inl, inr, Bool, true, false, List, [], ◌∷◌, ◌++◌, length, get_or, suc, zero, refl, sym, ◌∙◌, ap, subst, arith, length-append, Option, Some, None, Vec}
+use Rattle.std.proofs.Common.{◌≡◌, ◌≢◌, ℕ, ◌+◌, ◌*◌, ◌^◌, ◌-◌, ◌<◌, ◌≤◌, ◌⊎◌, inl, inr, Bool, true, false, List, [], ◌∷◌, ◌++◌, length, take, get_or, suc, zero, refl, sym, ◌∙◌, ap, subst, arith, length-append, Option, Some, None, Vec}
 use Rattle.std.proofs.lemmas.Bool.{eq-eqb, cases_lt}
 use Rattle.std.proofs.lemmas.Bool.Decides.{eqb_tells}
 use Rattle.std.specs.Prelude.{slice_get, ◌==◌, if◌then◌else◌}
@@ -18,10 +18,15 @@ use Rattle.si_unify.specs.Spots.{cell_slot}
 use Rattle.si_form.specs.Classes.{slots_of, AreNodes, KnowsSlot, HasClasses}
 use Rattle.si_form.specs.Folding.{leader, variable_or, folded, folded_all, AreClasses, CanFold, HasFolded}
 use Rattle.si_form.specs.Ordering.{list_of, uses_at, list_or_none, IsListed, HasNoCircle, AreOrdered}
-use Rattle.si_form.specs.Unifying.{IsApplication, Stays, ImagesStay, right_side, IsToBind, IsRightSide, AreRightSides, bindings_of, IsGeneral, HasGeneral, HasApplication, AreFound, HasRightSide, HaveRightSides, slots_among, AreUses, Lists}
+use Rattle.si_form.specs.Unifying.{IsApplication, Stays, ImagesStay, right_side, IsToBind, IsRightSide, AreRightSides, bindings_of, IsGeneral, HasGeneral, HasApplication, AreFound, HasRightSide, HaveRightSides, slots_among, AreUses, AreListed, Lists}
+use Rattle.si_form.specs.declared.solution.Binding.{Binding}
+use Rattle.si_form.specs.Answers.{StandsForPair, StandsForList}
+use Rattle.si_flat.specs.Flattening.{owners_variable}
+use Rattle.std.proofs.Math.Seq.{take-suc}
 use Rattle.si_form.proofs.CanonicalLaws.{all_at, all_from, all_front, all_back, all_append, among_parts}
 use Rattle.si_form.proofs.NodeLaws.{slot_again, same_some, get_inside, get_some}
-use Rattle.si_form.proofs.FoldingLaws.{at_default}
+use Rattle.si_form.proofs.UsesLaws.{get_or_front, get_or_last}
+use Rattle.si_form.proofs.FoldingLaws.{at_default, read_at}
 use Rattle.si_form.proofs.OrderedLaws.{HasUses}
 use Rattle.si_form.proofs.RightSides.{led, none_led, none_longer, IsRight, right_is, right_of_follower, right_of_leader, LeadsItself}
 
@@ -181,15 +186,15 @@ module _ {A B : Type 0} (slots : Slots) (f : Variable → Term) (rights : List (
     }
 
     -- ---- no circle: a leader has twice the size of its image, a follower one more
-    follower_weight : Bool → ℕ
+    abbrev follower_weight : Bool → ℕ
     follower_weight true = 0
     follower_weight false = 1
 
-    leads_itself_weight : ℕ → Option ℕ → ℕ
+    abbrev leads_itself_weight : ℕ → Option ℕ → ℕ
     leads_itself_weight k None = 1
     leads_itself_weight k (Some w) = follower_weight (w == k)
 
-    weight : ℕ → ℕ
+    abbrev weight : ℕ → ℕ
     weight k = 2 * terms.size (f (variable_of slots k)) + leads_itself_weight k (leader slots f (f (variable_of slots k)))
 
     leader_weight : (k : ℕ) → leader slots f (f (variable_of slots k)) ≡ Some k → weight k ≡ 2 * terms.size (f (variable_of slots k))
@@ -232,3 +237,84 @@ module _ {A B : Type 0} (slots : Slots) (f : Variable → Term) (rights : List (
       rank = weight;
       falls = λ k. of_uses (λ j. weight j < weight k) k (λ l j a. falls_at k l j a);
     }
+
+-- ---- one list of uses more
+pub uses_more : {A B : Type 0} (slots : Slots) (rights : List (Option (Vec Cell A))) (lists new : List (Option (Vec ℕ B))) (used : Option (Vec ℕ B)) (k : ℕ) → length lists ≡ k → AreUses slots rights lists → new ≡ lists ++ used ∷ [] → list_of used ≡ slots_among slots (list_of (get_or rights k None)) → AreUses slots rights new
+uses_more slots rights lists new used k long h is last = subst (AreUses slots rights) (sym is) both
+  where
+    both : AreUses slots rights (lists ++ used ∷ [])
+    both j less =
+        elim (eqb_tells j k) [
+          | inl e ↦ ap list_of (ap (λ n. get_or (lists ++ used ∷ []) n None) (e.1 ∙ sym long) ∙ get_or_last lists used None) ∙ last ∙ ap (λ i. slots_among slots (list_of (get_or rights i None))) (sym e.1)
+          | inr e ↦
+              let before : j < length lists = omega (arith, e.1, less, long, length-append lists (used ∷ [])) in
+              ap list_of (get_or_front lists (used ∷ []) j None before) ∙ h j before
+        ]
+
+-- ---- bindings in order
+bindings_parts : (slots : Slots) (right : ℕ → Term) (xs ys : List ℕ) → bindings_of slots right (xs ++ ys) ≡ bindings_of slots right xs ++ bindings_of slots right ys
+bindings_parts slots right [] ys = refl
+bindings_parts slots right (x ∷ xs) ys = ap (λ l. (variable_of slots x, right x) ∷ l) (bindings_parts slots right xs ys)
+
+stands_more : (bs : List Binding) (pairs : List (Variable × Term)) (b : Binding) (pair : Variable × Term) → StandsForList bs pairs → StandsForPair b pair → StandsForList (bs ++ b ∷ []) (pairs ++ pair ∷ [])
+stands_more [] [] b pair h k = (k, tt)
+stands_more [] (p ∷ pairs) b pair h k = elim h [ ]
+stands_more (a ∷ bs) [] b pair h k = elim h [ ]
+stands_more (a ∷ bs) (p ∷ pairs) b pair h k = (h.0, stands_more bs pairs b pair h.1 k)
+
+pub all_get : {X : Type 0} (P : X → Type 0) (xs : List X) (i : ℕ) (d : X) → AllByRecursion P xs → i < length xs → P (get_or xs i d)
+all_get P [] i d h less = absurd (omega (arith, less))
+all_get P (x ∷ xs) zero d h less = h.0
+all_get P (x ∷ xs) (suc i) d h less = all_get P xs i d h.1 (omega (arith, less))
+
+take_more : (xs : List ℕ) (i d : ℕ) → i < length xs → take (i + 1) xs ≡ take i xs ++ get_or xs i d ∷ []
+take_more xs i d less = (let n : i + 1 ≡ suc i = omega arith in ap (λ m. take m xs) n) ∙ take-suc xs i d less
+
+module _ {A : Type 0} (slots : Slots) (rights : List (Option (Vec Cell A))) (ks : List ℕ) where
+  pub lists_begin : Lists slots rights (take 0 ks) []
+  lists_begin = subst (λ l. Lists slots rights l []) (sym (take_none ks)) (λ f sides binds. tt)
+    where
+      take_none : (xs : List ℕ) → take 0 xs ≡ []
+      take_none [] = refl
+      take_none (x ∷ xs) = refl
+
+  module _ (i k : ℕ) (bs : List Binding) (less : i < length ks) (is : k ≡ get_or ks i 0) (h : Lists slots rights (take i ks) bs) where
+    taken : take (i + 1) ks ≡ take i ks ++ k ∷ []
+    taken = take_more ks i 0 less ∙ ap (λ j. take i ks ++ j ∷ []) (sym is)
+
+    front_binds : (f : Variable → Term) → AllByRecursion (IsToBind slots f) (take (i + 1) ks) → AllByRecursion (IsToBind slots f) (take i ks)
+    front_binds f binds = all_front (IsToBind slots f) (take i ks) (k ∷ []) (subst (AllByRecursion (IsToBind slots f)) taken binds)
+
+    pub lists_skip : k < length rights → list_of (get_or rights k None) ≡ None → Lists slots rights (take (i + 1) ks) bs
+    lists_skip inside none f sides binds =
+        let last = all_back (IsToBind slots f) (take i ks) (k ∷ []) (subst (AllByRecursion (IsToBind slots f)) taken binds) in
+        absurd (subst (IsRightSide slots f k) none (sides k inside) last.0)
+
+    pub lists_more : (cells : List Cell) (b : Binding) (new : List Binding) → k < length rights → list_of (get_or rights k None) ≡ Some cells → variable_of slots k ≡ owners_variable b.owner b.slot → b.value ≡ cells → new ≡ bs ++ b ∷ [] → Lists slots rights (take (i + 1) ks) new
+    lists_more cells b new inside some left value_is is' f sides binds =
+        let side = subst (IsRightSide slots f k) some (sides k inside) in
+        let pair : StandsForPair b (variable_of slots k, right_side slots f k) = record { left = left; right = subst (λ l. StandsFor l (right_side slots f k)) (sym value_is) side.1 } in
+        subst (λ l. StandsForList l (bindings_of slots (right_side slots f) (take (i + 1) ks))) (sym is')
+        (
+        subst (StandsForList (bs ++ b ∷ [])) (sym (ap (bindings_of slots (right_side slots f)) taken ∙ bindings_parts slots (right_side slots f) (take i ks) (k ∷ [])))
+        (stands_more bs (bindings_of slots (right_side slots f) (take i ks)) b (variable_of slots k, right_side slots f k) (h f sides (front_binds f binds)) pair)
+        )
+
+  pub listed_at : (i k : ℕ) → i < length ks → k ≡ get_or ks i 0 → length rights ≡ slot_count slots → AreListed slots rights ks → k < length rights
+  listed_at i k less is long h = let b = all_get (IsToBind slots h.0) ks i 0 h.2 less in omega (arith, b.0, is, long)
+
+  pub whole_at : (k : ℕ) (cells : List Cell) → k < length rights → list_of (get_or rights k None) ≡ Some cells → AreListed slots rights ks → IsWhole cells
+  whole_at k cells less some h = let side = subst (IsRightSide slots h.0 k) some (h.1 k less) in (right_side slots h.0 k, side.1)
+
+  -- what was read is what stands at the place
+  pub right_at : (k : ℕ) (o : Option (Vec Cell A)) → k < length rights → o ≡ get_or rights k o → list_of (get_or rights k None) ≡ list_of o
+  right_at k o less is = ap list_of (at_default rights k None o (read_at rights k o less is))
+
+  pub lists_end : (i : ℕ) (bs : List Binding) → length ks ≤ i → Lists slots rights (take i ks) bs → Lists slots rights ks bs
+  lists_end i bs full h = subst (λ l. Lists slots rights l bs) (take_full ks i full) h
+    where
+      take_full : (xs : List ℕ) (n : ℕ) → length xs ≤ n → take n xs ≡ xs
+      take_full [] zero less = refl
+      take_full [] (suc n) less = refl
+      take_full (x ∷ xs) zero less = absurd (omega (arith, less))
+      take_full (x ∷ xs) (suc n) less = ap (λ l. x ∷ l) (take_full xs n (omega (arith, less)))

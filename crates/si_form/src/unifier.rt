@@ -133,10 +133,10 @@ fn uses_of_sides(
 }
 
 // The binding of the variable of a slot.
-fn binding(slots: &Slots, slot: usize, value: Flat) -> Binding
-    requires none { slots.now.inds ≡ 0 }
-    requires inside { slot < slot_count slots.now }
-    ensures left { variable_of slots.now slot ≡ owners_variable result.owner result.slot }
+fn binding(slots: Slots, slot: usize, value: Flat) -> Binding
+    requires none { slots.inds ≡ 0 }
+    requires inside { slot < slot_count slots }
+    ensures left { variable_of slots slot ≡ owners_variable result.owner result.slot }
     ensures right { result.value ≡ value }
 {
     let queries = slots.query as usize;
@@ -172,7 +172,7 @@ fn list(
             continue;
         };
         let value = Flat::from_cells(alloc, cells)?;
-        solution.push(binding(slots, slot, value))?;
+        solution.push(binding(*slots, slot, value))?;
     }
     Ok(solution)
 }

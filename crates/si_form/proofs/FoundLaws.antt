@@ -11,8 +11,8 @@ use Rattle.si_unify.specs.declared.slots.Slots.{Slots}
 use Rattle.si_unify.specs.Solving.{Pairs, slot_count, variable_of}
 use Rattle.si_form.specs.declared.classes.Node.{Node}
 use Rattle.si_form.specs.Classes.{AreNodes, KnowsSlot, HasClasses}
-use Rattle.si_form.specs.Folding.{leader, variable_or, folded, folded_all, AreClasses, AreLeaders, HasTerms, CanFold, HasFolded}
-use Rattle.si_form.specs.Unifying.{IsApplication, Stays, right_side, IsToBind, IsRightSide, IsGeneral, HasApplication, AreFound, IsBoundTo, HasRightSide, HaveRightSides}
+use Rattle.si_form.specs.Folding.{leader, variable_or, folded, folded_all, AreClasses, AreLeaders, LeadClasses, AreSizes, HasTerms, CanFold, HasFolded}
+use Rattle.si_form.specs.Unifying.{IsApplication, Stays, right_side, IsToBind, IsRightSide, IsGeneral, HasGeneral, HasApplication, AreFound, IsBoundTo, HasRightSide, HaveRightSides}
 use Rattle.si_form.specs.Ordering.{list_of}
 use Rattle.si_form.proofs.UsesLaws.{get_or_front, get_or_last}
 use Rattle.si_form.proofs.CanonicalLaws.{all_from, all_at}
@@ -176,3 +176,11 @@ sides_more slots pairs rights new right k long h is side = subst (HaveRightSides
               let before : j < length rights = omega (arith, e.1, less, long, length-append rights (right ∷ [])) in
               subst (λ o. IsRightSide slots f j (list_of o)) (sym (get_or_front rights (right ∷ []) j None before)) (h f general j before)
         ]
+
+pub found_of : (slots : Slots) (pairs : Pairs) (nodes : List Node) (classes : List ℕ) (leaders : List (Option ℕ)) (sizes : List ℕ) → HasGeneral slots pairs → HasClasses slots pairs nodes classes → LeadClasses slots nodes classes (length classes) leaders → AreSizes nodes leaders (length nodes) sizes → AreFound slots pairs nodes classes leaders sizes
+found_of slots pairs nodes classes leaders sizes some h leads sized = record {
+  some = some;
+  classes_are = h;
+  led = λ f known are. subst (λ k. AreLeaders slots f k known leaders) h.long (leads f known are);
+  sized = sized;
+}

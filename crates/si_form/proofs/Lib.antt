@@ -35,3 +35,4 @@ pub mod VariableCounts
 pub mod UnifierThere
 pub mod DownLaws
 pub mod FoundLaws
+pub mod SolvedLaws

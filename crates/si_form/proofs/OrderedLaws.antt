@@ -12,7 +12,7 @@ use Rattle.si_form.proofs.CanonicalLaws.{all_at, all_from, among_parts}
 use Rattle.si_form.proofs.FoldedLaws.{among_front, among_back}
 use Rattle.si_form.proofs.NodeLaws.{slot_again}
 use Rattle.si_form.specs.Ordering.{list_or_none, IsListed, AreFirstUnused}
-use Rattle.si_form.specs.Unifying.{bindings_of}
+use Rattle.si_form.specs.Unifying.{HasUses, bindings_of}
 
 -- ---- the variables of the first slots
 abbrev pub variables_of_slots : Slots → ℕ → ℕ → List Variable
@@ -57,11 +57,6 @@ module _ (used : ℕ → Option (List ℕ)) where
   listed_all before (k ∷ ks) h = (h.0.is_open.listed, listed_all (before ++ k ∷ []) ks h.1)
 
   module _ (slots : Slots) (right : ℕ → Term) where
-    -- the variables of a right side are those of the slots that are used
-    pub record HasUses (k : ℕ) : Type 0 where
-      pub uses : (x : Variable) → IsAmong (terms.variables (right k)) x → IsAmong (list_or_none (used k)) (slot_of slots x)
-      pub used_in : (j : ℕ) → IsAmong (list_or_none (used k)) j → IsAmong (terms.variables (right k)) (variable_of slots j)
-
     left_slot : (ks : List ℕ) (x : Variable) → IsAmong (lefts (bindings_of slots right ks)) x → (k : ℕ) × IsAmong ks k × (variable_of slots k ≡ x)
     left_slot [] x a = elim a [ ]
     left_slot (k ∷ ks) x a = elim a [ inl e ↦ (k, inl refl, e) | inr b ↦ (let r = left_slot ks x b in (r.0, inr r.1, r.2)) ]
@@ -85,7 +80,7 @@ module _ (used : ℕ → Option (List ℕ)) where
     abbrev IsUnused : List ℕ → ℕ → Type 0
     IsUnused ks j = (i : ℕ) → IsAmong ks i → IsAmong (list_or_none (used i)) j → ⊥
 
-    clear : (ks : List ℕ) (j : ℕ) → ((k : ℕ) → IsAmong ks k → HasUses k) → IsUnused ks j → AllByRecursion (λ t. IsAmong (terms.variables t) (variable_of slots j) → ⊥) (rights (bindings_of slots right ks))
+    clear : (ks : List ℕ) (j : ℕ) → ((k : ℕ) → IsAmong ks k → HasUses used slots right k) → IsUnused ks j → AllByRecursion (λ t. IsAmong (terms.variables t) (variable_of slots j) → ⊥) (rights (bindings_of slots right ks))
     clear ks j has unused =
         all_from (λ t. IsAmong (terms.variables t) (variable_of slots j) → ⊥) (rights (bindings_of slots right ks))
         (λ t a v.
@@ -94,11 +89,11 @@ module _ (used : ℕ → Option (List ℕ)) where
         (subst (IsAmong (list_or_none (used r.0))) (slot_again slots j)
         ((has r.0 r.1).uses (variable_of slots j) (subst (λ u. IsAmong (terms.variables u) (variable_of slots j)) (sym r.2) v))))
 
-    of_clear : (ks : List ℕ) (j : ℕ) → ((k : ℕ) → IsAmong ks k → HasUses k) → AllByRecursion (λ t. IsAmong (terms.variables t) (variable_of slots j) → ⊥) (rights (bindings_of slots right ks)) → IsUnused ks j
+    of_clear : (ks : List ℕ) (j : ℕ) → ((k : ℕ) → IsAmong ks k → HasUses used slots right k) → AllByRecursion (λ t. IsAmong (terms.variables t) (variable_of slots j) → ⊥) (rights (bindings_of slots right ks)) → IsUnused ks j
     of_clear ks j has h i a u = all_at (λ t. IsAmong (terms.variables t) (variable_of slots j) → ⊥) (rights (bindings_of slots right ks)) (right i) h (right_of ks i a) ((has i a).used_in j u)
 
-    module _ (q e : Term) (n : ℕ) (order_is : order same_variable q e ≡ variables_of_slots slots 0 n) (inside : (k : ℕ) → IsListed used k → k < n) (has : (k : ℕ) → IsListed used k → HasUses k) where
-      has_all : (before ks : List ℕ) → AreFirstUnused used before ks → (k : ℕ) → IsAmong ks k → HasUses k
+    module _ (q e : Term) (n : ℕ) (order_is : order same_variable q e ≡ variables_of_slots slots 0 n) (inside : (k : ℕ) → IsListed used k → k < n) (has : (k : ℕ) → IsListed used k → HasUses used slots right k) where
+      has_all : (before ks : List ℕ) → AreFirstUnused used before ks → (k : ℕ) → IsAmong ks k → HasUses used slots right k
       has_all before ks h k a = has k (all_at (IsListed used) ks k (listed_all before ks h) a)
 
       -- none of those from the place on uses the slot at the place

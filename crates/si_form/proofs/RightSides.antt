@@ -12,14 +12,14 @@ use Rattle.si_unify.specs.declared.slots.Slots.{Slots}
 use Rattle.si_unify.specs.Solving.{slot_count, variable_of}
 use Rattle.si_form.specs.Folding.{same_terms, or_slot, leader_below, leader, variable_or, folded, folded_all}
 use Rattle.si_form.specs.Ordering.{IsListed, AreOrdered}
-use Rattle.si_form.specs.Unifying.{Stays, IsApplication, ImagesStay, right_by, right_side, IsToBind, bindings_of}
+use Rattle.si_form.specs.Unifying.{Stays, IsApplication, ImagesStay, right_by, right_side, IsToBind, HasUses, bindings_of}
 use Rattle.si_form.proofs.VariableLaws.{same_tells, same_itself}
 use Rattle.si_form.proofs.CanonicalLaws.{all_at, all_from, all_front, all_back, all_append}
 use Rattle.si_form.proofs.UnifierLaws.{first_unique}
 use Rattle.si_form.proofs.FoldedLaws.{Leads, IsFoldedBy, AreFoldedBy, IsFoldedInsideBy, IsFree, IsFoldedList}
 use Rattle.si_form.proofs.NodeLaws.{same_some}
 use Rattle.si_form.proofs.FoldingLaws.{terms_tell, terms_itself}
-use Rattle.si_form.proofs.OrderedLaws.{variables_of_slots, parts_at, HasUses, left_of, listed_all, triangular_of, ordered_of}
+use Rattle.si_form.proofs.OrderedLaws.{variables_of_slots, parts_at, left_of, listed_all, triangular_of, ordered_of}
 
 module _ (slots : Slots) (f : Variable → Term) where
   -- ---- leaders

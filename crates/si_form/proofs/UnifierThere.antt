@@ -18,7 +18,8 @@ use Rattle.si_unify.specs.Spots.{cell_slot}
 use Rattle.si_form.specs.Classes.{slots_of, AreNodes, KnowsSlot, HasClasses}
 use Rattle.si_form.specs.Folding.{leader, variable_or, folded, folded_all, AreClasses, CanFold, HasFolded}
 use Rattle.si_form.specs.Ordering.{list_of, uses_at, list_or_none, IsListed, HasNoCircle, AreOrdered}
-use Rattle.si_form.specs.Unifying.{IsApplication, Stays, ImagesStay, right_side, IsToBind, IsRightSide, AreRightSides, bindings_of, IsGeneral, HasGeneral, HasApplication, AreFound, HasRightSide, HaveRightSides, slots_among, AreUses, AreListed, Lists}
+use Rattle.si_form.specs.Unifying.{IsApplication, Stays, ImagesStay, right_side, IsToBind, IsRightSide, AreRightSides, bindings_of, IsGeneral, HasGeneral, HasApplication, AreFound, HasRightSide, HaveRightSides, slots_among, AreUses, AreListed, Lists, HasUses, IsWholeList}
+use Rattle.si_form.proofs.OrderedLaws.{listed_all}
 use Rattle.si_form.specs.declared.solution.Binding.{Binding}
 use Rattle.si_form.specs.Answers.{StandsForPair, StandsForList}
 use Rattle.si_flat.specs.Flattening.{owners_variable}
@@ -27,7 +28,6 @@ use Rattle.si_form.proofs.CanonicalLaws.{all_at, all_from, all_front, all_back, 
 use Rattle.si_form.proofs.NodeLaws.{slot_again, same_some, get_inside, get_some}
 use Rattle.si_form.proofs.UsesLaws.{get_or_front, get_or_last}
 use Rattle.si_form.proofs.FoldingLaws.{at_default, read_at}
-use Rattle.si_form.proofs.OrderedLaws.{HasUses}
 use Rattle.si_form.proofs.RightSides.{led, none_led, none_longer, IsRight, right_is, right_of_follower, right_of_leader, LeadsItself}
 
 -- ---- what is to be bound
@@ -318,3 +318,23 @@ module _ {A : Type 0} (slots : Slots) (rights : List (Option (Vec Cell A))) (ks 
       take_full [] (suc n) less = refl
       take_full (x ∷ xs) zero less = absurd (omega (arith, less))
       take_full (x ∷ xs) (suc n) less = ap (λ l. x ∷ l) (take_full xs n (omega (arith, less)))
+
+-- ---- the whole list
+module _ {A B : Type 0} (slots : Slots) (rights : List (Option (Vec Cell A))) (lists : List (Option (Vec ℕ B))) (long : length rights ≡ slot_count slots) (as_long : length lists ≡ length rights) (uses : AreUses slots rights lists) where
+  all_bound : (f : Variable → Term) → AreRightSides slots f rights → (ks : List ℕ) → AreOrdered (uses_at lists) ks → AllByRecursion (IsToBind slots f) ks
+  all_bound f sides ks ordered =
+      all_from (IsToBind slots f) ks (λ k a. to_bind_of slots f rights lists long as_long uses sides k (all_at (IsListed (uses_at lists)) ks k (listed_all (uses_at lists) [] ks ordered.next) a))
+
+  pub all_listed : (f : Variable → Term) → AreRightSides slots f rights → (ks : List ℕ) → AreOrdered (uses_at lists) ks → AreListed slots rights ks
+  all_listed f sides ks ordered = (f, sides, all_bound f sides ks ordered)
+
+  pub whole_of : (f : Variable → Term) → AreRightSides slots f rights → ImagesStay slots f → (ks : List ℕ) (bindings : List Binding) → AreOrdered (uses_at lists) ks → Lists slots rights ks bindings → IsWholeList slots f bindings
+  whole_of f sides stays ks bindings ordered h = record {
+    used = λ k. uses_at lists k;
+    ks = ks;
+    ordered = ordered;
+    to_bind = λ k l. to_bind_of slots f rights lists long as_long uses sides k l;
+    of_bind = λ k b. listed_of slots f rights lists long as_long uses sides k b;
+    has = λ k l. has_uses slots f rights lists long as_long uses sides stays k l;
+    stands = h f sides (all_bound f sides ks ordered);
+  }

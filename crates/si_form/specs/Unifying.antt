@@ -1,19 +1,20 @@
 -- What stands in the canonical list of two terms that can be unified.
-use Rattle.std.specs.Prelude.{◌≡◌, ◌≢◌, ℕ, ◌^◌, ◌<◌, ◌⊎◌, ◌==◌, if◌then◌else◌, List, [], ◌∷◌, length, slice_index_or, Option, None, Some, Vec}
+use Rattle.std.specs.Prelude.{false, ◌≡◌, ◌≢◌, ℕ, ◌^◌, ◌<◌, ◌⊎◌, ◌==◌, if◌then◌else◌, List, [], ◌∷◌, length, slice_index_or, Option, None, Some, Vec}
 use Rattle.std.specs.List.{AllByRecursion}
 use Rattle.si_defs.specs.Substitutions.{IsAmong}
 use Rattle.si_defs.specs.Terms as terms
 use Rattle.si_flat.specs.declared.Cell.{Cell}
 use Rattle.si_flat.specs.Cells.{Symbol, Variable, same_variable, Term, Terms, IsSound, StandsFor}
 use Rattle.si_flat.specs.declared.Owner.{Owner}
+use Rattle.si_flat.specs.declared.Owner.TheVariants.{Query, Entry}
 use Rattle.si_unify.specs.declared.slots.Slots.{Slots}
-use Rattle.si_unify.specs.Solving.{Pairs, slot_count, variable_of, IsSolvedBy}
+use Rattle.si_unify.specs.Solving.{Pairs, slot_count, slot_of, variable_of, IsSolvedBy}
 use Rattle.si_form.specs.declared.classes.Node.{Node}
 use Rattle.si_form.specs.declared.solution.Binding.{Binding}
 use Rattle.si_form.specs.Answers.{variables_from, StandsForList}
 use Rattle.si_form.specs.Classes.{slots_of, LeavesUnbound, HasClasses}
 use Rattle.si_form.specs.Folding.{leader, folded, AreClasses, AreLeaders, AreSizes}
-use Rattle.si_form.specs.Ordering.{list_of, uses_at}
+use Rattle.si_form.specs.Ordering.{list_of, uses_at, list_or_none, IsListed, AreOrdered}
 
 -- the variables of the cells' term are so many of the owner's
 abbrev pub HasVariables : Owner → List Cell → ℕ → Type 0
@@ -113,3 +114,33 @@ AreListed slots rights ks = (f : Variable → Term) × AreRightSides slots f rig
 abbrev pub Lists : {A : Type 0} → Slots → List (Option (Vec Cell A)) → List ℕ → List Binding → Type 0
 Lists slots rights ks bindings =
     (f : Variable → Term) → AreRightSides slots f rights → AllByRecursion (IsToBind slots f) ks → StandsForList bindings (bindings_of slots (right_side slots f) ks)
+
+-- the variables of a right side are those of the slots that are used
+pub record HasUses (used : ℕ → Option (List ℕ)) (slots : Slots) (right : ℕ → Term) (k : ℕ) : Type 0 where
+  pub uses : (x : Variable) → IsAmong (terms.variables (right k)) x → IsAmong (list_or_none (used k)) (slot_of slots x)
+  pub used_in : (j : ℕ) → IsAmong (list_or_none (used k)) j → IsAmong (terms.variables (right k)) (variable_of slots j)
+
+-- the bindings are those of all slots that are to be bound, ordered by what their right sides use
+pub record IsWholeList (slots : Slots) (f : Variable → Term) (bindings : List Binding) : Type 0 where
+  pub used : ℕ → Option (List ℕ)
+  pub ks : List ℕ
+  pub ordered : AreOrdered used ks
+  pub to_bind : (k : ℕ) → IsListed used k → IsToBind slots f k
+  pub of_bind : (k : ℕ) → IsToBind slots f k → IsListed used k
+  pub has : (k : ℕ) → IsListed used k → HasUses used slots (right_side slots f) k
+  pub stands : StandsForList bindings (bindings_of slots (right_side slots f) ks)
+
+abbrev pub ListsAll : Slots → Pairs → List Binding → Type 0
+ListsAll slots pairs bindings = (f : Variable → Term) → IsGeneral slots pairs f → IsWholeList slots f bindings
+
+-- ---- the slots of a query and an entry
+-- all variables may be bound, and there are no others
+pub record AreFree (slots : Slots) : Type 0 where
+  pub none : slots.inds ≡ 0
+  pub query : slots.freeze_query ≡ false
+  pub entry : slots.freeze_entry ≡ false
+
+pub record AreSlotsOf (query_cells entry_cells : List Cell) (slots : Slots) : Type 0 where
+  pub free : AreFree slots
+  pub query : HasVariables Query query_cells slots.query
+  pub entry : HasVariables Entry entry_cells slots.entry

@@ -8,7 +8,7 @@ ghost use Rattle.si_trail.specs.Trails.{HasDistinctSlots};
 ghost use Rattle.si_unify.specs.Solving.{slot_count, variable_of, IsAcyclic, IsBinding};
 ghost use Rattle.si_form.specs.Answers.{AreNumbered, Answers};
 ghost use Rattle.si_form.specs.Ordering.{list_of};
-ghost use Rattle.si_form.specs.Unifying.{IsBoundTo, AreFound, HasGeneral, HasRightSide, HaveRightSides, AreUses, slots_among, AreListed, Lists};
+ghost use Rattle.si_form.specs.Unifying.{IsBoundTo, AreFound, HasGeneral, HasRightSide, HaveRightSides, AreUses, slots_among, AreListed, Lists, ListsAll, AreFree, AreSlotsOf};
 
 use crate::classes::{Classes, find_classes};
 use crate::folding::{fold, leader_of, sizes, variable};
@@ -82,18 +82,20 @@ fn right_sides<'a>(
     slots: &Slots,
     trail: &Trail<&'a [Cell]>,
 ) -> Result<Vec<Option<Vec<Cell>>>, AllocError>
-    requires none { slots.now.inds ≡ 0 }
+    requires free { AreFree slots.now }
+    requires room { trail.now.slots ≡ slot_count slots.now }
     requires bindings { AllByRecursion (IsBinding slots.now) trail.now.pairs }
     requires triangular { IsAcyclic slots.now trail.now.pairs }
-    requires some { HasGeneral slots.now trail.now.pairs }
+    ensures distinct { HasDistinctSlots trail.now.pairs }
     ensures long { IfOk result (λ rights. length rights.items ≡ slot_count slots.now) }
     ensures rights { IfOk result (λ rights. HaveRightSides slots.now trail.now.pairs rights.items) }
 {
+    let count = trail.slots();
     let classes = find_classes(alloc, slots, trail)?;
     let leaders = leaders(alloc, &classes)?;
     let sizes = sizes(alloc, &classes.nodes, &leaders)?;
     let mut rights = Vec::new(alloc);
-    for slot in 0..slots.count() {
+    for slot in 0..count {
         let right = right_side(alloc, slots, trail, &classes, &leaders, &sizes, slot)?;
         rights.push(right)?;
     }
@@ -175,4 +177,53 @@ fn list(
         solution.push(binding(*slots, slot, value))?;
     }
     Ok(solution)
+}
+
+// The canonical list of the bindings that make two terms equal.
+fn whole_list<'a>(
+    alloc: Global,
+    slots: &Slots,
+    trail: &Trail<&'a [Cell]>,
+) -> Result<Solution, AllocError>
+    requires free { AreFree slots.now }
+    requires room { trail.now.slots ≡ slot_count slots.now }
+    requires bindings { AllByRecursion (IsBinding slots.now) trail.now.pairs }
+    requires triangular { IsAcyclic slots.now trail.now.pairs }
+    ensures distinct { HasDistinctSlots trail.now.pairs }
+    ensures all { IfOk result (ListsAll slots.now trail.now.pairs) }
+{
+    let rights = right_sides(alloc, slots, trail)?;
+    let lists = uses_of_sides(alloc, slots, &rights)?;
+    let order = order(alloc, &lists)?;
+    list(alloc, slots, &rights, &order)
+}
+
+// The slots of the variables of a query and an entry, all of which may be bound.
+fn slots_for(query: &Flat, entry: &Flat) -> Slots
+    requires query { AreNumbered OfQuery query.now }
+    requires entry { AreNumbered OfEntry entry.now }
+    ensures { AreSlotsOf query.now entry.now result }
+{
+    Slots {
+        query: count_variables(Owner::Query, query.cells()),
+        entry: count_variables(Owner::Entry, entry.cells()),
+        inds: 0,
+        freeze_query: false,
+        freeze_entry: false,
+    }
+}
+
+/// The canonical list that makes the query and the entry equal; `None` where nothing does.
+pub fn unifier(alloc: Global, query: &Flat, entry: &Flat) -> Result<Option<Solution>, AllocError>
+    requires query { AreNumbered OfQuery query.now }
+    requires entry { AreNumbered OfEntry entry.now }
+    ensures { IfOk result (Answers Unifiable query.now entry.now) }
+{
+    let slots = slots_for(query, entry);
+    let mut trail = Trail::with_slots(alloc, slots.count())?;
+    if !solve(alloc, &mut trail, &slots, query.cells(), entry.cells())? {
+        return Ok(None);
+    }
+    let solution = whole_list(alloc, &slots, &trail)?;
+    Ok(Some(solution))
 }

@@ -1,0 +1,105 @@
+// The canonical solution list of each kind of matching.
+ghost use Rattle.std.specs.Prelude.{◌≡◌, IfOk, map};
+ghost use Rattle.si_flat.specs.Cells.{IsWhole};
+ghost use Rattle.si_defs.specs.declared.Relation.TheVariants.{Variants, Instances, Generalizations};
+ghost use Rattle.si_flat.specs.declared.Owner.TheVariants.{Query, Entry};
+ghost use Rattle.si_form.specs.Answers.{AreNumbered, Answers};
+ghost use Rattle.si_form.specs.Matching.{binding_of, AreWholeImages, MatchAnswers};
+
+use crate::matching::{Image, matches};
+use crate::solution::{Binding, Solution};
+use crate::unifying::unifier;
+use si_defs::Relation;
+use si_flat::{Cell, Flat, Owner};
+use std::alloc::{AllocError, Global};
+
+// The bindings of variables to copies of what they stand for.
+fn bindings<'a>(alloc: Global, owner: Owner, images: &[Image<'a>]) -> Result<Solution, AllocError>
+    requires { AreWholeImages images.now }
+    ensures { IfOk result (λ list. list ≡ map (binding_of owner) images.now) }
+{
+    let mut solution = Solution::new(alloc);
+    for image in images {
+        let value = Flat::from_cells(alloc, image.value)?;
+        solution.push(Binding {
+            owner,
+            slot: image.number,
+            value,
+        })?;
+    }
+    Ok(solution)
+}
+
+// Whether the pattern matches the target, and how.
+fn matched(
+    alloc: Global,
+    owner: Owner,
+    pattern: &[Cell],
+    target: &[Cell],
+) -> Result<Option<Solution>, AllocError>
+    requires pattern { IsWhole pattern.now }
+    requires target { IsWhole target.now }
+    requires numbered { AreNumbered owner pattern.now }
+    ensures { IfOk result (MatchAnswers owner pattern.now target.now) }
+{
+    let mut images = Vec::new(alloc);
+    if !matches(owner, pattern, target, &mut images)? {
+        return Ok(None);
+    }
+    let solution = bindings(alloc, owner, &images)?;
+    Ok(Some(solution))
+}
+
+/// The canonical list by which the entry is an instance of the query; `None` where it is none.
+pub fn instance(alloc: Global, query: &Flat, entry: &Flat) -> Result<Option<Solution>, AllocError>
+    requires query { AreNumbered Query query.now }
+    requires entry { AreNumbered Entry entry.now }
+    ensures { IfOk result (Answers Instances query.now entry.now) }
+{
+    matched(alloc, Owner::Query, query.cells(), entry.cells())
+}
+
+/// The canonical list by which the query is an instance of the entry; `None` where it is none.
+pub fn generalization(
+    alloc: Global,
+    query: &Flat,
+    entry: &Flat,
+) -> Result<Option<Solution>, AllocError>
+    requires query { AreNumbered Query query.now }
+    requires entry { AreNumbered Entry entry.now }
+    ensures { IfOk result (Answers Generalizations query.now entry.now) }
+{
+    matched(alloc, Owner::Entry, entry.cells(), query.cells())
+}
+
+/// The canonical list by which each is an instance of the other; `None` where one isn't.
+pub fn variant(alloc: Global, query: &Flat, entry: &Flat) -> Result<Option<Solution>, AllocError>
+    requires query { AreNumbered Query query.now }
+    requires entry { AreNumbered Entry entry.now }
+    ensures { IfOk result (Answers Variants query.now entry.now) }
+{
+    let mut images = Vec::new(alloc);
+    if !matches(Owner::Entry, entry.cells(), query.cells(), &mut images)? {
+        return Ok(None);
+    }
+    matched(alloc, Owner::Query, query.cells(), entry.cells())
+}
+
+/// The canonical list of a relation; `None` where the query and the entry don't stand in it.
+pub fn canonical(
+    alloc: Global,
+    kind: Relation,
+    query: &Flat,
+    entry: &Flat,
+) -> Result<Option<Solution>, AllocError>
+    requires query { AreNumbered Query query.now }
+    requires entry { AreNumbered Entry entry.now }
+    ensures { IfOk result (Answers kind query.now entry.now) }
+{
+    match kind {
+        Relation::Variants => variant(alloc, query, entry),
+        Relation::Instances => instance(alloc, query, entry),
+        Relation::Generalizations => generalization(alloc, query, entry),
+        Relation::Unifiable => unifier(alloc, query, entry),
+    }
+}

@@ -31,3 +31,8 @@ pub mod RightSides
 pub mod OrderOfSlots
 pub mod SizeLaws
 pub mod WritingLaws
+pub mod VariableCounts
+pub mod UnifierThere
+pub mod DownLaws
+pub mod FoundLaws
+pub mod SolvedLaws

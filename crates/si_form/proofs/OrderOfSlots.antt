@@ -14,7 +14,7 @@ use Rattle.si_form.specs.Answers.{owners_variables}
 use Rattle.si_form.proofs.VariableLaws.{same_tells}
 use Rattle.si_form.proofs.CanonicalLaws.{firsts_among}
 use Rattle.si_form.proofs.VariableLaws.{same_itself}
-use Rattle.si_form.proofs.OrderedLaws.{variables_from}
+use Rattle.si_form.proofs.OrderedLaws.{variables_of_slots}
 
 -- ---- first occurrences in two lists that are apart
 kept_all : (x : Variable) (ys : List Variable) → (IsAmong ys x → ⊥) → filter (λ y. not (same_variable x y)) ys ≡ ys
@@ -54,19 +54,19 @@ query_slot slots k less = rw (below k slots.query less) refl
 entry_slot : (slots : Slots) (k : ℕ) → k < slots.entry → solving.variable_of slots (slots.query + k) ≡ entry k
 entry_slot slots k less = rw (not_below (slots.query + k) slots.query (omega arith), below (slots.query + k) (slots.query + slots.entry) (omega (arith, less))) (ap entry (omega arith))
 
-query_slots : (slots : Slots) (k n : ℕ) (rest : ℕ) → k + n ≤ slots.query → variables_from slots k (n + rest) ≡ owners_variables Query k n ++ variables_from slots (k + n) rest
-query_slots slots k zero rest less = (let e : 0 + rest ≡ rest = omega arith in ap (variables_from slots k) e) ∙ (let e : k ≡ k + 0 = omega arith in ap (λ j. variables_from slots j rest) e)
+query_slots : (slots : Slots) (k n : ℕ) (rest : ℕ) → k + n ≤ slots.query → variables_of_slots slots k (n + rest) ≡ owners_variables Query k n ++ variables_of_slots slots (k + n) rest
+query_slots slots k zero rest less = (let e : 0 + rest ≡ rest = omega arith in ap (variables_of_slots slots k) e) ∙ (let e : k ≡ k + 0 = omega arith in ap (λ j. variables_of_slots slots j rest) e)
 query_slots slots k (suc n) rest less =
-    (let e : suc n + rest ≡ suc (n + rest) = omega arith in ap (variables_from slots k) e)
-    ∙ ap (λ x. x ∷ variables_from slots (suc k) (n + rest)) (query_slot slots k (omega (arith, less)))
+    (let e : suc n + rest ≡ suc (n + rest) = omega arith in ap (variables_of_slots slots k) e)
+    ∙ ap (λ x. x ∷ variables_of_slots slots (suc k) (n + rest)) (query_slot slots k (omega (arith, less)))
     ∙ ap (λ l. query k ∷ l) (query_slots slots (suc k) n rest (omega (arith, less)))
-    ∙ (let e : suc k + n ≡ k + suc n = omega arith in ap (λ j. query k ∷ (owners_variables Query (suc k) n ++ variables_from slots j rest)) e)
+    ∙ (let e : suc k + n ≡ k + suc n = omega arith in ap (λ j. query k ∷ (owners_variables Query (suc k) n ++ variables_of_slots slots j rest)) e)
 
-entry_slots : (slots : Slots) (k n : ℕ) → k + n ≤ slots.entry → variables_from slots (slots.query + k) n ≡ owners_variables Entry k n
+entry_slots : (slots : Slots) (k n : ℕ) → k + n ≤ slots.entry → variables_of_slots slots (slots.query + k) n ≡ owners_variables Entry k n
 entry_slots slots k zero less = refl
 entry_slots slots k (suc n) less =
-    ap (λ x. x ∷ variables_from slots (suc (slots.query + k)) n) (entry_slot slots k (omega (arith, less)))
-    ∙ ap (λ l. entry k ∷ l) ((let e : suc (slots.query + k) ≡ slots.query + suc k = omega arith in ap (λ j. variables_from slots j n) e) ∙ entry_slots slots (suc k) n (omega (arith, less)))
+    ap (λ x. x ∷ variables_of_slots slots (suc (slots.query + k)) n) (entry_slot slots k (omega (arith, less)))
+    ∙ ap (λ l. entry k ∷ l) ((let e : suc (slots.query + k) ≡ slots.query + suc k = omega arith in ap (λ j. variables_of_slots slots j n) e) ∙ entry_slots slots (suc k) n (omega (arith, less)))
 
 pub order_of_slots :
     (slots : Slots) (q e : Term)
@@ -74,11 +74,11 @@ pub order_of_slots :
     → terms.firsts same_variable (terms.variables q) ≡ owners_variables Query 0 slots.query
     → terms.firsts same_variable (terms.variables e) ≡ owners_variables Entry 0 slots.entry
     → ((x : Variable) → IsAmong (terms.variables q) x → IsAmong (terms.variables e) x → ⊥)
-    → order same_variable q e ≡ variables_from slots 0 (slot_count slots)
+    → order same_variable q e ≡ variables_of_slots slots 0 (slot_count slots)
 order_of_slots slots q e none of_q of_e apart =
     firsts_parts (terms.variables q) (terms.variables e) apart
     ∙ ap (λ l. l ++ terms.firsts same_variable (terms.variables e)) of_q
     ∙ ap (λ l. owners_variables Query 0 slots.query ++ l) (of_e ∙ sym (entry_slots slots 0 slots.entry (omega arith)))
-    ∙ (let e : slots.query + 0 ≡ 0 + slots.query = omega arith in ap (λ j. owners_variables Query 0 slots.query ++ variables_from slots j slots.entry) e)
+    ∙ (let e : slots.query + 0 ≡ 0 + slots.query = omega arith in ap (λ j. owners_variables Query 0 slots.query ++ variables_of_slots slots j slots.entry) e)
     ∙ sym (query_slots slots 0 slots.query slots.entry (omega arith))
-    ∙ (let e : slots.query + slots.entry ≡ slot_count slots = omega (arith, none) in ap (variables_from slots 0) e)
+    ∙ (let e : slots.query + slots.entry ≡ slot_count slots = omega (arith, none) in ap (variables_of_slots slots 0) e)

@@ -12,25 +12,26 @@ use Rattle.si_form.proofs.CanonicalLaws.{all_at, all_from, among_parts}
 use Rattle.si_form.proofs.FoldedLaws.{among_front, among_back}
 use Rattle.si_form.proofs.NodeLaws.{slot_again}
 use Rattle.si_form.specs.Ordering.{list_or_none, IsListed, AreFirstUnused}
+use Rattle.si_form.specs.Unifying.{HasUses, bindings_of}
 
 -- ---- the variables of the first slots
-abbrev pub variables_from : Slots → ℕ → ℕ → List Variable
-variables_from slots k zero = []
-variables_from slots k (suc n) = variable_of slots k ∷ variables_from slots (suc k) n
+abbrev pub variables_of_slots : Slots → ℕ → ℕ → List Variable
+variables_of_slots slots k zero = []
+variables_of_slots slots k (suc n) = variable_of slots k ∷ variables_of_slots slots (suc k) n
 
 -- the variables before a slot, and those behind it
 pub record Parts (slots : Slots) (k n i : ℕ) : Type 0 where
   pub before : List Variable
   pub after : List Variable
-  pub whole : variables_from slots k n ≡ before ++ variable_of slots i ∷ after
+  pub whole : variables_of_slots slots k n ≡ before ++ variable_of slots i ∷ after
   pub lower : AllByRecursion (λ y. (j : ℕ) × (y ≡ variable_of slots j) × (j < i)) before
 
 pub parts_at : (slots : Slots) (k n d i : ℕ) → i ≡ k + d → d < n → Parts slots k n i
 parts_at slots k zero d i e less = absurd (omega (arith, less))
 parts_at slots k (suc n) zero i e less = record {
   before = [];
-  after = variables_from slots (suc k) n;
-  whole = ap (λ j. variable_of slots j ∷ variables_from slots (suc k) n) (omega (arith, e));
+  after = variables_of_slots slots (suc k) n;
+  whole = ap (λ j. variable_of slots j ∷ variables_of_slots slots (suc k) n) (omega (arith, e));
   lower = tt;
 }
 parts_at slots k (suc n) (suc d) i e less =
@@ -56,29 +57,19 @@ module _ (used : ℕ → Option (List ℕ)) where
   listed_all before (k ∷ ks) h = (h.0.is_open.listed, listed_all (before ++ k ∷ []) ks h.1)
 
   module _ (slots : Slots) (right : ℕ → Term) where
-    -- the variables of a right side are those of the slots that are used
-    pub record HasUses (k : ℕ) : Type 0 where
-      pub uses : (x : Variable) → IsAmong (terms.variables (right k)) x → IsAmong (list_or_none (used k)) (slot_of slots x)
-      pub used_in : (j : ℕ) → IsAmong (list_or_none (used k)) j → IsAmong (terms.variables (right k)) (variable_of slots j)
-
-    -- the bindings of these slots, in order
-    abbrev pub bindings_of : List ℕ → List (Variable × Term)
-    bindings_of [] = []
-    bindings_of (k ∷ ks) = (variable_of slots k, right k) ∷ bindings_of ks
-
-    left_slot : (ks : List ℕ) (x : Variable) → IsAmong (lefts (bindings_of ks)) x → (k : ℕ) × IsAmong ks k × (variable_of slots k ≡ x)
+    left_slot : (ks : List ℕ) (x : Variable) → IsAmong (lefts (bindings_of slots right ks)) x → (k : ℕ) × IsAmong ks k × (variable_of slots k ≡ x)
     left_slot [] x a = elim a [ ]
     left_slot (k ∷ ks) x a = elim a [ inl e ↦ (k, inl refl, e) | inr b ↦ (let r = left_slot ks x b in (r.0, inr r.1, r.2)) ]
 
-    pub left_of : (ks : List ℕ) (k : ℕ) → IsAmong ks k → IsAmong (lefts (bindings_of ks)) (variable_of slots k)
+    pub left_of : (ks : List ℕ) (k : ℕ) → IsAmong ks k → IsAmong (lefts (bindings_of slots right ks)) (variable_of slots k)
     left_of [] k a = elim a [ ]
     left_of (j ∷ ks) k a = elim a [ inl e ↦ inl (ap (variable_of slots) e) | inr b ↦ inr (left_of ks k b) ]
 
-    right_slot : (ks : List ℕ) (t : Term) → IsAmong (rights (bindings_of ks)) t → (k : ℕ) × IsAmong ks k × (right k ≡ t)
+    right_slot : (ks : List ℕ) (t : Term) → IsAmong (rights (bindings_of slots right ks)) t → (k : ℕ) × IsAmong ks k × (right k ≡ t)
     right_slot [] t a = elim a [ ]
     right_slot (k ∷ ks) t a = elim a [ inl e ↦ (k, inl refl, e) | inr b ↦ (let r = right_slot ks t b in (r.0, inr r.1, r.2)) ]
 
-    right_of : (ks : List ℕ) (k : ℕ) → IsAmong ks k → IsAmong (rights (bindings_of ks)) (right k)
+    right_of : (ks : List ℕ) (k : ℕ) → IsAmong ks k → IsAmong (rights (bindings_of slots right ks)) (right k)
     right_of [] k a = elim a [ ]
     right_of (j ∷ ks) k a = elim a [ inl e ↦ inl (ap right e) | inr b ↦ inr (right_of ks k b) ]
 
@@ -89,20 +80,20 @@ module _ (used : ℕ → Option (List ℕ)) where
     abbrev IsUnused : List ℕ → ℕ → Type 0
     IsUnused ks j = (i : ℕ) → IsAmong ks i → IsAmong (list_or_none (used i)) j → ⊥
 
-    clear : (ks : List ℕ) (j : ℕ) → ((k : ℕ) → IsAmong ks k → HasUses k) → IsUnused ks j → AllByRecursion (λ t. IsAmong (terms.variables t) (variable_of slots j) → ⊥) (rights (bindings_of ks))
+    clear : (ks : List ℕ) (j : ℕ) → ((k : ℕ) → IsAmong ks k → HasUses used slots right k) → IsUnused ks j → AllByRecursion (λ t. IsAmong (terms.variables t) (variable_of slots j) → ⊥) (rights (bindings_of slots right ks))
     clear ks j has unused =
-        all_from (λ t. IsAmong (terms.variables t) (variable_of slots j) → ⊥) (rights (bindings_of ks))
+        all_from (λ t. IsAmong (terms.variables t) (variable_of slots j) → ⊥) (rights (bindings_of slots right ks))
         (λ t a v.
         let r = right_slot ks t a in
         unused r.0 r.1
         (subst (IsAmong (list_or_none (used r.0))) (slot_again slots j)
         ((has r.0 r.1).uses (variable_of slots j) (subst (λ u. IsAmong (terms.variables u) (variable_of slots j)) (sym r.2) v))))
 
-    of_clear : (ks : List ℕ) (j : ℕ) → ((k : ℕ) → IsAmong ks k → HasUses k) → AllByRecursion (λ t. IsAmong (terms.variables t) (variable_of slots j) → ⊥) (rights (bindings_of ks)) → IsUnused ks j
-    of_clear ks j has h i a u = all_at (λ t. IsAmong (terms.variables t) (variable_of slots j) → ⊥) (rights (bindings_of ks)) (right i) h (right_of ks i a) ((has i a).used_in j u)
+    of_clear : (ks : List ℕ) (j : ℕ) → ((k : ℕ) → IsAmong ks k → HasUses used slots right k) → AllByRecursion (λ t. IsAmong (terms.variables t) (variable_of slots j) → ⊥) (rights (bindings_of slots right ks)) → IsUnused ks j
+    of_clear ks j has h i a u = all_at (λ t. IsAmong (terms.variables t) (variable_of slots j) → ⊥) (rights (bindings_of slots right ks)) (right i) h (right_of ks i a) ((has i a).used_in j u)
 
-    module _ (q e : Term) (n : ℕ) (order_is : order same_variable q e ≡ variables_from slots 0 n) (inside : (k : ℕ) → IsListed used k → k < n) (has : (k : ℕ) → IsListed used k → HasUses k) where
-      has_all : (before ks : List ℕ) → AreFirstUnused used before ks → (k : ℕ) → IsAmong ks k → HasUses k
+    module _ (q e : Term) (n : ℕ) (order_is : order same_variable q e ≡ variables_of_slots slots 0 n) (inside : (k : ℕ) → IsListed used k → k < n) (has : (k : ℕ) → IsListed used k → HasUses used slots right k) where
+      has_all : (before ks : List ℕ) → AreFirstUnused used before ks → (k : ℕ) → IsAmong ks k → HasUses used slots right k
       has_all before ks h k a = has k (all_at (IsListed used) ks k (listed_all before ks h) a)
 
       -- none of those from the place on uses the slot at the place
@@ -110,7 +101,7 @@ module _ (used : ℕ → Option (List ℕ)) where
       unused_here before k ks h i a u =
           h.0.is_open.unused i (all_at (IsListed used) (k ∷ ks) i (listed_all before (k ∷ ks) h) a) (all_at (λ j. IsAmong before j → ⊥) (k ∷ ks) i (behind_all before (k ∷ ks) h) a) u
 
-      pub triangular_of : (before ks : List ℕ) → AreFirstUnused used before ks → IsTriangular same_variable (bindings_of ks)
+      pub triangular_of : (before ks : List ℕ) → AreFirstUnused used before ks → IsTriangular same_variable (bindings_of slots right ks)
       triangular_of before [] h = tt
       triangular_of before (k ∷ ks) h = (
         (λ a.
@@ -121,7 +112,7 @@ module _ (used : ℕ → Option (List ℕ)) where
         triangular_of (before ++ k ∷ []) ks h.1,
       )
 
-      pub ordered_of : (before ks : List ℕ) → AreFirstUnused used before ks → ((k : ℕ) → IsListed used k → IsAmong (before ++ ks) k) → IsOrdered same_variable q e (bindings_of ks)
+      pub ordered_of : (before ks : List ℕ) → AreFirstUnused used before ks → ((k : ℕ) → IsListed used k → IsAmong (before ++ ks) k) → IsOrdered same_variable q e (bindings_of slots right ks)
       ordered_of before [] h all = tt
       ordered_of before (k ∷ ks) h all = (
         (
@@ -140,7 +131,7 @@ module _ (used : ℕ → Option (List ℕ)) where
       )
         where
           IsHere : Variable → Type 0
-          IsHere x = IsAmong (lefts (bindings_of (k ∷ ks))) x × AllByRecursion (λ t. IsAmong (terms.variables t) x → ⊥) (rights (bindings_of (k ∷ ks)))
+          IsHere x = IsAmong (lefts (bindings_of slots right (k ∷ ks))) x × AllByRecursion (λ t. IsAmong (terms.variables t) x → ⊥) (rights (bindings_of slots right (k ∷ ks)))
 
           parts : Parts slots 0 n k
           parts = parts_at slots 0 n k k (omega arith) (inside k h.0.is_open.listed)

@@ -12,13 +12,14 @@ use Rattle.si_unify.specs.declared.slots.Slots.{Slots}
 use Rattle.si_unify.specs.Solving.{slot_count, variable_of}
 use Rattle.si_form.specs.Folding.{same_terms, or_slot, leader_below, leader, variable_or, folded, folded_all}
 use Rattle.si_form.specs.Ordering.{IsListed, AreOrdered}
+use Rattle.si_form.specs.Unifying.{Stays, IsApplication, ImagesStay, right_by, right_side, IsToBind, HasUses, bindings_of}
 use Rattle.si_form.proofs.VariableLaws.{same_tells, same_itself}
 use Rattle.si_form.proofs.CanonicalLaws.{all_at, all_from, all_front, all_back, all_append}
 use Rattle.si_form.proofs.UnifierLaws.{first_unique}
 use Rattle.si_form.proofs.FoldedLaws.{Leads, IsFoldedBy, AreFoldedBy, IsFoldedInsideBy, IsFree, IsFoldedList}
 use Rattle.si_form.proofs.NodeLaws.{same_some}
 use Rattle.si_form.proofs.FoldingLaws.{terms_tell, terms_itself}
-use Rattle.si_form.proofs.OrderedLaws.{variables_from, parts_at, HasUses, bindings_of, left_of, listed_all, triangular_of, ordered_of}
+use Rattle.si_form.proofs.OrderedLaws.{variables_of_slots, parts_at, left_of, listed_all, triangular_of, ordered_of}
 
 module _ (slots : Slots) (f : Variable → Term) where
   -- ---- leaders
@@ -59,44 +60,40 @@ module _ (slots : Slots) (f : Variable → Term) where
       by None p false q later = let bad : None ≡ Some w = sym (ap (λ o. or_slot o (same_terms (f (variable_of slots k)) t) k) p ∙ ap (λ b. or_slot None b k) q) ∙ e in cc
 
   -- ---- folded terms
-  -- a variable of the slots that f leaves
-  abbrev pub Stays : Variable → Type 0
-  Stays y = (j : ℕ) × (j < slot_count slots) × (y ≡ variable_of slots j) × (f y ≡ terms.var y)
-
   -- a variable that leads itself
   abbrev pub LeadsItself : Variable → Type 0
   LeadsItself y = (w : ℕ) × (w < slot_count slots) × (y ≡ variable_of slots w) × (leader slots f (f (variable_of slots w)) ≡ Some w)
 
-  no_leader : {P : Type 0} (y : Variable) → Stays y → leader slots f (terms.var y) ≡ None → P
+  pub no_leader : {P : Type 0} (y : Variable) → Stays slots f y → leader slots f (terms.var y) ≡ None → P
   no_leader y s e = absurd (none_led (slot_count slots) (terms.var y) e s.0 s.1 (ap f (sym s.2) ∙ s.3))
 
   mutual
-    unfolds : (t : Term) → AllByRecursion Stays (terms.variables t) → (o : Option ℕ) → leader slots f t ≡ o → terms.substitute f (variable_or slots f o (folded slots f t)) ≡ t
+    unfolds : (t : Term) → AllByRecursion (Stays slots f) (terms.variables t) → (o : Option ℕ) → leader slots f t ≡ o → terms.substitute f (variable_or slots f o (folded slots f t)) ≡ t
     unfolds t h (Some w) e = (led (slot_count slots) w t e).image_is
     unfolds (terms.var y) h None e = no_leader y h.0 e
     unfolds (terms.app s ts) h None e = ap (terms.app s) (all_unfold ts h)
 
-    all_unfold : (ts : Terms) → AllByRecursion Stays (terms.variables_of_all ts) → terms.substitute_all f (folded_all slots f ts) ≡ ts
+    all_unfold : (ts : Terms) → AllByRecursion (Stays slots f) (terms.variables_of_all ts) → terms.substitute_all f (folded_all slots f ts) ≡ ts
     all_unfold terms.none h = refl
     all_unfold (terms.more t ts) h =
-        ap (λ u. terms.more u (terms.substitute_all f (folded_all slots f ts))) (unfolds t (all_front Stays (terms.variables t) (terms.variables_of_all ts) h) (leader slots f t) refl)
-        ∙ ap (terms.more t) (all_unfold ts (all_back Stays (terms.variables t) (terms.variables_of_all ts) h))
+        ap (λ u. terms.more u (terms.substitute_all f (folded_all slots f ts))) (unfolds t (all_front (Stays slots f) (terms.variables t) (terms.variables_of_all ts) h) (leader slots f t) refl)
+        ∙ ap (terms.more t) (all_unfold ts (all_back (Stays slots f) (terms.variables t) (terms.variables_of_all ts) h))
 
   leads_itself : (t : Term) (w : ℕ) → leader slots f t ≡ Some w → LeadsItself (variable_of slots w)
   leads_itself t w e = let l = led (slot_count slots) w t e in (w, l.below, refl, ap (leader slots f) l.image_is ∙ e)
 
   mutual
-    leads_all : (t : Term) → AllByRecursion Stays (terms.variables t) → (o : Option ℕ) → leader slots f t ≡ o → AllByRecursion LeadsItself (terms.variables (variable_or slots f o (folded slots f t)))
+    leads_all : (t : Term) → AllByRecursion (Stays slots f) (terms.variables t) → (o : Option ℕ) → leader slots f t ≡ o → AllByRecursion LeadsItself (terms.variables (variable_or slots f o (folded slots f t)))
     leads_all t h (Some w) e = (leads_itself t w e, tt)
     leads_all (terms.var y) h None e = no_leader y h.0 e
     leads_all (terms.app s ts) h None e = leads_every ts h
 
-    leads_every : (ts : Terms) → AllByRecursion Stays (terms.variables_of_all ts) → AllByRecursion LeadsItself (terms.variables_of_all (folded_all slots f ts))
+    leads_every : (ts : Terms) → AllByRecursion (Stays slots f) (terms.variables_of_all ts) → AllByRecursion LeadsItself (terms.variables_of_all (folded_all slots f ts))
     leads_every terms.none h = tt
     leads_every (terms.more t ts) h =
         all_append LeadsItself (terms.variables (variable_or slots f (leader slots f t) (folded slots f t))) (terms.variables_of_all (folded_all slots f ts))
-        (leads_all t (all_front Stays (terms.variables t) (terms.variables_of_all ts) h) (leader slots f t) refl)
-        (leads_every ts (all_back Stays (terms.variables t) (terms.variables_of_all ts) h))
+        (leads_all t (all_front (Stays slots f) (terms.variables t) (terms.variables_of_all ts) h) (leader slots f t) refl)
+        (leads_every ts (all_back (Stays slots f) (terms.variables t) (terms.variables_of_all ts) h))
 
   -- no folded term is longer than one that f takes to the same term
   mutual
@@ -114,12 +111,42 @@ module _ (slots : Slots) (f : Variable → Term) where
         let r = none_longer us (all_back (λ y. (j : ℕ) × (j < slot_count slots) × (y ≡ variable_of slots j)) (terms.variables u) (terms.variables_of_all us) known) in
         omega (arith, k, r)
 
-  module _ (q e : Term) (order_is : order same_variable q e ≡ variables_from slots 0 (slot_count slots)) where
-    slot_in : (n k : ℕ) (y : Variable) → IsAmong (variables_from slots k n) y → (j : ℕ) × (j < k + n) × (y ≡ variable_of slots j)
+  -- ---- right sides
+  pub right_of_follower : (k w : ℕ) → leader slots f (f (variable_of slots k)) ≡ Some w → w ≢ k → right_side slots f k ≡ terms.var (variable_of slots w)
+  right_of_follower k w l apart =
+      ap (right_by slots f k) l ∙ elim (eqb_tells w k) [ inl h ↦ absurd (apart h.1) | inr h ↦ rw h.0 refl ]
+
+  pub right_of_leader : (k : ℕ) → leader slots f (f (variable_of slots k)) ≡ Some k → right_side slots f k ≡ folded slots f (f (variable_of slots k))
+  right_of_leader k l = ap (right_by slots f k) l ∙ rw (eq-eqb k k refl) refl
+
+  folded_app : (t : Term) → IsApplication t → AllByRecursion (Stays slots f) (terms.variables t) → (terms.substitute f (folded slots f t) ≡ t) × AllByRecursion LeadsItself (terms.variables (folded slots f t))
+  folded_app (terms.var y) a h = let bad : terms.var y ≡ terms.app a.0 a.1 = a.2 in cc
+  folded_app (terms.app s ts) a h = (ap (terms.app s) (all_unfold ts h), leads_every ts h)
+
+  -- what is known of a right side
+  pub record IsRight (k : ℕ) (r : Term) : Type 0 where
+    pub solves : f (variable_of slots k) ≡ terms.substitute f r
+    pub leads : AllByRecursion LeadsItself (terms.variables r)
+
+  pub right_is : ImagesStay slots f → (k : ℕ) → IsToBind slots f k → IsRight k (right_side slots f k)
+  right_is stays k b =
+      elim b.1 [
+        | inl follows ↦
+            subst (IsRight k) (sym (right_of_follower k follows.0 follows.1 follows.2)) (record {
+              solves = sym (led (slot_count slots) follows.0 (f (variable_of slots k)) follows.1).image_is;
+              leads = (leads_itself (f (variable_of slots k)) follows.0 follows.1, tt);
+            })
+        | inr leads ↦
+            let r = folded_app (f (variable_of slots k)) leads.1 (stays k b.0) in
+            subst (IsRight k) (sym (right_of_leader k leads.0)) (record { solves = sym r.0; leads = r.1 })
+      ]
+
+  module _ (q e : Term) (order_is : order same_variable q e ≡ variables_of_slots slots 0 (slot_count slots)) where
+    slot_in : (n k : ℕ) (y : Variable) → IsAmong (variables_of_slots slots k n) y → (j : ℕ) × (j < k + n) × (y ≡ variable_of slots j)
     slot_in zero k y a = elim a [ ]
     slot_in (suc n) k y a = elim a [ inl s ↦ (k, omega arith, sym s) | inr b ↦ (let r = slot_in n (suc k) y b in (r.0, omega (arith, r.1), r.2)) ]
 
-    among_from : (n k d j : ℕ) → j ≡ k + d → d < n → IsAmong (variables_from slots k n) (variable_of slots j)
+    among_from : (n k d j : ℕ) → j ≡ k + d → d < n → IsAmong (variables_of_slots slots k n) (variable_of slots j)
     among_from zero k d j s less = absurd (omega (arith, less))
     among_from (suc n) k zero j s less = inl (ap (variable_of slots) (omega (arith, s)))
     among_from (suc n) k (suc d) j s less = inr (among_from n (suc k) d j (omega (arith, s)) (omega (arith, less)))
@@ -158,7 +185,7 @@ module _ (slots : Slots) (f : Variable → Term) where
         by (Some w) l = (w, l)
 
     mutual
-      folds : (t : Term) → AllByRecursion Stays (terms.variables t) → (o : Option ℕ) → leader slots f t ≡ o → IsFoldedBy same_variable same_tells same_itself q e f (variable_or slots f o (folded slots f t))
+      folds : (t : Term) → AllByRecursion (Stays slots f) (terms.variables t) → (o : Option ℕ) → leader slots f t ≡ o → IsFoldedBy same_variable same_tells same_itself q e f (variable_or slots f o (folded slots f t))
       folds t h (Some w) l = tt
       folds (terms.var y) h None l = no_leader y h.0 l
       folds (terms.app s ts) h None l = (
@@ -167,106 +194,68 @@ module _ (slots : Slots) (f : Variable → Term) where
         all_folds ts h,
       )
 
-      all_folds : (ts : Terms) → AllByRecursion Stays (terms.variables_of_all ts) → AreFoldedBy same_variable same_tells same_itself q e f (folded_all slots f ts)
+      all_folds : (ts : Terms) → AllByRecursion (Stays slots f) (terms.variables_of_all ts) → AreFoldedBy same_variable same_tells same_itself q e f (folded_all slots f ts)
       all_folds terms.none h = tt
       all_folds (terms.more t ts) h = (
-        folds t (all_front Stays (terms.variables t) (terms.variables_of_all ts) h) (leader slots f t) refl,
-        all_folds ts (all_back Stays (terms.variables t) (terms.variables_of_all ts) h),
+        folds t (all_front (Stays slots f) (terms.variables t) (terms.variables_of_all ts) h) (leader slots f t) refl,
+        all_folds ts (all_back (Stays slots f) (terms.variables t) (terms.variables_of_all ts) h),
       )
 
     -- ---- right sides
-    abbrev right_by : ℕ → Option ℕ → Term
-    right_by k None = folded slots f (f (variable_of slots k))
-    right_by k (Some w) = if w == k then folded slots f (f (variable_of slots k)) else terms.var (variable_of slots w)
+    folded_in : (t : Term) → AllByRecursion (Stays slots f) (terms.variables t) → IsFoldedInsideBy same_variable same_tells same_itself q e f (folded slots f t)
+    folded_in (terms.var y) h = tt
+    folded_in (terms.app s ts) h = all_folds ts h
 
-    -- a follower's is its leader, a leader's its folded image
-    abbrev pub right_side : ℕ → Term
-    right_side k = right_by k (leader slots f (f (variable_of slots k)))
-
-    abbrev pub IsApplication : Term → Type 0
-    IsApplication t = (s : Symbol) × (ts : Terms) × (t ≡ terms.app s ts)
-
-    -- a follower, or a leader whose image is no variable
-    abbrev pub IsToBind : ℕ → Type 0
-    IsToBind k = (k < slot_count slots) × (((w : ℕ) × (leader slots f (f (variable_of slots k)) ≡ Some w) × (w ≢ k)) ⊎ ((leader slots f (f (variable_of slots k)) ≡ Some k) × IsApplication (f (variable_of slots k))))
-
-    abbrev ImageStays : Type 0
-    ImageStays = (k : ℕ) → k < slot_count slots → AllByRecursion Stays (terms.variables (f (variable_of slots k)))
-
-    right_of_follower : (k w : ℕ) → leader slots f (f (variable_of slots k)) ≡ Some w → w ≢ k → right_side k ≡ terms.var (variable_of slots w)
-    right_of_follower k w l apart =
-        ap (right_by k) l ∙ elim (eqb_tells w k) [ inl h ↦ absurd (apart h.1) | inr h ↦ rw h.0 refl ]
-
-    right_of_leader : (k : ℕ) → leader slots f (f (variable_of slots k)) ≡ Some k → right_side k ≡ folded slots f (f (variable_of slots k))
-    right_of_leader k l = ap (right_by k) l ∙ rw (eq-eqb k k refl) refl
-
-    folded_app : (t : Term) → IsApplication t → AllByRecursion Stays (terms.variables t) → (terms.substitute f (folded slots f t) ≡ t) × AllByRecursion LeadsItself (terms.variables (folded slots f t)) × IsFoldedInsideBy same_variable same_tells same_itself q e f (folded slots f t)
-    folded_app (terms.var y) a h = let bad : terms.var y ≡ terms.app a.0 a.1 = a.2 in cc
-    folded_app (terms.app s ts) a h = (ap (terms.app s) (all_unfold ts h), leads_every ts h, all_folds ts h)
-
-    -- what is known of a right side
-    pub record IsRight (k : ℕ) (r : Term) : Type 0 where
-      pub solves : f (variable_of slots k) ≡ terms.substitute f r
-      pub leads : AllByRecursion LeadsItself (terms.variables r)
-      pub folded_inside : IsFoldedInsideBy same_variable same_tells same_itself q e f r
-
-    right_is : ImageStays → (k : ℕ) → IsToBind k → IsRight k (right_side k)
-    right_is stays k b =
+    inside_is : ImagesStay slots f → (k : ℕ) → IsToBind slots f k → IsFoldedInsideBy same_variable same_tells same_itself q e f (right_side slots f k)
+    inside_is stays k b =
         elim b.1 [
-          | inl follows ↦
-              subst (IsRight k) (sym (right_of_follower k follows.0 follows.1 follows.2)) (record {
-                solves = sym (led (slot_count slots) follows.0 (f (variable_of slots k)) follows.1).image_is;
-                leads = (leads_itself (f (variable_of slots k)) follows.0 follows.1, tt);
-                folded_inside = tt;
-              })
-          | inr leads ↦
-              let r = folded_app (f (variable_of slots k)) leads.1 (stays k b.0) in
-              subst (IsRight k) (sym (right_of_leader k leads.0)) (record { solves = sym r.0; leads = r.1; folded_inside = r.2 })
+          | inl follows ↦ subst (IsFoldedInsideBy same_variable same_tells same_itself q e f) (sym (right_of_follower k follows.0 follows.1 follows.2)) tt
+          | inr leads ↦ subst (IsFoldedInsideBy same_variable same_tells same_itself q e f) (sym (right_of_leader k leads.0)) (folded_in (f (variable_of slots k)) (stays k b.0))
         ]
 
-    module _ (used : ℕ → Option (List ℕ)) (ks : List ℕ) (ordered : AreOrdered used ks) (to_bind : (k : ℕ) → IsListed used k → IsToBind k) (of_bind : (k : ℕ) → IsToBind k → IsListed used k) (has : (k : ℕ) → IsListed used k → HasUses used slots right_side k) (stays : ImageStays) where
-      each : (P : Variable × Term → Type 0) (some : List ℕ) → AllByRecursion (IsListed used) some → ((k : ℕ) → IsListed used k → P (variable_of slots k, right_side k)) → AllByRecursion P (bindings_of used slots right_side some)
+    module _ (used : ℕ → Option (List ℕ)) (ks : List ℕ) (ordered : AreOrdered used ks) (to_bind : (k : ℕ) → IsListed used k → IsToBind slots f k) (of_bind : (k : ℕ) → IsToBind slots f k → IsListed used k) (has : (k : ℕ) → IsListed used k → HasUses used slots (right_side slots f) k) (stays : ImagesStay slots f) where
+      each : (P : Variable × Term → Type 0) (some : List ℕ) → AllByRecursion (IsListed used) some → ((k : ℕ) → IsListed used k → P (variable_of slots k, right_side slots f k)) → AllByRecursion P (bindings_of slots (right_side slots f) some)
       each P [] l give = tt
       each P (k ∷ some) l give = (give k l.0, each P some l.1 give)
 
-      all_bindings : (P : Variable × Term → Type 0) → ((k : ℕ) → IsListed used k → P (variable_of slots k, right_side k)) → AllByRecursion P (bindings_of used slots right_side ks)
+      all_bindings : (P : Variable × Term → Type 0) → ((k : ℕ) → IsListed used k → P (variable_of slots k, right_side slots f k)) → AllByRecursion P (bindings_of slots (right_side slots f) ks)
       all_bindings P give = each P ks (listed_all used [] ks ordered.next) give
 
-      pair_among : (some : List ℕ) (k : ℕ) → IsAmong some k → IsAmong (bindings_of used slots right_side some) (variable_of slots k, right_side k)
+      pair_among : (some : List ℕ) (k : ℕ) → IsAmong some k → IsAmong (bindings_of slots (right_side slots f) some) (variable_of slots k, right_side slots f k)
       pair_among [] k a = elim a [ ]
-      pair_among (j ∷ some) k a = elim a [ inl s ↦ inl (ap (λ i. (variable_of slots i, right_side i)) s) | inr b ↦ inr (pair_among some k b) ]
+      pair_among (j ∷ some) k a = elim a [ inl s ↦ inl (ap (λ i. (variable_of slots i, right_side slots f i)) s) | inr b ↦ inr (pair_among some k b) ]
 
-      pub folded_list : IsFoldedList same_variable same_tells same_itself q e f (bindings_of used slots right_side ks)
+      pub folded_list : IsFoldedList same_variable same_tells same_itself q e f (bindings_of slots (right_side slots f) ks)
       folded_list = record {
-        triangular = triangular_of used slots right_side q e (slot_count slots) order_is (λ k l. (to_bind k l).0) has [] ks ordered.next;
-        ordered = ordered_of used slots right_side q e (slot_count slots) order_is (λ k l. (to_bind k l).0) has [] ks ordered.next ordered.all;
+        triangular = triangular_of used slots (right_side slots f) q e (slot_count slots) order_is (λ k l. (to_bind k l).0) has [] ks ordered.next;
+        ordered = ordered_of used slots (right_side slots f) q e (slot_count slots) order_is (λ k l. (to_bind k l).0) has [] ks ordered.next ordered.all;
         solves = all_bindings (λ b. f b.0 ≡ terms.substitute f b.1) (λ k l. (right_is stays k (to_bind k l)).solves);
         known =
             all_bindings (λ b. IsAmong (order same_variable q e) b.0 × AllByRecursion (IsAmong (order same_variable q e)) (terms.variables b.1))
             (λ k l. (
               known_slot k (to_bind k l).0,
-              all_from (IsAmong (order same_variable q e)) (terms.variables (right_side k))
-                  (λ y a. let r = all_at LeadsItself (terms.variables (right_side k)) y (right_is stays k (to_bind k l)).leads a in subst (IsAmong (order same_variable q e)) (sym r.2) (known_slot r.0 r.1)),
+              all_from (IsAmong (order same_variable q e)) (terms.variables (right_side slots f k))
+                  (λ y a. let r = all_at LeadsItself (terms.variables (right_side slots f k)) y (right_is stays k (to_bind k l)).leads a in subst (IsAmong (order same_variable q e)) (sym r.2) (known_slot r.0 r.1)),
             ));
         leaders =
             all_bindings (λ b. AllByRecursion (λ x. Leads same_variable same_tells same_itself q e f x x) (terms.variables b.1))
             (λ k l.
-            all_from (λ x. Leads same_variable same_tells same_itself q e f x x) (terms.variables (right_side k))
+            all_from (λ x. Leads same_variable same_tells same_itself q e f x x) (terms.variables (right_side slots f k))
             (λ y a.
-            let r = all_at LeadsItself (terms.variables (right_side k)) y (right_is stays k (to_bind k l)).leads a in
+            let r = all_at LeadsItself (terms.variables (right_side slots f k)) y (right_is stays k (to_bind k l)).leads a in
             subst (λ x. Leads same_variable same_tells same_itself q e f x x) (sym r.2) (leads_of (variable_of slots r.0) r.0 r.3)));
         followers = λ x w a leads differs. follows x w (slot_of_known x a) leads differs;
-        folded = all_bindings (λ b. IsFoldedInsideBy same_variable same_tells same_itself q e f b.1) (λ k l. (right_is stays k (to_bind k l)).folded_inside);
+        folded = all_bindings (λ b. IsFoldedInsideBy same_variable same_tells same_itself q e f b.1) (λ k l. inside_is stays k (to_bind k l));
         free = λ y a apart. frees y (slot_of_known y a) apart;
       }
         where
-          follows : (x w : Variable) → (j : ℕ) × (j < slot_count slots) × (x ≡ variable_of slots j) → Leads same_variable same_tells same_itself q e f x w → (w ≡ x → ⊥) → IsAmong (bindings_of used slots right_side ks) (x, terms.var w)
+          follows : (x w : Variable) → (j : ℕ) × (j < slot_count slots) × (x ≡ variable_of slots j) → Leads same_variable same_tells same_itself q e f x w → (w ≡ x → ⊥) → IsAmong (bindings_of slots (right_side slots f) ks) (x, terms.var w)
           follows x w s leads differs =
               let own = has_leader s.0 s.1 in
               let w_is : variable_of slots own.0 ≡ w = leader_is x w leads own.0 (ap (λ y. leader slots f (f y)) s.2 ∙ own.1) in
               let apart : own.0 ≢ s.0 = λ same. differs (sym w_is ∙ ap (variable_of slots) same ∙ sym s.2) in
               let listed = of_bind s.0 (s.1, inl (own.0, own.1, apart)) in
-              subst (λ p. IsAmong (bindings_of used slots right_side ks) p)
+              subst (λ p. IsAmong (bindings_of slots (right_side slots f) ks) p)
               (
               ap (λ t. (variable_of slots s.0, t)) (right_of_follower s.0 own.0 own.1 apart ∙ ap (λ v. terms.var v) w_is)
               ∙ ap (λ v. (v, terms.var w)) (sym s.2)
@@ -277,11 +266,11 @@ module _ (slots : Slots) (f : Variable → Term) where
           free_by y (terms.var z) e none leads = record { leads = leads; stands = z; image_is = e }
           free_by y (terms.app s ts) e none leads = absurd (none (s, ts, refl))
 
-          frees : (y : Variable) → (j : ℕ) × (j < slot_count slots) × (y ≡ variable_of slots j) → (IsAmong (lefts (bindings_of used slots right_side ks)) y → ⊥) → IsFree same_variable same_tells same_itself q e f y
+          frees : (y : Variable) → (j : ℕ) × (j < slot_count slots) × (y ≡ variable_of slots j) → (IsAmong (lefts (bindings_of slots (right_side slots f) ks)) y → ⊥) → IsFree same_variable same_tells same_itself q e f y
           frees y s apart =
               let own = has_leader s.0 s.1 in
               let not_listed : IsListed used s.0 → ⊥ =
-              λ l. apart (subst (IsAmong (lefts (bindings_of used slots right_side ks))) (sym s.2) (left_of used slots right_side ks s.0 (ordered.all s.0 l))) in
+              λ l. apart (subst (IsAmong (lefts (bindings_of slots (right_side slots f) ks))) (sym s.2) (left_of used slots (right_side slots f) ks s.0 (ordered.all s.0 l))) in
               elim (eqb_tells own.0 s.0) [
                 | inl same ↦
                     let leads_self : leader slots f (f (variable_of slots s.0)) ≡ Some s.0 = own.1 ∙ ap Some same.1 in

@@ -32,3 +32,24 @@ above_stands = record { cells_are = refl; sound = (refl, (tt, (tt, tt))) }
 
 pub renamed_stands : StandsFor (cells.cells_of (f (var (entry 0)) (g (var (entry 1))))) (f (var (entry 0)) (g (var (entry 1))))
 renamed_stands = record { cells_are = refl; sound = (refl, (tt, ((refl, (tt, tt)), tt))) }
+
+pub twice_stands : StandsFor (cells.cells_of (f (var (query 0)) (var (query 0)))) (f (var (query 0)) (var (query 0)))
+twice_stands = record { cells_are = refl; sound = (refl, (tt, (tt, tt))) }
+
+pub pair_stands : StandsFor (cells.cells_of (f (var (query 0)) (var (query 1)))) (f (var (query 0)) (var (query 1)))
+pair_stands = record { cells_are = refl; sound = (refl, (tt, (tt, tt))) }
+
+pub constant_stands : StandsFor (cells.cells_of a) a
+constant_stands = record { cells_are = refl; sound = (refl, tt) }
+
+pub over_stands : StandsFor (cells.cells_of (f (g (var (entry 0))) (var (entry 1)))) (f (g (var (entry 0))) (var (entry 1)))
+over_stands = record { cells_are = refl; sound = (refl, ((refl, (tt, tt)), (tt, tt))) }
+
+pub ground_stands : StandsFor (cells.cells_of (f a (g a))) (f a (g a))
+ground_stands = record { cells_are = refl; sound = (refl, ((refl, tt), ((refl, ((refl, tt), tt)), tt))) }
+
+pub circle_stands : StandsFor (cells.cells_of (f (var (entry 0)) (g (var (entry 0))))) (f (var (entry 0)) (g (var (entry 0))))
+circle_stands = record { cells_are = refl; sound = (refl, (tt, ((refl, (tt, tt)), tt))) }
+
+pub same_stands : StandsFor (cells.cells_of (f (var (entry 0)) (var (entry 0)))) (f (var (entry 0)) (var (entry 0)))
+same_stands = record { cells_are = refl; sound = (refl, (tt, (tt, tt))) }

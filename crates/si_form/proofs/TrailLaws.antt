@@ -8,7 +8,7 @@ use Rattle.si_defs.specs.Substitutions.{Substitution, image, lefts, rights, IsAm
 use Rattle.si_defs.specs.Relations.{Unifies}
 use Rattle.si_defs.specs.Solutions.{IsTriangular, in_sequence}
 use Rattle.si_flat.specs.declared.Cell.{Cell}
-use Rattle.si_flat.specs.Cells.{Symbol, Variable, query, entry, ind, same_variable, Term, Terms, variable_cell, cells_of, cells_of_all, StandsFor}
+use Rattle.si_flat.specs.Cells.{Symbol, Variable, query, entry, ind, same_variable, Term, Terms, variable_cell, cells_of, cells_of_all, IsSound, AreSound, StandsFor}
 use Rattle.si_trail.specs.Trails.{HasDistinctSlots}
 use Rattle.si_unify.specs.declared.slots.Slots.{Slots}
 use Rattle.si_unify.specs.Solving as solving
@@ -23,7 +23,8 @@ use Rattle.si_form.proofs.NodeLaws.{slot_again}
 use Rattle.si_unify.specs.Solving.{CellIsInRange}
 use Rattle.si_unify.proofs.Places.{variable_of-slot_of, in_range-variable}
 use Rattle.si_form.proofs.FoldedLaws.{sequence_inside, lefts_gone}
-use Rattle.si_form.proofs.RightSides.{Stays}
+use Rattle.si_unify.proofs.Rows.{count-substitute}
+use Rattle.si_form.specs.Unifying.{Stays, IsGeneral, HasGeneral}
 use Rattle.si_form.specs.Classes.{LeavesUnbound}
 
 -- ---- rows of slots and terms
@@ -147,11 +148,11 @@ module _ (slots : Slots) (rank : ℕ → ℕ) where
 
 -- ---- the rows of bindings
 mutual
-  variables_ranked : (C : Cell → Type 0) (P : Variable → Type 0) (t : Term) → ((x : Variable) → C (variable_cell x) → P x) → AllByRecursion C (cells_of t) → AllByRecursion P (terms.variables t)
+  pub variables_ranked : (C : Cell → Type 0) (P : Variable → Type 0) (t : Term) → ((x : Variable) → C (variable_cell x) → P x) → AllByRecursion C (cells_of t) → AllByRecursion P (terms.variables t)
   variables_ranked C P (terms.var x) give h = (give x h.0, tt)
   variables_ranked C P (terms.app s ts) give h = all_variables_ranked C P ts give h.1
 
-  all_variables_ranked : (C : Cell → Type 0) (P : Variable → Type 0) (ts : Terms) → ((x : Variable) → C (variable_cell x) → P x) → AllByRecursion C (cells_of_all ts) → AllByRecursion P (terms.variables_of_all ts)
+  pub all_variables_ranked : (C : Cell → Type 0) (P : Variable → Type 0) (ts : Terms) → ((x : Variable) → C (variable_cell x) → P x) → AllByRecursion C (cells_of_all ts) → AllByRecursion P (terms.variables_of_all ts)
   all_variables_ranked C P terms.none give h = tt
   all_variables_ranked C P (terms.more t ts) give h =
       members.all_append P (terms.variables t) (terms.variables_of_all ts)
@@ -209,12 +210,12 @@ of_rows_equal slots f (pair ∷ pairs) b h = (
 abbrev pub HasSlot : Slots → Variable → Type 0
 HasSlot slots y = (j : ℕ) × (j < slot_count slots) × (y ≡ variable_of slots j)
 
-slot_below : (slots : Slots) (x : Variable) → IsInRange slots x → slot_of slots x < slot_count slots
+pub slot_below : (slots : Slots) (x : Variable) → IsInRange slots x → slot_of slots x < slot_count slots
 slot_below slots (query n) h = omega (arith, h)
 slot_below slots (entry n) h = omega (arith, h)
 slot_below slots (ind n) h = omega (arith, h)
 
-cell_has_slot : (slots : Slots) (x : Variable) → CellIsInRange slots (variable_cell x) → HasSlot slots x
+pub cell_has_slot : (slots : Slots) (x : Variable) → CellIsInRange slots (variable_cell x) → HasSlot slots x
 cell_has_slot slots x h =
     let range = in_range-variable slots x h in
     (slot_of slots x, slot_below slots x range, sym (variable_of-slot_of slots x range))
@@ -239,6 +240,35 @@ none_frozen : {P : Type 0} (slots : Slots) → slots.freeze_query ≡ false → 
 none_frozen slots a b (query n) e = let bad : true ≡ false = sym e ∙ a in cc
 none_frozen slots a b (entry n) e = let bad : true ≡ false = sym e ∙ b in cc
 none_frozen slots a b (ind n) e = let bad : false ≡ true = e in cc
+
+-- ---- sound terms
+rows_sound : (slots : Slots) (pairs : Pairs) (b : AllByRecursion (IsBinding slots) pairs) → AllByRecursion (λ row. IsSound row.1) (rows slots pairs b)
+rows_sound slots [] b = tt
+rows_sound slots (pair ∷ pairs) b = (b.0.whole.1.sound, rows_sound slots pairs b.1)
+
+named_sound : (slots : Slots) (rs : List (ℕ × Term)) → AllByRecursion (λ row. IsSound row.1) rs → AllByRecursion IsSound (rights (named slots rs))
+named_sound slots [] h = tt
+named_sound slots (r ∷ rs) h = (h.0, named_sound slots rs h.1)
+
+mutual
+  substituted_sound : (f : Variable → Term) (t : Term) → ((y : Variable) → IsSound (f y)) → IsSound t → IsSound (terms.substitute f t)
+  substituted_sound f (terms.var x) give h = give x
+  substituted_sound f (terms.app s ts) give h = (count-substitute f ts ∙ h.0, all_substituted_sound f ts give h.1)
+
+  all_substituted_sound : (f : Variable → Term) (ts : Terms) → ((y : Variable) → IsSound (f y)) → AreSound ts → AreSound (terms.substitute_all f ts)
+  all_substituted_sound f terms.none give h = tt
+  all_substituted_sound f (terms.more t ts) give h = (substituted_sound f t give h.0, all_substituted_sound f ts give h.1)
+
+sequence_sound : (bs : List (Variable × Term)) (t : Term) → IsSound t → AllByRecursion IsSound (rights bs) → IsSound (in_sequence same_variable bs t)
+sequence_sound [] t h k = h
+sequence_sound (b ∷ bs) t h k =
+    sequence_sound bs (terms.substitute (λ y. cond (same_variable b.0 y) b.1 (terms.var y)) t)
+    (substituted_sound (λ y. cond (same_variable b.0 y) b.1 (terms.var y)) t (λ y. by y (same_variable b.0 y)) h)
+    k.1
+  where
+    by : (y : Variable) (c : Bool) → IsSound (cond c b.1 (terms.var y))
+    by y true = k.0
+    by y false = tt
 
 module _ (slots : Slots) (free_query : slots.freeze_query ≡ false) (free_entry : slots.freeze_entry ≡ false) (pairs : Pairs) (bindings : AllByRecursion (IsBinding slots) pairs) (distinct : HasDistinctSlots pairs) (triangular : solving.IsAcyclic slots pairs) where
   -- the bindings as a triangular list
@@ -292,6 +322,25 @@ module _ (slots : Slots) (free_query : slots.freeze_query ≡ false) (free_entry
             (λ l. lefts_gone same_variable same_tells same_itself bound_list (terms.var (variable_of slots k)) y bound_triangular l a),
       ))
       )
+
+  pub general_sound : (x : Variable) → IsSound (general same_variable same_tells same_itself bound_list x)
+  general_sound x =
+      subst IsSound (sequence_is same_variable same_tells same_itself bound_list (terms.var x))
+      (
+      sequence_sound bound_list (terms.var x) tt
+      (named_sound slots (sorted triangular.0 (rows slots pairs bindings)) (sorted_all triangular.0 (λ row. IsSound row.1) (rows slots pairs bindings) (rows_sound slots pairs bindings)))
+      )
+
+  pub is_general : IsGeneral slots pairs (general same_variable same_tells same_itself bound_list)
+  is_general = record {
+    solves = general_of_bound;
+    leaves = general_leaves;
+    stays = λ k less. general_stays k less;
+    sound = λ k less. general_sound (variable_of slots k);
+  }
+
+  pub has_general : HasGeneral slots pairs
+  has_general = (general same_variable same_tells same_itself bound_list, is_general)
 
   -- its solutions are the unifiers of the two terms that were solved
   pub has_unifiers : (left right : List Cell) (q e : Term) → StandsFor left q → StandsFor right e → HasSolved slots [] pairs left right true → HasUnifiers same_variable same_tells same_itself q e bound_list

@@ -37,12 +37,12 @@ slots_more slots cells i o used less so_far is =
     ∙ ap (slots_of slots) (sym taken)
 
 -- ---- the lists of the first slots
-get_or_front : {X : Type 0} (xs ys : List X) (i : ℕ) (d : X) → i < length xs → get_or (xs ++ ys) i d ≡ get_or xs i d
+pub get_or_front : {X : Type 0} (xs ys : List X) (i : ℕ) (d : X) → i < length xs → get_or (xs ++ ys) i d ≡ get_or xs i d
 get_or_front [] ys i d less = absurd (omega (arith, less))
 get_or_front (x ∷ xs) ys zero d less = refl
 get_or_front (x ∷ xs) ys (suc i) d less = get_or_front xs ys i d (omega (arith, less))
 
-get_or_last : {X : Type 0} (xs : List X) (y d : X) → get_or (xs ++ y ∷ []) (length xs) d ≡ y
+pub get_or_last : {X : Type 0} (xs : List X) (y d : X) → get_or (xs ++ y ∷ []) (length xs) d ≡ y
 get_or_last [] y d = refl
 get_or_last (x ∷ xs) y d = get_or_last xs y d
 

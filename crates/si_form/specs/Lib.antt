@@ -7,3 +7,4 @@ pub mod Ordering
 pub mod Classes
 pub mod Uses
 pub mod Folding
+pub mod Unifying

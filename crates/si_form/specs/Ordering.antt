@@ -3,11 +3,11 @@ use Rattle.std.specs.Prelude.{◌≡◌, ℕ, zero, suc, ◌+◌, ◌<◌, ◌�
 use Rattle.std.specs.List.{AllByRecursion}
 use Rattle.si_defs.specs.Substitutions.{IsAmong, AreDistinct}
 
--- the numbers that a number uses; None where it isn't to be ordered
-abbrev pub list_of : {A : Type 0} → Option (Vec ℕ A) → Option (List ℕ)
+abbrev pub list_of : {X A : Type 0} → Option (Vec X A) → Option (List X)
 list_of None = None
 list_of (Some v) = Some v.items
 
+-- the numbers that a number uses; None where it isn't to be ordered
 abbrev pub uses_at : {A : Type 0} → List (Option (Vec ℕ A)) → ℕ → Option (List ℕ)
 uses_at lists k = list_of (slice_index_or lists k None)
 

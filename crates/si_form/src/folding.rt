@@ -71,7 +71,7 @@ fn node_size(sizes: &[u32], leaders: &[Option<usize>], node: Node) -> u32
 }
 
 // The number of cells of each class. A class that is too large to be written has the largest one.
-fn sizes(
+pub(crate) fn sizes(
     alloc: Global,
     nodes: &IndexSet<Node>,
     leaders: &[Option<usize>],
@@ -93,7 +93,7 @@ fn sizes(
 }
 
 // The cell of the variable of a slot.
-fn variable(slots: Slots, slot: usize) -> Cell
+pub(crate) fn variable(slots: Slots, slot: usize) -> Cell
     requires none { slots.inds ≡ 0 }
     requires inside { slot < slot_count slots }
     ensures { result ≡ variable_cell (variable_of slots slot) }
@@ -127,7 +127,7 @@ fn write_symbol(
 }
 
 // The leader of a class.
-fn leader_of(leaders: &[Option<usize>], class: usize) -> Option<usize>
+pub(crate) fn leader_of(leaders: &[Option<usize>], class: usize) -> Option<usize>
     requires { class < length leaders.now }
     ensures { result ≡ slice_index_or leaders.now class None }
 {
@@ -136,7 +136,7 @@ fn leader_of(leaders: &[Option<usize>], class: usize) -> Option<usize>
 
 // The cells of what a class stands for, its proper parts folded: where a class has a leader, that
 // is written.
-fn fold(
+pub(crate) fn fold(
     alloc: Global,
     slots: &Slots,
     nodes: &IndexSet<Node>,

@@ -1,26 +1,34 @@
-//! Canonical solution lists of matching: which term each variable of one side stands for.
+//! Canonical solution lists: which term each variable of a query and an entry stands for.
 //!
 //! A term matches another where some substitution on its variables takes it to the other. Both are
 //! read once, from left to right; a variable stands for a slice of the other term, and the slices
 //! are copied only where the whole matches.
+//!
+//! Two terms can be unified where some substitution makes them equal. They are solved, and terms
+//! that become equal get one number, so that no term is ever expanded. Of the variables with one
+//! number the first leads; the others are bound to it, and it is bound to a term of theirs in which
+//! each part that has a leader is written as that. The bindings are sorted by what they use.
 #![tactic(auto)]
 
-mod canonical;
 mod classes;
 mod folding;
 mod laws;
 mod leaders;
 mod matching;
 mod order;
+mod relations;
 mod solution;
 #[cfg(test)]
 mod tests;
+mod unifying;
 mod uses;
+mod variables;
 
-pub use canonical::{generalization, instance, variant};
 pub use laws::{
     canonical_lists_are_unique, numbers_keep_answers, numbers_keep_relations,
     numbers_tell_symbols_apart, solutions_are_of_their_terms,
 };
+pub use relations::{canonical, generalization, instance, variant};
 pub use si_flat::Owner;
 pub use solution::{Binding, Solution};
+pub use unifying::unifier;

@@ -15,7 +15,7 @@ pub(crate) struct Image<'a> {
 }
 
 // The number of a variable of this owner.
-fn variable_number(owner: Owner, cell: Cell) -> Option<u32>
+pub(crate) fn variable_number(owner: Owner, cell: Cell) -> Option<u32>
     ensures { result ≡ variable_number owner cell }
 {
     match (owner, cell) {

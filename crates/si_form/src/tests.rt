@@ -3,7 +3,11 @@ ghost use Rattle.std.specs.Prelude.{IfOk};
 ghost use Rattle.si_flat.specs.Cells.{IsWhole};
 ghost use Rattle.si_form.specs.Answers.{AreNumbered};
 
-use crate::{Owner, Solution, canonical_lists_are_unique, generalization, instance, variant};
+use crate::{
+    Owner, Solution, canonical, canonical_lists_are_unique, generalization, instance, unifier,
+    variant,
+};
+use si_defs::Relation;
 use si_flat::{Cell, Flat};
 use std::alloc::{AllocError, Global};
 use std::process::Abort;
@@ -83,5 +87,54 @@ fn lists_of_each_kind(rt: HostRuntime) -> Result<(), Fail> {
     );
     assert!(rt; variant(alloc, &query, &below)?.is_none());
     canonical_lists_are_unique();
+    Ok(())
+}
+
+// Whether these are the bindings of the list, in order.
+fn assert_lists(rt: &impl Abort, solution: Option<Solution>, bindings: &[(Owner, u32, &[Cell])]) {
+    let solution = solution.expect(rt, "a list");
+    assert_eq!(rt; solution.len(), bindings.len());
+    for n in 0..solution.len() {
+        let binding = solution.at(n);
+        let (owner, slot, value) = bindings[n];
+        assert_eq!(rt; binding.owner, owner);
+        assert_eq!(rt; binding.slot, slot);
+        assert_eq!(rt; binding.value.cells(), value);
+    }
+}
+
+// The queries are f(x, x), f(x, y) and a; the entries f(g(X), Y), f(a, g(a)), f(X, g(X)), f(X, X) and
+// a.
+#[test]
+fn lists_of_unifiable_terms(rt: HostRuntime) -> Result<(), Fail> {
+    let (x, y) = (Cell::Query(0), Cell::Query(1));
+    let (left, right) = (Cell::Entry(0), Cell::Entry(1));
+    let alloc = rt.alloc();
+    let twice = flat(alloc, Owner::Query, &[F3, x, x])?;
+    let pair = flat(alloc, Owner::Query, &[F3, x, y])?;
+    let constant = flat(alloc, Owner::Query, &[A])?;
+    let above = flat(alloc, Owner::Entry, &[F4, G2, left, right])?;
+    let ground = flat(alloc, Owner::Entry, &[F4, A, G2, A])?;
+    let circle = flat(alloc, Owner::Entry, &[F4, left, G2, left])?;
+    let same = flat(alloc, Owner::Entry, &[F3, left, left])?;
+    let only = flat(alloc, Owner::Entry, &[A])?;
+    assert_lists(
+        &rt,
+        unifier(alloc, &twice, &above)?,
+        &[(Owner::Entry, 1, &[x]), (Owner::Query, 0, &[G2, left])],
+    );
+    assert_lists(
+        &rt,
+        unifier(alloc, &pair, &ground)?,
+        &[(Owner::Query, 1, &[G2, x]), (Owner::Query, 0, &[A])],
+    );
+    assert!(rt; unifier(alloc, &twice, &circle)?.is_none());
+    assert_lists(
+        &rt,
+        canonical(alloc, Relation::Unifiable, &pair, &same)?,
+        &[(Owner::Query, 1, &[x]), (Owner::Entry, 0, &[x])],
+    );
+    assert_lists(&rt, unifier(alloc, &constant, &only)?, &[]);
+    assert!(rt; canonical(alloc, Relation::Unifiable, &twice, &ground)?.is_none());
     Ok(())
 }

@@ -12,7 +12,7 @@ use si_unify::Slots;
 use std::alloc::{AllocError, Global};
 
 // The slot of a variable's cell.
-fn slot_of(slots: &Slots, cell: Cell) -> Option<usize>
+pub(crate) fn slot_of(slots: &Slots, cell: Cell) -> Option<usize>
     ensures { result ≡ cell_slot slots.now cell }
 {
     match cell {

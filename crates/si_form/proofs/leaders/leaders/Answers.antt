@@ -22,7 +22,7 @@ loop-slot-preserved c =
           c.lead.ensures (c.loop-slot.invariant.1 slots),
     )
 
-pub returns : goal.returns
-returns c = λ slots.
+pub returns-clause-leads : goal.returns-clause-leads
+returns-clause-leads c = λ slots.
     let same : c.loop-slot.slot ≡ length c.args.classes.now.of_slots.items = omega (arith, c.loop-slot-test.false, c.loop-slot.auto.slot-end, c.len-slot-end.ensures, c.args.classes.now.of_slots.ok) in
     subst (λ k. LeadClasses slots c.args.classes.now.nodes.keys c.args.classes.now.of_slots.items k c.loop-slot.leaders.items) same (c.loop-slot.invariant.1 slots)

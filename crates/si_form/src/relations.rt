@@ -8,6 +8,8 @@ ghost use Rattle.si_form.specs.Matching.{binding_of, AreWholeImages, MatchAnswer
 
 use crate::matching::{Image, matches};
 use crate::solution::{Binding, Solution};
+use crate::unifying::unifier;
+use si_defs::Relation;
 use si_flat::{Cell, Flat, Owner};
 use std::alloc::{AllocError, Global};
 
@@ -81,4 +83,23 @@ pub fn variant(alloc: Global, query: &Flat, entry: &Flat) -> Result<Option<Solut
         return Ok(None);
     }
     matched(alloc, Owner::Query, query.cells(), entry.cells())
+}
+
+/// The canonical list of a relation; `None` where the query and the entry don't stand in it.
+pub fn canonical(
+    alloc: Global,
+    kind: Relation,
+    query: &Flat,
+    entry: &Flat,
+) -> Result<Option<Solution>, AllocError>
+    requires query { AreNumbered Query query.now }
+    requires entry { AreNumbered Entry entry.now }
+    ensures { IfOk result (Answers kind query.now entry.now) }
+{
+    match kind {
+        Relation::Variants => variant(alloc, query, entry),
+        Relation::Instances => instance(alloc, query, entry),
+        Relation::Generalizations => generalization(alloc, query, entry),
+        Relation::Unifiable => unifier(alloc, query, entry),
+    }
 }

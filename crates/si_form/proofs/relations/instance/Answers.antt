@@ -3,7 +3,7 @@ use Rattle.std.specs.Prelude.{IfOk}
 use Rattle.si_flat.specs.declared.Owner.TheVariants.{Query}
 use Rattle.si_form.specs.Matching.{MatchAnswers}
 use Rattle.si_form.proofs.AnswerLaws.{instance_answers}
-use Rattle.si_form.proofs.canonical.instance.Goals as goal
+use Rattle.si_form.proofs.relations.instance.Goals as goal
 
 pub returns : goal.returns
 returns c =

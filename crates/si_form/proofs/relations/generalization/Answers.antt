@@ -3,7 +3,7 @@ use Rattle.std.specs.Prelude.{IfOk}
 use Rattle.si_flat.specs.declared.Owner.TheVariants.{Entry}
 use Rattle.si_form.specs.Matching.{MatchAnswers}
 use Rattle.si_form.proofs.AnswerLaws.{generalization_answers}
-use Rattle.si_form.proofs.canonical.generalization.Goals as goal
+use Rattle.si_form.proofs.relations.generalization.Goals as goal
 
 pub returns : goal.returns
 returns c =

@@ -2,7 +2,7 @@ use Rattle.std.proofs.Common.{true, map, subst, sym, ◌∙◌, ap}
 use Rattle.si_form.specs.Answers.{StandsForList}
 use Rattle.si_form.specs.Matching.{IsMatched, AreWholeImages, pairs, binding_of}
 use Rattle.si_form.proofs.AnswerLaws.{images_stand, images_whole}
-use Rattle.si_form.proofs.canonical.matched.Goals as goal
+use Rattle.si_form.proofs.relations.matched.Goals as goal
 
 pub bindings-requires : goal.bindings-requires
 bindings-requires c =

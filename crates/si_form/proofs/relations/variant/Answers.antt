@@ -3,7 +3,7 @@ use Rattle.std.specs.Prelude.{IfOk}
 use Rattle.si_flat.specs.declared.Owner.TheVariants.{Query, Entry}
 use Rattle.si_form.specs.Matching.{MatchAnswers, IsMatched}
 use Rattle.si_form.proofs.AnswerLaws.{variant_answers}
-use Rattle.si_form.proofs.canonical.variant.Goals as goal
+use Rattle.si_form.proofs.relations.variant.Goals as goal
 
 pub returns : goal.returns
 returns c =

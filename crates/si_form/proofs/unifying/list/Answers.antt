@@ -1,0 +1,32 @@
+use Rattle.std.proofs.Common.{◌≡◌, ◌<◌, length, get_or, refl, sym, ◌∙◌, ap, subst}
+use Rattle.si_flat.specs.Cells.{IsWhole}
+use Rattle.si_form.specs.Ordering.{list_of}
+use Rattle.si_form.proofs.UnifierThere.{lists_begin, lists_skip, lists_more, listed_at, whole_at, right_at, lists_end}
+use Rattle.si_form.proofs.unifying.list.Goals as goal
+
+pub loop-slot-preserved-in_default : goal.loop-slot-preserved-in_default
+loop-slot-preserved-in_default c =
+    let k = get_or c.args.order.now c.loop-slot.slot-index 0 in
+    let inside = listed_at c.args.slots.now c.args.rights.now c.args.order.now c.loop-slot.slot-index k c.loop-slot-test.true refl c.requires.long c.requires.listed in
+    lists_skip c.args.slots.now c.args.rights.now c.args.order.now c.loop-slot.slot-index k c.loop-slot.solution c.loop-slot-test.true refl c.loop-slot.invariant inside
+    (right_at c.args.slots.now c.args.rights.now c.args.order.now k c.index-rights-slot.result inside c.index-rights-slot.is ∙ ap list_of c.in_default.is)
+
+pub from_cells-requires : goal.from_cells-requires
+from_cells-requires c =
+    let k = get_or c.args.order.now c.loop-slot.slot-index 0 in
+    let inside = listed_at c.args.slots.now c.args.rights.now c.args.order.now c.loop-slot.slot-index k c.loop-slot-test.true refl c.requires.long c.requires.listed in
+    subst IsWhole (sym c.deref.ensures.value)
+    (whole_at c.args.slots.now c.args.rights.now c.args.order.now k c.in-Some.cells.items inside
+    (right_at c.args.slots.now c.args.rights.now c.args.order.now k c.index-rights-slot.result inside c.index-rights-slot.is ∙ ap list_of c.in-Some.is) c.requires.listed)
+
+pub loop-slot-preserved : goal.loop-slot-preserved
+loop-slot-preserved c =
+    let k = get_or c.args.order.now c.loop-slot.slot-index 0 in
+    let inside = listed_at c.args.slots.now c.args.rights.now c.args.order.now c.loop-slot.slot-index k c.loop-slot-test.true refl c.requires.long c.requires.listed in
+    lists_more c.args.slots.now c.args.rights.now c.args.order.now c.loop-slot.slot-index k c.loop-slot.solution c.loop-slot-test.true refl c.loop-slot.invariant
+    c.in-Some.cells.items c.binding.result c.push.new.self inside
+    (right_at c.args.slots.now c.args.rights.now c.args.order.now k c.index-rights-slot.result inside c.index-rights-slot.is ∙ ap list_of c.in-Some.is)
+    c.binding.ensures.left (c.binding.ensures.right ∙ c.in_ok-value.ensures ∙ c.deref.ensures.value) c.in_ok-push.ensures.ok
+
+pub returns : goal.returns
+returns c = lists_end c.args.slots.now c.args.rights.now c.args.order.now c.loop-slot.slot-index c.loop-slot.solution c.loop-slot-test.false c.loop-slot.invariant

@@ -12,7 +12,7 @@ use Rattle.si_unify.specs.Solving.{Pairs, slot_count, variable_of}
 use Rattle.si_form.specs.declared.classes.Node.{Node}
 use Rattle.si_form.specs.Classes.{AreNodes, KnowsSlot, HasClasses}
 use Rattle.si_form.specs.Folding.{leader, variable_or, folded, folded_all, AreClasses, AreLeaders, LeadClasses, AreSizes, HasTerms, CanFold, HasFolded}
-use Rattle.si_form.specs.Unifying.{IsApplication, Stays, right_side, IsToBind, IsRightSide, IsGeneral, HasGeneral, HasApplication, AreFound, IsBoundTo, HasRightSide, HaveRightSides}
+use Rattle.si_form.specs.Unifying.{IsApplication, StaysFree, right_side, IsToBind, IsRightSide, IsGeneral, HasGeneral, HasApplication, AreFound, IsBoundTo, HasRightSide, HaveRightSides}
 use Rattle.si_form.specs.Ordering.{list_of}
 use Rattle.si_form.proofs.UsesLaws.{get_or_front, get_or_last}
 use Rattle.si_form.proofs.CanonicalLaws.{all_from, all_at}
@@ -117,7 +117,7 @@ module _ (slots : Slots) (pairs : Pairs) (nodes : List Node) (classes : List ℕ
           term_is = app.image_is;
           leads =
               all_from (λ y. leader slots f (terms.var y) ≡ None → ⊥) (terms.variables (f (variable_of slots slot)))
-              (λ y a e. no_leader slots f y (all_at (Stays slots f) (terms.variables (f (variable_of slots slot))) y (general.stays slot inside) a) e);
+              (λ y a e. no_leader slots f y (all_at (StaysFree slots f) (terms.variables (f (variable_of slots slot))) y (general.stays slot inside) a) e);
           fits = omega (arith, size_is, least, app.size_is, app.small);
         }
 

@@ -12,7 +12,7 @@ use Rattle.si_form.proofs.CanonicalLaws.{all_at, all_from, among_parts}
 use Rattle.si_form.proofs.FoldedLaws.{among_front, among_back}
 use Rattle.si_form.proofs.NodeLaws.{slot_again}
 use Rattle.si_form.specs.Ordering.{list_or_none, IsListed, AreFirstUnused}
-use Rattle.si_form.specs.Unifying.{HasUses, bindings_of}
+use Rattle.si_form.specs.Unifying.{HasUses, listed_bindings}
 
 -- ---- the variables of the first slots
 abbrev pub variables_of_slots : Slots → ℕ → ℕ → List Variable
@@ -57,19 +57,19 @@ module _ (used : ℕ → Option (List ℕ)) where
   listed_all before (k ∷ ks) h = (h.0.is_open.listed, listed_all (before ++ k ∷ []) ks h.1)
 
   module _ (slots : Slots) (right : ℕ → Term) where
-    left_slot : (ks : List ℕ) (x : Variable) → IsAmong (lefts (bindings_of slots right ks)) x → (k : ℕ) × IsAmong ks k × (variable_of slots k ≡ x)
+    left_slot : (ks : List ℕ) (x : Variable) → IsAmong (lefts (listed_bindings slots right ks)) x → (k : ℕ) × IsAmong ks k × (variable_of slots k ≡ x)
     left_slot [] x a = elim a [ ]
     left_slot (k ∷ ks) x a = elim a [ inl e ↦ (k, inl refl, e) | inr b ↦ (let r = left_slot ks x b in (r.0, inr r.1, r.2)) ]
 
-    pub left_of : (ks : List ℕ) (k : ℕ) → IsAmong ks k → IsAmong (lefts (bindings_of slots right ks)) (variable_of slots k)
+    pub left_of : (ks : List ℕ) (k : ℕ) → IsAmong ks k → IsAmong (lefts (listed_bindings slots right ks)) (variable_of slots k)
     left_of [] k a = elim a [ ]
     left_of (j ∷ ks) k a = elim a [ inl e ↦ inl (ap (variable_of slots) e) | inr b ↦ inr (left_of ks k b) ]
 
-    right_slot : (ks : List ℕ) (t : Term) → IsAmong (rights (bindings_of slots right ks)) t → (k : ℕ) × IsAmong ks k × (right k ≡ t)
+    right_slot : (ks : List ℕ) (t : Term) → IsAmong (rights (listed_bindings slots right ks)) t → (k : ℕ) × IsAmong ks k × (right k ≡ t)
     right_slot [] t a = elim a [ ]
     right_slot (k ∷ ks) t a = elim a [ inl e ↦ (k, inl refl, e) | inr b ↦ (let r = right_slot ks t b in (r.0, inr r.1, r.2)) ]
 
-    right_of : (ks : List ℕ) (k : ℕ) → IsAmong ks k → IsAmong (rights (bindings_of slots right ks)) (right k)
+    right_of : (ks : List ℕ) (k : ℕ) → IsAmong ks k → IsAmong (rights (listed_bindings slots right ks)) (right k)
     right_of [] k a = elim a [ ]
     right_of (j ∷ ks) k a = elim a [ inl e ↦ inl (ap right e) | inr b ↦ inr (right_of ks k b) ]
 
@@ -80,17 +80,17 @@ module _ (used : ℕ → Option (List ℕ)) where
     abbrev IsUnused : List ℕ → ℕ → Type 0
     IsUnused ks j = (i : ℕ) → IsAmong ks i → IsAmong (list_or_none (used i)) j → ⊥
 
-    clear : (ks : List ℕ) (j : ℕ) → ((k : ℕ) → IsAmong ks k → HasUses used slots right k) → IsUnused ks j → AllByRecursion (λ t. IsAmong (terms.variables t) (variable_of slots j) → ⊥) (rights (bindings_of slots right ks))
+    clear : (ks : List ℕ) (j : ℕ) → ((k : ℕ) → IsAmong ks k → HasUses used slots right k) → IsUnused ks j → AllByRecursion (λ t. IsAmong (terms.variables t) (variable_of slots j) → ⊥) (rights (listed_bindings slots right ks))
     clear ks j has unused =
-        all_from (λ t. IsAmong (terms.variables t) (variable_of slots j) → ⊥) (rights (bindings_of slots right ks))
+        all_from (λ t. IsAmong (terms.variables t) (variable_of slots j) → ⊥) (rights (listed_bindings slots right ks))
         (λ t a v.
         let r = right_slot ks t a in
         unused r.0 r.1
         (subst (IsAmong (list_or_none (used r.0))) (slot_again slots j)
         ((has r.0 r.1).uses (variable_of slots j) (subst (λ u. IsAmong (terms.variables u) (variable_of slots j)) (sym r.2) v))))
 
-    of_clear : (ks : List ℕ) (j : ℕ) → ((k : ℕ) → IsAmong ks k → HasUses used slots right k) → AllByRecursion (λ t. IsAmong (terms.variables t) (variable_of slots j) → ⊥) (rights (bindings_of slots right ks)) → IsUnused ks j
-    of_clear ks j has h i a u = all_at (λ t. IsAmong (terms.variables t) (variable_of slots j) → ⊥) (rights (bindings_of slots right ks)) (right i) h (right_of ks i a) ((has i a).used_in j u)
+    of_clear : (ks : List ℕ) (j : ℕ) → ((k : ℕ) → IsAmong ks k → HasUses used slots right k) → AllByRecursion (λ t. IsAmong (terms.variables t) (variable_of slots j) → ⊥) (rights (listed_bindings slots right ks)) → IsUnused ks j
+    of_clear ks j has h i a u = all_at (λ t. IsAmong (terms.variables t) (variable_of slots j) → ⊥) (rights (listed_bindings slots right ks)) (right i) h (right_of ks i a) ((has i a).used_in j u)
 
     module _ (q e : Term) (n : ℕ) (order_is : order same_variable q e ≡ variables_of_slots slots 0 n) (inside : (k : ℕ) → IsListed used k → k < n) (has : (k : ℕ) → IsListed used k → HasUses used slots right k) where
       has_all : (before ks : List ℕ) → AreFirstUnused used before ks → (k : ℕ) → IsAmong ks k → HasUses used slots right k
@@ -101,7 +101,7 @@ module _ (used : ℕ → Option (List ℕ)) where
       unused_here before k ks h i a u =
           h.0.is_open.unused i (all_at (IsListed used) (k ∷ ks) i (listed_all before (k ∷ ks) h) a) (all_at (λ j. IsAmong before j → ⊥) (k ∷ ks) i (behind_all before (k ∷ ks) h) a) u
 
-      pub triangular_of : (before ks : List ℕ) → AreFirstUnused used before ks → IsTriangular same_variable (bindings_of slots right ks)
+      pub triangular_of : (before ks : List ℕ) → AreFirstUnused used before ks → IsTriangular same_variable (listed_bindings slots right ks)
       triangular_of before [] h = tt
       triangular_of before (k ∷ ks) h = (
         (λ a.
@@ -112,7 +112,7 @@ module _ (used : ℕ → Option (List ℕ)) where
         triangular_of (before ++ k ∷ []) ks h.1,
       )
 
-      pub ordered_of : (before ks : List ℕ) → AreFirstUnused used before ks → ((k : ℕ) → IsListed used k → IsAmong (before ++ ks) k) → IsOrdered same_variable q e (bindings_of slots right ks)
+      pub ordered_of : (before ks : List ℕ) → AreFirstUnused used before ks → ((k : ℕ) → IsListed used k → IsAmong (before ++ ks) k) → IsOrdered same_variable q e (listed_bindings slots right ks)
       ordered_of before [] h all = tt
       ordered_of before (k ∷ ks) h all = (
         (
@@ -131,7 +131,7 @@ module _ (used : ℕ → Option (List ℕ)) where
       )
         where
           IsHere : Variable → Type 0
-          IsHere x = IsAmong (lefts (bindings_of slots right (k ∷ ks))) x × AllByRecursion (λ t. IsAmong (terms.variables t) x → ⊥) (rights (bindings_of slots right (k ∷ ks)))
+          IsHere x = IsAmong (lefts (listed_bindings slots right (k ∷ ks))) x × AllByRecursion (λ t. IsAmong (terms.variables t) x → ⊥) (rights (listed_bindings slots right (k ∷ ks)))
 
           parts : Parts slots 0 n k
           parts = parts_at slots 0 n k k (omega arith) (inside k h.0.is_open.listed)

@@ -12,7 +12,7 @@ use Rattle.si_unify.specs.declared.slots.Slots.{Slots}
 use Rattle.si_unify.specs.Solving.{slot_count, variable_of}
 use Rattle.si_form.specs.Folding.{same_terms, or_slot, leader_below, leader, variable_or, folded, folded_all}
 use Rattle.si_form.specs.Ordering.{IsListed, AreOrdered}
-use Rattle.si_form.specs.Unifying.{Stays, IsApplication, ImagesStay, right_by, right_side, IsToBind, HasUses, bindings_of}
+use Rattle.si_form.specs.Unifying.{StaysFree, IsApplication, ImagesStay, right_by, right_side, IsToBind, HasUses, listed_bindings}
 use Rattle.si_form.proofs.VariableLaws.{same_tells, same_itself}
 use Rattle.si_form.proofs.CanonicalLaws.{all_at, all_from, all_front, all_back, all_append}
 use Rattle.si_form.proofs.UnifierLaws.{first_unique}
@@ -64,36 +64,36 @@ module _ (slots : Slots) (f : Variable → Term) where
   abbrev pub LeadsItself : Variable → Type 0
   LeadsItself y = (w : ℕ) × (w < slot_count slots) × (y ≡ variable_of slots w) × (leader slots f (f (variable_of slots w)) ≡ Some w)
 
-  pub no_leader : {P : Type 0} (y : Variable) → Stays slots f y → leader slots f (terms.var y) ≡ None → P
+  pub no_leader : {P : Type 0} (y : Variable) → StaysFree slots f y → leader slots f (terms.var y) ≡ None → P
   no_leader y s e = absurd (none_led (slot_count slots) (terms.var y) e s.0 s.1 (ap f (sym s.2) ∙ s.3))
 
   mutual
-    unfolds : (t : Term) → AllByRecursion (Stays slots f) (terms.variables t) → (o : Option ℕ) → leader slots f t ≡ o → terms.substitute f (variable_or slots f o (folded slots f t)) ≡ t
+    unfolds : (t : Term) → AllByRecursion (StaysFree slots f) (terms.variables t) → (o : Option ℕ) → leader slots f t ≡ o → terms.substitute f (variable_or slots f o (folded slots f t)) ≡ t
     unfolds t h (Some w) e = (led (slot_count slots) w t e).image_is
     unfolds (terms.var y) h None e = no_leader y h.0 e
     unfolds (terms.app s ts) h None e = ap (terms.app s) (all_unfold ts h)
 
-    all_unfold : (ts : Terms) → AllByRecursion (Stays slots f) (terms.variables_of_all ts) → terms.substitute_all f (folded_all slots f ts) ≡ ts
+    all_unfold : (ts : Terms) → AllByRecursion (StaysFree slots f) (terms.variables_of_all ts) → terms.substitute_all f (folded_all slots f ts) ≡ ts
     all_unfold terms.none h = refl
     all_unfold (terms.more t ts) h =
-        ap (λ u. terms.more u (terms.substitute_all f (folded_all slots f ts))) (unfolds t (all_front (Stays slots f) (terms.variables t) (terms.variables_of_all ts) h) (leader slots f t) refl)
-        ∙ ap (terms.more t) (all_unfold ts (all_back (Stays slots f) (terms.variables t) (terms.variables_of_all ts) h))
+        ap (λ u. terms.more u (terms.substitute_all f (folded_all slots f ts))) (unfolds t (all_front (StaysFree slots f) (terms.variables t) (terms.variables_of_all ts) h) (leader slots f t) refl)
+        ∙ ap (terms.more t) (all_unfold ts (all_back (StaysFree slots f) (terms.variables t) (terms.variables_of_all ts) h))
 
   leads_itself : (t : Term) (w : ℕ) → leader slots f t ≡ Some w → LeadsItself (variable_of slots w)
   leads_itself t w e = let l = led (slot_count slots) w t e in (w, l.below, refl, ap (leader slots f) l.image_is ∙ e)
 
   mutual
-    leads_all : (t : Term) → AllByRecursion (Stays slots f) (terms.variables t) → (o : Option ℕ) → leader slots f t ≡ o → AllByRecursion LeadsItself (terms.variables (variable_or slots f o (folded slots f t)))
+    leads_all : (t : Term) → AllByRecursion (StaysFree slots f) (terms.variables t) → (o : Option ℕ) → leader slots f t ≡ o → AllByRecursion LeadsItself (terms.variables (variable_or slots f o (folded slots f t)))
     leads_all t h (Some w) e = (leads_itself t w e, tt)
     leads_all (terms.var y) h None e = no_leader y h.0 e
     leads_all (terms.app s ts) h None e = leads_every ts h
 
-    leads_every : (ts : Terms) → AllByRecursion (Stays slots f) (terms.variables_of_all ts) → AllByRecursion LeadsItself (terms.variables_of_all (folded_all slots f ts))
+    leads_every : (ts : Terms) → AllByRecursion (StaysFree slots f) (terms.variables_of_all ts) → AllByRecursion LeadsItself (terms.variables_of_all (folded_all slots f ts))
     leads_every terms.none h = tt
     leads_every (terms.more t ts) h =
         all_append LeadsItself (terms.variables (variable_or slots f (leader slots f t) (folded slots f t))) (terms.variables_of_all (folded_all slots f ts))
-        (leads_all t (all_front (Stays slots f) (terms.variables t) (terms.variables_of_all ts) h) (leader slots f t) refl)
-        (leads_every ts (all_back (Stays slots f) (terms.variables t) (terms.variables_of_all ts) h))
+        (leads_all t (all_front (StaysFree slots f) (terms.variables t) (terms.variables_of_all ts) h) (leader slots f t) refl)
+        (leads_every ts (all_back (StaysFree slots f) (terms.variables t) (terms.variables_of_all ts) h))
 
   -- no folded term is longer than one that f takes to the same term
   mutual
@@ -119,7 +119,7 @@ module _ (slots : Slots) (f : Variable → Term) where
   pub right_of_leader : (k : ℕ) → leader slots f (f (variable_of slots k)) ≡ Some k → right_side slots f k ≡ folded slots f (f (variable_of slots k))
   right_of_leader k l = ap (right_by slots f k) l ∙ rw (eq-eqb k k refl) refl
 
-  folded_app : (t : Term) → IsApplication t → AllByRecursion (Stays slots f) (terms.variables t) → (terms.substitute f (folded slots f t) ≡ t) × AllByRecursion LeadsItself (terms.variables (folded slots f t))
+  folded_app : (t : Term) → IsApplication t → AllByRecursion (StaysFree slots f) (terms.variables t) → (terms.substitute f (folded slots f t) ≡ t) × AllByRecursion LeadsItself (terms.variables (folded slots f t))
   folded_app (terms.var y) a h = let bad : terms.var y ≡ terms.app a.0 a.1 = a.2 in cc
   folded_app (terms.app s ts) a h = (ap (terms.app s) (all_unfold ts h), leads_every ts h)
 
@@ -185,7 +185,7 @@ module _ (slots : Slots) (f : Variable → Term) where
         by (Some w) l = (w, l)
 
     mutual
-      folds : (t : Term) → AllByRecursion (Stays slots f) (terms.variables t) → (o : Option ℕ) → leader slots f t ≡ o → IsFoldedBy same_variable same_tells same_itself q e f (variable_or slots f o (folded slots f t))
+      folds : (t : Term) → AllByRecursion (StaysFree slots f) (terms.variables t) → (o : Option ℕ) → leader slots f t ≡ o → IsFoldedBy same_variable same_tells same_itself q e f (variable_or slots f o (folded slots f t))
       folds t h (Some w) l = tt
       folds (terms.var y) h None l = no_leader y h.0 l
       folds (terms.app s ts) h None l = (
@@ -194,15 +194,15 @@ module _ (slots : Slots) (f : Variable → Term) where
         all_folds ts h,
       )
 
-      all_folds : (ts : Terms) → AllByRecursion (Stays slots f) (terms.variables_of_all ts) → AreFoldedBy same_variable same_tells same_itself q e f (folded_all slots f ts)
+      all_folds : (ts : Terms) → AllByRecursion (StaysFree slots f) (terms.variables_of_all ts) → AreFoldedBy same_variable same_tells same_itself q e f (folded_all slots f ts)
       all_folds terms.none h = tt
       all_folds (terms.more t ts) h = (
-        folds t (all_front (Stays slots f) (terms.variables t) (terms.variables_of_all ts) h) (leader slots f t) refl,
-        all_folds ts (all_back (Stays slots f) (terms.variables t) (terms.variables_of_all ts) h),
+        folds t (all_front (StaysFree slots f) (terms.variables t) (terms.variables_of_all ts) h) (leader slots f t) refl,
+        all_folds ts (all_back (StaysFree slots f) (terms.variables t) (terms.variables_of_all ts) h),
       )
 
     -- ---- right sides
-    folded_in : (t : Term) → AllByRecursion (Stays slots f) (terms.variables t) → IsFoldedInsideBy same_variable same_tells same_itself q e f (folded slots f t)
+    folded_in : (t : Term) → AllByRecursion (StaysFree slots f) (terms.variables t) → IsFoldedInsideBy same_variable same_tells same_itself q e f (folded slots f t)
     folded_in (terms.var y) h = tt
     folded_in (terms.app s ts) h = all_folds ts h
 
@@ -214,18 +214,18 @@ module _ (slots : Slots) (f : Variable → Term) where
         ]
 
     module _ (used : ℕ → Option (List ℕ)) (ks : List ℕ) (ordered : AreOrdered used ks) (to_bind : (k : ℕ) → IsListed used k → IsToBind slots f k) (of_bind : (k : ℕ) → IsToBind slots f k → IsListed used k) (has : (k : ℕ) → IsListed used k → HasUses used slots (right_side slots f) k) (stays : ImagesStay slots f) where
-      each : (P : Variable × Term → Type 0) (some : List ℕ) → AllByRecursion (IsListed used) some → ((k : ℕ) → IsListed used k → P (variable_of slots k, right_side slots f k)) → AllByRecursion P (bindings_of slots (right_side slots f) some)
+      each : (P : Variable × Term → Type 0) (some : List ℕ) → AllByRecursion (IsListed used) some → ((k : ℕ) → IsListed used k → P (variable_of slots k, right_side slots f k)) → AllByRecursion P (listed_bindings slots (right_side slots f) some)
       each P [] l give = tt
       each P (k ∷ some) l give = (give k l.0, each P some l.1 give)
 
-      all_bindings : (P : Variable × Term → Type 0) → ((k : ℕ) → IsListed used k → P (variable_of slots k, right_side slots f k)) → AllByRecursion P (bindings_of slots (right_side slots f) ks)
+      all_bindings : (P : Variable × Term → Type 0) → ((k : ℕ) → IsListed used k → P (variable_of slots k, right_side slots f k)) → AllByRecursion P (listed_bindings slots (right_side slots f) ks)
       all_bindings P give = each P ks (listed_all used [] ks ordered.next) give
 
-      pair_among : (some : List ℕ) (k : ℕ) → IsAmong some k → IsAmong (bindings_of slots (right_side slots f) some) (variable_of slots k, right_side slots f k)
+      pair_among : (some : List ℕ) (k : ℕ) → IsAmong some k → IsAmong (listed_bindings slots (right_side slots f) some) (variable_of slots k, right_side slots f k)
       pair_among [] k a = elim a [ ]
       pair_among (j ∷ some) k a = elim a [ inl s ↦ inl (ap (λ i. (variable_of slots i, right_side slots f i)) s) | inr b ↦ inr (pair_among some k b) ]
 
-      pub folded_list : IsFoldedList same_variable same_tells same_itself q e f (bindings_of slots (right_side slots f) ks)
+      pub folded_list : IsFoldedList same_variable same_tells same_itself q e f (listed_bindings slots (right_side slots f) ks)
       folded_list = record {
         triangular = triangular_of used slots (right_side slots f) q e (slot_count slots) order_is (λ k l. (to_bind k l).0) has [] ks ordered.next;
         ordered = ordered_of used slots (right_side slots f) q e (slot_count slots) order_is (λ k l. (to_bind k l).0) has [] ks ordered.next ordered.all;
@@ -249,13 +249,13 @@ module _ (slots : Slots) (f : Variable → Term) where
         free = λ y a apart. frees y (slot_of_known y a) apart;
       }
         where
-          follows : (x w : Variable) → (j : ℕ) × (j < slot_count slots) × (x ≡ variable_of slots j) → Leads same_variable same_tells same_itself q e f x w → (w ≡ x → ⊥) → IsAmong (bindings_of slots (right_side slots f) ks) (x, terms.var w)
+          follows : (x w : Variable) → (j : ℕ) × (j < slot_count slots) × (x ≡ variable_of slots j) → Leads same_variable same_tells same_itself q e f x w → (w ≡ x → ⊥) → IsAmong (listed_bindings slots (right_side slots f) ks) (x, terms.var w)
           follows x w s leads differs =
               let own = has_leader s.0 s.1 in
               let w_is : variable_of slots own.0 ≡ w = leader_is x w leads own.0 (ap (λ y. leader slots f (f y)) s.2 ∙ own.1) in
               let apart : own.0 ≢ s.0 = λ same. differs (sym w_is ∙ ap (variable_of slots) same ∙ sym s.2) in
               let listed = of_bind s.0 (s.1, inl (own.0, own.1, apart)) in
-              subst (λ p. IsAmong (bindings_of slots (right_side slots f) ks) p)
+              subst (λ p. IsAmong (listed_bindings slots (right_side slots f) ks) p)
               (
               ap (λ t. (variable_of slots s.0, t)) (right_of_follower s.0 own.0 own.1 apart ∙ ap (λ v. terms.var v) w_is)
               ∙ ap (λ v. (v, terms.var w)) (sym s.2)
@@ -266,11 +266,11 @@ module _ (slots : Slots) (f : Variable → Term) where
           free_by y (terms.var z) e none leads = record { leads = leads; stands = z; image_is = e }
           free_by y (terms.app s ts) e none leads = absurd (none (s, ts, refl))
 
-          frees : (y : Variable) → (j : ℕ) × (j < slot_count slots) × (y ≡ variable_of slots j) → (IsAmong (lefts (bindings_of slots (right_side slots f) ks)) y → ⊥) → IsFree same_variable same_tells same_itself q e f y
+          frees : (y : Variable) → (j : ℕ) × (j < slot_count slots) × (y ≡ variable_of slots j) → (IsAmong (lefts (listed_bindings slots (right_side slots f) ks)) y → ⊥) → IsFree same_variable same_tells same_itself q e f y
           frees y s apart =
               let own = has_leader s.0 s.1 in
               let not_listed : IsListed used s.0 → ⊥ =
-              λ l. apart (subst (IsAmong (lefts (bindings_of slots (right_side slots f) ks))) (sym s.2) (left_of used slots (right_side slots f) ks s.0 (ordered.all s.0 l))) in
+              λ l. apart (subst (IsAmong (lefts (listed_bindings slots (right_side slots f) ks))) (sym s.2) (left_of used slots (right_side slots f) ks s.0 (ordered.all s.0 l))) in
               elim (eqb_tells own.0 s.0) [
                 | inl same ↦
                     let leads_self : leader slots f (f (variable_of slots s.0)) ≡ Some s.0 = own.1 ∙ ap Some same.1 in

@@ -24,7 +24,7 @@ use Rattle.si_unify.specs.Solving.{CellIsInRange}
 use Rattle.si_unify.proofs.Places.{variable_of-slot_of, in_range-variable}
 use Rattle.si_form.proofs.FoldedLaws.{sequence_inside, lefts_gone}
 use Rattle.si_unify.proofs.Rows.{count-substitute}
-use Rattle.si_form.specs.Unifying.{Stays, IsGeneral, HasGeneral}
+use Rattle.si_form.specs.Unifying.{StaysFree, IsGeneral, HasGeneral}
 use Rattle.si_form.specs.Classes.{LeavesUnbound}
 
 -- ---- rows of slots and terms
@@ -303,11 +303,11 @@ module _ (slots : Slots) (free_query : slots.freeze_query ≡ false) (free_entry
       (sorted_all triangular.0 (IsApartFrom slot) (rows slots pairs bindings) (rows_from slots pairs bindings slot (apart_from pairs slot unbound))))
 
   -- the variables of images are variables of slots that the map leaves
-  pub general_stays : (k : ℕ) → k < slot_count slots → AllByRecursion (Stays slots (general same_variable same_tells same_itself bound_list)) (terms.variables (general same_variable same_tells same_itself bound_list (variable_of slots k)))
+  pub general_stays : (k : ℕ) → k < slot_count slots → AllByRecursion (StaysFree slots (general same_variable same_tells same_itself bound_list)) (terms.variables (general same_variable same_tells same_itself bound_list (variable_of slots k)))
   general_stays k less =
-      subst (λ t. AllByRecursion (Stays slots (general same_variable same_tells same_itself bound_list)) (terms.variables t)) (sequence_is same_variable same_tells same_itself bound_list (terms.var (variable_of slots k)))
+      subst (λ t. AllByRecursion (StaysFree slots (general same_variable same_tells same_itself bound_list)) (terms.variables t)) (sequence_is same_variable same_tells same_itself bound_list (terms.var (variable_of slots k)))
       (
-      members.all_from (Stays slots (general same_variable same_tells same_itself bound_list)) (terms.variables (in_sequence same_variable bound_list (terms.var (variable_of slots k))))
+      members.all_from (StaysFree slots (general same_variable same_tells same_itself bound_list)) (terms.variables (in_sequence same_variable bound_list (terms.var (variable_of slots k))))
       (λ y a.
       let known =
       members.all_at (HasSlot slots) (terms.variables (in_sequence same_variable bound_list (terms.var (variable_of slots k)))) y

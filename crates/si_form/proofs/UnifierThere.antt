@@ -18,7 +18,7 @@ use Rattle.si_unify.specs.Spots.{cell_slot}
 use Rattle.si_form.specs.Classes.{slots_of, AreNodes, KnowsSlot, HasClasses}
 use Rattle.si_form.specs.Folding.{leader, variable_or, folded, folded_all, AreClasses, CanFold, HasFolded}
 use Rattle.si_form.specs.Ordering.{list_of, uses_at, list_or_none, IsListed, HasNoCircle, AreOrdered}
-use Rattle.si_form.specs.Unifying.{IsApplication, Stays, ImagesStay, right_side, IsToBind, IsRightSide, AreRightSides, bindings_of, IsGeneral, HasGeneral, HasApplication, AreFound, HasRightSide, HaveRightSides, slots_among, AreUses, AreListed, Lists, HasUses, IsWholeList}
+use Rattle.si_form.specs.Unifying.{IsApplication, StaysFree, ImagesStay, right_side, IsToBind, IsRightSide, AreRightSides, listed_bindings, IsGeneral, HasGeneral, HasApplication, AreFound, HasRightSide, HaveRightSides, slots_among, AreUses, AreListed, ListsBindings, HasUses, IsWholeList}
 use Rattle.si_form.proofs.OrderedLaws.{listed_all}
 use Rattle.si_form.specs.declared.solution.Binding.{Binding}
 use Rattle.si_form.specs.Answers.{StandsForPair, StandsForList}
@@ -252,7 +252,7 @@ uses_more slots rights lists new used k long h is last = subst (AreUses slots ri
         ]
 
 -- ---- bindings in order
-bindings_parts : (slots : Slots) (right : ℕ → Term) (xs ys : List ℕ) → bindings_of slots right (xs ++ ys) ≡ bindings_of slots right xs ++ bindings_of slots right ys
+bindings_parts : (slots : Slots) (right : ℕ → Term) (xs ys : List ℕ) → listed_bindings slots right (xs ++ ys) ≡ listed_bindings slots right xs ++ listed_bindings slots right ys
 bindings_parts slots right [] ys = refl
 bindings_parts slots right (x ∷ xs) ys = ap (λ l. (variable_of slots x, right x) ∷ l) (bindings_parts slots right xs ys)
 
@@ -271,33 +271,33 @@ take_more : (xs : List ℕ) (i d : ℕ) → i < length xs → take (i + 1) xs �
 take_more xs i d less = (let n : i + 1 ≡ suc i = omega arith in ap (λ m. take m xs) n) ∙ take-suc xs i d less
 
 module _ {A : Type 0} (slots : Slots) (rights : List (Option (Vec Cell A))) (ks : List ℕ) where
-  pub lists_begin : Lists slots rights (take 0 ks) []
-  lists_begin = subst (λ l. Lists slots rights l []) (sym (take_none ks)) (λ f sides binds. tt)
+  pub lists_begin : ListsBindings slots rights (take 0 ks) []
+  lists_begin = subst (λ l. ListsBindings slots rights l []) (sym (take_none ks)) (λ f sides binds. tt)
     where
       take_none : (xs : List ℕ) → take 0 xs ≡ []
       take_none [] = refl
       take_none (x ∷ xs) = refl
 
-  module _ (i k : ℕ) (bs : List Binding) (less : i < length ks) (is : k ≡ get_or ks i 0) (h : Lists slots rights (take i ks) bs) where
+  module _ (i k : ℕ) (bs : List Binding) (less : i < length ks) (is : k ≡ get_or ks i 0) (h : ListsBindings slots rights (take i ks) bs) where
     taken : take (i + 1) ks ≡ take i ks ++ k ∷ []
     taken = take_more ks i 0 less ∙ ap (λ j. take i ks ++ j ∷ []) (sym is)
 
     front_binds : (f : Variable → Term) → AllByRecursion (IsToBind slots f) (take (i + 1) ks) → AllByRecursion (IsToBind slots f) (take i ks)
     front_binds f binds = all_front (IsToBind slots f) (take i ks) (k ∷ []) (subst (AllByRecursion (IsToBind slots f)) taken binds)
 
-    pub lists_skip : k < length rights → list_of (get_or rights k None) ≡ None → Lists slots rights (take (i + 1) ks) bs
+    pub lists_skip : k < length rights → list_of (get_or rights k None) ≡ None → ListsBindings slots rights (take (i + 1) ks) bs
     lists_skip inside none f sides binds =
         let last = all_back (IsToBind slots f) (take i ks) (k ∷ []) (subst (AllByRecursion (IsToBind slots f)) taken binds) in
         absurd (subst (IsRightSide slots f k) none (sides k inside) last.0)
 
-    pub lists_more : (cells : List Cell) (b : Binding) (new : List Binding) → k < length rights → list_of (get_or rights k None) ≡ Some cells → variable_of slots k ≡ owners_variable b.owner b.slot → b.value ≡ cells → new ≡ bs ++ b ∷ [] → Lists slots rights (take (i + 1) ks) new
+    pub lists_more : (cells : List Cell) (b : Binding) (new : List Binding) → k < length rights → list_of (get_or rights k None) ≡ Some cells → variable_of slots k ≡ owners_variable b.owner b.slot → b.value ≡ cells → new ≡ bs ++ b ∷ [] → ListsBindings slots rights (take (i + 1) ks) new
     lists_more cells b new inside some left value_is is' f sides binds =
         let side = subst (IsRightSide slots f k) some (sides k inside) in
         let pair : StandsForPair b (variable_of slots k, right_side slots f k) = record { left = left; right = subst (λ l. StandsFor l (right_side slots f k)) (sym value_is) side.1 } in
-        subst (λ l. StandsForList l (bindings_of slots (right_side slots f) (take (i + 1) ks))) (sym is')
+        subst (λ l. StandsForList l (listed_bindings slots (right_side slots f) (take (i + 1) ks))) (sym is')
         (
-        subst (StandsForList (bs ++ b ∷ [])) (sym (ap (bindings_of slots (right_side slots f)) taken ∙ bindings_parts slots (right_side slots f) (take i ks) (k ∷ [])))
-        (stands_more bs (bindings_of slots (right_side slots f) (take i ks)) b (variable_of slots k, right_side slots f k) (h f sides (front_binds f binds)) pair)
+        subst (StandsForList (bs ++ b ∷ [])) (sym (ap (listed_bindings slots (right_side slots f)) taken ∙ bindings_parts slots (right_side slots f) (take i ks) (k ∷ [])))
+        (stands_more bs (listed_bindings slots (right_side slots f) (take i ks)) b (variable_of slots k, right_side slots f k) (h f sides (front_binds f binds)) pair)
         )
 
   pub listed_at : (i k : ℕ) → i < length ks → k ≡ get_or ks i 0 → length rights ≡ slot_count slots → AreListed slots rights ks → k < length rights
@@ -310,8 +310,8 @@ module _ {A : Type 0} (slots : Slots) (rights : List (Option (Vec Cell A))) (ks 
   pub right_at : (k : ℕ) (o : Option (Vec Cell A)) → k < length rights → o ≡ get_or rights k o → list_of (get_or rights k None) ≡ list_of o
   right_at k o less is = ap list_of (at_default rights k None o (read_at rights k o less is))
 
-  pub lists_end : (i : ℕ) (bs : List Binding) → length ks ≤ i → Lists slots rights (take i ks) bs → Lists slots rights ks bs
-  lists_end i bs full h = subst (λ l. Lists slots rights l bs) (take_full ks i full) h
+  pub lists_end : (i : ℕ) (bs : List Binding) → length ks ≤ i → ListsBindings slots rights (take i ks) bs → ListsBindings slots rights ks bs
+  lists_end i bs full h = subst (λ l. ListsBindings slots rights l bs) (take_full ks i full) h
     where
       take_full : (xs : List ℕ) (n : ℕ) → length xs ≤ n → take n xs ≡ xs
       take_full [] zero less = refl
@@ -328,7 +328,7 @@ module _ {A B : Type 0} (slots : Slots) (rights : List (Option (Vec Cell A))) (l
   pub all_listed : (f : Variable → Term) → AreRightSides slots f rights → (ks : List ℕ) → AreOrdered (uses_at lists) ks → AreListed slots rights ks
   all_listed f sides ks ordered = (f, sides, all_bound f sides ks ordered)
 
-  pub whole_of : (f : Variable → Term) → AreRightSides slots f rights → ImagesStay slots f → (ks : List ℕ) (bindings : List Binding) → AreOrdered (uses_at lists) ks → Lists slots rights ks bindings → IsWholeList slots f bindings
+  pub whole_of : (f : Variable → Term) → AreRightSides slots f rights → ImagesStay slots f → (ks : List ℕ) (bindings : List Binding) → AreOrdered (uses_at lists) ks → ListsBindings slots rights ks bindings → IsWholeList slots f bindings
   whole_of f sides stays ks bindings ordered h = record {
     used = λ k. uses_at lists k;
     ks = ks;

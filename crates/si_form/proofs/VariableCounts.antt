@@ -12,7 +12,7 @@ use Rattle.si_flat.specs.declared.Owner.TheVariants.{Query, Entry}
 use Rattle.si_flat.specs.Flattening.{owners_variable}
 use Rattle.si_unify.specs.declared.slots.Slots.{Slots}
 use Rattle.si_unify.specs.Solving.{CellIsInRange, AreInRange}
-use Rattle.si_form.specs.Answers.{variables_from, AreNumbered}
+use Rattle.si_form.specs.Answers.{owners_variables, AreNumbered}
 use Rattle.si_form.specs.Matching.{variable_number}
 use Rattle.si_form.specs.Unifying.{HasVariables}
 use Rattle.si_form.proofs.CanonicalLaws.{all_at}
@@ -52,7 +52,7 @@ mutual
 -- ---- counting
 -- so many variables have been met before the place
 abbrev pub IsCounting : Owner → List Cell → ℕ → ℕ → Type 0
-IsCounting owner cells i n = (n ≤ i) × ((t : Term) (m : ℕ) → StandsFor cells t → terms.firsts same_variable (terms.variables t) ≡ variables_from owner 0 m → NumberedTo owner n (variables_among (drop i cells)) m)
+IsCounting owner cells i n = (n ≤ i) × ((t : Term) (m : ℕ) → StandsFor cells t → terms.firsts same_variable (terms.variables t) ≡ owners_variables owner 0 m → NumberedTo owner n (variables_among (drop i cells)) m)
 
 no_drop : {X : Type 0} (xs : List X) → drop 0 xs ≡ xs
 no_drop [] = refl
@@ -114,7 +114,7 @@ cell_counts owner n m (cell.Entry k) cells h = one_more owner n m (entry k) (var
 cell_counts owner n m (cell.Ind k) cells h = one_more owner n m (ind k) (variables_among cells) h
 
 module _ (owner : Owner) (cells : List Cell) (i n : ℕ) (less : i < length cells) (h : IsCounting owner cells i n) where
-  counts_at : (t : Term) (m : ℕ) (o : Option ℕ) → o ≡ variable_number owner (get_or cells i (cell.App 0 0 0)) → StandsFor cells t → terms.firsts same_variable (terms.variables t) ≡ variables_from owner 0 m → CellCounts owner n m (variables_among (drop (i + 1) cells)) o
+  counts_at : (t : Term) (m : ℕ) (o : Option ℕ) → o ≡ variable_number owner (get_or cells i (cell.App 0 0 0)) → StandsFor cells t → terms.firsts same_variable (terms.variables t) ≡ owners_variables owner 0 m → CellCounts owner n m (variables_among (drop (i + 1) cells)) o
   counts_at t m o is stands firsts =
       subst (CellCounts owner n m (variables_among (drop (i + 1) cells))) (sym is)
       (cell_counts owner n m (get_or cells i (cell.App 0 0 0)) (drop (i + 1) cells)
@@ -136,7 +136,7 @@ pub counted_all : (owner : Owner) (cells : List Cell) (i n : ℕ) → length cel
 counted_all owner cells i n less numbered h t stands =
     let own = numbered t stands in
     let same : n ≡ own.0 = subst (λ l. NumberedTo owner n (variables_among l) own.0) (drop_ends cells i less) (h.1 t own.0 stands own.1) in
-    own.1 ∙ ap (variables_from owner 0) (sym same)
+    own.1 ∙ ap (owners_variables owner 0) (sym same)
 
 -- ---- which variables these are
 numbered_grows : (owner : Owner) (n m : ℕ) (xs : List Variable) → NumberedTo owner n xs m → n ≤ m
@@ -154,7 +154,7 @@ numbered_all owner n m (x ∷ xs) h =
       | inr new ↦ (let g = numbered_grows owner (suc n) m xs new.1 in ((n, omega (arith, g), new.0), numbered_all owner (suc n) m xs new.1))
     ]
 
-pub all_of : (owner : Owner) (m : ℕ) (xs : List Variable) → terms.firsts same_variable xs ≡ variables_from owner 0 m → AllByRecursion (IsOneOf owner m) xs
+pub all_of : (owner : Owner) (m : ℕ) (xs : List Variable) → terms.firsts same_variable xs ≡ owners_variables owner 0 m → AllByRecursion (IsOneOf owner m) xs
 all_of owner m xs firsts = numbered_all owner 0 m xs (numbered_to owner m xs firsts)
 
 -- ---- all cells are in range
@@ -186,14 +186,14 @@ in_range_of slots owner n cells t is stands has =
     range_of slots cells
     (
     subst (AllByRecursion (Holds slots)) (sym (ap variables_among stands.cells_are ∙ among_cells t))
-    (all_hold slots owner (terms.variables t) (all_of owner (of_owner slots owner) (terms.variables t) (has t stands ∙ ap (variables_from owner 0) (sym is))))
+    (all_hold slots owner (terms.variables t) (all_of owner (of_owner slots owner) (terms.variables t) (has t stands ∙ ap (owners_variables owner 0) (sym is))))
     )
 
 -- ---- the variables of a query and an entry are apart
 not_both : (j k : ℕ) (x : Variable) → x ≡ query j → x ≡ entry k → ⊥
 not_both j k x a b = let bad : query j ≡ entry k = sym a ∙ b in cc
 
-pub apart_owners : (m n : ℕ) (xs ys : List Variable) → terms.firsts same_variable xs ≡ variables_from Query 0 m → terms.firsts same_variable ys ≡ variables_from Entry 0 n → (x : Variable) → IsAmong xs x → IsAmong ys x → ⊥
+pub apart_owners : (m n : ℕ) (xs ys : List Variable) → terms.firsts same_variable xs ≡ owners_variables Query 0 m → terms.firsts same_variable ys ≡ owners_variables Entry 0 n → (x : Variable) → IsAmong xs x → IsAmong ys x → ⊥
 apart_owners m n xs ys of_q of_e x a b =
     let one = all_at (IsOneOf Query m) xs x (all_of Query m xs of_q) a in
     let other = all_at (IsOneOf Entry n) ys x (all_of Entry n ys of_e) b in

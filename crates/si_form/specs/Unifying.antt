@@ -11,25 +11,25 @@ use Rattle.si_unify.specs.declared.slots.Slots.{Slots}
 use Rattle.si_unify.specs.Solving.{Pairs, slot_count, slot_of, variable_of, IsSolvedBy}
 use Rattle.si_form.specs.declared.classes.Node.{Node}
 use Rattle.si_form.specs.declared.solution.Binding.{Binding}
-use Rattle.si_form.specs.Answers.{variables_from, StandsForList}
+use Rattle.si_form.specs.Answers.{owners_variables, StandsForList}
 use Rattle.si_form.specs.Classes.{slots_of, LeavesUnbound, HasClasses}
 use Rattle.si_form.specs.Folding.{leader, folded, AreClasses, AreLeaders, AreSizes}
 use Rattle.si_form.specs.Ordering.{list_of, uses_at, list_or_none, IsListed, AreOrdered}
 
 -- the variables of the cells' term are so many of the owner's
 abbrev pub HasVariables : Owner → List Cell → ℕ → Type 0
-HasVariables owner cells n = (t : Term) → StandsFor cells t → terms.firsts same_variable (terms.variables t) ≡ variables_from owner 0 n
+HasVariables owner cells n = (t : Term) → StandsFor cells t → terms.firsts same_variable (terms.variables t) ≡ owners_variables owner 0 n
 
 abbrev pub IsApplication : Term → Type 0
 IsApplication t = (s : Symbol) × (ts : Terms) × (t ≡ terms.app s ts)
 
 module _ (slots : Slots) (f : Variable → Term) where
   -- a variable of the slots that f leaves
-  abbrev pub Stays : Variable → Type 0
-  Stays y = (j : ℕ) × (j < slot_count slots) × (y ≡ variable_of slots j) × (f y ≡ terms.var y)
+  abbrev pub StaysFree : Variable → Type 0
+  StaysFree y = (j : ℕ) × (j < slot_count slots) × (y ≡ variable_of slots j) × (f y ≡ terms.var y)
 
   abbrev pub ImagesStay : Type 0
-  ImagesStay = (k : ℕ) → k < slot_count slots → AllByRecursion Stays (terms.variables (f (variable_of slots k)))
+  ImagesStay = (k : ℕ) → k < slot_count slots → AllByRecursion StaysFree (terms.variables (f (variable_of slots k)))
 
   -- ---- right sides
   abbrev pub right_by : ℕ → Option ℕ → Term
@@ -54,9 +54,9 @@ module _ (slots : Slots) (f : Variable → Term) where
   AreRightSides rights = (k : ℕ) → k < length rights → IsRightSide k (list_of (slice_index_or rights k None))
 
 -- the bindings of these slots, in order
-abbrev pub bindings_of : Slots → (ℕ → Term) → List ℕ → List (Variable × Term)
-bindings_of slots right [] = []
-bindings_of slots right (k ∷ ks) = (variable_of slots k, right k) ∷ bindings_of slots right ks
+abbrev pub listed_bindings : Slots → (ℕ → Term) → List ℕ → List (Variable × Term)
+listed_bindings slots right [] = []
+listed_bindings slots right (k ∷ ks) = (variable_of slots k, right k) ∷ listed_bindings slots right ks
 
 -- ---- the map that solves the bindings and makes nothing equal but what they do
 pub record IsGeneral (slots : Slots) (pairs : Pairs) (f : Variable → Term) : Type 0 where
@@ -111,9 +111,9 @@ abbrev pub AreListed : {A : Type 0} → Slots → List (Option (Vec Cell A)) →
 AreListed slots rights ks = (f : Variable → Term) × AreRightSides slots f rights × AllByRecursion (IsToBind slots f) ks
 
 -- the bindings of these slots have these right sides, whatever terms these stand for
-abbrev pub Lists : {A : Type 0} → Slots → List (Option (Vec Cell A)) → List ℕ → List Binding → Type 0
-Lists slots rights ks bindings =
-    (f : Variable → Term) → AreRightSides slots f rights → AllByRecursion (IsToBind slots f) ks → StandsForList bindings (bindings_of slots (right_side slots f) ks)
+abbrev pub ListsBindings : {A : Type 0} → Slots → List (Option (Vec Cell A)) → List ℕ → List Binding → Type 0
+ListsBindings slots rights ks bindings =
+    (f : Variable → Term) → AreRightSides slots f rights → AllByRecursion (IsToBind slots f) ks → StandsForList bindings (listed_bindings slots (right_side slots f) ks)
 
 -- the variables of a right side are those of the slots that are used
 pub record HasUses (used : ℕ → Option (List ℕ)) (slots : Slots) (right : ℕ → Term) (k : ℕ) : Type 0 where
@@ -128,10 +128,10 @@ pub record IsWholeList (slots : Slots) (f : Variable → Term) (bindings : List 
   pub to_bind : (k : ℕ) → IsListed used k → IsToBind slots f k
   pub of_bind : (k : ℕ) → IsToBind slots f k → IsListed used k
   pub has : (k : ℕ) → IsListed used k → HasUses used slots (right_side slots f) k
-  pub stands : StandsForList bindings (bindings_of slots (right_side slots f) ks)
+  pub stands : StandsForList bindings (listed_bindings slots (right_side slots f) ks)
 
-abbrev pub ListsAll : Slots → Pairs → List Binding → Type 0
-ListsAll slots pairs bindings = (f : Variable → Term) → IsGeneral slots pairs f → IsWholeList slots f bindings
+abbrev pub ListsAllBindings : Slots → Pairs → List Binding → Type 0
+ListsAllBindings slots pairs bindings = (f : Variable → Term) → IsGeneral slots pairs f → IsWholeList slots f bindings
 
 -- ---- the slots of a query and an entry
 -- all variables may be bound, and there are no others

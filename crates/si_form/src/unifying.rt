@@ -8,7 +8,7 @@ ghost use Rattle.si_trail.specs.Trails.{HasDistinctSlots};
 ghost use Rattle.si_unify.specs.Solving.{slot_count, variable_of, IsAcyclic, IsBinding};
 ghost use Rattle.si_form.specs.Answers.{AreNumbered, Answers};
 ghost use Rattle.si_form.specs.Ordering.{list_of};
-ghost use Rattle.si_form.specs.Unifying.{IsBoundTo, AreFound, HasGeneral, HasRightSide, HaveRightSides, AreUses, slots_among, AreListed, Lists, ListsAll, AreFree, AreSlotsOf};
+ghost use Rattle.si_form.specs.Unifying.{IsBoundTo, AreFound, HasGeneral, HasRightSide, HaveRightSides, AreUses, slots_among, AreListed, ListsBindings, ListsAllBindings, AreFree, AreSlotsOf};
 
 use crate::classes::{Classes, find_classes};
 use crate::folding::{fold, leader_of, sizes, variable};
@@ -166,7 +166,7 @@ fn list(
     requires none { slots.now.inds ≡ 0 }
     requires long { length rights.now ≡ slot_count slots.now }
     requires listed { AreListed slots.now rights.now order.now }
-    ensures { IfOk result (Lists slots.now rights.now order.now) }
+    ensures { IfOk result (ListsBindings slots.now rights.now order.now) }
 {
     let mut solution = Solution::new(alloc);
     for &slot in order {
@@ -190,7 +190,7 @@ fn whole_list<'a>(
     requires bindings { AllByRecursion (IsBinding slots.now) trail.now.pairs }
     requires triangular { IsAcyclic slots.now trail.now.pairs }
     ensures distinct { HasDistinctSlots trail.now.pairs }
-    ensures all { IfOk result (ListsAll slots.now trail.now.pairs) }
+    ensures all { IfOk result (ListsAllBindings slots.now trail.now.pairs) }
 {
     let rights = right_sides(alloc, slots, trail)?;
     let lists = uses_of_sides(alloc, slots, &rights)?;

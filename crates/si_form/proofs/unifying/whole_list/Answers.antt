@@ -1,7 +1,7 @@
 use Rattle.std.proofs.Common.{length, sym, ◌∙◌, ap, subst}
 use Rattle.std.proofs.lemmas.Result.{IfOk-weaker}
 use Rattle.si_form.specs.Ordering.{uses_at, HasNoCircle, AreOrdered}
-use Rattle.si_form.specs.Unifying.{AreUses, AreListed, Lists}
+use Rattle.si_form.specs.Unifying.{AreUses, AreListed, ListsBindings}
 use Rattle.si_form.proofs.TrailLaws.{has_general}
 use Rattle.si_form.proofs.UnifierThere.{no_circle, all_listed, whole_of}
 use Rattle.si_form.proofs.unifying.whole_list.Goals as goal
@@ -35,6 +35,6 @@ returns-clause-all c =
     (subst (λ l. AreUses c.args.slots.now l c.in_ok-lists.lists.items) c.deref.ensures.value c.in_ok-lists.ensures.uses)
     f (c.in_ok-rights.ensures.rights f general) general.stays c.in_ok-order.order.items bindings
     (subst (λ l. AreOrdered (uses_at l) c.in_ok-order.order.items) c.deref-2.ensures.value c.in_ok-order.ensures)
-    (subst (λ l. Lists c.args.slots.now l c.in_ok-order.order.items bindings) c.deref-3.ensures.value
-    (subst (λ l. Lists c.args.slots.now c.deref-3.result.now l bindings) c.deref-4.ensures.value h)))
+    (subst (λ l. ListsBindings c.args.slots.now l c.in_ok-order.order.items bindings) c.deref-3.ensures.value
+    (subst (λ l. ListsBindings c.args.slots.now c.deref-3.result.now l bindings) c.deref-4.ensures.value h)))
     c.list.ensures

@@ -4,11 +4,10 @@ use Rattle.si_defs.specs.declared.Relation.{Relation}
 use Rattle.si_defs.specs.Relations.{Relates}
 use Rattle.si_defs.specs.Solutions.{IsCanonical}
 use Rattle.si_flat.specs.declared.Cell.{Cell}
-use Rattle.si_flat.specs.Cells.{Variable, query, entry, same_variable, Term, StandsFor}
+use Rattle.si_flat.specs.Cells.{Variable, same_variable, Term, StandsFor}
 use Rattle.si_flat.specs.Flattened.{counted_from, IsNumberedBy}
 use Rattle.si_flat.specs.Flattening.{owners_variable}
 use Rattle.si_flat.specs.declared.Owner.{Owner}
-use Rattle.si_flat.specs.declared.Owner.TheVariants.{Query, Entry}
 use Rattle.si_form.specs.declared.solution.Binding.{Binding}
 
 -- ---- numbered variables

@@ -22,7 +22,7 @@ use Rattle.si_form.proofs.Counting.{NumberedTo, numbered_to}
 use Rattle.si_form.proofs.ImageLaws.{HasImage, image_at, no_image, image_added, agrees_at, agrees_front, agrees_more}
 
 -- ---- places in lists
-drop_none : {X : Type 0} (xs : List X) → drop 0 xs ≡ xs
+pub drop_none : {X : Type 0} (xs : List X) → drop 0 xs ≡ xs
 drop_none [] = refl
 drop_none (x ∷ xs) = refl
 
@@ -41,7 +41,7 @@ variables-join (terms.more t ts) us =
 pub same_value : (cells : List Cell) (t u : Term) → StandsFor cells t → StandsFor cells u → t ≡ u
 same_value cells t u h k = (same_term t u [] [] h.sound k.sound (append-nil (cells_of t) ∙ sym h.cells_are ∙ k.cells_are ∙ sym (append-nil (cells_of u)))).same
 
-no_number : (owner : Owner) (s a n : ℕ) → variable_number owner (cell.App s a n) ≡ None
+pub no_number : (owner : Owner) (s a n : ℕ) → variable_number owner (cell.App s a n) ≡ None
 no_number Query s a n = refl
 no_number Entry s a n = refl
 

@@ -6,15 +6,15 @@ use Rattle.std.specs.Borrow.{Bor}
 use Rattle.si_defs.specs.Terms as terms
 use Rattle.si_flat.specs.declared.Cell.{Cell}
 use Rattle.si_flat.specs.declared.Cell.TheVariants as cell
-use Rattle.si_flat.specs.Cells.{Symbol, Variable, query, entry, ind, Term, Terms, variable_cell, cells_of, StandsFor}
+use Rattle.si_flat.specs.Cells.{Variable, query, entry, ind, Term, variable_cell, StandsFor}
 use Rattle.si_flat.proofs.Subterms.{length-cells_of}
 use Rattle.si_trail.specs.Trails.{value_at}
 use Rattle.si_unify.specs.declared.slots.Slots.{Slots}
-use Rattle.si_unify.specs.Solving.{Pairs, slot_count, slot_of, variable_of, CellIsInRange, Equalizes, IsSolvedBy, IsAcyclic, IsBinding}
+use Rattle.si_unify.specs.Solving.{Pairs, slot_count, variable_of, CellIsInRange, Equalizes, IsSolvedBy, IsAcyclic, IsBinding}
 use Rattle.si_unify.specs.Spots.{cell_slot, IsBelow, ComesDown, IsChained}
 use Rattle.si_unify.proofs.Places.{all_at, whole_at, first_cell, cell-at, inside, in_range-at, in_range-variable, variable_of-slot_of, slot_variable}
 use Rattle.si_unify.proofs.Ranks.{chained_of_triangular}
-use Rattle.si_form.specs.Unifying.{IsGeneral, HasApplication, IsBoundTo}
+use Rattle.si_form.specs.Unifying.{HasApplication, IsBoundTo}
 use Rattle.si_form.proofs.TrailLaws.{HasSlot, slot_below, cell_has_slot, variables_ranked}
 
 -- so many steps down from a slot

@@ -1,18 +1,21 @@
 -- The right side of a slot, from its class.
-use Rattle.std.proofs.Common.{◌≡◌, ◌≢◌, ℕ, ◌+◌, ◌-◌, ◌^◌, ◌<◌, ◌≤◌, inl, inr, List, [], ◌∷◌, ◌++◌, length, length-append, get_or, suc, zero, refl, sym, ◌∙◌, ap, subst, arith, Option, Some, None, Vec}
+use Rattle.std.proofs.Common.{◌≡◌, ◌≢◌, ℕ, ◌+◌, ◌<◌, inl, inr, List, [], ◌∷◌, ◌++◌, length, length-append, get_or, suc, refl, sym, ◌∙◌, ap, subst, arith, Option, Some, None, Vec}
 use Rattle.std.proofs.lemmas.Bool.Decides.{eqb_tells}
 use Rattle.std.specs.Prelude.{slice_get}
 use Rattle.std.specs.List.{AllByRecursion}
-use Rattle.si_defs.specs.Substitutions.{IsAmong}
 use Rattle.si_defs.specs.Terms as terms
 use Rattle.si_flat.specs.declared.Cell.{Cell}
-use Rattle.si_flat.specs.Cells.{Symbol, Variable, Term, Terms, variable_cell, cells_of, IsSound, AreSound, StandsFor}
+use Rattle.si_flat.specs.Cells.{Variable, Term, Terms, variable_cell, IsSound, AreSound, StandsFor}
 use Rattle.si_unify.specs.declared.slots.Slots.{Slots}
 use Rattle.si_unify.specs.Solving.{Pairs, slot_count, variable_of}
 use Rattle.si_form.specs.declared.classes.Node.{Node}
-use Rattle.si_form.specs.Classes.{AreNodes, KnowsSlot, HasClasses}
+use Rattle.si_form.specs.Classes.{HasClasses}
 use Rattle.si_form.specs.Folding.{leader, variable_or, folded, folded_all, AreClasses, AreLeaders, LeadClasses, AreSizes, HasTerms, CanFold, HasFolded}
+<<<<<<< HEAD
 use Rattle.si_form.specs.Unifying.{IsApplication, StaysFree, right_side, IsToBind, IsRightSide, IsGeneral, HasGeneral, HasApplication, AreFound, IsBoundTo, HasRightSide, HaveRightSides}
+=======
+use Rattle.si_form.specs.Unifying.{IsApplication, StaysFree, IsToBind, IsRightSide, IsGeneral, HasGeneral, AreFound, IsBoundTo, HasRightSide, HaveRightSides}
+>>>>>>> be74e5c6ebcd750d80a005db19846eb6ca0ba157
 use Rattle.si_form.specs.Ordering.{list_of}
 use Rattle.si_form.proofs.UsesLaws.{get_or_front, get_or_last}
 use Rattle.si_form.proofs.CanonicalLaws.{all_from, all_at}

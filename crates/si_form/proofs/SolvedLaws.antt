@@ -1,19 +1,22 @@
 -- What solving answers, and the whole list of bindings as the canonical list.
-use Rattle.std.proofs.Common.{◌≡◌, ◌<◌, ◌≤◌, List, [], ◌∷◌, length, true, false, refl, sym, ◌∙◌, ap, subst, arith, Option, Some, None}
+use Rattle.std.proofs.Common.{◌≡◌, List, [], true, refl, Some, None}
 use Rattle.std.specs.List.{AllByRecursion}
-use Rattle.si_defs.specs.Substitutions.{IsAmong}
 use Rattle.si_defs.specs.Terms as terms
 use Rattle.si_defs.specs.Solutions.{order}
 use Rattle.si_defs.specs.declared.Relation.TheVariants.{Unifiable}
 use Rattle.si_flat.specs.declared.Cell.{Cell}
-use Rattle.si_flat.specs.Cells.{Variable, same_variable, Term, StandsFor, IsWhole}
+use Rattle.si_flat.specs.Cells.{same_variable, Term, StandsFor, IsWhole}
 use Rattle.si_flat.specs.declared.Owner.TheVariants.{Query, Entry}
 use Rattle.si_trail.specs.Trails.{HasDistinctSlots}
 use Rattle.si_unify.specs.declared.slots.Slots.{Slots}
 use Rattle.si_unify.specs.Solving.{Pairs, slot_count, AreInRange, IsAcyclic, IsBinding, HaveCommon, HasSolved}
 use Rattle.si_form.specs.declared.solution.Binding.{Binding}
 use Rattle.si_form.specs.Answers.{AnswersTo}
+<<<<<<< HEAD
 use Rattle.si_form.specs.Unifying.{right_side, listed_bindings, IsWholeList, ListsAllBindings, AreFree, AreSlotsOf}
+=======
+use Rattle.si_form.specs.Unifying.{right_side, listed_bindings, ListsAllBindings, AreSlotsOf}
+>>>>>>> be74e5c6ebcd750d80a005db19846eb6ca0ba157
 use Rattle.si_form.proofs.VariableLaws.{same_tells, same_itself}
 use Rattle.si_form.proofs.UnifierLaws.{one_unifier}
 use Rattle.si_form.proofs.GeneralLaws.{general}

@@ -1,68 +1,40 @@
 -- The canonical list of two terms that can be unified.
-use Rattle.std.proofs.Common.{◌≡◌, ◌≢◌, ℕ, ◌+◌, ◌*◌, ◌^◌, ◌-◌, ◌<◌, ◌≤◌, ◌⊎◌, inl, inr, Bool, true, false, List, [], ◌∷◌, ◌++◌, length, take, get_or, suc, zero, refl, sym, ◌∙◌, ap, subst, arith, length-append, Option, Some, None, Vec}
+use Rattle.std.proofs.Common.{◌≡◌, ◌≢◌, ℕ, ◌+◌, ◌*◌, ◌<◌, ◌≤◌, inl, inr, Bool, true, false, List, [], ◌∷◌, ◌++◌, length, take, get_or, suc, zero, refl, sym, ◌∙◌, ap, subst, arith, length-append, Option, Some, None, Vec}
 use Rattle.std.proofs.lemmas.Bool.{eq-eqb, cases_lt}
 use Rattle.std.proofs.lemmas.Bool.Decides.{eqb_tells}
-use Rattle.std.specs.Prelude.{slice_get, ◌==◌, if◌then◌else◌}
+use Rattle.std.specs.Prelude.{◌==◌}
 use Rattle.std.specs.List.{AllByRecursion}
-use Rattle.std.specs.Borrow.{Bor}
-use Rattle.si_defs.specs.Substitutions.{Substitution, image, lefts, rights, IsAmong}
+use Rattle.si_defs.specs.Substitutions.{rights, IsAmong}
 use Rattle.si_defs.specs.Terms as terms
-use Rattle.si_defs.specs.Solutions.{order}
 use Rattle.si_flat.specs.declared.Cell.{Cell}
-use Rattle.si_flat.specs.declared.Cell.TheVariants as cell
-use Rattle.si_flat.specs.Cells.{Symbol, Variable, query, entry, ind, same_variable, Term, Terms, variable_cell, cells_of, cells_of_all, IsSound, AreSound, StandsFor, IsWhole}
-use Rattle.si_trail.specs.Trails.{value_at}
+use Rattle.si_flat.specs.Cells.{Variable, query, entry, ind, Term, Terms, variable_cell, cells_of, cells_of_all, StandsFor, IsWhole}
 use Rattle.si_unify.specs.declared.slots.Slots.{Slots}
-use Rattle.si_unify.specs.Solving.{Pairs, slot_count, slot_of, variable_of, IsSolvedBy, IsAcyclic, IsBinding}
-use Rattle.si_unify.specs.Spots.{cell_slot}
-use Rattle.si_form.specs.Classes.{slots_of, AreNodes, KnowsSlot, HasClasses}
-use Rattle.si_form.specs.Folding.{leader, variable_or, folded, folded_all, AreClasses, CanFold, HasFolded}
+use Rattle.si_unify.specs.Solving.{slot_count, slot_of, variable_of}
+use Rattle.si_form.specs.Classes.{slots_of}
+use Rattle.si_form.specs.Folding.{leader, folded, folded_all}
 use Rattle.si_form.specs.Ordering.{list_of, uses_at, list_or_none, IsListed, HasNoCircle, AreOrdered}
+<<<<<<< HEAD
 use Rattle.si_form.specs.Unifying.{IsApplication, StaysFree, ImagesStay, right_side, IsToBind, IsRightSide, AreRightSides, listed_bindings, IsGeneral, HasGeneral, HasApplication, AreFound, HasRightSide, HaveRightSides, slots_among, AreUses, AreListed, ListsBindings, HasUses, IsWholeList}
+=======
+use Rattle.si_form.specs.Unifying.{IsApplication, ImagesStay, right_side, IsToBind, IsRightSide, AreRightSides, listed_bindings, slots_among, AreUses, AreListed, ListsBindings, HasUses, IsWholeList}
+>>>>>>> be74e5c6ebcd750d80a005db19846eb6ca0ba157
 use Rattle.si_form.proofs.OrderedLaws.{listed_all}
 use Rattle.si_form.specs.declared.solution.Binding.{Binding}
 use Rattle.si_form.specs.Answers.{StandsForPair, StandsForList}
 use Rattle.si_flat.specs.Flattening.{owners_variable}
+use Rattle.std.proofs.lemmas.List.{take_all}
 use Rattle.std.proofs.Math.Seq.{take-suc}
-use Rattle.si_form.proofs.CanonicalLaws.{all_at, all_from, all_front, all_back, all_append, among_parts}
-use Rattle.si_form.proofs.NodeLaws.{slot_again, same_some, get_inside, get_some}
-use Rattle.si_form.proofs.UsesLaws.{get_or_front, get_or_last}
+use Rattle.si_form.proofs.CanonicalLaws.{all_at, all_from, all_front, all_back, among_parts}
+use Rattle.si_form.proofs.NodeLaws.{slot_again}
+use Rattle.si_form.proofs.UsesLaws.{slots_append, beyond, get_or_front, get_or_last}
 use Rattle.si_form.proofs.FoldingLaws.{at_default, read_at}
-use Rattle.si_form.proofs.RightSides.{led, none_led, none_longer, IsRight, right_is, right_of_follower, right_of_leader, LeadsItself}
-
--- ---- what is to be bound
-module _ (slots : Slots) (f : Variable → Term) where
-  -- the leader of a slot
-  pub has_led : (k : ℕ) → k < slot_count slots → (w : ℕ) × (leader slots f (f (variable_of slots k)) ≡ Some w)
-  has_led k less = by (leader slots f (f (variable_of slots k))) refl
-    where
-      by : (o : Option ℕ) → leader slots f (f (variable_of slots k)) ≡ o → (w : ℕ) × (leader slots f (f (variable_of slots k)) ≡ Some w)
-      by None e = absurd (none_led slots f (slot_count slots) (f (variable_of slots k)) e k less refl)
-      by (Some w) e = (w, e)
-
-  not_application : (k : ℕ) (y : Variable) → f (variable_of slots k) ≡ terms.var y → IsApplication (f (variable_of slots k)) → ⊥
-  not_application k y e a = let bad : terms.var y ≡ terms.app a.0 a.1 = sym e ∙ a.2 in cc
-
-  -- a leader whose image is a variable isn't to be bound
-  pub none_to_bind : (k : ℕ) (y : Variable) → leader slots f (f (variable_of slots k)) ≡ Some k → f (variable_of slots k) ≡ terms.var y → IsToBind slots f k → ⊥
-  none_to_bind k y leads e b =
-      elim b.1 [
-        | inl follows ↦ follows.2 (same_some follows.0 k (sym follows.1 ∙ leads))
-        | inr own ↦ not_application k y e own.1
-      ]
+use Rattle.si_form.proofs.RightSides.{right_is, right_of_leader, LeadsItself}
 
 -- ---- slots of cells
 module _ (slots : Slots) where
   abbrev slots_of_variables : List Variable → List ℕ
   slots_of_variables [] = []
   slots_of_variables (x ∷ xs) = slot_of slots x ∷ slots_of_variables xs
-
-  cells_parts : (xs ys : List Cell) → slots_of slots (xs ++ ys) ≡ slots_of slots xs ++ slots_of slots ys
-  cells_parts [] ys = refl
-  cells_parts (cell.App s a n ∷ xs) ys = cells_parts xs ys
-  cells_parts (cell.Query n ∷ xs) ys = ap (λ l. n ∷ l) (cells_parts xs ys)
-  cells_parts (cell.Entry n ∷ xs) ys = ap (λ l. (slots.query + n) ∷ l) (cells_parts xs ys)
-  cells_parts (cell.Ind n ∷ xs) ys = ap (λ l. (slots.query + slots.entry + n) ∷ l) (cells_parts xs ys)
 
   variables_parts : (xs ys : List Variable) → slots_of_variables (xs ++ ys) ≡ slots_of_variables xs ++ slots_of_variables ys
   variables_parts [] ys = refl
@@ -81,7 +53,7 @@ module _ (slots : Slots) where
     slots_of_row : (ts : Terms) → slots_of slots (cells_of_all ts) ≡ slots_of_variables (terms.variables_of_all ts)
     slots_of_row terms.none = refl
     slots_of_row (terms.more t ts) =
-        cells_parts (cells_of t) (cells_of_all ts)
+        slots_append slots (cells_of t) (cells_of_all ts)
         ∙ ap (λ l. l ++ slots_of slots (cells_of_all ts)) (slots_of_term t)
         ∙ ap (λ l. slots_of_variables (terms.variables t) ++ l) (slots_of_row ts)
         ∙ sym (variables_parts (terms.variables t) (terms.variables_of_all ts))
@@ -116,11 +88,6 @@ smaller_inside f (terms.app s ts) y app a = let r = sizes_inside f ts y a in ome
 folded_application : (slots : Slots) (f : Variable → Term) (t : Term) → IsApplication t → IsApplication (folded slots f t)
 folded_application slots f (terms.var x) app = let bad : terms.var x ≡ terms.app app.0 app.1 = app.2 in cc
 folded_application slots f (terms.app s ts) app = (s, folded_all slots f ts, refl)
-
-beyond : {X : Type 0} (xs : List X) (k : ℕ) (d : X) → length xs ≤ k → get_or xs k d ≡ d
-beyond [] k d less = refl
-beyond (x ∷ xs) zero d less = absurd (omega (arith, less))
-beyond (x ∷ xs) (suc k) d less = beyond xs k d (omega (arith, less))
 
 -- what a list of uses says of a slot
 record IsSide (slots : Slots) (f : Variable → Term) (o : Option (List ℕ)) (k : ℕ) : Type 0 where
@@ -239,8 +206,8 @@ module _ {A B : Type 0} (slots : Slots) (f : Variable → Term) (rights : List (
     }
 
 -- ---- one list of uses more
-pub uses_more : {A B : Type 0} (slots : Slots) (rights : List (Option (Vec Cell A))) (lists new : List (Option (Vec ℕ B))) (used : Option (Vec ℕ B)) (k : ℕ) → length lists ≡ k → AreUses slots rights lists → new ≡ lists ++ used ∷ [] → list_of used ≡ slots_among slots (list_of (get_or rights k None)) → AreUses slots rights new
-uses_more slots rights lists new used k long h is last = subst (AreUses slots rights) (sym is) both
+pub sides_use_more : {A B : Type 0} (slots : Slots) (rights : List (Option (Vec Cell A))) (lists new : List (Option (Vec ℕ B))) (used : Option (Vec ℕ B)) (k : ℕ) → length lists ≡ k → AreUses slots rights lists → new ≡ lists ++ used ∷ [] → list_of used ≡ slots_among slots (list_of (get_or rights k None)) → AreUses slots rights new
+sides_use_more slots rights lists new used k long h is last = subst (AreUses slots rights) (sym is) both
   where
     both : AreUses slots rights (lists ++ used ∷ [])
     both j less =
@@ -303,13 +270,14 @@ module _ {A : Type 0} (slots : Slots) (rights : List (Option (Vec Cell A))) (ks 
   pub listed_at : (i k : ℕ) → i < length ks → k ≡ get_or ks i 0 → length rights ≡ slot_count slots → AreListed slots rights ks → k < length rights
   listed_at i k less is long h = let b = all_get (IsToBind slots h.0) ks i 0 h.2 less in omega (arith, b.0, is, long)
 
-  pub whole_at : (k : ℕ) (cells : List Cell) → k < length rights → list_of (get_or rights k None) ≡ Some cells → AreListed slots rights ks → IsWhole cells
-  whole_at k cells less some h = let side = subst (IsRightSide slots h.0 k) some (h.1 k less) in (right_side slots h.0 k, side.1)
+  pub whole_cells : (k : ℕ) (cells : List Cell) → k < length rights → list_of (get_or rights k None) ≡ Some cells → AreListed slots rights ks → IsWhole cells
+  whole_cells k cells less some h = let side = subst (IsRightSide slots h.0 k) some (h.1 k less) in (right_side slots h.0 k, side.1)
 
   -- what was read is what stands at the place
   pub right_at : (k : ℕ) (o : Option (Vec Cell A)) → k < length rights → o ≡ get_or rights k o → list_of (get_or rights k None) ≡ list_of o
   right_at k o less is = ap list_of (at_default rights k None o (read_at rights k o less is))
 
+<<<<<<< HEAD
   pub lists_end : (i : ℕ) (bs : List Binding) → length ks ≤ i → ListsBindings slots rights (take i ks) bs → ListsBindings slots rights ks bs
   lists_end i bs full h = subst (λ l. ListsBindings slots rights l bs) (take_full ks i full) h
     where
@@ -318,6 +286,10 @@ module _ {A : Type 0} (slots : Slots) (rights : List (Option (Vec Cell A))) (ks 
       take_full [] (suc n) less = refl
       take_full (x ∷ xs) zero less = absurd (omega (arith, less))
       take_full (x ∷ xs) (suc n) less = ap (λ l. x ∷ l) (take_full xs n (omega (arith, less)))
+=======
+  pub lists_end : (i : ℕ) (bs : List Binding) → length ks ≤ i → ListsBindings slots rights (take i ks) bs → ListsBindings slots rights ks bs
+  lists_end i bs full h = subst (λ l. ListsBindings slots rights l bs) (take_all i ks full) h
+>>>>>>> be74e5c6ebcd750d80a005db19846eb6ca0ba157
 
 -- ---- the whole list
 module _ {A B : Type 0} (slots : Slots) (rights : List (Option (Vec Cell A))) (lists : List (Option (Vec ℕ B))) (long : length rights ≡ slot_count slots) (as_long : length lists ≡ length rights) (uses : AreUses slots rights lists) where

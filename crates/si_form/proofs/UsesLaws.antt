@@ -20,7 +20,7 @@ use Rattle.si_form.proofs.NodeLaws.{same_some}
 use Rattle.si_form.specs.Uses.{used_in, used_by, UsesBelow}
 
 -- ---- the slots among cells
-slots_append : (slots : Slots) (xs ys : List Cell) → slots_of slots (xs ++ ys) ≡ slots_of slots xs ++ slots_of slots ys
+pub slots_append : (slots : Slots) (xs ys : List Cell) → slots_of slots (xs ++ ys) ≡ slots_of slots xs ++ slots_of slots ys
 slots_append slots [] ys = refl
 slots_append slots (cell.App s a n ∷ xs) ys = slots_append slots xs ys
 slots_append slots (cell.Query n ∷ xs) ys = ap (λ l. n ∷ l) (slots_append slots xs ys)
@@ -58,6 +58,11 @@ uses_more slots pairs lists new used h is last = subst (UsesBelow slots pairs) (
               ap list_of (get_or_front lists (used ∷ []) slot None before) ∙ h slot before
         ]
 
+pub beyond : {X : Type 0} (xs : List X) (k : ℕ) (d : X) → length xs ≤ k → get_or xs k d ≡ d
+beyond [] k d less = refl
+beyond (x ∷ xs) zero d less = absurd (omega (arith, less))
+beyond (x ∷ xs) (suc k) d less = beyond xs k d (omega (arith, less))
+
 -- ---- no circle
 pub range_slots : (slots : Slots) (cells : List Cell) → AreInRange slots cells → AllByRecursion (λ j. j < slot_count slots) (slots_of slots cells)
 range_slots slots [] h = tt
@@ -74,16 +79,11 @@ rank_slots slots rank slot (cell.Entry n ∷ cells) h = (h.0, rank_slots slots r
 rank_slots slots rank slot (cell.Ind n ∷ cells) h = (h.0, rank_slots slots rank slot cells h.1)
 
 module _ {A : Type 0} (slots : Slots) (pairs : Pairs) (lists : List (Option (Vec ℕ A))) (long : length lists ≡ slot_count slots) (below : UsesBelow slots pairs lists) (bindings : AllByRecursion (IsBinding slots) pairs) where
-  beyond : (xs : List (Option (Vec ℕ A))) (k : ℕ) → length xs ≤ k → get_or xs k None ≡ None
-  beyond [] k less = refl
-  beyond (x ∷ xs) zero less = absurd (omega (arith, less))
-  beyond (x ∷ xs) (suc k) less = beyond xs k (omega (arith, less))
-
   pub listed_inside : (k : ℕ) → IsListed (uses_at lists) k → k < slot_count slots
   listed_inside k l =
       elim (cases_lt k (length lists)) [
         | inl less ↦ omega (arith, less, long)
-        | inr more ↦ let bad : None ≡ Some l.0 = sym (ap list_of (beyond lists k more)) ∙ l.1 in cc
+        | inr more ↦ let bad : None ≡ Some l.0 = sym (ap list_of (beyond lists k None more)) ∙ l.1 in cc
       ]
 
   -- a number that has a list is a bound slot

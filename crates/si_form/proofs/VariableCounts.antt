@@ -1,5 +1,5 @@
 -- How many variables stand among the first cells of a term.
-use Rattle.std.proofs.Common.{◌≡◌, ◌≢◌, ℕ, ◌+◌, ◌<◌, ◌≤◌, inl, inr, List, [], ◌∷◌, ◌++◌, length, drop, get_or, suc, zero, refl, sym, ◌∙◌, ap, subst, arith, append-nil, Option, Some, None}
+use Rattle.std.proofs.Common.{◌≡◌, ◌≢◌, ℕ, ◌+◌, ◌<◌, ◌≤◌, inl, inr, List, [], ◌∷◌, ◌++◌, length, drop, get_or, suc, refl, sym, ◌∙◌, ap, subst, arith, append-nil, Option, Some, None}
 use Rattle.std.specs.List.{AllByRecursion}
 use Rattle.si_defs.specs.Substitutions.{IsAmong}
 use Rattle.si_defs.specs.Terms as terms
@@ -15,6 +15,9 @@ use Rattle.si_unify.specs.Solving.{CellIsInRange, AreInRange}
 use Rattle.si_form.specs.Answers.{owners_variables, AreNumbered}
 use Rattle.si_form.specs.Matching.{variable_number}
 use Rattle.si_form.specs.Unifying.{HasVariables}
+use Rattle.std.proofs.Math.ListN.{drop_of_length-le}
+use Rattle.std.proofs.Math.Seq.{drop-cons}
+use Rattle.si_form.proofs.Agreeing.{drop_none, no_number}
 use Rattle.si_form.proofs.CanonicalLaws.{all_at}
 use Rattle.si_form.proofs.Counting.{NumberedTo, numbered_to}
 use Rattle.si_form.proofs.VariableLaws.{number_of}
@@ -54,26 +57,11 @@ mutual
 abbrev pub IsCounting : Owner → List Cell → ℕ → ℕ → Type 0
 IsCounting owner cells i n = (n ≤ i) × ((t : Term) (m : ℕ) → StandsFor cells t → terms.firsts same_variable (terms.variables t) ≡ owners_variables owner 0 m → NumberedTo owner n (variables_among (drop i cells)) m)
 
-no_drop : {X : Type 0} (xs : List X) → drop 0 xs ≡ xs
-no_drop [] = refl
-no_drop (x ∷ xs) = refl
-
-drop_one : {X : Type 0} (xs : List X) (i : ℕ) (d : X) → i < length xs → drop i xs ≡ get_or xs i d ∷ drop (i + 1) xs
-drop_one [] i d less = absurd (omega (arith, less))
-drop_one (x ∷ xs) zero d less = ap (λ l. x ∷ l) (sym (no_drop xs))
-drop_one (x ∷ xs) (suc i) d less = drop_one xs i d (omega (arith, less)) ∙ ap (λ l. get_or xs i d ∷ l) (ap (λ n. drop n (x ∷ xs)) (let e : suc (i + 1) ≡ suc i + 1 = omega arith in e))
-
-drop_ends : {X : Type 0} (xs : List X) (i : ℕ) → length xs ≤ i → drop i xs ≡ []
-drop_ends [] zero less = refl
-drop_ends [] (suc i) less = refl
-drop_ends (x ∷ xs) zero less = absurd (omega (arith, less))
-drop_ends (x ∷ xs) (suc i) less = drop_ends xs i (omega (arith, less))
-
 pub counting_begins : (owner : Owner) (cells : List Cell) → IsCounting owner cells 0 0
 counting_begins owner cells = (
   omega arith,
   λ t m stands firsts.
-      subst (λ l. NumberedTo owner 0 l m) (sym (ap variables_among (no_drop cells ∙ stands.cells_are) ∙ among_cells t)) (numbered_to owner m (terms.variables t) firsts),
+      subst (λ l. NumberedTo owner 0 l m) (sym (ap variables_among (drop_none cells ∙ stands.cells_are) ∙ among_cells t)) (numbered_to owner m (terms.variables t) firsts),
 )
 
 -- one variable more, by its number
@@ -103,12 +91,8 @@ CellCounts owner n m xs (Some k) = CountsOn owner n m xs k
 one_more : (owner : Owner) (n m : ℕ) (x : Variable) (xs : List Variable) → NumberedTo owner n (x ∷ xs) m → CellCounts owner n m xs (variable_number owner (variable_cell x))
 one_more owner n m x xs h = let r = next_met owner n m x xs h in subst (CellCounts owner n m xs) (sym r.1) r.2
 
-no_number : (owner : Owner) (s a n : ℕ) → None ≡ variable_number owner (cell.App s a n)
-no_number Query s a n = refl
-no_number Entry s a n = refl
-
 cell_counts : (owner : Owner) (n m : ℕ) (c : Cell) (cells : List Cell) → NumberedTo owner n (variables_among (c ∷ cells)) m → CellCounts owner n m (variables_among cells) (variable_number owner c)
-cell_counts owner n m (cell.App s a k) cells h = subst (CellCounts owner n m (variables_among cells)) (no_number owner s a k) h
+cell_counts owner n m (cell.App s a k) cells h = subst (CellCounts owner n m (variables_among cells)) (sym (no_number owner s a k)) h
 cell_counts owner n m (cell.Query k) cells h = one_more owner n m (query k) (variables_among cells) h
 cell_counts owner n m (cell.Entry k) cells h = one_more owner n m (entry k) (variables_among cells) h
 cell_counts owner n m (cell.Ind k) cells h = one_more owner n m (ind k) (variables_among cells) h
@@ -118,7 +102,10 @@ module _ (owner : Owner) (cells : List Cell) (i n : ℕ) (less : i < length cell
   counts_at t m o is stands firsts =
       subst (CellCounts owner n m (variables_among (drop (i + 1) cells))) (sym is)
       (cell_counts owner n m (get_or cells i (cell.App 0 0 0)) (drop (i + 1) cells)
-      (subst (λ l. NumberedTo owner n (variables_among l) m) (drop_one cells i (cell.App 0 0 0) less) (h.1 t m stands firsts)))
+      (subst (λ l. NumberedTo owner n (variables_among l) m) (here (i + 1) (omega arith)) (h.1 t m stands firsts)))
+    where
+      here : (j : ℕ) → suc i ≡ j → drop i cells ≡ get_or cells i (cell.App 0 0 0) ∷ drop j cells
+      here j e = drop-cons cells i (cell.App 0 0 0) less ∙ ap (λ k. get_or cells i (cell.App 0 0 0) ∷ drop k cells) e
 
   pub counting_skips : None ≡ variable_number owner (get_or cells i (cell.App 0 0 0)) → IsCounting owner cells (i + 1) n
   counting_skips is = (omega (arith, h.0), λ t m stands firsts. counts_at t m None is stands firsts)
@@ -135,8 +122,13 @@ module _ (owner : Owner) (cells : List Cell) (i n : ℕ) (less : i < length cell
 pub counted_all : (owner : Owner) (cells : List Cell) (i n : ℕ) → length cells ≤ i → AreNumbered owner cells → IsCounting owner cells i n → HasVariables owner cells n
 counted_all owner cells i n less numbered h t stands =
     let own = numbered t stands in
+<<<<<<< HEAD
     let same : n ≡ own.0 = subst (λ l. NumberedTo owner n (variables_among l) own.0) (drop_ends cells i less) (h.1 t own.0 stands own.1) in
     own.1 ∙ ap (owners_variables owner 0) (sym same)
+=======
+    let same : n ≡ own.0 = subst (λ l. NumberedTo owner n (variables_among l) own.0) (drop_of_length-le cells less) (h.1 t own.0 stands own.1) in
+    own.1 ∙ ap (variables_from owner 0) (sym same)
+>>>>>>> be74e5c6ebcd750d80a005db19846eb6ca0ba157
 
 -- ---- which variables these are
 numbered_grows : (owner : Owner) (n m : ℕ) (xs : List Variable) → NumberedTo owner n xs m → n ≤ m

@@ -1,7 +1,7 @@
-use Rattle.std.proofs.Common.{◌≡◌, ◌<◌, length, get_or, refl, sym, ◌∙◌, ap, subst}
+use Rattle.std.proofs.Common.{get_or, refl, sym, ◌∙◌, ap, subst}
 use Rattle.si_flat.specs.Cells.{IsWhole}
 use Rattle.si_form.specs.Ordering.{list_of}
-use Rattle.si_form.proofs.UnifierThere.{lists_begin, lists_skip, lists_more, listed_at, whole_at, right_at, lists_end}
+use Rattle.si_form.proofs.UnifierThere.{lists_skip, lists_more, listed_at, whole_cells, right_at, lists_end}
 use Rattle.si_form.proofs.unifying.list.Goals as goal
 
 pub loop-slot-preserved-in_default : goal.loop-slot-preserved-in_default
@@ -16,7 +16,7 @@ from_cells-requires c =
     let k = get_or c.args.order.now c.loop-slot.slot-index 0 in
     let inside = listed_at c.args.slots.now c.args.rights.now c.args.order.now c.loop-slot.slot-index k c.loop-slot-test.true refl c.requires.long c.requires.listed in
     subst IsWhole (sym c.deref.ensures.value)
-    (whole_at c.args.slots.now c.args.rights.now c.args.order.now k c.in-Some.cells.items inside
+    (whole_cells c.args.slots.now c.args.rights.now c.args.order.now k c.in-Some.cells.items inside
     (right_at c.args.slots.now c.args.rights.now c.args.order.now k c.index-rights-slot.result inside c.index-rights-slot.is ∙ ap list_of c.in-Some.is) c.requires.listed)
 
 pub loop-slot-preserved : goal.loop-slot-preserved

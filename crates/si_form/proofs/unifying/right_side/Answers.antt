@@ -1,6 +1,5 @@
-use Rattle.std.proofs.Common.{◌≡◌, ◌<◌, ◌∷◌, [], length, Some, None, sym, ◌∙◌, ap, subst, arith}
-use Rattle.si_form.specs.Ordering.{list_of}
-use Rattle.si_form.specs.Unifying.{IsBoundTo, HasRightSide}
+use Rattle.std.proofs.Common.{◌∷◌, [], Some, sym, ◌∙◌, ap, subst, arith}
+use Rattle.si_form.specs.Unifying.{IsBoundTo}
 use Rattle.si_form.proofs.FoldingLaws.{read_at}
 use Rattle.si_form.proofs.FoundLaws.{class_inside, leader_inside, unled, follower_side, unbound_side, some_fold, leader_side}
 use Rattle.si_form.proofs.unifying.right_side.Goals as goal

@@ -11,11 +11,7 @@ use Rattle.si_unify.specs.Solving.{Pairs, slot_count, variable_of}
 use Rattle.si_form.specs.declared.classes.Node.{Node}
 use Rattle.si_form.specs.Classes.{HasClasses}
 use Rattle.si_form.specs.Folding.{leader, variable_or, folded, folded_all, AreClasses, AreLeaders, LeadClasses, AreSizes, HasTerms, CanFold, HasFolded}
-<<<<<<< HEAD
-use Rattle.si_form.specs.Unifying.{IsApplication, StaysFree, right_side, IsToBind, IsRightSide, IsGeneral, HasGeneral, HasApplication, AreFound, IsBoundTo, HasRightSide, HaveRightSides}
-=======
 use Rattle.si_form.specs.Unifying.{IsApplication, StaysFree, IsToBind, IsRightSide, IsGeneral, HasGeneral, AreFound, IsBoundTo, HasRightSide, HaveRightSides}
->>>>>>> be74e5c6ebcd750d80a005db19846eb6ca0ba157
 use Rattle.si_form.specs.Ordering.{list_of}
 use Rattle.si_form.proofs.UsesLaws.{get_or_front, get_or_last}
 use Rattle.si_form.proofs.CanonicalLaws.{all_from, all_at}

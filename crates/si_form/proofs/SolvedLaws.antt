@@ -12,11 +12,7 @@ use Rattle.si_unify.specs.declared.slots.Slots.{Slots}
 use Rattle.si_unify.specs.Solving.{Pairs, slot_count, AreInRange, IsAcyclic, IsBinding, HaveCommon, HasSolved}
 use Rattle.si_form.specs.declared.solution.Binding.{Binding}
 use Rattle.si_form.specs.Answers.{AnswersTo}
-<<<<<<< HEAD
-use Rattle.si_form.specs.Unifying.{right_side, listed_bindings, IsWholeList, ListsAllBindings, AreFree, AreSlotsOf}
-=======
 use Rattle.si_form.specs.Unifying.{right_side, listed_bindings, ListsAllBindings, AreSlotsOf}
->>>>>>> be74e5c6ebcd750d80a005db19846eb6ca0ba157
 use Rattle.si_form.proofs.VariableLaws.{same_tells, same_itself}
 use Rattle.si_form.proofs.UnifierLaws.{one_unifier}
 use Rattle.si_form.proofs.GeneralLaws.{general}

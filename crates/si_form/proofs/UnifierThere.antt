@@ -13,11 +13,7 @@ use Rattle.si_unify.specs.Solving.{slot_count, slot_of, variable_of}
 use Rattle.si_form.specs.Classes.{slots_of}
 use Rattle.si_form.specs.Folding.{leader, folded, folded_all}
 use Rattle.si_form.specs.Ordering.{list_of, uses_at, list_or_none, IsListed, HasNoCircle, AreOrdered}
-<<<<<<< HEAD
-use Rattle.si_form.specs.Unifying.{IsApplication, StaysFree, ImagesStay, right_side, IsToBind, IsRightSide, AreRightSides, listed_bindings, IsGeneral, HasGeneral, HasApplication, AreFound, HasRightSide, HaveRightSides, slots_among, AreUses, AreListed, ListsBindings, HasUses, IsWholeList}
-=======
 use Rattle.si_form.specs.Unifying.{IsApplication, ImagesStay, right_side, IsToBind, IsRightSide, AreRightSides, listed_bindings, slots_among, AreUses, AreListed, ListsBindings, HasUses, IsWholeList}
->>>>>>> be74e5c6ebcd750d80a005db19846eb6ca0ba157
 use Rattle.si_form.proofs.OrderedLaws.{listed_all}
 use Rattle.si_form.specs.declared.solution.Binding.{Binding}
 use Rattle.si_form.specs.Answers.{StandsForPair, StandsForList}
@@ -277,19 +273,8 @@ module _ {A : Type 0} (slots : Slots) (rights : List (Option (Vec Cell A))) (ks 
   pub right_at : (k : ℕ) (o : Option (Vec Cell A)) → k < length rights → o ≡ get_or rights k o → list_of (get_or rights k None) ≡ list_of o
   right_at k o less is = ap list_of (at_default rights k None o (read_at rights k o less is))
 
-<<<<<<< HEAD
-  pub lists_end : (i : ℕ) (bs : List Binding) → length ks ≤ i → ListsBindings slots rights (take i ks) bs → ListsBindings slots rights ks bs
-  lists_end i bs full h = subst (λ l. ListsBindings slots rights l bs) (take_full ks i full) h
-    where
-      take_full : (xs : List ℕ) (n : ℕ) → length xs ≤ n → take n xs ≡ xs
-      take_full [] zero less = refl
-      take_full [] (suc n) less = refl
-      take_full (x ∷ xs) zero less = absurd (omega (arith, less))
-      take_full (x ∷ xs) (suc n) less = ap (λ l. x ∷ l) (take_full xs n (omega (arith, less)))
-=======
   pub lists_end : (i : ℕ) (bs : List Binding) → length ks ≤ i → ListsBindings slots rights (take i ks) bs → ListsBindings slots rights ks bs
   lists_end i bs full h = subst (λ l. ListsBindings slots rights l bs) (take_all i ks full) h
->>>>>>> be74e5c6ebcd750d80a005db19846eb6ca0ba157
 
 -- ---- the whole list
 module _ {A B : Type 0} (slots : Slots) (rights : List (Option (Vec Cell A))) (lists : List (Option (Vec ℕ B))) (long : length rights ≡ slot_count slots) (as_long : length lists ≡ length rights) (uses : AreUses slots rights lists) where

@@ -122,13 +122,8 @@ module _ (owner : Owner) (cells : List Cell) (i n : ℕ) (less : i < length cell
 pub counted_all : (owner : Owner) (cells : List Cell) (i n : ℕ) → length cells ≤ i → AreNumbered owner cells → IsCounting owner cells i n → HasVariables owner cells n
 counted_all owner cells i n less numbered h t stands =
     let own = numbered t stands in
-<<<<<<< HEAD
-    let same : n ≡ own.0 = subst (λ l. NumberedTo owner n (variables_among l) own.0) (drop_ends cells i less) (h.1 t own.0 stands own.1) in
-    own.1 ∙ ap (owners_variables owner 0) (sym same)
-=======
     let same : n ≡ own.0 = subst (λ l. NumberedTo owner n (variables_among l) own.0) (drop_of_length-le cells less) (h.1 t own.0 stands own.1) in
-    own.1 ∙ ap (variables_from owner 0) (sym same)
->>>>>>> be74e5c6ebcd750d80a005db19846eb6ca0ba157
+    own.1 ∙ ap (owners_variables owner 0) (sym same)
 
 -- ---- which variables these are
 numbered_grows : (owner : Owner) (n m : ℕ) (xs : List Variable) → NumberedTo owner n xs m → n ≤ m

@@ -150,12 +150,12 @@ RemovedClause = (limits : Limits) → Performs limits (remove kept_clause.name) 
 abbrev pub UnknownName : Type 0
 UnknownName = (limits : Limits) → Performs limits (remove (record { kind = named.Int; text = codes "1" })) (kept_clause ∷ []) (codes "! unknown 1" ∷ []) (kept_clause ∷ [])
 
--- a clause that is kept_clause is not unknown
+-- a clause that is kept is not unknown
 abbrev pub NoUnknownName : Type 0
 NoUnknownName = (limits : Limits) (new : List Clause) → Performs limits (remove kept_clause.name) (kept_clause ∷ []) (codes "! unknown c1" ∷ []) new → ⊥
 
 -- ---- counts
--- nothing is kept_clause
+-- nothing is kept
 abbrev pub NothingCounted : Type 0
 NothingCounted = (limits : Limits) → Performs limits stats [] (codes "clauses 0 entries 0 symbols 0" ∷ []) []
 

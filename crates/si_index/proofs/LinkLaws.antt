@@ -1,4 +1,4 @@
--- Laws of item_keys that lead to the places of their items.
+-- Laws of keys that lead to the places of their items.
 use Rattle.std.proofs.Common.{suc, zero, ◌≡◌, ◌≢◌, ◌⊎◌, ◌<◌, ◌≤◌, ◌+◌, ℕ, List, [], ◌∷◌, ◌++◌, Option, Some, None, length, slice_index_or, slice_set, inl, inr, refl, sym, ◌∙◌, ap, subst, arith}
 use Rattle.std.proofs.lemmas.Bool.{cases_eq}
 use Rattle.std.proofs.lemmas.List.{get_or-set_same, get_or-set_other, get_or_append_left}
@@ -102,7 +102,7 @@ module _ {T : Type 0} where
     ];
   }
 
-  -- ---- which item_keys are known
+  -- ---- which keys are known
   distinct_from : (slots : List (Option (Kept T))) (place_of : ℕ → Option ℕ) (n : ℕ)
       → ((place : ℕ) (k : Kept T) → HoldsAt slots place k → place_of k.key ≡ Some (n + place)) → AreDistinct (item_keys (kept slots))
   distinct_from [] place_of n h = tt
@@ -141,7 +141,7 @@ module _ {T : Type 0} where
   same_place (Some x ∷ slots) (suc i) (suc n) k j d s t same = ap suc (same_place slots i n k j d.1 s t same)
 
   -- ---- places told anew
-  -- the item_keys of the items before this place lead there
+  -- the keys of the items before this place lead there
   pub record AreTold (slots : List (Option (Kept T))) (upto : ℕ) (place_of : ℕ → Option ℕ) : Type 0 where
     pub there : (place : ℕ) (k : Kept T) → place < upto → HoldsAt slots place k → place_of k.key ≡ Some place
     pub knows : KnowsKeys (kept slots) place_of

@@ -1,4 +1,4 @@
--- Laws of items with item_keys, and of names that lead to the item_keys of their clauses.
+-- Laws of items with keys, and of names that lead to the keys of their clauses.
 use Rattle.std.proofs.Common.{◌≡◌, ◌⊎◌, inl, inr, ℕ, zero, suc, ◌+◌, ◌≤◌, List, [], ◌∷◌, ◌++◌, Some, None, length, slice_get, refl, sym, ap, ◌∙◌, subst, arith, length-append}
 use Rattle.si_defs.specs.Clauses as defs
 use Rattle.si_defs.specs.Substitutions.{IsAmong}
@@ -39,7 +39,7 @@ split_last (z ∷ xs) (b ∷ bs) after x y f h =
     λ i. sym (same_head h) i ∷ rest i
 
 module _ {T : Type 0} where
-  -- ---- items by item_keys
+  -- ---- items by keys
   pub item_of : (items : List (ℕ × T)) (key : ℕ) → HasKey items key → (c : T) × IsAmong items (key, c)
   item_of [] key h = absurd h
   item_of (x ∷ items) key (inl e) = (x.1, inl (λ i. (e i, x.1)))

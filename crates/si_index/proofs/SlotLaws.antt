@@ -128,7 +128,7 @@ module _ {T : Type 0} where
   key_at (x ∷ items) zero e h = ap (λ y. Some y.0) (same_some h)
   key_at (x ∷ items) (suc position) e h = key_at items position e h
 
-  -- ---- item_keys
+  -- ---- keys
   pub among_there : (slots : List (Option (Kept T))) (place : ℕ) (k : Kept T) → HoldsAt slots place k → IsAmong (kept slots) (entry k)
   among_there [] place k h = absurd (not_none h)
   among_there (None ∷ slots) zero k h = absurd (not_none h)

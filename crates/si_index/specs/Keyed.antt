@@ -1,9 +1,9 @@
--- A list whose items go by item_keys.
+-- A list whose items go by keys.
 use Rattle.std.specs.Prelude.{◌≡◌, ℕ, List, ◌∷◌, ◌++◌, Some, map, slice_get}
 use Rattle.si_defs.specs.Substitutions.{IsAmong}
 
 module _ {T : Type 0} where
-  -- the item_keys of the items, in order
+  -- the keys of the items, in order
   abbrev pub item_keys : List (ℕ × T) → List ℕ
   item_keys = map (λ e. e.0)
 

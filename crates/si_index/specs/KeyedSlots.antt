@@ -1,4 +1,4 @@
--- How a list whose items go by item_keys is kept: slots with holes, and tables beside them.
+-- How a list whose items go by keys is kept: slots with holes, and tables beside them.
 use Rattle.std.specs.Prelude.{◌≡◌, ℕ, List, [], ◌∷◌, Option, None, Some, length, slice_index_or}
 use Rattle.slab.specs.Slab.{Slab, get, slab_len}
 use Rattle.si_defs.specs.Substitutions.{AreDistinct}
@@ -28,7 +28,7 @@ module _ {T : Type 0} where
     pub back : (key place : ℕ) → place_of key ≡ Some place
         → (k : Kept T) × HoldsAt slots place k × (k.key ≡ key)
 
-  -- the item_keys of these items are distinct, and just these lead anywhere
+  -- the keys of these items are distinct, and just these lead anywhere
   pub record KnowsKeys (items : List (ℕ × T)) (place_of : ℕ → Option ℕ) : Type 0 where
     pub distinct : AreDistinct (item_keys items)
     pub known : (key : ℕ) → HasKey items key → (place : ℕ) × (place_of key ≡ Some place)

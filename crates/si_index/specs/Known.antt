@@ -1,4 +1,4 @@
--- What is known of some clauses besides their list: the keys of their names, and their known_symbols.
+-- What is known of some clauses besides their list: the keys of their names, and their symbols.
 use Rattle.std.specs.Prelude.{◌≡◌, ℕ, ◌+◌, ◌<◌, ◌≤◌, List, [], ◌∷◌, ◌++◌, None, Some, IsSome, length}
 use Rattle.si_defs.specs.Clauses.{Name, Clause}
 use Rattle.si_defs.specs.Symbols.{Symbol, times}
@@ -43,7 +43,7 @@ pub record Admits (limit : ℕ) (known : Known) (clause : Clause) : Type 0 where
   pub agree : AllAgree (known_symbols known.signature) (clause_symbols clause)
   pub room : total known.signature + length (clause_symbols clause) ≤ limit
 
--- the known_symbols of the clause are entered
+-- the symbols of the clause are entered
 pub record Enters (clause : Clause) (old new : Known) : Type 0 where
   pub names : new.names ≡ old.names
   pub uses : (s : Symbol) → uses_of new.signature s ≡ uses_of old.signature s + times s (clause_symbols clause)

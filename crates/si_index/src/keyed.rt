@@ -23,7 +23,7 @@ struct Kept<T> {
 /// can be taken from anywhere without a pass over the items behind it: a hole is left, and where
 /// most places are holes, they are closed.
 ///
-/// Contracts see the list of the item_keys and items.
+/// Contracts see the list of the keys and items.
 #[derive(Drop)]
 pub struct KeyedList<T> {
     alloc: Global,
@@ -104,7 +104,7 @@ impl<T> KeyedList<T> {
         self.ranks.before(self.places[key])
     }
 
-    /// The item_keys and items, in order.
+    /// The keys and items, in order.
     pub fn iter(&self) -> Items<'_, T>
         ensures { result ≡ self.now }
     {
@@ -223,7 +223,7 @@ fn lead(key: usize, place: usize, places: &mut Slab<usize>)
     }
 }
 
-/// The item_keys and items of a list, in order, seen as the list of those that are left.
+/// The keys and items of a list, in order, seen as the list of those that are left.
 #[derive(Drop)]
 pub struct Items<'a, T> {
     slots: &'a [Option<Kept<T>>],

@@ -35,11 +35,11 @@ impl Known {
         }
     }
 
-    /// Enters the known_symbols of a clause, and answers their number. The names stay as they are. At an
+    /// Enters the symbols of a clause, and answers their number. The names stay as they are. At an
     /// error the same is known as before.
     ///
     /// `Taken`: its name is known. `Clash`: else, a symbol of it has another shape than one that is
-    /// known or stands earlier in it. `Full`: else, there would be more uses of known_symbols than the
+    /// known or stands earlier in it. `Full`: else, there would be more uses of symbols than the
     /// limit.
     pub fn enter(&mut self, clause: &Clause, limit: u64) -> Result<u32, AddFault>
         requires room { signatures.total self.old.signature
@@ -68,7 +68,7 @@ impl Known {
         Ok((needed - before) as u32)
     }
 
-    /// Strikes a clause out, and answers the number of its known_symbols. It takes no memory.
+    /// Strikes a clause out, and answers the number of its symbols. It takes no memory.
     pub fn leave(&mut self, gone: &Clause) -> u32
         requires used { (s : Symbol) → times s (clause_symbols (clause_of gone.now))
             ≤ uses_of self.old.signature s }

@@ -39,7 +39,7 @@ pub signature_removed : (before after : List Clause) (c : Clause) (known new : S
 signature_removed before after c known new of uses s =
     omega (arith, uses s, of s, times_state s before (c ∷ after), times_state s before after, times_append s (clause_symbols c) (state_symbols after))
 
--- ---- which known_symbols occur
+-- ---- which symbols occur
 module _ (state : List Clause) (known : Signature) (is : IsSignature known) (of : IsSignatureOf state known) where
   pub in_state : (s : Symbol) → IsAmong (known_symbols known) s → IsAmong (state_symbols state) s
   in_state s h = among_times s (state_symbols state) (omega (arith, of s, symbols_used known is s h))
@@ -69,7 +69,7 @@ module _ (state : List Clause) (known : Signature) (is : IsSignature known) (of 
     by (inl h) = among_left (state_symbols state) first.before kept (in_state kept h)
     by (inr h) = among_right (state_symbols state) first.before kept h
 
-  -- as many known_symbols as `len` tells
+  -- as many symbols as `len` tells
   pub counts_symbols : CountsSymbols state (length known)
   counts_symbols = (known_symbols known, distinct_symbols known is.one_shape, (λ s. (in_state s, in_signature s)), lengths known) where
     lengths : (us : Signature) → length us ≡ length (known_symbols us)

@@ -11,7 +11,7 @@ use Rattle.si_sign.specs.declared.faults.TakeFault.TheVariants as take_fault
 use Rattle.si_sign.proofs.SeenLaws.{IsRising, same_rising}
 use Rattle.si_sign.proofs.UsesOf.{among_left, among_right, among_append, all_among, one_of_all, among_symbols, among_numbering, symbols_among, numbering_among, uses_positive, uses_among, times_append, times_among, among_times}
 
--- ---- which known_symbols are in use
+-- ---- which symbols are in use
 pub symbols_used : (us : Signature) → IsSignature us → (s : Symbol) → IsAmong (known_symbols us) s → 1 ≤ uses_of us s
 symbols_used us is s h =
     let m = symbols_among us s h in

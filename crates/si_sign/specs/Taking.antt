@@ -1,4 +1,4 @@
--- What taking occurrences of known_symbols, and giving them back, makes of a signature.
+-- What taking occurrences of symbols, and giving them back, makes of a signature.
 use Rattle.std.specs.Prelude.{◌≡◌, ℕ, ◌+◌, List, length}
 use Rattle.si_defs.specs.Symbols.{Symbol, times}
 use Rattle.si_state.specs.Acceptance.{AllAgree, IsFirstClash}

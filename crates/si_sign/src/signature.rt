@@ -18,7 +18,7 @@ use si_term::{Clause, Sym, SymTable};
 use std::alloc::Global;
 use std::marker::Model;
 
-/// The known_symbols that occur in some clauses, how often, and by which number each goes.
+/// The symbols that occur in some clauses, how often, and by which number each goes.
 ///
 /// A symbol keeps its number while it occurs. Contracts see a signature as a finite map from kind
 /// and text to side, arity, uses and number.
@@ -50,7 +50,7 @@ impl Signature {
         }
     }
 
-    /// Counts the occurrences of known_symbols in a clause. At an error nothing has changed.
+    /// Counts the occurrences of symbols in a clause. At an error nothing has changed.
     ///
     /// `Clash`: a symbol of the clause has another side or arity than one of the same kind and text
     /// that occurs here or earlier in the clause. The first such is named.
@@ -74,7 +74,7 @@ impl Signature {
             .take_literals(self.alloc, clause.literals.as_slice(), begin)
     }
 
-    /// Counts the occurrences of known_symbols in a clause no more.
+    /// Counts the occurrences of symbols in a clause no more.
     pub fn give_back(&mut self, clause: &Clause)
         requires used { (s : Symbol) → times s (clause_symbols (clause_of clause.now))
             ≤ uses_of self.old s }
@@ -106,7 +106,7 @@ impl Signature {
         Some(shape(&counted.sym))
     }
 
-    /// The number of known_symbols.
+    /// The number of symbols.
     pub fn len(&self) -> u32
         ensures number { result ≡ length self.now }
         ensures signature { IsSignature self.now }

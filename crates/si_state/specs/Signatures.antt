@@ -1,5 +1,5 @@
--- The signature of some clauses: which known_symbols occur in them, how often, and by which number each
--- goes (this project's profile; a signature is the set of known_symbols with their arities).
+-- The signature of some clauses: which symbols occur in them, how often, and by which number each
+-- goes (this project's profile; a signature is the set of symbols with their arities).
 use Rattle.std.specs.Prelude.{◌≡◌, ◌↔◌, ℕ, ◌≤◌, ◌+◌, cond, List, [], ◌∷◌, length}
 use Rattle.std.specs.List.{AllByRecursion}
 use Rattle.si_defs.specs.Bytes.{Bytes}
@@ -56,7 +56,7 @@ KeepsNumbers old new =
     (s : Symbol) (m n : ℕ) → IsAmong (numbering old) (s, m) → IsAmong (numbering new) (s, n) → m ≡ n
 
 -- ---- counting
--- the number of different known_symbols that occur
+-- the number of different symbols that occur
 abbrev pub CountsSymbols : List Clause → ℕ → Type 0
 CountsSymbols state count =
     (each : List Symbol) × AreDistinct each × ((s : Symbol) → IsAmong each s ↔ IsAmong (state_symbols state) s)

@@ -14,7 +14,7 @@ use Rattle.si_flat.specs.declared.met.Met.{Met}
 use Rattle.si_flat.specs.Cells.{Variable, variable_cell, cells_of, cells_of_all}
 use Rattle.si_flat.specs.Numbered.{place_in, numbered, all_numbered}
 use Rattle.si_flat.specs.Flattened.{unnumbered, has_number}
-use Rattle.si_flat.specs.Flattening.{owners_variable, number_by, IsIndex, IsNumber, MayMeet, met_names, met_extra, WalkState, walk_state, term_piece, terms_piece, Flattens}
+use Rattle.si_flat.specs.Flattening.{owners_variable, number_by, IsIndex, IsSymbolNumber, MayMeet, met_names, met_extra, WalkState, walk_state, term_piece, terms_piece, Flattens}
 use Rattle.si_flat.proofs.Subterms.{length-cells_of_all}
 use Rattle.si_flat.proofs.Inserted.{inserted-append, inserted_extends, inserted_length}
 
@@ -170,7 +170,7 @@ module _ (pairs : Numbering) (scheme : Scheme) where
   app_placed : (a b c : WalkState) (s : Symbol) (ts : clauses.Terms) (first : Cell) (n at m : ℕ)
       → b.names ≡ a.names
       → b.extra ≡ insert_all same_symbol a.extra (unnumbered pairs (s ∷ []))
-      → IsNumber pairs scheme.positive b.extra s n
+      → IsSymbolNumber pairs scheme.positive b.extra s n
       → b.cells ≡ a.cells ++ first ∷ []
       → Flattens pairs scheme b c (terms_piece ts)
       → at ≡ length a.cells
@@ -201,7 +201,7 @@ module _ (pairs : Numbering) (scheme : Scheme) where
   pub flattens_app : (a b c : WalkState) (s : Symbol) (ts : clauses.Terms) (first : Cell) (n at m : ℕ)
       → b.names ≡ a.names
       → b.extra ≡ insert_all same_symbol a.extra (unnumbered pairs (s ∷ []))
-      → IsNumber pairs scheme.positive b.extra s n
+      → IsSymbolNumber pairs scheme.positive b.extra s n
       → b.cells ≡ a.cells ++ first ∷ []
       → Flattens pairs scheme b c (terms_piece ts)
       → at ≡ length a.cells

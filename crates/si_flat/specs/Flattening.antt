@@ -53,8 +53,8 @@ IsIndex {V} same xs x n = (more : List V) → place_in same (xs ++ more) x ≡ n
 abbrev pub number_by : Numbering → Bool → List Symbol → Symbol → ℕ
 number_by pairs positive extra = signed positive (number_in (pairs ++ extra_numbers extra))
 
-abbrev pub IsNumber : Numbering → Bool → List Symbol → Symbol → ℕ → Type 0
-IsNumber pairs positive extra s n = (more : List Symbol) → number_by pairs positive (extra ++ more) s ≡ n
+abbrev pub IsSymbolNumber : Numbering → Bool → List Symbol → Symbol → ℕ → Type 0
+IsSymbolNumber pairs positive extra s n = (more : List Symbol) → number_by pairs positive (extra ++ more) s ≡ n
 
 -- what is walked over: its variables and symbols, and its cells by their numbers
 pub record WalkPiece : Type 0 where

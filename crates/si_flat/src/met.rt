@@ -6,7 +6,7 @@ ghost use Rattle.si_defs.specs.declared.TheConstants.{MOST_OCCURRENCES};
 ghost use Rattle.si_term.specs.Terms.{symbol_of};
 ghost use Rattle.si_flat.specs.Numbered.{one_above};
 ghost use Rattle.si_flat.specs.Flattened.{unnumbered};
-ghost use Rattle.si_flat.specs.Flattening.{met_names, symbol_of_key, met_extra, IsIndex, IsNumber};
+ghost use Rattle.si_flat.specs.Flattening.{met_names, symbol_of_key, met_extra, IsIndex, IsSymbolNumber};
 
 use indexmap::IndexSet;
 use si_defs::{Side, SymKind};
@@ -111,8 +111,8 @@ impl<'a> Met<'a> {
         ensures extra { OnOk result (met_extra self.new
             ≡ insert_all same_symbol (met_extra self.old)
             (unnumbered (T.pairs table.now) (symbol_of symbol.now ∷ []))) }
-        ensures number { IfOk result (IsNumber (T.pairs table.now) positive (met_extra self.new)
-            (symbol_of symbol.now)) }
+        ensures number { IfOk result (IsSymbolNumber (T.pairs table.now) positive
+            (met_extra self.new) (symbol_of symbol.now)) }
     {
         match table.id_of(symbol) {
             Some(number) => Ok(with_sign(number, positive, symbol.side)),

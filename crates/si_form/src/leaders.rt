@@ -22,8 +22,9 @@ fn lead(leaders: &mut Vec<Option<usize>>, class: usize, slot: usize)
 pub(crate) fn leaders(alloc: Global, classes: &Classes) -> Result<Vec<Option<usize>>, AllocError>
     requires { AllByRecursion (λ n. n < length classes.now.nodes.keys) classes.now.of_slots.items }
     ensures long { IfOk result (λ leaders. length leaders.items ≡ length classes.now.nodes.keys) }
-    ensures leads { IfOk result (λ leaders. (slots : Slots) → LeadClasses slots classes.now.nodes.keys
-        classes.now.of_slots.items (length classes.now.of_slots.items) leaders.items) }
+    ensures leads { IfOk result (λ leaders. (slots : Slots) → LeadClasses slots
+        classes.now.nodes.keys classes.now.of_slots.items (length classes.now.of_slots.items)
+        leaders.items) }
 {
     let mut leaders = Vec::new(alloc);
     leaders.resize(classes.nodes.len(), None)?;

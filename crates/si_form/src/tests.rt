@@ -103,8 +103,8 @@ fn assert_lists(rt: &impl Abort, solution: Option<Solution>, bindings: &[(Owner,
     }
 }
 
-// The queries are f(x, x), f(x, y) and a; the entries f(g(X), Y), f(a, g(a)), f(X, g(X)), f(X, X) and
-// a.
+// The queries are f(x, x), f(x, y) and a; the entries f(g(X), Y), f(a, g(a)), f(X, g(X)), f(X, X)
+// and a.
 #[test]
 fn lists_of_unifiable_terms(rt: HostRuntime) -> Result<(), Fail> {
     let (x, y) = (Cell::Query(0), Cell::Query(1));

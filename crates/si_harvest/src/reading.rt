@@ -148,7 +148,8 @@ impl Reading {
         requires limit { T.limit store.old ≤ MOST_OCCURRENCES }
         requires counted { CountsNoMore loaded.old (T.clauses store.old) }
         ensures stepped { StepsReading (L.files library.old) (bounds_of limits.now)
-            (T.limit store.old) self.old self.new (T.clauses store.old) (T.clauses store.new) result }
+            (T.limit store.old) self.old self.new (T.clauses store.old) (T.clauses store.new)
+            result }
         ensures counted { CountsNoMore loaded.new (T.clauses store.new) }
         ensures gained { (start : List defs.Clause)
             → Gained (T.limit store.old) start loaded.old (T.clauses store.old)

@@ -4,7 +4,8 @@ use Rattle.std.proofs.Math.Seq.{take-append-add, take-append_seam, drop-append_s
 use Rattle.std.proofs.lemmas.List.{take-append-le}
 use Rattle.std.specs.Prelude.{Result, Ok, Err}
 use Rattle.si_io.specs.Puts.{Puts}
-use Rattle.si_io.specs.Content.{Told, bytes_then, append_told, prepend_told, Appends, AppendsPrefix, Takes, IsAtEnd}
+use Rattle.si_io.specs.Content.{Told, bytes_then, append_told, prepend_told, Receives, ReceivesPrefix, Takes}
+use Rattle.std.specs.Io.KnownBytes.{IsAtEnd}
 
 -- Sinks
 
@@ -28,16 +29,16 @@ append_told-append a bs cs =
     told _ _ (a.room - length bs - length cs) (a.room - length (bs ++ cs)) (bytes_then-append a.bytes bs cs) (omega (arith, length-append bs cs))
 
 -- one text after the other
-pub Appends_then : (a b c : Told) (bs cs : List ℕ) → Appends a bs b → Appends b cs c → Appends a (bs ++ cs) c
-Appends_then a b c bs cs first second = second ∙ ap (λ (t : Told). append_told t cs) first ∙ append_told-append a bs cs
+pub Receives_then : (a b c : Told) (bs cs : List ℕ) → Receives a bs b → Receives b cs c → Receives a (bs ++ cs) c
+Receives_then a b c bs cs first second = second ∙ ap (λ (t : Told). append_told t cs) first ∙ append_told-append a bs cs
 
 -- the bytes before n, and then m more of the same text
-pub Appends_more : (a b c : Told) (bs : List ℕ) (n m : ℕ) → Appends a (take n bs) b → Appends b (take m (drop n bs)) c → Appends a (take (n + m) bs) c
-Appends_more a b c bs n m first second = Appends_then a b c (take n bs) (take m (drop n bs)) first second ∙ ap (λ (l : List ℕ). append_told a l) (sym (take-add n m bs))
+pub Receives_more : (a b c : Told) (bs : List ℕ) (n m : ℕ) → Receives a (take n bs) b → Receives b (take m (drop n bs)) c → Receives a (take (n + m) bs) c
+Receives_more a b c bs n m first second = Receives_then a b c (take n bs) (take m (drop n bs)) first second ∙ ap (λ (l : List ℕ). append_told a l) (sym (take-add n m bs))
 
 -- a prefix of a text is one of a longer text
-pub AppendsPrefix_more : (a b : Told) (bs cs : List ℕ) → AppendsPrefix a bs b → AppendsPrefix a (bs ++ cs) b
-AppendsPrefix_more a b bs cs part = record {
+pub ReceivesPrefix_more : (a b : Told) (bs cs : List ℕ) → ReceivesPrefix a bs b → ReceivesPrefix a (bs ++ cs) b
+ReceivesPrefix_more a b bs cs part = record {
   count = part.count;
   within = omega (arith, length-append bs cs, part.within);
   given = part.given ∙ ap (λ (l : List ℕ). append_told a l) (sym (take-append-le part.count bs cs part.within));
@@ -45,21 +46,21 @@ AppendsPrefix_more a b bs cs part = record {
 }
 
 -- all of a text, and then a prefix of the next
-pub AppendsPrefix_then : (a b c : Told) (bs cs : List ℕ) → Appends a bs b → AppendsPrefix b cs c → AppendsPrefix a (bs ++ cs) c
-AppendsPrefix_then a b c bs cs first part = record {
+pub ReceivesPrefix_then : (a b c : Told) (bs cs : List ℕ) → Receives a bs b → ReceivesPrefix b cs c → ReceivesPrefix a (bs ++ cs) c
+ReceivesPrefix_then a b c bs cs first part = record {
   count = length bs + part.count;
   within = omega (arith, length-append bs cs, part.within);
-  given = Appends_then a b c bs (take part.count cs) first part.given ∙ ap (λ (l : List ℕ). append_told a l) (sym (take-append-add bs cs part.count));
+  given = Receives_then a b c bs (take part.count cs) first part.given ∙ ap (λ (l : List ℕ). append_told a l) (sym (take-append-add bs cs part.count));
   past_room = omega (arith, length-append bs cs, ap (λ (t : Told). t.room) first, part.past_room);
 }
 
 -- all of a text, and then what a call writes of the next
-pub Puts_then : {T E : Type 0} (r : Result T E) (a b c : Told) (bs cs : List ℕ) → Appends a bs b → Puts r cs b c → Puts r (bs ++ cs) a c
-Puts_then (Ok x) a b c bs cs first then = record { all = Appends_then a b c bs cs first then.all; part = tt }
-Puts_then (Err e) a b c bs cs first then = record { all = tt; part = AppendsPrefix_then a b c bs cs first then.part }
+pub Puts_then : {T E : Type 0} (r : Result T E) (a b c : Told) (bs cs : List ℕ) → Receives a bs b → Puts r cs b c → Puts r (bs ++ cs) a c
+Puts_then (Ok x) a b c bs cs first then = record { all = Receives_then a b c bs cs first then.all; part = tt }
+Puts_then (Err e) a b c bs cs first then = record { all = tt; part = ReceivesPrefix_then a b c bs cs first then.part }
 
 -- what a function owes that writes one text after the other: name it in the function's `using`
-pub ruleset writes = (Appends_then, AppendsPrefix_then, AppendsPrefix_more, Puts_then)
+pub ruleset writes = (Receives_then, ReceivesPrefix_then, ReceivesPrefix_more, Puts_then)
 
 -- Sources
 

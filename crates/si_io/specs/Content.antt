@@ -28,15 +28,15 @@ prepend_told bs None = None
 prepend_told bs (Some rest) = Some (bs ++ rest)
 
 -- A sink was given bs: it tells what it told before, and then bs.
-abbrev pub Appends : Told → List ℕ → Told → Type 0
-Appends old bs new = new ≡ append_told old bs
+abbrev pub Receives : Told → List ℕ → Told → Type 0
+Receives old bs new = new ≡ append_told old bs
 
 -- A sink failed on the way through bs: it was given the first bytes of bs, and no others, and had
 -- no room for all of bs.
-pub record AppendsPrefix (old : Told) (bs : List ℕ) (new : Told) : Type 0 where
+pub record ReceivesPrefix (old : Told) (bs : List ℕ) (new : Told) : Type 0 where
   pub count : ℕ
   pub within : count ≤ length bs
-  pub given : Appends old (take count bs) new
+  pub given : Receives old (take count bs) new
   pub past_room : old.room < length bs
 
 -- A write takes some of the bytes, if there are any and the room has place for them all.
@@ -46,8 +46,3 @@ TakesFitting room bs result = 0 < length bs → length bs ≤ room → IsOkAnd r
 -- A source gave bs: what it told before begins with bs, and what it tells now is the rest.
 abbrev pub Takes : Option (List ℕ) → List ℕ → Option (List ℕ) → Type 0
 Takes old bs new = old ≡ prepend_told bs new
-
--- A source that tells it has no byte left.
-abbrev pub IsAtEnd : Option (List ℕ) → Type 0
-IsAtEnd None = ⊤
-IsAtEnd (Some rest) = rest ≡ []

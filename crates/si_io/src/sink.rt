@@ -1,5 +1,5 @@
 ghost use Rattle.std.specs.Prelude.{◌≡◌, ◌≤◌, ℕ, length, take, IfOk, OnOk, OnErr};
-ghost use Rattle.si_io.specs.Content.{Told, Appends, AppendsPrefix, TakesFitting};
+ghost use Rattle.si_io.specs.Content.{Told, Receives, ReceivesPrefix, TakesFitting};
 ghost use Rattle.si_io.specs.Faults.{HasCause, HasWriteCause};
 
 use crate::Failed;
@@ -23,7 +23,7 @@ pub trait Sink {
     /// at a flush. It can't say then what has gone out, so it is one that doesn't tell its bytes.
     fn write(&mut self, bytes: &[u8]) -> Result<usize, Failed>
         ensures bound { IfOk result (λ n. n ≤ length bytes.now) }
-        ensures taken { IfOk result (λ n. Appends (written self.old) (take n bytes.now)
+        ensures taken { IfOk result (λ n. Receives (written self.old) (take n bytes.now)
             (written self.new)) }
         ensures kept { OnErr result (written self.new ≡ written self.old) }
         ensures fits { TakesFitting (written self.old).room bytes.now result }
@@ -35,8 +35,8 @@ pub trait Sink {
 /// At `Failed` the sink was given a prefix of them, it has failed, and it had no room for them all.
 /// It takes no memory.
 pub fn write_all<K: Sink>(sink: &mut K, bytes: &[u8]) -> Result<(), Failed>
-    ensures all { OnOk result (Appends (K.written sink.old) bytes.now (K.written sink.new)) }
-    ensures part { OnErr result (AppendsPrefix (K.written sink.old) bytes.now
+    ensures all { OnOk result (Receives (K.written sink.old) bytes.now (K.written sink.new)) }
+    ensures part { OnErr result (ReceivesPrefix (K.written sink.old) bytes.now
         (K.written sink.new)) }
     ensures cause { HasCause (K.faults sink.old) (K.faults sink.new) result }
 {

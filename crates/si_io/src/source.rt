@@ -1,5 +1,6 @@
 ghost use Rattle.std.specs.Prelude.{◌≡◌, ◌<◌, ◌≤◌, ℕ, Bool, List, Option, length, take, IfOk, OnErr, IsTrue};
-ghost use Rattle.si_io.specs.Content.{Takes, IsAtEnd};
+ghost use Rattle.std.specs.Io.KnownBytes.{IsAtEnd};
+ghost use Rattle.si_io.specs.Content.{Takes};
 ghost use Rattle.si_io.specs.Faults.{HasCause};
 
 use crate::Failed;

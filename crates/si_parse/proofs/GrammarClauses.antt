@@ -5,7 +5,7 @@ use Rattle.si_defs.specs.Bytes.{Bytes}
 use Rattle.si_defs.specs.Clauses.{Literal, Name, Clause}
 use Rattle.si_defs.specs.Tokens.{Token, lower}
 use Rattle.si_defs.specs.Grammar.{IsFormula, IsClause, left_bracket, right_bracket, comma, full_stop}
-use Rattle.si_parse.specs.Parsing.{Parses, Anything, NoLiteral}
+use Rattle.si_parse.specs.Parsing.{ReadsTokens, Anything, NoLiteral}
 use Rattle.si_parse.specs.GrammarRules.{IsMark, IsOpening, IsNameToken, IsRole, IsHeading, IsClosed}
 use Rattle.si_parse.proofs.ParseSequences.{Then, then_none, then_stop, renamed_some, renamed_none}
 use Rattle.si_parse.proofs.GrammarNotes.{closed_follows}
@@ -41,29 +41,29 @@ from_heading h used rest e (t, is, f) follows = (
   (t ∷ [], comma ∷ lower h.1 ∷ comma ∷ [], (t, is, refl), (comma ∷ [], lower h.1 ∷ comma ∷ [], refl, (lower h.1 ∷ [], comma ∷ [], refl, refl, refl), refl), f),
 )
 
-pub heading_some : {tokens rest : List Token} {p : Name × (Unit {0} × (Bytes × Unit {0}))} → Parses Heading Anything tokens (Some (p, rest)) → Parses IsHeading Anything tokens (Some (heading_from p, rest))
+pub heading_some : {tokens rest : List Token} {p : Name × (Unit {0} × (Bytes × Unit {0}))} → ReadsTokens Heading Anything tokens (Some (p, rest)) → ReadsTokens IsHeading Anything tokens (Some (heading_from p, rest))
 heading_some {tokens = tokens} q = renamed_some heading_from to_heading (from_heading {tokens = tokens}) q
 
-pub heading_none : {tokens : List Token} → Parses Heading Anything tokens None → Parses IsHeading Anything tokens None
+pub heading_none : {tokens : List Token} → ReadsTokens Heading Anything tokens None → ReadsTokens IsHeading Anything tokens None
 heading_none {tokens = tokens} q = renamed_none heading_from to_heading (from_heading {tokens = tokens}) q
 
 -- the parts of a heading, where one is missing
-pub name_first : {tokens : List Token} → Parses IsNameToken Anything tokens None → Parses Heading Anything tokens None
+pub name_first : {tokens : List Token} → ReadsTokens IsNameToken Anything tokens None → ReadsTokens Heading Anything tokens None
 name_first p = then_none {F = Anything} (λ n used rest b g. tt) p
 
-pub name_then : {tokens left : List Token} {n : Name} → Parses IsNameToken Anything tokens (Some (n, left)) → Parses CommaRole Anything left None → Parses Heading Anything tokens None
+pub name_then : {tokens left : List Token} {n : Name} → ReadsTokens IsNameToken Anything tokens (Some (n, left)) → ReadsTokens CommaRole Anything left None → ReadsTokens Heading Anything tokens None
 name_then p q = then_stop {F = Anything} (λ n used rest b g. tt) p q
 
-pub comma_first : {tokens : List Token} → Parses (Mark 44) Anything tokens None → Parses CommaRole Anything tokens None
+pub comma_first : {tokens : List Token} → ReadsTokens (Mark 44) Anything tokens None → ReadsTokens CommaRole Anything tokens None
 comma_first p = then_none {F = Anything} (λ n used rest b g. tt) p
 
-pub comma_then : {tokens left : List Token} → Parses (Mark 44) Anything tokens (Some (tt {0}, left)) → Parses Role Anything left None → Parses CommaRole Anything tokens None
+pub comma_then : {tokens left : List Token} → ReadsTokens (Mark 44) Anything tokens (Some (tt {0}, left)) → ReadsTokens Role Anything left None → ReadsTokens CommaRole Anything tokens None
 comma_then p q = then_stop {F = Anything} (λ n used rest b g. tt) p q
 
-pub role_first : {tokens : List Token} → Parses IsRole Anything tokens None → Parses Role Anything tokens None
+pub role_first : {tokens : List Token} → ReadsTokens IsRole Anything tokens None → ReadsTokens Role Anything tokens None
 role_first p = then_none {F = Anything} (λ n used rest b g. tt) p
 
-pub role_then : {tokens left : List Token} {text : Bytes} → Parses IsRole Anything tokens (Some (text, left)) → Parses (Mark 44) Anything left None → Parses Role Anything tokens None
+pub role_then : {tokens left : List Token} {text : Bytes} → ReadsTokens IsRole Anything tokens (Some (text, left)) → ReadsTokens (Mark 44) Anything left None → ReadsTokens Role Anything tokens None
 role_then p q = then_stop {F = Anything} (λ n used rest b g. tt) p q
 
 -- ---- clauses
@@ -123,10 +123,10 @@ from_clause c used rest e (name, formula, extra, is_name, is_formula, is_extra, 
       ),
     )
 
-pub clause_some : {tokens rest : List Token} {p : Parts} → Parses Whole Anything tokens (Some (p, rest)) → Parses IsClause Anything tokens (Some (clause_from p, rest))
+pub clause_some : {tokens rest : List Token} {p : Parts} → ReadsTokens Whole Anything tokens (Some (p, rest)) → ReadsTokens IsClause Anything tokens (Some (clause_from p, rest))
 clause_some {tokens = tokens} q = renamed_some clause_from to_clause (from_clause {tokens = tokens}) q
 
-pub clause_none : {tokens : List Token} → Parses Whole Anything tokens None → Parses IsClause Anything tokens None
+pub clause_none : {tokens : List Token} → ReadsTokens Whole Anything tokens None → ReadsTokens IsClause Anything tokens None
 clause_none {tokens = tokens} q = renamed_none clause_from to_clause (from_clause {tokens = tokens}) q
 
 -- no literal goes on where a clause ends
@@ -135,26 +135,26 @@ ending_follows p used rest (c, d, closed, stop, e) follows =
     subst NoLiteral (sym (ap (λ x. x ++ rest) e ∙ append_assoc c d rest)) (closed_follows c (d ++ rest) closed)
 
 -- the parts of a clause, where one is missing
-pub opening_first : {tokens : List Token} → Parses (λ (u : Unit {0}) used. IsOpening (codes "cnf") used) Anything tokens None → Parses Whole Anything tokens None
+pub opening_first : {tokens : List Token} → ReadsTokens (λ (u : Unit {0}) used. IsOpening (codes "cnf") used) Anything tokens None → ReadsTokens Whole Anything tokens None
 opening_first p = then_none {F = Anything} (λ n used rest b g. tt) p
 
-pub opening_then : {tokens left : List Token} → Parses (λ (u : Unit {0}) used. IsOpening (codes "cnf") used) Anything tokens (Some (tt {0}, left)) → Parses FromHeading Anything left None → Parses Whole Anything tokens None
+pub opening_then : {tokens left : List Token} → ReadsTokens (λ (u : Unit {0}) used. IsOpening (codes "cnf") used) Anything tokens (Some (tt {0}, left)) → ReadsTokens FromHeading Anything left None → ReadsTokens Whole Anything tokens None
 opening_then p q = then_stop {F = Anything} (λ n used rest b g. tt) p q
 
-pub heading_first : {tokens : List Token} → Parses IsHeading Anything tokens None → Parses FromHeading Anything tokens None
+pub heading_first : {tokens : List Token} → ReadsTokens IsHeading Anything tokens None → ReadsTokens FromHeading Anything tokens None
 heading_first p = then_none {F = Anything} (λ n used rest b g. tt) p
 
-pub heading_then : {tokens left : List Token} {h : Name × Bytes} → Parses IsHeading Anything tokens (Some (h, left)) → Parses Body Anything left None → Parses FromHeading Anything tokens None
+pub heading_then : {tokens left : List Token} {h : Name × Bytes} → ReadsTokens IsHeading Anything tokens (Some (h, left)) → ReadsTokens Body Anything left None → ReadsTokens FromHeading Anything tokens None
 heading_then p q = then_stop {F = Anything} (λ n used rest b g. tt) p q
 
-pub formula_first : {tokens : List Token} → Parses IsFormula NoLiteral tokens None → Parses Body Anything tokens None
+pub formula_first : {tokens : List Token} → ReadsTokens IsFormula NoLiteral tokens None → ReadsTokens Body Anything tokens None
 formula_first p = then_none {F = NoLiteral} ending_follows p
 
-pub formula_then : {tokens left : List Token} {ls : List Literal} → Parses IsFormula NoLiteral tokens (Some (ls, left)) → Parses Ending Anything left None → Parses Body Anything tokens None
+pub formula_then : {tokens left : List Token} {ls : List Literal} → ReadsTokens IsFormula NoLiteral tokens (Some (ls, left)) → ReadsTokens Ending Anything left None → ReadsTokens Body Anything tokens None
 formula_then p q = then_stop {F = NoLiteral} ending_follows p q
 
-pub closed_first : {tokens : List Token} → Parses (λ (u : Unit {0}) used. IsClosed used) Anything tokens None → Parses Ending Anything tokens None
+pub closed_first : {tokens : List Token} → ReadsTokens (λ (u : Unit {0}) used. IsClosed used) Anything tokens None → ReadsTokens Ending Anything tokens None
 closed_first p = then_none {F = Anything} (λ n used rest b g. tt) p
 
-pub closed_then : {tokens left : List Token} → Parses (λ (u : Unit {0}) used. IsClosed used) Anything tokens (Some (tt {0}, left)) → Parses (Mark 46) Anything left None → Parses Ending Anything tokens None
+pub closed_then : {tokens left : List Token} → ReadsTokens (λ (u : Unit {0}) used. IsClosed used) Anything tokens (Some (tt {0}, left)) → ReadsTokens (Mark 46) Anything left None → ReadsTokens Ending Anything tokens None
 closed_then p q = then_stop {F = Anything} (λ n used rest b g. tt) p q

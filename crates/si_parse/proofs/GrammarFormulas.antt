@@ -3,7 +3,7 @@ use Rattle.std.proofs.Common.{◌≡◌, ℕ, zero, suc, ◌+◌, ◌<◌, Bool,
 use Rattle.si_defs.specs.Clauses.{Term, Literal}
 use Rattle.si_defs.specs.Tokens.{Token, mark}
 use Rattle.si_defs.specs.Grammar.{IsSignedAtom, IsLiteral, AreMoreLiterals, IsDisjunction, IsFormula, left_bracket, right_bracket}
-use Rattle.si_parse.specs.Parsing.{Parses, Anything, NoBracket, NoSign, NoLiteral}
+use Rattle.si_parse.specs.Parsing.{ReadsTokens, Anything, NoBracket, NoSign, NoLiteral}
 use Rattle.si_parse.specs.GrammarRules.{AreMore, AreLiterals, AreClosing, positively}
 use Rattle.si_parse.proofs.ParseSteps.{parses_none, parses_some, parses_uses, parses_one, parses_never, tails}
 use Rattle.si_parse.proofs.GrammarTerms.{marks_apart, mark_unequal, no_bracket, opens}
@@ -95,16 +95,16 @@ module _ {tokens inner : List Token} (n : ℕ) (opened : tokens ≡ replicate n 
       let same = same_brackets n m inner (front ++ (replicate m right_bracket ++ after)) bare (literals_bare ls front (replicate m right_bracket ++ after) row) whole in
       k ls front after row (same.1 ∙ ap (λ x. front ++ (replicate x right_bracket ++ after)) (sym same.0)) (closing_follows n after follows)
 
-  pub formula_none : Parses AreLiterals NoLiteral inner None → Parses IsFormula NoLiteral tokens None
+  pub formula_none : ReadsTokens AreLiterals NoLiteral inner None → ReadsTokens IsFormula NoLiteral tokens None
   formula_none p = parses_none (formula_by (λ ls after. ⊥) (λ ls front after row e follows. parses_never p ls front (replicate n right_bracket ++ after) e row follows))
 
-  module _ {literals : List Literal} {behind : List Token} (p : Parses AreLiterals NoLiteral inner (Some (literals, behind))) where
-    pub formula_stop : Parses (λ (u : Unit {0}) used. AreClosing n used) Anything behind None → Parses IsFormula NoLiteral tokens None
+  module _ {literals : List Literal} {behind : List Token} (p : ReadsTokens AreLiterals NoLiteral inner (Some (literals, behind))) where
+    pub formula_stop : ReadsTokens (λ (u : Unit {0}) used. AreClosing n used) Anything behind None → ReadsTokens IsFormula NoLiteral tokens None
     formula_stop q = parses_none (formula_by (λ ls after. ⊥) (λ ls front after row e follows.
         let same = parses_one p ls front (replicate n right_bracket ++ after) e row follows in
         parses_never q tt (replicate n right_bracket) after same.1 refl tt))
 
-    pub formula_some : {rest : List Token} → Parses (λ (u : Unit {0}) used. AreClosing n used) Anything behind (Some (tt {0}, rest)) → Parses IsFormula NoLiteral tokens (Some (literals, rest))
+    pub formula_some : {rest : List Token} → ReadsTokens (λ (u : Unit {0}) used. AreClosing n used) Anything behind (Some (tt {0}, rest)) → ReadsTokens IsFormula NoLiteral tokens (Some (literals, rest))
     formula_some {rest = rest} q =
         let h = parses_uses literals behind p in
         let k = parses_uses tt rest q in
@@ -124,7 +124,7 @@ same_front : (n : ℕ) (xs ys : List Token) → replicate n right_bracket ++ xs 
 same_front zero xs ys e = e
 same_front (suc n) xs ys e = same_front n xs ys (tails e)
 
-pub closing_some : (n : ℕ) (tokens left : List Token) → tokens ≡ replicate n right_bracket ++ left → Parses (λ (u : Unit {0}) used. AreClosing n used) Anything tokens (Some (tt {0}, left))
+pub closing_some : (n : ℕ) (tokens left : List Token) → tokens ≡ replicate n right_bracket ++ left → ReadsTokens (λ (u : Unit {0}) used. AreClosing n used) Anything tokens (Some (tt {0}, left))
 closing_some n tokens left e = parses_some tt (replicate n right_bracket) left e refl (λ u used after f means follows.
     (refl, same_front n left after (sym e ∙ f ∙ ap (λ x. x ++ after) means)))
 
@@ -135,7 +135,7 @@ one_more zero (suc n) left after h e = (replicate n right_bracket ++ after, e)
 one_more (suc i) (suc n) left after h e = one_more i n left after (omega (arith, h)) (tails e)
 
 pub closing_none : (n i : ℕ) (tokens left : List Token) → i < n → tokens ≡ replicate i right_bracket ++ left → ((rest : List Token) → left ≡ right_bracket ∷ rest → ⊥)
-    → Parses (λ (u : Unit {0}) used. AreClosing n used) Anything tokens None
+    → ReadsTokens (λ (u : Unit {0}) used. AreClosing n used) Anything tokens None
 closing_none n i tokens left h e none = parses_none (λ u used after f means follows.
     let k = one_more i n left after h (sym e ∙ f ∙ ap (λ x. x ++ after) means) in none k.0 k.1)
 

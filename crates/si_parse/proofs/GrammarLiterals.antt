@@ -12,7 +12,7 @@ use Rattle.si_defs.specs.declared.SymKind.{SymKind}
 use Rattle.si_defs.specs.declared.SymKind.TheVariants.{Word, Dollar, Number, Distinct, Equal}
 use Rattle.si_defs.specs.declared.Side.{Side}
 use Rattle.si_defs.specs.declared.Side.TheVariants.{Predicate}
-use Rattle.si_parse.specs.Parsing.{Parses, Anything, NoBracket, NoSign}
+use Rattle.si_parse.specs.Parsing.{ReadsTokens, Anything, NoBracket, NoSign}
 use Rattle.si_parse.specs.GrammarRules.{function_symbol, as_atom, positively, equation, equality_sign, IsSign, IsStatement, IsNegated}
 use Rattle.si_parse.proofs.ParseSteps.{parses_none, parses_some, parses_uses, parses_one, parses_never, heads, tails, front_heads, front_tails}
 use Rattle.si_parse.proofs.GrammarTerms.{First, variable, symbol, term_first, symbol_kind, head_constant, marks_apart, mark_unequal}
@@ -102,7 +102,7 @@ no_sign-bracket [] h = tt
 no_sign-bracket (t ∷ ts) h = (h.0, tt)
 
 -- and where neither a bracket nor a sign stands, none follows
-pub no_sign-none : (tokens : List Token) → NoBracket tokens → Parses IsSign Anything tokens None → NoSign tokens
+pub no_sign-none : (tokens : List Token) → NoBracket tokens → ReadsTokens IsSign Anything tokens None → NoSign tokens
 no_sign-none [] h s = tt
 no_sign-none (t ∷ ts) h s = (
   h.0,
@@ -123,29 +123,29 @@ signs_apart true false e = absurd (mark_unequal 61 e)
 signs_apart false true e = absurd (mark_unequal 61 (sym e))
 
 -- what stands behind a sign
-sign_front : {positive : Bool} {ts rest : List Token} → Parses IsSign Anything ts (Some (positive, rest)) → ts ≡ equality_sign positive ∷ rest
+sign_front : {positive : Bool} {ts rest : List Token} → ReadsTokens IsSign Anything ts (Some (positive, rest)) → ts ≡ equality_sign positive ∷ rest
 sign_front {positive = positive} {rest = rest} p = let h = parses_uses positive rest p in h.1 ∙ ap (λ x. x ++ rest) h.2
 
 -- so none may stand where none may follow
-pub sign_refused : {positive : Bool} {ts rest : List Token} → Parses IsSign Anything ts (Some (positive, rest)) → NoSign ts → ⊥
+pub sign_refused : {positive : Bool} {ts rest : List Token} → ReadsTokens IsSign Anything ts (Some (positive, rest)) → NoSign ts → ⊥
 sign_refused {positive = positive} {ts = ts} {rest = rest} p h = sign_never positive rest ts h (sign_front p)
 
 -- without a term there is no statement
-pub statement_none : {tokens : List Token} → Parses IsTerm NoBracket tokens None → Parses IsStatement NoSign tokens None
+pub statement_none : {tokens : List Token} → ReadsTokens IsTerm NoBracket tokens None → ReadsTokens IsStatement NoSign tokens None
 statement_none {tokens = tokens} p = parses_none (λ l used after e means follows. never l used after e follows (spelled_of l used means)) where
   never : (l : Literal) (used after : List Token) → tokens ≡ used ++ after → NoSign after → Spelled l used → ⊥
   never l used after e follows (headed t one f k) = parses_never p t used after e one (no_sign-bracket after follows)
   never l used after e follows (sided left right front back one two f g) =
       parses_never p left front (equality_sign l.positive ∷ back ++ after) (e ∙ ap (λ x. x ++ after) g ∙ append_assoc front (equality_sign l.positive ∷ back) after) one (sign_no_bracket l.positive (back ++ after))
 
-module _ {tokens behind : List Token} {left : Term} (p : Parses IsTerm NoBracket tokens (Some (left, behind))) where
+module _ {tokens behind : List Token} {left : Term} (p : ReadsTokens IsTerm NoBracket tokens (Some (left, behind))) where
   -- the term that was read is the left side of every equation
   left_side : (l : Term) (positive : Bool) (used front back after : List Token) → tokens ≡ used ++ after → IsTerm l front → used ≡ front ++ equality_sign positive ∷ back
       → (left ≡ l) × (behind ≡ equality_sign positive ∷ back ++ after)
   left_side l positive used front back after e one g =
       parses_one p l front (equality_sign positive ∷ back ++ after) (e ∙ ap (λ x. x ++ after) g ∙ append_assoc front (equality_sign positive ∷ back) after) one (sign_no_bracket positive (back ++ after))
 
-  module _ {positive : Bool} {next : List Token} (s : Parses IsSign Anything behind (Some (positive, next))) where
+  module _ {positive : Bool} {next : List Token} (s : ReadsTokens IsSign Anything behind (Some (positive, next))) where
     -- how every other statement goes on behind the sign
     sided_by : (R : Literal → List Token → Type 0) → ((l : Literal) (right : Term) (back after : List Token) → IsTerm right back → next ≡ back ++ after → NoSign after → equation left right ≡ l.atom → positive ≡ l.positive → R l after)
         → (l : Literal) (used after : List Token) → tokens ≡ used ++ after → IsStatement l used → NoSign after → R l after
@@ -158,12 +158,12 @@ module _ {tokens behind : List Token} {left : Term} (p : Parses IsTerm NoBracket
           k l right back after two (tails same) follows (ap (λ x. equation x right) h.0 ∙ f) (signs_apart positive l.positive (heads same))
 
     -- no term behind the sign
-    pub statement_stop : Parses IsTerm NoBracket next None → Parses IsStatement NoSign tokens None
+    pub statement_stop : ReadsTokens IsTerm NoBracket next None → ReadsTokens IsStatement NoSign tokens None
     statement_stop q = parses_none (sided_by (λ l after. ⊥) (λ l right back after two e follows f g. parses_never q right back after e two (no_sign-bracket after follows)))
 
     -- two sides
-    pub statement_sides : {right : Term} {rest : List Token} → Parses IsTerm NoBracket next (Some (right, rest))
-        → Parses IsStatement NoSign tokens (Some (record { positive = positive; atom = equation left right }, rest))
+    pub statement_sides : {right : Term} {rest : List Token} → ReadsTokens IsTerm NoBracket next (Some (right, rest))
+        → ReadsTokens IsStatement NoSign tokens (Some (record { positive = positive; atom = equation left right }, rest))
     statement_sides {right = right} {rest = rest} q =
         let h = parses_uses left behind p in
         let k = parses_uses right rest q in
@@ -175,7 +175,7 @@ module _ {tokens behind : List Token} {left : Term} (p : Parses IsTerm NoBracket
         (ap (λ x. record { positive = positive; atom = equation left x }) same.0 ∙ (λ i. record { positive = g i; atom = f i }), same.1)))
 
   -- no sign behind the term
-  module _ (s : Parses IsSign Anything behind None) where
+  module _ (s : ReadsTokens IsSign Anything behind None) where
     headed_by : (R : Literal → List Token → Type 0) → ((l : Literal) (after : List Token) → behind ≡ after → as_atom left ≡ Some l.atom → l.positive ≡ true → R l after)
         → (l : Literal) (used after : List Token) → tokens ≡ used ++ after → IsStatement l used → NoSign after → R l after
     headed_by R k l used after e means follows = by (spelled_of l used means) where
@@ -187,7 +187,7 @@ module _ {tokens behind : List Token} {left : Term} (p : Parses IsTerm NoBracket
           let h = left_side l' l.positive used front back after e one g in
           absurd (parses_never s l.positive (equality_sign l.positive ∷ []) (back ++ after) h.1 refl tt)
 
-    pub statement_bare : (result : Option Term) → as_atom left ≡ result → Parses IsStatement NoSign tokens (option_map (λ m. (positively m, behind)) result)
+    pub statement_bare : (result : Option Term) → as_atom left ≡ result → ReadsTokens IsStatement NoSign tokens (option_map (λ m. (positively m, behind)) result)
     statement_bare None none = parses_none (headed_by (λ l after. ⊥) (λ l after e f g. none_some l.atom (sym none ∙ f)))
     statement_bare (Some m) some =
         let h = parses_uses left behind p in
@@ -196,18 +196,18 @@ module _ {tokens behind : List Token} {left : Term} (p : Parses IsTerm NoBracket
 
 -- ---- atoms
 -- a positive statement is an atom
-pub atom_some : {tokens rest : List Token} (l : Literal) → Parses IsStatement NoSign tokens (Some (l, rest)) → l.positive ≡ true → Parses IsAtom NoSign tokens (Some (l.atom, rest))
+pub atom_some : {tokens rest : List Token} (l : Literal) → ReadsTokens IsStatement NoSign tokens (Some (l, rest)) → l.positive ≡ true → ReadsTokens IsAtom NoSign tokens (Some (l.atom, rest))
 atom_some {rest = rest} l p k =
     let h = parses_uses l rest p in
     parses_some l.atom h.0 rest h.1 (subst (λ x. IsStatement (record { positive = x; atom = l.atom }) h.0) k h.2)
     (λ m used after e means follows. let same = parses_one p (positively m) used after e means follows in (ap (λ (x : Literal). x.atom) same.0, same.1))
 
 -- a negative one is none
-pub atom_negative : {tokens rest : List Token} (l : Literal) → Parses IsStatement NoSign tokens (Some (l, rest)) → l.positive ≡ false → Parses IsAtom NoSign tokens None
+pub atom_negative : {tokens rest : List Token} (l : Literal) → ReadsTokens IsStatement NoSign tokens (Some (l, rest)) → l.positive ≡ false → ReadsTokens IsAtom NoSign tokens None
 atom_negative l p k = parses_none (λ m used after e means follows.
     let same = parses_one p (positively m) used after e means follows in false≢true (sym k ∙ ap (λ (x : Literal). x.positive) same.0))
 
-pub atom_none : {tokens : List Token} → Parses IsStatement NoSign tokens None → Parses IsAtom NoSign tokens None
+pub atom_none : {tokens : List Token} → ReadsTokens IsStatement NoSign tokens None → ReadsTokens IsAtom NoSign tokens None
 atom_none p = parses_none (λ m used after e means follows. parses_never p (positively m) used after e means follows)
 
 -- the first token of a statement
@@ -242,20 +242,20 @@ module _ (rest : List Token) where
   round_by R k m used after e (inl h) follows = absurd (statement_no_mark 40 (positively m) used rest after (left_bracket ∷ rest) refl e h)
   round_by R k m used after e (inr (inner, h, g)) follows = k m inner after h (front_tails after e g ∙ append_assoc inner (right_bracket ∷ []) after)
 
-  pub negated_none : Parses IsAtom NoSign rest None → Parses IsNegated NoSign (left_bracket ∷ rest) None
+  pub negated_none : ReadsTokens IsAtom NoSign rest None → ReadsTokens IsNegated NoSign (left_bracket ∷ rest) None
   negated_none p = parses_none (round_by (λ m after. ⊥) (λ m inner after h e. parses_never p m inner (right_bracket ∷ after) e h (right_no_sign after)))
 
-  pub negated_stop : {m : Term} {behind : List Token} → Parses IsAtom NoSign rest (Some (m, behind)) → ((after : List Token) → behind ≡ right_bracket ∷ after → ⊥) → Parses IsNegated NoSign (left_bracket ∷ rest) None
+  pub negated_stop : {m : Term} {behind : List Token} → ReadsTokens IsAtom NoSign rest (Some (m, behind)) → ((after : List Token) → behind ≡ right_bracket ∷ after → ⊥) → ReadsTokens IsNegated NoSign (left_bracket ∷ rest) None
   negated_stop p none = parses_none (round_by (λ m after. ⊥) (λ m inner after h e. none after (parses_one p m inner (right_bracket ∷ after) e h (right_no_sign after)).1))
 
-  pub negated_some : {m : Term} {behind : List Token} → Parses IsAtom NoSign rest (Some (m, right_bracket ∷ behind)) → Parses IsNegated NoSign (left_bracket ∷ rest) (Some (m, behind))
+  pub negated_some : {m : Term} {behind : List Token} → ReadsTokens IsAtom NoSign rest (Some (m, right_bracket ∷ behind)) → ReadsTokens IsNegated NoSign (left_bracket ∷ rest) (Some (m, behind))
   negated_some {m = m} {behind = behind} p =
       let h = parses_uses m (right_bracket ∷ behind) p in
       parses_some m (left_bracket ∷ h.0 ++ right_bracket ∷ []) behind (ap (λ x. left_bracket ∷ x) (h.1 ∙ sym (append_assoc h.0 (right_bracket ∷ []) behind))) (inr (h.0, h.2, refl))
       (round_by (λ other after. (m ≡ other) × (behind ≡ after)) (λ other inner after g e. let same = parses_one p other inner (right_bracket ∷ after) e g (right_no_sign after) in (same.0, tails same.1)))
 
 -- without a bracket, an atom
-pub negated_bare : {tokens : List Token} → ((rest : List Token) → tokens ≡ left_bracket ∷ rest → ⊥) → (result : Option (Term × List Token)) → Parses IsAtom NoSign tokens result → Parses IsNegated NoSign tokens result
+pub negated_bare : {tokens : List Token} → ((rest : List Token) → tokens ≡ left_bracket ∷ rest → ⊥) → (result : Option (Term × List Token)) → ReadsTokens IsAtom NoSign tokens result → ReadsTokens IsNegated NoSign tokens result
 negated_bare {tokens = tokens} none result p = record {
   found = λ m rest e. let h = p.found m rest e in (h.0, h.1, inl h.2);
   every = λ m used rest e means follows. by m used rest e follows means;
@@ -283,7 +283,7 @@ module _ (rest : List Token) where
   tilde_of false m used after e (inr (inl (us, h, g))) = (refl, (left_bracket ∷ us ++ right_bracket ∷ [], inr (us, h, refl), front_tails after e g))
   tilde_of false m used after e (inr (inr h)) = absurd (statement_no_mark 126 (negatively m) used rest after (mark 126 ∷ rest) refl e h)
 
-  pub literal_tilde : (result : Option (Term × List Token)) → Parses IsNegated NoSign rest result → Parses IsLiteral NoSign (mark 126 ∷ rest) (option_map (λ r. (negatively r.0, r.1)) result)
+  pub literal_tilde : (result : Option (Term × List Token)) → ReadsTokens IsNegated NoSign rest result → ReadsTokens IsLiteral NoSign (mark 126 ∷ rest) (option_map (λ r. (negatively r.0, r.1)) result)
   literal_tilde None p = parses_none (λ l used after e means follows.
       let k = tilde_of l.positive l.atom used after e means in parses_never p l.atom k.1.0 after k.1.2 k.1.1 follows)
   literal_tilde (Some (m, behind)) p =
@@ -298,7 +298,7 @@ literal_of_statement : (positive : Bool) (m : Term) (ts : List Token) → IsStat
 literal_of_statement true m ts h = h
 literal_of_statement false m ts h = inr (inr h)
 
-pub literal_plain : {tokens : List Token} → ((rest : List Token) → tokens ≡ mark 126 ∷ rest → ⊥) → (result : Option (Literal × List Token)) → Parses IsStatement NoSign tokens result → Parses IsLiteral NoSign tokens result
+pub literal_plain : {tokens : List Token} → ((rest : List Token) → tokens ≡ mark 126 ∷ rest → ⊥) → (result : Option (Literal × List Token)) → ReadsTokens IsStatement NoSign tokens result → ReadsTokens IsLiteral NoSign tokens result
 literal_plain {tokens = tokens} none result p = record {
   found = λ l rest e. let h = p.found l rest e in (h.0, h.1, literal_of_statement l.positive l.atom h.0 h.2);
   every = λ l used rest e means follows. p.every l used rest e (by l.positive l.atom used rest e means) follows;

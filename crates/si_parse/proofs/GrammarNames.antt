@@ -8,7 +8,7 @@ use Rattle.si_defs.specs.declared.NameKind.{NameKind}
 use Rattle.si_defs.specs.declared.NameKind.TheVariants as named
 use Rattle.si_defs.specs.declared.TokenKind.{TokenKind}
 use Rattle.si_defs.specs.declared.TokenKind.TheVariants as token
-use Rattle.si_parse.specs.Parsing.{Parses, Anything, NoName}
+use Rattle.si_parse.specs.Parsing.{ReadsTokens, Anything, NoName}
 use Rattle.si_parse.specs.GrammarRules.{IsMark, IsOpening, IsNameToken}
 use Rattle.si_parse.proofs.ParseSteps.{parses_none, parses_some, front_heads, front_tails}
 
@@ -50,7 +50,7 @@ named_by token.NotEqual text name e = absurd (none_some name e)
 named_by token.Mark text name e = absurd (none_some name e)
 
 -- a name in front
-pub name_some : (t : Token) (rest : List Token) (kind : NameKind) → name_kind t.kind ≡ Some kind → Parses IsNameToken Anything (t ∷ rest) (Some (record { kind = kind; text = t.text }, rest))
+pub name_some : (t : Token) (rest : List Token) (kind : NameKind) → name_kind t.kind ≡ Some kind → ReadsTokens IsNameToken Anything (t ∷ rest) (Some (record { kind = kind; text = t.text }, rest))
 name_some t rest kind e = parses_some (record { kind = kind; text = t.text }) (t ∷ []) rest refl (t, named_by t.kind t.text kind e, refl) unique where
   same_kind : (a b : NameKind) → Some a ≡ Some b → a ≡ b
   same_kind a b f = cc
@@ -64,13 +64,13 @@ name_some t rest kind e = parses_some (record { kind = kind; text = t.text }) (t
       ((λ i. record { kind = kinds i; text = texts i }), front_tails behind f g)
 
 -- no name in front
-pub name_none : (t : Token) (rest : List Token) → name_kind t.kind ≡ None → Parses IsNameToken Anything (t ∷ rest) None
+pub name_none : (t : Token) (rest : List Token) → name_kind t.kind ≡ None → ReadsTokens IsNameToken Anything (t ∷ rest) None
 name_none t rest e = parses_none never where
   never : (n : Name) (used behind : List Token) → t ∷ rest ≡ used ++ behind → IsNameToken n used → Anything behind → ⊥
   never n used behind f (u, is, g) any =
       none_some n.kind (sym e ∙ ap (λ (x : Token). name_kind x.kind) (front_heads behind f g) ∙ (name_of_token n u is).0)
 
-pub name_empty : Parses IsNameToken Anything [] None
+pub name_empty : ReadsTokens IsNameToken Anything [] None
 name_empty = parses_none never where
   never : (n : Name) (used behind : List Token) → [] ≡ used ++ behind → IsNameToken n used → Anything behind → ⊥
   never n used behind f (u, is, g) any = cc (f ∙ ap (λ x. x ++ behind) g)
@@ -80,27 +80,27 @@ name_empty = parses_none never where
 abbrev pub IsKind : TokenKind → Bytes → List Token → Type 0
 IsKind kind text ts = ts ≡ record { kind = kind; text = text } ∷ []
 
-pub kind_some : (kind : TokenKind) (t : Token) (rest : List Token) → t.kind ≡ kind → Parses (IsKind kind) Anything (t ∷ rest) (Some (t.text, rest))
+pub kind_some : (kind : TokenKind) (t : Token) (rest : List Token) → t.kind ≡ kind → ReadsTokens (IsKind kind) Anything (t ∷ rest) (Some (t.text, rest))
 kind_some kind t rest k = parses_some t.text (t ∷ []) rest refl (λ i. record { kind = k i; text = t.text } ∷ []) (λ text used behind e means follows.
     (ap (λ (x : Token). x.text) (front_heads behind e means), front_tails behind e means))
 
-pub kind_none : (kind : TokenKind) (t : Token) (rest : List Token) → (t.kind ≡ kind → ⊥) → Parses (IsKind kind) Anything (t ∷ rest) None
+pub kind_none : (kind : TokenKind) (t : Token) (rest : List Token) → (t.kind ≡ kind → ⊥) → ReadsTokens (IsKind kind) Anything (t ∷ rest) None
 kind_none kind t rest not = parses_none (λ text used behind e means follows. not (ap (λ (x : Token). x.kind) (front_heads behind e means)))
 
-pub kind_empty : (kind : TokenKind) → Parses (IsKind kind) Anything [] None
+pub kind_empty : (kind : TokenKind) → ReadsTokens (IsKind kind) Anything [] None
 kind_empty kind = parses_none (λ text used behind e means follows. cc (e ∙ ap (λ x. x ++ behind) means))
 
 -- ---- openings
 -- behind the word of an item the bracket is left to read
-pub opening_behind : (word : Bytes) (rest : List Token) (result : Option (Unit {0} × List Token)) → Parses (λ (u : Unit {0}) used. IsMark 40 used) Anything rest result
-    → Parses (λ (u : Unit {0}) used. IsOpening word used) Anything (lower word ∷ rest) result
+pub opening_behind : (word : Bytes) (rest : List Token) (result : Option (Unit {0} × List Token)) → ReadsTokens (λ (u : Unit {0}) used. IsMark 40 used) Anything rest result
+    → ReadsTokens (λ (u : Unit {0}) used. IsOpening word used) Anything (lower word ∷ rest) result
 opening_behind word rest result p = record {
   found = λ u behind e. let h = p.found u behind e in (lower word ∷ h.0, ap (λ x. lower word ∷ x) h.1, ap (λ x. lower word ∷ x) h.2);
   every = λ u used behind e means follows. p.every u (left_bracket ∷ []) behind (front_tails behind e means) refl tt;
 }
 
 -- another word opens nothing
-pub opening_other : (word : Bytes) (tokens : List Token) → ((rest : List Token) → tokens ≡ lower word ∷ rest → ⊥) → Parses (λ (u : Unit {0}) used. IsOpening word used) Anything tokens None
+pub opening_other : (word : Bytes) (tokens : List Token) → ((rest : List Token) → tokens ≡ lower word ∷ rest → ⊥) → ReadsTokens (λ (u : Unit {0}) used. IsOpening word used) Anything tokens None
 opening_other word tokens none = parses_none (λ u used behind e means follows. none _ (e ∙ ap (λ x. x ++ behind) means))
 
 -- ---- rows of names
@@ -116,6 +116,6 @@ pub name_stops : (rest : List Token) → NoName (comma ∷ rest) → ⊥
 name_stops rest h = h.0 refl
 
 -- an opening by the same word, said otherwise
-pub opened : {tokens : List Token} {result : Option (Unit {0} × List Token)} (word same : Bytes) → word ≡ same → Parses (λ (u : Unit {0}) used. IsOpening word used) Anything tokens result
-    → Parses (λ (u : Unit {0}) used. IsOpening same used) Anything tokens result
-opened {tokens = tokens} {result = result} word same e p = subst (λ w. Parses (λ (u : Unit {0}) used. IsOpening w used) Anything tokens result) e p
+pub opened : {tokens : List Token} {result : Option (Unit {0} × List Token)} (word same : Bytes) → word ≡ same → ReadsTokens (λ (u : Unit {0}) used. IsOpening word used) Anything tokens result
+    → ReadsTokens (λ (u : Unit {0}) used. IsOpening same used) Anything tokens result
+opened {tokens = tokens} {result = result} word same e p = subst (λ w. ReadsTokens (λ (u : Unit {0}) used. IsOpening w used) Anything tokens result) e p

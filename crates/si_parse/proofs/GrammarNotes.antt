@@ -7,7 +7,7 @@ use Rattle.si_defs.specs.Tokens.{Token, mark}
 use Rattle.si_defs.specs.Grammar.{Bracket, round, square, neither, opening_of, closing_of, brackets_behind, balances, right_bracket, comma}
 use Rattle.si_defs.specs.declared.TokenKind.{TokenKind}
 use Rattle.si_defs.specs.declared.TokenKind.TheVariants as token
-use Rattle.si_parse.specs.Parsing.{Parses, Anything, NoLiteral}
+use Rattle.si_parse.specs.Parsing.{ReadsTokens, Anything, NoLiteral}
 use Rattle.si_parse.specs.GrammarRules.{AreAnnotations, IsClosed}
 use Rattle.si_parse.proofs.GrammarTerms.{marks_apart, mark_unequal}
 use Rattle.si_parse.proofs.GrammarFormulas.{right_no_literal}
@@ -101,7 +101,7 @@ abbrev pub Notes : Unit {0} → List Token → Type 0
 Notes u used = AreAnnotations used
 
 -- a closing bracket where none is open ends the annotations, if some stand before it
-pub annotations_some : (front rest tokens : List Token) → open_after front [] ≡ Some [] → tokens ≡ front ++ right_bracket ∷ rest → front ≢ [] → Parses Notes Anything tokens (Some (tt {0}, rest))
+pub annotations_some : (front rest tokens : List Token) → open_after front [] ≡ Some [] → tokens ≡ front ++ right_bracket ∷ rest → front ≢ [] → ReadsTokens Notes Anything tokens (Some (tt {0}, rest))
 annotations_some front rest tokens h e some =
     parses_some tt (front ++ right_bracket ∷ []) rest (e ∙ sym (append_assoc front (right_bracket ∷ []) rest)) (front, some, open_balanced front [] h, refl) unique where
       by : (notes behind : List Token) → Beside front notes right_bracket [] rest behind → rest ≡ behind
@@ -113,7 +113,7 @@ annotations_some front rest tokens h e some =
           (refl, by notes behind (beside front notes right_bracket [] [] rest behind h (balanced_open notes [] balanced) (sym e ∙ f ∙ ap (λ x. x ++ behind) g ∙ append_assoc notes (right_bracket ∷ []) behind)))
 
 -- a closing bracket at once ends nothing
-pub annotations_empty : (rest tokens : List Token) → tokens ≡ right_bracket ∷ rest → Parses Notes Anything tokens None
+pub annotations_empty : (rest tokens : List Token) → tokens ≡ right_bracket ∷ rest → ReadsTokens Notes Anything tokens None
 annotations_empty rest tokens e = parses_none never where
   by : (notes behind : List Token) → Beside [] notes right_bracket [] rest behind → notes ≢ [] → ⊥
   by notes behind (ends f g k l) some = some (sym f)
@@ -125,7 +125,7 @@ annotations_empty rest tokens e = parses_none never where
 
 -- a token that closes another bracket than the last
 pub annotations_fail : (front rest tokens : List Token) (t : Token) (stack : List Bracket) → open_after front [] ≡ Some stack → tokens ≡ front ++ t ∷ rest → brackets_behind t stack ≡ None
-    → (t ≡ right_bracket → stack ≡ [] → ⊥) → Parses Notes Anything tokens None
+    → (t ≡ right_bracket → stack ≡ [] → ⊥) → ReadsTokens Notes Anything tokens None
 annotations_fail front rest tokens t stack h e fails not_end = parses_none never where
   by : (notes behind : List Token) → Beside front notes t stack rest behind → ⊥
   by notes behind (ends f g k l) = not_end k g
@@ -136,7 +136,7 @@ annotations_fail front rest tokens t stack h e fails not_end = parses_none never
       by notes behind (beside front notes t [] stack rest behind h (balanced_open notes [] balanced) (sym e ∙ f ∙ ap (λ x. x ++ behind) g ∙ append_assoc notes (right_bracket ∷ []) behind))
 
 -- tokens of which none closes too much hold no end of annotations
-pub annotations_open : (tokens : List Token) (stack : List Bracket) → open_after tokens [] ≡ Some stack → Parses Notes Anything tokens None
+pub annotations_open : (tokens : List Token) (stack : List Bracket) → open_after tokens [] ≡ Some stack → ReadsTokens Notes Anything tokens None
 annotations_open tokens stack h = parses_none never where
   never : (u : Unit {0}) (used behind : List Token) → tokens ≡ used ++ behind → AreAnnotations used → Anything behind → ⊥
   never u used behind f (notes, some, balanced, g) any =
@@ -178,7 +178,7 @@ closes_nothing t not_round not_square = by t.kind t.text (λ k e. not_round (λ 
 
 -- ---- the end of a clause
 -- behind a comma it goes on with annotations
-pub closed_noted : (tokens rest : List Token) → tokens ≡ comma ∷ rest → (result : Option (Unit {0} × List Token)) → Parses Notes Anything rest result → Parses (λ (u : Unit {0}) used. IsClosed used) Anything tokens result
+pub closed_noted : (tokens rest : List Token) → tokens ≡ comma ∷ rest → (result : Option (Unit {0} × List Token)) → ReadsTokens Notes Anything rest result → ReadsTokens (λ (u : Unit {0}) used. IsClosed used) Anything tokens result
 closed_noted tokens rest begins result p = record {
   found = λ u behind e. let h = p.found u behind e in found u behind h.0 h.1 h.2;
   every = λ u used behind e means follows. every u used behind e means;
@@ -192,8 +192,8 @@ closed_noted tokens rest begins result p = record {
       p.every u (ts ++ right_bracket ∷ []) behind (tails (sym begins ∙ e ∙ ap (λ x. x ++ behind) f)) (ts, some, balanced, refl) tt
 
 -- without a comma it is a closing bracket
-pub closed_bare : (tokens : List Token) → ((rest : List Token) → tokens ≡ comma ∷ rest → ⊥) → (result : Option (Unit {0} × List Token)) → Parses (λ (u : Unit {0}) used. used ≡ mark 41 ∷ []) Anything tokens result
-    → Parses (λ (u : Unit {0}) used. IsClosed used) Anything tokens result
+pub closed_bare : (tokens : List Token) → ((rest : List Token) → tokens ≡ comma ∷ rest → ⊥) → (result : Option (Unit {0} × List Token)) → ReadsTokens (λ (u : Unit {0}) used. used ≡ mark 41 ∷ []) Anything tokens result
+    → ReadsTokens (λ (u : Unit {0}) used. IsClosed used) Anything tokens result
 closed_bare tokens none result p = record {
   found = λ u behind e. let h = p.found u behind e in (h.0, h.1, ([], tt, h.2));
   every = λ u used behind e means follows. every u used behind e means;

@@ -15,7 +15,7 @@ use Rattle.si_defs.specs.declared.SymKind.{SymKind}
 use Rattle.si_defs.specs.declared.SymKind.TheVariants.{Word, Dollar, Number, Distinct, Equal}
 use Rattle.si_defs.specs.declared.Side.{Side}
 use Rattle.si_defs.specs.declared.Side.TheVariants.{Predicate, Function}
-use Rattle.si_parse.specs.Parsing.{Parses, Reads, IfFound}
+use Rattle.si_parse.specs.Parsing.{ReadsTokens, Reads, IfFound}
 use Rattle.si_defs.specs.declared.TheConstants.{MOST_BYTES}
 use Rattle.si_lex.specs.Lexemes.{token_of, tokens_of}
 use Rattle.si_lex.specs.declared.lexeme.Lexeme.{Lexeme}
@@ -131,7 +131,7 @@ sound_clause c ts (name, formula, extra, is_name, is_formula, is_extra, e) few =
 -- What was read has what each meaning of some of the tokens has.
 pub parsed_has : {M : Type 0} {Means : M → List defs.Token → Type 0} {Follows : List defs.Token → Type 0} (P : M → Type 0) (tokens : List Lexeme)
     → ((m : M) (used : List defs.Token) → length used ≤ length tokens → Means m used → P m)
-    → (m : M) (rest : List defs.Token) → Parses Means Follows (tokens_of tokens) (Some (m, rest)) → P m
+    → (m : M) (rest : List defs.Token) → ReadsTokens Means Follows (tokens_of tokens) (Some (m, rest)) → P m
 parsed_has P tokens law m rest p =
     let h = p.found m rest refl in
     law m h.0 (omega (arith, ap length h.1 ∙ length-append h.0 rest, length-map tokens token_of)) h.2

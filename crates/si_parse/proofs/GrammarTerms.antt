@@ -11,7 +11,7 @@ use Rattle.si_defs.specs.declared.SymKind.TheVariants.{Word, Dollar, Number, Dis
 use Rattle.si_defs.specs.declared.Side.TheVariants.{Function}
 use Rattle.si_defs.specs.declared.TokenKind.{TokenKind}
 use Rattle.si_defs.specs.declared.TokenKind.TheVariants as token
-use Rattle.si_parse.specs.Parsing.{Parses, NoBracket, NoTerm}
+use Rattle.si_parse.specs.Parsing.{ReadsTokens, NoBracket, NoTerm}
 use Rattle.si_parse.specs.GrammarRules.{AreMore, AreTerms, IsApplied, function_symbol}
 use Rattle.si_parse.proofs.ParseSteps.{parses_none, parses_some, parses_uses, parses_one, parses_never, heads, tails, front_heads, front_tails}
 
@@ -99,7 +99,7 @@ terms_more (terms.more u us) ts (first, others, one, all, e) = (first, others, o
 
 -- ---- terms by their first token
 -- an upper word is a variable
-pub term_upper : (t : Token) (rest : List Token) → t.kind ≡ token.Upper → Parses IsTerm NoBracket (t ∷ rest) (Some (terms.var t.text, rest))
+pub term_upper : (t : Token) (rest : List Token) → t.kind ≡ token.Upper → ReadsTokens IsTerm NoBracket (t ∷ rest) (Some (terms.var t.text, rest))
 term_upper t rest k = parses_some (terms.var t.text) (t ∷ []) rest refl (λ i. record { kind = k i; text = t.text } ∷ []) (λ m used behind e means follows. unique m used behind e means) where
   never : (kind : SymKind) (text : Bytes) (u : Token) → IsConstant kind text u → t ≡ u → ⊥
   never kind text u h e = none_some kind (sym (ap symbol_kind (ap (λ (x : Token). x.kind) (sym e) ∙ k)) ∙ (constant_is kind text u h).0)
@@ -124,7 +124,7 @@ term_first (terms.app s (terms.more u us)) used (side, arity, (v, first, others,
     (v, left_bracket ∷ (first ++ others) ++ right_bracket ∷ [], symbol s.kind (constant_is s.kind s.text v (head_constant s.kind s.text v head)).0, f)
 
 -- where no term begins none is read
-pub term_none : (t : Token) (rest : List Token) → (t.kind ≡ token.Upper → ⊥) → symbol_kind t.kind ≡ None → Parses IsTerm NoBracket (t ∷ rest) None
+pub term_none : (t : Token) (rest : List Token) → (t.kind ≡ token.Upper → ⊥) → symbol_kind t.kind ≡ None → ReadsTokens IsTerm NoBracket (t ∷ rest) None
 term_none t rest not_upper none = parses_none (λ m used behind e means follows.
     let f = term_first m used means in never f.0 f.2 (front_heads {ys = f.1} behind e f.3)) where
       never : (u : Token) → First u → t ≡ u → ⊥
@@ -132,7 +132,7 @@ term_none t rest not_upper none = parses_none (λ m used behind e means follows.
       never u (symbol kind k) e = none_some kind (sym none ∙ ap (λ (x : Token). symbol_kind x.kind) e ∙ k)
 
 -- nor of nothing
-pub term_empty : Parses IsTerm NoBracket [] None
+pub term_empty : ReadsTokens IsTerm NoBracket [] None
 term_empty = parses_none (λ m used behind e means follows. let f = term_first m used means in cc (e ∙ ap (λ x. x ++ behind) f.3))
 
 module _ (t : Token) (rest : List Token) (kind : SymKind) (is_kind : symbol_kind t.kind ≡ Some kind) where
@@ -147,7 +147,7 @@ module _ (t : Token) (rest : List Token) (kind : SymKind) (is_kind : symbol_kind
 
   -- a symbol that takes no arguments
   pub term_constant : ((text : Bytes) (u : Token) → IsHead kind text u → ⊥) → IsConstant kind t.text t
-      → Parses IsTerm NoBracket (t ∷ rest) (Some (terms.app (function_symbol kind t.text 0) terms.none, rest))
+      → ReadsTokens IsTerm NoBracket (t ∷ rest) (Some (terms.app (function_symbol kind t.text 0) terms.none, rest))
   term_constant no_head const = parses_some (terms.app (function_symbol kind t.text 0) terms.none) (t ∷ []) rest refl (refl, refl, (t, const, refl)) (λ m used behind e means follows. unique m used behind e means) where
     unique : (m : Term) (used behind : List Token) → t ∷ rest ≡ used ++ behind → IsTerm m used → (terms.app (function_symbol kind t.text 0) terms.none ≡ m) × (rest ≡ behind)
     unique (terms.var y) used behind e means = absurd (not_variable y (front_heads behind e means))
@@ -183,7 +183,7 @@ module _ (t : Token) (rest : List Token) (kind : SymKind) (is_kind : symbol_kind
       )
 
   -- a symbol that takes arguments, by what stands behind it
-  pub term_head : IsHead kind t.text t → (result : Option (Term × List Token)) → Parses (IsApplied kind t.text) NoBracket rest result → Parses IsTerm NoBracket (t ∷ rest) result
+  pub term_head : IsHead kind t.text t → (result : Option (Term × List Token)) → ReadsTokens (IsApplied kind t.text) NoBracket rest result → ReadsTokens IsTerm NoBracket (t ∷ rest) result
   term_head head result p = record {
     found = λ m behind e. let h = p.found m behind e in (t ∷ h.0, ap (λ x. t ∷ x) h.1, applied_term head m h.0 h.2);
     every = λ m used behind e means follows. let h = applied_back m used behind e means in p.every m h.0 behind (front_tails {ys = h.0} behind e h.1) h.2 follows;
@@ -191,7 +191,7 @@ module _ (t : Token) (rest : List Token) (kind : SymKind) (is_kind : symbol_kind
 
 -- ---- what stands behind a head
 -- nothing
-pub applied_bare : (kind : SymKind) (text : Bytes) (rest : List Token) → NoBracket rest → Parses (IsApplied kind text) NoBracket rest (Some (terms.app (function_symbol kind text 0) terms.none, rest))
+pub applied_bare : (kind : SymKind) (text : Bytes) (rest : List Token) → NoBracket rest → ReadsTokens (IsApplied kind text) NoBracket rest (Some (terms.app (function_symbol kind text 0) terms.none, rest))
 applied_bare kind text rest none = parses_some (terms.app (function_symbol kind text 0) terms.none) [] rest refl (refl, refl) (λ m used behind e means follows. unique m used behind e means) where
   unique : (m : Term) (used behind : List Token) → rest ≡ used ++ behind → IsApplied kind text m used → (terms.app (function_symbol kind text 0) terms.none ≡ m) × (rest ≡ behind)
   unique (terms.var x) used behind e means = absurd means
@@ -215,17 +215,17 @@ module _ (kind : SymKind) (text : Bytes) (rest : List Token) where
   applied_by k (terms.app s (terms.more u us)) used after e (is, (inner, all, g)) follows = k (u ∷ terms.list us) inner after all (inside inner after e g)
 
   -- a bracket without arguments behind it
-  pub applied_none : Parses AreTerms NoTerm rest None → Parses (IsApplied kind text) NoBracket (left_bracket ∷ rest) None
+  pub applied_none : ReadsTokens AreTerms NoTerm rest None → ReadsTokens (IsApplied kind text) NoBracket (left_bracket ∷ rest) None
   applied_none p = parses_none (applied_by (λ args inner after all e. parses_never p args inner (right_bracket ∷ after) e all (right_ends after)))
 
   -- arguments without a bracket behind them
-  pub applied_stop : {args : List Term} {behind : List Token} → Parses AreTerms NoTerm rest (Some (args, behind)) → ((after : List Token) → behind ≡ right_bracket ∷ after → ⊥)
-      → Parses (IsApplied kind text) NoBracket (left_bracket ∷ rest) None
+  pub applied_stop : {args : List Term} {behind : List Token} → ReadsTokens AreTerms NoTerm rest (Some (args, behind)) → ((after : List Token) → behind ≡ right_bracket ∷ after → ⊥)
+      → ReadsTokens (IsApplied kind text) NoBracket (left_bracket ∷ rest) None
   applied_stop p none = parses_none (applied_by (λ args inner after all e. none after (parses_one p args inner (right_bracket ∷ after) e all (right_ends after)).1))
 
   -- arguments and a bracket
-  pub applied_some : (args : List Term) (behind : List Token) → Parses AreTerms NoTerm rest (Some (args, right_bracket ∷ behind))
-      → Parses (IsApplied kind text) NoBracket (left_bracket ∷ rest) (Some (terms.app (function_symbol kind text (length args)) (terms.row args), behind))
+  pub applied_some : (args : List Term) (behind : List Token) → ReadsTokens AreTerms NoTerm rest (Some (args, right_bracket ∷ behind))
+      → ReadsTokens (IsApplied kind text) NoBracket (left_bracket ∷ rest) (Some (terms.app (function_symbol kind text (length args)) (terms.row args), behind))
   applied_some [] behind p = absurd (parses_uses [] (right_bracket ∷ behind) p).2
   applied_some (u ∷ us) behind p =
       let h = parses_uses (u ∷ us) (right_bracket ∷ behind) p in

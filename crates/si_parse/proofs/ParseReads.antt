@@ -2,7 +2,7 @@
 use Rattle.std.proofs.Common.{◌≡◌, ◌≢◌, ℕ, suc, add-one, drop-cons, ◌+◌, ◌-◌, ◌≤◌, ◌<◌, List, [], ◌∷◌, ◌++◌, length, take, drop, get_or, Option, Some, None, refl, sym, ap, ◌∙◌, subst, arith, Bor}
 use Rattle.std.proofs.lemmas.List.{take_all, take_more, take_rest, take-append-drop, length-take-le, length-append, length-map}
 use Rattle.si_defs.specs.Tokens.{Token, mark}
-use Rattle.si_parse.specs.Parsing.{Parses, Reads, Passes, Anything}
+use Rattle.si_parse.specs.Parsing.{ReadsTokens, Reads, Passes, Anything}
 use Rattle.si_lex.specs.Lexemes.{token_of, tokens_of}
 use Rattle.si_lex.specs.declared.lexeme.Lexeme.{Lexeme}
 use Rattle.si_defs.specs.declared.TokenKind.TheVariants.{Lower}
@@ -38,41 +38,41 @@ others_shorter (t ∷ ts) h = omega (arith, ap length (take_all (length (t ∷ t
 module _ {X M : Type 0} (view : X → M) {Means : M → List Token → Type 0} {Follows : List Token → Type 0} (tokens : List Lexeme) where
   -- what was read
   pub reads_some : {result : Option (X × Bor (List Lexeme))} {x : X} {behind : Bor (List Lexeme)} → Reads view Means Follows tokens result → result ≡ Some (x, behind)
-      → Parses Means Follows (tokens_of tokens) (Some (view x, tokens_of behind.now))
+      → ReadsTokens Means Follows (tokens_of tokens) (Some (view x, tokens_of behind.now))
   reads_some p e = subst (λ r. Reads view Means Follows tokens r) e p
 
   -- that nothing was read
   pub reads_none : {result : Option (X × Bor (List Lexeme))} → Reads view Means Follows tokens result → result ≡ None
-      → Parses Means Follows (tokens_of tokens) None
+      → ReadsTokens Means Follows (tokens_of tokens) None
   reads_none p e = subst (λ r. Reads view Means Follows tokens r) e p
 
 -- what is left behind what was passed
 pub passes_some : {Spelled : List Token → Type 0} {result : Option (Bor (List Lexeme))} {behind : Bor (List Lexeme)} (tokens : List Lexeme) → Passes Spelled tokens result → result ≡ Some behind
-    → Parses (λ (u : Unit {0}) used. Spelled used) Anything (tokens_of tokens) (Some (tt {0}, tokens_of behind.now))
+    → ReadsTokens (λ (u : Unit {0}) used. Spelled used) Anything (tokens_of tokens) (Some (tt {0}, tokens_of behind.now))
 passes_some {Spelled = Spelled} tokens p e = subst (λ r. Passes Spelled tokens r) e p
 
 -- that nothing was passed
 pub passes_none : {Spelled : List Token → Type 0} {result : Option (Bor (List Lexeme))} (tokens : List Lexeme) → Passes Spelled tokens result → result ≡ None
-    → Parses (λ (u : Unit {0}) used. Spelled used) Anything (tokens_of tokens) None
+    → ReadsTokens (λ (u : Unit {0}) used. Spelled used) Anything (tokens_of tokens) None
 passes_none {Spelled = Spelled} tokens p e = subst (λ r. Passes Spelled tokens r) e p
 
 -- what is left is no longer than the tokens are
-pub left_shorter : {M : Type 0} {m : M} {Means : M → List Token → Type 0} {Follows : List Token → Type 0} (tokens behind : List Lexeme) → Parses Means Follows (tokens_of tokens) (Some (m, tokens_of behind))
+pub left_shorter : {M : Type 0} {m : M} {Means : M → List Token → Type 0} {Follows : List Token → Type 0} (tokens behind : List Lexeme) → ReadsTokens Means Follows (tokens_of tokens) (Some (m, tokens_of behind))
     → length behind ≤ length tokens
 left_shorter {m = m} tokens behind p =
     let h = p.found m (tokens_of behind) refl in
     omega (arith, ap length h.1 ∙ length-append h.0 (tokens_of behind), length-map tokens token_of, length-map behind token_of)
 
 -- what stands behind a mark
-pub mark_front : {c : ℕ} {ts rest : List Token} → Parses (λ (u : Unit {0}) used. used ≡ mark c ∷ []) Anything ts (Some (tt {0}, rest)) → ts ≡ mark c ∷ rest
+pub mark_front : {c : ℕ} {ts rest : List Token} → ReadsTokens (λ (u : Unit {0}) used. used ≡ mark c ∷ []) Anything ts (Some (tt {0}, rest)) → ts ≡ mark c ∷ rest
 mark_front {rest = rest} p = let h = p.found tt rest refl in h.1 ∙ ap (λ x. x ++ rest) h.2
 
 -- no mark stands in front
-pub mark_none : {c : ℕ} {ts : List Token} → Parses (λ (u : Unit {0}) used. used ≡ mark c ∷ []) Anything ts None → (rest : List Token) → ts ≡ mark c ∷ rest → ⊥
+pub mark_none : {c : ℕ} {ts : List Token} → ReadsTokens (λ (u : Unit {0}) used. used ≡ mark c ∷ []) Anything ts None → (rest : List Token) → ts ≡ mark c ∷ rest → ⊥
 mark_none {c = c} p rest e = parses_never p tt (mark c ∷ []) rest e refl tt
 
 -- what is left behind a mark is shorter by one
-pub mark_shorter : {c : ℕ} (tokens behind : List Lexeme) → Parses (λ (u : Unit {0}) used. used ≡ mark c ∷ []) Anything (tokens_of tokens) (Some (tt {0}, tokens_of behind))
+pub mark_shorter : {c : ℕ} (tokens behind : List Lexeme) → ReadsTokens (λ (u : Unit {0}) used. used ≡ mark c ∷ []) Anything (tokens_of tokens) (Some (tt {0}, tokens_of behind))
     → length behind < length tokens
 mark_shorter tokens behind p = omega (arith, ap length (mark_front p), length-map tokens token_of, length-map behind token_of)
 

@@ -3,7 +3,7 @@
 use Rattle.std.proofs.Common.{◌≡◌, map, ◌+◌, ◌≤◌, List, [], ◌∷◌, ◌++◌, length, Some, None, refl, sym, ap, ◌∙◌, subst, append_assoc, append-nil, arith}
 use Rattle.std.proofs.lemmas.List.{length-append}
 use Rattle.si_defs.specs.Tokens.{Token}
-use Rattle.si_parse.specs.Parsing.{Parses}
+use Rattle.si_parse.specs.Parsing.{ReadsTokens}
 use Rattle.si_parse.specs.GrammarRules.{AreMore, IsRow}
 use Rattle.si_parse.proofs.ParseSteps.{parses_none, parses_some, parses_uses, parses_one, parses_never, tails}
 
@@ -28,7 +28,7 @@ more_few : {M : Type 0} (Means : M → List Token → Type 0) (sign : Token) (ms
 more_few Means sign [] ts h = omega arith
 more_few Means sign (m ∷ ms) ts (first, others, one, all, e) = omega (arith, more_few Means sign ms others all, ap length e, length-append first others)
 
-pub row_few : {M : Type 0} {Means : M → List Token → Type 0} {Ends : List Token → Type 0} {sign : Token} {tokens rest : List Token} (ms : List M) → Parses (IsRow Means sign) Ends tokens (Some (ms, rest)) → length ms ≤ length tokens + 1
+pub row_few : {M : Type 0} {Means : M → List Token → Type 0} {Ends : List Token → Type 0} {sign : Token} {tokens rest : List Token} (ms : List M) → ReadsTokens (IsRow Means sign) Ends tokens (Some (ms, rest)) → length ms ≤ length tokens + 1
 row_few {M = M} {Means = Means} {sign = sign} {tokens = tokens} {rest = rest} ms p = few ms (parses_uses ms rest p) where
   few : (ms : List M) → (used : List Token) × (tokens ≡ used ++ rest) × IsRow Means sign ms used → length ms ≤ length tokens + 1
   few [] h = omega arith
@@ -54,7 +54,7 @@ module _ {M : Type 0} (Means : M → List Token → Type 0) {sign : Token} {Foll
       (next, others ++ sign ∷ first, two, more_push us m others first all one, ap (λ x. x ++ sign ∷ first) e ∙ append_assoc next others (sign ∷ first))
 
   -- where no item is read there is no row
-  pub row_none : {tokens : List Token} → Parses Means Follows tokens None → Parses (IsRow Means sign) Ends tokens None
+  pub row_none : {tokens : List Token} → ReadsTokens Means Follows tokens None → ReadsTokens (IsRow Means sign) Ends tokens None
   row_none {tokens = tokens} p = parses_none never where
     never : (ms : List M) (used rest : List Token) → tokens ≡ used ++ rest → IsRow Means sign ms used → Ends rest → ⊥
     never [] used rest e h ends = h
@@ -62,7 +62,7 @@ module _ {M : Type 0} (Means : M → List Token → Type 0) {sign : Token} {Foll
         parses_never p u first (more ++ rest) (e ∙ ap (λ x. x ++ rest) f ∙ append_assoc first more rest) one (behind_one us more rest all ends)
 
   -- the first item was read
-  pub along_first : {tokens left : List Token} {m : M} → Parses Means Follows tokens (Some (m, left)) → Along Means sign Ends tokens (m ∷ []) left
+  pub along_first : {tokens left : List Token} {m : M} → ReadsTokens Means Follows tokens (Some (m, left)) → Along Means sign Ends tokens (m ∷ []) left
   along_first {tokens = tokens} {left = left} {m = m} p = record { found = let h = parses_uses m left p in (h.0, h.1, (h.0, [], h.2, refl, sym (append-nil h.0))); every = every } where
     every : (ms : List M) (used rest : List Token) → tokens ≡ used ++ rest → IsRow Means sign ms used → Ends rest
         → (others : List M) × (behind : List Token) × (ms ≡ m ∷ others) × (left ≡ behind ++ rest) × AreMore Means sign others behind
@@ -73,7 +73,7 @@ module _ {M : Type 0} (Means : M → List Token → Type 0) {sign : Token} {Foll
 
   module _ {tokens left : List Token} {done : List M} (along : Along Means sign Ends tokens done left) where
     -- no sign behind the items: they are the whole row
-    pub row_some : ((rest : List Token) → left ≡ sign ∷ rest → ⊥) → Parses (IsRow Means sign) Ends tokens (Some (done, left))
+    pub row_some : ((rest : List Token) → left ≡ sign ∷ rest → ⊥) → ReadsTokens (IsRow Means sign) Ends tokens (Some (done, left))
     row_some none = parses_some done along.found.0 left along.found.1 along.found.2 (λ ms used rest e row ends.
         let o = along.every ms used rest e row ends in unique ms o.0 o.1 rest o.2 o.3 o.4) where
           unique : (ms others : List M) (behind rest : List Token) → ms ≡ done ++ others → left ≡ behind ++ rest → AreMore Means sign others behind → (done ≡ ms) × (left ≡ rest)
@@ -90,14 +90,14 @@ module _ {M : Type 0} (Means : M → List Token → Type 0) {sign : Token} {Foll
           (u, us, first, more, refl, one, all, tails (sym goes ∙ e ∙ ap (λ x. x ++ rest) f) ∙ append_assoc first more rest, behind_one us more rest all ends)
 
       -- without an item behind it there is no row
-      pub row_stop : Parses Means Follows next None → Parses (IsRow Means sign) Ends tokens None
+      pub row_stop : ReadsTokens Means Follows next None → ReadsTokens (IsRow Means sign) Ends tokens None
       row_stop p = parses_none (λ ms used rest e row ends.
           let o = along.every ms used rest e row ends in
           let g = row_goes o.0 o.1 rest o.3 o.4 ends in
           parses_never p g.0 g.2 (g.3 ++ rest) g.7 g.5 g.8)
 
       -- one more item was read
-      pub along_more : {m : M} {behind : List Token} → Parses Means Follows next (Some (m, behind)) → Along Means sign Ends tokens (done ++ m ∷ []) behind
+      pub along_more : {m : M} {behind : List Token} → ReadsTokens Means Follows next (Some (m, behind)) → Along Means sign Ends tokens (done ++ m ∷ []) behind
       along_more {m = m} {behind = behind} p = record { found = found; every = every } where
         found : (whole : List Token) × (tokens ≡ whole ++ behind) × IsRow Means sign (done ++ m ∷ []) whole
         found =

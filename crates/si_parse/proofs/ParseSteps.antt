@@ -1,7 +1,7 @@
 -- Steps of readers: what a reader of a sequence gives, by what its parts give.
 use Rattle.std.proofs.Common.{◌≡◌, List, ◌∷◌, ◌++◌, Option, Some, None, refl, sym, ap, ◌∙◌, subst}
 use Rattle.si_defs.specs.Tokens.{Token}
-use Rattle.si_parse.specs.Parsing.{Parses}
+use Rattle.si_parse.specs.Parsing.{ReadsTokens}
 
 -- nothing is not something
 none_is_some : {A : Type 0} {x : A} → None ≡ Some x → ⊥
@@ -26,7 +26,7 @@ same_result e f = cc
 -- nothing is read where no front of the tokens has a meaning
 pub parses_none : {M : Type 0} {Means : M → List Token → Type 0} {Follows : List Token → Type 0} {tokens : List Token}
     → ((m : M) (used rest : List Token) → tokens ≡ used ++ rest → Means m used → Follows rest → ⊥)
-    → Parses Means Follows tokens None
+    → ReadsTokens Means Follows tokens None
 parses_none never = record {
   found = λ m rest e. absurd (none_is_some e);
   every = λ m used rest e means follows. absurd (never m used rest e means follows);
@@ -36,7 +36,7 @@ parses_none never = record {
 pub parses_some : {M : Type 0} {Means : M → List Token → Type 0} {Follows : List Token → Type 0} {tokens : List Token}
     (m : M) (used rest : List Token) → tokens ≡ used ++ rest → Means m used
     → ((other : M) (front behind : List Token) → tokens ≡ front ++ behind → Means other front → Follows behind → (m ≡ other) × (rest ≡ behind))
-    → Parses Means Follows tokens (Some (m, rest))
+    → ReadsTokens Means Follows tokens (Some (m, rest))
 parses_some {Means = Means} {tokens = tokens} m used rest front means unique = record {
   found = λ other behind e. (used, front ∙ ap (λ r. used ++ r) (same_rest e), subst (λ x. Means x used) (same_meaning e) means);
   every = λ other front behind e means' follows. let same = unique other front behind e means' follows in same_result same.0 same.1;
@@ -44,25 +44,25 @@ parses_some {Means = Means} {tokens = tokens} m used rest front means unique = r
 
 -- what a reader's result says
 pub parses_uses : {M : Type 0} {Means : M → List Token → Type 0} {Follows : List Token → Type 0} {tokens : List Token}
-    (m : M) (rest : List Token) → Parses Means Follows tokens (Some (m, rest)) → (used : List Token) × (tokens ≡ used ++ rest) × Means m used
+    (m : M) (rest : List Token) → ReadsTokens Means Follows tokens (Some (m, rest)) → (used : List Token) × (tokens ≡ used ++ rest) × Means m used
 parses_uses m rest p = p.found m rest refl
 
 -- a second meaning at the front is the one that was read
 pub parses_one : {M : Type 0} {Means : M → List Token → Type 0} {Follows : List Token → Type 0} {tokens : List Token}
-    {m : M} {rest : List Token} → Parses Means Follows tokens (Some (m, rest))
+    {m : M} {rest : List Token} → ReadsTokens Means Follows tokens (Some (m, rest))
     → (other : M) (front behind : List Token) → tokens ≡ front ++ behind → Means other front → Follows behind → (m ≡ other) × (rest ≡ behind)
 parses_one p other front behind e means follows =
     let same = p.every other front behind e means follows in (same_meaning same, same_rest same)
 
 -- where nothing was read no front has a meaning
 pub parses_never : {M : Type 0} {Means : M → List Token → Type 0} {Follows : List Token → Type 0} {tokens : List Token}
-    → Parses Means Follows tokens None
+    → ReadsTokens Means Follows tokens None
     → (m : M) (used rest : List Token) → tokens ≡ used ++ rest → Means m used → Follows rest → ⊥
 parses_never p m used rest e means follows = none_is_some (p.every m used rest e means follows)
 
 -- where what follows is not allowed, no front has a meaning with what is allowed behind it
 pub parses_refused : {M : Type 0} {Means : M → List Token → Type 0} {Follows : List Token → Type 0} {tokens : List Token}
-    {m : M} {rest : List Token} → Parses Means Follows tokens (Some (m, rest)) → (Follows rest → ⊥) → Parses Means Follows tokens None
+    {m : M} {rest : List Token} → ReadsTokens Means Follows tokens (Some (m, rest)) → (Follows rest → ⊥) → ReadsTokens Means Follows tokens None
 parses_refused {Follows = Follows} p refused = parses_none (λ other used behind e means follows.
     refused (subst Follows (sym (parses_one p other used behind e means follows).1) follows))
 
@@ -84,6 +84,6 @@ front_tails rest e f = tails (e ∙ ap (λ u. u ++ rest) f)
 
 -- the same reading of equal tokens with an equal result
 pub parses_at : {M : Type 0} {Means : M → List Token → Type 0} {Follows : List Token → Type 0} {tokens same : List Token} {result other : Option (M × List Token)}
-    → tokens ≡ same → result ≡ other → Parses Means Follows same other → Parses Means Follows tokens result
+    → tokens ≡ same → result ≡ other → ReadsTokens Means Follows same other → ReadsTokens Means Follows tokens result
 parses_at {Means = Means} {Follows = Follows} {same = same} {result = result} e f p =
-    subst (λ x. Parses Means Follows x result) (sym e) (subst (λ x. Parses Means Follows same x) (sym f) p)
+    subst (λ x. ReadsTokens Means Follows x result) (sym e) (subst (λ x. ReadsTokens Means Follows same x) (sym f) p)

@@ -4,7 +4,7 @@ use Rattle.std.specs.Prelude.{Option, option_map}
 use Rattle.si_term.specs.Meaning.{name_of, pattern_of}
 use Rattle.si_term.specs.declared.clause.Name as program_name
 use Rattle.si_term.specs.declared.clause.Pattern as program_pattern
-use Rattle.si_parse.specs.GrammarRules.{IsFile, IsNameToken}
+use Rattle.si_parse.specs.GrammarRules.{IsFileToken, IsNameToken}
 use Rattle.si_parse.specs.Reading.{ReadsText, ReadsPattern, IsOfKind}
 use Rattle.si_parse.specs.declared.pattern.PatternKind.TheVariants as kind
 use Rattle.si_defs.specs.Bytes.{Bytes}
@@ -44,9 +44,9 @@ name_back bytes read h = name_answered bytes (option_map name_of read) (only rea
   only None h = h
   only (Some n) h = h
 
-pub file_back : (bytes : Bytes) (read : Option Bytes) → ReadsText (λ t. t) IsFile bytes read → ReadsBackFile bytes read
+pub file_back : (bytes : Bytes) (read : Option Bytes) → ReadsText (λ t. t) IsFileToken bytes read → ReadsBackFile bytes read
 file_back bytes read h = file_answered bytes read (only read h) where
-  only : (r : Option Bytes) → ReadsText (λ t. t) IsFile bytes r → IsOnly (λ f. IsFileText f bytes) r
+  only : (r : Option Bytes) → ReadsText (λ t. t) IsFileToken bytes r → IsOnly (λ f. IsFileText f bytes) r
   only None h = h
   only (Some f) h = h
 

@@ -17,7 +17,7 @@ use Rattle.si_lex.specs.declared.lexing.Lexing.{Lexing}
 use Rattle.si_lex.specs.declared.lexing.Stop.{Stop}
 use Rattle.si_lex.specs.declared.lexing.Stop.TheVariants.{End, Bad, FullStop}
 use Rattle.si_lex.proofs.TokenLaws.{begins_unique, blanks_none}
-use Rattle.si_parse.specs.Parsing.{Parses, Anything}
+use Rattle.si_parse.specs.Parsing.{ReadsTokens, Anything}
 use Rattle.si_parse.specs.GrammarRules.{IsInclude}
 use Rattle.si_parse.specs.Reading.{IsItemRead, IsFault, IsFaultAt, IsNoItem, IsRead, AreForeign, ReadsAll, ReadsText}
 use Rattle.si_parse.specs.declared.item.Read.{Read}
@@ -143,7 +143,7 @@ module _ (bytes : Bytes) (at : ℕ) (l : Lexing) (h : IsItemLexing bytes at l) w
         goes = (λ s. absurd (word_on f.0 s.1), (λ s. refl, tt))
 
   -- where no item was read of the tokens, no item begins
-  module _ (no_clause : Parses IsClause Anything (tokens_of l.tokens.items) None) (no_include : Parses IsInclude Anything (tokens_of l.tokens.items) None) where
+  module _ (no_clause : ReadsTokens IsClause Anything (tokens_of l.tokens.items) None) (no_include : ReadsTokens IsInclude Anything (tokens_of l.tokens.items) None) where
     none_begins : (item : Item) (rest : Bytes) → BeginsWithItem (drop at bytes) item rest → ⊥
     none_begins (clause_item c) rest b =
         let k = item_all (clause_item c) rest b in parses_never no_clause c (tokens_of l.tokens.items) [] (sym (append-nil (tokens_of l.tokens.items))) k.0 tt
@@ -182,7 +182,7 @@ module _ (bytes : Bytes) (at : ℕ) (l : Lexing) (h : IsItemLexing bytes at l) w
   end_read e none = subst AreBlanks (sym (subst (λ (ts : List Lexeme). Begins (drop at bytes) (tokens_of ts) h.rest) none h.read.begins)) (h.read.blanks e)
 
 -- where no item was read
-pub no_item_read : (bytes : Bytes) (at : ℕ) (l : Lexing) (h : IsItemLexing bytes at l) → Parses IsClause Anything (tokens_of l.tokens.items) None → Parses IsInclude Anything (tokens_of l.tokens.items) None
+pub no_item_read : (bytes : Bytes) (at : ℕ) (l : Lexing) (h : IsItemLexing bytes at l) → ReadsTokens IsClause Anything (tokens_of l.tokens.items) None → ReadsTokens IsInclude Anything (tokens_of l.tokens.items) None
     → (result : Read) → IsNoItem (tokens_of l.tokens.items) l.start l.stop result → IsRead bytes at result
 no_item_read bytes at l h p q result f = by l.tokens.items refl l.stop refl f where
   fault : (AreBlanks (drop at bytes) → ⊥) → IsFaultAt (tokens_of l.tokens.items) l.start result → IsRead bytes at result
@@ -209,7 +209,7 @@ clause_no_include c file s ts (name, formula, extra, is_name, is_formula, is_ext
 
 module _ (bytes : Bytes) (at : ℕ) (l : Lexing) (h : IsItemLexing bytes at l) where
   -- the clause that was read of the tokens is the item
-  pub clause_read : (c : Clause) (rest : List Token) → Parses IsClause Anything (tokens_of l.tokens.items) (Some (c, rest)) → IsItemRead bytes at (clause_item c) l.end
+  pub clause_read : (c : Clause) (rest : List Token) → ReadsTokens IsClause Anything (tokens_of l.tokens.items) (Some (c, rest)) → IsItemRead bytes at (clause_item c) l.end
   clause_read c rest p =
       let k = parses_uses c rest p in
       item_read bytes at l h (clause_item c) k.0 rest k.1 k.2 (λ other is. unique other is) where
@@ -221,7 +221,7 @@ module _ (bytes : Bytes) (at : ℕ) (l : Lexing) (h : IsItemLexing bytes at l) w
             absurd (clause_no_include c file s (tokens_of l.tokens.items) (subst (IsItem (clause_item c)) (sym (k.1 ∙ ap (λ x. k.0 ++ x) w.0 ∙ append-nil k.0)) k.2) is)
 
   -- and so is the include
-  pub include_read : (i : Bytes × Selection) (rest : List Token) → Parses IsInclude Anything (tokens_of l.tokens.items) (Some (i, rest)) → IsItemRead bytes at (include_item i.0 i.1) l.end
+  pub include_read : (i : Bytes × Selection) (rest : List Token) → ReadsTokens IsInclude Anything (tokens_of l.tokens.items) (Some (i, rest)) → IsItemRead bytes at (include_item i.0 i.1) l.end
   include_read i rest p =
       let k = parses_uses i rest p in
       item_read bytes at l h (include_item i.0 i.1) k.0 rest k.1 k.2 (λ other is. unique other is) where

@@ -120,8 +120,8 @@ IsClosed ts = (extra : List Token) × IsExtra extra × (ts ≡ extra ++ right_br
 
 -- ---- includes
 -- one token that is a text in single quotes
-abbrev pub IsFile : Bytes → List Token → Type 0
-IsFile text ts = ts ≡ record { kind = token.Single; text = text } ∷ []
+abbrev pub IsFileToken : Bytes → List Token → Type 0
+IsFileToken text ts = ts ≡ record { kind = token.Single; text = text } ∷ []
 
 -- names with commas between them
 abbrev pub AreNames : List Name → List Token → Type 0

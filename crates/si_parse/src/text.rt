@@ -3,7 +3,7 @@ ghost use Rattle.std.specs.Prelude.{◌≤◌, length, IfOk, IfSome, option_map}
 ghost use Rattle.si_defs.specs.Clauses.{AreSoundLiterals};
 ghost use Rattle.si_defs.specs.Grammar.{IsFormula};
 ghost use Rattle.si_lex.specs.Lexemes.{tokens_of};
-ghost use Rattle.si_parse.specs.GrammarRules.{IsFile, IsNameToken};
+ghost use Rattle.si_parse.specs.GrammarRules.{IsFileToken, IsNameToken};
 ghost use Rattle.si_parse.specs.Meaning.{literals_of};
 ghost use Rattle.si_defs.specs.declared.TheConstants.{MOST_BYTES};
 ghost use Rattle.si_parse.specs.ReadBack.{ReadsBackFile, ReadsBackName};
@@ -54,7 +54,7 @@ pub fn read_name(alloc: Global, bytes: &[u8]) -> Result<Option<Name>, AllocError
 /// `AllocError` where memory runs out.
 pub fn read_file(alloc: Global, bytes: &[u8]) -> Result<Option<Text>, AllocError>
     requires { length bytes.now ≤ MOST_BYTES }
-    ensures read { IfOk result (ReadsText (λ t. t) IsFile bytes.now) }
+    ensures read { IfOk result (ReadsText (λ t. t) IsFileToken bytes.now) }
     ensures back { IfOk result (ReadsBackFile bytes.now) }
 {
     let lexing = lex(alloc, bytes, 0)?;
@@ -104,7 +104,7 @@ pub fn whole_name(alloc: Global, tokens: &[Lexeme]) -> Result<Option<Name>, Allo
 /// # Errors
 /// `AllocError` where memory runs out.
 pub fn whole_file(alloc: Global, tokens: &[Lexeme]) -> Result<Option<Text>, AllocError>
-    ensures { IfOk result (ReadsAll (λ t. t) IsFile (tokens_of tokens.now)) }
+    ensures { IfOk result (ReadsAll (λ t. t) IsFileToken (tokens_of tokens.now)) }
 {
     let Some((file, rest)) = file(alloc, tokens)? else {
         return Ok(None);

@@ -1,38 +1,38 @@
 -- A text that is written piece by piece.
 use Rattle.std.proofs.Common.{◌≡◌, ℕ, List, [], ◌++◌, Option, Result, Ok, Err, OnOk, OnErr, refl, sym, ap, subst, ◌∙◌, append_assoc, append-nil}
-use Rattle.si_io.specs.Content.{Told, Appends, AppendsPrefix}
+use Rattle.si_io.specs.Content.{Told, Receives, ReceivesPrefix}
 use Rattle.si_io.specs.Puts.{Puts}
-use Rattle.si_io.proofs.Content.{append_told-nil, Appends_then, AppendsPrefix_then, AppendsPrefix_more}
+use Rattle.si_io.proofs.Content.{append_told-nil, Receives_then, ReceivesPrefix_then, ReceivesPrefix_more}
 
 -- Some of the whole is written, and the rest is left.
 pub record Wrote (old now : Told) (whole rest : List ℕ) : Type 0 where
   pub done : List ℕ
-  pub given : Appends old done now
+  pub given : Receives old done now
   pub split : whole ≡ done ++ rest
 
 pub wrote_none : (a : Told) (whole : List ℕ) → Wrote a a whole whole
 wrote_none a whole = record { done = []; given = sym (append_told-nil a); split = refl }
 
 -- one piece more
-pub wrote_piece : (a b c : Told) (whole rest piece left : List ℕ) → rest ≡ piece ++ left → Wrote a b whole rest → Appends b piece c → Wrote a c whole left
+pub wrote_piece : (a b c : Told) (whole rest piece left : List ℕ) → rest ≡ piece ++ left → Wrote a b whole rest → Receives b piece c → Wrote a c whole left
 wrote_piece a b c whole rest piece left parts w more = record {
   done = w.done ++ piece;
-  given = Appends_then a b c w.done piece w.given more;
+  given = Receives_then a b c w.done piece w.given more;
   split = w.split ∙ ap (λ l. w.done ++ l) parts ∙ sym (append_assoc w.done piece left);
 }
 
 -- a part of a piece, at which the sink failed
-pub wrote_part : (a b c : Told) (whole rest piece left : List ℕ) → rest ≡ piece ++ left → Wrote a b whole rest → AppendsPrefix b piece c → AppendsPrefix a whole c
+pub wrote_part : (a b c : Told) (whole rest piece left : List ℕ) → rest ≡ piece ++ left → Wrote a b whole rest → ReceivesPrefix b piece c → ReceivesPrefix a whole c
 wrote_part a b c whole rest piece left parts w part =
     let joined : whole ≡ (w.done ++ piece) ++ left = w.split ∙ ap (λ l. w.done ++ l) parts ∙ sym (append_assoc w.done piece left) in
-    let P : List ℕ → Type 0 = λ l. AppendsPrefix a l c in
-    subst P (sym joined) (AppendsPrefix_more a c (w.done ++ piece) left (AppendsPrefix_then a b c w.done piece w.given part))
+    let P : List ℕ → Type 0 = λ l. ReceivesPrefix a l c in
+    subst P (sym joined) (ReceivesPrefix_more a c (w.done ++ piece) left (ReceivesPrefix_then a b c w.done piece w.given part))
 
 -- all of it
-pub wrote_all : (a b : Told) (whole rest : List ℕ) → rest ≡ [] → Wrote a b whole rest → Appends a whole b
+pub wrote_all : (a b : Told) (whole rest : List ℕ) → rest ≡ [] → Wrote a b whole rest → Receives a whole b
 wrote_all a b whole rest none w =
     let all : whole ≡ w.done = w.split ∙ ap (λ l. w.done ++ l) none ∙ append-nil w.done in
-    let P : List ℕ → Type 0 = λ l. Appends a l b in
+    let P : List ℕ → Type 0 = λ l. Receives a l b in
     subst P (sym all) w.given
 
 -- what follows from what a call ensures at each of its results

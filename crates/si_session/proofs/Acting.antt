@@ -15,8 +15,8 @@ use Rattle.si_steps.specs.Replies.{Reply, is_refusal, ok_line, end_line, stats_l
 use Rattle.si_steps.specs.Commands.{Command, add, remove, query, stats, IsDecided, IsSilent}
 use Rattle.si_steps.specs.Steps.{Performs, right, memory_at_once, memory_behind, performed}
 use Rattle.si_steps.specs.Runs.{ended}
-use Rattle.si_io.specs.Content.{Told, Appends, AppendsPrefix}
-use Rattle.si_io.proofs.Content.{Appends_then, AppendsPrefix_then, AppendsPrefix_more}
+use Rattle.si_io.specs.Content.{Told, Receives, ReceivesPrefix}
+use Rattle.si_io.proofs.Content.{Receives_then, ReceivesPrefix_then, ReceivesPrefix_more}
 use Rattle.si_session.specs.Commands.{IsPerformed}
 use Rattle.si_session.specs.Hits.{hits}
 use Rattle.si_session.specs.Scan.{clauses_lines}
@@ -50,19 +50,19 @@ some_line [] line e = cc
 some_line (x ∷ lines) line e = cc
 
 -- it was written behind the others
-all_behind : (a b c : Told) (lines : List Bytes) (line : Bytes) → Appends a (ended lines) b → Appends b (ended (line ∷ [])) c → Appends a (ended (lines ++ line ∷ [])) c
-all_behind a b c lines line h k = subst (λ w. Appends a w c) (sym (ended-append lines (line ∷ []))) (Appends_then a b c (ended lines) (ended (line ∷ [])) h k)
+all_behind : (a b c : Told) (lines : List Bytes) (line : Bytes) → Receives a (ended lines) b → Receives b (ended (line ∷ [])) c → Receives a (ended (lines ++ line ∷ [])) c
+all_behind a b c lines line h k = subst (λ w. Receives a w c) (sym (ended-append lines (line ∷ []))) (Receives_then a b c (ended lines) (ended (line ∷ [])) h k)
 
-pub written_behind : (o : Stepped) (a b c : Told) (lines : List Bytes) (line : Bytes) → Appends a (ended lines) b → Writes o (line ∷ []) b c → Writes o (lines ++ line ∷ []) a c
+pub written_behind : (o : Stepped) (a b c : Told) (lines : List Bytes) (line : Bytes) → Receives a (ended lines) b → Writes o (line ∷ []) b c → Writes o (lines ++ line ∷ []) a c
 written_behind Answered a b c lines line h w = (all_behind a b c lines line h w.0, some_line lines line, refusal-last lines line ∙ w.2)
 written_behind Refused a b c lines line h w = (all_behind a b c lines line h w.0, refusal-last lines line ∙ w.1)
 written_behind Silent a b c lines line h w = absurd (some_line [] line w.1)
 written_behind SinkFailed a b c lines line h w =
-    subst (λ l. AppendsPrefix a l c) (sym (ended-append lines (line ∷ []))) (AppendsPrefix_then a b c (ended lines) (ended (line ∷ [])) h w)
+    subst (λ l. ReceivesPrefix a l c) (sym (ended-append lines (line ∷ []))) (ReceivesPrefix_then a b c (ended lines) (ended (line ∷ [])) h w)
 
 -- the sink failed before it
-failed_before : (a b : Told) (lines : List Bytes) (line : Bytes) → AppendsPrefix a (ended lines) b → Writes SinkFailed (lines ++ line ∷ []) a b
-failed_before a b lines line h = subst (λ w. AppendsPrefix a w b) (sym (ended-append lines (line ∷ []))) (AppendsPrefix_more a b (ended lines) (ended (line ∷ [])) h)
+failed_before : (a b : Told) (lines : List Bytes) (line : Bytes) → ReceivesPrefix a (ended lines) b → Writes SinkFailed (lines ++ line ∷ []) a b
+failed_before a b lines line h = subst (λ w. ReceivesPrefix a w b) (sym (ended-append lines (line ∷ []))) (ReceivesPrefix_more a b (ended lines) (ended (line ∷ [])) h)
 
 -- ---- an answer
 module _ (limits : Limits) (p : Pattern) (state : List Clause) where
@@ -72,14 +72,14 @@ module _ (limits : Limits) (p : Pattern) (state : List Clause) where
   performs : (n : ℕ) → n ≡ length (clauses_lines p state) → Performs limits (query Instances p) state (whole n) state
   performs n e = (hits p (state_entries state), hits_answer p (state_entries state), sym (reply_is p state n e), refl)
 
-  pub answers : (o : Stepped) (n : ℕ) (a b c : Told) → n ≡ length (clauses_lines p state) → Appends a (ended (clauses_lines p state)) b
+  pub answers : (o : Stepped) (n : ℕ) (a b c : Told) → n ≡ length (clauses_lines p state) → Receives a (ended (clauses_lines p state)) b
       → Writes o (end_line n ∷ []) b c → HasPerformed (Performs limits (query Instances p) state) state state o a c
   answers o n a b c e h w = rightly (whole n) (performs n e) (written_behind o a b c (clauses_lines p state) (end_line n) h w)
 
-  pub fails_in_hits : (a b : Told) → AppendsPrefix a (ended (clauses_lines p state)) b → HasPerformed (Performs limits (query Instances p) state) state state SinkFailed a b
+  pub fails_in_hits : (a b : Told) → ReceivesPrefix a (ended (clauses_lines p state)) b → HasPerformed (Performs limits (query Instances p) state) state state SinkFailed a b
   fails_in_hits a b h = rightly (whole (length (clauses_lines p state))) (performs _ refl) (failed_before a b (clauses_lines p state) (end_line (length (clauses_lines p state))) h)
 
-  pub runs_out : (o : Stepped) (a b c : Told) (front back : List Bytes) → clauses_lines p state ≡ front ++ back → Appends a (ended front) b
+  pub runs_out : (o : Stepped) (a b c : Told) (front back : List Bytes) → clauses_lines p state ≡ front ++ back → Receives a (ended front) b
       → Writes o (memory_line ∷ []) b c → HasPerformed (Performs limits (query Instances p) state) state state o a c
   runs_out o a b c front back e h w =
       let n = length (clauses_lines p state) in

@@ -9,7 +9,7 @@ use Rattle.si_steps.specs.Replies.{Reply, is_refusal, memory_line}
 use Rattle.si_steps.specs.Steps.{Step}
 use Rattle.si_steps.specs.Runs.{ended}
 use Rattle.si_defs.specs.Codes.{clause_code}
-use Rattle.si_io.specs.Content.{Told, Appends, AppendsPrefix}
+use Rattle.si_io.specs.Content.{Told, Receives, ReceivesPrefix}
 use Rattle.si_index.specs.Kept.{Kept}
 use Rattle.si_session.specs.declared.stepped.Stepped.{Stepped}
 use Rattle.si_session.specs.declared.stepped.Stepped.TheVariants.{Answered, Refused, Silent, SinkFailed}
@@ -24,10 +24,10 @@ state_code = code_by (List Clause × Limits) (coded× (coded_list clause_code) l
 
 -- what stands in the sink behind a step with this reply
 abbrev pub Writes : Stepped → Reply → Told → Told → Type 0
-Writes Answered reply before after = Appends before (ended reply) after × (reply ≡ [] → ⊥) × IsFalse (is_refusal reply)
-Writes Refused reply before after = Appends before (ended reply) after × IsTrue (is_refusal reply)
-Writes Silent reply before after = Appends before (ended reply) after × (reply ≡ [])
-Writes SinkFailed reply before after = AppendsPrefix before (ended reply) after
+Writes Answered reply before after = Receives before (ended reply) after × (reply ≡ [] → ⊥) × IsFalse (is_refusal reply)
+Writes Refused reply before after = Receives before (ended reply) after × IsTrue (is_refusal reply)
+Writes Silent reply before after = Receives before (ended reply) after × (reply ≡ [])
+Writes SinkFailed reply before after = ReceivesPrefix before (ended reply) after
 
 -- The call went one step: the state is the one behind it, and its reply was written, or at a sink's
 -- fault a prefix of it.

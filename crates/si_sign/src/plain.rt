@@ -191,7 +191,8 @@ fn kept_symbols<'a>(alloc: Global, clauses: &'a [Clause]) -> Result<Vec<&'a Sym>
 /// The first of these symbols that clashes with a known one or an earlier one.
 fn first_clash(known: &[&Sym], own: &[&Sym]) -> Option<Clash>
     requires { length own.now ≤ MOST_OCCURRENCES }
-    ensures clash { IfSome result (NamesFirstClash (lent_symbols known.now) (lent_symbols own.now)) }
+    ensures clash { IfSome result (NamesFirstClash (lent_symbols known.now)
+        (lent_symbols own.now)) }
     ensures agree { IfNone result (AllAgree (lent_symbols known.now) (lent_symbols own.now)) }
 {
     for i in 0..own.len() {

@@ -3,7 +3,8 @@ use Rattle.std.proofs.Common.{◌≡◌, ℕ, ◌+◌, ◌<◌, ◌≤◌, List,
 use Rattle.si_defs.specs.Bytes.{Bytes}
 use Rattle.si_defs.specs.Clauses.{Clause}
 use Rattle.si_steps.specs.declared.limits.Limits.{Limits}
-use Rattle.si_io.specs.Content.{Told, prepend_told, Takes, IsAtEnd}
+use Rattle.si_io.specs.Content.{Told, prepend_told, Takes}
+use Rattle.std.specs.Io.KnownBytes.{IsAtEnd}
 use Rattle.si_io.proofs.Content.{Takes_none, Takes_then, prepend_told-nil}
 use Rattle.stindex.specs.declared.status.Status.TheVariants.{Ended, SourceFault, SinkFault, Memory, SessionLimit}
 use Rattle.stindex.specs.Serve.{Serves}

@@ -7,12 +7,12 @@ use Rattle.si_steps.specs.declared.limits.Limits.{Limits}
 use Rattle.si_steps.specs.Replies.{Reply}
 use Rattle.si_steps.specs.Steps.{Step}
 use Rattle.si_steps.specs.Runs.{ended, IsOneLine, Splits, lines_at_end, Run}
-use Rattle.si_io.specs.Content.{Told, Appends}
-use Rattle.si_io.proofs.Content.{Appends_then, AppendsPrefix_then, append_told-nil}
+use Rattle.si_io.specs.Content.{Told, Receives}
+use Rattle.si_io.proofs.Content.{Receives_then, ReceivesPrefix_then, append_told-nil}
 use Rattle.si_session.specs.Session.{State, Writes, Steps}
 use Rattle.si_session.specs.declared.stepped.Stepped.{Stepped}
 use Rattle.si_session.specs.declared.stepped.Stepped.TheVariants.{Answered, Refused, Silent, SinkFailed}
-use Rattle.stindex.specs.Progress.{shown, ActsOnLine, Breaks, Progress, Advances, Feeds, Failed, Fails, Closes, Cuts}
+use Rattle.stindex.specs.Progress.{shown, ActsOnLine, Breaks, Progress, Advances, Feeds, BrokenOff, Fails, Closes, Cuts}
 use Rattle.stindex.proofs.Steps.{shown_step}
 use Rattle.std.specs.Prelude.{◌==◌, Some, None}
 use Rattle.std.specs.List.{position}
@@ -73,7 +73,7 @@ Advances_line limits old new held now after acts before taken p =
       splits = Splits_line taken p.lines p.rest p.splits;
       holds = sym (shown-nil limits);
       run = Run_more limits [] old new p.lines p.rest p.output acts.reply p.run step;
-      written = Appends_then before now after p.output (ended acts.reply) p.written acts.written;
+      written = Receives_then before now after p.output (ended acts.reply) p.written acts.written;
     }
 
 -- ---- faults of the sink
@@ -92,14 +92,14 @@ Fails_line limits bytes old new held now after breaks before taken p =
         front = refl;
         output = p.output ++ ended breaks.reply;
         right = (new, Run_more limits [] old new p.lines p.rest p.output breaks.reply p.run step);
-        written = AppendsPrefix_then before now after p.output (ended breaks.reply) p.written breaks.written;
+        written = ReceivesPrefix_then before now after p.output (ended breaks.reply) p.written breaks.written;
       };
     }
 
 pub Fails_then : (limits : Limits) (bs cs : Bytes) (s t : List Clause) (f g : Bytes) (x y z : Told)
     → Advances limits bs s f x t g y → Fails limits cs t g y z → Fails limits (bs ++ cs) s f x z
 Fails_then limits bs cs s t f g x y z first second before taken p =
-    subst (λ (b : Bytes). Failed limits before b z) (append_assoc taken bs cs) (second before (taken ++ bs) (first before taken p))
+    subst (λ (b : Bytes). BrokenOff limits before b z) (append_assoc taken bs cs) (second before (taken ++ bs) (first before taken p))
 
 -- ---- bytes from line feed to line feed
 -- a line was acted on that ends in the rest
@@ -164,7 +164,7 @@ Closes_line limits old new held now after some acts before taken p =
       all = record {
         output = output;
         right = (new, subst (λ (ls : List Bytes). Run limits [] ls output new) (sym same) (Run_more limits [] old new p.lines p.rest p.output acts.reply p.run step));
-        written = Appends_then before now after p.output (ended acts.reply) p.written acts.written;
+        written = Receives_then before now after p.output (ended acts.reply) p.written acts.written;
       };
     }
 
@@ -183,12 +183,12 @@ Cuts_line limits old new held now after some breaks before taken p =
         front = append-nil (p.lines ++ p.rest ∷ []) ∙ sym same;
         output = p.output ++ ended breaks.reply;
         right = (new, Run_more limits [] old new p.lines p.rest p.output breaks.reply p.run step);
-        written = AppendsPrefix_then before now after p.output (ended breaks.reply) p.written breaks.written;
+        written = ReceivesPrefix_then before now after p.output (ended breaks.reply) p.written breaks.written;
       };
     }
 
 -- ---- what one step wrote
-written_whole : (outcome : Stepped) (reply : Reply) (now after : Told) → (outcome ≡ SinkFailed → ⊥) → Writes outcome reply now after → Appends now (ended reply) after
+written_whole : (outcome : Stepped) (reply : Reply) (now after : Told) → (outcome ≡ SinkFailed → ⊥) → Writes outcome reply now after → Receives now (ended reply) after
 written_whole Answered reply now after whole w = w.0
 written_whole Refused reply now after whole w = w.0
 written_whole Silent reply now after whole w = w.0

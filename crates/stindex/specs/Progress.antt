@@ -6,7 +6,7 @@ use Rattle.si_steps.specs.declared.limits.Limits.{Limits}
 use Rattle.si_steps.specs.Replies.{Reply}
 use Rattle.si_steps.specs.Steps.{Step}
 use Rattle.si_steps.specs.Runs.{ended, Splits, lines_at_end, Run}
-use Rattle.si_io.specs.Content.{Told, Appends, AppendsPrefix, Takes}
+use Rattle.si_io.specs.Content.{Told, Receives, ReceivesPrefix, Takes}
 use Rattle.stindex.specs.Serve.{WritesAll, WritesPart}
 
 -- What is held of a line that was begun: its bytes up to one more than a line may have.
@@ -17,13 +17,13 @@ shown limits rest = take (limits.line + 1) rest
 pub record ActsOnLine (limits : Limits) (old new : List Clause) (line : Bytes) (before after : Told) : Type 0 where
   pub reply : Reply
   pub step : Step limits old line reply new
-  pub written : Appends before (ended reply) after
+  pub written : Receives before (ended reply) after
 
 -- One line was acted on, and its reply, or the front of it, written.
 pub record Breaks (limits : Limits) (old new : List Clause) (line : Bytes) (before after : Told) : Type 0 where
   pub reply : Reply
   pub step : Step limits old line reply new
-  pub written : AppendsPrefix before (ended reply) after
+  pub written : ReceivesPrefix before (ended reply) after
 
 -- From the start on, where `before` was written, these bytes were acted on: the lines that are
 -- whole in them gave their output and the kept clauses, and of the rest, a line that was begun, the
@@ -35,7 +35,7 @@ pub record Progress (limits : Limits) (before : Told) (taken : Bytes) (clauses :
   pub splits : Splits taken lines rest
   pub holds : held ≡ shown limits rest
   pub run : Run limits [] lines output clauses
-  pub written : Appends before output after
+  pub written : Receives before output after
 
 -- These bytes carry every progress on.
 abbrev pub Advances : Limits → (bytes : Bytes) (old : List Clause) (held : Bytes) (now : Told) (new : List Clause) (holds : Bytes) (after : Told) → Type 0
@@ -49,7 +49,7 @@ pub record Feeds (limits : Limits) (bytes : Bytes) (old : List Clause) (held : B
   pub advances : Advances limits done old held now new holds after
 
 -- The sink failed at one of the lines that are whole in the bytes taken.
-pub record Failed (limits : Limits) (before : Told) (taken : Bytes) (after : Told) : Type 0 where
+pub record BrokenOff (limits : Limits) (before : Told) (taken : Bytes) (after : Told) : Type 0 where
   pub lines : List Bytes
   pub rest : Bytes
   pub splits : Splits taken lines rest
@@ -58,7 +58,7 @@ pub record Failed (limits : Limits) (before : Told) (taken : Bytes) (after : Tol
 -- These bytes end every progress by a fault of the sink.
 abbrev pub Fails : Limits → (bytes : Bytes) (old : List Clause) (held : Bytes) (now after : Told) → Type 0
 Fails limits bytes old held now after =
-    (before : Told) (taken : Bytes) → Progress limits before taken old held now → Failed limits before (taken ++ bytes) after
+    (before : Told) (taken : Bytes) → Progress limits before taken old held now → BrokenOff limits before (taken ++ bytes) after
 
 -- The input ended behind the bytes taken, and every line was acted on.
 pub record Closed (limits : Limits) (before : Told) (taken : Bytes) (after : Told) : Type 0 where

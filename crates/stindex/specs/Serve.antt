@@ -4,7 +4,8 @@ use Rattle.std.specs.Prelude.{◌≡◌, ℕ, ◌<◌, ◌≤◌, ◌⊎◌, Lis
 use Rattle.si_defs.specs.Bytes.{Bytes}
 use Rattle.si_steps.specs.declared.limits.Limits.{Limits}
 use Rattle.si_steps.specs.Runs.{Splits, lines_at_end, IsOutput}
-use Rattle.si_io.specs.Content.{Told, Appends, AppendsPrefix, Takes, IsAtEnd}
+use Rattle.si_io.specs.Content.{Told, Receives, ReceivesPrefix, Takes}
+use Rattle.std.specs.Io.KnownBytes.{IsAtEnd}
 use Rattle.si_io.specs.Faults.{Rose}
 use Rattle.stindex.specs.declared.status.Status.{Status}
 use Rattle.stindex.specs.declared.status.Status.TheVariants.{Ended, Refused, Usage, SourceFault, SinkFault, Memory, SessionLimit}
@@ -13,7 +14,7 @@ use Rattle.stindex.specs.declared.status.Status.TheVariants.{Ended, Refused, Usa
 pub record WritesAll (limits : Limits) (lines : List Bytes) (before after : Told) : Type 0 where
   pub output : Bytes
   pub right : IsOutput limits lines output
-  pub written : Appends before output after
+  pub written : Receives before output after
 
 -- A prefix of an output of the first of these lines was written, and nothing else.
 pub record WritesPart (limits : Limits) (lines : List Bytes) (before after : Told) : Type 0 where
@@ -22,7 +23,7 @@ pub record WritesPart (limits : Limits) (lines : List Bytes) (before after : Tol
   pub front : done ++ others ≡ lines
   pub output : Bytes
   pub right : IsOutput limits done output
-  pub written : AppendsPrefix before output after
+  pub written : ReceivesPrefix before output after
 
 -- The end of the input was met, before as many bytes were taken as a session may have.
 pub record MetEnd (limits : Limits) (taken : Bytes) (left : Option Bytes) : Type 0 where

@@ -57,7 +57,7 @@ impl MemorySink {
 }
 
 impl Sink for MemorySink {
-    ghost use Rattle.si_io.specs.Content.{Appends, TakesFitting};
+    ghost use Rattle.si_io.specs.Content.{Receives, TakesFitting};
     ghost use Rattle.si_io.specs.Faults.{CountsErrors, HasWriteCause, raised};
     ghost use Rattle.si_io.specs.Memory.{sink_told, sink_bytes, sink_room, sink_sure, sink_chunk, sink_failing, sink_calls, sink_faults, SameSink};
     ghost use Rattle.si_io.specs.Plan.{is_listed};
@@ -70,7 +70,7 @@ impl Sink for MemorySink {
     /// room is too small.
     fn write(&mut self, bytes: &[u8]) -> Result<usize, Failed>
         ensures bound { IfOk result (λ n. n ≤ length bytes.now) }
-        ensures taken { IfOk result (λ n. Appends (sink_told self.old) (take n bytes.now)
+        ensures taken { IfOk result (λ n. Receives (sink_told self.old) (take n bytes.now)
             (sink_told self.new)) }
         ensures kept { OnErr result (sink_told self.new ≡ sink_told self.old) }
         ensures fits { TakesFitting (sink_sure self.old) bytes.now result }

@@ -39,7 +39,8 @@ impl MemorySource {
 }
 
 impl Source for MemorySource {
-    ghost use Rattle.si_io.specs.Content.{Takes, IsAtEnd};
+    ghost use Rattle.std.specs.Io.KnownBytes.{IsAtEnd};
+    ghost use Rattle.si_io.specs.Content.{Takes};
     ghost use Rattle.si_io.specs.Faults.{CountsErrors, HasCause, raised};
     ghost use Rattle.si_io.specs.Memory.{source_left, source_chunk, source_failing, source_calls, source_faults, source_may_fail, SameSource};
     ghost use Rattle.si_io.specs.Plan.{is_listed};

@@ -1,6 +1,6 @@
 // Names, roles and files.
 ghost use Rattle.std.specs.Prelude.{◌≡◌, IfOk};
-ghost use Rattle.si_parse.specs.GrammarRules.{AreNames, IsFile, IsNameToken, IsRole};
+ghost use Rattle.si_parse.specs.GrammarRules.{AreNames, IsFileToken, IsNameToken, IsRole};
 ghost use Rattle.si_parse.specs.Meaning.{names_of};
 ghost use Rattle.si_parse.specs.Parsing.{Anything, NoName, Reads};
 ghost use Rattle.si_term.specs.Meaning.{name_of};
@@ -83,7 +83,7 @@ pub fn file<'t, 'b>(
     alloc: Global,
     tokens: &'t [Lexeme<'b>],
 ) -> Result<Found<'t, 'b, Text>, AllocError>
-    ensures { IfOk result (Reads (λ t. t) IsFile Anything tokens.now) }
+    ensures { IfOk result (Reads (λ t. t) IsFileToken Anything tokens.now) }
 {
     match tokens {
         [first, rest @ ..] => match first.kind {

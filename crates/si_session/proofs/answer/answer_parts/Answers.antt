@@ -1,7 +1,7 @@
 use Rattle.std.proofs.Common.{◌≡◌, ◌+◌, length, map, ap, sym, subst, arith}
 use Rattle.std.specs.Prelude.{OnOk}
 use Rattle.si_steps.specs.Runs.{ended}
-use Rattle.si_io.specs.Content.{Appends}
+use Rattle.si_io.specs.Content.{Receives}
 use Rattle.si_io.proofs.Content.{append_told-nil}
 use Rattle.si_term.specs.Terms.{term_of}
 use Rattle.si_term.specs.Meaning.{clause_of}
@@ -12,7 +12,7 @@ use Rattle.si_session.proofs.answer.answer_parts.Goals as goal
 pub returns-in_default-clause-told : goal.returns-in_default-clause-told
 returns-in_default-clause-told g c =
     let none = variable_atom_lines (term_of c.args.query.now) (clause_of c.args.clause.now) c.args.number c.args.literal.now _ c.in_default.is in
-    subst (λ l. Appends (g.K.Sink.written c.args.sink.now) (ended l) (g.K.Sink.written c.args.sink.now)) (sym none) (sym (append_told-nil (g.K.Sink.written c.args.sink.now)))
+    subst (λ l. Receives (g.K.Sink.written c.args.sink.now) (ended l) (g.K.Sink.written c.args.sink.now)) (sym none) (sym (append_told-nil (g.K.Sink.written c.args.sink.now)))
 
 pub returns-in_default-clause-counted : goal.returns-in_default-clause-counted
 returns-in_default-clause-counted g c =

@@ -1,7 +1,7 @@
 use Rattle.std.proofs.Common.{◌≡◌, ◌+◌, length, ap, sym, subst, arith}
 use Rattle.std.specs.Prelude.{OnOk}
 use Rattle.si_steps.specs.Runs.{ended}
-use Rattle.si_io.specs.Content.{Appends}
+use Rattle.si_io.specs.Content.{Receives}
 use Rattle.si_io.proofs.Content.{append_told-nil}
 use Rattle.si_term.specs.Meaning.{literal_of, clause_of}
 use Rattle.si_session.specs.Telling.{Tells}
@@ -11,7 +11,7 @@ use Rattle.si_session.proofs.answer.answer_whole.Goals as goal
 pub returns-then-wanted-literal-clause-told : goal.returns-then-wanted-literal-clause-told
 returns-then-wanted-literal-clause-told g c =
     let none = other_sign_lines (literal_of c.args.wanted.now) (clause_of c.args.clause.now) c.args.number (literal_of c.args.literal.now) (signs_differ c.args.wanted.now.positive c.args.literal.now.positive c.if-wanted-literal.true) in
-    subst (λ l. Appends (g.K.Sink.written c.args.sink.now) (ended l) (g.K.Sink.written c.args.sink.now)) (sym none) (sym (append_told-nil (g.K.Sink.written c.args.sink.now)))
+    subst (λ l. Receives (g.K.Sink.written c.args.sink.now) (ended l) (g.K.Sink.written c.args.sink.now)) (sym none) (sym (append_told-nil (g.K.Sink.written c.args.sink.now)))
 
 pub returns-then-wanted-literal-clause-counted : goal.returns-then-wanted-literal-clause-counted
 returns-then-wanted-literal-clause-counted g c =

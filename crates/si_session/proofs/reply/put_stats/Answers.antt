@@ -1,8 +1,8 @@
 use Rattle.std.proofs.Common.{rules, ◌++◌, subst}
 use Rattle.std.specs.Prelude.{codes, decimal}
-use Rattle.si_io.specs.Content.{AppendsPrefix}
+use Rattle.si_io.specs.Content.{ReceivesPrefix}
 use Rattle.si_io.specs.Puts.{Puts}
-use Rattle.si_io.proofs.Content.{Puts_then, AppendsPrefix_more}
+use Rattle.si_io.proofs.Content.{Puts_then, ReceivesPrefix_more}
 use Rattle.si_term.proofs.Results.{on_err}
 use Rattle.si_session.proofs.ReplyTexts.{stats_is}
 use Rattle.si_session.proofs.reply.put_stats.Goals as goal
@@ -10,9 +10,9 @@ use Rattle.si_session.proofs.reply.put_stats.Goals as goal
 pub returns-in_err-put_number-clause-text : goal.returns-in_err-put_number-clause-text
 returns-in_err-put_number-clause-text g c = record {
   all = search rules;
-  part = on_err _ (subst (λ t. AppendsPrefix (g.K.Sink.written c.args.sink.now) t (g.K.Sink.written c.put_number.new.sink))
+  part = on_err _ (subst (λ t. ReceivesPrefix (g.K.Sink.written c.args.sink.now) t (g.K.Sink.written c.put_number.new.sink))
       (stats_is c.args.stats c.from.result c.args.stats.symbols c.from.ensures (λ i. c.args.stats.symbols))
-      (AppendsPrefix_more _ _ (codes "clauses " ++ decimal c.from.result) _ c.in_err-put_number.ensures.text.part));
+      (ReceivesPrefix_more _ _ (codes "clauses " ++ decimal c.from.result) _ c.in_err-put_number.ensures.text.part));
 }
 
 pub returns-clause-text : goal.returns-clause-text

@@ -2,7 +2,7 @@ use Rattle.std.proofs.Common.{◌≡◌, ◌+◌, ◌≤◌, [], ◌∷◌, ◌+
 use Rattle.std.specs.Prelude.{Err, OnOk}
 use Rattle.si_steps.specs.Runs.{ended}
 use Rattle.si_defs.specs.Terms.{row, size, sizes, occurrences_from}
-use Rattle.si_io.specs.Content.{Appends}
+use Rattle.si_io.specs.Content.{Receives}
 use Rattle.si_io.proofs.Content.{append_told-nil}
 use Rattle.si_term.specs.Terms.{term_of}
 use Rattle.si_term.specs.Meaning.{clause_of, name_of}
@@ -59,7 +59,7 @@ search_arguments-returns-clause-counted g t c =
 pub search_term-returns-in_default-clause-told : goal.search_term-returns-in_default-clause-told
 search_term-returns-in_default-clause-told g t c =
     let none = variable_lines (term_of c.args.query.now) (clause_of c.args.clause.now) c.args.number c.args.scratch.now.path.items c.args.entry.now _ c.in_default.is in
-    subst (λ l. Appends (g.K.Sink.written c.args.sink.now) (ended l) (g.K.Sink.written c.args.sink.now)) (sym none) (sym (append_told-nil (g.K.Sink.written c.args.sink.now)))
+    subst (λ l. Receives (g.K.Sink.written c.args.sink.now) (ended l) (g.K.Sink.written c.args.sink.now)) (sym none) (sym (append_told-nil (g.K.Sink.written c.args.sink.now)))
 
 pub search_term-returns-in_default-clause-counted : goal.search_term-returns-in_default-clause-counted
 search_term-returns-in_default-clause-counted g t c =

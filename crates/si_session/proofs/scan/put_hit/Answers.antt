@@ -1,8 +1,8 @@
 use Rattle.std.proofs.Common.{◌++◌, rules}
 use Rattle.si_defs.specs.Bytes.{Bytes}
 use Rattle.si_defs.specs.Printing.{place_text}
-use Rattle.si_io.specs.Content.{Told, Appends, AppendsPrefix}
-use Rattle.si_io.proofs.Content.{Appends_then, AppendsPrefix_then, AppendsPrefix_more, Puts_then}
+use Rattle.si_io.specs.Content.{Told, Receives, ReceivesPrefix}
+use Rattle.si_io.proofs.Content.{Receives_then, ReceivesPrefix_then, ReceivesPrefix_more, Puts_then}
 use Rattle.si_term.specs.Meaning.{name_of}
 use Rattle.si_session.specs.Bound.{bindings_of}
 use Rattle.si_session.specs.Signs.{sign_text, matched_text}
@@ -12,12 +12,12 @@ use Rattle.si_term.proofs.Results.{on_err}
 use Rattle.si_session.proofs.scan.put_hit.Goals as goal
 
 -- the second of four parts was broken off
-second : (a b c : Told) (p q r s : Bytes) → Appends a p b → AppendsPrefix b q c → AppendsPrefix a (((p ++ q) ++ r) ++ s) c
-second a b c p q r s h k = AppendsPrefix_more a c ((p ++ q) ++ r) s (AppendsPrefix_more a c (p ++ q) r (AppendsPrefix_then a b c p q h k))
+second : (a b c : Told) (p q r s : Bytes) → Receives a p b → ReceivesPrefix b q c → ReceivesPrefix a (((p ++ q) ++ r) ++ s) c
+second a b c p q r s h k = ReceivesPrefix_more a c ((p ++ q) ++ r) s (ReceivesPrefix_more a c (p ++ q) r (ReceivesPrefix_then a b c p q h k))
 
 -- the third
-third : (a b c d : Told) (p q r s : Bytes) → Appends a p b → Appends b q c → AppendsPrefix c r d → AppendsPrefix a (((p ++ q) ++ r) ++ s) d
-third a b c d p q r s h k l = AppendsPrefix_more a d ((p ++ q) ++ r) s (AppendsPrefix_then a c d (p ++ q) r (Appends_then a b c p q h k) l)
+third : (a b c d : Told) (p q r s : Bytes) → Receives a p b → Receives b q c → ReceivesPrefix c r d → ReceivesPrefix a (((p ++ q) ++ r) ++ s) d
+third a b c d p q r s h k l = ReceivesPrefix_more a d ((p ++ q) ++ r) s (ReceivesPrefix_then a c d (p ++ q) r (Receives_then a b c p q h k) l)
 
 pub returns-in_err-put_sign-clause-text : goal.returns-in_err-put_sign-clause-text
 unfolding ended_hit_line
@@ -43,5 +43,5 @@ returns-clause-text g c =
     let place = place_text (name_of c.args.name.now) (record { literal = c.args.number; path = c.args.path.now }) in
     let list = matched_text (bindings_of c.args.bindings.now) in
     Puts_then c.put_sign-2.result _ _ _ (place ++ sign_text Space ++ list) (sign_text LineFeed)
-    (Appends_then _ _ _ (place ++ sign_text Space) list (Appends_then _ _ _ place (sign_text Space) c.in_ok-put_place.ensures.text.all c.in_ok-put_sign.ensures.text.all) c.in_ok-put_solution.ensures.text.all)
+    (Receives_then _ _ _ (place ++ sign_text Space) list (Receives_then _ _ _ place (sign_text Space) c.in_ok-put_place.ensures.text.all c.in_ok-put_sign.ensures.text.all) c.in_ok-put_solution.ensures.text.all)
     c.put_sign-2.ensures.text

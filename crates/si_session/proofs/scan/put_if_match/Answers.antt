@@ -1,7 +1,7 @@
 use Rattle.std.proofs.Common.{◌≡◌, [], ◌∷◌, length, ap, sym, ◌∙◌, subst, arith}
 use Rattle.std.specs.Prelude.{Err}
 use Rattle.si_steps.specs.Runs.{ended}
-use Rattle.si_io.specs.Content.{Appends}
+use Rattle.si_io.specs.Content.{Receives}
 use Rattle.si_io.proofs.Content.{append_told-nil}
 use Rattle.si_term.specs.Terms.{term_of}
 use Rattle.si_term.specs.Meaning.{name_of}
@@ -22,7 +22,7 @@ none g c = unmatched_lines _ _ _ (term_of c.args.query.now) (term_of c.args.entr
 
 pub returns-then-not-branch-clause-told : goal.returns-then-not-branch-clause-told
 returns-then-not-branch-clause-told g c =
-    subst (λ l. Appends (g.K.Sink.written c.args.sink.now) (ended l) (g.K.Sink.written c.args.sink.now)) (sym (none g c)) (sym (append_told-nil (g.K.Sink.written c.args.sink.now)))
+    subst (λ l. Receives (g.K.Sink.written c.args.sink.now) (ended l) (g.K.Sink.written c.args.sink.now)) (sym (none g c)) (sym (append_told-nil (g.K.Sink.written c.args.sink.now)))
 
 pub returns-then-not-branch-clause-counted : goal.returns-then-not-branch-clause-counted
 returns-then-not-branch-clause-counted g c = omega (arith, ap length (none g c))
@@ -55,7 +55,7 @@ returns-clause-told g c =
     c.in_ok-matches.field-0 c.clear.ensures c.if-not-branch.false c.in_ok-matches.ensures in
     let same : hit_line (name_of c.args.name.now) c.args.number c.deref.result.now (bindings_of c.as_slice-bindings.result.now) ∷ []
     ≡ hit_line (name_of c.args.name.now) c.args.number c.args.scratch.now.path.items c.matches.new.bindings ∷ [] = cc (c.deref.ensures.value, c.as_slice-bindings.ensures) in
-    subst (λ l. Appends (g.K.Sink.written c.args.sink.now) (ended l) (g.K.Sink.written c.tell_hit.new.sink)) (same ∙ sym line) c.in_ok-tell_hit.ensures.told
+    subst (λ l. Receives (g.K.Sink.written c.args.sink.now) (ended l) (g.K.Sink.written c.tell_hit.new.sink)) (same ∙ sym line) c.in_ok-tell_hit.ensures.told
 
 pub returns-clause-counted : goal.returns-clause-counted
 returns-clause-counted g c =

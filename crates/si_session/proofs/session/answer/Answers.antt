@@ -1,6 +1,6 @@
 use Rattle.std.proofs.Common.{ap, ◌∙◌, subst}
 use Rattle.std.specs.Prelude.{Err}
-use Rattle.si_io.specs.Content.{AppendsPrefix}
+use Rattle.si_io.specs.Content.{ReceivesPrefix}
 use Rattle.si_steps.specs.Runs.{ended}
 use Rattle.si_term.specs.Meaning.{pattern_of}
 use Rattle.si_session.specs.Scan.{clauses_lines}
@@ -20,7 +20,7 @@ returns-in-Err-Sink-clause-acts g c limits same =
     let p = pattern_of c.args.pattern.now in
     let a = g.K.Sink.written c.args.sink.now in
     let b = g.K.Sink.written c.answer_clauses.new.sink in
-    let told : AppendsPrefix a (ended (clauses_lines p c.args.index.now.clauses)) b =
+    let told : ReceivesPrefix a (ended (clauses_lines p c.args.index.now.clauses)) b =
     subst (λ r. Tells r (clauses_lines p c.args.index.now.clauses) a b) (c.in-Err-Sink.is ∙ ap Err c.in-Err-Sink.field-0-is) c.answer_clauses.ensures.told in
     fails_in_hits limits p c.args.index.now.clauses a b told
 

@@ -16,4 +16,5 @@ pub mod OneSample
 pub mod TwoClauses
 pub mod FirstItems
 pub mod OneHarvest
+pub mod OneLoad
 pub mod OneClash

@@ -9,7 +9,7 @@ use Rattle.si_defs.specs.declared.Relation.TheVariants.{Variants}
 use Rattle.si_steps.specs.declared.word.Word.{Word}
 use Rattle.si_steps.specs.declared.word.Word.TheVariants.{Ask}
 use Rattle.si_steps.specs.Words.{command_text, is_built}
-use Rattle.si_steps.specs.Commands.{Command, add, remove, query, stats, command_word, Means, IsUnbuilt}
+use Rattle.si_steps.specs.Commands.{Command, add, load, remove, query, stats, command_word, Means, IsUnbuilt}
 use Rattle.si_steps.proofs.WordLaws.{built_apart}
 use Rattle.si_lex.proofs.TokenLaws.{next_unique}
 use Rattle.si_examples.specs.Entries.{fact, predicate}
@@ -61,6 +61,7 @@ second_of (t ∷ ts) = first_of ts
 pub no_kind_of_pattern : NoKindOfPattern
 unfolding first_of second_of
 no_kind_of_pattern (add c) h = differ 105 97 refl (ap first_of h.whole)
+no_kind_of_pattern (load f) h = differ 105 108 refl (ap first_of h.whole)
 no_kind_of_pattern (remove n) h = differ 105 114 refl (ap first_of h.whole)
 no_kind_of_pattern (query relation (literal_pattern l)) h = differ 102 108 refl (ap second_of h.whole ∙ ap first_of h.spelled.2)
 no_kind_of_pattern (query relation (term_pattern t)) h = differ 102 116 refl (ap second_of h.whole ∙ ap first_of h.spelled.2)

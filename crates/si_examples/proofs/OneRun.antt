@@ -10,6 +10,7 @@ use Rattle.si_state.specs.Answers.{Hit, IsAnswer}
 use Rattle.si_steps.specs.declared.limits.Limits.{Limits}
 use Rattle.si_steps.specs.declared.word.Word.TheVariants.{Add, Ask}
 use Rattle.si_steps.specs.Commands.{IsDecided, IsUnbuilt, Means, add, query}
+use Rattle.si_steps.specs.Loads.{nothing}
 use Rattle.si_steps.specs.Steps.{performed, right}
 use Rattle.si_examples.specs.Entries.{predicate, placed}
 use Rattle.si_examples.specs.Runs.{AddedAndFound}
@@ -63,23 +64,29 @@ answered =
     )
 
 pub added_and_found : AddedAndFound
-added_and_found limits w room = (
+added_and_found limits told w room = (
   clause ∷ [],
   (
     codes "ok 1 1" ∷ [],
+    nothing,
     clause ∷ [],
     codes "c:1 {}\nend 1\n",
+    0,
     right (performed (decided limits first_line (omega arith) first_built) (add clause) added_line
-        (inr (record { free = λ h. h; agree = (tt, tt); room = room; added = refl }, rw (decimal_digit 1 (omega arith)) refl))),
+        (inr (record { free = λ h. h; agree = (tt, tt); room = room; added = refl }, rw (decimal_digit 1 (omega arith)) refl)) refl),
     (
       codes "c:1 {}" ∷ codes "end 1" ∷ [],
+      nothing,
       clause ∷ [],
       [],
+      0,
       right (performed (decided limits second_line (omega arith) second_built) (query Instances (literal_pattern literal)) asked
-          (hit ∷ [], answered, rw (decimal_digit 1 (omega arith)) refl, refl)),
-      (refl, refl),
+          (hit ∷ [], answered, rw (decimal_digit 1 (omega arith)) refl, refl) refl),
+      (refl, refl, refl),
+      refl,
       refl,
     ),
+    refl,
     refl,
   ),
 )

@@ -1,5 +1,5 @@
 -- Which replies a line has.
-use Rattle.std.proofs.Common.{◌≡◌, ℕ, ◌<◌, ◌≤◌, ◌==◌, false, List, [], ◌∷◌, ◌++◌, length, codes, refl, ap, sym, ◌∙◌, subst, ◌⊎◌, inl, inr, arith, Some, None}
+use Rattle.std.proofs.Common.{◌≡◌, ℕ, ◌<◌, ◌≤◌, ◌==◌, false, List, [], ◌∷◌, ◌++◌, length, codes, refl, ap, sym, ◌∙◌, subst, ◌⊎◌, inl, inr, arith, Option, Some, None}
 use Rattle.si_defs.specs.Bytes.{Bytes}
 use Rattle.si_defs.specs.Clauses.{Clause}
 use Rattle.si_defs.specs.Tokens.{Token, lower, NextToken, AreBlanks, Begins, Consists, white}
@@ -10,8 +10,10 @@ use Rattle.si_steps.specs.declared.word.Word.{Word}
 use Rattle.si_steps.specs.declared.word.Word.TheVariants.{Add, Load, Remove, Ask, Stats, Tree}
 use Rattle.si_steps.specs.Words.{command_text}
 use Rattle.si_steps.specs.Replies.{Reply}
-use Rattle.si_steps.specs.Steps.{RightStep, long, later, silent, foreign, wrong, performed, right, memory_at_once, memory_behind, IsNoCommand}
-use Rattle.si_steps.specs.Commands.{IsDecided, IsUnbuilt, AddsForeign, Command, add, remove, query, stats, command_word, AreOperands}
+use Rattle.si_state.specs.Harvest.{Files}
+use Rattle.si_steps.specs.Loads.{Owed}
+use Rattle.si_steps.specs.Steps.{RightStep, long, later, silent, foreign, wrong, performed, loaded, right, memory_at_once, memory_behind, IsNoCommand}
+use Rattle.si_steps.specs.Commands.{IsDecided, IsUnbuilt, AddsForeign, Command, add, load, remove, query, stats, command_word, AreOperands}
 use Rattle.si_steps.proofs.WordLaws.{word_with, word_back, same_word}
 use Rattle.si_lex.proofs.BlankLaws.{skips_nothing}
 use Rattle.si_lex.proofs.TokenLaws.{next_unique, blanks_none, begins_prefix, consists_unique}
@@ -33,48 +35,52 @@ no_command : (line : Bytes) → HasNoWord line → IsNoCommand line
 no_command line h command m = let n = command_next command line m in h (command_word command) n.0 n.1
 
 silent_where : (line : Bytes) → AreBlanks line → HasOneReply line []
-silent_where line b limits state w = (silent (w, b) refl refl, λ other new r. only other new r) where
-  only : (other : Reply) (new : List Clause) → RightStep limits state line other new → (other ≡ []) × (new ≡ state)
-  only other new (long l r n) = absurd (omega arith)
-  only other new (later l r n) = absurd (blank_word line b l.1.word l.1.rest l.1.first)
-  only other new (silent s r n) = (r, n)
-  only other new (foreign l a m r n) = absurd (blank_word line b Add a.3.0 a.3.1)
-  only other new (wrong l s a m r n) = absurd (s (w, b))
-  only other new (performed l command m p) = absurd (no_command line (blank_word line b) command m)
+silent_where line b limits told state w = (silent (w, b) refl refl refl, λ other owed new r. only other owed new r) where
+  only : (other : Reply) (owed : Owed) (new : List Clause) → RightStep limits told state line other owed new → (other ≡ []) × (new ≡ state)
+  only other owed new (long l r d n) = absurd (omega arith)
+  only other owed new (later l r d n) = absurd (blank_word line b l.1.word l.1.rest l.1.first)
+  only other owed new (silent s r d n) = (r, n)
+  only other owed new (foreign l a m r d n) = absurd (blank_word line b Add a.3.0 a.3.1)
+  only other owed new (wrong l s a m r d n) = absurd (s (w, b))
+  only other owed new (performed l command m p d) = absurd (no_command line (blank_word line b) command m)
+  only other owed new (loaded l file m p) = absurd (no_command line (blank_word line b) (load file) m)
 
 later_where : (line : Bytes) → IsUnbuilt line → HasOneReply line (codes "! later" ∷ [])
-later_where line u limits state w = (later (w, u) refl refl, λ other new r. only other new r) where
-  only : (other : Reply) (new : List Clause) → RightStep limits state line other new → (other ≡ codes "! later" ∷ []) × (new ≡ state)
-  only other new (long l r n) = absurd (omega arith)
-  only other new (later l r n) = (r, n)
-  only other new (silent s r n) = absurd (blank_word line s.1 u.word u.rest u.first)
-  only other new (foreign l a m r n) = absurd (l.built u)
-  only other new (wrong l s a m r n) = absurd (l.built u)
-  only other new (performed l command m p) = absurd (l.built u)
+later_where line u limits told state w = (later (w, u) refl refl refl, λ other owed new r. only other owed new r) where
+  only : (other : Reply) (owed : Owed) (new : List Clause) → RightStep limits told state line other owed new → (other ≡ codes "! later" ∷ []) × (new ≡ state)
+  only other owed new (long l r d n) = absurd (omega arith)
+  only other owed new (later l r d n) = (r, n)
+  only other owed new (silent s r d n) = absurd (blank_word line s.1 u.word u.rest u.first)
+  only other owed new (foreign l a m r d n) = absurd (l.built u)
+  only other owed new (wrong l s a m r d n) = absurd (l.built u)
+  only other owed new (performed l command m p d) = absurd (l.built u)
+  only other owed new (loaded l file m p) = absurd (l.built u)
 
 -- a line that is not too long, and begins with no word for later
 decided : (limits : Limits) (line : Bytes) → length line ≤ limits.line → (IsUnbuilt line → ⊥) → IsDecided limits line
 decided limits line w u = record { short = w; built = u }
 
 foreign_where : (line : Bytes) → (IsUnbuilt line → ⊥) → AddsForeign line → IsNoCommand line → HasOneReply line (codes "! language" ∷ [])
-foreign_where line u a m limits state w = (foreign (decided limits line w u) a m refl refl, λ other new r. only other new r) where
-  only : (other : Reply) (new : List Clause) → RightStep limits state line other new → (other ≡ codes "! language" ∷ []) × (new ≡ state)
-  only other new (long l r n) = absurd (omega arith)
-  only other new (later l r n) = absurd (u l.1)
-  only other new (silent s r n) = absurd (blank_word line s.1 Add a.3.0 a.3.1)
-  only other new (foreign l b n r e) = (r, e)
-  only other new (wrong l s b n r e) = absurd (b a)
-  only other new (performed l command n p) = absurd (m command n)
+foreign_where line u a m limits told state w = (foreign (decided limits line w u) a m refl refl refl, λ other owed new r. only other owed new r) where
+  only : (other : Reply) (owed : Owed) (new : List Clause) → RightStep limits told state line other owed new → (other ≡ codes "! language" ∷ []) × (new ≡ state)
+  only other owed new (long l r d n) = absurd (omega arith)
+  only other owed new (later l r d n) = absurd (u l.1)
+  only other owed new (silent s r d n) = absurd (blank_word line s.1 Add a.3.0 a.3.1)
+  only other owed new (foreign l b n r d e) = (r, e)
+  only other owed new (wrong l s b n r d e) = absurd (b a)
+  only other owed new (performed l command n p d) = absurd (m command n)
+  only other owed new (loaded l file n p) = absurd (m (load file) n)
 
 wrong_where : (line : Bytes) → (IsUnbuilt line → ⊥) → (AreBlanks line → ⊥) → (AddsForeign line → ⊥) → IsNoCommand line → HasOneReply line (codes "! syntax" ∷ [])
-wrong_where line u b a m limits state w = (wrong (decided limits line w u) (λ s. b s.1) a m refl refl, λ other new r. only other new r) where
-  only : (other : Reply) (new : List Clause) → RightStep limits state line other new → (other ≡ codes "! syntax" ∷ []) × (new ≡ state)
-  only other new (long l r n) = absurd (omega arith)
-  only other new (later l r n) = absurd (u l.1)
-  only other new (silent s r n) = absurd (b s.1)
-  only other new (foreign l c n r e) = absurd (a c)
-  only other new (wrong l s c n r e) = (r, e)
-  only other new (performed l command n p) = absurd (m command n)
+wrong_where line u b a m limits told state w = (wrong (decided limits line w u) (λ s. b s.1) a m refl refl refl, λ other owed new r. only other owed new r) where
+  only : (other : Reply) (owed : Owed) (new : List Clause) → RightStep limits told state line other owed new → (other ≡ codes "! syntax" ∷ []) × (new ≡ state)
+  only other owed new (long l r d n) = absurd (omega arith)
+  only other owed new (later l r d n) = absurd (u l.1)
+  only other owed new (silent s r d n) = absurd (b s.1)
+  only other owed new (foreign l c n r d e) = absurd (a c)
+  only other owed new (wrong l s c n r d e) = (r, e)
+  only other owed new (performed l command n p d) = absurd (m command n)
+  only other owed new (loaded l file n p) = absurd (m (load file) n)
 
 -- a line that no word of a command begins, and that is not blank
 no_word_where : (line : Bytes) → HasNoWord line → (AreBlanks line → ⊥) → HasOneReply line (codes "! syntax" ∷ [])
@@ -111,10 +117,10 @@ append_empty [] ys e = sym e
 append_empty (x ∷ xs) ys e = cc
 
 pub silent_only : SilentOnly
-silent_only limits state reply new w (right r) = (silent_where (codes " ") one_space limits state w).1 reply new r
-silent_only limits state reply new w (memory_at_once s within r n) = absurd (s (w, one_space))
-silent_only limits state reply new w (memory_behind whole next r within written left e some reply_is n) =
-    absurd (some (append_empty written left (sym ((silent_where (codes " ") one_space limits state w).1 whole next r).0 ∙ e)))
+silent_only limits told state reply owed new w (right r) = (silent_where (codes " ") one_space limits told state w).1 reply owed new r
+silent_only limits told state reply owed new w (memory_at_once s within r d n) = absurd (s (w, one_space))
+silent_only limits told state reply owed new w (memory_behind whole due next r within written left e some reply_is d n) =
+    absurd (some (append_empty written left (sym ((silent_where (codes " ") one_space limits told state w).1 whole due next r).0 ∙ e)))
 
 pub open_comment_line : OpenComment
 open_comment_line =
@@ -125,24 +131,25 @@ pub unbuilt_word : UnbuiltWord
 unbuilt_word = later_where (codes "tree") (record { word = Tree; unbuilt = refl; rest = []; first = next Lower (codes "tree") [] refl })
 
 pub unread_operands : UnreadOperands
-unread_operands = later_where (codes "load '") (record { word = Load; unbuilt = refl; rest = codes " '"; first = next Lower (codes "load") (codes " '") refl })
+unread_operands = later_where (codes "tree '") (record { word = Tree; unbuilt = refl; rest = codes " '"; first = next Lower (codes "tree") (codes " '") refl })
 
-right_too_long : (limits : Limits) (state : List Clause) (line : Bytes) (reply : Reply) (new : List Clause) → limits.line < length line
-    → RightStep limits state line reply new → (reply ≡ codes "! long" ∷ []) × (new ≡ state)
-right_too_long limits state line reply new more (long l r n) = (r, n)
-right_too_long limits state line reply new more (later l r n) = absurd (omega (arith, l.0))
-right_too_long limits state line reply new more (silent s r n) = absurd (omega (arith, s.0))
-right_too_long limits state line reply new more (foreign l a m r n) = absurd (omega (arith, l.short))
-right_too_long limits state line reply new more (wrong l s a m r n) = absurd (omega (arith, l.short))
-right_too_long limits state line reply new more (performed l command m p) = absurd (omega (arith, l.short))
+right_too_long : (limits : Limits) (told : Option Files) (state : List Clause) (line : Bytes) (reply : Reply) (owed : Owed) (new : List Clause) → limits.line < length line
+    → RightStep limits told state line reply owed new → (reply ≡ codes "! long" ∷ []) × (new ≡ state)
+right_too_long limits told state line reply owed new more (long l r d n) = (r, n)
+right_too_long limits told state line reply owed new more (later l r d n) = absurd (omega (arith, l.0))
+right_too_long limits told state line reply owed new more (silent s r d n) = absurd (omega (arith, s.0))
+right_too_long limits told state line reply owed new more (foreign l a m r d n) = absurd (omega (arith, l.short))
+right_too_long limits told state line reply owed new more (wrong l s a m r d n) = absurd (omega (arith, l.short))
+right_too_long limits told state line reply owed new more (performed l command m p d) = absurd (omega (arith, l.short))
+right_too_long limits told state line reply owed new more (loaded l file m p) = absurd (omega (arith, l.short))
 
 pub too_long : TooLong
-too_long limits state line reply new more (right r) = right_too_long limits state line reply new more r
-too_long limits state line reply new more (memory_at_once s within r n) = absurd (omega arith)
-too_long limits state line reply new more (memory_behind whole next r within written left e some reply_is n) = absurd (omega arith)
+too_long limits told state line reply owed new more (right r) = right_too_long limits told state line reply owed new more r
+too_long limits told state line reply owed new more (memory_at_once s within r d n) = absurd (omega arith)
+too_long limits told state line reply owed new more (memory_behind whole due next r within written left e some reply_is d n) = absurd (omega arith)
 
 pub too_long_blank : TooLongBlank
-too_long_blank limits state more = long more refl refl
+too_long_blank limits told state more = long more refl refl refl
 
 first_line : Reply → Bytes
 first_line [] = []
@@ -154,8 +161,8 @@ third_byte bs = 0
 
 pub no_memory : NoMemoryWhereTooLong
 unfolding first_line third_byte
-no_memory limits state line new more s =
-    differ 109 108 refl (ap (λ r. third_byte (first_line r)) (too_long limits state line (codes "! memory" ∷ []) new more s).0)
+no_memory limits told state line owed new more s =
+    differ 109 108 refl (ap (λ r. third_byte (first_line r)) (too_long limits told state line (codes "! memory" ∷ []) owed new more s).0)
 
 -- ---- wrong lines
 pub unknown_word : UnknownWord
@@ -184,6 +191,7 @@ unfolding operands_of first_text
 no_clause line ts c h command m = by command m.spelled.operands m.spelled.spelled (consists_unique (lower (codes "add") ∷ ts) m.tokens line c m.consists ∙ m.spelled.whole) where
   by : (command : Command) (us : List Token) → AreOperands command us → lower (codes "add") ∷ ts ≡ lower (command_text (command_word command)) ∷ us → ⊥
   by (add clause) us s e = texts_differ (first_text ts) (codes "cnf") h (ap (λ vs. first_text (operands_of vs)) e ∙ ap first_text s.6)
+  by (load file) us s e = let k = same_word Add Load (ap first_text e) in cc
   by (remove name) us s e = let k = same_word Add Remove (ap first_text e) in cc
   by (query relation pattern) us s e = let k = same_word Add (Ask relation) (ap first_text e) in cc
   by stats us s e = let k = same_word Add Stats (ap first_text e) in cc

@@ -13,3 +13,4 @@ pub mod Steps
 pub mod Runs
 pub mod Samples
 pub mod Harvests
+pub mod Loads

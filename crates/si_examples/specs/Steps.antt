@@ -1,5 +1,5 @@
 -- Lines, their replies and the state behind them.
-use Rattle.std.specs.Prelude.{◌≡◌, ℕ, ◌≤◌, ◌<◌, length, true, List, [], ◌∷◌, codes}
+use Rattle.std.specs.Prelude.{◌≡◌, ℕ, ◌≤◌, ◌<◌, length, true, List, [], ◌∷◌, codes, Option}
 use Rattle.si_defs.specs.Bytes.{Bytes}
 use Rattle.si_defs.specs.Clauses.{Clause}
 use Rattle.si_defs.specs.Symbols.{Symbol}
@@ -9,6 +9,8 @@ use Rattle.si_state.specs.Signatures.{CountsSymbols}
 use Rattle.si_steps.specs.declared.limits.Limits.{Limits}
 use Rattle.si_steps.specs.Replies.{Reply, is_refusal}
 use Rattle.si_steps.specs.Commands.{add, remove, stats}
+use Rattle.si_state.specs.Harvest.{Files}
+use Rattle.si_steps.specs.Loads.{Owed, nothing}
 use Rattle.si_steps.specs.Steps.{RightStep, Step, Performs}
 use Rattle.si_defs.specs.declared.NameKind.TheVariants as named
 use Rattle.si_defs.specs.Terms as terms
@@ -36,9 +38,9 @@ front_symbol (terms.app s ts) = s
 -- ---- lines that change nothing
 -- where the line is not too long, this reply is right and no other, and the state stays
 abbrev pub HasOneReply : Bytes → Reply → Type 0
-HasOneReply line reply = (limits : Limits) (state : List Clause) → length line ≤ limits.line
-    → RightStep limits state line reply state
-    × ((other : Reply) (new : List Clause) → RightStep limits state line other new → (other ≡ reply) × (new ≡ state))
+HasOneReply line reply = (limits : Limits) (told : Option Files) (state : List Clause) → length line ≤ limits.line
+    → RightStep limits told state line reply nothing state
+    × ((other : Reply) (owed : Owed) (new : List Clause) → RightStep limits told state line other owed new → (other ≡ reply) × (new ≡ state))
 
 -- a line of white space alone has no reply
 abbrev pub SilentLine : Type 0
@@ -50,8 +52,8 @@ SilentComment = HasOneReply (codes "% a") []
 
 -- and white space has none even where memory runs out
 abbrev pub SilentOnly : Type 0
-SilentOnly = (limits : Limits) (state : List Clause) (reply : Reply) (new : List Clause) → 1 ≤ limits.line
-    → Step limits state (codes " ") reply new → (reply ≡ []) × (new ≡ state)
+SilentOnly = (limits : Limits) (told : Option Files) (state : List Clause) (reply : Reply) (owed : Owed) (new : List Clause) → 1 ≤ limits.line
+    → Step limits told state (codes " ") reply owed new → (reply ≡ []) × (new ≡ state)
 
 -- a comment that is not closed is wrong
 abbrev pub OpenComment : Type 0
@@ -63,7 +65,7 @@ UnbuiltWord = HasOneReply (codes "tree") (codes "! later" ∷ [])
 
 -- and what stands behind it is not read: here a quote that is not closed
 abbrev pub UnreadOperands : Type 0
-UnreadOperands = HasOneReply (codes "load '") (codes "! later" ∷ [])
+UnreadOperands = HasOneReply (codes "tree '") (codes "! later" ∷ [])
 
 -- no command has the word `find`
 abbrev pub UnknownWord : Type 0
@@ -92,17 +94,17 @@ LanguageAlone = HasOneReply (codes "add fof.") (codes "! syntax" ∷ [])
 -- ---- lines that are too long
 -- a line that is too long has one reply, whatever it says, and the state stays
 abbrev pub TooLong : Type 0
-TooLong = (limits : Limits) (state : List Clause) (line : Bytes) (reply : Reply) (new : List Clause) → limits.line < length line
-    → Step limits state line reply new → (reply ≡ codes "! long" ∷ []) × (new ≡ state)
+TooLong = (limits : Limits) (told : Option Files) (state : List Clause) (line : Bytes) (reply : Reply) (owed : Owed) (new : List Clause) → limits.line < length line
+    → Step limits told state line reply owed new → (reply ≡ codes "! long" ∷ []) × (new ≡ state)
 
 -- also where it is blank
 abbrev pub TooLongBlank : Type 0
-TooLongBlank = (limits : Limits) (state : List Clause) → limits.line < 2 → RightStep limits state (codes "  ") (codes "! long" ∷ []) state
+TooLongBlank = (limits : Limits) (told : Option Files) (state : List Clause) → limits.line < 2 → RightStep limits told state (codes "  ") (codes "! long" ∷ []) nothing state
 
 -- a line that is too long does not run out of memory
 abbrev pub NoMemoryWhereTooLong : Type 0
-NoMemoryWhereTooLong = (limits : Limits) (state : List Clause) (line : Bytes) (new : List Clause) → limits.line < length line
-    → Step limits state line (codes "! memory" ∷ []) new → ⊥
+NoMemoryWhereTooLong = (limits : Limits) (told : Option Files) (state : List Clause) (line : Bytes) (owed : Owed) (new : List Clause) → limits.line < length line
+    → Step limits told state line (codes "! memory" ∷ []) owed new → ⊥
 
 -- ---- clauses that are added
 -- a clause of a new name is counted, and its three entries

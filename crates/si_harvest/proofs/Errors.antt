@@ -1,6 +1,6 @@
 -- Faults that are passed on.
 use Rattle.std.proofs.Common.{◌≡◌, ℕ, sym, subst, inl, inr}
-use Rattle.std.specs.Prelude.{Result, Ok, Err, IfErr, IsErrAnd}
+use Rattle.std.specs.Prelude.{Bool, Result, Ok, Err, IfErr, IsErrAnd}
 use Rattle.si_state.specs.Harvest.{Fault}
 use Rattle.si_io.specs.Library.{Counts}
 use Rattle.si_harvest.specs.declared.faults.HarvestFault.{HarvestFault}
@@ -20,6 +20,6 @@ pub err_again : {T E : Type 0} (r : Result T E) (e : E) (P : E → Type 0) → I
 err_again (Ok x) e P h p = tt
 err_again (Err x) e P h p = subst P (sym h) p
 
-pub cause_again : {T : Type 0} (r : Result T HarvestFault) (e : HarvestFault) (before now : Counts) → IsErrAnd r (λ x. x ≡ e) → HasFaultCause before now e → HasLoadCause before now r
-cause_again (Ok x) e before now h c = absurd h
-cause_again (Err x) e before now h c = subst (HasFaultCause before now) (sym h) c
+pub cause_again : {T : Type 0} (r : Result T HarvestFault) (e : HarvestFault) (may_fail : Bool) (before now : Counts) → IsErrAnd r (λ x. x ≡ e) → HasFaultCause may_fail before now e → HasLoadCause may_fail before now r
+cause_again (Ok x) e may_fail before now h c = absurd h
+cause_again (Err x) e may_fail before now h c = subst (HasFaultCause may_fail before now) (sym h) c

@@ -9,7 +9,7 @@ use Rattle.si_sign.specs.declared.faults.AddFault.TheVariants as add_fault
 use Rattle.si_sign.specs.declared.faults.Rejected.{Rejected}
 use Rattle.si_sign.specs.Stores.{Rejects}
 use Rattle.si_harvest.specs.declared.faults.HarvestFault.TheVariants as harvest_fault
-use Rattle.si_harvest.specs.Faults.{IsReason, Explains}
+use Rattle.si_harvest.specs.Faults.{IsReason, IsRejection, Explains}
 
 reason : (limit : ℕ) (state : List clauses.Clause) (clause : clauses.Clause) (why : AddFault) → (why ≡ add_fault.Memory → ⊥) → Rejects limit state clause why
     → (refusal : Refusal) × IsReason limit why refusal × Refuses limit state clause refusal
@@ -18,8 +18,9 @@ reason limit state clause (add_fault.Clash c) n r = (misused c.entry r.0 r.1, (r
 reason limit state clause (add_fault.Full m most) n r = (full m, (refl, r.1), r.0)
 reason limit state clause add_fault.Memory n r = absurd (n refl)
 
-pub blames_rejected : (r : Rejected) (limit : ℕ) (state : List clauses.Clause) → (r.why ≡ add_fault.Memory → ⊥) → Rejects limit state (clause_of r.clause) r.why
+pub blames_rejected : (r : Rejected) (limit : ℕ) (state : List clauses.Clause) → clauses.IsSoundClause (clause_of r.clause) → (r.why ≡ add_fault.Memory → ⊥) → Rejects limit state (clause_of r.clause) r.why
     → Explains limit (harvest_fault.Rejected r) (IsRejected limit state (clause_of r.clause))
-blames_rejected r limit state n h =
+blames_rejected r limit state sound n h =
     let w = reason limit state (clause_of r.clause) r.why n h in
-    inr (record { fault = rejected (clause_of r.clause) w.0; told = (w.0, refl, w.1); holds = (refl, w.2) })
+    let why : IsRejection limit r w.0 = record { sound = sound; state = state; refuses = w.2; reason = w.1 } in
+    inr (record { fault = rejected (clause_of r.clause) w.0; told = (w.0, refl, why); holds = (refl, w.2) })

@@ -1,5 +1,5 @@
 // Files that are open, and the fetch of another.
-ghost use Rattle.std.specs.Prelude.{◌≡◌, ◌≤◌, ℕ, Option, length, take, IfOk, IfErr, IfSome, OnOk};
+ghost use Rattle.std.specs.Prelude.{Bool, ◌≡◌, ◌≤◌, ℕ, Option, length, take, IfOk, IfErr, IfSome, OnOk};
 ghost use Rattle.si_defs.specs.Texts.{line_of};
 ghost use Rattle.si_state.specs.Harvest.{MayAsk, IsBarred, IsWithheld};
 ghost use Rattle.si_term.specs.Meaning.{name_of};
@@ -63,7 +63,8 @@ pub fn may_ask(
         name.now) }
     ensures barred { IfErr result (λ e. (limit : ℕ) → Explains limit e (IsBarred
         (bounds_of limits.now) (opened files.now) fetches name.now)) }
-    ensures cause { (counts : Counts) → HasLoadCause counts counts result }
+    ensures cause { (may_fail : Bool) (counts : Counts) → HasLoadCause may_fail counts counts
+        result }
 {
     if has_name(files, name) {
         return Err(HarvestFault::Cycle(Text::from_bytes(alloc, name)?));
@@ -90,7 +91,9 @@ pub fn open<L: Library>(
     ensures withheld { IfErr result (λ e. (limit : ℕ) → Explains limit e (λ fault. IfSome
         (L.files library.old) (λ files. IsWithheld files (bounds_of limits.now) name.now fault))) }
     ensures told { L.files library.new ≡ L.files library.old }
-    ensures cause { HasLoadCause (L.counts library.old) (L.counts library.new) result }
+    ensures same { L.may_fail library.new ≡ L.may_fail library.old }
+    ensures cause { HasLoadCause (L.may_fail library.old) (L.counts library.old)
+        (L.counts library.new) result }
 {
     let name_text = Text::from_bytes(alloc, name)?;
     let mut bytes = Vec::new(alloc);

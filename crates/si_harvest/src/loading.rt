@@ -35,7 +35,9 @@ pub fn expand<L: Library, T: ClauseStore>(
     ensures err { OnErr result (T.clauses store.new ≡ T.clauses store.old) }
     ensures limit { T.limit store.new ≡ T.limit store.old }
     ensures told { L.files library.new ≡ L.files library.old }
-    ensures cause { HasLoadCause (L.counts library.old) (L.counts library.new) result }
+    ensures same { L.may_fail library.new ≡ L.may_fail library.old }
+    ensures cause { HasLoadCause (L.may_fail library.old) (L.counts library.old)
+        (L.counts library.new) result }
 {
     let mut loaded = Loaded {
         clauses: 0,
@@ -74,7 +76,9 @@ fn read_all<L: Library, T: ClauseStore>(
         (T.clauses store.new) }
     ensures limit { T.limit store.new ≡ T.limit store.old }
     ensures told { L.files library.new ≡ L.files library.old }
-    ensures cause { HasLoadCause (L.counts library.old) (L.counts library.new) result }
+    ensures same { L.may_fail library.new ≡ L.may_fail library.old }
+    ensures cause { HasLoadCause (L.may_fail library.old) (L.counts library.old)
+        (L.counts library.new) result }
 {
     let mut reading = Reading::new(alloc);
     reading.enter(alloc, library, limits, name, None)?;

@@ -58,7 +58,9 @@ impl Reading {
         ensures unopened { IfErr result (λ e. (limit : ℕ) → Explains limit e (IsUnopened
             (L.files library.old) (bounds_of limits.now) name.now self.old)) }
         ensures told { L.files library.new ≡ L.files library.old }
-        ensures cause { HasLoadCause (L.counts library.old) (L.counts library.new) result }
+        ensures same { L.may_fail library.new ≡ L.may_fail library.old }
+        ensures cause { HasLoadCause (L.may_fail library.old) (L.counts library.old)
+            (L.counts library.new) result }
     {
         may_ask(alloc, self.files.as_slice(), self.fetches, limits, name)?;
         let file = open(alloc, library, limits, name, chosen)?;
@@ -127,7 +129,9 @@ impl Reading {
             × (middle.fetches ≡ self.old.fetches)
             × IsUnopened (L.files library.old) (bounds_of limits.now) name.now middle fault)) }
         ensures told { L.files library.new ≡ L.files library.old }
-        ensures cause { HasLoadCause (L.counts library.old) (L.counts library.new) result }
+        ensures same { L.may_fail library.new ≡ L.may_fail library.old }
+        ensures cause { HasLoadCause (L.may_fail library.old) (L.counts library.old)
+            (L.counts library.new) result }
     {
         self.push(file)?;
         let chosen = chosen(alloc, selection)?;
@@ -156,7 +160,9 @@ impl Reading {
             → Gained (T.limit store.old) start loaded.new (T.clauses store.new) }
         ensures limit { T.limit store.new ≡ T.limit store.old }
         ensures told { L.files library.new ≡ L.files library.old }
-        ensures cause { HasLoadCause (L.counts library.old) (L.counts library.new) result }
+        ensures same { L.may_fail library.new ≡ L.may_fail library.old }
+        ensures cause { HasLoadCause (L.may_fail library.old) (L.counts library.old)
+            (L.counts library.new) result }
     {
         let Some(mut file) = self.files.pop() else {
             return Ok(false);

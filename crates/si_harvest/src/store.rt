@@ -46,6 +46,7 @@ pub fn add<T: ClauseStore>(
 
 /// Why a load is refused whose clause is rejected.
 fn refusal(rejected: Rejected) -> HarvestFault
+    requires { IsSoundClause (clause_of rejected.clause) }
     ensures { (limit : ℕ) (state : List defs.Clause)
         → Rejects limit state (clause_of rejected.clause) rejected.why
         → Explains limit result (IsRejected limit state (clause_of rejected.clause)) }

@@ -8,7 +8,7 @@ use Rattle.si_defs.specs.declared.Relation.{Relation}
 use Rattle.si_lex.proofs.TokenLaws.{consists_unique}
 use Rattle.si_parse.proofs.ParseSteps.{heads, tails}
 use Rattle.si_steps.specs.declared.word.Word.TheVariants.{Ask}
-use Rattle.si_steps.specs.Commands.{Command, add, remove, query, stats, command_word, IsQuery, AreOperands, IsCommand}
+use Rattle.si_steps.specs.Commands.{Command, add, load, remove, query, stats, command_word, IsQuery, AreOperands, IsCommand}
 use Rattle.si_steps.proofs.WordLaws.{same_word}
 use Rattle.si_laws.specs.OneReply.{HasOneMeaning}
 use Rattle.si_laws.proofs.GrammarLaws.{term_one, literal_one, name_one, clause_one}
@@ -36,18 +36,27 @@ relation_is r s e = cc
 
 same_command : (c d : Command) (xs ys : List Token) → command_word c ≡ command_word d → xs ≡ ys → AreOperands c xs → AreOperands d ys → c ≡ d
 same_command (add a) (add b) xs ys w e h k = ap add (clause_one a b xs ys e h k)
+same_command (add a) (load g) xs ys w e h k = cc
 same_command (add a) (remove m) xs ys w e h k = cc
 same_command (add a) (query s q) xs ys w e h k = cc
 same_command (add a) stats xs ys w e h k = cc
+same_command (load f) (add b) xs ys w e h k = cc
+same_command (load f) (load g) xs ys w e h k = ap (λ (t : Token). load t.text) (heads (sym h ∙ e ∙ k))
+same_command (load f) (remove m) xs ys w e h k = cc
+same_command (load f) (query s q) xs ys w e h k = cc
+same_command (load f) stats xs ys w e h k = cc
 same_command (remove n) (add b) xs ys w e h k = cc
+same_command (remove n) (load g) xs ys w e h k = cc
 same_command (remove n) (remove m) xs ys w e (t, h, f) (u, k, g) = ap remove (name_one n m t u (heads (sym f ∙ e ∙ g)) h k)
 same_command (remove n) (query s q) xs ys w e h k = cc
 same_command (remove n) stats xs ys w e h k = cc
 same_command (query r p) (add b) xs ys w e h k = cc
+same_command (query r p) (load g) xs ys w e h k = cc
 same_command (query r p) (remove m) xs ys w e h k = cc
 same_command (query r p) (query s q) xs ys w e h k = λ i. query (relation_is r s w i) (query_one p q xs ys e h k i)
 same_command (query r p) stats xs ys w e h k = cc
 same_command stats (add b) xs ys w e h k = cc
+same_command stats (load g) xs ys w e h k = cc
 same_command stats (remove m) xs ys w e h k = cc
 same_command stats (query s q) xs ys w e h k = cc
 same_command stats stats xs ys w e h k = refl

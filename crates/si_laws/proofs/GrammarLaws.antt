@@ -15,10 +15,10 @@ use Rattle.si_parse.proofs.GrammarNames.{name_kind, name_of_token}
 use Rattle.si_parse.proofs.GrammarNotes.{closed_follows}
 
 -- ---- fronts
-some_is : {A : Type 0} {x y : A} → Some x ≡ Some y → x ≡ y
+pub some_is : {A : Type 0} {x y : A} → Some x ≡ Some y → x ≡ y
 some_is e = cc
 
-none_some : {A : Type 0} {x : A} → None ≡ Some x → ⊥
+pub none_some : {A : Type 0} {x : A} → None ≡ Some x → ⊥
 none_some e = cc
 
 fronts : (us vs xs ys : List Token) (t u : Token) (ps qs : List Token) → us ++ xs ≡ vs ++ ys → us ≡ t ∷ ps → vs ≡ u ∷ qs → t ∷ (ps ++ xs) ≡ u ∷ (qs ++ ys)

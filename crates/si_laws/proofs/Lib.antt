@@ -1,6 +1,9 @@
 mod StateLaws
-mod OutcomeLaws
+mod RefusalLaws
 mod GrammarLaws
+mod ItemLaws
+mod LoadLaws
+mod OutcomeLaws
 mod CommandLaws
 mod StepLaws
 mod RunLaws

@@ -72,16 +72,19 @@ same_front known (x ∷ xs) (y ∷ ys) f g k l us vs e a b h c i d =
     (subst (λ z. IsAmong z l) (ap (λ z. known ++ z ∷ ys) (sym same) ∙ sym (append_assoc known (x ∷ []) ys)) i) d in
     ((λ n. same n ∷ rest.0 n), rest.1)
 
--- what clashes first is one symbol, and it clashes with one shape
+-- what clashes first is one symbol at one place, and it clashes with one other
 pub same_clash : (known own : List Symbol) (m n : ℕ) (f g k l : Symbol) → AllAgree [] known → IsFirstClash known own m f k → IsFirstClash known own n g l
-    → (f ≡ g) × (k.side ≡ l.side) × (k.arity ≡ l.arity)
+    → (m ≡ n) × (f ≡ g) × (k ≡ l)
 same_clash known own m n f g k l agree one other =
     let front = same_front known one.before other.before f g k l one.after other.after (sym one.splits ∙ other.splits) one.earlier other.earlier one.against one.clashes other.against other.clashes in
     let there = subst (λ z. IsAmong (known ++ z) l) (sym front.0) other.against in
     let kind = sym one.clashes.kind ∙ ap (λ (s : Symbol). s.kind) front.1 ∙ other.clashes.kind in
     let text = sym one.clashes.text ∙ ap (λ (s : Symbol). s.text) front.1 ∙ other.clashes.text in
-    let shape = shape_is k l kind text (agree_two [] (known ++ one.before) k l (agree_append [] known one.before agree one.earlier) one.against there) in
-    (front.1, shape.0, shape.1)
+    let shape = shape_is k l kind text (agree_two [] (known ++ one.before) k l (agree_append [] known one.before agree one.earlier) one.against there) in (
+      one.position ∙ ap length front.0 ∙ sym other.position,
+      front.1,
+      λ i. record { kind = kind i; text = text i; side = shape.0 i; arity = shape.1 i },
+    )
 
 -- ---- the clause that goes
 name_among : (bs : List Clause) (c : Clause) (ds : List Clause) → IsAmong (names (bs ++ c ∷ ds)) c.name

@@ -1,5 +1,5 @@
 -- A line has one right step in a consistent state, where it means one command at most.
-use Rattle.std.proofs.Common.{◌≡◌, List, [], ◌∷◌, sym, ◌∙◌, subst, arith, ◌≤◌, length}
+use Rattle.std.proofs.Common.{◌≡◌, List, [], ◌∷◌, Option, Some, sym, ◌∙◌, subst, arith, ◌≤◌, length}
 use Rattle.si_defs.specs.Bytes.{Bytes}
 use Rattle.si_defs.specs.Clauses.{Clause}
 use Rattle.si_defs.specs.Tokens.{Token, lower, AreBlanks, Begins}
@@ -7,12 +7,14 @@ use Rattle.si_defs.specs.Grammar.{left_bracket}
 use Rattle.si_steps.specs.Words.{command_text}
 use Rattle.si_steps.specs.declared.word.Word.TheVariants.{Add}
 use Rattle.si_lex.proofs.TokenLaws.{blanks_none}
+use Rattle.si_state.specs.Harvest.{Files}
 use Rattle.si_steps.specs.declared.limits.Limits.{Limits}
-use Rattle.si_steps.specs.Commands.{Command, command_word, Means, IsLong, IsLater, IsDecided, IsSilent, AddsForeign}
+use Rattle.si_steps.specs.Commands.{Command, load, command_word, Means, IsLong, IsLater, IsDecided, IsSilent, AddsForeign}
 use Rattle.si_steps.specs.Replies.{Reply}
-use Rattle.si_steps.specs.Steps.{Performs, long, later, silent, foreign, wrong, performed}
-use Rattle.si_laws.specs.OneReply.{IsConsistent, HasOneMeaning, OneRightStep}
-use Rattle.si_laws.proofs.OutcomeLaws.{one_outcome}
+use Rattle.si_steps.specs.Loads.{Owed, nothing, PerformsLoad}
+use Rattle.si_steps.specs.Steps.{Performs, RightStep, long, later, silent, foreign, wrong, performed, loaded}
+use Rattle.si_laws.specs.OneReply.{IsConsistent, HasOneMeaning, OneRightStep, LoadsNothing, OneStepOfAnyLibrary}
+use Rattle.si_laws.proofs.OutcomeLaws.{one_outcome, one_load}
 
 -- ---- blanks are nothing else
 begins_some : (line : Bytes) (t : Token) (ts : List Token) (rest : Bytes) → Begins line (t ∷ ts) rest → AreBlanks line → ⊥
@@ -35,46 +37,82 @@ silent_no_command limits line quiet command means =
     begins_some line (lower (command_text (command_word command))) means.spelled.operands means.consists.rest (subst (λ ts. Begins line ts means.consists.rest) means.spelled.whole means.consists.begins) quiet.1
 
 -- ---- two steps
-module _ (limits : Limits) (state : List Clause) (line : Bytes) (is : IsConsistent state) (one : HasOneMeaning line) where
-  same : (reply other : Reply) (new behind : List Clause) (r : Reply) → reply ≡ r → other ≡ r → new ≡ state → behind ≡ state → (reply ≡ other) × (new ≡ behind)
-  same reply other new behind r a b c d = (a ∙ sym b, c ∙ sym d)
+load_is : (file name : Bytes) → load file ≡ load name → file ≡ name
+load_is file name e = cc
 
-  pub one_step : OneRightStep limits state line
-  one_step reply other new behind (long h a c) (long k b d) = same reply other new behind _ a b c d
-  one_step reply other new behind (long h a c) (later k b d) = absurd (not_both limits line h k.0)
-  one_step reply other new behind (long h a c) (silent k b d) = absurd (not_both limits line h k.0)
-  one_step reply other new behind (long h a c) (foreign o k p b d) = absurd (not_both limits line h o.short)
-  one_step reply other new behind (long h a c) (wrong o k f p b d) = absurd (not_both limits line h o.short)
-  one_step reply other new behind (long h a c) (performed o command means performs) = absurd (not_both limits line h o.short)
-  one_step reply other new behind (later h a c) (long k b d) = absurd (not_both limits line k h.0)
-  one_step reply other new behind (later h a c) (later k b d) = same reply other new behind _ a b c d
-  one_step reply other new behind (later h a c) (silent k b d) = absurd (silent_no_later limits line k h)
-  one_step reply other new behind (later h a c) (foreign o k p b d) = absurd (not_decided limits line h o)
-  one_step reply other new behind (later h a c) (wrong o k f p b d) = absurd (not_decided limits line h o)
-  one_step reply other new behind (later h a c) (performed o command means performs) = absurd (not_decided limits line h o)
-  one_step reply other new behind (silent h a c) (long k b d) = absurd (not_both limits line k h.0)
-  one_step reply other new behind (silent h a c) (later k b d) = absurd (silent_no_later limits line h k)
-  one_step reply other new behind (silent h a c) (silent k b d) = same reply other new behind _ a b c d
-  one_step reply other new behind (silent h a c) (foreign o k p b d) = absurd (silent_no_foreign limits line h k)
-  one_step reply other new behind (silent h a c) (wrong o k f p b d) = absurd (k h)
-  one_step reply other new behind (silent h a c) (performed o command means performs) = absurd (silent_no_command limits line h command means)
-  one_step reply other new behind (foreign n h m a c) (long k b d) = absurd (not_both limits line k n.short)
-  one_step reply other new behind (foreign n h m a c) (later k b d) = absurd (not_decided limits line k n)
-  one_step reply other new behind (foreign n h m a c) (silent k b d) = absurd (silent_no_foreign limits line k h)
-  one_step reply other new behind (foreign n h m a c) (foreign o k p b d) = same reply other new behind _ a b c d
-  one_step reply other new behind (foreign n h m a c) (wrong o k f p b d) = absurd (f h)
-  one_step reply other new behind (foreign n h m a c) (performed o command means performs) = absurd (m command means)
-  one_step reply other new behind (wrong n h f m a c) (long k b d) = absurd (not_both limits line k n.short)
-  one_step reply other new behind (wrong n h f m a c) (later k b d) = absurd (not_decided limits line k n)
-  one_step reply other new behind (wrong n h f m a c) (silent k b d) = absurd (h k)
-  one_step reply other new behind (wrong n h f m a c) (foreign o k p b d) = absurd (f k)
-  one_step reply other new behind (wrong n h f m a c) (wrong o k g p b d) = same reply other new behind _ a b c d
-  one_step reply other new behind (wrong n h f m a c) (performed o command means performs) = absurd (m command means)
-  one_step reply other new behind (performed n command means performs) (long k b d) = absurd (not_both limits line k n.short)
-  one_step reply other new behind (performed n command means performs) (later k b d) = absurd (not_decided limits line k n)
-  one_step reply other new behind (performed n command means performs) (silent k b d) = absurd (silent_no_command limits line k command means)
-  one_step reply other new behind (performed n command means performs) (foreign o k p b d) = absurd (p command means)
-  one_step reply other new behind (performed n command means performs) (wrong o k f p b d) = absurd (p command means)
-  one_step reply other new behind (performed n command means performs) (performed o again means_too performs_too) =
+-- they are the same where two loads are
+module _ (limits : Limits) (told tell : Option Files) (state : List Clause) (line : Bytes) (is : IsConsistent state) (one : HasOneMeaning line)
+    (reply other : Reply) (owed due : Owed) (new behind : List Clause)
+    (loads : (file : Bytes) → Means (load file) line → PerformsLoad limits told file state reply owed new → PerformsLoad limits tell file state other due behind → (reply ≡ other) × (owed ≡ due) × (new ≡ behind)) where
+  same : (r : Reply) → reply ≡ r → other ≡ r → owed ≡ nothing → due ≡ nothing → new ≡ state → behind ≡ state → (reply ≡ other) × (owed ≡ due) × (new ≡ behind)
+  same r a b d e n m = (a ∙ sym b, d ∙ sym e, n ∙ sym m)
+
+  -- a load is not performed as another command
+  no_load : (command : Command) (file : Bytes) (r : Reply) (n : List Clause) → Means command line → Means (load file) line → Performs limits command state r n → ⊥
+  no_load command file r n means load_means performs = subst (λ c. Performs limits c state r n) (one command (load file) means load_means) performs
+
+  pub two_steps : RightStep limits told state line reply owed new → RightStep limits tell state line other due behind → (reply ≡ other) × (owed ≡ due) × (new ≡ behind)
+  two_steps (long h r d n) (long k s e m) = same _ r s d e n m
+  two_steps (long h r d n) (later k s e m) = absurd (not_both limits line h k.0)
+  two_steps (long h r d n) (silent k s e m) = absurd (not_both limits line h k.0)
+  two_steps (long h r d n) (foreign p k never s e m) = absurd (not_both limits line h p.short)
+  two_steps (long h r d n) (wrong p noisy home never s e m) = absurd (not_both limits line h p.short)
+  two_steps (long h r d n) (performed p again means_too performs_too e) = absurd (not_both limits line h p.short)
+  two_steps (long h r d n) (loaded p name means_too performs_too) = absurd (not_both limits line h p.short)
+  two_steps (later h r d n) (long k s e m) = absurd (not_both limits line k h.0)
+  two_steps (later h r d n) (later k s e m) = same _ r s d e n m
+  two_steps (later h r d n) (silent k s e m) = absurd (silent_no_later limits line k h)
+  two_steps (later h r d n) (foreign p k never s e m) = absurd (not_decided limits line h p)
+  two_steps (later h r d n) (wrong p noisy home never s e m) = absurd (not_decided limits line h p)
+  two_steps (later h r d n) (performed p again means_too performs_too e) = absurd (not_decided limits line h p)
+  two_steps (later h r d n) (loaded p name means_too performs_too) = absurd (not_decided limits line h p)
+  two_steps (silent h r d n) (long k s e m) = absurd (not_both limits line k h.0)
+  two_steps (silent h r d n) (later k s e m) = absurd (silent_no_later limits line h k)
+  two_steps (silent h r d n) (silent k s e m) = same _ r s d e n m
+  two_steps (silent h r d n) (foreign p k never s e m) = absurd (silent_no_foreign limits line h k)
+  two_steps (silent h r d n) (wrong p noisy home never s e m) = absurd (noisy h)
+  two_steps (silent h r d n) (performed p again means_too performs_too e) = absurd (silent_no_command limits line h again means_too)
+  two_steps (silent h r d n) (loaded p name means_too performs_too) = absurd (silent_no_command limits line h (load name) means_too)
+  two_steps (foreign o h none r d n) (long k s e m) = absurd (not_both limits line k o.short)
+  two_steps (foreign o h none r d n) (later k s e m) = absurd (not_decided limits line k o)
+  two_steps (foreign o h none r d n) (silent k s e m) = absurd (silent_no_foreign limits line k h)
+  two_steps (foreign o h none r d n) (foreign p k never s e m) = same _ r s d e n m
+  two_steps (foreign o h none r d n) (wrong p noisy home never s e m) = absurd (home h)
+  two_steps (foreign o h none r d n) (performed p again means_too performs_too e) = absurd (none again means_too)
+  two_steps (foreign o h none r d n) (loaded p name means_too performs_too) = absurd (none (load name) means_too)
+  two_steps (wrong o loud own none r d n) (long k s e m) = absurd (not_both limits line k o.short)
+  two_steps (wrong o loud own none r d n) (later k s e m) = absurd (not_decided limits line k o)
+  two_steps (wrong o loud own none r d n) (silent k s e m) = absurd (loud k)
+  two_steps (wrong o loud own none r d n) (foreign p k never s e m) = absurd (own k)
+  two_steps (wrong o loud own none r d n) (wrong p noisy home never s e m) = same _ r s d e n m
+  two_steps (wrong o loud own none r d n) (performed p again means_too performs_too e) = absurd (none again means_too)
+  two_steps (wrong o loud own none r d n) (loaded p name means_too performs_too) = absurd (none (load name) means_too)
+  two_steps (performed o command means performs d) (long k s e m) = absurd (not_both limits line k o.short)
+  two_steps (performed o command means performs d) (later k s e m) = absurd (not_decided limits line k o)
+  two_steps (performed o command means performs d) (silent k s e m) = absurd (silent_no_command limits line k command means)
+  two_steps (performed o command means performs d) (foreign p k never s e m) = absurd (never command means)
+  two_steps (performed o command means performs d) (wrong p noisy home never s e m) = absurd (never command means)
+  two_steps (performed o command means performs d) (performed p again means_too performs_too e) =
+      let outcome =
       one_outcome limits command state is reply other new behind performs
-      (subst (λ c. Performs limits c state other behind) (one again command means_too means) performs_too)
+      (subst (λ c. Performs limits c state other behind) (one again command means_too means) performs_too) in
+      (outcome.0, d ∙ sym e, outcome.1)
+  two_steps (performed o command means performs d) (loaded p name means_too performs_too) = absurd (no_load command name reply new means means_too performs)
+  two_steps (loaded o file means performs) (long k s e m) = absurd (not_both limits line k o.short)
+  two_steps (loaded o file means performs) (later k s e m) = absurd (not_decided limits line k o)
+  two_steps (loaded o file means performs) (silent k s e m) = absurd (silent_no_command limits line k (load file) means)
+  two_steps (loaded o file means performs) (foreign p k never s e m) = absurd (never (load file) means)
+  two_steps (loaded o file means performs) (wrong p noisy home never s e m) = absurd (never (load file) means)
+  two_steps (loaded o file means performs) (performed p again means_too performs_too e) = absurd (no_load again file other behind means_too means performs_too)
+  two_steps (loaded o file means performs) (loaded p name means_too performs_too) =
+      loads file means performs
+      (subst (λ f. PerformsLoad limits tell f state other due behind) (load_is name file (one (load name) (load file) means_too means)) performs_too)
+
+pub one_step : (limits : Limits) (files : Files) (state : List Clause) (line : Bytes) → IsConsistent state → HasOneMeaning line → OneRightStep limits files state line
+one_step limits files state line is one reply other owed due new behind step step_too a b =
+    two_steps limits (Some files) (Some files) state line is one reply other owed due new behind
+    (λ file means h k. one_load limits files file state is reply other owed due new behind h k a b) step step_too
+
+pub one_step_without_load : (limits : Limits) (state : List Clause) (line : Bytes) → IsConsistent state → HasOneMeaning line → LoadsNothing line → OneStepOfAnyLibrary limits state line
+one_step_without_load limits state line is one none told tell reply other owed due new behind step step_too =
+    two_steps limits told tell state line is one reply other owed due new behind (λ file means h k. absurd (none file means)) step step_too

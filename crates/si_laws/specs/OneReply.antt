@@ -1,11 +1,13 @@
 -- That there is one right reply, and one right state behind it.
-use Rattle.std.specs.Prelude.{◌≡◌, List, [], ◌∷◌}
+use Rattle.std.specs.Prelude.{◌≡◌, List, [], ◌∷◌, Option, Some}
 use Rattle.si_defs.specs.Bytes.{Bytes}
 use Rattle.si_defs.specs.Clauses.{Clause}
 use Rattle.si_defs.specs.Entries.{state_symbols}
 use Rattle.si_state.specs.Acceptance.{HasDistinctNames, AllAgree}
+use Rattle.si_state.specs.Harvest.{Files}
 use Rattle.si_steps.specs.declared.limits.Limits.{Limits}
-use Rattle.si_steps.specs.Commands.{Command, Means}
+use Rattle.si_steps.specs.Commands.{Command, load, Means}
+use Rattle.si_steps.specs.Loads.{Owed, a_failure, PerformsLoad}
 use Rattle.si_steps.specs.Replies.{Reply}
 use Rattle.si_steps.specs.Steps.{Performs, RightStep}
 
@@ -14,6 +16,10 @@ pub record IsConsistent (state : List Clause) : Type 0 where
   pub distinct : HasDistinctNames state
   pub agree : AllAgree [] (state_symbols state)
 
+-- the reply tells no failure of the library
+abbrev pub TellsNoFailure : Owed → Type 0
+TellsNoFailure owed = owed ≡ a_failure → ⊥
+
 -- two right outcomes of the command are the same
 abbrev pub HasOneOutcome : Limits → Command → List Clause → Type 0
 HasOneOutcome limits command state =
@@ -21,32 +27,52 @@ HasOneOutcome limits command state =
     → Performs limits command state reply new → Performs limits command state other behind
     → (reply ≡ other) × (new ≡ behind)
 
+-- two right outcomes of a load of the file are the same, where none tells a failure
+abbrev pub LoadsToOneOutcome : Limits → Files → Bytes → List Clause → Type 0
+LoadsToOneOutcome limits files file state =
+    (reply other : Reply) (owed due : Owed) (new behind : List Clause)
+    → PerformsLoad limits (Some files) file state reply owed new → PerformsLoad limits (Some files) file state other due behind
+    → TellsNoFailure owed → TellsNoFailure due → (reply ≡ other) × (owed ≡ due) × (new ≡ behind)
+
 -- the line is one command at most
 abbrev pub HasOneMeaning : Bytes → Type 0
 HasOneMeaning line = (one other : Command) → Means one line → Means other line → one ≡ other
 
--- two right steps over the line are the same
-abbrev pub OneRightStep : Limits → List Clause → Bytes → Type 0
-OneRightStep limits state line =
-    (reply other : Reply) (new behind : List Clause)
-    → RightStep limits state line reply new → RightStep limits state line other behind
-    → (reply ≡ other) × (new ≡ behind)
+-- two right steps over the line are the same, where none tells a failure
+abbrev pub OneRightStep : Limits → Files → List Clause → Bytes → Type 0
+OneRightStep limits files state line =
+    (reply other : Reply) (owed due : Owed) (new behind : List Clause)
+    → RightStep limits (Some files) state line reply owed new → RightStep limits (Some files) state line other due behind
+    → TellsNoFailure owed → TellsNoFailure due → (reply ≡ other) × (owed ≡ due) × (new ≡ behind)
+
+-- the line loads no file
+abbrev pub LoadsNothing : Bytes → Type 0
+LoadsNothing line = (file : Bytes) → Means (load file) line → ⊥
+
+-- two right steps over the line are the same, whatever the two libraries tell
+abbrev pub OneStepOfAnyLibrary : Limits → List Clause → Bytes → Type 0
+OneStepOfAnyLibrary limits state line =
+    (told tell : Option Files) (reply other : Reply) (owed due : Owed) (new behind : List Clause)
+    → RightStep limits told state line reply owed new → RightStep limits tell state line other due behind
+    → (reply ≡ other) × (owed ≡ due) × (new ≡ behind)
 
 -- a right step keeps the state so
-abbrev pub StaysConsistent : Limits → List Clause → Bytes → Type 0
-StaysConsistent limits state line =
-    (reply : Reply) (new : List Clause) → IsConsistent state → RightStep limits state line reply new → IsConsistent new
+abbrev pub StaysConsistent : Limits → Option Files → List Clause → Bytes → Type 0
+StaysConsistent limits told state line =
+    (reply : Reply) (owed : Owed) (new : List Clause) → IsConsistent state → RightStep limits told state line reply owed new → IsConsistent new
 
--- From this state on the lines have these right replies, and the new state stands behind them.
-abbrev pub RightRun : Limits → List Clause → List Bytes → List Reply → List Clause → Type 0
-RightRun limits state [] replies new = (replies ≡ []) × (new ≡ state)
-RightRun limits state (line ∷ lines) replies new =
-    (reply : Reply) × (next : List Clause) × (others : List Reply)
-    × RightStep limits state line reply next × RightRun limits next lines others new × (replies ≡ reply ∷ others)
+-- From this state on the lines have these right replies, of which none tells a failure, and the new
+-- state stands behind them.
+abbrev pub RightRun : Limits → Files → List Clause → List Bytes → List Reply → List Clause → Type 0
+RightRun limits files state [] replies new = (replies ≡ []) × (new ≡ state)
+RightRun limits files state (line ∷ lines) replies new =
+    (reply : Reply) × (owed : Owed) × (next : List Clause) × (others : List Reply)
+    × RightStep limits (Some files) state line reply owed next × TellsNoFailure owed
+    × RightRun limits files next lines others new × (replies ≡ reply ∷ others)
 
 -- two right runs over the lines, from no clause, are the same
-abbrev pub OneRightRun : Limits → List Bytes → Type 0
-OneRightRun limits lines =
+abbrev pub OneRightRun : Limits → Files → List Bytes → Type 0
+OneRightRun limits files lines =
     (replies others : List Reply) (new behind : List Clause)
-    → RightRun limits [] lines replies new → RightRun limits [] lines others behind
+    → RightRun limits files [] lines replies new → RightRun limits files [] lines others behind
     → (replies ≡ others) × (new ≡ behind)

@@ -1,19 +1,27 @@
 //! Laws over the definitions alone. Each function does nothing: its contract is a law.
 #![tactic(auto)]
 
-ghost use Rattle.si_laws.specs.OneReply.{IsConsistent, HasOneOutcome, HasOneMeaning, OneRightStep, OneRightRun, StaysConsistent};
+ghost use Rattle.si_laws.specs.OneReply.{IsConsistent, HasOneOutcome, LoadsToOneOutcome, HasOneMeaning, OneRightStep, LoadsNothing, OneStepOfAnyLibrary, OneRightRun, StaysConsistent};
 ghost use Rattle.si_defs.specs.Bytes.{Bytes};
 ghost use Rattle.si_defs.specs.Clauses.{Clause};
-ghost use Rattle.std.specs.Prelude.{List, []};
-ghost use Rattle.si_steps.specs.declared.limits.Limits as steps;
+ghost use Rattle.std.specs.Prelude.{ℕ, List, [], Option};
+ghost use Rattle.si_state.specs.Harvest.{Files};
+ghost use Rattle.si_steps.specs.declared.limits.Limits.{Limits};
 ghost use Rattle.si_steps.specs.Commands.{Command};
 ghost use Rattle.si_steps.specs.Runs.{Run};
 
-/// Where each symbol is used in one way and names are distinct, a command has one right reply and
-/// one right state behind it. They depend on the limits, the command and the list of clauses alone.
+/// Where each symbol is used in one way and names are distinct, a command that is no load has one
+/// right reply and one right state behind it. They depend on the limits, the command and the list
+/// of clauses alone.
 pub fn commands_have_one_outcome()
-    ensures { (limits : steps.Limits) (command : Command) (state : List Clause)
+    ensures { (limits : Limits) (command : Command) (state : List Clause)
         → IsConsistent state → HasOneOutcome limits command state }
+{}
+
+/// So has a load, but that the library may fail: the files decide too, where it tells them.
+pub fn loads_have_one_outcome()
+    ensures { (limits : Limits) (files : Files) (file : Bytes) (state : List Clause)
+        → IsConsistent state → LoadsToOneOutcome limits files file state }
 {}
 
 /// A line means one command at most.
@@ -21,26 +29,32 @@ pub fn lines_have_one_meaning()
     ensures { (line : Bytes) → HasOneMeaning line }
 {}
 
-/// A line has one right step in such a state. It depends on the limits, the line and the list of
-/// clauses alone: a clause that is gone leaves no trace.
+/// A line has one right step in such a state, but that the library may fail. It depends on the
+/// limits, the line, the list of clauses and the files alone: a clause that is gone leaves no
+/// trace. The files decide nothing where the line is no load, whether they are told or not.
 pub fn lines_have_one_right_step()
-    ensures { (limits : steps.Limits) (state : List Clause) (line : Bytes)
-        → IsConsistent state → OneRightStep limits state line }
+    ensures step { (limits : Limits) (files : Files) (state : List Clause) (line : Bytes)
+        → IsConsistent state → OneRightStep limits files state line }
+    ensures without_load { (limits : Limits) (state : List Clause) (line : Bytes)
+        → IsConsistent state → LoadsNothing line → OneStepOfAnyLibrary limits state line }
 {}
 
-/// A right step keeps names distinct, and symbols used in one way.
+/// A right step keeps names distinct, and symbols used in one way, whatever the library tells.
 pub fn right_steps_stay_consistent()
-    ensures { (limits : steps.Limits) (state : List Clause) (line : Bytes)
-        → StaysConsistent limits state line }
+    ensures { (limits : Limits) (told : Option Files) (state : List Clause) (line : Bytes)
+        → StaysConsistent limits told state line }
 {}
 
-/// Each state of a session is such, also where memory runs out.
+/// Each state of a session is such, also where memory runs out or the library fails.
 pub fn runs_stay_consistent()
-    ensures { (limits : steps.Limits) (lines : List Bytes) (output : Bytes) (new : List Clause)
-        → Run limits [] lines output new → IsConsistent new }
+    ensures { (limits : Limits) (told : Option Files) (lines : List Bytes) (output : Bytes)
+        (failures : ℕ) (new : List Clause)
+        → Run limits told [] lines output failures new → IsConsistent new }
 {}
 
-/// The lines of a session have one list of right replies, and one right state behind them.
+/// The lines of a session have one list of right replies, and one right state behind them, where
+/// the library tells its files and doesn't fail.
 pub fn sessions_have_one_right_run()
-    ensures { (limits : steps.Limits) (lines : List Bytes) → OneRightRun limits lines }
+    ensures { (limits : Limits) (files : Files) (lines : List Bytes)
+        → OneRightRun limits files lines }
 {}

@@ -1,6 +1,6 @@
 -- Quoted texts in runs: what stands before a character that needs a backslash is written as it is.
-use Rattle.std.proofs.Common.{◌≡◌, ℕ, zero, suc, ◌+◌, ◌<◌, ◌≤◌, List, [], ◌∷◌, ◌++◌, length, get_or, take, drop, refl, ap, sym, ◌∙◌, add-one, drop-cons, take_all, append-nil, append_assoc, arith, true, false, ltb}
-use Rattle.std.specs.Prelude.{Bool, ◌||◌, ◌==◌, cond, Option, Some, None, flat_map}
+use Rattle.std.proofs.Common.{◌≡◌, ℕ, zero, suc, ◌+◌, ◌<◌, ◌≤◌, [], ◌∷◌, ◌++◌, length, get_or, take, drop, refl, ap, sym, ◌∙◌, add-one, drop-cons, take_all, append-nil, append_assoc, arith, true, false, ltb}
+use Rattle.std.specs.Prelude.{Bool, ◌||◌, ◌==◌, cond, Some, None, flat_map}
 use Rattle.std.specs.List.{position, position_or_len}
 use Rattle.std.proofs.lemmas.List.Quantifiers.{position-Some}
 use Rattle.std.proofs.lemmas.List.Sums.{fails_before_first}

@@ -4,4 +4,6 @@
 
 mod printing;
 
-pub use printing::{put_bytes, put_name, put_number, put_place, put_quoted, put_symbol, put_term};
+pub use printing::{
+    put_bytes, put_file, put_name, put_number, put_place, put_quoted, put_symbol, put_term,
+};

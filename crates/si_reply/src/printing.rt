@@ -4,7 +4,7 @@ ghost use Rattle.std.specs.List.{list_all, position};
 ghost use Rattle.si_defs.specs.Bytes.{is_lower_word, is_word_byte};
 ghost use Rattle.si_defs.specs.Tokens.{escaped, quoted};
 ghost use Rattle.si_defs.specs.Terms.{row};
-ghost use Rattle.si_defs.specs.Printing.{word_text, name_text, symbol_text, term_text, more_texts, path_text, place_text};
+ghost use Rattle.si_defs.specs.Printing.{word_text, file_text, name_text, symbol_text, term_text, more_texts, path_text, place_text};
 ghost use Rattle.si_io.specs.Puts.{Puts};
 ghost use Rattle.si_io.specs.Faults.{HasCause};
 ghost use Rattle.si_term.specs.Terms.{symbol_of, term_of};
@@ -44,6 +44,14 @@ pub fn put_quoted<K: Sink>(sink: &mut K, quote: u8, text: &[u8]) -> Result<(), F
     put_bytes(sink, &[quote])?;
     put_escaped(sink, quote, text)?;
     put_bytes(sink, &[quote])
+}
+
+/// Writes the name of a file.
+pub fn put_file<K: Sink>(sink: &mut K, file: &[u8]) -> Result<(), Failed>
+    ensures text { Puts result (file_text file.now) (K.written sink.old) (K.written sink.new) }
+    ensures cause { HasCause (K.faults sink.old) (K.faults sink.new) result }
+{
+    put_quoted(sink, b'\'', file)
 }
 
 /// Writes a name.

@@ -1,6 +1,6 @@
 -- What a command did, from what its parts wrote; and the step that its line made.
 use Rattle.std.proofs.Common.{◌≡◌, ℕ, ◌≤◌, List, [], ◌∷◌, ◌++◌, length, refl, ap, sym, ◌∙◌, subst, inl, inr, arith, append_assoc, length-append}
-use Rattle.std.specs.Prelude.{Some, slice_get, IsTrue}
+use Rattle.std.specs.Prelude.{Bool, Option, Some, None, slice_get, IsTrue}
 use Rattle.si_defs.specs.Bytes.{Bytes}
 use Rattle.si_defs.specs.Tokens.{begins_with}
 use Rattle.si_defs.specs.Symbols.{Symbol}
@@ -12,8 +12,10 @@ use Rattle.si_state.specs.Signatures.{CountsSymbols}
 use Rattle.si_state.specs.Answers.{hit_texts}
 use Rattle.si_steps.specs.declared.limits.Limits.{Limits}
 use Rattle.si_steps.specs.Replies.{Reply, is_refusal, ok_line, end_line, stats_line, misused_line, full_line, unknown_line, memory_line}
-use Rattle.si_steps.specs.Commands.{Command, add, remove, query, stats, IsDecided, IsSilent}
-use Rattle.si_steps.specs.Steps.{Performs, right, memory_at_once, memory_behind, performed}
+use Rattle.si_steps.specs.Commands.{Command, add, load, remove, query, stats, IsDecided, IsSilent}
+use Rattle.si_state.specs.Harvest.{Files, Fault, tried, state_behind}
+use Rattle.si_steps.specs.Loads.{Owed, nothing, PerformsLoad, gained_line, load_line}
+use Rattle.si_steps.specs.Steps.{Performs, RightStep, right, memory_at_once, memory_behind, performed, loaded}
 use Rattle.si_steps.specs.Runs.{ended}
 use Rattle.si_io.specs.Content.{Told, Receives, ReceivesPrefix}
 use Rattle.si_io.proofs.Content.{Receives_then, ReceivesPrefix_then, ReceivesPrefix_more}
@@ -32,7 +34,8 @@ use Rattle.si_index.specs.declared.index.Stats.{Stats}
 use Rattle.si_session.specs.declared.reply.Reply as reply
 use Rattle.si_session.specs.Replies.{reply_line, misused_text}
 use Rattle.si_session.specs.Rejections.{HasHead, NamesEntry, TellsFault, TellsWhy}
-use Rattle.si_session.specs.Session.{State, Steps, Writes, HasPerformed, ActsOn, rightly, at_once, behind}
+use Rattle.si_io.specs.Library.{Counts}
+use Rattle.si_session.specs.Session.{State, Around, around, Steps, Writes, HasPerformed, ActsOn, rightly, at_once, behind, HasLoaded, rightly_loaded, ran_out}
 use Rattle.si_session.specs.declared.stepped.Stepped.{Stepped}
 use Rattle.si_session.specs.declared.stepped.Stepped.TheVariants.{Answered, Refused, Silent, SinkFailed}
 use Rattle.si_session.proofs.HitLaws.{hits_answer}
@@ -92,7 +95,7 @@ accepts : (limits : Limits) (clause : Clause) (state new : List Clause) (o : Ste
 accepts limits clause state new o n a b k e w = rightly (ok_line 1 n ∷ []) (inr (k, ap (λ m. ok_line 1 m ∷ []) e)) w
 
 -- the symbol at a clash
-at_seam : (before after own : List Symbol) (s : Symbol) (n : ℕ) → own ≡ before ++ s ∷ after → n ≡ length before → slice_get own n ≡ Some s
+pub at_seam : (before after own : List Symbol) (s : Symbol) (n : ℕ) → own ≡ before ++ s ∷ after → n ≡ length before → slice_get own n ≡ Some s
 at_seam before after own s n e h =
     subst (λ l. slice_get l n ≡ Some s) (sym e) (subst (λ k. slice_get (before ++ s ∷ after) k ≡ Some s) (sym h) (seam before)) where
       seam : (before : List Symbol) → slice_get (before ++ s ∷ after) (length before) ≡ Some s
@@ -164,6 +167,7 @@ counts limits state told o a b clauses entries symbols w =
 some_reply : (limits : Limits) (command : Command) (state new : List Clause) (reply : Reply) → Performs limits command state reply new → reply ≡ [] → ⊥
 some_reply limits (add c) state new reply (inl h) e = some_line [] _ (sym h.2 ∙ e)
 some_reply limits (add c) state new reply (inr h) e = some_line [] _ (sym h.1 ∙ e)
+some_reply limits (load file) state new reply h e = h
 some_reply limits (remove name) state new reply (inl h) e = some_line [] _ (sym h.1 ∙ e)
 some_reply limits (remove name) state new reply (inr h) e = some_line [] _ (sym h.2 ∙ e)
 some_reply limits (query relation pattern) state new reply h e = some_line (hit_texts h.0) _ (sym h.2 ∙ e)
@@ -179,6 +183,7 @@ not_silent limits command state new o a b (behind reply next p written left spli
 performs_refused : (limits : Limits) (command : Command) (state new : List Clause) (reply : Reply) → Performs limits command state reply new → IsTrue (is_refusal reply) → new ≡ state
 performs_refused limits (add c) state new reply (inl h) t = h.3
 performs_refused limits (add c) state new reply (inr h) t = let wrong : IsTrue (is_refusal (ok_line 1 (length (entries c)) ∷ [])) = subst (λ r. IsTrue (is_refusal r)) h.1 t in cc
+performs_refused limits (load file) state new reply h t = absurd h
 performs_refused limits (remove name) state new reply (inl h) t = h.2
 performs_refused limits (remove name) state new reply (inr h) t = let wrong : IsTrue (is_refusal (ok_line 1 (length (entries h.0)) ∷ [])) = subst (λ r. IsTrue (is_refusal r)) h.2 t in cc
 performs_refused limits (query relation pattern) state new reply h t = h.3
@@ -198,18 +203,73 @@ line_not_silent o line a b w e = let v : Writes Silent (line ∷ []) a b = subst
 abbrev pub state_with : Limits → List Clause → State
 state_with limits state = record { clauses = state; limits = limits }
 
-pub stepped : (limits : Limits) (state new : List Clause) (line : Bytes) (command : Command) (o : Stepped) (a b : Told)
+pub stepped : (limits : Limits) (told : Option Files) (state new : List Clause) (line : Bytes) (command : Command) (o : Stepped) (a b : Told) (counts : Counts) (may_fail : Bool)
     → length line ≤ limits.line → IsPerformed command line → HasPerformed (Performs limits command state) state new o a b
-    → Steps (state_with limits state) (state_with limits new) line o a b
-stepped limits state new line command o a b short performs acts = by acts where
+    → Steps told (state_with limits state) (state_with limits new) line o (around a counts may_fail) (around b counts may_fail)
+stepped limits told state new line command o a b counts may_fail short performs acts = by acts where
   now : IsDecided limits line
   now = record { short = short; built = performs.0 }
 
   loud : IsSilent limits line → ⊥
   loud h = performs.1 h.1
 
-  by : HasPerformed (Performs limits command state) state new o a b → Steps (state_with limits state) (state_with limits new) line o a b
-  by (rightly reply p w) = record { reply = reply; step = right (performed now command performs.2 p); limits = refl; written = w }
-  by (at_once same w) = record { reply = memory_line ∷ []; step = memory_at_once loud short refl same; limits = refl; written = w }
-  by (behind whole next p written left split rest same w) =
-      record { reply = written ++ memory_line ∷ []; step = memory_behind whole next (performed now command performs.2 p) short written left split rest refl same; limits = refl; written = w }
+  by : HasPerformed (Performs limits command state) state new o a b → Steps told (state_with limits state) (state_with limits new) line o (around a counts may_fail) (around b counts may_fail)
+  by (rightly reply p w) = record { reply = reply; owed = nothing; step = right (performed now command performs.2 p refl); limits = refl; written = w; counted = refl }
+  by (at_once same w) = record { reply = memory_line ∷ []; owed = nothing; step = memory_at_once loud short refl refl same; limits = refl; written = w; counted = refl }
+  by (behind whole next p written left split rest same w) = record {
+    reply = written ++ memory_line ∷ [];
+    owed = nothing;
+    step = memory_behind whole nothing next (right_of p) short written left split rest refl refl same;
+    limits = refl;
+    written = w;
+    counted = refl;
+  } where
+    right_of : Performs limits command state whole next → RightStep limits told state line whole nothing next
+    right_of p = performed now command performs.2 p refl
+
+-- ---- a load
+load_some : (limits : Limits) (told : Option Files) (file : Bytes) (state new : List Clause) (reply : Reply) (owed : Owed) → PerformsLoad limits told file state reply owed new → reply ≡ [] → ⊥
+load_some limits None file state new reply owed (inl h) e = some_line [] _ (sym h.2 ∙ e)
+load_some limits None file state new reply owed (inr h) e = some_line [] _ (sym h.1 ∙ e)
+load_some limits (Some files) file state new reply owed h e = some_line [] _ (sym h.3 ∙ e)
+
+not_gained : (gained : List Clause) (reply : Reply) → reply ≡ gained_line gained ∷ [] → IsTrue (is_refusal reply) → ⊥
+not_gained gained reply e t = let wrong : IsTrue (is_refusal (gained_line gained ∷ [])) = subst (λ r. IsTrue (is_refusal r)) e t in cc
+
+load_stays : (limits : Limits) (told : Option Files) (file : Bytes) (state new : List Clause) (reply : Reply) (owed : Owed) → PerformsLoad limits told file state reply owed new
+    → IsTrue (is_refusal reply) → new ≡ state
+load_stays limits None file state new reply owed (inl h) t = absurd (not_gained h.0 reply h.2 t)
+load_stays limits None file state new reply owed (inr h) t = h.3
+load_stays limits (Some files) file state new reply owed h t = by h.1 h.3 h.5 where
+  by : (fault : Option Fault) → reply ≡ load_line limits.entries h.0 fault ∷ [] → new ≡ state_behind state h.0 fault → new ≡ state
+  by None e s = absurd (not_gained (tried h.0) reply e t)
+  by (Some f) e s = s
+
+pub load_not_silent : (limits : Limits) (told : Option Files) (file : Bytes) (state new : List Clause) (o : Stepped) (a b : Around) → HasLoaded limits told file state new o a b → o ≡ Silent → ⊥
+load_not_silent limits told file state new o a b (rightly_loaded reply owed p w h) e =
+    let v : Writes Silent reply a.sink b.sink = subst (λ x. Writes x reply a.sink b.sink) e w in load_some limits told file state new reply owed p v.1
+load_not_silent limits told file state new o a b (ran_out same w h) e = line_not_silent o memory_line a.sink b.sink w e
+
+pub load_keeps : (limits : Limits) (told : Option Files) (file : Bytes) (state new : List Clause) (o : Stepped) (a b : Around) → HasLoaded limits told file state new o a b → o ≡ Refused → new ≡ state
+load_keeps limits told file state new o a b (rightly_loaded reply owed p w h) e =
+    let v : Writes Refused reply a.sink b.sink = subst (λ x. Writes x reply a.sink b.sink) e w in load_stays limits told file state new reply owed p v.1
+load_keeps limits told file state new o a b (ran_out same w h) e = same
+
+pub load_stepped : (limits : Limits) (told : Option Files) (file : Bytes) (state new : List Clause) (line : Bytes) (o : Stepped) (a b : Around)
+    → length line ≤ limits.line → IsPerformed (load file) line → HasLoaded limits told file state new o a b
+    → Steps told (state_with limits state) (state_with limits new) line o a b
+load_stepped limits told file state new line o a b short performs acts = by acts where
+  loud : IsSilent limits line → ⊥
+  loud h = performs.1 h.1
+
+  by : HasLoaded limits told file state new o a b → Steps told (state_with limits state) (state_with limits new) line o a b
+  by (rightly_loaded reply owed p w h) = record {
+    reply = reply;
+    owed = owed;
+    step = right (loaded (record { short = short; built = performs.0 }) file performs.2 p);
+    limits = refl;
+    written = w;
+    counted = h;
+  }
+  by (ran_out same w h) =
+      record { reply = memory_line ∷ []; owed = nothing; step = memory_at_once loud short refl refl same; limits = refl; written = w; counted = h }

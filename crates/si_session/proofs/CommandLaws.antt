@@ -10,9 +10,9 @@ use Rattle.si_defs.specs.Grammar.{IsClause, IsLiteral, IsTerm, left_bracket}
 use Rattle.si_defs.specs.Substitutions.{IsAmong}
 use Rattle.si_defs.specs.Texts.{IsPattern, languages}
 use Rattle.si_steps.specs.declared.word.Word.{Word}
-use Rattle.si_steps.specs.declared.word.Word.TheVariants.{Add, Remove, Ask, Stats}
+use Rattle.si_steps.specs.declared.word.Word.TheVariants.{Add, Load, Remove, Ask, Stats}
 use Rattle.si_steps.specs.Words.{command_text, is_built}
-use Rattle.si_steps.specs.Commands.{Command, add, remove, query, stats, command_word, IsCommand, IsQuery, AreOperands, Means, IsUnbuilt, AddsForeign}
+use Rattle.si_steps.specs.Commands.{Command, add, load, remove, query, stats, command_word, IsCommand, IsQuery, AreOperands, Means, IsUnbuilt, AddsForeign}
 use Rattle.si_steps.proofs.WordLaws.{same_word, built_apart}
 use Rattle.si_lex.specs.declared.lexeme.Lexeme.{Lexeme}
 use Rattle.si_lex.specs.declared.lexing.Lexing.{Lexing}
@@ -20,7 +20,7 @@ use Rattle.si_lex.specs.declared.lexing.Stop.{Stop}
 use Rattle.si_lex.specs.declared.lexing.Stop.TheVariants.{End}
 use Rattle.si_lex.specs.Lexemes.{tokens_of}
 use Rattle.si_lex.specs.Lexing.{IsLexing}
-use Rattle.si_parse.specs.GrammarRules.{IsNameToken}
+use Rattle.si_parse.specs.GrammarRules.{IsFileToken, IsNameToken}
 use Rattle.si_parse.specs.Reading.{AreForeign, IsOfKind, ReadsWhole}
 use Rattle.si_parse.specs.declared.pattern.PatternKind.{PatternKind}
 use Rattle.si_parse.specs.declared.pattern.PatternKind.TheVariants as kind
@@ -93,12 +93,14 @@ word_is c w ts h = same_word w (command_word c) (same_text (command_text w) (com
 -- what stands behind a word, one row a word
 abbrev OperandsOf : Word → Type 0
 OperandsOf Add = Clause
+OperandsOf Load = Bytes
 OperandsOf Remove = Name
 OperandsOf (Ask relation) = Pattern
 OperandsOf w = Unit {0}
 
 abbrev AreSpelled : (w : Word) → OperandsOf w → List Token → Type 0
 AreSpelled Add c ts = IsClause c ts
+AreSpelled Load file ts = IsFileToken file ts
 AreSpelled Remove n ts = IsNameToken n ts
 AreSpelled (Ask relation) p ts = IsQuery p ts
 AreSpelled Stats none ts = ts ≡ []
@@ -106,6 +108,7 @@ AreSpelled w none ts = Unit {0}
 
 own : (c : Command) (ts : List Token) → AreOperands c ts → (o : OperandsOf (command_word c)) × AreSpelled (command_word c) o ts
 own (add c) ts h = (c, h)
+own (load file) ts h = (file, h)
 own (remove n) ts h = (n, h)
 own (query r p) ts h = (p, h)
 own stats ts h = (tt, h)
@@ -183,6 +186,14 @@ pub remove_read : (tokens : List Lexeme) (stop : Stop) (x : program_name.Name) (
     → reads.Reads name_of IsNameToken Anything tokens (Some (x, r)) → Commands (lower (command_text Remove) ∷ tokens_of tokens) stop (command.Remove x)
 remove_read tokens stop x r e none p =
     (e, record { built = refl; operands = tokens_of tokens; spelled = whole_means name_of tokens tt x r none p; whole = refl })
+
+-- ---- `load`
+-- no file's name stands behind the word, or something else than blanks behind it
+pub load_wrong : (ts : List Token) (stop : Stop) → (stop ≡ End → (file : Bytes) → IsFileToken file ts → ⊥) → Commands (lower (command_text Load) ∷ ts) stop command.Wrong
+load_wrong ts stop none = other_wrong Load ts stop refl (λ e. cc) (λ e c h. let f = only Load c ts h in none e f.0 f.1)
+
+pub load_read : (ts : List Token) (stop : Stop) (file : Bytes) → stop ≡ End → IsFileToken file ts → Commands (lower (command_text Load) ∷ ts) stop (command.Load file)
+load_read ts stop file e h = (e, record { built = refl; operands = ts; spelled = h; whole = refl })
 
 -- ---- `stats`
 -- something stands behind the word
@@ -353,6 +364,11 @@ module _ (line : Bytes) (x : Lexing) (l : IsLexing line 0 x) where
     λ u. command_built (remove (name_of n)) h.1 (unbuilt_tokens u),
     λ b. command_some (remove (name_of n)) h.1 (blank_tokens b).1,
     tokens_mean (remove (name_of n)) h.0 h.1,
+  )
+  line_read (command.Load file) h = (
+    λ u. command_built (load file) h.1 (unbuilt_tokens u),
+    λ b. command_some (load file) h.1 (blank_tokens b).1,
+    tokens_mean (load file) h.0 h.1,
   )
   line_read command.Stats h = (
     λ u. command_built stats h.1 (unbuilt_tokens u),

@@ -10,6 +10,7 @@ pub mod SolutionTexts
 pub mod Told
 pub mod ScanLaws
 pub mod Acting
+pub mod Loading
 pub mod BoundLaws
 pub mod ReplyTexts
 pub mod WordTests

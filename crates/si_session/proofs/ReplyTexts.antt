@@ -1,17 +1,24 @@
 -- The lines of replies, as they are written.
-use Rattle.std.proofs.Common.{◌≡◌, ℕ, [], ◌∷◌, ◌++◌, refl, ap, sym, ◌∙◌, append_assoc}
-use Rattle.std.specs.Prelude.{codes, decimal}
+use Rattle.std.proofs.Common.{◌≡◌, ℕ, [], ◌∷◌, ◌++◌, refl, ap, ap₂, sym, ◌∙◌, append_assoc}
+use Rattle.std.specs.Prelude.{true, codes, decimal}
 use Rattle.si_defs.specs.Bytes.{Bytes}
 use Rattle.std.specs.Borrow.{Bor}
-use Rattle.si_defs.specs.Printing.{symbol_text, shape_text}
+use Rattle.si_defs.specs.Printing.{file_text, symbol_text, shape_text}
 use Rattle.si_defs.specs.declared.Side.TheVariants.{Predicate, Function}
 use Rattle.si_index.specs.declared.index.Stats.{Stats}
 use Rattle.si_sign.specs.declared.faults.Shape.{Shape}
 use Rattle.si_term.specs.declared.term.Sym.{Sym}
+use Rattle.si_term.specs.declared.text.Text.{Text}
+use Rattle.si_defs.specs.Tokens.{begins_with}
+use Rattle.si_steps.specs.Replies.{file_line, spot_line}
 use Rattle.si_term.specs.Terms.{symbol_of}
-use Rattle.si_session.specs.Replies.{reply_line, ended_line, stats_text, closed_shape}
+use Rattle.si_session.specs.Replies.{reply_line, ended_line, stats_text, closed_shape, file_word, line_word}
 use Rattle.si_session.specs.Signs.{sign_text}
 use Rattle.si_session.specs.declared.sign.Sign.TheVariants.{Space, LineFeed}
+use Rattle.si_session.specs.declared.reply.FileFault.{FileFault}
+use Rattle.si_session.specs.declared.reply.FileFault.TheVariants as file_fault
+use Rattle.si_session.specs.declared.reply.LineFault.{LineFault}
+use Rattle.si_session.specs.declared.reply.LineFault.TheVariants as line_fault
 use Rattle.si_session.specs.declared.reply.Reply.{Reply}
 use Rattle.si_session.specs.declared.reply.Reply.TheVariants as reply
 
@@ -84,3 +91,40 @@ full_text r needed limit e = four (codes "! full " ++ decimal needed) (codes " "
 pub stats_line_is : (r : Reply) (stats : Stats) → r ≡ reply.Stats stats → stats_text stats ≡ ended_line r
 unfolding stats_text ended_line
 stats_line_is r stats e = ap ended_line (sym e)
+
+-- ---- files
+pub file_told : (r : Reply) (fault : FileFault) (file : Bor Text) (w b : Bytes) → r ≡ reply.File fault file → w ≡ file_word fault → b ≡ file.now
+    → w ++ file_text b ++ sign_text LineFeed ≡ ended_line r
+unfolding sign_text ended_line
+file_told r fault file w b e word bytes = ap₂ (λ x y. (x ++ file_text y) ++ 10 ∷ []) word bytes ∙ ap ended_line (sym e)
+
+pub line_told : (r : Reply) (fault : LineFault) (file : Bor Text) (line : ℕ) (w b : Bytes) → r ≡ reply.Line fault file line → w ≡ line_word fault → b ≡ file.now
+    → w ++ (file_text b ++ ((codes " " ++ decimal line) ++ sign_text LineFeed)) ≡ ended_line r
+unfolding sign_text ended_line
+line_told r fault file line w b e word bytes =
+    sym (append_assoc w (file_text b) ((codes " " ++ decimal line) ++ 10 ∷ []))
+    ∙ four (w ++ file_text b) (codes " ") (decimal line) (10 ∷ [])
+    ∙ ap₂ (λ x y. spot_line x y line ++ 10 ∷ []) word bytes ∙ ap ended_line (sym e)
+
+file_marked : (fault : FileFault) (file : Bytes) → true ≡ begins_with 33 (file_line (file_word fault) file)
+unfolding file_word
+file_marked file_fault.Cycle file = refl
+file_marked file_fault.Depth file = refl
+file_marked file_fault.Missing file = refl
+file_marked file_fault.Big file = refl
+file_marked file_fault.Failed file = refl
+
+line_marked : (fault : LineFault) (file : Bytes) (line : ℕ) → true ≡ begins_with 33 (spot_line (line_word fault) file line)
+unfolding line_word
+line_marked line_fault.Syntax file line = refl
+line_marked line_fault.Language file line = refl
+
+-- a line on a file is a refusal
+pub file_refuses : (r : Reply) (fault : FileFault) (file : Bor Text) → r ≡ reply.File fault file → true ≡ begins_with 33 (reply_line r)
+file_refuses r fault file e = file_marked fault file.now ∙ ap (λ x. begins_with 33 (reply_line x)) (sym e)
+
+pub line_refuses : (r : Reply) (fault : LineFault) (file : Bor Text) (line : ℕ) → r ≡ reply.Line fault file line → true ≡ begins_with 33 (reply_line r)
+line_refuses r fault file line e = line_marked fault file.now line ∙ ap (λ x. begins_with 33 (reply_line x)) (sym e)
+
+pub fetches_refuses : (r : Reply) → r ≡ reply.Fetches → true ≡ begins_with 33 (reply_line r)
+fetches_refuses r e = ap (λ x. begins_with 33 (reply_line x)) (sym e)

@@ -37,6 +37,7 @@ ReadsCommand line command.Later = (AreBlanks line → ⊥) × IsUnbuilt line
 ReadsCommand line command.Foreign = (IsUnbuilt line → ⊥) × (AreBlanks line → ⊥) × AddsForeign line × IsNoCommand line
 ReadsCommand line command.Wrong = IsWrong line
 ReadsCommand line (command.Add c) = IsPerformed (defs.add (clause_of c)) line × IsSoundClause (clause_of c)
+ReadsCommand line (command.Load file) = IsPerformed (defs.load file) line
 ReadsCommand line (command.Remove n) = IsPerformed (defs.remove (name_of n)) line
 ReadsCommand line command.Stats = IsPerformed defs.stats line
 ReadsCommand line (command.Query p) = IsPerformed (defs.query Instances (pattern_of p)) line
@@ -61,6 +62,7 @@ Commands ts stop command.Wrong =
     (BeginUnbuilt ts → ⊥) × (AddForeign ts → ⊥) × (stop ≡ End → ts ≡ [] → ⊥)
     × (stop ≡ End → (c : defs.Command) → IsCommand c ts → ⊥)
 Commands ts stop (command.Add c) = (stop ≡ End) × IsCommand (defs.add (clause_of c)) ts × IsSoundClause (clause_of c)
+Commands ts stop (command.Load file) = (stop ≡ End) × IsCommand (defs.load file) ts
 Commands ts stop (command.Remove n) = (stop ≡ End) × IsCommand (defs.remove (name_of n)) ts
 Commands ts stop command.Stats = (stop ≡ End) × IsCommand defs.stats ts
 Commands ts stop (command.Query p) = (stop ≡ End) × IsCommand (defs.query Instances (pattern_of p)) ts

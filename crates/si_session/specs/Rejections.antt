@@ -1,13 +1,15 @@
 -- Why a clause isn't kept, as it is told.
-use Rattle.std.specs.Prelude.{◌≡◌, ◌<◌, Some, length, slice_get}
+use Rattle.std.specs.Prelude.{◌≡◌, ◌<◌, Some, codes, length, slice_get}
 use Rattle.si_defs.specs.Symbols.{Symbol}
 use Rattle.si_defs.specs.Clauses.{IsSoundClause}
 use Rattle.si_defs.specs.Entries.{entries, clause_symbols}
-use Rattle.si_steps.specs.Replies.{taken_line, full_line, memory_line}
+use Rattle.si_steps.specs.Replies.{taken_line, full_line, file_line, spot_line, fetches_line, memory_line}
 use Rattle.si_term.specs.Meaning.{name_of, clause_of}
 use Rattle.si_sign.specs.declared.faults.Rejected.{Rejected}
 use Rattle.si_sign.specs.declared.faults.AddFault.{AddFault}
 use Rattle.si_sign.specs.declared.faults.AddFault.TheVariants as add_fault
+use Rattle.si_harvest.specs.declared.faults.HarvestFault.{HarvestFault}
+use Rattle.si_harvest.specs.declared.faults.HarvestFault.TheVariants as harvest_fault
 use Rattle.si_session.specs.Replies.{reply_line, misused_text}
 use Rattle.si_session.specs.declared.reply.Reply.{Reply}
 
@@ -32,3 +34,22 @@ TellsFault rejected reply add_fault.Memory = reply_line reply ≡ memory_line
 -- the reply says why
 abbrev pub TellsWhy : Rejected → Reply → Type 0
 TellsWhy rejected reply = TellsFault rejected reply rejected.why
+
+-- ---- loads
+-- where the load is refused for a clause, that is sound and the clash is at an entry of it
+abbrev pub IsTellable : HarvestFault → Type 0
+IsTellable (harvest_fault.Rejected r) = HasHead r
+IsTellable fault = Unit {0}
+
+-- the reply's line says this fault of a load
+abbrev pub TellsFaultOfLoad : HarvestFault → Reply → Type 0
+TellsFaultOfLoad (harvest_fault.Syntax file line) reply = reply_line reply ≡ spot_line (codes "! syntax ") file line
+TellsFaultOfLoad (harvest_fault.Language file line) reply = reply_line reply ≡ spot_line (codes "! language ") file line
+TellsFaultOfLoad (harvest_fault.Rejected r) reply = TellsWhy r reply
+TellsFaultOfLoad (harvest_fault.Missing file) reply = reply_line reply ≡ file_line (codes "! missing ") file
+TellsFaultOfLoad (harvest_fault.Big file) reply = reply_line reply ≡ file_line (codes "! big ") file
+TellsFaultOfLoad (harvest_fault.Fault file) reply = reply_line reply ≡ file_line (codes "! fault ") file
+TellsFaultOfLoad (harvest_fault.Cycle file) reply = reply_line reply ≡ file_line (codes "! cycle ") file
+TellsFaultOfLoad (harvest_fault.Depth file) reply = reply_line reply ≡ file_line (codes "! depth ") file
+TellsFaultOfLoad harvest_fault.Fetches reply = reply_line reply ≡ fetches_line
+TellsFaultOfLoad harvest_fault.Memory reply = reply_line reply ≡ memory_line

@@ -3,11 +3,15 @@ use Rattle.std.specs.Prelude.{[], ◌∷◌, ◌++◌, codes}
 use Rattle.si_defs.specs.Bytes.{Bytes}
 use Rattle.si_defs.specs.Symbols.{Symbol}
 use Rattle.si_defs.specs.Printing.{symbol_text, shape_text}
-use Rattle.si_steps.specs.Replies.{ok_line, end_line, stats_line, taken_line, full_line, unknown_line, long_line, later_line, language_line, syntax_line, memory_line}
+use Rattle.si_steps.specs.Replies.{ok_line, end_line, stats_line, taken_line, full_line, unknown_line, file_line, spot_line, fetches_line, long_line, later_line, language_line, syntax_line, memory_line}
 use Rattle.si_sign.specs.declared.faults.Shape.{Shape}
 use Rattle.si_term.specs.Terms.{symbol_of}
 use Rattle.si_term.specs.Meaning.{name_of}
 use Rattle.si_index.specs.declared.index.Stats.{Stats}
+use Rattle.si_session.specs.declared.reply.FileFault.{FileFault}
+use Rattle.si_session.specs.declared.reply.FileFault.TheVariants as file_fault
+use Rattle.si_session.specs.declared.reply.LineFault.{LineFault}
+use Rattle.si_session.specs.declared.reply.LineFault.TheVariants as line_fault
 use Rattle.si_session.specs.declared.reply.Reply.{Reply}
 use Rattle.si_session.specs.declared.reply.Reply.TheVariants as reply
 
@@ -21,6 +25,18 @@ misused_text s found kept =
     codes "! use " ++ symbol_text s ++ codes " " ++ shape_text found.side found.arity
     ++ codes " " ++ shape_text kept.side kept.arity
 
+-- the words of faults, before the name of a file
+unfoldable pub file_word : FileFault → Bytes
+file_word file_fault.Cycle = codes "! cycle "
+file_word file_fault.Depth = codes "! depth "
+file_word file_fault.Missing = codes "! missing "
+file_word file_fault.Big = codes "! big "
+file_word file_fault.Failed = codes "! fault "
+
+unfoldable pub line_word : LineFault → Bytes
+line_word line_fault.Syntax = codes "! syntax "
+line_word line_fault.Language = codes "! language "
+
 abbrev pub reply_line : Reply → Bytes
 reply_line (reply.Ok clauses entries) = ok_line clauses entries
 reply_line (reply.End lines) = end_line lines
@@ -29,6 +45,9 @@ reply_line (reply.Taken name) = taken_line (name_of name.now)
 reply_line (reply.Misused symbol found kept) = misused_text (symbol_of symbol.now) found kept
 reply_line (reply.Full needed limit) = full_line needed limit
 reply_line (reply.Unknown name) = unknown_line (name_of name.now)
+reply_line (reply.File fault file) = file_line (file_word fault) file.now
+reply_line (reply.Line fault file line) = spot_line (line_word fault) file.now line
+reply_line reply.Fetches = fetches_line
 reply_line reply.Long = long_line
 reply_line reply.Later = later_line
 reply_line reply.Language = language_line

@@ -1,15 +1,19 @@
 -- What a session is seen as, and what one step does.
-use Rattle.std.specs.Prelude.{◌≡◌, List, [], ◌∷◌, ◌++◌, IsTrue, IsFalse, refl}
+use Rattle.std.specs.Prelude.{◌≡◌, Bool, List, [], ◌∷◌, ◌++◌, Option, IsTrue, IsFalse, refl}
 use Rattle.std.specs.Coded.{Coded, code_by, coded×, coded_list}
 use Rattle.si_defs.specs.Bytes.{Bytes}
 use Rattle.si_defs.specs.Clauses.{Clause}
 use Rattle.si_steps.specs.declared.limits.Limits.{Limits}
 use Rattle.si_steps.specs.contracts.limits.Limits as limits_contracts
 use Rattle.si_steps.specs.Replies.{Reply, is_refusal, memory_line}
+use Rattle.si_state.specs.Harvest.{Files}
+use Rattle.si_steps.specs.Loads.{Owed, nothing, a_miss, a_big, a_failure, PerformsLoad}
 use Rattle.si_steps.specs.Steps.{Step}
 use Rattle.si_steps.specs.Runs.{ended}
 use Rattle.si_defs.specs.Codes.{clause_code}
 use Rattle.si_io.specs.Content.{Told, Receives, ReceivesPrefix}
+use Rattle.si_io.specs.Faults.{Rose}
+use Rattle.si_io.specs.Library.{Counts}
 use Rattle.si_index.specs.Kept.{Kept}
 use Rattle.si_session.specs.declared.stepped.Stepped.{Stepped}
 use Rattle.si_session.specs.declared.stepped.Stepped.TheVariants.{Answered, Refused, Silent, SinkFailed}
@@ -29,13 +33,34 @@ Writes Refused reply before after = Receives before (ended reply) after × IsTru
 Writes Silent reply before after = Receives before (ended reply) after × (reply ≡ [])
 Writes SinkFailed reply before after = ReceivesPrefix before (ended reply) after
 
--- The call went one step: the state is the one behind it, and its reply was written, or at a sink's
--- fault a prefix of it.
-pub record Steps (old new : State) (line : Bytes) (outcome : Stepped) (before after : Told) : Type 0 where
+-- What a reply owes to the library was counted there, and no other count moved. It owes a failure
+-- only where the library may fail.
+abbrev pub IsCounted : Bool → Owed → Counts → Counts → Type 0
+IsCounted may_fail nothing before now = now ≡ before
+IsCounted may_fail a_miss before now = Rose before.misses now.misses × (now ≡ record before { misses = now.misses })
+IsCounted may_fail a_big before now = Rose before.bigs now.bigs × (now ≡ record before { bigs = now.bigs })
+IsCounted may_fail a_failure before now =
+    Rose before.faults now.faults × (now ≡ record before { faults = now.faults }) × IsTrue may_fail
+
+-- what is known of the sink, of the library's counts and of whether the library may fail, before a
+-- step or behind it
+pub record Around : Type 0 where
+  pub sink : Told
+  pub counts : Counts
+  pub may_fail : Bool
+
+abbrev pub around : Told → Counts → Bool → Around
+around sink counts may_fail = record { sink = sink; counts = counts; may_fail = may_fail }
+
+-- The call went one step over a library: the state is the one behind it, its reply was written, or
+-- at a sink's fault a prefix of it, and what the reply owes to the library was counted.
+pub record Steps (told : Option Files) (old new : State) (line : Bytes) (outcome : Stepped) (before after : Around) : Type 0 where
   pub reply : Reply
-  pub step : Step old.limits old.clauses line reply new.clauses
+  pub owed : Owed
+  pub step : Step old.limits told old.clauses line reply owed new.clauses
   pub limits : new.limits ≡ old.limits
-  pub written : Writes outcome reply before after
+  pub written : Writes outcome reply before.sink after.sink
+  pub counted : IsCounted before.may_fail owed before.counts after.counts
 
 -- ---- parts of a step
 -- What a command did: its reply P was right, and so is the state behind it; or memory ran out, at
@@ -50,3 +75,11 @@ pub data HasPerformed (P : Reply → List Clause → Type 0) (old new : List Cla
 abbrev pub ActsOn : (Limits → List Clause → Reply → List Clause → Type 0) → Kept → Kept → Stepped → Told → Told → Type 0
 ActsOn P old new outcome before after =
     (limits : Limits) → limits.entries ≡ old.limit → HasPerformed (P limits old.clauses) old.clauses new.clauses outcome before after
+
+-- What a load did: its reply was right, what it owes was counted, and the state is the one behind
+-- it; or memory ran out, and the state stayed.
+pub data HasLoaded (limits : Limits) (told : Option Files) (file : Bytes) (old new : List Clause) (outcome : Stepped) (before after : Around) : Type 0 where
+  rightly_loaded : (reply : Reply) (owed : Owed) → PerformsLoad limits told file old reply owed new → Writes outcome reply before.sink after.sink
+      → IsCounted before.may_fail owed before.counts after.counts → HasLoaded limits told file old new outcome before after
+  ran_out : new ≡ old → Writes outcome (memory_line ∷ []) before.sink after.sink → after.counts ≡ before.counts
+      → HasLoaded limits told file old new outcome before after

@@ -6,7 +6,7 @@ ghost use Rattle.si_lex.specs.Lexemes.{token_of, tokens_of};
 ghost use Rattle.si_defs.specs.declared.TheConstants.{MOST_BYTES};
 ghost use Rattle.si_parse.specs.declared.pattern.PatternKind.{PatternKind};
 ghost use Rattle.si_steps.specs.Words.{command_text};
-ghost use Rattle.si_steps.specs.declared.word.Word.TheVariants.{Add, Remove, Ask, Stats};
+ghost use Rattle.si_steps.specs.declared.word.Word.TheVariants.{Add, Load, Remove, Ask, Stats};
 ghost use Rattle.si_session.specs.Commands.{Commands, ReadsCommand, kind_word};
 
 use crate::word::word_of;
@@ -15,8 +15,9 @@ use si_lex::{Lexeme, Stop, lex};
 use si_parse::grammar::{clause, name};
 use si_parse::item::is_foreign;
 use si_parse::pattern::{PatternKind, whole_pattern};
+use si_parse::text::whole_file;
 use si_steps::Word;
-use si_term::{Clause, Name, Pattern};
+use si_term::{Clause, Name, Pattern, Text};
 use std::alloc::{AllocError, Global};
 
 /// What a command line asks for.
@@ -32,6 +33,8 @@ pub enum Command {
     Wrong,
     /// That a clause be kept.
     Add(Clause),
+    /// That the clauses of the file with this name, and of those that it includes, be kept.
+    Load(Text),
     /// That the clause with this name go.
     Remove(Name),
     /// The entries that are instances of a pattern.
@@ -67,6 +70,7 @@ fn command_of(alloc: Global, tokens: &[Lexeme<'_>], stop: Stop) -> Result<Comman
     };
     match word_of(first) {
         Some(Word::Add) => add_command(alloc, rest, stop),
+        Some(Word::Load) => load_command(alloc, rest, stop),
         Some(Word::Remove) => remove_command(alloc, rest, stop),
         Some(Word::Ask(Relation::Instances)) => query_command(alloc, rest, stop),
         Some(Word::Stats) => Ok(stats_command(rest, stop)),
@@ -87,6 +91,19 @@ fn add_command(alloc: Global, tokens: &[Lexeme<'_>], stop: Stop) -> Result<Comma
         },
         Some(_) => Ok(Command::Wrong),
         None if is_foreign(tokens) => Ok(Command::Foreign),
+        None => Ok(Command::Wrong),
+    }
+}
+
+/// The command that the word `load` begins, by the tokens behind it.
+fn load_command(alloc: Global, tokens: &[Lexeme<'_>], stop: Stop) -> Result<Command, AllocError>
+    ensures { IfOk result (Commands (lower (command_text Load) ∷ tokens_of tokens.now) stop) }
+{
+    if stop != Stop::End {
+        return Ok(Command::Wrong);
+    }
+    match whole_file(alloc, tokens)? {
+        Some(file) => Ok(Command::Load(file)),
         None => Ok(Command::Wrong),
     }
 }

@@ -1,6 +1,6 @@
 // Replies, written to a sink.
 ghost use Rattle.std.specs.Prelude.{◌≡◌, ◌≤◌, ◌++◌, [], ◌∷◌, decimal};
-ghost use Rattle.si_defs.specs.Printing.{name_text, symbol_text};
+ghost use Rattle.si_defs.specs.Printing.{name_text, file_text, symbol_text};
 ghost use Rattle.si_steps.specs.Replies.{is_refusal};
 ghost use Rattle.si_io.specs.Faults.{Rose, HasCause};
 ghost use Rattle.si_io.specs.Puts.{Puts};
@@ -8,7 +8,7 @@ ghost use Rattle.si_term.specs.Terms.{symbol_of};
 ghost use Rattle.si_term.specs.Meaning.{name_of};
 ghost use Rattle.si_session.specs.Signs.{sign_text};
 ghost use Rattle.si_session.specs.declared.sign.Sign.TheVariants.{Space, LineFeed};
-ghost use Rattle.si_session.specs.Replies.{reply_line, ended_line, stats_text, closed_shape};
+ghost use Rattle.si_session.specs.Replies.{reply_line, ended_line, stats_text, closed_shape, file_word, line_word};
 ghost use Rattle.si_session.specs.Session.{Writes};
 ghost use Rattle.si_session.specs.declared.stepped.Stepped.TheVariants.{SinkFailed};
 
@@ -16,9 +16,33 @@ use crate::sign::{Sign, put_sign};
 use crate::stepped::Stepped;
 use si_index::Stats;
 use si_io::{Failed, Sink};
-use si_reply::{put_bytes, put_name, put_number, put_symbol};
+use si_reply::{put_bytes, put_file, put_name, put_number, put_symbol};
 use si_sign::Shape;
-use si_term::{Name, Side, Sym};
+use si_term::{Name, Side, Sym, Text};
+
+/// Why a load is refused for a file.
+#[derive(Clone, Copy)]
+pub enum FileFault {
+    /// It is open already.
+    Cycle,
+    /// Too many files are open.
+    Depth,
+    /// The library has no such file.
+    Missing,
+    /// It has too many bytes.
+    Big,
+    /// The library failed at it.
+    Failed,
+}
+
+/// Why a load is refused at a line of a file.
+#[derive(Clone, Copy)]
+pub enum LineFault {
+    /// No item stands there.
+    Syntax,
+    /// A formula of another language stands there.
+    Language,
+}
 
 /// A line of a reply that isn't a hit.
 #[derive(Clone, Copy)]
@@ -47,6 +71,12 @@ pub enum Reply<'a> {
     },
     /// No kept clause has this name.
     Unknown(&'a Name),
+    /// A load is refused for this file.
+    File(FileFault, &'a Text),
+    /// A load is refused at this line of the file.
+    Line(LineFault, &'a Text, u64),
+    /// A load would make too many fetches.
+    Fetches,
     /// The line has more bytes than a line may have.
     Long,
     /// The line's kind isn't built yet.
@@ -80,6 +110,61 @@ fn put_named<K: Sink>(sink: &mut K, word: &[u8], name: &Name) -> Result<(), Fail
     put_bytes(sink, word)?;
     put_name(sink, name)?;
     put_sign(sink, Sign::LineFeed)
+}
+
+/// The word of a fault, before the name of a file.
+#[tactic(auto, unfolding(crate::specs::Replies::file_word))]
+fn file_word(fault: FileFault) -> &'static [u8]
+    ensures { result.now ≡ file_word fault }
+{
+    match fault {
+        FileFault::Cycle => b"! cycle ",
+        FileFault::Depth => b"! depth ",
+        FileFault::Missing => b"! missing ",
+        FileFault::Big => b"! big ",
+        FileFault::Failed => b"! fault ",
+    }
+}
+
+/// The word of a fault, before the name of a file and a line of it.
+#[tactic(auto, unfolding(crate::specs::Replies::line_word))]
+fn line_word(fault: LineFault) -> &'static [u8]
+    ensures { result.now ≡ line_word fault }
+{
+    match fault {
+        LineFault::Syntax => b"! syntax ",
+        LineFault::Language => b"! language ",
+    }
+}
+
+/// Writes a line of a word and the name of a file.
+#[tactic(auto, using(si_io::proofs::Content::writes))]
+fn put_filed<K: Sink>(sink: &mut K, word: &[u8], file: &[u8]) -> Result<(), Failed>
+    ensures text { Puts result (word.now ++ file_text file.now ++ sign_text LineFeed)
+        (K.written sink.old) (K.written sink.new) }
+    ensures cause { HasCause (K.faults sink.old) (K.faults sink.new) result }
+{
+    put_bytes(sink, word)?;
+    put_file(sink, file)?;
+    put_sign(sink, Sign::LineFeed)
+}
+
+/// Writes a line of a word, the name of a file, and the number of a line of it.
+#[tactic(auto, using(si_io::proofs::Content::writes))]
+fn put_lined<K: Sink>(
+    sink: &mut K,
+    word: &[u8],
+    file: &[u8],
+    space: &[u8],
+    line: u64,
+) -> Result<(), Failed>
+    ensures text { Puts result (word.now ++ (file_text file.now ++ ((space.now ++ decimal line)
+        ++ sign_text LineFeed))) (K.written sink.old) (K.written sink.new) }
+    ensures cause { HasCause (K.faults sink.old) (K.faults sink.new) result }
+{
+    put_bytes(sink, word)?;
+    put_file(sink, file)?;
+    put_count(sink, space, line)
 }
 
 /// Writes a line of two words, each with a number.
@@ -177,6 +262,11 @@ fn put_reply<K: Sink>(sink: &mut K, reply: Reply<'_>) -> Result<(), Failed>
         } => put_misused(sink, b"! use ", symbol, found, kept),
         Reply::Full { needed, limit } => put_counts(sink, b"! full ", needed, b" ", limit),
         Reply::Unknown(name) => put_named(sink, b"! unknown ", name),
+        Reply::File(fault, file) => put_filed(sink, file_word(fault), file.as_bytes()),
+        Reply::Line(fault, file, line) => {
+            put_lined(sink, line_word(fault), file.as_bytes(), b" ", line)
+        }
+        Reply::Fetches => put_bytes(sink, b"! fetches\n"),
         Reply::Long => put_bytes(sink, b"! long\n"),
         Reply::Later => put_bytes(sink, b"! later\n"),
         Reply::Language => put_bytes(sink, b"! language\n"),
@@ -192,6 +282,7 @@ fn refuses(reply: Reply<'_>) -> bool
     match reply {
         Reply::Ok { .. } | Reply::End(_) | Reply::Stats(_) => false,
         Reply::Taken(_) | Reply::Misused { .. } | Reply::Full { .. } | Reply::Unknown(_) => true,
+        Reply::File(..) | Reply::Line(..) | Reply::Fetches => true,
         Reply::Long | Reply::Later | Reply::Language => true,
         Reply::Syntax | Reply::Memory => true,
     }

@@ -3,8 +3,8 @@ ghost use Rattle.std.specs.Prelude.{◌≡◌, ◌↔◌, ◌≤◌, [], IfOk};
 ghost use Rattle.si_steps.specs.Limits.{AllowsLimits};
 ghost use Rattle.si_steps.specs.Commands.{IsSilent, add, remove, query, stats};
 ghost use Rattle.si_steps.specs.Steps.{Performs};
-ghost use Rattle.si_session.specs.Session.{Steps, ActsOn};
-ghost use Rattle.si_session.specs.Rejections.{HasHead, TellsWhy};
+ghost use Rattle.si_session.specs.Session.{Steps, ActsOn, HasLoaded, around};
+ghost use Rattle.si_session.specs.Rejections.{HasHead, TellsWhy, IsTellable, TellsFaultOfLoad};
 ghost use Rattle.si_session.specs.declared.stepped.Stepped.TheVariants.{Silent, Refused, SinkFailed};
 ghost use Rattle.si_io.specs.Faults.{Rose};
 ghost use Rattle.si_defs.specs.Clauses.{IsSoundClause};
@@ -14,14 +14,15 @@ ghost use Rattle.si_term.specs.Meaning.{name_of, clause_of, pattern_of};
 use crate::answer::answer_clauses;
 use crate::broken::Broken;
 use crate::command::{Command, read_command};
-use crate::reply::{Reply, tell};
+use crate::reply::{FileFault, LineFault, Reply, tell};
 use crate::scan::Scratch;
 use crate::stepped::Stepped;
+use si_harvest::{HarvestFault, HarvestLimits, expand};
 use si_index::Index;
-use si_io::Sink;
+use si_io::{Library, Sink};
 use si_sign::{AddFault, ClauseStore, Rejected};
 use si_steps::Limits;
-use si_term::{Clause, Name, Pattern, head_at};
+use si_term::{Clause, Name, Pattern, Text, head_at};
 use std::alloc::{AllocError, Global};
 use std::marker::Model;
 
@@ -59,11 +60,20 @@ impl Session {
         })
     }
 
-    /// Acts on one line without its line feed, and writes its reply.
-    pub fn step<K: Sink>(&mut self, line: &[u8], sink: &mut K) -> Stepped
+    /// Acts on one line without its line feed, and writes its reply. Files are fetched from the
+    /// library.
+    pub fn step<L: Library, K: Sink>(
+        &mut self,
+        line: &[u8],
+        library: &mut L,
+        sink: &mut K,
+    ) -> Stepped
         requires { AllowsLimits self.old.limits }
-        ensures step { Steps self.old self.new line.now result (K.written sink.old)
-            (K.written sink.new) }
+        ensures step { Steps (L.files library.old) self.old self.new line.now result
+            (around (K.written sink.old) (L.counts library.old) (L.may_fail library.old))
+            (around (K.written sink.new) (L.counts library.new) (L.may_fail library.new)) }
+        ensures told { L.files library.new ≡ L.files library.old }
+        ensures same { L.may_fail library.new ≡ L.may_fail library.old }
         ensures silent { (result ≡ Silent) ↔ IsSilent self.old.limits line.now }
         ensures refused { result ≡ Refused → self.new.clauses ≡ self.old.clauses }
         ensures later { K.faults sink.old ≤ K.faults sink.new }
@@ -79,6 +89,14 @@ impl Session {
             Ok(Command::Foreign) => tell(sink, Reply::Language),
             Ok(Command::Wrong) => tell(sink, Reply::Syntax),
             Ok(Command::Add(clause)) => add(&mut self.index, clause, sink),
+            Ok(Command::Load(name)) => load_named(
+                self.alloc,
+                &self.limits,
+                &mut self.index,
+                name,
+                library,
+                sink,
+            ),
             Ok(Command::Remove(name)) => remove(&mut self.index, name, sink),
             Ok(Command::Query(pattern)) => answer(self.alloc, &self.index, &pattern, sink),
             Ok(Command::Stats) => tell(sink, Reply::Stats(self.index.stats())),
@@ -126,6 +144,90 @@ fn refusal(rejected: &Rejected) -> Reply<'_>
             limit: *limit,
         },
         AddFault::Memory => Reply::Memory,
+    }
+}
+
+/// Loads the file with this name.
+fn load_named<L: Library, K: Sink>(
+    alloc: Global,
+    limits: &Limits,
+    index: &mut Index,
+    name: Text,
+    library: &mut L,
+    sink: &mut K,
+) -> Stepped
+    requires allows { AllowsLimits limits.now }
+    requires limit { index.old.limit ≡ limits.now.entries }
+    ensures loads { HasLoaded limits.now (L.files library.old) name index.old.clauses
+        index.new.clauses result
+        (around (K.written sink.old) (L.counts library.old) (L.may_fail library.old))
+        (around (K.written sink.new) (L.counts library.new) (L.may_fail library.new)) }
+    ensures limit { index.new.limit ≡ index.old.limit }
+    ensures told { L.files library.new ≡ L.files library.old }
+    ensures same { L.may_fail library.new ≡ L.may_fail library.old }
+    ensures later { K.faults sink.old ≤ K.faults sink.new }
+    ensures kept { (result ≡ SinkFailed → ⊥) → K.faults sink.new ≡ K.faults sink.old }
+    ensures failed { result ≡ SinkFailed → Rose (K.faults sink.old) (K.faults sink.new) }
+{
+    load(alloc, limits, index, name.as_bytes(), library, sink)
+}
+
+/// Keeps the clauses of a file and of those that it includes, or none, and writes the reply.
+fn load<L: Library, K: Sink>(
+    alloc: Global,
+    limits: &Limits,
+    index: &mut Index,
+    name: &[u8],
+    library: &mut L,
+    sink: &mut K,
+) -> Stepped
+    requires allows { AllowsLimits limits.now }
+    requires limit { index.old.limit ≡ limits.now.entries }
+    ensures loads { HasLoaded limits.now (L.files library.old) name.now index.old.clauses
+        index.new.clauses result
+        (around (K.written sink.old) (L.counts library.old) (L.may_fail library.old))
+        (around (K.written sink.new) (L.counts library.new) (L.may_fail library.new)) }
+    ensures limit { index.new.limit ≡ index.old.limit }
+    ensures told { L.files library.new ≡ L.files library.old }
+    ensures same { L.may_fail library.new ≡ L.may_fail library.old }
+    ensures later { K.faults sink.old ≤ K.faults sink.new }
+    ensures kept { (result ≡ SinkFailed → ⊥) → K.faults sink.new ≡ K.faults sink.old }
+    ensures failed { result ≡ SinkFailed → Rose (K.faults sink.old) (K.faults sink.new) }
+{
+    let bounds = HarvestLimits {
+        file: limits.file,
+        fetches: limits.fetches,
+        depth: limits.depth,
+    };
+    match expand(alloc, library, name, &bounds, index) {
+        Ok(gained) => tell(
+            sink,
+            Reply::Ok {
+                clauses: u64::from(gained.clauses),
+                entries: u64::from(gained.entries),
+            },
+        ),
+        Err(fault) => tell(sink, load_refusal(&fault)),
+    }
+}
+
+/// Why a load is refused, as a reply.
+#[tactic(auto, unfolding(crate::specs::Replies::file_word, crate::specs::Replies::line_word))]
+fn load_refusal(fault: &HarvestFault) -> Reply<'_>
+    requires { IsTellable fault.now }
+    ensures { TellsFaultOfLoad fault.now result }
+{
+    match fault {
+        HarvestFault::Syntax { file, line } => Reply::Line(LineFault::Syntax, file, *line),
+        HarvestFault::Language { file, line } => Reply::Line(LineFault::Language, file, *line),
+        HarvestFault::Rejected(rejected) => refusal(rejected),
+        HarvestFault::Missing(file) => Reply::File(FileFault::Missing, file),
+        HarvestFault::Big(file) => Reply::File(FileFault::Big, file),
+        HarvestFault::Fault(file) => Reply::File(FileFault::Failed, file),
+        HarvestFault::Cycle(file) => Reply::File(FileFault::Cycle, file),
+        HarvestFault::Depth(file) => Reply::File(FileFault::Depth, file),
+        HarvestFault::Fetches => Reply::Fetches,
+        HarvestFault::Memory => Reply::Memory,
     }
 }
 

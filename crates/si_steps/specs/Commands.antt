@@ -4,17 +4,19 @@ use Rattle.si_defs.specs.Bytes.{Bytes}
 use Rattle.si_defs.specs.Clauses.{Name, Clause, Pattern, literal_pattern, term_pattern}
 use Rattle.si_defs.specs.Substitutions.{IsAmong}
 use Rattle.si_defs.specs.declared.Relation.{Relation}
+use Rattle.si_defs.specs.declared.TokenKind.TheVariants.{Single}
 use Rattle.si_defs.specs.Tokens.{Token, lower, AreBlanks, Begins, NextToken}
 use Rattle.si_defs.specs.Grammar.{IsName, IsClause, IsLiteral, IsTerm, left_bracket}
 use Rattle.si_defs.specs.Texts.{IsText, languages}
 use Rattle.si_steps.specs.declared.limits.Limits.{Limits}
 use Rattle.si_steps.specs.declared.word.Word.{Word}
-use Rattle.si_steps.specs.declared.word.Word.TheVariants.{Add, Remove, Ask, Stats}
+use Rattle.si_steps.specs.declared.word.Word.TheVariants.{Add, Load, Remove, Ask, Stats}
 use Rattle.si_steps.specs.Words.{command_text, is_built}
 
 -- ---- commands
 pub data Command : Type 0 where
   add : Clause → Command
+  load : Bytes → Command
   remove : Name → Command
   query : Relation → Pattern → Command
   stats : Command
@@ -22,6 +24,7 @@ pub data Command : Type 0 where
 -- the word that it begins with
 abbrev pub command_word : Command → Word
 command_word (add c) = Add
+command_word (load file) = Load
 command_word (remove name) = Remove
 command_word (query relation pattern) = Ask relation
 command_word stats = Stats
@@ -33,6 +36,7 @@ IsQuery (term_pattern t) ts = (us : List Token) × IsTerm t us × (ts ≡ lower 
 -- what stands behind the word
 abbrev pub AreOperands : Command → List Token → Type 0
 AreOperands (add c) ts = IsClause c ts
+AreOperands (load file) ts = ts ≡ record { kind = Single; text = file } ∷ []
 AreOperands (remove name) ts = (t : Token) × IsName name t × (ts ≡ t ∷ [])
 AreOperands (query relation pattern) ts = IsQuery pattern ts
 AreOperands stats ts = ts ≡ []

@@ -4,8 +4,9 @@ use Rattle.si_defs.specs.Bytes.{Bytes}
 use Rattle.si_defs.specs.Symbols.{Symbol}
 use Rattle.si_defs.specs.Clauses.{Name}
 use Rattle.si_defs.specs.Tokens.{begins_with}
-use Rattle.si_defs.specs.Printing.{name_text, symbol_text, shape_text}
+use Rattle.si_defs.specs.Printing.{name_text, file_text, symbol_text, shape_text}
 use Rattle.si_state.specs.Acceptance.{Refusal, taken, misused, full}
+use Rattle.si_state.specs.Harvest.{Fault, cycle, too_deep, too_many, missing, too_big, failed, foreign, malformed, rejected}
 use Rattle.si_state.specs.Answers.{Hit, hit_texts}
 
 -- lines, without their line feeds
@@ -46,6 +47,29 @@ abbrev pub refusal_line : ℕ → Name → Refusal → Bytes
 refusal_line limit name taken = taken_line name
 refusal_line limit name (misused number found kept) = misused_line found kept
 refusal_line limit name (full needed) = full_line needed limit
+
+-- a word, and the name of a file
+abbrev pub file_line : Bytes → Bytes → Bytes
+file_line word file = word ++ file_text file
+
+-- the same, and a line of it
+abbrev pub spot_line : Bytes → Bytes → ℕ → Bytes
+spot_line word file line = file_line word file ++ codes " " ++ decimal line
+
+abbrev pub fetches_line : Bytes
+fetches_line = codes "! fetches"
+
+-- why a load is refused where so many entries may be
+abbrev pub fault_line : ℕ → Fault → Bytes
+fault_line limit (cycle file) = file_line (codes "! cycle ") file
+fault_line limit (too_deep file) = file_line (codes "! depth ") file
+fault_line limit too_many = fetches_line
+fault_line limit (missing file) = file_line (codes "! missing ") file
+fault_line limit (too_big file) = file_line (codes "! big ") file
+fault_line limit (failed file) = file_line (codes "! fault ") file
+fault_line limit (foreign file line) = spot_line (codes "! language ") file line
+fault_line limit (malformed file line) = spot_line (codes "! syntax ") file line
+fault_line limit (rejected clause why) = refusal_line limit clause.name why
 
 abbrev pub long_line : Bytes
 long_line = codes "! long"

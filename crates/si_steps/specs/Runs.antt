@@ -1,11 +1,13 @@
 -- A run over the whole input: its lines, and the replies one after the other (this project's
 -- profile).
-use Rattle.std.specs.Prelude.{◌≡◌, ◌==◌, List, [], ◌∷◌, ◌++◌, IsFalse}
+use Rattle.std.specs.Prelude.{◌≡◌, ℕ, ◌+◌, ◌==◌, Option, List, [], ◌∷◌, ◌++◌, IsFalse}
 use Rattle.std.specs.List.{list_any, AllByRecursion}
 use Rattle.si_defs.specs.Bytes.{Bytes}
 use Rattle.si_defs.specs.Clauses.{Clause}
 use Rattle.si_steps.specs.declared.limits.Limits.{Limits}
 use Rattle.si_steps.specs.Replies.{Reply}
+use Rattle.si_state.specs.Harvest.{Files}
+use Rattle.si_steps.specs.Loads.{Owed, a_failure}
 use Rattle.si_steps.specs.Steps.{Step}
 
 -- lines, each with its line feed
@@ -29,13 +31,21 @@ abbrev pub lines_at_end : List Bytes → Bytes → List Bytes
 lines_at_end lines [] = lines
 lines_at_end lines (c ∷ cs) = lines ++ (c ∷ cs) ∷ []
 
--- From this state on the lines have this output, and the new state stands behind them.
-abbrev pub Run : Limits → List Clause → List Bytes → Bytes → List Clause → Type 0
-Run limits state [] output new = (output ≡ []) × (new ≡ state)
-Run limits state (line ∷ lines) output new =
-    (reply : Reply) × (next : List Clause) × (others : Bytes)
-    × Step limits state line reply next × Run limits next lines others new × (output ≡ ended reply ++ others)
+-- how many failures of the library a reply tells
+abbrev pub failures_in : Owed → ℕ
+failures_in a_failure = 1
+failures_in owed = 0
 
--- the output of a session over these lines, which begins with no clause
-abbrev pub IsOutput : Limits → List Bytes → Bytes → Type 0
-IsOutput limits lines output = (new : List Clause) × Run limits [] lines output new
+-- From this state on the lines have this output, which tells so many failures of the library, and
+-- the new state stands behind them.
+abbrev pub Run : Limits → Option Files → List Clause → List Bytes → Bytes → ℕ → List Clause → Type 0
+Run limits told state [] output failures new = (output ≡ []) × (failures ≡ 0) × (new ≡ state)
+Run limits told state (line ∷ lines) output failures new =
+    (reply : Reply) × (owed : Owed) × (next : List Clause) × (others : Bytes) × (further : ℕ)
+    × Step limits told state line reply owed next × Run limits told next lines others further new
+    × (output ≡ ended reply ++ others) × (failures ≡ failures_in owed + further)
+
+-- the output of a session over these lines, which begins with no clause, and how many failures it
+-- tells
+abbrev pub IsOutput : Limits → Option Files → List Bytes → Bytes → ℕ → Type 0
+IsOutput limits told lines output failures = (new : List Clause) × Run limits told [] lines output failures new

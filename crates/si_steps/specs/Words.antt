@@ -28,6 +28,7 @@ command_text Sample = codes "sample"
 -- the words of the commands built so far
 abbrev pub is_built : Word → Bool
 is_built Add = true
+is_built Load = true
 is_built Remove = true
 is_built (Ask Instances) = true
 is_built Stats = true

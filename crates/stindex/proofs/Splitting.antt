@@ -1,5 +1,5 @@
 -- How bytes fall into lines as more of them come, and how a run goes on by one line.
-use Rattle.std.proofs.Common.{◌≡◌, ℕ, Bool, true, false, List, [], ◌∷◌, ◌++◌, refl, sym, ap, subst, ◌∙◌, append_assoc, append-nil, arith, ltb, cond, length, get_or, take, drop, ◌≤◌, ◌+◌, suc, add-one, take_all, take-append-drop, drop-cons}
+use Rattle.std.proofs.Common.{◌≡◌, ℕ, Bool, true, false, List, [], ◌∷◌, ◌++◌, refl, sym, ap, subst, ◌∙◌, append_assoc, append-nil, arith, Option, ltb, cond, length, get_or, take, drop, ◌≤◌, ◌+◌, suc, add-one, take_all, take-append-drop, drop-cons}
 use Rattle.std.specs.Prelude.{◌==◌}
 use Rattle.std.specs.Prelude.{None, Some}
 use Rattle.std.specs.List.{AllByRecursion, position, position_or_len}
@@ -10,10 +10,12 @@ use Rattle.si_defs.specs.Bytes.{Bytes}
 use Rattle.si_defs.specs.Clauses.{Clause}
 use Rattle.si_steps.specs.declared.limits.Limits.{Limits}
 use Rattle.si_steps.specs.Replies.{Reply}
+use Rattle.si_state.specs.Harvest.{Files}
+use Rattle.si_steps.specs.Loads.{Owed}
 use Rattle.si_steps.specs.Steps.{Step}
 use Rattle.si_session.proofs.Told.{ended-append}
 use Rattle.stindex.specs.Lines.{IsLineEnd}
-use Rattle.si_steps.specs.Runs.{ended, IsOneLine, Splits, lines_at_end, Run}
+use Rattle.si_steps.specs.Runs.{ended, failures_in, IsOneLine, Splits, lines_at_end, Run}
 
 -- ---- lines
 each-append : (ls : List Bytes) (k : Bytes) → AllByRecursion IsOneLine ls → IsOneLine k → AllByRecursion IsOneLine (ls ++ k ∷ [])
@@ -112,21 +114,28 @@ lines_at_end-some lines (c ∷ cs) some = refl
 
 -- ---- runs
 -- a run goes on by one line
-pub Run_more : (limits : Limits) (old mid new : List Clause) (lines : List Bytes) (line output : Bytes) (reply : Reply)
-    → Run limits old lines output mid → Step limits mid line reply new → Run limits old (lines ++ line ∷ []) (output ++ ended reply) new
-Run_more limits old mid new [] line output reply run step = (
+pub Run_more : (limits : Limits) (told : Option Files) (old mid new : List Clause) (lines : List Bytes) (line output : Bytes) (failures : ℕ) (reply : Reply) (owed : Owed)
+    → Run limits told old lines output failures mid → Step limits told mid line reply owed new
+    → Run limits told old (lines ++ line ∷ []) (output ++ ended reply) (failures + failures_in owed) new
+Run_more limits told old mid new [] line output failures reply owed run step = (
   reply,
+  owed,
   new,
   [],
-  subst (λ (s : List Clause). Step limits s line reply new) run.1 step,
-  (refl, refl),
+  0,
+  subst (λ (s : List Clause). Step limits told s line reply owed new) run.2 step,
+  (refl, refl, refl),
   ap (λ (b : Bytes). b ++ ended reply) run.0 ∙ sym (append-nil (ended reply)),
+  omega (arith, run.1),
 )
-Run_more limits old mid new (l ∷ ls) line output reply run step = (
+Run_more limits told old mid new (l ∷ ls) line output failures reply owed run step = (
   run.0,
   run.1,
-  run.2 ++ ended reply,
-  run.3,
-  Run_more limits run.1 mid new ls line run.2 reply run.4 step,
-  ap (λ (b : Bytes). b ++ ended reply) run.5 ∙ append_assoc (ended run.0) run.2 (ended reply),
+  run.2,
+  run.3 ++ ended reply,
+  run.4 + failures_in owed,
+  run.5,
+  Run_more limits told run.2 mid new ls line run.3 run.4 reply owed run.6 step,
+  ap (λ (b : Bytes). b ++ ended reply) run.7 ∙ append_assoc (ended run.0) run.3 (ended reply),
+  omega (arith, run.8),
 )

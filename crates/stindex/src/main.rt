@@ -6,7 +6,7 @@ mod lines;
 mod serve;
 mod status;
 
-use si_io::{RealSink, RealSource};
+use si_io::{RealLibrary, RealSink, RealSource};
 use si_session::Limits;
 use status::Status;
 use std::io::BufWriter;
@@ -18,7 +18,14 @@ fn main(rt: HostRuntime) -> ExitCode {
     };
     let mut source = RealSource::new(rt.stdin());
     let mut sink = RealSink::new(output);
-    let status = serve::serve(rt.alloc(), &Limits::standard(), &mut source, &mut sink);
+    let mut library = RealLibrary::new(rt);
+    let status = serve::serve(
+        rt.alloc(),
+        &Limits::standard(),
+        &mut source,
+        &mut sink,
+        &mut library,
+    );
     ExitCode::from(status.code())
 }
 

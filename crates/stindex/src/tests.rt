@@ -1,9 +1,10 @@
-// Whole runs over sources and sinks in memory.
+// Whole runs over sources, sinks and libraries in memory.
 mod counts;
+mod loads;
 
 use crate::serve::serve;
 use crate::status::Status;
-use si_io::{MemorySink, MemorySource};
+use si_io::{MemoryLibrary, MemorySink, MemorySource};
 use si_session::Limits;
 use std::alloc::{AllocError, Global};
 use std::test::Fail;
@@ -24,7 +25,7 @@ const WHOLE: Device = Device {
 /// More than what these tests write.
 const ROOM: usize = 1 << 16;
 
-/// How a run over this input ended, and what it wrote.
+/// How a run over this input and a library without files ended, and what it wrote.
 fn run(
     alloc: Global,
     limits: &Limits,
@@ -33,6 +34,19 @@ fn run(
     to: Device,
     room: usize,
 ) -> Result<(Status, Vec<u8>), AllocError> {
+    let mut library = MemoryLibrary::new(alloc, Vec::new(alloc));
+    run_over(alloc, limits, input, (from, to), room, &mut library)
+}
+
+/// The same over this library.
+fn run_over(
+    alloc: Global,
+    limits: &Limits,
+    input: &[u8],
+    (from, to): (Device, Device),
+    room: usize,
+    library: &mut MemoryLibrary,
+) -> Result<(Status, Vec<u8>), AllocError> {
     if !limits.fits() {
         return Err(AllocError);
     }
@@ -40,7 +54,7 @@ fn run(
     let writes = vec![in alloc; to.fails_at]?;
     let mut source = MemorySource::new(input.to_vec(alloc)?, from.chunk, reads);
     let mut sink = MemorySink::new(alloc, room, to.chunk, writes)?;
-    let status = serve(alloc, limits, &mut source, &mut sink);
+    let status = serve(alloc, limits, &mut source, &mut sink, library);
     Ok((status, sink.bytes().to_vec(alloc)?))
 }
 
@@ -142,8 +156,8 @@ const ROWS: [(&[u8], &[u8]); 22] = [
     ),
     // Words of commands that aren't built.
     (
-        b"tree\nload 'a'\nunifiable lit p\nsample 1 2\n%\n",
-        b"! later\n! later\n! later\n! later\n",
+        b"tree\nunifiable lit p\nsample 1 2\n%\n",
+        b"! later\n! later\n! later\n",
     ),
     // Two spellings of one name, and an integer that is another.
     (

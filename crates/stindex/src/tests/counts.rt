@@ -2,7 +2,7 @@
 use super::{Device, LINES, ROOM};
 use crate::serve::serve;
 use crate::status::Status;
-use si_io::{Failed, MemorySink, MemorySource, Sink, Source};
+use si_io::{Failed, MemoryLibrary, MemorySink, MemorySource, Sink, Source};
 use si_session::Limits;
 use std::alloc::{AllocError, Global};
 use std::cell::Cell;
@@ -119,7 +119,8 @@ fn watch(
         device: MemorySink::new(alloc, ROOM, to.chunk, writes)?,
         calls,
     };
-    Ok(serve(alloc, limits, &mut source, &mut sink))
+    let mut library = MemoryLibrary::new(alloc, Vec::new(alloc));
+    Ok(serve(alloc, limits, &mut source, &mut sink, &mut library))
 }
 
 /// Devices of which one fails at this call: first the reads are numbered, then the writes. At 0

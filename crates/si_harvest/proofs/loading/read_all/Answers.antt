@@ -37,6 +37,7 @@ loop-reading-init g c =
         gained = c.requires.gained;
       };
       told = c.enter.ensures.told;
+      same = c.enter.ensures.same;
       counts = c.in_ok-enter.ensures.cause;
       limit = refl;
     }

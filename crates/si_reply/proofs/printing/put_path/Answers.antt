@@ -1,4 +1,4 @@
-use Rattle.std.proofs.Common.{◌≡◌, ◌-◌, ◌<◌, ◌++◌, [], length, get_or, take, drop, ap, sym, refl, ◌∙◌, append-nil, rules}
+use Rattle.std.proofs.Common.{◌≡◌, ◌-◌, ◌<◌, ◌++◌, length, get_or, take, drop, ap, sym, ◌∙◌, rules}
 use Rattle.std.specs.Prelude.{codes, decimal}
 use Rattle.si_defs.specs.Printing.{path_text}
 use Rattle.si_reply.specs.PrintedParts.{dotted}

@@ -1,4 +1,4 @@
-use Rattle.std.proofs.Common.{rules, ◌≡◌, ◌++◌, [], ap, sym, refl, ◌∙◌, append-nil}
+use Rattle.std.proofs.Common.{rules, ◌≡◌, ◌++◌, ap, refl, ◌∙◌}
 use Rattle.std.specs.Prelude.{codes, decimal}
 use Rattle.si_defs.specs.Printing.{name_text, path_text}
 use Rattle.si_term.specs.Meaning.{name_of}

@@ -19,6 +19,12 @@ returns-in-Some-Add-clause-read c =
     (front c.args.tokens.now c.in-Some.first.now c.in-Some.rest.now _ c.in-Some.ensures.cases.0
     (c.in-Some-Add.ensures.found ∙ ap (λ w. lower (command_text w)) c.in-Some-Add.field-0-is)) c.add_command.ensures
 
+pub returns-in-Some-Load-clause-read : goal.returns-in-Some-Load-clause-read
+returns-in-Some-Load-clause-read c =
+    subst (λ ts. IfOk c.load_command.result (Commands ts c.args.stop))
+    (front c.args.tokens.now c.in-Some.first.now c.in-Some.rest.now _ c.in-Some.ensures.cases.0
+    (c.in-Some-Load.ensures.found ∙ ap (λ w. lower (command_text w)) c.in-Some-Load.field-0-is)) c.load_command.ensures
+
 pub returns-in-Some-Remove-clause-read : goal.returns-in-Some-Remove-clause-read
 returns-in-Some-Remove-clause-read c =
     subst (λ ts. IfOk c.remove_command.result (Commands ts c.args.stop))

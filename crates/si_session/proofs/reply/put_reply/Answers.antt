@@ -2,7 +2,7 @@ use Rattle.std.proofs.Common.{ap, sym, subst}
 use Rattle.si_io.specs.Puts.{Puts}
 use Rattle.si_session.specs.Replies.{ended_line}
 use Rattle.si_session.specs.Signs.{sign_text}
-use Rattle.si_session.proofs.ReplyTexts.{ok_text, end_text, stats_line_is, misused_is, full_text}
+use Rattle.si_session.proofs.ReplyTexts.{ok_text, end_text, stats_line_is, misused_is, full_text, file_told, line_told}
 use Rattle.si_session.proofs.reply.put_reply.Goals as goal
 
 pub returns-in-Ok-clause-text : goal.returns-in-Ok-clause-text
@@ -20,10 +20,25 @@ unfolding ended_line sign_text
 returns-in-Taken-clause-text g c =
     subst (λ t. Puts c.put_named.result t (g.K.Sink.written c.args.sink.now) (g.K.Sink.written c.put_named.new.sink)) (ap ended_line (sym c.in-Taken.is)) c.put_named.ensures.text
 
+pub returns-in-File-clause-text : goal.returns-in-File-clause-text
+returns-in-File-clause-text g c =
+    subst (λ t. Puts c.put_filed.result t (g.K.Sink.written c.args.sink.now) (g.K.Sink.written c.put_filed.new.sink))
+    (file_told c.args.reply c.in-File.fault c.in-File.file _ _ c.in-File.is c.file_word.ensures c.as_bytes.ensures) c.put_filed.ensures.text
+
+pub returns-in-Line-clause-text : goal.returns-in-Line-clause-text
+returns-in-Line-clause-text g c =
+    subst (λ t. Puts c.put_lined.result t (g.K.Sink.written c.args.sink.now) (g.K.Sink.written c.put_lined.new.sink))
+    (line_told c.args.reply c.in-Line.fault c.in-Line.file c.in-Line.line _ _ c.in-Line.is c.line_word.ensures c.as_bytes-in-Line.ensures) c.put_lined.ensures.text
+
+pub returns-in-Fetches-clause-text : goal.returns-in-Fetches-clause-text
+unfolding ended_line
+returns-in-Fetches-clause-text g c =
+    subst (λ t. Puts c.put_bytes.result t (g.K.Sink.written c.args.sink.now) (g.K.Sink.written c.put_bytes.new.sink)) (ap ended_line (sym c.in-Fetches.is)) c.put_bytes.ensures.text
+
 pub returns-in-Long-clause-text : goal.returns-in-Long-clause-text
 unfolding ended_line
 returns-in-Long-clause-text g c =
-    subst (λ t. Puts c.put_bytes.result t (g.K.Sink.written c.args.sink.now) (g.K.Sink.written c.put_bytes.new.sink)) (ap ended_line (sym c.in-Long.is)) c.put_bytes.ensures.text
+    subst (λ t. Puts c.put_bytes-in-Long.result t (g.K.Sink.written c.args.sink.now) (g.K.Sink.written c.put_bytes-in-Long.new.sink)) (ap ended_line (sym c.in-Long.is)) c.put_bytes-in-Long.ensures.text
 
 pub returns-in-Later-clause-text : goal.returns-in-Later-clause-text
 unfolding ended_line

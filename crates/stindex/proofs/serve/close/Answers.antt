@@ -15,9 +15,9 @@ empty_not held bytes b none same is false_is =
 pub returns-clause-closed : goal.returns-clause-closed
 returns-clause-closed g c =
     let some : held_of c.args.pending.now ≡ [] → ⊥ = λ e. empty_not _ _ _ e c.bytes.ensures c.is_empty.ensures c.if-is_empty.false in
-    on_ok_weaker _ (Closes_line _ _ _ _ _ _ some) c.act.ensures.acted
+    on_ok_weaker _ (Closes_line _ _ _ _ _ _ _ some) c.act.ensures.acted
 
 pub returns-clause-cut : goal.returns-clause-cut
 returns-clause-cut g c =
     let some : held_of c.args.pending.now ≡ [] → ⊥ = λ e. empty_not _ _ _ e c.bytes.ensures c.is_empty.ensures c.if-is_empty.false in
-    on_err_weaker _ (Cuts_line _ _ _ _ _ _ some) c.act.ensures.broken
+    on_err_weaker _ (Cuts_line _ _ _ _ _ _ _ some) c.act.ensures.broken

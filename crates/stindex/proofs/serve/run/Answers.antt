@@ -6,13 +6,13 @@ use Rattle.stindex.proofs.serve.run.Goals as goal
 
 pub returns-in-Ok-close-clause-serves : goal.returns-in-Ok-close-clause-serves
 returns-in-Ok-close-clause-serves g c =
-    Serves_ended _ _ _ (take c.in-Ok.count c.read.new.into) _ _ _ _ _ _ _ _ c.loop-taken.invariant.stands c.loop-taken.invariant.limits c.loop-taken-test.true
+    Serves_ended _ _ _ _ _ (take c.in-Ok.count c.read.new.into) _ _ _ _ _ _ _ _ c.loop-taken.invariant.stands c.loop-taken.invariant.limits c.loop-taken.invariant.told c.loop-taken-test.true
     c.in-Ok.ensures.taken (ap (λ (n : ℕ). take n c.read.new.into) c.if-count-eq0.true)
     (c.in-Ok.ensures.ended c.if-count-eq0.true (omega (arith, length-take c.min-room.result c.loop-taken.chunk))) c.in-Ok-close.ensures.closed
 
 pub returns-in-Err-close-clause-serves : goal.returns-in-Err-close-clause-serves
 returns-in-Err-close-clause-serves g c =
-    Serves_cut _ _ _ (take c.in-Ok.count c.read.new.into) _ _ _ _ _ _ _ _ c.loop-taken.invariant.stands c.loop-taken.invariant.limits c.loop-taken-test.true
+    Serves_cut _ _ _ _ _ (take c.in-Ok.count c.read.new.into) _ _ _ _ _ _ _ _ c.loop-taken.invariant.stands c.loop-taken.invariant.limits c.loop-taken.invariant.told c.loop-taken-test.true
     c.in-Ok.ensures.taken (ap (λ (n : ℕ). take n c.read.new.into) c.if-count-eq0.true)
     (c.in-Ok.ensures.ended c.if-count-eq0.true (omega (arith, length-take c.min-room.result c.loop-taken.chunk))) c.in-Err-close.ensures.cut
 
@@ -21,7 +21,7 @@ returns-in-Err-feed-clause-serves g c =
     let into = c.read.new.into in
     let count = c.in-Ok.count in
     let within : count ≤ length into = omega (arith, c.in-Ok.ensures.bound, c.read.auto.into, length-take c.min-room.result c.loop-taken.chunk) in
-    Serves_sink _ _ _ count (take count into) _ _ _ (g.S.Source.left c.read.new.self) _ _ _ _ _ c.loop-taken.invariant.stands c.loop-taken.invariant.limits c.in-Ok.ensures.taken
+    Serves_sink _ _ _ _ _ count (take count into) _ _ _ (g.S.Source.left c.read.new.self) _ _ _ _ _ c.loop-taken.invariant.stands c.loop-taken.invariant.limits c.loop-taken.invariant.told c.in-Ok.ensures.taken
     (length-take-le count into within) (omega (arith, length-take c.min-room.result c.loop-taken.chunk)) (take-append-le count into _ within) c.in-Err-feed.ensures.broken
 
 pub loop-taken-preserved : goal.loop-taken-preserved
@@ -30,7 +30,7 @@ loop-taken-preserved g c =
     let count = c.in-Ok.count in
     let within : count ≤ length into = omega (arith, c.in-Ok.ensures.bound, c.read.auto.into, length-take c.min-room.result c.loop-taken.chunk) in
     record {
-      stands = Stands_more _ _ _ count (take count into) _ _ _ _ _ _ _ _ _ _ _ c.loop-taken.invariant.stands c.loop-taken.invariant.limits c.in-Ok.ensures.taken
+      stands = Stands_more _ _ _ _ _ count (take count into) _ _ _ _ _ _ _ _ _ _ _ c.loop-taken.invariant.stands c.loop-taken.invariant.limits c.loop-taken.invariant.told c.in-Ok.ensures.taken
           (length-take-le count into within) (take-append-le count into _ within) c.in-Ok-feed.ensures.fed;
       within = omega (arith, length-take c.min-room.result c.loop-taken.chunk);
       limits = c.in-Ok-feed.ensures.limits ∙ c.loop-taken.invariant.limits;
@@ -38,4 +38,6 @@ loop-taken-preserved g c =
       sure = c.in-Ok.ensures.same ∙ c.loop-taken.invariant.sure;
       source_kept = omega (arith, c.in-Ok.ensures.cause.kept);
       sink_kept = omega (arith, c.in-Ok-feed.ensures.cause.kept);
+      told = c.in-Ok-feed.ensures.told ∙ c.loop-taken.invariant.told;
+      same = c.in-Ok-feed.ensures.same ∙ c.loop-taken.invariant.same;
     }

@@ -16,7 +16,7 @@ returns-in_err-may_ask-clause-unopened g c =
 
 pub returns-in_err-may_ask-clause-cause : goal.returns-in_err-may_ask-clause-cause
 returns-in_err-may_ask-clause-cause g c =
-    cause_again c.from_residual.result c.in_err-may_ask.field-0.0 _ _ c.from_residual.ensures.1 (c.in_err-may_ask.ensures.cause (g.L.Library.counts c.args.library.now))
+    cause_again c.from_residual.result c.in_err-may_ask.field-0.0 _ _ _ c.from_residual.ensures.1 (c.in_err-may_ask.ensures.cause (g.L.Library.may_fail c.args.library.now) (g.L.Library.counts c.args.library.now))
 
 pub returns-in_err-file-clause-unopened : goal.returns-in_err-file-clause-unopened
 returns-in_err-file-clause-unopened g c =

@@ -2,10 +2,10 @@ use Rattle.std.proofs.Common.{◌≤◌, length, ap, sym, ◌∙◌, subst, arit
 use Rattle.si_steps.specs.Commands.{add, remove, query, stats}
 use Rattle.si_defs.specs.declared.Relation.TheVariants.{Instances}
 use Rattle.si_term.specs.Meaning.{name_of, clause_of, pattern_of}
-use Rattle.si_session.specs.Session.{Steps}
+use Rattle.si_session.specs.Session.{Steps, around}
 use Rattle.si_session.specs.Commands.{ReadsCommand}
 use Rattle.si_session.specs.declared.command.Command.TheVariants as command
-use Rattle.si_session.proofs.Acting.{state_with, stepped, not_silent, keeps_clauses, counts}
+use Rattle.si_session.proofs.Acting.{state_with, stepped, not_silent, keeps_clauses, counts, load_stepped, load_not_silent, load_keeps}
 use Rattle.si_session.proofs.session.Session.step.Goals as goal
 
 pub returns-in-Ok-Add-clause-step : goal.returns-in-Ok-Add-clause-step
@@ -13,30 +13,39 @@ returns-in-Ok-Add-clause-step g c =
     let a = g.K.Sink.written c.args.sink.now in
     let b = g.K.Sink.written c.add.new.sink in
     let limits = c.self.inside.limits in
+    let told = g.L.Library.files c.args.library.now in
+    let tally = g.L.Library.counts c.args.library.now in
+    let may_fail = g.L.Library.may_fail c.args.library.now in
     let read : ReadsCommand c.args.line.now (command.Add c.in-Ok-Add.clause) = subst (ReadsCommand c.args.line.now) c.in-Ok-Add.field-0-is c.in-Ok-Add.ensures.read in
     let short : length c.args.line.now ≤ limits.line = omega (arith, c.if-line-self.false) in
-    subst (λ s. Steps s (state_with limits c.add.new.index.clauses) c.args.line.now c.add.result a b) c.self.view_is
-    (stepped limits c.self.inside.index.clauses c.add.new.index.clauses c.args.line.now (add (clause_of c.in-Ok-Add.clause)) c.add.result a b short read.0 (c.add.ensures.acts limits (sym c.self.invariant)))
+    subst (λ s. Steps told s (state_with limits c.add.new.index.clauses) c.args.line.now c.add.result (around a tally may_fail) (around b tally may_fail)) c.self.view_is
+    (stepped limits told c.self.inside.index.clauses c.add.new.index.clauses c.args.line.now (add (clause_of c.in-Ok-Add.clause)) c.add.result a b tally may_fail short read.0 (c.add.ensures.acts limits (sym c.self.invariant)))
 
 pub returns-in-Ok-Query-clause-step : goal.returns-in-Ok-Query-clause-step
 returns-in-Ok-Query-clause-step g c =
     let a = g.K.Sink.written c.args.sink.now in
     let b = g.K.Sink.written c.answer.new.sink in
     let limits = c.self.inside.limits in
+    let told = g.L.Library.files c.args.library.now in
+    let tally = g.L.Library.counts c.args.library.now in
+    let may_fail = g.L.Library.may_fail c.args.library.now in
     let read : ReadsCommand c.args.line.now (command.Query c.in-Ok-Query.pattern) = subst (ReadsCommand c.args.line.now) c.in-Ok-Query.field-0-is c.in-Ok-Query.ensures.read in
     let short : length c.args.line.now ≤ limits.line = omega (arith, c.if-line-self.false) in
-    subst (λ s. Steps s s c.args.line.now c.answer.result a b) c.self.view_is
-    (stepped limits c.self.inside.index.clauses c.self.inside.index.clauses c.args.line.now (query Instances (pattern_of c.in-Ok-Query.pattern)) c.answer.result a b short read (c.answer.ensures.acts limits (sym c.self.invariant)))
+    subst (λ s. Steps told s s c.args.line.now c.answer.result (around a tally may_fail) (around b tally may_fail)) c.self.view_is
+    (stepped limits told c.self.inside.index.clauses c.self.inside.index.clauses c.args.line.now (query Instances (pattern_of c.in-Ok-Query.pattern)) c.answer.result a b tally may_fail short read (c.answer.ensures.acts limits (sym c.self.invariant)))
 
 pub returns-in-Ok-Remove-clause-step : goal.returns-in-Ok-Remove-clause-step
 returns-in-Ok-Remove-clause-step g c =
     let a = g.K.Sink.written c.args.sink.now in
     let b = g.K.Sink.written c.remove.new.sink in
     let limits = c.self.inside.limits in
+    let told = g.L.Library.files c.args.library.now in
+    let tally = g.L.Library.counts c.args.library.now in
+    let may_fail = g.L.Library.may_fail c.args.library.now in
     let read : ReadsCommand c.args.line.now (command.Remove c.in-Ok-Remove.name) = subst (ReadsCommand c.args.line.now) c.in-Ok-Remove.field-0-is c.in-Ok-Remove.ensures.read in
     let short : length c.args.line.now ≤ limits.line = omega (arith, c.if-line-self.false) in
-    subst (λ s. Steps s (state_with limits c.remove.new.index.clauses) c.args.line.now c.remove.result a b) c.self.view_is
-    (stepped limits c.self.inside.index.clauses c.remove.new.index.clauses c.args.line.now (remove (name_of c.in-Ok-Remove.name)) c.remove.result a b short read
+    subst (λ s. Steps told s (state_with limits c.remove.new.index.clauses) c.args.line.now c.remove.result (around a tally may_fail) (around b tally may_fail)) c.self.view_is
+    (stepped limits told c.self.inside.index.clauses c.remove.new.index.clauses c.args.line.now (remove (name_of c.in-Ok-Remove.name)) c.remove.result a b tally may_fail short read
     (c.remove.ensures.acts limits (sym c.self.invariant)))
 
 pub returns-in-Ok-Add-clause-silent : goal.returns-in-Ok-Add-clause-silent
@@ -88,9 +97,39 @@ returns-in-Ok-Stats-clause-step g c =
     let a = g.K.Sink.written c.args.sink.now in
     let b = g.K.Sink.written c.tell-in-Ok-Stats.new.sink in
     let limits = c.self.inside.limits in
+    let told = g.L.Library.files c.args.library.now in
+    let tally = g.L.Library.counts c.args.library.now in
+    let may_fail = g.L.Library.may_fail c.args.library.now in
     let read : ReadsCommand c.args.line.now command.Stats = subst (ReadsCommand c.args.line.now) c.in-Ok-Stats.field-0-is c.in-Ok-Stats.ensures.read in
     let short : length c.args.line.now ≤ limits.line = omega (arith, c.if-line-self.false) in
-    subst (λ s. Steps s s c.args.line.now c.tell-in-Ok-Stats.result a b) c.self.view_is
-    (stepped limits c.self.inside.index.clauses c.self.inside.index.clauses c.args.line.now stats c.tell-in-Ok-Stats.result a b short read
+    subst (λ s. Steps told s s c.args.line.now c.tell-in-Ok-Stats.result (around a tally may_fail) (around b tally may_fail)) c.self.view_is
+    (stepped limits told c.self.inside.index.clauses c.self.inside.index.clauses c.args.line.now stats c.tell-in-Ok-Stats.result a b tally may_fail short read
     (counts limits c.self.inside.index.clauses c.stats.result c.tell-in-Ok-Stats.result a b c.stats.ensures.clauses c.stats.ensures.entries c.stats.ensures.symbols
     c.tell-in-Ok-Stats.ensures.written))
+
+-- ---- a load
+pub load_named-requires-clause-limit : goal.load_named-requires-clause-limit
+load_named-requires-clause-limit g c = c.self.invariant
+
+pub returns-in-Ok-Load-clause-step : goal.returns-in-Ok-Load-clause-step
+returns-in-Ok-Load-clause-step g c =
+    let told = g.L.Library.files c.args.library.now in
+    let before = around (g.K.Sink.written c.args.sink.now) (g.L.Library.counts c.args.library.now) (g.L.Library.may_fail c.args.library.now) in
+    let after = around (g.K.Sink.written c.load_named.new.sink) (g.L.Library.counts c.load_named.new.library) (g.L.Library.may_fail c.load_named.new.library) in
+    let limits = c.self.inside.limits in
+    let read : ReadsCommand c.args.line.now (command.Load c.in-Ok-Load.name) = subst (ReadsCommand c.args.line.now) c.in-Ok-Load.field-0-is c.in-Ok-Load.ensures.read in
+    let short : length c.args.line.now ≤ limits.line = omega (arith, c.if-line-self.false) in
+    subst (λ s. Steps told s (state_with limits c.load_named.new.index.clauses) c.args.line.now c.load_named.result before after) c.self.view_is
+    (load_stepped limits told c.in-Ok-Load.name c.self.inside.index.clauses c.load_named.new.index.clauses c.args.line.now c.load_named.result before after short read c.load_named.ensures.loads)
+
+pub returns-in-Ok-Load-clause-silent : goal.returns-in-Ok-Load-clause-silent
+returns-in-Ok-Load-clause-silent g c =
+    let read : ReadsCommand c.args.line.now (command.Load c.in-Ok-Load.name) = subst (ReadsCommand c.args.line.now) c.in-Ok-Load.field-0-is c.in-Ok-Load.ensures.read in (
+      λ e. absurd (load_not_silent c.self.inside.limits (g.L.Library.files c.args.library.now) c.in-Ok-Load.name c.self.inside.index.clauses c.load_named.new.index.clauses c.load_named.result _ _ c.load_named.ensures.loads e),
+      λ h. absurd (read.1 h.1),
+    )
+
+pub returns-in-Ok-Load-clause-refused : goal.returns-in-Ok-Load-clause-refused
+returns-in-Ok-Load-clause-refused g c =
+    λ e. load_keeps c.self.inside.limits (g.L.Library.files c.args.library.now) c.in-Ok-Load.name c.self.inside.index.clauses c.load_named.new.index.clauses c.load_named.result _ _ c.load_named.ensures.loads e
+    ∙ ap (λ s. s.clauses) c.self.view_is

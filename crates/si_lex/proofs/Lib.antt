@@ -6,6 +6,7 @@ pub mod FrontLaws
 pub mod PlaceLaws
 pub mod BlankPlaces
 pub mod TokenPlaces
+pub mod ClassLaws
 pub mod FirstLaws
 pub mod LexingLaws
 pub mod ReadBackTokens

@@ -5,9 +5,10 @@ ghost use Rattle.si_lex.specs.Blanks.{IsOneBlank, NothingBlankAt};
 ghost use Rattle.si_lex.specs.Places.{IsBehindBlanks};
 ghost use Rattle.si_lex.specs.Scans.{before_close, is_in_line};
 
-use crate::bytes::{is_white, stands_at};
+use crate::bytes::{First, begins_blank, first_of, stands_at};
 
 /// The place behind the longest blanks at a place: the end of the bytes, where nothing else stands.
+#[inline(always)]
 pub fn skip_blanks(bytes: &[u8], at: usize) -> usize
     requires { at ≤ length bytes.now }
     ensures from { at ≤ result }
@@ -20,18 +21,24 @@ pub fn skip_blanks(bytes: &[u8], at: usize) -> usize
             None => return place,
         }
     }
-    place
+    bytes.len()
 }
 
-// The place behind the white space or the comment at a place, if one stands there.
+// The place behind the white space or the comment at a place, if one stands there. Most bytes begin
+// none, so that is asked first, by one comparison.
+#[inline(always)]
 fn blank_end(bytes: &[u8], at: usize) -> Option<usize>
     requires { at < length bytes.now }
     ensures { MatchOption result (NothingBlankAt (drop at bytes.now)) (IsOneBlank bytes.now at) }
 {
-    match bytes[at] {
-        b'%' => Some(line_end(bytes, at + 1)),
-        b'/' => comment_end(bytes, at),
-        byte if is_white(byte) => Some(at + 1),
+    let byte = bytes[at];
+    if !begins_blank(byte) {
+        return None;
+    }
+    match first_of(byte) {
+        First::White => Some(at + 1),
+        First::Percent => Some(line_end(bytes, at + 1)),
+        First::Slash => comment_end(bytes, at),
         _ => None,
     }
 }

@@ -2,68 +2,16 @@
 ghost use Rattle.std.specs.Prelude.{◌≡◌, ◌≤◌, ◌<◌, IsTrue, length, drop};
 ghost use Rattle.si_defs.specs.Bytes as classes;
 ghost use Rattle.si_defs.specs.Tokens.{begins_with};
-ghost use Rattle.si_lex.specs.Firsts.{first_of, is_lone_mark, mark_or_nothing};
+ghost use Rattle.si_lex.specs.Firsts.{begins_blank, first_of, is_in_words};
 
-/// Tab, line feed, form feed, carriage return or space.
-pub fn is_white(byte: u8) -> bool
-    ensures { result ≡ classes.is_white byte }
-{
-    byte == 9 || byte == 10 || byte == 12 || byte == 13 || byte == 32
-}
+use crate::bytes::First::{
+    Capital as CA, Closing as CL, Digit as DI, Dollar as DO, DoubleQuote as DQ, Exclamation as EX,
+    LoneMark as MA, Nothing as NO, Opening as OP, Percent as PC, Sign as SI, SingleQuote as SQ,
+    Slash as SL, Small as SM, Underscore as US, White as WS,
+};
 
-/// A letter, a digit or `_`.
-pub fn is_word_byte(byte: u8) -> bool
-    ensures { result ≡ classes.is_word_byte byte }
-{
-    byte.is_ascii_lowercase() || byte.is_ascii_uppercase() || byte.is_ascii_digit() || byte == b'_'
-}
-
-/// What may stand between quotes: a space to `~`.
-pub fn is_printable(byte: u8) -> bool
-    ensures { result ≡ classes.is_printable byte }
-{
-    32 <= byte && byte <= 126
-}
-
-/// A mark that begins no other token and no comment.
-pub fn is_lone_mark(byte: u8) -> bool
-    ensures { result ≡ is_lone_mark byte }
-{
-    matches!(
-        byte,
-        b'(' | b')'
-            | b'['
-            | b']'
-            | b','
-            | b'.'
-            | b'='
-            | b'~'
-            | b'|'
-            | b'?'
-            | b'&'
-            | b'<'
-            | b'>'
-            | b'@'
-            | b'*'
-            | b'^'
-            | b';'
-            | b':'
-            | b'#'
-            | b'{'
-            | b'}'
-    )
-}
-
-/// Whether this byte stands at a place.
-pub fn stands_at(bytes: &[u8], at: usize, byte: u8) -> bool
-    requires { at ≤ length bytes.now }
-    ensures value { result ≡ begins_with byte (drop at bytes.now) }
-    ensures within { IsTrue result → at < length bytes.now }
-{
-    at < bytes.len() && bytes[at] == byte
-}
-
-/// What a byte begins, outside blanks.
+/// What a byte begins. Those of words are the first four and those that begin blanks the last three,
+/// so that one comparison tells either.
 #[derive(Clone, Copy)]
 pub enum First {
     /// A lower word.
@@ -72,6 +20,14 @@ pub enum First {
     Capital,
     /// A number.
     Digit,
+    /// Nothing, but words go on with it.
+    Underscore,
+    /// An opening bracket, round or square.
+    Opening,
+    /// A mark, and nothing else.
+    LoneMark,
+    /// A closing bracket, round or square.
+    Closing,
     /// A number with a sign, or a mark.
     Sign,
     /// A word behind dollar signs.
@@ -82,40 +38,94 @@ pub enum First {
     DoubleQuote,
     /// `!=`, or a mark.
     Exclamation,
-    /// A comment, or a mark.
-    Slash,
-    /// A mark and nothing else.
-    LoneMark,
     /// Nothing.
     Nothing,
+    /// White space.
+    White,
+    /// A comment up to the end of its line.
+    Percent,
+    /// A comment, or a mark.
+    Slash,
 }
 
+// What each byte begins.
+static FIRSTS: [First; 256] = [
+    NO, NO, NO, NO, NO, NO, NO, NO, NO, WS, WS, NO, WS, WS, NO, NO, NO, NO, NO, NO, NO, NO, NO, NO,
+    NO, NO, NO, NO, NO, NO, NO, NO, WS, EX, DQ, MA, DO, PC, MA, SQ, OP, CL, MA, SI, MA, SI, MA, SL,
+    DI, DI, DI, DI, DI, DI, DI, DI, DI, DI, MA, MA, MA, MA, MA, MA, MA, CA, CA, CA, CA, CA, CA, CA,
+    CA, CA, CA, CA, CA, CA, CA, CA, CA, CA, CA, CA, CA, CA, CA, CA, CA, CA, CA, OP, NO, CL, MA, US,
+    NO, SM, SM, SM, SM, SM, SM, SM, SM, SM, SM, SM, SM, SM, SM, SM, SM, SM, SM, SM, SM, SM, SM, SM,
+    SM, SM, SM, MA, MA, MA, MA, NO, NO, NO, NO, NO, NO, NO, NO, NO, NO, NO, NO, NO, NO, NO, NO, NO,
+    NO, NO, NO, NO, NO, NO, NO, NO, NO, NO, NO, NO, NO, NO, NO, NO, NO, NO, NO, NO, NO, NO, NO, NO,
+    NO, NO, NO, NO, NO, NO, NO, NO, NO, NO, NO, NO, NO, NO, NO, NO, NO, NO, NO, NO, NO, NO, NO, NO,
+    NO, NO, NO, NO, NO, NO, NO, NO, NO, NO, NO, NO, NO, NO, NO, NO, NO, NO, NO, NO, NO, NO, NO, NO,
+    NO, NO, NO, NO, NO, NO, NO, NO, NO, NO, NO, NO, NO, NO, NO, NO, NO, NO, NO, NO, NO, NO, NO, NO,
+    NO, NO, NO, NO, NO, NO, NO, NO, NO, NO, NO, NO, NO, NO, NO, NO,
+];
+
 /// What this byte begins.
+#[inline(always)]
 pub fn first_of(byte: u8) -> First
     ensures { result ≡ first_of byte }
 {
-    match byte {
-        b'a'..=b'z' => First::Small,
-        b'A'..=b'Z' => First::Capital,
-        b'0'..=b'9' => First::Digit,
-        b'+' | b'-' => First::Sign,
-        b'$' => First::Dollar,
-        b'\'' => First::SingleQuote,
-        b'"' => First::DoubleQuote,
-        b'!' => First::Exclamation,
-        b'/' => First::Slash,
-        _ => mark_or_nothing(byte),
+    FIRSTS[byte as usize]
+}
+
+/// White space, or the first byte of a comment. A slash may be a mark too.
+#[inline(always)]
+pub fn begins_blank(byte: u8) -> bool
+    ensures { result ≡ begins_blank (first_of byte) }
+{
+    is_blank_first(first_of(byte))
+}
+
+// Whether blanks may begin so.
+#[inline(always)]
+fn is_blank_first(first: First) -> bool
+    ensures { result ≡ begins_blank first }
+{
+    match first {
+        First::White => true,
+        First::Percent => true,
+        First::Slash => true,
+        _ => false,
     }
 }
 
-// A mark that begins no other token and no comment, or nothing.
-#[tactic(auto, unfolding(crate::specs::Firsts::mark_or_nothing))]
-fn mark_or_nothing(byte: u8) -> First
-    ensures { result ≡ mark_or_nothing byte }
+/// A letter, a digit or `_`.
+#[inline(always)]
+pub fn is_word_byte(byte: u8) -> bool
+    ensures { result ≡ classes.is_word_byte byte }
 {
-    if is_lone_mark(byte) {
-        First::LoneMark
-    } else {
-        First::Nothing
+    is_word_first(first_of(byte))
+}
+
+// Whether words go on so.
+#[inline(always)]
+fn is_word_first(first: First) -> bool
+    ensures { result ≡ is_in_words first }
+{
+    match first {
+        First::Digit => true,
+        First::Capital => true,
+        First::Small => true,
+        First::Underscore => true,
+        _ => false,
     }
+}
+
+/// What may stand between quotes: a space to `~`.
+pub fn is_printable(byte: u8) -> bool
+    ensures { result ≡ classes.is_printable byte }
+{
+    32 <= byte && byte <= 126
+}
+
+/// Whether this byte stands at a place.
+pub fn stands_at(bytes: &[u8], at: usize, byte: u8) -> bool
+    requires { at ≤ length bytes.now }
+    ensures value { result ≡ begins_with byte (drop at bytes.now) }
+    ensures within { IsTrue result → at < length bytes.now }
+{
+    at < bytes.len() && bytes[at] == byte
 }

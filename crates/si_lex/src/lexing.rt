@@ -1,18 +1,19 @@
 // The tokens of some bytes.
 ghost use Rattle.std.specs.Prelude.{◌≡◌, ◌≤◌, ◌<◌, ◌↔◌, length, drop, IfOk, OnErr, IsTrue};
 ghost use Rattle.std.specs.Prelude.{MatchOption, []};
-ghost use Rattle.si_defs.specs.Grammar.{open_behind};
 ghost use Rattle.si_defs.specs.Tokens.{AreBlanks};
 ghost use Rattle.si_defs.specs.declared.TheConstants.{DEEPEST_NESTING};
+ghost use Rattle.si_lex.specs.Firsts.{depth_behind};
 ghost use Rattle.si_lex.specs.FullStops.{IsStop};
 ghost use Rattle.si_lex.specs.Lexemes.{token_of};
 ghost use Rattle.si_lex.specs.Lexing.{IsLexing, IsItemLexing, IsLexingUpTo};
 ghost use Rattle.si_lex.specs.Places.{IsLexemeWithin, NoTokenWithin};
 
 use crate::blanks::skip_blanks;
+use crate::bytes::{First, first_of};
 use crate::lexeme::Lexeme;
 use crate::spellings::lexeme_at;
-use si_defs::{DEEPEST_NESTING, TokenKind};
+use si_defs::DEEPEST_NESTING;
 use std::alloc::{AllocError, Global};
 
 /// Why a list of tokens ends where it does.
@@ -45,6 +46,7 @@ pub struct Lexing<'a> {
 /// # Errors
 ///
 /// `AllocError` where there is no memory for the tokens. Where only blanks stand, none is wanted.
+#[inline(never)]
 pub fn lex<'a>(alloc: Global, bytes: &'a [u8], at: usize) -> Result<Lexing<'a>, AllocError>
     requires { at ≤ length bytes.now }
     ensures read { IfOk result (IsLexing bytes.now at) }
@@ -61,6 +63,7 @@ pub fn lex<'a>(alloc: Global, bytes: &'a [u8], at: usize) -> Result<Lexing<'a>, 
 /// # Errors
 ///
 /// `AllocError` where there is no memory for the tokens. Where only blanks stand, none is wanted.
+#[inline(never)]
 pub fn lex_item<'a>(alloc: Global, bytes: &'a [u8], at: usize) -> Result<Lexing<'a>, AllocError>
     requires { at ≤ length bytes.now }
     ensures read { IfOk result (IsItemLexing bytes.now at) }
@@ -69,7 +72,9 @@ pub fn lex_item<'a>(alloc: Global, bytes: &'a [u8], at: usize) -> Result<Lexing<
     lex_up_to(alloc, bytes, at, true)
 }
 
-// The tokens from a place on, up to a full stop outside brackets if `item`.
+// The tokens from a place on, up to a full stop outside brackets if `item`. It is compiled once for
+// each, and not into what calls them: its loop wants the registers.
+#[inline(always)]
 fn lex_up_to<'a>(
     alloc: Global,
     bytes: &'a [u8],
@@ -124,10 +129,7 @@ fn lexeme_within<'a>(bytes: &'a [u8], at: usize, depth: usize) -> Option<(Lexeme
         (λ found. IsLexemeWithin bytes.now at depth found.0 found.1) }
 {
     let lexeme = lexeme_at(bytes, at)?;
-    let behind = depth_behind(depth, &lexeme);
-    if behind > DEEPEST_NESTING {
-        return None;
-    }
+    let behind = depth_behind(depth, first_of(bytes[at]))?;
     Some((lexeme, behind))
 }
 
@@ -137,7 +139,7 @@ fn room<'a>(alloc: Global, some: bool) -> Result<Vec<Lexeme<'a>>, AllocError>
     ensures refused { OnErr result (IsTrue some) }
 {
     if some {
-        Vec::with_capacity(alloc, 64)
+        Vec::with_capacity(alloc, 128)
     } else {
         Ok(Vec::new(alloc))
     }
@@ -150,17 +152,18 @@ fn is_stop(depth: usize, lexeme: &Lexeme) -> bool
     depth == 0 && lexeme.is_mark(b'.')
 }
 
-// The number of brackets that are open behind a token, where this many are open before.
-fn depth_behind(depth: usize, lexeme: &Lexeme) -> usize
+// The number of brackets that are open behind a token, by its first byte, where this many are open
+// before. Nothing where they are too many.
+fn depth_behind(depth: usize, first: First) -> Option<usize>
     requires { depth ≤ DEEPEST_NESTING }
-    ensures { result ≡ open_behind depth (token_of lexeme.now) }
+    ensures { let behind = depth_behind depth first in
+        MatchOption result (DEEPEST_NESTING < behind)
+        (λ n. (n ≡ behind) × (n ≤ DEEPEST_NESTING)) }
 {
-    match lexeme.kind {
-        TokenKind::Mark => match lexeme.spelling {
-            [b'(' | b'['] => depth + 1,
-            [b')' | b']'] => depth.saturating_sub(1),
-            _ => depth,
-        },
-        _ => depth,
+    match first {
+        First::Opening if depth == DEEPEST_NESTING => None,
+        First::Opening => Some(depth + 1),
+        First::Closing => Some(depth.saturating_sub(1)),
+        _ => Some(depth),
     }
 }

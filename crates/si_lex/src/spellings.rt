@@ -37,7 +37,12 @@ fn token_end(bytes: &[u8], at: usize) -> Option<(TokenKind, usize)>
         First::DoubleQuote => double_end(bytes, at),
         First::Exclamation => Some(exclamation_end(bytes, at)),
         First::Slash => slash_end(bytes, at),
+        First::Opening => Some((TokenKind::Mark, at + 1)),
+        First::Closing => Some((TokenKind::Mark, at + 1)),
         First::LoneMark => Some((TokenKind::Mark, at + 1)),
+        First::White => None,
+        First::Percent => None,
+        First::Underscore => None,
         First::Nothing => None,
     }
 }

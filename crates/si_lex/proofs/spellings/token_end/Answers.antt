@@ -1,5 +1,6 @@
-use Rattle.si_lex.specs.declared.bytes.First.TheVariants.{Small, Capital, Digit, Sign, Dollar, SingleQuote, DoubleQuote, Exclamation, Slash, LoneMark, Nothing}
-use Rattle.si_lex.proofs.FirstLaws.{means_at, nothing_at}
+use Rattle.std.proofs.Common.{get_or}
+use Rattle.si_lex.specs.declared.bytes.First.TheVariants.{White, Percent, Small, Capital, Digit, Sign, Dollar, SingleQuote, DoubleQuote, Exclamation, Slash, Opening, Closing, Underscore, LoneMark, Nothing}
+use Rattle.si_lex.proofs.FirstLaws.{means_at, nothing_at, white_at, percent_at, underscore_at, opening_mark, closing_mark}
 use Rattle.si_lex.proofs.TokenPlaces.{lower_to, upper_to, digit_to, mark_to}
 use Rattle.si_lex.proofs.spellings.token_end.Goals as goal
 
@@ -18,9 +19,30 @@ returns-in-Digit c =
     digit_to c.args.bytes.now c.args.at c.decimal_end.result c.requires (means_at c.args.bytes.now c.args.at c.first_of.result Digit c.first_of.ensures c.in-Digit.is)
     c.decimal_end.ensures.run c.decimal_end.ensures.within
 
+pub returns-in-Opening : goal.returns-in-Opening
+returns-in-Opening c =
+    let bytes = c.args.bytes.now in
+    mark_to bytes c.args.at c.requires (opening_mark (get_or bytes c.args.at 0) (means_at bytes c.args.at c.first_of.result Opening c.first_of.ensures c.in-Opening.is))
+
+pub returns-in-Closing : goal.returns-in-Closing
+returns-in-Closing c =
+    let bytes = c.args.bytes.now in
+    mark_to bytes c.args.at c.requires (closing_mark (get_or bytes c.args.at 0) (means_at bytes c.args.at c.first_of.result Closing c.first_of.ensures c.in-Closing.is))
+
 pub returns-in-LoneMark : goal.returns-in-LoneMark
 returns-in-LoneMark c =
     mark_to c.args.bytes.now c.args.at c.requires (means_at c.args.bytes.now c.args.at c.first_of.result LoneMark c.first_of.ensures c.in-LoneMark.is)
+
+pub returns-in-White : goal.returns-in-White
+returns-in-White c = white_at c.args.bytes.now c.args.at c.requires (means_at c.args.bytes.now c.args.at c.first_of.result White c.first_of.ensures c.in-White.is)
+
+pub returns-in-Percent : goal.returns-in-Percent
+returns-in-Percent c =
+    percent_at c.args.bytes.now c.args.at c.requires (means_at c.args.bytes.now c.args.at c.first_of.result Percent c.first_of.ensures c.in-Percent.is)
+
+pub returns-in-Underscore : goal.returns-in-Underscore
+returns-in-Underscore c =
+    underscore_at c.args.bytes.now c.args.at c.requires (means_at c.args.bytes.now c.args.at c.first_of.result Underscore c.first_of.ensures c.in-Underscore.is)
 
 pub returns-in-Nothing : goal.returns-in-Nothing
 returns-in-Nothing c =

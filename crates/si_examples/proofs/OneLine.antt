@@ -5,9 +5,8 @@ use Rattle.si_defs.specs.Bytes.{Bytes}
 use Rattle.si_defs.specs.Tokens.{Token, lower, NextToken, Consists}
 use Rattle.si_defs.specs.Grammar.{IsClause}
 use Rattle.si_defs.specs.Clauses.{Clause, literal_pattern, term_pattern}
-use Rattle.si_defs.specs.declared.Relation.TheVariants.{Variants}
 use Rattle.si_steps.specs.declared.word.Word.{Word}
-use Rattle.si_steps.specs.declared.word.Word.TheVariants.{Ask}
+use Rattle.si_steps.specs.declared.word.Word.TheVariants.{Subsumers}
 use Rattle.si_steps.specs.Words.{command_text, is_built}
 use Rattle.si_steps.specs.Commands.{Command, add, load, remove, query, stats, command_word, Means, IsUnbuilt}
 use Rattle.si_steps.proofs.WordLaws.{built_apart}
@@ -74,7 +73,7 @@ text_of (t ∷ ts) = t.text
 
 pub no_unbuilt_command : NoUnbuiltCommand
 unfolding text_of
-no_unbuilt_command command h = built_apart (command_word command) (Ask Variants) (sym (ap text_of h.whole)) h.built refl
+no_unbuilt_command command h = built_apart (command_word command) Subsumers (sym (ap text_of h.whole)) h.built refl
 
 -- the word that a command begins with
 pub command_next : (command : Command) (line : Bytes) → Means command line → (rest : Bytes) × NextToken line (lower (command_text (command_word command))) rest

@@ -2,9 +2,9 @@
 use Rattle.std.specs.Prelude.{◌≡◌, true, [], ◌∷◌, codes}
 use Rattle.si_defs.specs.Tokens.{upper, lower}
 use Rattle.si_defs.specs.Grammar.{left_bracket, right_bracket}
-use Rattle.si_defs.specs.declared.Relation.TheVariants.{Variants, Instances}
+use Rattle.si_defs.specs.declared.Relation.TheVariants.{Unifiable}
 use Rattle.si_steps.specs.declared.word.Word.{Word}
-use Rattle.si_steps.specs.declared.word.Word.TheVariants.{Ask}
+use Rattle.si_steps.specs.declared.word.Word.TheVariants.{Ask, Subsumers}
 use Rattle.si_steps.specs.Words.{command_text, is_built}
 use Rattle.si_steps.specs.Commands.{Command, IsCommand, add, Means, AddsForeign}
 use Rattle.si_examples.specs.Entries.{fact, predicate}
@@ -14,13 +14,13 @@ use Rattle.si_examples.specs.Entries.{fact, predicate}
 abbrev pub SameWord : Type 0
 SameWord = (v w : Word) → command_text v ≡ command_text w → v ≡ w
 
--- instances are asked for
+-- unifiable terms are asked for
 abbrev pub BuiltWord : Type 0
-BuiltWord = is_built (Ask Instances) ≡ true
+BuiltWord = is_built (Ask Unifiable) ≡ true
 
--- variants are not yet
+-- clauses that subsume are not yet
 abbrev pub NoBuiltWord : Type 0
-NoBuiltWord = is_built (Ask Variants) ≡ true → ⊥
+NoBuiltWord = is_built Subsumers ≡ true → ⊥
 
 -- ---- commands
 -- a clause is added
@@ -36,9 +36,9 @@ abbrev pub NoKindOfPattern : Type 0
 NoKindOfPattern = (command : Command)
     → IsCommand command (lower (codes "instances") ∷ lower (codes "f") ∷ left_bracket ∷ upper (codes "Y") ∷ right_bracket ∷ []) → ⊥
 
--- `variants term X` is none: it is not built
+-- `subsumers f` is none: it is not built
 abbrev pub NoUnbuiltCommand : Type 0
-NoUnbuiltCommand = (command : Command) → IsCommand command (lower (codes "variants") ∷ lower (codes "term") ∷ upper (codes "X") ∷ []) → ⊥
+NoUnbuiltCommand = (command : Command) → IsCommand command (lower (codes "subsumers") ∷ lower (codes "f") ∷ []) → ⊥
 
 -- `add cnf(` adds no formula of another language
 abbrev pub OwnLanguageAdded : Type 0

@@ -1,10 +1,11 @@
 // Loads of small files, whose answers were written down by hand.
-ghost use Rattle.std.specs.Prelude.{◌≡◌, ◌≤◌};
+ghost use Rattle.std.specs.Prelude.{◌≡◌, ◌≤◌, length};
 ghost use Rattle.si_defs.specs.declared.TheConstants.{MOST_OCCURRENCES};
 
-use crate::{HarvestFault, HarvestLimits, Loaded, expand};
+use crate::{HarvestFault, HarvestLimits, Loaded, expand, take_text};
 use si_defs::{MOST_OCCURRENCES, NameKind};
 use si_io::MemoryLibrary;
+use si_parse::item::{Read, next_item};
 use si_sign::{AddFault, ClauseStore, PlainStore};
 use si_term::{Name, Text};
 use std::alloc::{AllocError, Global};
@@ -608,6 +609,37 @@ fn assert_row(rt: &impl Abort, alloc: Global, row: &Row) -> Result<(), AllocErro
     assert_eq!(rt; seen, answer, "at {files:?}");
     assert_eq!(rt; name, named, "at {files:?}");
     assert!(rt; has_only(alloc, &mut store, kept)?, "at {files:?}");
+    Ok(())
+}
+
+/// Takes a text that is one clause.
+fn take_one(
+    alloc: Global,
+    bytes: &[u8],
+    store: &mut PlainStore,
+) -> Result<Result<Loaded, HarvestFault>, AllocError>
+    requires short { length bytes.now ≤ MOST_OCCURRENCES }
+    requires limit { store.old.0 ≤ MOST_OCCURRENCES }
+    ensures { store.new.0 ≡ store.old.0 }
+{
+    let Read::Cnf(_clause, end) = next_item(alloc, bytes, 0)? else {
+        return Err(AllocError);
+    };
+    let Read::End = next_item(alloc, bytes, end)? else {
+        return Err(AllocError);
+    };
+    Ok(take_text(alloc, bytes, store))
+}
+
+#[test]
+fn texts_are_taken(rt: HostRuntime) -> Result<(), Fail> {
+    let alloc = rt.alloc();
+    let mut store = PlainStore::new(alloc, 8);
+    let first = take_one(alloc, b"cnf(a,axiom,p(b)). % a\n", &mut store)?;
+    assert_eq!(rt; told(&first).0, Answer::Gained(1, 2));
+    let again = take_one(alloc, b"cnf(a,axiom,q).", &mut store)?;
+    assert_eq!(rt; told(&again).0, Answer::Taken);
+    assert!(rt; has_only(alloc, &mut store, &[b"a"])?);
     Ok(())
 }
 

@@ -1,23 +1,25 @@
--- What an index is seen as: the clauses that are kept, in the order of acceptance, and the limit on
--- their entries.
+-- What an index is seen as: the clauses that are kept, in the order of acceptance, the limit on
+-- their entries, and the numbers of their symbols.
 use Rattle.std.specs.Prelude.{ℕ, List, refl, map}
 use Rattle.std.specs.Coded.{Coded, code_by, coded×, coded_ℕ, coded_list}
+use Rattle.si_defs.specs.Symbols.{Symbol, Numbering}
 use Rattle.si_defs.specs.Clauses.{Clause}
-use Rattle.si_defs.specs.Codes.{clause_code}
+use Rattle.si_defs.specs.Codes.{symbol_code, clause_code}
 use Rattle.si_term.specs.Meaning.{clause_of}
 use Rattle.si_term.specs.declared.clause.Clause as term
 
 pub record Kept : Type 0 where
   pub clauses : List Clause
   pub limit : ℕ
+  pub numbers : Numbering
 
 abbrev pub kept_code : Coded Kept
 kept_code =
     code_by
-    (List Clause × ℕ)
-    (coded× (coded_list clause_code) coded_ℕ)
-    (λ k. (k.clauses, k.limit))
-    (λ p. record { clauses = p.0; limit = p.1 })
+    (List Clause × (ℕ × List (Symbol × ℕ)))
+    (coded× (coded_list clause_code) (coded× coded_ℕ (coded_list (coded× symbol_code coded_ℕ))))
+    (λ k. (k.clauses, (k.limit, k.numbers)))
+    (λ p. record { clauses = p.0; limit = p.1.0; numbers = p.1.1 })
     (λ _. refl)
 
 -- the clauses of a list where they go by keys

@@ -1,3 +1,4 @@
+pub mod Finding
 pub mod Halves
 pub mod Kept
 pub mod Keyed
@@ -6,4 +7,6 @@ pub mod Known
 pub mod Names
 pub mod Ranks
 pub mod RanksFall
+pub mod Searching
+pub mod Showing
 pub mod Stored

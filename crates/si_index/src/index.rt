@@ -3,7 +3,8 @@ ghost use Rattle.std.specs.Prelude.{◌≡◌, ◌<◌, ◌≤◌, [], IfOk, IfE
 ghost use Rattle.si_defs.specs.Clauses as defs;
 ghost use Rattle.si_defs.specs.Entries.{state_entries};
 ghost use Rattle.si_defs.specs.declared.TheConstants.{MOST_OCCURRENCES};
-ghost use Rattle.si_state.specs.Signatures.{CountsSymbols, IsSignatureOf};
+ghost use Rattle.si_state.specs.Signatures.{CountsSymbols, IsSignatureOf, numbering};
+ghost use Rattle.si_defs.specs.Symbols.{IsNumbering};
 ghost use Rattle.si_term.specs.Meaning.{clause_of};
 ghost use Rattle.si_sign.specs.Stores.{IsStored};
 ghost use Rattle.si_index.specs.Known.{IsPut};
@@ -39,13 +40,18 @@ pub struct Index {
 }
 
 impl Model for Index {
+    ghost use Rattle.si_state.specs.Signatures.{numbering};
     ghost use Rattle.si_index.specs.Kept.{Kept, kept_code, clauses_of};
 
     ghost Value = { Kept };
 
     ghost coded = { kept_code };
 
-    ghost view = { λ i. record { clauses = clauses_of i.clauses; limit = i.limit } };
+    ghost view = { λ i. record {
+      clauses = clauses_of i.clauses;
+      limit = i.limit;
+      numbers = numbering i.known.signature;
+    } };
 
     ghost use Rattle.si_index.specs.Stored.{IsKept};
 
@@ -56,7 +62,7 @@ impl Index {
     /// The empty index.
     pub fn new(alloc: Global, limit: u64) -> Result<Index, AllocError>
         requires { limit ≤ MOST_OCCURRENCES }
-        ensures { IfOk result (λ i. i ≡ record { clauses = []; limit = limit }) }
+        ensures { IfOk result (λ i. i ≡ record { clauses = []; limit = limit; numbers = [] }) }
     {
         Ok(Index {
             alloc,
@@ -73,6 +79,7 @@ impl Index {
         ensures symbols { CountsSymbols self.now.clauses result.symbols }
         ensures stored { IsStored self.now.limit self.now.clauses }
         ensures small { self.now.limit ≤ MOST_OCCURRENCES }
+        ensures numbering { IsNumbering self.now.numbers }
     {
         Stats {
             clauses: self.clauses.len() as u32,
@@ -91,9 +98,14 @@ impl Index {
 
     /// The symbols of the clauses.
     pub fn signature(&self) -> &Signature
-        ensures { IsSignatureOf self.now.clauses result.now }
+        ensures signature { IsSignatureOf self.now.clauses result.now }
+        ensures numbers { numbering result.now ≡ self.now.numbers }
     {
         &self.known.signature
+    }
+
+    pub(crate) fn allocator(&self) -> Global {
+        self.alloc
     }
 }
 

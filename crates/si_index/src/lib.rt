@@ -1,6 +1,8 @@
 //! The clauses that are kept, and what is asked of them.
 #![tactic(auto)]
 
+mod found;
+mod gather;
 mod index;
 #[cfg(test)]
 mod index_tests;
@@ -8,7 +10,10 @@ mod keyed;
 mod known;
 mod names;
 mod ranks;
+mod search;
 #[cfg(test)]
 mod tests;
 
+pub use found::{Found, Hit, Shown};
 pub use index::{Index, Stats};
+pub use si_defs::Relation;

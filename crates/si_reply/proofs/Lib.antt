@@ -1,3 +1,4 @@
 pub mod Writing
 pub mod Pieces
 pub mod Escapes
+pub mod Naming

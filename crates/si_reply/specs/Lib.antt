@@ -1,1 +1,2 @@
 pub mod PrintedParts
+pub mod NamedLists

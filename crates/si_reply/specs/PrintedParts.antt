@@ -4,6 +4,7 @@ use Rattle.si_defs.specs.Bytes.{Bytes}
 use Rattle.si_defs.specs.Terms as terms
 use Rattle.si_defs.specs.Symbols.{Symbol}
 use Rattle.si_defs.specs.Printing.{term_text, more_texts}
+use Rattle.si_defs.specs.Variables.{Variable, Apart, Solution, variable_text}
 
 -- the arguments of a symbol, in parentheses where there are any
 abbrev pub arguments_text : {V : Type 0} → (V → Bytes) → terms.Terms Symbol V → Bytes
@@ -14,3 +15,17 @@ arguments_text f (terms.more t ts) = codes "(" ++ term_text f t ++ more_texts f 
 abbrev pub dotted : List ℕ → Bytes
 dotted [] = []
 dotted (n ∷ ns) = codes "." ++ decimal n ++ dotted ns
+
+-- a variable and its term
+unfoldable pub binding_text : Variable × Apart → Bytes
+binding_text b = variable_text b.0 ++ codes " -> " ++ term_text variable_text b.1
+
+-- bindings, each behind a semicolon
+unfoldable pub more_bindings_text : Solution → Bytes
+more_bindings_text [] = []
+more_bindings_text (b ∷ bs) = codes "; " ++ binding_text b ++ more_bindings_text bs
+
+-- bindings with semicolons between them
+unfoldable pub bindings_text : Solution → Bytes
+bindings_text [] = []
+bindings_text (b ∷ bs) = binding_text b ++ more_bindings_text bs

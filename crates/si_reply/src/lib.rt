@@ -3,7 +3,9 @@
 #![tactic(auto)]
 
 mod printing;
+mod solution;
 
 pub use printing::{
     put_bytes, put_file, put_name, put_number, put_place, put_quoted, put_symbol, put_term,
 };
+pub use solution::put_solution;

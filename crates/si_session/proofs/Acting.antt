@@ -6,12 +6,12 @@ use Rattle.si_defs.specs.Tokens.{begins_with}
 use Rattle.si_defs.specs.Symbols.{Symbol}
 use Rattle.si_defs.specs.Clauses.{Name, Clause, Pattern, IsSoundClause}
 use Rattle.si_defs.specs.Entries.{entries, state_entries, clause_symbols}
-use Rattle.si_defs.specs.declared.Relation.TheVariants.{Instances}
+use Rattle.si_defs.specs.declared.Relation.{Relation}
 use Rattle.si_state.specs.Acceptance.{IsTaken, Accepts, Removes, taken, misused, full}
 use Rattle.si_state.specs.Signatures.{CountsSymbols}
-use Rattle.si_state.specs.Answers.{hit_texts}
+use Rattle.si_state.specs.Answers.{Hit, IsAnswer, hit_texts}
 use Rattle.si_steps.specs.declared.limits.Limits.{Limits}
-use Rattle.si_steps.specs.Replies.{Reply, is_refusal, ok_line, end_line, stats_line, misused_line, full_line, unknown_line, memory_line}
+use Rattle.si_steps.specs.Replies.{Reply, is_refusal, ok_line, end_line, stats_line, misused_line, full_line, unknown_line, memory_line, answer_reply}
 use Rattle.si_steps.specs.Commands.{Command, add, load, remove, query, stats, IsDecided, IsSilent}
 use Rattle.si_state.specs.Harvest.{Files, Fault, tried, state_behind}
 use Rattle.si_steps.specs.Loads.{Owed, nothing, PerformsLoad, gained_line, load_line}
@@ -20,8 +20,6 @@ use Rattle.si_steps.specs.Runs.{ended}
 use Rattle.si_io.specs.Content.{Told, Receives, ReceivesPrefix}
 use Rattle.si_io.proofs.Content.{Receives_then, ReceivesPrefix_then, ReceivesPrefix_more}
 use Rattle.si_session.specs.Commands.{IsPerformed}
-use Rattle.si_session.specs.Hits.{hits}
-use Rattle.si_session.specs.Scan.{clauses_lines}
 use Rattle.si_term.specs.Meaning.{clause_of}
 use Rattle.si_term.proofs.EntryHeads.{length-symbols}
 use Rattle.si_sign.specs.Shapes.{shape_of}
@@ -38,8 +36,6 @@ use Rattle.si_io.specs.Library.{Counts}
 use Rattle.si_session.specs.Session.{State, Around, around, Steps, Writes, HasPerformed, ActsOn, rightly, at_once, behind, HasLoaded, rightly_loaded, ran_out}
 use Rattle.si_session.specs.declared.stepped.Stepped.{Stepped}
 use Rattle.si_session.specs.declared.stepped.Stepped.TheVariants.{Answered, Refused, Silent, SinkFailed}
-use Rattle.si_session.proofs.HitLaws.{hits_answer}
-use Rattle.si_session.proofs.ScanLaws.{reply_is}
 use Rattle.si_session.proofs.Told.{ended-append}
 
 -- ---- the last line of a reply
@@ -68,25 +64,23 @@ failed_before : (a b : Told) (lines : List Bytes) (line : Bytes) → ReceivesPre
 failed_before a b lines line h = subst (λ w. ReceivesPrefix a w b) (sym (ended-append lines (line ∷ []))) (ReceivesPrefix_more a b (ended lines) (ended (line ∷ [])) h)
 
 -- ---- an answer
-module _ (limits : Limits) (p : Pattern) (state : List Clause) where
-  abbrev whole : ℕ → Reply
-  whole n = clauses_lines p state ++ end_line n ∷ []
+module _ (limits : Limits) (relation : Relation) (p : Pattern) (state : List Clause) (hits : List Hit) (answer : IsAnswer relation p (state_entries state) hits) where
+  performs : Performs limits (query relation p) state (answer_reply hits) state
+  performs = (hits, answer, refl, refl)
 
-  performs : (n : ℕ) → n ≡ length (clauses_lines p state) → Performs limits (query Instances p) state (whole n) state
-  performs n e = (hits p (state_entries state), hits_answer p (state_entries state), sym (reply_is p state n e), refl)
+  pub answers : (o : Stepped) (n : ℕ) (a b c : Told) → n ≡ length hits → Receives a (ended (hit_texts hits)) b
+      → Writes o (end_line n ∷ []) b c → HasPerformed (Performs limits (query relation p) state) state state o a c
+  answers o n a b c e h w =
+      rightly (answer_reply hits) performs (written_behind o a b c (hit_texts hits) (end_line (length hits)) h (subst (λ m. Writes o (end_line m ∷ []) b c) e w))
 
-  pub answers : (o : Stepped) (n : ℕ) (a b c : Told) → n ≡ length (clauses_lines p state) → Receives a (ended (clauses_lines p state)) b
-      → Writes o (end_line n ∷ []) b c → HasPerformed (Performs limits (query Instances p) state) state state o a c
-  answers o n a b c e h w = rightly (whole n) (performs n e) (written_behind o a b c (clauses_lines p state) (end_line n) h w)
+  pub fails_in_hits : (a b : Told) → ReceivesPrefix a (ended (hit_texts hits)) b → HasPerformed (Performs limits (query relation p) state) state state SinkFailed a b
+  fails_in_hits a b h = rightly (answer_reply hits) performs (failed_before a b (hit_texts hits) (end_line (length hits)) h)
 
-  pub fails_in_hits : (a b : Told) → ReceivesPrefix a (ended (clauses_lines p state)) b → HasPerformed (Performs limits (query Instances p) state) state state SinkFailed a b
-  fails_in_hits a b h = rightly (whole (length (clauses_lines p state))) (performs _ refl) (failed_before a b (clauses_lines p state) (end_line (length (clauses_lines p state))) h)
-
-  pub runs_out : (o : Stepped) (a b c : Told) (front back : List Bytes) → clauses_lines p state ≡ front ++ back → Receives a (ended front) b
-      → Writes o (memory_line ∷ []) b c → HasPerformed (Performs limits (query Instances p) state) state state o a c
+  pub runs_out : (o : Stepped) (a b c : Told) (front back : List Bytes) → hit_texts hits ≡ front ++ back → Receives a (ended front) b
+      → Writes o (memory_line ∷ []) b c → HasPerformed (Performs limits (query relation p) state) state state o a c
   runs_out o a b c front back e h w =
-      let n = length (clauses_lines p state) in
-      behind (whole n) state (performs n refl) front (back ++ end_line n ∷ []) (ap (λ l. l ++ end_line n ∷ []) e ∙ append_assoc front back (end_line n ∷ []))
+      let n = length hits in
+      behind (answer_reply hits) state performs front (back ++ end_line n ∷ []) (ap (λ l. l ++ end_line n ∷ []) e ∙ append_assoc front back (end_line n ∷ []))
       (some_line back (end_line n)) refl (written_behind o a b c front memory_line h w)
 
 -- ---- a clause

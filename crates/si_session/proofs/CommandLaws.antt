@@ -4,7 +4,7 @@ use Rattle.std.specs.Prelude.{codes, IsTrue, Option, Some, None}
 use Rattle.std.specs.Borrow.{Bor}
 use Rattle.si_defs.specs.Bytes.{Bytes}
 use Rattle.si_defs.specs.Clauses.{Name, Clause, Pattern, literal_pattern, term_pattern, IsSoundClause}
-use Rattle.si_defs.specs.declared.Relation.TheVariants.{Instances}
+use Rattle.si_defs.specs.declared.Relation.{Relation}
 use Rattle.si_defs.specs.Tokens.{Token, lower, AreBlanks, NextToken, Begins}
 use Rattle.si_defs.specs.Grammar.{IsClause, IsLiteral, IsTerm, left_bracket}
 use Rattle.si_defs.specs.Substitutions.{IsAmong}
@@ -203,10 +203,10 @@ stats_wrong ts stop some = other_wrong Stats ts stop refl (λ e. cc) (λ e c h. 
 pub stats_read : (ts : List Token) (stop : Stop) → stop ≡ End → ts ≡ [] → Commands (lower (command_text Stats) ∷ ts) stop command.Stats
 stats_read ts stop e none = (e, record { built = refl; operands = ts; spelled = none; whole = refl })
 
--- ---- `instances`
+-- ---- queries
 -- what such tokens are where they are no command
-query_wrong : (ts : List Token) (stop : Stop) → (stop ≡ End → (p : Pattern) → IsQuery p ts → ⊥) → Commands (lower (command_text (Ask Instances)) ∷ ts) stop command.Wrong
-query_wrong ts stop n = other_wrong (Ask Instances) ts stop refl (λ e. cc) (λ e c h. let q = only (Ask Instances) c ts h in n e q.0 q.1)
+query_wrong : (r : Relation) (ts : List Token) (stop : Stop) → (stop ≡ End → (p : Pattern) → IsQuery p ts → ⊥) → Commands (lower (command_text (Ask r)) ∷ ts) stop command.Wrong
+query_wrong r ts stop n = other_wrong (Ask r) ts stop refl (λ e. cc) (λ e c h. let q = only (Ask r) c ts h in n e q.0 q.1)
 
 -- a query is the word of its kind, and the pattern
 pub record Asks (p : Pattern) (t : Token) (ts : List Token) : Type 0 where
@@ -242,33 +242,33 @@ nothing_asked (literal_pattern l) h = let e = h.2 in cc
 nothing_asked (term_pattern t) h = let e = h.2 in cc
 
 -- nothing stands behind the word
-pub query_empty : (ts : List Token) (stop : Stop) → ts ≡ [] → Commands (lower (command_text (Ask Instances)) ∷ ts) stop command.Wrong
-query_empty ts stop none = query_wrong ts stop (λ e p q. nothing_asked p (subst (IsQuery p) none q))
+pub query_empty : (r : Relation) (ts : List Token) (stop : Stop) → ts ≡ [] → Commands (lower (command_text (Ask r)) ∷ ts) stop command.Wrong
+query_empty r ts stop none = query_wrong r ts stop (λ e p q. nothing_asked p (subst (IsQuery p) none q))
 
 -- another word than that of a kind does
-pub query_other : (whole : List Token) (stop : Stop) (t : Token) (ts : List Token) → whole ≡ t ∷ ts → ((k : PatternKind) → t ≡ lower (kind_word k) → ⊥)
-    → Commands (lower (command_text (Ask Instances)) ∷ whole) stop command.Wrong
-query_other whole stop t ts front other =
-    query_wrong whole stop (λ e p q. let a = asks p t ts (subst (IsQuery p) front q) in other a.kind a.word)
+pub query_other : (r : Relation) (whole : List Token) (stop : Stop) (t : Token) (ts : List Token) → whole ≡ t ∷ ts → ((k : PatternKind) → t ≡ lower (kind_word k) → ⊥)
+    → Commands (lower (command_text (Ask r)) ∷ whole) stop command.Wrong
+query_other r whole stop t ts front other =
+    query_wrong r whole stop (λ e p q. let a = asks p t ts (subst (IsQuery p) front q) in other a.kind a.word)
 
 -- something else than blanks stands behind the last token
-pub query_bad : (ts : List Token) (stop : Stop) → (stop ≡ End → ⊥) → Commands (lower (command_text (Ask Instances)) ∷ ts) stop command.Wrong
-query_bad ts stop bad = query_wrong ts stop (λ e p q. bad e)
+pub query_bad : (r : Relation) (ts : List Token) (stop : Stop) → (stop ≡ End → ⊥) → Commands (lower (command_text (Ask r)) ∷ ts) stop command.Wrong
+query_bad r ts stop bad = query_wrong r ts stop (λ e p q. bad e)
 
 -- the rest is no pattern of the kind
-pub query_none : (whole : List Token) (stop : Stop) (t : Token) (ts : List Token) (k : PatternKind) → whole ≡ t ∷ ts → t ≡ lower (kind_word k) → ReadsWhole ts k None
-    → Commands (lower (command_text (Ask Instances)) ∷ whole) stop command.Wrong
-query_none whole stop t ts k front word none =
-    query_wrong whole stop
+pub query_none : (r : Relation) (whole : List Token) (stop : Stop) (t : Token) (ts : List Token) (k : PatternKind) → whole ≡ t ∷ ts → t ≡ lower (kind_word k) → ReadsWhole ts k None
+    → Commands (lower (command_text (Ask r)) ∷ whole) stop command.Wrong
+query_none r whole stop t ts k front word none =
+    query_wrong r whole stop
     (λ e p q.
     let a = asks p t ts (subst (IsQuery p) front q) in
     none p (subst (λ j. IsOfKind j p) (same_kind a.kind k t a.word word) a.of_kind) a.spelled)
 
 -- or it is one
-pub query_read : (whole : List Token) (stop : Stop) (t : Token) (ts : List Token) (k : PatternKind) (p : program_pattern.Pattern) → stop ≡ End → whole ≡ t ∷ ts → t ≡ lower (kind_word k)
-    → ReadsWhole ts k (Some p) → Commands (lower (command_text (Ask Instances)) ∷ whole) stop (command.Query p)
-query_read whole stop t ts k p e front word read =
-    (e, record { built = refl; operands = whole; spelled = subst (IsQuery (pattern_of p)) (sym front) (asks_query k (pattern_of p) t ts word read.of_kind read.spelled); whole = refl })
+pub query_read : (r : Relation) (whole : List Token) (stop : Stop) (t : Token) (ts : List Token) (k : PatternKind) (p : program_pattern.Pattern) → stop ≡ End → whole ≡ t ∷ ts → t ≡ lower (kind_word k)
+    → ReadsWhole ts k (Some p) → Commands (lower (command_text (Ask r)) ∷ whole) stop (command.Query r p)
+query_read r whole stop t ts k p e front word read =
+    (e, record { built = refl; operands = whole; spelled = subst (IsQuery (pattern_of p)) (sym front) (asks_query k (pattern_of p) t ts word read.of_kind read.spelled); whole = refl }, read.sound)
 
 -- ---- lines
 module _ (line : Bytes) (x : Lexing) (l : IsLexing line 0 x) where
@@ -375,8 +375,11 @@ module _ (line : Bytes) (x : Lexing) (l : IsLexing line 0 x) where
     λ b. command_some stats h.1 (blank_tokens b).1,
     tokens_mean stats h.0 h.1,
   )
-  line_read (command.Query p) h = (
-    λ u. command_built (query Instances (pattern_of p)) h.1 (unbuilt_tokens u),
-    λ b. command_some (query Instances (pattern_of p)) h.1 (blank_tokens b).1,
-    tokens_mean (query Instances (pattern_of p)) h.0 h.1,
+  line_read (command.Query r p) h = (
+    (
+      λ u. command_built (query r (pattern_of p)) h.1 (unbuilt_tokens u),
+      λ b. command_some (query r (pattern_of p)) h.1 (blank_tokens b).1,
+      tokens_mean (query r (pattern_of p)) h.0 h.1,
+    ),
+    h.2,
   )

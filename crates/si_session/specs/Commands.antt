@@ -1,8 +1,7 @@
 -- What the reader of command lines gives.
 use Rattle.std.specs.Prelude.{◌≡◌, List, [], ◌∷◌, IsFalse, codes}
 use Rattle.si_defs.specs.Bytes.{Bytes}
-use Rattle.si_defs.specs.Clauses.{IsSoundClause}
-use Rattle.si_defs.specs.declared.Relation.TheVariants.{Instances}
+use Rattle.si_defs.specs.Clauses.{IsSoundClause, IsSoundPattern}
 use Rattle.si_defs.specs.Tokens.{Token, lower, AreBlanks}
 use Rattle.si_steps.specs.declared.word.Word.{Word}
 use Rattle.si_steps.specs.declared.word.Word.TheVariants.{Add}
@@ -40,7 +39,7 @@ ReadsCommand line (command.Add c) = IsPerformed (defs.add (clause_of c)) line ×
 ReadsCommand line (command.Load file) = IsPerformed (defs.load file) line
 ReadsCommand line (command.Remove n) = IsPerformed (defs.remove (name_of n)) line
 ReadsCommand line command.Stats = IsPerformed defs.stats line
-ReadsCommand line (command.Query p) = IsPerformed (defs.query Instances (pattern_of p)) line
+ReadsCommand line (command.Query r p) = IsPerformed (defs.query r (pattern_of p)) line × IsSoundPattern (pattern_of p)
 
 -- ---- the tokens of a line
 -- the first of them is the word of a command that isn't built
@@ -65,7 +64,7 @@ Commands ts stop (command.Add c) = (stop ≡ End) × IsCommand (defs.add (clause
 Commands ts stop (command.Load file) = (stop ≡ End) × IsCommand (defs.load file) ts
 Commands ts stop (command.Remove n) = (stop ≡ End) × IsCommand (defs.remove (name_of n)) ts
 Commands ts stop command.Stats = (stop ≡ End) × IsCommand defs.stats ts
-Commands ts stop (command.Query p) = (stop ≡ End) × IsCommand (defs.query Instances (pattern_of p)) ts
+Commands ts stop (command.Query r p) = (stop ≡ End) × IsCommand (defs.query r (pattern_of p)) ts × IsSoundPattern (pattern_of p)
 
 -- the word of a kind of pattern
 abbrev pub kind_word : PatternKind → Bytes

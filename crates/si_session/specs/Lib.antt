@@ -1,11 +1,7 @@
-pub mod Equality
-pub mod Matching
 pub mod Session
-pub mod Bound
-pub mod Hits
 pub mod Telling
 pub mod Signs
 pub mod Commands
-pub mod Scan
 pub mod Replies
 pub mod Rejections
+pub mod Answering

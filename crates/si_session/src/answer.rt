@@ -1,154 +1,79 @@
-// The answer to a query: the entries of clauses that are instances of a pattern, a line for each.
-ghost use Rattle.std.specs.Prelude.{◌≡◌, ◌+◌, ◌<◌, ◌^◌, [], length, OnOk};
-ghost use Rattle.si_defs.specs.Clauses.{IsSoundClause, literal_size, literal_pattern, term_pattern};
-ghost use Rattle.si_term.specs.Terms.{term_of};
-ghost use Rattle.si_term.specs.Meaning.{literal_of, clause_of, pattern_of};
-ghost use Rattle.si_session.specs.Telling.{Tells, Blames};
-ghost use Rattle.si_session.specs.Scan.{literal_lines, clause_lines, clauses_lines};
+// The answer to a query: a line for each hit.
+ghost use Rattle.std.specs.Prelude.{◌≡◌, ◌<◌, length};
+ghost use Rattle.std.specs.List.{AllByRecursion};
+ghost use Rattle.si_defs.specs.Variables as variables;
+ghost use Rattle.si_state.specs.Signatures.{numbering};
+ghost use Rattle.si_io.specs.Puts.{Puts};
+ghost use Rattle.si_io.specs.Faults.{HasCause};
+ghost use Rattle.si_term.specs.Meaning.{name_of, place_of};
+ghost use Rattle.si_index.specs.Searching.{HasSolution};
+ghost use Rattle.si_reply.specs.NamedLists.{naming, ShowsList};
+ghost use Rattle.si_session.specs.Telling.{Blames};
+ghost use Rattle.si_session.specs.Answering.{IsInside, TellsHit, TellsHits, hit_line};
 
 use crate::broken::Broken;
-use crate::scan::{Scratch, put_if_match, search_arguments};
-use si_index::Index;
-use si_io::Sink;
-use si_term::{Clause, Literal, Pattern, Term};
+use crate::sign::{Sign, put_sign};
+use si_index::{Found, Index, Shown};
+use si_io::{Failed, Sink};
+use si_reply::{put_place, put_solution};
+use si_sign::Signature;
+use si_term::{Name, Place};
 
-/// Writes the line of a literal if it is an instance of a literal pattern. Only literals of one
-/// sign are compared.
-fn answer_whole<'a, K: Sink>(
-    wanted: &'a Literal,
-    literal: &'a Literal,
-    clause: &Clause,
-    number: u32,
-    scratch: &mut Scratch<'a>,
+/// Writes the line of a hit: its place and its list.
+fn put_hit<K: Sink>(
     sink: &mut K,
-) -> Result<(), Broken>
-    requires root { scratch.old.path.items ≡ [] }
-    requires fits { scratch.old.found + length
-        (literal_lines (literal_pattern (literal_of wanted.now)) (clause_of clause.now) number
-        (literal_of literal.now)) < 2 ^ 64 }
-    ensures told { Tells result (literal_lines (literal_pattern (literal_of wanted.now))
-        (clause_of clause.now) number (literal_of literal.now)) (K.written sink.old)
-        (K.written sink.new) }
-    ensures cause { Blames result (K.faults sink.old) (K.faults sink.new) }
-    ensures kept { OnOk result (scratch.new.path.items ≡ []) }
-    ensures counted { OnOk result (scratch.new.found ≡ scratch.old.found + length
-        (literal_lines (literal_pattern (literal_of wanted.now)) (clause_of clause.now) number
-        (literal_of literal.now))) }
-{
-    if wanted.positive != literal.positive {
-        return Ok(());
-    }
-    put_if_match(
-        &wanted.atom,
-        &literal.atom,
-        &clause.name,
-        number,
-        scratch,
-        sink,
-    )
-}
-
-/// Writes the lines of the proper subterms of a literal's atom that are instances of a term
-/// pattern.
-fn answer_parts<'a, K: Sink>(
-    query: &'a Term,
-    literal: &'a Literal,
-    clause: &Clause,
-    number: u32,
-    scratch: &mut Scratch<'a>,
-    sink: &mut K,
-) -> Result<(), Broken>
-    requires root { scratch.old.path.items ≡ [] }
-    requires small { literal_size (literal_of literal.now) < 2 ^ 32 }
-    requires fits { scratch.old.found + length
-        (literal_lines (term_pattern (term_of query.now)) (clause_of clause.now) number
-        (literal_of literal.now)) < 2 ^ 64 }
-    ensures told { Tells result (literal_lines (term_pattern (term_of query.now))
-        (clause_of clause.now) number (literal_of literal.now)) (K.written sink.old)
-        (K.written sink.new) }
-    ensures cause { Blames result (K.faults sink.old) (K.faults sink.new) }
-    ensures kept { OnOk result (scratch.new.path.items ≡ []) }
-    ensures counted { OnOk result (scratch.new.found ≡ scratch.old.found + length
-        (literal_lines (term_pattern (term_of query.now)) (clause_of clause.now) number
-        (literal_of literal.now))) }
-{
-    let Term::App(_, arguments) = &literal.atom else {
-        return Ok(());
-    };
-    search_arguments(query, arguments.as_slice(), clause, number, scratch, sink)
-}
-
-/// Writes the lines of the entries of a literal that are instances of a pattern.
-fn answer_literal<'a, K: Sink>(
-    pattern: &'a Pattern,
-    literal: &'a Literal,
-    clause: &Clause,
-    number: u32,
-    scratch: &mut Scratch<'a>,
-    sink: &mut K,
-) -> Result<(), Broken>
-    requires root { scratch.old.path.items ≡ [] }
-    requires small { literal_size (literal_of literal.now) < 2 ^ 32 }
-    requires fits { scratch.old.found + length
-        (literal_lines (pattern_of pattern.now) (clause_of clause.now) number
-        (literal_of literal.now)) < 2 ^ 64 }
-    ensures told { Tells result (literal_lines (pattern_of pattern.now) (clause_of clause.now)
-        number (literal_of literal.now)) (K.written sink.old) (K.written sink.new) }
-    ensures cause { Blames result (K.faults sink.old) (K.faults sink.new) }
-    ensures kept { OnOk result (scratch.new.path.items ≡ []) }
-    ensures counted { OnOk result (scratch.new.found ≡ scratch.old.found + length
-        (literal_lines (pattern_of pattern.now) (clause_of clause.now) number
-        (literal_of literal.now))) }
-{
-    match pattern {
-        Pattern::Lit(wanted) => answer_whole(wanted, literal, clause, number, scratch, sink),
-        Pattern::Term(query) => answer_parts(query, literal, clause, number, scratch, sink),
-    }
-}
-
-/// Writes the lines of the entries of a clause that are instances of a pattern.
-fn answer_clause<'a, K: Sink>(
-    pattern: &'a Pattern,
-    clause: &'a Clause,
-    scratch: &mut Scratch<'a>,
-    sink: &mut K,
-) -> Result<(), Broken>
-    requires root { scratch.old.path.items ≡ [] }
-    requires sound { IsSoundClause (clause_of clause.now) }
-    requires fits { scratch.old.found + length
-        (clause_lines (pattern_of pattern.now) (clause_of clause.now)) < 2 ^ 64 }
-    ensures told { Tells result (clause_lines (pattern_of pattern.now) (clause_of clause.now))
+    name: &Name,
+    place: &Place,
+    shown: &Shown,
+    signature: &Signature,
+) -> Result<(), Failed>
+    requires known { (list : variables.Solution) × ShowsList (naming (numbering signature.now)
+        shown.now.extra shown.now.query_names shown.now.entry_names) shown.now.solution list }
+    ensures text { (list : variables.Solution) → ShowsList (naming (numbering signature.now)
+        shown.now.extra shown.now.query_names shown.now.entry_names) shown.now.solution list
+        → Puts result (hit_line (name_of name.now) (place_of place.now) list)
         (K.written sink.old) (K.written sink.new) }
-    ensures cause { Blames result (K.faults sink.old) (K.faults sink.new) }
-    ensures kept { OnOk result (scratch.new.path.items ≡ []) }
-    ensures counted { OnOk result (scratch.new.found ≡ scratch.old.found + length
-        (clause_lines (pattern_of pattern.now) (clause_of clause.now))) }
+    ensures cause { HasCause (K.faults sink.old) (K.faults sink.new) result }
 {
-    let literals = clause.literals.as_slice();
-    for i in 0..literals.len() {
-        answer_literal(pattern, &literals[i], clause, i as u32 + 1, scratch, sink)?;
-    }
+    put_place(sink, name, place.literal, place.path.as_slice())?;
+    put_sign(sink, Sign::Space)?;
+    put_solution(
+        sink,
+        &shown.solution,
+        signature,
+        &shown.extra,
+        &shown.query_names,
+        &shown.entry_names,
+    )?;
+    put_sign(sink, Sign::LineFeed)
+}
+
+/// Writes the line of the hit with this number from 0.
+fn tell_hit<K: Sink>(index: &Index, found: &Found<'_>, n: u32, sink: &mut K) -> Result<(), Broken>
+    requires index { found.now.index ≡ index.now }
+    requires there { n < length found.now.hits }
+    requires inside { AllByRecursion (IsInside index.now.clauses) found.now.hits }
+    ensures told { TellsHit found.now n result (K.written sink.old) (K.written sink.new) }
+    ensures cause { Blames result (K.faults sink.old) (K.faults sink.new) }
+{
+    let shown = found.shown(n)?;
+    let hit = found.hit(n);
+    let name = &index.clause(hit.clause).name;
+    put_hit(sink, name, &hit.place, &shown, index.signature())?;
     Ok(())
 }
 
-/// Writes the lines of the kept entries that are instances of a pattern.
-pub fn answer_clauses<'a, K: Sink>(
-    pattern: &'a Pattern,
-    index: &'a Index,
-    scratch: &mut Scratch<'a>,
-    sink: &mut K,
-) -> Result<(), Broken>
-    requires root { scratch.old.path.items ≡ [] }
-    requires none { scratch.old.found ≡ 0 }
-    ensures told { Tells result (clauses_lines (pattern_of pattern.now) index.now.clauses)
-        (K.written sink.old) (K.written sink.new) }
+/// Writes the lines of the hits.
+pub fn tell_hits<K: Sink>(index: &Index, found: &Found<'_>, sink: &mut K) -> Result<(), Broken>
+    requires index { found.now.index ≡ index.now }
+    requires inside { AllByRecursion (IsInside index.now.clauses) found.now.hits }
+    requires solved { AllByRecursion (λ hit. HasSolution found.now.relation found.now.pattern
+        hit.1.entry) found.now.hits }
+    ensures told { TellsHits found.now result (K.written sink.old) (K.written sink.new) }
     ensures cause { Blames result (K.faults sink.old) (K.faults sink.new) }
-    ensures counted { OnOk result (scratch.new.found ≡ length
-        (clauses_lines (pattern_of pattern.now) index.now.clauses)) }
 {
-    let stats = index.stats();
-    for at in 0..stats.clauses {
-        answer_clause(pattern, index.clause(at), scratch, sink)?;
+    for n in 0..found.len() {
+        tell_hit(index, found, n, sink)?;
     }
     Ok(())
 }

@@ -1,7 +1,6 @@
 // Command lines.
 ghost use Rattle.std.specs.Prelude.{◌≡◌, ◌≤◌, ◌∷◌, [], IfSome, IfNone, length, IfOk, OnErr};
 ghost use Rattle.si_defs.specs.Tokens.{lower, AreBlanks};
-ghost use Rattle.si_defs.specs.declared.Relation.TheVariants.{Instances};
 ghost use Rattle.si_lex.specs.Lexemes.{token_of, tokens_of};
 ghost use Rattle.si_defs.specs.declared.TheConstants.{MOST_BYTES};
 ghost use Rattle.si_parse.specs.declared.pattern.PatternKind.{PatternKind};
@@ -37,8 +36,8 @@ pub enum Command {
     Load(Text),
     /// That the clause with this name go.
     Remove(Name),
-    /// The entries that are instances of a pattern.
-    Query(Pattern),
+    /// The entries that stand in a relation to a pattern.
+    Query(Relation, Pattern),
     /// How much is kept.
     Stats,
 }
@@ -72,7 +71,7 @@ fn command_of(alloc: Global, tokens: &[Lexeme<'_>], stop: Stop) -> Result<Comman
         Some(Word::Add) => add_command(alloc, rest, stop),
         Some(Word::Load) => load_command(alloc, rest, stop),
         Some(Word::Remove) => remove_command(alloc, rest, stop),
-        Some(Word::Ask(Relation::Instances)) => query_command(alloc, rest, stop),
+        Some(Word::Ask(relation)) => query_command(alloc, relation, rest, stop),
         Some(Word::Stats) => Ok(stats_command(rest, stop)),
         Some(_) => Ok(Command::Later),
         None => Ok(Command::Wrong),
@@ -132,10 +131,15 @@ fn stats_command(tokens: &[Lexeme<'_>], stop: Stop) -> Command
     }
 }
 
-/// The command that the word `instances` begins, by the tokens behind it.
-fn query_command(alloc: Global, tokens: &[Lexeme<'_>], stop: Stop) -> Result<Command, AllocError>
+/// The command that the word of a relation begins, by the tokens behind it.
+fn query_command(
+    alloc: Global,
+    relation: Relation,
+    tokens: &[Lexeme<'_>],
+    stop: Stop,
+) -> Result<Command, AllocError>
     requires { length tokens.now ≤ MOST_BYTES }
-    ensures { IfOk result (Commands (lower (command_text (Ask Instances)) ∷ tokens_of tokens.now)
+    ensures { IfOk result (Commands (lower (command_text (Ask relation)) ∷ tokens_of tokens.now)
         stop) }
 {
     let Some((word, rest)) = tokens.split_first() else {
@@ -148,7 +152,7 @@ fn query_command(alloc: Global, tokens: &[Lexeme<'_>], stop: Stop) -> Result<Com
         return Ok(Command::Wrong);
     }
     match whole_pattern(alloc, rest, kind)? {
-        Some(pattern) => Ok(Command::Query(pattern)),
+        Some(pattern) => Ok(Command::Query(relation, pattern)),
         None => Ok(Command::Wrong),
     }
 }

@@ -2,16 +2,11 @@
 #![tactic(auto)]
 
 mod answer;
-mod bindings;
 mod broken;
 mod command;
-mod equality;
-mod matching;
 mod reply;
-mod scan;
 mod session;
 mod sign;
-mod solution;
 mod stepped;
 mod word;
 

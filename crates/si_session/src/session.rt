@@ -7,16 +7,15 @@ ghost use Rattle.si_session.specs.Session.{Steps, ActsOn, HasLoaded, around};
 ghost use Rattle.si_session.specs.Rejections.{HasHead, TellsWhy, IsTellable, TellsFaultOfLoad};
 ghost use Rattle.si_session.specs.declared.stepped.Stepped.TheVariants.{Silent, Refused, SinkFailed};
 ghost use Rattle.si_io.specs.Faults.{Rose};
-ghost use Rattle.si_defs.specs.Clauses.{IsSoundClause};
-ghost use Rattle.si_defs.specs.declared.Relation.TheVariants.{Instances};
+ghost use Rattle.si_defs.specs.Clauses.{IsSoundClause, IsSoundPattern};
 ghost use Rattle.si_term.specs.Meaning.{name_of, clause_of, pattern_of};
 
-use crate::answer::answer_clauses;
+use crate::answer::tell_hits;
 use crate::broken::Broken;
 use crate::command::{Command, read_command};
 use crate::reply::{FileFault, LineFault, Reply, tell};
-use crate::scan::Scratch;
 use crate::stepped::Stepped;
+use si_defs::Relation;
 use si_harvest::{HarvestFault, HarvestLimits, expand};
 use si_index::Index;
 use si_io::{Library, Sink};
@@ -98,7 +97,9 @@ impl Session {
                 sink,
             ),
             Ok(Command::Remove(name)) => remove(&mut self.index, name, sink),
-            Ok(Command::Query(pattern)) => answer(self.alloc, &self.index, &pattern, sink),
+            Ok(Command::Query(relation, pattern)) => {
+                answer(&self.index, relation, &pattern, sink)
+            }
             Ok(Command::Stats) => tell(sink, Reply::Stats(self.index.stats())),
             Err(_) => tell(sink, Reply::Memory),
         }
@@ -252,17 +253,21 @@ fn remove<K: Sink>(index: &mut Index, name: Name, sink: &mut K) -> Stepped
     }
 }
 
-/// Answers which entries are instances of a pattern.
-fn answer<K: Sink>(alloc: Global, index: &Index, pattern: &Pattern, sink: &mut K) -> Stepped
-    ensures acts { ActsOn (λ limits. Performs limits (query Instances (pattern_of pattern.now)))
+/// Answers which entries stand in a relation to a pattern.
+fn answer<K: Sink>(index: &Index, relation: Relation, pattern: &Pattern, sink: &mut K) -> Stepped
+    requires { IsSoundPattern (pattern_of pattern.now) }
+    ensures acts { ActsOn (λ limits. Performs limits (query relation (pattern_of pattern.now)))
         index.now index.now result (K.written sink.old) (K.written sink.new) }
     ensures later { K.faults sink.old ≤ K.faults sink.new }
     ensures kept { (result ≡ SinkFailed → ⊥) → K.faults sink.new ≡ K.faults sink.old }
     ensures failed { result ≡ SinkFailed → Rose (K.faults sink.old) (K.faults sink.new) }
 {
-    let mut scratch = Scratch::new(alloc);
-    match answer_clauses(pattern, index, &mut scratch, sink) {
-        Ok(()) => tell(sink, Reply::End(scratch.found)),
+    let found = match index.find(relation, pattern) {
+        Ok(found) => found,
+        Err(_) => return tell(sink, Reply::Memory),
+    };
+    match tell_hits(index, &found, sink) {
+        Ok(()) => tell(sink, Reply::End(u64::from(found.len()))),
         Err(Broken::Sink) => Stepped::SinkFailed,
         Err(Broken::Memory) => tell(sink, Reply::Memory),
     }

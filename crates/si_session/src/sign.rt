@@ -10,16 +10,6 @@ use si_reply::put_bytes;
 /// A fixed sign between the parts of a printed text.
 #[derive(Clone, Copy, Debug, PartialEq, Eq)]
 pub enum Sign {
-    /// `?`, before a variable of the pattern.
-    Question,
-    /// ` -> `, between a variable and its term.
-    Arrow,
-    /// `; `, between two bindings.
-    Semicolon,
-    /// `{`, before the bindings.
-    OpenBrace,
-    /// `}`, behind the bindings.
-    CloseBrace,
     /// A space, behind a place.
     Space,
     /// The end of a line.
@@ -33,11 +23,6 @@ pub fn put_sign<K: Sink>(sink: &mut K, sign: Sign) -> Result<(), Failed>
     ensures cause { HasCause (K.faults sink.old) (K.faults sink.new) result }
 {
     match sign {
-        Sign::Question => put_bytes(sink, b"?"),
-        Sign::Arrow => put_bytes(sink, b" -> "),
-        Sign::Semicolon => put_bytes(sink, b"; "),
-        Sign::OpenBrace => put_bytes(sink, b"{"),
-        Sign::CloseBrace => put_bytes(sink, b"}"),
         Sign::Space => put_bytes(sink, b" "),
         Sign::LineFeed => put_bytes(sink, b"\n"),
     }

@@ -30,6 +30,6 @@ abbrev pub is_built : Word → Bool
 is_built Add = true
 is_built Load = true
 is_built Remove = true
-is_built (Ask Instances) = true
+is_built (Ask relation) = true
 is_built Stats = true
 is_built word = false

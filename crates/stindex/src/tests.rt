@@ -1,6 +1,7 @@
 // Whole runs over sources, sinks and libraries in memory.
 mod counts;
 mod loads;
+mod relations;
 
 use crate::serve::serve;
 use crate::status::Status;
@@ -156,7 +157,7 @@ const ROWS: [(&[u8], &[u8]); 22] = [
     ),
     // Words of commands that aren't built.
     (
-        b"tree\nunifiable lit p\nsample 1 2\n%\n",
+        b"tree\nsubsumers p\nsample 1 2\n%\n",
         b"! later\n! later\n! later\n",
     ),
     // Two spellings of one name, and an integer that is another.

@@ -2,7 +2,6 @@ use Rattle.std.proofs.Common.{◌≡◌, List, ◌∷◌, ap, sym, ◌∙◌, su
 use Rattle.std.specs.Prelude.{IfOk}
 use Rattle.si_defs.specs.Tokens.{Token, lower}
 use Rattle.si_steps.specs.Words.{command_text}
-use Rattle.si_steps.specs.declared.word.Word.TheVariants.{Ask}
 use Rattle.si_lex.specs.Lexemes.{token_of, tokens_of}
 use Rattle.si_lex.specs.declared.lexeme.Lexeme.{Lexeme}
 use Rattle.si_session.specs.Commands.{Commands}
@@ -37,12 +36,11 @@ returns-in-Some-Stats-clause-read c =
     (front c.args.tokens.now c.in-Some.first.now c.in-Some.rest.now _ c.in-Some.ensures.cases.0
     (c.in-Some-Stats.ensures.found ∙ ap (λ w. lower (command_text w)) c.in-Some-Stats.field-0-is)) c.stats_command.ensures
 
-pub returns-in-Some-Ask-Instances-clause-read : goal.returns-in-Some-Ask-Instances-clause-read
-returns-in-Some-Ask-Instances-clause-read c =
+pub returns-in-Some-Ask-clause-read : goal.returns-in-Some-Ask-clause-read
+returns-in-Some-Ask-clause-read c =
     subst (λ ts. IfOk c.query_command.result (Commands ts c.args.stop))
     (front c.args.tokens.now c.in-Some.first.now c.in-Some.rest.now _ c.in-Some.ensures.cases.0
-    (c.in-Some-Ask-Instances.ensures.found
-    ∙ ap (λ w. lower (command_text w)) (c.in-Some-Ask-Instances.field-0-is ∙ ap Ask c.in-Some-Ask-Instances.field-0-0-is))) c.query_command.ensures
+    (c.in-Some-Ask.ensures.found ∙ ap (λ w. lower (command_text w)) c.in-Some-Ask.field-0-is)) c.query_command.ensures
 
 pub returns-in-None-clause-read : goal.returns-in-None-clause-read
 returns-in-None-clause-read c =

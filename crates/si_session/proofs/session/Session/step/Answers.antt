@@ -1,6 +1,5 @@
 use Rattle.std.proofs.Common.{◌≤◌, length, ap, sym, ◌∙◌, subst, arith}
 use Rattle.si_steps.specs.Commands.{add, remove, query, stats}
-use Rattle.si_defs.specs.declared.Relation.TheVariants.{Instances}
 use Rattle.si_term.specs.Meaning.{name_of, clause_of, pattern_of}
 use Rattle.si_session.specs.Session.{Steps, around}
 use Rattle.si_session.specs.Commands.{ReadsCommand}
@@ -29,10 +28,10 @@ returns-in-Ok-Query-clause-step g c =
     let told = g.L.Library.files c.args.library.now in
     let tally = g.L.Library.counts c.args.library.now in
     let may_fail = g.L.Library.may_fail c.args.library.now in
-    let read : ReadsCommand c.args.line.now (command.Query c.in-Ok-Query.pattern) = subst (ReadsCommand c.args.line.now) c.in-Ok-Query.field-0-is c.in-Ok-Query.ensures.read in
+    let read : ReadsCommand c.args.line.now (command.Query c.in-Ok-Query.relation c.in-Ok-Query.pattern) = subst (ReadsCommand c.args.line.now) c.in-Ok-Query.field-0-is c.in-Ok-Query.ensures.read in
     let short : length c.args.line.now ≤ limits.line = omega (arith, c.if-line-self.false) in
     subst (λ s. Steps told s s c.args.line.now c.answer.result (around a tally may_fail) (around b tally may_fail)) c.self.view_is
-    (stepped limits told c.self.inside.index.clauses c.self.inside.index.clauses c.args.line.now (query Instances (pattern_of c.in-Ok-Query.pattern)) c.answer.result a b tally may_fail short read (c.answer.ensures.acts limits (sym c.self.invariant)))
+    (stepped limits told c.self.inside.index.clauses c.self.inside.index.clauses c.args.line.now (query c.in-Ok-Query.relation (pattern_of c.in-Ok-Query.pattern)) c.answer.result a b tally may_fail short read.0 (c.answer.ensures.acts limits (sym c.self.invariant)))
 
 pub returns-in-Ok-Remove-clause-step : goal.returns-in-Ok-Remove-clause-step
 returns-in-Ok-Remove-clause-step g c =
@@ -87,9 +86,9 @@ returns-in-Ok-Query-clause-silent g c =
     let a = g.K.Sink.written c.args.sink.now in
     let b = g.K.Sink.written c.answer.new.sink in
     let limits = c.self.inside.limits in
-    let read : ReadsCommand c.args.line.now (command.Query c.in-Ok-Query.pattern) = subst (ReadsCommand c.args.line.now) c.in-Ok-Query.field-0-is c.in-Ok-Query.ensures.read in (
-      λ e. absurd (not_silent limits (query Instances (pattern_of c.in-Ok-Query.pattern)) c.self.inside.index.clauses c.self.inside.index.clauses c.answer.result a b (c.answer.ensures.acts limits (sym c.self.invariant)) e),
-      λ h. absurd (read.1 h.1),
+    let read : ReadsCommand c.args.line.now (command.Query c.in-Ok-Query.relation c.in-Ok-Query.pattern) = subst (ReadsCommand c.args.line.now) c.in-Ok-Query.field-0-is c.in-Ok-Query.ensures.read in (
+      λ e. absurd (not_silent limits (query c.in-Ok-Query.relation (pattern_of c.in-Ok-Query.pattern)) c.self.inside.index.clauses c.self.inside.index.clauses c.answer.result a b (c.answer.ensures.acts limits (sym c.self.invariant)) e),
+      λ h. absurd (read.0.1 h.1),
     )
 
 pub returns-in-Ok-Stats-clause-step : goal.returns-in-Ok-Stats-clause-step

@@ -1,0 +1,140 @@
+-- A search through the entries of clauses: what it is made of, what it asks of the entries, and
+-- what it has gathered.
+use Rattle.std.specs.Prelude.{◌≡◌, ℕ, Bool, true, ◌≤◌, List, [], ◌∷◌, ◌++◌, length, map, Option, Some, None, bytes_eq}
+use Rattle.std.specs.List.{AllByRecursion}
+use Rattle.si_defs.specs.Bytes.{Bytes}
+use Rattle.si_defs.specs.Terms.{size, sizes, symbols, symbols_of_all, firsts}
+use Rattle.si_defs.specs.Symbols.{Numbering, IsNumbering}
+use Rattle.si_defs.specs.Clauses.{Term, Terms, Clause, Pattern, literal_pattern, term_pattern, IsSoundTerm, AreSoundTerms, IsSoundClause, IsSoundPattern}
+use Rattle.si_defs.specs.Entries.{Entry, literal_entry, term_entry, Placed, entry_variables, pattern_entry, clause_symbols}
+use Rattle.si_defs.specs.Variables.{Solution}
+use Rattle.si_defs.specs.declared.TheConstants.{MOST_OCCURRENCES}
+use Rattle.si_defs.specs.declared.Relation.{Relation}
+use Rattle.si_defs.specs.declared.Relation.TheVariants.{Variants, Instances, Generalizations, Unifiable}
+use Rattle.si_state.specs.Signatures.{numbering}
+use Rattle.si_state.specs.Answers.{Stands, Solves}
+use Rattle.si_term.specs.Meaning.{pattern_of, entry_of, place_of}
+use Rattle.si_flat.specs.Numbered.{number_in}
+use Rattle.si_flat.specs.Flattened.{IsSoundEntry, FlattensPattern, whole_of, query_numbers}
+use Rattle.si_form.specs.declared.solution.Binding.{Binding}
+use Rattle.si_form.specs.Answers.{StandsForList}
+use Rattle.si_form.specs.Numberings.{variable_by, list_by, symbols_of}
+use Rattle.si_form.specs.SolutionParts.{IsBindingOf}
+use Rattle.si_form.specs.TableNumbers.{HaveNumbers}
+use Rattle.si_index.specs.Kept.{Kept}
+use Rattle.si_index.specs.Finding.{AreHits}
+use Rattle.si_index.specs.declared.search.Search.{Search}
+use Rattle.si_index.specs.declared.gather.Match.{Match}
+
+-- ---- what is searched for
+abbrev pub numbers_of : Search → Numbering
+numbers_of s = numbering s.signature.now
+
+abbrev pub pattern_in : Search → Pattern
+pattern_in s = pattern_of s.pattern.now
+
+pub record IsReady (s : Search) : Type 0 where
+  pub numbering : IsNumbering (numbers_of s)
+  pub sound : IsSoundPattern (pattern_in s)
+  pub flat : FlattensPattern (numbers_of s) (pattern_in s) s.query
+
+-- a variable doesn't stand in the relation to any application
+abbrev pub AsksForHeads : Relation → Type 0
+AsksForHeads Variants = Unit {0}
+AsksForHeads Instances = ⊥
+AsksForHeads Generalizations = Unit {0}
+AsksForHeads Unifiable = ⊥
+
+-- the pattern is a term
+abbrev pub IsTermPattern : Pattern → Type 0
+IsTermPattern (literal_pattern l) = ⊥
+IsTermPattern (term_pattern t) = Unit {0}
+
+-- only literals of one sign are compared, and terms with terms
+abbrev pub AreAlike : Pattern → Entry → Type 0
+AreAlike (literal_pattern l) (literal_entry k) = l.positive ≡ k.positive
+AreAlike (term_pattern t) (term_entry u) = Unit {0}
+AreAlike (literal_pattern l) (term_entry u) = ⊥
+AreAlike (term_pattern t) (literal_entry k) = ⊥
+
+-- ---- what is searched: terms and clauses that are sound, and whose symbols have numbers
+pub record IsKnownTerm (numbers : Numbering) (t : Term) : Type 0 where
+  pub sound : IsSoundTerm t
+  pub numbered : HaveNumbers numbers (symbols t)
+  pub small : size t ≤ MOST_OCCURRENCES
+
+pub record AreKnownTerms (numbers : Numbering) (ts : Terms) : Type 0 where
+  pub sound : AreSoundTerms ts
+  pub numbered : HaveNumbers numbers (symbols_of_all ts)
+  pub small : sizes ts ≤ MOST_OCCURRENCES
+
+pub record IsKnownEntry (numbers : Numbering) (e : Entry) : Type 0 where
+  pub sound : IsSoundEntry e
+  pub numbered : HaveNumbers numbers (symbols (whole_of e))
+
+pub record IsKnownClause (numbers : Numbering) (c : Clause) : Type 0 where
+  pub sound : IsSoundClause c
+  pub numbered : HaveNumbers numbers (clause_symbols c)
+
+-- ---- what an entry is answered
+-- the entry stands in the relation, and has a canonical list
+pub record HasSolution (relation : Relation) (p : Pattern) (e : Entry) : Type 0 where
+  pub stands : Stands relation p e
+  pub solution : Solution
+  pub solves : Solves relation p e solution
+
+-- whether it does
+pub record TellsIfSolved (relation : Relation) (p : Pattern) (e : Entry) (tells : Bool) : Type 0 where
+  pub yes : tells ≡ true → HasSolution relation p e
+  pub always : Stands relation p e → tells ≡ true
+
+abbrev pub names_in : Entry → List Bytes
+names_in e = firsts bytes_eq (entry_variables e)
+
+-- the entry stands in the relation, and the bindings stand for its canonical list
+pub record SolvesEntry (relation : Relation) (numbers : Numbering) (p : Pattern) (e : Entry) (bindings : List Binding) : Type 0 where
+  pub stands : Stands relation p e
+  pub solution : Solution
+  pub solves : Solves relation p e solution
+  pub parts : AllByRecursion (IsBindingOf (whole_of (pattern_entry p)) (whole_of e)) solution
+  pub symbols : HaveNumbers numbers (symbols_of (whole_of (pattern_entry p)) (whole_of e))
+  pub list : StandsForList bindings (list_by (number_in numbers) (variable_by (names_in (pattern_entry p)) (names_in e)) solution)
+
+abbrev pub AnswersEntry : Relation → Numbering → Pattern → Entry → Option (List Binding) → Type 0
+AnswersEntry relation numbers p e None = Stands relation p e → ⊥
+AnswersEntry relation numbers p e (Some bindings) = SolvesEntry relation numbers p e bindings
+
+-- by the numbers of the search
+abbrev pub AnswersIn : Search → Entry → Option (List Binding) → Type 0
+AnswersIn s e answer = AnswersEntry s.relation (query_numbers (numbers_of s) s.query.extra) (pattern_in s) e answer
+
+-- ---- what was gathered
+pub record IsMatch (s : Search) (m : Match) : Type 0 where
+  pub known : IsKnownEntry (numbers_of s) (entry_of m.entry)
+  pub alike : AreAlike (pattern_in s) (entry_of m.entry)
+  pub solved : HasSolution s.relation (pattern_in s) (entry_of m.entry)
+
+-- the match as a hit
+abbrev pub hit_of : Match → ℕ × Placed
+hit_of m = (m.hit.clause, record { entry = entry_of m.entry; place = place_of m.hit.place })
+
+-- those of these entries were added that stand in the relation
+pub record Adds (s : Search) (es : List (ℕ × Placed)) (old new : List Match) : Type 0 where
+  pub more : List Match
+  pub appended : new ≡ old ++ more
+  pub matches : AllByRecursion (IsMatch s) more
+  pub hits : AreHits s.relation (pattern_in s) es (map hit_of more)
+
+-- subterms of the literal with this number, each at the end of a path
+abbrev pub placed_under : ℕ → ℕ → List ℕ → List (List ℕ × Term) → List (ℕ × Placed)
+placed_under position number path [] = []
+placed_under position number path (o ∷ os) =
+    (position, record { entry = term_entry o.1; place = record { literal = number; path = path ++ o.0 } })
+    ∷ placed_under position number path os
+
+-- what was found in an index: no more than its clauses may have
+pub record IsFound (index : Kept) (s : Search) (matches : List Match) : Type 0 where
+  pub numbers : numbers_of s ≡ index.numbers
+  pub ready : IsReady s
+  pub few : length matches ≤ MOST_OCCURRENCES
+  pub each : AllByRecursion (IsMatch s) matches

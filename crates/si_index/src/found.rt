@@ -1,0 +1,162 @@
+// What a search for a pattern found.
+ghost use Rattle.std.specs.Prelude.{◌≡◌, ◌<◌, IfOk, Some, length, map, slice_get};
+ghost use Rattle.std.specs.List.{AllByRecursion};
+ghost use Rattle.si_defs.specs.Clauses.{IsSoundPattern};
+ghost use Rattle.si_term.specs.Terms.{symbol_of};
+ghost use Rattle.si_term.specs.Meaning.{pattern_of, place_of};
+
+use crate::gather::{Match, search_clauses};
+use crate::index::Index;
+use crate::search::Search;
+use si_defs::Relation;
+use si_flat::flatten_pattern;
+use si_form::Solution;
+use si_term::{Pattern, Place, Syms, Texts, vars_of};
+use std::alloc::{AllocError, Global};
+use std::marker::Model;
+
+/// Where an entry stands that was found.
+#[derive(Drop)]
+pub struct Hit {
+    /// The position of its clause, from 0.
+    pub clause: u32,
+    /// Its place in the clause.
+    pub place: Place,
+}
+
+/// The canonical list of a hit, and what its numbers stand for.
+#[derive(Drop)]
+pub struct Shown {
+    /// The list. Its symbols have the numbers of the index, and those of `extra`.
+    pub solution: Solution,
+    /// The names of the pattern's variables, in the order of their numbers.
+    pub query_names: Texts,
+    /// Those of the entry's.
+    pub entry_names: Texts,
+    /// The symbols of the pattern that the index lacks. The one at place `k` has the number
+    /// `2_147_483_648 + 2 * k`.
+    pub extra: Syms,
+}
+
+/// The entries that stand in a relation to a pattern, in the order of acceptance and of entries.
+#[derive(Drop)]
+pub struct Found<'a> {
+    index: &'a Index,
+    search: Search<'a>,
+    matches: Vec<Match<'a>>,
+}
+
+impl<'a> Model for Found<'a> {
+    ghost use Rattle.std.specs.Prelude.{map};
+    ghost use Rattle.si_term.specs.Meaning.{pattern_of};
+    ghost use Rattle.si_index.specs.Finding.{Finding, finding_code};
+
+    ghost Value = { Finding };
+
+    ghost coded = { finding_code };
+
+    ghost use Rattle.si_index.specs.Searching.{hit_of};
+
+    ghost view = { λ f. record {
+      index = f.index.now;
+      relation = f.search.relation;
+      pattern = pattern_of f.search.pattern.now;
+      hits = map hit_of f.matches.items;
+    } };
+
+    ghost use Rattle.si_index.specs.Searching.{IsFound};
+
+    ghost invariant = { λ f. IsFound f.index.now f.search f.matches.items };
+}
+
+impl<'a> Found<'a> {
+    ghost use Rattle.si_index.specs.Finding.{position_and_place};
+    ghost use Rattle.si_index.specs.Showing.{Shows};
+
+    /// The number of hits.
+    pub fn len(&self) -> u32
+        ensures { result ≡ length self.now.hits }
+    {
+        self.matches.len() as u32
+    }
+
+    /// The hit with this number from 0.
+    pub fn hit(&self, n: u32) -> &Hit
+        requires { n < length self.now.hits }
+        ensures { slice_get (map position_and_place self.now.hits) n ≡ Some
+            (result.now.clause, place_of result.now.place) }
+    {
+        &self.matches[n as usize].hit
+    }
+
+    /// The canonical list of the hit with this number from 0.
+    pub fn shown(&self, n: u32) -> Result<Shown, AllocError>
+        requires { n < length self.now.hits }
+        ensures { IfOk result (λ shown. Shows self.now n shown) }
+    {
+        let search = &self.search;
+        let entry = self.matches[n as usize].entry;
+        let Some(solution) = search.solve(entry)? else {
+            unreachable!()
+        };
+        Ok(Shown {
+            solution,
+            query_names: vars_of(search.alloc, search.pattern.as_entry())?,
+            entry_names: vars_of(search.alloc, entry)?,
+            extra: copy_symbols(search.alloc, &search.query.extra)?,
+        })
+    }
+}
+
+// Equal symbols.
+fn copy_symbols(alloc: Global, symbols: &Syms) -> Result<Syms, AllocError>
+    ensures { IfOk result (λ copies. map symbol_of copies ≡ map symbol_of symbols.now) }
+{
+    let mut copies = Syms::new(alloc);
+    for symbol in symbols.as_slice() {
+        copies.push(symbol.copy(alloc)?)?;
+    }
+    Ok(copies)
+}
+
+impl Index {
+    ghost use Rattle.si_index.specs.Finding.{AreHits, entries_from_position};
+    ghost use Rattle.si_index.specs.Searching.{HasSolution};
+
+    /// The kept entries that stand in the relation to the pattern. Those of a literal pattern are
+    /// the literals of its sign, by their atoms, and those of a term the subterms.
+    ///
+    /// All clauses are walked over once. Memory is taken for hits, and for entries that have the
+    /// pattern's head.
+    pub fn find<'a>(
+        &'a self,
+        relation: Relation,
+        pattern: &'a Pattern,
+    ) -> Result<Found<'a>, AllocError>
+        requires { IsSoundPattern (pattern_of pattern.now) }
+        ensures index { IfOk result (λ f. f.index ≡ self.now) }
+        ensures relation { IfOk result (λ f. f.relation ≡ relation) }
+        ensures pattern { IfOk result (λ f. f.pattern ≡ pattern_of pattern.now) }
+        ensures hits { IfOk result (λ f. AreHits relation (pattern_of pattern.now)
+            (entries_from_position 0 self.now.clauses) f.hits) }
+        ensures solved { IfOk result (λ f. AllByRecursion
+            (λ hit. HasSolution relation (pattern_of pattern.now) hit.1.entry) f.hits) }
+    {
+        let alloc = self.allocator();
+        let stats = self.stats();
+        let signature = self.signature();
+        let search = Search {
+            alloc,
+            signature,
+            relation,
+            pattern,
+            query: flatten_pattern(alloc, signature, pattern)?,
+        };
+        let matches = search_clauses(&search, self, stats.clauses)?;
+        Ok(Found {
+            index: self,
+            search,
+            matches,
+        })
+    }
+}

@@ -1,0 +1,254 @@
+// The walk through the entries of clauses, which gathers those that stand in a relation.
+ghost use Rattle.std.specs.Prelude.{◌≡◌, ◌<◌, ◌+◌, [], ◌∷◌, ◌++◌, IfOk, OnOk, map, length};
+ghost use Rattle.std.specs.List.{AllByRecursion};
+ghost use Rattle.si_defs.specs.Terms.{row, occurrences, occurrences_from};
+ghost use Rattle.si_defs.specs.Clauses.{literal_pattern};
+ghost use Rattle.si_defs.specs.Entries.{literal_entry, literal_entries, entries};
+ghost use Rattle.si_defs.specs.declared.TheConstants.{MOST_OCCURRENCES};
+ghost use Rattle.si_term.specs.Terms.{term_of};
+ghost use Rattle.si_term.specs.Meaning.{literal_of, clause_of, entry_of};
+ghost use Rattle.si_index.specs.Finding.{at_position, entries_from_position};
+ghost use Rattle.si_index.specs.Searching.{numbers_of, pattern_in, IsReady, IsTermPattern, AreAlike, IsKnownTerm, AreKnownTerms, IsKnownEntry, IsKnownClause, Adds, placed_under};
+
+use crate::found::Hit;
+use crate::index::Index;
+use crate::search::Search;
+use si_term::{Clause, Entry, Literal, Path, Pattern, Place, Term};
+use std::alloc::{AllocError, Global};
+
+/// An entry that was found, and where it stands.
+#[derive(Drop)]
+pub(crate) struct Match<'a> {
+    pub(crate) hit: Hit,
+    pub(crate) entry: Entry<'a>,
+}
+
+/// What a walk has gathered, and the argument numbers from 1 that lead from the atom to where it
+/// stands.
+#[derive(Drop)]
+struct Gathered<'a> {
+    path: Vec<u32>,
+    matches: Vec<Match<'a>>,
+}
+
+/// A literal, by the position of its clause from 0 and its number from 1.
+#[derive(Clone, Copy)]
+struct Spot {
+    clause: u32,
+    literal: u32,
+}
+
+/// A path in memory of its own.
+fn copy_path(alloc: Global, path: &[u32]) -> Result<Path, AllocError>
+    ensures { IfOk result (λ copy. copy ≡ path.now) }
+{
+    let mut copy = Path::new(alloc);
+    for step in path {
+        copy.push(*step)?;
+    }
+    Ok(copy)
+}
+
+/// Adds an entry if it stands in the relation.
+fn try_entry<'a>(
+    search: &Search<'a>,
+    spot: Spot,
+    entry: Entry<'a>,
+    gathered: &mut Gathered<'a>,
+) -> Result<(), AllocError>
+    requires ready { IsReady search.now }
+    requires known { IsKnownEntry (numbers_of search.now) (entry_of entry) }
+    requires alike { AreAlike (pattern_in search.now) (entry_of entry) }
+    ensures adds { OnOk result (Adds search.now ((
+      spot.clause,
+      record {
+        entry = entry_of entry.entry;
+        place = record { literal = spot.literal; path = gathered.old.path.items };
+      },
+    ) ∷ []) gathered.old.matches.items gathered.new.matches.items) }
+    ensures path { OnOk result (gathered.new.path.items ≡ gathered.old.path.items) }
+{
+    if !search.holds(entry)? {
+        return Ok(());
+    }
+    let path = copy_path(search.alloc, &gathered.path)?;
+    let hit = Hit {
+        clause: spot.clause,
+        place: Place {
+            literal: spot.literal,
+            path,
+        },
+    };
+    gathered.matches.push(Match { hit, entry })?;
+    Ok(())
+}
+
+/// Puts the number from 1 of the argument with this index behind a path.
+fn descend(path: &mut Vec<u32>, index: usize) -> Result<(), AllocError>
+    requires { index < MOST_OCCURRENCES }
+    ensures { OnOk result (path.new.items ≡ path.old.items ++ (index + 1) ∷ []) }
+{
+    path.push(index as u32 + 1)?;
+    Ok(())
+}
+
+/// Adds the term and its subterms that stand in the relation, in preorder.
+#[cycle(searching)]
+fn search_term<'a>(
+    search: &Search<'a>,
+    spot: Spot,
+    term: &'a Term,
+    gathered: &mut Gathered<'a>,
+) -> Result<(), AllocError>
+    requires ready { IsReady search.now }
+    requires alike { IsTermPattern (pattern_in search.now) }
+    requires known { IsKnownTerm (numbers_of search.now) (term_of term.now) }
+    ensures adds { OnOk result (Adds search.now (placed_under spot.clause spot.literal
+        gathered.old.path.items (occurrences (term_of term.now)))
+        gathered.old.matches.items gathered.new.matches.items) }
+    ensures path { OnOk result (gathered.new.path.items ≡ gathered.old.path.items) }
+{
+    let Term::App(_, arguments) = term else {
+        return Ok(());
+    };
+    try_entry(search, spot, Entry::Sub(term), gathered)?;
+    search_arguments(search, spot, arguments.as_slice(), gathered)
+}
+
+/// Adds the arguments and their subterms that stand in the relation, in preorder.
+#[cycle(searching)]
+fn search_arguments<'a>(
+    search: &Search<'a>,
+    spot: Spot,
+    arguments: &'a [Term],
+    gathered: &mut Gathered<'a>,
+) -> Result<(), AllocError>
+    requires ready { IsReady search.now }
+    requires alike { IsTermPattern (pattern_in search.now) }
+    requires known { AreKnownTerms (numbers_of search.now) (row (map term_of arguments.now)) }
+    ensures adds { OnOk result (Adds search.now (placed_under spot.clause spot.literal
+        gathered.old.path.items (occurrences_from 1 (row (map term_of arguments.now))))
+        gathered.old.matches.items gathered.new.matches.items) }
+    ensures path { OnOk result (gathered.new.path.items ≡ gathered.old.path.items) }
+{
+    for i in 0..arguments.len() {
+        descend(&mut gathered.path, i)?;
+        search_term(search, spot, &arguments[i], gathered)?;
+        gathered.path.pop();
+    }
+    Ok(())
+}
+
+/// Adds the literal if it stands in the relation to the one that is wanted.
+fn search_whole<'a>(
+    search: &Search<'a>,
+    wanted: &Literal,
+    spot: Spot,
+    literal: &'a Literal,
+    gathered: &mut Gathered<'a>,
+) -> Result<(), AllocError>
+    requires ready { IsReady search.now }
+    requires wanted { pattern_in search.now ≡ literal_pattern (literal_of wanted.now) }
+    requires known { IsKnownEntry (numbers_of search.now) (literal_entry (literal_of literal.now)) }
+    requires root { gathered.old.path.items ≡ [] }
+    ensures adds { OnOk result (Adds search.now (map (at_position spot.clause)
+        (literal_entries spot.literal (literal_of literal.now)))
+        gathered.old.matches.items gathered.new.matches.items) }
+    ensures root { OnOk result (gathered.new.path.items ≡ []) }
+{
+    if wanted.positive != literal.positive {
+        return Ok(());
+    }
+    try_entry(search, spot, Entry::Lit(literal), gathered)
+}
+
+/// Adds the proper subterms of the literal's atom that stand in the relation.
+fn search_parts<'a>(
+    search: &Search<'a>,
+    spot: Spot,
+    literal: &'a Literal,
+    gathered: &mut Gathered<'a>,
+) -> Result<(), AllocError>
+    requires ready { IsReady search.now }
+    requires alike { IsTermPattern (pattern_in search.now) }
+    requires known { IsKnownEntry (numbers_of search.now) (literal_entry (literal_of literal.now)) }
+    requires root { gathered.old.path.items ≡ [] }
+    ensures adds { OnOk result (Adds search.now (map (at_position spot.clause)
+        (literal_entries spot.literal (literal_of literal.now)))
+        gathered.old.matches.items gathered.new.matches.items) }
+    ensures root { OnOk result (gathered.new.path.items ≡ []) }
+{
+    let Term::App(_, arguments) = &literal.atom else {
+        unreachable!()
+    };
+    search_arguments(search, spot, arguments.as_slice(), gathered)
+}
+
+/// Adds the entries of a literal that stand in the relation.
+fn search_literal<'a>(
+    search: &Search<'a>,
+    spot: Spot,
+    literal: &'a Literal,
+    gathered: &mut Gathered<'a>,
+) -> Result<(), AllocError>
+    requires ready { IsReady search.now }
+    requires known { IsKnownEntry (numbers_of search.now) (literal_entry (literal_of literal.now)) }
+    requires root { gathered.old.path.items ≡ [] }
+    ensures adds { OnOk result (Adds search.now (map (at_position spot.clause)
+        (literal_entries spot.literal (literal_of literal.now)))
+        gathered.old.matches.items gathered.new.matches.items) }
+    ensures root { OnOk result (gathered.new.path.items ≡ []) }
+{
+    match search.pattern {
+        Pattern::Lit(wanted) => search_whole(search, wanted, spot, literal, gathered),
+        Pattern::Term(_) => search_parts(search, spot, literal, gathered),
+    }
+}
+
+/// Adds the entries of a clause that stand in the relation.
+fn search_clause<'a>(
+    search: &Search<'a>,
+    position: u32,
+    clause: &'a Clause,
+    gathered: &mut Gathered<'a>,
+) -> Result<(), AllocError>
+    requires ready { IsReady search.now }
+    requires known { IsKnownClause (numbers_of search.now) (clause_of clause.now) }
+    requires root { gathered.old.path.items ≡ [] }
+    ensures adds { OnOk result (Adds search.now (map (at_position position)
+        (entries (clause_of clause.now)))
+        gathered.old.matches.items gathered.new.matches.items) }
+    ensures root { OnOk result (gathered.new.path.items ≡ []) }
+{
+    let literals = clause.literals.as_slice();
+    for i in 0..literals.len() {
+        let spot = Spot {
+            clause: position,
+            literal: i as u32 + 1,
+        };
+        search_literal(search, spot, &literals[i], gathered)?;
+    }
+    Ok(())
+}
+
+/// The entries of the kept clauses, of which there are so many, that stand in the relation.
+pub(crate) fn search_clauses<'a>(
+    search: &Search<'a>,
+    index: &'a Index,
+    count: u32,
+) -> Result<Vec<Match<'a>>, AllocError>
+    requires count { count ≡ length index.now.clauses }
+    requires ready { IsReady search.now }
+    requires known { AllByRecursion (IsKnownClause (numbers_of search.now)) index.now.clauses }
+    ensures { IfOk result (λ matches. Adds search.now (entries_from_position 0 index.now.clauses)
+        [] matches.items) }
+{
+    let mut gathered = Gathered {
+        path: Vec::new(search.alloc),
+        matches: Vec::new(search.alloc),
+    };
+    for position in 0..count {
+        search_clause(search, position, index.clause(position), &mut gathered)?;
+    }
+    Ok(gathered.matches)
+}

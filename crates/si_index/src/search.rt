@@ -1,0 +1,100 @@
+// Whether an entry stands in a relation to a pattern, and how.
+ghost use Rattle.std.specs.Prelude.{◌≡◌, IfOk, IsFalse, Decides};
+ghost use Rattle.si_defs.specs.Symbols.{same_symbol};
+ghost use Rattle.si_state.specs.Answers.{Stands};
+ghost use Rattle.si_term.specs.Terms.{symbol_of, term_of};
+ghost use Rattle.si_term.specs.Meaning.{entry_of};
+ghost use Rattle.si_flat.specs.Flattened.{whole_of};
+ghost use Rattle.si_form.specs.Numberings.{TextsRelate};
+ghost use Rattle.si_index.specs.Searching.{numbers_of, pattern_in, AsksForHeads, IsReady, AreAlike, IsKnownEntry, AnswersIn, TellsIfSolved};
+
+use si_defs::Relation;
+use si_flat::{FlatQuery, flatten_entry};
+use si_form::{Solution, canonical};
+use si_sign::Signature;
+use si_term::{Entry, Pattern, Sym, Term};
+use std::alloc::{AllocError, Global};
+
+/// What is searched for, and by which numbers.
+#[derive(Drop)]
+pub(crate) struct Search<'a> {
+    pub(crate) alloc: Global,
+    pub(crate) signature: &'a Signature,
+    pub(crate) relation: Relation,
+    pub(crate) pattern: &'a Pattern,
+    /// The pattern with the numbers of the signature.
+    pub(crate) query: FlatQuery,
+}
+
+fn is_same_symbol(one: &Sym, other: &Sym) -> bool
+    ensures { result ≡ same_symbol (symbol_of one.now) (symbol_of other.now) }
+{
+    one.kind == other.kind
+        && one.side == other.side
+        && one.arity == other.arity
+        && one.text.as_bytes() == other.text.as_bytes()
+}
+
+/// Whether a variable stands in the relation to applications.
+fn allows_variables(relation: Relation) -> bool
+    ensures { IsFalse result → AsksForHeads relation }
+{
+    match relation {
+        Relation::Instances | Relation::Unifiable => true,
+        Relation::Generalizations | Relation::Variants => false,
+    }
+}
+
+/// Whether the heads of two terms allow the relation. It takes no memory.
+fn fits(relation: Relation, query: &Term, term: &Term) -> bool
+    ensures { IsFalse result → TextsRelate relation (term_of query.now) (term_of term.now) → ⊥ }
+{
+    let Term::App(symbol, _) = term else {
+        return true;
+    };
+    match query {
+        Term::App(wanted, _) => is_same_symbol(wanted, symbol),
+        Term::Var(_) => allows_variables(relation),
+    }
+}
+
+/// The atom of a literal, or the term.
+fn whole_term(entry: Entry<'_>) -> &Term
+    ensures { term_of result.now ≡ whole_of (entry_of entry.entry) }
+{
+    match entry {
+        Entry::Lit(literal) => &literal.atom,
+        Entry::Sub(term) => term,
+    }
+}
+
+impl<'a> Search<'a> {
+    /// The canonical list of an entry; `None` where it doesn't stand in the relation.
+    pub(crate) fn solve(&self, entry: Entry<'_>) -> Result<Option<Solution>, AllocError>
+        requires ready { IsReady self.now }
+        requires known { IsKnownEntry (numbers_of self.now) (entry_of entry) }
+        requires alike { AreAlike (pattern_in self.now) (entry_of entry) }
+        ensures { IfOk result (AnswersIn self.now (entry_of entry.entry)) }
+    {
+        let Some(flat) = flatten_entry(self.alloc, self.signature, entry)? else {
+            unreachable!()
+        };
+        canonical(self.alloc, self.relation, &self.query.flat, &flat)
+    }
+
+    /// Whether an entry stands in the relation.
+    pub(crate) fn holds(&self, entry: Entry<'_>) -> Result<bool, AllocError>
+        requires ready { IsReady self.now }
+        requires known { IsKnownEntry (numbers_of self.now) (entry_of entry) }
+        requires alike { AreAlike (pattern_in self.now) (entry_of entry) }
+        ensures { IfOk result (TellsIfSolved self.now.relation (pattern_in self.now)
+            (entry_of entry.entry)) }
+    {
+        let wanted = whole_term(self.pattern.as_entry());
+        if !fits(self.relation, wanted, whole_term(entry)) {
+            return Ok(false);
+        }
+        let solution = self.solve(entry)?;
+        Ok(solution.is_some())
+    }
+}

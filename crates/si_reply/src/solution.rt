@@ -1,0 +1,213 @@
+// Solution lists over numbered terms, written to a sink.
+ghost use Rattle.std.specs.Prelude.{◌≡◌, ◌<◌, Some, length, slice_get};
+ghost use Rattle.si_defs.specs.Bytes.{Bytes};
+ghost use Rattle.si_defs.specs.Terms as terms;
+ghost use Rattle.si_defs.specs.Symbols as symbols;
+ghost use Rattle.si_defs.specs.Printing.{symbol_text, term_text, more_texts, solution_text};
+ghost use Rattle.si_defs.specs.Variables as variables;
+ghost use Rattle.si_defs.specs.Variables.{Apart, variable_text};
+ghost use Rattle.si_io.specs.Puts.{Puts};
+ghost use Rattle.si_io.specs.Faults.{HasCause};
+ghost use Rattle.si_term.specs.Terms.{symbol_of};
+ghost use Rattle.si_flat.specs.Cells.{IsWhole};
+ghost use Rattle.si_reply.specs.PrintedParts.{arguments_text, binding_text, bindings_text};
+ghost use Rattle.si_reply.specs.NamedLists.{naming, Shows, ShowAll, ShowsVariable, ShowsSymbol, ShowsBinding, ShowsList};
+
+use crate::printing::{put_bytes, put_symbol};
+use si_flat::{Cell, Owner};
+use si_form::{Binding, Solution};
+use si_io::{Failed, Sink};
+use si_term::{Sym, SymTable, Syms, Texts};
+use std::marker::Model;
+
+/// The numbers from here on are those of the symbols that a table lacks.
+const FIRST_EXTRA: u32 = 1 << 31;
+
+/// What stands for the numbers: the symbols of a table, those that it lacks, and the names of
+/// variables.
+#[derive(Drop)]
+struct Words<'a, T: SymTable> {
+    table: &'a T,
+    extra: &'a Syms,
+    query_names: &'a Texts,
+    entry_names: &'a Texts,
+}
+
+impl<'a, T: SymTable> Model for Words<'a, T> {
+    ghost use Rattle.si_reply.specs.NamedLists as named;
+    ghost use Rattle.si_reply.specs.NamedLists.{naming};
+
+    ghost Value = { named.Naming };
+
+    ghost view = { λ w. naming (T.pairs w.table.now) w.extra.now w.query_names.now w.entry_names.now };
+}
+
+/// Writes a solution list. Each of its numbers has to stand for a symbol of the table or an extra
+/// one, or for a name. A term is written by recursion over its nesting.
+pub fn put_solution<K: Sink, T: SymTable>(
+    sink: &mut K,
+    solution: &Solution,
+    table: &T,
+    extra: &Syms,
+    query_names: &Texts,
+    entry_names: &Texts,
+) -> Result<(), Failed>
+    requires known { (list : variables.Solution) × ShowsList
+        (naming (T.pairs table.now) extra.now query_names.now entry_names.now) solution.now list }
+    ensures text { (list : variables.Solution)
+        → ShowsList (naming (T.pairs table.now) extra.now query_names.now entry_names.now)
+        solution.now list
+        → Puts result (solution_text variable_text list) (K.written sink.old) (K.written sink.new) }
+    ensures cause { HasCause (K.faults sink.old) (K.faults sink.new) result }
+{
+    let words = Words {
+        table,
+        extra,
+        query_names,
+        entry_names,
+    };
+    put_bytes(sink, b"{")?;
+    put_bindings(sink, &words, solution)?;
+    put_bytes(sink, b"}")
+}
+
+/// Writes the bindings with semicolons between them.
+fn put_bindings<K: Sink, T: SymTable>(
+    sink: &mut K,
+    words: &Words<'_, T>,
+    solution: &Solution,
+) -> Result<(), Failed>
+    requires known { (list : variables.Solution) × ShowsList words.now solution.now list }
+    ensures text { (list : variables.Solution) → ShowsList words.now solution.now list
+        → Puts result (bindings_text list) (K.written sink.old) (K.written sink.new) }
+    ensures cause { HasCause (K.faults sink.old) (K.faults sink.new) result }
+{
+    if solution.len() == 0 {
+        return Ok(());
+    }
+    put_binding(sink, words, solution.at(0))?;
+    for n in 1..solution.len() {
+        put_bytes(sink, b"; ")?;
+        put_binding(sink, words, solution.at(n))?;
+    }
+    Ok(())
+}
+
+/// Writes a variable and its term.
+fn put_binding<K: Sink, T: SymTable>(
+    sink: &mut K,
+    words: &Words<'_, T>,
+    binding: &Binding,
+) -> Result<(), Failed>
+    requires known { (b : variables.Variable × Apart) × ShowsBinding words.now binding.now b }
+    ensures text { (b : variables.Variable × Apart) → ShowsBinding words.now binding.now b
+        → Puts result (binding_text b) (K.written sink.old) (K.written sink.new) }
+    ensures cause { HasCause (K.faults sink.old) (K.faults sink.new) result }
+{
+    put_variable(sink, words, binding.owner, binding.slot)?;
+    put_bytes(sink, b" -> ")?;
+    put_flat(sink, words, binding.value.cells())
+}
+
+/// Writes a variable of the pattern or of the entry.
+fn put_variable<K: Sink, T: SymTable>(
+    sink: &mut K,
+    words: &Words<'_, T>,
+    owner: Owner,
+    slot: u32,
+) -> Result<(), Failed>
+    requires known { (x : variables.Variable) × ShowsVariable words.now owner slot x }
+    ensures text { (x : variables.Variable) → ShowsVariable words.now owner slot x
+        → Puts result (variable_text x) (K.written sink.old) (K.written sink.new) }
+    ensures cause { HasCause (K.faults sink.old) (K.faults sink.new) result }
+{
+    match owner {
+        Owner::Query => {
+            put_bytes(sink, b"?")?;
+            put_bytes(sink, words.query_names.at(slot as usize).as_bytes())
+        }
+        Owner::Entry => put_bytes(sink, words.entry_names.at(slot as usize).as_bytes()),
+    }
+}
+
+/// The symbol with this number.
+fn symbol_at<'a, T: SymTable>(words: &Words<'a, T>, number: u32) -> &'a Sym
+    requires known { (s : symbols.Symbol) × ShowsSymbol words.now number s }
+    ensures { (s : symbols.Symbol) → ShowsSymbol words.now number s → symbol_of result.now ≡ s }
+{
+    match words.table.sym_at(number) {
+        Some(symbol) => symbol,
+        None => words.extra.at((number - FIRST_EXTRA) as usize / 2),
+    }
+}
+
+/// Writes the term of these cells.
+#[cycle(put_terms)]
+fn put_flat<K: Sink, T: SymTable>(
+    sink: &mut K,
+    words: &Words<'_, T>,
+    cells: &[Cell],
+) -> Result<(), Failed>
+    requires known { (t : Apart) × Shows words.now cells.now t }
+    ensures text { (t : Apart) → Shows words.now cells.now t
+        → Puts result (term_text variable_text t) (K.written sink.old) (K.written sink.new) }
+    ensures cause { HasCause (K.faults sink.old) (K.faults sink.new) result }
+{
+    match cells[0] {
+        Cell::App { sym, .. } => {
+            put_symbol(sink, symbol_at(words, sym))?;
+            put_flat_arguments(sink, words, &cells[1..])
+        }
+        Cell::Query(number) => put_variable(sink, words, Owner::Query, number),
+        Cell::Entry(number) => put_variable(sink, words, Owner::Entry, number),
+        Cell::Ind(_) => unreachable!(),
+    }
+}
+
+/// Writes the terms of these cells as arguments, in parentheses where there are any.
+#[cycle(put_terms)]
+fn put_flat_arguments<K: Sink, T: SymTable>(
+    sink: &mut K,
+    words: &Words<'_, T>,
+    cells: &[Cell],
+) -> Result<(), Failed>
+    requires known { (ts : terms.Terms symbols.Symbol variables.Variable)
+        × ShowAll words.now cells.now ts }
+    ensures text { (ts : terms.Terms symbols.Symbol variables.Variable)
+        → ShowAll words.now cells.now ts
+        → Puts result (arguments_text variable_text ts) (K.written sink.old) (K.written sink.new) }
+    ensures cause { HasCause (K.faults sink.old) (K.faults sink.new) result }
+{
+    if cells.is_empty() {
+        return Ok(());
+    }
+    let (first, others) = cells.split_at(cells[0].span());
+    put_bytes(sink, b"(")?;
+    put_flat(sink, words, first)?;
+    put_flat_others(sink, words, others)?;
+    put_bytes(sink, b")")
+}
+
+/// Writes the terms of these cells, each behind a comma.
+#[cycle(put_terms)]
+fn put_flat_others<'a, K: Sink, T: SymTable>(
+    sink: &mut K,
+    words: &Words<'_, T>,
+    cells: &'a [Cell],
+) -> Result<(), Failed>
+    requires known { (ts : terms.Terms symbols.Symbol variables.Variable)
+        × ShowAll words.now cells.now ts }
+    ensures text { (ts : terms.Terms symbols.Symbol variables.Variable)
+        → ShowAll words.now cells.now ts
+        → Puts result (more_texts variable_text ts) (K.written sink.old) (K.written sink.new) }
+    ensures cause { HasCause (K.faults sink.old) (K.faults sink.new) result }
+{
+    let mut rest = cells;
+    while !rest.is_empty() {
+        let (first, others) = rest.split_at(rest[0].span());
+        put_bytes(sink, b",")?;
+        put_flat(sink, words, first)?;
+        rest = others;
+    }
+    Ok(())
+}

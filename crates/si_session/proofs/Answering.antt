@@ -1,0 +1,232 @@
+-- What is found, with its lists, is the answer; and its lines, written one after the other.
+use Rattle.std.proofs.Common.{◌≡◌, inl, inr, ℕ, zero, suc, ◌+◌, ◌<◌, ◌≤◌, List, [], ◌∷◌, ◌++◌, length, map, take, drop, Some, refl, sym, ◌∙◌, ap, subst, arith, append_assoc, take-append-drop, take_all}
+use Rattle.std.specs.Prelude.{Result, Ok, Err, IsErrAnd, slice_get}
+use Rattle.std.specs.List.{AllByRecursion}
+use Rattle.si_defs.specs.Clauses.{Name, Clause, Pattern}
+use Rattle.si_defs.specs.Printing.{place_text, solution_text}
+use Rattle.si_reply.proofs.Pieces.{four_apart}
+use Rattle.si_session.specs.Signs.{sign_text}
+use Rattle.si_session.specs.declared.sign.Sign.TheVariants.{Space, LineFeed}
+use Rattle.si_defs.specs.Entries.{Place, Placed, entries, state_entries, placed_in}
+use Rattle.si_defs.specs.Variables.{Solution, variable_text}
+use Rattle.si_defs.specs.declared.Relation.{Relation}
+use Rattle.si_state.specs.Answers.{Hit, IsAnswer, hit_text, hit_texts}
+use Rattle.si_steps.specs.Runs.{ended}
+use Rattle.si_io.specs.Content.{Told, Receives}
+use Rattle.si_io.proofs.Content.{append_told-nil, Receives_then}
+use Rattle.si_term.specs.declared.clause.Place as term
+use Rattle.si_term.specs.Meaning.{place_of}
+use Rattle.si_index.specs.Kept.{Kept}
+use Rattle.si_index.specs.Searching.{HasSolution}
+use Rattle.si_index.specs.Finding.{Finding, AreHits, at_position, entries_from_position, position_and_place}
+use Rattle.si_session.specs.Telling.{Tells}
+use Rattle.si_session.specs.Answering.{IsHitOf, AreHitsOf, IsInside, TellsHit, TellsHits, hit_line}
+use Rattle.si_session.specs.declared.broken.Broken.{Broken}
+use Rattle.si_session.specs.declared.broken.Broken.TheVariants.{Memory}
+use Rattle.si_session.proofs.Told.{ended-append, tells_then, tells_broken, tells_again}
+
+abbrev Found : Type 0
+Found = List (ℕ × Placed)
+
+-- ---- positions
+at_front : (front back : List Clause) (c : Clause) → slice_get (front ++ c ∷ back) (length front) ≡ Some c
+at_front [] back c = refl
+at_front (x ∷ front) back c = at_front front back c
+
+one_more : (front : List Clause) (c : Clause) → length (front ++ c ∷ []) ≡ 1 + length front
+one_more [] c = omega arith
+one_more (x ∷ front) c = omega (arith, one_more front c)
+
+module _ (relation : Relation) (p : Pattern) (clauses : List Clause) where
+  -- what is found in one clause, and then in others
+  of_clause : (k : ℕ) (c : Clause) → slice_get clauses k ≡ Some c → (es : List Placed) (rest : Found) (others : List (Clause × Placed))
+      → ((fs : Found) (hits : List Hit) → AreHits relation p rest fs → AreHitsOf relation p clauses fs hits → IsAnswer relation p others hits)
+      → (fs : Found) (hits : List Hit) → AreHits relation p (map (at_position k) es ++ rest) fs → AreHitsOf relation p clauses fs hits
+      → IsAnswer relation p (map (placed_in c) es ++ others) hits
+  of_clause k c there [] rest others more fs hits h g = more fs hits h g
+  of_clause k c there (e ∷ es) rest others more fs hits (inr h) g = inr (h.0, of_clause k c there es rest others more fs hits h.1 g)
+  of_clause k c there (e ∷ es) rest others more fs hits (inl h) g =
+      let found = subst (λ l. AreHitsOf relation p clauses l hits) h.1.2 g in
+      let hit = found.0 in
+      let of = found.2 in
+      let same : hit.clause ≡ c = (let both : Some hit.clause ≡ Some c = sym of.clause ∙ there in cc) in
+      let is : hit ≡ record { clause = c; placed = e; solution = hit.solution } =
+      λ i. record { clause = same i; placed = of.placed i; solution = hit.solution } in
+      inl (h.0, (hit.solution, found.1, of.solves, of_clause k c there es rest others more h.1.0 found.1 h.1.1 found.3, found.4 ∙ ap (λ x. x ∷ found.1) is))
+
+  of_all : (front back : List Clause) → clauses ≡ front ++ back → (fs : Found) (hits : List Hit)
+      → AreHits relation p (entries_from_position (length front) back) fs → AreHitsOf relation p clauses fs hits → IsAnswer relation p (state_entries back) hits
+  of_all front [] e fs hits h g = subst (λ l. AreHitsOf relation p clauses l hits) h g
+  of_all front (c ∷ back) e fs hits h g =
+      of_clause (length front) c (subst (λ l. slice_get l (length front) ≡ Some c) (sym e) (at_front front back c)) (entries c)
+      (entries_from_position (1 + length front) back) (state_entries back)
+      (λ gs xs a b.
+      of_all (front ++ c ∷ []) back (e ∙ sym (append_assoc front (c ∷ []) back)) gs xs
+      (subst (λ k. AreHits relation p (entries_from_position k back) gs) (sym (one_more front c)) a) b)
+      fs hits h g
+
+  -- all that is found stands inside
+  inside_clause : (k : ℕ) → k < length clauses → (es : List Placed) (rest : Found)
+      → ((fs : Found) → AreHits relation p rest fs → AllByRecursion (IsInside clauses) fs)
+      → (fs : Found) → AreHits relation p (map (at_position k) es ++ rest) fs → AllByRecursion (IsInside clauses) fs
+  inside_clause k less [] rest more fs h = more fs h
+  inside_clause k less (e ∷ es) rest more fs (inr h) = inside_clause k less es rest more fs h.1
+  inside_clause k less (e ∷ es) rest more fs (inl h) =
+      subst (AllByRecursion (IsInside clauses)) (sym h.1.2) (less, inside_clause k less es rest more h.1.0 h.1.1)
+
+  inside_all : (k : ℕ) (back : List Clause) → k + length back ≡ length clauses → (fs : Found)
+      → AreHits relation p (entries_from_position k back) fs → AllByRecursion (IsInside clauses) fs
+  inside_all k [] e fs h = subst (AllByRecursion (IsInside clauses)) (sym h) tt
+  inside_all k (c ∷ back) e fs h =
+      inside_clause k (omega (arith, e)) (entries c) (entries_from_position (1 + k) back) (λ gs a. inside_all (1 + k) back (omega (arith, e)) gs a) fs h
+
+  -- each of them has its hit
+  clause_there : (cs : List Clause) (k : ℕ) → k < length cs → (c : Clause) × (slice_get cs k ≡ Some c)
+  clause_there [] k less = absurd (omega (arith, less))
+  clause_there (c ∷ cs) zero less = (c, refl)
+  clause_there (c ∷ cs) (suc k) less = clause_there cs k (omega (arith, less))
+
+  pub hits_of : (fs : Found) → AllByRecursion (IsInside clauses) fs → AllByRecursion (λ f. HasSolution relation p f.1.entry) fs → (hits : List Hit) × AreHitsOf relation p clauses fs hits
+  hits_of [] inside solved = ([], refl)
+  hits_of (f ∷ fs) inside solved =
+      let others = hits_of fs inside.1 solved.1 in
+      let c = clause_there clauses f.0 inside.0 in
+      let hit : Hit = record { clause = c.0; placed = f.1; solution = solved.0.solution } in
+      (hit ∷ others.0, (hit, others.0, record { clause = c.1; placed = refl; solves = solved.0.solves }, others.1, refl))
+
+  pub hits-append : (fs gs : Found) (xs ys : List Hit) → AreHitsOf relation p clauses fs xs → AreHitsOf relation p clauses gs ys → AreHitsOf relation p clauses (fs ++ gs) (xs ++ ys)
+  hits-append [] gs xs ys h k = subst (λ l. AreHitsOf relation p clauses gs (l ++ ys)) (sym h) k
+  hits-append (f ∷ fs) gs xs ys h k = (h.0, h.1 ++ ys, h.2, hits-append fs gs h.1 ys h.3 k, ap (λ l. l ++ ys) h.4)
+
+  pub length-hits : (fs : Found) (hits : List Hit) → AreHitsOf relation p clauses fs hits → length fs ≡ length hits
+  length-hits [] hits h = ap length (sym h)
+  length-hits (f ∷ fs) hits h = omega (arith, length-hits fs h.1 h.3, ap length h.4)
+
+  pub is_answer : (fs : Found) (hits : List Hit) → AreHits relation p (entries_from_position 0 clauses) fs → AreHitsOf relation p clauses fs hits → IsAnswer relation p (state_entries clauses) hits
+  is_answer fs hits h g = of_all [] clauses refl fs hits h g
+
+  pub are_inside : (fs : Found) → AreHits relation p (entries_from_position 0 clauses) fs → AllByRecursion (IsInside clauses) fs
+  are_inside fs h = inside_all 0 clauses (omega arith) fs h
+
+-- ---- lines
+texts-append : (xs ys : List Hit) → hit_texts (xs ++ ys) ≡ hit_texts xs ++ hit_texts ys
+texts-append [] ys = refl
+texts-append (x ∷ xs) ys = ap (λ l. hit_text x ∷ l) (texts-append xs ys)
+
+all_dropped : {X : Type 0} (P : X → Type 0) (n : ℕ) (xs : List X) → AllByRecursion P xs → AllByRecursion P (drop n xs)
+all_dropped P zero xs h = h
+all_dropped P (suc n) [] h = h
+all_dropped P (suc n) (x ∷ xs) h = all_dropped P n xs h.1
+
+take_next : (fs : Found) (n : ℕ) (f : ℕ × Placed) → slice_get fs n ≡ Some f → take (n + 1) fs ≡ take n fs ++ f ∷ []
+take_next [] n f is = absurd (let bad = is in cc)
+take_next (x ∷ fs) zero f is = let same : x ≡ f = cc in ap (λ y. y ∷ []) same
+take_next (x ∷ fs) (suc n) f is =
+    let next : suc n + 1 ≡ suc (n + 1) = omega arith in
+    ap (λ k. take k (x ∷ fs)) next ∙ ap (λ l. x ∷ l) (take_next fs n f is)
+
+-- The lines of the first hits were written.
+pub record ToldTo (f : Finding) (n : ℕ) (before now : Told) : Type 0 where
+  pub hits : List Hit
+  pub are : AreHitsOf f.relation f.pattern f.index.clauses (take n f.hits) hits
+  pub given : Receives before (ended (hit_texts hits)) now
+
+module _ (f : Finding) (before : Told) where
+  pub told_none : ToldTo f 0 before before
+  told_none = record { hits = []; are = refl; given = sym (append_told-nil before) }
+
+  pub told_more : (n : ℕ) (now after : Told) → ToldTo f n before now → TellsHit f n (Ok (tt {0})) now after → ToldTo f (n + 1) before after
+  told_more n now after t (inr h) = absurd (let bad = h.0 in cc)
+  told_more n now after t (inl h) = record {
+    hits = t.hits ++ h.1 ∷ [];
+    are = subst (λ l. AreHitsOf f.relation f.pattern f.index.clauses l (t.hits ++ h.1 ∷ [])) (sym (take_next f.hits n h.0 h.2))
+        (hits-append f.relation f.pattern f.index.clauses (take n f.hits) (h.0 ∷ []) t.hits (h.1 ∷ []) t.are (h.1, [], h.3, refl, refl));
+    given = subst (λ l. Receives before l after) (sym (ap ended (texts-append t.hits (h.1 ∷ [])) ∙ ended-append (hit_texts t.hits) (hit_text h.1 ∷ [])))
+        (Receives_then before now after (ended (hit_texts t.hits)) (ended (hit_text h.1 ∷ [])) t.given h.4);
+  }
+
+  pub told_all : (n : ℕ) (now : Told) → length f.hits ≤ n → ToldTo f n before now → TellsHits f (Ok (tt {0})) before now
+  told_all n now less t = (t.hits, subst (λ l. AreHitsOf f.relation f.pattern f.index.clauses l t.hits) (take_all n f.hits less) t.are, t.given)
+
+  module _ (inside : AllByRecursion (IsInside f.index.clauses) f.hits) (solved : AllByRecursion (λ h. HasSolution f.relation f.pattern h.1.entry) f.hits) where
+    -- the others have their hits too
+    behind_these : (n : ℕ) → (hits : List Hit) × AreHitsOf f.relation f.pattern f.index.clauses (drop n f.hits) hits
+    behind_these n = hits_of f.relation f.pattern f.index.clauses (drop n f.hits) (all_dropped _ n f.hits inside) (all_dropped _ n f.hits solved)
+
+    all_these : (n : ℕ) (now : Told) (t : ToldTo f n before now) → AreHitsOf f.relation f.pattern f.index.clauses f.hits (t.hits ++ (behind_these n).0)
+    all_these n now t =
+        subst (λ l. AreHitsOf f.relation f.pattern f.index.clauses l (t.hits ++ (behind_these n).0)) (take-append-drop n f.hits)
+        (hits-append f.relation f.pattern f.index.clauses (take n f.hits) (drop n f.hits) t.hits (behind_these n).0 t.are (behind_these n).1)
+
+    -- broken off at this one
+    pub told_broken : (e : Broken) (n : ℕ) (now after : Told) → ToldTo f n before now → TellsHit f n (Err e) now after → TellsHits f (Err e) before after
+    told_broken e n now after t (inr h) =
+        let others = (behind_these n).0 in
+        let memory : e ≡ Memory = (let both = h.0 in cc) in (
+          t.hits ++ others,
+          all_these n now t,
+          subst (λ x. Tells (Err x) (hit_texts (t.hits ++ others)) before after) (sym memory)
+              (hit_texts t.hits, hit_texts others, texts-append t.hits others, subst (λ x. Receives before (ended (hit_texts t.hits)) x) (sym h.1) t.given),
+        )
+    told_broken e n now after t (inl h) =
+        let more = with_this n now t h.0 h.1 h.2 h.3 in
+        let others = (behind_these (n + 1)).0 in (
+          more.0 ++ others,
+          subst (λ l. AreHitsOf f.relation f.pattern f.index.clauses l (more.0 ++ others)) (take-append-drop (n + 1) f.hits)
+              (hits-append f.relation f.pattern f.index.clauses (take (n + 1) f.hits) (drop (n + 1) f.hits) more.0 others more.1 (behind_these (n + 1)).1),
+          subst (λ l. Tells (Err e) l before after) (sym (texts-append more.0 others))
+              (tells_broken e before after (hit_texts more.0) (hit_texts others)
+              (subst (λ l. Tells (Err e) l before after) (sym (texts-append t.hits (h.1 ∷ [])))
+              (tells_then (Err e) before now after (hit_texts t.hits) (hit_text h.1 ∷ []) t.given h.4))),
+        )
+      where
+        with_this : (n : ℕ) (now : Told) (t : ToldTo f n before now) (g : ℕ × Placed) (x : Hit) → slice_get f.hits n ≡ Some g → IsHitOf f.relation f.pattern f.index.clauses g x
+            → (hits : List Hit) × AreHitsOf f.relation f.pattern f.index.clauses (take (n + 1) f.hits) hits
+        with_this n now t g x there of = (
+          t.hits ++ x ∷ [],
+          subst (λ l. AreHitsOf f.relation f.pattern f.index.clauses l (t.hits ++ x ∷ [])) (sym (take_next f.hits n g there))
+              (hits-append f.relation f.pattern f.index.clauses (take n f.hits) (g ∷ []) t.hits (x ∷ []) t.are (x, [], of, refl, refl)),
+        )
+
+-- ---- one line
+pub line_parts : (name : Name) (place : Place) (list : Solution)
+    → hit_line name place list ≡ place_text name place ++ (sign_text Space ++ (solution_text variable_text list ++ sign_text LineFeed))
+unfolding hit_line
+line_parts name place list = four_apart (place_text name place) (sign_text Space) (solution_text variable_text list) (sign_text LineFeed)
+
+-- the line of a hit, with its end
+pub line_is : (hit : Hit) → hit_line hit.clause.name hit.placed.place hit.solution ≡ ended (hit_text hit ∷ [])
+unfolding hit_line sign_text
+line_is hit = refl
+
+pub line_at : (name : Name) (place : term.Place) (path : List ℕ) (list : Solution) → path ≡ place.path
+    → hit_line name (place_of place) list
+    ≡ place_text name (record { literal = place.literal; path = path }) ++ (sign_text Space ++ (solution_text variable_text list ++ sign_text LineFeed))
+line_at name place path list e =
+    ap (λ p. hit_line name (record { literal = place.literal; path = p }) list) (sym e)
+    ∙ line_parts name (record { literal = place.literal; path = path }) list
+
+-- ---- what a number finds
+pub at_number : (fs : Found) (n : ℕ) (f : ℕ × Placed) (k : ℕ) (place : Place) → slice_get fs n ≡ Some f
+    → slice_get (map position_and_place fs) n ≡ Some (k, place) → (f.0 ≡ k) × (f.1.place ≡ place)
+at_number [] n f k place is at = absurd (let bad = is in cc)
+at_number (x ∷ fs) zero f k place is at =
+    let same : x ≡ f = cc in
+    let there : ◌≡◌ {A = ℕ × Place} (x.0, x.1.place) (k, place) = cc in
+    (sym (ap (λ y. y.0) same) ∙ ap (λ q. q.0) there, sym (ap (λ y. y.1.place) same) ∙ ap (λ q. q.1) there)
+at_number (x ∷ fs) (suc n) f k place is at = at_number fs n f k place is at
+
+-- the error is passed on
+pub hits_again : (f : Finding) (r : Result (Unit {0}) Broken) (e : Broken) (a b : Told) → IsErrAnd r (λ x. x ≡ e) → TellsHits f (Err e) a b → TellsHits f r a b
+hits_again f r e a b is h = (h.0, h.1, tells_again r e a b (hit_texts h.0) is h.2)
+
+-- ---- the whole answer
+module _ (f : Finding) (index : Kept) (relation : Relation) (p : Pattern)
+    (of_index : f.index ≡ index) (of_relation : f.relation ≡ relation) (of_pattern : f.pattern ≡ p)
+    (found : AreHits relation p (entries_from_position 0 index.clauses) f.hits) where
+  pub whole_answer : (hits : List Hit) → AreHitsOf f.relation f.pattern f.index.clauses f.hits hits → IsAnswer relation p (state_entries index.clauses) hits
+  whole_answer hits h =
+      is_answer relation p index.clauses f.hits hits found
+      (subst (λ k. AreHitsOf relation p k.clauses f.hits hits) of_index
+      (subst (λ q. AreHitsOf relation q f.index.clauses f.hits hits) of_pattern
+      (subst (λ r. AreHitsOf r f.pattern f.index.clauses f.hits hits) of_relation h)))

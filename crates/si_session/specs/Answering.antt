@@ -1,0 +1,48 @@
+-- The hits that were found, with the lists that are shown, and their lines.
+use Rattle.std.specs.Prelude.{◌≡◌, ◌⊎◌, ◌<◌, ℕ, List, [], ◌∷◌, ◌++◌, length, Result, Err, Some, slice_get}
+use Rattle.si_defs.specs.Bytes.{Bytes}
+use Rattle.si_defs.specs.Clauses.{Name, Clause, Pattern}
+use Rattle.si_defs.specs.Entries.{Place, Placed}
+use Rattle.si_defs.specs.Variables.{Solution, variable_text}
+use Rattle.si_defs.specs.Printing.{place_text, solution_text}
+use Rattle.si_defs.specs.declared.Relation.{Relation}
+use Rattle.si_state.specs.Answers.{Hit, Solves, hit_text, hit_texts}
+use Rattle.si_io.specs.Content.{Told}
+use Rattle.si_index.specs.Finding.{Finding}
+use Rattle.si_session.specs.Telling.{Tells}
+use Rattle.si_session.specs.Signs.{sign_text}
+use Rattle.si_session.specs.declared.sign.Sign.TheVariants.{Space, LineFeed}
+use Rattle.si_session.specs.declared.broken.Broken.{Broken}
+use Rattle.si_session.specs.declared.broken.Broken.TheVariants.{Memory}
+
+-- the hit of what was found at a position among these clauses, with a canonical list
+pub record IsHitOf (relation : Relation) (pattern : Pattern) (clauses : List Clause) (found : ℕ × Placed) (hit : Hit) : Type 0 where
+  pub clause : slice_get clauses found.0 ≡ Some hit.clause
+  pub placed : hit.placed ≡ found.1
+  pub solves : Solves relation pattern found.1.entry hit.solution
+
+abbrev pub AreHitsOf : Relation → Pattern → List Clause → List (ℕ × Placed) → List Hit → Type 0
+AreHitsOf relation pattern clauses [] hits = hits ≡ []
+AreHitsOf relation pattern clauses (f ∷ fs) hits =
+    (hit : Hit) × (others : List Hit) × IsHitOf relation pattern clauses f hit
+    × AreHitsOf relation pattern clauses fs others × (hits ≡ hit ∷ others)
+
+-- each stands at the position of a clause
+abbrev pub IsInside : List Clause → ℕ × Placed → Type 0
+IsInside clauses found = found.0 < length clauses
+
+-- The line of a hit was written, or the sink failed at it; or memory ran out before it.
+abbrev pub TellsHit : Finding → ℕ → Result (Unit {0}) Broken → Told → Told → Type 0
+TellsHit f n result before after =
+    ((found : ℕ × Placed) × (hit : Hit) × (slice_get f.hits n ≡ Some found)
+    × IsHitOf f.relation f.pattern f.index.clauses found hit × Tells result (hit_text hit ∷ []) before after)
+    ⊎ ((result ≡ Err Memory) × (after ≡ before))
+
+-- The lines of the hits were written, or broken off.
+abbrev pub TellsHits : Finding → Result (Unit {0}) Broken → Told → Told → Type 0
+TellsHits f result before after =
+    (hits : List Hit) × AreHitsOf f.relation f.pattern f.index.clauses f.hits hits × Tells result (hit_texts hits) before after
+
+-- a line of a place and a list, with its end
+unfoldable pub hit_line : Name → Place → Solution → Bytes
+hit_line name place solution = place_text name place ++ sign_text Space ++ solution_text variable_text solution ++ sign_text LineFeed

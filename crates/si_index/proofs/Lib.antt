@@ -1,9 +1,9 @@
 mod EntryLaws
+mod FittingLaws
 mod FlatLaws
 mod FoundLaws
 mod GatherLaws
 mod HalfLaws
-mod HeadLaws
 mod IndexedLaws
 mod KnownLaws
 mod LinkLaws

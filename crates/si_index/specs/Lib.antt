@@ -1,4 +1,5 @@
 pub mod Finding
+pub mod Fitting
 pub mod Halves
 pub mod Kept
 pub mod Keyed

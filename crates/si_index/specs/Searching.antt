@@ -38,13 +38,6 @@ pub record IsReady (s : Search) : Type 0 where
   pub sound : IsSoundPattern (pattern_in s)
   pub flat : FlattensPattern (numbers_of s) (pattern_in s) s.query
 
--- a variable doesn't stand in the relation to any application
-abbrev pub AsksForHeads : Relation → Type 0
-AsksForHeads Variants = Unit {0}
-AsksForHeads Instances = ⊥
-AsksForHeads Generalizations = Unit {0}
-AsksForHeads Unifiable = ⊥
-
 -- the pattern is a term
 abbrev pub IsTermPattern : Pattern → Type 0
 IsTermPattern (literal_pattern l) = ⊥

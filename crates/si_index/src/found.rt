@@ -126,8 +126,8 @@ impl Index {
     /// The kept entries that stand in the relation to the pattern. Those of a literal pattern are
     /// the literals of its sign, by their atoms, and those of a term the subterms.
     ///
-    /// All clauses are walked over once. Memory is taken for hits, and for entries that have the
-    /// pattern's head.
+    /// All clauses are walked over once. Memory is taken for hits, and for entries whose symbols
+    /// allow the relation.
     pub fn find<'a>(
         &'a self,
         relation: Relation,

@@ -1,14 +1,14 @@
 ghost use Rattle.std.specs.Prelude.{◌≡◌, ◌≤◌, ◌+◌, [], ◌∷◌, IfOk, length};
 ghost use Rattle.si_defs.specs.Terms.{row, app, size, sizes};
-ghost use Rattle.si_defs.specs.Clauses.{IsSoundClause};
+ghost use Rattle.si_defs.specs.Clauses.{IsSoundClause, IsSoundPattern};
 ghost use Rattle.si_defs.specs.declared.SymKind.TheVariants.{Word};
 ghost use Rattle.si_term.specs.Terms.{term_of};
-ghost use Rattle.si_term.specs.Meaning.{clause_of};
+ghost use Rattle.si_term.specs.Meaning.{clause_of, pattern_of};
 
 use crate::*;
 use si_defs::{NameKind, Side, SymKind};
 use si_sign::{AddFault, ClauseStore, Rejected};
-use si_term::{Clause, Literal, Literals, Name, Sym, Term, Terms, Text};
+use si_term::{Clause, Literal, Literals, Name, Pattern, Sym, Term, Terms, Text};
 use std::alloc::{AllocError, Global};
 use std::test::Fail;
 
@@ -134,5 +134,81 @@ fn indexes_forget(rt: HostRuntime) -> Result<(), Fail> {
         symbols: 2,
     };
     assert_eq!(rt; stats, kept);
+    Ok(())
+}
+
+fn digit(number: usize) -> u8 {
+    b'0' + (number % 10) as u8
+}
+
+/// Appends, of each hit, the position of its clause, the number of its literal, and how many
+/// bindings its list has.
+fn tell_hits(
+    index: &Index,
+    relation: Relation,
+    pattern: &Pattern,
+    page: &mut Vec<u8>,
+) -> Result<(), AllocError>
+    requires { IsSoundPattern (pattern_of pattern.now) }
+{
+    let found = index.find(relation, pattern)?;
+    for n in 0..found.len() {
+        page.push(digit(found.hit(n).clause as usize))?;
+        page.push(digit(found.hit(n).place.literal as usize))?;
+        page.push(digit(found.shown(n)?.solution.len()))?;
+    }
+    page.push(b'.')?;
+    Ok(())
+}
+
+/// The pattern `lit p(X)`.
+fn literal_pattern(alloc: Global) -> Result<Pattern, AllocError>
+    ensures { IfOk result (λ p. IsSoundPattern (pattern_of p)) }
+{
+    let variable = Term::Var(Text::from_bytes(alloc, b"X")?);
+    let atom = apply(alloc, Side::Predicate, b'p', one(alloc, variable)?)?;
+    Ok(Pattern::Lit(Literal {
+        positive: true,
+        atom,
+    }))
+}
+
+/// The pattern `term a`.
+fn term_pattern(alloc: Global) -> Result<Pattern, AllocError>
+    ensures { IfOk result (λ p. IsSoundPattern (pattern_of p)) }
+{
+    let constant = apply(alloc, Side::Function, b'a', Terms::new(alloc))?;
+    Ok(Pattern::Term(constant))
+}
+
+/// An index of the clauses `p(a)`, `p(b)` and `q(a)`.
+fn small_index(alloc: Global) -> Result<Index, AllocError> {
+    let mut index = Index::new(alloc, 6)?;
+    calls(alloc, &mut index, &[*b"+1pa", *b"+2pb", *b"+3qa"])?;
+    Ok(index)
+}
+
+fn tell_instances(alloc: Global, index: &Index, page: &mut Vec<u8>) -> Result<(), AllocError> {
+    let pattern = literal_pattern(alloc)?;
+    tell_hits(index, Relation::Instances, &pattern, page)
+}
+
+fn tell_unifiable(alloc: Global, index: &Index, page: &mut Vec<u8>) -> Result<(), AllocError> {
+    let pattern = term_pattern(alloc)?;
+    tell_hits(index, Relation::Unifiable, &pattern, page)
+}
+
+/// What is found in a small index.
+fn found(alloc: Global) -> Result<Vec<u8>, AllocError> {
+    let index = small_index(alloc)?;
+    let mut page = Vec::new(alloc);
+    tell_instances(alloc, &index, &mut page)?;
+    tell_unifiable(alloc, &index, &mut page)?;
+    Ok(page)
+}
+
+#[test]
+fn entries_are_found(rt: HostRuntime) -> Result<(), Fail> {
+    assert_eq!(rt; found(rt.alloc())?.as_slice(), b"011111.010210.".as_slice());
     Ok(())
 }

@@ -1,6 +1,7 @@
 //! The clauses that are kept, and what is asked of them.
 #![tactic(auto)]
 
+mod fitting;
 mod found;
 mod gather;
 mod index;

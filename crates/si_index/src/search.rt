@@ -1,18 +1,17 @@
 // Whether an entry stands in a relation to a pattern, and how.
 ghost use Rattle.std.specs.Prelude.{◌≡◌, IfOk, IsFalse, Decides};
-ghost use Rattle.si_defs.specs.Symbols.{same_symbol};
 ghost use Rattle.si_state.specs.Answers.{Stands};
-ghost use Rattle.si_term.specs.Terms.{symbol_of, term_of};
+ghost use Rattle.si_term.specs.Terms.{term_of};
 ghost use Rattle.si_term.specs.Meaning.{entry_of};
 ghost use Rattle.si_flat.specs.Flattened.{whole_of};
-ghost use Rattle.si_form.specs.Numberings.{TextsRelate};
-ghost use Rattle.si_index.specs.Searching.{numbers_of, pattern_in, AsksForHeads, IsReady, AreAlike, IsKnownEntry, AnswersIn, TellsIfSolved};
+ghost use Rattle.si_index.specs.Searching.{numbers_of, pattern_in, IsReady, AreAlike, IsKnownEntry, AnswersIn, TellsIfSolved};
 
+use crate::fitting::fits;
 use si_defs::Relation;
 use si_flat::{FlatQuery, flatten_entry};
 use si_form::{Solution, canonical};
 use si_sign::Signature;
-use si_term::{Entry, Pattern, Sym, Term};
+use si_term::{Entry, Pattern, Term};
 use std::alloc::{AllocError, Global};
 
 /// What is searched for, and by which numbers.
@@ -24,38 +23,6 @@ pub(crate) struct Search<'a> {
     pub(crate) pattern: &'a Pattern,
     /// The pattern with the numbers of the signature.
     pub(crate) query: FlatQuery,
-}
-
-fn is_same_symbol(one: &Sym, other: &Sym) -> bool
-    ensures { result ≡ same_symbol (symbol_of one.now) (symbol_of other.now) }
-{
-    one.kind == other.kind
-        && one.side == other.side
-        && one.arity == other.arity
-        && one.text.as_bytes() == other.text.as_bytes()
-}
-
-/// Whether a variable stands in the relation to applications.
-fn allows_variables(relation: Relation) -> bool
-    ensures { IsFalse result → AsksForHeads relation }
-{
-    match relation {
-        Relation::Instances | Relation::Unifiable => true,
-        Relation::Generalizations | Relation::Variants => false,
-    }
-}
-
-/// Whether the heads of two terms allow the relation. It takes no memory.
-fn fits(relation: Relation, query: &Term, term: &Term) -> bool
-    ensures { IsFalse result → TextsRelate relation (term_of query.now) (term_of term.now) → ⊥ }
-{
-    let Term::App(symbol, _) = term else {
-        return true;
-    };
-    match query {
-        Term::App(wanted, _) => is_same_symbol(wanted, symbol),
-        Term::Var(_) => allows_variables(relation),
-    }
 }
 
 /// The atom of a literal, or the term.

@@ -108,8 +108,8 @@ const ROWS: [(Bound, Files, &[u8], &[u8]); 13] = [
     (
         Bound::Standard,
         GROUP,
-        b"load 'main.p'\ninstances term inverse(X)\nremove left_inverse\nstats\n",
-        b"ok 3 15\nleft_inverse:1:1.1 {?X -> X}\ngoal:1:1.2 {?X -> a}\nend 2\nok 1 4\nclauses 2 entries 11 symbols 5\n",
+        b"load 'main.p'\nunifiable term multiply(X,inverse(X))\ninstances term inverse(X)\nremove left_inverse\nstats\n",
+        b"ok 3 15\nassociativity:1:1 {Z -> inverse(?X); ?X -> multiply(X,Y)}\nassociativity:1:1.1 {X -> ?X; Y -> inverse(?X)}\nassociativity:1:2.2 {Y -> ?X; Z -> inverse(?X)}\ngoal:1:1 {?X -> a}\nend 4\nleft_inverse:1:1.1 {?X -> X}\ngoal:1:1.2 {?X -> a}\nend 2\nok 1 4\nclauses 2 entries 11 symbols 5\n",
     ),
     // A refused load keeps none of its clauses.
     (

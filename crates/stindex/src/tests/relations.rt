@@ -49,7 +49,7 @@ const ROWS: [(&[u8], &[u8]); 11] = [
     // An equation keeps its sides, and quoted names are printed as such.
     (
         b"add cnf('a b',axiom,X!='It\\'s').\nunifiable lit Y!=Z\nunifiable lit 'It\\'s'!=Z\n",
-        b"ok 1 2\n'a b':1 {?Y -> X; ?Z -> 'It\\'s'}\nend 1\n'a b':1 {X -> ?Z; ?Z -> 'It\\'s'}\nend 1\n",
+        b"ok 1 2\n'a b':1 {?Z -> 'It\\'s'; X -> ?Y}\nend 1\n'a b':1 {X -> ?Z; ?Z -> 'It\\'s'}\nend 1\n",
     ),
     // The unifier doubles with each variable where it is expanded, and the list doesn't.
     (

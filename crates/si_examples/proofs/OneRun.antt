@@ -64,7 +64,7 @@ answered =
     )
 
 pub added_and_found : AddedAndFound
-added_and_found limits told w room = (
+added_and_found limits told strict w room = (
   clause ∷ [],
   (
     codes "ok 1 1" ∷ [],
@@ -74,6 +74,7 @@ added_and_found limits told w room = (
     0,
     right (performed (decided limits first_line (omega arith) first_built) (add clause) added_line
         (inr (record { free = λ h. h; agree = (tt, tt); room = room; added = refl }, rw (decimal_digit 1 (omega arith)) refl)) refl),
+    (λ s. refl),
     (
       codes "c:1 {}" ∷ codes "end 1" ∷ [],
       nothing,
@@ -82,6 +83,7 @@ added_and_found limits told w room = (
       0,
       right (performed (decided limits second_line (omega arith) second_built) (query Instances (literal_pattern literal)) asked
           (hit ∷ [], answered, rw (decimal_digit 1 (omega arith)) refl, refl) refl),
+      (λ s. refl),
       (refl, refl, refl),
       refl,
       refl,

@@ -95,7 +95,7 @@ performs_stays limits (remove name) state reply new is (inr h) = consistent_less
 performs_stays limits (query relation p) state reply new is h = subst IsConsistent (sym h.3) is
 performs_stays limits stats state reply new is h = subst IsConsistent (sym h.3) is
 
-load_stays : (limits : Limits) (told : Option Files) (file : Bytes) (state : List Clause) (reply : Reply) (owed : Owed) (new : List Clause) → IsConsistent state
+pub load_stays : (limits : Limits) (told : Option Files) (file : Bytes) (state : List Clause) (reply : Reply) (owed : Owed) (new : List Clause) → IsConsistent state
     → PerformsLoad limits told file state reply owed new → IsConsistent new
 load_stays limits (Some files) file state reply owed new is (events, None, loads, said, owes, left) =
     subst IsConsistent (sym left) (harvest_stays files (load_bounds limits) limits.entries [] [] 0 state file events is loads)

@@ -10,6 +10,8 @@ use Rattle.si_steps.specs.Commands.{Command, load, Means}
 use Rattle.si_steps.specs.Loads.{Owed, a_failure, PerformsLoad}
 use Rattle.si_steps.specs.Replies.{Reply}
 use Rattle.si_steps.specs.Steps.{Performs, RightStep}
+use Rattle.si_steps.specs.FileWords.{RightWord}
+use Rattle.si_steps.specs.Runs.{Request, a_word, a_line}
 
 -- names are distinct, and each symbol has one side and one arity
 pub record IsConsistent (state : List Clause) : Type 0 where
@@ -61,18 +63,30 @@ abbrev pub StaysConsistent : Limits → Option Files → List Clause → Bytes �
 StaysConsistent limits told state line =
     (reply : Reply) (owed : Owed) (new : List Clause) → IsConsistent state → RightStep limits told state line reply owed new → IsConsistent new
 
--- From this state on the lines have these right replies, of which none tells a failure, and the new
--- state stands behind them.
-abbrev pub RightRun : Limits → Files → List Clause → List Bytes → List Reply → List Clause → Type 0
-RightRun limits files state [] replies new = (replies ≡ []) × (new ≡ state)
-RightRun limits files state (line ∷ lines) replies new =
-    (reply : Reply) × (owed : Owed) × (next : List Clause) × (others : List Reply)
-    × RightStep limits (Some files) state line reply owed next × TellsNoFailure owed
-    × RightRun limits files next lines others new × (replies ≡ reply ∷ others)
+-- two right steps over the word are the same, where none tells a failure
+abbrev pub OneRightWord : Limits → Files → List Clause → Bytes → Type 0
+OneRightWord limits files state word =
+    (reply other : Reply) (owed due : Owed) (new behind : List Clause)
+    → RightWord limits (Some files) state word reply owed new → RightWord limits (Some files) state word other due behind
+    → TellsNoFailure owed → TellsNoFailure due → (reply ≡ other) × (owed ≡ due) × (new ≡ behind)
 
--- two right runs over the lines, from no clause, are the same
-abbrev pub OneRightRun : Limits → Files → List Bytes → Type 0
-OneRightRun limits files lines =
+-- what is rightly done at a request
+abbrev pub RightlyActs : Limits → Files → List Clause → Request → Reply → Owed → List Clause → Type 0
+RightlyActs limits files state (a_word word) reply owed new = RightWord limits (Some files) state word reply owed new
+RightlyActs limits files state (a_line line) reply owed new = RightStep limits (Some files) state line reply owed new
+
+-- From this state on the requests have these right replies, of which none tells a failure, and the
+-- new state stands behind them.
+abbrev pub RightRun : Limits → Files → List Clause → List Request → List Reply → List Clause → Type 0
+RightRun limits files state [] replies new = (replies ≡ []) × (new ≡ state)
+RightRun limits files state (request ∷ requests) replies new =
+    (reply : Reply) × (owed : Owed) × (next : List Clause) × (others : List Reply)
+    × RightlyActs limits files state request reply owed next × TellsNoFailure owed
+    × RightRun limits files next requests others new × (replies ≡ reply ∷ others)
+
+-- two right runs over the requests, from no clause, are the same
+abbrev pub OneRightRun : Limits → Files → List Request → Type 0
+OneRightRun limits files requests =
     (replies others : List Reply) (new behind : List Clause)
-    → RightRun limits files [] lines replies new → RightRun limits files [] lines others behind
+    → RightRun limits files [] requests replies new → RightRun limits files [] requests others behind
     → (replies ≡ others) × (new ≡ behind)

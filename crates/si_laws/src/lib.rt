@@ -1,14 +1,14 @@
 //! Laws over the definitions alone. Each function does nothing: its contract is a law.
 #![tactic(auto)]
 
-ghost use Rattle.si_laws.specs.OneReply.{IsConsistent, HasOneOutcome, LoadsToOneOutcome, HasOneMeaning, OneRightStep, LoadsNothing, OneStepOfAnyLibrary, OneRightRun, StaysConsistent};
+ghost use Rattle.si_laws.specs.OneReply.{IsConsistent, HasOneOutcome, LoadsToOneOutcome, HasOneMeaning, OneRightStep, LoadsNothing, OneStepOfAnyLibrary, OneRightWord, OneRightRun, StaysConsistent};
 ghost use Rattle.si_defs.specs.Bytes.{Bytes};
 ghost use Rattle.si_defs.specs.Clauses.{Clause};
-ghost use Rattle.std.specs.Prelude.{ℕ, List, [], Option};
+ghost use Rattle.std.specs.Prelude.{ℕ, Bool, List, [], Option};
 ghost use Rattle.si_state.specs.Harvest.{Files};
 ghost use Rattle.si_steps.specs.declared.limits.Limits.{Limits};
 ghost use Rattle.si_steps.specs.Commands.{Command};
-ghost use Rattle.si_steps.specs.Runs.{Run};
+ghost use Rattle.si_steps.specs.Runs.{Request, Run};
 
 /// Where each symbol is used in one way and names are distinct, a command that is no load has one
 /// right reply and one right state behind it. They depend on the limits, the command and the list
@@ -47,14 +47,20 @@ pub fn right_steps_stay_consistent()
 
 /// Each state of a session is such, also where memory runs out or the library fails.
 pub fn runs_stay_consistent()
-    ensures { (limits : Limits) (told : Option Files) (lines : List Bytes) (output : Bytes)
-        (failures : ℕ) (new : List Clause)
-        → Run limits told [] lines output failures new → IsConsistent new }
+    ensures { (limits : Limits) (told : Option Files) (strict : Bool) (requests : List Request)
+        (output : Bytes) (failures : ℕ) (new : List Clause)
+        → Run limits told strict [] requests output failures new → IsConsistent new }
 {}
 
-/// The lines of a session have one list of right replies, and one right state behind them, where
-/// the library tells its files and doesn't fail.
+/// A word that names a file has one right step in such a state, but that the library may fail.
+pub fn words_have_one_right_step()
+    ensures { (limits : Limits) (files : Files) (state : List Clause) (word : Bytes)
+        → IsConsistent state → OneRightWord limits files state word }
+{}
+
+/// The words and lines of a session have one list of right replies, and one right state behind
+/// them, where the library tells its files and doesn't fail.
 pub fn sessions_have_one_right_run()
-    ensures { (limits : Limits) (files : Files) (lines : List Bytes)
-        → OneRightRun limits files lines }
+    ensures { (limits : Limits) (files : Files) (requests : List Request)
+        → OneRightRun limits files requests }
 {}

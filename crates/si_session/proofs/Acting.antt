@@ -16,7 +16,7 @@ use Rattle.si_steps.specs.Commands.{Command, add, load, remove, query, stats, Is
 use Rattle.si_state.specs.Harvest.{Files, Fault, tried, state_behind}
 use Rattle.si_steps.specs.Loads.{Owed, nothing, PerformsLoad, gained_line, load_line}
 use Rattle.si_steps.specs.Steps.{Performs, RightStep, right, memory_at_once, memory_behind, performed, loaded}
-use Rattle.si_steps.specs.Runs.{ended}
+use Rattle.si_steps.specs.Runs.{a_line, ended}
 use Rattle.si_io.specs.Content.{Told, Receives, ReceivesPrefix}
 use Rattle.si_io.proofs.Content.{Receives_then, ReceivesPrefix_then, ReceivesPrefix_more}
 use Rattle.si_session.specs.Commands.{IsPerformed}
@@ -199,7 +199,7 @@ state_with limits state = record { clauses = state; limits = limits }
 
 pub stepped : (limits : Limits) (told : Option Files) (state new : List Clause) (line : Bytes) (command : Command) (o : Stepped) (a b : Told) (counts : Counts) (may_fail : Bool)
     → length line ≤ limits.line → IsPerformed command line → HasPerformed (Performs limits command state) state new o a b
-    → Steps told (state_with limits state) (state_with limits new) line o (around a counts may_fail) (around b counts may_fail)
+    → Steps told (state_with limits state) (state_with limits new) (a_line line) o (around a counts may_fail) (around b counts may_fail)
 stepped limits told state new line command o a b counts may_fail short performs acts = by acts where
   now : IsDecided limits line
   now = record { short = short; built = performs.0 }
@@ -207,7 +207,7 @@ stepped limits told state new line command o a b counts may_fail short performs 
   loud : IsSilent limits line → ⊥
   loud h = performs.1 h.1
 
-  by : HasPerformed (Performs limits command state) state new o a b → Steps told (state_with limits state) (state_with limits new) line o (around a counts may_fail) (around b counts may_fail)
+  by : HasPerformed (Performs limits command state) state new o a b → Steps told (state_with limits state) (state_with limits new) (a_line line) o (around a counts may_fail) (around b counts may_fail)
   by (rightly reply p w) = record { reply = reply; owed = nothing; step = right (performed now command performs.2 p refl); limits = refl; written = w; counted = refl }
   by (at_once same w) = record { reply = memory_line ∷ []; owed = nothing; step = memory_at_once loud short refl refl same; limits = refl; written = w; counted = refl }
   by (behind whole next p written left split rest same w) = record {
@@ -251,12 +251,12 @@ load_keeps limits told file state new o a b (ran_out same w h) e = same
 
 pub load_stepped : (limits : Limits) (told : Option Files) (file : Bytes) (state new : List Clause) (line : Bytes) (o : Stepped) (a b : Around)
     → length line ≤ limits.line → IsPerformed (load file) line → HasLoaded limits told file state new o a b
-    → Steps told (state_with limits state) (state_with limits new) line o a b
+    → Steps told (state_with limits state) (state_with limits new) (a_line line) o a b
 load_stepped limits told file state new line o a b short performs acts = by acts where
   loud : IsSilent limits line → ⊥
   loud h = performs.1 h.1
 
-  by : HasLoaded limits told file state new o a b → Steps told (state_with limits state) (state_with limits new) line o a b
+  by : HasLoaded limits told file state new o a b → Steps told (state_with limits state) (state_with limits new) (a_line line) o a b
   by (rightly_loaded reply owed p w h) = record {
     reply = reply;
     owed = owed;

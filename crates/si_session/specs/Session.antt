@@ -8,8 +8,7 @@ use Rattle.si_steps.specs.contracts.limits.Limits as limits_contracts
 use Rattle.si_steps.specs.Replies.{Reply, is_refusal, memory_line}
 use Rattle.si_state.specs.Harvest.{Files}
 use Rattle.si_steps.specs.Loads.{Owed, nothing, a_miss, a_big, a_failure, PerformsLoad}
-use Rattle.si_steps.specs.Steps.{Step}
-use Rattle.si_steps.specs.Runs.{ended}
+use Rattle.si_steps.specs.Runs.{Request, Acts, ended}
 use Rattle.si_defs.specs.Codes.{clause_code}
 use Rattle.si_io.specs.Content.{Told, Receives, ReceivesPrefix}
 use Rattle.si_io.specs.Faults.{Rose}
@@ -54,10 +53,10 @@ around sink counts may_fail = record { sink = sink; counts = counts; may_fail = 
 
 -- The call went one step over a library: the state is the one behind it, its reply was written, or
 -- at a sink's fault a prefix of it, and what the reply owes to the library was counted.
-pub record Steps (told : Option Files) (old new : State) (line : Bytes) (outcome : Stepped) (before after : Around) : Type 0 where
+pub record Steps (told : Option Files) (old new : State) (request : Request) (outcome : Stepped) (before after : Around) : Type 0 where
   pub reply : Reply
   pub owed : Owed
-  pub step : Step old.limits told old.clauses line reply owed new.clauses
+  pub step : Acts old.limits told old.clauses request reply owed new.clauses
   pub limits : new.limits ≡ old.limits
   pub written : Writes outcome reply before.sink after.sink
   pub counted : IsCounted before.may_fail owed before.counts after.counts

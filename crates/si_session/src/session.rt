@@ -1,8 +1,12 @@
 // A session: the clauses that are kept, and one step for each line.
 ghost use Rattle.std.specs.Prelude.{◌≡◌, ◌↔◌, ◌≤◌, [], IfOk};
+ghost use Rattle.std.specs.List.{list_all};
+ghost use Rattle.si_defs.specs.Bytes.{is_printable};
 ghost use Rattle.si_steps.specs.Limits.{AllowsLimits};
 ghost use Rattle.si_steps.specs.Commands.{IsSilent, add, remove, query, stats};
 ghost use Rattle.si_steps.specs.Steps.{Performs};
+ghost use Rattle.si_steps.specs.FileWords.{names_file};
+ghost use Rattle.si_steps.specs.Runs.{a_word, a_line};
 ghost use Rattle.si_session.specs.Session.{Steps, ActsOn, HasLoaded, around};
 ghost use Rattle.si_session.specs.Rejections.{HasHead, TellsWhy, IsTellable, TellsFaultOfLoad};
 ghost use Rattle.si_session.specs.declared.stepped.Stepped.TheVariants.{Silent, Refused, SinkFailed};
@@ -68,7 +72,7 @@ impl Session {
         sink: &mut K,
     ) -> Stepped
         requires { AllowsLimits self.old.limits }
-        ensures step { Steps (L.files library.old) self.old self.new line.now result
+        ensures step { Steps (L.files library.old) self.old self.new (a_line line.now) result
             (around (K.written sink.old) (L.counts library.old) (L.may_fail library.old))
             (around (K.written sink.new) (L.counts library.new) (L.may_fail library.new)) }
         ensures told { L.files library.new ≡ L.files library.old }
@@ -104,6 +108,53 @@ impl Session {
             Err(_) => tell(sink, Reply::Memory),
         }
     }
+
+    /// Loads the file that a word of the program's call names, and writes the reply. Nothing is
+    /// fetched for a word that can't name a file.
+    pub fn load<L: Library, K: Sink>(
+        &mut self,
+        word: &[u8],
+        library: &mut L,
+        sink: &mut K,
+    ) -> Stepped
+        requires { AllowsLimits self.old.limits }
+        ensures step { Steps (L.files library.old) self.old self.new (a_word word.now) result
+            (around (K.written sink.old) (L.counts library.old) (L.may_fail library.old))
+            (around (K.written sink.new) (L.counts library.new) (L.may_fail library.new)) }
+        ensures told { L.files library.new ≡ L.files library.old }
+        ensures same { L.may_fail library.new ≡ L.may_fail library.old }
+        ensures loud { result ≡ Silent → ⊥ }
+        ensures refused { result ≡ Refused → self.new.clauses ≡ self.old.clauses }
+        ensures later { K.faults sink.old ≤ K.faults sink.new }
+        ensures kept { (result ≡ SinkFailed → ⊥) → K.faults sink.new ≡ K.faults sink.old }
+        ensures failed { result ≡ SinkFailed → Rose (K.faults sink.old) (K.faults sink.new) }
+    {
+        if !names_file(word) {
+            return tell(sink, Reply::Syntax);
+        }
+        load(
+            self.alloc,
+            &self.limits,
+            &mut self.index,
+            word,
+            library,
+            sink,
+        )
+    }
+}
+
+/// Whether a word can name a file: it isn't empty, and each byte may stand between quotes.
+fn names_file(word: &[u8]) -> bool
+    ensures { result ≡ names_file word.now }
+{
+    !word.is_empty() && are_printable(word)
+}
+
+/// Whether each byte is a space, a `~` or between them.
+fn are_printable(bytes: &[u8]) -> bool
+    ensures { result ≡ list_all is_printable bytes.now }
+{
+    bytes.iter().all(|byte| 32 <= *byte && *byte <= 126)
 }
 
 /// Keeps a clause if nothing stands against it, and writes the reply.

@@ -4,4 +4,5 @@ pub mod Commands
 pub mod Replies
 pub mod Loads
 pub mod Steps
+pub mod FileWords
 pub mod Runs

@@ -1,14 +1,15 @@
--- A run over the whole input: its lines, and the replies one after the other (this project's
--- profile).
-use Rattle.std.specs.Prelude.{◌≡◌, ℕ, ◌+◌, ◌==◌, Option, List, [], ◌∷◌, ◌++◌, IsFalse}
+-- A run over the words of the program's call and the lines of its input, and the replies one after
+-- the other (this project's profile).
+use Rattle.std.specs.Prelude.{◌≡◌, ℕ, ◌+◌, ◌==◌, Bool, Option, List, [], ◌∷◌, ◌++◌, map, IsTrue, IsFalse}
 use Rattle.std.specs.List.{list_any, AllByRecursion}
 use Rattle.si_defs.specs.Bytes.{Bytes}
 use Rattle.si_defs.specs.Clauses.{Clause}
 use Rattle.si_steps.specs.declared.limits.Limits.{Limits}
-use Rattle.si_steps.specs.Replies.{Reply}
+use Rattle.si_steps.specs.Replies.{Reply, is_refusal}
 use Rattle.si_state.specs.Harvest.{Files}
 use Rattle.si_steps.specs.Loads.{Owed, a_failure}
 use Rattle.si_steps.specs.Steps.{Step}
+use Rattle.si_steps.specs.FileWords.{WordStep}
 
 -- lines, each with its line feed
 abbrev pub ended : List Bytes → Bytes
@@ -36,16 +37,50 @@ abbrev pub failures_in : Owed → ℕ
 failures_in a_failure = 1
 failures_in owed = 0
 
--- From this state on the lines have this output, which tells so many failures of the library, and
--- the new state stands behind them.
-abbrev pub Run : Limits → Option Files → List Clause → List Bytes → Bytes → ℕ → List Clause → Type 0
-Run limits told state [] output failures new = (output ≡ []) × (failures ≡ 0) × (new ≡ state)
-Run limits told state (line ∷ lines) output failures new =
+-- what a session acts on: a word that names a file, or a line
+pub data Request : Type 0 where
+  a_word a_line : Bytes → Request
+
+-- first the words, and then the lines
+abbrev pub requests : (words lines : List Bytes) → List Request
+requests words lines = map a_word words ++ map a_line lines
+
+-- what is done at a request
+abbrev pub Acts : Limits → Option Files → List Clause → Request → Reply → Owed → List Clause → Type 0
+Acts limits told state (a_word word) reply owed new = WordStep limits told state word reply owed new
+Acts limits told state (a_line line) reply owed new = Step limits told state line reply owed new
+
+-- a strict run goes on behind no refusal
+abbrev pub GoesOn : (strict : Bool) → Reply → Type 0
+GoesOn strict reply = IsTrue strict → IsFalse (is_refusal reply)
+
+-- From this state on the requests have this output, which tells so many failures of the library,
+-- and the new state stands behind them. The run goes on behind each.
+abbrev pub Run : Limits → Option Files → (strict : Bool) → List Clause → List Request → Bytes → ℕ → List Clause → Type 0
+Run limits told strict state [] output failures new = (output ≡ []) × (failures ≡ 0) × (new ≡ state)
+Run limits told strict state (request ∷ requests) output failures new =
     (reply : Reply) × (owed : Owed) × (next : List Clause) × (others : Bytes) × (further : ℕ)
-    × Step limits told state line reply owed next × Run limits told next lines others further new
+    × Acts limits told state request reply owed next × GoesOn strict reply × Run limits told strict next requests others further new
     × (output ≡ ended reply ++ others) × (failures ≡ failures_in owed + further)
 
--- the output of a session over these lines, which begins with no clause, and how many failures it
--- tells
-abbrev pub IsOutput : Limits → Option Files → List Bytes → Bytes → ℕ → Type 0
-IsOutput limits told lines output failures = (new : List Clause) × Run limits told [] lines output failures new
+-- the output of a session over all these requests, which begins with no clause, and how many
+-- failures it tells
+abbrev pub IsOutput : Limits → Option Files → (strict : Bool) → List Request → Bytes → ℕ → Type 0
+IsOutput limits told strict requests output failures = (new : List Clause) × Run limits told strict [] requests output failures new
+
+-- The output of such a session over the first of these requests. It ends with this reply, behind
+-- which the run need not go on.
+pub record IsOutputTo (limits : Limits) (told : Option Files) (strict : Bool) (requests : List Request) (reply : Reply) (output : Bytes) (failures : ℕ) : Type 0 where
+  pub done : List Request
+  pub last : Request
+  pub others : List Request
+  pub front : done ++ last ∷ others ≡ requests
+  pub before : Bytes
+  pub fewer : ℕ
+  pub state : List Clause
+  pub run : Run limits told strict [] done before fewer state
+  pub owed : Owed
+  pub new : List Clause
+  pub acts : Acts limits told state last reply owed new
+  pub whole : output ≡ before ++ ended reply
+  pub counted : failures ≡ fewer + failures_in owed

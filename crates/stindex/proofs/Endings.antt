@@ -1,5 +1,5 @@
 -- How a run stands after each read, and how it ends.
-use Rattle.std.proofs.Common.{◌≡◌, ℕ, ◌+◌, ◌<◌, ◌≤◌, List, [], ◌++◌, Option, length, refl, sym, ap, subst, ◌∙◌, inl, inr, length-append, arith}
+use Rattle.std.proofs.Common.{◌≡◌, ℕ, Bool, false, ◌+◌, ◌<◌, ◌≤◌, List, [], ◌++◌, Option, length, refl, sym, ap, subst, ◌∙◌, inl, inr, length-append, arith}
 use Rattle.si_defs.specs.Bytes.{Bytes}
 use Rattle.si_defs.specs.Clauses.{Clause}
 use Rattle.si_steps.specs.declared.limits.Limits.{Limits}
@@ -8,37 +8,34 @@ use Rattle.si_session.specs.Session.{Around}
 use Rattle.si_io.specs.Content.{prepend_told, Takes}
 use Rattle.std.specs.Io.KnownBytes.{IsAtEnd}
 use Rattle.si_io.proofs.Content.{Takes_none, Takes_then, prepend_told-nil}
+use Rattle.stindex.specs.declared.status.Status.{Status}
 use Rattle.stindex.specs.declared.status.Status.TheVariants.{Ended, SourceFault, SinkFault, Memory, SessionLimit}
-use Rattle.stindex.specs.Serve.{Serves}
+use Rattle.si_steps.specs.Runs.{lines_at_end}
+use Rattle.stindex.specs.declared.status.Stop.{Stop}
+use Rattle.stindex.specs.declared.status.Stop.TheVariants as stop
+use Rattle.stindex.specs.Status.{status_of}
+use Rattle.clap.specs.Words.{Row, matches_of, takes}
+use Rattle.stindex.specs.Words.{program, asked_in, asked_by}
+use Rattle.stindex.specs.Serve.{Answers, WritesUsage, WritesTo, MetEnd, Ends, Serves, CountsFaults, BlamesSink}
 use Rattle.stindex.specs.Progress.{Progress, Advances, Fails, Closes, Cuts, HasProgressed}
-use Rattle.stindex.proofs.Progress.{Progress_start}
 use Rattle.stindex.proofs.Splitting.{Splits_none}
 
 -- ---- how it stands
-pub Stands_start : (limits : Limits) (told : Option Files) (left : Option Bytes) (before : Around) (clauses : List Clause) (held : Bytes) → clauses ≡ [] → held ≡ [] → HasProgressed limits told 0 left left before clauses held before
-Stands_start limits told left before clauses held none empty = record {
-  taken = [];
-  size = refl;
-  takes = Takes_none left left refl;
-  progress = subst (λ (h : Bytes). Progress limits told before [] clauses h before) (sym empty)
-      (subst (λ (s : List Clause). Progress limits told before [] s [] before) (sym none) (Progress_start limits told before));
-}
-
 -- a read gave these bytes, which were acted on
-pub Stands_more : (limits : Limits) (told : Option Files) (lims : Limits) (tell : Option Files) (n m : ℕ) (bytes fed : Bytes) (left now next : Option Bytes) (before : Around) (old new : List Clause) (held holds : Bytes) (x after : Around)
-    → HasProgressed limits told n left now before old held x → lims ≡ limits → tell ≡ told → Takes now bytes next → length bytes ≡ m → fed ≡ bytes
-    → Advances lims tell fed old held x new holds after → HasProgressed limits told (n + m) left next before new holds after
-Stands_more limits told lims tell n m bytes fed left now next before old new held holds x after s same known takes size is advances = record {
+pub Stands_more : (limits : Limits) (told : Option Files) (strict : Bool) (files : List Bytes) (lims : Limits) (tell : Option Files) (n m : ℕ) (bytes fed : Bytes) (left now next : Option Bytes) (before : Around) (old new : List Clause) (held holds : Bytes) (x after : Around)
+    → HasProgressed limits told strict files n left now before old held x → lims ≡ limits → tell ≡ told → Takes now bytes next → length bytes ≡ m → fed ≡ bytes
+    → Advances lims tell strict fed old held x new holds after → HasProgressed limits told strict files (n + m) left next before new holds after
+Stands_more limits told strict files lims tell n m bytes fed left now next before old new held holds x after s same known takes size is advances = record {
   taken = s.taken ++ bytes;
   size = omega (arith, length-append s.taken bytes, s.size);
   takes = Takes_then left now next s.taken bytes s.takes takes;
-  progress = (let more : Advances limits told bytes old held x new holds after = subst (λ (b : Bytes). Advances limits told b old held x new holds after) is (subst (λ (l : Limits). Advances l told fed old held x new holds after) same (subst (λ (o : Option Files). Advances lims o fed old held x new holds after) known advances)) in
-      more before s.taken s.progress);
+  progress = (let more : Advances limits told strict bytes old held x new holds after = subst (λ (b : Bytes). Advances limits told strict b old held x new holds after) is (subst (λ (l : Limits). Advances l told strict fed old held x new holds after) same (subst (λ (o : Option Files). Advances lims o strict fed old held x new holds after) known advances)) in
+      more files before s.taken s.progress);
 }
 
 -- ---- how it ends
-pub Serves_memory : (limits : Limits) (told : Option Files) (left : Option Bytes) (before : Around) → Serves limits told Memory left left before before
-Serves_memory limits told left before = record {
+pub Serves_memory : (limits : Limits) (told : Option Files) (strict : Bool) (files : List Bytes) (left : Option Bytes) (before : Around) → Serves limits told strict files Memory left left before before
+Serves_memory limits told strict files left before = record {
   taken = [];
   lines = [];
   rest = [];
@@ -48,9 +45,9 @@ Serves_memory limits told left before = record {
   ends = (refl, refl, refl);
 }
 
-pub Serves_limit : (limits : Limits) (told : Option Files) (n : ℕ) (left now : Option Bytes) (before : Around) (clauses : List Clause) (held : Bytes) (after : Around)
-    → HasProgressed limits told n left now before clauses held after → n ≡ limits.session → Serves limits told SessionLimit left now before after
-Serves_limit limits told n left now before clauses held after s full = record {
+pub Serves_limit : (limits : Limits) (told : Option Files) (strict : Bool) (files : List Bytes) (n : ℕ) (left now : Option Bytes) (before : Around) (clauses : List Clause) (held : Bytes) (after : Around)
+    → HasProgressed limits told strict files n left now before clauses held after → n ≡ limits.session → Serves limits told strict files SessionLimit left now before after
+Serves_limit limits told strict files n left now before clauses held after s full = record {
   taken = s.taken;
   lines = s.progress.lines;
   rest = s.progress.rest;
@@ -61,9 +58,9 @@ Serves_limit limits told n left now before clauses held after s full = record {
 }
 
 -- the source failed, and took nothing
-pub Serves_source : (limits : Limits) (told : Option Files) (n : ℕ) (left now next : Option Bytes) (before : Around) (clauses : List Clause) (held : Bytes) (after : Around)
-    → HasProgressed limits told n left now before clauses held after → n < limits.session → next ≡ now → Serves limits told SourceFault left next before after
-Serves_source limits told n left now next before clauses held after s below kept = record {
+pub Serves_source : (limits : Limits) (told : Option Files) (strict : Bool) (files : List Bytes) (n : ℕ) (left now next : Option Bytes) (before : Around) (clauses : List Clause) (held : Bytes) (after : Around)
+    → HasProgressed limits told strict files n left now before clauses held after → n < limits.session → next ≡ now → Serves limits told strict files SourceFault left next before after
+Serves_source limits told strict files n left now next before clauses held after s below kept = record {
   taken = s.taken;
   lines = s.progress.lines;
   rest = s.progress.rest;
@@ -73,14 +70,63 @@ Serves_source limits told n left now next before clauses held after s below kept
   ends = (omega (arith, s.size), record { output = s.progress.output; failures = s.progress.failures; right = (clauses, s.progress.run); written = s.progress.written; counted = s.progress.counted });
 }
 
--- the sink failed at a line that is whole in the bytes of the last read
-pub Serves_sink : (limits : Limits) (told : Option Files) (lims : Limits) (tell : Option Files) (n m : ℕ) (bytes fed : Bytes) (left now next : Option Bytes) (before : Around) (clauses : List Clause) (held : Bytes) (x after : Around)
-    → HasProgressed limits told n left now before clauses held x → lims ≡ limits → tell ≡ told → Takes now bytes next → length bytes ≡ m → n + m ≤ limits.session → fed ≡ bytes
-    → Fails lims tell fed clauses held x after → Serves limits told SinkFault left next before after
-Serves_sink limits told lims tell n m bytes fed left now next before clauses held x after s same known takes size within is fails =
-    let all : Fails limits told bytes clauses held x after =
-    subst (λ (b : Bytes). Fails limits told b clauses held x after) is (subst (λ (l : Limits). Fails l told fed clauses held x after) same (subst (λ (o : Option Files). Fails lims o fed clauses held x after) known fails)) in
-    let failed = all before s.taken s.progress in
+-- the run stopped at a reply
+pub stops_within : (halt : Stop) (limits : Limits) (told : Option Files) (strict : Bool) (files : List Bytes) (taken : Bytes) (lines : List Bytes) (rest : Bytes) (left now : Option Bytes) (before after : Around)
+    → WritesTo halt limits told strict files lines before after → Ends (status_of halt) limits told strict files taken lines rest left now before after
+stops_within stop.Refused limits told strict files taken lines rest left now before after w = inl w
+stops_within stop.SinkFault limits told strict files taken lines rest left now before after w = inl w
+
+-- behind the end of the input
+stops_last : (halt : Stop) (limits : Limits) (told : Option Files) (strict : Bool) (files : List Bytes) (taken : Bytes) (lines : List Bytes) (rest : Bytes) (left now : Option Bytes) (before after : Around)
+    → MetEnd limits taken now → WritesTo halt limits told strict files (lines_at_end lines rest) before after → Ends (status_of halt) limits told strict files taken lines rest left now before after
+stops_last stop.Refused limits told strict files taken lines rest left now before after end w = inr (end, w)
+stops_last stop.SinkFault limits told strict files taken lines rest left now before after end w = inr (end, w)
+
+-- at a word
+pub Serves_word : (halt : Stop) (limits : Limits) (told : Option Files) (strict : Bool) (files : List Bytes) (left : Option Bytes) (before after : Around)
+    → WritesTo halt limits told strict files [] before after → Serves limits told strict files (status_of halt) left left before after
+Serves_word halt limits told strict files left before after w = record {
+  taken = [];
+  lines = [];
+  rest = [];
+  takes = Takes_none left left refl;
+  within = omega arith;
+  splits = Splits_none;
+  ends = stops_within halt limits told strict files [] [] [] left left before after w;
+}
+
+pub Serves_under : (halt : Stop) (lims limits : Limits) (told : Option Files) (strict : Bool) (files : List Bytes) (left : Option Bytes) (before after : Around)
+    → WritesTo halt lims told strict files [] before after → lims ≡ limits → Serves limits told strict files (status_of halt) left left before after
+Serves_under halt lims limits told strict files left before after w same =
+    Serves_word halt limits told strict files left before after (subst (λ (m : Limits). WritesTo halt m told strict files [] before after) same w)
+
+-- under another name of the same status, and of whether the run is strict
+pub Serves_as : (limits : Limits) (told : Option Files) (s strict : Bool) (files : List Bytes) (status own : Status) (left now : Option Bytes) (before after : Around)
+    → s ≡ strict → status ≡ own → Serves limits told s files own left now before after → Serves limits told strict files status left now before after
+Serves_as limits told s strict files status own left now before after same is h =
+    subst (λ (b : Bool). Serves limits told b files status left now before after) same (subst (λ (o : Status). Serves limits told s files o left now before after) (sym is) h)
+
+-- ---- what such an end owes
+pub counts_stop : (halt : Stop) (source sink sink_now : ℕ) → BlamesSink halt sink sink_now → CountsFaults (status_of halt) source source sink sink_now
+counts_stop stop.Refused source sink sink_now h = (refl, h)
+counts_stop stop.SinkFault source sink sink_now h = (refl, h)
+
+pub stop_not_source : (halt : Stop) → status_of halt ≡ SourceFault → ⊥
+stop_not_source stop.Refused e = cc
+stop_not_source stop.SinkFault e = cc
+
+pub stop_not_memory : (halt : Stop) → status_of halt ≡ Memory → ⊥
+stop_not_memory stop.Refused e = cc
+stop_not_memory stop.SinkFault e = cc
+
+-- the run stopped at a line that is whole in the bytes of the last read
+pub Serves_sink : (halt : Stop) (limits : Limits) (told : Option Files) (strict : Bool) (files : List Bytes) (lims : Limits) (tell : Option Files) (n m : ℕ) (bytes fed : Bytes) (left now next : Option Bytes) (before : Around) (clauses : List Clause) (held : Bytes) (x after : Around)
+    → HasProgressed limits told strict files n left now before clauses held x → lims ≡ limits → tell ≡ told → Takes now bytes next → length bytes ≡ m → n + m ≤ limits.session → fed ≡ bytes
+    → Fails halt lims tell strict fed clauses held x after → Serves limits told strict files (status_of halt) left next before after
+Serves_sink halt limits told strict files lims tell n m bytes fed left now next before clauses held x after s same known takes size within is fails =
+    let all : Fails halt limits told strict bytes clauses held x after =
+    subst (λ (b : Bytes). Fails halt limits told strict b clauses held x after) is (subst (λ (l : Limits). Fails halt l told strict fed clauses held x after) same (subst (λ (o : Option Files). Fails halt lims o strict fed clauses held x after) known fails)) in
+    let failed = all files before s.taken s.progress in
     record {
       taken = s.taken ++ bytes;
       lines = failed.lines;
@@ -88,19 +134,19 @@ Serves_sink limits told lims tell n m bytes fed left now next before clauses hel
       takes = Takes_then left now next s.taken bytes s.takes takes;
       within = omega (arith, length-append s.taken bytes, s.size);
       splits = failed.splits;
-      ends = inl failed.part;
+      ends = stops_within halt limits told strict files (s.taken ++ bytes) failed.lines failed.rest left next before after failed.part;
     }
 
 -- the end was met
 end_left : (now next : Option Bytes) (bytes : Bytes) → Takes now bytes next → bytes ≡ [] → next ≡ now
 end_left now next bytes takes none = sym (takes ∙ ap (λ (b : Bytes). prepend_told b next) none ∙ prepend_told-nil next)
 
-pub Serves_ended : (limits : Limits) (told : Option Files) (lims : Limits) (tell : Option Files) (n : ℕ) (bytes : Bytes) (left now next : Option Bytes) (before : Around) (clauses : List Clause) (held : Bytes) (x after : Around)
-    → HasProgressed limits told n left now before clauses held x → lims ≡ limits → tell ≡ told → n < limits.session → Takes now bytes next → bytes ≡ [] → IsAtEnd now
-    → Closes lims tell clauses held x after → Serves limits told Ended left next before after
-Serves_ended limits told lims tell n bytes left now next before clauses held x after s same known below takes none ended closes =
-    let all : Closes limits told clauses held x after = subst (λ (l : Limits). Closes l told clauses held x after) same (subst (λ (o : Option Files). Closes lims o clauses held x after) known closes) in
-    let closed = all before s.taken s.progress in
+pub Serves_ended : (limits : Limits) (told : Option Files) (strict : Bool) (files : List Bytes) (lims : Limits) (tell : Option Files) (n : ℕ) (bytes : Bytes) (left now next : Option Bytes) (before : Around) (clauses : List Clause) (held : Bytes) (x after : Around)
+    → HasProgressed limits told strict files n left now before clauses held x → lims ≡ limits → tell ≡ told → n < limits.session → Takes now bytes next → bytes ≡ [] → IsAtEnd now
+    → Closes lims tell strict clauses held x after → Serves limits told strict files Ended left next before after
+Serves_ended limits told strict files lims tell n bytes left now next before clauses held x after s same known below takes none ended closes =
+    let all : Closes limits told strict clauses held x after = subst (λ (l : Limits). Closes l told strict clauses held x after) same (subst (λ (o : Option Files). Closes lims o strict clauses held x after) known closes) in
+    let closed = all files before s.taken s.progress in
     let left_is = end_left now next bytes takes none in
     record {
       taken = s.taken;
@@ -112,13 +158,13 @@ Serves_ended limits told lims tell n bytes left now next before clauses held x a
       ends = (record { below = omega (arith, s.size); at_end = subst IsAtEnd (sym left_is) ended }, closed.all);
     }
 
--- and then the sink failed at the last line
-pub Serves_cut : (limits : Limits) (told : Option Files) (lims : Limits) (tell : Option Files) (n : ℕ) (bytes : Bytes) (left now next : Option Bytes) (before : Around) (clauses : List Clause) (held : Bytes) (x after : Around)
-    → HasProgressed limits told n left now before clauses held x → lims ≡ limits → tell ≡ told → n < limits.session → Takes now bytes next → bytes ≡ [] → IsAtEnd now
-    → Cuts lims tell clauses held x after → Serves limits told SinkFault left next before after
-Serves_cut limits told lims tell n bytes left now next before clauses held x after s same known below takes none ended cuts =
-    let all : Cuts limits told clauses held x after = subst (λ (l : Limits). Cuts l told clauses held x after) same (subst (λ (o : Option Files). Cuts lims o clauses held x after) known cuts) in
-    let cut = all before s.taken s.progress in
+-- and then the run stopped at the last line
+pub Serves_cut : (halt : Stop) (limits : Limits) (told : Option Files) (strict : Bool) (files : List Bytes) (lims : Limits) (tell : Option Files) (n : ℕ) (bytes : Bytes) (left now next : Option Bytes) (before : Around) (clauses : List Clause) (held : Bytes) (x after : Around)
+    → HasProgressed limits told strict files n left now before clauses held x → lims ≡ limits → tell ≡ told → n < limits.session → Takes now bytes next → bytes ≡ [] → IsAtEnd now
+    → Cuts halt lims tell strict clauses held x after → Serves limits told strict files (status_of halt) left next before after
+Serves_cut halt limits told strict files lims tell n bytes left now next before clauses held x after s same known below takes none ended cuts =
+    let all : Cuts halt limits told strict clauses held x after = subst (λ (l : Limits). Cuts halt l told strict clauses held x after) same (subst (λ (o : Option Files). Cuts halt lims o strict clauses held x after) known cuts) in
+    let cut = all files before s.taken s.progress in
     let left_is = end_left now next bytes takes none in
     record {
       taken = s.taken;
@@ -127,5 +173,18 @@ Serves_cut limits told lims tell n bytes left now next before clauses held x aft
       takes = subst (λ (o : Option Bytes). Takes left s.taken o) (sym left_is) s.takes;
       within = omega (arith, s.size);
       splits = cut.splits;
-      ends = inr (record { below = omega (arith, s.size); at_end = subst IsAtEnd (sym left_is) ended }, cut.part);
+      ends = stops_last halt limits told strict files s.taken cut.lines cut.rest left next before after (record { below = omega (arith, s.size); at_end = subst IsAtEnd (sym left_is) ended }) cut.part;
     }
+
+-- ---- the words
+pub answers_asked : (limits : Limits) (told : Option Files) (words : List Bytes) (rows : List Row) (status : Status) (left now : Option Bytes) (before after : Around)
+    → rows ≡ matches_of program words → Serves limits told (asked_in rows).strict (asked_in rows).files status left now before after → Answers limits told words status left now before after
+answers_asked limits told words rows status left now before after same s =
+    inr (subst (λ (rs : List Row). Serves limits told (asked_in rs).strict (asked_in rs).files status left now before after) same s)
+
+pub answers_usage : (limits : Limits) (told : Option Files) (words : List Bytes) (status : Status) (left : Option Bytes) (before after : Around)
+    → takes program words ≡ false → after.counts ≡ before.counts → WritesUsage status before.sink after.sink → Answers limits told words status left left before after
+answers_usage limits told words status left before after refused unfetched written = inl (record { refused = refused; unread = refl; unfetched = unfetched; written = written })
+
+pub answers_memory : (limits : Limits) (told : Option Files) (words : List Bytes) (left : Option Bytes) (before : Around) → Answers limits told words Memory left left before before
+answers_memory limits told words left before = inr (Serves_memory limits told (asked_by words).strict (asked_by words).files left before)

@@ -1,9 +1,9 @@
 -- What the contract of a run says where the devices tell their bytes, and when a run ends by the session's limit.
-use Rattle.std.proofs.Common.{◌≡◌, ℕ, List, ◌++◌, Option, Some, length, refl, sym, ap, subst, ◌∙◌, arith}
+use Rattle.std.proofs.Common.{◌≡◌, ℕ, Bool, List, ◌++◌, Option, Some, length, refl, sym, ap, subst, ◌∙◌, arith}
 use Rattle.std.specs.Prelude.{◌↔◌}
 use Rattle.si_defs.specs.Bytes.{Bytes}
 use Rattle.si_steps.specs.declared.limits.Limits.{Limits}
-use Rattle.si_steps.specs.Runs.{Splits, lines_at_end, IsOutput}
+use Rattle.si_steps.specs.Runs.{Splits, lines_at_end, requests, IsOutput}
 use Rattle.si_state.specs.Harvest.{Files}
 use Rattle.si_session.specs.Session.{Around}
 use Rattle.si_io.specs.Content.{Told, bytes_then}
@@ -12,21 +12,21 @@ use Rattle.stindex.specs.declared.status.Status.{Status}
 use Rattle.stindex.specs.declared.status.Status.TheVariants.{Ended, Refused, Usage, SourceFault, SinkFault, Memory, SessionLimit}
 use Rattle.stindex.specs.Serve.{Ends, Serves, TellsFailures}
 
--- A run that ended wrote an output of all the lines of its input, behind what the sink had, and the
--- failures that it tells were counted.
-pub record Answers (limits : Limits) (told : Option Files) (input had : Bytes) (before after : Around) : Type 0 where
+-- A run that ended wrote an output of all its words and of all the lines of its input, behind what
+-- the sink had, and the failures that it tells were counted.
+pub record WritesOutput (limits : Limits) (told : Option Files) (strict : Bool) (files : List Bytes) (input had : Bytes) (before after : Around) : Type 0 where
   pub lines : List Bytes
   pub rest : Bytes
   pub splits : Splits input lines rest
   pub output : Bytes
   pub failures : ℕ
-  pub right : IsOutput limits told (lines_at_end lines rest) output failures
+  pub right : IsOutput limits told strict (requests files (lines_at_end lines rest)) output failures
   pub written : after.sink.bytes ≡ Some (had ++ output)
   pub counted : TellsFailures failures before after
 
-pub whole_run : (limits : Limits) (told : Option Files) (input had : Bytes) (now : Option Bytes) (before after : Around)
-    → before.sink.bytes ≡ Some had → Serves limits told Ended (Some input) now before after → Answers limits told input had before after
-whole_run limits told input had now before after known s = record {
+pub whole_run : (limits : Limits) (told : Option Files) (strict : Bool) (files : List Bytes) (input had : Bytes) (now : Option Bytes) (before after : Around)
+    → before.sink.bytes ≡ Some had → Serves limits told strict files Ended (Some input) now before after → WritesOutput limits told strict files input had before after
+whole_run limits told strict files input had now before after known s = record {
   lines = s.lines;
   rest = s.rest;
   splits = subst (λ (b : Bytes). Splits b s.lines s.rest) (sym (Takes_all (Some input) now s.taken s.takes s.ends.0.at_end)) s.splits;
@@ -37,14 +37,14 @@ whole_run limits told input had now before after known s = record {
   counted = s.ends.1.counted;
 }
 
--- Beside a fault of the sink and want of memory, the limit is met exactly where as many bytes were taken.
-pub limit_is_met : (limits : Limits) (told : Option Files) (status : Status) (taken : Bytes) (lines : List Bytes) (rest : Bytes) (left now : Option Bytes) (before after : Around)
-    → (status ≡ SinkFault → ⊥) → (status ≡ Memory → ⊥) → Ends status limits told taken lines rest left now before after
+-- Beside a refusal, a fault of the sink and want of memory, the limit is met exactly where as many bytes were taken.
+pub limit_is_met : (limits : Limits) (told : Option Files) (strict : Bool) (files : List Bytes) (status : Status) (taken : Bytes) (lines : List Bytes) (rest : Bytes) (left now : Option Bytes) (before after : Around)
+    → (status ≡ Refused → ⊥) → (status ≡ SinkFault → ⊥) → (status ≡ Memory → ⊥) → Ends status limits told strict files taken lines rest left now before after
     → (length taken ≡ limits.session) ↔ (status ≡ SessionLimit)
-limit_is_met limits told Ended taken lines rest left now before after sink memory e = (λ full. absurd (omega (arith, e.0.below)), λ is. cc)
-limit_is_met limits told Refused taken lines rest left now before after sink memory e = absurd e
-limit_is_met limits told Usage taken lines rest left now before after sink memory e = absurd e
-limit_is_met limits told SourceFault taken lines rest left now before after sink memory e = (λ full. absurd (omega (arith, e.0)), λ is. cc)
-limit_is_met limits told SinkFault taken lines rest left now before after sink memory e = absurd (sink refl)
-limit_is_met limits told Memory taken lines rest left now before after sink memory e = absurd (memory refl)
-limit_is_met limits told SessionLimit taken lines rest left now before after sink memory e = (λ full. refl, λ is. e.0)
+limit_is_met limits told strict files Ended taken lines rest left now before after refused sink memory e = (λ full. absurd (omega (arith, e.0.below)), λ is. cc)
+limit_is_met limits told strict files Refused taken lines rest left now before after refused sink memory e = absurd (refused refl)
+limit_is_met limits told strict files Usage taken lines rest left now before after refused sink memory e = absurd e
+limit_is_met limits told strict files SourceFault taken lines rest left now before after refused sink memory e = (λ full. absurd (omega (arith, e.0)), λ is. cc)
+limit_is_met limits told strict files SinkFault taken lines rest left now before after refused sink memory e = absurd (sink refl)
+limit_is_met limits told strict files Memory taken lines rest left now before after refused sink memory e = absurd (memory refl)
+limit_is_met limits told strict files SessionLimit taken lines rest left now before after refused sink memory e = (λ full. refl, λ is. e.0)

@@ -1,9 +1,10 @@
 -- How bytes fall into lines as more of them come, and how a run goes on by one line.
-use Rattle.std.proofs.Common.{◌≡◌, ℕ, Bool, true, false, List, [], ◌∷◌, ◌++◌, refl, sym, ap, subst, ◌∙◌, append_assoc, append-nil, arith, Option, ltb, cond, length, get_or, take, drop, ◌≤◌, ◌+◌, suc, add-one, take_all, take-append-drop, drop-cons}
+use Rattle.std.proofs.Common.{◌≡◌, ℕ, Bool, true, false, List, [], ◌∷◌, ◌++◌, refl, sym, ap, subst, ◌∙◌, append_assoc, append-nil, arith, Option, ltb, cond, length, get_or, map, take, drop, ◌≤◌, ◌+◌, suc, add-one, take_all, take-append-drop, drop-cons}
 use Rattle.std.specs.Prelude.{◌==◌}
 use Rattle.std.specs.Prelude.{None, Some}
 use Rattle.std.specs.List.{AllByRecursion, position, position_or_len}
 use Rattle.std.proofs.lemmas.List.Quantifiers.{position-Some}
+use Rattle.std.proofs.lemmas.List.{map-append}
 use Rattle.std.proofs.lemmas.List.Folds.{list_any-append}
 use Rattle.std.proofs.lemmas.Bool.Decides.{nat_tests}
 use Rattle.si_defs.specs.Bytes.{Bytes}
@@ -15,7 +16,7 @@ use Rattle.si_steps.specs.Loads.{Owed}
 use Rattle.si_steps.specs.Steps.{Step}
 use Rattle.si_session.proofs.Told.{ended-append}
 use Rattle.stindex.specs.Lines.{IsLineEnd}
-use Rattle.si_steps.specs.Runs.{ended, failures_in, IsOneLine, Splits, lines_at_end, Run}
+use Rattle.si_steps.specs.Runs.{ended, failures_in, IsOneLine, Splits, lines_at_end, Request, a_word, a_line, requests, Acts, GoesOn, Run}
 
 -- ---- lines
 each-append : (ls : List Bytes) (k : Bytes) → AllByRecursion IsOneLine ls → IsOneLine k → AllByRecursion IsOneLine (ls ++ k ∷ [])
@@ -113,29 +114,50 @@ lines_at_end-some lines [] some = absurd (some refl)
 lines_at_end-some lines (c ∷ cs) some = refl
 
 -- ---- runs
--- a run goes on by one line
-pub Run_more : (limits : Limits) (told : Option Files) (old mid new : List Clause) (lines : List Bytes) (line output : Bytes) (failures : ℕ) (reply : Reply) (owed : Owed)
-    → Run limits told old lines output failures mid → Step limits told mid line reply owed new
-    → Run limits told old (lines ++ line ∷ []) (output ++ ended reply) (failures + failures_in owed) new
-Run_more limits told old mid new [] line output failures reply owed run step = (
+-- one line more is one request more
+pub requests-more : (files lines : List Bytes) (line : Bytes) → requests files (lines ++ line ∷ []) ≡ requests files lines ++ a_line line ∷ []
+requests-more files lines line =
+    ap (λ (rs : List Request). map a_word files ++ rs) (map-append a_line lines (line ∷ [])) ∙ sym (append_assoc (map a_word files) (map a_line lines) (a_line line ∷ []))
+
+-- and so are some more
+pub requests-split : (files lines others : List Bytes) (line : Bytes) → requests files lines ++ a_line line ∷ map a_line others ≡ requests files ((lines ++ line ∷ []) ++ others)
+requests-split files lines others line =
+    append_assoc (map a_word files) (map a_line lines) (a_line line ∷ map a_line others)
+    ∙ ap (λ (rs : List Request). map a_word files ++ rs) (sym (map-append a_line lines (line ∷ others)) ∙ ap (map a_line) (sym (append_assoc lines (line ∷ []) others)))
+
+-- a run goes on by one request
+pub Run_more : (limits : Limits) (told : Option Files) (strict : Bool) (old mid new : List Clause) (done : List Request) (request : Request) (output : Bytes) (failures : ℕ) (reply : Reply) (owed : Owed)
+    → Run limits told strict old done output failures mid → Acts limits told mid request reply owed new → GoesOn strict reply
+    → Run limits told strict old (done ++ request ∷ []) (output ++ ended reply) (failures + failures_in owed) new
+Run_more limits told strict old mid new [] request output failures reply owed run acts goes = (
   reply,
   owed,
   new,
   [],
   0,
-  subst (λ (s : List Clause). Step limits told s line reply owed new) run.2 step,
+  subst (λ (s : List Clause). Acts limits told s request reply owed new) run.2 acts,
+  goes,
   (refl, refl, refl),
   ap (λ (b : Bytes). b ++ ended reply) run.0 ∙ sym (append-nil (ended reply)),
   omega (arith, run.1),
 )
-Run_more limits told old mid new (l ∷ ls) line output failures reply owed run step = (
+Run_more limits told strict old mid new (r ∷ rs) request output failures reply owed run acts goes = (
   run.0,
   run.1,
   run.2,
   run.3 ++ ended reply,
   run.4 + failures_in owed,
   run.5,
-  Run_more limits told run.2 mid new ls line run.3 run.4 reply owed run.6 step,
-  ap (λ (b : Bytes). b ++ ended reply) run.7 ∙ append_assoc (ended run.0) run.3 (ended reply),
-  omega (arith, run.8),
+  run.6,
+  Run_more limits told strict run.2 mid new rs request run.3 run.4 reply owed run.7 acts goes,
+  ap (λ (b : Bytes). b ++ ended reply) run.8 ∙ append_assoc (ended run.0) run.3 (ended reply),
+  omega (arith, run.9),
 )
+
+-- by one line
+pub Run_line : (limits : Limits) (told : Option Files) (strict : Bool) (mid new : List Clause) (files lines : List Bytes) (line output : Bytes) (failures : ℕ) (reply : Reply) (owed : Owed)
+    → Run limits told strict [] (requests files lines) output failures mid → Step limits told mid line reply owed new → GoesOn strict reply
+    → Run limits told strict [] (requests files (lines ++ line ∷ [])) (output ++ ended reply) (failures + failures_in owed) new
+Run_line limits told strict mid new files lines line output failures reply owed run step goes =
+    subst (λ (rs : List Request). Run limits told strict [] rs (output ++ ended reply) (failures + failures_in owed) new) (sym (requests-more files lines line))
+    (Run_more limits told strict [] mid new (requests files lines) (a_line line) output failures reply owed run step goes)

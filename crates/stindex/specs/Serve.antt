@@ -1,15 +1,20 @@
 -- What a whole run of the program does: the input that it takes, the output that it writes, and how
 -- it ends.
-use Rattle.std.specs.Prelude.{◌≡◌, ℕ, ◌+◌, ◌-◌, ◌^◌, min, ◌<◌, ◌≤◌, ◌⊎◌, List, [], ◌++◌, Option, length, Bool, IsFalse}
+use Rattle.std.specs.Prelude.{◌≡◌, ℕ, ◌+◌, ◌-◌, ◌^◌, min, ◌<◌, ◌≤◌, ◌⊎◌, List, [], ◌++◌, Option, length, Bool, false, IsTrue, IsFalse}
 use Rattle.si_defs.specs.Bytes.{Bytes}
 use Rattle.si_steps.specs.declared.limits.Limits.{Limits}
-use Rattle.si_steps.specs.Runs.{Splits, lines_at_end, IsOutput}
+use Rattle.si_steps.specs.Replies.{Reply, is_refusal}
+use Rattle.si_steps.specs.Runs.{Splits, lines_at_end, requests, IsOutput, IsOutputTo}
 use Rattle.si_state.specs.Harvest.{Files}
 use Rattle.si_session.specs.Session.{Around}
-use Rattle.si_io.specs.Content.{Receives, ReceivesPrefix, Takes}
+use Rattle.si_io.specs.Content.{Told, Receives, ReceivesPrefix, Takes}
+use Rattle.clap.specs.Words.{takes}
+use Rattle.stindex.specs.Words.{program, usage_line, asked_by}
 use Rattle.std.specs.Io.KnownBytes.{IsAtEnd}
 use Rattle.si_io.specs.Faults.{Rose}
 use Rattle.stindex.specs.declared.status.Status.{Status}
+use Rattle.stindex.specs.declared.status.Stop.{Stop}
+use Rattle.stindex.specs.declared.status.Stop.TheVariants as stop
 use Rattle.stindex.specs.declared.status.Status.TheVariants.{Ended, Refused, Usage, SourceFault, SinkFault, Memory, SessionLimit}
 
 -- The count rose by so many at least, or stands at its greatest value.
@@ -23,24 +28,29 @@ pub record TellsFailures (failures : ℕ) (before after : Around) : Type 0 where
   pub sure : IsFalse before.may_fail → failures ≡ 0
   pub same : after.may_fail ≡ before.may_fail
 
--- An output of these lines was written whole, and the failures that it tells were counted.
-pub record WritesAll (limits : Limits) (told : Option Files) (lines : List Bytes) (before after : Around) : Type 0 where
+-- An output of these words and lines was written whole, and the failures that it tells were
+-- counted.
+pub record WritesAll (limits : Limits) (told : Option Files) (strict : Bool) (files lines : List Bytes) (before after : Around) : Type 0 where
   pub output : Bytes
   pub failures : ℕ
-  pub right : IsOutput limits told lines output failures
+  pub right : IsOutput limits told strict (requests files lines) output failures
   pub written : Receives before.sink output after.sink
   pub counted : TellsFailures failures before after
 
--- A prefix of an output of the first of these lines was written, and nothing else; and the failures
--- that the output tells were counted.
-pub record WritesPart (limits : Limits) (told : Option Files) (lines : List Bytes) (before after : Around) : Type 0 where
-  pub done : List Bytes
-  pub others : List Bytes
-  pub front : done ++ others ≡ lines
+-- what was written of an output that ends with this reply, at which the run stops
+abbrev pub StopsAt : Stop → (strict : Bool) → Reply → Bytes → Told → Told → Type 0
+StopsAt stop.Refused strict reply output before after = Receives before output after × IsTrue strict × IsTrue (is_refusal reply)
+StopsAt stop.SinkFault strict reply output before after = ReceivesPrefix before output after
+
+-- The run stopped at the reply to one of these words and lines. The output up to and with it was
+-- written, or at a fault of the sink a prefix of it, and nothing else; and the failures that the
+-- output tells were counted.
+pub record WritesTo (stop : Stop) (limits : Limits) (told : Option Files) (strict : Bool) (files lines : List Bytes) (before after : Around) : Type 0 where
+  pub reply : Reply
   pub output : Bytes
   pub failures : ℕ
-  pub right : IsOutput limits told done output failures
-  pub written : ReceivesPrefix before.sink output after.sink
+  pub right : IsOutputTo limits told strict (requests files lines) reply output failures
+  pub written : StopsAt stop strict reply output before.sink after.sink
   pub counted : TellsFailures failures before after
 
 -- The end of the input was met, before as many bytes were taken as a session may have.
@@ -48,34 +58,56 @@ pub record MetEnd (limits : Limits) (taken : Bytes) (left : Option Bytes) : Type
   pub below : length taken < limits.session
   pub at_end : IsAtEnd left
 
--- Of a run that ends so: how far it took the input, of which lines it wrote the replies, and how
--- many bytes of them. The bytes that it took are these lines, and then the rest of a line that was
--- begun.
-abbrev pub Ends : Status → Limits → Option Files → (taken : Bytes) (lines : List Bytes) (rest : Bytes) (left now : Option Bytes) (before after : Around) → Type 0
-Ends Ended limits told taken lines rest left now before after = MetEnd limits taken now × WritesAll limits told (lines_at_end lines rest) before after
-Ends Refused limits told taken lines rest left now before after = ⊥
-Ends Usage limits told taken lines rest left now before after = ⊥
-Ends SourceFault limits told taken lines rest left now before after = (length taken < limits.session) × WritesAll limits told lines before after
-Ends SinkFault limits told taken lines rest left now before after =
-    WritesPart limits told lines before after ⊎ (MetEnd limits taken now × WritesPart limits told (lines_at_end lines rest) before after)
-Ends Memory limits told taken lines rest left now before after = (taken ≡ []) × (now ≡ left) × (after ≡ before)
-Ends SessionLimit limits told taken lines rest left now before after = (length taken ≡ limits.session) × WritesAll limits told lines before after
+-- Of a run that ends so: how far it took the input, of which words and lines it wrote the replies,
+-- and how many bytes of them. The bytes that it took are these lines, and then the rest of a line
+-- that was begun.
+abbrev pub Ends : Status → Limits → Option Files → (strict : Bool) → (files : List Bytes) (taken : Bytes) (lines : List Bytes) (rest : Bytes) (left now : Option Bytes) (before after : Around) → Type 0
+Ends Ended limits told strict files taken lines rest left now before after = MetEnd limits taken now × WritesAll limits told strict files (lines_at_end lines rest) before after
+Ends Refused limits told strict files taken lines rest left now before after =
+    WritesTo stop.Refused limits told strict files lines before after
+    ⊎ (MetEnd limits taken now × WritesTo stop.Refused limits told strict files (lines_at_end lines rest) before after)
+Ends Usage limits told strict files taken lines rest left now before after = ⊥
+Ends SourceFault limits told strict files taken lines rest left now before after = (length taken < limits.session) × WritesAll limits told strict files lines before after
+Ends SinkFault limits told strict files taken lines rest left now before after =
+    WritesTo stop.SinkFault limits told strict files lines before after
+    ⊎ (MetEnd limits taken now × WritesTo stop.SinkFault limits told strict files (lines_at_end lines rest) before after)
+Ends Memory limits told strict files taken lines rest left now before after = (taken ≡ []) × (now ≡ left) × (after ≡ before)
+Ends SessionLimit limits told strict files taken lines rest left now before after = (length taken ≡ limits.session) × WritesAll limits told strict files lines before after
 
 -- A run took these bytes from its source, no more than a session may have, and ended so.
-pub record Serves (limits : Limits) (told : Option Files) (status : Status) (left now : Option Bytes) (before after : Around) : Type 0 where
+pub record Serves (limits : Limits) (told : Option Files) (strict : Bool) (files : List Bytes) (status : Status) (left now : Option Bytes) (before after : Around) : Type 0 where
   pub taken : Bytes
   pub lines : List Bytes
   pub rest : Bytes
   pub takes : Takes left taken now
   pub within : length taken ≤ limits.session
   pub splits : Splits taken lines rest
-  pub ends : Ends status limits told taken lines rest left now before after
+  pub ends : Ends status limits told strict files taken lines rest left now before after
+
+-- what was written of the line that says how to call the program
+abbrev pub WritesUsage : Status → Told → Told → Type 0
+WritesUsage Usage before after = Receives before usage_line after
+WritesUsage SinkFault before after = ReceivesPrefix before usage_line after
+WritesUsage status before after = ⊥
+
+-- The words are no call of the program. That was said, and nothing was read or fetched.
+pub record Declines (words : List Bytes) (status : Status) (left now : Option Bytes) (before after : Around) : Type 0 where
+  pub refused : takes program words ≡ false
+  pub unread : now ≡ left
+  pub unfetched : after.counts ≡ before.counts
+  pub written : WritesUsage status before.sink after.sink
+
+-- The words were declined, or did what they ask for.
+abbrev pub Answers : Limits → Option Files → (words : List Bytes) → Status → (left now : Option Bytes) → (before after : Around) → Type 0
+Answers limits told words status left now before after =
+    Declines words status left now before after
+    ⊎ Serves limits told (asked_by words).strict (asked_by words).files status left now before after
 
 -- the statuses of a run in which no device fails
 abbrev pub IsFaultless : Status → Type 0
 IsFaultless Ended = Unit {0}
-IsFaultless Refused = ⊥
-IsFaultless Usage = ⊥
+IsFaultless Refused = Unit {0}
+IsFaultless Usage = Unit {0}
 IsFaultless SourceFault = ⊥
 IsFaultless SinkFault = ⊥
 IsFaultless Memory = Unit {0}
@@ -92,10 +124,18 @@ CountsFaults SinkFault source source_now sink sink_now = (source_now ≡ source)
 CountsFaults Memory source source_now sink sink_now = (source_now ≡ source) × (sink_now ≡ sink)
 CountsFaults SessionLimit source source_now sink sink_now = (source_now ≡ source) × (sink_now ≡ sink)
 
--- Each output of the first lines of what the source has left fits the room. If the library can't
--- fail, this is asked of the outputs alone that tell no failure.
-abbrev pub HasRoomForOutputs : Limits → Option Files → (may_fail : Bool) → (left : Option Bytes) → (room : ℕ) → Type 0
-HasRoomForOutputs limits told may_fail left room =
-    (taken : Bytes) (now : Option Bytes) (lines : List Bytes) (rest : Bytes) (done others : List Bytes) (output : Bytes) (failures : ℕ)
-    → Takes left taken now → Splits taken lines rest → done ++ others ≡ lines_at_end lines rest → IsOutput limits told done output failures
-    → (IsFalse may_fail → failures ≡ 0) → length output ≤ room
+-- the sink's count of faults rose where the run stops by its fault, and is as before where it stops
+-- at a refusal
+abbrev pub BlamesSink : Stop → (sink sink_now : ℕ) → Type 0
+BlamesSink stop.Refused sink sink_now = sink_now ≡ sink
+BlamesSink stop.SinkFault sink sink_now = Rose sink sink_now
+
+-- Each output of the first of these words, and of the lines of what the source has left, fits the
+-- room, and where the words are declined, what is said then. If the library can't fail, this is
+-- asked of the outputs alone that tell no failure.
+pub record HasRoomForOutputs (limits : Limits) (told : Option Files) (words : List Bytes) (may_fail : Bool) (left : Option Bytes) (room : ℕ) : Type 0 where
+  pub usage : takes program words ≡ false → length usage_line ≤ room
+  pub outputs : (taken : Bytes) (now : Option Bytes) (lines : List Bytes) (rest : Bytes) (reply : Reply) (output : Bytes) (failures : ℕ)
+      → Takes left taken now → Splits taken lines rest
+      → IsOutputTo limits told (asked_by words).strict (requests (asked_by words).files (lines_at_end lines rest)) reply output failures
+      → (IsFalse may_fail → failures ≡ 0) → length output ≤ room

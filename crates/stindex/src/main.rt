@@ -5,14 +5,19 @@
 mod lines;
 mod serve;
 mod status;
+mod words;
 
 use si_io::{RealLibrary, RealSink, RealSource};
 use si_session::Limits;
 use status::Status;
-use std::io::BufWriter;
+use std::env::args;
+use std::io::{self, BufWriter};
 use std::process::ExitCode;
 
 fn main(rt: HostRuntime) -> ExitCode {
+    let Ok(words) = call_words(&rt) else {
+        return ExitCode::from(Status::Memory.code());
+    };
     let Ok(output) = BufWriter::new(rt.alloc(), rt.stdout()) else {
         return ExitCode::from(Status::Memory.code());
     };
@@ -21,12 +26,19 @@ fn main(rt: HostRuntime) -> ExitCode {
     let mut library = RealLibrary::new(rt);
     let status = serve::serve(
         rt.alloc(),
+        &words,
         &Limits::standard(),
         &mut source,
         &mut sink,
         &mut library,
     );
     ExitCode::from(status.code())
+}
+
+/// The words that the program was called with, without its own name.
+fn call_words(rt: &HostRuntime) -> io::Result<Vec<String>> {
+    let words = args(rt)?.skip(1).collect(rt.alloc())?;
+    Ok(words)
 }
 
 #[cfg(test)]

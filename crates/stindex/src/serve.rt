@@ -1,37 +1,42 @@
-// The run over the whole input: lines in, replies out.
-ghost use Rattle.std.specs.Prelude.{◌≡◌, ◌+◌, ◌<◌, ◌≤◌, [], OnOk, OnErr, IsTrue, IsFalse};
+// The run over the words of the call and the whole input: lines in, replies out.
+ghost use Rattle.std.specs.Prelude.{◌≡◌, ◌+◌, ◌<◌, ◌≤◌, ℕ, [], map, string_bytes, OnOk, IfErr, IsTrue, IsFalse};
+ghost use Rattle.si_steps.specs.Runs.{a_word, a_line};
 ghost use Rattle.si_steps.specs.Limits.{AllowsLimits};
-ghost use Rattle.si_io.specs.Faults.{HasCause, Rose};
+ghost use Rattle.si_io.specs.Faults.{Rose};
 ghost use Rattle.si_session.specs.Session.{around};
 ghost use Rattle.stindex.specs.Lines.{held_of, limit_of};
-ghost use Rattle.stindex.specs.Serve.{Serves, IsFaultless, CountsFaults, HasRoomForOutputs};
+ghost use Rattle.stindex.specs.Serve.{Answers, Serves, WritesTo, WritesUsage, BlamesSink, IsFaultless, CountsFaults, HasRoomForOutputs};
+ghost use Rattle.stindex.specs.Words.{asked_of};
 ghost use Rattle.stindex.specs.declared.status.Status.TheVariants.{SourceFault, SinkFault, Memory};
-ghost use Rattle.stindex.specs.Progress.{ActsOnLine, Breaks, Advances, Fails, Closes, Cuts};
+ghost use Rattle.stindex.specs.Progress.{Judges, ActsOn, Breaks, LoadsWords, Advances, Fails, Closes, Cuts};
 
 use crate::lines::{Pending, line_feed};
-use crate::status::Status;
-use si_io::{Failed, Library, Sink, Source};
+use crate::status::{Status, Stop};
+use crate::words::{WordFault, is_strict, read_words};
+use clap::ArgMatches;
+use si_io::{Library, Sink, Source, write_all};
 use si_session::{Limits, Session, Stepped};
 use std::alloc::Global;
 
 /// Bytes that one call reads at most.
 const CHUNK: usize = 4096;
 
-/// Reads the input to its end, line by line, and writes the reply to each. Files that are loaded
-/// come from the library.
+/// Reads the words as `stindex [--strict] [FILE]...`, loads the files, reads the input to its end,
+/// line by line, and writes the reply to each. Files come from the library.
 ///
 /// After as many bytes as a session may have it reads no more. All memory of its own is taken
 /// before the first read.
 pub fn serve<S: Source, K: Sink, L: Library>(
     alloc: Global,
+    words: &[String],
     limits: &Limits,
     source: &mut S,
     sink: &mut K,
     library: &mut L,
 ) -> Status
     requires { AllowsLimits limits.now }
-    ensures serves { Serves limits.now (L.files library.old) result (S.left source.old)
-        (S.left source.new)
+    ensures answers { Answers limits.now (L.files library.old) (map string_bytes words.entry.now)
+        result (S.left source.old) (S.left source.new)
         (around (K.written sink.old) (L.counts library.old) (L.may_fail library.old))
         (around (K.written sink.new) (L.counts library.new) (L.may_fail library.new)) }
     ensures told { L.files library.new ≡ L.files library.old }
@@ -42,11 +47,54 @@ pub fn serve<S: Source, K: Sink, L: Library>(
         (K.faults sink.old) (K.faults sink.new) }
     ensures source_sure { result ≡ SourceFault → IsTrue (S.may_fail source.old) }
     ensures sure { IsFalse (S.may_fail source.old)
-        → HasRoomForOutputs limits.now (L.files library.old) (L.may_fail library.old)
-        (S.left source.old) (K.written sink.old).room
+        → HasRoomForOutputs limits.now (L.files library.old) (map string_bytes words.entry.now)
+        (L.may_fail library.old) (S.left source.old) (K.written sink.old).room
         → IsFaultless result }
     ensures faultless { (Rose (S.faults source.old) (S.faults source.new) → ⊥) →
         (Rose (K.faults sink.old) (K.faults sink.new) → ⊥) → IsFaultless result }
+{
+    match read_words(alloc, words) {
+        Ok(matches) => start(alloc, &matches, limits, source, sink, library),
+        Err(WordFault::Memory) => Status::Memory,
+        Err(WordFault::Usage) => tell_usage(sink),
+    }
+}
+
+/// Says how to call the program.
+fn tell_usage<K: Sink>(sink: &mut K) -> Status
+    ensures written { WritesUsage result (K.written sink.old) (K.written sink.new) }
+    ensures later { K.faults sink.old ≤ K.faults sink.new }
+    ensures counts { (source : ℕ) → CountsFaults result source source (K.faults sink.old)
+        (K.faults sink.new) }
+    ensures source_sure { result ≡ SourceFault → ⊥ }
+{
+    match write_all(sink, b"usage: stindex [--strict] [FILE]...\n") {
+        Ok(()) => Status::Usage,
+        Err(_) => Status::SinkFault,
+    }
+}
+
+/// Does what the words ask for, from a new session on.
+fn start<S: Source, K: Sink, L: Library>(
+    alloc: Global,
+    matches: &ArgMatches<'_>,
+    limits: &Limits,
+    source: &mut S,
+    sink: &mut K,
+    library: &mut L,
+) -> Status
+    requires { AllowsLimits limits.now }
+    ensures serves { Serves limits.now (L.files library.old) (asked_of matches.now).strict
+        (asked_of matches.now).files result (S.left source.old) (S.left source.new)
+        (around (K.written sink.old) (L.counts library.old) (L.may_fail library.old))
+        (around (K.written sink.new) (L.counts library.new) (L.may_fail library.new)) }
+    ensures told { L.files library.new ≡ L.files library.old }
+    ensures same { L.may_fail library.new ≡ L.may_fail library.old }
+    ensures source_later { S.faults source.old ≤ S.faults source.new }
+    ensures sink_later { K.faults sink.old ≤ K.faults sink.new }
+    ensures counts { CountsFaults result (S.faults source.old) (S.faults source.new)
+        (K.faults sink.old) (K.faults sink.new) }
+    ensures source_sure { result ≡ SourceFault → IsTrue (S.may_fail source.old) }
 {
     let Ok(mut session) = Session::new(alloc, limits) else {
         return Status::Memory;
@@ -54,11 +102,20 @@ pub fn serve<S: Source, K: Sink, L: Library>(
     let Ok(mut pending) = Pending::new(alloc, limits.line) else {
         return Status::Memory;
     };
-    run(limits, &mut session, &mut pending, source, sink, library)
+    run(
+        matches,
+        limits,
+        &mut session,
+        &mut pending,
+        source,
+        sink,
+        library,
+    )
 }
 
-/// Reads the input from a session without clauses on.
+/// Loads the files and reads the input, from a session without clauses on.
 fn run<S: Source, K: Sink, L: Library>(
+    matches: &ArgMatches<'_>,
     limits: &Limits,
     session: &mut Session,
     pending: &mut Pending,
@@ -70,8 +127,8 @@ fn run<S: Source, K: Sink, L: Library>(
     requires start { session.old ≡ record { clauses = []; limits = limits.now } }
     requires held { held_of pending.old ≡ [] }
     requires limit { limit_of pending.old ≡ limits.now.line }
-    ensures serves { Serves limits.now (L.files library.old) result (S.left source.old)
-        (S.left source.new)
+    ensures serves { Serves limits.now (L.files library.old) (asked_of matches.now).strict
+        (asked_of matches.now).files result (S.left source.old) (S.left source.new)
         (around (K.written sink.old) (L.counts library.old) (L.may_fail library.old))
         (around (K.written sink.new) (L.counts library.new) (L.may_fail library.new)) }
     ensures told { L.files library.new ≡ L.files library.old }
@@ -83,6 +140,11 @@ fn run<S: Source, K: Sink, L: Library>(
     ensures source_sure { result ≡ SourceFault → IsTrue (S.may_fail source.old) }
     ensures begun { result ≡ Memory → ⊥ }
 {
+    let strict = is_strict(matches);
+    match load_files(matches, strict, session, sink, library) {
+        Ok(()) => {}
+        Err(stop) => return stop.status(),
+    }
     let mut chunk = [0; CHUNK];
     let mut taken = 0;
     while taken < limits.session {
@@ -92,33 +154,99 @@ fn run<S: Source, K: Sink, L: Library>(
             Err(_) => return Status::SourceFault,
         };
         if count == 0 {
-            match close(session, pending, sink, library) {
+            match close(strict, session, pending, sink, library) {
                 Ok(()) => return Status::Ended,
-                Err(_) => return Status::SinkFault,
+                Err(stop) => return stop.status(),
             }
         }
-        match feed(session, pending, &chunk[..count], sink, library) {
+        match feed(strict, session, pending, &chunk[..count], sink, library) {
             Ok(()) => taken += count as u64,
-            Err(_) => return Status::SinkFault,
+            Err(stop) => return stop.status(),
         }
     }
     Status::SessionLimit
 }
 
+/// Loads each file that the words name.
+fn load_files<K: Sink, L: Library>(
+    matches: &ArgMatches<'_>,
+    strict: bool,
+    session: &mut Session,
+    sink: &mut K,
+    library: &mut L,
+) -> Result<(), Stop>
+    requires allows { AllowsLimits session.old.limits }
+    requires start { session.old.clauses ≡ [] }
+    ensures loaded { OnOk result (LoadsWords session.old.limits (L.files library.old) strict
+        (asked_of matches.now).files
+        (around (K.written sink.old) (L.counts library.old) (L.may_fail library.old))
+        session.new.clauses
+        (around (K.written sink.new) (L.counts library.new) (L.may_fail library.new))) }
+    ensures broken { IfErr result (λ halt. WritesTo halt session.old.limits (L.files library.old)
+        strict (asked_of matches.now).files []
+        (around (K.written sink.old) (L.counts library.old) (L.may_fail library.old))
+        (around (K.written sink.new) (L.counts library.new) (L.may_fail library.new))) }
+    ensures told { L.files library.new ≡ L.files library.old }
+    ensures same { L.may_fail library.new ≡ L.may_fail library.old }
+    ensures limits { session.new.limits ≡ session.old.limits }
+    ensures later { K.faults sink.old ≤ K.faults sink.new }
+    ensures kept { OnOk result (K.faults sink.new ≡ K.faults sink.old) }
+    ensures blames { IfErr result (λ halt. BlamesSink halt (K.faults sink.old)
+        (K.faults sink.new)) }
+{
+    let Some(files) = matches.get_strs("FILE") else {
+        return Ok(());
+    };
+    for file in files {
+        load(strict, session, file.as_bytes(), sink, library)?;
+    }
+    Ok(())
+}
+
+/// Loads the file that a word names.
+fn load<K: Sink, L: Library>(
+    strict: bool,
+    session: &mut Session,
+    word: &[u8],
+    sink: &mut K,
+    library: &mut L,
+) -> Result<(), Stop>
+    requires { AllowsLimits session.old.limits }
+    ensures acted { OnOk result (ActsOn session.old.limits (L.files library.old) strict
+        session.old.clauses session.new.clauses (a_word word.now)
+        (around (K.written sink.old) (L.counts library.old) (L.may_fail library.old))
+        (around (K.written sink.new) (L.counts library.new) (L.may_fail library.new))) }
+    ensures broken { IfErr result (λ halt. Breaks halt session.old.limits (L.files library.old)
+        strict session.old.clauses session.new.clauses (a_word word.now)
+        (around (K.written sink.old) (L.counts library.old) (L.may_fail library.old))
+        (around (K.written sink.new) (L.counts library.new) (L.may_fail library.new))) }
+    ensures told { L.files library.new ≡ L.files library.old }
+    ensures same { L.may_fail library.new ≡ L.may_fail library.old }
+    ensures limits { session.new.limits ≡ session.old.limits }
+    ensures later { K.faults sink.old ≤ K.faults sink.new }
+    ensures kept { OnOk result (K.faults sink.new ≡ K.faults sink.old) }
+    ensures blames { IfErr result (λ halt. BlamesSink halt (K.faults sink.old)
+        (K.faults sink.new)) }
+{
+    let outcome = session.load(word, library, sink);
+    judge(strict, outcome)
+}
+
 /// Acts on the line that was begun, which ends here.
 fn act<K: Sink, L: Library>(
+    strict: bool,
     session: &mut Session,
     pending: &mut Pending,
     sink: &mut K,
     library: &mut L,
-) -> Result<(), Failed>
+) -> Result<(), Stop>
     requires { AllowsLimits session.old.limits }
-    ensures acted { OnOk result (ActsOnLine session.old.limits (L.files library.old)
-        session.old.clauses session.new.clauses (held_of pending.old)
+    ensures acted { OnOk result (ActsOn session.old.limits (L.files library.old) strict
+        session.old.clauses session.new.clauses (a_line (held_of pending.old))
         (around (K.written sink.old) (L.counts library.old) (L.may_fail library.old))
         (around (K.written sink.new) (L.counts library.new) (L.may_fail library.new))) }
-    ensures broken { OnErr result (Breaks session.old.limits (L.files library.old)
-        session.old.clauses session.new.clauses (held_of pending.old)
+    ensures broken { IfErr result (λ halt. Breaks halt session.old.limits (L.files library.old)
+        strict session.old.clauses session.new.clauses (a_line (held_of pending.old))
         (around (K.written sink.old) (L.counts library.old) (L.may_fail library.old))
         (around (K.written sink.new) (L.counts library.new) (L.may_fail library.new))) }
     ensures told { L.files library.new ≡ L.files library.old }
@@ -126,46 +254,61 @@ fn act<K: Sink, L: Library>(
     ensures limits { session.new.limits ≡ session.old.limits }
     ensures held { held_of pending.new ≡ [] }
     ensures limit { limit_of pending.new ≡ limit_of pending.old }
-    ensures cause { HasCause (K.faults sink.old) (K.faults sink.new) result }
+    ensures later { K.faults sink.old ≤ K.faults sink.new }
+    ensures kept { OnOk result (K.faults sink.new ≡ K.faults sink.old) }
+    ensures blames { IfErr result (λ halt. BlamesSink halt (K.faults sink.old)
+        (K.faults sink.new)) }
 {
     let outcome = session.step(pending.bytes(), library, sink);
     pending.clear();
+    judge(strict, outcome)
+}
+
+/// Whether the run goes on behind a step.
+fn judge(strict: bool, outcome: Stepped) -> Result<(), Stop>
+    ensures { Judges strict outcome result }
+{
     match outcome {
-        Stepped::SinkFailed => Err(Failed),
+        Stepped::SinkFailed => Err(Stop::SinkFault),
+        Stepped::Refused if strict => Err(Stop::Refused),
         _ => Ok(()),
     }
 }
 
 /// Acts on each line that ends in these bytes, and holds the rest.
 fn feed<K: Sink, L: Library>(
+    strict: bool,
     session: &mut Session,
     pending: &mut Pending,
     bytes: &[u8],
     sink: &mut K,
     library: &mut L,
-) -> Result<(), Failed>
+) -> Result<(), Stop>
     requires allows { AllowsLimits session.old.limits }
     requires limit { limit_of pending.old ≡ session.old.limits.line }
-    ensures fed { OnOk result (Advances session.old.limits (L.files library.old) bytes.now
+    ensures fed { OnOk result (Advances session.old.limits (L.files library.old) strict bytes.now
         session.old.clauses (held_of pending.old)
         (around (K.written sink.old) (L.counts library.old) (L.may_fail library.old))
         session.new.clauses
         (held_of pending.new)
         (around (K.written sink.new) (L.counts library.new) (L.may_fail library.new))) }
-    ensures broken { OnErr result (Fails session.old.limits (L.files library.old) bytes.now
-        session.old.clauses (held_of pending.old)
+    ensures broken { IfErr result (λ halt. Fails halt session.old.limits (L.files library.old)
+        strict bytes.now session.old.clauses (held_of pending.old)
         (around (K.written sink.old) (L.counts library.old) (L.may_fail library.old))
         (around (K.written sink.new) (L.counts library.new) (L.may_fail library.new))) }
     ensures told { L.files library.new ≡ L.files library.old }
     ensures same { L.may_fail library.new ≡ L.may_fail library.old }
     ensures limits { session.new.limits ≡ session.old.limits }
     ensures limit { limit_of pending.new ≡ limit_of pending.old }
-    ensures cause { HasCause (K.faults sink.old) (K.faults sink.new) result }
+    ensures later { K.faults sink.old ≤ K.faults sink.new }
+    ensures kept { OnOk result (K.faults sink.new ≡ K.faults sink.old) }
+    ensures blames { IfErr result (λ halt. BlamesSink halt (K.faults sink.old)
+        (K.faults sink.new)) }
 {
     let mut rest = bytes;
     while let Some(end) = line_feed(rest) {
         pending.push(&rest[..end]);
-        act(session, pending, sink, library)?;
+        act(strict, session, pending, sink, library)?;
         rest = &rest[end + 1..];
     }
     pending.push(rest);
@@ -174,26 +317,30 @@ fn feed<K: Sink, L: Library>(
 
 /// Acts on the last line, if one was begun, since the input ends here.
 fn close<K: Sink, L: Library>(
+    strict: bool,
     session: &mut Session,
     pending: &mut Pending,
     sink: &mut K,
     library: &mut L,
-) -> Result<(), Failed>
+) -> Result<(), Stop>
     requires { AllowsLimits session.old.limits }
-    ensures closed { OnOk result (Closes session.old.limits (L.files library.old)
+    ensures closed { OnOk result (Closes session.old.limits (L.files library.old) strict
         session.old.clauses (held_of pending.old)
         (around (K.written sink.old) (L.counts library.old) (L.may_fail library.old))
         (around (K.written sink.new) (L.counts library.new) (L.may_fail library.new))) }
-    ensures cut { OnErr result (Cuts session.old.limits (L.files library.old)
+    ensures cut { IfErr result (λ halt. Cuts halt session.old.limits (L.files library.old) strict
         session.old.clauses (held_of pending.old)
         (around (K.written sink.old) (L.counts library.old) (L.may_fail library.old))
         (around (K.written sink.new) (L.counts library.new) (L.may_fail library.new))) }
     ensures told { L.files library.new ≡ L.files library.old }
     ensures same { L.may_fail library.new ≡ L.may_fail library.old }
-    ensures cause { HasCause (K.faults sink.old) (K.faults sink.new) result }
+    ensures later { K.faults sink.old ≤ K.faults sink.new }
+    ensures kept { OnOk result (K.faults sink.new ≡ K.faults sink.old) }
+    ensures blames { IfErr result (λ halt. BlamesSink halt (K.faults sink.old)
+        (K.faults sink.new)) }
 {
     if pending.bytes().is_empty() {
         return Ok(());
     }
-    act(session, pending, sink, library)
+    act(strict, session, pending, sink, library)
 }

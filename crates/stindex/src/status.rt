@@ -1,5 +1,5 @@
 ghost use Rattle.std.specs.Prelude.{◌≡◌};
-ghost use Rattle.stindex.specs.Status.{code_of};
+ghost use Rattle.stindex.specs.Status.{code_of, status_of};
 
 /// How a run ended.
 #[derive(Clone, Copy, Debug, PartialEq, Eq)]
@@ -26,5 +26,26 @@ impl Status {
         ensures { result ≡ code_of self }
     {
         self as u8
+    }
+}
+
+/// Why a run ends at a reply.
+#[derive(Clone, Copy, Debug, PartialEq, Eq)]
+pub enum Stop {
+    /// The run is strict, and the reply refuses.
+    Refused,
+    /// The sink failed.
+    SinkFault,
+}
+
+impl Stop {
+    /// How a run ends that stops so.
+    pub fn status(self) -> Status
+        ensures { result ≡ status_of self }
+    {
+        match self {
+            Stop::Refused => Status::Refused,
+            Stop::SinkFault => Status::SinkFault,
+        }
     }
 }

@@ -3,6 +3,7 @@ mod counts;
 mod lists;
 mod loads;
 mod relations;
+mod words;
 
 use crate::serve::serve;
 use crate::status::Status;
@@ -49,6 +50,19 @@ fn run_over(
     room: usize,
     library: &mut MemoryLibrary,
 ) -> Result<(Status, Vec<u8>), AllocError> {
+    call(alloc, &[], limits, input, (from, to), room, library)
+}
+
+/// The same where the program is called with these words.
+fn call(
+    alloc: Global,
+    words: &[String],
+    limits: &Limits,
+    input: &[u8],
+    (from, to): (Device, Device),
+    room: usize,
+    library: &mut MemoryLibrary,
+) -> Result<(Status, Vec<u8>), AllocError> {
     if !limits.fits() {
         return Err(AllocError);
     }
@@ -56,7 +70,7 @@ fn run_over(
     let writes = vec![in alloc; to.fails_at]?;
     let mut source = MemorySource::new(input.to_vec(alloc)?, from.chunk, reads);
     let mut sink = MemorySink::new(alloc, room, to.chunk, writes)?;
-    let status = serve(alloc, limits, &mut source, &mut sink, library);
+    let status = serve(alloc, words, limits, &mut source, &mut sink, library);
     Ok((status, sink.bytes().to_vec(alloc)?))
 }
 

@@ -4,4 +4,4 @@ use Rattle.si_laws.proofs.RunLaws.{run_stays}
 use Rattle.si_laws.proofs.runs_stay_consistent.Goals as goal
 
 pub returns : goal.returns
-returns c = λ limits told lines output failures new run. run_stays limits told [] lines output failures new consistent_none run
+returns c = λ limits told strict requests output failures new run. run_stays limits told strict [] requests output failures new consistent_none run

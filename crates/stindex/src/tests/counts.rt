@@ -120,7 +120,7 @@ fn watch(
         calls,
     };
     let mut library = MemoryLibrary::new(alloc, Vec::new(alloc));
-    Ok(serve(alloc, limits, &mut source, &mut sink, &mut library))
+    Ok(serve(alloc, &[], limits, &mut source, &mut sink, &mut library))
 }
 
 /// Devices of which one fails at this call: first the reads are numbered, then the writes. At 0

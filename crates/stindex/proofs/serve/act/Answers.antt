@@ -1,9 +1,11 @@
 -- What was written goes by what became of the line.
-use Rattle.stindex.proofs.Progress.{Acts_by, Breaks_by}
+use Rattle.stindex.proofs.Progress.{acted, broken, steps_at}
 use Rattle.stindex.proofs.serve.act.Goals as goal
 
-pub returns-in_default-clause-acted : goal.returns-in_default-clause-acted
-returns-in_default-clause-acted g c = Acts_by _ _ _ _ _ _ _ _ c.bytes.ensures c.in_default.not-SinkFailed c.step-outcome.ensures.same c.step-outcome.ensures.step
+pub returns-clause-acted : goal.returns-clause-acted
+returns-clause-acted g c =
+    acted _ c.args.strict _ _ _ c.step-outcome.result _ _ c.step-outcome.ensures.same (steps_at _ _ _ _ _ _ _ _ c.bytes.ensures c.step-outcome.ensures.step) c.judge.result c.judge.ensures
 
-pub returns-in-SinkFailed-clause-broken : goal.returns-in-SinkFailed-clause-broken
-returns-in-SinkFailed-clause-broken g c = Breaks_by _ _ _ _ _ _ _ _ c.bytes.ensures c.in-SinkFailed.is c.step-outcome.ensures.same c.step-outcome.ensures.step
+pub returns-clause-broken : goal.returns-clause-broken
+returns-clause-broken g c =
+    broken _ c.args.strict _ _ _ c.step-outcome.result _ _ c.step-outcome.ensures.same (steps_at _ _ _ _ _ _ _ _ c.bytes.ensures c.step-outcome.ensures.step) c.judge.result c.judge.ensures

@@ -1,7 +1,7 @@
 -- The line that was begun is the last one, for it isn't empty.
 use Rattle.std.proofs.Common.{◌≡◌, ℕ, Bool, true, false, List, [], length, ap, ◌∙◌, eq-eqb}
 use Rattle.std.specs.Prelude.{◌==◌}
-use Rattle.std.proofs.lemmas.Result.{on_ok_weaker, on_err_weaker}
+use Rattle.std.proofs.lemmas.Result.{on_ok_weaker, IfErr-weaker}
 use Rattle.stindex.specs.Lines.{held_of}
 use Rattle.stindex.proofs.Progress.{Closes_line, Cuts_line}
 use Rattle.stindex.proofs.serve.close.Goals as goal
@@ -15,9 +15,9 @@ empty_not held bytes b none same is false_is =
 pub returns-clause-closed : goal.returns-clause-closed
 returns-clause-closed g c =
     let some : held_of c.args.pending.now ≡ [] → ⊥ = λ e. empty_not _ _ _ e c.bytes.ensures c.is_empty.ensures c.if-is_empty.false in
-    on_ok_weaker _ (Closes_line _ _ _ _ _ _ _ some) c.act.ensures.acted
+    on_ok_weaker _ (Closes_line _ _ _ _ _ _ _ _ some) c.act.ensures.acted
 
 pub returns-clause-cut : goal.returns-clause-cut
 returns-clause-cut g c =
     let some : held_of c.args.pending.now ≡ [] → ⊥ = λ e. empty_not _ _ _ e c.bytes.ensures c.is_empty.ensures c.if-is_empty.false in
-    on_err_weaker _ (Cuts_line _ _ _ _ _ _ _ some) c.act.ensures.broken
+    IfErr-weaker c.act.result _ _ (λ halt. Cuts_line halt _ _ _ _ _ _ _ _ some) c.act.ensures.broken

@@ -6,7 +6,7 @@ use Rattle.stindex.proofs.serve.feed.Given as goal
 
 abbrev pub invariant-loop-end : goal.invariant-loop-end
 invariant-loop-end g l = record {
-  fed : Feeds l.fn.session.limits (g.L.Library.files l.fn.library) l.bytes l.fn.session.clauses (held_of l.fn.pending)
+  fed : Feeds l.fn.session.limits (g.L.Library.files l.fn.library) l.strict l.bytes l.fn.session.clauses (held_of l.fn.pending)
       (around (g.K.Sink.written l.fn.sink) (g.L.Library.counts l.fn.library) (g.L.Library.may_fail l.fn.library))
       l.rest l.session.clauses (held_of l.pending) (around (g.K.Sink.written l.sink) (g.L.Library.counts l.library) (g.L.Library.may_fail l.library));
   limits : l.session.limits ≡ l.fn.session.limits;

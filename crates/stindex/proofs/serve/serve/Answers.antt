@@ -1,9 +1,27 @@
--- A run over devices that can't fail ends in no fault.
+-- The words are declined, or done as they ask; and a run over devices that can't fail ends in no fault.
+use Rattle.std.proofs.Common.{refl}
+use Rattle.clap.specs.Words.{found_of, rows_of}
+use Rattle.stindex.proofs.Endings.{answers_asked, answers_usage, answers_memory}
 use Rattle.stindex.proofs.Faultless.{faultless_by, faultless_where_none_rose}
 use Rattle.stindex.proofs.serve.serve.Goals as goal
 
-pub returns-clause-sure : goal.returns-clause-sure
-returns-clause-sure g c = faultless_by c.run.result _ _ _ _ _ _ _ c.run.ensures.serves c.run.ensures.source_sure
+pub returns-in-Ok-clause-answers : goal.returns-in-Ok-clause-answers
+returns-in-Ok-clause-answers g c = answers_asked _ _ _ (rows_of (found_of c.in-Ok.matches)) c.start.result _ _ _ _ c.in-Ok.ensures.taken c.start.ensures.serves
 
-pub returns-clause-faultless : goal.returns-clause-faultless
-returns-clause-faultless g c = faultless_where_none_rose c.run.result _ _ _ _ _ _ _ _ _ _ c.run.ensures.serves c.run.ensures.counts
+pub returns-in-Ok-clause-sure : goal.returns-in-Ok-clause-sure
+returns-in-Ok-clause-sure g c = λ never room. faultless_by _ _ _ _ _ _ _ room c.start.result _ (returns-in-Ok-clause-answers g c) c.start.ensures.source_sure never
+
+pub returns-in-Ok-clause-faultless : goal.returns-in-Ok-clause-faultless
+returns-in-Ok-clause-faultless g c = faultless_where_none_rose c.start.result _ _ _ _ c.start.ensures.counts
+
+pub returns-in-Err-Usage-clause-answers : goal.returns-in-Err-Usage-clause-answers
+returns-in-Err-Usage-clause-answers g c = answers_usage _ _ _ c.tell_usage.result _ _ _ (c.in-Err-Usage.ensures.refused c.in-Err-Usage.field-0-is) refl c.tell_usage.ensures.written
+
+pub returns-in-Err-Usage-clause-sure : goal.returns-in-Err-Usage-clause-sure
+returns-in-Err-Usage-clause-sure g c = λ never room. faultless_by _ _ _ _ _ _ _ room c.tell_usage.result _ (returns-in-Err-Usage-clause-answers g c) (λ e. absurd (c.tell_usage.ensures.source_sure e)) never
+
+pub returns-in-Err-Usage-clause-faultless : goal.returns-in-Err-Usage-clause-faultless
+returns-in-Err-Usage-clause-faultless g c = faultless_where_none_rose c.tell_usage.result _ _ _ _ (c.tell_usage.ensures.counts _)
+
+pub returns-in-Err-Memory-clause-answers : goal.returns-in-Err-Memory-clause-answers
+returns-in-Err-Memory-clause-answers g c = answers_memory _ _ _ _ _

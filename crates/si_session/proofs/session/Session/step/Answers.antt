@@ -1,6 +1,7 @@
 use Rattle.std.proofs.Common.{◌≤◌, length, ap, sym, ◌∙◌, subst, arith}
 use Rattle.si_steps.specs.Commands.{add, remove, query, stats}
 use Rattle.si_term.specs.Meaning.{name_of, clause_of, pattern_of}
+use Rattle.si_steps.specs.Runs.{a_line}
 use Rattle.si_session.specs.Session.{Steps, around}
 use Rattle.si_session.specs.Commands.{ReadsCommand}
 use Rattle.si_session.specs.declared.command.Command.TheVariants as command
@@ -17,7 +18,7 @@ returns-in-Ok-Add-clause-step g c =
     let may_fail = g.L.Library.may_fail c.args.library.now in
     let read : ReadsCommand c.args.line.now (command.Add c.in-Ok-Add.clause) = subst (ReadsCommand c.args.line.now) c.in-Ok-Add.field-0-is c.in-Ok-Add.ensures.read in
     let short : length c.args.line.now ≤ limits.line = omega (arith, c.if-line-self.false) in
-    subst (λ s. Steps told s (state_with limits c.add.new.index.clauses) c.args.line.now c.add.result (around a tally may_fail) (around b tally may_fail)) c.self.view_is
+    subst (λ s. Steps told s (state_with limits c.add.new.index.clauses) (a_line c.args.line.now) c.add.result (around a tally may_fail) (around b tally may_fail)) c.self.view_is
     (stepped limits told c.self.inside.index.clauses c.add.new.index.clauses c.args.line.now (add (clause_of c.in-Ok-Add.clause)) c.add.result a b tally may_fail short read.0 (c.add.ensures.acts limits (sym c.self.invariant)))
 
 pub returns-in-Ok-Query-clause-step : goal.returns-in-Ok-Query-clause-step
@@ -30,7 +31,7 @@ returns-in-Ok-Query-clause-step g c =
     let may_fail = g.L.Library.may_fail c.args.library.now in
     let read : ReadsCommand c.args.line.now (command.Query c.in-Ok-Query.relation c.in-Ok-Query.pattern) = subst (ReadsCommand c.args.line.now) c.in-Ok-Query.field-0-is c.in-Ok-Query.ensures.read in
     let short : length c.args.line.now ≤ limits.line = omega (arith, c.if-line-self.false) in
-    subst (λ s. Steps told s s c.args.line.now c.answer.result (around a tally may_fail) (around b tally may_fail)) c.self.view_is
+    subst (λ s. Steps told s s (a_line c.args.line.now) c.answer.result (around a tally may_fail) (around b tally may_fail)) c.self.view_is
     (stepped limits told c.self.inside.index.clauses c.self.inside.index.clauses c.args.line.now (query c.in-Ok-Query.relation (pattern_of c.in-Ok-Query.pattern)) c.answer.result a b tally may_fail short read.0 (c.answer.ensures.acts limits (sym c.self.invariant)))
 
 pub returns-in-Ok-Remove-clause-step : goal.returns-in-Ok-Remove-clause-step
@@ -43,7 +44,7 @@ returns-in-Ok-Remove-clause-step g c =
     let may_fail = g.L.Library.may_fail c.args.library.now in
     let read : ReadsCommand c.args.line.now (command.Remove c.in-Ok-Remove.name) = subst (ReadsCommand c.args.line.now) c.in-Ok-Remove.field-0-is c.in-Ok-Remove.ensures.read in
     let short : length c.args.line.now ≤ limits.line = omega (arith, c.if-line-self.false) in
-    subst (λ s. Steps told s (state_with limits c.remove.new.index.clauses) c.args.line.now c.remove.result (around a tally may_fail) (around b tally may_fail)) c.self.view_is
+    subst (λ s. Steps told s (state_with limits c.remove.new.index.clauses) (a_line c.args.line.now) c.remove.result (around a tally may_fail) (around b tally may_fail)) c.self.view_is
     (stepped limits told c.self.inside.index.clauses c.remove.new.index.clauses c.args.line.now (remove (name_of c.in-Ok-Remove.name)) c.remove.result a b tally may_fail short read
     (c.remove.ensures.acts limits (sym c.self.invariant)))
 
@@ -101,7 +102,7 @@ returns-in-Ok-Stats-clause-step g c =
     let may_fail = g.L.Library.may_fail c.args.library.now in
     let read : ReadsCommand c.args.line.now command.Stats = subst (ReadsCommand c.args.line.now) c.in-Ok-Stats.field-0-is c.in-Ok-Stats.ensures.read in
     let short : length c.args.line.now ≤ limits.line = omega (arith, c.if-line-self.false) in
-    subst (λ s. Steps told s s c.args.line.now c.tell-in-Ok-Stats.result (around a tally may_fail) (around b tally may_fail)) c.self.view_is
+    subst (λ s. Steps told s s (a_line c.args.line.now) c.tell-in-Ok-Stats.result (around a tally may_fail) (around b tally may_fail)) c.self.view_is
     (stepped limits told c.self.inside.index.clauses c.self.inside.index.clauses c.args.line.now stats c.tell-in-Ok-Stats.result a b tally may_fail short read
     (counts limits c.self.inside.index.clauses c.stats.result c.tell-in-Ok-Stats.result a b c.stats.ensures.clauses c.stats.ensures.entries c.stats.ensures.symbols
     c.tell-in-Ok-Stats.ensures.written))
@@ -118,7 +119,7 @@ returns-in-Ok-Load-clause-step g c =
     let limits = c.self.inside.limits in
     let read : ReadsCommand c.args.line.now (command.Load c.in-Ok-Load.name) = subst (ReadsCommand c.args.line.now) c.in-Ok-Load.field-0-is c.in-Ok-Load.ensures.read in
     let short : length c.args.line.now ≤ limits.line = omega (arith, c.if-line-self.false) in
-    subst (λ s. Steps told s (state_with limits c.load_named.new.index.clauses) c.args.line.now c.load_named.result before after) c.self.view_is
+    subst (λ s. Steps told s (state_with limits c.load_named.new.index.clauses) (a_line c.args.line.now) c.load_named.result before after) c.self.view_is
     (load_stepped limits told c.in-Ok-Load.name c.self.inside.index.clauses c.load_named.new.index.clauses c.args.line.now c.load_named.result before after short read c.load_named.ensures.loads)
 
 pub returns-in-Ok-Load-clause-silent : goal.returns-in-Ok-Load-clause-silent

@@ -1,0 +1,132 @@
+-- The words that name files are acted on one after the other.
+use Rattle.std.proofs.Common.{◌≡◌, ℕ, ◌+◌, Bool, List, [], ◌∷◌, ◌++◌, Option, map, refl, sym, ap, subst, ◌∙◌, append_assoc, append-nil, ◌<◌, ◌≤◌, Some, None, length, take, drop, get_or, suc, add-one, take_all, codes}
+use Rattle.std.proofs.Math.Seq.{take-suc, split_at}
+use Rattle.std.specs.Prelude.{option_map, unwrap_or}
+use Rattle.std.specs.Borrow.{Bor}
+use Rattle.std.proofs.lemmas.List.{map-append}
+use Rattle.si_defs.specs.Bytes.{Bytes}
+use Rattle.si_defs.specs.Clauses.{Clause}
+use Rattle.si_state.specs.Harvest.{Files}
+use Rattle.si_steps.specs.declared.limits.Limits.{Limits}
+use Rattle.si_steps.specs.Runs.{ended, failures_in, Request, a_word, requests, Run}
+use Rattle.si_session.specs.Session.{Around}
+use Rattle.si_io.proofs.Content.{Receives_then, Takes_none, append_told-nil}
+use Rattle.clap.specs.Words.{matched_of, raw_values, rows_of}
+use Rattle.clap.specs.declared.parser.matches.Found.{Found}
+use Rattle.stindex.specs.Words.{asked_in}
+use Rattle.stindex.specs.declared.status.Stop.{Stop}
+use Rattle.stindex.specs.Serve.{WritesTo}
+use Rattle.stindex.specs.Progress.{ActsOn, Breaks, LoadsWords, HasProgressed}
+use Rattle.stindex.proofs.Splitting.{Run_more, Splits_none}
+use Rattle.stindex.proofs.Rows.{all_is}
+use Rattle.stindex.proofs.Progress.{tells_none, tells_then, stops_then, shown-nil}
+
+pub words_none : (limits : Limits) (told : Option Files) (strict : Bool) (clauses : List Clause) (before : Around) → clauses ≡ [] → LoadsWords limits told strict [] before clauses before
+words_none limits told strict clauses before none = record {
+  output = [];
+  failures = 0;
+  run = (refl, refl, none);
+  written = sym (append_told-nil before.sink);
+  counted = tells_none before;
+}
+
+-- one word more
+pub words_more : (limits : Limits) (told : Option Files) (strict : Bool) (words : List Bytes) (word : Bytes) (old new : List Clause) (before now after : Around)
+    → LoadsWords limits told strict words before old now → ActsOn limits told strict old new (a_word word) now after → LoadsWords limits told strict (words ++ word ∷ []) before new after
+words_more limits told strict words word old new before now after l acts = record {
+  output = l.output ++ ended acts.reply;
+  failures = l.failures + failures_in acts.owed;
+  run = subst (λ (rs : List Request). Run limits told strict [] rs (l.output ++ ended acts.reply) (l.failures + failures_in acts.owed) new) (sym (map-append a_word words (word ∷ [])))
+      (Run_more limits told strict [] old new (map a_word words) (a_word word) l.output l.failures acts.reply acts.owed l.run acts.step acts.goes);
+  written = Receives_then before.sink now.sink after.sink l.output (ended acts.reply) l.written acts.written;
+  counted = tells_then before now after l.failures (failures_in acts.owed) l.counted acts.counted;
+}
+
+-- the run stops at one
+pub words_stop : (halt : Stop) (limits : Limits) (told : Option Files) (strict : Bool) (words others files : List Bytes) (word : Bytes) (old new : List Clause) (before now after : Around)
+    → LoadsWords limits told strict words before old now → Breaks halt limits told strict old new (a_word word) now after → words ++ word ∷ others ≡ files
+    → WritesTo halt limits told strict files [] before after
+words_stop halt limits told strict words others files word old new before now after l breaks whole = record {
+  reply = breaks.reply;
+  output = l.output ++ ended breaks.reply;
+  failures = l.failures + failures_in breaks.owed;
+  right = record {
+    done = map a_word words;
+    last = a_word word;
+    others = map a_word others;
+    front = sym (map-append a_word words (word ∷ others)) ∙ ap (map a_word) whole ∙ sym (append-nil (map a_word files));
+    before = l.output;
+    fewer = l.failures;
+    state = old;
+    run = l.run;
+    owed = breaks.owed;
+    new = new;
+    acts = breaks.step;
+    whole = refl;
+    counted = refl;
+  };
+  written = stops_then halt strict breaks.reply before.sink now.sink after.sink l.output (ended breaks.reply) l.written breaks.written;
+  counted = tells_then before now after l.failures (failures_in breaks.owed) l.counted breaks.counted;
+}
+
+-- behind the words nothing is taken yet
+pub Stands_start : (limits : Limits) (told : Option Files) (strict : Bool) (files : List Bytes) (left : Option Bytes) (before now : Around) (clauses : List Clause) (held : Bytes)
+    → LoadsWords limits told strict files before clauses now → held ≡ [] → HasProgressed limits told strict files 0 left left before clauses held now
+Stands_start limits told strict files left before now clauses held l empty = record {
+  taken = [];
+  size = refl;
+  takes = Takes_none left left refl;
+  progress = record {
+    lines = [];
+    rest = [];
+    output = l.output;
+    failures = l.failures;
+    splits = Splits_none;
+    holds = empty ∙ sym (shown-nil limits);
+    run = subst (λ (rs : List Request). Run limits told strict [] rs l.output l.failures clauses) (sym (append-nil (map a_word files))) l.run;
+    written = l.written;
+    counted = l.counted;
+  };
+}
+
+pub Stands_under : (lims limits : Limits) (told : Option Files) (strict : Bool) (files : List Bytes) (left : Option Bytes) (before now : Around) (clauses : List Clause) (held : Bytes)
+    → LoadsWords lims told strict files before clauses now → lims ≡ limits → held ≡ [] → HasProgressed limits told strict files 0 left left before clauses held now
+Stands_under lims limits told strict files left before now clauses held l same empty =
+    Stands_start limits told strict files left before now clauses held (subst (λ (m : Limits). LoadsWords m told strict files before clauses now) same l) empty
+
+-- ---- the words, as `clap` lends them
+abbrev pub texts : List (Bor Bytes) → List Bytes
+texts = map (λ f. f.now)
+
+-- the values of the matches are these words
+pub files_are : (f : Found) (words : List Bytes) → Some words ≡ option_map raw_values (matched_of f (codes "FILE")) → words ≡ (asked_in (rows_of f)).files
+files_are f words e = ap (λ (o : Option (List Bytes)). unwrap_or o []) (e ∙ all_is f (codes "FILE"))
+
+pub files_none : (f : Found) → None ≡ option_map raw_values (matched_of f (codes "FILE")) → [] ≡ (asked_in (rows_of f)).files
+files_none f e = ap (λ (o : Option (List Bytes)). unwrap_or o []) (e ∙ all_is f (codes "FILE"))
+
+module _ (limits : Limits) (told : Option Files) (strict : Bool) (files : List (Bor Bytes)) (i : ℕ) (before : Around) where
+  pub words_all : (whole : List Bytes) (clauses : List Clause) (after : Around) → length files ≤ i → texts files ≡ whole
+      → LoadsWords limits told strict (texts (take i files)) before clauses after → LoadsWords limits told strict whole before clauses after
+  words_all whole clauses after past same l = subst (λ (ws : List Bytes). LoadsWords limits told strict ws before clauses after) (ap texts (take_all i files past) ∙ same) l
+
+  pub words_next : (lims : Limits) (tell : Option Files) (d : Bor Bytes) (word : Bytes) (old new : List Clause) (now after : Around)
+      → LoadsWords limits told strict (texts (take i files)) before old now → lims ≡ limits → tell ≡ told → i < length files → word ≡ (get_or files i d).now
+      → ActsOn lims tell strict old new (a_word word) now after → LoadsWords limits told strict (texts (take (i + 1) files)) before new after
+  words_next lims tell d word old new now after l same known here is acts =
+      let next : texts (take (i + 1) files) ≡ texts (take i files) ++ word ∷ [] =
+      ap (λ (n : ℕ). texts (take n files)) (add-one i) ∙ ap texts (take-suc files i d here) ∙ map-append (λ (f : Bor Bytes). f.now) (take i files) (get_or files i d ∷ [])
+      ∙ ap (λ (w : Bytes). texts (take i files) ++ w ∷ []) (sym is) in
+      subst (λ (ws : List Bytes). LoadsWords limits told strict ws before new after) (sym next)
+      (words_more limits told strict (texts (take i files)) word old new before now after l
+      (subst (λ (m : Limits). ActsOn m told strict old new (a_word word) now after) same (subst (λ (o : Option Files). ActsOn lims o strict old new (a_word word) now after) known acts)))
+
+  pub words_break : (halt : Stop) (whole : List Bytes) (lims : Limits) (tell : Option Files) (d : Bor Bytes) (word : Bytes) (old new : List Clause) (now after : Around)
+      → LoadsWords limits told strict (texts (take i files)) before old now → lims ≡ limits → tell ≡ told → i < length files → word ≡ (get_or files i d).now → texts files ≡ whole
+      → Breaks halt lims tell strict old new (a_word word) now after → WritesTo halt limits told strict whole [] before after
+  words_break halt whole lims tell d word old new now after l same known here is all breaks =
+      let parts : texts (take i files) ++ word ∷ texts (drop (suc i) files) ≡ whole =
+      ap (λ (w : Bytes). texts (take i files) ++ w ∷ texts (drop (suc i) files)) is ∙ sym (map-append (λ (f : Bor Bytes). f.now) (take i files) (get_or files i d ∷ drop (suc i) files))
+      ∙ ap texts (sym (split_at files i d here)) ∙ all in
+      words_stop halt limits told strict (texts (take i files)) (texts (drop (suc i) files)) whole word old new before now after l
+      (subst (λ (m : Limits). Breaks halt m told strict old new (a_word word) now after) same (subst (λ (o : Option Files). Breaks halt lims o strict old new (a_word word) now after) known breaks)) parts

@@ -1,0 +1,43 @@
+-- The command is the one that the definitions speak of.
+use Rattle.std.proofs.Common.{rules, ap, ap₂, refl, true, ◌≡◌, ◌∙◌, Option, Some, None, map, string_bytes}
+use Rattle.std.specs.Prelude.{IsSomeAnd}
+use Rattle.std.proofs.lemmas.Result.{IfErr-weaker, IfOk-weaker}
+use Rattle.clap.specs.Words.{Rule, app_of, is_simple, matches_of, rule_of, takes, with_rule}
+use Rattle.clap.specs.Simple.{app_of_fields, on_top}
+use Rattle.clap.specs.Lexer.{usize_max}
+use Rattle.clap.specs.declared.builder.arg.Arg.{Arg}
+use Rattle.clap.specs.declared.builder.range.ValueRange.{ValueRange}
+use Rattle.clap.specs.declared.builder.ArgAction.TheVariants.{Append}
+use Rattle.clap.proofs.OnLiterals.{clap_on_literals}
+use Rattle.stindex.specs.Words.{strict_rule, file_rule, program}
+use Rattle.stindex.proofs.words.matches_in.Goals as goal
+
+is_program : is_simple program ≡ true
+unfolding clap_on_literals
+is_program = refl
+
+abbrev any_number : ValueRange
+any_number = record { start_inclusive = 0; end_inclusive = usize_max }
+
+range_is : (o : Option ValueRange) → IsSomeAnd o (λ r. r ≡ any_number) → o ≡ Some any_number
+range_is None h = absurd h
+range_is (Some r) h = ap (λ (x : ValueRange). Some x) h
+
+file_by : (made sized used : Arg) (rule : Rule) → rule_of made ≡ rule → sized ≡ record made { num_vals = sized.num_vals } → sized.num_vals ≡ Some any_number
+    → used ≡ record sized { action = Some Append } → rule_of used ≡ record rule { action = Some Append; range = Some any_number }
+file_by made sized used rule is sizes range uses =
+    ap rule_of uses ∙ ap (λ (a : Arg). rule_of (record a { action = Some Append })) sizes
+    ∙ ap₂ (λ (r : Rule) (o : Option ValueRange). record r { action = Some Append; range = o }) is range
+
+pub returns : goal.returns
+returns c =
+    let strict_is : rule_of c.action-strict.result ≡ strict_rule = search rules in
+    let file_is : rule_of c.action-file.result ≡ file_rule =
+    file_by c.new-2.result c.num_args.result c.action-file.result _ c.new-2.ensures.rule c.num_args.ensures.0 (range_is _ c.num_args.ensures.1) c.action-file.ensures in
+    let bare_is : app_of c.no_binary_name.result ≡ on_top (λ s. record s { no_binary_name = true }) (app_of c.new-3.result) = ap app_of_fields c.no_binary_name.ensures in
+    let command_is : app_of c.in_ok-command.command ≡ program = c.in_ok-command.ensures.shape (search rules)
+    ∙ ap₂ with_rule (c.in_ok-arg.ensures.shape (search rules) ∙ ap₂ with_rule (bare_is ∙ ap (on_top (λ s. record s { no_binary_name = true })) c.new-3.ensures.app) strict_is) file_is in
+    record {
+      ok = IfOk-weaker c.try_get_matches_from.result _ _ (λ m h. (h (ap is_simple command_is ∙ is_program)).0 ∙ ap (λ a. matches_of a (map string_bytes c.args.words.now)) command_is) c.try_get_matches_from.ensures.matches;
+      err = IfErr-weaker c.try_get_matches_from.result _ _ (λ e h t. h (ap (λ a. takes a (map string_bytes c.args.words.now)) command_is ∙ t)) c.try_get_matches_from.ensures.passes;
+    }

@@ -1,0 +1,47 @@
+-- What the words of the program's call ask for, as `clap` reads them.
+use Rattle.std.specs.Prelude.{Bool, List, [], true, false, Some, codes, unwrap_or}
+use Rattle.std.specs.Option.{option_map_or}
+use Rattle.std.specs.Str.{bytes_eq}
+use Rattle.si_defs.specs.Bytes.{Bytes}
+use Rattle.clap.specs.Words.{App, Row, Rule, all_of, first_of, found_of, matches_of, new_app, new_rule, rows_of, with_rule}
+use Rattle.clap.specs.declared.parser.matches.ArgMatches.{ArgMatches}
+use Rattle.clap.specs.Simple.{on_top}
+use Rattle.clap.specs.Lexer.{usize_max}
+use Rattle.clap.specs.declared.builder.ArgAction.TheVariants.{Append, SetTrue}
+
+-- `--strict`
+abbrev pub strict_rule : Rule
+strict_rule = record (new_rule (codes "strict")) { long = Some (codes "strict"); action = Some SetTrue }
+
+-- `[FILE]...`
+abbrev pub file_rule : Rule
+file_rule = record (new_rule (codes "FILE")) {
+  action = Some Append;
+  range = Some (record { start_inclusive = 0; end_inclusive = usize_max });
+}
+
+-- the simple command `stindex [--strict] [FILE]...`, whose words don't begin with its own name
+abbrev pub program : App
+program = with_rule (with_rule (on_top (λ s. record s { no_binary_name = true }) (new_app (codes "stindex"))) strict_rule) file_rule
+
+-- the line that says how to call it
+abbrev pub usage_line : Bytes
+usage_line = codes "usage: stindex [--strict] [FILE]...\n"
+
+-- what some words ask for
+pub record Asked : Type 0 where
+  pub strict : Bool
+  pub files : List Bytes
+
+abbrev pub asked_in : List Row → Asked
+asked_in rows = record {
+  strict = option_map_or (λ t. bytes_eq t (codes "true")) (first_of (codes "strict") rows) false;
+  files = unwrap_or (all_of (codes "FILE") rows) [];
+}
+
+abbrev pub asked_by : List Bytes → Asked
+asked_by words = asked_in (matches_of program words)
+
+-- what the matches of a call ask for
+abbrev pub asked_of : ArgMatches → Asked
+asked_of matches = asked_in (rows_of (found_of matches))

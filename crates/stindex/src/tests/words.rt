@@ -1,0 +1,162 @@
+// Calls with words.
+use super::{ROOM, WHOLE, call};
+use crate::status::Status;
+use si_io::MemoryLibrary;
+use si_session::Limits;
+use std::alloc::{AllocError, Global};
+use std::test::Fail;
+
+const USAGE: &[u8] = b"usage: stindex [--strict] [FILE]...\n";
+
+/// Words, how the run over the line `stats` ends, and what it writes. The library has one file.
+const CALLS: [(&[&str], Status, &[u8]); 17] = [
+    (
+        &["--strict"],
+        Status::Ended,
+        b"clauses 0 entries 0 symbols 0\n",
+    ),
+    (
+        &["--strict", "a.p"],
+        Status::Ended,
+        b"ok 1 1\nclauses 1 entries 1 symbols 1\n",
+    ),
+    (
+        &["a.p", "--strict"],
+        Status::Ended,
+        b"ok 1 1\nclauses 1 entries 1 symbols 1\n",
+    ),
+    (
+        &["a.p", "--strict", "b.p"],
+        Status::Refused,
+        b"ok 1 1\n! missing 'b.p'\n",
+    ),
+    (
+        &["b.p", "a.p"],
+        Status::Ended,
+        b"! missing 'b.p'\nok 1 1\nclauses 1 entries 1 symbols 1\n",
+    ),
+    (&["--strict", "--strict"], Status::Usage, USAGE),
+    (&["--strict=x"], Status::Usage, USAGE),
+    (
+        &["-"],
+        Status::Ended,
+        b"! missing '-'\nclauses 0 entries 0 symbols 0\n",
+    ),
+    (&["--"], Status::Ended, b"clauses 0 entries 0 symbols 0\n"),
+    (
+        &["--", "--strict"],
+        Status::Ended,
+        b"! missing '--strict'\nclauses 0 entries 0 symbols 0\n",
+    ),
+    (&["--help"], Status::Usage, USAGE),
+    (&["-h"], Status::Usage, USAGE),
+    (&["--version"], Status::Usage, USAGE),
+    (&["--nope"], Status::Usage, USAGE),
+    (
+        &[""],
+        Status::Ended,
+        b"! syntax\nclauses 0 entries 0 symbols 0\n",
+    ),
+    (
+        &["a\np"],
+        Status::Ended,
+        b"! syntax\nclauses 0 entries 0 symbols 0\n",
+    ),
+    (&["--strict", ""], Status::Refused, b"! syntax\n"),
+];
+
+/// The words as the program has them.
+fn owned(alloc: Global, words: &[&str]) -> Result<Vec<String>, AllocError> {
+    let mut all = Vec::new(alloc);
+    for word in words {
+        all.push(word.to_string(alloc)?)?;
+    }
+    Ok(all)
+}
+
+/// How a call ends whose library has this file `a.p`, and what it writes.
+fn called(
+    alloc: Global,
+    words: &[&str],
+    limits: &Limits,
+    file: &[u8],
+    input: &[u8],
+) -> Result<(Status, Vec<u8>), AllocError> {
+    let mut library = MemoryLibrary::new(alloc, Vec::new(alloc));
+    library.put(b"a.p".to_vec(alloc)?, file.to_vec(alloc)?)?;
+    let words = owned(alloc, words)?;
+    call(
+        alloc,
+        &words,
+        limits,
+        input,
+        (WHOLE, WHOLE),
+        ROOM,
+        &mut library,
+    )
+}
+
+#[test]
+fn words_ask_for_files_and_strict_runs(rt: HostRuntime) -> Result<(), Fail> {
+    let alloc = rt.alloc();
+    for (words, end, due) in &CALLS {
+        let (status, bytes) = called(
+            alloc,
+            words,
+            &Limits::standard(),
+            b"cnf(k,axiom,p).\n",
+            b"stats",
+        )?;
+        assert_eq!(rt; status, *end);
+        assert_eq!(rt; bytes.as_slice(), *due);
+    }
+    Ok(())
+}
+
+/// Words, the most bytes of a session, the input, how the run ends, and what it writes.
+const RUNS: [(&[&str], u64, &[u8], Status, &[u8]); 4] = [
+    (
+        &["--strict"],
+        64,
+        b"remove x\nstats\n",
+        Status::Refused,
+        b"! unknown x\n",
+    ),
+    (
+        &["a.p", ""],
+        64,
+        b"stats",
+        Status::Ended,
+        b"! taken k\n! syntax\nclauses 0 entries 0 symbols 0\n",
+    ),
+    (
+        &["", "a.p"],
+        0,
+        b"stats\n",
+        Status::SessionLimit,
+        b"! syntax\n! taken k\n",
+    ),
+    (
+        &["--strict", "a.p", ""],
+        0,
+        b"stats\n",
+        Status::Refused,
+        b"! taken k\n",
+    ),
+];
+
+#[test]
+fn refusals_end_strict_runs_alone(rt: HostRuntime) -> Result<(), Fail> {
+    let alloc = rt.alloc();
+    for (words, session, input, end, due) in &RUNS {
+        let limits = Limits {
+            session: *session,
+            ..Limits::standard()
+        };
+        let twice = b"cnf(k,axiom,p(a)).\ncnf(k,axiom,p(b)).\n";
+        let (status, bytes) = called(alloc, words, &limits, twice, input)?;
+        assert_eq!(rt; status, *end);
+        assert_eq!(rt; bytes.as_slice(), *due);
+    }
+    Ok(())
+}

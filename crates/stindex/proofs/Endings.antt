@@ -9,7 +9,7 @@ use Rattle.si_io.specs.Content.{prepend_told, Takes}
 use Rattle.std.specs.Io.KnownBytes.{IsAtEnd}
 use Rattle.si_io.proofs.Content.{Takes_none, Takes_then, prepend_told-nil}
 use Rattle.stindex.specs.declared.status.Status.{Status}
-use Rattle.stindex.specs.declared.status.Status.TheVariants.{Ended, SourceFault, SinkFault, Memory, SessionLimit}
+use Rattle.stindex.specs.declared.status.Status.TheVariants.{Ended, SourceFault, Memory, SessionLimit}
 use Rattle.si_steps.specs.Runs.{lines_at_end}
 use Rattle.stindex.specs.declared.status.Stop.{Stop}
 use Rattle.stindex.specs.declared.status.Stop.TheVariants as stop
@@ -17,7 +17,7 @@ use Rattle.stindex.specs.Status.{status_of}
 use Rattle.clap.specs.Words.{Row, matches_of, takes}
 use Rattle.stindex.specs.Words.{program, asked_in, asked_by}
 use Rattle.stindex.specs.Serve.{Answers, WritesUsage, WritesTo, MetEnd, Ends, Serves, CountsFaults, BlamesSink}
-use Rattle.stindex.specs.Progress.{Progress, Advances, Fails, Closes, Cuts, HasProgressed}
+use Rattle.stindex.specs.Progress.{Advances, Fails, Closes, Cuts, HasProgressed}
 use Rattle.stindex.proofs.Splitting.{Splits_none}
 
 -- ---- how it stands

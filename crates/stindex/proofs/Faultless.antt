@@ -1,11 +1,9 @@
 -- A run over a source and a sink that can't fail ends in no fault, nor does one in which no count
 -- rose.
-use Rattle.std.proofs.Common.{◌≡◌, ◌≤◌, ℕ, Bool, List, [], ◌∷◌, ◌++◌, Option, inl, inr, length, refl, sym, ap, ◌∙◌, append_assoc, arith}
+use Rattle.std.proofs.Common.{◌≡◌, ◌≤◌, ℕ, Bool, List, Option, inl, inr, length, refl, arith}
 use Rattle.std.specs.Prelude.{IsTrue, IsFalse}
 use Rattle.si_defs.specs.Bytes.{Bytes}
 use Rattle.si_steps.specs.declared.limits.Limits.{Limits}
-use Rattle.si_steps.specs.Replies.{Reply}
-use Rattle.si_steps.specs.Runs.{lines_at_end, Request, a_line, requests, IsOutputTo}
 use Rattle.si_state.specs.Harvest.{Files}
 use Rattle.si_session.specs.Session.{Around}
 use Rattle.stindex.specs.declared.status.Status.{Status}
@@ -13,40 +11,17 @@ use Rattle.stindex.specs.declared.status.Status.TheVariants.{Ended, Refused, Usa
 use Rattle.si_io.specs.Faults.{Rose}
 use Rattle.stindex.specs.Words.{usage_line, asked_by}
 use Rattle.stindex.specs.Serve.{Serves, Declines, Answers, IsFaultless, CountsFaults, HasRoomForOutputs}
-use Rattle.stindex.proofs.Splitting.{requests-more}
-
--- an output of the first of the words and the whole lines is one of the first of them and of the
--- lines at the end of the input
-front_at_end : (limits : Limits) (told : Option Files) (strict : Bool) (files lines : List Bytes) (rest : Bytes) (reply : Reply) (output : Bytes) (failures : ℕ)
-    → IsOutputTo limits told strict (requests files lines) reply output failures → IsOutputTo limits told strict (requests files (lines_at_end lines rest)) reply output failures
-front_at_end limits told strict files lines [] reply output failures o = o
-front_at_end limits told strict files lines (c ∷ cs) reply output failures o = record {
-  done = o.done;
-  last = o.last;
-  others = o.others ++ a_line (c ∷ cs) ∷ [];
-  front = sym (append_assoc o.done (o.last ∷ o.others) (a_line (c ∷ cs) ∷ [])) ∙ ap (λ (rs : List Request). rs ++ a_line (c ∷ cs) ∷ []) o.front ∙ sym (requests-more files lines (c ∷ cs));
-  before = o.before;
-  fewer = o.fewer;
-  state = o.state;
-  run = o.run;
-  owed = o.owed;
-  new = o.new;
-  acts = o.acts;
-  whole = o.whole;
-  counted = o.counted;
-}
 
 module _ (limits : Limits) (told : Option Files) (words : List Bytes) (left now : Option Bytes) (before after : Around)
     (room : HasRoomForOutputs limits told words before.may_fail left before.sink.room) where
   no_sink_fault : Serves limits told (asked_by words).strict (asked_by words).files SinkFault left now before after → ⊥
   no_sink_fault s = elim s.ends [
     | inl part ↦
-        let right = front_at_end limits told (asked_by words).strict (asked_by words).files s.lines s.rest part.reply part.output part.failures part.right in
-        let fits : length part.output ≤ before.sink.room = room.outputs s.taken now s.lines s.rest part.reply part.output part.failures s.takes s.splits right part.counted.sure in
+        let fits : length part.output ≤ before.sink.room = room.outputs s.taken now s.lines s.rest part.reply part.output part.failures s.takes s.within s.splits (inl part.right) part.counted.sure in
         omega (arith, fits, part.written.past_room)
     | inr end ↦
         let part = end.1 in
-        let fits : length part.output ≤ before.sink.room = room.outputs s.taken now s.lines s.rest part.reply part.output part.failures s.takes s.splits part.right part.counted.sure in
+        let fits : length part.output ≤ before.sink.room = room.outputs s.taken now s.lines s.rest part.reply part.output part.failures s.takes s.within s.splits (inr (end.0, part.right)) part.counted.sure in
         omega (arith, fits, part.written.past_room)
   ]
 

@@ -1,5 +1,5 @@
 -- The words that name files are acted on one after the other.
-use Rattle.std.proofs.Common.{◌≡◌, ℕ, ◌+◌, Bool, List, [], ◌∷◌, ◌++◌, Option, map, refl, sym, ap, subst, ◌∙◌, append_assoc, append-nil, ◌<◌, ◌≤◌, Some, None, length, take, drop, get_or, suc, add-one, take_all, codes}
+use Rattle.std.proofs.Common.{◌≡◌, ℕ, ◌+◌, Bool, List, [], ◌∷◌, ◌++◌, Option, map, refl, sym, ap, subst, ◌∙◌, append-nil, ◌<◌, ◌≤◌, Some, None, length, take, drop, get_or, suc, add-one, take_all, codes}
 use Rattle.std.proofs.Math.Seq.{take-suc, split_at}
 use Rattle.std.specs.Prelude.{option_map, unwrap_or}
 use Rattle.std.specs.Borrow.{Bor}
@@ -8,7 +8,7 @@ use Rattle.si_defs.specs.Bytes.{Bytes}
 use Rattle.si_defs.specs.Clauses.{Clause}
 use Rattle.si_state.specs.Harvest.{Files}
 use Rattle.si_steps.specs.declared.limits.Limits.{Limits}
-use Rattle.si_steps.specs.Runs.{ended, failures_in, Request, a_word, requests, Run}
+use Rattle.si_steps.specs.Runs.{ended, failures_in, Request, a_word, Run}
 use Rattle.si_session.specs.Session.{Around}
 use Rattle.si_io.proofs.Content.{Receives_then, Takes_none, append_told-nil}
 use Rattle.clap.specs.Words.{matched_of, raw_values, rows_of}

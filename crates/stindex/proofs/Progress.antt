@@ -11,7 +11,7 @@ use Rattle.si_state.specs.Harvest.{Files}
 use Rattle.si_steps.specs.Loads.{Owed, nothing, a_miss, a_big, a_failure}
 use Rattle.si_io.specs.Library.{Counts}
 use Rattle.si_io.specs.Content.{Told, Receives}
-use Rattle.si_io.proofs.Content.{Receives_then, ReceivesPrefix_then, append_told-nil}
+use Rattle.si_io.proofs.Content.{Receives_then, ReceivesPrefix_then}
 use Rattle.si_session.specs.Session.{State, Around, Writes, Steps, IsCounted}
 use Rattle.si_session.specs.declared.stepped.Stepped.{Stepped}
 use Rattle.si_session.specs.declared.stepped.Stepped.TheVariants.{Answered, Refused, Silent, SinkFailed}
@@ -22,7 +22,7 @@ use Rattle.stindex.specs.Serve.{RoseBy, TellsFailures, StopsAt, WritesTo}
 use Rattle.stindex.proofs.Steps.{shown_step}
 use Rattle.std.specs.Prelude.{◌==◌, Bool, Some, None, IsTrue, IsFalse, Result, Ok, Err, OnOk, IfErr}
 use Rattle.std.specs.List.{position}
-use Rattle.stindex.proofs.Splitting.{Splits_none, line_end, line_without_end, Splits_more, Splits_line, Splits_any, lines_at_end-some, requests-more, requests-split, Run_line}
+use Rattle.stindex.proofs.Splitting.{line_end, line_without_end, Splits_more, Splits_line, Splits_any, lines_at_end-some, requests-more, requests-split, Run_line}
 
 -- ---- failures of the library
 rose_none : (n : ℕ) → RoseBy 0 n n

@@ -1,6 +1,6 @@
 -- What a whole run of the program does: the input that it takes, the output that it writes, and how
 -- it ends.
-use Rattle.std.specs.Prelude.{◌≡◌, ℕ, ◌+◌, ◌-◌, ◌^◌, min, ◌<◌, ◌≤◌, ◌⊎◌, List, [], ◌++◌, Option, length, Bool, false, IsTrue, IsFalse}
+use Rattle.std.specs.Prelude.{◌≡◌, ℕ, ◌+◌, ◌-◌, ◌^◌, min, ◌<◌, ◌≤◌, ◌⊎◌, List, [], Option, length, Bool, false, IsTrue, IsFalse}
 use Rattle.si_defs.specs.Bytes.{Bytes}
 use Rattle.si_steps.specs.declared.limits.Limits.{Limits}
 use Rattle.si_steps.specs.Replies.{Reply, is_refusal}
@@ -130,12 +130,19 @@ abbrev pub BlamesSink : Stop → (sink sink_now : ℕ) → Type 0
 BlamesSink stop.Refused sink sink_now = sink_now ≡ sink
 BlamesSink stop.SinkFault sink sink_now = Rose sink sink_now
 
--- Each output of the first of these words, and of the lines of what the source has left, fits the
--- room, and where the words are declined, what is said then. If the library can't fail, this is
--- asked of the outputs alone that tell no failure.
+-- what a run may write up to a reply: of these words and whole lines, or of the last line too, where
+-- the end of the input was met
+abbrev pub MayWrite : Limits → Option Files → (strict : Bool) → (files : List Bytes) (taken : Bytes) (lines : List Bytes) (rest : Bytes) (now : Option Bytes) → Reply → Bytes → ℕ → Type 0
+MayWrite limits told strict files taken lines rest now reply output failures =
+    IsOutputTo limits told strict (requests files lines) reply output failures
+    ⊎ (MetEnd limits taken now × IsOutputTo limits told strict (requests files (lines_at_end lines rest)) reply output failures)
+
+-- What the run may write fits the room, whatever it takes of what the source has left, and where the
+-- words are declined, what is said then. If the library can't fail, this is asked of the outputs
+-- alone that tell no failure.
 pub record HasRoomForOutputs (limits : Limits) (told : Option Files) (words : List Bytes) (may_fail : Bool) (left : Option Bytes) (room : ℕ) : Type 0 where
   pub usage : takes program words ≡ false → length usage_line ≤ room
   pub outputs : (taken : Bytes) (now : Option Bytes) (lines : List Bytes) (rest : Bytes) (reply : Reply) (output : Bytes) (failures : ℕ)
-      → Takes left taken now → Splits taken lines rest
-      → IsOutputTo limits told (asked_by words).strict (requests (asked_by words).files (lines_at_end lines rest)) reply output failures
+      → Takes left taken now → length taken ≤ limits.session → Splits taken lines rest
+      → MayWrite limits told (asked_by words).strict (asked_by words).files taken lines rest now reply output failures
       → (IsFalse may_fail → failures ≡ 0) → length output ≤ room

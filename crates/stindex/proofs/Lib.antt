@@ -6,3 +6,4 @@ pub mod Endings
 pub mod Faultless
 pub mod Headline
 pub mod Rows
+pub mod PlainWords

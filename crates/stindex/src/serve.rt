@@ -6,7 +6,7 @@ ghost use Rattle.si_io.specs.Faults.{Rose};
 ghost use Rattle.si_session.specs.Session.{around};
 ghost use Rattle.stindex.specs.Lines.{held_of, limit_of};
 ghost use Rattle.stindex.specs.Serve.{Answers, Serves, WritesTo, WritesUsage, BlamesSink, IsFaultless, CountsFaults, HasRoomForOutputs};
-ghost use Rattle.stindex.specs.Words.{asked_of};
+ghost use Rattle.stindex.specs.Words.{asked_of, IsPlain, has_strict, files_in};
 ghost use Rattle.stindex.specs.declared.status.Status.TheVariants.{SourceFault, SinkFault, Memory};
 ghost use Rattle.stindex.specs.Progress.{Judges, ActsOn, Breaks, LoadsWords, Advances, Fails, Closes, Cuts};
 
@@ -22,7 +22,8 @@ use std::alloc::Global;
 const CHUNK: usize = 4096;
 
 /// Reads the words as `stindex [--strict] [FILE]...`, loads the files, reads the input to its end,
-/// line by line, and writes the reply to each. Files come from the library.
+/// line by line, and writes the reply to each. Files come from the library. Words among which
+/// `--strict` stands at most once, and no other of which begins with `-`, are never declined.
 ///
 /// After as many bytes as a session may have it reads no more. All memory of its own is taken
 /// before the first read.
@@ -37,6 +38,12 @@ pub fn serve<S: Source, K: Sink, L: Library>(
     requires { AllowsLimits limits.now }
     ensures answers { Answers limits.now (L.files library.old) (map string_bytes words.entry.now)
         result (S.left source.old) (S.left source.new)
+        (around (K.written sink.old) (L.counts library.old) (L.may_fail library.old))
+        (around (K.written sink.new) (L.counts library.new) (L.may_fail library.new)) }
+    ensures plain { IsPlain (map string_bytes words.entry.now)
+        → Serves limits.now (L.files library.old) (has_strict (map string_bytes words.entry.now))
+        (files_in (map string_bytes words.entry.now)) result
+        (S.left source.old) (S.left source.new)
         (around (K.written sink.old) (L.counts library.old) (L.may_fail library.old))
         (around (K.written sink.new) (L.counts library.new) (L.may_fail library.new)) }
     ensures told { L.files library.new ≡ L.files library.old }

@@ -1,7 +1,7 @@
 // The words of the program's call.
 ghost use Rattle.std.specs.Prelude.{◌≡◌, IfOk, IfErr, true, false, map, string_bytes};
 ghost use Rattle.clap.specs.Words.{found_of, kind_of, matches_of, rows_of, takes};
-ghost use Rattle.stindex.specs.Words.{asked_of, program};
+ghost use Rattle.stindex.specs.Words.{asked_of, program, IsPlain, IsReadAsSaid};
 ghost use Rattle.stindex.specs.declared.words.WordFault.TheVariants.{Usage};
 
 use clap::error::ErrorKind;
@@ -23,6 +23,8 @@ pub fn read_words<'a>(alloc: Global, words: &'a [String]) -> Result<ArgMatches<'
         ≡ matches_of program (map string_bytes words.entry.now)) }
     ensures refused { IfErr result (λ fault. fault ≡ Usage
         → takes program (map string_bytes words.entry.now) ≡ false) }
+    ensures plain { IsPlain (map string_bytes words.entry.now)
+        → IsReadAsSaid (map string_bytes words.entry.now) }
 {
     match matches_in(alloc, words) {
         Ok(matches) => Ok(matches),

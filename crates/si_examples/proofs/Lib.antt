@@ -12,9 +12,10 @@ pub mod OneLine
 pub mod OneStep
 pub mod OneRun
 pub mod SharedTerms
-pub mod OneSample
 pub mod TwoClauses
 pub mod FirstItems
 pub mod OneHarvest
 pub mod OneLoad
 pub mod OneClash
+pub mod Images
+pub mod OneSum

@@ -1,18 +1,19 @@
 -- Whole lines, from their bytes to their meaning.
-use Rattle.std.proofs.Common.{ℕ, List, [], ◌∷◌, codes, refl, ap, sym, ◌∙◌, subst, inl, arith}
+use Rattle.std.proofs.Common.{◌≡◌, ℕ, List, [], ◌∷◌, codes, refl, ap, sym, ◌∙◌, subst, inl, arith}
+use Rattle.std.proofs.lemmas.Fmt.{decimal_injective}
 use Rattle.std.specs.Prelude.{IsTrue}
 use Rattle.si_defs.specs.Bytes.{Bytes}
 use Rattle.si_defs.specs.Tokens.{Token, lower, NextToken, Consists}
 use Rattle.si_defs.specs.Grammar.{IsClause}
 use Rattle.si_defs.specs.Clauses.{Clause, literal_pattern, term_pattern}
 use Rattle.si_steps.specs.declared.word.Word.{Word}
-use Rattle.si_steps.specs.declared.word.Word.TheVariants.{Subsumers}
+use Rattle.si_steps.specs.declared.word.Word.TheVariants.{Add, Load, Remove, Ask, Subsumers, Subsumed, Stats, Tree, Sample}
 use Rattle.si_steps.specs.Words.{command_text, is_built}
-use Rattle.si_steps.specs.Commands.{Command, add, load, remove, query, stats, command_word, Means, IsUnbuilt}
-use Rattle.si_steps.proofs.WordLaws.{built_apart}
+use Rattle.si_steps.specs.Commands.{Command, add, load, remove, query, subsumers, subsumed, stats, sample, command_word, Means, IsUnbuilt}
+use Rattle.si_steps.proofs.WordLaws.{same_word, built_apart}
 use Rattle.si_lex.proofs.TokenLaws.{next_unique}
 use Rattle.si_examples.specs.Entries.{fact, predicate}
-use Rattle.si_examples.specs.Lines.{AddedLine, CommentBehindWord, NoKindOfPattern, NoUnbuiltCommand, OwnLanguageAdded}
+use Rattle.si_examples.specs.Lines.{AddedLine, CommentBehindWord, NoKindOfPattern, NoUnbuiltCommand, NoEmptySample, OwnLanguageAdded}
 use Rattle.si_examples.proofs.Differ.{differ, first_byte}
 use Rattle.si_examples.proofs.Pieces.{Piece, space, comment, word, sign, tokens_of, consists}
 use Rattle.si_examples.proofs.FirstWords.{word_differs, first_next, no_language}
@@ -64,6 +65,9 @@ no_kind_of_pattern (load f) h = differ 105 108 refl (ap first_of h.whole)
 no_kind_of_pattern (remove n) h = differ 105 114 refl (ap first_of h.whole)
 no_kind_of_pattern (query relation (literal_pattern l)) h = differ 102 108 refl (ap second_of h.whole ∙ ap first_of h.spelled.2)
 no_kind_of_pattern (query relation (term_pattern t)) h = differ 102 116 refl (ap second_of h.whole ∙ ap first_of h.spelled.2)
+no_kind_of_pattern (subsumers formula) h = differ 105 115 refl (ap first_of h.whole)
+no_kind_of_pattern (subsumed formula) h = differ 105 115 refl (ap first_of h.whole)
+no_kind_of_pattern (sample start count) h = differ 105 115 refl (ap first_of h.whole)
 no_kind_of_pattern stats h = differ 105 115 refl (ap first_of h.whole)
 
 -- the first token's text
@@ -73,7 +77,28 @@ text_of (t ∷ ts) = t.text
 
 pub no_unbuilt_command : NoUnbuiltCommand
 unfolding text_of
-no_unbuilt_command command h = built_apart (command_word command) Subsumers (sym (ap text_of h.whole)) h.built refl
+no_unbuilt_command command h = built_apart (command_word command) Tree (sym (ap text_of h.whole)) h.built refl
+
+-- the last token's text
+last_text : List Token → Bytes
+last_text [] = []
+last_text (t ∷ []) = t.text
+last_text (t ∷ u ∷ ts) = last_text (u ∷ ts)
+
+pub no_empty_sample : NoEmptySample
+unfolding text_of last_text
+no_empty_sample (add c) h = let k = same_word Sample Add (ap text_of h.whole) in cc
+no_empty_sample (load file) h = let k = same_word Sample Load (ap text_of h.whole) in cc
+no_empty_sample (remove name) h = let k = same_word Sample Remove (ap text_of h.whole) in cc
+no_empty_sample (query relation pattern) h = let k = same_word Sample (Ask relation) (ap text_of h.whole) in cc
+no_empty_sample (subsumers formula) h = let k = same_word Sample Subsumers (ap text_of h.whole) in cc
+no_empty_sample (subsumed formula) h = let k = same_word Sample Subsumed (ap text_of h.whole) in cc
+no_empty_sample stats h = let k = same_word Sample Stats (ap text_of h.whole) in cc
+no_empty_sample (sample start count) h =
+    let drawable = h.spelled.0 in
+    let none : 0 ≡ count =
+    decimal_injective 0 count (omega arith) (omega (arith, drawable.count_fits)) (ap last_text (h.whole ∙ ap (λ ts. lower (codes "sample") ∷ ts) h.spelled.1)) in
+    absurd (omega (arith, none, drawable.some))
 
 -- the word that a command begins with
 pub command_next : (command : Command) (line : Bytes) → Means command line → (rest : Bytes) × NextToken line (lower (command_text (command_word command))) rest

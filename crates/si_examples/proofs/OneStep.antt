@@ -7,13 +7,13 @@ use Rattle.si_defs.specs.Grammar.{left_bracket, full_stop}
 use Rattle.si_defs.specs.declared.TokenKind.TheVariants.{Lower, Single}
 use Rattle.si_steps.specs.declared.limits.Limits.{Limits}
 use Rattle.si_steps.specs.declared.word.Word.{Word}
-use Rattle.si_steps.specs.declared.word.Word.TheVariants.{Add, Load, Remove, Ask, Stats, Tree}
+use Rattle.si_steps.specs.declared.word.Word.TheVariants.{Add, Load, Remove, Ask, Subsumers, Subsumed, Stats, Tree, Sample}
 use Rattle.si_steps.specs.Words.{command_text}
 use Rattle.si_steps.specs.Replies.{Reply}
 use Rattle.si_state.specs.Harvest.{Files}
 use Rattle.si_steps.specs.Loads.{Owed}
 use Rattle.si_steps.specs.Steps.{RightStep, long, later, silent, foreign, wrong, performed, loaded, right, memory_at_once, memory_behind, IsNoCommand}
-use Rattle.si_steps.specs.Commands.{IsDecided, IsUnbuilt, AddsForeign, Command, add, load, remove, query, stats, command_word, AreOperands}
+use Rattle.si_steps.specs.Commands.{IsDecided, IsUnbuilt, AddsForeign, Command, add, load, remove, query, subsumers, subsumed, stats, sample, command_word, AreOperands}
 use Rattle.si_steps.proofs.WordLaws.{word_with, word_back, same_word}
 use Rattle.si_lex.proofs.BlankLaws.{skips_nothing}
 use Rattle.si_lex.proofs.TokenLaws.{next_unique, blanks_none, begins_prefix, consists_unique}
@@ -194,6 +194,9 @@ no_clause line ts c h command m = by command m.spelled.operands m.spelled.spelle
   by (load file) us s e = let k = same_word Add Load (ap first_text e) in cc
   by (remove name) us s e = let k = same_word Add Remove (ap first_text e) in cc
   by (query relation pattern) us s e = let k = same_word Add (Ask relation) (ap first_text e) in cc
+  by (subsumers formula) us s e = let k = same_word Add Subsumers (ap first_text e) in cc
+  by (subsumed formula) us s e = let k = same_word Add Subsumed (ap first_text e) in cc
+  by (sample start count) us s e = let k = same_word Add Sample (ap first_text e) in cc
   by stats us s e = let k = same_word Add Stats (ap first_text e) in cc
 
 -- they are not for later

@@ -6,7 +6,7 @@ use Rattle.si_defs.specs.Bytes.{Bytes}
 use Rattle.si_defs.specs.Generator.{Rule, exactly, ◌before◌, one_of, rule_at, drawn, next, term, literal, literals, clause, clauses, IsSample}
 use Rattle.si_examples.specs.Samples.{TwoClauses, NoOtherVariable, NoClauseZero}
 use Rattle.si_examples.proofs.Differ.{first_byte, texts_differ}
-use Rattle.si_examples.proofs.OneSample.{no_other_text}
+use Rattle.si_steps.proofs.OneSample.{no_other_text}
 
 -- the rule draws the text
 record Derives (rule : Rule) (first : ℕ) (text : Bytes) (last : ℕ) : Type 0 where

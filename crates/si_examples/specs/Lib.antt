@@ -14,3 +14,4 @@ pub mod Runs
 pub mod Samples
 pub mod Harvests
 pub mod Loads
+pub mod Subsumption

@@ -1,5 +1,5 @@
 // What lines mean.
-ghost use Rattle.si_examples.specs.Lines.{SameWord, BuiltWord, NoBuiltWord, AddedLine, CommentBehindWord, NoKindOfPattern, NoUnbuiltCommand, OwnLanguageAdded};
+ghost use Rattle.si_examples.specs.Lines.{SameWord, BuiltWord, NoBuiltWord, AddedLine, CommentBehindWord, NoKindOfPattern, NoUnbuiltCommand, NoEmptySample, OwnLanguageAdded};
 
 /// The words that commands begin with.
 pub fn words()
@@ -14,5 +14,6 @@ pub fn commands()
     ensures comment_behind_word { CommentBehindWord }
     ensures no_kind_of_pattern { NoKindOfPattern }
     ensures no_unbuilt_command { NoUnbuiltCommand }
+    ensures no_empty_sample { NoEmptySample }
     ensures own_language_added { OwnLanguageAdded }
 {}

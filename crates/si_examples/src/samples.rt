@@ -1,5 +1,5 @@
 // Clauses that are drawn at random.
-ghost use Rattle.si_examples.specs.Samples.{TwoClauses, SomeText, NoOtherText, NoOtherVariable, NoClauseZero};
+ghost use Rattle.si_examples.specs.Samples.{TwoClauses, SomeText, NoOtherText, NoOtherVariable, NoClauseZero, KeptCounted};
 
 /// Which texts are drawn from a start.
 pub fn drawn_clauses()
@@ -8,4 +8,9 @@ pub fn drawn_clauses()
     ensures no_other_text { NoOtherText }
     ensures no_other_variable { NoOtherVariable }
     ensures no_clause_zero { NoClauseZero }
+{}
+
+/// How many answers there are to what was drawn.
+pub fn summed_answers()
+    ensures { KeptCounted }
 {}

@@ -1,5 +1,5 @@
 -- Numbers for the symbols that a table lacks, behind those of the table.
-use Rattle.std.proofs.Common.{◌≡◌, ◌⊎◌, inl, inr, ℕ, ◌+◌, ◌*◌, ◌≤◌, ◌^◌, Bool, true, false, not, ◌||◌, List, [], ◌∷◌, ◌++◌, refl, ap, sym, ◌∙◌, arith, subst, true≢false}
+use Rattle.std.proofs.Common.{◌≡◌, ◌⊎◌, inl, inr, ℕ, ◌+◌, ◌*◌, ◌<◌, ◌≤◌, ◌^◌, Bool, true, false, not, ◌||◌, List, [], ◌∷◌, ◌++◌, length, refl, ap, sym, ◌∙◌, arith, subst, true≢false}
 use Rattle.std.specs.Prelude.{filter}
 use Rattle.si_defs.specs.Symbols.{Symbol, Numbering, IsNumbering, same_symbol}
 use Rattle.si_defs.specs.Substitutions.{IsAmong}
@@ -84,12 +84,29 @@ none_left p [] h = refl
 none_left p (x ∷ xs) h = rw (h x (inl refl)) (none_left p xs (λ y m. h y (inr m)))
 
 -- all symbols have numbers
-pub all_have : (pairs : Numbering) (ss : List Symbol) → unnumbered (pairs ++ extra_numbers (lacking pairs ss)) ss ≡ []
-all_have pairs ss = none_left (λ s. not (has_number (pairs ++ extra_numbers (lacking pairs ss)) s)) ss (λ s m. ap not (has-append pairs (extra_numbers (lacking pairs ss)) s ∙ by s m (has_number pairs s) refl)) where
-  by : (s : Symbol) → IsAmong ss s → (b : Bool) → has_number pairs s ≡ b → (b || has_number (extra_numbers (lacking pairs ss)) s) ≡ true
+pub all_have_from : (first : ℕ) (pairs : Numbering) (ss : List Symbol) → unnumbered (pairs ++ numbers_from first (lacking pairs ss)) ss ≡ []
+all_have_from first pairs ss = none_left (λ s. not (has_number (pairs ++ numbers_from first (lacking pairs ss)) s)) ss (λ s m. ap not (has-append pairs (numbers_from first (lacking pairs ss)) s ∙ by s m (has_number pairs s) refl)) where
+  by : (s : Symbol) → IsAmong ss s → (b : Bool) → has_number pairs s ≡ b → (b || has_number (numbers_from first (lacking pairs ss)) s) ≡ true
   by s m true e = refl
   by s m false e =
-      has-from (2 ^ 31) (lacking pairs ss) s (among_firsts same_symbol symbol-Decides (unnumbered pairs ss) s (filter_among (λ r. not (has_number pairs r)) ss s m (ap not e)))
+      has-from first (lacking pairs ss) s (among_firsts same_symbol symbol-Decides (unnumbered pairs ss) s (filter_among (λ r. not (has_number pairs r)) ss s m (ap not e)))
+
+pub all_have : (pairs : Numbering) (ss : List Symbol) → unnumbered (pairs ++ extra_numbers (lacking pairs ss)) ss ≡ []
+all_have pairs ss = all_have_from (2 ^ 31) pairs ss
+
+-- numbers from 0, where there are no others
+from_below : (m : ℕ) (ss : List Symbol) (s : Symbol) (n : ℕ) → IsFrom m ss s n → n < m + 2 * length ss
+from_below m [] s n h = absurd h
+from_below m (r ∷ ss) s n (inl e) = omega (arith, ap (λ p. p.1) e)
+from_below m (r ∷ ss) s n (inr h) = omega (arith, from_below (2 + m) ss s n h)
+
+pub numbers_from_zero : (ss : List Symbol) → NoneAgain same_symbol symbol-Decides ss → length ss ≤ 2 ^ 30 → IsNumbering (numbers_from 0 ss)
+numbers_from_zero ss apart few = record {
+  one_number = λ s m n a b. from_number 0 ss apart s m n a b;
+  one_symbol = λ s r n a b. from_symbol 0 ss s r n a b;
+  even = λ s n a. from_even 0 ss s n a;
+  small = λ s n a. omega (arith, from_below 0 ss s n a, few);
+}
 
 -- and no two have the same
 module _ (pairs : Numbering) (ss : List Symbol) (numbering : IsNumbering pairs) where

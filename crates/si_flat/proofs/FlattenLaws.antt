@@ -17,7 +17,7 @@ use Rattle.si_flat.specs.declared.walk.WrittenEntry.{WrittenEntry}
 use Rattle.si_flat.specs.Cells.{Variable, query, same_variable, cells_of, IsSound, AreSound}
 use Rattle.si_flat.specs.Numbered.{number_in, signed, place_in, numbered, all_numbered}
 use Rattle.si_flat.specs.Flattened.{extra_numbers, unnumbered, whole_of, is_positive, IsSoundEntry, numbered_entry, IsNumberedBy, IsFlatOf, IsQueryNumbering, FlattensPattern, symbol_slices, FillsLiteral}
-use Rattle.si_flat.specs.Flattening.{owners_variable, met_names, met_extra, number_by, WalkState, walk_state, empty_walk, term_piece, Flattens, WritesEntry}
+use Rattle.si_flat.specs.Flattening.{owners_variable, met_names, met_extra, number_by, WalkState, walk_state, empty_walk, entry_scheme, term_piece, Flattens, WritesEntry}
 use Rattle.si_flat.proofs.Inserted.{inserted-firsts, inserted_length}
 use Rattle.si_flat.proofs.ExtraNumbers.{all_have, extra_numbering}
 use Rattle.si_flat.proofs.Slices.{slices-numbered}
@@ -39,7 +39,7 @@ mutual
   sound_all_numbered n v terms.none h = tt
   sound_all_numbered n v (terms.more t ts) h = (sound_numbered n v t h.0, sound_all_numbered n v ts h.1)
 
-sound_atom : (n : Symbol → ℕ) (v : Bytes → Variable) (t : clauses.Term) → IsSoundAtom t → IsSound (numbered n v t)
+pub sound_atom : (n : Symbol → ℕ) (v : Bytes → Variable) (t : clauses.Term) → IsSoundAtom t → IsSound (numbered n v t)
 sound_atom n v (terms.var x) h = absurd h
 sound_atom n v (terms.app s ts) h = (count-numbered n v ts ∙ sym h.0.with_arity, sound_all_numbered n v ts h.1)
 
@@ -61,7 +61,7 @@ cells_written pairs owner e w h =
     let names : met_names w.met ++ [] ≡ terms.firsts bytes_eq (entries.entry_variables e) =
     append-nil (met_names w.met) ∙ h.names ∙ inserted-firsts bytes_eq bytes_eq-Decides (terms.variables (whole_of e)) ∙ ap (terms.firsts bytes_eq) (variables-whole e) in
     h.cells [] []
-    ∙ λ i. cells_of (numbered (number_by pairs (is_positive e) (append-nil (met_extra w.met) i)) (λ x. owners_variable owner (place_in bytes_eq (names i) x)) (whole_of e))
+    ∙ λ i. cells_of (numbered (number_by pairs (entry_scheme owner (is_positive e)) (append-nil (met_extra w.met) i)) (λ x. owners_variable owner (place_in bytes_eq (names i) x)) (whole_of e))
 
 numbered_whole : (pairs : Numbering) (variable : ℕ → Variable) (e : entries.Entry) → ((i j : ℕ) → same_variable (variable i) (variable j) ≡ (i == j)) → IsNumberedBy variable (numbered_entry pairs variable e)
 numbered_whole pairs variable (entries.literal_entry l) tells = numbered_by (signed l.positive (number_in pairs)) variable tells l.atom
@@ -118,11 +118,11 @@ pub literal_written : (pairs : Numbering) (l : clauses.Literal) (old : WalkState
     → old.names ≡ []
     → old.extra ≡ []
     → old.cells ≡ []
-    → Flattens pairs (record { positive = l.positive; owner = Entry }) old (walk_state w.met w.cells.items) (term_piece l.atom)
+    → Flattens pairs (entry_scheme Entry l.positive) old (walk_state w.met w.cells.items) (term_piece l.atom)
     → WritesEntry pairs Entry (entries.literal_entry l) w
 literal_written pairs l old w names extra cells h =
     let none : old ≡ empty_walk = λ i. record { names = names i; extra = extra i; cells = cells i } in
-    subst (λ s. Flattens pairs (record { positive = l.positive; owner = Entry }) s (walk_state w.met w.cells.items) (term_piece l.atom)) none h
+    subst (λ s. Flattens pairs (entry_scheme Entry l.positive) s (walk_state w.met w.cells.items) (term_piece l.atom)) none h
 
 pub names_few : (pairs : Numbering) (l : clauses.Literal) (w : WrittenEntry) → IsSoundEntry (entries.literal_entry l) → WritesEntry pairs Entry (entries.literal_entry l) w → length (met_names w.met) ≤ MOST_OCCURRENCES
 names_few pairs l w sound h = omega (arith, ap length h.names, inserted_length bytes_eq [] (terms.variables l.atom), variables_few l.atom, sound.1)

@@ -8,3 +8,5 @@ pub mod Slices
 pub mod ExtraNumbers
 pub mod FlattenLaws
 pub mod OneSymbol
+pub mod ClauseWalks
+pub mod ClauseLaws

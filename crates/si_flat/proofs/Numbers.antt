@@ -5,7 +5,7 @@ use Rattle.indexmap.specs.IndexSet.{insert_key}
 use Rattle.si_defs.specs.Symbols.{Symbol, Numbering, IsNumbering, same_symbol}
 use Rattle.si_defs.specs.Substitutions.{IsAmong}
 use Rattle.si_flat.specs.Numbered.{number_in, signed, one_above, place_in}
-use Rattle.si_flat.specs.Flattened.{numbers_from, extra_numbers, has_number}
+use Rattle.si_flat.specs.Flattened.{numbers_from, has_number}
 use Rattle.si_flat.proofs.Keys.{symbol-Decides}
 use Rattle.si_flat.proofs.Inserted.{inserted-known}
 
@@ -61,16 +61,16 @@ numbers-place m (r ∷ ss) s h = by (same_symbol r s) h (numbers-place (2 + m) s
   by true g later = omega arith
   by false g later = omega (arith, later g)
 
-pub number_extra : (pairs : Numbering) (known more : List Symbol) (s : Symbol) (n : ℕ)
+pub number_extra : (pairs : Numbering) (first : ℕ) (known more : List Symbol) (s : Symbol) (n : ℕ)
     → ((m : ℕ) → IsAmong pairs (s, m) → ⊥)
     → place_in same_symbol (insert_key same_symbol known s ++ more) s ≡ n
-    → number_in (pairs ++ extra_numbers (insert_key same_symbol known s ++ more)) s ≡ 2147483648 + 2 * n
-number_extra pairs known more s n none place =
+    → number_in (pairs ++ numbers_from first (insert_key same_symbol known s ++ more)) s ≡ first + 2 * n
+number_extra pairs first known more s n none place =
     let ss = insert_key same_symbol known s ++ more in
-    number-append pairs (extra_numbers ss) s
-    ∙ ap (λ b. cond b (number_in pairs s) (number_in (extra_numbers ss) s)) (has-none pairs s none)
-    ∙ numbers-place 2147483648 ss s (inserted-known same_symbol symbol-Decides known more s)
-    ∙ ap (λ k. 2147483648 + 2 * k) place
+    number-append pairs (numbers_from first ss) s
+    ∙ ap (λ b. cond b (number_in pairs s) (number_in (numbers_from first ss) s)) (has-none pairs s none)
+    ∙ numbers-place first ss s (inserted-known same_symbol symbol-Decides known more s)
+    ∙ ap (λ k. first + 2 * k) place
 
 -- ---- signs
 pub signed-is : (positive : Bool) (f : Symbol → ℕ) (s : Symbol) → signed positive f s ≡ cond positive (f s) (one_above s.side (f s))

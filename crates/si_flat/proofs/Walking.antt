@@ -11,10 +11,10 @@ use Rattle.si_flat.specs.declared.Cell.{Cell}
 use Rattle.si_flat.specs.declared.Cell.TheVariants as cell
 use Rattle.si_flat.specs.declared.walk.Scheme.{Scheme}
 use Rattle.si_flat.specs.declared.met.Met.{Met}
-use Rattle.si_flat.specs.Cells.{Variable, variable_cell, cells_of, cells_of_all}
+use Rattle.si_flat.specs.Cells.{Variable, variable_cell, cells_of_all}
 use Rattle.si_flat.specs.Numbered.{place_in, numbered, all_numbered}
 use Rattle.si_flat.specs.Flattened.{unnumbered, has_number}
-use Rattle.si_flat.specs.Flattening.{owners_variable, number_by, IsIndex, IsSymbolNumber, MayMeet, met_names, met_extra, WalkState, walk_state, term_piece, terms_piece, Flattens}
+use Rattle.si_flat.specs.Flattening.{owners_variable, number_by, IsIndex, IsSymbolNumber, MayMeet, met_names, met_extra, WalkState, walk_state, WalkPiece, piece_then, term_piece, terms_piece, Flattens}
 use Rattle.si_flat.proofs.Subterms.{length-cells_of_all}
 use Rattle.si_flat.proofs.Inserted.{inserted-append, inserted_extends, inserted_length}
 
@@ -29,7 +29,7 @@ mutual
   all_variables_few (terms.more t ts) = omega (arith, length-append (terms.variables t) (terms.variables_of_all ts), variables_few t, all_variables_few ts)
 
 mutual
-  symbols_few : (t : clauses.Term) → length (terms.symbols t) ≤ terms.size t
+  pub symbols_few : (t : clauses.Term) → length (terms.symbols t) ≤ terms.size t
   symbols_few (terms.var x) = omega arith
   symbols_few (terms.app s ts) = omega (arith, all_symbols_few ts)
 
@@ -45,7 +45,7 @@ unnumbered_few pairs (s ∷ ss) = by (has_number pairs s) (unnumbered_few pairs 
   by false h = omega (arith, h)
 
 mutual
-  numbered_size : (n : Symbol → ℕ) (v : Bytes → Variable) (t : clauses.Term) → terms.size (numbered n v t) ≡ terms.size t
+  pub numbered_size : (n : Symbol → ℕ) (v : Bytes → Variable) (t : clauses.Term) → terms.size (numbered n v t) ≡ terms.size t
   numbered_size n v (terms.var x) = refl
   numbered_size n v (terms.app s ts) = ap (λ k. 1 + k) (numbered_sizes n v ts)
 
@@ -55,9 +55,9 @@ mutual
 
 -- ---- room for what is left
 pub room_after : (pairs : Numbering) (scheme : Scheme) (old new : Met) (cs ds : List Cell) (t : clauses.Term) (k : ℕ)
-    → MayMeet old (terms.size t + k)
+    → MayMeet scheme old (terms.size t + k)
     → Flattens pairs scheme (walk_state old cs) (walk_state new ds) (term_piece t)
-    → MayMeet new k
+    → MayMeet scheme new k
 room_after pairs scheme old new cs ds t k room walked = record {
   names = omega (arith, room.names, ap length walked.names, inserted_length bytes_eq (met_names old) (terms.variables t), variables_few t);
   extra =
@@ -71,12 +71,12 @@ room_after pairs scheme old new cs ds t k room walked = record {
       );
 }
 
-pub room_symbol : (pairs : Numbering) (old new : Met) (s : Symbol) (k : ℕ)
-    → MayMeet old (1 + k)
+pub room_symbol : (pairs : Numbering) (scheme : Scheme) (old new : Met) (s : Symbol) (k : ℕ)
+    → MayMeet scheme old (1 + k)
     → met_names new ≡ met_names old
     → met_extra new ≡ insert_all same_symbol (met_extra old) (unnumbered pairs (s ∷ []))
-    → MayMeet new k
-room_symbol pairs old new s k room names extra = record {
+    → MayMeet scheme new k
+room_symbol pairs scheme old new s k room names extra = record {
   names = omega (arith, room.names, ap length names);
   extra = omega (arith, room.extra, ap length extra, inserted_length same_symbol (met_extra old) (unnumbered pairs (s ∷ [])), unnumbered_few pairs (s ∷ []));
 }
@@ -93,7 +93,7 @@ unnumbered-append pairs (s ∷ ss) rs = by (has_number pairs s) (unnumbered-appe
 module _ (pairs : Numbering) (scheme : Scheme) where
   -- the numbers once these have been met, and more
   abbrev symbols_by : List Symbol → List Symbol → Symbol → ℕ
-  symbols_by extra more = number_by pairs scheme.positive (extra ++ more)
+  symbols_by extra more = number_by pairs scheme (extra ++ more)
 
   abbrev variables_by : List Bytes → List Bytes → Bytes → Variable
   variables_by names more x = owners_variable scheme.owner (place_in bytes_eq (names ++ more) x)
@@ -112,30 +112,36 @@ module _ (pairs : Numbering) (scheme : Scheme) where
   pub flattens_none : (a : WalkState) → Flattens pairs scheme a a (terms_piece terms.none)
   flattens_none a = record { names = refl; extra = refl; cells = λ xs ss. sym (append-nil a.cells) }
 
+  pub flattens_then : (a b c : WalkState) (p q : WalkPiece)
+      → Flattens pairs scheme a b p
+      → Flattens pairs scheme b c q
+      → Flattens pairs scheme a c (piece_then p q)
+  flattens_then a b c p q first rest = record {
+    names =
+        rest.names
+        ∙ ap (λ l. insert_all bytes_eq l q.variables) first.names
+        ∙ sym (inserted-append bytes_eq a.names p.variables q.variables);
+    extra =
+        rest.extra
+        ∙ ap (λ l. insert_all same_symbol l (unnumbered pairs q.symbols)) first.extra
+        ∙ sym (inserted-append same_symbol a.extra (unnumbered pairs p.symbols) (unnumbered pairs q.symbols))
+        ∙ ap (insert_all same_symbol a.extra) (sym (unnumbered-append pairs p.symbols q.symbols));
+    cells = λ xs ss.
+        let names = names_later b c q.variables rest.names in
+        let extra = extra_later b c (unnumbered pairs q.symbols) rest.extra in
+        let n = symbols_by c.extra ss in
+        let v = variables_by c.names xs in
+        let one : b.cells ≡ a.cells ++ p.cells n v =
+        first.cells (names.0 ++ xs) (extra.0 ++ ss)
+        ∙ λ i. a.cells ++ p.cells (number_by pairs scheme (extra.1 ss i)) (λ x. owners_variable scheme.owner (place_in bytes_eq (names.1 xs i) x)) in
+        rest.cells xs ss ∙ ap (λ l. l ++ q.cells n v) one ∙ append_assoc a.cells (p.cells n v) (q.cells n v);
+  }
+
   pub flattens_more : (a b c : WalkState) (t : clauses.Term) (ts : clauses.Terms)
       → Flattens pairs scheme a b (term_piece t)
       → Flattens pairs scheme b c (terms_piece ts)
       → Flattens pairs scheme a c (terms_piece (terms.more t ts))
-  flattens_more a b c t ts first rest = record {
-    names =
-        rest.names
-        ∙ ap (λ l. insert_all bytes_eq l (terms.variables_of_all ts)) first.names
-        ∙ sym (inserted-append bytes_eq a.names (terms.variables t) (terms.variables_of_all ts));
-    extra =
-        rest.extra
-        ∙ ap (λ l. insert_all same_symbol l (unnumbered pairs (terms.symbols_of_all ts))) first.extra
-        ∙ sym (inserted-append same_symbol a.extra (unnumbered pairs (terms.symbols t)) (unnumbered pairs (terms.symbols_of_all ts)))
-        ∙ ap (insert_all same_symbol a.extra) (sym (unnumbered-append pairs (terms.symbols t) (terms.symbols_of_all ts)));
-    cells = λ xs ss.
-        let names = names_later b c (terms.variables_of_all ts) rest.names in
-        let extra = extra_later b c (unnumbered pairs (terms.symbols_of_all ts)) rest.extra in
-        let n = symbols_by c.extra ss in
-        let v = variables_by c.names xs in
-        let one : b.cells ≡ a.cells ++ cells_of (numbered n v t) =
-        first.cells (names.0 ++ xs) (extra.0 ++ ss)
-        ∙ λ i. a.cells ++ cells_of (numbered (number_by pairs scheme.positive (extra.1 ss i)) (λ x. owners_variable scheme.owner (place_in bytes_eq (names.1 xs i) x)) t) in
-        rest.cells xs ss ∙ ap (λ l. l ++ cells_of_all (all_numbered n v ts)) one ∙ append_assoc a.cells (cells_of (numbered n v t)) (cells_of_all (all_numbered n v ts));
-  }
+  flattens_more a b c t ts first rest = flattens_then a b c (term_piece t) (terms_piece ts) first rest
 
   -- a variable
   pub flattens_variable : (a : WalkState) (names : List Bytes) (extra : List Symbol) (x : Bytes) (n : ℕ)
@@ -170,7 +176,7 @@ module _ (pairs : Numbering) (scheme : Scheme) where
   app_placed : (a b c : WalkState) (s : Symbol) (ts : clauses.Terms) (first : Cell) (n at m : ℕ)
       → b.names ≡ a.names
       → b.extra ≡ insert_all same_symbol a.extra (unnumbered pairs (s ∷ []))
-      → IsSymbolNumber pairs scheme.positive b.extra s n
+      → IsSymbolNumber pairs scheme b.extra s n
       → b.cells ≡ a.cells ++ first ∷ []
       → Flattens pairs scheme b c (terms_piece ts)
       → at ≡ length a.cells
@@ -188,7 +194,7 @@ module _ (pairs : Numbering) (scheme : Scheme) where
         let f = symbols_by c.extra ss in
         let v = variables_by c.names xs in
         let us = all_numbered f v ts in
-        let is_number : n ≡ f s = sym (number (extra.0 ++ ss)) ∙ ap (λ l. number_by pairs scheme.positive l s) (extra.1 ss) in
+        let is_number : n ≡ f s = sym (number (extra.0 ++ ss)) ∙ ap (λ l. number_by pairs scheme l s) (extra.1 ss) in
         let is_length : m ≡ 1 + terms.sizes us =
         omega (arith, m_is, at_is, length_behind a.cells first b c ts cells_are walked, numbered_sizes f v ts) in
         let all : c.cells ≡ a.cells ++ first ∷ cells_of_all us =
@@ -201,7 +207,7 @@ module _ (pairs : Numbering) (scheme : Scheme) where
   pub flattens_app : (a b c : WalkState) (s : Symbol) (ts : clauses.Terms) (first : Cell) (n at m : ℕ)
       → b.names ≡ a.names
       → b.extra ≡ insert_all same_symbol a.extra (unnumbered pairs (s ∷ []))
-      → IsSymbolNumber pairs scheme.positive b.extra s n
+      → IsSymbolNumber pairs scheme b.extra s n
       → b.cells ≡ a.cells ++ first ∷ []
       → Flattens pairs scheme b c (terms_piece ts)
       → at ≡ length a.cells

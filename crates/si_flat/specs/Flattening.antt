@@ -1,5 +1,5 @@
 -- What a walk over terms of the program has met and written.
-use Rattle.std.specs.Prelude.{◌≡◌, ℕ, ◌+◌, ◌≤◌, Bool, List, [], ◌++◌, length, map, bytes_eq}
+use Rattle.std.specs.Prelude.{◌≡◌, ℕ, ◌+◌, ◌*◌, ◌^◌, ◌<◌, ◌≤◌, Bool, List, [], ◌++◌, length, map, bytes_eq}
 use Rattle.indexmap.specs.IndexSet.{insert_all}
 use Rattle.si_defs.specs.Bytes.{Bytes}
 use Rattle.si_defs.specs.Terms as terms
@@ -15,7 +15,7 @@ use Rattle.si_flat.specs.declared.walk.WrittenEntry.{WrittenEntry}
 use Rattle.si_flat.specs.declared.met.Met.{Met}
 use Rattle.si_flat.specs.declared.met.SymbolKey.{SymbolKey}
 use Rattle.si_flat.specs.Cells.{Variable, query, entry, cells_of, cells_of_all}
-use Rattle.si_flat.specs.Flattened.{extra_numbers, unnumbered, is_positive, whole_of}
+use Rattle.si_flat.specs.Flattened.{numbers_from, unnumbered, is_positive, whole_of}
 use Rattle.si_flat.specs.Numbered.{number_in, signed, place_in, numbered, all_numbered}
 
 -- ---- a walk over terms that has met some variables and symbols, and has written some cells
@@ -32,10 +32,10 @@ met_names m = map (λ k. k.now) m.names.keys
 abbrev pub met_extra : Met → List Symbol
 met_extra m = map symbol_of_key m.extra.keys
 
--- it may meet so many more
-pub record MayMeet (m : Met) (n : ℕ) : Type 0 where
+-- it may meet so many more, and there are numbers for them
+pub record MayMeet (scheme : Scheme) (m : Met) (n : ℕ) : Type 0 where
   pub names : length (met_names m) + n ≤ MOST_OCCURRENCES
-  pub extra : length (met_extra m) + n ≤ MOST_OCCURRENCES
+  pub extra : scheme.first + 2 * (length (met_extra m) + n) < 2 ^ 32
 
 pub record WalkState : Type 0 where
   pub names : List Bytes
@@ -50,11 +50,11 @@ abbrev pub IsIndex : {V : Type 0} → (V → V → Bool) → List V → V → �
 IsIndex {V} same xs x n = (more : List V) → place_in same (xs ++ more) x ≡ n
 
 -- the number of a symbol, whatever is met later
-abbrev pub number_by : Numbering → Bool → List Symbol → Symbol → ℕ
-number_by pairs positive extra = signed positive (number_in (pairs ++ extra_numbers extra))
+abbrev pub number_by : Numbering → Scheme → List Symbol → Symbol → ℕ
+number_by pairs scheme extra = signed scheme.positive (number_in (pairs ++ numbers_from scheme.first extra))
 
-abbrev pub IsSymbolNumber : Numbering → Bool → List Symbol → Symbol → ℕ → Type 0
-IsSymbolNumber pairs positive extra s n = (more : List Symbol) → number_by pairs positive (extra ++ more) s ≡ n
+abbrev pub IsSymbolNumber : Numbering → Scheme → List Symbol → Symbol → ℕ → Type 0
+IsSymbolNumber pairs scheme extra s n = (more : List Symbol) → number_by pairs scheme (extra ++ more) s ≡ n
 
 -- what is walked over: its variables and symbols, and its cells by their numbers
 pub record WalkPiece : Type 0 where
@@ -76,6 +76,14 @@ terms_piece ts = record {
   cells = λ number variable. cells_of_all (all_numbered number variable ts);
 }
 
+-- one behind the other
+abbrev pub piece_then : WalkPiece → WalkPiece → WalkPiece
+piece_then p q = record {
+  variables = p.variables ++ q.variables;
+  symbols = p.symbols ++ q.symbols;
+  cells = λ number variable. p.cells number variable ++ q.cells number variable;
+}
+
 -- Its variables and symbols were met in turn, and its cells were written, whatever is met later.
 pub record Flattens (pairs : Numbering) (scheme : Scheme) (old new : WalkState) (piece : WalkPiece) : Type 0 where
   pub names : new.names ≡ insert_all bytes_eq old.names piece.variables
@@ -84,13 +92,17 @@ pub record Flattens (pairs : Numbering) (scheme : Scheme) (old new : WalkState) 
       → new.cells
       ≡ old.cells
       ++ piece.cells
-      (number_by pairs scheme.positive (new.extra ++ ss))
+      (number_by pairs scheme (new.extra ++ ss))
       (λ x. owners_variable scheme.owner (place_in bytes_eq (new.names ++ xs) x))
 
 -- ---- an entry by itself
 abbrev pub empty_walk : WalkState
 empty_walk = record { names = []; extra = []; cells = [] }
 
+-- the symbols outside the table come behind those in it
+abbrev pub entry_scheme : Owner → Bool → Scheme
+entry_scheme owner positive = record { positive = positive; owner = owner; first = 2 ^ 31 }
+
 abbrev pub WritesEntry : Numbering → Owner → entries.Entry → WrittenEntry → Type 0
 WritesEntry pairs owner e w =
-    Flattens pairs (record { positive = is_positive e; owner = owner }) empty_walk (walk_state w.met w.cells.items) (term_piece (whole_of e))
+    Flattens pairs (entry_scheme owner (is_positive e)) empty_walk (walk_state w.met w.cells.items) (term_piece (whole_of e))

@@ -2,3 +2,4 @@ pub mod Cells
 pub mod Numbered
 pub mod Flattened
 pub mod Flattening
+pub mod FlatClauses

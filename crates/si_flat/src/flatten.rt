@@ -8,7 +8,7 @@ ghost use Rattle.si_term.specs.Meaning.{literal_of, entry_of, pattern_of};
 ghost use Rattle.si_flat.specs.Flattened.{IsSoundEntry, FlattensEntry, FlattensPattern, FillsLiteral, whole_of};
 ghost use Rattle.si_flat.specs.Flattening.{WritesEntry};
 
-use crate::met::Met;
+use crate::met::{FIRST_EXTRA, Met};
 use crate::walk::{Scheme, WrittenEntry, write_term};
 use crate::{Cell, Flat, Owner};
 use si_term::{Entry, Literal, Pattern, SymTable, Syms};
@@ -19,7 +19,7 @@ use std::alloc::{AllocError, Global};
 pub struct FlatQuery {
     pub flat: Flat,
     /// The symbols that the table lacks, each once, in the order of their first occurrence. The
-    /// one at place `k` has the number `2_147_483_648 + 2 * k`.
+    /// one at place `k` has the number `FIRST_EXTRA + 2 * k`.
     pub extra: Syms,
 }
 
@@ -83,6 +83,7 @@ pub fn flatten_literal<T: SymTable>(
     let scheme = Scheme {
         positive: literal.positive,
         owner: Owner::Entry,
+        first: FIRST_EXTRA,
     };
     let mut met = Met::new(alloc);
     cells.clear();
@@ -116,12 +117,11 @@ fn write_entry<'a, T: SymTable>(
     };
     let mut met = Met::new(alloc);
     let mut cells = Vec::new(alloc);
-    write_term(
-        table,
-        Scheme { positive, owner },
-        term,
-        &mut met,
-        &mut cells,
-    )?;
+    let scheme = Scheme {
+        positive,
+        owner,
+        first: FIRST_EXTRA,
+    };
+    write_term(table, scheme, term, &mut met, &mut cells)?;
     Ok(WrittenEntry { met, cells })
 }

@@ -10,14 +10,21 @@
 ghost use Rattle.std.specs.Prelude.{◌≡◌, ◌<◌, IfOk, length, take, drop};
 ghost use Rattle.si_flat.specs.Cells.{IsWhole, span};
 
+mod clauses;
 mod flatten;
 mod met;
 mod walk;
 
+pub use clauses::flatten_clauses;
 pub use flatten::{FlatQuery, flatten_entry, flatten_literal, flatten_pattern};
+pub use met::FIRST_EXTRA;
 pub use si_defs::Relation as Kind;
+use si_term::list::Items;
 use std::alloc::{AllocError, Global};
 use std::marker::Model;
+
+/// A map of literals: for each literal of a clause in order the number, from 1, of its image.
+pub type LitMap = Items<u32>;
 
 /// One cell of a flat term.
 #[derive(Clone, Copy, Debug, PartialEq, Eq)]

@@ -1,5 +1,5 @@
 // The variables and symbols that a walk has met.
-ghost use Rattle.std.specs.Prelude.{◌≡◌, ◌<◌, ◌≤◌, ◌-◌, ◌^◌, ◌↔◌, [], ◌∷◌, IfOk, OnOk, IsFalse, length, map, cond, bytes_eq};
+ghost use Rattle.std.specs.Prelude.{◌≡◌, ◌<◌, ◌≤◌, ◌+◌, ◌-◌, ◌*◌, ◌^◌, ◌↔◌, [], ◌∷◌, IfOk, OnOk, IsFalse, length, map, cond, bytes_eq};
 ghost use Rattle.indexmap.specs.IndexSet.{insert_all};
 ghost use Rattle.si_defs.specs.Symbols.{same_symbol};
 ghost use Rattle.si_defs.specs.declared.TheConstants.{MOST_OCCURRENCES};
@@ -8,13 +8,14 @@ ghost use Rattle.si_flat.specs.Numbered.{one_above};
 ghost use Rattle.si_flat.specs.Flattened.{unnumbered};
 ghost use Rattle.si_flat.specs.Flattening.{met_names, symbol_of_key, met_extra, IsIndex, IsSymbolNumber};
 
+use crate::walk::Scheme;
 use indexmap::IndexSet;
 use si_defs::{Side, SymKind};
 use si_term::{Sym, SymTable, Syms, Text};
 use std::alloc::{AllocError, Global};
 
-/// The number of the first symbol that isn't in the table.
-const FIRST_EXTRA: u32 = 2_147_483_648;
+/// The number of the first symbol of a pattern that isn't in the table.
+pub const FIRST_EXTRA: u32 = 2_147_483_648;
 
 /// A symbol as a key. Text and arity are enough for a hash.
 #[derive(Clone, Copy, PartialEq, Eq)]
@@ -61,6 +62,14 @@ impl<'a> Met<'a> {
         }
     }
 
+    // Forgets the variables: those of another clause come.
+    pub(crate) fn forget_variables(&mut self)
+        ensures names { met_names self.new ≡ [] }
+        ensures extra { met_extra self.new ≡ met_extra self.old }
+    {
+        self.names.clear();
+    }
+
     // How many variables were met.
     pub(crate) fn variable_count(&self) -> u32
         requires { length (met_names self.now) ≤ MOST_OCCURRENCES }
@@ -103,35 +112,35 @@ impl<'a> Met<'a> {
     pub(crate) fn symbol<T: SymTable>(
         &mut self,
         table: &T,
-        positive: bool,
+        scheme: Scheme,
         symbol: &'a Sym,
     ) -> Result<u32, AllocError>
-        requires { length (met_extra self.old) < MOST_OCCURRENCES }
+        requires { scheme.first + 2 * length (met_extra self.old) < 2 ^ 32 - 1 }
         ensures names { OnOk result (met_names self.new ≡ met_names self.old) }
         ensures extra { OnOk result (met_extra self.new
             ≡ insert_all same_symbol (met_extra self.old)
             (unnumbered (T.pairs table.now) (symbol_of symbol.now ∷ []))) }
-        ensures number { IfOk result (IsSymbolNumber (T.pairs table.now) positive
+        ensures number { IfOk result (IsSymbolNumber (T.pairs table.now) scheme
             (met_extra self.new) (symbol_of symbol.now)) }
     {
         match table.id_of(symbol) {
-            Some(number) => Ok(with_sign(number, positive, symbol.side)),
+            Some(number) => Ok(with_sign(number, scheme.positive, symbol.side)),
             None => {
                 let place = self.outside(symbol)?;
-                Ok(with_sign(FIRST_EXTRA + 2 * place, positive, symbol.side))
+                Ok(with_sign(scheme.first + 2 * place, scheme.positive, symbol.side))
             }
         }
     }
 
     // The place of a symbol among those outside the table.
     fn outside(&mut self, symbol: &'a Sym) -> Result<u32, AllocError>
-        requires { length (met_extra self.old) < MOST_OCCURRENCES }
+        requires { length (met_extra self.old) < 2 ^ 31 }
         ensures names { OnOk result (met_names self.new ≡ met_names self.old) }
         ensures extra { OnOk result (met_extra self.new
             ≡ insert_all same_symbol (met_extra self.old) (symbol_of symbol.now ∷ [])) }
         ensures place { IfOk result (λ n. IsIndex same_symbol (met_extra self.new)
             (symbol_of symbol.now) n) }
-        ensures small { IfOk result (λ n. n < MOST_OCCURRENCES) }
+        ensures small { IfOk result (λ n. n ≤ length (met_extra self.old)) }
     {
         let (place, _) = self.extra.insert_full(SymbolKey {
             kind: symbol.kind,

@@ -17,6 +17,8 @@ pub(crate) struct Scheme {
     /// Whether the atom is that of a positive literal, or a term by itself.
     pub(crate) positive: bool,
     pub(crate) owner: Owner,
+    /// The number of the first symbol that isn't in the table.
+    pub(crate) first: u32,
 }
 
 /// What was met, and the cells that were written.
@@ -47,7 +49,7 @@ pub(crate) fn write_term<'a, T: SymTable>(
     met: &mut Met<'a>,
     cells: &mut Vec<Cell>,
 ) -> Result<(), AllocError>
-    requires room { MayMeet met.old (size (term_of term.now)) }
+    requires room { MayMeet scheme met.old (size (term_of term.now)) }
     ensures { OnOk result (Flattens (T.pairs table.now) scheme (walk_state met.old cells.old.items)
         (walk_state met.new cells.new.items) (term_piece (term_of term.now))) }
 {
@@ -59,7 +61,7 @@ pub(crate) fn write_term<'a, T: SymTable>(
         }
         Term::App(symbol, arguments) => {
             let arity = symbol.arity;
-            let number = met.symbol(table, scheme.positive, symbol)?;
+            let number = met.symbol(table, scheme, symbol)?;
             let at = cells.len();
             cells.push(Cell::App {
                 sym: number,
@@ -74,7 +76,7 @@ pub(crate) fn write_term<'a, T: SymTable>(
 }
 
 // Puts the cell of a symbol before its arguments, which are all that stands behind.
-fn close(cells: &mut Vec<Cell>, at: usize, number: u32, arity: u32)
+pub(crate) fn close(cells: &mut Vec<Cell>, at: usize, number: u32, arity: u32)
     requires inside { at < length cells.old.items }
     requires short { length cells.old.items - at < 2 ^ 32 }
     ensures { cells.new.items ≡ slice_set cells.old.items at
@@ -96,7 +98,7 @@ fn write_terms<'a, T: SymTable>(
     met: &mut Met<'a>,
     cells: &mut Vec<Cell>,
 ) -> Result<(), AllocError>
-    requires room { MayMeet met.old (sizes (row (map term_of terms.now))) }
+    requires room { MayMeet scheme met.old (sizes (row (map term_of terms.now))) }
     ensures { OnOk result (Flattens (T.pairs table.now) scheme (walk_state met.old cells.old.items)
         (walk_state met.new cells.new.items) (terms_piece (row (map term_of terms.now)))) }
 {

@@ -16,7 +16,7 @@ use Rattle.si_flat.specs.declared.Owner.TheVariants.{Query, Entry}
 use Rattle.si_form.specs.declared.matching.Image.{Image}
 use Rattle.si_flat.specs.Flattening.{owners_variable}
 use Rattle.si_form.specs.Answers.{owners_variables, AreNumbered}
-use Rattle.si_form.specs.Matching.{variable_number, HaveSameSymbol, HasKnownAs, StepsOver, ComparesSymbols, StepsAs, StepsOnCell, AreImages, Assigns, NoMatch, IsMatchedBy, IsMatched}
+use Rattle.si_form.specs.Matching.{variable_number, HaveSameSymbol, HasKnownAs, StepsOver, ComparesSymbols, StepsAs, StepsOnCell, AreNumberedImages, Assigns, NoMatch, IsMatchedBy, IsMatched}
 use Rattle.si_form.proofs.VariableLaws.{number_of}
 use Rattle.si_form.proofs.Counting.{NumberedTo, numbered_to}
 use Rattle.si_form.proofs.ImageLaws.{HasImage, image_at, no_image, image_added, agrees_at, agrees_front, agrees_more}
@@ -68,7 +68,7 @@ pub record LeftOf (owner : Owner) (q e : Term) (pattern target : List Cell) (ima
   pub ts_sound : AreSound ts
   pub rs_sound : AreSound rs
   pub same_count : terms.count ts ≡ terms.count rs
-  pub are_images : AreImages 0 images us
+  pub are_images : AreNumberedImages 0 images us
   pub numbered : NumberedTo owner (length us) (terms.variables_of_all ts) m
   pub tells : (f : Variable → Term) → (terms.substitute f q ≡ e) ↔ ((terms.substitute_all f ts ≡ rs) × Assigns owner f 0 us)
 

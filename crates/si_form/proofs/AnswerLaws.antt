@@ -15,19 +15,19 @@ use Rattle.si_form.specs.declared.solution.Binding.{Binding}
 use Rattle.si_form.specs.declared.matching.Image.{Image}
 use Rattle.si_flat.specs.Flattening.{owners_variable}
 use Rattle.si_form.specs.Answers.{owners_variables, IsNumbered, AreNumbered, StandsForList, AnswersTo, Answers}
-use Rattle.si_form.specs.Matching.{AreImages, AreWholeImages, pairs, Assigns, MatchesBy, NoMatch, IsMatched, binding_of, MatchAnswersTo, MatchAnswers}
+use Rattle.si_form.specs.Matching.{AreNumberedImages, AreWholeImages, pairs, Assigns, MatchesBy, NoMatch, IsMatched, binding_of, MatchAnswersTo, MatchAnswers}
 use Rattle.si_form.proofs.VariableLaws.{same_tells, same_itself, variable_injective}
 use Rattle.si_form.proofs.Counting.{NumberedTo, numbered_to}
 use Rattle.si_form.proofs.CanonicalLaws.{canonical_match, one_match}
 
 -- ---- images
-pub images_stand : (owner : Owner) (k : ℕ) (images : List Image) (us : List Term) → AreImages k images us → StandsForList (map (binding_of owner) images) (pairs owner k us)
+pub images_stand : (owner : Owner) (k : ℕ) (images : List Image) (us : List Term) → AreNumberedImages k images us → StandsForList (map (binding_of owner) images) (pairs owner k us)
 images_stand owner k [] [] h = tt
 images_stand owner k [] (u ∷ us) h = elim h [ ]
 images_stand owner k (i ∷ is) [] h = elim h [ ]
 images_stand owner k (i ∷ is) (u ∷ us) h = (record { left = ap (owners_variable owner) (sym h.0); right = h.1 }, images_stand owner (suc k) is us h.2)
 
-pub images_whole : (k : ℕ) (images : List Image) (us : List Term) → AreImages k images us → AreWholeImages images
+pub images_whole : (k : ℕ) (images : List Image) (us : List Term) → AreNumberedImages k images us → AreWholeImages images
 images_whole k [] [] h = tt
 images_whole k [] (u ∷ us) h = elim h [ ]
 images_whole k (i ∷ is) [] h = elim h [ ]
@@ -50,7 +50,7 @@ agrees_later : (owner : Owner) (f g : Variable → Term) (k : ℕ) (us : List Te
 agrees_later owner f g k [] give h = tt
 agrees_later owner f g k (u ∷ us) give h = (give k (omega arith) ∙ h.0, agrees_later owner f g (suc k) us (λ m less. give m (omega (arith, less))) h.1)
 
-image_agrees : (owner : Owner) (k : ℕ) (us : List Term) → Assigns owner (image same_variable (pairs owner k us)) k us
+pub image_agrees : (owner : Owner) (k : ℕ) (us : List Term) → Assigns owner (image same_variable (pairs owner k us)) k us
 image_agrees owner k [] = tt
 image_agrees owner k (u ∷ us) = (
   ap (λ b. cond b u (image same_variable (pairs owner (suc k) us) (owners_variable owner k))) (same_itself (owners_variable owner k)),

@@ -1,6 +1,6 @@
 -- Down a chain of variables that are bound to variables, to an application or a variable that isn't
 -- bound.
-use Rattle.std.proofs.Common.{◌≡◌, ℕ, ◌+◌, ◌^◌, ◌<◌, ◌≤◌, List, [], ◌∷◌, length, get_or, refl, sym, ◌∙◌, ap, subst, arith, Option, None, Some}
+use Rattle.std.proofs.Common.{◌≡◌, ℕ, ◌+◌, ◌^◌, ◌<◌, ◌≤◌, ◌⊎◌, inl, inr, suc, zero, List, [], ◌∷◌, length, get_or, refl, sym, ◌∙◌, ap, subst, arith, Option, None, Some}
 use Rattle.std.specs.List.{AllByRecursion}
 use Rattle.std.specs.Borrow.{Bor}
 use Rattle.si_defs.specs.Terms as terms
@@ -14,7 +14,7 @@ use Rattle.si_unify.specs.Solving.{Pairs, slot_count, variable_of, CellIsInRange
 use Rattle.si_unify.specs.Spots.{cell_slot, IsBelow, ComesDown, IsChained}
 use Rattle.si_unify.proofs.Places.{all_at, whole_at, first_cell, cell-at, inside, in_range-at, in_range-variable, variable_of-slot_of, slot_variable}
 use Rattle.si_unify.proofs.Ranks.{chained_of_triangular}
-use Rattle.si_form.specs.Unifying.{HasApplication, IsBoundTo}
+use Rattle.si_form.specs.Unifying.{IsGeneral, HasApplication, IsBoundTo}
 use Rattle.si_form.proofs.TrailLaws.{HasSlot, slot_below, cell_has_slot, variables_ranked}
 
 -- so many steps down from a slot
@@ -82,8 +82,8 @@ module _ (slots : Slots) (pairs : Pairs) (bindings : AllByRecursion (IsBinding s
           same = λ f solved. image f solved ∙ ap (terms.substitute f) x.1 ∙ ap f (sym (ap (variable_of slots) (sym x.2) ∙ variable_of-slot_of slots x.0 range'));
         }
 
-    pub down_applies : (n : ℕ) → None ≡ cell_slot slots (get_or v.now 0 no_cell) → n ≡ length v.now → n < 2 ^ 32 → IsBoundTo slots pairs slot (Some n)
-    down_applies n here long small f general = by binding.whole.0 first (image f general.solves) binding.whole.1 known
+    applies : (n : ℕ) → None ≡ cell_slot slots (get_or v.now 0 no_cell) → n ≡ length v.now → (f : Variable → Term) → IsGeneral slots pairs f → HasApplication slots f slot n
+    applies n here long f general = by binding.whole.0 first (image f general.solves) binding.whole.1 known
       where
         known : AllByRecursion (HasSlot slots) (terms.variables binding.whole.0)
         known =
@@ -98,5 +98,28 @@ module _ (slots : Slots) (pairs : Pairs) (bindings : AllByRecursion (IsBinding s
           image_is = is;
           known = all;
           size_is = sym (length-cells_of (terms.app s ts)) ∙ ap length (sym stands.cells_are) ∙ sym long;
-          small = small;
         }
+
+    pub down_applies : (n : ℕ) → None ≡ cell_slot slots (get_or v.now 0 no_cell) → n ≡ length v.now → n < 2 ^ 32 → IsBoundTo slots pairs slot (Some n)
+    down_applies n here long small = (small, applies n here long)
+
+-- ---- the image of a slot's variable is a variable, or comes from a value
+abbrev pub ComesFromUpTo : Slots → (Variable → Term) → ℕ → ℕ → Type 0
+ComesFromUpTo slots f slot n =
+    ((y : Variable) × (f (variable_of slots slot) ≡ terms.var y)) ⊎ ((size : ℕ) × (size ≤ n) × HasApplication slots f slot size)
+
+module _ (slots : Slots) (pairs : Pairs) (bindings : AllByRecursion (IsBinding slots) pairs) (n : ℕ) (few : AllByRecursion (λ pair. length pair.1.now ≤ n) pairs) (slot : ℕ) (f : Variable → Term) (general : IsGeneral slots pairs f) where
+  comes_from : (steps at k : ℕ) → length pairs ≤ k + steps → IsDown slots pairs slot at k → ComesFromUpTo slots f slot n
+  comes_from zero at k full h = inl (down_ends slots pairs bindings slot at k h (omega (arith, full)) f general)
+  comes_from (suc steps) at k full h = by (value_at pairs at) refl (λ next d. comes_from steps next (k + 1) (omega (arith, full)) d)
+    where
+      by : (o : Option (Bor (List Cell))) → value_at pairs at ≡ o → ((next : ℕ) → IsDown slots pairs slot next (k + 1) → ComesFromUpTo slots f slot n) → ComesFromUpTo slots f slot n
+      by None e later = inl (down_unbound slots pairs bindings slot at k h e f general)
+      by (Some v) e later = go (cell_slot slots (get_or v.now 0 no_cell)) refl
+        where
+          go : (o : Option ℕ) → o ≡ cell_slot slots (get_or v.now 0 no_cell) → ComesFromUpTo slots f slot n
+          go None here = inr (length v.now, all_at (λ pair. length pair.1.now ≤ n) pairs at v few e, applies slots pairs bindings slot at k h v e (length v.now) here refl f general)
+          go (Some next) here = later next (down_more slots pairs bindings slot at k h v e next here)
+
+  pub comes_from_value : IsAcyclic slots pairs → slot < slot_count slots → ComesFromUpTo slots f slot n
+  comes_from_value acyclic inside = comes_from (length pairs) slot 0 (omega arith) (down_begins slots pairs slot acyclic inside)

@@ -102,7 +102,7 @@ module _ (slots : Slots) (pairs : Pairs) (nodes : List Node) (classes : List ℕ
     can_fold : (f : Variable → Term) (general : IsGeneral slots pairs f) → CanFold slots nodes leaders sizes class f (class_of f general).known (f (variable_of slots slot))
     can_fold f general =
         let c = class_of f general in
-        let app = bound f general in
+        let app = bound.1 f general in
         let least = none_longer slots f app.arguments app.known in
         let size_is : terms.size (folded slots f (f (variable_of slots slot))) ≡ 1 + terms.sizes (folded_all slots f (terms.substitute_all f app.arguments)) =
         ap (λ t. terms.size (folded slots f t)) app.image_is in
@@ -117,7 +117,7 @@ module _ (slots : Slots) (pairs : Pairs) (nodes : List Node) (classes : List ℕ
           leads =
               all_from (λ y. leader slots f (terms.var y) ≡ None → ⊥) (terms.variables (f (variable_of slots slot)))
               (λ y a e. no_leader slots f y (all_at (StaysFree slots f) (terms.variables (f (variable_of slots slot))) y (general.stays slot inside) a) e);
-          fits = omega (arith, size_is, least, app.size_is, app.small);
+          fits = omega (arith, size_is, least, app.size_is, bound.0);
         }
 
     pub some_fold : (f : Variable → Term) × (known : List Term) × (t : Term) × CanFold slots nodes leaders sizes class f known t
@@ -131,7 +131,7 @@ module _ (slots : Slots) (pairs : Pairs) (nodes : List Node) (classes : List ℕ
     pub leader_side : (cells : List Cell) → Some slot ≡ get_or leaders class None → HasFolded slots nodes leaders sizes class cells → HasRightSide slots pairs slot (Some cells)
     leader_side cells is folded_is f general =
         let leads = leader_at f general (Some slot) is in
-        let app = bound f general in (
+        let app = bound.1 f general in (
           (inside, inr (leads, (app.symbol, terms.substitute_all f app.arguments, app.image_is))),
           subst (StandsFor cells) (sym (right_of_leader slots f slot leads)) (record {
             cells_are = folded_is f (class_of f general).known (f (variable_of slots slot)) (can_fold f general);

@@ -7,7 +7,7 @@ use Rattle.si_flat.specs.Cells.{Variable, Term, StandsFor}
 use Rattle.si_flat.specs.declared.Owner.{Owner}
 use Rattle.si_form.specs.declared.matching.Image.{Image}
 use Rattle.si_flat.specs.Flattening.{owners_variable}
-use Rattle.si_form.specs.Matching.{AreImages, Assigns}
+use Rattle.si_form.specs.Matching.{AreNumberedImages, Assigns}
 
 -- the image with this number, and its term
 pub record HasImage (images : List Image) (us : List Term) (n : ℕ) : Type 0 where
@@ -17,7 +17,7 @@ pub record HasImage (images : List Image) (us : List Term) (n : ℕ) : Type 0 wh
   pub term_is : slice_get us n ≡ Some term
   pub stands : StandsFor image.value.now term
 
-pub image_at : (k n : ℕ) (images : List Image) (us : List Term) → AreImages k images us → n < length us → HasImage images us n
+pub image_at : (k n : ℕ) (images : List Image) (us : List Term) → AreNumberedImages k images us → n < length us → HasImage images us n
 image_at k n [] [] h less = absurd (omega (arith, less))
 image_at k n [] (u ∷ us) h less = elim h [ ]
 image_at k n (i ∷ is) [] h less = absurd (omega (arith, less))
@@ -26,13 +26,13 @@ image_at k (suc n) (i ∷ is) (u ∷ us) h less =
     let rest = image_at (suc k) n is us h.2 (omega (arith, less)) in
     record { image = rest.image; term = rest.term; image_is = rest.image_is; term_is = rest.term_is; stands = rest.stands }
 
-pub no_image : (k : ℕ) (images : List Image) (us : List Term) → AreImages k images us → slice_get images (length us) ≡ None
+pub no_image : (k : ℕ) (images : List Image) (us : List Term) → AreNumberedImages k images us → slice_get images (length us) ≡ None
 no_image k [] [] h = refl
 no_image k [] (u ∷ us) h = elim h [ ]
 no_image k (i ∷ is) [] h = elim h [ ]
 no_image k (i ∷ is) (u ∷ us) h = no_image (suc k) is us h.2
 
-pub image_added : (k n : ℕ) (images : List Image) (us : List Term) (value : Bor (List Cell)) (u : Term) → AreImages k images us → n ≡ k + length us → StandsFor value.now u → AreImages k (images ++ (record { number = n; value = value }) ∷ []) (us ++ u ∷ [])
+pub image_added : (k n : ℕ) (images : List Image) (us : List Term) (value : Bor (List Cell)) (u : Term) → AreNumberedImages k images us → n ≡ k + length us → StandsFor value.now u → AreNumberedImages k (images ++ (record { number = n; value = value }) ∷ []) (us ++ u ∷ [])
 image_added k n [] [] value u h e s = (omega (arith, e), s, tt)
 image_added k n [] (v ∷ us) value u h e s = elim h [ ]
 image_added k n (i ∷ is) [] value u h e s = elim h [ ]

@@ -36,3 +36,4 @@ pub mod UnifierThere
 pub mod DownLaws
 pub mod FoundLaws
 pub mod SolvedLaws
+pub mod SideLengths

@@ -64,7 +64,7 @@ module _ (slots : Slots) where
 
 -- ---- right sides and what they use
 mutual
-  size_inside : (f : Variable → Term) (t : Term) (y : Variable) → IsAmong (terms.variables t) y → terms.size (f y) ≤ terms.size (terms.substitute f t)
+  pub size_inside : (f : Variable → Term) (t : Term) (y : Variable) → IsAmong (terms.variables t) y → terms.size (f y) ≤ terms.size (terms.substitute f t)
   size_inside f (terms.var x) y a = elim a [ inl e ↦ omega (arith, ap (λ z. terms.size (f z)) e) | inr b ↦ elim b [ ] ]
   size_inside f (terms.app s ts) y a = let r = sizes_inside f ts y a in omega (arith, r)
 

@@ -53,11 +53,11 @@ StepsOnCell owner c target at old new = StepsAs c target at old new (variable_nu
 
 -- ---- a whole pattern
 -- the images are numbered from k on, and their slices stand for these terms
-abbrev pub AreImages : ℕ → List Image → List Term → Type 0
-AreImages k [] [] = Unit {0}
-AreImages k [] (u ∷ us) = ⊥
-AreImages k (i ∷ is) [] = ⊥
-AreImages k (i ∷ is) (u ∷ us) = (i.number ≡ k) × StandsFor i.value.now u × AreImages (suc k) is us
+abbrev pub AreNumberedImages : ℕ → List Image → List Term → Type 0
+AreNumberedImages k [] [] = Unit {0}
+AreNumberedImages k [] (u ∷ us) = ⊥
+AreNumberedImages k (i ∷ is) [] = ⊥
+AreNumberedImages k (i ∷ is) (u ∷ us) = (i.number ≡ k) × StandsFor i.value.now u × AreNumberedImages (suc k) is us
 
 abbrev pub AreWholeImages : List Image → Type 0
 AreWholeImages = AllByRecursion (λ i. IsWhole i.value.now)
@@ -81,7 +81,7 @@ abbrev pub NoMatch : Term → Term → Type 0
 NoMatch q e = (f : Variable → Term) → terms.substitute f q ≡ e → ⊥
 
 abbrev pub IsMatchedBy : Owner → Term → Term → List Image → Bool → Type 0
-IsMatchedBy owner q e images true = (us : List Term) × AreImages 0 images us × MatchesBy owner q e us
+IsMatchedBy owner q e images true = (us : List Term) × AreNumberedImages 0 images us × MatchesBy owner q e us
 IsMatchedBy owner q e images false = NoMatch q e
 
 abbrev pub IsMatched : Owner → List Cell → List Cell → List Image → Bool → Type 0

@@ -1,5 +1,5 @@
 -- What stands in the canonical list of two terms.
-use Rattle.std.specs.Prelude.{◌≡◌, ℕ, Bool, List, Option}
+use Rattle.std.specs.Prelude.{◌≡◌, ℕ, ◌≤◌, Bool, List, length, Option}
 use Rattle.std.specs.List.{AllByRecursion}
 use Rattle.si_defs.specs.Terms.{variables, symbols}
 use Rattle.si_defs.specs.Symbols.{Symbol}
@@ -53,3 +53,7 @@ AtomsAreAnswered =
     → IsSoundAtom u
     → AnswersToTexts kind p u (signed positive number) variable answer
     → AnswersToTexts kind p u number variable answer
+
+-- each right side has at most so many cells
+abbrev pub AreNoLonger : ℕ → List Binding → Type 0
+AreNoLonger n = AllByRecursion (λ b. length b.value ≤ n)

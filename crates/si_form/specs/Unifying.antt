@@ -75,13 +75,12 @@ pub record HasApplication (slots : Slots) (f : Variable → Term) (slot size : �
   pub image_is : f (variable_of slots slot) ≡ terms.substitute f (terms.app symbol arguments)
   pub known : AllByRecursion (λ y. (j : ℕ) × (j < slot_count slots) × (y ≡ variable_of slots j)) (terms.variables_of_all arguments)
   pub size_is : terms.size (terms.app symbol arguments) ≡ size
-  pub small : size < 2 ^ 32
 
 abbrev pub IsBoundTo : Slots → Pairs → ℕ → Option ℕ → Type 0
 IsBoundTo slots pairs slot None =
     (f : Variable → Term) → IsGeneral slots pairs f → (y : Variable) × (f (variable_of slots slot) ≡ terms.var y)
 IsBoundTo slots pairs slot (Some size) =
-    (f : Variable → Term) → IsGeneral slots pairs f → HasApplication slots f slot size
+    (size < 2 ^ 32) × ((f : Variable → Term) → IsGeneral slots pairs f → HasApplication slots f slot size)
 
 -- ---- what is known of the classes that the bindings make
 pub record AreFound (slots : Slots) (pairs : Pairs) (nodes : List Node) (classes : List ℕ) (leaders : List (Option ℕ)) (sizes : List ℕ) : Type 0 where

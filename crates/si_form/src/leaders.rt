@@ -21,7 +21,8 @@ fn lead(leaders: &mut Vec<Option<usize>>, class: usize, slot: usize)
 /// For each class the slot of the first variable in it.
 pub(crate) fn leaders(alloc: Global, classes: &Classes) -> Result<Vec<Option<usize>>, AllocError>
     requires { AllByRecursion (λ n. n < length classes.now.nodes.keys) classes.now.of_slots.items }
-    ensures long { IfOk result (λ leaders. length leaders.items ≡ length classes.now.nodes.keys) }
+    ensures long { IfOk result
+        (λ leaders. length leaders.items ≡ length classes.now.nodes.keys) }
     ensures leads { IfOk result (λ leaders. (slots : Slots) → LeadClasses slots
         classes.now.nodes.keys classes.now.of_slots.items (length classes.now.of_slots.items)
         leaders.items) }

@@ -47,7 +47,8 @@ fn count(alloc: Global, lists: &[Option<Vec<usize>>]) -> Result<Vec<u128>, Alloc
     requires { HasNoCircle (uses_at lists.now) (length lists.now) }
     ensures long { IfOk result (λ counts. length counts.items ≡ length lists.now) }
     ensures counted { IfOk result (λ counts. (j : ℕ) → slice_index_or counts.items j 0
-        ≡ times_used (uses_at lists.now) (listed_below (uses_at lists.now) (length lists.now)) j) }
+        ≡ times_used (uses_at lists.now)
+        (listed_below (uses_at lists.now) (length lists.now)) j) }
 {
     let mut counts = Vec::new(alloc);
     counts.resize(lists.len(), 0)?;
@@ -92,8 +93,8 @@ fn release(
 ) -> Result<(), AllocError>
     requires { (order : List ℕ) × IsPartlyOrdered (uses_at lists.now) (length lists.now)
         counts.old.items free.old.keys order used.now }
-    ensures { OnOk result ((order : List ℕ) → IsPartlyOrdered (uses_at lists.now) (length lists.now)
-        counts.old.items free.old.keys order used.now → IsPartlyOrdered (uses_at lists.now)
+    ensures { OnOk result ((order : List ℕ) → IsPartlyOrdered (uses_at lists.now)
+        (length lists.now) counts.old.items free.old.keys order used.now → IsPartlyOrdered (uses_at lists.now)
         (length lists.now) counts.new.items free.new.keys order []) }
 {
     for &number in used {

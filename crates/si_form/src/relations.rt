@@ -1,16 +1,18 @@
 // The canonical solution list of each kind of matching.
-ghost use Rattle.std.specs.Prelude.{◌≡◌, IfOk, map};
+ghost use Rattle.std.specs.Prelude.{◌≡◌, max, IfOk, IfSome, length, map};
 ghost use Rattle.si_flat.specs.Cells.{IsWhole};
 ghost use Rattle.si_defs.specs.declared.Relation.TheVariants.{Variants, Instances, Generalizations};
 ghost use Rattle.si_flat.specs.declared.Owner.TheVariants.{Query, Entry};
 ghost use Rattle.si_form.specs.Answers.{AreNumbered, Answers};
 ghost use Rattle.si_form.specs.Matching.{binding_of, AreWholeImages, MatchAnswers};
+ghost use Rattle.si_form.specs.SolutionParts.{AreNoLonger};
 
 use crate::matching::{Image, matches};
 use crate::solution::{Binding, Solution};
-use crate::unifying::unifier;
+use crate::unifying::unifier_with;
 use si_defs::Relation;
 use si_flat::{Cell, Flat, Owner};
+use si_unify::Scratch;
 use std::alloc::{AllocError, Global};
 
 // The bindings of variables to copies of what they stand for.
@@ -54,7 +56,8 @@ fn matched(
 pub fn instance(alloc: Global, query: &Flat, entry: &Flat) -> Result<Option<Solution>, AllocError>
     requires query { AreNumbered Query query.now }
     requires entry { AreNumbered Entry entry.now }
-    ensures { IfOk result (Answers Instances query.now entry.now) }
+    ensures answers { IfOk result (Answers Instances query.now entry.now) }
+    ensures short { IfOk result (λ list. IfSome list (AreNoLonger (length entry.now))) }
 {
     matched(alloc, Owner::Query, query.cells(), entry.cells())
 }
@@ -67,7 +70,8 @@ pub fn generalization(
 ) -> Result<Option<Solution>, AllocError>
     requires query { AreNumbered Query query.now }
     requires entry { AreNumbered Entry entry.now }
-    ensures { IfOk result (Answers Generalizations query.now entry.now) }
+    ensures answers { IfOk result (Answers Generalizations query.now entry.now) }
+    ensures short { IfOk result (λ list. IfSome list (AreNoLonger (length query.now))) }
 {
     matched(alloc, Owner::Entry, entry.cells(), query.cells())
 }
@@ -76,7 +80,8 @@ pub fn generalization(
 pub fn variant(alloc: Global, query: &Flat, entry: &Flat) -> Result<Option<Solution>, AllocError>
     requires query { AreNumbered Query query.now }
     requires entry { AreNumbered Entry entry.now }
-    ensures { IfOk result (Answers Variants query.now entry.now) }
+    ensures answers { IfOk result (Answers Variants query.now entry.now) }
+    ensures short { IfOk result (λ list. IfSome list (AreNoLonger (length entry.now))) }
 {
     let mut images = Vec::new(alloc);
     if !matches(Owner::Entry, entry.cells(), query.cells(), &mut images)? {
@@ -94,12 +99,31 @@ pub fn canonical(
 ) -> Result<Option<Solution>, AllocError>
     requires query { AreNumbered Query query.now }
     requires entry { AreNumbered Entry entry.now }
-    ensures { IfOk result (Answers kind query.now entry.now) }
+    ensures answers { IfOk result (Answers kind query.now entry.now) }
+    ensures short { IfOk result (λ list. IfSome list (AreNoLonger (max (length query.now)
+        (length entry.now)))) }
+{
+    canonical_with(&mut Scratch::new(alloc), alloc, kind, query, entry)
+}
+
+/// Does the same as [`canonical`], and solves in memory that is lent: for callers that ask often.
+pub fn canonical_with(
+    scratch: &mut Scratch,
+    alloc: Global,
+    kind: Relation,
+    query: &Flat,
+    entry: &Flat,
+) -> Result<Option<Solution>, AllocError>
+    requires query { AreNumbered Query query.now }
+    requires entry { AreNumbered Entry entry.now }
+    ensures answers { IfOk result (Answers kind query.now entry.now) }
+    ensures short { IfOk result (λ list. IfSome list (AreNoLonger (max (length query.now)
+        (length entry.now)))) }
 {
     match kind {
         Relation::Variants => variant(alloc, query, entry),
         Relation::Instances => instance(alloc, query, entry),
         Relation::Generalizations => generalization(alloc, query, entry),
-        Relation::Unifiable => unifier(alloc, query, entry),
+        Relation::Unifiable => unifier_with(scratch, alloc, query, entry),
     }
 }

@@ -4,8 +4,8 @@ ghost use Rattle.si_flat.specs.Cells.{IsWhole};
 ghost use Rattle.si_form.specs.Answers.{AreNumbered};
 
 use crate::{
-    Owner, Solution, canonical, canonical_lists_are_unique, generalization, instance, unifier,
-    variant,
+    Owner, Scratch, Solution, canonical, canonical_lists_are_unique, canonical_with,
+    generalization, instance, unifier, variant,
 };
 use si_defs::Relation;
 use si_flat::{Cell, Flat};
@@ -135,6 +135,8 @@ fn lists_of_unifiable_terms(rt: HostRuntime) -> Result<(), Fail> {
         &[(Owner::Query, 1, &[x]), (Owner::Entry, 0, &[x])],
     );
     assert_lists(&rt, unifier(alloc, &constant, &only)?, &[]);
-    assert!(rt; canonical(alloc, Relation::Unifiable, &twice, &ground)?.is_none());
+    let mut scratch = Scratch::new(alloc);
+    let none = canonical_with(&mut scratch, alloc, Relation::Unifiable, &twice, &ground)?;
+    assert!(rt; none.is_none());
     Ok(())
 }

@@ -1,5 +1,5 @@
 // The canonical list of two terms that can be unified.
-ghost use Rattle.std.specs.Prelude.{◌≡◌, ◌<◌, false, length, IfOk};
+ghost use Rattle.std.specs.Prelude.{◌≡◌, ◌<◌, false, length, max, IfOk, IfSome};
 ghost use Rattle.std.specs.List.{AllByRecursion};
 ghost use Rattle.si_defs.specs.declared.Relation.TheVariants.{Unifiable};
 ghost use Rattle.si_flat.specs.declared.Owner.TheVariants.{Query as OfQuery, Entry as OfEntry};
@@ -8,6 +8,7 @@ ghost use Rattle.si_trail.specs.Trails.{HasDistinctSlots};
 ghost use Rattle.si_unify.specs.Solving.{slot_count, variable_of, IsAcyclic, IsBinding};
 ghost use Rattle.si_form.specs.Answers.{AreNumbered, Answers};
 ghost use Rattle.si_form.specs.Ordering.{list_of};
+ghost use Rattle.si_form.specs.SolutionParts.{AreNoLonger};
 ghost use Rattle.si_form.specs.Unifying.{IsBoundTo, AreFound, HasGeneral, HasRightSide, HaveRightSides, AreUses, slots_among, AreListed, ListsBindings, ListsAllBindings, AreFree, AreSlotsOf};
 
 use crate::classes::{Classes, find_classes};
@@ -19,7 +20,7 @@ use crate::uses::{slot_of, slots_of};
 use crate::variables::{count_variables, size};
 use si_flat::{Cell, Flat, Owner};
 use si_trail::Trail;
-use si_unify::{Slots, solve};
+use si_unify::{Scratch, Slots, solve_with};
 use std::alloc::{AllocError, Global};
 
 // The number of cells of the application that a variable is bound to, at once or through others.
@@ -88,7 +89,8 @@ fn right_sides<'a>(
     requires triangular { IsAcyclic slots.now trail.now.pairs }
     ensures distinct { HasDistinctSlots trail.now.pairs }
     ensures long { IfOk result (λ rights. length rights.items ≡ slot_count slots.now) }
-    ensures rights { IfOk result (λ rights. HaveRightSides slots.now trail.now.pairs rights.items) }
+    ensures rights { IfOk result
+        (λ rights. HaveRightSides slots.now trail.now.pairs rights.items) }
 {
     let count = trail.slots();
     let classes = find_classes(alloc, slots, trail)?;
@@ -217,11 +219,29 @@ fn slots_for(query: &Flat, entry: &Flat) -> Slots
 pub fn unifier(alloc: Global, query: &Flat, entry: &Flat) -> Result<Option<Solution>, AllocError>
     requires query { AreNumbered OfQuery query.now }
     requires entry { AreNumbered OfEntry entry.now }
-    ensures { IfOk result (Answers Unifiable query.now entry.now) }
+    ensures answers { IfOk result (Answers Unifiable query.now entry.now) }
+    ensures short { IfOk result (λ list. IfSome list (AreNoLonger (max (length query.now)
+        (length entry.now)))) }
+{
+    unifier_with(&mut Scratch::new(alloc), alloc, query, entry)
+}
+
+// Does the same as `unifier`; it solves in memory that is lent.
+pub(crate) fn unifier_with(
+    scratch: &mut Scratch,
+    alloc: Global,
+    query: &Flat,
+    entry: &Flat,
+) -> Result<Option<Solution>, AllocError>
+    requires query { AreNumbered OfQuery query.now }
+    requires entry { AreNumbered OfEntry entry.now }
+    ensures answers { IfOk result (Answers Unifiable query.now entry.now) }
+    ensures short { IfOk result (λ list. IfSome list (AreNoLonger (max (length query.now)
+        (length entry.now)))) }
 {
     let slots = slots_for(query, entry);
     let mut trail = Trail::with_slots(alloc, slots.count())?;
-    if !solve(alloc, &mut trail, &slots, query.cells(), entry.cells())? {
+    if !solve_with(scratch, &mut trail, &slots, query.cells(), entry.cells())? {
         return Ok(None);
     }
     let solution = whole_list(alloc, &slots, &trail)?;

@@ -14,6 +14,7 @@ mod texts;
 
 pub use faults::{HarvestFault, HarvestLimits, Loaded};
 pub use loading::expand;
+pub use store::roll_back;
 pub use texts::take_text;
 
 #[cfg(test)]

@@ -26,8 +26,8 @@ pub fn expand<L: Library, T: ClauseStore>(
     requires limit { T.limit store.old ≤ MOST_OCCURRENCES }
     ensures loaded { IfOk result (λ loaded. Gained (T.limit store.old) (T.clauses store.old) loaded
         (T.clauses store.new)) }
-    ensures right { IfOk result (λ loaded. IfSome (L.files library.old) (λ files. GainsByLoad files
-        (bounds_of limits.now) (T.limit store.old) (T.clauses store.old) name.now
+    ensures right { IfOk result (λ loaded. IfSome (L.files library.old) (λ files.
+        GainsByLoad files (bounds_of limits.now) (T.limit store.old) (T.clauses store.old) name.now
         (T.clauses store.new))) }
     ensures fault { IfErr result (λ e. Explains (T.limit store.old) e (HasFault
         (L.files library.old) (bounds_of limits.now) (T.limit store.old) (T.clauses store.old)

@@ -57,7 +57,7 @@ fn refusal(rejected: Rejected) -> HarvestFault
     HarvestFault::Rejected(rejected)
 }
 
-/// Takes the last clauses away, so many of them.
+/// Takes the last clauses away, so many of them, or all where there are fewer.
 pub fn roll_back<T: ClauseStore>(store: &mut T, clauses: u32)
     ensures clauses { T.clauses store.new ≡ take (length (T.clauses store.old) - clauses)
         (T.clauses store.old) }

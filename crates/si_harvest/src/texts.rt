@@ -90,10 +90,12 @@ fn take_next<T: ClauseStore>(
     requires clauses { (clauses : List defs.Clause) × AreClauses clauses (drop at bytes.now) }
     requires limit { T.limit store.old ≤ MOST_OCCURRENCES }
     requires counted { CountsNoMore loaded.old (T.clauses store.old) }
-    ensures taken { IfOk result (λ next. IfSome next (λ end. TakesNext (T.limit store.old) bytes.now
+    ensures taken { IfOk result (λ next. IfSome next (λ end.
+        TakesNext (T.limit store.old) bytes.now
         at end (T.clauses store.old) (T.clauses store.new))) }
     ensures blanks { IfOk result (λ next. IfNone next (AreBlanks (drop at bytes.now))) }
-    ensures ended { IfOk result (λ next. IfNone next (T.clauses store.new ≡ T.clauses store.old)) }
+    ensures ended { IfOk result (λ next.
+        IfNone next (T.clauses store.new ≡ T.clauses store.old)) }
     ensures fault { IfErr result (λ e. Explains (T.limit store.old) e (RefusesNext
         (T.limit store.old) bytes.now at (T.clauses store.old))) }
     ensures counted { CountsNoMore loaded.new (T.clauses store.new) }

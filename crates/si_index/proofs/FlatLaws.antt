@@ -1,5 +1,5 @@
 -- What is answered to the flat terms of a pattern and an entry, it says of the pattern and the entry.
-use Rattle.std.proofs.Common.{◌≡◌, ℕ, Bool, true, false, not, List, [], ◌∷◌, ◌++◌, map, inl, inr, refl, ap, sym, subst, true≢false, is_some}
+use Rattle.std.proofs.Common.{◌≡◌, ℕ, Bool, true, false, not, List, [], ◌∷◌, ◌++◌, map, inl, inr, refl, ap, sym, subst}
 use Rattle.std.specs.Prelude.{Option, Some, None, bytes_eq}
 use Rattle.std.specs.List.{AllByRecursion}
 use Rattle.std.proofs.lemmas.Slice.Eq.{bytes_eq-Decides}
@@ -30,7 +30,7 @@ use Rattle.si_form.proofs.NumberingLaws.{answers_are_kept}
 use Rattle.si_form.proofs.SolutionLaws.{solutions_are_of_terms, atoms_are_answered}
 use Rattle.si_form.proofs.TableLaws.{entries_need_the_table_alone}
 use Rattle.si_sign.proofs.UsesOf.{among_left, among_append, all_among}
-use Rattle.si_index.specs.Searching.{AreAlike, IsKnownEntry, names_in, TellsIfSolved, AnswersEntry}
+use Rattle.si_index.specs.Searching.{AreAlike, IsKnownEntry, names_in, AnswersEntry}
 
 -- ---- numbers
 -- symbols that have numbers don't lack one, and the other way round
@@ -148,15 +148,11 @@ flat_answers kind table (term_pattern t) q (term_entry u) list answer numbering 
 flat_answers kind table (literal_pattern l) q (term_entry u) list answer numbering sound query known alike flat told = absurd alike
 flat_answers kind table (term_pattern t) q (literal_entry k) list answer numbering sound query known alike flat told = absurd alike
 
--- ---- whether an entry is answered
-pub told_unfit : (kind : Relation) (p : Pattern) (e : Entry) → AreAlike p e → (TextsRelate kind (whole_of (pattern_entry p)) (whole_of e) → ⊥) → TellsIfSolved kind p e false
-told_unfit kind p e alike unfit = record { yes = λ h. absurd (true≢false (sym h)); always = λ s. absurd (unfit (related p e alike s)) } where
+-- ---- where the symbols don't allow the relation
+pub unfit_fails : (kind : Relation) (p : Pattern) (e : Entry) → AreAlike p e → (TextsRelate kind (whole_of (pattern_entry p)) (whole_of e) → ⊥) → Stands kind p e → ⊥
+unfit_fails kind p e alike unfit stands = unfit (related p e alike stands) where
   related : (p : Pattern) (e : Entry) → AreAlike p e → Stands kind p e → TextsRelate kind (whole_of (pattern_entry p)) (whole_of e)
   related (literal_pattern l) (literal_entry k) alike s = s.1
   related (term_pattern t) (term_entry u) alike s = s
   related (literal_pattern l) (term_entry u) alike s = absurd alike
   related (term_pattern t) (literal_entry k) alike s = absurd alike
-
-pub told_answered : (kind : Relation) (numbers : Numbering) (p : Pattern) (e : Entry) (answer : Option (List Binding)) → AnswersEntry kind numbers p e answer → TellsIfSolved kind p e (is_some answer)
-told_answered kind numbers p e None h = record { yes = λ t. absurd (true≢false (sym t)); always = λ s. absurd (h s) }
-told_answered kind numbers p e (Some bs) h = record { yes = λ t. record { stands = h.stands; solution = h.solution; solves = h.solves }; always = λ s. refl }

@@ -210,7 +210,7 @@ literals_step k ls i l h e =
 pub literals_end : (k n : ℕ) (ls : List program_literal.Literal) (i : ℕ) → length ls ≤ i → map (at_position k) (entries_from n (map literal_of (drop i ls))) ≡ []
 literals_end k n ls i h = ap (λ r. map (at_position k) (entries_from n (map literal_of r))) (drop_all i ls h)
 
-drop_got : (cs : List Clause) (i : ℕ) (c : Clause) → slice_get cs i ≡ Some c → drop i cs ≡ c ∷ drop (i + 1) cs
+pub drop_got : (cs : List Clause) (i : ℕ) (c : Clause) → slice_get cs i ≡ Some c → drop i cs ≡ c ∷ drop (i + 1) cs
 drop_got [] zero c e = absurd (let wrong : None ≡ Some c = e in cc)
 drop_got [] (suc i) c e = absurd (let wrong : None ≡ Some c = e in cc)
 drop_got (d ∷ cs) zero c e = let same : d ≡ c = cc in ap (λ k. k ∷ cs) same
@@ -260,4 +260,5 @@ matches_few s cs ms h =
 -- each hit has a solution
 pub hits_solved : (s : Search) (ms : List Match) → AllByRecursion (IsMatch s) ms → AllByRecursion (λ (hit : ℕ × Placed). HasSolution s.relation (pattern_in s) hit.1.entry) (map hit_of ms)
 hits_solved s [] all = tt
-hits_solved s (m ∷ ms) all = (all.0.solved, hits_solved s ms all.1)
+hits_solved s (m ∷ ms) all =
+    (record { stands = all.0.solved.stands; solution = all.0.solved.solution; solves = all.0.solved.solves }, hits_solved s ms all.1)

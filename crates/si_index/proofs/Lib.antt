@@ -11,6 +11,8 @@ mod NameLaws
 mod NamedLaws
 mod PutLaws
 mod Results
+mod ScreenLaws
 mod SlotLaws
 mod StoreLaws
+mod SubsumingLaws
 mod SumLaws

@@ -11,3 +11,4 @@ pub mod RanksFall
 pub mod Searching
 pub mod Showing
 pub mod Stored
+pub mod Subsuming

@@ -1,6 +1,6 @@
 -- A search through the entries of clauses: what it is made of, what it asks of the entries, and
 -- what it has gathered.
-use Rattle.std.specs.Prelude.{◌≡◌, ℕ, Bool, true, ◌≤◌, List, [], ◌∷◌, ◌++◌, length, map, Option, Some, None, bytes_eq}
+use Rattle.std.specs.Prelude.{◌≡◌, ℕ, ◌≤◌, List, [], ◌∷◌, ◌++◌, length, map, Option, Some, None, bytes_eq}
 use Rattle.std.specs.List.{AllByRecursion}
 use Rattle.si_defs.specs.Bytes.{Bytes}
 use Rattle.si_defs.specs.Terms.{size, sizes, symbols, symbols_of_all, firsts}
@@ -10,7 +10,6 @@ use Rattle.si_defs.specs.Entries.{Entry, literal_entry, term_entry, Placed, entr
 use Rattle.si_defs.specs.Variables.{Solution}
 use Rattle.si_defs.specs.declared.TheConstants.{MOST_OCCURRENCES}
 use Rattle.si_defs.specs.declared.Relation.{Relation}
-use Rattle.si_defs.specs.declared.Relation.TheVariants.{Variants, Instances, Generalizations, Unifiable}
 use Rattle.si_state.specs.Signatures.{numbering}
 use Rattle.si_state.specs.Answers.{Stands, Solves}
 use Rattle.si_term.specs.Meaning.{pattern_of, entry_of, place_of}
@@ -76,11 +75,6 @@ pub record HasSolution (relation : Relation) (p : Pattern) (e : Entry) : Type 0 
   pub solution : Solution
   pub solves : Solves relation p e solution
 
--- whether it does
-pub record TellsIfSolved (relation : Relation) (p : Pattern) (e : Entry) (tells : Bool) : Type 0 where
-  pub yes : tells ≡ true → HasSolution relation p e
-  pub always : Stands relation p e → tells ≡ true
-
 abbrev pub names_in : Entry → List Bytes
 names_in e = firsts bytes_eq (entry_variables e)
 
@@ -102,10 +96,12 @@ abbrev pub AnswersIn : Search → Entry → Option (List Binding) → Type 0
 AnswersIn s e answer = AnswersEntry s.relation (query_numbers (numbers_of s) s.query.extra) (pattern_in s) e answer
 
 -- ---- what was gathered
+-- an entry that stands in the relation, with its list and its names
 pub record IsMatch (s : Search) (m : Match) : Type 0 where
   pub known : IsKnownEntry (numbers_of s) (entry_of m.entry)
   pub alike : AreAlike (pattern_in s) (entry_of m.entry)
-  pub solved : HasSolution s.relation (pattern_in s) (entry_of m.entry)
+  pub solved : AnswersIn s (entry_of m.entry) (Some m.solution)
+  pub names : m.entry_names ≡ names_in (entry_of m.entry)
 
 -- the match as a hit
 abbrev pub hit_of : Match → ℕ × Placed
@@ -126,8 +122,9 @@ placed_under position number path (o ∷ os) =
     ∷ placed_under position number path os
 
 -- what was found in an index: no more than its clauses may have
-pub record IsFound (index : Kept) (s : Search) (matches : List Match) : Type 0 where
+pub record IsFound (index : Kept) (s : Search) (query_names : List Bytes) (matches : List Match) : Type 0 where
   pub numbers : numbers_of s ≡ index.numbers
   pub ready : IsReady s
+  pub names : query_names ≡ names_in (pattern_entry (pattern_in s))
   pub few : length matches ≤ MOST_OCCURRENCES
   pub each : AllByRecursion (IsMatch s) matches

@@ -16,6 +16,7 @@ use Rattle.si_form.specs.Numberings.{variable_by, list_by, symbols_of}
 use Rattle.si_form.specs.SolutionParts.{IsBindingOf}
 use Rattle.si_form.specs.TableNumbers.{HaveNumbers}
 use Rattle.si_index.specs.Finding.{Finding}
+use Rattle.si_index.specs.declared.found.Lent.{Lent}
 use Rattle.si_index.specs.declared.found.Shown.{Shown}
 
 -- The names are those of the variables, and the bindings stand for the canonical list, with the
@@ -31,8 +32,12 @@ pub record ShowsEntry (numbers : Numbering) (relation : Relation) (pattern : Pat
   pub symbols : HaveNumbers (query_numbers numbers s.extra) (symbols_of (whole_of (pattern_entry pattern)) (whole_of e))
   pub list : StandsForList s.solution (list_by (number_in (query_numbers numbers s.extra)) (variable_by s.query_names s.entry_names) solution)
 
+-- what is lent, as what is shown
+abbrev pub shown_of : Lent → Shown
+shown_of l = record { solution = l.solution.now; query_names = l.query_names.now; entry_names = l.entry_names.now; extra = l.extra.now }
+
 -- the same of the hit with this number
-abbrev pub Shows : Finding → ℕ → Shown → Type 0
-Shows finding n s =
+abbrev pub ShowsHit : Finding → ℕ → Shown → Type 0
+ShowsHit finding n s =
     (hit : ℕ × Placed) × (slice_get finding.hits n ≡ Some hit)
     × ShowsEntry finding.index.numbers finding.relation finding.pattern hit.1.entry s

@@ -12,13 +12,15 @@ use si_term::{Sym, Term};
 /// Whether no place of two terms forbids the relation. Both are walked over, as far as variables of
 /// either, and no memory is taken.
 pub(crate) fn fits(relation: Relation, query: &Term, term: &Term) -> bool
-    ensures { IsFalse result → TextsRelate relation (term_of query.now) (term_of term.now) → ⊥ }
+    ensures { IsFalse result
+        → TextsRelate relation (term_of query.now) (term_of term.now) → ⊥ }
 {
     may_become(relation, query, term)
 }
 
+/// Whether some substitutions may make the terms stand in the relation.
 #[cycle(fitting)]
-fn may_become(relation: Relation, query: &Term, term: &Term) -> bool
+pub(crate) fn may_become(relation: Relation, query: &Term, term: &Term) -> bool
     ensures { IsFalse result → (w : Witness)
         → Becomes relation w (term_of query.now) (term_of term.now) → ⊥ }
 {
@@ -36,7 +38,8 @@ fn may_become(relation: Relation, query: &Term, term: &Term) -> bool
 #[cycle(fitting)]
 fn all_may_become(relation: Relation, queries: &[Term], terms: &[Term]) -> bool
     ensures { IsFalse result → (w : Witness)
-        → BecomeAll relation w (row (map term_of queries.now)) (row (map term_of terms.now)) → ⊥ }
+        → BecomeAll relation w (row (map term_of queries.now)) (row (map term_of terms.now))
+        → ⊥ }
 {
     for i in 0..queries.len().min(terms.len()) {
         if !may_become(relation, &queries[i], &terms[i]) {

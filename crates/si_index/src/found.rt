@@ -38,11 +38,21 @@ pub struct Shown {
     pub extra: Syms,
 }
 
+/// The parts of a `Shown`, lent by what was found.
+#[derive(Drop)]
+pub struct Lent<'a> {
+    pub solution: &'a Solution,
+    pub query_names: &'a Texts,
+    pub entry_names: &'a Texts,
+    pub extra: &'a Syms,
+}
+
 /// The entries that stand in a relation to a pattern, in the order of acceptance and of entries.
 #[derive(Drop)]
 pub struct Found<'a> {
     index: &'a Index,
     search: Search<'a>,
+    query_names: Texts,
     matches: Vec<Match<'a>>,
 }
 
@@ -66,12 +76,13 @@ impl<'a> Model for Found<'a> {
 
     ghost use Rattle.si_index.specs.Searching.{IsFound};
 
-    ghost invariant = { λ f. IsFound f.index.now f.search f.matches.items };
+    ghost invariant = { λ f.
+        IsFound f.index.now f.search f.query_names f.matches.items };
 }
 
 impl<'a> Found<'a> {
     ghost use Rattle.si_index.specs.Finding.{position_and_place};
-    ghost use Rattle.si_index.specs.Showing.{Shows};
+    ghost use Rattle.si_index.specs.Showing.{ShowsHit, shown_of};
 
     /// The number of hits.
     pub fn len(&self) -> u32
@@ -92,7 +103,7 @@ impl<'a> Found<'a> {
     /// The canonical list of the hit with this number from 0.
     pub fn shown(&self, n: u32) -> Result<Shown, AllocError>
         requires { n < length self.now.hits }
-        ensures { IfOk result (λ shown. Shows self.now n shown) }
+        ensures { IfOk result (λ shown. ShowsHit self.now n shown) }
     {
         let search = &self.search;
         let entry = self.matches[n as usize].entry;
@@ -105,6 +116,20 @@ impl<'a> Found<'a> {
             entry_names: vars_of(search.alloc, entry)?,
             extra: copy_symbols(search.alloc, &search.query.extra)?,
         })
+    }
+
+    /// What `shown` gives, without memory.
+    pub fn lent(&self, n: u32) -> Lent<'_>
+        requires { n < length self.now.hits }
+        ensures { ShowsHit self.now n (shown_of result) }
+    {
+        let found = &self.matches[n as usize];
+        Lent {
+            solution: &found.solution,
+            query_names: &self.query_names,
+            entry_names: &found.entry_names,
+            extra: &self.search.query.extra,
+        }
     }
 }
 
@@ -126,8 +151,8 @@ impl Index {
     /// The kept entries that stand in the relation to the pattern. Those of a literal pattern are
     /// the literals of its sign, by their atoms, and those of a term the subterms.
     ///
-    /// All clauses are walked over once. Memory is taken for hits, and for entries whose symbols
-    /// allow the relation.
+    /// All clauses are walked over once. Memory is taken for hits with their lists and names, and
+    /// for entries whose symbols allow the relation.
     pub fn find<'a>(
         &'a self,
         relation: Relation,
@@ -152,10 +177,12 @@ impl Index {
             pattern,
             query: flatten_pattern(alloc, signature, pattern)?,
         };
+        let query_names = vars_of(alloc, pattern.as_entry())?;
         let matches = search_clauses(&search, self, stats.clauses)?;
         Ok(Found {
             index: self,
             search,
+            query_names,
             matches,
         })
     }

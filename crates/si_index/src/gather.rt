@@ -13,14 +13,17 @@ ghost use Rattle.si_index.specs.Searching.{numbers_of, pattern_in, IsReady, IsTe
 use crate::found::Hit;
 use crate::index::Index;
 use crate::search::Search;
-use si_term::{Clause, Entry, Literal, Path, Pattern, Place, Term};
+use si_form::Solution;
+use si_term::{Clause, Entry, Literal, Path, Pattern, Place, Term, Texts, vars_of};
 use std::alloc::{AllocError, Global};
 
-/// An entry that was found, and where it stands.
+/// An entry that was found: where it stands, its canonical list, and the names of its variables.
 #[derive(Drop)]
 pub(crate) struct Match<'a> {
     pub(crate) hit: Hit,
     pub(crate) entry: Entry<'a>,
+    pub(crate) solution: Solution,
+    pub(crate) entry_names: Texts,
 }
 
 /// What a walk has gathered, and the argument numbers from 1 that lead from the atom to where it
@@ -68,9 +71,10 @@ fn try_entry<'a>(
     ) ∷ []) gathered.old.matches.items gathered.new.matches.items) }
     ensures path { OnOk result (gathered.new.path.items ≡ gathered.old.path.items) }
 {
-    if !search.holds(entry)? {
+    let Some(solution) = search.solve(entry)? else {
         return Ok(());
-    }
+    };
+    let entry_names = vars_of(search.alloc, entry)?;
     let path = copy_path(search.alloc, &gathered.path)?;
     let hit = Hit {
         clause: spot.clause,
@@ -79,7 +83,12 @@ fn try_entry<'a>(
             path,
         },
     };
-    gathered.matches.push(Match { hit, entry })?;
+    gathered.matches.push(Match {
+        hit,
+        entry,
+        solution,
+        entry_names,
+    })?;
     Ok(())
 }
 

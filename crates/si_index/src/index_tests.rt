@@ -142,7 +142,7 @@ fn digit(number: usize) -> u8 {
 }
 
 /// Appends, of each hit, the position of its clause, the number of its literal, and how many
-/// bindings its list has.
+/// bindings its list has, as it is shown and as it is lent.
 fn tell_hits(
     index: &Index,
     relation: Relation,
@@ -156,6 +156,7 @@ fn tell_hits(
         page.push(digit(found.hit(n).clause as usize))?;
         page.push(digit(found.hit(n).place.literal as usize))?;
         page.push(digit(found.shown(n)?.solution.len()))?;
+        page.push(digit(found.lent(n).solution.len()))?;
     }
     page.push(b'.')?;
     Ok(())
@@ -209,6 +210,9 @@ fn found(alloc: Global) -> Result<Vec<u8>, AllocError> {
 
 #[test]
 fn entries_are_found(rt: HostRuntime) -> Result<(), Fail> {
-    assert_eq!(rt; found(rt.alloc())?.as_slice(), b"011111.010210.".as_slice());
+    assert_eq!(rt;
+        found(rt.alloc())?.as_slice(),
+        b"01111111.01002100.".as_slice()
+    );
     Ok(())
 }

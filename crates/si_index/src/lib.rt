@@ -11,10 +11,13 @@ mod keyed;
 mod known;
 mod names;
 mod ranks;
+mod screen;
 mod search;
+mod subsuming;
 #[cfg(test)]
 mod tests;
 
-pub use found::{Found, Hit, Shown};
+pub use found::{Found, Hit, Lent, Shown};
 pub use index::{Index, Stats};
 pub use si_defs::Relation;
+pub use subsuming::{Mapped, Mappeds};

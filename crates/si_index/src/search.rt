@@ -1,10 +1,9 @@
 // Whether an entry stands in a relation to a pattern, and how.
-ghost use Rattle.std.specs.Prelude.{◌≡◌, IfOk, IsFalse, Decides};
-ghost use Rattle.si_state.specs.Answers.{Stands};
+ghost use Rattle.std.specs.Prelude.{◌≡◌, IfOk};
 ghost use Rattle.si_term.specs.Terms.{term_of};
 ghost use Rattle.si_term.specs.Meaning.{entry_of};
 ghost use Rattle.si_flat.specs.Flattened.{whole_of};
-ghost use Rattle.si_index.specs.Searching.{numbers_of, pattern_in, IsReady, AreAlike, IsKnownEntry, AnswersIn, TellsIfSolved};
+ghost use Rattle.si_index.specs.Searching.{numbers_of, pattern_in, IsReady, AreAlike, IsKnownEntry, AnswersIn};
 
 use crate::fitting::fits;
 use si_defs::Relation;
@@ -36,32 +35,21 @@ fn whole_term(entry: Entry<'_>) -> &Term
 }
 
 impl<'a> Search<'a> {
-    /// The canonical list of an entry; `None` where it doesn't stand in the relation.
+    /// The canonical list of an entry; `None` where it doesn't stand in the relation. No memory is
+    /// taken where the symbols don't allow the relation.
     pub(crate) fn solve(&self, entry: Entry<'_>) -> Result<Option<Solution>, AllocError>
         requires ready { IsReady self.now }
         requires known { IsKnownEntry (numbers_of self.now) (entry_of entry) }
         requires alike { AreAlike (pattern_in self.now) (entry_of entry) }
         ensures { IfOk result (AnswersIn self.now (entry_of entry.entry)) }
     {
+        let wanted = whole_term(self.pattern.as_entry());
+        if !fits(self.relation, wanted, whole_term(entry)) {
+            return Ok(None);
+        }
         let Some(flat) = flatten_entry(self.alloc, self.signature, entry)? else {
             unreachable!()
         };
         canonical(self.alloc, self.relation, &self.query.flat, &flat)
-    }
-
-    /// Whether an entry stands in the relation.
-    pub(crate) fn holds(&self, entry: Entry<'_>) -> Result<bool, AllocError>
-        requires ready { IsReady self.now }
-        requires known { IsKnownEntry (numbers_of self.now) (entry_of entry) }
-        requires alike { AreAlike (pattern_in self.now) (entry_of entry) }
-        ensures { IfOk result (TellsIfSolved self.now.relation (pattern_in self.now)
-            (entry_of entry.entry)) }
-    {
-        let wanted = whole_term(self.pattern.as_entry());
-        if !fits(self.relation, wanted, whole_term(entry)) {
-            return Ok(false);
-        }
-        let solution = self.solve(entry)?;
-        Ok(solution.is_some())
     }
 }

@@ -26,8 +26,10 @@ pub trait Source {
     /// promised: a reader of std may write there.
     fn read(&mut self, into: &mut [u8]) -> Result<usize, Failed>
         ensures bound { IfOk result (λ n. n ≤ length into.old) }
-        ensures taken { IfOk result (λ n. Takes (left self.old) (take n into.new) (left self.new)) }
-        ensures ended { IfOk result (λ n. n ≡ 0 → 0 < length into.old → IsAtEnd (left self.old)) }
+        ensures taken { IfOk result (λ n. Takes (left self.old) (take n into.new)
+            (left self.new)) }
+        ensures ended { IfOk result (λ n. n ≡ 0 → 0 < length into.old
+            → IsAtEnd (left self.old)) }
         ensures kept { OnErr result (left self.new ≡ left self.old) }
         ensures sure { OnErr result (IsTrue (may_fail self.old)) }
         ensures same { may_fail self.new ≡ may_fail self.old }

@@ -1,17 +1,21 @@
 -- A line means one command at most.
-use Rattle.std.proofs.Common.{◌≡◌, ℕ, List, [], ◌∷◌, ◌++◌, refl, sym, ap, ◌∙◌, subst, arith}
+use Rattle.std.proofs.Common.{◌≡◌, ℕ, ◌<◌, ◌^◌, List, [], ◌∷◌, ◌++◌, refl, sym, ap, ◌∙◌, subst, arith}
+use Rattle.std.proofs.lemmas.Fmt.{decimal_injective}
 use Rattle.std.specs.Prelude.{codes}
 use Rattle.si_defs.specs.Bytes.{Bytes}
-use Rattle.si_defs.specs.Clauses.{Pattern, literal_pattern, term_pattern}
+use Rattle.si_defs.specs.Clauses.{Name, Literal, Clause, Pattern, literal_pattern, term_pattern}
 use Rattle.si_defs.specs.Tokens.{Token, lower}
-use Rattle.si_defs.specs.declared.Relation.{Relation}
+use Rattle.si_defs.specs.declared.TokenKind.TheVariants.{Single}
+use Rattle.si_defs.specs.Grammar.{IsName, IsClause, IsFormula}
+use Rattle.si_state.specs.Samples.{AllowsSample}
 use Rattle.si_lex.proofs.TokenLaws.{consists_unique}
 use Rattle.si_parse.proofs.ParseSteps.{heads, tails}
-use Rattle.si_steps.specs.declared.word.Word.TheVariants.{Ask}
-use Rattle.si_steps.specs.Commands.{Command, add, load, remove, query, stats, command_word, IsQuery, AreOperands, IsCommand}
+use Rattle.si_steps.specs.declared.word.Word.{Word}
+use Rattle.si_steps.specs.declared.word.Word.TheVariants.{Add, Load, Remove, Ask, Subsumers, Subsumed, Stats, Tree, Explain, Sample}
+use Rattle.si_steps.specs.Commands.{Command, add, load, remove, query, subsumers, subsumed, stats, sample, command_word, numeral, IsQuery, AreOperands, IsCommand}
 use Rattle.si_steps.proofs.WordLaws.{same_word}
 use Rattle.si_laws.specs.OneReply.{HasOneMeaning}
-use Rattle.si_laws.proofs.GrammarLaws.{term_one, literal_one, name_one, clause_one}
+use Rattle.si_laws.proofs.GrammarLaws.{term_one, literal_one, formula_one, name_one, clause_one}
 
 -- ---- operands
 abbrev first_byte : Bytes → ℕ
@@ -23,6 +27,17 @@ literal_no_term e = by (ap (λ (t : Token). first_byte t.text) e) where
   by : ◌≡◌ {A = ℕ} 108 116 → ⊥
   by f = absurd (omega (arith, f))
 
+-- a formula that is all the tokens
+whole_one : (ls ks : List Literal) (ts us : List Token) → ts ≡ us → IsFormula ls ts → IsFormula ks us → ls ≡ ks
+whole_one ls ks ts us e h k = formula_one ls ks ts us [] [] (ap (λ z. z ++ []) e) h k tt tt
+
+-- what can be drawn fits the numbers of a machine
+drawable_start : (start count : ℕ) → AllowsSample start count → start < 2 ^ 64
+drawable_start start count h = omega (arith, h.start_fits)
+
+drawable_count : (start count : ℕ) → AllowsSample start count → count < 2 ^ 64
+drawable_count start count h = omega (arith, h.count_fits)
+
 query_one : (p q : Pattern) (ts us : List Token) → ts ≡ us → IsQuery p ts → IsQuery q us → p ≡ q
 query_one (literal_pattern l) (literal_pattern k) ts us e (vs, h, f) (ws, i, g) =
     ap literal_pattern (literal_one l k vs ws [] [] (ap (λ z. z ++ []) (tails (sym f ∙ e ∙ g))) h i tt tt).0
@@ -31,42 +46,53 @@ query_one (term_pattern t) (term_pattern u) ts us e (vs, h, f) (ws, i, g) =
 query_one (literal_pattern l) (term_pattern u) ts us e (vs, h, f) (ws, i, g) = absurd (literal_no_term (heads (sym f ∙ e ∙ g)))
 query_one (term_pattern t) (literal_pattern k) ts us e (vs, h, f) (ws, i, g) = absurd (literal_no_term (sym (heads (sym f ∙ e ∙ g))))
 
-relation_is : (r s : Relation) → Ask r ≡ Ask s → r ≡ s
-relation_is r s e = cc
+-- a command that begins with this word and has these operands, one row a word
+abbrev IsOf : Word → Command → List Token → Type 0
+IsOf Add c ts = (clause : Clause) × (c ≡ add clause) × IsClause clause ts
+IsOf Load c ts = (file : Bytes) × (c ≡ load file) × (ts ≡ record { kind = Single; text = file } ∷ [])
+IsOf Remove c ts = (name : Name) × (t : Token) × (c ≡ remove name) × IsName name t × (ts ≡ t ∷ [])
+IsOf (Ask relation) c ts = (pattern : Pattern) × (c ≡ query relation pattern) × IsQuery pattern ts
+IsOf Subsumers c ts = (formula : List Literal) × (c ≡ subsumers formula) × IsFormula formula ts
+IsOf Subsumed c ts = (formula : List Literal) × (c ≡ subsumed formula) × IsFormula formula ts
+IsOf Stats c ts = c ≡ stats
+IsOf Sample c ts =
+    (start : ℕ) × (count : ℕ) × (c ≡ sample start count) × AllowsSample start count × (ts ≡ numeral start ∷ numeral count ∷ [])
+IsOf word c ts = ⊥
 
-same_command : (c d : Command) (xs ys : List Token) → command_word c ≡ command_word d → xs ≡ ys → AreOperands c xs → AreOperands d ys → c ≡ d
-same_command (add a) (add b) xs ys w e h k = ap add (clause_one a b xs ys e h k)
-same_command (add a) (load g) xs ys w e h k = cc
-same_command (add a) (remove m) xs ys w e h k = cc
-same_command (add a) (query s q) xs ys w e h k = cc
-same_command (add a) stats xs ys w e h k = cc
-same_command (load f) (add b) xs ys w e h k = cc
-same_command (load f) (load g) xs ys w e h k = ap (λ (t : Token). load t.text) (heads (sym h ∙ e ∙ k))
-same_command (load f) (remove m) xs ys w e h k = cc
-same_command (load f) (query s q) xs ys w e h k = cc
-same_command (load f) stats xs ys w e h k = cc
-same_command (remove n) (add b) xs ys w e h k = cc
-same_command (remove n) (load g) xs ys w e h k = cc
-same_command (remove n) (remove m) xs ys w e (t, h, f) (u, k, g) = ap remove (name_one n m t u (heads (sym f ∙ e ∙ g)) h k)
-same_command (remove n) (query s q) xs ys w e h k = cc
-same_command (remove n) stats xs ys w e h k = cc
-same_command (query r p) (add b) xs ys w e h k = cc
-same_command (query r p) (load g) xs ys w e h k = cc
-same_command (query r p) (remove m) xs ys w e h k = cc
-same_command (query r p) (query s q) xs ys w e h k = λ i. query (relation_is r s w i) (query_one p q xs ys e h k i)
-same_command (query r p) stats xs ys w e h k = cc
-same_command stats (add b) xs ys w e h k = cc
-same_command stats (load g) xs ys w e h k = cc
-same_command stats (remove m) xs ys w e h k = cc
-same_command stats (query s q) xs ys w e h k = cc
-same_command stats stats xs ys w e h k = refl
+is_of : (c : Command) (ts : List Token) → AreOperands c ts → IsOf (command_word c) c ts
+is_of (add clause) ts h = (clause, refl, h)
+is_of (load file) ts h = (file, refl, h)
+is_of (remove name) ts (t, h, e) = (name, t, refl, h, e)
+is_of (query relation pattern) ts h = (pattern, refl, h)
+is_of (subsumers formula) ts h = (formula, refl, h)
+is_of (subsumed formula) ts h = (formula, refl, h)
+is_of stats ts h = refl
+is_of (sample start count) ts (drawable, e) = (start, count, refl, drawable, e)
+
+-- the operands determine it
+one_of_word : (w : Word) (c d : Command) (ts us : List Token) → ts ≡ us → IsOf w c ts → IsOf w d us → c ≡ d
+one_of_word Add c d ts us e (a, of, h) (b, of_too, k) = of ∙ ap add (clause_one a b ts us e h k) ∙ sym of_too
+one_of_word Load c d ts us e (file, of, h) (other, of_too, k) = of ∙ ap (λ (t : Token). load t.text) (heads (sym h ∙ e ∙ k)) ∙ sym of_too
+one_of_word Remove c d ts us e (n, t, of, h, f) (m, u, of_too, k, g) = of ∙ ap remove (name_one n m t u (heads (sym f ∙ e ∙ g)) h k) ∙ sym of_too
+one_of_word (Ask relation) c d ts us e (p, of, h) (q, of_too, k) = of ∙ ap (query relation) (query_one p q ts us e h k) ∙ sym of_too
+one_of_word Subsumers c d ts us e (ls, of, h) (ks, of_too, k) = of ∙ ap subsumers (whole_one ls ks ts us e h k) ∙ sym of_too
+one_of_word Subsumed c d ts us e (ls, of, h) (ks, of_too, k) = of ∙ ap subsumed (whole_one ls ks ts us e h k) ∙ sym of_too
+one_of_word Stats c d ts us e of of_too = of ∙ sym of_too
+one_of_word Sample c d ts us e (m, i, of, h, f) (n, j, of_too, k, g) =
+    let both = sym f ∙ e ∙ g in
+    let start = decimal_injective m n (drawable_start m i h) (drawable_start n j k) (ap (λ (t : Token). t.text) (heads both)) in
+    let count = decimal_injective i j (drawable_count m i h) (drawable_count n j k) (ap (λ (t : Token). t.text) (heads (tails both))) in
+    of ∙ (λ x. sample (start x) (count x)) ∙ sym of_too
+one_of_word Tree c d ts us e h k = absurd h
+one_of_word Explain c d ts us e h k = absurd h
 
 -- ---- commands
 command_one : (c d : Command) (ts : List Token) → IsCommand c ts → IsCommand d ts → c ≡ d
 command_one c d ts h k =
     let whole = sym h.whole ∙ k.whole in
     let word = same_word (command_word c) (command_word d) (ap (λ (t : Token). t.text) (heads whole)) in
-    same_command c d h.operands k.operands word (tails whole) h.spelled k.spelled
+    one_of_word (command_word d) c d h.operands k.operands (tails whole)
+    (subst (λ w. IsOf w c h.operands) word (is_of c h.operands h.spelled)) (is_of d k.operands k.spelled)
 
 pub one_meaning : (line : Bytes) → HasOneMeaning line
 one_meaning line one other h k =

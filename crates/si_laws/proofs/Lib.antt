@@ -1,8 +1,11 @@
 mod StateLaws
+mod SubsumptionLaws
 mod RefusalLaws
 mod GrammarLaws
 mod ItemLaws
 mod LoadLaws
+mod AnswerLaws
+mod SampleLaws
 mod OutcomeLaws
 mod CommandLaws
 mod StepLaws

@@ -1,59 +1,22 @@
 -- A command has one right outcome in a consistent state.
-use Rattle.std.proofs.Common.{◌≡◌, inl, inr, true, List, [], ◌∷◌, length, Option, Some, None, sym, ap, ◌∙◌, subst}
+use Rattle.std.proofs.Common.{inl, inr, List, [], ◌∷◌, length, Option, Some, None, sym, ap, ◌∙◌, subst}
 use Rattle.si_defs.specs.Bytes.{Bytes}
-use Rattle.si_defs.specs.Clauses.{Clause, Pattern, literal_pattern, term_pattern}
-use Rattle.si_defs.specs.Entries.{Entry, literal_entry, term_entry, Placed, entries, state_entries}
-use Rattle.si_defs.specs.Variables.{Variable, of_pattern, of_entry, same_variable, Apart, Solution}
-use Rattle.si_defs.specs.Solutions.{IsCanonical}
-use Rattle.si_defs.specs.declared.Relation.{Relation}
-use Rattle.si_defs.specs.declared.Relation.TheVariants.{Variants, Instances, Generalizations, Unifiable}
-use Rattle.si_state.specs.Answers.{Hit, IsAnswer, Solves}
+use Rattle.si_defs.specs.Clauses.{Clause}
+use Rattle.si_defs.specs.Entries.{entries, state_entries}
 use Rattle.si_state.specs.Harvest.{Files, state_behind}
+use Rattle.si_state.specs.Subsumption.{IsMap}
 use Rattle.si_steps.specs.declared.limits.Limits.{Limits}
-use Rattle.si_steps.specs.Commands.{Command, add, load, remove, query, stats}
+use Rattle.si_steps.specs.Commands.{Command, add, load, remove, query, subsumers, subsumed, stats, sample}
 use Rattle.si_steps.specs.Loads.{Owed, load_bounds, owed_by, load_line, PerformsLoad}
-use Rattle.si_steps.specs.Replies.{Reply, refusal_line, ok_line, stats_line, answer_reply}
+use Rattle.si_steps.specs.Replies.{Reply, refusal_line, ok_line, stats_line, answer_reply, mapped_reply}
 use Rattle.si_steps.specs.Steps.{Performs, long, later, silent, foreign, wrong, performed, loaded}
-use Rattle.si_sign.proofs.SymbolLaws.{text_is, text_same}
-use Rattle.si_form.proofs.CanonicalLaws.{one_match}
-use Rattle.si_form.proofs.UnifierLaws.{one_unifier}
 use Rattle.si_laws.specs.OneReply.{IsConsistent, HasOneOutcome, LoadsToOneOutcome, StaysConsistent}
 use Rattle.si_laws.proofs.RefusalLaws.{accepts_or_refuses, one_refusal}
 use Rattle.si_laws.proofs.LoadLaws.{accepted_stay, harvest_stays, one_harvest}
+use Rattle.si_laws.proofs.SubsumptionLaws.{same_mappings}
+use Rattle.si_laws.proofs.AnswerLaws.{same_answer}
+use Rattle.si_laws.proofs.SampleLaws.{one_sample, sample_stays}
 use Rattle.si_laws.proofs.StateLaws.{same_removal, removes_taken, same_count, consistent_more, consistent_less}
-
--- ---- an answer
-variable_is : (x y : Variable) → same_variable x y ≡ true → x ≡ y
-variable_is (of_pattern x) (of_pattern y) h = ap of_pattern (text_is x y h)
-variable_is (of_entry x) (of_entry y) h = ap of_entry (text_is x y h)
-variable_is (of_pattern x) (of_entry y) h = cc
-variable_is (of_entry x) (of_pattern y) h = cc
-
-variable_same : (x : Variable) → same_variable x x ≡ true
-variable_same (of_pattern x) = text_same x
-variable_same (of_entry x) = text_same x
-
-one_canonical : (relation : Relation) (q e : Apart) (bs cs : Solution) → IsCanonical same_variable relation q e bs → IsCanonical same_variable relation q e cs → bs ≡ cs
-one_canonical Variants q e bs cs h k = one_match same_variable variable_is variable_same q e bs cs h.1 k.1
-one_canonical Instances q e bs cs h k = one_match same_variable variable_is variable_same q e bs cs h k
-one_canonical Generalizations q e bs cs h k = one_match same_variable variable_is variable_same e q bs cs h k
-one_canonical Unifiable q e bs cs h k = one_unifier same_variable variable_is variable_same q e bs cs h k
-
-one_solution : (relation : Relation) (p : Pattern) (e : Entry) (bs cs : Solution) → Solves relation p e bs → Solves relation p e cs → bs ≡ cs
-one_solution relation (literal_pattern l) (literal_entry k) bs cs h i = one_canonical relation _ _ bs cs h.1 i.1
-one_solution relation (term_pattern t) (term_entry u) bs cs h i = one_canonical relation _ _ bs cs h i
-one_solution relation (literal_pattern l) (term_entry u) bs cs h i = absurd h
-one_solution relation (term_pattern t) (literal_entry k) bs cs h i = absurd h
-
-pub same_answer : (relation : Relation) (p : Pattern) (es : List (Clause × Placed)) (hits others : List Hit) → IsAnswer relation p es hits → IsAnswer relation p es others → hits ≡ others
-same_answer relation p [] hits others h k = h ∙ sym k
-same_answer relation p ((c, e) ∷ es) hits others (inl (stands, (bs, rest, solves, answer, whole))) (inl (stands_too, (cs, left, solves_too, answer_too, whole_too))) =
-    let same = one_solution relation p e.entry bs cs solves solves_too in
-    let after = same_answer relation p es rest left answer answer_too in
-    whole ∙ (λ i. record { clause = c; placed = e; solution = same i } ∷ after i) ∙ sym whole_too
-same_answer relation p ((c, e) ∷ es) hits others (inl h) (inr k) = absurd (k.0 h.0)
-same_answer relation p ((c, e) ∷ es) hits others (inr h) (inl k) = absurd (h.0 k.0)
-same_answer relation p ((c, e) ∷ es) hits others (inr h) (inr k) = same_answer relation p es hits others h.1 k.1
 
 -- ---- a command
 pub one_outcome : (limits : Limits) (command : Command) (state : List Clause) → IsConsistent state → HasOneOutcome limits command state
@@ -73,6 +36,11 @@ one_outcome limits (remove name) state is reply other new behind (inr h) (inr k)
     (h.2 ∙ ap (λ (c : Clause). ok_line 1 (length (entries c)) ∷ []) same.0 ∙ sym k.2, same.1)
 one_outcome limits (query relation p) state is reply other new behind h k =
     (h.2 ∙ ap answer_reply (same_answer relation p (state_entries state) h.0 k.0 h.1 k.1) ∙ sym k.2, h.3 ∙ sym k.3)
+one_outcome limits (subsumers formula) state is reply other new behind h k =
+    (h.2 ∙ ap mapped_reply (same_mappings (λ ls. IsMap ls formula) state h.0 k.0 h.1 k.1) ∙ sym k.2, h.3 ∙ sym k.3)
+one_outcome limits (subsumed formula) state is reply other new behind h k =
+    (h.2 ∙ ap mapped_reply (same_mappings (IsMap formula) state h.0 k.0 h.1 k.1) ∙ sym k.2, h.3 ∙ sym k.3)
+one_outcome limits (sample start count) state is reply other new behind h k = one_sample limits start count state is reply other new behind h k
 one_outcome limits stats state is reply other new behind h k =
     (h.2 ∙ ap (λ n. stats_line (length state) (length (state_entries state)) n ∷ []) (same_count state h.0 k.0 h.1 k.1) ∙ sym k.2, h.3 ∙ sym k.3)
 
@@ -93,6 +61,9 @@ performs_stays limits (load file) state reply new is h = absurd h
 performs_stays limits (remove name) state reply new is (inl h) = subst IsConsistent (sym h.2) is
 performs_stays limits (remove name) state reply new is (inr h) = consistent_less state name h.0 new is h.1
 performs_stays limits (query relation p) state reply new is h = subst IsConsistent (sym h.3) is
+performs_stays limits (subsumers formula) state reply new is h = subst IsConsistent (sym h.3) is
+performs_stays limits (subsumed formula) state reply new is h = subst IsConsistent (sym h.3) is
+performs_stays limits (sample start count) state reply new is h = sample_stays limits start count state reply new is h
 performs_stays limits stats state reply new is h = subst IsConsistent (sym h.3) is
 
 pub load_stays : (limits : Limits) (told : Option Files) (file : Bytes) (state : List Clause) (reply : Reply) (owed : Owed) (new : List Clause) → IsConsistent state

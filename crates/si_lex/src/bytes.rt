@@ -10,8 +10,8 @@ use crate::bytes::First::{
     Slash as SL, Small as SM, Underscore as US, White as WS,
 };
 
-/// What a byte begins. Those of words are the first four and those that begin blanks the last three,
-/// so that one comparison tells either.
+/// What a byte begins. Those of words are the first four and those that begin blanks the last
+/// three, so that one comparison tells either.
 #[derive(Clone, Copy)]
 pub enum First {
     /// A lower word.

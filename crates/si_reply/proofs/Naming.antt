@@ -25,7 +25,7 @@ use Rattle.si_defs.specs.Printing.{separated, term_text, more_texts, bindings_te
 use Rattle.si_reply.specs.PrintedParts.{arguments_text, binding_text, more_bindings_text, bindings_text}
 use Rattle.si_reply.proofs.Pieces.{four_apart}
 use Rattle.si_reply.proofs.Writing.{Wrote}
-use Rattle.si_reply.specs.NamedLists.{Naming, naming, number_by, variable_of, Shows, ShowAll, ShowsVariable, ShowsSymbol, ShowsBinding, ShowsList}
+use Rattle.si_reply.specs.NamedLists.{Naming, naming, symbol_number, numbered_variable, ShowsTerm, ShowAll, ShowsVariable, ShowsSymbol, ShowsBinding, ShowsList}
 use Rattle.si_form.specs.declared.solution.Binding.{Binding}
 
 -- ---- symbols
@@ -130,10 +130,10 @@ number_in_cell (cell.Query k) = k
 number_in_cell (cell.Entry k) = k
 number_in_cell (cell.Ind k) = k
 
-first_is : (n : Naming) (cs : List Cell) (t : Apart) (d : Cell) → Shows n cs t → get_or cs 0 d ≡ get_or (cells_of (numbered (number_by n) (variable_of n) t)) 0 d
+first_is : (n : Naming) (cs : List Cell) (t : Apart) (d : Cell) → ShowsTerm n cs t → get_or cs 0 d ≡ get_or (cells_of (numbered (symbol_number n) (numbered_variable n) t)) 0 d
 first_is n cs t d h = ap (λ l. get_or l 0 d) h.stands.cells_are
 
-pub app_front : (n : Naming) (cs : List Cell) (t : Apart) (d : Cell) (number arity len : ℕ) → Shows n cs t → get_or cs 0 d ≡ cell.App number arity len → AppFront n cs number t
+pub app_front : (n : Naming) (cs : List Cell) (t : Apart) (d : Cell) (number arity len : ℕ) → ShowsTerm n cs t → get_or cs 0 d ≡ cell.App number arity len → AppFront n cs number t
 app_front n cs (terms.var (of_pattern x)) d number arity len h e = absurd (let bad = sym (first_is n cs (terms.var (of_pattern x)) d h) ∙ e in cc)
 app_front n cs (terms.var (of_entry x)) d number arity len h e = absurd (let bad = sym (first_is n cs (terms.var (of_entry x)) d h) ∙ e in cc)
 app_front n cs (terms.app s ts) d number arity len h e =
@@ -145,25 +145,25 @@ app_front n cs (terms.app s ts) d number arity len h e =
       rest = record { cells_are = ap (drop 1) h.stands.cells_are; sound = h.stands.sound.1; known = h.known.1 };
     }
 
-pub query_front : (n : Naming) (cs : List Cell) (t : Apart) (d : Cell) (k : ℕ) → Shows n cs t → get_or cs 0 d ≡ cell.Query k → (x : Variable) × (t ≡ terms.var x) × ShowsVariable n Query k x
+pub query_front : (n : Naming) (cs : List Cell) (t : Apart) (d : Cell) (k : ℕ) → ShowsTerm n cs t → get_or cs 0 d ≡ cell.Query k → (x : Variable) × (t ≡ terms.var x) × ShowsVariable n Query k x
 query_front n cs (terms.app s ts) d k h e = absurd (let bad = sym (first_is n cs (terms.app s ts) d h) ∙ e in cc)
 query_front n cs (terms.var (of_entry x)) d k h e = absurd (let bad = sym (first_is n cs (terms.var (of_entry x)) d h) ∙ e in cc)
 query_front n cs (terms.var (of_pattern x)) d k h e =
     (of_pattern x, refl, record { number = ap cells.query (ap number_in_cell (sym (first_is n cs (terms.var (of_pattern x)) d h) ∙ e)); named = h.known })
 
-pub entry_front : (n : Naming) (cs : List Cell) (t : Apart) (d : Cell) (k : ℕ) → Shows n cs t → get_or cs 0 d ≡ cell.Entry k → (x : Variable) × (t ≡ terms.var x) × ShowsVariable n Entry k x
+pub entry_front : (n : Naming) (cs : List Cell) (t : Apart) (d : Cell) (k : ℕ) → ShowsTerm n cs t → get_or cs 0 d ≡ cell.Entry k → (x : Variable) × (t ≡ terms.var x) × ShowsVariable n Entry k x
 entry_front n cs (terms.app s ts) d k h e = absurd (let bad = sym (first_is n cs (terms.app s ts) d h) ∙ e in cc)
 entry_front n cs (terms.var (of_pattern x)) d k h e = absurd (let bad = sym (first_is n cs (terms.var (of_pattern x)) d h) ∙ e in cc)
 entry_front n cs (terms.var (of_entry x)) d k h e =
     (of_entry x, refl, record { number = ap cells.entry (ap number_in_cell (sym (first_is n cs (terms.var (of_entry x)) d h) ∙ e)); named = h.known })
 
-pub no_indicator : (n : Naming) (cs : List Cell) (t : Apart) (d : Cell) (k : ℕ) → Shows n cs t → get_or cs 0 d ≡ cell.Ind k → ⊥
+pub no_indicator : (n : Naming) (cs : List Cell) (t : Apart) (d : Cell) (k : ℕ) → ShowsTerm n cs t → get_or cs 0 d ≡ cell.Ind k → ⊥
 no_indicator n cs (terms.app s ts) d k h e = let bad = sym (first_is n cs (terms.app s ts) d h) ∙ e in cc
 no_indicator n cs (terms.var (of_pattern x)) d k h e = let bad = sym (first_is n cs (terms.var (of_pattern x)) d h) ∙ e in cc
 no_indicator n cs (terms.var (of_entry x)) d k h e = let bad = sym (first_is n cs (terms.var (of_entry x)) d h) ∙ e in cc
 
-pub some_cells : (n : Naming) (cs : List Cell) (t : Apart) → Shows n cs t → 0 < length cs
-some_cells n cs (terms.var x) h = omega (arith, ap length h.stands.cells_are, length-cells_of (numbered (number_by n) (variable_of n) (terms.var x)))
+pub some_cells : (n : Naming) (cs : List Cell) (t : Apart) → ShowsTerm n cs t → 0 < length cs
+some_cells n cs (terms.var x) h = omega (arith, ap length h.stands.cells_are, length-cells_of (numbered (symbol_number n) (numbered_variable n) (terms.var x)))
 some_cells n cs (terms.app s ts) h = omega (arith, ap length h.stands.cells_are)
 
 -- ---- terms one behind the other
@@ -172,20 +172,20 @@ pub record Begins (n : Naming) (cs : List Cell) (k : ℕ) (ts : terms.Terms Symb
   pub term : Apart
   pub others : terms.Terms Symbol Variable
   pub is : ts ≡ terms.more term others
-  pub first : Shows n (take k cs) term
+  pub first : ShowsTerm n (take k cs) term
   pub rest : ShowAll n (drop k cs) others
   pub inside : k ≤ length cs
   pub some : 0 < k
 
-positive : (n : Naming) (t : Apart) → 0 < terms.size (numbered (number_by n) (variable_of n) t)
+positive : (n : Naming) (t : Apart) → 0 < terms.size (numbered (symbol_number n) (numbered_variable n) t)
 positive n (terms.var x) = omega arith
 positive n (terms.app s ts) = omega arith
 
 begins_by : (n : Naming) (cs : List Cell) (k : ℕ) (t : Apart) (ts : terms.Terms Symbol Variable)
-    → ShowAll n cs (terms.more t ts) → k ≡ length (cells_of (numbered (number_by n) (variable_of n) t)) → Begins n cs k (terms.more t ts)
+    → ShowAll n cs (terms.more t ts) → k ≡ length (cells_of (numbered (symbol_number n) (numbered_variable n) t)) → Begins n cs k (terms.more t ts)
 begins_by n cs k t ts h e =
-    let front = cells_of (numbered (number_by n) (variable_of n) t) in
-    let back = cells_of_all (all_numbered (number_by n) (variable_of n) ts) in
+    let front = cells_of (numbered (symbol_number n) (numbered_variable n) t) in
+    let back = cells_of_all (all_numbered (symbol_number n) (numbered_variable n) ts) in
     record {
       term = t;
       others = ts;
@@ -196,14 +196,14 @@ begins_by n cs k t ts h e =
       };
       rest = record { cells_are = ap (drop k) h.cells_are ∙ ap (λ j. drop j (front ++ back)) e ∙ drop-append_seam front back; sound = h.sound.1; known = h.known.1 };
       inside = omega (arith, e, ap length h.cells_are, length-append front back);
-      some = omega (arith, e, length-cells_of (numbered (number_by n) (variable_of n) t), positive n t);
+      some = omega (arith, e, length-cells_of (numbered (symbol_number n) (numbered_variable n) t), positive n t);
     }
 
 pub begins : (n : Naming) (cs : List Cell) (d : Cell) (ts : terms.Terms Symbol Variable) → ShowAll n cs ts → 0 < length cs → Begins n cs (span (get_or cs 0 d)) ts
 begins n cs d terms.none h some = absurd (omega (arith, ap length h.cells_are, some))
 begins n cs d (terms.more t ts) h some =
-    let u = numbered (number_by n) (variable_of n) t in
-    let back = cells_of_all (all_numbered (number_by n) (variable_of n) ts) in
+    let u = numbered (symbol_number n) (numbered_variable n) t in
+    let back = cells_of_all (all_numbered (symbol_number n) (numbered_variable n) ts) in
     begins_by n cs (span (get_or cs 0 d)) t ts h
     (ap (λ l. span (get_or l 0 d)) h.cells_are ∙ span-first u back d ∙ sym (length-cells_of u))
 
@@ -211,7 +211,7 @@ begins n cs d (terms.more t ts) h some =
 pub none_left : (n : Naming) (cs : List Cell) (ts : terms.Terms Symbol Variable) → ShowAll n cs ts → length cs ≡ 0 → ts ≡ terms.none
 none_left n cs terms.none h none = refl
 none_left n cs (terms.more t ts) h none =
-    absurd (omega (arith, none, ap length h.cells_are, length-append (cells_of (numbered (number_by n) (variable_of n) t)) (cells_of_all (all_numbered (number_by n) (variable_of n) ts)), length-cells_of (numbered (number_by n) (variable_of n) t), positive n t))
+    absurd (omega (arith, none, ap length h.cells_are, length-append (cells_of (numbered (symbol_number n) (numbered_variable n) t)) (cells_of_all (all_numbered (symbol_number n) (numbered_variable n) ts)), length-cells_of (numbered (symbol_number n) (numbered_variable n) t), positive n t))
 
 -- ---- terms of which some are written, each behind a comma
 pub record LeftToPut (n : Naming) (rest : List Cell) (old now : Told) (ts : terms.Terms Symbol Variable) : Type 0 where
@@ -224,7 +224,7 @@ pub record Halves (n : Naming) (first others : List Cell) (ts : terms.Terms Symb
   pub term : Apart
   pub behind : terms.Terms Symbol Variable
   pub is : ts ≡ terms.more term behind
-  pub shows : Shows n first term
+  pub shows : ShowsTerm n first term
   pub rest : ShowAll n others behind
 
 pub halves : (n : Naming) (cs first others : List Cell) (k : ℕ) (d : Cell) (ts : terms.Terms Symbol Variable)
@@ -235,7 +235,7 @@ halves n cs first others k d ts h some size front back =
       term = b.term;
       behind = b.others;
       is = b.is;
-      shows = subst (λ l. Shows n l b.term) (sym (front ∙ ap (λ j. take j cs) size)) b.first;
+      shows = subst (λ l. ShowsTerm n l b.term) (sym (front ∙ ap (λ j. take j cs) size)) b.first;
       rest = subst (λ l. ShowAll n l b.others) (sym (back ∙ ap (λ j. drop j cs) size)) b.rest;
     }
 
@@ -257,8 +257,8 @@ pub binding_parts : (b : Variable × Apart) → binding_text b ≡ variable_text
 unfolding binding_text
 binding_parts b = append_assoc (variable_text b.0) (codes " -> ") (term_text variable_text b.1)
 
-pub shows_value : (n : Naming) (cs ds : List Cell) (t : Apart) → ds ≡ cs → Shows n cs t → Shows n ds t
-shows_value n cs ds t e h = subst (λ l. Shows n l t) (sym e) h
+pub shows_value : (n : Naming) (cs ds : List Cell) (t : Apart) → ds ≡ cs → ShowsTerm n cs t → ShowsTerm n ds t
+shows_value n cs ds t e h = subst (λ l. ShowsTerm n l t) (sym e) h
 
 pub shows_none : (n : Naming) (bs : List Binding) (list : Solution) → ShowsList n bs list → length bs ≡ 0 → list ≡ []
 shows_none n [] [] h none = refl

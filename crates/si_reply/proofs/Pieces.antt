@@ -1,30 +1,44 @@
 -- The printed texts, cut into the pieces that are written.
-use Rattle.std.proofs.Common.{◌≡◌, ℕ, zero, suc, ◌+◌, ◌-◌, ◌<◌, List, [], ◌∷◌, ◌++◌, length, get_or, take, drop, map, sym, ap, ◌∙◌, append_assoc, append-nil, arith, take_all, length-drop}
+use Rattle.std.proofs.Common.{◌≡◌, ℕ, zero, suc, ◌+◌, ◌-◌, ◌<◌, List, [], ◌∷◌, ◌++◌, length, get_or, take, drop, map, refl, sym, ap, ◌∙◌, append_assoc, append-nil, arith, take_all, length-drop}
 use Rattle.std.specs.Prelude.{codes, decimal}
 use Rattle.si_defs.specs.Bytes.{Bytes}
 use Rattle.si_defs.specs.Terms as terms
 use Rattle.si_defs.specs.Symbols.{Symbol}
-use Rattle.si_defs.specs.Printing.{separated, decimals, path_text, symbol_text, term_text, more_texts}
+use Rattle.si_defs.specs.Printing.{separated, decimals, path_text, map_text, symbol_text, term_text, more_texts}
 use Rattle.si_term.specs.Terms.{term_of}
 use Rattle.si_term.specs.declared.term.Term.{Term}
 use Rattle.si_term.proofs.Rows.{from, from-read, positive}
-use Rattle.si_reply.specs.PrintedParts.{arguments_text, dotted}
+use Rattle.si_reply.specs.PrintedParts.{arguments_text, numbers_behind, number_list}
 
 -- the items of a list behind the first
 pub tail_is : {A : Type 0} (xs : List A) → take (length xs - 1) (drop 1 xs) ≡ drop 1 xs
 tail_is xs = take_all _ _ (omega (arith, length-drop 1 xs))
 
 -- ---- texts
-pub separated-dotted : (n : ℕ) (ns : List ℕ) → separated (codes ".") (decimals (n ∷ ns)) ≡ decimal n ++ dotted ns
-separated-dotted n [] = sym (append-nil (decimal n))
-separated-dotted n (m ∷ ms) =
-    append_assoc (decimal n) (codes ".") _
-    ∙ ap (λ l. decimal n ++ (codes "." ++ l)) (separated-dotted m ms)
-    ∙ ap (λ l. decimal n ++ l) (sym (append_assoc (codes ".") (decimal m) (dotted ms)))
+pub separated-numbers : (mark : Bytes) (n : ℕ) (ns : List ℕ) → separated mark (decimals (n ∷ ns)) ≡ decimal n ++ numbers_behind mark ns
+separated-numbers mark n [] = sym (append-nil (decimal n))
+separated-numbers mark n (m ∷ ms) =
+    append_assoc (decimal n) mark _
+    ∙ ap (λ l. decimal n ++ (mark ++ l)) (separated-numbers mark m ms)
+    ∙ ap (λ l. decimal n ++ l) (sym (append_assoc mark (decimal m) (numbers_behind mark ms)))
 
-pub path_split : (ns : List ℕ) → 0 < length ns → path_text ns ≡ (codes ":" ++ decimal (get_or ns 0 0)) ++ dotted (drop 1 ns)
+pub path_split : (ns : List ℕ) → 0 < length ns → path_text ns ≡ (codes ":" ++ decimal (get_or ns 0 0)) ++ numbers_behind (codes ".") (drop 1 ns)
 path_split [] h = absurd (omega arith)
-path_split (n ∷ ns) h = ap (λ l. codes ":" ++ l) (separated-dotted n ns) ∙ sym (append_assoc (codes ":") (decimal n) (dotted ns))
+path_split (n ∷ ns) h = ap (λ l. codes ":" ++ l) (separated-numbers (codes ".") n ns) ∙ sym (append_assoc (codes ":") (decimal n) (numbers_behind (codes ".") ns))
+
+pub list_split : (ns : List ℕ) → 0 < length ns → number_list ns ≡ decimal (get_or ns 0 0) ++ numbers_behind (codes ",") (drop 1 ns)
+unfolding number_list
+list_split [] h = absurd (omega arith)
+list_split (n ∷ ns) h = separated-numbers (codes ",") n ns
+
+pub empty_list : (ns : List ℕ) → length ns ≡ 0 → number_list ns ≡ []
+unfolding number_list
+empty_list [] h = refl
+empty_list (n ∷ ns) h = absurd (omega (arith, h))
+
+pub map_parts : (ns : List ℕ) → map_text ns ≡ codes "[" ++ (number_list ns ++ codes "]")
+unfolding number_list
+map_parts ns = append_assoc (codes "[") (separated (codes ",") (decimals ns)) (codes "]")
 
 pub place_split : (name colon literal path : List ℕ) → name ++ colon ++ literal ++ path ≡ name ++ ((colon ++ literal) ++ path)
 place_split name colon literal path = append_assoc (name ++ colon) literal path ∙ append_assoc name colon (literal ++ path) ∙ ap (λ l. name ++ l) (sym (append_assoc colon literal path))

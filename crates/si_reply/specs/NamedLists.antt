@@ -27,11 +27,11 @@ abbrev pub naming : Numbering → List Sym → List Bytes → List Bytes → Nam
 naming pairs extra query_names entry_names =
     record { numbers = query_numbers pairs extra; query_names = query_names; entry_names = entry_names }
 
-abbrev pub number_by : Naming → Symbol → ℕ
-number_by n s = number_in n.numbers s
+abbrev pub symbol_number : Naming → Symbol → ℕ
+symbol_number n s = number_in n.numbers s
 
-abbrev pub variable_of : Naming → Variable → cells.Variable
-variable_of n x = variable_by n.query_names n.entry_names x
+abbrev pub numbered_variable : Naming → Variable → cells.Variable
+numbered_variable n x = variable_by n.query_names n.entry_names x
 
 -- it has a number
 abbrev pub HasNumber : Naming → Symbol → Type 0
@@ -53,29 +53,29 @@ abbrev mutual
   AreKnown n (terms.more t ts) = IsKnown n t × AreKnown n ts
 
 -- the cells stand for this term with its numbers
-pub record Shows (n : Naming) (cs : List Cell) (t : Apart) : Type 0 where
-  pub stands : StandsFor cs (numbered (number_by n) (variable_of n) t)
+pub record ShowsTerm (n : Naming) (cs : List Cell) (t : Apart) : Type 0 where
+  pub stands : StandsFor cs (numbered (symbol_number n) (numbered_variable n) t)
   pub known : IsKnown n t
 
 -- the same of terms one behind the other
 pub record ShowAll (n : Naming) (cs : List Cell) (ts : terms.Terms Symbol Variable) : Type 0 where
-  pub cells_are : cs ≡ cells_of_all (all_numbered (number_by n) (variable_of n) ts)
-  pub sound : AreSound (all_numbered (number_by n) (variable_of n) ts)
+  pub cells_are : cs ≡ cells_of_all (all_numbered (symbol_number n) (numbered_variable n) ts)
+  pub sound : AreSound (all_numbered (symbol_number n) (numbered_variable n) ts)
   pub known : AreKnown n ts
 
 -- the number is this variable's
 pub record ShowsVariable (n : Naming) (owner : Owner) (slot : ℕ) (x : Variable) : Type 0 where
-  pub number : variable_of n x ≡ owners_variable owner slot
+  pub number : numbered_variable n x ≡ owners_variable owner slot
   pub named : IsNamed n x
 
 -- the number is this symbol's
 pub record ShowsSymbol (n : Naming) (number : ℕ) (s : Symbol) : Type 0 where
-  pub number_is : number_by n s ≡ number
+  pub number_is : symbol_number n s ≡ number
   pub known : HasNumber n s
 
 pub record ShowsBinding (n : Naming) (b : Binding) (pair : Variable × Apart) : Type 0 where
   pub left : ShowsVariable n b.owner b.slot pair.0
-  pub right : Shows n b.value pair.1
+  pub right : ShowsTerm n b.value pair.1
 
 -- the bindings stand for this solution list with its numbers
 abbrev pub ShowsList : Naming → List Binding → Solution → Type 0

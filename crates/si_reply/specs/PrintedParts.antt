@@ -3,7 +3,7 @@ use Rattle.std.specs.Prelude.{ℕ, List, [], ◌∷◌, ◌++◌, codes, decimal
 use Rattle.si_defs.specs.Bytes.{Bytes}
 use Rattle.si_defs.specs.Terms as terms
 use Rattle.si_defs.specs.Symbols.{Symbol}
-use Rattle.si_defs.specs.Printing.{term_text, more_texts}
+use Rattle.si_defs.specs.Printing.{term_text, more_texts, separated, decimals}
 use Rattle.si_defs.specs.Variables.{Variable, Apart, Solution, variable_text}
 
 -- the arguments of a symbol, in parentheses where there are any
@@ -11,10 +11,14 @@ abbrev pub arguments_text : {V : Type 0} → (V → Bytes) → terms.Terms Symbo
 arguments_text f terms.none = []
 arguments_text f (terms.more t ts) = codes "(" ++ term_text f t ++ more_texts f ts ++ codes ")"
 
--- numbers, each behind a dot
-abbrev pub dotted : List ℕ → Bytes
-dotted [] = []
-dotted (n ∷ ns) = codes "." ++ decimal n ++ dotted ns
+-- numbers, each behind a mark
+abbrev pub numbers_behind : Bytes → List ℕ → Bytes
+numbers_behind mark [] = []
+numbers_behind mark (n ∷ ns) = mark ++ decimal n ++ numbers_behind mark ns
+
+-- numbers with commas between them
+unfoldable pub number_list : List ℕ → Bytes
+number_list ns = separated (codes ",") (decimals ns)
 
 -- a variable and its term
 unfoldable pub binding_text : Variable × Apart → Bytes

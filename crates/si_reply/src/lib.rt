@@ -6,6 +6,6 @@ mod printing;
 mod solution;
 
 pub use printing::{
-    put_bytes, put_file, put_name, put_number, put_place, put_quoted, put_symbol, put_term,
+    put_bytes, put_file, put_map, put_name, put_number, put_place, put_quoted, put_symbol, put_term,
 };
 pub use solution::put_solution;

@@ -4,14 +4,15 @@ ghost use Rattle.std.specs.List.{list_all, position};
 ghost use Rattle.si_defs.specs.Bytes.{is_lower_word, is_word_byte};
 ghost use Rattle.si_defs.specs.Tokens.{escaped, quoted};
 ghost use Rattle.si_defs.specs.Terms.{row};
-ghost use Rattle.si_defs.specs.Printing.{word_text, file_text, name_text, symbol_text, term_text, more_texts, path_text, place_text};
+ghost use Rattle.si_defs.specs.Printing.{word_text, file_text, name_text, symbol_text, term_text, more_texts, path_text, place_text, map_text};
 ghost use Rattle.si_io.specs.Puts.{Puts};
 ghost use Rattle.si_io.specs.Faults.{HasCause};
 ghost use Rattle.si_term.specs.Terms.{symbol_of, term_of};
 ghost use Rattle.si_term.specs.Meaning.{name_of};
-ghost use Rattle.si_reply.specs.PrintedParts.{arguments_text, dotted};
+ghost use Rattle.si_reply.specs.PrintedParts.{arguments_text, numbers_behind, number_list};
 
 use itoa::Buffer;
+use si_flat::LitMap;
 use si_io::{Failed, Sink, write_all};
 use si_term::{Name, NameKind, Sym, SymKind, Term};
 
@@ -117,6 +118,30 @@ pub fn put_place<K: Sink>(
     put_name(sink, name)?;
     put_number(sink, b":", u64::from(literal))?;
     put_path(sink, path)
+}
+
+/// Writes a map of literals.
+#[tactic(auto, using(si_io::proofs::Content::writes))]
+pub fn put_map<K: Sink>(sink: &mut K, map: &LitMap) -> Result<(), Failed>
+    ensures text { Puts result (map_text map.now) (K.written sink.old) (K.written sink.new) }
+    ensures cause { HasCause (K.faults sink.old) (K.faults sink.new) result }
+{
+    put_bytes(sink, b"[")?;
+    put_list(sink, map.as_slice())?;
+    put_bytes(sink, b"]")
+}
+
+/// Writes numbers with commas between them.
+fn put_list<K: Sink>(sink: &mut K, numbers: &[u32]) -> Result<(), Failed>
+    ensures text { Puts result (number_list numbers.now) (K.written sink.old)
+        (K.written sink.new) }
+    ensures cause { HasCause (K.faults sink.old) (K.faults sink.new) result }
+{
+    if numbers.is_empty() {
+        return Ok(());
+    }
+    put_number(sink, b"", u64::from(numbers[0]))?;
+    put_numbers(sink, b",", &numbers[1..])
 }
 
 /// Whether a word needs no quotes.
@@ -227,16 +252,17 @@ fn put_path<K: Sink>(sink: &mut K, path: &[u32]) -> Result<(), Failed>
         return Ok(());
     }
     put_number(sink, b":", u64::from(path[0]))?;
-    put_dotted(sink, &path[1..])
+    put_numbers(sink, b".", &path[1..])
 }
 
-/// Writes numbers, each behind a dot.
-fn put_dotted<K: Sink>(sink: &mut K, numbers: &[u32]) -> Result<(), Failed>
-    ensures text { Puts result (dotted numbers.now) (K.written sink.old) (K.written sink.new) }
+/// Writes numbers, each behind a mark.
+fn put_numbers<K: Sink>(sink: &mut K, mark: &[u8], numbers: &[u32]) -> Result<(), Failed>
+    ensures text { Puts result (numbers_behind mark.now numbers.now) (K.written sink.old)
+        (K.written sink.new) }
     ensures cause { HasCause (K.faults sink.old) (K.faults sink.new) result }
 {
     for i in 0..numbers.len() {
-        put_number(sink, b".", u64::from(numbers[i]))?;
+        put_number(sink, mark, u64::from(numbers[i]))?;
     }
     Ok(())
 }

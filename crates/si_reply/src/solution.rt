@@ -11,17 +11,14 @@ ghost use Rattle.si_io.specs.Faults.{HasCause};
 ghost use Rattle.si_term.specs.Terms.{symbol_of};
 ghost use Rattle.si_flat.specs.Cells.{IsWhole};
 ghost use Rattle.si_reply.specs.PrintedParts.{arguments_text, binding_text, bindings_text};
-ghost use Rattle.si_reply.specs.NamedLists.{naming, Shows, ShowAll, ShowsVariable, ShowsSymbol, ShowsBinding, ShowsList};
+ghost use Rattle.si_reply.specs.NamedLists.{naming, ShowsTerm, ShowAll, ShowsVariable, ShowsSymbol, ShowsBinding, ShowsList};
 
 use crate::printing::{put_bytes, put_symbol};
-use si_flat::{Cell, Owner};
+use si_flat::{Cell, FIRST_EXTRA, Owner};
 use si_form::{Binding, Solution};
 use si_io::{Failed, Sink};
 use si_term::{Sym, SymTable, Syms, Texts};
 use std::marker::Model;
-
-/// The numbers from here on are those of the symbols that a table lacks.
-const FIRST_EXTRA: u32 = 1 << 31;
 
 /// What stands for the numbers: the symbols of a table, those that it lacks, and the names of
 /// variables.
@@ -39,7 +36,8 @@ impl<'a, T: SymTable> Model for Words<'a, T> {
 
     ghost Value = { named.Naming };
 
-    ghost view = { λ w. naming (T.pairs w.table.now) w.extra.now w.query_names.now w.entry_names.now };
+    ghost view = { λ w.
+        naming (T.pairs w.table.now) w.extra.now w.query_names.now w.entry_names.now };
 }
 
 /// Writes a solution list. Each of its numbers has to stand for a symbol of the table or an extra
@@ -57,7 +55,8 @@ pub fn put_solution<K: Sink, T: SymTable>(
     ensures text { (list : variables.Solution)
         → ShowsList (naming (T.pairs table.now) extra.now query_names.now entry_names.now)
         solution.now list
-        → Puts result (solution_text variable_text list) (K.written sink.old) (K.written sink.new) }
+        → Puts result (solution_text variable_text list) (K.written sink.old)
+        (K.written sink.new) }
     ensures cause { HasCause (K.faults sink.old) (K.faults sink.new) result }
 {
     let words = Words {
@@ -133,7 +132,8 @@ fn put_variable<K: Sink, T: SymTable>(
 /// The symbol with this number.
 fn symbol_at<'a, T: SymTable>(words: &Words<'a, T>, number: u32) -> &'a Sym
     requires known { (s : symbols.Symbol) × ShowsSymbol words.now number s }
-    ensures { (s : symbols.Symbol) → ShowsSymbol words.now number s → symbol_of result.now ≡ s }
+    ensures { (s : symbols.Symbol) → ShowsSymbol words.now number s
+        → symbol_of result.now ≡ s }
 {
     match words.table.sym_at(number) {
         Some(symbol) => symbol,
@@ -148,8 +148,8 @@ fn put_flat<K: Sink, T: SymTable>(
     words: &Words<'_, T>,
     cells: &[Cell],
 ) -> Result<(), Failed>
-    requires known { (t : Apart) × Shows words.now cells.now t }
-    ensures text { (t : Apart) → Shows words.now cells.now t
+    requires known { (t : Apart) × ShowsTerm words.now cells.now t }
+    ensures text { (t : Apart) → ShowsTerm words.now cells.now t
         → Puts result (term_text variable_text t) (K.written sink.old) (K.written sink.new) }
     ensures cause { HasCause (K.faults sink.old) (K.faults sink.new) result }
 {
@@ -175,7 +175,8 @@ fn put_flat_arguments<K: Sink, T: SymTable>(
         × ShowAll words.now cells.now ts }
     ensures text { (ts : terms.Terms symbols.Symbol variables.Variable)
         → ShowAll words.now cells.now ts
-        → Puts result (arguments_text variable_text ts) (K.written sink.old) (K.written sink.new) }
+        → Puts result (arguments_text variable_text ts) (K.written sink.old)
+        (K.written sink.new) }
     ensures cause { HasCause (K.faults sink.old) (K.faults sink.new) result }
 {
     if cells.is_empty() {

@@ -1,2 +1,5 @@
 mod Gaining
 mod Lengths
+mod Tokens
+mod Formulas
+pub mod Lines

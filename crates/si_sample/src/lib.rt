@@ -2,9 +2,11 @@
 //! on many clauses without a file.
 #![tactic(auto)]
 
-ghost use Rattle.std.specs.Prelude.{◌≤◌, ◌*◌, IfOk, length};
+ghost use Rattle.std.specs.Prelude.{◌≤◌, ◌*◌, List, IfOk, length};
+ghost use Rattle.si_defs.specs.Clauses as defs;
 ghost use Rattle.si_defs.specs.Generator.{IsSample};
-ghost use Rattle.si_sample.specs.declared.TheConstants.{GREATEST_START, MOST_CLAUSES};
+ghost use Rattle.si_state.specs.Harvest.{AreClauses};
+ghost use Rattle.si_state.specs.declared.TheConstants.{GREATEST_START, MOST_DRAWN};
 
 use std::alloc::{AllocError, Global};
 
@@ -14,17 +16,13 @@ mod tests;
 
 use sampler::Sampler;
 
-/// The greatest number that a sample starts from.
-pub const GREATEST_START: u32 = 2_147_483_647;
-
-/// No sample has more clauses than this.
-pub const MOST_CLAUSES: u32 = 10_000;
-
 /// The text of `count` clauses, a line each, that are drawn from `start`.
 pub fn sample(alloc: Global, start: u32, count: u32) -> Result<Vec<u8>, AllocError>
     requires start { start ≤ GREATEST_START }
-    requires count { (1 ≤ count) × (count ≤ MOST_CLAUSES) }
+    requires count { (1 ≤ count) × (count ≤ MOST_DRAWN) }
     ensures drawn { IfOk result (λ text. IsSample start count text.items) }
+    ensures clauses { IfOk result (λ text. (clauses : List defs.Clause)
+        × AreClauses clauses text.items) }
     ensures short { IfOk result (λ text. length text.items ≤ 95 * count) }
 {
     let mut sampler = Sampler::new(alloc, start);

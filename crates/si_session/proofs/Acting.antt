@@ -1,5 +1,5 @@
 -- What a command did, from what its parts wrote; and the step that its line made.
-use Rattle.std.proofs.Common.{◌≡◌, ℕ, ◌≤◌, List, [], ◌∷◌, ◌++◌, length, refl, ap, sym, ◌∙◌, subst, inl, inr, arith, append_assoc, length-append}
+use Rattle.std.proofs.Common.{◌≡◌, ℕ, ◌≤◌, List, [], ◌∷◌, ◌++◌, length, map, refl, ap, sym, ◌∙◌, subst, inl, inr, arith, append_assoc, length-append}
 use Rattle.std.specs.Prelude.{Bool, Option, Some, None, slice_get, IsTrue}
 use Rattle.si_defs.specs.Bytes.{Bytes}
 use Rattle.si_defs.specs.Tokens.{begins_with}
@@ -11,8 +11,9 @@ use Rattle.si_state.specs.Acceptance.{IsTaken, Accepts, Removes, taken, misused,
 use Rattle.si_state.specs.Signatures.{CountsSymbols}
 use Rattle.si_state.specs.Answers.{Hit, IsAnswer, hit_texts}
 use Rattle.si_steps.specs.declared.limits.Limits.{Limits}
-use Rattle.si_steps.specs.Replies.{Reply, is_refusal, ok_line, end_line, stats_line, misused_line, full_line, unknown_line, memory_line, answer_reply}
-use Rattle.si_steps.specs.Commands.{Command, add, load, remove, query, stats, IsDecided, IsSilent}
+use Rattle.si_state.specs.Subsumption.{mapped_text}
+use Rattle.si_steps.specs.Replies.{Reply, is_refusal, ok_line, end_line, stats_line, sample_line, misused_line, full_line, unknown_line, memory_line, answer_reply}
+use Rattle.si_steps.specs.Commands.{Command, add, load, remove, query, subsumers, subsumed, stats, sample, IsDecided, IsSilent}
 use Rattle.si_state.specs.Harvest.{Files, Fault, tried, state_behind}
 use Rattle.si_steps.specs.Loads.{Owed, nothing, PerformsLoad, gained_line, load_line}
 use Rattle.si_steps.specs.Steps.{Performs, RightStep, right, memory_at_once, memory_behind, performed, loaded}
@@ -60,7 +61,7 @@ written_behind SinkFailed a b c lines line h w =
     subst (λ l. ReceivesPrefix a l c) (sym (ended-append lines (line ∷ []))) (ReceivesPrefix_then a b c (ended lines) (ended (line ∷ [])) h w)
 
 -- the sink failed before it
-failed_before : (a b : Told) (lines : List Bytes) (line : Bytes) → ReceivesPrefix a (ended lines) b → Writes SinkFailed (lines ++ line ∷ []) a b
+pub failed_before : (a b : Told) (lines : List Bytes) (line : Bytes) → ReceivesPrefix a (ended lines) b → Writes SinkFailed (lines ++ line ∷ []) a b
 failed_before a b lines line h = subst (λ w. ReceivesPrefix a w b) (sym (ended-append lines (line ∷ []))) (ReceivesPrefix_more a b (ended lines) (ended (line ∷ [])) h)
 
 -- ---- an answer
@@ -75,13 +76,6 @@ module _ (limits : Limits) (relation : Relation) (p : Pattern) (state : List Cla
 
   pub fails_in_hits : (a b : Told) → ReceivesPrefix a (ended (hit_texts hits)) b → HasPerformed (Performs limits (query relation p) state) state state SinkFailed a b
   fails_in_hits a b h = rightly (answer_reply hits) performs (failed_before a b (hit_texts hits) (end_line (length hits)) h)
-
-  pub runs_out : (o : Stepped) (a b c : Told) (front back : List Bytes) → hit_texts hits ≡ front ++ back → Receives a (ended front) b
-      → Writes o (memory_line ∷ []) b c → HasPerformed (Performs limits (query relation p) state) state state o a c
-  runs_out o a b c front back e h w =
-      let n = length hits in
-      behind (answer_reply hits) state performs front (back ++ end_line n ∷ []) (ap (λ l. l ++ end_line n ∷ []) e ∙ append_assoc front back (end_line n ∷ []))
-      (some_line back (end_line n)) refl (written_behind o a b c front memory_line h w)
 
 -- ---- a clause
 accepts : (limits : Limits) (clause : Clause) (state new : List Clause) (o : Stepped) (n : ℕ) (a b : Told) → Accepts limits.entries state clause new → n ≡ length (entries clause)
@@ -165,7 +159,11 @@ some_reply limits (load file) state new reply h e = h
 some_reply limits (remove name) state new reply (inl h) e = some_line [] _ (sym h.1 ∙ e)
 some_reply limits (remove name) state new reply (inr h) e = some_line [] _ (sym h.2 ∙ e)
 some_reply limits (query relation pattern) state new reply h e = some_line (hit_texts h.0) _ (sym h.2 ∙ e)
+some_reply limits (subsumers formula) state new reply h e = some_line (map mapped_text h.0) _ (sym h.2 ∙ e)
+some_reply limits (subsumed formula) state new reply h e = some_line (map mapped_text h.0) _ (sym h.2 ∙ e)
 some_reply limits stats state new reply h e = some_line [] _ (sym h.2 ∙ e)
+some_reply limits (sample start count) state new reply (drawn, are, inl h) e = some_line [] _ (sym h.3 ∙ e)
+some_reply limits (sample start count) state new reply (drawn, are, inr h) e = some_line [] _ (sym h.3 ∙ e)
 
 pub not_silent : (limits : Limits) (command : Command) (state new : List Clause) (o : Stepped) (a b : Told) → HasPerformed (Performs limits command state) state new o a b → o ≡ Silent → ⊥
 not_silent limits command state new o a b (rightly reply p w) e = let v : Writes Silent reply a b = subst (λ x. Writes x reply a b) e w in some_reply limits command state new reply p v.1
@@ -181,7 +179,12 @@ performs_refused limits (load file) state new reply h t = absurd h
 performs_refused limits (remove name) state new reply (inl h) t = h.2
 performs_refused limits (remove name) state new reply (inr h) t = let wrong : IsTrue (is_refusal (ok_line 1 (length (entries h.0)) ∷ [])) = subst (λ r. IsTrue (is_refusal r)) h.2 t in cc
 performs_refused limits (query relation pattern) state new reply h t = h.3
+performs_refused limits (subsumers formula) state new reply h t = h.3
+performs_refused limits (subsumed formula) state new reply h t = h.3
 performs_refused limits stats state new reply h t = h.3
+performs_refused limits (sample start count) state new reply (drawn, are, inl h) t = h.4
+performs_refused limits (sample start count) state new reply (drawn, are, inr h) t =
+    let wrong : IsTrue (is_refusal (sample_line (length drawn) (length (state_entries drawn)) h.0 ∷ [])) = subst (λ r. IsTrue (is_refusal r)) h.3 t in cc
 
 pub keeps_clauses : (limits : Limits) (command : Command) (state new : List Clause) (o : Stepped) (a b : Told) → HasPerformed (Performs limits command state) state new o a b → o ≡ Refused → new ≡ state
 keeps_clauses limits command state new o a b (rightly reply p w) e =

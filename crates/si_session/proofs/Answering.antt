@@ -12,24 +12,22 @@ use Rattle.si_defs.specs.Variables.{Solution, variable_text}
 use Rattle.si_defs.specs.declared.Relation.{Relation}
 use Rattle.si_state.specs.Answers.{Hit, IsAnswer, hit_text, hit_texts}
 use Rattle.si_steps.specs.Runs.{ended}
-use Rattle.si_io.specs.Content.{Told, Receives}
-use Rattle.si_io.proofs.Content.{append_told-nil, Receives_then}
+use Rattle.si_io.specs.Content.{Told, Receives, ReceivesPrefix}
+use Rattle.si_io.specs.declared.failed.Failed.{Failed}
+use Rattle.si_io.proofs.Content.{append_told-nil, Receives_then, ReceivesPrefix_then, ReceivesPrefix_more}
 use Rattle.si_term.specs.declared.clause.Place as term
 use Rattle.si_term.specs.Meaning.{place_of}
 use Rattle.si_index.specs.Kept.{Kept}
 use Rattle.si_index.specs.Searching.{HasSolution}
 use Rattle.si_index.specs.Finding.{Finding, AreHits, at_position, entries_from_position, position_and_place}
-use Rattle.si_session.specs.Telling.{Tells}
 use Rattle.si_session.specs.Answering.{IsHitOf, AreHitsOf, IsInside, TellsHit, TellsHits, hit_line}
-use Rattle.si_session.specs.declared.broken.Broken.{Broken}
-use Rattle.si_session.specs.declared.broken.Broken.TheVariants.{Memory}
-use Rattle.si_session.proofs.Told.{ended-append, tells_then, tells_broken, tells_again}
+use Rattle.si_session.proofs.Told.{ended-append}
 
 abbrev Found : Type 0
 Found = List (ℕ × Placed)
 
 -- ---- positions
-at_front : (front back : List Clause) (c : Clause) → slice_get (front ++ c ∷ back) (length front) ≡ Some c
+pub at_front : (front back : List Clause) (c : Clause) → slice_get (front ++ c ∷ back) (length front) ≡ Some c
 at_front [] back c = refl
 at_front (x ∷ front) back c = at_front front back c
 
@@ -113,6 +111,9 @@ texts-append : (xs ys : List Hit) → hit_texts (xs ++ ys) ≡ hit_texts xs ++ h
 texts-append [] ys = refl
 texts-append (x ∷ xs) ys = ap (λ l. hit_text x ∷ l) (texts-append xs ys)
 
+lines-append : (xs ys : List Hit) → ended (hit_texts (xs ++ ys)) ≡ ended (hit_texts xs) ++ ended (hit_texts ys)
+lines-append xs ys = ap ended (texts-append xs ys) ∙ ended-append (hit_texts xs) (hit_texts ys)
+
 all_dropped : {X : Type 0} (P : X → Type 0) (n : ℕ) (xs : List X) → AllByRecursion P xs → AllByRecursion P (drop n xs)
 all_dropped P zero xs h = h
 all_dropped P (suc n) [] h = h
@@ -132,60 +133,48 @@ pub record ToldTo (f : Finding) (n : ℕ) (before now : Told) : Type 0 where
   pub given : Receives before (ended (hit_texts hits)) now
 
 module _ (f : Finding) (before : Told) where
+  -- with the hit behind them
+  with_this : (n : ℕ) (hits : List Hit) (g : ℕ × Placed) (x : Hit) → AreHitsOf f.relation f.pattern f.index.clauses (take n f.hits) hits → slice_get f.hits n ≡ Some g
+      → IsHitOf f.relation f.pattern f.index.clauses g x → AreHitsOf f.relation f.pattern f.index.clauses (take (n + 1) f.hits) (hits ++ x ∷ [])
+  with_this n hits g x are there of =
+      subst (λ l. AreHitsOf f.relation f.pattern f.index.clauses l (hits ++ x ∷ [])) (sym (take_next f.hits n g there))
+      (hits-append f.relation f.pattern f.index.clauses (take n f.hits) (g ∷ []) hits (x ∷ []) are (x, [], of, refl, refl))
+
   pub told_none : ToldTo f 0 before before
   told_none = record { hits = []; are = refl; given = sym (append_told-nil before) }
 
   pub told_more : (n : ℕ) (now after : Told) → ToldTo f n before now → TellsHit f n (Ok (tt {0})) now after → ToldTo f (n + 1) before after
-  told_more n now after t (inr h) = absurd (let bad = h.0 in cc)
-  told_more n now after t (inl h) = record {
+  told_more n now after t h = record {
     hits = t.hits ++ h.1 ∷ [];
-    are = subst (λ l. AreHitsOf f.relation f.pattern f.index.clauses l (t.hits ++ h.1 ∷ [])) (sym (take_next f.hits n h.0 h.2))
-        (hits-append f.relation f.pattern f.index.clauses (take n f.hits) (h.0 ∷ []) t.hits (h.1 ∷ []) t.are (h.1, [], h.3, refl, refl));
-    given = subst (λ l. Receives before l after) (sym (ap ended (texts-append t.hits (h.1 ∷ [])) ∙ ended-append (hit_texts t.hits) (hit_text h.1 ∷ [])))
-        (Receives_then before now after (ended (hit_texts t.hits)) (ended (hit_text h.1 ∷ [])) t.given h.4);
+    are = with_this n t.hits h.0 h.1 t.are h.2 h.3;
+    given = subst (λ l. Receives before l after) (sym (lines-append t.hits (h.1 ∷ [])))
+        (Receives_then before now after (ended (hit_texts t.hits)) (ended (hit_text h.1 ∷ [])) t.given h.4.all);
   }
 
   pub told_all : (n : ℕ) (now : Told) → length f.hits ≤ n → ToldTo f n before now → TellsHits f (Ok (tt {0})) before now
-  told_all n now less t = (t.hits, subst (λ l. AreHitsOf f.relation f.pattern f.index.clauses l t.hits) (take_all n f.hits less) t.are, t.given)
+  told_all n now less t = (t.hits, subst (λ l. AreHitsOf f.relation f.pattern f.index.clauses l t.hits) (take_all n f.hits less) t.are, record { all = t.given; part = tt })
 
   module _ (inside : AllByRecursion (IsInside f.index.clauses) f.hits) (solved : AllByRecursion (λ h. HasSolution f.relation f.pattern h.1.entry) f.hits) where
     -- the others have their hits too
     behind_these : (n : ℕ) → (hits : List Hit) × AreHitsOf f.relation f.pattern f.index.clauses (drop n f.hits) hits
     behind_these n = hits_of f.relation f.pattern f.index.clauses (drop n f.hits) (all_dropped _ n f.hits inside) (all_dropped _ n f.hits solved)
 
-    all_these : (n : ℕ) (now : Told) (t : ToldTo f n before now) → AreHitsOf f.relation f.pattern f.index.clauses f.hits (t.hits ++ (behind_these n).0)
-    all_these n now t =
-        subst (λ l. AreHitsOf f.relation f.pattern f.index.clauses l (t.hits ++ (behind_these n).0)) (take-append-drop n f.hits)
-        (hits-append f.relation f.pattern f.index.clauses (take n f.hits) (drop n f.hits) t.hits (behind_these n).0 t.are (behind_these n).1)
-
     -- broken off at this one
-    pub told_broken : (e : Broken) (n : ℕ) (now after : Told) → ToldTo f n before now → TellsHit f n (Err e) now after → TellsHits f (Err e) before after
-    told_broken e n now after t (inr h) =
-        let others = (behind_these n).0 in
-        let memory : e ≡ Memory = (let both = h.0 in cc) in (
-          t.hits ++ others,
-          all_these n now t,
-          subst (λ x. Tells (Err x) (hit_texts (t.hits ++ others)) before after) (sym memory)
-              (hit_texts t.hits, hit_texts others, texts-append t.hits others, subst (λ x. Receives before (ended (hit_texts t.hits)) x) (sym h.1) t.given),
-        )
-    told_broken e n now after t (inl h) =
-        let more = with_this n now t h.0 h.1 h.2 h.3 in
-        let others = (behind_these (n + 1)).0 in (
-          more.0 ++ others,
-          subst (λ l. AreHitsOf f.relation f.pattern f.index.clauses l (more.0 ++ others)) (take-append-drop (n + 1) f.hits)
-              (hits-append f.relation f.pattern f.index.clauses (take (n + 1) f.hits) (drop (n + 1) f.hits) more.0 others more.1 (behind_these (n + 1)).1),
-          subst (λ l. Tells (Err e) l before after) (sym (texts-append more.0 others))
-              (tells_broken e before after (hit_texts more.0) (hit_texts others)
-              (subst (λ l. Tells (Err e) l before after) (sym (texts-append t.hits (h.1 ∷ [])))
-              (tells_then (Err e) before now after (hit_texts t.hits) (hit_text h.1 ∷ []) t.given h.4))),
-        )
-      where
-        with_this : (n : ℕ) (now : Told) (t : ToldTo f n before now) (g : ℕ × Placed) (x : Hit) → slice_get f.hits n ≡ Some g → IsHitOf f.relation f.pattern f.index.clauses g x
-            → (hits : List Hit) × AreHitsOf f.relation f.pattern f.index.clauses (take (n + 1) f.hits) hits
-        with_this n now t g x there of = (
-          t.hits ++ x ∷ [],
-          subst (λ l. AreHitsOf f.relation f.pattern f.index.clauses l (t.hits ++ x ∷ [])) (sym (take_next f.hits n g there))
-              (hits-append f.relation f.pattern f.index.clauses (take n f.hits) (g ∷ []) t.hits (x ∷ []) t.are (x, [], of, refl, refl)),
+    pub told_broken : (e : Failed) (n : ℕ) (now after : Told) → ToldTo f n before now → TellsHit f n (Err e) now after → TellsHits f (Err e) before after
+    told_broken e n now after t h =
+        let these = t.hits ++ h.1 ∷ [] in
+        let others = (behind_these (n + 1)).0 in
+        let lines : ended (hit_texts (these ++ others)) ≡ (ended (hit_texts t.hits) ++ ended (hit_text h.1 ∷ [])) ++ ended (hit_texts others) =
+        lines-append these others ∙ ap (λ l. l ++ ended (hit_texts others)) (lines-append t.hits (h.1 ∷ [])) in (
+          these ++ others,
+          subst (λ l. AreHitsOf f.relation f.pattern f.index.clauses l (these ++ others)) (take-append-drop (n + 1) f.hits)
+              (hits-append f.relation f.pattern f.index.clauses (take (n + 1) f.hits) (drop (n + 1) f.hits) these others (with_this n t.hits h.0 h.1 t.are h.2 h.3) (behind_these (n + 1)).1),
+          record {
+            all = tt;
+            part = subst (λ l. ReceivesPrefix before l after) (sym lines)
+                (ReceivesPrefix_more before after (ended (hit_texts t.hits) ++ ended (hit_text h.1 ∷ [])) (ended (hit_texts others))
+                (ReceivesPrefix_then before now after (ended (hit_texts t.hits)) (ended (hit_text h.1 ∷ [])) t.given h.4.part));
+          },
         )
 
 -- ---- one line
@@ -217,8 +206,9 @@ at_number (x ∷ fs) zero f k place is at =
 at_number (x ∷ fs) (suc n) f k place is at = at_number fs n f k place is at
 
 -- the error is passed on
-pub hits_again : (f : Finding) (r : Result (Unit {0}) Broken) (e : Broken) (a b : Told) → IsErrAnd r (λ x. x ≡ e) → TellsHits f (Err e) a b → TellsHits f r a b
-hits_again f r e a b is h = (h.0, h.1, tells_again r e a b (hit_texts h.0) is h.2)
+pub hits_again : (f : Finding) (r : Result (Unit {0}) Failed) (e : Failed) (a b : Told) → IsErrAnd r (λ x. x ≡ e) → TellsHits f (Err e) a b → TellsHits f r a b
+hits_again f (Ok done) e a b is h = absurd is
+hits_again f (Err x) e a b is h = (h.0, h.1, record { all = tt; part = h.2.part })
 
 -- ---- the whole answer
 module _ (f : Finding) (index : Kept) (relation : Relation) (p : Pattern)

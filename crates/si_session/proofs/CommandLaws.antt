@@ -1,18 +1,20 @@
 -- Which command a line is, by its tokens.
-use Rattle.std.proofs.Common.{◌≡◌, ℕ, List, [], ◌∷◌, ◌++◌, refl, ap, sym, ◌∙◌, ap₂, subst, inl, inr, arith}
-use Rattle.std.specs.Prelude.{codes, IsTrue, Option, Some, None}
+use Rattle.std.proofs.Common.{◌≡◌, ℕ, ◌≤◌, List, [], ◌∷◌, ◌++◌, refl, ap, sym, ◌∙◌, ap₂, subst, inl, inr, arith}
+use Rattle.std.proofs.lemmas.Fmt.{decimal_injective}
+use Rattle.std.specs.Prelude.{codes, IsTrue, Option, Some, None, Result, Ok, Err, IfOk, IfSome}
 use Rattle.std.specs.Borrow.{Bor}
 use Rattle.si_defs.specs.Bytes.{Bytes}
-use Rattle.si_defs.specs.Clauses.{Name, Clause, Pattern, literal_pattern, term_pattern, IsSoundClause}
+use Rattle.si_defs.specs.Clauses.{Name, Literal, Clause, Pattern, literal_pattern, term_pattern, IsSoundClause, AreSoundLiterals}
 use Rattle.si_defs.specs.declared.Relation.{Relation}
 use Rattle.si_defs.specs.Tokens.{Token, lower, AreBlanks, NextToken, Begins}
-use Rattle.si_defs.specs.Grammar.{IsClause, IsLiteral, IsTerm, left_bracket}
+use Rattle.si_defs.specs.Grammar.{IsClause, IsFormula, IsLiteral, IsTerm, left_bracket}
 use Rattle.si_defs.specs.Substitutions.{IsAmong}
 use Rattle.si_defs.specs.Texts.{IsPattern, languages}
+use Rattle.si_state.specs.Samples.{AllowsSample}
 use Rattle.si_steps.specs.declared.word.Word.{Word}
-use Rattle.si_steps.specs.declared.word.Word.TheVariants.{Add, Load, Remove, Ask, Stats}
+use Rattle.si_steps.specs.declared.word.Word.TheVariants.{Add, Load, Remove, Ask, Subsumers, Subsumed, Stats, Sample}
 use Rattle.si_steps.specs.Words.{command_text, is_built}
-use Rattle.si_steps.specs.Commands.{Command, add, load, remove, query, stats, command_word, IsCommand, IsQuery, AreOperands, Means, IsUnbuilt, AddsForeign}
+use Rattle.si_steps.specs.Commands.{Command, add, load, remove, query, subsumers, subsumed, stats, sample, numeral, command_word, IsCommand, IsQuery, AreOperands, Means, IsUnbuilt, AddsForeign}
 use Rattle.si_steps.proofs.WordLaws.{same_word, built_apart}
 use Rattle.si_lex.specs.declared.lexeme.Lexeme.{Lexeme}
 use Rattle.si_lex.specs.declared.lexing.Lexing.{Lexing}
@@ -21,7 +23,8 @@ use Rattle.si_lex.specs.declared.lexing.Stop.TheVariants.{End}
 use Rattle.si_lex.specs.Lexemes.{tokens_of}
 use Rattle.si_lex.specs.Lexing.{IsLexing}
 use Rattle.si_parse.specs.GrammarRules.{IsFileToken, IsNameToken}
-use Rattle.si_parse.specs.Reading.{AreForeign, IsOfKind, ReadsWhole}
+use Rattle.si_parse.specs.Meaning.{literals_of}
+use Rattle.si_parse.specs.Reading.{AreForeign, IsOfKind, ReadsAll, ReadsWhole}
 use Rattle.si_parse.specs.declared.pattern.PatternKind.{PatternKind}
 use Rattle.si_parse.specs.declared.pattern.PatternKind.TheVariants as kind
 use Rattle.si_parse.specs.Parsing as reads
@@ -30,9 +33,10 @@ use Rattle.si_parse.proofs.ParseWhole.{whole_means, whole_none}
 use Rattle.si_parse.proofs.ReadingLaws.{begins_split, foreign_front}
 use Rattle.si_term.specs.declared.clause.Clause as program_clause
 use Rattle.si_term.specs.declared.clause.Name as program_name
+use Rattle.si_term.specs.declared.clause.Literal as program_literal
 use Rattle.si_term.specs.declared.clause.Pattern as program_pattern
 use Rattle.si_term.specs.Meaning.{name_of, clause_of, pattern_of}
-use Rattle.si_session.specs.Commands.{ReadsCommand, BeginUnbuilt, AddForeign, Commands, kind_word}
+use Rattle.si_session.specs.Commands.{ReadsCommand, ReadsOperand, BeginUnbuilt, AddForeign, Commands, kind_word}
 use Rattle.si_session.specs.declared.command.Command as read
 use Rattle.si_session.specs.declared.command.Command.TheVariants as command
 
@@ -96,6 +100,9 @@ OperandsOf Add = Clause
 OperandsOf Load = Bytes
 OperandsOf Remove = Name
 OperandsOf (Ask relation) = Pattern
+OperandsOf Subsumers = List Literal
+OperandsOf Subsumed = List Literal
+OperandsOf Sample = ℕ × ℕ
 OperandsOf w = Unit {0}
 
 abbrev AreSpelled : (w : Word) → OperandsOf w → List Token → Type 0
@@ -103,7 +110,10 @@ AreSpelled Add c ts = IsClause c ts
 AreSpelled Load file ts = IsFileToken file ts
 AreSpelled Remove n ts = IsNameToken n ts
 AreSpelled (Ask relation) p ts = IsQuery p ts
+AreSpelled Subsumers formula ts = IsFormula formula ts
+AreSpelled Subsumed formula ts = IsFormula formula ts
 AreSpelled Stats none ts = ts ≡ []
+AreSpelled Sample numbers ts = AllowsSample numbers.0 numbers.1 × (ts ≡ numeral numbers.0 ∷ numeral numbers.1 ∷ [])
 AreSpelled w none ts = Unit {0}
 
 own : (c : Command) (ts : List Token) → AreOperands c ts → (o : OperandsOf (command_word c)) × AreSpelled (command_word c) o ts
@@ -111,7 +121,10 @@ own (add c) ts h = (c, h)
 own (load file) ts h = (file, h)
 own (remove n) ts h = (n, h)
 own (query r p) ts h = (p, h)
+own (subsumers formula) ts h = (formula, h)
+own (subsumed formula) ts h = (formula, h)
 own stats ts h = (tt, h)
+own (sample start count) ts h = ((start, count), h)
 
 -- what stands behind the word in any command that begins with it
 only : (w : Word) (c : Command) (ts : List Token) → IsCommand c (lower (command_text w) ∷ ts) → (o : OperandsOf w) × AreSpelled w o ts
@@ -203,6 +216,27 @@ stats_wrong ts stop some = other_wrong Stats ts stop refl (λ e. cc) (λ e c h. 
 pub stats_read : (ts : List Token) (stop : Stop) → stop ≡ End → ts ≡ [] → Commands (lower (command_text Stats) ∷ ts) stop command.Stats
 stats_read ts stop e none = (e, record { built = refl; operands = ts; spelled = none; whole = refl })
 
+-- ---- `sample`
+-- no start and count stand behind the word
+pub sample_wrong : (ts : List Token) (stop : Stop) → (stop ≡ End → (start count : ℕ) → AllowsSample start count → ts ≡ numeral start ∷ numeral count ∷ [] → ⊥)
+    → Commands (lower (command_text Sample) ∷ ts) stop command.Wrong
+sample_wrong ts stop none =
+    other_wrong Sample ts stop refl (λ e. cc) (λ e c h. let numbers = only Sample c ts h in none e numbers.0.0 numbers.0.1 numbers.1.0 numbers.1.1)
+
+-- the count is 0
+pub sample_none : (whole : List Token) (stop : Stop) (t u : Token) (ts : List Token) (n : ℕ) → whole ≡ t ∷ u ∷ ts → u ≡ numeral n → n ≤ 0
+    → Commands (lower (command_text Sample) ∷ whole) stop command.Wrong
+sample_none whole stop t u ts n front word none =
+    sample_wrong whole stop
+    (λ e start count drawable is.
+    let same : numeral n ≡ numeral count = sym word ∙ ap (λ l. head (others l)) (sym front ∙ is) in
+    let zero : n ≡ count = decimal_injective n count (omega (arith, none)) (omega (arith, drawable.count_fits)) (ap (λ (k : Token). k.text) same) in
+    absurd (omega (arith, zero, none, drawable.some)))
+
+pub sample_read : (ts : List Token) (stop : Stop) (start count : ℕ) → stop ≡ End → AllowsSample start count → ts ≡ numeral start ∷ numeral count ∷ []
+    → Commands (lower (command_text Sample) ∷ ts) stop (command.Sample start count)
+sample_read ts stop start count e drawable is = (e, record { built = refl; operands = ts; spelled = (drawable, is); whole = refl }, drawable)
+
 -- ---- queries
 -- what such tokens are where they are no command
 query_wrong : (r : Relation) (ts : List Token) (stop : Stop) → (stop ≡ End → (p : Pattern) → IsQuery p ts → ⊥) → Commands (lower (command_text (Ask r)) ∷ ts) stop command.Wrong
@@ -269,6 +303,28 @@ pub query_read : (r : Relation) (whole : List Token) (stop : Stop) (t : Token) (
     → ReadsWhole ts k (Some p) → Commands (lower (command_text (Ask r)) ∷ whole) stop (command.Query r p)
 query_read r whole stop t ts k p e front word read =
     (e, record { built = refl; operands = whole; spelled = subst (IsQuery (pattern_of p)) (sym front) (asks_query k (pattern_of p) t ts word read.of_kind read.spelled); whole = refl }, read.sound)
+
+-- ---- formulas
+-- what is read of the tokens behind a word
+pub operand_read : {E : Type 0} (ts : List Token) (stop : Stop) (r : Result (Option (List program_literal.Literal)) E) → stop ≡ End → IfOk r (ReadsAll literals_of IsFormula ts)
+    → IfOk r (λ read. IfSome read (λ ls. AreSoundLiterals (literals_of ls))) → IfOk r (ReadsOperand ts stop)
+operand_read ts stop (Ok (Some ls)) e h sound = (e, h.0, sound)
+operand_read ts stop (Ok None) e h sound = λ end. h
+operand_read ts stop (Err why) e h sound = tt
+
+pub subsumers_wrong : (ts : List Token) (stop : Stop) → ReadsOperand ts stop None → Commands (lower (command_text Subsumers) ∷ ts) stop command.Wrong
+subsumers_wrong ts stop none = other_wrong Subsumers ts stop refl (λ e. cc) (λ e c h. let f = only Subsumers c ts h in none e f.0 f.1)
+
+pub subsumers_read : (ts : List Token) (stop : Stop) (ls : List program_literal.Literal) → ReadsOperand ts stop (Some ls)
+    → Commands (lower (command_text Subsumers) ∷ ts) stop (command.Subsumers ls)
+subsumers_read ts stop ls h = (h.0, record { built = refl; operands = ts; spelled = h.1; whole = refl }, h.2)
+
+pub subsumed_wrong : (ts : List Token) (stop : Stop) → ReadsOperand ts stop None → Commands (lower (command_text Subsumed) ∷ ts) stop command.Wrong
+subsumed_wrong ts stop none = other_wrong Subsumed ts stop refl (λ e. cc) (λ e c h. let f = only Subsumed c ts h in none e f.0 f.1)
+
+pub subsumed_read : (ts : List Token) (stop : Stop) (ls : List program_literal.Literal) → ReadsOperand ts stop (Some ls)
+    → Commands (lower (command_text Subsumed) ∷ ts) stop (command.Subsumed ls)
+subsumed_read ts stop ls h = (h.0, record { built = refl; operands = ts; spelled = h.1; whole = refl }, h.2)
 
 -- ---- lines
 module _ (line : Bytes) (x : Lexing) (l : IsLexing line 0 x) where
@@ -375,11 +431,35 @@ module _ (line : Bytes) (x : Lexing) (l : IsLexing line 0 x) where
     λ b. command_some stats h.1 (blank_tokens b).1,
     tokens_mean stats h.0 h.1,
   )
+  line_read (command.Sample start count) h = (
+    (
+      λ u. command_built (sample start count) h.1 (unbuilt_tokens u),
+      λ b. command_some (sample start count) h.1 (blank_tokens b).1,
+      tokens_mean (sample start count) h.0 h.1,
+    ),
+    h.2,
+  )
   line_read (command.Query r p) h = (
     (
       λ u. command_built (query r (pattern_of p)) h.1 (unbuilt_tokens u),
       λ b. command_some (query r (pattern_of p)) h.1 (blank_tokens b).1,
       tokens_mean (query r (pattern_of p)) h.0 h.1,
+    ),
+    h.2,
+  )
+  line_read (command.Subsumers ls) h = (
+    (
+      λ u. command_built (subsumers (literals_of ls)) h.1 (unbuilt_tokens u),
+      λ b. command_some (subsumers (literals_of ls)) h.1 (blank_tokens b).1,
+      tokens_mean (subsumers (literals_of ls)) h.0 h.1,
+    ),
+    h.2,
+  )
+  line_read (command.Subsumed ls) h = (
+    (
+      λ u. command_built (subsumed (literals_of ls)) h.1 (unbuilt_tokens u),
+      λ b. command_some (subsumed (literals_of ls)) h.1 (blank_tokens b).1,
+      tokens_mean (subsumed (literals_of ls)) h.0 h.1,
     ),
     h.2,
   )

@@ -6,3 +6,6 @@ pub mod ReplyTexts
 pub mod WordTests
 pub mod Answering
 pub mod Shown
+pub mod MappedLaws
+pub mod Sums
+pub mod Numbers

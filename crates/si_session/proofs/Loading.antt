@@ -70,7 +70,7 @@ pub tellable : (limit : ℕ) (e : HarvestFault) (P : Fault → Type 0) → Expla
 tellable limit e P (inl m) = subst IsTellable (sym m) tt
 tellable limit e P (inr t) = tellable_where limit e t.fault t.told
 
-fault_told : (limit : ℕ) (e : HarvestFault) (fault : Fault) (told : program.Reply) → NamesFault limit e fault → TellsFaultOfLoad e told → reply_line told ≡ fault_line limit fault
+pub fault_told : (limit : ℕ) (e : HarvestFault) (fault : Fault) (told : program.Reply) → NamesFault limit e fault → TellsFaultOfLoad e told → reply_line told ≡ fault_line limit fault
 fault_told limit (harvest_fault.Syntax file line) fault told n t = t ∙ ap (fault_line limit) (sym n)
 fault_told limit (harvest_fault.Language file line) fault told n t = t ∙ ap (fault_line limit) (sym n)
 fault_told limit (harvest_fault.Rejected r) fault told n t =

@@ -12,7 +12,7 @@ use Rattle.si_term.specs.declared.text.Text.{Text}
 use Rattle.si_defs.specs.Tokens.{begins_with}
 use Rattle.si_steps.specs.Replies.{file_line, spot_line}
 use Rattle.si_term.specs.Terms.{symbol_of}
-use Rattle.si_session.specs.Replies.{reply_line, ended_line, stats_text, closed_shape, file_word, line_word}
+use Rattle.si_session.specs.Replies.{reply_line, ended_line, stats_text, sample_text, closed_shape, file_word, line_word}
 use Rattle.si_session.specs.Signs.{sign_text}
 use Rattle.si_session.specs.declared.sign.Sign.TheVariants.{Space, LineFeed}
 use Rattle.si_session.specs.declared.reply.FileFault.{FileFault}
@@ -91,6 +91,18 @@ full_text r needed limit e = four (codes "! full " ++ decimal needed) (codes " "
 pub stats_line_is : (r : Reply) (stats : Stats) → r ≡ reply.Stats stats → stats_text stats ≡ ended_line r
 unfolding stats_text ended_line
 stats_line_is r stats e = ap ended_line (sym e)
+
+-- ---- samples
+abbrev pub sampled : ℕ → ℕ → ℕ → Bytes
+sampled clauses gained sum = (codes "sample " ++ decimal clauses) ++ ((codes " " ++ decimal gained) ++ ((codes " " ++ decimal sum) ++ sign_text LineFeed))
+
+pub sample_is : (clauses gained sum : ℕ) → sampled clauses gained sum ≡ sample_text clauses gained sum
+unfolding sign_text sample_text
+sample_is clauses gained sum = six (codes "sample " ++ decimal clauses) (codes " ") (decimal gained) (codes " ") (decimal sum) (10 ∷ [])
+
+pub sample_line_is : (r : Reply) (clauses gained sum : ℕ) → r ≡ reply.Sample clauses gained sum → sample_text clauses gained sum ≡ ended_line r
+unfolding sample_text ended_line
+sample_line_is r clauses gained sum e = ap ended_line (sym e)
 
 -- ---- files
 pub file_told : (r : Reply) (fault : FileFault) (file : Bor Text) (w b : Bytes) → r ≡ reply.File fault file → w ≡ file_word fault → b ≡ file.now

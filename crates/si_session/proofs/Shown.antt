@@ -1,5 +1,5 @@
 -- What is shown of a hit can be printed.
-use Rattle.std.proofs.Common.{List, [], ◌∷◌, inl, inr, refl, sym, subst}
+use Rattle.std.proofs.Common.{◌≡◌, ℕ, List, [], ◌∷◌, inl, inr, refl, sym, subst}
 use Rattle.std.specs.List.{AllByRecursion}
 use Rattle.si_defs.specs.Terms as terms
 use Rattle.std.specs.Prelude.{bytes_eq}
@@ -20,9 +20,10 @@ use Rattle.si_form.specs.Numberings.{list_by, symbols_of, IsVariableOf}
 use Rattle.si_form.specs.SolutionParts.{IsBindingOf}
 use Rattle.si_form.specs.TableNumbers.{HaveNumbers}
 use Rattle.si_form.proofs.CanonicalLaws.{all_at, all_front, all_back, among_front, among_back}
+use Rattle.si_index.specs.Finding.{Finding}
 use Rattle.si_index.specs.declared.found.Shown.{Shown}
-use Rattle.si_index.specs.Showing.{ShowsEntry}
-use Rattle.si_reply.specs.NamedLists.{Naming, naming, number_by, variable_of, IsNamed, IsKnown, AreKnown, ShowsList}
+use Rattle.si_index.specs.Showing.{ShowsEntry, ShowsHit}
+use Rattle.si_reply.specs.NamedLists.{Naming, naming, symbol_number, numbered_variable, IsNamed, IsKnown, AreKnown, ShowsList}
 
 module _ (n : Naming) where
   mutual
@@ -57,7 +58,7 @@ module _ (numbers : Numbering) (relation : Relation) (p : Pattern) (e : Entry) (
   all_named [] h = tt
   all_named (x ∷ xs) h = (named x h.0, all_named xs h.1)
 
-  shows : (bs : List Binding) (list : Solution) → StandsForList bs (list_by (number_by names) (variable_of names) list)
+  shows : (bs : List Binding) (list : Solution) → StandsForList bs (list_by (symbol_number names) (numbered_variable names) list)
       → AllByRecursion (IsBindingOf wanted (whole_of e)) list → ShowsList names bs list
   shows [] [] h k = tt
   shows [] (pair ∷ pairs) h k = absurd h
@@ -73,5 +74,12 @@ module _ (numbers : Numbering) (relation : Relation) (p : Pattern) (e : Entry) (
     shows bs pairs h.1 k.1,
   )
 
-  pub shows_list : ShowsList names s.solution shown.solution
+  shows_list : ShowsList names s.solution shown.solution
   shows_list = shows s.solution shown.solution shown.list shown.parts
+
+-- the same of a hit, by equal numbers
+pub shows_hit : (f : Finding) (n : ℕ) (numbers : Numbering) (s : Shown) → f.index.numbers ≡ numbers → (h : ShowsHit f n s)
+    → ShowsList (naming numbers s.extra s.query_names s.entry_names) s.solution h.2.solution
+shows_hit f n numbers s same h =
+    subst (λ m. ShowsList (naming m s.extra s.query_names s.entry_names) s.solution h.2.solution) same
+    (shows_list f.index.numbers f.relation f.pattern h.0.1.entry s h.2)

@@ -1,5 +1,5 @@
 -- The hits that were found, with the lists that are shown, and their lines.
-use Rattle.std.specs.Prelude.{◌≡◌, ◌⊎◌, ◌<◌, ℕ, List, [], ◌∷◌, ◌++◌, length, Result, Err, Some, slice_get}
+use Rattle.std.specs.Prelude.{◌≡◌, ◌<◌, ℕ, List, [], ◌∷◌, ◌++◌, length, Result, Some, slice_get}
 use Rattle.si_defs.specs.Bytes.{Bytes}
 use Rattle.si_defs.specs.Clauses.{Name, Clause, Pattern}
 use Rattle.si_defs.specs.Entries.{Place, Placed}
@@ -7,13 +7,13 @@ use Rattle.si_defs.specs.Variables.{Solution, variable_text}
 use Rattle.si_defs.specs.Printing.{place_text, solution_text}
 use Rattle.si_defs.specs.declared.Relation.{Relation}
 use Rattle.si_state.specs.Answers.{Hit, Solves, hit_text, hit_texts}
+use Rattle.si_steps.specs.Runs.{ended}
 use Rattle.si_io.specs.Content.{Told}
+use Rattle.si_io.specs.Puts.{Puts}
+use Rattle.si_io.specs.declared.failed.Failed.{Failed}
 use Rattle.si_index.specs.Finding.{Finding}
-use Rattle.si_session.specs.Telling.{Tells}
 use Rattle.si_session.specs.Signs.{sign_text}
 use Rattle.si_session.specs.declared.sign.Sign.TheVariants.{Space, LineFeed}
-use Rattle.si_session.specs.declared.broken.Broken.{Broken}
-use Rattle.si_session.specs.declared.broken.Broken.TheVariants.{Memory}
 
 -- the hit of what was found at a position among these clauses, with a canonical list
 pub record IsHitOf (relation : Relation) (pattern : Pattern) (clauses : List Clause) (found : ℕ × Placed) (hit : Hit) : Type 0 where
@@ -31,17 +31,16 @@ AreHitsOf relation pattern clauses (f ∷ fs) hits =
 abbrev pub IsInside : List Clause → ℕ × Placed → Type 0
 IsInside clauses found = found.0 < length clauses
 
--- The line of a hit was written, or the sink failed at it; or memory ran out before it.
-abbrev pub TellsHit : Finding → ℕ → Result (Unit {0}) Broken → Told → Told → Type 0
+-- the line of a hit was written, or the sink failed at it
+abbrev pub TellsHit : Finding → ℕ → Result (Unit {0}) Failed → Told → Told → Type 0
 TellsHit f n result before after =
-    ((found : ℕ × Placed) × (hit : Hit) × (slice_get f.hits n ≡ Some found)
-    × IsHitOf f.relation f.pattern f.index.clauses found hit × Tells result (hit_text hit ∷ []) before after)
-    ⊎ ((result ≡ Err Memory) × (after ≡ before))
+    (found : ℕ × Placed) × (hit : Hit) × (slice_get f.hits n ≡ Some found)
+    × IsHitOf f.relation f.pattern f.index.clauses found hit × Puts result (ended (hit_text hit ∷ [])) before after
 
--- The lines of the hits were written, or broken off.
-abbrev pub TellsHits : Finding → Result (Unit {0}) Broken → Told → Told → Type 0
+-- the lines of the hits were written, or the sink failed at one of them
+abbrev pub TellsHits : Finding → Result (Unit {0}) Failed → Told → Told → Type 0
 TellsHits f result before after =
-    (hits : List Hit) × AreHitsOf f.relation f.pattern f.index.clauses f.hits hits × Tells result (hit_texts hits) before after
+    (hits : List Hit) × AreHitsOf f.relation f.pattern f.index.clauses f.hits hits × Puts result (ended (hit_texts hits)) before after
 
 -- a line of a place and a list, with its end
 unfoldable pub hit_line : Name → Place → Solution → Bytes

@@ -1,8 +1,10 @@
 -- What the reader of command lines gives.
-use Rattle.std.specs.Prelude.{◌≡◌, List, [], ◌∷◌, IsFalse, codes}
+use Rattle.std.specs.Prelude.{◌≡◌, List, [], ◌∷◌, IsFalse, Option, None, Some, codes, map}
 use Rattle.si_defs.specs.Bytes.{Bytes}
-use Rattle.si_defs.specs.Clauses.{IsSoundClause, IsSoundPattern}
+use Rattle.si_defs.specs.Clauses.{Literal, IsSoundClause, IsSoundPattern, AreSoundLiterals}
 use Rattle.si_defs.specs.Tokens.{Token, lower, AreBlanks}
+use Rattle.si_defs.specs.Grammar.{IsFormula}
+use Rattle.si_state.specs.Samples.{AllowsSample}
 use Rattle.si_steps.specs.declared.word.Word.{Word}
 use Rattle.si_steps.specs.declared.word.Word.TheVariants.{Add}
 use Rattle.si_steps.specs.Words.{command_text, is_built}
@@ -14,7 +16,8 @@ use Rattle.si_lex.specs.declared.lexing.Stop.TheVariants.{End}
 use Rattle.si_parse.specs.Reading.{AreForeign}
 use Rattle.si_parse.specs.declared.pattern.PatternKind.{PatternKind}
 use Rattle.si_parse.specs.declared.pattern.PatternKind.TheVariants as kind
-use Rattle.si_term.specs.Meaning.{name_of, clause_of, pattern_of}
+use Rattle.si_term.specs.declared.clause.Literal as term
+use Rattle.si_term.specs.Meaning.{name_of, literal_of, clause_of, pattern_of}
 use Rattle.si_session.specs.declared.command.Command.{Command}
 use Rattle.si_session.specs.declared.command.Command.TheVariants as command
 
@@ -39,7 +42,10 @@ ReadsCommand line (command.Add c) = IsPerformed (defs.add (clause_of c)) line ×
 ReadsCommand line (command.Load file) = IsPerformed (defs.load file) line
 ReadsCommand line (command.Remove n) = IsPerformed (defs.remove (name_of n)) line
 ReadsCommand line command.Stats = IsPerformed defs.stats line
+ReadsCommand line (command.Sample start count) = IsPerformed (defs.sample start count) line × AllowsSample start count
 ReadsCommand line (command.Query r p) = IsPerformed (defs.query r (pattern_of p)) line × IsSoundPattern (pattern_of p)
+ReadsCommand line (command.Subsumers ls) = IsPerformed (defs.subsumers (map literal_of ls)) line × AreSoundLiterals (map literal_of ls)
+ReadsCommand line (command.Subsumed ls) = IsPerformed (defs.subsumed (map literal_of ls)) line × AreSoundLiterals (map literal_of ls)
 
 -- ---- the tokens of a line
 -- the first of them is the word of a command that isn't built
@@ -64,9 +70,19 @@ Commands ts stop (command.Add c) = (stop ≡ End) × IsCommand (defs.add (clause
 Commands ts stop (command.Load file) = (stop ≡ End) × IsCommand (defs.load file) ts
 Commands ts stop (command.Remove n) = (stop ≡ End) × IsCommand (defs.remove (name_of n)) ts
 Commands ts stop command.Stats = (stop ≡ End) × IsCommand defs.stats ts
+Commands ts stop (command.Sample start count) = (stop ≡ End) × IsCommand (defs.sample start count) ts × AllowsSample start count
 Commands ts stop (command.Query r p) = (stop ≡ End) × IsCommand (defs.query r (pattern_of p)) ts × IsSoundPattern (pattern_of p)
+Commands ts stop (command.Subsumers ls) =
+    (stop ≡ End) × IsCommand (defs.subsumers (map literal_of ls)) ts × AreSoundLiterals (map literal_of ls)
+Commands ts stop (command.Subsumed ls) =
+    (stop ≡ End) × IsCommand (defs.subsumed (map literal_of ls)) ts × AreSoundLiterals (map literal_of ls)
 
 -- the word of a kind of pattern
 abbrev pub kind_word : PatternKind → Bytes
 kind_word kind.Lit = codes "lit"
 kind_word kind.Term = codes "term"
+
+-- the formula that all these tokens are, if nothing but blanks stands behind them
+abbrev pub ReadsOperand : List Token → Stop → Option (List term.Literal) → Type 0
+ReadsOperand ts stop (Some ls) = (stop ≡ End) × IsFormula (map literal_of ls) ts × AreSoundLiterals (map literal_of ls)
+ReadsOperand ts stop None = stop ≡ End → (formula : List Literal) → IsFormula formula ts → ⊥

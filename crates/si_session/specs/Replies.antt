@@ -1,9 +1,9 @@
 -- The lines of replies that are no hits.
-use Rattle.std.specs.Prelude.{[], ◌∷◌, ◌++◌, codes}
+use Rattle.std.specs.Prelude.{ℕ, [], ◌∷◌, ◌++◌, codes}
 use Rattle.si_defs.specs.Bytes.{Bytes}
 use Rattle.si_defs.specs.Symbols.{Symbol}
 use Rattle.si_defs.specs.Printing.{symbol_text, shape_text}
-use Rattle.si_steps.specs.Replies.{ok_line, end_line, stats_line, taken_line, full_line, unknown_line, file_line, spot_line, fetches_line, long_line, later_line, language_line, syntax_line, memory_line}
+use Rattle.si_steps.specs.Replies.{ok_line, end_line, stats_line, sample_line, taken_line, full_line, unknown_line, file_line, spot_line, fetches_line, long_line, later_line, language_line, syntax_line, memory_line}
 use Rattle.si_sign.specs.declared.faults.Shape.{Shape}
 use Rattle.si_term.specs.Terms.{symbol_of}
 use Rattle.si_term.specs.Meaning.{name_of}
@@ -41,6 +41,7 @@ abbrev pub reply_line : Reply → Bytes
 reply_line (reply.Ok clauses entries) = ok_line clauses entries
 reply_line (reply.End lines) = end_line lines
 reply_line (reply.Stats stats) = stats_line stats.clauses stats.entries stats.symbols
+reply_line (reply.Sample clauses gained sum) = sample_line clauses gained sum
 reply_line (reply.Taken name) = taken_line (name_of name.now)
 reply_line (reply.Misused symbol found kept) = misused_text (symbol_of symbol.now) found kept
 reply_line (reply.Full needed limit) = full_line needed limit
@@ -61,3 +62,7 @@ ended_line r = reply_line r ++ 10 ∷ []
 -- how much is kept, with its line feed
 unfoldable pub stats_text : Stats → Bytes
 stats_text stats = stats_line stats.clauses stats.entries stats.symbols ++ 10 ∷ []
+
+-- the line of a sample, with its line feed
+unfoldable pub sample_text : ℕ → ℕ → ℕ → Bytes
+sample_text clauses gained sum = sample_line clauses gained sum ++ 10 ∷ []

@@ -8,12 +8,10 @@ ghost use Rattle.si_io.specs.Faults.{HasCause};
 ghost use Rattle.si_term.specs.Meaning.{name_of, place_of};
 ghost use Rattle.si_index.specs.Searching.{HasSolution};
 ghost use Rattle.si_reply.specs.NamedLists.{naming, ShowsList};
-ghost use Rattle.si_session.specs.Telling.{Blames};
 ghost use Rattle.si_session.specs.Answering.{IsInside, TellsHit, TellsHits, hit_line};
 
-use crate::broken::Broken;
 use crate::sign::{Sign, put_sign};
-use si_index::{Found, Index, Shown};
+use si_index::{Found, Index, Lent};
 use si_io::{Failed, Sink};
 use si_reply::{put_place, put_solution};
 use si_sign::Signature;
@@ -24,13 +22,15 @@ fn put_hit<K: Sink>(
     sink: &mut K,
     name: &Name,
     place: &Place,
-    shown: &Shown,
+    lent: &Lent<'_>,
     signature: &Signature,
 ) -> Result<(), Failed>
     requires known { (list : variables.Solution) × ShowsList (naming (numbering signature.now)
-        shown.now.extra shown.now.query_names shown.now.entry_names) shown.now.solution list }
+        lent.now.extra.now lent.now.query_names.now lent.now.entry_names.now)
+        lent.now.solution.now list }
     ensures text { (list : variables.Solution) → ShowsList (naming (numbering signature.now)
-        shown.now.extra shown.now.query_names shown.now.entry_names) shown.now.solution list
+        lent.now.extra.now lent.now.query_names.now lent.now.entry_names.now)
+        lent.now.solution.now list
         → Puts result (hit_line (name_of name.now) (place_of place.now) list)
         (K.written sink.old) (K.written sink.new) }
     ensures cause { HasCause (K.faults sink.old) (K.faults sink.new) result }
@@ -39,38 +39,37 @@ fn put_hit<K: Sink>(
     put_sign(sink, Sign::Space)?;
     put_solution(
         sink,
-        &shown.solution,
+        lent.solution,
         signature,
-        &shown.extra,
-        &shown.query_names,
-        &shown.entry_names,
+        lent.extra,
+        lent.query_names,
+        lent.entry_names,
     )?;
     put_sign(sink, Sign::LineFeed)
 }
 
 /// Writes the line of the hit with this number from 0.
-fn tell_hit<K: Sink>(index: &Index, found: &Found<'_>, n: u32, sink: &mut K) -> Result<(), Broken>
+fn tell_hit<K: Sink>(index: &Index, found: &Found<'_>, n: u32, sink: &mut K) -> Result<(), Failed>
     requires index { found.now.index ≡ index.now }
     requires there { n < length found.now.hits }
     requires inside { AllByRecursion (IsInside index.now.clauses) found.now.hits }
     ensures told { TellsHit found.now n result (K.written sink.old) (K.written sink.new) }
-    ensures cause { Blames result (K.faults sink.old) (K.faults sink.new) }
+    ensures cause { HasCause (K.faults sink.old) (K.faults sink.new) result }
 {
-    let shown = found.shown(n)?;
+    let lent = found.lent(n);
     let hit = found.hit(n);
     let name = &index.clause(hit.clause).name;
-    put_hit(sink, name, &hit.place, &shown, index.signature())?;
-    Ok(())
+    put_hit(sink, name, &hit.place, &lent, index.signature())
 }
 
-/// Writes the lines of the hits.
-pub fn tell_hits<K: Sink>(index: &Index, found: &Found<'_>, sink: &mut K) -> Result<(), Broken>
+/// Writes the lines of the hits. This takes no memory.
+pub fn tell_hits<K: Sink>(index: &Index, found: &Found<'_>, sink: &mut K) -> Result<(), Failed>
     requires index { found.now.index ≡ index.now }
     requires inside { AllByRecursion (IsInside index.now.clauses) found.now.hits }
     requires solved { AllByRecursion (λ hit. HasSolution found.now.relation found.now.pattern
         hit.1.entry) found.now.hits }
     ensures told { TellsHits found.now result (K.written sink.old) (K.written sink.new) }
-    ensures cause { Blames result (K.faults sink.old) (K.faults sink.new) }
+    ensures cause { HasCause (K.faults sink.old) (K.faults sink.new) result }
 {
     for n in 0..found.len() {
         tell_hit(index, found, n, sink)?;

@@ -5,18 +5,20 @@ ghost use Rattle.si_lex.specs.Lexemes.{token_of, tokens_of};
 ghost use Rattle.si_defs.specs.declared.TheConstants.{MOST_BYTES};
 ghost use Rattle.si_parse.specs.declared.pattern.PatternKind.{PatternKind};
 ghost use Rattle.si_steps.specs.Words.{command_text};
-ghost use Rattle.si_steps.specs.declared.word.Word.TheVariants.{Add, Load, Remove, Ask, Stats};
-ghost use Rattle.si_session.specs.Commands.{Commands, ReadsCommand, kind_word};
+ghost use Rattle.si_steps.specs.declared.word.Word.TheVariants.{Add, Load, Remove, Ask, Subsumers, Subsumed, Stats, Sample};
+ghost use Rattle.si_session.specs.Commands.{Commands, ReadsCommand, ReadsOperand, kind_word};
 
+use crate::number::numeral_of;
 use crate::word::word_of;
 use si_defs::Relation;
 use si_lex::{Lexeme, Stop, lex};
 use si_parse::grammar::{clause, name};
 use si_parse::item::is_foreign;
 use si_parse::pattern::{PatternKind, whole_pattern};
-use si_parse::text::whole_file;
+use si_parse::text::{whole_file, whole_formula};
+use si_state::{GREATEST_START, MOST_DRAWN};
 use si_steps::Word;
-use si_term::{Clause, Name, Pattern, Text};
+use si_term::{Clause, Literals, Name, Pattern, Text};
 use std::alloc::{AllocError, Global};
 
 /// What a command line asks for.
@@ -38,8 +40,14 @@ pub enum Command {
     Remove(Name),
     /// The entries that stand in a relation to a pattern.
     Query(Relation, Pattern),
+    /// The clauses that subsume a formula.
+    Subsumers(Literals),
+    /// The clauses that a formula subsumes.
+    Subsumed(Literals),
     /// How much is kept.
     Stats,
+    /// So many clauses that are drawn from a start, and how much unifies with them.
+    Sample { start: u32, count: u32 },
 }
 
 /// The command that a line is.
@@ -72,7 +80,10 @@ fn command_of(alloc: Global, tokens: &[Lexeme<'_>], stop: Stop) -> Result<Comman
         Some(Word::Load) => load_command(alloc, rest, stop),
         Some(Word::Remove) => remove_command(alloc, rest, stop),
         Some(Word::Ask(relation)) => query_command(alloc, relation, rest, stop),
+        Some(Word::Subsumers) => subsumers_command(alloc, rest, stop),
+        Some(Word::Subsumed) => subsumed_command(alloc, rest, stop),
         Some(Word::Stats) => Ok(stats_command(rest, stop)),
+        Some(Word::Sample) => Ok(sample_command(rest, stop)),
         Some(_) => Ok(Command::Later),
         None => Ok(Command::Wrong),
     }
@@ -157,11 +168,53 @@ fn query_command(
     }
 }
 
+/// The command that the word `subsumers` begins, by the tokens behind it.
+fn subsumers_command(
+    alloc: Global,
+    tokens: &[Lexeme<'_>],
+    stop: Stop,
+) -> Result<Command, AllocError>
+    requires { length tokens.now ≤ MOST_BYTES }
+    ensures { IfOk result (Commands (lower (command_text Subsumers) ∷ tokens_of tokens.now)
+        stop) }
+{
+    match formula_of(alloc, tokens, stop)? {
+        Some(formula) => Ok(Command::Subsumers(formula)),
+        None => Ok(Command::Wrong),
+    }
+}
+
+/// The command that the word `subsumed` begins, by the tokens behind it.
+fn subsumed_command(alloc: Global, tokens: &[Lexeme<'_>], stop: Stop) -> Result<Command, AllocError>
+    requires { length tokens.now ≤ MOST_BYTES }
+    ensures { IfOk result (Commands (lower (command_text Subsumed) ∷ tokens_of tokens.now) stop) }
+{
+    match formula_of(alloc, tokens, stop)? {
+        Some(formula) => Ok(Command::Subsumed(formula)),
+        None => Ok(Command::Wrong),
+    }
+}
+
+/// The formula that the tokens behind the word of a command are.
+fn formula_of(
+    alloc: Global,
+    tokens: &[Lexeme<'_>],
+    stop: Stop,
+) -> Result<Option<Literals>, AllocError>
+    requires { length tokens.now ≤ MOST_BYTES }
+    ensures { IfOk result (ReadsOperand (tokens_of tokens.now) stop) }
+{
+    match stop {
+        Stop::End => whole_formula(alloc, tokens),
+        Stop::Bad | Stop::FullStop => Ok(None),
+    }
+}
+
 /// The kind of pattern that a word asks for.
 fn kind_of(word: &Lexeme<'_>) -> Option<PatternKind>
     ensures found { IfSome result (λ kind. token_of word.now ≡ lower (kind_word kind)) }
-    ensures none { IfNone result ((kind : PatternKind) → token_of word.now ≡ lower (kind_word kind)
-        → ⊥) }
+    ensures none { IfNone result ((kind : PatternKind)
+        → token_of word.now ≡ lower (kind_word kind) → ⊥) }
 {
     if word.is_lower(b"lit") {
         Some(PatternKind::Lit)
@@ -169,5 +222,31 @@ fn kind_of(word: &Lexeme<'_>) -> Option<PatternKind>
         Some(PatternKind::Term)
     } else {
         None
+    }
+}
+
+/// The command that the word `sample` begins, by the tokens behind it.
+fn sample_command(tokens: &[Lexeme<'_>], stop: Stop) -> Command
+    ensures { Commands (lower (command_text Sample) ∷ tokens_of tokens.now) stop result }
+{
+    if stop != Stop::End {
+        return Command::Wrong;
+    }
+    let Some((first, rest)) = tokens.split_first() else {
+        return Command::Wrong;
+    };
+    let Some((second, others)) = rest.split_first() else {
+        return Command::Wrong;
+    };
+    if !others.is_empty() {
+        return Command::Wrong;
+    }
+    let Some(start) = numeral_of(first, GREATEST_START) else {
+        return Command::Wrong;
+    };
+    match numeral_of(second, MOST_DRAWN) {
+        Some(count) if count > 0 => Command::Sample { start, count },
+        Some(_) => Command::Wrong,
+        None => Command::Wrong,
     }
 }

@@ -2,9 +2,12 @@
 #![tactic(auto)]
 
 mod answer;
-mod broken;
 mod command;
+mod mapped;
+mod number;
+mod refusals;
 mod reply;
+mod sample;
 mod session;
 mod sign;
 mod stepped;

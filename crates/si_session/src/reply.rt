@@ -8,7 +8,7 @@ ghost use Rattle.si_term.specs.Terms.{symbol_of};
 ghost use Rattle.si_term.specs.Meaning.{name_of};
 ghost use Rattle.si_session.specs.Signs.{sign_text};
 ghost use Rattle.si_session.specs.declared.sign.Sign.TheVariants.{Space, LineFeed};
-ghost use Rattle.si_session.specs.Replies.{reply_line, ended_line, stats_text, closed_shape, file_word, line_word};
+ghost use Rattle.si_session.specs.Replies.{reply_line, ended_line, stats_text, sample_text, closed_shape, file_word, line_word};
 ghost use Rattle.si_session.specs.Session.{Writes};
 ghost use Rattle.si_session.specs.declared.stepped.Stepped.TheVariants.{SinkFailed};
 
@@ -56,6 +56,12 @@ pub enum Reply<'a> {
     End(u64),
     /// So much is kept.
     Stats(Stats),
+    /// So many clauses with so many entries were drawn, and so many answers were summed.
+    Sample {
+        clauses: u64,
+        entries: u64,
+        sum: u64,
+    },
     /// A kept clause has this name.
     Taken(&'a Name),
     /// The symbol has one shape in the tried clause, and another stands against it.
@@ -200,6 +206,16 @@ fn put_stats<K: Sink>(sink: &mut K, stats: Stats) -> Result<(), Failed>
     )
 }
 
+/// Writes how much was drawn, and how many answers were summed.
+fn put_sample<K: Sink>(sink: &mut K, clauses: u64, entries: u64, sum: u64) -> Result<(), Failed>
+    ensures text { Puts result (sample_text clauses entries sum) (K.written sink.old)
+        (K.written sink.new) }
+    ensures cause { HasCause (K.faults sink.old) (K.faults sink.new) result }
+{
+    put_number(sink, b"sample ", clauses)?;
+    put_counts(sink, b" ", entries, b" ", sum)
+}
+
 /// Writes a side and an arity.
 fn put_shape<K: Sink>(sink: &mut K, shape: Shape) -> Result<(), Failed>
     ensures text { Puts result (closed_shape shape) (K.written sink.old) (K.written sink.new) }
@@ -254,6 +270,11 @@ fn put_reply<K: Sink>(sink: &mut K, reply: Reply<'_>) -> Result<(), Failed>
         Reply::Ok { clauses, entries } => put_counts(sink, b"ok ", clauses, b" ", entries),
         Reply::End(lines) => put_count(sink, b"end ", lines),
         Reply::Stats(stats) => put_stats(sink, stats),
+        Reply::Sample {
+            clauses,
+            entries,
+            sum,
+        } => put_sample(sink, clauses, entries, sum),
         Reply::Taken(name) => put_named(sink, b"! taken ", name),
         Reply::Misused {
             symbol,
@@ -280,7 +301,7 @@ fn refuses(reply: Reply<'_>) -> bool
     ensures { result ≡ is_refusal (reply_line reply.entry ∷ []) }
 {
     match reply {
-        Reply::Ok { .. } | Reply::End(_) | Reply::Stats(_) => false,
+        Reply::Ok { .. } | Reply::End(_) | Reply::Stats(_) | Reply::Sample { .. } => false,
         Reply::Taken(_) | Reply::Misused { .. } | Reply::Full { .. } | Reply::Unknown(_) => true,
         Reply::File(..) | Reply::Line(..) | Reply::Fetches => true,
         Reply::Long | Reply::Later | Reply::Language => true,

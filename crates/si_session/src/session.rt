@@ -8,24 +8,25 @@ ghost use Rattle.si_steps.specs.Steps.{Performs};
 ghost use Rattle.si_steps.specs.FileWords.{names_file};
 ghost use Rattle.si_steps.specs.Runs.{a_word, a_line};
 ghost use Rattle.si_session.specs.Session.{Steps, ActsOn, HasLoaded, around};
-ghost use Rattle.si_session.specs.Rejections.{HasHead, TellsWhy, IsTellable, TellsFaultOfLoad};
 ghost use Rattle.si_session.specs.declared.stepped.Stepped.TheVariants.{Silent, Refused, SinkFailed};
 ghost use Rattle.si_io.specs.Faults.{Rose};
 ghost use Rattle.si_defs.specs.Clauses.{IsSoundClause, IsSoundPattern};
 ghost use Rattle.si_term.specs.Meaning.{name_of, clause_of, pattern_of};
 
 use crate::answer::tell_hits;
-use crate::broken::Broken;
 use crate::command::{Command, read_command};
-use crate::reply::{FileFault, LineFault, Reply, tell};
+use crate::mapped::{subsumed, subsumers};
+use crate::refusals::{load_refusal, refusal};
+use crate::reply::{Reply, tell};
+use crate::sample::sample;
 use crate::stepped::Stepped;
 use si_defs::Relation;
-use si_harvest::{HarvestFault, HarvestLimits, expand};
+use si_harvest::{HarvestLimits, expand};
 use si_index::Index;
 use si_io::{Library, Sink};
-use si_sign::{AddFault, ClauseStore, Rejected};
+use si_sign::ClauseStore;
 use si_steps::Limits;
-use si_term::{Clause, Name, Pattern, Text, head_at};
+use si_term::{Clause, Name, Pattern, Text};
 use std::alloc::{AllocError, Global};
 use std::marker::Model;
 
@@ -104,7 +105,12 @@ impl Session {
             Ok(Command::Query(relation, pattern)) => {
                 answer(&self.index, relation, &pattern, sink)
             }
+            Ok(Command::Subsumers(formula)) => subsumers(&self.index, &formula, sink),
+            Ok(Command::Subsumed(formula)) => subsumed(&self.index, &formula, sink),
             Ok(Command::Stats) => tell(sink, Reply::Stats(self.index.stats())),
+            Ok(Command::Sample { start, count }) => {
+                sample(self.alloc, &mut self.index, start, count, sink)
+            }
             Err(_) => tell(sink, Reply::Memory),
         }
     }
@@ -179,26 +185,6 @@ fn add<K: Sink>(index: &mut Index, clause: Clause, sink: &mut K) -> Stepped
     }
 }
 
-/// Why a clause isn't kept, as a reply.
-fn refusal(rejected: &Rejected) -> Reply<'_>
-    requires { HasHead rejected.now }
-    ensures { TellsWhy rejected.now result }
-{
-    match &rejected.why {
-        AddFault::Taken => Reply::Taken(&rejected.clause.name),
-        AddFault::Clash(clash) => Reply::Misused {
-            symbol: head_at(&rejected.clause, clash.entry),
-            found: clash.found,
-            kept: clash.kept,
-        },
-        AddFault::Full { needed, limit } => Reply::Full {
-            needed: *needed,
-            limit: *limit,
-        },
-        AddFault::Memory => Reply::Memory,
-    }
-}
-
 /// Loads the file with this name.
 fn load_named<L: Library, K: Sink>(
     alloc: Global,
@@ -263,26 +249,6 @@ fn load<L: Library, K: Sink>(
     }
 }
 
-/// Why a load is refused, as a reply.
-#[tactic(auto, unfolding(crate::specs::Replies::file_word, crate::specs::Replies::line_word))]
-fn load_refusal(fault: &HarvestFault) -> Reply<'_>
-    requires { IsTellable fault.now }
-    ensures { TellsFaultOfLoad fault.now result }
-{
-    match fault {
-        HarvestFault::Syntax { file, line } => Reply::Line(LineFault::Syntax, file, *line),
-        HarvestFault::Language { file, line } => Reply::Line(LineFault::Language, file, *line),
-        HarvestFault::Rejected(rejected) => refusal(rejected),
-        HarvestFault::Missing(file) => Reply::File(FileFault::Missing, file),
-        HarvestFault::Big(file) => Reply::File(FileFault::Big, file),
-        HarvestFault::Fault(file) => Reply::File(FileFault::Failed, file),
-        HarvestFault::Cycle(file) => Reply::File(FileFault::Cycle, file),
-        HarvestFault::Depth(file) => Reply::File(FileFault::Depth, file),
-        HarvestFault::Fetches => Reply::Fetches,
-        HarvestFault::Memory => Reply::Memory,
-    }
-}
-
 /// Lets the clause with this name go, and writes the reply.
 fn remove<K: Sink>(index: &mut Index, name: Name, sink: &mut K) -> Stepped
     ensures acts { ActsOn (λ limits. Performs limits (remove (name_of name))) index.old
@@ -319,7 +285,6 @@ fn answer<K: Sink>(index: &Index, relation: Relation, pattern: &Pattern, sink: &
     };
     match tell_hits(index, &found, sink) {
         Ok(()) => tell(sink, Reply::End(u64::from(found.len()))),
-        Err(Broken::Sink) => Stepped::SinkFailed,
-        Err(Broken::Memory) => tell(sink, Reply::Memory),
+        Err(_) => Stepped::SinkFailed,
     }
 }

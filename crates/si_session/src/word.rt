@@ -63,7 +63,8 @@ fn word_with(text: &[u8]) -> Option<Word>
 /// The relation with this text.
 fn relation_with(text: &[u8]) -> Option<Relation>
     ensures found { IfSome result (λ relation. relation_text relation ≡ text.now) }
-    ensures none { IfNone result ((relation : Relation) → relation_text relation ≡ text.now → ⊥) }
+    ensures none { IfNone result ((relation : Relation)
+        → relation_text relation ≡ text.now → ⊥) }
 {
     if is(text, b"variants") {
         return Some(Relation::Variants);

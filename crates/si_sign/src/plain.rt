@@ -179,7 +179,8 @@ fn clash_with(
 
 /// The symbols of these clauses.
 fn kept_symbols<'a>(alloc: Global, clauses: &'a [Clause]) -> Result<Vec<&'a Sym>, AllocError>
-    ensures { IfOk result (λ v. lent_symbols v.items ≡ state_symbols (map clause_of clauses.now)) }
+    ensures { IfOk result (λ v.
+        lent_symbols v.items ≡ state_symbols (map clause_of clauses.now)) }
 {
     let mut all = Vec::new(alloc);
     for i in 0..clauses.len() {

@@ -6,7 +6,7 @@ use Rattle.si_defs.specs.Bytes.{Bytes}
 use Rattle.si_defs.specs.Clauses.{Name, Clause}
 use Rattle.si_defs.specs.Substitutions.{IsAmong}
 use Rattle.si_defs.specs.Tokens.{AreBlanks}
-use Rattle.si_defs.specs.Grammar.{Selection, all, only, Item, clause_item, include_item}
+use Rattle.si_defs.specs.Grammar.{Selection, all, only, clause_item, include_item}
 use Rattle.si_defs.specs.Texts.{BeginsWithItem, IsFaulty, IsForeign, IsPlace, line_of}
 use Rattle.si_state.specs.Acceptance.{Refusal, Accepts, Refuses}
 

@@ -2,3 +2,5 @@ pub mod Acceptance
 pub mod Answers
 pub mod Signatures
 pub mod Harvest
+pub mod Subsumption
+pub mod Samples

@@ -1,16 +1,17 @@
 -- Which lines are commands, and what they ask for (this project's profile).
-use Rattle.std.specs.Prelude.{◌≡◌, ◌<◌, ◌≤◌, List, ◌∷◌, [], length, IsTrue, IsFalse, codes}
+use Rattle.std.specs.Prelude.{◌≡◌, ℕ, ◌<◌, ◌≤◌, List, ◌∷◌, [], length, IsTrue, IsFalse, codes, decimal}
 use Rattle.si_defs.specs.Bytes.{Bytes}
-use Rattle.si_defs.specs.Clauses.{Name, Clause, Pattern, literal_pattern, term_pattern}
+use Rattle.si_defs.specs.Clauses.{Name, Literal, Clause, Pattern, literal_pattern, term_pattern}
 use Rattle.si_defs.specs.Substitutions.{IsAmong}
 use Rattle.si_defs.specs.declared.Relation.{Relation}
-use Rattle.si_defs.specs.declared.TokenKind.TheVariants.{Single}
+use Rattle.si_defs.specs.declared.TokenKind.TheVariants.{Int, Single}
 use Rattle.si_defs.specs.Tokens.{Token, lower, AreBlanks, Begins, NextToken}
-use Rattle.si_defs.specs.Grammar.{IsName, IsClause, IsLiteral, IsTerm, left_bracket}
+use Rattle.si_defs.specs.Grammar.{IsName, IsClause, IsLiteral, IsTerm, IsFormula, left_bracket}
 use Rattle.si_defs.specs.Texts.{IsText, languages}
+use Rattle.si_state.specs.Samples.{AllowsSample}
 use Rattle.si_steps.specs.declared.limits.Limits.{Limits}
 use Rattle.si_steps.specs.declared.word.Word.{Word}
-use Rattle.si_steps.specs.declared.word.Word.TheVariants.{Add, Load, Remove, Ask, Stats}
+use Rattle.si_steps.specs.declared.word.Word.TheVariants.{Add, Load, Remove, Ask, Subsumers, Subsumed, Stats, Sample}
 use Rattle.si_steps.specs.Words.{command_text, is_built}
 
 -- ---- commands
@@ -19,7 +20,10 @@ pub data Command : Type 0 where
   load : Bytes → Command
   remove : Name → Command
   query : Relation → Pattern → Command
+  subsumers : List Literal → Command
+  subsumed : List Literal → Command
   stats : Command
+  sample : ℕ → ℕ → Command
 
 -- the word that it begins with
 abbrev pub command_word : Command → Word
@@ -27,11 +31,18 @@ command_word (add c) = Add
 command_word (load file) = Load
 command_word (remove name) = Remove
 command_word (query relation pattern) = Ask relation
+command_word (subsumers formula) = Subsumers
+command_word (subsumed formula) = Subsumed
 command_word stats = Stats
+command_word (sample start count) = Sample
 
 abbrev pub IsQuery : Pattern → List Token → Type 0
 IsQuery (literal_pattern l) ts = (us : List Token) × IsLiteral l us × (ts ≡ lower (codes "lit") ∷ us)
 IsQuery (term_pattern t) ts = (us : List Token) × IsTerm t us × (ts ≡ lower (codes "term") ∷ us)
+
+-- the token of this number, without sign
+abbrev pub numeral : ℕ → Token
+numeral n = record { kind = Int; text = decimal n }
 
 -- what stands behind the word
 abbrev pub AreOperands : Command → List Token → Type 0
@@ -39,7 +50,10 @@ AreOperands (add c) ts = IsClause c ts
 AreOperands (load file) ts = ts ≡ record { kind = Single; text = file } ∷ []
 AreOperands (remove name) ts = (t : Token) × IsName name t × (ts ≡ t ∷ [])
 AreOperands (query relation pattern) ts = IsQuery pattern ts
+AreOperands (subsumers formula) ts = IsFormula formula ts
+AreOperands (subsumed formula) ts = IsFormula formula ts
 AreOperands stats ts = ts ≡ []
+AreOperands (sample start count) ts = AllowsSample start count × (ts ≡ numeral start ∷ numeral count ∷ [])
 
 -- the word of a command that is built, and its operands
 pub record IsCommand (command : Command) (ts : List Token) : Type 0 where

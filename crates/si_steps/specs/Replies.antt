@@ -1,5 +1,5 @@
 -- The replies to commands, line by line (this project's profile).
-use Rattle.std.specs.Prelude.{ℕ, Bool, false, List, [], ◌∷◌, ◌++◌, length, codes, decimal}
+use Rattle.std.specs.Prelude.{ℕ, Bool, false, List, [], ◌∷◌, ◌++◌, length, map, codes, decimal}
 use Rattle.si_defs.specs.Bytes.{Bytes}
 use Rattle.si_defs.specs.Symbols.{Symbol}
 use Rattle.si_defs.specs.Clauses.{Name}
@@ -8,6 +8,7 @@ use Rattle.si_defs.specs.Printing.{name_text, file_text, symbol_text, shape_text
 use Rattle.si_state.specs.Acceptance.{Refusal, taken, misused, full}
 use Rattle.si_state.specs.Harvest.{Fault, cycle, too_deep, too_many, missing, too_big, failed, foreign, malformed, rejected}
 use Rattle.si_state.specs.Answers.{Hit, hit_texts}
+use Rattle.si_state.specs.Subsumption.{MappedClause, mapped_text}
 
 -- lines, without their line feeds
 abbrev pub Reply : Type 0
@@ -25,6 +26,12 @@ end_line count = codes "end " ++ decimal count
 abbrev pub stats_line : ℕ → ℕ → ℕ → Bytes
 stats_line clauses entries symbols =
     codes "clauses " ++ decimal clauses ++ codes " entries " ++ decimal entries ++ codes " symbols " ++ decimal symbols
+
+-- so many clauses with so many entries were gained, and these, as patterns, have so many answers of
+-- `unifiable` together
+abbrev pub sample_line : ℕ → ℕ → ℕ → Bytes
+sample_line clauses gained sum =
+    codes "sample " ++ decimal clauses ++ codes " " ++ decimal gained ++ codes " " ++ decimal sum
 
 abbrev pub taken_line : Name → Bytes
 taken_line name = codes "! taken " ++ name_text name
@@ -89,6 +96,10 @@ memory_line = codes "! memory"
 -- the lines of an answer, and their number
 abbrev pub answer_reply : List Hit → Reply
 answer_reply hits = hit_texts hits ++ end_line (length hits) ∷ []
+
+-- the same of clauses and their maps
+abbrev pub mapped_reply : List MappedClause → Reply
+mapped_reply ms = map mapped_text ms ++ end_line (length ms) ∷ []
 
 -- the last line of the reply begins with `!`
 abbrev pub is_refusal : Reply → Bool

@@ -6,10 +6,12 @@ use Rattle.si_defs.specs.Entries.{entries, state_entries}
 use Rattle.si_state.specs.Acceptance.{IsTaken, Accepts, Refusal, Refuses, Removes}
 use Rattle.si_state.specs.Signatures.{CountsSymbols}
 use Rattle.si_state.specs.Answers.{Hit, IsAnswer}
-use Rattle.si_state.specs.Harvest.{Files}
+use Rattle.si_state.specs.Harvest.{Files, AreAccepted, IsFirstRefused}
+use Rattle.si_state.specs.Subsumption.{MappedClause, AreSubsumers, AreSubsumed}
+use Rattle.si_state.specs.Samples.{AreDrawn, SumsAnswers}
 use Rattle.si_steps.specs.declared.limits.Limits.{Limits}
-use Rattle.si_steps.specs.Commands.{Command, add, load, remove, query, stats, Means, IsLong, IsLater, IsDecided, IsSilent, AddsForeign}
-use Rattle.si_steps.specs.Replies.{Reply, refusal_line, unknown_line, ok_line, stats_line, answer_reply, long_line, later_line, language_line, syntax_line, memory_line}
+use Rattle.si_steps.specs.Commands.{Command, add, load, remove, query, subsumers, subsumed, stats, sample, Means, IsLong, IsLater, IsDecided, IsSilent, AddsForeign}
+use Rattle.si_steps.specs.Replies.{Reply, refusal_line, unknown_line, ok_line, stats_line, answer_reply, mapped_reply, sample_line, long_line, later_line, language_line, syntax_line, memory_line}
 use Rattle.si_steps.specs.Loads.{Owed, nothing, PerformsLoad}
 
 -- The command's reply and the state behind it. A load goes by `PerformsLoad`.
@@ -24,9 +26,19 @@ Performs limits (remove name) state reply new =
     ⊎ ((removed : Clause) × Removes state name removed new × (reply ≡ ok_line 1 (length (entries removed)) ∷ []))
 Performs limits (query relation pattern) state reply new =
     (hits : List Hit) × IsAnswer relation pattern (state_entries state) hits × (reply ≡ answer_reply hits) × (new ≡ state)
+Performs limits (subsumers formula) state reply new =
+    (found : List MappedClause) × AreSubsumers formula state found × (reply ≡ mapped_reply found) × (new ≡ state)
+Performs limits (subsumed formula) state reply new =
+    (found : List MappedClause) × AreSubsumed formula state found × (reply ≡ mapped_reply found) × (new ≡ state)
 Performs limits stats state reply new =
     (symbols : ℕ) × CountsSymbols state symbols
     × (reply ≡ stats_line (length state) (length (state_entries state)) symbols ∷ []) × (new ≡ state)
+Performs limits (sample start count) state reply new =
+    (drawn : List Clause) × AreDrawn start count drawn
+    × (((clause : Clause) × (why : Refusal) × IsFirstRefused limits.entries state drawn clause why
+    × (reply ≡ refusal_line limits.entries clause.name why ∷ []) × (new ≡ state))
+    ⊎ ((sum : ℕ) × AreAccepted limits.entries state drawn × SumsAnswers (state_entries new) (state_entries drawn) sum
+    × (reply ≡ sample_line (length drawn) (length (state_entries drawn)) sum ∷ []) × (new ≡ state ++ drawn)))
 
 -- the line is no command
 abbrev pub IsNoCommand : Bytes → Type 0

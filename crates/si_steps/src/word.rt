@@ -22,6 +22,6 @@ pub enum Word {
     Tree,
     /// Counts the nodes that a query passes.
     Explain,
-    /// Keeps generated clauses.
+    /// Keeps clauses that are drawn.
     Sample,
 }

@@ -16,6 +16,7 @@ use Rattle.si_unify.specs.Spots.{text, IsAt, StandsAt, IsLegal, MakesEqual, Make
 use Rattle.si_unify.specs.Circles.{IsTold}
 use Rattle.si_unify.proofs.Lists.{all_map}
 use Rattle.si_unify.proofs.Places.{whole_at}
+use Rattle.si_unify.proofs.Pieces.{handed_on}
 use Rattle.si_unify.proofs.Comparing.{equal_before, solved_before}
 use Rattle.si_unify.proofs.Ranks.{chained_of_triangular}
 use Rattle.si_unify.proofs.Weights.{triangular_of_solved}
@@ -83,7 +84,14 @@ module _ (q : Question) (old mid : Pairs) (first keys : List SpotPair) (n : ℕ)
           )
 
       pub answered : (b : Bool) → IsTold q.slots new b → HasAnswered q old new b
-      answered true told = (closed.0.bindings, told.0, sound_still, complete_still, told.1)
+      answered true told = (
+        closed.0.bindings,
+        told.0,
+        sound_still,
+        complete_still,
+        told.1,
+        handed_on old mid new q.left.now q.right.now met.0.handed_in closed.3,
+      )
       answered false told = λ f solved equal. told (triangular_of_solved q.slots new f closed.0.bindings closed.0.chained (complete_still f solved equal))
 
     pub answered_unclosed : (new : Pairs) → HasClosed q mid new keys false → HasAnswered q old new false

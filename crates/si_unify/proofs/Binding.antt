@@ -14,7 +14,8 @@ use Rattle.si_unify.specs.declared.slots.Slots.{Slots}
 use Rattle.si_unify.specs.declared.spots.Spot.{Spot}
 use Rattle.si_unify.specs.declared.spots.SpotPair.{SpotPair}
 use Rattle.si_unify.specs.declared.spots.Question.{Question}
-use Rattle.si_unify.specs.Solving.{Pairs, slot_count, slot_of, variable_of, is_frozen, IsInRange, CellIsInRange, AreInRange, Equalizes, IsSolvedBy, IsBinding}
+use Rattle.si_unify.proofs.Pieces.{handed_one_more}
+use Rattle.si_unify.specs.Solving.{IsHandedIn, Pairs, slot_count, slot_of, variable_of, is_frozen, IsInRange, CellIsInRange, AreInRange, Equalizes, IsSolvedBy, IsBinding}
 use Rattle.si_unify.specs.Spots.{cells_now, text, IsAt, StandsAt, IsSpot, cell_slot, IsBelow, ComesDown, IsChained, IsLegal, MakesEqual, IsApart, ArePairs, Meets, IsGoingOn, IsUnbound}
 use Rattle.si_unify.proofs.Reading.{same_term}
 use Rattle.si_unify.proofs.Lists.{all_with, all_map, all_append, all_front, all_back, all_take, all_drop, apart_from, still_bound}
@@ -168,6 +169,7 @@ pub record CanBind (q : Question) (pairs : Pairs) (keys : List SpotPair) (x : Va
   pub free : is_frozen q.slots x ≡ false
   pub whole : StandsFor v.now u
   pub value_range : AreInRange q.slots v.now
+  pub handed_in : IsHandedIn pairs q.left.now q.right.now v.now
   pub ends : IsUnbound pairs (cell_slot q.slots (first_cell u))
   pub differs : IsNot (cell_slot q.slots (first_cell u)) slot
 
@@ -253,6 +255,7 @@ binding_goes_on q pairs keys x u slot v h = record {
   keys_grow = ([], sym (append-nil keys));
   legal = bound_legal q pairs keys x u slot v h;
   keys = pairs_still q pairs ((slot, v) ∷ []) keys h.apart;
+  handed_in = handed_one_more pairs q.left.now q.right.now slot v h.handed_in;
 }
 
 -- ---- texts are whole

@@ -129,4 +129,5 @@ closing_ends q old pairs old_keys keys next h over =
           all_front (MakesEqual q pairs f) old_keys h.going.keys_grow.0
           (subst (AllByRecursion (MakesEqual q pairs f)) h.going.keys_grow.1 (all_equal q pairs keys done f solved)),
       λ f solved equal. (h.complete f solved equal).0,
+      h.going.handed_in,
     )

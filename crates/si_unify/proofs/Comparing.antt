@@ -18,6 +18,7 @@ use Rattle.si_unify.specs.Spots.{text, StandsAt, IsSpot, IsEnd, ComesTo, common_
 use Rattle.si_unify.proofs.Lists.{all_map, all_front}
 use Rattle.si_unify.proofs.Places.{at_unique, first_cell, first_of}
 use Rattle.si_unify.proofs.Binding.{stands_still, stood, solved_front}
+use Rattle.si_unify.proofs.Pieces.{handed_on}
 use Rattle.si_unify.proofs.Meeting.{goes_nowhere, have_head}
 use Rattle.si_unify.proofs.Rows.{join, cells-join, sound-join, count-join, sizes-join, substitute-join, count-substitute, join_injective}
 
@@ -351,6 +352,7 @@ going_further q old pairs new old_keys keys new_keys a b = record {
   keys_grow = grows_on old_keys keys new_keys a.keys_grow b.keys_grow;
   legal = b.legal;
   keys = b.keys;
+  handed_in = handed_on old pairs new q.left.now q.right.now a.handed_in b.handed_in;
 }
 
 pub comparing_goes_on :

@@ -3,6 +3,7 @@ pub mod Lists
 pub mod StateLaws
 pub mod Places
 pub mod Chains
+pub mod Pieces
 pub mod Binding
 pub mod Meeting
 pub mod Rows

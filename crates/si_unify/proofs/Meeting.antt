@@ -13,8 +13,9 @@ use Rattle.si_unify.specs.declared.slots.Slots.{Slots}
 use Rattle.si_unify.specs.declared.spots.Spot.{Spot}
 use Rattle.si_unify.specs.declared.spots.SpotPair.{SpotPair}
 use Rattle.si_unify.specs.declared.spots.Question.{Question}
-use Rattle.si_unify.specs.Solving.{Pairs, slot_count, slot_of, variable_of, is_frozen, CellIsInRange, AreInRange}
-use Rattle.si_unify.specs.Spots.{StandsAt, IsSpot, IsEnd, cell_at, slot_at, cell_slot, free_slot, same_slot, common_arity, IsLegal, MakesEqual, MakesEqualUpTo, IsApart, ArePairs, Meets, Refutes, IsGoingOn, IsUnbound, Binds, HasMet}
+use Rattle.si_unify.proofs.Pieces.{handed_still, handed_piece, text_handed_in}
+use Rattle.si_unify.specs.Solving.{IsPieceOf, Pairs, slot_count, slot_of, variable_of, is_frozen, CellIsInRange, AreInRange}
+use Rattle.si_unify.specs.Spots.{text, StandsAt, IsSpot, IsEnd, cell_at, slot_at, cell_slot, free_slot, same_slot, common_arity, IsLegal, MakesEqual, MakesEqualUpTo, IsApart, ArePairs, Meets, Refutes, IsGoingOn, IsUnbound, Binds, HasMet}
 use Rattle.si_unify.proofs.Lists.{all_append}
 use Rattle.si_unify.proofs.Places.{at_unique, first_cell, cell-at, inside, in_range-at, in_range-variable, variable_of-slot_of, text_in_range, slot_variable}
 use Rattle.si_unify.proofs.Chains.{no_cell}
@@ -72,6 +73,7 @@ goes_nowhere q pairs keys legal apart = record {
   keys_grow = ([], sym (append-nil keys));
   legal = legal;
   keys = apart;
+  handed_in = handed_still pairs q.left.now q.right.now;
 }
 
 pub equal_meets : (q : Question) (pairs : Pairs) (keys : List SpotPair) (t u : Term) → t ≡ u → Meets q pairs pairs keys keys t u
@@ -138,8 +140,9 @@ can_bind :
     → (free : IsFree q.slots t slot)
     → StandsFor v.now u
     → AreInRange q.slots v.now
+    → IsPieceOf (text q pairs right.base) v.now
     → CanBind q pairs keys free.variable u slot v
-can_bind q pairs keys left right t u slot v h left_stands right_stands free whole range =
+can_bind q pairs keys left right t u slot v h left_stands right_stands free whole range piece =
     let right_is : slot_at q pairs right ≡ cell_slot q.slots (first_cell u) = ap (cell_slot q.slots) (first_at q pairs right u right_stands) in
     let left_is : slot_at q pairs left ≡ Some slot =
     ap (cell_slot q.slots) (first_at q pairs left t left_stands ∙ ap first_cell free.is) ∙ slot_of-cell q.slots free.variable ∙ ap Some free.slot_is in
@@ -151,6 +154,7 @@ can_bind q pairs keys left right t u slot v h left_stands right_stands free whol
       free = free.free;
       whole = whole;
       value_range = range;
+      handed_in = handed_piece pairs q.left.now q.right.now _ v.now (text_handed_in q pairs right.base) piece;
       ends = subst (IsUnbound pairs) right_is h.right_end.ends;
       differs = not_same _ slot (subst (λ o. same_slot (Some slot) o ≡ false) right_is (subst (λ o. same_slot o (slot_at q pairs right) ≡ false) left_is h.differ));
     }
@@ -165,12 +169,12 @@ left_bound q pairs new keys left right slot h free binds =
     let x = free_at q pairs left some.0 slot some.1 free in
     subst (λ l. HasMet q pairs l keys keys left right true) (sym binds.pairs) (
       binding_goes_on q pairs keys x.variable other.0 slot binds.value
-          (can_bind q pairs keys left right some.0 other.0 slot binds.value h some.1 other.1 x (binds.whole other.0 other.1) binds.in_range),
+          (can_bind q pairs keys left right some.0 other.0 slot binds.value h some.1 other.1 x (binds.whole other.0 other.1) binds.in_range binds.piece),
       λ t u left_stands right_stands.
           let y = free_at q pairs left t slot left_stands free in
           subst (λ w. Meets q pairs (pairs ++ (slot, binds.value) ∷ []) keys keys w u) (sym y.is)
           (binding_meets q pairs keys y.variable u slot binds.value
-          (can_bind q pairs keys left right t u slot binds.value h left_stands right_stands y (binds.whole u right_stands) binds.in_range)),
+          (can_bind q pairs keys left right t u slot binds.value h left_stands right_stands y (binds.whole u right_stands) binds.in_range binds.piece)),
     )
 
 turned : (q : Question) (pairs : Pairs) (keys : List SpotPair) (left right : Spot) → MeetsEnds q pairs keys left right → MeetsEnds q pairs keys right left
@@ -190,12 +194,12 @@ right_bound q pairs new keys left right slot h free binds =
     let x = free_at q pairs right some.0 slot some.1 free in
     subst (λ l. HasMet q pairs l keys keys left right true) (sym binds.pairs) (
       binding_goes_on q pairs keys x.variable other.0 slot binds.value
-          (can_bind q pairs keys right left some.0 other.0 slot binds.value k some.1 other.1 x (binds.whole other.0 other.1) binds.in_range),
+          (can_bind q pairs keys right left some.0 other.0 slot binds.value k some.1 other.1 x (binds.whole other.0 other.1) binds.in_range binds.piece),
       λ t u left_stands right_stands.
           let y = free_at q pairs right u slot right_stands free in
           subst (λ w. Meets q pairs (pairs ++ (slot, binds.value) ∷ []) keys keys t w) (sym y.is)
           (binding_meets_right q pairs keys y.variable t slot binds.value
-          (can_bind q pairs keys right left u t slot binds.value k right_stands left_stands y (binds.whole t left_stands) binds.in_range)),
+          (can_bind q pairs keys right left u t slot binds.value k right_stands left_stands y (binds.whole t left_stands) binds.in_range binds.piece)),
     )
 
 pub free_below : (q : Question) (pairs : Pairs) (spot : Spot) (slot : ℕ) → IsLegal q pairs → IsSpot q pairs spot → free_slot q.slots (cell_at q pairs spot) ≡ Some slot → slot < slot_count q.slots
@@ -357,6 +361,7 @@ pair_met q pairs keys new_keys left right arity i h e grown stored =
               | inl g ↦ subst (ArePairs q pairs) (sym g) h.apart
               | inr g ↦ subst (ArePairs q pairs) (sym g) (all_append (IsApart q pairs) keys (pair ∷ []) h.apart (here, tt))
             ];
+        handed_in = handed_still pairs q.left.now q.right.now;
       },
       λ t u left_stands right_stands. record {
         sound = λ f solved equal.

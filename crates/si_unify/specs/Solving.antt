@@ -1,5 +1,5 @@
 -- Solving equations between flat terms over a list of bindings, each of a slot and a whole slice.
-use Rattle.std.specs.Prelude.{◌≡◌, ℕ, ◌+◌, ◌-◌, ◌<◌, ◌↔◌, nat_lt, Bool, true, false, if◌then◌else◌, List, [], ◌∷◌}
+use Rattle.std.specs.Prelude.{◌≡◌, ℕ, ◌+◌, ◌-◌, ◌<◌, ◌↔◌, ◌⊎◌, nat_lt, Bool, true, false, if◌then◌else◌, List, [], ◌∷◌, ◌++◌}
 use Rattle.std.specs.List.{AllByRecursion}
 use Rattle.std.specs.Borrow.{Bor}
 use Rattle.si_defs.specs.Terms as terms
@@ -81,6 +81,28 @@ pub record IsBinding (slots : Slots) (pair : ℕ × Bor (List Cell)) : Type 0 wh
   pub unfrozen : is_frozen slots (variable_of slots pair.0) ≡ false
   pub whole : IsWhole pair.1.now
   pub in_range : AreInRange slots pair.1.now
+
+-- ---- where values come from
+-- the piece is a slice of the cells
+pub record IsPieceOf (cells piece : List Cell) : Type 0 where
+  pub before : List Cell
+  pub after : List Cell
+  pub whole : cells ≡ before ++ piece ++ after
+
+-- a slice of the value of one of the pairs
+abbrev pub IsPieceOfValue : Pairs → List Cell → Type 0
+IsPieceOfValue [] piece = ⊥
+IsPieceOfValue (pair ∷ pairs) piece = IsPieceOf pair.1.now piece ⊎ IsPieceOfValue pairs piece
+
+-- a slice of one of the two terms or of a value
+abbrev pub IsHandedIn : Pairs → List Cell → List Cell → List Cell → Type 0
+IsHandedIn pairs left right piece =
+    IsPieceOf left piece ⊎ (IsPieceOf right piece ⊎ IsPieceOfValue pairs piece)
+
+-- each value of the new list is a slice of one of the two terms or of a value of the old list
+abbrev pub AreHandedIn : Pairs → Pairs → List Cell → List Cell → Type 0
+AreHandedIn old new left right =
+    AllByRecursion (λ pair. IsHandedIn old left right pair.1.now) new
 
 -- ---- what solving tells
 abbrev pub IsSolution : Slots → Pairs → Substitution Symbol Variable → Type 0

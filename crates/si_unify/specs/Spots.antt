@@ -11,7 +11,7 @@ use Rattle.si_unify.specs.declared.slots.Slots.{Slots}
 use Rattle.si_unify.specs.declared.spots.Spot.{Spot}
 use Rattle.si_unify.specs.declared.spots.SpotPair.{SpotPair}
 use Rattle.si_unify.specs.declared.spots.Question.{Question}
-use Rattle.si_unify.specs.Solving.{Pairs, slot_count, slot_of, Equalizes, IsSolvedBy, IsAcyclic, IsBinding, AreInRange}
+use Rattle.si_unify.specs.Solving.{Pairs, slot_count, slot_of, Equalizes, IsSolvedBy, IsAcyclic, IsBinding, AreInRange, IsPieceOf, AreHandedIn}
 
 abbrev pub cells_now : Option (Bor (List Cell)) → List Cell
 cells_now None = []
@@ -152,6 +152,7 @@ pub record IsGoingOn (q : Question) (old new : Pairs) (old_keys new_keys : List 
   pub keys_grow : Grows old_keys new_keys
   pub legal : IsLegal q new
   pub keys : ArePairs q new new_keys
+  pub handed_in : AreHandedIn old new q.left.now q.right.now
 
 -- the slot has been bound to what stands at the spot
 pub record Binds (q : Question) (old new : Pairs) (slot : ℕ) (spot : Spot) : Type 0 where
@@ -159,6 +160,7 @@ pub record Binds (q : Question) (old new : Pairs) (slot : ℕ) (spot : Spot) : T
   pub pairs : new ≡ old ++ (slot, value) ∷ []
   pub whole : (u : Term) → StandsAt q old spot u → StandsFor value.now u
   pub in_range : AreInRange q.slots value.now
+  pub piece : IsPieceOf (text q old spot.base) value.now
 
 abbrev pub same_slot : Option ℕ → Option ℕ → Bool
 same_slot (Some m) (Some n) = m == n
@@ -198,6 +200,7 @@ HasClosed q old new keys true =
     IsLegal q new
     × ((f : Variable → Term) → IsSolvedBy q.slots new f → AllByRecursion (MakesEqual q new f) keys)
     × ((f : Variable → Term) → IsSolvedBy q.slots old f → AllByRecursion (MakesEqual q old f) keys → IsSolvedBy q.slots new f)
+    × AreHandedIn old new q.left.now q.right.now
 HasClosed q old new keys false = (f : Variable → Term) → IsSolvedBy q.slots old f → AllByRecursion (MakesEqual q old f) keys → ⊥
 
 -- The new bindings are legal, and solved by just those that solve the old ones and make the two
@@ -209,4 +212,5 @@ HasAnswered q old new true =
     × ((f : Variable → Term) → IsSolvedBy q.slots new f → Equalizes f q.left.now q.right.now)
     × ((f : Variable → Term) → IsSolvedBy q.slots old f → Equalizes f q.left.now q.right.now → IsSolvedBy q.slots new f)
     × HasDistinctSlots new
+    × AreHandedIn old new q.left.now q.right.now
 HasAnswered q old new false = (f : Variable → Term) → IsSolvedBy q.slots old f → Equalizes f q.left.now q.right.now → ⊥

@@ -3,7 +3,7 @@ ghost use Rattle.std.specs.Prelude.{◌≡◌, ◌≤◌, true, false, Ok, IfOk,
 ghost use Rattle.std.specs.List.{AllByRecursion};
 ghost use Rattle.si_flat.specs.Cells.{IsWhole};
 ghost use Rattle.si_unify.specs.Scratch.{AreClear};
-ghost use Rattle.si_unify.specs.Solving.{slot_count, AreInRange, IsAcyclic, IsBinding, HasSolved};
+ghost use Rattle.si_unify.specs.Solving.{slot_count, AreInRange, IsAcyclic, IsBinding, AreHandedIn, HasSolved};
 ghost use Rattle.si_unify.specs.Spots.{Grows, HasAnswered};
 
 use crate::arguments::close;
@@ -81,6 +81,7 @@ pub fn solve<'a>(
     ensures slots { trail.new.slots ≡ trail.old.slots }
     ensures bindings { AllByRecursion (IsBinding slots.now) trail.new.pairs }
     ensures triangular { IsAcyclic slots.now trail.new.pairs }
+    ensures handed_in { AreHandedIn trail.old.pairs trail.new.pairs s.now t.now }
 {
     solve_with(&mut Scratch::new(alloc), trail, slots, s, t)
 }
@@ -107,6 +108,7 @@ pub fn solve_with<'a>(
     ensures slots { trail.new.slots ≡ trail.old.slots }
     ensures bindings { AllByRecursion (IsBinding slots.now) trail.new.pairs }
     ensures triangular { IsAcyclic slots.now trail.new.pairs }
+    ensures handed_in { AreHandedIn trail.old.pairs trail.new.pairs s.now t.now }
 {
     let mark = trail.mark();
     let question = Question {

@@ -10,7 +10,7 @@ use Rattle.stindex.specs.declared.status.Status.{Status}
 use Rattle.stindex.specs.declared.status.Status.TheVariants.{Ended, Refused, Usage, SourceFault, SinkFault, Memory, SessionLimit}
 use Rattle.si_io.specs.Faults.{Rose}
 use Rattle.stindex.specs.Words.{usage_line, asked_by}
-use Rattle.stindex.specs.Serve.{Serves, Declines, Answers, IsFaultless, CountsFaults, HasRoomForOutputs}
+use Rattle.stindex.specs.Serve.{Serves, Declines, DeclinesOrServes, IsFaultless, CountsFaults, HasRoomForOutputs}
 
 module _ (limits : Limits) (told : Option Files) (words : List Bytes) (left now : Option Bytes) (before after : Around)
     (room : HasRoomForOutputs limits told words before.may_fail left before.sink.room) where
@@ -28,7 +28,7 @@ module _ (limits : Limits) (told : Option Files) (words : List Bytes) (left now 
   no_usage_fault : Declines words SinkFault left now before after → ⊥
   no_usage_fault d = let fits : length usage_line ≤ before.sink.room = room.usage d.refused in omega (arith, fits, d.written.past_room)
 
-  pub faultless_by : (status : Status) (may_fail : Bool) → Answers limits told words status left now before after
+  pub faultless_by : (status : Status) (may_fail : Bool) → DeclinesOrServes limits told words status left now before after
       → (status ≡ SourceFault → IsTrue may_fail) → IsFalse may_fail → IsFaultless status
   faultless_by Ended may_fail s sure never = tt
   faultless_by Refused may_fail s sure never = tt

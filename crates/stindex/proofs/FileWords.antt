@@ -16,7 +16,7 @@ use Rattle.clap.specs.declared.parser.matches.Found.{Found}
 use Rattle.stindex.specs.Words.{asked_in}
 use Rattle.stindex.specs.declared.status.Stop.{Stop}
 use Rattle.stindex.specs.Serve.{WritesTo}
-use Rattle.stindex.specs.Progress.{ActsOn, Breaks, LoadsWords, HasProgressed}
+use Rattle.stindex.specs.Progress.{ActsOnRequest, Breaks, LoadsWords, HasProgressed}
 use Rattle.stindex.proofs.Splitting.{Run_more, Splits_none}
 use Rattle.stindex.proofs.Rows.{all_is}
 use Rattle.stindex.proofs.Progress.{tells_none, tells_then, stops_then, shown-nil}
@@ -32,7 +32,7 @@ words_none limits told strict clauses before none = record {
 
 -- one word more
 pub words_more : (limits : Limits) (told : Option Files) (strict : Bool) (words : List Bytes) (word : Bytes) (old new : List Clause) (before now after : Around)
-    → LoadsWords limits told strict words before old now → ActsOn limits told strict old new (a_word word) now after → LoadsWords limits told strict (words ++ word ∷ []) before new after
+    → LoadsWords limits told strict words before old now → ActsOnRequest limits told strict old new (a_word word) now after → LoadsWords limits told strict (words ++ word ∷ []) before new after
 words_more limits told strict words word old new before now after l acts = record {
   output = l.output ++ ended acts.reply;
   failures = l.failures + failures_in acts.owed;
@@ -112,14 +112,14 @@ module _ (limits : Limits) (told : Option Files) (strict : Bool) (files : List (
 
   pub words_next : (lims : Limits) (tell : Option Files) (d : Bor Bytes) (word : Bytes) (old new : List Clause) (now after : Around)
       → LoadsWords limits told strict (texts (take i files)) before old now → lims ≡ limits → tell ≡ told → i < length files → word ≡ (get_or files i d).now
-      → ActsOn lims tell strict old new (a_word word) now after → LoadsWords limits told strict (texts (take (i + 1) files)) before new after
+      → ActsOnRequest lims tell strict old new (a_word word) now after → LoadsWords limits told strict (texts (take (i + 1) files)) before new after
   words_next lims tell d word old new now after l same known here is acts =
       let next : texts (take (i + 1) files) ≡ texts (take i files) ++ word ∷ [] =
       ap (λ (n : ℕ). texts (take n files)) (add-one i) ∙ ap texts (take-suc files i d here) ∙ map-append (λ (f : Bor Bytes). f.now) (take i files) (get_or files i d ∷ [])
       ∙ ap (λ (w : Bytes). texts (take i files) ++ w ∷ []) (sym is) in
       subst (λ (ws : List Bytes). LoadsWords limits told strict ws before new after) (sym next)
       (words_more limits told strict (texts (take i files)) word old new before now after l
-      (subst (λ (m : Limits). ActsOn m told strict old new (a_word word) now after) same (subst (λ (o : Option Files). ActsOn lims o strict old new (a_word word) now after) known acts)))
+      (subst (λ (m : Limits). ActsOnRequest m told strict old new (a_word word) now after) same (subst (λ (o : Option Files). ActsOnRequest lims o strict old new (a_word word) now after) known acts)))
 
   pub words_break : (halt : Stop) (whole : List Bytes) (lims : Limits) (tell : Option Files) (d : Bor Bytes) (word : Bytes) (old new : List Clause) (now after : Around)
       → LoadsWords limits told strict (texts (take i files)) before old now → lims ≡ limits → tell ≡ told → i < length files → word ≡ (get_or files i d).now → texts files ≡ whole

@@ -11,7 +11,7 @@ use Rattle.clap.specs.Walk.{Held, Step, Walk, Waiting, after_step, finished, idl
 use Rattle.clap.specs.Takes.{bundle_passes, flag_word_passes, other_passes, step_passes, turn_passes, walk_passes, settle_passes, default_passes, entered_passes, is_valid}
 use Rattle.clap.specs.Lexer.{long_of, short_of, usize_max}
 use Rattle.clap.proofs.OnLiterals.{clap_on_literals}
-use Rattle.stindex.specs.Words.{AreNames, IsPlain, IsReadAsSaid, asked_in, begins_with_hyphen, files_in, has_strict, is_strict_word, program, strict_rule, strict_word}
+use Rattle.stindex.specs.Words.{AreFileWords, IsPlain, IsReadAsSaid, asked_in, begins_with_hyphen, files_in, has_strict, is_strict_word, program, strict_rule, strict_word}
 
 abbrev top : Shape
 top = (built program).top
@@ -97,7 +97,7 @@ module _ (word : Bytes) (plain : begins_with_hyphen word ≡ false) where
 
 -- ---- names alone
 
-names_walked : (rows : List Row) (words names : List Bytes) → AreNames names → fold (walked rules []) (at rows words) names ≡ at rows (words ++ names)
+names_walked : (rows : List Row) (words names : List Bytes) → AreFileWords names → fold (walked rules []) (at rows words) names ≡ at rows (words ++ names)
 names_walked rows words [] plain = ap (at rows) (sym (append-nil words))
 names_walked rows words (name ∷ names) plain =
     let p = neither (begins_with_hyphen name) _ plain in
@@ -105,7 +105,7 @@ names_walked rows words (name ∷ names) plain =
     ∙ names_walked rows (words ++ name ∷ []) names p.1
     ∙ ap (at rows) (append_assoc words (name ∷ []) names)
 
-names_pass : (rows : List Row) (words names rest : List Bytes) → AreNames names → walk_passes top [] (at rows (words ++ names)) rest ≡ true
+names_pass : (rows : List Row) (words names rest : List Bytes) → AreFileWords names → walk_passes top [] (at rows (words ++ names)) rest ≡ true
     → walk_passes top [] (at rows words) (names ++ rest) ≡ true
 unfolding walk_passes
 names_pass rows words [] rest plain e = ap (λ ws. walk_passes top [] (at rows ws) rest) (sym (append-nil words)) ∙ e
@@ -182,31 +182,31 @@ other_word : (word : Bytes) → begins_with_hyphen word ≡ false → is_strict_
 other_word [] e = refl
 other_word (b ∷ bs) e = rw e refl
 
-none_strict : (words : List Bytes) → AreNames words → has_strict words ≡ false
+none_strict : (words : List Bytes) → AreFileWords words → has_strict words ≡ false
 none_strict [] plain = refl
 none_strict (word ∷ words) plain =
     let p = neither (begins_with_hyphen word) _ plain in
     ap₂ (λ a b. a || b) (other_word word p.0) (none_strict words p.1)
 
-one_strict : (before after : List Bytes) → AreNames before → has_strict (before ++ strict_word ∷ after) ≡ true
+one_strict : (before after : List Bytes) → AreFileWords before → has_strict (before ++ strict_word ∷ after) ≡ true
 one_strict [] after plain = refl
 one_strict (word ∷ words) after plain =
     let p = neither (begins_with_hyphen word) _ plain in
     ap₂ (λ a b. a || b) (other_word word p.0) (one_strict words after p.1)
 
-files_front : (before after : List Bytes) → AreNames before → files_in (before ++ after) ≡ before ++ files_in after
+files_front : (before after : List Bytes) → AreFileWords before → files_in (before ++ after) ≡ before ++ files_in after
 files_front [] after plain = refl
 files_front (word ∷ words) after plain =
     let p = neither (begins_with_hyphen word) _ plain in
     ap (λ t. cond (not t) (word ∷ files_in (words ++ after)) (files_in (words ++ after))) (other_word word p.0)
     ∙ ap (λ ws. word ∷ ws) (files_front words after p.1)
 
-files_alone : (words : List Bytes) → AreNames words → files_in words ≡ words
+files_alone : (words : List Bytes) → AreFileWords words → files_in words ≡ words
 files_alone words plain = ap files_in (sym (append-nil words)) ∙ files_front words [] plain ∙ append-nil words
 
 -- ---- the law
 
-names_read : (words : List Bytes) → length words ≤ usize_max → AreNames words → IsReadAsSaid words
+names_read : (words : List Bytes) → length words ≤ usize_max → AreFileWords words → IsReadAsSaid words
 unfolding walk_passes
 names_read words fits plain =
     let taken = taken_by words [] words fits (names_walked [] [] words plain)
@@ -215,7 +215,7 @@ names_read words fits plain =
       ap asked_in taken.1 ∙ asks_alone words ∙ ap₂ (λ strict files. record { strict = strict; files = files }) (sym (none_strict words plain)) (sym (files_alone words plain)),
     )
 
-strict_read : (before after : List Bytes) → length (before ++ strict_word ∷ after) ≤ usize_max → AreNames before → AreNames after → IsReadAsSaid (before ++ strict_word ∷ after)
+strict_read : (before after : List Bytes) → length (before ++ strict_word ∷ after) ≤ usize_max → AreFileWords before → AreFileWords after → IsReadAsSaid (before ++ strict_word ∷ after)
 unfolding walk_passes
 strict_read before after fits first rest =
     let size = length-append before (strict_word ∷ after) in

@@ -15,7 +15,7 @@ use Rattle.si_io.proofs.Content.{Receives_then, ReceivesPrefix_then}
 use Rattle.si_session.specs.Session.{State, Around, Writes, Steps, IsCounted}
 use Rattle.si_session.specs.declared.stepped.Stepped.{Stepped}
 use Rattle.si_session.specs.declared.stepped.Stepped.TheVariants.{Answered, Refused, Silent, SinkFailed}
-use Rattle.stindex.specs.Progress.{shown, Judges, ActsOn, Breaks, Progress, Advances, Feeds, BrokenOff, Fails, Closes, Cuts}
+use Rattle.stindex.specs.Progress.{shown, Judges, ActsOnRequest, Breaks, Progress, Advances, Feeds, BrokenOff, Fails, Closes, Cuts}
 use Rattle.stindex.specs.declared.status.Stop.{Stop}
 use Rattle.stindex.specs.declared.status.Stop.TheVariants as stop
 use Rattle.stindex.specs.Serve.{RoseBy, TellsFailures, StopsAt, WritesTo}
@@ -77,7 +77,7 @@ Advances_more limits told strict bytes held holds clauses now one filled files b
 
 -- a line feed ends that line, which is acted on
 pub Advances_line : (limits : Limits) (told : Option Files) (strict : Bool) (old new : List Clause) (held : Bytes) (now after : Around)
-    → ActsOn limits told strict old new (a_line held) now after → Advances limits told strict (10 ∷ []) old held now new [] after
+    → ActsOnRequest limits told strict old new (a_line held) now after → Advances limits told strict (10 ∷ []) old held now new [] after
 Advances_line limits told strict old new held now after acts files before taken p =
     let step = shown_step limits told old new p.rest acts.reply acts.owed (subst (λ (l : Bytes). Step limits told old l acts.reply acts.owed new) p.holds acts.step) in
     record {
@@ -149,13 +149,13 @@ Fails_then halt limits told strict bs cs s t f g x y z first second files before
 pub Feeds_line : (limits : Limits) (told : Option Files) (strict : Bool) (lims : Limits) (tell : Option Files) (bytes rest front left : Bytes) (at n : ℕ) (old mid new : List Clause) (held holds filled none : Bytes) (now x after : Around)
     → Feeds limits told strict bytes old held now rest mid holds x → lims ≡ limits → tell ≡ told → n ≡ limits.line
     → Some at ≡ position (λ c. c == 10) rest → front ≡ take at rest → filled ≡ take (n + 1) (holds ++ front)
-    → ActsOn lims tell strict mid new (a_line filled) x after → none ≡ [] → left ≡ drop (at + 1) rest
+    → ActsOnRequest lims tell strict mid new (a_line filled) x after → none ≡ [] → left ≡ drop (at + 1) rest
     → Feeds limits told strict bytes old held now left new none after
 Feeds_line limits told strict lims tell bytes rest front left at n old mid new held holds filled none now x after f same known line some cut full acts cleared behind =
     let end = line_end rest at some in
     let fill : filled ≡ take (limits.line + 1) (holds ++ take at rest) = full ∙ ap (λ (m : ℕ). take (m + 1) (holds ++ front)) line ∙ ap (λ (b : Bytes). take (limits.line + 1) (holds ++ b)) cut in
     let more = Advances_more limits told strict (take at rest) holds filled mid x end.line fill in
-    let acted = Advances_line limits told strict mid new filled x after (subst (λ (l : Limits). ActsOn l told strict mid new (a_line filled) x after) same (subst (λ (o : Option Files). ActsOn lims o strict mid new (a_line filled) x after) known acts)) in
+    let acted = Advances_line limits told strict mid new filled x after (subst (λ (l : Limits). ActsOnRequest l told strict mid new (a_line filled) x after) same (subst (λ (o : Option Files). ActsOnRequest lims o strict mid new (a_line filled) x after) known acts)) in
     let both = Advances_then limits told strict (take at rest) (10 ∷ []) mid mid new holds filled [] x x after more acted in
     let all = Advances_then limits told strict f.done (take at rest ++ 10 ∷ []) old mid new held holds [] now x after f.advances both in
     record {
@@ -195,7 +195,7 @@ rest_some limits held rest some holds none = some (holds ∙ ap (shown limits) n
 
 -- the line that was begun is the last one
 pub Closes_line : (limits : Limits) (told : Option Files) (strict : Bool) (old new : List Clause) (held : Bytes) (now after : Around)
-    → (held ≡ [] → ⊥) → ActsOn limits told strict old new (a_line held) now after → Closes limits told strict old held now after
+    → (held ≡ [] → ⊥) → ActsOnRequest limits told strict old new (a_line held) now after → Closes limits told strict old held now after
 Closes_line limits told strict old new held now after some acts files before taken p =
     let step = shown_step limits told old new p.rest acts.reply acts.owed (subst (λ (l : Bytes). Step limits told old l acts.reply acts.owed new) p.holds acts.step) in
     let same : lines_at_end p.lines p.rest ≡ p.lines ++ p.rest ∷ [] = lines_at_end-some p.lines p.rest (rest_some limits held p.rest some p.holds) in
@@ -273,7 +273,7 @@ steps_at told old new line held outcome now after same s = subst (λ (l : Bytes)
 
 module _ (told : Option Files) (strict : Bool) (old new : State) (request : Request) (outcome : Stepped) (now after : Around)
     (kept : after.may_fail ≡ now.may_fail) (s : Steps told old new request outcome now after) where
-  pub acted : (r : Result (Unit {0}) Stop) → Judges strict outcome r → OnOk r (ActsOn old.limits told strict old.clauses new.clauses request now after)
+  pub acted : (r : Result (Unit {0}) Stop) → Judges strict outcome r → OnOk r (ActsOnRequest old.limits told strict old.clauses new.clauses request now after)
   acted (Ok done) h = record {
     reply = s.reply;
     owed = s.owed;

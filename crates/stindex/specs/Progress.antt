@@ -26,7 +26,7 @@ Judges strict outcome (Err stop.Refused) = (outcome ≡ Refused) × IsTrue stric
 Judges strict outcome (Err stop.SinkFault) = outcome ≡ SinkFailed
 
 -- A request was acted on and its reply written, and the run goes on.
-pub record ActsOn (limits : Limits) (told : Option Files) (strict : Bool) (old new : List Clause) (request : Request) (before after : Around) : Type 0 where
+pub record ActsOnRequest (limits : Limits) (told : Option Files) (strict : Bool) (old new : List Clause) (request : Request) (before after : Around) : Type 0 where
   pub reply : Reply
   pub owed : Owed
   pub step : Acts limits told old request reply owed new

@@ -98,8 +98,8 @@ pub record Declines (words : List Bytes) (status : Status) (left now : Option By
   pub written : WritesUsage status before.sink after.sink
 
 -- The words were declined, or did what they ask for.
-abbrev pub Answers : Limits → Option Files → (words : List Bytes) → Status → (left now : Option Bytes) → (before after : Around) → Type 0
-Answers limits told words status left now before after =
+abbrev pub DeclinesOrServes : Limits → Option Files → (words : List Bytes) → Status → (left now : Option Bytes) → (before after : Around) → Type 0
+DeclinesOrServes limits told words status left now before after =
     Declines words status left now before after
     ⊎ Serves limits told (asked_by words).strict (asked_by words).files status left now before after
 

@@ -60,20 +60,20 @@ begins_with_hyphen [] = false
 begins_with_hyphen (b ∷ bs) = b == 45
 
 -- none of the words begins with `-`
-abbrev pub AreNames : List Bytes → Type 0
-AreNames words = list_any begins_with_hyphen words ≡ false
+abbrev pub AreFileWords : List Bytes → Type 0
+AreFileWords words = list_any begins_with_hyphen words ≡ false
 
 -- `--strict` stands between these words once, and no other word begins with `-`
 pub record HasStrictOnce (words : List Bytes) : Type 0 where
   pub before : List Bytes
   pub after : List Bytes
   pub splits : words ≡ before ++ strict_word ∷ after
-  pub first : AreNames before
-  pub rest : AreNames after
+  pub first : AreFileWords before
+  pub rest : AreFileWords after
 
 -- `--strict` stands among the words at most once, and no other word begins with `-`
 abbrev pub IsPlain : List Bytes → Type 0
-IsPlain words = AreNames words ⊎ HasStrictOnce words
+IsPlain words = AreFileWords words ⊎ HasStrictOnce words
 
 abbrev pub has_strict : List Bytes → Bool
 has_strict words = list_any is_strict_word words

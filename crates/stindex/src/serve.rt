@@ -5,10 +5,10 @@ ghost use Rattle.si_steps.specs.Limits.{AllowsLimits};
 ghost use Rattle.si_io.specs.Faults.{Rose};
 ghost use Rattle.si_session.specs.Session.{around};
 ghost use Rattle.stindex.specs.Lines.{held_of, limit_of};
-ghost use Rattle.stindex.specs.Serve.{Answers, Serves, WritesTo, WritesUsage, BlamesSink, IsFaultless, CountsFaults, HasRoomForOutputs};
+ghost use Rattle.stindex.specs.Serve.{DeclinesOrServes, Serves, WritesTo, WritesUsage, BlamesSink, IsFaultless, CountsFaults, HasRoomForOutputs};
 ghost use Rattle.stindex.specs.Words.{asked_of, IsPlain, has_strict, files_in};
 ghost use Rattle.stindex.specs.declared.status.Status.TheVariants.{SourceFault, SinkFault, Memory};
-ghost use Rattle.stindex.specs.Progress.{Judges, ActsOn, Breaks, LoadsWords, Advances, Fails, Closes, Cuts};
+ghost use Rattle.stindex.specs.Progress.{Judges, ActsOnRequest, Breaks, LoadsWords, Advances, Fails, Closes, Cuts};
 
 use crate::lines::{Pending, line_feed};
 use crate::status::{Status, Stop};
@@ -36,7 +36,8 @@ pub fn serve<S: Source, K: Sink, L: Library>(
     library: &mut L,
 ) -> Status
     requires { AllowsLimits limits.now }
-    ensures answers { Answers limits.now (L.files library.old) (map string_bytes words.entry.now)
+    ensures answers { DeclinesOrServes limits.now (L.files library.old)
+        (map string_bytes words.entry.now)
         result (S.left source.old) (S.left source.new)
         (around (K.written sink.old) (L.counts library.old) (L.may_fail library.old))
         (around (K.written sink.new) (L.counts library.new) (L.may_fail library.new)) }
@@ -219,7 +220,7 @@ fn load<K: Sink, L: Library>(
     library: &mut L,
 ) -> Result<(), Stop>
     requires { AllowsLimits session.old.limits }
-    ensures acted { OnOk result (ActsOn session.old.limits (L.files library.old) strict
+    ensures acted { OnOk result (ActsOnRequest session.old.limits (L.files library.old) strict
         session.old.clauses session.new.clauses (a_word word.now)
         (around (K.written sink.old) (L.counts library.old) (L.may_fail library.old))
         (around (K.written sink.new) (L.counts library.new) (L.may_fail library.new))) }
@@ -248,7 +249,7 @@ fn act<K: Sink, L: Library>(
     library: &mut L,
 ) -> Result<(), Stop>
     requires { AllowsLimits session.old.limits }
-    ensures acted { OnOk result (ActsOn session.old.limits (L.files library.old) strict
+    ensures acted { OnOk result (ActsOnRequest session.old.limits (L.files library.old) strict
         session.old.clauses session.new.clauses (a_line (held_of pending.old))
         (around (K.written sink.old) (L.counts library.old) (L.may_fail library.old))
         (around (K.written sink.new) (L.counts library.new) (L.may_fail library.new))) }

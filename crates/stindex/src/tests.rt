@@ -3,6 +3,8 @@ mod counts;
 mod lists;
 mod loads;
 mod relations;
+mod samples;
+mod subsumption;
 mod words;
 
 use crate::serve::serve;
@@ -171,10 +173,7 @@ const ROWS: [(&[u8], &[u8]); 22] = [
         b"ok 1 1\nok 1 3\nclauses 2 entries 4 symbols 4\n",
     ),
     // Words of commands that aren't built.
-    (
-        b"tree\nsubsumers p\nsample 1 2\n%\n",
-        b"! later\n! later\n! later\n",
-    ),
+    (b"tree\nexplain x\n%\n", b"! later\n! later\n"),
     // Two spellings of one name, and an integer that is another.
     (
         b"add cnf(c1,axiom,r).\nadd cnf('c1',axiom,r).\nadd cnf(1,axiom,r).\nadd cnf('1',axiom,r).\nadd cnf(1,axiom,q).\n",

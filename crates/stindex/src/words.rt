@@ -66,6 +66,7 @@ fn matches_in<'a>(alloc: Global, words: &'a [String]) -> Result<ArgMatches<'a>, 
 pub fn is_strict(matches: &ArgMatches<'_>) -> bool
     ensures { result ≡ (asked_of matches.now).strict }
 {
+    // By its text, for which `get_str` says exactly what it gives; `get_flag` doesn't.
     match matches.get_str("strict") {
         Some(text) => text == "true",
         None => false,

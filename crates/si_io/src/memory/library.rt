@@ -35,7 +35,7 @@ impl MemoryLibrary {
         }
     }
 
-    /// PutsFile a file in place of the one of this name, if there is one.
+    /// Puts a file in place of the one of this name, if there is one.
     ///
     /// `AllocError`: there is no memory for it, and the files are as before.
     pub fn put(&mut self, name: Vec<u8>, bytes: Vec<u8>) -> Result<(), AllocError>

@@ -60,3 +60,32 @@ fn texts_are_spelled_as_tptp_spells_them(rt: HostRuntime) -> Result<(), Fail> {
     assert_eq!(rt; sink.bytes(), want.as_slice());
     Ok(())
 }
+
+fn literal_map(alloc: Global, numbers: &[u32]) -> Result<LitMap, AllocError> {
+    let mut map = LitMap::new(alloc);
+    for number in numbers {
+        map.push(*number)?;
+    }
+    Ok(map)
+}
+
+fn put_maps<K: Sink>(sink: &mut K, maps: &[LitMap]) -> Result<(), Failed> {
+    for map in maps {
+        put_map(sink, map)?;
+    }
+    Ok(())
+}
+
+#[test]
+fn maps_have_commas(rt: HostRuntime) -> Result<(), Fail> {
+    let alloc = rt.alloc();
+    let mut sink = MemorySink::new(alloc, 200, 3, Vec::new(alloc))?;
+    let maps = [
+        LitMap::new(alloc),
+        literal_map(alloc, &[1])?,
+        literal_map(alloc, &[1, 2, 10])?,
+    ];
+    put_maps(&mut sink, &maps)?;
+    assert_eq!(rt; sink.bytes(), b"[][1][1,2,10]".as_slice());
+    Ok(())
+}

@@ -3,6 +3,7 @@ use Rattle.si_defs.specs.Generator.{clauses, IsSample}
 use Rattle.si_sample.specs.Sampling.{Gains}
 use Rattle.si_sample.proofs.Gaining.{gains_no_clause, gains_one_more, is_sample}
 use Rattle.si_sample.proofs.Lengths.{length_sample}
+use Rattle.si_sample.proofs.Lines.{sample_is_clauses}
 use Rattle.si_sample.proofs.sample.Goals as goal
 
 pub loop-i-init : goal.loop-i-init
@@ -19,6 +20,9 @@ drawn c =
 
 pub returns-clause-drawn : goal.returns-clause-drawn
 returns-clause-drawn c = drawn c
+
+pub returns-clause-clauses : goal.returns-clause-clauses
+returns-clause-clauses c = let read = sample_is_clauses c.args.start c.args.count c.into_text.result.items (drawn c) in (read.0, read.2)
 
 pub returns-clause-short : goal.returns-clause-short
 returns-clause-short c = length_sample c.args.start c.args.count c.into_text.result.items c.requires.count.1 (drawn c)

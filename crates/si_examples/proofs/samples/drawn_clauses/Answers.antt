@@ -1,4 +1,4 @@
-use Rattle.si_examples.proofs.OneSample.{some_text, no_other_text}
+use Rattle.si_steps.proofs.OneSample.{some_text, no_other_text}
 use Rattle.si_examples.proofs.TwoClauses.{two_clauses, no_other_variable, no_clause_zero}
 use Rattle.si_examples.proofs.samples.drawn_clauses.Goals as goal
 

@@ -11,7 +11,7 @@ pub write_term-write_terms-requires : goal.write_term-write_terms-requires
 write_term-write_terms-requires g t c =
     let e = ap size (app-term c.args.term.now c.in-App.symbol c.in-App.arguments c.as_slice.result.now c.in-App.is c.as_slice.ensures) in
     let pairs = g.T.SymTable.pairs c.args.table.now in
-    let room = room_symbol pairs c.args.met.now c.symbol.new.self (symbol_of c.in-App.symbol) (sizes (row (map term_of c.as_slice.result.now))) (subst (MayMeet c.args.met.now) e c.requires.room) c.in_ok-number-in-App.ensures.names c.in_ok-number-in-App.ensures.extra in
+    let room = room_symbol pairs c.args.scheme c.args.met.now c.symbol.new.self (symbol_of c.in-App.symbol) (sizes (row (map term_of c.as_slice.result.now))) (subst (MayMeet c.args.scheme c.args.met.now) e c.requires.room) c.in_ok-number-in-App.ensures.names c.in_ok-number-in-App.ensures.extra in
     λ κs h. (omega arith, (h, room))
 
 pub write_term-close-requires-clause-inside : goal.write_term-close-requires-clause-inside
@@ -49,7 +49,7 @@ pub write_terms-write_term-requires : goal.write_terms-write_term-requires
 write_terms-write_term-requires g t c =
     let e = size-read c.args.terms.now c.loop-i.i c.index-terms-i.result c.loop-i-test.true c.index-terms-i.is in
     let split = from-read c.args.terms.now c.loop-i.i c.index-terms-i.result c.loop-i-test.true c.index-terms-i.is in
-    let left : MayMeet c.loop-i.met (size (term_of c.index-terms-i.result) + sizes (from c.args.terms.now (c.loop-i.i + 1))) = subst (λ us. MayMeet c.loop-i.met (sizes us)) split c.loop-i.invariant.1 in
+    let left : MayMeet c.args.scheme c.loop-i.met (size (term_of c.index-terms-i.result) + sizes (from c.args.terms.now (c.loop-i.i + 1))) = subst (λ us. MayMeet c.args.scheme c.loop-i.met (sizes us)) split c.loop-i.invariant.1 in
     λ κs h. (omega arith, (h, record { names = omega (arith, left.names); extra = omega (arith, left.extra) }))
 
 pub write_terms-loop-i-preserved : goal.write_terms-loop-i-preserved
@@ -61,7 +61,7 @@ write_terms-loop-i-preserved g t c =
     let split = from-read ts i one c.loop-i-test.true c.index-terms-i.is in
     let here = walk_state c.loop-i.met c.loop-i.cells.items in
     let next = walk_state c.write_term.new.met c.write_term.new.cells.items in
-    let room : MayMeet c.loop-i.met (size (term_of one) + sizes (from ts (i + 1))) = subst (λ us. MayMeet c.loop-i.met (sizes us)) split c.loop-i.invariant.1 in (
+    let room : MayMeet c.args.scheme c.loop-i.met (size (term_of one) + sizes (from ts (i + 1))) = subst (λ us. MayMeet c.args.scheme c.loop-i.met (sizes us)) split c.loop-i.invariant.1 in (
       λ new rest. c.loop-i.invariant.0 new (subst (λ us. Flattens pairs c.args.scheme here new (terms_piece us)) (sym split) (flattens_more pairs c.args.scheme here next new (term_of one) (from ts (i + 1)) c.in_ok-write_term.ensures rest)),
       room_after pairs c.args.scheme c.loop-i.met c.write_term.new.met c.loop-i.cells.items c.write_term.new.cells.items (term_of one) (sizes (from ts (i + 1))) room c.in_ok-write_term.ensures,
     )

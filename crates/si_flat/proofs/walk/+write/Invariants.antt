@@ -11,7 +11,7 @@ invariant-write_terms-loop-i g l =
     ((new : WalkState)
     → Flattens (g.T.SymTable.pairs l.table) l.scheme (walk_state l.met l.cells.items) new (terms_piece (from l.terms l.i))
     → Flattens (g.T.SymTable.pairs l.table) l.scheme (walk_state l.fn.met l.fn.cells.items) new (terms_piece (row (map term_of l.terms))))
-    × MayMeet l.met (sizes (from l.terms l.i))
+    × MayMeet l.scheme l.met (sizes (from l.terms l.i))
 
 abbrev pub decreases-write_term : goal.decreases-write_term
 decreases-write_term g l = 2 * size (term_of l.term.now)

@@ -1,7 +1,7 @@
 use Rattle.std.proofs.Common.{◌≡◌, ◌-◌, ◌<◌, ◌++◌, length, get_or, take, drop, ap, sym, ◌∙◌, rules}
 use Rattle.std.specs.Prelude.{codes, decimal}
 use Rattle.si_defs.specs.Printing.{path_text}
-use Rattle.si_reply.specs.PrintedParts.{dotted}
+use Rattle.si_reply.specs.PrintedParts.{numbers_behind}
 use Rattle.si_term.proofs.Results.{on_err}
 use Rattle.si_reply.proofs.Writing.{wrote_none, wrote_piece, wrote_part, puts_rest}
 use Rattle.si_reply.proofs.Pieces.{tail_is, path_split}
@@ -16,9 +16,9 @@ returns-in_err-put_number-clause-text g c =
     let read : get_or ns 0 0 ≡ c.from.result = cc in
     let piece = codes ":" ++ decimal c.from.result in
     let rest = take (length ns - 1) (drop 1 ns) in
-    let split : path_text ns ≡ piece ++ dotted rest =
-    path_split ns some ∙ ap (λ n. (codes ":" ++ decimal n) ++ dotted (drop 1 ns)) read ∙ ap (λ l. piece ++ dotted l) (sym (tail_is ns)) in
-    record { all = search rules; part = on_err c.from_residual.result (wrote_part old old mid (path_text ns) (path_text ns) piece (dotted rest) split (wrote_none old (path_text ns)) c.in_err-put_number.ensures.text.part) }
+    let split : path_text ns ≡ piece ++ numbers_behind (codes ".") rest =
+    path_split ns some ∙ ap (λ n. (codes ":" ++ decimal n) ++ numbers_behind (codes ".") (drop 1 ns)) read ∙ ap (λ l. piece ++ numbers_behind (codes ".") l) (sym (tail_is ns)) in
+    record { all = search rules; part = on_err c.from_residual.result (wrote_part old old mid (path_text ns) (path_text ns) piece (numbers_behind (codes ".") rest) split (wrote_none old (path_text ns)) c.in_err-put_number.ensures.text.part) }
 
 pub returns-clause-text : goal.returns-clause-text
 returns-clause-text g c =
@@ -29,8 +29,8 @@ returns-clause-text g c =
     let read : get_or ns 0 0 ≡ c.from.result = cc in
     let piece = codes ":" ++ decimal c.from.result in
     let rest = take (length ns - 1) (drop 1 ns) in
-    let split : path_text ns ≡ piece ++ dotted rest =
-    path_split ns some ∙ ap (λ n. (codes ":" ++ decimal n) ++ dotted (drop 1 ns)) read ∙ ap (λ l. piece ++ dotted l) (sym (tail_is ns)) in
-    let last = g.K.Sink.written c.put_dotted.new.sink in
-    let first = wrote_piece old old mid (path_text ns) (path_text ns) piece (dotted rest) split (wrote_none old (path_text ns)) c.in_ok-put_number.ensures.text.all in
-    puts_rest c.put_dotted.result old mid last (path_text ns) (dotted rest) first c.put_dotted.ensures.text
+    let split : path_text ns ≡ piece ++ numbers_behind (codes ".") rest =
+    path_split ns some ∙ ap (λ n. (codes ":" ++ decimal n) ++ numbers_behind (codes ".") (drop 1 ns)) read ∙ ap (λ l. piece ++ numbers_behind (codes ".") l) (sym (tail_is ns)) in
+    let last = g.K.Sink.written c.put_numbers.new.sink in
+    let first = wrote_piece old old mid (path_text ns) (path_text ns) piece (numbers_behind (codes ".") rest) split (wrote_none old (path_text ns)) c.in_ok-put_number.ensures.text.all in
+    puts_rest c.put_numbers.result old mid last (path_text ns) (numbers_behind (codes ".") rest) first c.put_numbers.ensures.text

@@ -22,5 +22,5 @@ loop-n-preserved g c =
     let d = g.K.Sink.written c.tell_hit.new.sink in
     record {
       told = told_more f a c.loop-n.n b d c.loop-n.invariant.told c.in_ok-tell_hit.ensures.told;
-      kept = c.in_ok-tell_hit.ensures.cause ∙ c.loop-n.invariant.kept;
+      kept = c.in_ok-tell_hit.ensures.cause.kept ∙ c.loop-n.invariant.kept;
     }

@@ -36,6 +36,12 @@ returns-in-Some-Stats-clause-read c =
     (front c.args.tokens.now c.in-Some.first.now c.in-Some.rest.now _ c.in-Some.ensures.cases.0
     (c.in-Some-Stats.ensures.found ∙ ap (λ w. lower (command_text w)) c.in-Some-Stats.field-0-is)) c.stats_command.ensures
 
+pub returns-in-Some-Sample-clause-read : goal.returns-in-Some-Sample-clause-read
+returns-in-Some-Sample-clause-read c =
+    subst (λ ts. Commands ts c.args.stop c.sample_command.result)
+    (front c.args.tokens.now c.in-Some.first.now c.in-Some.rest.now _ c.in-Some.ensures.cases.0
+    (c.in-Some-Sample.ensures.found ∙ ap (λ w. lower (command_text w)) c.in-Some-Sample.field-0-is)) c.sample_command.ensures
+
 pub returns-in-Some-Ask-clause-read : goal.returns-in-Some-Ask-clause-read
 returns-in-Some-Ask-clause-read c =
     subst (λ ts. IfOk c.query_command.result (Commands ts c.args.stop))
@@ -46,3 +52,15 @@ pub returns-in-None-clause-read : goal.returns-in-None-clause-read
 returns-in-None-clause-read c =
     subst (λ ts. Commands ts c.args.stop command.Wrong) (sym (ap tokens_of c.in-Some.ensures.cases.0))
     (no_word (token_of c.in-Some.first.now) (tokens_of c.in-Some.rest.now) c.args.stop c.in-None.ensures.none)
+
+pub returns-in-Some-Subsumers-clause-read : goal.returns-in-Some-Subsumers-clause-read
+returns-in-Some-Subsumers-clause-read c =
+    subst (λ ts. IfOk c.subsumers_command.result (Commands ts c.args.stop))
+    (front c.args.tokens.now c.in-Some.first.now c.in-Some.rest.now _ c.in-Some.ensures.cases.0
+    (c.in-Some-Subsumers.ensures.found ∙ ap (λ w. lower (command_text w)) c.in-Some-Subsumers.field-0-is)) c.subsumers_command.ensures
+
+pub returns-in-Some-Subsumed-clause-read : goal.returns-in-Some-Subsumed-clause-read
+returns-in-Some-Subsumed-clause-read c =
+    subst (λ ts. IfOk c.subsumed_command.result (Commands ts c.args.stop))
+    (front c.args.tokens.now c.in-Some.first.now c.in-Some.rest.now _ c.in-Some.ensures.cases.0
+    (c.in-Some-Subsumed.ensures.found ∙ ap (λ w. lower (command_text w)) c.in-Some-Subsumed.field-0-is)) c.subsumed_command.ensures

@@ -2,7 +2,7 @@ use Rattle.std.proofs.Common.{ap, sym, subst}
 use Rattle.si_io.specs.Puts.{Puts}
 use Rattle.si_session.specs.Replies.{ended_line}
 use Rattle.si_session.specs.Signs.{sign_text}
-use Rattle.si_session.proofs.ReplyTexts.{ok_text, end_text, stats_line_is, misused_is, full_text, file_told, line_told}
+use Rattle.si_session.proofs.ReplyTexts.{ok_text, end_text, stats_line_is, sample_line_is, misused_is, full_text, file_told, line_told}
 use Rattle.si_session.proofs.reply.put_reply.Goals as goal
 
 pub returns-in-Ok-clause-text : goal.returns-in-Ok-clause-text
@@ -82,3 +82,8 @@ pub returns-in-Unknown-clause-text : goal.returns-in-Unknown-clause-text
 unfolding ended_line sign_text
 returns-in-Unknown-clause-text g c =
     subst (λ t. Puts c.put_named-in-Unknown.result t (g.K.Sink.written c.args.sink.now) (g.K.Sink.written c.put_named-in-Unknown.new.sink)) (ap ended_line (sym c.in-Unknown.is)) c.put_named-in-Unknown.ensures.text
+
+pub returns-in-Sample-clause-text : goal.returns-in-Sample-clause-text
+returns-in-Sample-clause-text g c =
+    subst (λ t. Puts c.put_sample.result t (g.K.Sink.written c.args.sink.now) (g.K.Sink.written c.put_sample.new.sink))
+    (sample_line_is c.args.reply c.in-Sample.clauses c.in-Sample.entries c.in-Sample.sum c.in-Sample.is) c.put_sample.ensures.text

@@ -1,7 +1,18 @@
-use Rattle.std.proofs.Common.{◌∙◌, subst, arith}
-use Rattle.si_unify.specs.Spots.{HasCompared}
-use Rattle.si_unify.proofs.Closing.{closing_goes_on, closing_fails, closing_ends}
+use Rattle.std.proofs.Common.{◌∙◌, refl, subst, arith}
+use Rattle.si_unify.specs.Spots.{IsApart, HasCompared}
+use Rattle.si_unify.proofs.Closing.{closing_starts, closing_goes_on, closing_fails, closing_ends}
+use Rattle.si_unify.proofs.Meeting.{all_slice}
 use Rattle.si_unify.proofs.arguments.close.Goals as goal
+
+pub loop-next-init : goal.loop-next-init
+loop-next-init c = record {
+  closing_on = closing_starts c.args.question.now c.args.trail.now.pairs c.args.keys.now.keys c.requires.legal c.requires.keys;
+  slots_stay = refl;
+}
+
+pub compare-requires-clause-apart : goal.compare-requires-clause-apart
+compare-requires-clause-apart c =
+    all_slice (IsApart c.args.question.now c.loop-next.trail.pairs) c.loop-next.keys.keys c.loop-next.next c.index-pair.result.now c.loop-next.invariant.closing_on.going.keys c.index-pair.ensures
 
 pub returns-then-not-branch-clause-closed : goal.returns-then-not-branch-clause-closed
 returns-then-not-branch-clause-closed c =

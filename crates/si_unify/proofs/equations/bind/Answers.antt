@@ -5,6 +5,7 @@ use Rattle.si_flat.specs.declared.Cell.{Cell}
 use Rattle.si_unify.specs.Spots.{text}
 use Rattle.si_unify.proofs.Places.{inside, text_in_range}
 use Rattle.si_unify.proofs.Binding.{cut_stands, cut_in_range, text_whole}
+use Rattle.si_unify.proofs.Pieces.{piece_cut}
 use Rattle.si_unify.proofs.equations.bind.Goals as goal
 
 pub sub-value-requires-clause-whole : goal.sub-value-requires-clause-whole
@@ -26,4 +27,5 @@ returns-clause-binds c =
       in_range =
           cut_in_range c.args.question.now.slots cells piece c.args.to.at
           (text_in_range c.args.question.now c.args.trail.now.pairs c.args.to.base c.requires.legal) place;
+      piece = piece_cut cells piece c.args.to.at place;
     }

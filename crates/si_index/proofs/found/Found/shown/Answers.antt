@@ -1,7 +1,7 @@
 use Rattle.std.proofs.Common.{ap, ◌∙◌, subst}
 use Rattle.si_term.specs.Meaning.{entry_of}
 use Rattle.si_index.specs.Finding.{Finding}
-use Rattle.si_index.specs.Showing.{Shows}
+use Rattle.si_index.specs.Showing.{ShowsHit}
 use Rattle.si_index.specs.Searching.{hit_of, names_in, IsMatch, AnswersIn}
 use Rattle.si_index.proofs.FoundLaws.{inside, hit_at, each_at, shows_entry}
 use Rattle.si_index.proofs.found.Found.shown.Goals as goal
@@ -28,7 +28,7 @@ pub returns : goal.returns
 returns c =
     let s = c.self.inside.search in
     let m = c.index.result.now in
-    subst (λ (f : Finding). Shows f c.args.n (record { solution = c.in-Some.solution; query_names = c.in_ok-vars_of.field-0; entry_names = c.in_ok-vars_of-2.field-0; extra = c.in_ok-copy_symbols.field-0 })) c.self.view_is (
+    subst (λ (f : Finding). ShowsHit f c.args.n (record { solution = c.in-Some.solution; query_names = c.in_ok-vars_of.field-0; entry_names = c.in_ok-vars_of-2.field-0; extra = c.in_ok-copy_symbols.field-0 })) c.self.view_is (
       hit_of m,
       hit_at c.self.inside.matches.items c.args.n m (inside c.self.inside.matches.items c.args.n c.args.self.now.hits (ap (λ (f : Finding). f.hits) c.self.view_is) c.requires) c.index.ensures,
       shows_entry s c.self.inside.index.now.numbers (entry_of m.entry) c.in-Some.solution c.in_ok-vars_of.field-0 c.in_ok-vars_of-2.field-0 c.in_ok-copy_symbols.field-0

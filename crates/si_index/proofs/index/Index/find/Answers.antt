@@ -1,9 +1,9 @@
-use Rattle.std.proofs.Common.{map, refl, sym, subst, arith}
+use Rattle.std.proofs.Common.{map, refl, ap, sym, ◌∙◌, subst, arith}
 use Rattle.std.specs.List.{AllByRecursion}
 use Rattle.si_defs.specs.Symbols.{IsNumbering}
 use Rattle.si_term.specs.Meaning.{pattern_of}
 use Rattle.si_index.specs.Finding.{AreHits, entries_from_position}
-use Rattle.si_index.specs.Searching.{IsMatch, hit_of}
+use Rattle.si_index.specs.Searching.{IsMatch, names_in, hit_of}
 use Rattle.si_index.proofs.EntryLaws.{all_clauses_known}
 use Rattle.si_index.proofs.GatherLaws.{matches_few, hits_solved}
 use Rattle.si_index.proofs.index.Index.find.Goals as goal
@@ -27,6 +27,7 @@ invariant_of-result c = record {
     sound = c.requires;
     flat = c.in_ok-flatten_pattern.ensures;
   };
+  names = c.in_ok-query_names.ensures ∙ ap names_in c.as_entry.ensures;
   few = omega (arith, matches_few _ c.args.self.now.clauses c.in_ok-matches.matches.items c.in_ok-matches.ensures, c.stats-stats.ensures.stored.few, c.stats-stats.ensures.small);
   each = subst (AllByRecursion (IsMatch _)) (sym c.in_ok-matches.ensures.appended) c.in_ok-matches.ensures.matches;
 }

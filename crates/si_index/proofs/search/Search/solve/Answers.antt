@@ -1,13 +1,24 @@
-use Rattle.std.proofs.Common.{subst}
+use Rattle.std.proofs.Common.{◌≡◌, ap, sym, ◌∙◌, subst}
 use Rattle.std.specs.Prelude.{Some}
 use Rattle.si_defs.specs.Entries.{pattern_entry}
+use Rattle.si_term.specs.Terms.{term_of}
 use Rattle.si_term.specs.Meaning.{entry_of}
 use Rattle.si_flat.specs.declared.Owner.TheVariants.{Query, Entry}
-use Rattle.si_flat.specs.Flattened.{FlattensEntry, query_numbers}
+use Rattle.si_flat.specs.Flattened.{FlattensEntry, whole_of, query_numbers}
+use Rattle.si_form.specs.Numberings.{TextsRelate}
 use Rattle.si_index.specs.Searching.{numbers_of, pattern_in}
-use Rattle.si_index.proofs.FlatLaws.{none_lacks, flat_is_numbered, flat_answers}
+use Rattle.si_index.proofs.FlatLaws.{unfit_fails, none_lacks, flat_is_numbered, flat_answers}
 use Rattle.si_index.proofs.Results.{if_answer}
 use Rattle.si_index.proofs.search.Search.solve.Goals as goal
+
+pub returns-then-not-fits : goal.returns-then-not-fits
+returns-then-not-fits c =
+    let kind = c.args.self.now.relation in
+    let pattern = whole_of (pattern_entry (pattern_in c.args.self.now)) in
+    let wanted : term_of c.whole_term-wanted.result.now ≡ pattern = c.whole_term-wanted.ensures ∙ ap whole_of c.as_entry.ensures in
+    unfit_fails kind (pattern_in c.args.self.now) (entry_of c.args.entry) c.requires.alike
+    (λ r. c.fits.ensures c.if-not-fits.true
+    (subst (λ t. TextsRelate kind t (term_of c.whole_term.result.now)) (sym wanted) (subst (TextsRelate kind pattern) (sym c.whole_term.ensures) r)))
 
 pub unreachable-requires : goal.unreachable-requires
 unreachable-requires c =
@@ -31,4 +42,4 @@ returns c =
     if_answer c.canonical.result _ _
     (λ answer told. flat_answers c.args.self.now.relation (numbers_of c.args.self.now) (pattern_in c.args.self.now) c.args.self.now.query (entry_of c.args.entry) c.in-Some.flat answer
     c.requires.ready.numbering c.requires.ready.sound c.requires.ready.flat c.requires.known c.requires.alike flat.1 told)
-    c.canonical.ensures
+    c.canonical.ensures.answers

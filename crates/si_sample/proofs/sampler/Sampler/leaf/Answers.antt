@@ -1,4 +1,4 @@
-use Rattle.std.proofs.Common.{◌≡◌, ◌∷◌, [], get_or, subst, codes}
+use Rattle.std.proofs.Common.{◌∷◌, [], get_or, codes}
 use Rattle.std.proofs.lemmas.Result.{on_ok_weaker}
 use Rattle.si_defs.specs.Generator.{exactly, rule_at, leaves}
 use Rattle.si_sample.specs.Sampling.{Gains}

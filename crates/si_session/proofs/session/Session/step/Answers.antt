@@ -1,6 +1,6 @@
-use Rattle.std.proofs.Common.{◌≤◌, length, ap, sym, ◌∙◌, subst, arith}
-use Rattle.si_steps.specs.Commands.{add, remove, query, stats}
-use Rattle.si_term.specs.Meaning.{name_of, clause_of, pattern_of}
+use Rattle.std.proofs.Common.{◌≤◌, length, map, ap, sym, ◌∙◌, subst, arith}
+use Rattle.si_steps.specs.Commands.{add, remove, query, subsumers, subsumed, stats, sample}
+use Rattle.si_term.specs.Meaning.{name_of, literal_of, clause_of, pattern_of}
 use Rattle.si_steps.specs.Runs.{a_line}
 use Rattle.si_session.specs.Session.{Steps, around}
 use Rattle.si_session.specs.Commands.{ReadsCommand}
@@ -133,3 +133,88 @@ pub returns-in-Ok-Load-clause-refused : goal.returns-in-Ok-Load-clause-refused
 returns-in-Ok-Load-clause-refused g c =
     λ e. load_keeps c.self.inside.limits (g.L.Library.files c.args.library.now) c.in-Ok-Load.name c.self.inside.index.clauses c.load_named.new.index.clauses c.load_named.result _ _ c.load_named.ensures.loads e
     ∙ ap (λ s. s.clauses) c.self.view_is
+
+-- ---- subsumption
+pub returns-in-Ok-Subsumers-clause-step : goal.returns-in-Ok-Subsumers-clause-step
+returns-in-Ok-Subsumers-clause-step g c =
+    let a = g.K.Sink.written c.args.sink.now in
+    let b = g.K.Sink.written c.subsumers.new.sink in
+    let limits = c.self.inside.limits in
+    let told = g.L.Library.files c.args.library.now in
+    let tally = g.L.Library.counts c.args.library.now in
+    let may_fail = g.L.Library.may_fail c.args.library.now in
+    let read : ReadsCommand c.args.line.now (command.Subsumers c.in-Ok-Subsumers.formula) = subst (ReadsCommand c.args.line.now) c.in-Ok-Subsumers.field-0-is c.in-Ok-Subsumers.ensures.read in
+    let short : length c.args.line.now ≤ limits.line = omega (arith, c.if-line-self.false) in
+    subst (λ s. Steps told s s (a_line c.args.line.now) c.subsumers.result (around a tally may_fail) (around b tally may_fail)) c.self.view_is
+    (stepped limits told c.self.inside.index.clauses c.self.inside.index.clauses c.args.line.now (subsumers (map literal_of c.in-Ok-Subsumers.formula)) c.subsumers.result a b tally may_fail short read.0 (c.subsumers.ensures.acts limits (sym c.self.invariant)))
+
+pub returns-in-Ok-Subsumers-clause-silent : goal.returns-in-Ok-Subsumers-clause-silent
+returns-in-Ok-Subsumers-clause-silent g c =
+    let a = g.K.Sink.written c.args.sink.now in
+    let b = g.K.Sink.written c.subsumers.new.sink in
+    let limits = c.self.inside.limits in
+    let read : ReadsCommand c.args.line.now (command.Subsumers c.in-Ok-Subsumers.formula) = subst (ReadsCommand c.args.line.now) c.in-Ok-Subsumers.field-0-is c.in-Ok-Subsumers.ensures.read in (
+      λ e. absurd (not_silent limits (subsumers (map literal_of c.in-Ok-Subsumers.formula)) c.self.inside.index.clauses c.self.inside.index.clauses c.subsumers.result a b (c.subsumers.ensures.acts limits (sym c.self.invariant)) e),
+      λ h. absurd (read.0.1 h.1),
+    )
+
+pub returns-in-Ok-Subsumed-clause-step : goal.returns-in-Ok-Subsumed-clause-step
+returns-in-Ok-Subsumed-clause-step g c =
+    let a = g.K.Sink.written c.args.sink.now in
+    let b = g.K.Sink.written c.subsumed.new.sink in
+    let limits = c.self.inside.limits in
+    let told = g.L.Library.files c.args.library.now in
+    let tally = g.L.Library.counts c.args.library.now in
+    let may_fail = g.L.Library.may_fail c.args.library.now in
+    let read : ReadsCommand c.args.line.now (command.Subsumed c.in-Ok-Subsumed.formula) = subst (ReadsCommand c.args.line.now) c.in-Ok-Subsumed.field-0-is c.in-Ok-Subsumed.ensures.read in
+    let short : length c.args.line.now ≤ limits.line = omega (arith, c.if-line-self.false) in
+    subst (λ s. Steps told s s (a_line c.args.line.now) c.subsumed.result (around a tally may_fail) (around b tally may_fail)) c.self.view_is
+    (stepped limits told c.self.inside.index.clauses c.self.inside.index.clauses c.args.line.now (subsumed (map literal_of c.in-Ok-Subsumed.formula)) c.subsumed.result a b tally may_fail short read.0 (c.subsumed.ensures.acts limits (sym c.self.invariant)))
+
+pub returns-in-Ok-Subsumed-clause-silent : goal.returns-in-Ok-Subsumed-clause-silent
+returns-in-Ok-Subsumed-clause-silent g c =
+    let a = g.K.Sink.written c.args.sink.now in
+    let b = g.K.Sink.written c.subsumed.new.sink in
+    let limits = c.self.inside.limits in
+    let read : ReadsCommand c.args.line.now (command.Subsumed c.in-Ok-Subsumed.formula) = subst (ReadsCommand c.args.line.now) c.in-Ok-Subsumed.field-0-is c.in-Ok-Subsumed.ensures.read in (
+      λ e. absurd (not_silent limits (subsumed (map literal_of c.in-Ok-Subsumed.formula)) c.self.inside.index.clauses c.self.inside.index.clauses c.subsumed.result a b (c.subsumed.ensures.acts limits (sym c.self.invariant)) e),
+      λ h. absurd (read.0.1 h.1),
+    )
+
+-- ---- a sample
+pub sample-requires-clause-limit : goal.sample-requires-clause-limit
+sample-requires-clause-limit g c = omega (arith, c.self.invariant, c.requires.entries, ap (λ s. s.limits.entries) c.self.view_is)
+
+pub returns-in-Ok-Sample-clause-step : goal.returns-in-Ok-Sample-clause-step
+returns-in-Ok-Sample-clause-step g c =
+    let a = g.K.Sink.written c.args.sink.now in
+    let b = g.K.Sink.written c.sample.new.sink in
+    let limits = c.self.inside.limits in
+    let told = g.L.Library.files c.args.library.now in
+    let tally = g.L.Library.counts c.args.library.now in
+    let may_fail = g.L.Library.may_fail c.args.library.now in
+    let start = c.in-Ok-Sample.start in
+    let count = c.in-Ok-Sample.count in
+    let read : ReadsCommand c.args.line.now (command.Sample start count) = subst (ReadsCommand c.args.line.now) c.in-Ok-Sample.field-0-is c.in-Ok-Sample.ensures.read in
+    let short : length c.args.line.now ≤ limits.line = omega (arith, c.if-line-self.false) in
+    subst (λ s. Steps told s (state_with limits c.sample.new.index.clauses) (a_line c.args.line.now) c.sample.result (around a tally may_fail) (around b tally may_fail)) c.self.view_is
+    (stepped limits told c.self.inside.index.clauses c.sample.new.index.clauses c.args.line.now (sample start count) c.sample.result a b tally may_fail short read.0 (c.sample.ensures.acts limits (sym c.self.invariant)))
+
+pub returns-in-Ok-Sample-clause-silent : goal.returns-in-Ok-Sample-clause-silent
+returns-in-Ok-Sample-clause-silent g c =
+    let a = g.K.Sink.written c.args.sink.now in
+    let b = g.K.Sink.written c.sample.new.sink in
+    let limits = c.self.inside.limits in
+    let start = c.in-Ok-Sample.start in
+    let count = c.in-Ok-Sample.count in
+    let read : ReadsCommand c.args.line.now (command.Sample start count) = subst (ReadsCommand c.args.line.now) c.in-Ok-Sample.field-0-is c.in-Ok-Sample.ensures.read in (
+      λ e. absurd (not_silent limits (sample start count) c.self.inside.index.clauses c.sample.new.index.clauses c.sample.result a b (c.sample.ensures.acts limits (sym c.self.invariant)) e),
+      λ h. absurd (read.0.1 h.1),
+    )
+
+pub returns-in-Ok-Sample-clause-refused : goal.returns-in-Ok-Sample-clause-refused
+returns-in-Ok-Sample-clause-refused g c =
+    let a = g.K.Sink.written c.args.sink.now in
+    let b = g.K.Sink.written c.sample.new.sink in
+    let limits = c.self.inside.limits in
+    λ e. keeps_clauses limits (sample c.in-Ok-Sample.start c.in-Ok-Sample.count) c.self.inside.index.clauses c.sample.new.index.clauses c.sample.result a b (c.sample.ensures.acts limits (sym c.self.invariant)) e ∙ ap (λ s. s.clauses) c.self.view_is

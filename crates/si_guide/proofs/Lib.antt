@@ -1,0 +1,4 @@
+mod ShownLists
+mod FirstClauses
+mod FirstHits
+mod NumberedPairs

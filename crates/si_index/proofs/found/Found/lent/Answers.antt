@@ -1,0 +1,21 @@
+use Rattle.std.proofs.Common.{refl, ap, subst}
+use Rattle.si_term.specs.Meaning.{entry_of}
+use Rattle.si_index.specs.Finding.{Finding}
+use Rattle.si_index.specs.Showing.{ShowsHit}
+use Rattle.si_index.specs.Searching.{hit_of, IsMatch}
+use Rattle.si_index.proofs.FoundLaws.{inside, hit_at, each_at, shows_entry}
+use Rattle.si_index.proofs.found.Found.lent.Goals as goal
+
+pub returns : goal.returns
+returns c =
+    let s = c.self.inside.search in
+    let ms = c.self.inside.matches.items in
+    let m = c.index-found.result.now in
+    let less = inside ms c.args.n c.args.self.now.hits (ap (λ (f : Finding). f.hits) c.self.view_is) c.requires in
+    let here = each_at (IsMatch s) ms c.args.n m less c.index-found.ensures c.self.invariant.each in
+    subst (λ (f : Finding). ShowsHit f c.args.n (record { solution = m.solution; query_names = c.self.inside.query_names; entry_names = m.entry_names; extra = s.query.extra })) c.self.view_is (
+      hit_of m,
+      hit_at ms c.args.n m less c.index-found.ensures,
+      shows_entry s c.self.inside.index.now.numbers (entry_of m.entry) m.solution c.self.inside.query_names m.entry_names s.query.extra
+          c.self.invariant.numbers c.self.invariant.ready here.solved c.self.invariant.names here.names refl,
+    )

@@ -1,0 +1,128 @@
+-- A sample has one right outcome: its clauses are those of one text, they are accepted or one is the
+-- first that is refused, and one sum belongs to them.
+use Rattle.std.proofs.Common.{◌≡◌, inl, inr, ℕ, ◌+◌, List, [], ◌∷◌, ◌++◌, length, refl, sym, ap, ◌∙◌, subst, append_assoc, append-nil}
+use Rattle.si_defs.specs.Bytes.{Bytes}
+use Rattle.si_defs.specs.Clauses.{Clause, Pattern, literal_pattern, term_pattern}
+use Rattle.si_defs.specs.Entries.{Placed, pattern_entry, state_entries}
+use Rattle.si_defs.specs.Grammar.{clause_item}
+use Rattle.si_defs.specs.declared.Relation.TheVariants.{Unifiable}
+use Rattle.si_state.specs.Acceptance.{Refusal, Refuses}
+use Rattle.si_state.specs.Answers.{IsAnswer}
+use Rattle.si_state.specs.Harvest.{AreClauses, AreAccepted, IsFirstRefused}
+use Rattle.si_state.specs.Samples.{AreDrawn, SumsAnswers}
+use Rattle.si_steps.specs.declared.limits.Limits.{Limits}
+use Rattle.si_steps.specs.Commands.{sample}
+use Rattle.si_steps.specs.Replies.{Reply, refusal_line, sample_line}
+use Rattle.si_steps.specs.Steps.{Performs}
+use Rattle.si_laws.specs.OneReply.{IsConsistent, HasOneOutcome}
+use Rattle.si_laws.proofs.ItemLaws.{one_item, blanks_no_item}
+use Rattle.si_laws.proofs.RefusalLaws.{accepts_or_refuses, one_refusal}
+use Rattle.si_laws.proofs.StateLaws.{consistent_more}
+use Rattle.si_laws.proofs.LoadLaws.{accepted_stay}
+use Rattle.si_laws.proofs.AnswerLaws.{same_answer}
+use Rattle.si_steps.proofs.OneSample.{no_other_text}
+
+-- ---- what is drawn
+item_is : (c d : Clause) → clause_item c ≡ clause_item d → c ≡ d
+item_is c d e = cc
+
+one_list : (cs ds : List Clause) (bytes : Bytes) → AreClauses cs bytes → AreClauses ds bytes → cs ≡ ds
+one_list [] [] bytes h k = refl
+one_list [] (d ∷ ds) bytes h (after, begins, more) = absurd (blanks_no_item bytes (clause_item d) after h begins)
+one_list (c ∷ cs) [] bytes (after, begins, more) k = absurd (blanks_no_item bytes (clause_item c) after k begins)
+one_list (c ∷ cs) (d ∷ ds) bytes (after, begins, more) (left, starts, others) =
+    let same = one_item bytes (clause_item c) (clause_item d) after left begins starts in
+    let clause : c ≡ d = item_is c d same.0 in
+    let rest = one_list cs ds after more (subst (AreClauses ds) (sym same.1) others) in
+    λ i. clause i ∷ rest i
+
+one_drawn : (start count : ℕ) (cs ds : List Clause) → AreDrawn start count cs → AreDrawn start count ds → cs ≡ ds
+one_drawn start count cs ds (text, h, are) (other, k, are_too) =
+    one_list cs ds text are (subst (AreClauses ds) (no_other_text start count text other h k) are_too)
+
+-- ---- the first that is refused
+module _ (limit : ℕ) where
+  -- none is, where all are accepted
+  none_refused : (state clauses front back : List Clause) (c : Clause) (why : Refusal) → clauses ≡ front ++ c ∷ back → AreAccepted limit state clauses
+      → Refuses limit (state ++ front) c why → ⊥
+  none_refused state clauses [] back c why e h k =
+      let all : AreAccepted limit state (c ∷ back) = subst (AreAccepted limit state) e h in
+      accepts_or_refuses limit state c (state ++ c ∷ []) why all.0 (subst (λ s. Refuses limit s c why) (append-nil state) k)
+  none_refused state clauses (x ∷ front) back c why e h k =
+      let all : AreAccepted limit state (x ∷ (front ++ c ∷ back)) = subst (AreAccepted limit state) e h in
+      none_refused (state ++ x ∷ []) (front ++ c ∷ back) front back c why refl all.1 (subst (λ s. Refuses limit s c why) (sym (append_assoc state (x ∷ []) front)) k)
+
+  pub all_or_first : (state clauses : List Clause) (c : Clause) (why : Refusal) → AreAccepted limit state clauses → IsFirstRefused limit state clauses c why → ⊥
+  all_or_first state clauses c why h f = none_refused state clauses f.before f.after c why f.splits h f.refused
+
+  heads_same : (x y : Clause) (xs ys : List Clause) → x ∷ xs ≡ y ∷ ys → x ≡ y
+  heads_same x y xs ys e = cc
+
+  tails_same : (x y : Clause) (xs ys : List Clause) → x ∷ xs ≡ y ∷ ys → xs ≡ ys
+  tails_same x y xs ys e = cc
+
+  first_same : (state front begin back end : List Clause) (c d : Clause) (why because : Refusal) → IsConsistent state → front ++ c ∷ back ≡ begin ++ d ∷ end
+      → AreAccepted limit state front → AreAccepted limit state begin → Refuses limit (state ++ front) c why → Refuses limit (state ++ begin) d because
+      → (c ≡ d) × (why ≡ because)
+  first_same state [] [] back end c d why because is e h k r q =
+      let same = heads_same c d back end e in (
+        same,
+        one_refusal limit state c is why because (subst (λ s. Refuses limit s c why) (append-nil state) r)
+            (subst (λ x. Refuses limit state x because) (sym same) (subst (λ s. Refuses limit s d because) (append-nil state) q)),
+      )
+  first_same state [] (y ∷ begin) back end c d why because is e h k r q =
+      let same = heads_same c y back (begin ++ d ∷ end) e in
+      absurd (accepts_or_refuses limit state y (state ++ y ∷ []) why k.0 (subst (λ x. Refuses limit state x why) same (subst (λ s. Refuses limit s c why) (append-nil state) r)))
+  first_same state (x ∷ front) [] back end c d why because is e h k r q =
+      let same = heads_same x d (front ++ c ∷ back) end e in
+      absurd (accepts_or_refuses limit state x (state ++ x ∷ []) because h.0
+      (subst (λ z. Refuses limit state z because) (sym same) (subst (λ s. Refuses limit s d because) (append-nil state) q)))
+  first_same state (x ∷ front) (y ∷ begin) back end c d why because is e h k r q =
+      let same = heads_same x y (front ++ c ∷ back) (begin ++ d ∷ end) e in
+      first_same (state ++ x ∷ []) front begin back end c d why because (consistent_more limit state x (state ++ x ∷ []) is h.0)
+      (tails_same x y (front ++ c ∷ back) (begin ++ d ∷ end) e) h.1 (subst (λ z. AreAccepted limit (state ++ z ∷ []) begin) (sym same) k.1)
+      (subst (λ s. Refuses limit s c why) (sym (append_assoc state (x ∷ []) front)) r)
+      (subst (λ s. Refuses limit s d because) (sym (append_assoc state (x ∷ []) begin)) (subst (λ z. Refuses limit (state ++ z ∷ begin) d because) (sym same) q))
+
+  pub one_first : (state clauses : List Clause) (c d : Clause) (why because : Refusal) → IsConsistent state → IsFirstRefused limit state clauses c why
+      → IsFirstRefused limit state clauses d because → (c ≡ d) × (why ≡ because)
+  one_first state clauses c d why because is f g =
+      first_same state f.before g.before f.after g.after c d why because is (sym f.splits ∙ g.splits) f.earlier g.earlier f.refused g.refused
+
+-- ---- the sum
+pattern_is : (p q : Pattern) → pattern_entry p ≡ pattern_entry q → p ≡ q
+pattern_is (literal_pattern l) (literal_pattern k) e = let same : l ≡ k = cc in ap literal_pattern same
+pattern_is (term_pattern t) (term_pattern u) e = let same : t ≡ u = cc in ap term_pattern same
+pattern_is (literal_pattern l) (term_pattern u) e = cc
+pattern_is (term_pattern t) (literal_pattern k) e = cc
+
+one_sum : (all es : List (Clause × Placed)) (m n : ℕ) → SumsAnswers all es m → SumsAnswers all es n → m ≡ n
+one_sum all [] m n h k = h ∙ sym k
+one_sum all ((c, e) ∷ es) m n (p, hits, others, of, answer, sums, whole) (q, found, rest, of_too, answer_too, sums_too, parts) =
+    let pattern = pattern_is p q (of ∙ sym of_too) in
+    let same = same_answer Unifiable p all hits found answer (subst (λ x. IsAnswer Unifiable x all found) (sym pattern) answer_too) in
+    let more = one_sum all es others rest sums sums_too in
+    whole ∙ (λ i. length (same i) + more i) ∙ sym parts
+
+-- ---- the command
+pub one_sample : (limits : Limits) (start count : ℕ) (state : List Clause) → IsConsistent state → HasOneOutcome limits (sample start count) state
+one_sample limits start count state is reply other new behind (cs, drawn, inl (c, why, first, said, stays)) (ds, drawn_too, inl (d, because, first_too, said_too, stays_too)) =
+    let clauses = one_drawn start count cs ds drawn drawn_too in
+    let same = one_first limits.entries state cs c d why because is first (subst (λ l. IsFirstRefused limits.entries state l d because) (sym clauses) first_too) in
+    (said ∙ (λ i. refusal_line limits.entries (same.0 i).name (same.1 i) ∷ []) ∙ sym said_too, stays ∙ sym stays_too)
+one_sample limits start count state is reply other new behind (cs, drawn, inl (c, why, first, said, stays)) (ds, drawn_too, inr (n, accepted, sums, said_too, left)) =
+    absurd (all_or_first limits.entries state cs c why (subst (AreAccepted limits.entries state) (sym (one_drawn start count cs ds drawn drawn_too)) accepted) first)
+one_sample limits start count state is reply other new behind (cs, drawn, inr (m, accepted, sums, said, left)) (ds, drawn_too, inl (d, because, first, said_too, stays)) =
+    absurd (all_or_first limits.entries state ds d because (subst (AreAccepted limits.entries state) (one_drawn start count cs ds drawn drawn_too) accepted) first)
+one_sample limits start count state is reply other new behind (cs, drawn, inr (m, accepted, sums, said, left)) (ds, drawn_too, inr (n, accepted_too, sums_too, said_too, left_too)) =
+    let clauses = one_drawn start count cs ds drawn drawn_too in
+    let states : new ≡ behind = left ∙ ap (λ l. state ++ l) clauses ∙ sym left_too in
+    let sum =
+    one_sum (state_entries new) (state_entries cs) m n sums
+    (subst (λ l. SumsAnswers (state_entries l) (state_entries cs) n) (sym states) (subst (λ l. SumsAnswers (state_entries behind) (state_entries l) n) (sym clauses) sums_too)) in
+    (said ∙ (λ i. sample_line (length (clauses i)) (length (state_entries (clauses i))) (sum i) ∷ []) ∙ sym said_too, states)
+
+pub sample_stays : (limits : Limits) (start count : ℕ) (state : List Clause) (reply : Reply) (new : List Clause) → IsConsistent state
+    → Performs limits (sample start count) state reply new → IsConsistent new
+sample_stays limits start count state reply new is (cs, drawn, inl h) = subst IsConsistent (sym h.4) is
+sample_stays limits start count state reply new is (cs, drawn, inr h) = subst IsConsistent (sym h.4) (accepted_stay limits.entries state cs is h.1)

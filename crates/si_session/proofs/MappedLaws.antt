@@ -1,0 +1,81 @@
+-- What is found by positions is what is answered; and its lines.
+use Rattle.std.proofs.Common.{◌≡◌, inl, inr, ℕ, suc, ◌+◌, ◌<◌, List, [], ◌∷◌, ◌++◌, length, map, drop, get_or, Some, refl, add-one, drop-cons, sym, ◌∙◌, ap, subst, arith, append_assoc, length-append}
+use Rattle.std.specs.Prelude.{slice_get}
+use Rattle.std.specs.List.{AllByRecursion}
+use Rattle.si_defs.specs.Bytes.{Bytes}
+use Rattle.si_defs.specs.Clauses.{Name, Literal, Clause}
+use Rattle.si_defs.specs.Printing.{name_text, map_text}
+use Rattle.si_state.specs.Subsumption.{MappedClause, AreMapped, mapped_text}
+use Rattle.si_steps.specs.Replies.{Reply, mapped_reply}
+use Rattle.si_steps.specs.Runs.{ended}
+use Rattle.si_io.specs.Content.{Told}
+use Rattle.si_form.proofs.NodeLaws.{get_some}
+use Rattle.si_index.specs.declared.subsuming.Mapped.{Mapped}
+use Rattle.si_index.specs.Subsuming.{AreMappedFrom}
+use Rattle.si_session.specs.Signs.{sign_text}
+use Rattle.si_session.specs.MappedClauses.{IsKeptAt, mapped_at, all_mapped, mapped_line}
+use Rattle.si_session.specs.Session.{Writes, HasPerformed, rightly}
+use Rattle.si_session.specs.declared.sign.Sign.TheVariants.{Space, LineFeed}
+use Rattle.si_session.specs.declared.stepped.Stepped.{Stepped}
+use Rattle.si_reply.proofs.Pieces.{four_apart}
+use Rattle.si_session.proofs.Answering.{at_front}
+
+-- ---- positions
+one_behind : (front : List Clause) (c : Clause) → suc (length front) ≡ length (front ++ c ∷ [])
+one_behind front c = omega (arith, length-append front (c ∷ []))
+
+module _ (P : List Literal → List ℕ → Type 0) (clauses : List Clause) where
+  kept_from : (k : ℕ) (back : List Clause) → k + length back ≡ length clauses → (found : List Mapped) → AreMappedFrom P k back found → AllByRecursion (IsKeptAt clauses) found
+  kept_from k [] e found h = subst (AllByRecursion (IsKeptAt clauses)) (sym h) tt
+  kept_from k (c ∷ back) e found (inr h) = kept_from (suc k) back (omega (arith, e)) found h.1
+  kept_from k (c ∷ back) e found (inl h) =
+      subst (AllByRecursion (IsKeptAt clauses)) (sym h.5) (omega (arith, e, h.2), kept_from (suc k) back (omega (arith, e)) h.1 h.4)
+
+  mapped_from : (front back : List Clause) → clauses ≡ front ++ back → (found : List Mapped) → AreMappedFrom P (length front) back found → AreMapped P back (all_mapped clauses found)
+  mapped_from front [] e found h = ap (all_mapped clauses) h
+  mapped_from front (c ∷ back) e found (inr h) =
+      inr (h.0, mapped_from (front ++ c ∷ []) back (e ∙ sym (append_assoc front (c ∷ []) back)) found (subst (λ k. AreMappedFrom P k back found) (one_behind front c) h.1))
+  mapped_from front (c ∷ back) e found (inl h) =
+      let there : slice_get clauses h.0.clause ≡ Some c = ap (slice_get clauses) h.2 ∙ subst (λ l. slice_get l (length front) ≡ Some c) (sym e) (at_front front back c) in
+      let others = mapped_from (front ++ c ∷ []) back (e ∙ sym (append_assoc front (c ∷ []) back)) h.1 (subst (λ k. AreMappedFrom P k back h.1) (one_behind front c) h.4) in
+      inl (h.0.map, all_mapped clauses h.1, h.3, others, ap (all_mapped clauses) h.5 ∙ ap (λ o. mapped_at o h.0 ++ all_mapped clauses h.1) there)
+
+  -- all stand inside
+  pub are_kept : (found : List Mapped) → AreMappedFrom P 0 clauses found → AllByRecursion (IsKeptAt clauses) found
+  are_kept found h = kept_from 0 clauses (omega arith) found h
+
+  -- what an answer does
+  pub mapped : (found : List Mapped) → AreMappedFrom P 0 clauses found → (o : Stepped) (a b : Told) → Writes o (mapped_reply (all_mapped clauses found)) a b
+      → HasPerformed (λ reply new. (ms : List MappedClause) × AreMapped P clauses ms × (reply ≡ mapped_reply ms) × (new ≡ clauses)) clauses clauses o a b
+  mapped found h o a b w = rightly (mapped_reply (all_mapped clauses found)) (all_mapped clauses found, mapped_from [] clauses refl found h, refl, refl) w
+
+-- ---- lines
+pub line_parts : (name : Name) (ns : List ℕ) → mapped_line name ns ≡ name_text name ++ (sign_text Space ++ (map_text ns ++ sign_text LineFeed))
+unfolding mapped_line
+line_parts name ns = four_apart (name_text name) (sign_text Space) (map_text ns) (sign_text LineFeed)
+
+-- the lines of the answer
+abbrev pub lines_of : List Clause → List Mapped → Bytes
+lines_of clauses found = ended (map mapped_text (all_mapped clauses found))
+
+-- a line, and those behind it
+pub next_line : (clauses : List Clause) (m : Mapped) (found : List Mapped) (c : Clause) → slice_get clauses m.clause ≡ Some c
+    → lines_of clauses (m ∷ found) ≡ mapped_line c.name m.map ++ lines_of clauses found
+unfolding mapped_line sign_text
+next_line clauses m found c there =
+    ap (λ o. ended (map mapped_text (mapped_at o m ++ all_mapped clauses found))) there
+    ∙ sym (append_assoc (mapped_text (record { clause = c; numbers = m.map })) (10 ∷ []) (lines_of clauses found))
+
+pub length-mapped : (clauses : List Clause) (found : List Mapped) → AllByRecursion (IsKeptAt clauses) found → length found ≡ length (all_mapped clauses found)
+length-mapped clauses [] inside = refl
+length-mapped clauses (m ∷ found) inside =
+    let there = get_some clauses m.clause inside.0 in
+    ap suc (length-mapped clauses found inside.1) ∙ ap (λ o. length (mapped_at o m ++ all_mapped clauses found)) (sym there.1)
+
+-- ---- one after the other
+-- the line of this one, and those behind it
+pub line_here : (clauses : List Clause) (found : List Mapped) (n : ℕ) (m : Mapped) (c : Clause) → n < length found → m ≡ get_or found n m → slice_get clauses m.clause ≡ Some c
+    → lines_of clauses (drop n found) ≡ mapped_line c.name m.map ++ lines_of clauses (drop (n + 1) found)
+line_here clauses found n m c less at there =
+    ap (lines_of clauses) (drop-cons found n m less ∙ ap (λ k. get_or found n m ∷ drop k found) (sym (add-one n)) ∙ ap (λ x. x ∷ drop (n + 1) found) (sym at))
+    ∙ next_line clauses m (drop (n + 1) found) c there

@@ -1,0 +1,96 @@
+// The answer to a question of subsumption: a line for each clause.
+ghost use Rattle.std.specs.Prelude.{◌≡◌, ◌≤◌, map};
+ghost use Rattle.std.specs.List.{AllByRecursion};
+ghost use Rattle.si_defs.specs.Clauses.{AreSoundLiterals};
+ghost use Rattle.si_state.specs.Subsumption.{mapped_text};
+ghost use Rattle.si_steps.specs.Commands as command;
+ghost use Rattle.si_steps.specs.Replies.{mapped_reply};
+ghost use Rattle.si_steps.specs.Runs.{ended};
+ghost use Rattle.si_steps.specs.Steps.{Performs};
+ghost use Rattle.si_io.specs.Puts.{Puts};
+ghost use Rattle.si_io.specs.Faults.{Rose, HasCause};
+ghost use Rattle.si_term.specs.Meaning.{name_of, literal_of};
+ghost use Rattle.si_session.specs.MappedClauses.{IsKeptAt, all_mapped, mapped_line};
+ghost use Rattle.si_session.specs.Session.{Writes, ActsOn};
+ghost use Rattle.si_session.specs.declared.stepped.Stepped.TheVariants.{SinkFailed};
+
+use crate::reply::{Reply, tell};
+use crate::sign::{Sign, put_sign};
+use crate::stepped::Stepped;
+use si_flat::LitMap;
+use si_index::{Index, Mappeds};
+use si_io::{Failed, Sink};
+use si_reply::{put_map, put_name};
+use si_term::{Literals, Name};
+
+/// Writes the line of a clause: its name and its map.
+fn put_mapped<K: Sink>(sink: &mut K, name: &Name, map: &LitMap) -> Result<(), Failed>
+    ensures text { Puts result (mapped_line (name_of name.now) map.now) (K.written sink.old)
+        (K.written sink.new) }
+    ensures cause { HasCause (K.faults sink.old) (K.faults sink.new) result }
+{
+    put_name(sink, name)?;
+    put_sign(sink, Sign::Space)?;
+    put_map(sink, map)?;
+    put_sign(sink, Sign::LineFeed)
+}
+
+/// Writes the lines of the clauses.
+fn put_all_mapped<K: Sink>(index: &Index, found: &Mappeds, sink: &mut K) -> Result<(), Failed>
+    requires { AllByRecursion (IsKeptAt index.now.clauses) found.now }
+    ensures text { Puts result (ended (map mapped_text (all_mapped index.now.clauses found.now)))
+        (K.written sink.old) (K.written sink.new) }
+    ensures cause { HasCause (K.faults sink.old) (K.faults sink.new) result }
+{
+    for mapped in found.as_slice() {
+        put_mapped(sink, &index.clause(mapped.clause).name, &mapped.map)?;
+    }
+    Ok(())
+}
+
+/// Writes the answer: the lines of the clauses, and their number.
+fn tell_mapped<K: Sink>(index: &Index, found: &Mappeds, sink: &mut K) -> Stepped
+    requires { AllByRecursion (IsKeptAt index.now.clauses) found.now }
+    ensures written { Writes result (mapped_reply (all_mapped index.now.clauses found.now))
+        (K.written sink.old) (K.written sink.new) }
+    ensures later { K.faults sink.old ≤ K.faults sink.new }
+    ensures kept { (result ≡ SinkFailed → ⊥) → K.faults sink.new ≡ K.faults sink.old }
+    ensures failed { result ≡ SinkFailed → Rose (K.faults sink.old) (K.faults sink.new) }
+{
+    match put_all_mapped(index, found, sink) {
+        Ok(()) => tell(sink, Reply::End(found.len() as u64)),
+        Err(_) => Stepped::SinkFailed,
+    }
+}
+
+/// Answers which clauses subsume a formula.
+pub fn subsumers<K: Sink>(index: &Index, formula: &Literals, sink: &mut K) -> Stepped
+    requires { AreSoundLiterals (map literal_of formula.now) }
+    ensures acts { ActsOn (λ limits. Performs limits
+        (command.subsumers (map literal_of formula.now))) index.now index.now result
+        (K.written sink.old) (K.written sink.new) }
+    ensures later { K.faults sink.old ≤ K.faults sink.new }
+    ensures kept { (result ≡ SinkFailed → ⊥) → K.faults sink.new ≡ K.faults sink.old }
+    ensures failed { result ≡ SinkFailed → Rose (K.faults sink.old) (K.faults sink.new) }
+{
+    match index.subsumers(formula) {
+        Ok(found) => tell_mapped(index, &found, sink),
+        Err(_) => tell(sink, Reply::Memory),
+    }
+}
+
+/// Answers which clauses a formula subsumes.
+pub fn subsumed<K: Sink>(index: &Index, formula: &Literals, sink: &mut K) -> Stepped
+    requires { AreSoundLiterals (map literal_of formula.now) }
+    ensures acts { ActsOn (λ limits. Performs limits
+        (command.subsumed (map literal_of formula.now))) index.now index.now result
+        (K.written sink.old) (K.written sink.new) }
+    ensures later { K.faults sink.old ≤ K.faults sink.new }
+    ensures kept { (result ≡ SinkFailed → ⊥) → K.faults sink.new ≡ K.faults sink.old }
+    ensures failed { result ≡ SinkFailed → Rose (K.faults sink.old) (K.faults sink.new) }
+{
+    match index.subsumed(formula) {
+        Ok(found) => tell_mapped(index, &found, sink),
+        Err(_) => tell(sink, Reply::Memory),
+    }
+}

@@ -1,0 +1,9 @@
+pub mod Unequal
+pub mod Turns
+pub mod Choices
+pub mod Arguments
+pub mod FlatMaps
+pub mod Texts
+pub mod ClauseMaps
+pub mod HeadLaws
+pub mod Seeking

@@ -1,0 +1,214 @@
+-- The targets with the head of a literal, tried one after the other.
+use Rattle.std.proofs.Common.{◌≡◌, inl, inr, ℕ, zero, suc, ◌+◌, ◌-◌, ◌<◌, ◌≤◌, Bool, true, false, cond, List, [], ◌∷◌, length, get_or, drop, refl, ap, sym, ◌∙◌, subst, arith, None, Some, length-drop}
+use Rattle.std.proofs.lemmas.Bool.{eq-eqb}
+use Rattle.std.specs.Prelude.{◌↔◌, ◌==◌, ◌&&◌, slice_get, Result, Ok, Err, IfOk}
+use Rattle.std.specs.List.{AllByRecursion}
+use Rattle.std.specs.Borrow.{Bor}
+use Rattle.si_defs.specs.Substitutions.{image}
+use Rattle.si_state.specs.Subsumption.{AreImages}
+use Rattle.si_flat.specs.Cells.{same_variable}
+use Rattle.si_flat.specs.declared.Cell.{Cell}
+use Rattle.si_flat.specs.declared.Cell.TheVariants as cell
+use Rattle.si_trail.specs.Trails.{Trail}
+use Rattle.si_unify.specs.declared.slots.Slots.{Slots}
+use Rattle.si_unify.specs.Solving.{Pairs, Equalizes, IsSolution, IsCommon, HasSolved, HaveCommon}
+use Rattle.si_unify.specs.Spots.{Grows}
+use Rattle.si_subsume.specs.declared.heads.Head.{Head}
+use Rattle.si_subsume.specs.Search.{Slices, CanEnd, IsSymbolCell, IsFlatLiteral, AreFlatLiterals, HaveOtherHeads, IsFirstTarget, FindsTarget}
+use Rattle.si_subsume.specs.Heads.{head_of, same_head, first_cell, slice_head, first_in, nexts, IsFirstToTry, TakesFrom}
+use Rattle.si_subsume.proofs.Unequal.{never_equal, got_read, term_read}
+use Rattle.si_subsume.proofs.HeadLaws.{skipped, hit, next_at, got_behind, heads_same}
+use Rattle.si_subsume.proofs.Choices.{compare, got_inside}
+
+-- ---- other heads
+other_heads : (c d : Cell) → IsSymbolCell c → IsSymbolCell d → same_head (head_of c) (head_of d) ≡ false → HaveOtherHeads c d
+other_heads (cell.App s a m) (cell.App r b n) h k e = λ p.
+    let both : (s == r && a == b) ≡ true = (λ i. eq-eqb s r p.0 i && eq-eqb a b p.1 i) in
+    let bad : true ≡ false = sym both ∙ e in cc
+other_heads (cell.App s a m) (cell.Query n) h k e = absurd k
+other_heads (cell.App s a m) (cell.Entry n) h k e = absurd k
+other_heads (cell.App s a m) (cell.Ind n) h k e = absurd k
+other_heads (cell.Query n) d h k e = absurd h
+other_heads (cell.Entry n) d h k e = absurd h
+other_heads (cell.Ind n) d h k e = absurd h
+
+pub all_got : {X : Type 0} (P : X → Type 0) (xs : List X) (n : ℕ) (x : X) → AllByRecursion P xs → slice_get xs n ≡ Some x → P x
+all_got P [] n x h e = cc
+all_got P (y ∷ xs) zero x h e = let same : y ≡ x = cc in subst P same h.0
+all_got P (y ∷ xs) (suc n) x h e = all_got P xs n x h.1 e
+
+abbrev literal_head : List Cell → Head
+literal_head literal = head_of (first_cell literal)
+
+module _ (slots : Slots) (targets : Slices) (pairs : Pairs) (literal : List Cell) (term : IsFlatLiteral slots literal) (terms : AreFlatLiterals slots targets) where
+  pub never_there : (n : ℕ) (other : Bor (List Cell)) → slice_get targets n ≡ Some other → same_head (literal_head literal) (slice_head other) ≡ false → HaveCommon slots pairs literal other.now → ⊥
+  never_there n other got differs common =
+      let k = all_got (λ b. IsFlatLiteral slots b.now) targets n other terms got in
+      never_equal slots pairs literal other.now term.whole k.whole (other_heads (first_cell literal) (first_cell other.now) term.headed k.headed differs) common
+
+-- ---- the first target to try
+-- the first of all
+pub first_of_all : (targets : Slices) (h : Head) (from number : ℕ) → number ≡ first_in (length targets) 0 targets h → IsFirstToTry targets h from number
+first_of_all targets h from number is = record {
+  none = λ k other at_least below got. skipped (length targets) 0 targets h k other got (omega (arith, below, is));
+  has = λ b got.
+      let there = hit (length targets) 0 targets h (omega (arith, is, got_inside targets number b got)) in
+      let place : number ≡ there.place = omega (arith, is, there.number) in
+      let same : Some b ≡ Some there.slice = sym got ∙ ap (slice_get targets) place ∙ there.slice_is in
+      let slice : b ≡ there.slice = cc in
+      ap (λ (z : Bor (List Cell)). same_head h (slice_head z)) slice ∙ there.has;
+}
+
+-- the next one behind a target with the head
+pub first_behind : (targets : Slices) (h : Head) (before next : ℕ) (here : Bor (List Cell)) → slice_get targets before ≡ Some here
+    → h ≡ slice_head here → next ≡ get_or (nexts (length targets) 0 targets) before 0 → IsFirstToTry targets h (suc before) next
+first_behind targets h before next here got_here head is =
+    let next_is : next ≡ first_in (length targets) (suc (0 + before)) (drop (suc before) targets) (slice_head here) = is ∙ next_at (length targets) 0 targets before here got_here in
+    record {
+      none = λ k other at_least below got.
+          let place : suc before + (k - suc before) ≡ k = omega (arith, at_least) in
+          let behind : slice_get (drop (suc before) targets) (k - suc before) ≡ Some other = got_behind targets (suc before) (k - suc before) ∙ ap (slice_get targets) place ∙ got in
+          let differs = skipped (length targets) (suc (0 + before)) (drop (suc before) targets) (slice_head here) (k - suc before) other behind (omega (arith, place, below, next_is)) in
+          ap (λ q. same_head q (slice_head other)) head ∙ differs;
+      has = λ b got.
+          let hits = hit (length targets) (suc (0 + before)) (drop (suc before) targets) (slice_head here) (omega (arith, next_is, got_inside targets next b got)) in
+          let place : next ≡ suc before + hits.place = omega (arith, next_is, hits.number) in
+          let same : Some b ≡ Some hits.slice = sym got ∙ ap (slice_get targets) place ∙ sym (got_behind targets (suc before) hits.place) ∙ hits.slice_is in
+          let slice : b ≡ hits.slice = cc in
+          ap (λ (z : Bor (List Cell)). same_head h (slice_head z)) slice ∙ ap (λ q. same_head q (slice_head hits.slice)) head ∙ hits.has;
+    }
+
+-- ---- one target after the other
+-- nothing was bound, for none of the targets so far is of use; the next one has the literal's head
+pub record IsSeekingBy (slots : Slots) (targets : Slices) (old new : Trail (Bor (List Cell))) (literal : List Cell) (from number : ℕ) : Type 0 where
+  pub same : new ≡ old
+  pub none : (k : ℕ) (other : Bor (List Cell)) → from ≤ k → k < number → slice_get targets k ≡ Some other → HaveCommon slots old.pairs literal other.now → ⊥
+  pub has : (b : Bor (List Cell)) → slice_get targets number ≡ Some b → same_head (literal_head literal) (slice_head b) ≡ true
+
+pub seeking_start : (slots : Slots) (targets : Slices) (trail : Trail (Bor (List Cell))) (literal : List Cell) (from number : ℕ)
+    → IsFlatLiteral slots literal
+    → AreFlatLiterals slots targets
+    → IsFirstToTry targets (literal_head literal) from number
+    → IsSeekingBy slots targets trail trail literal from number
+seeking_start slots targets trail literal from number term terms begins = record {
+  same = refl;
+  none = λ k other at_least below got common. never_there slots targets trail.pairs literal term terms k other got (begins.none k other at_least below got) common;
+  has = begins.has;
+}
+
+module _ (slots : Slots) (targets : Slices) (old new : Trail (Bor (List Cell))) (literal : List Cell) (from number : ℕ) (term : IsFlatLiteral slots literal) (terms : AreFlatLiterals slots targets) (h : IsSeekingBy slots targets old new literal from number) where
+  pairs_same : new.pairs ≡ old.pairs
+  pairs_same = ap (λ (t : Trail (Bor (List Cell))). t.pairs) h.same
+
+  pub seeking_on : (after : Trail (Bor (List Cell))) (next : ℕ)
+      → number < length targets
+      → TakesFrom slots targets new.pairs after.pairs literal from number false
+      → after.slots ≡ new.slots
+      → next ≡ get_or (nexts (length targets) 0 targets) number 0
+      → IsSeekingBy slots targets old after literal from next
+  seeking_on after next less fails slots_stay is =
+      let d : Bor (List Cell) = record { ref_ptr = (0, 0); now = [] } in
+      let here = get_or targets number d in
+      let got_here : slice_get targets number ≡ Some here = got_read targets number d less in
+      let head : literal_head literal ≡ slice_head here = heads_same (literal_head literal) (slice_head here) (h.has here got_here) in
+      let begins = first_behind targets (literal_head literal) number next here got_here head is in
+      record {
+        same = (λ i. record { slots = slots_stay i; pairs = fails.0 i }) ∙ h.same;
+        none = λ k other at_least below got common.
+            elim (compare k number) [
+              | inl earlier ↦ h.none k other at_least earlier got common
+              | inr later ↦
+                  elim later [
+                    | inl e ↦ fails.1 (omega (arith, at_least, e)) other (sym (ap (slice_get targets) e) ∙ got) (subst (λ p. HaveCommon slots p literal other.now) (sym pairs_same) common)
+                    | inr g ↦ never_there slots targets old.pairs literal term terms k other got (begins.none k other (omega (arith, g)) below got) common
+                  ]
+            ];
+        has = begins.has;
+      }
+
+  pub sought : (after : Trail (Bor (List Cell)))
+      → number < length targets
+      → TakesFrom slots targets new.pairs after.pairs literal from number true
+      → IsFirstTarget slots targets old.pairs after.pairs literal from number
+  sought after less takes =
+      let d : Bor (List Cell) = record { ref_ptr = (0, 0); now = [] } in
+      let here = get_or targets number d in
+      let got_here : slice_get targets number ≡ Some here = got_read targets number d less in
+      let solved = takes.2 here got_here in
+      record {
+        at_least = takes.0;
+        target = here;
+        target_is = got_here;
+        grows = subst (λ p. Grows p after.pairs) pairs_same takes.1;
+        solved = (solved.0.0, (solved.1 solved.0.0).1 solved.0.1);
+        solves = λ s. subst (λ p. IsSolution slots after.pairs s ↔ IsCommon slots p literal here.now s) pairs_same (solved.1 s);
+        none_before = h.none;
+      }
+
+  pub sought_all : length targets ≤ number → FindsTarget slots targets old.pairs new.pairs literal from None
+  sought_all all = (pairs_same, λ k other at_least got common. h.none k other at_least (omega (arith, all, got_inside targets k other got)) got common)
+
+-- the next number is larger
+pub first_above : (end k : ℕ) (bs : Slices) (h : Head) → k + length bs ≡ end → k ≤ first_in end k bs h
+first_above end k [] h e = omega (arith, e)
+first_above end k (b ∷ bs) h e = by (same_head h (slice_head b)) (first_above end (suc k) bs h (omega (arith, e)))
+  where
+    by : (t : Bool) → suc k ≤ first_in end (suc k) bs h → k ≤ cond t k (first_in end (suc k) bs h)
+    by true le = omega arith
+    by false le = omega (arith, le)
+
+pub next_above : (targets : Slices) (number : ℕ) → number < length targets → number < get_or (nexts (length targets) 0 targets) number 0
+next_above targets number less =
+    let d : Bor (List Cell) = record { ref_ptr = (0, 0); now = [] } in
+    let here = get_or targets number d in
+    omega (
+      arith,
+      next_at (length targets) 0 targets number here (got_read targets number d less),
+      first_above (length targets) (suc (0 + number)) (drop (suc number) targets) (slice_head here) (omega (arith, length-drop (suc number) targets, less)),
+    )
+
+-- what solving tells of a target
+pub takes_of : {E : Type 0} (slots : Slots) (targets : Slices) (old new : Pairs) (literal : List Cell) (from number : ℕ) (here : Bor (List Cell)) (r : Result Bool E)
+    → IfOk r (HasSolved slots old new literal here.now)
+    → (r ≡ Ok true → Grows old new)
+    → (r ≡ Ok false → new ≡ old)
+    → from ≤ number
+    → slice_get targets number ≡ Some here
+    → IfOk r (TakesFrom slots targets old new literal from number)
+takes_of slots targets old new literal from number here (Ok true) solved grows stays le got = (
+  le,
+  grows refl,
+  λ target is.
+      let same : Some here ≡ Some target = sym got ∙ is in
+      let slice : here ≡ target = cc in
+      subst (λ (b : Bor (List Cell)). HasSolved slots old new literal b.now true) slice solved,
+)
+takes_of slots targets old new literal from number here (Ok false) solved grows stays le got = (
+  stays refl,
+  λ more target is common.
+      let same : Some target ≡ Some here = sym is ∙ got in
+      let slice : target ≡ here = cc in
+      solved (subst (λ (b : Bor (List Cell)). HaveCommon slots old literal b.now) slice common),
+)
+takes_of slots targets old new literal from number here (Err e) solved grows stays le got = solved
+
+-- ---- a literal without a target
+taken_at : {L K : Type 0} (TakesTo : L → K → Type 0) (ks : List K) (ls : List L) (ns : List ℕ) (i : ℕ) (d : L) → AreImages TakesTo ks ls ns → i < length ls → (n : ℕ) × (k : K) × (slice_get ks n ≡ Some k) × TakesTo (get_or ls i d) k
+taken_at TakesTo ks [] ns i d h less = absurd (omega (arith, less))
+taken_at TakesTo ks (l ∷ ls) [] i d h less = absurd h
+taken_at TakesTo ks (l ∷ ls) (zero ∷ ns) i d h less = absurd (let e : None ≡ Some h.0.0 = h.0.1 in cc)
+taken_at TakesTo ks (l ∷ ls) (suc n ∷ ns) zero d h less = (n, h.0.0, h.0.1, h.0.2)
+taken_at TakesTo ks (l ∷ ls) (suc n ∷ ns) (suc i) d h less = taken_at TakesTo ks ls ns i d h.1 (omega (arith, less))
+
+pub without_target : (slots : Slots) (literals targets : Slices) (i : ℕ) (d : Bor (List Cell))
+    → AreFlatLiterals slots literals
+    → AreFlatLiterals slots targets
+    → i < length literals
+    → first_in (length targets) 0 targets (slice_head (get_or literals i d)) ≡ length targets
+    → (ns : List ℕ) → CanEnd slots targets [] literals ns → ⊥
+without_target slots literals targets i d terms target_terms less none ns can =
+    let t = taken_at (λ (l k : Bor (List Cell)). Equalizes (image same_variable can.0) l.now k.now) targets literals ns i d can.2 less in
+    let term = term_read slots literals i d terms less in
+    never_there slots targets [] (get_or literals i d).now term target_terms t.0 t.1 t.2
+    (skipped (length targets) 0 targets (slice_head (get_or literals i d)) t.0 t.1 t.2 (omega (arith, none, got_inside targets t.0 t.1 t.2)))
+    (can.0, (can.1, t.3))

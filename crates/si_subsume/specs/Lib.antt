@@ -1,0 +1,3 @@
+pub mod Maps
+pub mod Search
+pub mod Heads

@@ -1,0 +1,86 @@
+// The least map between flat terms.
+ghost use Rattle.std.specs.Prelude.{◌≡◌, ◌<◌, ◌-◌, ◌^◌, IfOk, length, map, true, false};
+ghost use Rattle.std.specs.List.{AllByRecursion};
+ghost use Rattle.si_flat.specs.declared.Owner.TheVariants.{Query, Entry};
+ghost use Rattle.si_subsume.specs.Maps.{AreOf, HasHeads, AnswersFlat};
+ghost use Rattle.si_subsume.specs.Heads.{IsIndexOf};
+ghost use Rattle.si_subsume.specs.Search.{AreFlatLiterals, AnswersSlices, number_of};
+
+use crate::cut::arguments;
+use crate::heads::Heads;
+use crate::search::{Choice, Task, each_has_target, search};
+use crate::variables::slots_of;
+use si_flat::{Cell, Flat, LitMap};
+use si_trail::Trail;
+use si_unify::Slots;
+use std::alloc::{AllocError, Global};
+
+// The map that the choices are.
+fn numbers(alloc: Global, choices: &[Choice]) -> Result<LitMap, AllocError>
+    requires { AllByRecursion (λ choice. choice.number < 2 ^ 32 - 1) choices.now }
+    ensures { IfOk result (λ list. list ≡ map number_of choices.now) }
+{
+    let mut list = LitMap::new(alloc);
+    for i in 0..choices.len() {
+        list.push(choices[i].number as u32 + 1)?;
+    }
+    Ok(list)
+}
+
+// The least map from literals to targets; `None` where there is none.
+fn least<'a>(alloc: Global, task: &Task<'a>) -> Result<Option<LitMap>, AllocError>
+    requires literals { AreFlatLiterals task.now.slots task.now.literals.now }
+    requires targets { AreFlatLiterals task.now.slots task.now.targets.now }
+    requires index { IsIndexOf task.now.heads.now task.now.targets.now }
+    requires few { length task.now.targets.now < 2 ^ 32 }
+    ensures { IfOk result (AnswersSlices task.now.slots task.now.literals.now
+        task.now.targets.now) }
+{
+    if !each_has_target(task) {
+        return Ok(None);
+    }
+    let mut trail = Trail::with_slots(alloc, task.slots.count())?;
+    let Some(choices) = search(alloc, &mut trail, task)? else {
+        return Ok(None);
+    };
+    let list = numbers(alloc, &choices)?;
+    Ok(Some(list))
+}
+
+// The same, with an index of the targets by their heads.
+fn least_by_heads<'a>(
+    alloc: Global,
+    slots: Slots,
+    literals: &'a [&'a [Cell]],
+    targets: &'a [&'a [Cell]],
+) -> Result<Option<LitMap>, AllocError>
+    requires literals { AreFlatLiterals slots literals.now }
+    requires targets { AreFlatLiterals slots targets.now }
+    requires few { length targets.now < 2 ^ 32 }
+    ensures { IfOk result (AnswersSlices slots literals.now targets.now) }
+{
+    let heads = Heads::of(alloc, targets)?;
+    let task = Task {
+        slots,
+        literals,
+        targets,
+        heads: &heads,
+    };
+    least(alloc, &task)
+}
+
+/// The least map from the arguments of `c` to those of `d`, over substitutions that leave the
+/// variables of `d`; `None` where there is none. Of two clauses made flat by
+/// [`flatten_clauses`](si_flat::flatten_clauses) the arguments are the literals.
+pub fn least_map_of(alloc: Global, c: &Flat, d: &Flat) -> Result<Option<LitMap>, AllocError>
+    requires c { AreOf Query c.now }
+    requires d { AreOf Entry d.now }
+    requires c_heads { HasHeads c.now }
+    requires d_heads { HasHeads d.now }
+    ensures { IfOk result (AnswersFlat c.now d.now) }
+{
+    let literals = arguments(alloc, c.cells())?;
+    let targets = arguments(alloc, d.cells())?;
+    let slots = slots_of(c.cells(), d.cells());
+    least_by_heads(alloc, slots, &literals, &targets)
+}

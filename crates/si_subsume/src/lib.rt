@@ -1,0 +1,19 @@
+//! Clause subsumption: the least map from the literals of one clause to those of another.
+//!
+//! The search goes through the literals in order, and for each through the targets with its head,
+//! rising. A trail holds the bindings of the literals that have a target, and undoes those of the
+//! last one where no target is left. No term is copied.
+#![tactic(auto)]
+
+mod cut;
+mod flat;
+mod heads;
+mod literals;
+mod search;
+mod variables;
+
+pub use flat::least_map_of;
+pub use literals::least_map;
+
+#[cfg(test)]
+mod tests;

@@ -19,9 +19,12 @@ MOST_ENTRIES = 4_194_304
 MOST_FETCHES = 1_024
 MOST_OPEN_FILES = 32
 MOST_OPEN_BRACKETS = 512
+GREATEST_START = 2_147_483_647
+MOST_DRAWN = 10_000
 
 RELATIONS = (b"instances", b"generalizations", b"variants", b"unifiable")
-UNBUILT = (b"subsumers", b"subsumed", b"tree", b"explain", b"sample")
+SUBSUMPTIONS = (b"subsumers", b"subsumed")
+UNBUILT = (b"tree", b"explain")
 LANGUAGES = (b"fof", b"tff", b"thf", b"tcf", b"tpi")
 USAGE = b"usage: stindex [--strict] [FILE]...\n"
 
@@ -181,6 +184,16 @@ class Reader:
 
     def file(self) -> bytes:
         return self.take("single").text
+
+    def numeral(self, least: int, most: int) -> int:
+        """An integer without a sign, within these bounds."""
+        text = self.take("integer").text
+        if not text.isdigit() or len(text) > len(str(most)) or not least <= int(text) <= most:
+            raise Unread
+        return int(text)
+
+    def start_and_count(self) -> tuple[int, int]:
+        return self.numeral(0, GREATEST_START), self.numeral(1, MOST_DRAWN)
 
     def term(self) -> Term:
         token = self.take("upper", "integer", "double", "lower", "single", "dollar")
@@ -372,8 +385,9 @@ def replaced(substitution: Substitution, term: Term) -> Term:
     return Application(term.symbol, arguments)
 
 
-def matcher(general: Term, special: Term) -> Substitution | None:
-    found, open_pairs = {}, [(general, special)]
+def matcher(general: Term, special: Term, given: Substitution | None = None) -> Substitution | None:
+    """The least substitution, the given one extended, that takes the one term to the other."""
+    found, open_pairs = dict(given or {}), [(general, special)]
     while open_pairs:
         left, right = open_pairs.pop()
         if isinstance(left, Variable):
@@ -459,6 +473,69 @@ def printed_bindings(bindings: Bindings) -> bytes:
     return b"{%s}" % b"; ".join(pairs)
 
 
+# Subsumption
+
+def least_map(
+    literals: list[Literal], images: list[Literal], found: Substitution | None = None
+) -> list[int] | None:
+    """The first list of numbers, in lexicographic order, of images that the literals can have."""
+    if not literals:
+        return []
+    first, *others = literals
+    for number, image in enumerate(images, 1):
+        if first.sign == image.sign:
+            extended = matcher(first.atom, image.atom, found)
+            rest = None if extended is None else least_map(others, images, extended)
+            if rest is not None:
+                return [number, *rest]
+    return None
+
+
+def printed_map(numbers: list[int]) -> bytes:
+    return b"[%s]" % b",".join(b"%d" % number for number in numbers)
+
+
+# Samples
+
+class Generator:
+    """A linear congruential generator, and the parts of a clause that it draws."""
+
+    def __init__(self, state: int):
+        self.state = state
+
+    def below(self, bound: int) -> int:
+        self.state = (1103515245 * self.state + 12345) % 2147483648
+        return self.state // 65536 % bound
+
+    def term(self, depth: int) -> bytes:
+        number = self.below(6 if depth else 4)
+        if number == 4:
+            return b"g(%s)" % self.term(depth - 1)
+        if number == 5:
+            return b"f(%s,%s)" % (self.term(depth - 1), self.term(depth - 1))
+        return (b"X", b"Y", b"a", b"b")[number]
+
+    def literal(self) -> bytes:
+        sign = (b"", b"~")[self.below(2)]
+        if self.below(2) == 0:
+            return sign + b"p(%s,%s)" % (self.term(2), self.term(2))
+        return sign + b"q(%s)" % self.term(2)
+
+    def clause(self, number: int) -> bytes:
+        literals = [self.literal() for _ in range(1 + self.below(2))]
+        return b"cnf(s%d,axiom,%s)." % (number, b"|".join(literals))
+
+
+def drawn_clauses(start: int, count: int) -> list[Clause]:
+    generator = Generator(start)
+    return [next_item(generator.clause(number), 0)[0] for number in range(1, count + 1)]
+
+
+def as_pattern(term: Term) -> Term:
+    """The term with variables of a pattern."""
+    return replaced({x: Variable(x.name, True) for x in variables(term)}, term)
+
+
 # The kept clauses, and the symbols in use
 
 class Store:
@@ -466,6 +543,7 @@ class Store:
 
     def __init__(self):
         self.entries: dict[Name, list[Entry]] = {}
+        self.literals: dict[Name, list[Literal]] = {}
         self.uses: Counter[Symbol] = Counter()
         self.total = 0
 
@@ -480,8 +558,24 @@ class Store:
             raise Refusal(b"! full %d %d" % (self.total + len(entries), MOST_ENTRIES))
         self.uses.update(symbols)
         self.entries[clause.name] = entries
+        self.literals[clause.name] = clause.literals
         self.total += len(entries)
         return len(entries)
+
+    def add_all(self, clauses: list[Clause]) -> int:
+        """Adds all of the clauses, or none; the number of their entries."""
+        gained = {}
+        try:
+            for clause in clauses:
+                gained[clause.name] = self.add(clause)
+        except Refusal:
+            self.take_back(gained)
+            raise
+        return sum(gained.values())
+
+    def take_back(self, names: Iterable[Name]) -> None:
+        for name in names:
+            self.remove(name)
 
     def check(self, symbols: list[Symbol]) -> None:
         """Refuses the first symbol that has another shape than in the store or earlier here."""
@@ -497,6 +591,7 @@ class Store:
         if name not in self.entries:
             raise Refusal(b"! unknown " + printed_name(name))
         entries = self.entries.pop(name)
+        self.literals.pop(name)
         self.uses -= Counter(entry.term.symbol for entry in entries)
         self.total -= len(entries)
         return len(entries)
@@ -508,6 +603,21 @@ class Store:
                     bindings = canonical_list(relation, query, entry.term)
                     if bindings is not None:
                         yield entry.place + b" " + printed_bindings(bindings) + b"\n"
+
+    def mappings(self, command: bytes, formula: list[Literal]) -> Iterator[bytes]:
+        for name, literals in self.literals.items():
+            pair = (literals, formula) if command == b"subsumers" else (formula, literals)
+            numbers = least_map(*pair)
+            if numbers is not None:
+                yield printed_name(name) + b" " + printed_map(numbers) + b"\n"
+
+    def unifiable_count(self, clauses: list[Clause]) -> int:
+        """How many entries unify with each entry of these clauses, summed up."""
+        asked = (entry for clause in clauses for entry in entries_of(clause))
+        return sum(
+            1 for entry in asked
+            for _ in self.answers(b"unifiable", entry.sign, as_pattern(entry.term))
+        )
 
 
 # Loads
@@ -571,6 +681,12 @@ class Load:
 
 # Commands
 
+def counted(lines: Iterable[bytes]) -> bytes:
+    """The lines of an answer, and their number."""
+    lines = list(lines)
+    return b"".join(lines) + b"end %d\n" % len(lines)
+
+
 class Session:
     def __init__(self, folder: str):
         self.store = Store()
@@ -581,8 +697,7 @@ class Session:
         try:
             load.read(file, (), ())
         except Refusal:
-            for name in load.gained:
-                self.store.remove(name)
+            self.store.take_back(load.gained)
             raise
         return b"ok %d %d\n" % (len(load.gained), sum(load.gained.values()))
 
@@ -603,8 +718,17 @@ class Session:
             sign, query = whole(Reader.literal, line, word.end, True)
         else:
             sign, query = None, whole(Reader.term, line, word.end, True)
-        answers = list(self.store.answers(relation, sign, query))
-        return b"".join(answers) + b"end %d\n" % len(answers)
+        return counted(self.store.answers(relation, sign, query))
+
+    def subsumption(self, command: bytes, line: bytes, place: int) -> bytes:
+        formula = whole(Reader.formula, line, place, True)
+        return counted(self.store.mappings(command, formula))
+
+    def sample(self, line: bytes, place: int) -> bytes:
+        start, count = whole(Reader.start_and_count, line, place)
+        drawn = drawn_clauses(start, count)
+        gained = self.store.add_all(drawn)
+        return b"sample %d %d %d\n" % (count, gained, self.store.unifiable_count(drawn))
 
     def command(self, line: bytes) -> bytes:
         word = token_at(line, 0)
@@ -614,8 +738,12 @@ class Session:
             raise Refusal(b"! later")
         if word.text in RELATIONS:
             return self.find(word.text, line, word.end)
+        if word.text in SUBSUMPTIONS:
+            return self.subsumption(word.text, line, word.end)
         if word.text == b"add":
             return self.add(line, word.end)
+        if word.text == b"sample":
+            return self.sample(line, word.end)
         if word.text == b"load":
             return self.load(whole(Reader.file, line, word.end))
         if word.text == b"remove":

@@ -1,7 +1,6 @@
 -- The cells of an entry stand for its numbered term.
-use Rattle.std.proofs.Common.{◌≡◌, ℕ, ◌+◌, ◌≤◌, Bool, ◌==◌, List, [], ◌∷◌, ◌++◌, length, map, refl, ap, subst, sym, ◌∙◌, arith, append-nil}
-use Rattle.std.specs.Prelude.{bytes_eq, Some}
-use Rattle.si_defs.specs.declared.TheConstants.{MOST_OCCURRENCES}
+use Rattle.std.proofs.Common.{◌≡◌, ℕ, ◌+◌, Bool, ◌==◌, List, [], ◌∷◌, ◌++◌, map, refl, ap, subst, sym, ◌∙◌, append-nil}
+use Rattle.std.specs.Prelude.{bytes_eq, true, false, not, IsFalse, ◌↔◌}
 use Rattle.std.proofs.lemmas.Slice.Eq.{bytes_eq-Decides}
 use Rattle.si_defs.specs.Bytes.{Bytes}
 use Rattle.si_defs.specs.Terms as terms
@@ -16,12 +15,10 @@ use Rattle.si_flat.specs.declared.Owner.TheVariants.{Query, Entry}
 use Rattle.si_flat.specs.declared.walk.WrittenEntry.{WrittenEntry}
 use Rattle.si_flat.specs.Cells.{Variable, query, same_variable, cells_of, IsSound, AreSound}
 use Rattle.si_flat.specs.Numbered.{number_in, signed, place_in, numbered, all_numbered}
-use Rattle.si_flat.specs.Flattened.{extra_numbers, unnumbered, whole_of, is_positive, IsSoundEntry, numbered_entry, IsNumberedBy, IsFlatOf, IsQueryNumbering, FlattensPattern, symbol_slices, FillsLiteral}
-use Rattle.si_flat.specs.Flattening.{owners_variable, met_names, met_extra, number_by, WalkState, walk_state, empty_walk, entry_scheme, term_piece, Flattens, WritesEntry}
-use Rattle.si_flat.proofs.Inserted.{inserted-firsts, inserted_length}
+use Rattle.si_flat.specs.Flattened.{extra_numbers, unnumbered, whole_of, is_positive, IsSoundEntry, numbered_entry, IsNumberedBy, IsFlatOf, IsQueryNumbering, FlattensPattern, FillsEntry}
+use Rattle.si_flat.specs.Flattening.{owners_variable, met_names, met_extra, number_by, entry_scheme, WritesEntry}
+use Rattle.si_flat.proofs.Inserted.{inserted-firsts}
 use Rattle.si_flat.proofs.ExtraNumbers.{all_have, extra_numbering}
-use Rattle.si_flat.proofs.Slices.{slices-numbered}
-use Rattle.si_flat.proofs.Walking.{variables_few}
 use Rattle.si_flat.proofs.Keys.{symbol-Decides}
 use Rattle.si_flat.proofs.FirstPlaces.{numbered_by}
 
@@ -56,10 +53,13 @@ variables-whole (entries.term_entry t) = refl
 pub extra_written : (pairs : Numbering) (owner : Owner) (e : entries.Entry) (w : WrittenEntry) → WritesEntry pairs owner e w → met_extra w.met ≡ terms.firsts same_symbol (unnumbered pairs (terms.symbols (whole_of e)))
 extra_written pairs owner e w h = h.extra ∙ inserted-firsts same_symbol symbol-Decides (unnumbered pairs (terms.symbols (whole_of e)))
 
+names_written : (pairs : Numbering) (owner : Owner) (e : entries.Entry) (w : WrittenEntry) → WritesEntry pairs owner e w → met_names w.met ≡ terms.firsts bytes_eq (entries.entry_variables e)
+names_written pairs owner e w h = h.names ∙ inserted-firsts bytes_eq bytes_eq-Decides (terms.variables (whole_of e)) ∙ ap (terms.firsts bytes_eq) (variables-whole e)
+
 cells_written : (pairs : Numbering) (owner : Owner) (e : entries.Entry) (w : WrittenEntry) → WritesEntry pairs owner e w → w.cells.items ≡ cells_of (numbered_entry (pairs ++ extra_numbers (met_extra w.met)) (owners_variable owner) e)
 cells_written pairs owner e w h =
     let names : met_names w.met ++ [] ≡ terms.firsts bytes_eq (entries.entry_variables e) =
-    append-nil (met_names w.met) ∙ h.names ∙ inserted-firsts bytes_eq bytes_eq-Decides (terms.variables (whole_of e)) ∙ ap (terms.firsts bytes_eq) (variables-whole e) in
+    append-nil (met_names w.met) ∙ names_written pairs owner e w h in
     h.cells [] []
     ∙ λ i. cells_of (numbered (number_by pairs (entry_scheme owner (is_positive e)) (append-nil (met_extra w.met) i)) (λ x. owners_variable owner (place_in bytes_eq (names i) x)) (whole_of e))
 
@@ -113,31 +113,19 @@ pattern_written pairs p e w extra is sound h copied =
       numbering = λ numbering. subst (λ ss. IsQueryNumbering (pairs ++ extra_numbers ss)) (sym lacks) (extra_numbering pairs all numbering);
     }
 
--- ---- a literal's atom in a buffer
-pub literal_written : (pairs : Numbering) (l : clauses.Literal) (old : WalkState) (w : WrittenEntry)
-    → old.names ≡ []
-    → old.extra ≡ []
-    → old.cells ≡ []
-    → Flattens pairs (entry_scheme Entry l.positive) old (walk_state w.met w.cells.items) (term_piece l.atom)
-    → WritesEntry pairs Entry (entries.literal_entry l) w
-literal_written pairs l old w names extra cells h =
-    let none : old ≡ empty_walk = λ i. record { names = names i; extra = extra i; cells = cells i } in
-    subst (λ s. Flattens pairs (entry_scheme Entry l.positive) s (walk_state w.met w.cells.items) (term_piece l.atom)) none h
-
-pub names_few : (pairs : Numbering) (l : clauses.Literal) (w : WrittenEntry) → IsSoundEntry (entries.literal_entry l) → WritesEntry pairs Entry (entries.literal_entry l) w → length (met_names w.met) ≤ MOST_OCCURRENCES
-names_few pairs l w sound h = omega (arith, ap length h.names, inserted_length bytes_eq [] (terms.variables l.atom), variables_few l.atom, sound.1)
-
-pub literal_filled : (pairs : Numbering) (l : clauses.Literal) (w : WrittenEntry) (n : ℕ)
-    → IsSoundEntry (entries.literal_entry l)
-    → WritesEntry pairs Entry (entries.literal_entry l) w
-    → met_extra w.met ≡ []
-    → n ≡ length (met_names w.met)
-    → FillsLiteral pairs l w.cells.items (Some n)
-literal_filled pairs l w n sound h none counted =
-    let flat = flat_known pairs Entry (entries.literal_entry l) w sound h none in
+-- ---- an entry in a buffer
+pub entry_filled : (pairs : Numbering) (e : entries.Entry) (w : WrittenEntry) (extra : Bool)
+    → IsSoundEntry e
+    → WritesEntry pairs Entry e w
+    → (IsFalse extra ↔ (met_extra w.met ≡ []))
+    → FillsEntry pairs e w.cells.items (met_names w.met) (not extra)
+entry_filled pairs e w true sound h tells = λ none.
+    let bad : true ≡ false = tells.1 (extra_written pairs Entry e w h ∙ ap (terms.firsts same_symbol) none) in
+    absurd cc
+entry_filled pairs e w false sound h tells =
+    let none : met_extra w.met ≡ [] = tells.0 refl in
     record {
-      known = all_numbered_of pairs Entry (entries.literal_entry l) w h none;
-      flat = flat;
-      slices = ap symbol_slices flat.stands.cells_are ∙ slices-numbered (signed l.positive (number_in pairs)) _ l.atom;
-      count = counted ∙ ap length (h.names ∙ inserted-firsts bytes_eq bytes_eq-Decides (terms.variables l.atom));
+      known = all_numbered_of pairs Entry e w h none;
+      flat = flat_known pairs Entry e w sound h none;
+      are_names = names_written pairs Entry e w h;
     }

@@ -4,7 +4,6 @@ pub mod Keys
 pub mod Numbers
 pub mod Walking
 pub mod FirstPlaces
-pub mod Slices
 pub mod ExtraNumbers
 pub mod FlattenLaws
 pub mod OneSymbol

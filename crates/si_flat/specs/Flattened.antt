@@ -1,5 +1,6 @@
 -- What the flat terms of entries and of patterns stand for.
-use Rattle.std.specs.Prelude.{◌≡◌, ℕ, zero, suc, ◌+◌, ◌*◌, ◌^◌, ◌≤◌, Bool, true, false, not, ◌||◌, List, [], ◌∷◌, ◌++◌, length, map, take, filter, bytes_eq, Option, Some, None}
+use Rattle.std.specs.Prelude.{◌≡◌, ℕ, zero, suc, ◌+◌, ◌*◌, ◌^◌, ◌≤◌, Bool, true, false, not, ◌||◌, List, [], ◌∷◌, ◌++◌, map, filter, bytes_eq, Option, Some, None}
+use Rattle.si_defs.specs.Bytes.{Bytes}
 use Rattle.si_defs.specs.Terms.{size, variables, symbols, firsts}
 use Rattle.si_defs.specs.Symbols.{Symbol, Numbering, IsNumbering, same_symbol}
 use Rattle.si_defs.specs.Substitutions.{IsAmong}
@@ -9,11 +10,9 @@ use Rattle.si_defs.specs.Entries.{Entry, literal_entry, term_entry, entry_variab
 use Rattle.si_defs.specs.declared.TheConstants.{MOST_OCCURRENCES}
 use Rattle.si_term.specs.Terms.{symbol_of}
 use Rattle.si_term.specs.declared.term.Sym.{Sym}
-use Rattle.si_term.specs.Walks.{subterms}
 use Rattle.si_flat.specs.declared.Cell.{Cell}
-use Rattle.si_flat.specs.declared.Cell.TheVariants as cell
 use Rattle.si_flat.specs.declared.flatten.FlatQuery.{FlatQuery}
-use Rattle.si_flat.specs.Cells.{Variable, query, entry, same_variable, Term, StandsFor, cells_of}
+use Rattle.si_flat.specs.Cells.{Variable, query, entry, same_variable, Term, StandsFor}
 use Rattle.si_flat.specs.Numbered.{number_in, signed, place_in, numbered}
 
 -- ---- numbers for the symbols that a table lacks
@@ -82,6 +81,16 @@ abbrev pub FlattensEntry : Numbering → Entry → Option (List Cell) → Type 0
 FlattensEntry pairs e None = unnumbered pairs (symbols (whole_of e)) ≡ [] → ⊥
 FlattensEntry pairs e (Some cells) = (unnumbered pairs (symbols (whole_of e)) ≡ []) × IsFlatOf pairs entry e cells
 
+-- the same in a buffer, with the names of the variables in the order of their numbers
+pub record HoldsEntry (pairs : Numbering) (e : Entry) (cells : List Cell) (names : List Bytes) : Type 0 where
+  pub known : unnumbered pairs (symbols (whole_of e)) ≡ []
+  pub flat : IsFlatOf pairs entry e cells
+  pub are_names : names ≡ firsts bytes_eq (entry_variables e)
+
+abbrev pub FillsEntry : Numbering → Entry → List Cell → List Bytes → Bool → Type 0
+FillsEntry pairs e cells names false = unnumbered pairs (symbols (whole_of e)) ≡ [] → ⊥
+FillsEntry pairs e cells names true = HoldsEntry pairs e cells names
+
 -- a table's pairs, and then those of the symbols that it lacks
 abbrev pub query_numbers : Numbering → List Sym → Numbering
 query_numbers pairs extra = pairs ++ extra_numbers (map symbol_of extra)
@@ -93,31 +102,3 @@ pub record FlattensPattern (pairs : Numbering) (p : clauses.Pattern) (q : FlatQu
   pub flat : IsFlatOf (query_numbers pairs q.extra) query (pattern_entry p) q.flat
   pub complete : unnumbered (query_numbers pairs q.extra) (symbols (whole_of (pattern_entry p))) ≡ []
   pub numbering : IsNumbering pairs → IsQueryNumbering (query_numbers pairs q.extra)
-
--- ---- a literal in a buffer
--- a term of the literal, its variables numbered by their first occurrence in the literal
-abbrev pub numbered_within : Numbering → clauses.Literal → clauses.Term → Term
-numbered_within pairs l t =
-    numbered
-    (signed l.positive (number_in pairs))
-    (λ x. entry (place_in bytes_eq (firsts bytes_eq (variables l.atom)) x))
-    t
-
--- the slices that begin with the cell of a symbol, in order
-abbrev pub symbol_slices : List Cell → List (List Cell)
-symbol_slices [] = []
-symbol_slices (cell.App s a n ∷ cells) = take n (cell.App s a n ∷ cells) ∷ symbol_slices cells
-symbol_slices (_ ∷ cells) = symbol_slices cells
-
--- The cells are those of the literal's term, and the slices are those of its subterms, the atom
--- first. The literal has n variables.
-pub record HoldsLiteral (pairs : Numbering) (l : clauses.Literal) (cells : List Cell) (n : ℕ) : Type 0 where
-  pub known : unnumbered pairs (symbols l.atom) ≡ []
-  pub flat : IsFlatOf pairs entry (literal_entry l) cells
-  pub slices : symbol_slices cells ≡ map (λ t. cells_of (numbered_within pairs l t)) (subterms l.atom)
-  pub count : n ≡ length (firsts bytes_eq (variables l.atom))
-
--- the literal's cells, where each of its symbols has a number, and else none
-abbrev pub FillsLiteral : Numbering → clauses.Literal → List Cell → Option ℕ → Type 0
-FillsLiteral pairs l cells None = (unnumbered pairs (symbols l.atom) ≡ [] → ⊥) × (cells ≡ [])
-FillsLiteral pairs l cells (Some n) = HoldsLiteral pairs l cells n

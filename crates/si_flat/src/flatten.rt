@@ -1,18 +1,14 @@
 // Entries and patterns as flat terms.
-ghost use Rattle.std.specs.Prelude.{◌≡◌, ◌≤◌, [], IfOk, OnErr};
-ghost use Rattle.si_defs.specs.Terms.{size};
+ghost use Rattle.std.specs.Prelude.{◌≡◌, IfOk, map};
 ghost use Rattle.si_defs.specs.Clauses.{IsSoundPattern};
-ghost use Rattle.si_defs.specs.Entries.{literal_entry};
-ghost use Rattle.si_defs.specs.declared.TheConstants.{MOST_OCCURRENCES};
-ghost use Rattle.si_term.specs.Meaning.{literal_of, entry_of, pattern_of};
-ghost use Rattle.si_flat.specs.Flattened.{IsSoundEntry, FlattensEntry, FlattensPattern, FillsLiteral, whole_of};
-ghost use Rattle.si_flat.specs.Flattening.{WritesEntry};
+ghost use Rattle.si_term.specs.Meaning.{entry_of, pattern_of};
+ghost use Rattle.si_flat.specs.Flattened.{IsSoundEntry, FillsEntry, FlattensEntry, FlattensPattern};
 
-use crate::met::{FIRST_EXTRA, Met};
-use crate::walk::{Scheme, WrittenEntry, write_term};
+use crate::walk::WrittenEntry;
 use crate::{Cell, Flat, Owner};
-use si_term::{Entry, Literal, Pattern, SymTable, Syms};
+use si_term::{Entry, Pattern, SymTable, Syms};
 use std::alloc::{AllocError, Global};
+use std::marker::Model;
 
 /// The flat term of a pattern.
 #[derive(Drop)]
@@ -35,7 +31,8 @@ pub fn flatten_entry<T: SymTable>(
     requires { IsSoundEntry (entry_of entry) }
     ensures { IfOk result (FlattensEntry (T.pairs table.now) (entry_of entry.entry)) }
 {
-    let written = write_entry(alloc, table, Owner::Entry, entry)?;
+    let mut written = WrittenEntry::new(alloc);
+    written.write(table, Owner::Entry, entry)?;
     if written.met.has_extra() {
         return Ok(None);
     }
@@ -54,7 +51,8 @@ pub fn flatten_pattern<T: SymTable>(
     requires { IsSoundPattern (pattern_of pattern.now) }
     ensures { IfOk result (FlattensPattern (T.pairs table.now) (pattern_of pattern.now)) }
 {
-    let written = write_entry(alloc, table, Owner::Query, pattern.as_entry())?;
+    let mut written = WrittenEntry::new(alloc);
+    written.write(table, Owner::Query, pattern.as_entry())?;
     let extra = written.met.extra_symbols(alloc)?;
     Ok(FlatQuery {
         flat: Flat {
@@ -64,64 +62,55 @@ pub fn flatten_pattern<T: SymTable>(
     })
 }
 
-/// Fills a buffer with the cells of a literal's atom, numbered as an entry's. The subterms of the
-/// literal are slices of it, which [`sub`](crate::sub) gives, so a scan flattens each literal once.
-///
-/// It answers the number of the literal's variables; `None` where the table lacks a symbol. The
-/// buffer is empty then, and at an error.
-pub fn flatten_literal<T: SymTable>(
-    alloc: Global,
-    table: &T,
-    literal: &Literal,
-    cells: &mut Vec<Cell>,
-) -> Result<Option<u32>, AllocError>
-    requires { IsSoundEntry (literal_entry (literal_of literal.now)) }
-    ensures fills { IfOk result (FillsLiteral (T.pairs table.now) (literal_of literal.now)
-        cells.new.items) }
-    ensures err { OnErr result (cells.new.items ≡ []) }
-{
-    let scheme = Scheme {
-        positive: literal.positive,
-        owner: Owner::Entry,
-        first: FIRST_EXTRA,
-    };
-    let mut met = Met::new(alloc);
-    cells.clear();
-    match write_term(table, scheme, &literal.atom, &mut met, cells) {
-        Ok(()) => {}
-        Err(error) => {
-            cells.clear();
-            return Err(error);
-        }
-    }
-    if met.has_extra() {
-        cells.clear();
-        return Ok(None);
-    }
-    Ok(Some(met.variable_count()))
+/// Memory in which entries are made flat one after the other: for scans. It keeps what it grew to,
+/// so a call that needs no more takes no memory. Contracts see the cells and the names.
+#[derive(Drop)]
+pub struct EntryBuffer<'a> {
+    written: WrittenEntry<'a>,
 }
 
-// The cells of an entry, and what was met.
-fn write_entry<'a, T: SymTable>(
-    alloc: Global,
-    table: &T,
-    owner: Owner,
-    entry: Entry<'a>,
-) -> Result<WrittenEntry<'a>, AllocError>
-    requires { size (whole_of (entry_of entry)) ≤ MOST_OCCURRENCES }
-    ensures { IfOk result (WritesEntry (T.pairs table.now) owner (entry_of entry.entry)) }
-{
-    let (positive, term) = match entry {
-        Entry::Lit(literal) => (literal.positive, &literal.atom),
-        Entry::Sub(term) => (true, term),
-    };
-    let mut met = Met::new(alloc);
-    let mut cells = Vec::new(alloc);
-    let scheme = Scheme {
-        positive,
-        owner,
-        first: FIRST_EXTRA,
-    };
-    write_term(table, scheme, term, &mut met, &mut cells)?;
-    Ok(WrittenEntry { met, cells })
+impl<'a> Model for EntryBuffer<'a> {
+    ghost use Rattle.std.specs.Prelude.{List};
+    ghost use Rattle.si_defs.specs.Bytes.{Bytes};
+    ghost use Rattle.si_flat.specs.declared.Cell.{Cell};
+    ghost use Rattle.si_flat.specs.Flattening.{met_names};
+
+    ghost Value = { List Cell × List Bytes };
+
+    ghost view = { λ b. (b.written.cells.items, met_names b.written.met) };
+}
+
+impl<'a> EntryBuffer<'a> {
+    /// An empty buffer. It takes no memory.
+    pub fn new(alloc: Global) -> EntryBuffer<'a> {
+        EntryBuffer {
+            written: WrittenEntry::new(alloc),
+        }
+    }
+
+    /// Puts the flat term of an entry in place of what the buffer held: the cells that
+    /// [`flatten_entry`] gives, and the names of the entry's variables in the order of their
+    /// numbers. It tells whether the table has each of the symbols.
+    pub fn fill<T: SymTable>(&mut self, table: &T, entry: Entry<'a>) -> Result<bool, AllocError>
+        requires { IsSoundEntry (entry_of entry) }
+        ensures { IfOk result (FillsEntry (T.pairs table.now) (entry_of entry.entry) self.new.0
+            self.new.1) }
+    {
+        self.written.write(table, Owner::Entry, entry)?;
+        Ok(!self.written.met.has_extra())
+    }
+
+    /// The cells.
+    pub fn cells(&self) -> &[Cell]
+        ensures { result.now ≡ self.now.0 }
+    {
+        self.written.cells.as_slice()
+    }
+
+    /// The names of the variables, in the order of their numbers.
+    pub fn names(&self) -> &[&'a [u8]]
+        ensures { map (λ name. name.now) result.now ≡ self.now.1 }
+    {
+        self.written.met.names()
+    }
 }

@@ -16,7 +16,7 @@ mod met;
 mod walk;
 
 pub use clauses::flatten_clauses;
-pub use flatten::{FlatQuery, flatten_entry, flatten_literal, flatten_pattern};
+pub use flatten::{EntryBuffer, FlatQuery, flatten_entry, flatten_pattern};
 pub use met::FIRST_EXTRA;
 pub use si_defs::Relation as Kind;
 use si_term::list::Items;

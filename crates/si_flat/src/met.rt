@@ -70,12 +70,20 @@ impl<'a> Met<'a> {
         self.names.clear();
     }
 
-    // How many variables were met.
-    pub(crate) fn variable_count(&self) -> u32
-        requires { length (met_names self.now) ≤ MOST_OCCURRENCES }
-        ensures { result ≡ length (met_names self.now) }
+    // Forgets all.
+    pub(crate) fn clear(&mut self)
+        ensures names { met_names self.new ≡ [] }
+        ensures extra { met_extra self.new ≡ [] }
     {
-        self.names.len() as u32
+        self.names.clear();
+        self.extra.clear();
+    }
+
+    // The names of the variables.
+    pub(crate) fn names(&self) -> &[&'a [u8]]
+        ensures { map (λ name. name.now) result.now ≡ met_names self.now }
+    {
+        self.names.as_slice()
     }
 
     // Whether a symbol was met that isn't in the table.

@@ -6,6 +6,8 @@ ghost use Rattle.si_defs.specs.declared.SymKind.TheVariants.{Word};
 ghost use Rattle.si_defs.specs.declared.Side.TheVariants.{Predicate, Function};
 ghost use Rattle.si_term.specs.Terms.{symbol_of, term_of};
 ghost use Rattle.si_term.specs.Meaning.{literal_of};
+ghost use Rattle.si_defs.specs.Entries.{literal_entry};
+ghost use Rattle.si_flat.specs.Flattened.{IsSoundEntry};
 
 use super::*;
 use si_term::{Entry, Literal, Pattern, Side, Sym, SymKind, SymTable, Term, Terms, Text};
@@ -140,13 +142,19 @@ fn a_known_literal(rt: HostRuntime) -> Result<(), Fail> {
         Some(flat) => assert_eq!(rt; flat.cells(), want.as_slice()),
         None => assert!(rt; false),
     }
-    let mut cells = Vec::new(alloc);
-    assert_eq!(rt;
-        flatten_literal(alloc, &table, &known, &mut cells)?,
-        Some(1)
-    );
-    assert_eq!(rt; cells.as_slice(), want.as_slice());
+    let mut buffer = EntryBuffer::new(alloc);
+    assert!(rt; buffer.fill(&table, Entry::Lit(&known))?);
+    assert_eq!(rt; buffer.cells(), want.as_slice());
+    assert_eq!(rt; buffer.names(), [b"X".as_slice()].as_slice());
     Ok(())
+}
+
+/// Whether a buffer takes the literal.
+fn fills(alloc: Global, table: &OneSymbol, literal: &Literal) -> Result<bool, AllocError>
+    requires { IsSoundEntry (literal_entry (literal_of literal.now)) }
+{
+    let mut buffer = EntryBuffer::new(alloc);
+    buffer.fill(table, Entry::Lit(literal))
 }
 
 // ~p(g(X), g(h(Y)))
@@ -165,8 +173,7 @@ fn symbols_outside_the_table(rt: HostRuntime) -> Result<(), Fail> {
     let nested = nested(alloc)?;
     let table = table(alloc)?;
     assert!(rt; flatten_entry(alloc, &table, Entry::Lit(&nested))?.is_none());
-    let mut cells = Vec::new(alloc);
-    assert_eq!(rt; flatten_literal(alloc, &table, &nested, &mut cells)?, None);
+    assert!(rt; !fills(alloc, &table, &nested)?);
     let query = flatten_pattern(alloc, &table, &Pattern::Lit(nested))?;
     let want = [
         cell(5, 2, 6),

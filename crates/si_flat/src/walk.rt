@@ -1,15 +1,18 @@
 // A walk over a term of the program, which writes its cells.
-ghost use Rattle.std.specs.Prelude.{◌≡◌, ◌<◌, ◌-◌, ◌^◌, OnOk, length, map, slice_set};
+ghost use Rattle.std.specs.Prelude.{◌≡◌, ◌<◌, ◌≤◌, ◌-◌, ◌^◌, OnOk, length, map, slice_set};
 ghost use Rattle.si_defs.specs.Terms.{row, size, sizes};
+ghost use Rattle.si_defs.specs.declared.TheConstants.{MOST_OCCURRENCES};
 ghost use Rattle.si_term.specs.Terms.{term_of};
+ghost use Rattle.si_term.specs.Meaning.{entry_of};
 ghost use Rattle.si_flat.specs.declared.Cell.TheVariants.{App};
 ghost use Rattle.si_flat.specs.Cells.{variable_cell};
-ghost use Rattle.si_flat.specs.Flattening.{owners_variable, walk_state, MayMeet, Flattens, term_piece, terms_piece};
+ghost use Rattle.si_flat.specs.Flattened.{whole_of};
+ghost use Rattle.si_flat.specs.Flattening.{owners_variable, walk_state, MayMeet, Flattens, WritesEntry, term_piece, terms_piece};
 
-use crate::met::Met;
+use crate::met::{FIRST_EXTRA, Met};
 use crate::{Cell, Owner};
-use si_term::{SymTable, Term};
-use std::alloc::AllocError;
+use si_term::{Entry, SymTable, Term};
+use std::alloc::{AllocError, Global};
 
 /// What the numbers of symbols and the kind of variables go by.
 #[derive(Clone, Copy)]
@@ -26,6 +29,40 @@ pub(crate) struct Scheme {
 pub(crate) struct WrittenEntry<'a> {
     pub(crate) met: Met<'a>,
     pub(crate) cells: Vec<Cell>,
+}
+
+impl<'a> WrittenEntry<'a> {
+    // Nothing was met or written.
+    pub(crate) fn new(alloc: Global) -> WrittenEntry<'a> {
+        WrittenEntry {
+            met: Met::new(alloc),
+            cells: Vec::new(alloc),
+        }
+    }
+
+    // Writes the cells of an entry, in place of what was written.
+    pub(crate) fn write<T: SymTable>(
+        &mut self,
+        table: &T,
+        owner: Owner,
+        entry: Entry<'a>,
+    ) -> Result<(), AllocError>
+        requires { size (whole_of (entry_of entry)) ≤ MOST_OCCURRENCES }
+        ensures { OnOk result (WritesEntry (T.pairs table.now) owner (entry_of entry.entry) self.new) }
+    {
+        let (positive, term) = match entry {
+            Entry::Lit(literal) => (literal.positive, &literal.atom),
+            Entry::Sub(term) => (true, term),
+        };
+        let scheme = Scheme {
+            positive,
+            owner,
+            first: FIRST_EXTRA,
+        };
+        self.met.clear();
+        self.cells.clear();
+        write_term(table, scheme, term, &mut self.met, &mut self.cells)
+    }
 }
 
 impl Owner {

@@ -1,26 +1,24 @@
 -- How long the right sides of a canonical list are.
-use Rattle.std.proofs.Common.{◌≡◌, ℕ, ◌+◌, ◌<◌, ◌≤◌, inl, inr, List, [], ◌∷◌, length, suc, zero, sym, ◌∙◌, ap, subst, arith, Option, Some, None}
+use Rattle.std.proofs.Common.{◌≡◌, ℕ, ◌+◌, ◌<◌, ◌≤◌, inl, inr, List, [], ◌∷◌, length, suc, sym, ◌∙◌, ap, subst, arith, Option, Some, None}
 use Rattle.std.specs.Prelude.{max, IfSome}
 use Rattle.std.specs.List.{AllByRecursion}
 use Rattle.si_defs.specs.Substitutions.{image, IsAmong}
 use Rattle.si_defs.specs.Terms as terms
 use Rattle.si_flat.specs.declared.Cell.{Cell}
 use Rattle.si_flat.specs.declared.Owner.{Owner}
-use Rattle.si_flat.specs.Cells.{Variable, same_variable, Term, StandsFor, IsWhole, cells_of}
-use Rattle.si_flat.specs.Flattening.{owners_variable}
+use Rattle.si_flat.specs.Cells.{Variable, same_variable, Term, StandsFor, IsWhole}
 use Rattle.si_flat.proofs.Subterms.{length-cells_of}
-use Rattle.si_trail.specs.Trails.{HasDistinctSlots}
 use Rattle.si_unify.specs.declared.slots.Slots.{Slots}
-use Rattle.si_unify.specs.Solving.{Pairs, slot_count, variable_of, IsAcyclic, IsBinding, AreHandedIn}
+use Rattle.si_unify.specs.Solving.{Pairs, variable_of, IsAcyclic, IsBinding, AreHandedIn}
 use Rattle.si_unify.proofs.Lists.{all_map}
 use Rattle.si_unify.proofs.Pieces.{all_within}
 use Rattle.si_form.specs.declared.solution.Binding.{Binding}
 use Rattle.si_form.specs.Answers.{owners_variables, StandsForList}
 use Rattle.si_form.specs.Folding.{folded, folded_all}
-use Rattle.si_form.specs.Matching.{pairs, Assigns, MatchesBy, MatchAnswers, MatchAnswersTo}
+use Rattle.si_form.specs.Matching.{pairs, Assigns, MatchAnswers}
 use Rattle.si_form.specs.Ordering.{IsListed}
 use Rattle.si_form.specs.SolutionParts.{AreNoLonger}
-use Rattle.si_form.specs.Unifying.{IsApplication, right_side, IsToBind, listed_bindings, HasApplication, IsGeneral, HasGeneral, ListsAllBindings, AreFree}
+use Rattle.si_form.specs.Unifying.{IsApplication, right_side, IsToBind, listed_bindings, HasGeneral, ListsAllBindings}
 use Rattle.si_form.proofs.AnswerLaws.{image_agrees}
 use Rattle.si_form.proofs.CanonicalLaws.{all_from, firsts_among}
 use Rattle.si_form.proofs.CellNumbering.{some_cell}

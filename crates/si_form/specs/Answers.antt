@@ -3,6 +3,7 @@ use Rattle.std.specs.Prelude.{◌≡◌, ℕ, List, [], ◌∷◌, Option, None,
 use Rattle.si_defs.specs.declared.Relation.{Relation}
 use Rattle.si_defs.specs.Relations.{Relates}
 use Rattle.si_defs.specs.Solutions.{IsCanonical}
+use Rattle.si_defs.specs.Variables as variables
 use Rattle.si_flat.specs.declared.Cell.{Cell}
 use Rattle.si_flat.specs.Cells.{Variable, same_variable, Term, StandsFor}
 use Rattle.si_flat.specs.Flattened.{counted_from, IsNumberedBy}
@@ -54,3 +55,19 @@ HasOneCanonicalList kind =
     → IsCanonical same_variable kind q e one
     → IsCanonical same_variable kind q e other
     → one ≡ other
+
+-- ---- terms with texts
+-- no two lists are canonical for one pattern and one entry
+abbrev pub HasOneSolution : Relation → Type 0
+HasOneSolution kind =
+    (p e : variables.Apart) (one other : variables.Solution)
+    → IsCanonical variables.same_variable kind p e one
+    → IsCanonical variables.same_variable kind p e other
+    → one ≡ other
+
+-- where a list is canonical, the relation holds
+abbrev pub HasSolutionsOfRelated : Relation → Type 0
+HasSolutionsOfRelated kind =
+    (p e : variables.Apart) (list : variables.Solution)
+    → IsCanonical variables.same_variable kind p e list
+    → Relates variables.same_variable kind p e

@@ -1,18 +1,26 @@
 // Laws of the definitions, which stand here as contracts. No function here does anything.
 ghost use Rattle.si_defs.specs.declared.Relation.TheVariants.{Variants, Instances, Generalizations, Unifiable};
-ghost use Rattle.si_form.specs.Answers.{HasOneCanonicalList};
+ghost use Rattle.si_defs.specs.declared.Relation.{Relation};
+ghost use Rattle.si_form.specs.Answers.{HasOneCanonicalList, HasOneSolution, HasSolutionsOfRelated};
 ghost use Rattle.si_form.specs.Numberings.{RelationsAreKept, PlacesAreFree};
 ghost use Rattle.si_form.specs.Numberings.{AnswersAreKept, SignsAreTold, SidesAreTold};
 ghost use Rattle.si_form.specs.SolutionParts.{SolutionsAreOfTerms, PredicatesStayOut};
 ghost use Rattle.si_form.specs.SolutionParts.{SignsStayOut, AtomsAreAnswered};
 ghost use Rattle.si_form.specs.TableNumbers.{NumbersTellApart, EntriesNeedTheTableAlone};
 
-/// Of each relation there is one canonical list at most.
+/// Of each relation of terms with numbers there is one canonical list at most.
 pub fn canonical_lists_are_unique()
     ensures variants { HasOneCanonicalList Variants }
     ensures instances { HasOneCanonicalList Instances }
     ensures generalizations { HasOneCanonicalList Generalizations }
     ensures unifiable { HasOneCanonicalList Unifiable }
+{}
+
+/// Of a pattern and an entry there is one canonical list at most, and none where the relation
+/// fails.
+pub fn solutions_are_unique()
+    ensures one { (kind : Relation) → HasOneSolution kind }
+    ensures related { (kind : Relation) → HasSolutionsOfRelated kind }
 {}
 
 /// Terms with numbers stand in the relations in which the terms with texts stand.

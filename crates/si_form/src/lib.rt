@@ -28,8 +28,7 @@ pub use laws::{
     canonical_lists_are_unique, numbers_keep_answers, numbers_keep_relations,
     numbers_tell_symbols_apart, solutions_are_of_their_terms,
 };
-pub use relations::{canonical, canonical_with, generalization, instance, variant};
+pub use relations::{canonical, canonical_with};
 pub use si_flat::Owner;
 pub use si_unify::Scratch;
 pub use solution::{Binding, Solution};
-pub use unifying::unifier;

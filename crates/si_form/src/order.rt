@@ -94,7 +94,8 @@ fn release(
     requires { (order : List ℕ) × IsPartlyOrdered (uses_at lists.now) (length lists.now)
         counts.old.items free.old.keys order used.now }
     ensures { OnOk result ((order : List ℕ) → IsPartlyOrdered (uses_at lists.now)
-        (length lists.now) counts.old.items free.old.keys order used.now → IsPartlyOrdered (uses_at lists.now)
+        (length lists.now) counts.old.items free.old.keys order used.now
+        → IsPartlyOrdered (uses_at lists.now)
         (length lists.now) counts.new.items free.new.keys order []) }
 {
     for &number in used {

@@ -9,7 +9,7 @@ ghost use Rattle.si_form.specs.SolutionParts.{AreNoLonger};
 
 use crate::matching::{Image, matches};
 use crate::solution::{Binding, Solution};
-use crate::unifying::unifier_with;
+use crate::unifying::unifier;
 use si_defs::Relation;
 use si_flat::{Cell, Flat, Owner};
 use si_unify::Scratch;
@@ -52,42 +52,48 @@ fn matched(
     Ok(Some(solution))
 }
 
-/// The canonical list by which the entry is an instance of the query; `None` where it is none.
-pub fn instance(alloc: Global, query: &Flat, entry: &Flat) -> Result<Option<Solution>, AllocError>
+// The canonical list by which the entry is an instance of the query; `None` where it is none.
+fn instance(alloc: Global, query: &[Cell], entry: &[Cell]) -> Result<Option<Solution>, AllocError>
+    requires whole_query { IsWhole query.now }
+    requires whole_entry { IsWhole entry.now }
     requires query { AreNumbered Query query.now }
     requires entry { AreNumbered Entry entry.now }
     ensures answers { IfOk result (Answers Instances query.now entry.now) }
     ensures short { IfOk result (λ list. IfSome list (AreNoLonger (length entry.now))) }
 {
-    matched(alloc, Owner::Query, query.cells(), entry.cells())
+    matched(alloc, Owner::Query, query, entry)
 }
 
-/// The canonical list by which the query is an instance of the entry; `None` where it is none.
-pub fn generalization(
+// The canonical list by which the query is an instance of the entry; `None` where it is none.
+fn generalization(
     alloc: Global,
-    query: &Flat,
-    entry: &Flat,
+    query: &[Cell],
+    entry: &[Cell],
 ) -> Result<Option<Solution>, AllocError>
+    requires whole_query { IsWhole query.now }
+    requires whole_entry { IsWhole entry.now }
     requires query { AreNumbered Query query.now }
     requires entry { AreNumbered Entry entry.now }
     ensures answers { IfOk result (Answers Generalizations query.now entry.now) }
     ensures short { IfOk result (λ list. IfSome list (AreNoLonger (length query.now))) }
 {
-    matched(alloc, Owner::Entry, entry.cells(), query.cells())
+    matched(alloc, Owner::Entry, entry, query)
 }
 
-/// The canonical list by which each is an instance of the other; `None` where one isn't.
-pub fn variant(alloc: Global, query: &Flat, entry: &Flat) -> Result<Option<Solution>, AllocError>
+// The canonical list by which each is an instance of the other; `None` where one isn't.
+fn variant(alloc: Global, query: &[Cell], entry: &[Cell]) -> Result<Option<Solution>, AllocError>
+    requires whole_query { IsWhole query.now }
+    requires whole_entry { IsWhole entry.now }
     requires query { AreNumbered Query query.now }
     requires entry { AreNumbered Entry entry.now }
     ensures answers { IfOk result (Answers Variants query.now entry.now) }
     ensures short { IfOk result (λ list. IfSome list (AreNoLonger (length entry.now))) }
 {
     let mut images = Vec::new(alloc);
-    if !matches(Owner::Entry, entry.cells(), query.cells(), &mut images)? {
+    if !matches(Owner::Entry, entry, query, &mut images)? {
         return Ok(None);
     }
-    matched(alloc, Owner::Query, query.cells(), entry.cells())
+    matched(alloc, Owner::Query, query, entry)
 }
 
 /// The canonical list of a relation; `None` where the query and the entry don't stand in it.
@@ -103,17 +109,26 @@ pub fn canonical(
     ensures short { IfOk result (λ list. IfSome list (AreNoLonger (max (length query.now)
         (length entry.now)))) }
 {
-    canonical_with(&mut Scratch::new(alloc), alloc, kind, query, entry)
+    canonical_with(
+        &mut Scratch::new(alloc),
+        alloc,
+        kind,
+        query.cells(),
+        entry.cells(),
+    )
 }
 
-/// Does the same as [`canonical`], and solves in memory that is lent: for callers that ask often.
+/// Does the same as [`canonical`] with whole slices, and solves in memory that is lent: for callers
+/// that ask often.
 pub fn canonical_with(
     scratch: &mut Scratch,
     alloc: Global,
     kind: Relation,
-    query: &Flat,
-    entry: &Flat,
+    query: &[Cell],
+    entry: &[Cell],
 ) -> Result<Option<Solution>, AllocError>
+    requires whole_query { IsWhole query.now }
+    requires whole_entry { IsWhole entry.now }
     requires query { AreNumbered Query query.now }
     requires entry { AreNumbered Entry entry.now }
     ensures answers { IfOk result (Answers kind query.now entry.now) }
@@ -124,6 +139,6 @@ pub fn canonical_with(
         Relation::Variants => variant(alloc, query, entry),
         Relation::Instances => instance(alloc, query, entry),
         Relation::Generalizations => generalization(alloc, query, entry),
-        Relation::Unifiable => unifier_with(scratch, alloc, query, entry),
+        Relation::Unifiable => unifier(scratch, alloc, query, entry),
     }
 }

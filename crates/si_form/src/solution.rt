@@ -1,5 +1,5 @@
 // Solution lists: bindings of variables to terms.
-ghost use Rattle.std.specs.Prelude.{◌≡◌, ◌<◌, [], ◌∷◌, ◌++◌, OnOk, OnErr, Some, length, slice_get};
+ghost use Rattle.std.specs.Prelude.{◌≡◌, ◌<◌, [], ◌∷◌, ◌++◌, IfOk, OnOk, OnErr, Some, length, slice_get};
 
 use si_flat::{Flat, Owner};
 use std::alloc::{AllocError, Global};
@@ -63,5 +63,20 @@ impl Solution {
         ensures { slice_get self.now n ≡ Some result.now }
     {
         &self.bindings[n]
+    }
+
+    /// An equal list in memory of its own.
+    pub fn copy(&self, alloc: Global) -> Result<Solution, AllocError>
+        ensures { IfOk result (λ copy. copy ≡ self.now) }
+    {
+        let mut copy = Solution::new(alloc);
+        for binding in self.bindings.as_slice() {
+            copy.push(Binding {
+                owner: binding.owner,
+                slot: binding.slot,
+                value: Flat::from_cells(alloc, binding.value.cells())?,
+            })?;
+        }
+        Ok(copy)
     }
 }

@@ -3,10 +3,7 @@ ghost use Rattle.std.specs.Prelude.{IfOk};
 ghost use Rattle.si_flat.specs.Cells.{IsWhole};
 ghost use Rattle.si_form.specs.Answers.{AreNumbered};
 
-use crate::{
-    Owner, Scratch, Solution, canonical, canonical_lists_are_unique, canonical_with,
-    generalization, instance, unifier, variant,
-};
+use crate::{Owner, Solution, canonical, canonical_lists_are_unique};
 use si_defs::Relation;
 use si_flat::{Cell, Flat};
 use std::alloc::{AllocError, Global};
@@ -69,23 +66,23 @@ fn lists_of_each_kind(rt: HostRuntime) -> Result<(), Fail> {
     let renamed = flat(alloc, Owner::Entry, &[F4, left, G2, right])?;
     assert_binds(
         &rt,
-        instance(alloc, &query, &below)?,
+        canonical(alloc, Relation::Instances, &query, &below)?,
         Owner::Query,
         &[&[A], &[left]],
     );
     assert_binds(
         &rt,
-        generalization(alloc, &query, &above)?,
+        canonical(alloc, Relation::Generalizations, &query, &above)?,
         Owner::Entry,
         &[&[x], &[G2, y]],
     );
     assert_binds(
         &rt,
-        variant(alloc, &query, &renamed)?,
+        canonical(alloc, Relation::Variants, &query, &renamed)?,
         Owner::Query,
         &[&[left], &[right]],
     );
-    assert!(rt; variant(alloc, &query, &below)?.is_none());
+    assert!(rt; canonical(alloc, Relation::Variants, &query, &below)?.is_none());
     canonical_lists_are_unique();
     Ok(())
 }
@@ -120,23 +117,26 @@ fn lists_of_unifiable_terms(rt: HostRuntime) -> Result<(), Fail> {
     let only = flat(alloc, Owner::Entry, &[A])?;
     assert_lists(
         &rt,
-        unifier(alloc, &twice, &above)?,
+        canonical(alloc, Relation::Unifiable, &twice, &above)?,
         &[(Owner::Entry, 1, &[x]), (Owner::Query, 0, &[G2, left])],
     );
     assert_lists(
         &rt,
-        unifier(alloc, &pair, &ground)?,
+        canonical(alloc, Relation::Unifiable, &pair, &ground)?,
         &[(Owner::Query, 1, &[G2, x]), (Owner::Query, 0, &[A])],
     );
-    assert!(rt; unifier(alloc, &twice, &circle)?.is_none());
+    assert!(rt; canonical(alloc, Relation::Unifiable, &twice, &circle)?.is_none());
     assert_lists(
         &rt,
         canonical(alloc, Relation::Unifiable, &pair, &same)?,
         &[(Owner::Query, 1, &[x]), (Owner::Entry, 0, &[x])],
     );
-    assert_lists(&rt, unifier(alloc, &constant, &only)?, &[]);
-    let mut scratch = Scratch::new(alloc);
-    let none = canonical_with(&mut scratch, alloc, Relation::Unifiable, &twice, &ground)?;
+    assert_lists(
+        &rt,
+        canonical(alloc, Relation::Unifiable, &constant, &only)?,
+        &[],
+    );
+    let none = canonical(alloc, Relation::Unifiable, &twice, &ground)?;
     assert!(rt; none.is_none());
     Ok(())
 }

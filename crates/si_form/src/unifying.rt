@@ -2,6 +2,7 @@
 ghost use Rattle.std.specs.Prelude.{◌≡◌, ◌<◌, false, length, max, IfOk, IfSome};
 ghost use Rattle.std.specs.List.{AllByRecursion};
 ghost use Rattle.si_defs.specs.declared.Relation.TheVariants.{Unifiable};
+ghost use Rattle.si_flat.specs.Cells.{IsWhole};
 ghost use Rattle.si_flat.specs.declared.Owner.TheVariants.{Query as OfQuery, Entry as OfEntry};
 ghost use Rattle.si_flat.specs.Flattening.{owners_variable};
 ghost use Rattle.si_trail.specs.Trails.{HasDistinctSlots};
@@ -201,38 +202,32 @@ fn whole_list<'a>(
 }
 
 // The slots of the variables of a query and an entry, all of which may be bound.
-fn slots_for(query: &Flat, entry: &Flat) -> Slots
+fn slots_for(query: &[Cell], entry: &[Cell]) -> Slots
+    requires whole_query { IsWhole query.now }
+    requires whole_entry { IsWhole entry.now }
     requires query { AreNumbered OfQuery query.now }
     requires entry { AreNumbered OfEntry entry.now }
     ensures { AreSlotsOf query.now entry.now result }
 {
     Slots {
-        query: count_variables(Owner::Query, query.cells()),
-        entry: count_variables(Owner::Entry, entry.cells()),
+        query: count_variables(Owner::Query, query),
+        entry: count_variables(Owner::Entry, entry),
         inds: 0,
         freeze_query: false,
         freeze_entry: false,
     }
 }
 
-/// The canonical list that makes the query and the entry equal; `None` where nothing does.
-pub fn unifier(alloc: Global, query: &Flat, entry: &Flat) -> Result<Option<Solution>, AllocError>
-    requires query { AreNumbered OfQuery query.now }
-    requires entry { AreNumbered OfEntry entry.now }
-    ensures answers { IfOk result (Answers Unifiable query.now entry.now) }
-    ensures short { IfOk result (λ list. IfSome list (AreNoLonger (max (length query.now)
-        (length entry.now)))) }
-{
-    unifier_with(&mut Scratch::new(alloc), alloc, query, entry)
-}
-
-// Does the same as `unifier`; it solves in memory that is lent.
-pub(crate) fn unifier_with(
+// The canonical list that makes the query and the entry equal; `None` where nothing does. It solves
+// in memory that is lent.
+pub(crate) fn unifier(
     scratch: &mut Scratch,
     alloc: Global,
-    query: &Flat,
-    entry: &Flat,
+    query: &[Cell],
+    entry: &[Cell],
 ) -> Result<Option<Solution>, AllocError>
+    requires whole_query { IsWhole query.now }
+    requires whole_entry { IsWhole entry.now }
     requires query { AreNumbered OfQuery query.now }
     requires entry { AreNumbered OfEntry entry.now }
     ensures answers { IfOk result (Answers Unifiable query.now entry.now) }
@@ -241,7 +236,7 @@ pub(crate) fn unifier_with(
 {
     let slots = slots_for(query, entry);
     let mut trail = Trail::with_slots(alloc, slots.count())?;
-    if !solve_with(scratch, &mut trail, &slots, query.cells(), entry.cells())? {
+    if !solve_with(scratch, &mut trail, &slots, query, entry)? {
         return Ok(None);
     }
     let solution = whole_list(alloc, &slots, &trail)?;

@@ -6,7 +6,7 @@ use Rattle.si_defs.specs.Clauses.{Name, Clause, IsSoundClause}
 use Rattle.si_defs.specs.Entries.{entries, state_entries, clause_symbols, state_symbols}
 use Rattle.si_defs.specs.Substitutions.{IsAmong}
 use Rattle.si_state.specs.Acceptance.{IsTaken, Accepts}
-use Rattle.si_state.specs.Signatures.{Signature, IsSignature, IsSignatureOf, uses_of, total}
+use Rattle.si_state.specs.Signatures.{Signature, IsSignature, IsSignatureOf, KeepsNumbers, numbering, uses_of, total}
 use Rattle.si_term.specs.Meaning.{clause_of, name_of}
 use Rattle.si_term.specs.declared.clause.Clause as term
 use Rattle.si_term.proofs.EntryHeads.{length-symbols}
@@ -18,7 +18,7 @@ use Rattle.si_sign.proofs.SymbolLaws.{differs}
 use Rattle.si_sign.specs.Shapes.{NamesFirstClash}
 use Rattle.si_sign.proofs.StateLaws.{agrees_in_state, clashes_in_state}
 use Rattle.si_sign.proofs.StoreLaws.{stored_more, stored_less}
-use Rattle.si_sign.proofs.UsesOf.{among_right}
+use Rattle.si_sign.proofs.UsesOf.{among_right, one_of_all, among_numbering, numbering_among, uses_positive, uses_among}
 use Rattle.si_index.specs.Keyed.{HasKey, HasKeyAt, IsTakenOut}
 use Rattle.si_index.specs.Kept.{clauses_of}
 use Rattle.si_index.specs.Names.{key_of, ChangesName}
@@ -127,14 +127,28 @@ module _ (limit : ℕ) (old between : Known) (items more : List (ℕ × term.Cla
       }
 
 -- a clause that couldn't be put is struck out again
-pub entered_back : (old between : Known) (c : Clause) (names : Names) (signature : Signature) → Enters c old between
+-- a number that stays from one signature to the next, and from there on, stays
+pub numbers_through : (old between new : Signature) → IsSignature old → ((s : Symbol) → uses_of old s ≤ uses_of between s) → KeepsNumbers old between → KeepsNumbers between new → KeepsNumbers old new
+numbers_through old between new good more first second s m n a b =
+    let there = numbering_among old (s, m) a in
+    let uses : uses_of old there.used.symbol ≡ there.used.uses = uses_among old there.used good.one_shape there.among in
+    let some : 1 ≤ there.used.uses = one_of_all (λ u. 1 ≤ u.uses) old there.used good.used there.among in
+    let symbol : there.used.symbol ≡ s = ap (λ p. p.0) there.is in
+    let still : 1 ≤ uses_of between s = omega (arith, some, uses, ap (uses_of old) symbol, more s) in
+    let here = uses_positive between s still in
+    let middle : IsAmong (numbering between) (s, here.used.number) =
+    subst (λ r. IsAmong (numbering between) (r, here.used.number)) here.is (among_numbering between here.used here.among) in
+    first s m here.used.number a middle ∙ second s here.used.number n middle b
+
+pub entered_back : (old between : Known) (c : Clause) (names : Names) (signature : Signature) → IsSignature old.signature → Enters c old between
     → ((name : Name) → key_of names name ≡ key_of between.names name)
     → ((s : Symbol) → uses_of signature s + times s (clause_symbols c) ≡ uses_of between.signature s)
-    → total signature + length (clause_symbols c) ≡ total between.signature → Stays old (record { names = names; signature = signature })
-entered_back old between c names signature enters same uses sum = record {
+    → total signature + length (clause_symbols c) ≡ total between.signature → KeepsNumbers between.signature signature → Stays old (record { names = names; signature = signature })
+entered_back old between c names signature good enters same uses sum numbers = record {
   names = λ name. same name ∙ ap (λ m. key_of m name) enters.names;
   uses = λ s. omega (arith, enters.uses s, uses s);
   sum = omega (arith, enters.sum, sum);
+  numbers = numbers_through old.signature between.signature signature good (λ s. omega (arith, enters.uses s)) enters.numbers numbers;
 }
 
 -- a clause that stands between others

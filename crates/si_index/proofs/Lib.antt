@@ -1,4 +1,6 @@
 mod EntryLaws
+mod KeptLaws
+mod SolvedLaws
 mod FittingLaws
 mod FlatLaws
 mod FoundLaws

@@ -1,9 +1,10 @@
 -- What an index is seen as: the clauses that are kept, in the order of acceptance, the limit on
 -- their entries, and the numbers of their symbols.
-use Rattle.std.specs.Prelude.{ℕ, List, refl, map}
+use Rattle.std.specs.Prelude.{◌≡◌, ℕ, List, refl, map}
 use Rattle.std.specs.Coded.{Coded, code_by, coded×, coded_ℕ, coded_list}
 use Rattle.si_defs.specs.Symbols.{Symbol, Numbering}
 use Rattle.si_defs.specs.Clauses.{Clause}
+use Rattle.si_defs.specs.Substitutions.{IsAmong}
 use Rattle.si_defs.specs.Codes.{symbol_code, clause_code}
 use Rattle.si_term.specs.Meaning.{clause_of}
 use Rattle.si_term.specs.declared.clause.Clause as term
@@ -21,6 +22,10 @@ kept_code =
     (λ k. (k.clauses, (k.limit, k.numbers)))
     (λ p. record { clauses = p.0; limit = p.1.0; numbers = p.1.1 })
     (λ _. refl)
+
+-- a symbol that has a number at both times has the same
+abbrev pub NumbersStay : Kept → Kept → Type 0
+NumbersStay old new = (s : Symbol) (m n : ℕ) → IsAmong old.numbers (s, m) → IsAmong new.numbers (s, n) → m ≡ n
 
 -- the clauses of a list where they go by keys
 abbrev pub clauses_of : List (ℕ × term.Clause) → List Clause

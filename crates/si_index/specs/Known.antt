@@ -5,7 +5,7 @@ use Rattle.si_defs.specs.Symbols.{Symbol, times}
 use Rattle.si_defs.specs.Entries.{clause_symbols, state_entries}
 use Rattle.si_defs.specs.Substitutions.{IsAmong}
 use Rattle.si_state.specs.Acceptance.{AllAgree}
-use Rattle.si_state.specs.Signatures.{IsSignatureOf, known_symbols, uses_of, total}
+use Rattle.si_state.specs.Signatures.{IsSignatureOf, KeepsNumbers, known_symbols, uses_of, total}
 use Rattle.si_term.specs.Meaning.{name_of}
 use Rattle.si_term.specs.declared.clause.Clause as term
 use Rattle.si_sign.specs.Shapes.{NamesFirstClash}
@@ -48,18 +48,21 @@ pub record Enters (clause : Clause) (old new : Known) : Type 0 where
   pub names : new.names ≡ old.names
   pub uses : (s : Symbol) → uses_of new.signature s ≡ uses_of old.signature s + times s (clause_symbols clause)
   pub sum : total new.signature ≡ total old.signature + length (clause_symbols clause)
+  pub numbers : KeepsNumbers old.signature new.signature
 
 -- the clause is struck out
 pub record Leaves (clause : Clause) (old new : Known) : Type 0 where
   pub name : ChangesName clause.name None (key_of old.names) (key_of new.names)
   pub uses : (s : Symbol) → uses_of new.signature s + times s (clause_symbols clause) ≡ uses_of old.signature s
   pub sum : total new.signature + length (clause_symbols clause) ≡ total old.signature
+  pub numbers : KeepsNumbers old.signature new.signature
 
 -- the same is known
 pub record Stays (old new : Known) : Type 0 where
   pub names : (name : Name) → key_of new.names name ≡ key_of old.names name
   pub uses : (s : Symbol) → uses_of new.signature s ≡ uses_of old.signature s
   pub sum : total new.signature ≡ total old.signature
+  pub numbers : KeepsNumbers old.signature new.signature
 
 -- why a clause isn't entered
 abbrev pub Bars : ℕ → Known → Clause → AddFault → Type 0

@@ -23,6 +23,7 @@ use Rattle.si_form.specs.TableNumbers.{HaveNumbers}
 use Rattle.si_index.specs.Kept.{Kept}
 use Rattle.si_index.specs.Finding.{AreHits}
 use Rattle.si_index.specs.declared.search.Search.{Search}
+use Rattle.si_index.specs.declared.search.Solved.{Solved}
 use Rattle.si_index.specs.declared.gather.Match.{Match}
 
 -- ---- what is searched for
@@ -91,17 +92,19 @@ abbrev pub AnswersEntry : Relation → Numbering → Pattern → Entry → Optio
 AnswersEntry relation numbers p e None = Stands relation p e → ⊥
 AnswersEntry relation numbers p e (Some bindings) = SolvesEntry relation numbers p e bindings
 
--- by the numbers of the search
-abbrev pub AnswersIn : Search → Entry → Option (List Binding) → Type 0
-AnswersIn s e answer = AnswersEntry s.relation (query_numbers (numbers_of s) s.query.extra) (pattern_in s) e answer
+-- by the numbers of the search, with the names of the entry's variables
+pub record SolvesIn (s : Search) (e : Entry) (solved : Solved) : Type 0 where
+  pub list : SolvesEntry s.relation (query_numbers (numbers_of s) s.query.extra) (pattern_in s) e solved.solution
+  pub are_names : solved.entry_names ≡ names_in e
+
+abbrev pub AnswersIn : Search → Entry → Option Solved → Type 0
+AnswersIn s e None = Stands s.relation (pattern_in s) e → ⊥
+AnswersIn s e (Some solved) = SolvesIn s e solved
 
 -- ---- what was gathered
 -- an entry that stands in the relation, with its list and its names
-pub record IsMatch (s : Search) (m : Match) : Type 0 where
-  pub known : IsKnownEntry (numbers_of s) (entry_of m.entry)
-  pub alike : AreAlike (pattern_in s) (entry_of m.entry)
-  pub solved : AnswersIn s (entry_of m.entry) (Some m.solution)
-  pub names : m.entry_names ≡ names_in (entry_of m.entry)
+abbrev pub IsMatch : Search → Match → Type 0
+IsMatch s m = SolvesIn s (entry_of m.entry) m.solved
 
 -- the match as a hit
 abbrev pub hit_of : Match → ℕ × Placed

@@ -106,14 +106,11 @@ impl<'a> Found<'a> {
         ensures { IfOk result (λ shown. ShowsHit self.now n shown) }
     {
         let search = &self.search;
-        let entry = self.matches[n as usize].entry;
-        let Some(solution) = search.solve(entry)? else {
-            unreachable!()
-        };
+        let hit = &self.matches[n as usize];
         Ok(Shown {
-            solution,
+            solution: hit.solved.solution.copy(search.alloc)?,
             query_names: vars_of(search.alloc, search.pattern.as_entry())?,
-            entry_names: vars_of(search.alloc, entry)?,
+            entry_names: vars_of(search.alloc, hit.entry)?,
             extra: copy_symbols(search.alloc, &search.query.extra)?,
         })
     }
@@ -125,9 +122,9 @@ impl<'a> Found<'a> {
     {
         let found = &self.matches[n as usize];
         Lent {
-            solution: &found.solution,
+            solution: &found.solved.solution,
             query_names: &self.query_names,
-            entry_names: &found.entry_names,
+            entry_names: &found.solved.entry_names,
             extra: &self.search.query.extra,
         }
     }

@@ -12,9 +12,8 @@ ghost use Rattle.si_index.specs.Searching.{numbers_of, pattern_in, IsReady, IsTe
 
 use crate::found::Hit;
 use crate::index::Index;
-use crate::search::Search;
-use si_form::Solution;
-use si_term::{Clause, Entry, Literal, Path, Pattern, Place, Term, Texts, vars_of};
+use crate::search::{Search, Solved, Workspace};
+use si_term::{Clause, Entry, Literal, Path, Pattern, Place, Term};
 use std::alloc::{AllocError, Global};
 
 /// An entry that was found: where it stands, its canonical list, and the names of its variables.
@@ -22,14 +21,14 @@ use std::alloc::{AllocError, Global};
 pub(crate) struct Match<'a> {
     pub(crate) hit: Hit,
     pub(crate) entry: Entry<'a>,
-    pub(crate) solution: Solution,
-    pub(crate) entry_names: Texts,
+    pub(crate) solved: Solved,
 }
 
-/// What a walk has gathered, and the argument numbers from 1 that lead from the atom to where it
-/// stands.
+/// What a walk has gathered, the argument numbers from 1 that lead from the atom to where it
+/// stands, and the memory that it works in.
 #[derive(Drop)]
 struct Gathered<'a> {
+    workspace: Workspace<'a>,
     path: Vec<u32>,
     matches: Vec<Match<'a>>,
 }
@@ -71,10 +70,9 @@ fn try_entry<'a>(
     ) ∷ []) gathered.old.matches.items gathered.new.matches.items) }
     ensures path { OnOk result (gathered.new.path.items ≡ gathered.old.path.items) }
 {
-    let Some(solution) = search.solve(entry)? else {
+    let Some(solved) = search.solve(&mut gathered.workspace, entry)? else {
         return Ok(());
     };
-    let entry_names = vars_of(search.alloc, entry)?;
     let path = copy_path(search.alloc, &gathered.path)?;
     let hit = Hit {
         clause: spot.clause,
@@ -83,12 +81,7 @@ fn try_entry<'a>(
             path,
         },
     };
-    gathered.matches.push(Match {
-        hit,
-        entry,
-        solution,
-        entry_names,
-    })?;
+    gathered.matches.push(Match { hit, entry, solved })?;
     Ok(())
 }
 
@@ -253,11 +246,16 @@ pub(crate) fn search_clauses<'a>(
         [] matches.items) }
 {
     let mut gathered = Gathered {
+        workspace: Workspace::new(search.alloc),
         path: Vec::new(search.alloc),
         matches: Vec::new(search.alloc),
     };
+    let mut left = index.kept();
     for position in 0..count {
-        search_clause(search, position, index.clause(position), &mut gathered)?;
+        let Some((_, clause)) = left.next() else {
+            unreachable!()
+        };
+        search_clause(search, position, clause, &mut gathered)?;
     }
     Ok(gathered.matches)
 }

@@ -1,16 +1,19 @@
 // The index.
-ghost use Rattle.std.specs.Prelude.{◌≡◌, ◌<◌, ◌≤◌, [], IfOk, IfErr, OnOk, OnErr, Some, length, slice_get};
+ghost use Rattle.std.specs.Prelude.{◌≡◌, ◌<◌, ◌≤◌, [], ◌∷◌, ◌++◌, IfOk, IfErr, IfNone, IfSome, OnOk, OnErr, Some, length, slice_get};
 ghost use Rattle.si_defs.specs.Clauses as defs;
-ghost use Rattle.si_defs.specs.Entries.{state_entries};
+ghost use Rattle.si_defs.specs.Clauses.{IsSoundClause};
+ghost use Rattle.si_defs.specs.Entries.{entries, state_entries};
+ghost use Rattle.si_state.specs.Acceptance.{Accepts, IsTaken, Removes};
 ghost use Rattle.si_defs.specs.declared.TheConstants.{MOST_OCCURRENCES};
 ghost use Rattle.si_state.specs.Signatures.{CountsSymbols, IsSignatureOf, numbering};
 ghost use Rattle.si_defs.specs.Symbols.{IsNumbering};
-ghost use Rattle.si_term.specs.Meaning.{clause_of};
-ghost use Rattle.si_sign.specs.Stores.{IsStored};
+ghost use Rattle.si_term.specs.Meaning.{clause_of, name_of};
+ghost use Rattle.si_sign.specs.Stores.{IsStored, Rejects};
+ghost use Rattle.si_index.specs.Kept.{NumbersStay, clauses_of};
 ghost use Rattle.si_index.specs.Known.{IsPut};
 ghost use Rattle.si_index.specs.Names.{key_of};
 
-use crate::keyed::KeyedList;
+use crate::keyed::{Items, KeyedList};
 use crate::known::Known;
 use crate::names::Names;
 use si_sign::{AddFault, ClauseStore, Rejected, Signature};
@@ -104,6 +107,13 @@ impl Index {
         &self.known.signature
     }
 
+    /// The clauses in order, each with its key.
+    pub(crate) fn kept(&self) -> Items<'_, Clause>
+        ensures { clauses_of result ≡ self.now.clauses }
+    {
+        self.clauses.iter()
+    }
+
     pub(crate) fn allocator(&self) -> Global {
         self.alloc
     }
@@ -136,7 +146,20 @@ impl ClauseStore for Index {
 
     ghost limit = { λ i. i.limit };
 
-    fn add(&mut self, clause: Clause) -> Result<u32, Rejected> {
+    /// Beside what every store promises, a symbol keeps its number while it occurs.
+    fn add(&mut self, clause: Clause) -> Result<u32, Rejected>
+        requires sound { IsSoundClause (clause_of clause) }
+        ensures added { IfOk result (λ n. Accepts self.old.limit self.old.clauses
+            (clause_of clause) self.new.clauses) }
+        ensures entries { IfOk result (λ n. n ≡ length (entries (clause_of clause))) }
+        ensures rejected { IfErr result (λ r. Rejects self.old.limit self.old.clauses
+            (clause_of clause) r.why) }
+        ensures handed_back { IfErr result (λ r. r.clause ≡ clause) }
+        ensures err { OnErr result (self.new.clauses ≡ self.old.clauses) }
+        ensures limit { self.new.limit ≡ self.old.limit }
+        ensures stored { IsStored self.new.limit self.new.clauses }
+        ensures numbers { NumbersStay self.old self.new }
+    {
         let entries = match self.known.enter(&clause, self.limit) {
             Ok(entries) => entries,
             Err(why) => return Err(Rejected { clause, why }),
@@ -153,13 +176,35 @@ impl ClauseStore for Index {
         }
     }
 
-    fn remove(&mut self, name: &Name) -> Option<u32> {
+    /// Beside what every store promises, a symbol keeps its number while it occurs, and at `None`
+    /// all is as before.
+    fn remove(&mut self, name: &Name) -> Option<u32>
+        ensures removed { IfSome result (λ n. (c : defs.Clause) × Removes self.old.clauses
+            (name_of name.now) c self.new.clauses × (n ≡ length (entries c))) }
+        ensures unknown { IfNone result (IsTaken self.old.clauses (name_of name.now) → ⊥) }
+        ensures none { IfNone result (self.new.clauses ≡ self.old.clauses) }
+        ensures limit { self.new.limit ≡ self.old.limit }
+        ensures stored { IsStored self.new.limit self.new.clauses }
+        ensures numbers { IfSome result (λ n. NumbersStay self.old self.new) }
+        ensures same { IfNone result (self.new ≡ self.old) }
+    {
         let key = self.known.names.get(name)?;
         let clause = self.clauses.remove(key);
         Some(self.known.leave(&clause))
     }
 
-    fn remove_last(&mut self) -> Option<u32> {
+    /// Beside what every store promises, a symbol keeps its number while it occurs, and at `None`
+    /// all is as before.
+    fn remove_last(&mut self) -> Option<u32>
+        ensures removed { IfSome result (λ n. (c : defs.Clause) × (self.old.clauses
+            ≡ self.new.clauses ++ c ∷ []) × (n ≡ length (entries c))) }
+        ensures empty { IfNone result (self.old.clauses ≡ []) }
+        ensures none { IfNone result (self.new.clauses ≡ self.old.clauses) }
+        ensures limit { self.new.limit ≡ self.old.limit }
+        ensures stored { IsStored self.new.limit self.new.clauses }
+        ensures numbers { IfSome result (λ n. NumbersStay self.old self.new) }
+        ensures same { IfNone result (self.new ≡ self.old) }
+    {
         let key = self.clauses.last_key()?;
         let clause = self.clauses.remove(key);
         Some(self.known.leave(&clause))

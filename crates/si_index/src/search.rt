@@ -1,5 +1,5 @@
 // Whether an entry stands in a relation to a pattern, and how.
-ghost use Rattle.std.specs.Prelude.{◌≡◌, IfOk};
+ghost use Rattle.std.specs.Prelude.{◌≡◌, IfOk, map};
 ghost use Rattle.si_term.specs.Terms.{term_of};
 ghost use Rattle.si_term.specs.Meaning.{entry_of};
 ghost use Rattle.si_flat.specs.Flattened.{whole_of};
@@ -7,10 +7,10 @@ ghost use Rattle.si_index.specs.Searching.{numbers_of, pattern_in, IsReady, AreA
 
 use crate::fitting::fits;
 use si_defs::Relation;
-use si_flat::{FlatQuery, flatten_entry};
-use si_form::{Solution, canonical};
+use si_flat::{EntryBuffer, FlatQuery};
+use si_form::{Scratch, Solution, canonical_with};
 use si_sign::Signature;
-use si_term::{Entry, Pattern, Term};
+use si_term::{Entry, Pattern, Term, Text, Texts};
 use std::alloc::{AllocError, Global};
 
 /// What is searched for, and by which numbers.
@@ -24,6 +24,41 @@ pub(crate) struct Search<'a> {
     pub(crate) query: FlatQuery,
 }
 
+/// The canonical list of an entry, and the names of its variables.
+#[derive(Drop)]
+pub(crate) struct Solved {
+    pub(crate) solution: Solution,
+    pub(crate) entry_names: Texts,
+}
+
+/// The memory that a search works in, lent from entry to entry.
+#[derive(Drop)]
+pub(crate) struct Workspace<'a> {
+    buffer: EntryBuffer<'a>,
+    scratch: Scratch,
+}
+
+impl<'a> Workspace<'a> {
+    /// It takes no memory yet.
+    pub(crate) fn new(alloc: Global) -> Workspace<'a> {
+        Workspace {
+            buffer: EntryBuffer::new(alloc),
+            scratch: Scratch::new(alloc),
+        }
+    }
+}
+
+/// Names in memory of their own.
+fn copy_names(alloc: Global, names: &[&[u8]]) -> Result<Texts, AllocError>
+    ensures { IfOk result (λ copies. copies ≡ map (λ name. name.now) names.now) }
+{
+    let mut copies = Texts::new(alloc);
+    for &name in names {
+        copies.push(Text::from_bytes(alloc, name)?)?;
+    }
+    Ok(copies)
+}
+
 /// The atom of a literal, or the term.
 fn whole_term(entry: Entry<'_>) -> &Term
     ensures { term_of result.now ≡ whole_of (entry_of entry.entry) }
@@ -35,9 +70,13 @@ fn whole_term(entry: Entry<'_>) -> &Term
 }
 
 impl<'a> Search<'a> {
-    /// The canonical list of an entry; `None` where it doesn't stand in the relation. No memory is
-    /// taken where the symbols don't allow the relation.
-    pub(crate) fn solve(&self, entry: Entry<'_>) -> Result<Option<Solution>, AllocError>
+    /// The canonical list of an entry; `None` where it doesn't stand in the relation. The entry is
+    /// walked over only where the symbols allow the relation.
+    pub(crate) fn solve(
+        &self,
+        workspace: &mut Workspace<'a>,
+        entry: Entry<'a>,
+    ) -> Result<Option<Solved>, AllocError>
         requires ready { IsReady self.now }
         requires known { IsKnownEntry (numbers_of self.now) (entry_of entry) }
         requires alike { AreAlike (pattern_in self.now) (entry_of entry) }
@@ -47,9 +86,23 @@ impl<'a> Search<'a> {
         if !fits(self.relation, wanted, whole_term(entry)) {
             return Ok(None);
         }
-        let Some(flat) = flatten_entry(self.alloc, self.signature, entry)? else {
+        if !workspace.buffer.fill(self.signature, entry)? {
             unreachable!()
+        }
+        let Some(solution) = canonical_with(
+            &mut workspace.scratch,
+            self.alloc,
+            self.relation,
+            self.query.flat.cells(),
+            workspace.buffer.cells(),
+        )?
+        else {
+            return Ok(None);
         };
-        canonical(self.alloc, self.relation, &self.query.flat, &flat)
+        let entry_names = copy_names(self.alloc, workspace.buffer.names())?;
+        Ok(Some(Solved {
+            solution,
+            entry_names,
+        }))
     }
 }

@@ -95,8 +95,12 @@ impl<'a> Comparison<'a> {
             (map literal_of self.now.formula.now)) 0 index.now.clauses) }
     {
         let mut mappeds = Mappeds::new(self.alloc);
+        let mut left = index.kept();
         for position in 0..index.stats().clauses {
-            self.try_clause(position, index.clause(position), &mut mappeds)?;
+            let Some((_, clause)) = left.next() else {
+                unreachable!()
+            };
+            self.try_clause(position, clause, &mut mappeds)?;
         }
         Ok(mappeds)
     }

@@ -4,6 +4,7 @@ ghost use Rattle.si_unify.specs.Solving.{slot_count};
 ghost use Rattle.si_unify.specs.Spots.{IsLegal, ArePairs, IsApart, Grows, HasCompared, HasClosed};
 
 use crate::equations::{common_arity, meet};
+use crate::heights::Heights;
 use crate::spots::{Question, Spot, SpotPair, text};
 use indexmap::IndexSet;
 use si_flat::{Cell, sub};
@@ -15,6 +16,7 @@ fn compare<'a>(
     trail: &mut Trail<&'a [Cell]>,
     question: &Question<'a>,
     keys: &mut IndexSet<SpotPair>,
+    heights: &mut Heights,
     pair: SpotPair,
 ) -> Result<bool, AllocError>
     requires legal { IsLegal question.now trail.old.pairs }
@@ -45,7 +47,7 @@ fn compare<'a>(
                     base: pair.right.base,
                     at: pair.right.at + j,
                 };
-                if !meet(trail, question, keys, left_spot, right_spot)? {
+                if !meet(trail, question, keys, heights, left_spot, right_spot)? {
                     return Ok(false);
                 }
                 i += left[i].span();
@@ -61,6 +63,7 @@ pub(crate) fn close<'a>(
     trail: &mut Trail<&'a [Cell]>,
     question: &Question<'a>,
     keys: &mut IndexSet<SpotPair>,
+    heights: &mut Heights,
 ) -> Result<bool, AllocError>
     requires legal { IsLegal question.now trail.old.pairs }
     requires keys { ArePairs question.now trail.old.pairs keys.old.keys }
@@ -73,7 +76,7 @@ pub(crate) fn close<'a>(
     let mut next = 0;
     while next < keys.len() {
         let pair = keys[next];
-        if !compare(trail, question, keys, pair)? {
+        if !compare(trail, question, keys, heights, pair)? {
             return Ok(false);
         }
         next += 1;

@@ -4,6 +4,7 @@ ghost use Rattle.si_trail.specs.Trails.{value_at};
 ghost use Rattle.si_unify.specs.Solving.{slot_count};
 ghost use Rattle.si_unify.specs.Spots.{same_slot, common_arity, IsLegal, IsSpot, IsEnd, Binds, ArePairs, HasMet};
 
+use crate::heights::Heights;
 use crate::spots::{Question, Spot, SpotPair, cell_at, follow, text};
 use indexmap::IndexSet;
 use si_flat::{Cell, sub};
@@ -50,12 +51,26 @@ pub(crate) fn common_arity(left: Cell, right: Cell) -> Option<u32>
     }
 }
 
+// Whether both variables may be bound, and the right one is to be bound to the left one.
+fn turns(
+    heights: &mut Heights,
+    question: &Question<'_>,
+    left: Option<usize>,
+    right: Option<usize>,
+) -> Result<bool, AllocError> {
+    match (left, right) {
+        (Some(left), Some(right)) => heights.turns(question.slots.count(), left, right),
+        _ => Ok(false),
+    }
+}
+
 // Makes two spots equal of which neither is a bound variable's: it binds a variable, or adds the
 // two to the pairs that are to be compared.
 fn meet_ends<'a>(
     trail: &mut Trail<&'a [Cell]>,
     question: &Question<'a>,
     keys: &mut IndexSet<SpotPair>,
+    heights: &mut Heights,
     left: Spot,
     right: Spot,
 ) -> Result<bool, AllocError>
@@ -78,11 +93,19 @@ fn meet_ends<'a>(
     ) {
         return Ok(true);
     }
-    if let Some(slot) = question.slots.free_slot(left_cell) {
+    let left_free = question.slots.free_slot(left_cell);
+    let right_free = question.slots.free_slot(right_cell);
+    if turns(heights, question, left_free, right_free)? {
+        if let Some(slot) = right_free {
+            bind(trail, question, slot, left);
+            return Ok(true);
+        }
+    }
+    if let Some(slot) = left_free {
         bind(trail, question, slot, right);
         return Ok(true);
     }
-    if let Some(slot) = question.slots.free_slot(right_cell) {
+    if let Some(slot) = right_free {
         bind(trail, question, slot, left);
         return Ok(true);
     }
@@ -101,6 +124,7 @@ pub(crate) fn meet<'a>(
     trail: &mut Trail<&'a [Cell]>,
     question: &Question<'a>,
     keys: &mut IndexSet<SpotPair>,
+    heights: &mut Heights,
     left: Spot,
     right: Spot,
 ) -> Result<bool, AllocError>
@@ -117,5 +141,5 @@ pub(crate) fn meet<'a>(
 {
     let left_end = follow(trail, question, left);
     let right_end = follow(trail, question, right);
-    meet_ends(trail, question, keys, left_end, right_end)
+    meet_ends(trail, question, keys, heights, left_end, right_end)
 }

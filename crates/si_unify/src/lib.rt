@@ -8,6 +8,7 @@
 mod arguments;
 mod circles;
 mod equations;
+mod heights;
 mod scratch;
 mod slots;
 mod solver;

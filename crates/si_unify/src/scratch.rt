@@ -3,6 +3,7 @@ ghost use Rattle.std.specs.Prelude.{◌≡◌, []};
 ghost use Rattle.si_unify.specs.States.{AreNew};
 
 use crate::circles::Task;
+use crate::heights::Heights;
 use crate::spots::SpotPair;
 use crate::states::States;
 use indexmap::IndexSet;
@@ -14,6 +15,8 @@ use std::marker::Model;
 pub(crate) struct Buffers {
     /// The pairs of spots whose arguments are made equal, in the order in which they came up.
     pub(crate) keys: IndexSet<SpotPair>,
+    /// Which of two variables is bound to the other.
+    pub(crate) heights: Heights,
     /// How far the search for a circle has come with each slot.
     pub(crate) states: States,
     /// What is left of that search.
@@ -24,10 +27,12 @@ impl Buffers {
     /// Empties the buffers, and keeps their memory.
     pub(crate) fn clear(&mut self)
         ensures keys { self.new.keys.keys ≡ [] }
+        ensures heights { self.new.heights ≡ [] }
         ensures states { AreNew self.new.states }
         ensures tasks { self.new.tasks.items ≡ [] }
     {
         self.keys.clear();
+        self.heights.reset();
         self.states.reset();
         self.tasks.clear();
     }
@@ -58,6 +63,7 @@ impl Scratch {
         Scratch {
             buffers: Buffers {
                 keys: IndexSet::new(alloc),
+                heights: Heights::new(alloc),
                 states: States::new(alloc),
                 tasks: Vec::new(alloc),
             },

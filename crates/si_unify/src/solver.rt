@@ -41,10 +41,17 @@ fn attempt<'a>(
         base: count + 1,
         at: 0,
     };
-    if !meet(trail, question, &mut buffers.keys, left, right)? {
+    if !meet(
+        trail,
+        question,
+        &mut buffers.keys,
+        &mut buffers.heights,
+        left,
+        right,
+    )? {
         return Ok(false);
     }
-    if !close(trail, question, &mut buffers.keys)? {
+    if !close(trail, question, &mut buffers.keys, &mut buffers.heights)? {
         return Ok(false);
     }
     is_triangular(

@@ -336,7 +336,7 @@ fn circles(rt: HostRuntime) -> Result<(), Fail> {
 
 #[test]
 fn variables_that_stand_twice(rt: HostRuntime) -> Result<(), Fail> {
-    let rows: [Row; 15] = [
+    let rows: [Row; 17] = [
         (b"fxx", b"fab", [b"false"; 4]),
         (b"fxx", b"faa", [b"x=a ", b"false", b"x=a ", b"false"]),
         (
@@ -347,12 +347,12 @@ fn variables_that_stand_twice(rt: HostRuntime) -> Result<(), Fail> {
         (
             b"fxx",
             b"fyY",
-            [b"x=y y=Y ", b"false", b"x=y y=Y ", b"false"],
+            [b"x=y Y=y ", b"false", b"x=y y=Y ", b"false"],
         ),
         (
             b"fxfyz",
             b"fyfza",
-            [b"x=y y=z z=a ", b"false", b"x=y y=z z=a ", b"false"],
+            [b"x=y z=y y=a ", b"false", b"x=y z=y y=a ", b"false"],
         ),
         (
             b"fxfxy",
@@ -362,7 +362,7 @@ fn variables_that_stand_twice(rt: HostRuntime) -> Result<(), Fail> {
         (
             b"fxfxx",
             b"fyfza",
-            [b"x=y y=z z=a ", b"false", b"x=y y=z z=a ", b"false"],
+            [b"x=y z=y y=a ", b"false", b"x=y z=y y=a ", b"false"],
         ),
         (
             b"fxfyz",
@@ -394,6 +394,16 @@ fn variables_that_stand_twice(rt: HostRuntime) -> Result<(), Fail> {
                 b"false",
             ],
         ),
+        (
+            b"fyfza",
+            b"fxfyz",
+            [b"y=x z=x x=a ", b"false", b"y=x z=x x=a ", b"false"],
+        ),
+        (
+            b"fxfXx",
+            b"fyfYX",
+            [b"x=y X=Y y=Y ", b"false", b"false", b"false"],
+        ),
         (b"fXY", b"fYX", [b"X=Y ", b"X=Y ", b"false", b"false"]),
         (
             b"fXgX",
@@ -403,7 +413,7 @@ fn variables_that_stand_twice(rt: HostRuntime) -> Result<(), Fail> {
         (
             b"fXfYZ",
             b"fYfZX",
-            [b"X=Y Y=Z ", b"X=Y Y=Z ", b"false", b"false"],
+            [b"X=Y Z=Y ", b"X=Y Z=Y ", b"false", b"false"],
         ),
         (b"fgXfXx", b"fyfyy", [b"false"; 4]),
         (

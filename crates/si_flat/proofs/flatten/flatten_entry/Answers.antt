@@ -7,14 +7,14 @@ use Rattle.si_flat.proofs.flatten.flatten_entry.Goals as goal
 
 pub invariant_of-result : goal.invariant_of-result
 invariant_of-result g c =
-    let none : met_extra c.in_ok-written.written.met ≡ [] = c.has_extra.ensures.0 c.if-has_extra.false in
-    let flat = flat_known (g.T.SymTable.pairs c.args.table.now) Entry (entry_of c.args.entry) c.in_ok-written.written c.requires c.in_ok-written.ensures none in
+    let none : met_extra c.write.new.self.met ≡ [] = c.has_extra.ensures.0 c.if-has_extra.false in
+    let flat = flat_known (g.T.SymTable.pairs c.args.table.now) Entry (entry_of c.args.entry) c.write.new.self c.requires c.in_ok-write.ensures none in
     (_, flat.stands)
 
 pub returns : goal.returns
 returns g c =
-    let none : met_extra c.in_ok-written.written.met ≡ [] = c.has_extra.ensures.0 c.if-has_extra.false in
+    let none : met_extra c.write.new.self.met ≡ [] = c.has_extra.ensures.0 c.if-has_extra.false in
     let pairs = g.T.SymTable.pairs c.args.table.now in (
-      all_numbered_of pairs Entry (entry_of c.args.entry) c.in_ok-written.written c.in_ok-written.ensures none,
-      flat_known pairs Entry (entry_of c.args.entry) c.in_ok-written.written c.requires c.in_ok-written.ensures none,
+      all_numbered_of pairs Entry (entry_of c.args.entry) c.write.new.self c.in_ok-write.ensures none,
+      flat_known pairs Entry (entry_of c.args.entry) c.write.new.self c.requires c.in_ok-write.ensures none,
     )

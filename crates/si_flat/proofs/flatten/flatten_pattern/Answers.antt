@@ -5,9 +5,9 @@ use Rattle.si_flat.proofs.flatten.flatten_pattern.Goals as goal
 pub invariant_of-result : goal.invariant_of-result
 invariant_of-result g c = (
   _,
-  (pattern_written (g.T.SymTable.pairs c.args.table.now) (pattern_of c.args.pattern.now) (entry_of c.as_entry.result) c.in_ok-written.written c.in_ok-extra.extra c.as_entry.ensures c.requires c.in_ok-written.ensures c.in_ok-extra.ensures).flat.stands,
+  (pattern_written (g.T.SymTable.pairs c.args.table.now) (pattern_of c.args.pattern.now) (entry_of c.as_entry.result) c.write.new.self c.in_ok-extra.extra c.as_entry.ensures c.requires c.in_ok-write.ensures c.in_ok-extra.ensures).flat.stands,
 )
 
 pub returns : goal.returns
 returns g c =
-    pattern_written (g.T.SymTable.pairs c.args.table.now) (pattern_of c.args.pattern.now) (entry_of c.as_entry.result) c.in_ok-written.written c.in_ok-extra.extra c.as_entry.ensures c.requires c.in_ok-written.ensures c.in_ok-extra.ensures
+    pattern_written (g.T.SymTable.pairs c.args.table.now) (pattern_of c.args.pattern.now) (entry_of c.as_entry.result) c.write.new.self c.in_ok-extra.extra c.as_entry.ensures c.requires c.in_ok-write.ensures c.in_ok-extra.ensures

@@ -1,20 +1,34 @@
-use Rattle.std.proofs.Common.{◌≤◌, length, arith}
+use Rattle.std.proofs.Common.{◌≡◌, ◌∷◌, ◌≤◌, length, drop, ◌∙◌, arith}
 use Rattle.si_term.specs.Meaning.{clause_of}
+use Rattle.si_index.specs.Kept.{clauses_of}
 use Rattle.si_index.specs.Searching.{numbers_of, IsKnownClause}
 use Rattle.si_index.proofs.EntryLaws.{at_position_of_all}
+use Rattle.si_index.proofs.KeptLaws.{kept_got, kept_rest, kept_some, kept_next, none_kept}
 use Rattle.si_index.proofs.GatherLaws.{so_far_more, so_far_end, clauses_step, clauses_end}
 use Rattle.si_index.proofs.gather.search_clauses.Goals as goal
 
+pub unreachable-requires : goal.unreachable-requires
+unreachable-requires c =
+    kept_some c.args.index.now.clauses c.loop-position.position (omega (arith, c.loop-position-test.true, c.requires.count))
+    (none_kept (λ b. b.now) c.loop-position.left c.next.new.self c.next.result c.next.ensures.steps c.in_default.is ∙ c.loop-position.invariant.left)
+
 pub search_clause-requires-clause-known : goal.search_clause-requires-clause-known
 search_clause-requires-clause-known c =
-    at_position_of_all (IsKnownClause (numbers_of c.args.search.now)) c.args.index.now.clauses c.loop-position.position (clause_of c.clause.result.now) c.clause.ensures c.requires.known
+    let first = kept_next (λ b. b.now) c.loop-position.left c.next.new.self c.next.result c.next.ensures.steps _ c.in-Some.is ∙ c.loop-position.invariant.left in
+    at_position_of_all (IsKnownClause (numbers_of c.args.search.now)) c.args.index.now.clauses c.loop-position.position (clause_of c.in-Some.clause.now)
+    (kept_got c.args.index.now.clauses c.loop-position.position (clause_of c.in-Some.clause.now) (clauses_of c.next.new.self) first) c.requires.known
 
 pub loop-position-preserved : goal.loop-position-preserved
 loop-position-preserved c =
-    let step = clauses_step c.args.index.now.clauses c.loop-position.position (clause_of c.clause.result.now) c.clause.ensures in
+    let first : clause_of c.in-Some.clause.now ∷ clauses_of c.next.new.self ≡ drop c.loop-position.position c.args.index.now.clauses =
+    kept_next (λ b. b.now) c.loop-position.left c.next.new.self c.next.result c.next.ensures.steps _ c.in-Some.is ∙ c.loop-position.invariant.left in
+    let step =
+    clauses_step c.args.index.now.clauses c.loop-position.position (clause_of c.in-Some.clause.now)
+    (kept_got c.args.index.now.clauses c.loop-position.position (clause_of c.in-Some.clause.now) (clauses_of c.next.new.self) first) in
     record {
       so_far = so_far_more c.args.search.now _ _ _ _ _ _ _ step c.loop-position.invariant.so_far c.in_ok-search_clause.ensures.adds;
       root = c.in_ok-search_clause.ensures.root;
+      left = kept_rest c.args.index.now.clauses c.loop-position.position (clause_of c.in-Some.clause.now) (clauses_of c.next.new.self) first;
     }
 
 pub returns : goal.returns

@@ -1,5 +1,6 @@
 use Rattle.std.proofs.Common.{◌≡◌, [], drop}
 use Rattle.si_index.specs.Finding.{entries_from_position}
+use Rattle.si_index.specs.Kept.{clauses_of}
 use Rattle.si_index.proofs.GatherLaws.{SoFar}
 use Rattle.si_index.proofs.gather.search_clauses.Given as goal
 
@@ -8,4 +9,5 @@ abbrev pub invariant-loop-position : goal.invariant-loop-position
 invariant-loop-position l = record {
   so_far : SoFar l.search (entries_from_position l.position (drop l.position l.index.clauses)) (entries_from_position 0 l.index.clauses) [] l.gathered.matches.items;
   root : l.gathered.path.items ≡ [];
+  left : clauses_of l.left ≡ drop l.position l.index.clauses;
 }

@@ -7,7 +7,7 @@ use Rattle.si_index.proofs.gather.try_entry.Goals as goal
 
 pub returns-in_default-clause-adds : goal.returns-in_default-clause-adds
 returns-in_default-clause-adds c =
-    adds_no c.args.search.now _ c.args.gathered.now.matches.items (subst (AnswersIn c.args.search.now (entry_of c.args.entry)) c.in_default.is c.in_ok-solution.ensures)
+    adds_no c.args.search.now _ c.args.gathered.now.matches.items (subst (AnswersIn c.args.search.now (entry_of c.args.entry)) c.in_default.is c.in_ok-solved.ensures)
 
 pub returns-clause-adds : goal.returns-clause-adds
 returns-clause-adds c =
@@ -16,15 +16,9 @@ returns-clause-adds c =
     (record {
       hit = record { clause = c.args.spot.clause; place = record { literal = c.args.spot.literal; path = c.in_ok-path.path } };
       entry = c.args.entry;
-      solution = c.in-Some.solution;
-      entry_names = c.in_ok-entry_names.entry_names;
+      solved = c.in-Some.solved;
     })
     c.args.gathered.now.matches.items c.push.new.self.items
     c.in_ok-push.ensures.items
-    (record {
-      known = c.requires.known;
-      alike = c.requires.alike;
-      solved = subst (AnswersIn c.args.search.now (entry_of c.args.entry)) c.in-Some.is c.in_ok-solution.ensures;
-      names = c.in_ok-entry_names.ensures;
-    })
+    (subst (AnswersIn c.args.search.now (entry_of c.args.entry)) c.in-Some.is c.in_ok-solved.ensures)
     (ap at (sym (c.in_ok-path.ensures ∙ c.deref.ensures.value)))

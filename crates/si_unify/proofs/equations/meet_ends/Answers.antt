@@ -11,33 +11,12 @@ returns-then-same_slot-clause-met c =
 
 pub bind-requires-clause-room : goal.bind-requires-clause-room
 bind-requires-clause-room c =
-    let free = sym (c.in-Some.ensures ∙ ap (free_slot c.args.question.now.slots) c.cell_at-left_cell.ensures) in
-    let below : c.in-Some.slot < slot_count c.args.question.now.slots = free_below _ _ _ _ c.requires.legal c.requires.left.spot_is free in
+    let free = sym (c.in-Some.ensures ∙ ap (free_slot c.args.question.now.slots) c.cell_at-right_cell.ensures) in
+    let below : c.in-Some.slot < slot_count c.args.question.now.slots = free_below _ _ _ _ c.requires.legal c.requires.right.spot_is free in
     omega (arith, c.requires.room)
 
 pub returns-in-Some-clause-met : goal.returns-in-Some-clause-met
 returns-in-Some-clause-met c =
-    left_bound _ _ _ _ _ _ _
-    (
-    record {
-      legal = c.requires.legal;
-      apart = c.requires.keys;
-      left_end = c.requires.left;
-      right_end = c.requires.right;
-      differ = same_told c.args.question.now.slots _ _ _ _ _ _ _ c.slot_of.ensures c.slot_of-2.ensures c.cell_at-left_cell.ensures c.cell_at-right_cell.ensures c.if-same_slot.ensures;
-    }
-    )
-    (sym (c.in-Some.ensures ∙ ap (free_slot c.args.question.now.slots) c.cell_at-left_cell.ensures))
-    c.bind.ensures.binds
-
-pub bind-requires-in-Some-free_slot-clause-room : goal.bind-requires-in-Some-free_slot-clause-room
-bind-requires-in-Some-free_slot-clause-room c =
-    let free = sym (c.in-Some-free_slot.ensures ∙ ap (free_slot c.args.question.now.slots) c.cell_at-right_cell.ensures) in
-    let below : c.in-Some-free_slot.slot < slot_count c.args.question.now.slots = free_below _ _ _ _ c.requires.legal c.requires.right.spot_is free in
-    omega (arith, c.requires.room)
-
-pub returns-in-Some-free_slot-clause-met : goal.returns-in-Some-free_slot-clause-met
-returns-in-Some-free_slot-clause-met c =
     right_bound _ _ _ _ _ _ _
     (
     record {
@@ -48,8 +27,50 @@ returns-in-Some-free_slot-clause-met c =
       differ = same_told c.args.question.now.slots _ _ _ _ _ _ _ c.slot_of.ensures c.slot_of-2.ensures c.cell_at-left_cell.ensures c.cell_at-right_cell.ensures c.if-same_slot.ensures;
     }
     )
-    (sym (c.in-Some-free_slot.ensures ∙ ap (free_slot c.args.question.now.slots) c.cell_at-right_cell.ensures))
-    c.bind-in-Some-free_slot.ensures.binds
+    (sym (c.in-Some.ensures ∙ ap (free_slot c.args.question.now.slots) c.cell_at-right_cell.ensures))
+    c.bind.ensures.binds
+
+pub bind-requires-in-Some-left_free-clause-room : goal.bind-requires-in-Some-left_free-clause-room
+bind-requires-in-Some-left_free-clause-room c =
+    let free = sym (c.in-Some-left_free.ensures ∙ ap (free_slot c.args.question.now.slots) c.cell_at-left_cell.ensures) in
+    let below : c.in-Some-left_free.slot < slot_count c.args.question.now.slots = free_below _ _ _ _ c.requires.legal c.requires.left.spot_is free in
+    omega (arith, c.requires.room)
+
+pub returns-in-Some-left_free-clause-met : goal.returns-in-Some-left_free-clause-met
+returns-in-Some-left_free-clause-met c =
+    left_bound _ _ _ _ _ _ _
+    (
+    record {
+      legal = c.requires.legal;
+      apart = c.requires.keys;
+      left_end = c.requires.left;
+      right_end = c.requires.right;
+      differ = same_told c.args.question.now.slots _ _ _ _ _ _ _ c.slot_of.ensures c.slot_of-2.ensures c.cell_at-left_cell.ensures c.cell_at-right_cell.ensures c.if-same_slot.ensures;
+    }
+    )
+    (sym (c.in-Some-left_free.ensures ∙ ap (free_slot c.args.question.now.slots) c.cell_at-left_cell.ensures))
+    c.bind-in-Some-left_free.ensures.binds
+
+pub bind-requires-in-Some-right_free-clause-room : goal.bind-requires-in-Some-right_free-clause-room
+bind-requires-in-Some-right_free-clause-room c =
+    let free = sym (c.in-Some-right_free.ensures ∙ ap (free_slot c.args.question.now.slots) c.cell_at-right_cell.ensures) in
+    let below : c.in-Some-right_free.slot < slot_count c.args.question.now.slots = free_below _ _ _ _ c.requires.legal c.requires.right.spot_is free in
+    omega (arith, c.requires.room)
+
+pub returns-in-Some-right_free-clause-met : goal.returns-in-Some-right_free-clause-met
+returns-in-Some-right_free-clause-met c =
+    right_bound _ _ _ _ _ _ _
+    (
+    record {
+      legal = c.requires.legal;
+      apart = c.requires.keys;
+      left_end = c.requires.left;
+      right_end = c.requires.right;
+      differ = same_told c.args.question.now.slots _ _ _ _ _ _ _ c.slot_of.ensures c.slot_of-2.ensures c.cell_at-left_cell.ensures c.cell_at-right_cell.ensures c.if-same_slot.ensures;
+    }
+    )
+    (sym (c.in-Some-right_free.ensures ∙ ap (free_slot c.args.question.now.slots) c.cell_at-right_cell.ensures))
+    c.bind-in-Some-right_free.ensures.binds
 
 pub returns-in-None-clause-met : goal.returns-in-None-clause-met
 returns-in-None-clause-met c =
@@ -63,8 +84,8 @@ returns-in-None-clause-met c =
       differ = same_told c.args.question.now.slots _ _ _ _ _ _ _ c.slot_of.ensures c.slot_of-2.ensures c.cell_at-left_cell.ensures c.cell_at-right_cell.ensures c.if-same_slot.ensures;
     }
     )
-    (sym (c.in_default.ensures ∙ ap (free_slot c.args.question.now.slots) c.cell_at-left_cell.ensures))
-    (sym (c.in_default-free_slot.ensures ∙ ap (free_slot c.args.question.now.slots) c.cell_at-right_cell.ensures))
+    (sym (c.in_default-left_free.ensures ∙ ap (free_slot c.args.question.now.slots) c.cell_at-left_cell.ensures))
+    (sym (c.in_default-right_free.ensures ∙ ap (free_slot c.args.question.now.slots) c.cell_at-right_cell.ensures))
     (common_told _ _ _ _ _ c.cell_at-left_cell.ensures c.cell_at-right_cell.ensures c.in-None.ensures)
 
 pub returns-in-Some-eq0-clause-met : goal.returns-in-Some-eq0-clause-met

@@ -13,9 +13,9 @@ returns c =
     let m = c.index-found.result.now in
     let less = inside ms c.args.n c.args.self.now.hits (ap (λ (f : Finding). f.hits) c.self.view_is) c.requires in
     let here = each_at (IsMatch s) ms c.args.n m less c.index-found.ensures c.self.invariant.each in
-    subst (λ (f : Finding). ShowsHit f c.args.n (record { solution = m.solution; query_names = c.self.inside.query_names; entry_names = m.entry_names; extra = s.query.extra })) c.self.view_is (
+    subst (λ (f : Finding). ShowsHit f c.args.n (record { solution = m.solved.solution; query_names = c.self.inside.query_names; entry_names = m.solved.entry_names; extra = s.query.extra })) c.self.view_is (
       hit_of m,
       hit_at ms c.args.n m less c.index-found.ensures,
-      shows_entry s c.self.inside.index.now.numbers (entry_of m.entry) m.solution c.self.inside.query_names m.entry_names s.query.extra
-          c.self.invariant.numbers c.self.invariant.ready here.solved c.self.invariant.names here.names refl,
+      shows_entry s c.self.inside.index.now.numbers (entry_of m.entry) m.solved.solution c.self.inside.query_names m.solved.entry_names s.query.extra
+          c.self.invariant.numbers c.self.invariant.ready here.list c.self.invariant.names here.are_names refl,
     )

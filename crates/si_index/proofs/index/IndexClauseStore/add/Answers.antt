@@ -1,15 +1,15 @@
-use Rattle.std.proofs.Common.{◌≡◌, ◌+◌, length, sym, ◌∙◌, subst}
+use Rattle.std.proofs.Common.{◌≡◌, ◌+◌, [], length, sym, ◌∙◌, subst, arith}
 use Rattle.si_defs.specs.Symbols.{Symbol, times}
 use Rattle.si_defs.specs.Entries.{clause_symbols}
 use Rattle.si_state.specs.Acceptance.{Accepts}
-use Rattle.si_state.specs.Signatures.{uses_of, total}
+use Rattle.si_state.specs.Signatures.{numbering, uses_of, total}
 use Rattle.si_term.specs.Meaning.{clause_of}
 use Rattle.si_term.specs.declared.clause.Clause.{Clause}
 use Rattle.si_term.proofs.EntryHeads.{length-symbols}
 use Rattle.si_sign.specs.Stores.{Rejects}
-use Rattle.si_index.specs.Kept.{Kept, clauses_of}
+use Rattle.si_index.specs.Kept.{Kept, NumbersStay, clauses_of}
 use Rattle.si_index.specs.Stored.{IsKept}
-use Rattle.si_index.proofs.KnownLaws.{room_for, rejects, kept_stays, kept_more, accepts_more, entered_back}
+use Rattle.si_index.proofs.KnownLaws.{room_for, rejects, kept_stays, kept_more, accepts_more, entered_back, numbers_through}
 use Rattle.si_index.proofs.index.IndexClauseStore.add.Goals as goal
 
 pub enter-requires : goal.enter-requires
@@ -42,7 +42,7 @@ invariant_of-self-in-Err-put c =
     subst (λ (d : Clause). total signature + length (clause_symbols (clause_of d)) ≡ total between.signature) back c.give_back.ensures.total in
     subst (λ l. IsKept c.self.inside.limit l (record { names = c.put.new.names; signature = signature })) (sym c.in-Err-put.ensures.err)
     (kept_stays c.self.inside.limit c.self.inside.known (record { names = c.put.new.names; signature = signature }) c.self.inside.clauses c.self.invariant
-    (entered_back c.self.inside.known between (clause_of c.args.clause) c.put.new.names signature c.in-Ok.ensures.enters c.in-Err-put.ensures.same_names uses sum))
+    (entered_back c.self.inside.known between (clause_of c.args.clause) c.put.new.names signature c.enter.ensures.signature c.in-Ok.ensures.enters c.in-Err-put.ensures.same_names uses sum c.give_back.ensures.numbers))
 
 pub returns-in-Ok-put-clause-added : goal.returns-in-Ok-put-clause-added
 returns-in-Ok-put-clause-added c =
@@ -57,3 +57,11 @@ pub returns-in-Ok-put-clause-stored : goal.returns-in-Ok-put-clause-stored
 returns-in-Ok-put-clause-stored c =
     (kept_more c.self.inside.limit c.self.inside.known c.enter.new.self c.self.inside.clauses c.put.new.clauses c.args.clause c.put.new.names
     c.enter.ensures.signature c.self.invariant c.requires.sound c.in-Ok.ensures.admits c.in-Ok.ensures.enters c.in-Ok-put.ensures.put).stored
+
+pub returns-in-Err-put-clause-numbers : goal.returns-in-Err-put-clause-numbers
+returns-in-Err-put-clause-numbers c =
+    let old = c.self.inside.known.signature in
+    let between = c.enter.new.self.signature in
+    let enters = c.in-Ok.ensures.enters in
+    subst (λ (k : Kept). NumbersStay k (record { clauses = []; limit = 0; numbers = numbering c.give_back.new.self })) c.self.view_is
+    (numbers_through old between c.give_back.new.self c.enter.ensures.signature (λ s. omega (arith, enters.uses s)) enters.numbers c.give_back.ensures.numbers)

@@ -1,14 +1,16 @@
 use Rattle.std.proofs.Common.{◌≡◌, ap, sym, ◌∙◌, subst}
-use Rattle.std.specs.Prelude.{Some}
+use Rattle.std.specs.Prelude.{Some, None}
 use Rattle.si_defs.specs.Entries.{pattern_entry}
 use Rattle.si_term.specs.Terms.{term_of}
 use Rattle.si_term.specs.Meaning.{entry_of}
 use Rattle.si_flat.specs.declared.Owner.TheVariants.{Query, Entry}
-use Rattle.si_flat.specs.Flattened.{FlattensEntry, whole_of, query_numbers}
+use Rattle.si_flat.specs.Cells.{IsWhole}
+use Rattle.si_flat.specs.Flattened.{HoldsEntry, FillsEntry, whole_of, query_numbers}
+use Rattle.si_form.specs.Answers.{AreNumbered, Answers}
 use Rattle.si_form.specs.Numberings.{TextsRelate}
 use Rattle.si_index.specs.Searching.{numbers_of, pattern_in}
-use Rattle.si_index.proofs.FlatLaws.{unfit_fails, none_lacks, flat_is_numbered, flat_answers}
-use Rattle.si_index.proofs.Results.{if_answer}
+use Rattle.si_index.proofs.FlatLaws.{unfit_fails, none_lacks, flat_is_numbered}
+use Rattle.si_index.proofs.SolvedLaws.{solved_in}
 use Rattle.si_index.proofs.search.Search.solve.Goals as goal
 
 pub returns-then-not-fits : goal.returns-then-not-fits
@@ -22,24 +24,44 @@ returns-then-not-fits c =
 
 pub unreachable-requires : goal.unreachable-requires
 unreachable-requires c =
-    subst (FlattensEntry (numbers_of c.args.self.now) (entry_of c.args.entry)) c.in_default.is c.in_ok-flat.ensures
+    subst (FillsEntry (numbers_of c.args.self.now) (entry_of c.args.entry) _ _) c.if-not-branch.true c.in_ok-fill.ensures
     (none_lacks (numbers_of c.args.self.now) _ c.requires.known.numbered)
 
-pub canonical-requires-clause-query : goal.canonical-requires-clause-query
-canonical-requires-clause-query c =
-    flat_is_numbered (query_numbers (numbers_of c.args.self.now) c.args.self.now.query.extra) Query (pattern_entry (pattern_in c.args.self.now)) c.args.self.now.query.flat c.requires.ready.flat.flat
+pub canonical_with-requires-clause-query : goal.canonical_with-requires-clause-query
+canonical_with-requires-clause-query c =
+    subst (AreNumbered Query) (sym c.cells.ensures.cells)
+    (flat_is_numbered (query_numbers (numbers_of c.args.self.now) c.args.self.now.query.extra) Query (pattern_entry (pattern_in c.args.self.now)) c.args.self.now.query.flat c.requires.ready.flat.flat)
 
-pub canonical-requires-clause-entry : goal.canonical-requires-clause-entry
-canonical-requires-clause-entry c =
-    let flat : FlattensEntry (numbers_of c.args.self.now) (entry_of c.args.entry) (Some c.in-Some.flat) =
-    subst (FlattensEntry (numbers_of c.args.self.now) (entry_of c.args.entry)) c.in-Some.is c.in_ok-flat.ensures in
-    flat_is_numbered (numbers_of c.args.self.now) Entry (entry_of c.args.entry) c.in-Some.flat flat.1
+pub canonical_with-requires-clause-whole_entry : goal.canonical_with-requires-clause-whole_entry
+canonical_with-requires-clause-whole_entry c =
+    let holds : HoldsEntry (numbers_of c.args.self.now) (entry_of c.args.entry) c.fill.new.self.0 c.fill.new.self.1 =
+    subst (FillsEntry (numbers_of c.args.self.now) (entry_of c.args.entry) c.fill.new.self.0 c.fill.new.self.1) c.if-not-branch.false c.in_ok-fill.ensures in
+    subst IsWhole (sym c.cells-2.ensures) (_, holds.flat.stands)
+
+pub canonical_with-requires-clause-entry : goal.canonical_with-requires-clause-entry
+canonical_with-requires-clause-entry c =
+    let holds : HoldsEntry (numbers_of c.args.self.now) (entry_of c.args.entry) c.fill.new.self.0 c.fill.new.self.1 =
+    subst (FillsEntry (numbers_of c.args.self.now) (entry_of c.args.entry) c.fill.new.self.0 c.fill.new.self.1) c.if-not-branch.false c.in_ok-fill.ensures in
+    subst (AreNumbered Entry) (sym c.cells-2.ensures) (flat_is_numbered (numbers_of c.args.self.now) Entry (entry_of c.args.entry) c.fill.new.self.0 holds.flat)
+
+pub returns-in_default : goal.returns-in_default
+returns-in_default c =
+    let s = c.args.self.now in
+    let e = entry_of c.args.entry in
+    let holds : HoldsEntry (numbers_of s) e c.fill.new.self.0 c.fill.new.self.1 =
+    subst (FillsEntry (numbers_of s) e c.fill.new.self.0 c.fill.new.self.1) c.if-not-branch.false c.in_ok-fill.ensures in
+    solved_in s e c.cells.result.now c.cells-2.result.now c.fill.new.self.0 c.fill.new.self.1 c.cells.ensures.cells c.cells-2.ensures c.requires.ready c.requires.known c.requires.alike holds None
+    (subst (Answers s.relation c.cells.result.now c.cells-2.result.now) c.in_default.is c.in_ok-solution.ensures.answers)
 
 pub returns : goal.returns
 returns c =
-    let flat : FlattensEntry (numbers_of c.args.self.now) (entry_of c.args.entry) (Some c.in-Some.flat) =
-    subst (FlattensEntry (numbers_of c.args.self.now) (entry_of c.args.entry)) c.in-Some.is c.in_ok-flat.ensures in
-    if_answer c.canonical.result _ _
-    (λ answer told. flat_answers c.args.self.now.relation (numbers_of c.args.self.now) (pattern_in c.args.self.now) c.args.self.now.query (entry_of c.args.entry) c.in-Some.flat answer
-    c.requires.ready.numbering c.requires.ready.sound c.requires.ready.flat c.requires.known c.requires.alike flat.1 told)
-    c.canonical.ensures.answers
+    let s = c.args.self.now in
+    let e = entry_of c.args.entry in
+    let holds : HoldsEntry (numbers_of s) e c.fill.new.self.0 c.fill.new.self.1 =
+    subst (FillsEntry (numbers_of s) e c.fill.new.self.0 c.fill.new.self.1) c.if-not-branch.false c.in_ok-fill.ensures in
+    record {
+      list =
+          solved_in s e c.cells.result.now c.cells-2.result.now c.fill.new.self.0 c.fill.new.self.1 c.cells.ensures.cells c.cells-2.ensures c.requires.ready c.requires.known c.requires.alike holds (Some c.in-Some.solution)
+          (subst (Answers s.relation c.cells.result.now c.cells-2.result.now) c.in-Some.is c.in_ok-solution.ensures.answers);
+      are_names = c.in_ok-entry_names.ensures ∙ c.names.ensures ∙ holds.are_names;
+    }

@@ -1,0 +1,73 @@
+// How long the chains of variables are that end at each slot.
+ghost use Rattle.std.specs.Prelude.{◌≡◌, []};
+
+use std::alloc::{AllocError, Global};
+use std::marker::Model;
+
+/// The heights of slots: no chain of variables that were bound to variables in this call, and that
+/// ends at a slot, is longer than its height. Contracts see them as a list; behind its end they are
+/// 0.
+///
+/// Of two variables the lower one is bound to the higher one. So as many variables as two to the
+/// power of its height come to a slot, and no chain is longer than a logarithm of their number.
+#[derive(Drop)]
+pub(crate) struct Heights {
+    heights: Vec<u8>,
+}
+
+impl Model for Heights {
+    ghost use Rattle.std.specs.Prelude.{List, ℕ};
+
+    ghost Value = { List ℕ };
+
+    ghost view = { λ h. h.heights.items };
+}
+
+impl Heights {
+    /// All heights are 0. It takes no memory.
+    pub(crate) fn new(alloc: Global) -> Heights
+        ensures { result ≡ [] }
+    {
+        Heights {
+            heights: Vec::new(alloc),
+        }
+    }
+
+    fn height(&self, slot: usize) -> u8 {
+        *self.heights.get(slot).unwrap_or(&0)
+    }
+
+    // Makes a slot, of so many, higher by one.
+    fn raise(&mut self, count: usize, slot: usize) -> Result<(), AllocError> {
+        if self.heights.len() < count {
+            self.heights.resize(count, 0)?;
+        }
+        if slot < self.heights.len() {
+            self.heights[slot] = self.heights[slot].saturating_add(1);
+        }
+        Ok(())
+    }
+
+    /// Whether the right one of two variables is to be bound to the left one. If not, then the left
+    /// one is to be bound to the right one. There are so many slots.
+    pub(crate) fn turns(
+        &mut self,
+        count: usize,
+        left: usize,
+        right: usize,
+    ) -> Result<bool, AllocError> {
+        let left_height = self.height(left);
+        let right_height = self.height(right);
+        if left_height == right_height {
+            self.raise(count, right)?;
+        }
+        Ok(left_height > right_height)
+    }
+
+    /// Makes all heights 0, and keeps the memory.
+    pub(crate) fn reset(&mut self)
+        ensures { self.new ≡ [] }
+    {
+        self.heights.clear();
+    }
+}

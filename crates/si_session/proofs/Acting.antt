@@ -1,5 +1,5 @@
 -- What a command did, from what its parts wrote; and the step that its line made.
-use Rattle.std.proofs.Common.{◌≡◌, ℕ, ◌≤◌, List, [], ◌∷◌, ◌++◌, length, map, refl, ap, sym, ◌∙◌, subst, inl, inr, arith, append_assoc, length-append}
+use Rattle.std.proofs.Common.{◌≡◌, ℕ, ◌≤◌, List, [], ◌∷◌, ◌++◌, length, map, refl, ap, sym, ◌∙◌, subst, inl, inr, arith, length-append}
 use Rattle.std.specs.Prelude.{Bool, Option, Some, None, slice_get, IsTrue}
 use Rattle.si_defs.specs.Bytes.{Bytes}
 use Rattle.si_defs.specs.Tokens.{begins_with}
@@ -19,7 +19,6 @@ use Rattle.si_steps.specs.Loads.{Owed, nothing, PerformsLoad, gained_line, load_
 use Rattle.si_steps.specs.Steps.{Performs, RightStep, right, memory_at_once, memory_behind, performed, loaded}
 use Rattle.si_steps.specs.Runs.{a_line, ended}
 use Rattle.si_io.specs.Content.{Told, Receives, ReceivesPrefix}
-use Rattle.si_io.proofs.Content.{Receives_then, ReceivesPrefix_then, ReceivesPrefix_more}
 use Rattle.si_session.specs.Commands.{IsPerformed}
 use Rattle.si_term.specs.Meaning.{clause_of}
 use Rattle.si_term.proofs.EntryHeads.{length-symbols}
@@ -37,7 +36,6 @@ use Rattle.si_io.specs.Library.{Counts}
 use Rattle.si_session.specs.Session.{State, Around, around, Steps, Writes, HasPerformed, ActsOn, rightly, at_once, behind, HasLoaded, rightly_loaded, ran_out}
 use Rattle.si_session.specs.declared.stepped.Stepped.{Stepped}
 use Rattle.si_session.specs.declared.stepped.Stepped.TheVariants.{Answered, Refused, Silent, SinkFailed}
-use Rattle.si_session.proofs.Told.{ended-append}
 
 -- ---- the last line of a reply
 refusal-last : (lines : List Bytes) (line : Bytes) → is_refusal (lines ++ line ∷ []) ≡ begins_with 33 line
@@ -49,33 +47,20 @@ some_line : (lines : List Bytes) (line : Bytes) → lines ++ line ∷ [] ≡ [] 
 some_line [] line e = cc
 some_line (x ∷ lines) line e = cc
 
--- it was written behind the others
-all_behind : (a b c : Told) (lines : List Bytes) (line : Bytes) → Receives a (ended lines) b → Receives b (ended (line ∷ [])) c → Receives a (ended (lines ++ line ∷ [])) c
-all_behind a b c lines line h k = subst (λ w. Receives a w c) (sym (ended-append lines (line ∷ []))) (Receives_then a b c (ended lines) (ended (line ∷ [])) h k)
-
-pub written_behind : (o : Stepped) (a b c : Told) (lines : List Bytes) (line : Bytes) → Receives a (ended lines) b → Writes o (line ∷ []) b c → Writes o (lines ++ line ∷ []) a c
-written_behind Answered a b c lines line h w = (all_behind a b c lines line h w.0, some_line lines line, refusal-last lines line ∙ w.2)
-written_behind Refused a b c lines line h w = (all_behind a b c lines line h w.0, refusal-last lines line ∙ w.1)
-written_behind Silent a b c lines line h w = absurd (some_line [] line w.1)
-written_behind SinkFailed a b c lines line h w =
-    subst (λ l. ReceivesPrefix a l c) (sym (ended-append lines (line ∷ []))) (ReceivesPrefix_then a b c (ended lines) (ended (line ∷ [])) h w)
-
--- the sink failed before it
-pub failed_before : (a b : Told) (lines : List Bytes) (line : Bytes) → ReceivesPrefix a (ended lines) b → Writes SinkFailed (lines ++ line ∷ []) a b
-failed_before a b lines line h = subst (λ w. ReceivesPrefix a w b) (sym (ended-append lines (line ∷ []))) (ReceivesPrefix_more a b (ended lines) (ended (line ∷ [])) h)
+-- an answer was written
+pub answered : (lines : List Bytes) (n : ℕ) (a b : Told) → Receives a (ended (lines ++ end_line n ∷ [])) b → Writes Answered (lines ++ end_line n ∷ []) a b
+answered lines n a b h = (h, some_line lines (end_line n), refusal-last lines (end_line n))
 
 -- ---- an answer
 module _ (limits : Limits) (relation : Relation) (p : Pattern) (state : List Clause) (hits : List Hit) (answer : IsAnswer relation p (state_entries state) hits) where
   performs : Performs limits (query relation p) state (answer_reply hits) state
   performs = (hits, answer, refl, refl)
 
-  pub answers : (o : Stepped) (n : ℕ) (a b c : Told) → n ≡ length hits → Receives a (ended (hit_texts hits)) b
-      → Writes o (end_line n ∷ []) b c → HasPerformed (Performs limits (query relation p) state) state state o a c
-  answers o n a b c e h w =
-      rightly (answer_reply hits) performs (written_behind o a b c (hit_texts hits) (end_line (length hits)) h (subst (λ m. Writes o (end_line m ∷ []) b c) e w))
+  pub answers : (a b : Told) → Receives a (ended (answer_reply hits)) b → HasPerformed (Performs limits (query relation p) state) state state Answered a b
+  answers a b h = rightly (answer_reply hits) performs (answered (hit_texts hits) (length hits) a b h)
 
-  pub fails_in_hits : (a b : Told) → ReceivesPrefix a (ended (hit_texts hits)) b → HasPerformed (Performs limits (query relation p) state) state state SinkFailed a b
-  fails_in_hits a b h = rightly (answer_reply hits) performs (failed_before a b (hit_texts hits) (end_line (length hits)) h)
+  pub fails : (a b : Told) → ReceivesPrefix a (ended (answer_reply hits)) b → HasPerformed (Performs limits (query relation p) state) state state SinkFailed a b
+  fails a b h = rightly (answer_reply hits) performs h
 
 -- ---- a clause
 accepts : (limits : Limits) (clause : Clause) (state new : List Clause) (o : Stepped) (n : ℕ) (a b : Told) → Accepts limits.entries state clause new → n ≡ length (entries clause)

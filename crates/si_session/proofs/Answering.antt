@@ -11,16 +11,18 @@ use Rattle.si_defs.specs.Entries.{Place, Placed, entries, state_entries, placed_
 use Rattle.si_defs.specs.Variables.{Solution, variable_text}
 use Rattle.si_defs.specs.declared.Relation.{Relation}
 use Rattle.si_state.specs.Answers.{Hit, IsAnswer, hit_text, hit_texts}
+use Rattle.si_steps.specs.Replies.{end_line}
 use Rattle.si_steps.specs.Runs.{ended}
 use Rattle.si_io.specs.Content.{Told, Receives, ReceivesPrefix}
+use Rattle.si_io.specs.Puts.{Puts}
 use Rattle.si_io.specs.declared.failed.Failed.{Failed}
-use Rattle.si_io.proofs.Content.{append_told-nil, Receives_then, ReceivesPrefix_then, ReceivesPrefix_more}
+use Rattle.si_io.proofs.Content.{append_told-nil, Receives_then, ReceivesPrefix_then, ReceivesPrefix_more, Puts_then}
 use Rattle.si_term.specs.declared.clause.Place as term
 use Rattle.si_term.specs.Meaning.{place_of}
 use Rattle.si_index.specs.Kept.{Kept}
 use Rattle.si_index.specs.Searching.{HasSolution}
 use Rattle.si_index.specs.Finding.{Finding, AreHits, at_position, entries_from_position, position_and_place}
-use Rattle.si_session.specs.Answering.{IsHitOf, AreHitsOf, IsInside, TellsHit, TellsHits, hit_line}
+use Rattle.si_session.specs.Answering.{IsHitOf, AreHitsOf, IsInside, TellsHit, TellsHits, TellsUnended, hit_line}
 use Rattle.si_session.proofs.Told.{ended-append}
 
 abbrev Found : Type 0
@@ -209,6 +211,17 @@ at_number (x ∷ fs) (suc n) f k place is at = at_number fs n f k place is at
 pub hits_again : (f : Finding) (r : Result (Unit {0}) Failed) (e : Failed) (a b : Told) → IsErrAnd r (λ x. x ≡ e) → TellsHits f (Err e) a b → TellsHits f r a b
 hits_again f (Ok done) e a b is h = absurd is
 hits_again f (Err x) e a b is h = (h.0, h.1, record { all = tt; part = h.2.part })
+
+-- the number was written behind them, or the sink failed before
+pub unended_told : (f : Finding) (r : Result (Unit {0}) Failed) (n : ℕ) (a b c : Told) → n ≡ length f.hits → TellsHits f (Ok (tt {0})) a b → Puts r (end_line n) b c → TellsUnended f r a c
+unended_told f r n a b c is h p =
+    let count : n ≡ length h.0 = is ∙ length-hits f.relation f.pattern f.index.clauses f.hits h.0 h.1 in
+    (h.0, h.1, Puts_then r a b c (ended (hit_texts h.0)) (end_line (length h.0)) h.2.all (subst (λ m. Puts r (end_line m) b c) count p))
+
+pub unended_broken : (f : Finding) (r : Result (Unit {0}) Failed) (e : Failed) (a b : Told) → IsErrAnd r (λ x. x ≡ e) → TellsHits f (Err e) a b → TellsUnended f r a b
+unended_broken f (Ok done) e a b is h = absurd is
+unended_broken f (Err x) e a b is h =
+    (h.0, h.1, record { all = tt; part = ReceivesPrefix_more a b (ended (hit_texts h.0)) (end_line (length h.0)) h.2.part })
 
 -- ---- the whole answer
 module _ (f : Finding) (index : Kept) (relation : Relation) (p : Pattern)

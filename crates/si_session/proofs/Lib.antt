@@ -9,3 +9,4 @@ pub mod Shown
 pub mod MappedLaws
 pub mod Sums
 pub mod Numbers
+pub mod Buffers

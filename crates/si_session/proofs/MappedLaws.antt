@@ -6,7 +6,7 @@ use Rattle.si_defs.specs.Bytes.{Bytes}
 use Rattle.si_defs.specs.Clauses.{Name, Literal, Clause}
 use Rattle.si_defs.specs.Printing.{name_text, map_text}
 use Rattle.si_state.specs.Subsumption.{MappedClause, AreMapped, mapped_text}
-use Rattle.si_steps.specs.Replies.{Reply, mapped_reply}
+use Rattle.si_steps.specs.Replies.{mapped_reply}
 use Rattle.si_steps.specs.Runs.{ended}
 use Rattle.si_io.specs.Content.{Told}
 use Rattle.si_form.proofs.NodeLaws.{get_some}

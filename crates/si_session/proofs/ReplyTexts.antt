@@ -30,10 +30,6 @@ pub ok_text : (r : Reply) (clauses entries : ℕ) → r ≡ reply.Ok clauses ent
 unfolding sign_text ended_line
 ok_text r clauses entries e = four (codes "ok " ++ decimal clauses) (codes " ") (decimal entries) (10 ∷ []) ∙ ap ended_line (sym e)
 
-pub end_text : (r : Reply) (lines : ℕ) → r ≡ reply.End lines → (codes "end " ++ decimal lines) ++ sign_text LineFeed ≡ ended_line r
-unfolding sign_text ended_line
-end_text r lines e = ap ended_line (sym e)
-
 -- a line and its line feed
 pub ended_is : (r : Reply) → ended_line r ≡ reply_line r ++ 10 ∷ []
 unfolding ended_line

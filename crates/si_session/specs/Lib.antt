@@ -6,3 +6,4 @@ pub mod Rejections
 pub mod Answering
 pub mod MappedClauses
 pub mod Sums
+pub mod Buffering

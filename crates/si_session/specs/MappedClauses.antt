@@ -1,10 +1,12 @@
 -- The kept clauses that were found, each with its map, and their lines.
-use Rattle.std.specs.Prelude.{◌<◌, ℕ, List, [], ◌∷◌, ◌++◌, Option, None, Some, length, slice_get}
+use Rattle.std.specs.Prelude.{◌<◌, ℕ, List, [], ◌∷◌, ◌++◌, map, Option, None, Some, length, slice_get}
 use Rattle.si_defs.specs.Bytes.{Bytes}
 use Rattle.si_defs.specs.Clauses.{Name, Clause}
 use Rattle.si_defs.specs.Printing.{name_text, map_text}
-use Rattle.si_state.specs.Subsumption.{MappedClause}
+use Rattle.si_state.specs.Subsumption.{MappedClause, mapped_text}
+use Rattle.si_steps.specs.Replies.{end_line}
 use Rattle.si_index.specs.declared.subsuming.Mapped.{Mapped}
+use Rattle.si_session.specs.Replies.{unended}
 use Rattle.si_session.specs.Signs.{sign_text}
 use Rattle.si_session.specs.declared.sign.Sign.TheVariants.{Space, LineFeed}
 
@@ -25,3 +27,7 @@ all_mapped clauses (m ∷ ms) = mapped_at (slice_get clauses m.clause) m ++ all_
 -- a line of a name and a map, with its end
 unfoldable pub mapped_line : Name → List ℕ → Bytes
 mapped_line name ns = name_text name ++ sign_text Space ++ map_text ns ++ sign_text LineFeed
+
+-- the lines of these and the one of their number, without its line feed
+abbrev pub unended_mapped : List MappedClause → Bytes
+unended_mapped ms = unended (map mapped_text ms) (end_line (length ms))

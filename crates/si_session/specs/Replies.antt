@@ -1,9 +1,10 @@
--- The lines of replies that are no hits.
-use Rattle.std.specs.Prelude.{ℕ, [], ◌∷◌, ◌++◌, codes}
+-- The replies of one line, and the text of an answer before its last line feed.
+use Rattle.std.specs.Prelude.{ℕ, List, [], ◌∷◌, ◌++◌, codes}
 use Rattle.si_defs.specs.Bytes.{Bytes}
 use Rattle.si_defs.specs.Symbols.{Symbol}
 use Rattle.si_defs.specs.Printing.{symbol_text, shape_text}
-use Rattle.si_steps.specs.Replies.{ok_line, end_line, stats_line, sample_line, taken_line, full_line, unknown_line, file_line, spot_line, fetches_line, long_line, later_line, language_line, syntax_line, memory_line}
+use Rattle.si_steps.specs.Replies.{ok_line, stats_line, sample_line, taken_line, full_line, unknown_line, file_line, spot_line, fetches_line, long_line, later_line, language_line, syntax_line, memory_line}
+use Rattle.si_steps.specs.Runs.{ended}
 use Rattle.si_sign.specs.declared.faults.Shape.{Shape}
 use Rattle.si_term.specs.Terms.{symbol_of}
 use Rattle.si_term.specs.Meaning.{name_of}
@@ -39,7 +40,6 @@ line_word line_fault.Language = codes "! language "
 
 abbrev pub reply_line : Reply → Bytes
 reply_line (reply.Ok clauses entries) = ok_line clauses entries
-reply_line (reply.End lines) = end_line lines
 reply_line (reply.Stats stats) = stats_line stats.clauses stats.entries stats.symbols
 reply_line (reply.Sample clauses gained sum) = sample_line clauses gained sum
 reply_line (reply.Taken name) = taken_line (name_of name.now)
@@ -54,6 +54,10 @@ reply_line reply.Later = later_line
 reply_line reply.Language = language_line
 reply_line reply.Syntax = syntax_line
 reply_line reply.Memory = memory_line
+
+-- these lines, each with its end, and one more without
+abbrev pub unended : List Bytes → Bytes → Bytes
+unended lines last = ended lines ++ last
 
 -- with its line feed
 unfoldable pub ended_line : Reply → Bytes

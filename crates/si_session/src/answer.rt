@@ -8,14 +8,17 @@ ghost use Rattle.si_io.specs.Faults.{HasCause};
 ghost use Rattle.si_term.specs.Meaning.{name_of, place_of};
 ghost use Rattle.si_index.specs.Searching.{HasSolution};
 ghost use Rattle.si_reply.specs.NamedLists.{naming, ShowsList};
-ghost use Rattle.si_session.specs.Answering.{IsInside, TellsHit, TellsHits, hit_line};
+ghost use Rattle.si_session.specs.Answering.{IsInside, TellsHit, TellsHits, TellsUnended, TellsAnswer, hit_line};
 
+use crate::buffered::{Borrowed, Buffered, Origin};
+use crate::reply::put_end;
 use crate::sign::{Sign, put_sign};
 use si_index::{Found, Index, Lent};
 use si_io::{Failed, Sink};
 use si_reply::{put_place, put_solution};
 use si_sign::Signature;
 use si_term::{Name, Place};
+use std::marker::Brand;
 
 /// Writes the line of a hit: its place and its list.
 fn put_hit<K: Sink>(
@@ -62,8 +65,8 @@ fn tell_hit<K: Sink>(index: &Index, found: &Found<'_>, n: u32, sink: &mut K) -> 
     put_hit(sink, name, &hit.place, &lent, index.signature())
 }
 
-/// Writes the lines of the hits. This takes no memory.
-pub fn tell_hits<K: Sink>(index: &Index, found: &Found<'_>, sink: &mut K) -> Result<(), Failed>
+/// Writes the lines of the hits.
+fn tell_hits<K: Sink>(index: &Index, found: &Found<'_>, sink: &mut K) -> Result<(), Failed>
     requires index { found.now.index ≡ index.now }
     requires inside { AllByRecursion (IsInside index.now.clauses) found.now.hits }
     requires solved { AllByRecursion (λ hit. HasSolution found.now.relation found.now.pattern
@@ -75,4 +78,51 @@ pub fn tell_hits<K: Sink>(index: &Index, found: &Found<'_>, sink: &mut K) -> Res
         tell_hit(index, found, n, sink)?;
     }
     Ok(())
+}
+
+/// Writes the lines of the hits and the one of their number, without its line feed.
+fn tell_unended<K: Sink>(index: &Index, found: &Found<'_>, sink: &mut K) -> Result<(), Failed>
+    requires index { found.now.index ≡ index.now }
+    requires inside { AllByRecursion (IsInside index.now.clauses) found.now.hits }
+    requires solved { AllByRecursion (λ hit. HasSolution found.now.relation found.now.pattern
+        hit.1.entry) found.now.hits }
+    ensures told { TellsUnended found.now result (K.written sink.old) (K.written sink.new) }
+    ensures cause { HasCause (K.faults sink.old) (K.faults sink.new) result }
+{
+    tell_hits(index, found, sink)?;
+    put_end(sink, u64::from(found.len()))
+}
+
+/// Writes the answer over a sink that gathers its bytes.
+fn tell_over<S: Borrowed, B: Origin>(
+    index: &Index,
+    found: &Found<'_>,
+    sink: S,
+) -> (Result<(), Failed>, S)
+    requires index { found.now.index ≡ index.now }
+    requires inside { AllByRecursion (IsInside index.now.clauses) found.now.hits }
+    requires solved { AllByRecursion (λ hit. HasSolution found.now.relation found.now.pattern
+        hit.1.entry) found.now.hits }
+    requires same { S.name sink ≡ B.name }
+    requires start { S.given sink ≡ B.told }
+    ensures told { TellsAnswer found.now result.0 (S.given sink) (S.given result.1) }
+    ensures cause { HasCause (S.failures sink) (S.failures result.1) result.0 }
+    ensures same { S.name result.1 ≡ S.name sink }
+{
+    let mut buffered = Buffered::<S, B>::over(sink);
+    let told = tell_unended(index, found, &mut buffered);
+    buffered.finish(told)
+}
+
+/// Writes the answer, in large pieces. This takes no memory.
+pub fn tell_answer<K: Sink>(index: &Index, found: &Found<'_>, sink: &mut K) -> Result<(), Failed>
+    requires index { found.now.index ≡ index.now }
+    requires inside { AllByRecursion (IsInside index.now.clauses) found.now.hits }
+    requires solved { AllByRecursion (λ hit. HasSolution found.now.relation found.now.pattern
+        hit.1.entry) found.now.hits }
+    ensures told { TellsAnswer found.now result (K.written sink.old) (K.written sink.new) }
+    ensures cause { HasCause (K.faults sink.old) (K.faults sink.new) result }
+{
+    let (told, _) = tell_over::<&mut K, Brand>(index, found, sink);
+    told
 }

@@ -2,6 +2,7 @@
 #![tactic(auto)]
 
 mod answer;
+mod buffered;
 mod command;
 mod mapped;
 mod number;

@@ -10,11 +10,12 @@ ghost use Rattle.si_steps.specs.Steps.{Performs};
 ghost use Rattle.si_io.specs.Puts.{Puts};
 ghost use Rattle.si_io.specs.Faults.{Rose, HasCause};
 ghost use Rattle.si_term.specs.Meaning.{name_of, literal_of};
-ghost use Rattle.si_session.specs.MappedClauses.{IsKeptAt, all_mapped, mapped_line};
+ghost use Rattle.si_session.specs.MappedClauses.{IsKeptAt, all_mapped, mapped_line, unended_mapped};
 ghost use Rattle.si_session.specs.Session.{Writes, ActsOn};
 ghost use Rattle.si_session.specs.declared.stepped.Stepped.TheVariants.{SinkFailed};
 
-use crate::reply::{Reply, tell};
+use crate::buffered::{Borrowed, Buffered, Origin};
+use crate::reply::{Reply, put_end, tell};
 use crate::sign::{Sign, put_sign};
 use crate::stepped::Stepped;
 use si_flat::LitMap;
@@ -22,6 +23,7 @@ use si_index::{Index, Mappeds};
 use si_io::{Failed, Sink};
 use si_reply::{put_map, put_name};
 use si_term::{Literals, Name};
+use std::marker::Brand;
 
 /// Writes the line of a clause: its name and its map.
 fn put_mapped<K: Sink>(sink: &mut K, name: &Name, map: &LitMap) -> Result<(), Failed>
@@ -48,7 +50,48 @@ fn put_all_mapped<K: Sink>(index: &Index, found: &Mappeds, sink: &mut K) -> Resu
     Ok(())
 }
 
-/// Writes the answer: the lines of the clauses, and their number.
+/// Writes the lines of the clauses and the one of their number, without its line feed.
+fn put_unended<K: Sink>(index: &Index, found: &Mappeds, sink: &mut K) -> Result<(), Failed>
+    requires { AllByRecursion (IsKeptAt index.now.clauses) found.now }
+    ensures text { Puts result (unended_mapped (all_mapped index.now.clauses found.now))
+        (K.written sink.old) (K.written sink.new) }
+    ensures cause { HasCause (K.faults sink.old) (K.faults sink.new) result }
+{
+    put_all_mapped(index, found, sink)?;
+    put_end(sink, found.len() as u64)
+}
+
+/// Writes the answer over a sink that gathers its bytes.
+fn put_over<S: Borrowed, B: Origin>(
+    index: &Index,
+    found: &Mappeds,
+    sink: S,
+) -> (Result<(), Failed>, S)
+    requires kept { AllByRecursion (IsKeptAt index.now.clauses) found.now }
+    requires same { S.name sink ≡ B.name }
+    requires start { S.given sink ≡ B.told }
+    ensures text { Puts result.0 (ended (mapped_reply (all_mapped index.now.clauses found.now)))
+        (S.given sink) (S.given result.1) }
+    ensures cause { HasCause (S.failures sink) (S.failures result.1) result.0 }
+    ensures same { S.name result.1 ≡ S.name sink }
+{
+    let mut buffered = Buffered::<S, B>::over(sink);
+    let told = put_unended(index, found, &mut buffered);
+    buffered.finish(told)
+}
+
+/// Writes the answer, in large pieces.
+fn put_answer<K: Sink>(index: &Index, found: &Mappeds, sink: &mut K) -> Result<(), Failed>
+    requires { AllByRecursion (IsKeptAt index.now.clauses) found.now }
+    ensures text { Puts result (ended (mapped_reply (all_mapped index.now.clauses found.now)))
+        (K.written sink.old) (K.written sink.new) }
+    ensures cause { HasCause (K.faults sink.old) (K.faults sink.new) result }
+{
+    let (told, _) = put_over::<&mut K, Brand>(index, found, sink);
+    told
+}
+
+/// Writes the answer, and says what became of the line.
 fn tell_mapped<K: Sink>(index: &Index, found: &Mappeds, sink: &mut K) -> Stepped
     requires { AllByRecursion (IsKeptAt index.now.clauses) found.now }
     ensures written { Writes result (mapped_reply (all_mapped index.now.clauses found.now))
@@ -57,8 +100,8 @@ fn tell_mapped<K: Sink>(index: &Index, found: &Mappeds, sink: &mut K) -> Stepped
     ensures kept { (result ≡ SinkFailed → ⊥) → K.faults sink.new ≡ K.faults sink.old }
     ensures failed { result ≡ SinkFailed → Rose (K.faults sink.old) (K.faults sink.new) }
 {
-    match put_all_mapped(index, found, sink) {
-        Ok(()) => tell(sink, Reply::End(found.len() as u64)),
+    match put_answer(index, found, sink) {
+        Ok(()) => Stepped::Answered,
         Err(_) => Stepped::SinkFailed,
     }
 }

@@ -1,7 +1,7 @@
 // Replies, written to a sink.
 ghost use Rattle.std.specs.Prelude.{◌≡◌, ◌≤◌, ◌++◌, [], ◌∷◌, decimal};
 ghost use Rattle.si_defs.specs.Printing.{name_text, file_text, symbol_text};
-ghost use Rattle.si_steps.specs.Replies.{is_refusal};
+ghost use Rattle.si_steps.specs.Replies.{is_refusal, end_line};
 ghost use Rattle.si_io.specs.Faults.{Rose, HasCause};
 ghost use Rattle.si_io.specs.Puts.{Puts};
 ghost use Rattle.si_term.specs.Terms.{symbol_of};
@@ -44,7 +44,7 @@ pub enum LineFault {
     Language,
 }
 
-/// A line of a reply that isn't a hit.
+/// A reply of one line.
 #[derive(Clone, Copy)]
 pub enum Reply<'a> {
     /// So many clauses with so many entries were gained.
@@ -52,8 +52,6 @@ pub enum Reply<'a> {
         clauses: u64,
         entries: u64,
     },
-    /// So many lines of hits stand before this one.
-    End(u64),
     /// So much is kept.
     Stats(Stats),
     /// So many clauses with so many entries were drawn, and so many answers were summed.
@@ -261,14 +259,21 @@ fn put_misused<K: Sink>(
     put_shapes(sink, found, kept)
 }
 
-/// Writes a line of a reply. The texts of all lines but those of hits stand here.
+/// Writes the last line of an answer without its line feed: how many lines stand before it.
+pub fn put_end<K: Sink>(sink: &mut K, lines: u64) -> Result<(), Failed>
+    ensures text { Puts result (end_line lines) (K.written sink.old) (K.written sink.new) }
+    ensures cause { HasCause (K.faults sink.old) (K.faults sink.new) result }
+{
+    put_number(sink, b"end ", lines)
+}
+
+/// Writes a reply of one line.
 fn put_reply<K: Sink>(sink: &mut K, reply: Reply<'_>) -> Result<(), Failed>
     ensures text { Puts result (ended_line reply.entry) (K.written sink.old) (K.written sink.new) }
     ensures cause { HasCause (K.faults sink.old) (K.faults sink.new) result }
 {
     match reply {
         Reply::Ok { clauses, entries } => put_counts(sink, b"ok ", clauses, b" ", entries),
-        Reply::End(lines) => put_count(sink, b"end ", lines),
         Reply::Stats(stats) => put_stats(sink, stats),
         Reply::Sample {
             clauses,
@@ -301,7 +306,7 @@ fn refuses(reply: Reply<'_>) -> bool
     ensures { result ≡ is_refusal (reply_line reply.entry ∷ []) }
 {
     match reply {
-        Reply::Ok { .. } | Reply::End(_) | Reply::Stats(_) | Reply::Sample { .. } => false,
+        Reply::Ok { .. } | Reply::Stats(_) | Reply::Sample { .. } => false,
         Reply::Taken(_) | Reply::Misused { .. } | Reply::Full { .. } | Reply::Unknown(_) => true,
         Reply::File(..) | Reply::Line(..) | Reply::Fetches => true,
         Reply::Long | Reply::Later | Reply::Language => true,

@@ -13,7 +13,7 @@ ghost use Rattle.si_io.specs.Faults.{Rose};
 ghost use Rattle.si_defs.specs.Clauses.{IsSoundClause, IsSoundPattern};
 ghost use Rattle.si_term.specs.Meaning.{name_of, clause_of, pattern_of};
 
-use crate::answer::tell_hits;
+use crate::answer::tell_answer;
 use crate::command::{Command, read_command};
 use crate::mapped::{subsumed, subsumers};
 use crate::refusals::{load_refusal, refusal};
@@ -283,8 +283,8 @@ fn answer<K: Sink>(index: &Index, relation: Relation, pattern: &Pattern, sink: &
         Ok(found) => found,
         Err(_) => return tell(sink, Reply::Memory),
     };
-    match tell_hits(index, &found, sink) {
-        Ok(()) => tell(sink, Reply::End(u64::from(found.len()))),
+    match tell_answer(index, &found, sink) {
+        Ok(()) => Stepped::Answered,
         Err(_) => Stepped::SinkFailed,
     }
 }

@@ -2,18 +2,13 @@ use Rattle.std.proofs.Common.{ap, sym, subst}
 use Rattle.si_io.specs.Puts.{Puts}
 use Rattle.si_session.specs.Replies.{ended_line}
 use Rattle.si_session.specs.Signs.{sign_text}
-use Rattle.si_session.proofs.ReplyTexts.{ok_text, end_text, stats_line_is, sample_line_is, misused_is, full_text, file_told, line_told}
+use Rattle.si_session.proofs.ReplyTexts.{ok_text, stats_line_is, sample_line_is, misused_is, full_text, file_told, line_told}
 use Rattle.si_session.proofs.reply.put_reply.Goals as goal
 
 pub returns-in-Ok-clause-text : goal.returns-in-Ok-clause-text
 returns-in-Ok-clause-text g c =
     subst (λ t. Puts c.put_counts.result t (g.K.Sink.written c.args.sink.now) (g.K.Sink.written c.put_counts.new.sink))
     (ok_text c.args.reply c.in-Ok.clauses c.in-Ok.entries c.in-Ok.is) c.put_counts.ensures.text
-
-pub returns-in-End-clause-text : goal.returns-in-End-clause-text
-returns-in-End-clause-text g c =
-    subst (λ t. Puts c.put_count.result t (g.K.Sink.written c.args.sink.now) (g.K.Sink.written c.put_count.new.sink))
-    (end_text c.args.reply c.in-End.lines c.in-End.is) c.put_count.ensures.text
 
 pub returns-in-Taken-clause-text : goal.returns-in-Taken-clause-text
 unfolding ended_line sign_text

@@ -1,25 +1,21 @@
-use Rattle.std.proofs.Common.{◌≡◌, length, ◌∙◌}
 use Rattle.si_term.specs.Meaning.{pattern_of}
-use Rattle.si_session.proofs.Acting.{answers, fails_in_hits}
-use Rattle.si_session.proofs.Answering.{are_inside, length-hits, whole_answer}
+use Rattle.si_session.proofs.Acting.{answers, fails}
+use Rattle.si_session.proofs.Answering.{are_inside, whole_answer}
 use Rattle.si_session.proofs.session.answer.Goals as goal
 
-pub tell_hits-requires-clause-inside : goal.tell_hits-requires-clause-inside
-tell_hits-requires-clause-inside g c = are_inside c.args.relation (pattern_of c.args.pattern.now) c.args.index.now.clauses c.in-Ok.found.hits c.in-Ok.ensures.hits
+pub tell_answer-requires-clause-inside : goal.tell_answer-requires-clause-inside
+tell_answer-requires-clause-inside g c = are_inside c.args.relation (pattern_of c.args.pattern.now) c.args.index.now.clauses c.in-Ok.found.hits c.in-Ok.ensures.hits
 
-pub returns-in-Ok-tell_hits-clause-acts : goal.returns-in-Ok-tell_hits-clause-acts
-returns-in-Ok-tell_hits-clause-acts g c limits same =
+pub returns-in-Ok-tell_answer-clause-acts : goal.returns-in-Ok-tell_answer-clause-acts
+returns-in-Ok-tell_answer-clause-acts g c limits same =
     let f = c.in-Ok.found in
-    let told = c.in-Ok-tell_hits.ensures.told in
+    let told = c.in-Ok-tell_answer.ensures.told in
     let answer = whole_answer f c.args.index.now c.args.relation (pattern_of c.args.pattern.now) c.in-Ok.ensures.index c.in-Ok.ensures.relation c.in-Ok.ensures.pattern c.in-Ok.ensures.hits told.0 told.1 in
-    let count : length f.hits ≡ length told.0 = length-hits f.relation f.pattern f.index.clauses f.hits told.0 told.1 in
-    answers limits c.args.relation (pattern_of c.args.pattern.now) c.args.index.now.clauses told.0 answer c.tell-in-Ok-tell_hits.result c.from.result
-    (g.K.Sink.written c.args.sink.now) (g.K.Sink.written c.tell_hits.new.sink) (g.K.Sink.written c.tell-in-Ok-tell_hits.new.sink)
-    (c.from.ensures ∙ c.len.ensures ∙ count) told.2.all c.tell-in-Ok-tell_hits.ensures.written
+    answers limits c.args.relation (pattern_of c.args.pattern.now) c.args.index.now.clauses told.0 answer (g.K.Sink.written c.args.sink.now) (g.K.Sink.written c.tell_answer.new.sink) told.2.all
 
 pub returns-clause-acts : goal.returns-clause-acts
 returns-clause-acts g c limits same =
     let f = c.in-Ok.found in
-    let told = c.in-Err-tell_hits.ensures.told in
+    let told = c.in-Err-tell_answer.ensures.told in
     let answer = whole_answer f c.args.index.now c.args.relation (pattern_of c.args.pattern.now) c.in-Ok.ensures.index c.in-Ok.ensures.relation c.in-Ok.ensures.pattern c.in-Ok.ensures.hits told.0 told.1 in
-    fails_in_hits limits c.args.relation (pattern_of c.args.pattern.now) c.args.index.now.clauses told.0 answer (g.K.Sink.written c.args.sink.now) (g.K.Sink.written c.tell_hits.new.sink) told.2.part
+    fails limits c.args.relation (pattern_of c.args.pattern.now) c.args.index.now.clauses told.0 answer (g.K.Sink.written c.args.sink.now) (g.K.Sink.written c.tell_answer.new.sink) told.2.part

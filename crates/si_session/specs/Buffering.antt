@@ -1,0 +1,30 @@
+-- What a sink tells that holds bytes, and what the sink below was given since a start.
+use Rattle.std.specs.Prelude.{◌≡◌, ℕ, ◌-◌, List, Option, None, Some, length, drop, replicate, take}
+use Rattle.si_io.specs.Content.{Told, bytes_then, append_told}
+
+-- the bytes from one place up to another
+abbrev pub held : List ℕ → ℕ → ℕ → List ℕ
+held bytes start end = drop start (take end bytes)
+
+-- what is told of them, behind what the sink below was given
+abbrev pub told_with : Told → List ℕ → ℕ → ℕ → Told
+told_with below bytes start end = append_told below (held bytes start end)
+
+-- the bytes that were given between these two times, or as many zeros as the room fell by where
+-- they aren't told
+abbrev pub given_since : Option (List ℕ) → Option (List ℕ) → ℕ → List ℕ
+given_since (Some before) (Some now) fallen = drop (length before) now
+given_since (Some before) None fallen = replicate fallen 0
+given_since None now fallen = replicate fallen 0
+
+-- the same, of what is told at these times
+abbrev pub since : Told → Told → List ℕ
+since start now = given_since start.bytes now.bytes (start.room - now.room)
+
+-- The bytes now are those of the start, and then some.
+abbrev pub HasBytesSince : Told → Told → Type 0
+HasBytesSince start now = now.bytes ≡ bytes_then start.bytes (since start now)
+
+-- The room fell by as many.
+abbrev pub HasRoomSince : Told → Told → Type 0
+HasRoomSince start now = now.room ≡ start.room - length (since start now)

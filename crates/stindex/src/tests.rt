@@ -219,7 +219,7 @@ fn chunks_and_the_length_of_a_line(rt: HostRuntime) -> Result<(), Fail> {
         line: 20,
         ..Limits::standard()
     };
-    let rows: [(&[u8], &[u8]); 6] = [
+    let rows: [(&[u8], &[u8]); 7] = [
         (
             b"\nx\nadd cnf(a,axiom,p).\n\n instances lit p",
             b"! syntax\nok 1 1\na:1 {}\nend 1\n",
@@ -228,6 +228,10 @@ fn chunks_and_the_length_of_a_line(rt: HostRuntime) -> Result<(), Fail> {
         (
             b"add cnf(a,axiom,p). \nadd cnf(b,axiom,p).  \ninstances lit p\n",
             b"ok 1 1\n! long\na:1 {}\nend 1\n",
+        ),
+        (
+            b"remove c3456789012345\nremove c345678901234\n",
+            b"! long\n! unknown c345678901234\n",
         ),
         (b"                    \n", b""),
         (b"                     \n", b"! long\n"),

@@ -103,7 +103,7 @@ const FAULTY: Files = &[
 ];
 
 /// A bound, files, an input and its output.
-const ROWS: [(Bound, Files, &[u8], &[u8]); 13] = [
+const ROWS: [(Bound, Files, &[u8], &[u8]); 14] = [
     // A problem with those of its axioms that it selects, in order.
     (
         Bound::Standard,
@@ -173,6 +173,13 @@ const ROWS: [(Bound, Files, &[u8], &[u8]); 13] = [
         INCLUDING,
         b"load 'a.p'\nload 'b.ax'\nload 'a.p'\n",
         b"! fault 'a.p'\nok 1 2\n! taken b1\n",
+    ),
+    // What is no load asks for no file, so the first one asked for is the one that fails.
+    (
+        Bound::Fails(1),
+        INCLUDING,
+        b"load ''\nload b.ax\nload 'a.p'\nload 'b.ax'\n",
+        b"! syntax\n! syntax\n! fault 'a.p'\nok 1 2\n",
     ),
     // It fails where the file isn't there.
     (

@@ -1,0 +1,317 @@
+#!/usr/bin/env python3
+"""Sessions of one shape that is made long, for the scripts that measure how the cost grows.
+
+A session is in two parts, what comes before and what is measured, so that the cost of the second is told from a run of
+the first alone. `shapes.py` lists the shapes: the name, the smaller size, whether the cost is counted or timed, and how
+often the cost of the smaller size the one of twice the size may be, with tabs between them. `shapes.py SHAPE N` writes
+the session of this size into the current folder, as the files `before` and `whole`, with the files that it loads.
+"""
+import sys
+from pathlib import Path
+from typing import Callable, NamedTuple
+
+RELATIONS = ("instances", "generalizations", "variants", "unifiable")
+LETTERS = "abcdefghijklmnopqrstuvwxyzABCDEFGHIJKLMNOPQRSTUVWXYZ0123456789"
+MEBIBYTE = 1_048_576
+
+
+class Session(NamedTuple):
+    before: list[str]
+    measured: list[str]
+    files: dict[str, str] = {}
+
+
+class Shape(NamedTuple):
+    size: int
+    session: Callable[[int], Session]
+    how: str = "instructions"
+    most: float = 2.3
+
+
+def each(text: str, n: int, first: int = 0) -> list[str]:
+    """The text for each of n numbers, which stand for its `#`."""
+    return [text.replace("#", str(number)) for number in range(first, first + n)]
+
+
+def listed(text: str, n: int, mark: str = ",") -> str:
+    return mark.join(each(text, n))
+
+
+def nested(left: str, inside: str, right: str, n: int) -> str:
+    return left * n + inside + right * n
+
+
+def clause(formula: str, name: str = "c") -> str:
+    return f"cnf({name},axiom,{formula})."
+
+
+def add(formula: str, name: str = "c") -> str:
+    return "add " + clause(formula, name)
+
+
+def own_clauses(n: int) -> list[str]:
+    """Clauses with names and symbols of their own."""
+    return each(add("p(f(X,a#),g(b#))", "c#"), n)
+
+
+def lines(*measured: str, before: list[str] | None = None) -> Session:
+    return Session(before or [], list(measured))
+
+
+def file(text: str, more: dict[str, str] | None = None, before: list[str] | None = None) -> Session:
+    return Session(before or [], ["load 'a.p'"], {"a.p": text, **(more or {})})
+
+
+# Added clauses
+
+ADDED = {
+    "literals, each with a predicate of its own": Shape(10_000, lambda n: lines(add(listed("p#(a)", n, "|")))),
+    "literals, each with a constant of its own": Shape(10_000, lambda n: lines(add(listed("p(a#)", n, "|")))),
+    "literals that are all the same": Shape(20_000, lambda n: lines(add(listed("p(X)", n, "|")))),
+    "equalities": Shape(20_000, lambda n: lines(add(listed("X!=Y", n, "|")))),
+    "arguments: different variables": Shape(20_000, lambda n: lines(add(f"p({listed('X#', n)})"))),
+    "arguments: one variable": Shape(40_000, lambda n: lines(add(f"p({listed('X', n)})"))),
+    "arguments: different constants": Shape(20_000, lambda n: lines(add(f"p({listed('a#', n)})"))),
+    "arguments: terms with variables": Shape(20_000, lambda n: lines(add(f"p({listed('f(X#)', n)})"))),
+    "nested terms": Shape(250, lambda n: lines(*each(add(f"p({nested('g(', 'X', ')', n)})", "c#"), 50))),
+    "nested terms, to the right": Shape(250, lambda n: lines(*each(add(f"p({nested('f(X,', 'X', ')', n)})", "c#"), 50))),
+    "nested brackets of the formula": Shape(250, lambda n: lines(*each(add(nested("(", "p", ")", n), "c#"), 50))),
+    "nested brackets of annotations": Shape(250, lambda n: lines(*each(add("p," + nested("[", "x", "]", n), "c#"), 50))),
+    "brackets of annotations side by side": Shape(50_000, lambda n: lines(add("p," + "[]()" * n))),
+    "terms of annotations side by side": Shape(20_000, lambda n: lines(add("p," + listed("file('a#',[b])", n)))),
+    "a name of escapes": Shape(200_000, lambda n: lines(add("p", "'" + r"\'" * n + "'"))),
+    "a symbol of escapes": Shape(200_000, lambda n: lines(add("'" + r"\\" * n + "'"))),
+    "a text of escapes": Shape(200_000, lambda n: lines(add('p("' + r"\"" * n + '")'))),
+    "a long word": Shape(200_000, lambda n: lines(add("p" * n))),
+    "a long variable": Shape(200_000, lambda n: lines(add(f"p({'X' * n})"))),
+    "a long integer": Shape(200_000, lambda n: lines(add(f"p({'1' * n})"))),
+    "clauses with one symbol": Shape(4_000, lambda n: lines(*each(add("p", "c#"), n))),
+    "clauses, each with a symbol of its own": Shape(4_000, lambda n: lines(*each(add("p#", "c#"), n))),
+    "names of n bytes that differ in the last": Shape(5_000, lambda n: lines(*(add("p", "a" * n + x) for x in LETTERS))),
+    "symbols of n bytes that differ in the last": Shape(5_000, lambda n: lines(add("|".join("a" * n + x for x in LETTERS)))),
+    "variables of n bytes that differ in the last":
+        Shape(5_000, lambda n: lines(add(f"p({','.join('X' * n + x for x in LETTERS)})"))),
+    "names that differ behind 100 bytes": Shape(2_000, lambda n: lines(*each(add("p", "a" * 100 + "#"), n))),
+    "symbols that differ behind 100 bytes": Shape(2_000, lambda n: lines(add(listed("p" * 100 + "#", n, "|")))),
+}
+
+# Removed clauses, and lines without an answer
+
+REMOVED = {
+    "removals, the first one first": Shape(2_000, lambda n: lines(*each("remove c#", n), before=own_clauses(n))),
+    "removals, the last one first": Shape(2_000, lambda n: lines(*each("remove c#", n)[::-1], before=own_clauses(n))),
+    "removals in a scattered order": Shape(2_000, lambda n: lines(
+        *(f"remove c{number * 7919 % n}" for number in range(n)), before=own_clauses(n))),
+    "removal of a clause of many symbols":
+        Shape(10_000, lambda n: lines("remove c", before=[add(listed("p#(a#)", n, "|"))])),
+    "one clause, added and removed": Shape(2_000, lambda n: lines(*[add("p(a)"), "remove c"] * n)),
+}
+
+LINES = {
+    "blank lines": Shape(50_000, lambda n: lines(*[""] * n)),
+    "lines of comments": Shape(20_000, lambda n: lines(*["% comment"] * n)),
+    "comments in a line": Shape(50_000, lambda n: lines(add("p") + "/* */" * n)),
+    "a long comment": Shape(400_000, lambda n: lines("%" + "x" * n)),
+    "a line of blanks": Shape(400_000, lambda n: lines(" " * n)),
+    "a line that is too long": Shape(2 * MEBIBYTE, lambda n: lines("x" * n)),
+    "lines that are wrong": Shape(10_000, lambda n: lines(*["find p"] * n)),
+    "clauses that are wrong at the end": Shape(5_000, lambda n: lines(*[add("p(f(a),b") + ")"] * n)),
+    "clauses of other languages": Shape(10_000, lambda n: lines(*["add fof(a,axiom,p)."] * n)),
+    "commands that aren't built": Shape(10_000, lambda n: lines(*["tree"] * n)),
+    "names that are taken": Shape(5_000, lambda n: lines(*[add("q(a)")] * n, before=[add("p(a)")])),
+    "symbols that are used otherwise": Shape(5_000, lambda n: lines(*[add("q|p", "d")] * n, before=[add("p(a)")])),
+    "a symbol that is used otherwise, behind many":
+        Shape(10_000, lambda n: lines(add(listed("q#", n, "|") + "|p", "d"), before=[add("p(a)")])),
+    "names that are unknown": Shape(10_000, lambda n: lines(*each("remove d#", n))),
+    "files that are missing": Shape(5_000, lambda n: lines(*each("load 'none#'", n))),
+    "a file's name of escapes": Shape(200_000, lambda n: lines("load '" + r"\'" * n + "'")),
+    "stats": Shape(10_000, lambda n: lines(*["stats"] * n, before=own_clauses(100))),
+}
+
+# Loaded files
+
+
+def selection(n: int, names: str, depth: int = 1) -> Session:
+    """A file of n clauses, included through selections of so many names, one inside the other."""
+    files = {f"{number}.p": f"include('{number + 1}.p',[{listed(names, n)}])." for number in range(1, depth)}
+    files[f"{depth}.p"] = "\n".join(each(clause("p#", "c#"), n))
+    return file(f"include('1.p',[{listed(names, n)}]).", files)
+
+
+def provers_clauses(n: int) -> str:
+    text = clause("(multiply(X,esk#_1(inverse(Y)))=identity|~product(X,f(g(a,1)),Y)),inference(rw,[],[c_0_1])", "c_0_#")
+    return "\n".join(each(text, n))
+
+
+def filled(size: int) -> str:
+    """As many clauses as nearly fill so many mebibytes."""
+    text = provers_clauses(size * MEBIBYTE // 100)
+    return text[:text.rindex("\n", 0, size * MEBIBYTE)]
+
+
+LOADED = {
+    "a file of clauses": Shape(4_000, lambda n: file(provers_clauses(n))),
+    "a file of blank lines": Shape(200_000, lambda n: file("\n" * n)),
+    "a file of lines of comments": Shape(20_000, lambda n: file("% comment\n" * n)),
+    "a file with a comment of many lines": Shape(20_000, lambda n: file("/*" + "comment\n" * n + "*/")),
+    "a file of one clause": Shape(40_000, lambda n: file(clause(listed("p#(a#)", n, "|\n")))),
+    "a file whose last line is wrong": Shape(4_000, lambda n: file(provers_clauses(n) + "\nx")),
+    "a file that opens a comment at the end of each line": Shape(20_000, lambda n: file("%/*\n" * n + "/*")),
+    "a file whose last name is taken": Shape(4_000, lambda n: file(provers_clauses(n) + clause("p", "c_0_0"))),
+    "a refused load behind many clauses": Shape(4_000, lambda n: file(clause("r", "d") + clause("r", "c0"), before=own_clauses(n))),
+    "a selection of all names": Shape(4_000, lambda n: selection(n, "c#")),
+    "a selection of other names": Shape(4_000, lambda n: selection(n, "d#")),
+    "a selection of one name, many times": Shape(8_000, lambda n: selection(n, "c1")),
+    "31 selections, one inside the other": Shape(1_000, lambda n: selection(n, "c#", 31)),
+    "a selection of names that differ behind 100 bytes": Shape(1_000, lambda n: file(
+        f"include('b.p',[{listed('a' * 100 + '#', n)}]).", {"b.p": "\n".join(each(clause("p", "a" * 100 + "#"), n))})),
+    "included files": Shape(500, lambda n: file(
+        listed("include('#.p').", n, "\n"), {f"{i}.p": clause("p", f"c{i}") for i in range(n)})),
+    "included files, one inside the other": Shape(15, lambda n: file(
+        "include('1.p').", {f"{i}.p": f"include('{i + 1}.p')." if i < n else clause("p") for i in range(1, n + 1)})),
+    "a file that includes itself behind many clauses": Shape(4_000, lambda n: file(provers_clauses(n) + "include('a.p').")),
+    "a file of 16 and of 32 mebibytes": Shape(16, lambda n: file(filled(n)), "microseconds"),
+}
+
+# Queries
+
+
+def asked(relation: str, entry: str, pattern: str) -> Session:
+    return lines(f"{relation} lit h({pattern})", before=[add(f"h({entry})")])
+
+
+def links(n: int, x: str, step: int) -> str:
+    """Each variable beside a term with the one before, from the first on or from the last."""
+    return ",".join([f"{x}{i},f({x}{i - 1})" for i in range(1, n + 1)][::step])
+
+
+def asked_again(n: int, x: str) -> tuple[str, str]:
+    """Variables that meet in a chain, and behind them constants, which all meet one variable."""
+    return "X," + listed("X#,X#", n) + ",X," + listed("a", n), listed("Y#,Y#", n + 1) + "," + listed(x, n)
+
+
+def pairs(n: int, step: int = 1) -> str:
+    return ",".join([f"Y{i},Y{i}" for i in range(1, n + 1)][::step])
+
+
+QUERIES = {
+    "variables against variables": (2_000, lambda n: (listed("X#", n), listed("Y#", n)), RELATIONS),
+    "one variable against one": (2_000, lambda n: (listed("X", n), listed("Y", n)), RELATIONS),
+    "variables against one": (2_000, lambda n: (listed("X", n), listed("Y#", n)), RELATIONS),
+    "one variable against variables": (2_000, lambda n: (listed("X#", n), listed("Y", n)), RELATIONS),
+    "variables against constants": (2_000, lambda n: (listed("a#", n), listed("Y#", n)), ("instances", "unifiable")),
+    "new constants against variables":
+        (2_000, lambda n: (listed("X#", n), listed("b#", n)), ("generalizations", "unifiable")),
+    "new constants against one variable":
+        (2_000, lambda n: (listed("X", n), listed("b#", n)), ("generalizations", "unifiable")),
+    "variables in terms": (2_000, lambda n: (listed("f(X#)", n), listed("f(Y#)", n)), RELATIONS),
+    "variables against terms": (2_000, lambda n: (listed("f(X#)", n), listed("Y#", n)), ("instances", "unifiable")),
+    "one variable against terms": (2_000, lambda n: (listed("f(X#)", n), listed("Y", n)), ("unifiable",)),
+    "terms against one variable": (2_000, lambda n: (listed("X", n), listed("f(Y#)", n)), ("unifiable",)),
+    "equal variables in a chain":
+        (2_000, lambda n: ("X," + listed("X#,X#", n) + ",X", listed("Y#,Y#", n + 1)), ("unifiable",)),
+    "the first variable of a chain, many times": (500, lambda n: asked_again(n, "Y0"), ("unifiable",)),
+    "the last variable of a chain, many times": (500, lambda n: asked_again(n, f"Y{n}"), ("unifiable",)),
+    "terms in a chain": (2_000, lambda n: (links(n, "X", 1), pairs(n)), ("unifiable",)),
+    "terms in a chain, from its end": (2_000, lambda n: (links(n, "X", -1), pairs(n)), ("unifiable",)),
+    "nested terms": (250, lambda n: (nested("g(", "X", ")", n), nested("g(", "Y", ")", n)), RELATIONS),
+}
+
+
+def query_shapes() -> dict[str, Shape]:
+    return {
+        f"{name}: {relation}": Shape(size, lambda n, r=relation, of=parts: asked(r, *of(n)))
+        for name, (size, parts, relations) in QUERIES.items() for relation in relations
+    }
+
+
+def every_relation(name: str, size: int, before: Callable, question: str) -> dict[str, Shape]:
+    return {
+        f"{name}: {relation}": Shape(size, lambda n, r=relation: lines(f"{r} {question}", before=before(n)))
+        for relation in RELATIONS
+    }
+
+
+HITS = (
+    every_relation("literals of one clause", 500, lambda n: [add(listed("p(X#,Y)", n, "|"))], "lit p(U,V)")
+    | every_relation("terms of one literal", 500, lambda n: [add(f"p({listed('f(X#)', n)})")], "term f(U)")
+    | every_relation("terms of a clause with many variables", 500,
+                     lambda n: [add(f"p({listed('X#', n)})|q({listed('f(X#)', n)})")], "term f(U)")
+    | every_relation("literals of many clauses", 500, lambda n: each(add("p(X,Y)", "c#"), n), "lit p(U,V)")
+)
+
+# Subsumption
+
+
+def subsuming(command: str, kept: str, formula: str) -> Session:
+    return lines(f"{command} {formula}", before=[add(kept)])
+
+
+def predicates(n: int, step: int = 1) -> str:
+    return "|".join(each("p#(X#,f(Y))", n)[::step])
+
+
+SUBSUMED = {
+    f"{name}: {command}": Shape(size, lambda n, c=command, of=parts: subsuming(c, *of(n)))
+    for name, size, parts in (
+        ("different predicates", 500, lambda n: (predicates(n), predicates(n))),
+        ("different predicates, backwards", 500, lambda n: (predicates(n), predicates(n, -1))),
+        ("different predicates, of both signs", 500, lambda n: (listed("~p#|p#", n, "|"), listed("p#|~p#", n, "|"))),
+        ("different predicates, the last one missing",
+         500, lambda n: (predicates(n) + "|r", predicates(n) + "|s")),
+    )
+    for command in ("subsumers", "subsumed")
+}
+
+# What may grow with the square
+
+
+def tower(shape: str, n: int) -> tuple[str, str]:
+    """A clause and a pattern of the same head. In a tower each variable is f of the one before, twice. Either the clause
+    has one, or the pattern has one too, step by step against it. Or both have one by two steps at once, and they meet one
+    step apart, so that no variable ever meets a variable."""
+    def step(x: str, i: int) -> str:
+        return f"f({x}{i},{x}{i})"
+
+    def two(x: str, i: int) -> str:
+        return f"f({step(x, i)},{step(x, i)})"
+
+    numbers = range(1, n + 1)
+    if shape == "shifted":
+        kept = [f"X{i},{two('X', i - 1)},W{i},W{i}" for i in numbers] + [f"X{n}"]
+        pattern = [f"V{i},V{i},Z{i},{two('Z', i - 1)}" for i in numbers] + [step("Z", n)]
+    else:
+        kept = [f"X{i},{step('X', i - 1)}" for i in numbers]
+        pattern = [f"Y{i}," + (step("Y", i - 1) if shape == "both" else f"Y{i}") for i in numbers]
+    return ",".join(kept), ",".join(pattern)
+
+
+TOWERS = {
+    f"tower, {shape}: {relation}": Shape(64, lambda n, s=shape, r=relation: asked(r, *tower(s, n)), most=4.6)
+    for shape in ("one", "both", "shifted") for relation in RELATIONS
+}
+LIKE_LITERALS = {
+    "literals of one predicate: subsumers": Shape(100, lambda n: subsuming(
+        "subsumers", listed("p(a#)", n, "|"), listed("p(a#)", n, "|")), most=4.6),
+    "clauses and a formula of as many literals: subsumers": Shape(100, lambda n: lines(
+        "subsumers " + listed("p#(a)", n, "|"), before=each(add("p#(X)", "c#"), n)), most=4.6),
+}
+SAMPLES = {"sample": Shape(60, lambda n: lines(f"sample 1 {n}"), most=4.6)}
+
+SHAPES = ADDED | REMOVED | LINES | LOADED | query_shapes() | HITS | SUBSUMED | TOWERS | LIKE_LITERALS | SAMPLES
+
+
+def main() -> None:
+    if len(sys.argv) == 1:
+        for name, shape in SHAPES.items():
+            print(name, shape.size, shape.how, shape.most, sep="\t")
+        return
+    before, measured, files = SHAPES[sys.argv[1]].session(int(sys.argv[2]))
+    Path("before").write_text("".join(line + "\n" for line in before))
+    Path("whole").write_text("".join(line + "\n" for line in before + measured))
+    for name, text in files.items():
+        Path(name).write_text(text)
+
+
+if __name__ == "__main__":
+    main()

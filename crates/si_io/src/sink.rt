@@ -33,7 +33,7 @@ pub trait Sink {
 /// Writes all the bytes, in as many calls as the sink needs.
 ///
 /// At `Failed` the sink was given a prefix of them, it has failed, and it had no room for them all.
-/// It takes no memory.
+/// It takes no memory of its own.
 pub fn write_all<K: Sink>(sink: &mut K, bytes: &[u8]) -> Result<(), Failed>
     ensures all { OnOk result (Receives (K.written sink.old) bytes.now (K.written sink.new)) }
     ensures part { OnErr result (ReceivesPrefix (K.written sink.old) bytes.now

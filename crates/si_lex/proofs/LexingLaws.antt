@@ -136,7 +136,7 @@ so_far_more item bytes at start tokens depth place next l s w k d n m b =
 
 -- ---- where they stop
 -- the first place behind blanks
-first_place : (bytes : Bytes) (at start : ℕ) → IsBehindBlanks bytes (drop at bytes) start → (AreBlanks (drop at bytes) → ⊥) → IsPlace (drop at bytes) (drop start bytes)
+pub first_place : (bytes : Bytes) (at start : ℕ) → IsBehindBlanks bytes (drop at bytes) start → (AreBlanks (drop at bytes) → ⊥) → IsPlace (drop at bytes) (drop start bytes)
 first_place bytes at start b n =
     elim (cases_lt start (length bytes)) [
       | inl l ↦ b.more l
@@ -208,13 +208,15 @@ over_whole tokens bytes rest stop d b o ts c n = by d (over_every tokens bytes r
       absurd (o.more e (subst (λ x. AreBlanks x) (sym r) c.blanks))
 
 -- what was read so far, and no more
-over_read : (item : Bool) (bytes : Bytes) (at : ℕ) (l : Lexing) (depth : ℕ) (s : IsSoFar item bytes at l.start l.tokens.items depth l.end) → IsOver s.rest depth l.stop
-    → IsLexed bytes at l s.rest
-over_read item bytes at l depth s o = record {
+over_read : (item : Bool) (bytes : Bytes) (at : ℕ) (l : Lexing) (depth : ℕ) (s : IsSoFar item bytes at l.start l.tokens.items depth l.end) → (l.stop ≡ End → l.end ≡ length bytes)
+    → IsOver s.rest depth l.stop → IsLexed bytes at l s.rest
+over_read item bytes at l depth s w o = record {
   from = s.from;
   onward = s.onward;
   within = s.behind.within;
-  place = first_place bytes at l.start s.first;
+  first = s.first;
+  behind = λ n. s.behind;
+  ended = w;
   begins = s.begins;
   nested = s.nested;
   blanks = o.blanks;
@@ -225,18 +227,18 @@ over_read item bytes at l depth s o = record {
   faulty (t ∷ ts) b e a = blanks_none (drop at bytes) a t b.0 b.1
 
 pub over_lexing : (item : Bool) (bytes : Bytes) (at : ℕ) (l : Lexing) (depth : ℕ) (s : IsSoFar item bytes at l.start l.tokens.items depth l.end) → (l.stop ≡ End) ⊎ (l.stop ≡ End → ⊥)
-    → IsOver s.rest depth l.stop → IsLexingUpTo item bytes at l
-over_lexing true bytes at l depth s d o = record {
+    → (l.stop ≡ End → l.end ≡ length bytes) → IsOver s.rest depth l.stop → IsLexingUpTo item bytes at l
+over_lexing true bytes at l depth s d w o = record {
   rest = s.rest;
-  read = over_read true bytes at l depth s o;
+  read = over_read true bytes at l depth s w o;
   stop = λ e. absurd (o.no_stop e);
   no_stop = λ e. s.no_stop refl;
   every = λ ts behind g n u.
       over_every (tokens_of l.tokens.items) (drop at bytes) s.rest l.stop s.begins (subst (λ k. IsOver s.rest k l.stop) s.opened o) ts behind g n;
 }
-over_lexing false bytes at l depth s d o = record {
+over_lexing false bytes at l depth s d w o = record {
   rest = s.rest;
-  read = over_read false bytes at l depth s o;
+  read = over_read false bytes at l depth s w o;
   no_stop = o.no_stop;
   every = over_every (tokens_of l.tokens.items) (drop at bytes) s.rest l.stop s.begins (subst (λ k. IsOver s.rest k l.stop) s.opened o);
   whole = over_whole (tokens_of l.tokens.items) (drop at bytes) s.rest l.stop d s.begins (subst (λ k. IsOver s.rest k l.stop) s.opened o);
@@ -261,7 +263,7 @@ pub lexing_end : (item : Bool) (bytes : Bytes) (at : ℕ) (l : Lexing) (depth : 
 lexing_end item bytes at l depth s w e =
     let here = s.behind.within in
     let blanks = s.behind.end (omega arith) in
-    over_lexing item bytes at l depth s (inl e) (record {
+    over_lexing item bytes at l depth s (inl e) (λ f. omega arith) (record {
       no_stop = λ f. end_no_full (sym e ∙ f);
       blanks = λ f. blanks;
       more = λ f. absurd (f e);
@@ -272,7 +274,7 @@ lexing_end item bytes at l depth s w e =
 pub lexing_bad : (item : Bool) (bytes : Bytes) (at : ℕ) (l : Lexing) (depth : ℕ) → IsSoFar item bytes at l.start l.tokens.items depth l.end → l.end < length bytes
     → NoTokenWithin bytes l.end depth → l.stop ≡ Bad → IsLexingUpTo item bytes at l
 lexing_bad item bytes at l depth s w n e =
-    over_lexing item bytes at l depth s (inr (λ f. bad_no_end (sym e ∙ f))) (record {
+    over_lexing item bytes at l depth s (inr (λ f. bad_no_end (sym e ∙ f))) (λ f. absurd (bad_no_end (sym e ∙ f))) (record {
       no_stop = λ f. bad_no_full (sym e ∙ f);
       blanks = λ f. absurd (bad_no_end (sym e ∙ f));
       more = λ f. s.behind.goes_on w;
@@ -301,7 +303,9 @@ lexing_stop bytes at l tokens depth place t s w k d f items end stop =
         from = s.from;
         onward = omega arith;
         within = omega arith;
-        place = first_place bytes at l.start s.first;
+        first = s.first;
+        behind = λ n. absurd (n stop);
+        ended = λ e. absurd (full_no_end (sym stop ∙ e));
         begins = begins;
         nested = subst (λ ts. nesting (tokens_of ts) ≤ DEEPEST_NESTING) (sym items) (push_nested tokens t depth s.nested s.opened s.shallow d);
         blanks = λ e. absurd (full_no_end (sym stop ∙ e));

@@ -4,20 +4,24 @@ use Rattle.si_defs.specs.Bytes.{Bytes}
 use Rattle.si_defs.specs.Tokens.{Token, Begins, Consists, AreBlanks}
 use Rattle.si_defs.specs.Grammar.{nesting}
 use Rattle.si_defs.specs.declared.TheConstants.{DEEPEST_NESTING}
-use Rattle.si_defs.specs.Texts.{IsPlace}
 use Rattle.si_lex.specs.declared.lexing.Lexing.{Lexing}
 use Rattle.si_lex.specs.declared.lexing.Stop.TheVariants.{End, FullStop}
 use Rattle.si_lex.specs.Lexemes.{tokens_of}
+use Rattle.si_lex.specs.Places.{IsBehindBlanks}
 use Rattle.si_lex.specs.FullStops.{HasNoStop, GoesToStop, EndsAtStop}
 
--- What was read, whichever tokens are wanted: `start` is the place behind the longest blanks.
+-- What was read, whichever tokens are wanted: `start` is the place behind the longest blanks, and
+-- so is `end` behind what was read, but where a full stop ends it.
 pub record IsLexed (bytes : Bytes) (at : ℕ) (l : Lexing) (rest : Bytes) : Type 0 where
   pub from : at ≤ l.start
   pub onward : l.start ≤ l.end
   pub within : l.end ≤ length bytes
-  pub place : (AreBlanks (drop at bytes) → ⊥) → IsPlace (drop at bytes) (drop l.start bytes)
+  pub first : IsBehindBlanks bytes (drop at bytes) l.start
   pub begins : Begins (drop at bytes) (tokens_of l.tokens.items) rest
   pub nested : nesting (tokens_of l.tokens.items) ≤ DEEPEST_NESTING
+  pub behind : (l.stop ≡ FullStop → ⊥) → IsBehindBlanks bytes rest l.end
+  -- at the end nothing but blanks was left
+  pub ended : l.stop ≡ End → l.end ≡ length bytes
   pub blanks : l.stop ≡ End → AreBlanks rest
   -- without tokens, the stop says whether anything but blanks stands there
   pub faulty : (l.stop ≡ End → ⊥) → AreBlanks (drop at bytes) → ⊥

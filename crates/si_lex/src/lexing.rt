@@ -34,7 +34,8 @@ pub struct Lexing<'a> {
     pub tokens: Vec<Lexeme<'a>>,
     /// The place behind the blanks before the first token, in bytes from their start.
     pub start: usize,
-    /// The place behind what was read.
+    /// The place behind what was read: behind a full stop that ends an item, else behind the blanks
+    /// that follow the last token.
     pub end: usize,
     /// Why there are no more.
     pub stop: Stop,

@@ -50,8 +50,12 @@ file_back bytes read h = file_answered bytes read (only read h) where
   only None h = h
   only (Some f) h = h
 
+only_pattern : (bytes : Bytes) (r : Option program_pattern.Pattern) → ReadsPattern bytes kind.Term r → IsOnly (λ p. IsOfKind kind.Term p × IsPatternText p bytes) (option_map pattern_of r)
+only_pattern bytes None h = λ p k. h p k.0 k.1
+only_pattern bytes (Some p) h = ((h.of_kind, h.text), λ other k. h.only other k.0 k.1)
+
 pub term_back : (bytes : Bytes) (read : Option program_pattern.Pattern) → ReadsPattern bytes kind.Term read → ReadsBackTerm bytes (option_map pattern_of read)
-term_back bytes read h = term_answered (IsOfKind kind.Term) bytes (option_map pattern_of read) (λ t. tt) (only read h) where
-  only : (r : Option program_pattern.Pattern) → ReadsPattern bytes kind.Term r → IsOnly (λ p. IsOfKind kind.Term p × IsPatternText p bytes) (option_map pattern_of r)
-  only None h = λ p k. h p k.0 k.1
-  only (Some p) h = ((h.of_kind, h.text), λ other k. h.only other k.0 k.1)
+term_back bytes read h = term_answered (IsOfKind kind.Term) bytes (option_map pattern_of read) (λ t. tt) (only_pattern bytes read h)
+
+pub entry_back : (bytes : Bytes) (read : Option program_pattern.Pattern) → ReadsPattern bytes kind.Term read → ReadsBackEntry bytes (option_map pattern_of read)
+entry_back bytes read h = entry_answered (IsOfKind kind.Term) bytes (option_map pattern_of read) (λ t. tt) (only_pattern bytes read h)

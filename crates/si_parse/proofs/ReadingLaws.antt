@@ -16,6 +16,7 @@ use Rattle.si_lex.specs.declared.lexeme.Lexeme.{Lexeme}
 use Rattle.si_lex.specs.declared.lexing.Lexing.{Lexing}
 use Rattle.si_lex.specs.declared.lexing.Stop.{Stop}
 use Rattle.si_lex.specs.declared.lexing.Stop.TheVariants.{End, Bad, FullStop}
+use Rattle.si_lex.proofs.LexingLaws.{first_place}
 use Rattle.si_lex.proofs.TokenLaws.{begins_unique, blanks_none}
 use Rattle.si_parse.specs.Parsing.{ReadsTokens, Anything}
 use Rattle.si_parse.specs.GrammarRules.{IsInclude}
@@ -158,14 +159,14 @@ module _ (bytes : Bytes) (at : ℕ) (l : Lexing) (h : IsItemLexing bytes at l) w
           onward = let a = h.read.onward in let b = h.read.within in omega arith
 
           fault : IsFault bytes at l.start
-          fault = record { from = h.read.from; within = onward; faulty = record { more = more; no_item = none_begins }; behind = h.read.place more }
+          fault = record { from = h.read.from; within = onward; faulty = record { more = more; no_item = none_begins }; behind = first_place bytes at l.start h.read.first more }
     fault_read more (read.Language other) f =
         subst (λ n. IsFault bytes at n × IsForeign (drop at bytes)) (sym f.0) (fault, foreign_begins f.1) where
           onward : l.start ≤ length bytes
           onward = let a = h.read.onward in let b = h.read.within in omega arith
 
           fault : IsFault bytes at l.start
-          fault = record { from = h.read.from; within = onward; faulty = record { more = more; no_item = none_begins }; behind = h.read.place more }
+          fault = record { from = h.read.from; within = onward; faulty = record { more = more; no_item = none_begins }; behind = first_place bytes at l.start h.read.first more }
     fault_read more (read.Cnf c end) f = absurd f
     fault_read more (read.Include file s end) f = absurd f
     fault_read more read.End f = absurd f

@@ -3,7 +3,7 @@ ghost use Rattle.std.specs.Prelude.{◌≡◌, ◌≤◌, length, IfOk, option_m
 ghost use Rattle.si_lex.specs.Lexemes.{tokens_of};
 ghost use Rattle.si_term.specs.Meaning.{pattern_of};
 ghost use Rattle.si_defs.specs.declared.TheConstants.{MOST_BYTES};
-ghost use Rattle.si_parse.specs.ReadBack.{ReadsBackTerm};
+ghost use Rattle.si_parse.specs.ReadBack.{ReadsBackEntry, ReadsBackTerm};
 ghost use Rattle.si_parse.specs.Reading.{ReadsPattern, ReadsWhole};
 ghost use Rattle.si_parse.specs.declared.pattern.PatternKind.TheVariants.{Lit, Term};
 
@@ -33,6 +33,8 @@ pub fn read_pattern(
     ensures read { IfOk result (ReadsPattern bytes.now kind) }
     ensures back { kind ≡ Term → IfOk result
         (λ read. ReadsBackTerm bytes.now (option_map pattern_of read)) }
+    ensures entry_back { kind ≡ Term → IfOk result
+        (λ read. ReadsBackEntry bytes.now (option_map pattern_of read)) }
 {
     let lexing = lex(alloc, bytes, 0)?;
     match lexing.stop {

@@ -36,7 +36,7 @@ sample_line clauses gained sum =
 abbrev pub taken_line : Name → Bytes
 taken_line name = codes "! taken " ++ name_text name
 
--- what the tried clause has, then what stands against it
+-- the use that was tried, and the one that it goes against
 abbrev pub misused_line : Symbol → Symbol → Bytes
 misused_line found kept =
     codes "! use " ++ symbol_text found ++ codes " " ++ shape_text found.side found.arity

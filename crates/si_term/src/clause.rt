@@ -1,5 +1,6 @@
 // Names, literals, clauses, patterns, and where entries stand.
-use crate::list::{Literals, Path};
+use crate::list::Literals;
+use crate::path::Path;
 use crate::term::Term;
 use crate::text::Text;
 use si_defs::NameKind;

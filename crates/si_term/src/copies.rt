@@ -5,12 +5,12 @@ ghost use Rattle.si_term.specs.Terms.{term_of};
 ghost use Rattle.si_term.specs.Meaning.{literal_of, clause_of, pattern_of, entry_of};
 
 use crate::clause::{Clause, Entry, Literal, Name, Pattern};
-use crate::list::Literals;
+use crate::list::{Literals, Texts};
 use crate::term::{Sym, Term, Terms};
 use crate::text::Text;
 use std::alloc::{AllocError, Global};
 
-/// The pattern that is the same literal, or the same term.
+/// A pattern that looks for what the entry is, in memory of its own.
 pub fn to_pattern(alloc: Global, entry: Entry<'_>) -> Result<Pattern, AllocError>
     ensures { IfOk result (λ p. pattern_entry (pattern_of p) ≡ entry_of entry.entry) }
 {
@@ -18,6 +18,17 @@ pub fn to_pattern(alloc: Global, entry: Entry<'_>) -> Result<Pattern, AllocError
         Entry::Lit(literal) => Ok(Pattern::Lit(literal.copy(alloc)?)),
         Entry::Sub(term) => Ok(Pattern::Term(copy_term(alloc, term)?)),
     }
+}
+
+/// Equal texts.
+pub fn copy_texts(alloc: Global, texts: &[&[u8]]) -> Result<Texts, AllocError>
+    ensures { IfOk result (λ copies. copies ≡ map (λ t. t.now) texts.now) }
+{
+    let mut copies = Texts::new(alloc);
+    for text in texts {
+        copies.push(Text::from_bytes(alloc, *text)?)?;
+    }
+    Ok(copies)
 }
 
 impl Text {

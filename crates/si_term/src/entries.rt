@@ -10,9 +10,10 @@ ghost use Rattle.si_term.specs.Walks.{subterms, subterms_of_all, arguments, path
 ghost use Rattle.si_term.specs.Gathered.{gathered};
 
 use crate::clause::{Clause, Entry, Pattern, Place};
-use crate::list::{Path, Texts};
+use crate::copies::copy_texts;
+use crate::list::Texts;
+use crate::path::Path;
 use crate::term::Term;
-use crate::text::Text;
 use indexmap::IndexSet;
 use std::alloc::{AllocError, Global};
 
@@ -109,7 +110,7 @@ pub fn vars_of(alloc: Global, entry: Entry<'_>) -> Result<Texts, AllocError>
 {
     let mut seen = IndexSet::new(alloc);
     gather_term(whole_term(entry), &mut seen)?;
-    copy_all(alloc, seen.as_slice())
+    copy_texts(alloc, seen.as_slice())
 }
 
 impl Pattern {
@@ -132,17 +133,6 @@ fn whole_term(entry: Entry<'_>) -> &Term
         Entry::Lit(literal) => &literal.atom,
         Entry::Sub(term) => term,
     }
-}
-
-/// The texts, in memory of their own.
-fn copy_all(alloc: Global, texts: &[&[u8]]) -> Result<Texts, AllocError>
-    ensures { IfOk result (λ names. names ≡ map (λ t. t.now) texts.now) }
-{
-    let mut names = Texts::new(alloc);
-    for text in texts {
-        names.push(Text::from_bytes(alloc, *text)?)?;
-    }
-    Ok(names)
 }
 
 /// The number of proper subterms that are no variables.

@@ -1,5 +1,5 @@
 // Lists that contracts see as lists of their items.
-ghost use Rattle.std.specs.Prelude.{◌≡◌, ◌<◌, [], ◌∷◌, ◌++◌, OnOk, OnErr, Some, length, reverse, slice_get};
+ghost use Rattle.std.specs.Prelude.{◌≡◌, ◌<◌, [], ◌∷◌, ◌++◌, OnOk, OnErr, Some, length, slice_get};
 
 use crate::clause::{Literal, Name};
 use crate::term::Sym;
@@ -24,9 +24,6 @@ pub type Syms = Items<Sym>;
 
 /// The names of variables.
 pub type Texts = Items<Text>;
-
-/// Argument numbers from 1, from an atom down to a subterm.
-pub type Path = Items<u32>;
 
 impl<T> Model for Items<T> {
     ghost use Rattle.std.specs.Prelude.{List};
@@ -66,13 +63,6 @@ impl<T> Items<T> {
         ensures { result.now ≡ self.now }
     {
         self.items.as_slice()
-    }
-
-    /// Turns the order of the items round.
-    pub fn reverse(&mut self)
-        ensures { self.new ≡ reverse self.old }
-    {
-        self.items.reverse();
     }
 }
 

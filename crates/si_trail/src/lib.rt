@@ -38,8 +38,7 @@ impl<T> Model for Trail<T> {
 }
 
 impl<T: Copy> Trail<T> {
-    /// A trail with so many slots, none of which is bound. It takes all the memory that the trail
-    /// ever needs.
+    /// A trail with so many slots, none of which is bound. No other call takes memory.
     pub fn with_slots(alloc: Global, n: usize) -> Result<Trail<T>, AllocError>
         ensures { IfOk result (λ t. t ≡ record { slots = n; pairs = [] }) }
     {

@@ -20,7 +20,7 @@ impl MemoryLibrary {
     ghost use Rattle.si_io.specs.Library.{Counts};
     ghost use Rattle.si_io.specs.Memory.{library_files, library_counts, library_failing, library_calls, has_no_file, PutsFile, SameLibrary};
 
-    /// A library without files. The fetches whose numbers, from 1, stand in `failing` fail.
+    /// A library without files. `failing` lists the fetches that fail, by their numbers from 1.
     pub fn new(alloc: Global, failing: Vec<u32>) -> MemoryLibrary
         ensures files { library_files result ≡ has_no_file }
         ensures counts { library_counts result ≡ record { faults = 0; misses = 0; bigs = 0 } }

@@ -7,7 +7,7 @@ use std::alloc::{AllocError, Global};
 /// A sink that keeps what it was given in memory, up to its room, which it takes when it is made.
 ///
 /// A call takes all of its bytes, at most the chunk. It fails where its number, from 1, is listed
-/// or where the bytes that it would take don't fit the room, and nowhere else.
+/// and where the room is too small for what it is due to take, and nowhere else.
 #[derive(Drop)]
 pub struct MemorySink {
     buffer: Vec<u8>,
@@ -22,8 +22,8 @@ pub struct MemorySink {
 impl MemorySink {
     ghost use Rattle.si_io.specs.Memory.{sink_bytes, sink_room, sink_chunk, sink_failing, sink_calls, sink_faults};
 
-    /// A sink with room for `room` bytes. A call takes at most `chunk` of them, where 0 counts as
-    /// 1. The calls whose numbers, from 1, stand in `failing` fail.
+    /// A sink with room for `room` bytes. A call takes at most `chunk` of them, and a `chunk` of 0
+    /// is one of 1. `failing` lists the calls that fail, by their numbers from 1.
     ///
     /// `AllocError`: there is no memory for the room.
     pub fn new(

@@ -20,8 +20,8 @@ pub struct MemorySource {
 impl MemorySource {
     ghost use Rattle.si_io.specs.Memory.{source_left, source_chunk, source_failing, source_calls, source_faults};
 
-    /// A source of these bytes. A call gives at most `chunk` of them, where 0 counts as 1. The
-    /// calls whose numbers, from 1, stand in `failing` fail.
+    /// A source of these bytes. A call gives at most `chunk` of them, and a `chunk` of 0 is one of
+    /// 1. `failing` lists the calls that fail, by their numbers from 1.
     pub fn new(bytes: Vec<u8>, chunk: usize, failing: Vec<u32>) -> MemorySource
         ensures left { source_left result ≡ bytes.items }
         ensures chunk { source_chunk result ≡ max chunk 1 }

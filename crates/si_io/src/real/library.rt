@@ -9,8 +9,8 @@ use std::alloc::AllocError;
 use std::io::Read;
 use std::rt::Files;
 
-/// Bytes that are asked of a file at first.
-const FIRST: usize = 1 << 14;
+/// Bytes that are asked of a file at first: room for them is filled and cut again, so few.
+const FIRST: usize = 1 << 12;
 
 /// A library over the files of the system. A name is a path from the folder where the program was
 /// started.
@@ -72,7 +72,7 @@ impl<R: Files> Library for RealLibrary<R> {
 /// Reads a file to its end, or to one byte more than the limit. Of a reader whose bytes are known
 /// it takes all of them.
 ///
-/// It reserves at most twice as many bytes.
+/// It is meant to reserve no more than twice as many bytes; no clause says so.
 fn read_file<S, F: Read>(
     folder: &mut Folder<S>,
     file: &mut F,

@@ -19,5 +19,5 @@ returns c =
     ∙ ap (λ known. gathered known found) from_none
     ∙ gathered-firsts found
     ∙ ap (firsts bytes_eq) c.whole_term.ensures in
-    let P : List Bytes → Type 0 = λ l. IfOk c.copy_all.result (λ names. names ≡ l) in
-    subst P all c.copy_all.ensures
+    let P : List Bytes → Type 0 = λ l. IfOk c.copy_texts.result (λ names. names ≡ l) in
+    subst P all c.copy_texts.ensures

@@ -155,7 +155,7 @@ module _ {V : Type 0} (same : V → V → Bool) (decides : (x y : V) → Decides
 
 -- ---- keys that stand for members
 module _ {K V : Type 0} (f : K → V) (eq : K → K → Bool) (same : V → V → Bool) (goes : (k l : K) → eq k l ≡ same (f k) (f l)) where
-  any-shown : (k : K) (ks : List K) → list_any (eq k) ks ≡ list_any (same (f k)) (map f ks)
+  pub any-shown : (k : K) (ks : List K) → list_any (eq k) ks ≡ list_any (same (f k)) (map f ks)
   any-shown k [] = refl
   any-shown k (l ∷ ks) = λ i. goes k l i || any-shown k ks i
 

@@ -1,5 +1,6 @@
 pub mod Subterms
 pub mod Inserted
+pub mod NameLaws
 pub mod Keys
 pub mod Numbers
 pub mod Walking

@@ -1,5 +1,6 @@
 -- What a walk over terms of the program has met and written.
-use Rattle.std.specs.Prelude.{◌≡◌, ℕ, ◌+◌, ◌*◌, ◌^◌, ◌<◌, ◌≤◌, Bool, List, [], ◌++◌, length, map, bytes_eq}
+use Rattle.std.specs.Prelude.{◌≡◌, ℕ, ◌+◌, ◌*◌, ◌^◌, ◌<◌, ◌≤◌, Bool, true, false, List, [], ◌++◌, length, map, Option, None, Some, bytes_eq}
+use Rattle.std.specs.List.{list_any, position_or_len}
 use Rattle.indexmap.specs.IndexSet.{insert_all}
 use Rattle.si_defs.specs.Bytes.{Bytes}
 use Rattle.si_defs.specs.Terms as terms
@@ -27,7 +28,7 @@ abbrev pub symbol_of_key : SymbolKey → Symbol
 symbol_of_key k = record { kind = k.kind; text = k.text.now; side = k.side; arity = k.arity }
 
 abbrev pub met_names : Met → List Bytes
-met_names m = map (λ k. k.now) m.names.keys
+met_names m = m.names
 
 abbrev pub met_extra : Met → List Symbol
 met_extra m = map symbol_of_key m.extra.keys
@@ -44,6 +45,11 @@ pub record WalkState : Type 0 where
 
 abbrev pub walk_state : Met → List Cell → WalkState
 walk_state m cells = record { names = met_names m; extra = met_extra m; cells = cells }
+
+-- the place of the first member that passes a test, if there is one
+abbrev pub FindsPlace : {V : Type 0} → (V → Bool) → List V → Option ℕ → Type 0
+FindsPlace test xs None = list_any test xs ≡ false
+FindsPlace test xs (Some n) = (list_any test xs ≡ true) × (position_or_len test xs ≡ n) × (n < length xs)
 
 -- so many stand before x, whatever comes behind
 abbrev pub IsIndex : {V : Type 0} → (V → V → Bool) → List V → V → ℕ → Type 0

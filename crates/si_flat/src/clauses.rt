@@ -48,7 +48,7 @@ pub fn flatten_clauses<'a>(
     let first = write_clause(alloc, Owner::Query, c.as_slice(), &mut met)?;
     met.forget_variables();
     let second = write_clause(alloc, Owner::Entry, d.as_slice(), &mut met)?;
-    Ok((Flat { cells: first }, Flat { cells: second }))
+    Ok((Flat::from_vec(first), Flat::from_vec(second)))
 }
 
 // The cells of a clause.

@@ -36,9 +36,7 @@ pub fn flatten_entry<T: SymTable>(
     if written.met.has_extra() {
         return Ok(None);
     }
-    Ok(Some(Flat {
-        cells: written.cells,
-    }))
+    Ok(Some(Flat::from_vec(written.cells)))
 }
 
 /// The flat term of a pattern, numbered in the same way, as a query's. Symbols that the table lacks
@@ -55,9 +53,7 @@ pub fn flatten_pattern<T: SymTable>(
     written.write(table, Owner::Query, pattern.as_entry())?;
     let extra = written.met.extra_symbols(alloc)?;
     Ok(FlatQuery {
-        flat: Flat {
-            cells: written.cells,
-        },
+        flat: Flat::from_vec(written.cells),
         extra,
     })
 }

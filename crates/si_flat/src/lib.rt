@@ -13,6 +13,7 @@ ghost use Rattle.si_flat.specs.Cells.{IsWhole, span};
 mod clauses;
 mod flatten;
 mod met;
+mod names;
 mod walk;
 
 pub use clauses::flatten_clauses;
@@ -20,7 +21,9 @@ pub use flatten::{EntryBuffer, FlatQuery, flatten_entry, flatten_pattern};
 pub use met::FIRST_EXTRA;
 pub use si_defs::Relation as Kind;
 use si_term::list::Items;
+use smallvec::SmallVec;
 use std::alloc::{AllocError, Global};
+use std::default::MadeWith;
 use std::marker::Model;
 
 /// A map of literals: for each literal of a clause in order the number, from 1, of its image.
@@ -67,10 +70,17 @@ impl Cell {
     }
 }
 
-/// The cells of one term. Contracts see the list of the cells.
+/// A query's first variable. It stands in the places of a list that hold nothing.
+impl Default for Cell {
+    fn default() -> Cell {
+        Cell::Query(0)
+    }
+}
+
+/// The cells of one term. Contracts see the list of the cells. A short term takes no memory.
 #[derive(Drop)]
 pub struct Flat {
-    cells: Vec<Cell>,
+    cells: SmallVec<Cell, 2>,
 }
 
 impl Model for Flat {
@@ -93,8 +103,18 @@ impl Flat {
         ensures { IfOk result (λ f. f ≡ cells.now) }
     {
         Ok(Flat {
-            cells: Vec::from_slice(alloc, cells)?,
+            cells: SmallVec::from_slice(alloc, cells)?,
         })
+    }
+
+    // The term of these cells, in the memory that they have.
+    fn from_vec(cells: Vec<Cell>) -> Flat
+        requires { IsWhole cells.items }
+        ensures { result ≡ cells.items }
+    {
+        Flat {
+            cells: SmallVec::from_vec(cells),
+        }
     }
 
     /// The cells, which are whole.
@@ -103,6 +123,16 @@ impl Flat {
         ensures whole { IsWhole result.now }
     {
         self.cells.as_slice()
+    }
+}
+
+/// A query's first variable. It takes no memory, and stands in the places of a list that hold
+/// nothing.
+impl MadeWith<Global> for Flat {
+    fn made_with(alloc: Global) -> Flat {
+        let mut cells = SmallVec::new(alloc);
+        cells.push_reserved(Cell::Query(0));
+        Flat { cells }
     }
 }
 

@@ -8,6 +8,7 @@ ghost use Rattle.si_flat.specs.Numbered.{one_above};
 ghost use Rattle.si_flat.specs.Flattened.{unnumbered};
 ghost use Rattle.si_flat.specs.Flattening.{met_names, symbol_of_key, met_extra, IsIndex, IsSymbolNumber};
 
+use crate::names::Names;
 use crate::walk::Scheme;
 use indexmap::IndexSet;
 use si_defs::{Side, SymKind};
@@ -47,7 +48,7 @@ impl SymbolKey<'_> {
 /// which they came.
 #[derive(Drop)]
 pub(crate) struct Met<'a> {
-    names: IndexSet<&'a [u8]>,
+    names: Names<'a>,
     extra: IndexSet<SymbolKey<'a>>,
 }
 
@@ -57,7 +58,7 @@ impl<'a> Met<'a> {
         ensures extra { met_extra result ≡ [] }
     {
         Met {
-            names: IndexSet::new(alloc),
+            names: Names::new(alloc),
             extra: IndexSet::new(alloc),
         }
     }
@@ -76,7 +77,9 @@ impl<'a> Met<'a> {
         ensures extra { met_extra self.new ≡ [] }
     {
         self.names.clear();
-        self.extra.clear();
+        if self.has_extra() {
+            self.extra.clear();
+        }
     }
 
     // The names of the variables.
@@ -112,7 +115,7 @@ impl<'a> Met<'a> {
         ensures extra { OnOk result (met_extra self.new ≡ met_extra self.old) }
         ensures number { IfOk result (λ n. IsIndex bytes_eq (met_names self.new) name.now n) }
     {
-        let (number, _) = self.names.insert_full(name)?;
+        let number = self.names.insert(name)?;
         Ok(number as u32)
     }
 

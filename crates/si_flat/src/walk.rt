@@ -48,7 +48,8 @@ impl<'a> WrittenEntry<'a> {
         entry: Entry<'a>,
     ) -> Result<(), AllocError>
         requires { size (whole_of (entry_of entry)) ≤ MOST_OCCURRENCES }
-        ensures { OnOk result (WritesEntry (T.pairs table.now) owner (entry_of entry.entry) self.new) }
+        ensures { OnOk result (WritesEntry (T.pairs table.now) owner (entry_of entry.entry)
+            self.new) }
     {
         let (positive, term) = match entry {
             Entry::Lit(literal) => (literal.positive, &literal.atom),

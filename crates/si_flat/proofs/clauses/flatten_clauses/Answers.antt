@@ -1,4 +1,4 @@
-use Rattle.std.proofs.Common.{◌≡◌, List, [], length, map, refl, ap, subst, arith}
+use Rattle.std.proofs.Common.{◌≡◌, List, [], length, map, refl, ap, subst, sym, arith}
 use Rattle.si_defs.specs.Clauses.{AreSoundLiterals, literals_size}
 use Rattle.si_term.specs.Meaning.{literal_of}
 use Rattle.si_term.specs.declared.clause.Literal.{Literal}
@@ -37,14 +37,15 @@ written cs ds read next start between again end sound_c sound_d read_is next_is 
     (ap (λ (w : WalkState). w.names) again_is) (ap (λ (w : WalkState). w.extra) again_is) (ap (λ (w : WalkState). w.cells) again_is)
     (subst (λ ls. Flattens [] (clause_scheme Entry) again end (clause_piece (map literal_of ls))) next_is second)
 
-pub invariant_of-result : goal.invariant_of-result
-invariant_of-result c =
+pub from_vec-requires : goal.from_vec-requires
+from_vec-requires c =
     (_, (written c.args.c.now c.args.d.now c.as_slice.result.now c.as_slice-2.result.now (walk_state c.new-met.result []) (walk_state c.write_clause.new.met c.in_ok-first.first.items) (walk_state c.forget_variables.new.self []) (walk_state c.write_clause-2.new.met c.in_ok-second.second.items) c.requires.c c.requires.d c.as_slice.ensures c.as_slice-2.ensures (λ i. record { names = c.new-met.ensures.names i; extra = c.new-met.ensures.extra i; cells = [] }) c.in_ok-first.ensures (λ i. record { names = c.forget_variables.ensures.names i; extra = c.forget_variables.ensures.extra i; cells = [] }) c.in_ok-second.ensures).first)
 
-pub invariant_of-result-2 : goal.invariant_of-result-2
-invariant_of-result-2 c =
+pub from_vec-requires-2 : goal.from_vec-requires-2
+from_vec-requires-2 c =
     (_, (written c.args.c.now c.args.d.now c.as_slice.result.now c.as_slice-2.result.now (walk_state c.new-met.result []) (walk_state c.write_clause.new.met c.in_ok-first.first.items) (walk_state c.forget_variables.new.self []) (walk_state c.write_clause-2.new.met c.in_ok-second.second.items) c.requires.c c.requires.d c.as_slice.ensures c.as_slice-2.ensures (λ i. record { names = c.new-met.ensures.names i; extra = c.new-met.ensures.extra i; cells = [] }) c.in_ok-first.ensures (λ i. record { names = c.forget_variables.ensures.names i; extra = c.forget_variables.ensures.extra i; cells = [] }) c.in_ok-second.ensures).second)
 
 pub returns : goal.returns
 returns c =
-    written c.args.c.now c.args.d.now c.as_slice.result.now c.as_slice-2.result.now (walk_state c.new-met.result []) (walk_state c.write_clause.new.met c.in_ok-first.first.items) (walk_state c.forget_variables.new.self []) (walk_state c.write_clause-2.new.met c.in_ok-second.second.items) c.requires.c c.requires.d c.as_slice.ensures c.as_slice-2.ensures (λ i. record { names = c.new-met.ensures.names i; extra = c.new-met.ensures.extra i; cells = [] }) c.in_ok-first.ensures (λ i. record { names = c.forget_variables.ensures.names i; extra = c.forget_variables.ensures.extra i; cells = [] }) c.in_ok-second.ensures
+    subst (FlattensClauses (map literal_of c.args.c.now) (map literal_of c.args.d.now)) (λ i. (sym c.from_vec.ensures i, sym c.from_vec-2.ensures i))
+    (written c.args.c.now c.args.d.now c.as_slice.result.now c.as_slice-2.result.now (walk_state c.new-met.result []) (walk_state c.write_clause.new.met c.in_ok-first.first.items) (walk_state c.forget_variables.new.self []) (walk_state c.write_clause-2.new.met c.in_ok-second.second.items) c.requires.c c.requires.d c.as_slice.ensures c.as_slice-2.ensures (λ i. record { names = c.new-met.ensures.names i; extra = c.new-met.ensures.extra i; cells = [] }) c.in_ok-first.ensures (λ i. record { names = c.forget_variables.ensures.names i; extra = c.forget_variables.ensures.extra i; cells = [] }) c.in_ok-second.ensures)

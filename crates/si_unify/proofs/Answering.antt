@@ -8,11 +8,10 @@ use Rattle.std.specs.List.{AllByRecursion}
 use Rattle.si_defs.specs.Terms as terms
 use Rattle.si_flat.specs.Cells.{Symbol, Variable, Term, same_variable, StandsFor, IsWhole}
 use Rattle.si_defs.specs.Substitutions.{Substitution, image}
-use Rattle.si_unify.specs.declared.spots.Spot.{Spot}
 use Rattle.si_unify.specs.declared.spots.SpotPair.{SpotPair}
 use Rattle.si_unify.specs.declared.spots.Question.{Question}
 use Rattle.si_unify.specs.Solving.{Pairs, slot_count, AreInRange, Equalizes, IsSolvedBy, IsAcyclic, IsBinding, IsSolution, IsCommon, HasSolved}
-use Rattle.si_unify.specs.Spots.{text, IsAt, StandsAt, IsLegal, MakesEqual, MakesEqualUpTo, Grows, HasMet, HasClosed, HasAnswered}
+use Rattle.si_unify.specs.Spots.{text, IsAt, left_spot, right_spot, StandsAt, IsSubterm, at_spot, IsLegal, MakesEqual, MakesEqualUpTo, Grows, HasMet, HasClosed, HasAnswered}
 use Rattle.si_unify.specs.Circles.{IsTold}
 use Rattle.si_unify.proofs.Lists.{all_map}
 use Rattle.si_unify.proofs.Places.{whole_at}
@@ -22,24 +21,50 @@ use Rattle.si_unify.proofs.Ranks.{chained_of_triangular}
 use Rattle.si_unify.proofs.Weights.{triangular_of_solved}
 use Rattle.si_unify.proofs.Solutions.{solved_of_triangular}
 
-abbrev pub spot : ℕ → Spot
-spot n = record { base = n; at = 0 }
-
--- the two terms stand at the first two spots behind the slots
-pub left_stands : (q : Question) (pairs : Pairs) (n : ℕ) (t : Term) → n ≡ slot_count q.slots → StandsFor q.left.now t → StandsAt q pairs (spot n) t
-left_stands q pairs n t e h = subst (λ l. IsAt l 0 t) (sym here) (whole_at q.left.now t h)
+-- the two terms stand at their spots
+pub left_stands : (q : Question) (pairs : Pairs) (t : Term) → StandsFor q.left.now t → StandsAt q pairs (left_spot q) t
+left_stands q pairs t h = subst (λ l. IsAt l 0 t) (sym here) (whole_at q.left.now t h)
   where
-    here : text q pairs n ≡ q.left.now
-    here = rw (eq-eqb n (slot_count q.slots) e) refl
+    here : text q pairs (slot_count q.slots) ≡ q.left.now
+    here = rw (eq-eqb (slot_count q.slots) (slot_count q.slots) refl) refl
 
-pub right_stands : (q : Question) (pairs : Pairs) (n : ℕ) (t : Term) → n ≡ slot_count q.slots → StandsFor q.right.now t → StandsAt q pairs (spot (n + 1)) t
-right_stands q pairs n t e h = subst (λ l. IsAt l 0 t) (sym here) (whole_at q.right.now t h)
+pub right_stands : (q : Question) (pairs : Pairs) (t : Term) → StandsFor q.right.now t → StandsAt q pairs (right_spot q) t
+right_stands q pairs t h = subst (λ l. IsAt l 0 t) (sym here) (whole_at q.right.now t h)
   where
-    differs : (m k : ℕ) → m ≡ k → ((m + 1) == k) ≡ false
-    differs m k e = grind (arith, nat_tests)
+    differs : (n : ℕ) → ((n + 1) == n) ≡ false
+    differs n = grind (arith, nat_tests)
 
-    here : text q pairs (n + 1) ≡ q.right.now
-    here = rw (differs n (slot_count q.slots) e, eq-eqb (n + 1) (slot_count q.slots + 1) (ap (λ k. k + 1) e)) refl
+    here : text q pairs (slot_count q.slots + 1) ≡ q.right.now
+    here = rw (differs (slot_count q.slots), eq-eqb (slot_count q.slots + 1) (slot_count q.slots + 1) refl) refl
+
+-- the same, where the slots have been counted
+pub left_subterm : (q : Question) (pairs : Pairs) (n : ℕ) → n ≡ slot_count q.slots → IsLegal q pairs → IsSubterm q pairs (at_spot (record { base = n; at = 0 }) q.left)
+left_subterm q pairs n e legal =
+    subst (λ k. IsSubterm q pairs (at_spot (record { base = k; at = 0 }) q.left)) (sym e) (
+    record {
+      term = legal.left_whole.0;
+      stands = left_stands q pairs legal.left_whole.0 legal.left_whole.1;
+      whole = legal.left_whole.1;
+    }
+    )
+
+pub right_subterm : (q : Question) (pairs : Pairs) (n : ℕ) → n ≡ slot_count q.slots → IsLegal q pairs → IsSubterm q pairs (at_spot (record { base = n + 1; at = 0 }) q.right)
+right_subterm q pairs n e legal =
+    subst (λ k. IsSubterm q pairs (at_spot (record { base = k + 1; at = 0 }) q.right)) (sym e) (
+    record {
+      term = legal.right_whole.0;
+      stands = right_stands q pairs legal.right_whole.0 legal.right_whole.1;
+      whole = legal.right_whole.1;
+    }
+    )
+
+pub met_at :
+    (q : Question) (old new : Pairs) (old_keys new_keys : List SpotPair) (n : ℕ) (b : Bool)
+    → n ≡ slot_count q.slots
+    → HasMet q old new old_keys new_keys (record { base = n; at = 0 }) (record { base = n + 1; at = 0 }) b
+    → HasMet q old new old_keys new_keys (left_spot q) (right_spot q) b
+met_at q old new old_keys new_keys n b e h =
+    subst (λ k. HasMet q old new old_keys new_keys (record { base = k; at = 0 }) (record { base = k + 1; at = 0 }) b) e h
 
 pub legal_at_first : (q : Question) (pairs : Pairs) → AllByRecursion (IsBinding q.slots) pairs → IsAcyclic q.slots pairs → IsWhole q.left.now → IsWhole q.right.now → AreInRange q.slots q.left.now → AreInRange q.slots q.right.now → IsLegal q pairs
 legal_at_first q pairs bindings triangular left right left_range right_range = record {
@@ -59,11 +84,11 @@ pub front_within : {X : Type 0} (old new : List X) → Grows old new → length 
 front_within old new grows = omega (arith, ap length grows.1, length-append old grows.0)
 
 -- ---- the answers
-module _ (q : Question) (old mid : Pairs) (first keys : List SpotPair) (n : ℕ) (empty : first ≡ []) (is : n ≡ slot_count q.slots) (legal : IsLegal q old) where
-  module _ (met : HasMet q old mid first keys (spot n) (spot (n + 1)) true) where
+module _ (q : Question) (old mid : Pairs) (first keys : List SpotPair) (empty : first ≡ []) (legal : IsLegal q old) where
+  module _ (met : HasMet q old mid first keys (left_spot q) (right_spot q) true) where
     complete_so_far : (f : Variable → Term) → IsSolvedBy q.slots old f → Equalizes f q.left.now q.right.now → IsSolvedBy q.slots mid f × AllByRecursion (MakesEqual q mid f) keys
     complete_so_far f solved equal =
-        (met.1 legal.left_whole.0 legal.right_whole.0 (left_stands q old n _ is legal.left_whole.1) (right_stands q old n _ is legal.right_whole.1)).complete
+        (met.1 legal.left_whole.0 legal.right_whole.0 (left_stands q old _ legal.left_whole.1) (right_stands q old _ legal.right_whole.1)).complete
         f solved (subst (AllByRecursion (MakesEqual q old f)) (sym empty) tt) (equal legal.left_whole.0 legal.right_whole.0 legal.left_whole.1 legal.right_whole.1)
 
     module _ (new : Pairs) (grows : Grows mid new) (closed : HasClosed q mid new keys true) where
@@ -72,7 +97,7 @@ module _ (q : Question) (old mid : Pairs) (first keys : List SpotPair) (n : ℕ)
 
       sound_still : (f : Variable → Term) → IsSolvedBy q.slots new f → Equalizes f q.left.now q.right.now
       sound_still f solved t u left right =
-          (met.1 t u (left_stands q old n t is left) (right_stands q old n u is right)).sound
+          (met.1 t u (left_stands q old t left) (right_stands q old u right)).sound
           f (solved_before q mid new f grows solved)
           (
           equal_before q mid new keys keys f (terms.size (terms.substitute f t)) grows ([], sym (append-nil keys))
@@ -97,9 +122,9 @@ module _ (q : Question) (old mid : Pairs) (first keys : List SpotPair) (n : ℕ)
     pub answered_unclosed : (new : Pairs) → HasClosed q mid new keys false → HasAnswered q old new false
     answered_unclosed new closed = λ f solved equal. let h = complete_so_far f solved equal in closed f h.0 h.1
 
-  pub answered_unmet : (new : Pairs) → HasMet q old mid first keys (spot n) (spot (n + 1)) false → HasAnswered q old new false
+  pub answered_unmet : (new : Pairs) → HasMet q old mid first keys (left_spot q) (right_spot q) false → HasAnswered q old new false
   answered_unmet new met = λ f solved equal.
-      met legal.left_whole.0 legal.right_whole.0 (left_stands q old n _ is legal.left_whole.1) (right_stands q old n _ is legal.right_whole.1)
+      met legal.left_whole.0 legal.right_whole.0 (left_stands q old _ legal.left_whole.1) (right_stands q old _ legal.right_whole.1)
       f solved (equal legal.left_whole.0 legal.right_whole.0 legal.left_whole.1 legal.right_whole.1)
 
 -- ---- what the answers say of substitutions

@@ -13,13 +13,14 @@ use Rattle.si_trail.specs.Trails.{value_at}
 use Rattle.si_unify.specs.declared.slots.Slots.{Slots}
 use Rattle.si_unify.specs.declared.spots.Spot.{Spot}
 use Rattle.si_unify.specs.declared.spots.SpotPair.{SpotPair}
+use Rattle.si_unify.specs.declared.spots.Subterm.{Subterm}
 use Rattle.si_unify.specs.declared.spots.Question.{Question}
-use Rattle.si_unify.proofs.Pieces.{handed_one_more}
-use Rattle.si_unify.specs.Solving.{IsHandedIn, Pairs, slot_count, slot_of, variable_of, is_frozen, IsInRange, CellIsInRange, AreInRange, Equalizes, IsSolvedBy, IsBinding}
-use Rattle.si_unify.specs.Spots.{cells_now, text, IsAt, StandsAt, IsSpot, cell_slot, IsBelow, ComesDown, IsChained, IsLegal, MakesEqual, IsApart, ArePairs, Meets, IsGoingOn, IsUnbound}
+use Rattle.si_unify.proofs.Pieces.{handed_one_more, piece_at}
+use Rattle.si_unify.specs.Solving.{IsHandedIn, IsPieceOf, Pairs, slot_count, slot_of, variable_of, is_frozen, IsInRange, CellIsInRange, AreInRange, Equalizes, IsSolvedBy, IsBinding}
+use Rattle.si_unify.specs.Spots.{cells_now, text, IsAt, StandsAt, IsSpot, IsSubterm, at_spot, Binds, cell_slot, IsBelow, ComesDown, IsChained, IsLegal, MakesEqual, IsApart, ArePairs, Meets, IsGoingOn, IsUnbound}
 use Rattle.si_unify.proofs.Reading.{same_term}
-use Rattle.si_unify.proofs.Lists.{all_with, all_map, all_append, all_front, all_back, all_take, all_drop, apart_from, still_bound}
-use Rattle.si_unify.proofs.Places.{all_at, at_unique, first_cell, first_of, inside, variable_of-slot_of}
+use Rattle.si_unify.proofs.Lists.{all_with, all_map, all_append, all_front, all_back, apart_from, still_bound}
+use Rattle.si_unify.proofs.Places.{all_at, at_unique, first_cell, first_of, inside, text_in_range, variable_of-slot_of}
 
 -- ---- texts stay as the list grows
 pub text_stays : (q : Question) (pairs more : Pairs) (base : ℕ) → 0 < length (text q pairs base) → text q (pairs ++ more) base ≡ text q pairs base
@@ -80,9 +81,43 @@ cut_stands cells piece at u stands e whole =
     } in
     subst (StandsFor piece) (at_unique cells at whole.0 u at_w stands) whole.1
 
-pub cut_in_range : (slots : Slots) (cells piece : List Cell) (at : ℕ) → AreInRange slots cells → piece ≡ take (length piece) (drop at cells) → AreInRange slots piece
-cut_in_range slots cells piece at range e =
-    subst (AreInRange slots) (sym e) (all_take (CellIsInRange slots) (length piece) (drop at cells) (all_drop (CellIsInRange slots) at cells range))
+-- the cells of a subterm stand for the term at its spot
+pub same_whole : (q : Question) (pairs : Pairs) (s : Subterm) (t : Term) → IsSubterm q pairs s → StandsAt q pairs s.spot t → StandsFor s.cells.now t
+same_whole q pairs s t is stands = subst (StandsFor s.cells.now) (at_unique _ _ is.term t is.stands stands) is.whole
+
+-- the cells of the term at a spot
+pub cut_subterm :
+    (q : Question) (pairs : Pairs) (spot : Spot) (piece : Bor (List Cell))
+    → IsSpot q pairs spot
+    → piece.now ≡ take (length piece.now) (drop spot.at (text q pairs spot.base))
+    → IsWhole piece.now
+    → IsSubterm q pairs (at_spot spot piece)
+cut_subterm q pairs spot piece some place whole = record {
+  term = some.0;
+  stands = some.1;
+  whole = cut_stands (text q pairs spot.base) piece.now spot.at some.0 some.1 place whole;
+}
+
+piece_in_range : (slots : Slots) (cells piece : List Cell) → AreInRange slots cells → IsPieceOf cells piece → AreInRange slots piece
+piece_in_range slots cells piece range h =
+    all_back (CellIsInRange slots) h.before piece
+    (all_front (CellIsInRange slots) (h.before ++ piece) h.after (subst (AreInRange slots) h.whole range))
+
+pub binds_subterm :
+    (q : Question) (old new : Pairs) (slot : ℕ) (s : Subterm)
+    → IsLegal q old
+    → IsSubterm q old s
+    → new ≡ old ++ (slot, s.cells) ∷ []
+    → Binds q old new slot s.spot
+binds_subterm q old new slot s legal is e =
+    let piece = piece_at (text q old s.spot.base) s.cells.now s.spot.at is.term is.stands is.whole in
+    record {
+      value = s.cells;
+      pairs = e;
+      whole = λ u stands. same_whole q old s u is stands;
+      in_range = piece_in_range q.slots (text q old s.spot.base) s.cells.now (text_in_range q old s.spot.base legal) piece;
+      piece = piece;
+    }
 
 -- ---- ranks
 abbrev pub above : Option ℕ → ℕ → ℕ → ℕ

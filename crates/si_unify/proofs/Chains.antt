@@ -8,9 +8,10 @@ use Rattle.si_flat.specs.Cells.{Variable, Term, variable_cell, StandsFor}
 use Rattle.si_trail.specs.Trails.{value_at}
 use Rattle.si_unify.specs.declared.slots.Slots.{Slots}
 use Rattle.si_unify.specs.declared.spots.Spot.{Spot}
+use Rattle.si_unify.specs.declared.spots.Subterm.{Subterm}
 use Rattle.si_unify.specs.declared.spots.Question.{Question}
 use Rattle.si_unify.specs.Solving.{Pairs, variable_of, CellIsInRange, Equalizes, IsSolvedBy, IsBinding}
-use Rattle.si_unify.specs.Spots.{text, IsAt, StandsAt, IsSpot, cell_slot, IsBelow, ComesDown, IsLegal, IsUnbound, slot_at, ComesTo}
+use Rattle.si_unify.specs.Spots.{IsAt, StandsAt, IsSpot, IsSubterm, at_spot, cell_at, cell_slot, IsBelow, ComesDown, IsLegal, IsUnbound, slot_at, ComesTo}
 use Rattle.si_unify.proofs.Places.{all_at, whole_at, first_cell, cell-at, inside, in_range-at, in_range-variable, variable_of-slot_of, text-bound, text_in_range, slot_variable}
 
 abbrev pub no_cell : Cell
@@ -19,6 +20,15 @@ no_cell = cell.App 0 0 0
 abbrev pub at_slot : ℕ → Spot
 at_slot slot = record { base = slot; at = 0 }
 
+-- ---- the first cell of a subterm
+pub head_inside : (q : Question) (pairs : Pairs) (s : Subterm) → IsSubterm q pairs s → 0 < length s.cells.now
+head_inside q pairs s is = inside s.cells.now 0 is.term (whole_at s.cells.now is.term is.whole)
+
+pub head_is : (q : Question) (pairs : Pairs) (s : Subterm) → IsSubterm q pairs s → get_or s.cells.now 0 no_cell ≡ cell_at q pairs s.spot
+head_is q pairs s is =
+    cell-at s.cells.now 0 is.term no_cell (whole_at s.cells.now is.term is.whole) ∙ sym (cell-at _ _ is.term no_cell is.stands)
+
+-- ---- chains
 -- the term at the spot is one that each solution makes equal to t
 pub record Reaches (q : Question) (pairs : Pairs) (t : Term) (spot : Spot) : Type 0 where
   pub term : Term
@@ -120,8 +130,15 @@ pub chain_ends :
 chain_ends q pairs from spot steps h ends t stands =
     let r = h.comes t stands in record { term = r.term; stands = r.stands; same = r.same; ends = ends }
 
-pub chain_inside : (q : Question) (pairs : Pairs) (from spot : Spot) (steps : ℕ) → IsOnChain q pairs from spot steps → spot.at < length (text q pairs spot.base)
-chain_inside q pairs from spot steps h = let r = h.comes h.some.0 h.some.1 in inside _ _ r.term r.stands
+-- a value is a subterm
+pub value_subterm : (q : Question) (pairs : Pairs) (slot : ℕ) (v : Bor (List Cell)) → IsLegal q pairs → value_at pairs slot ≡ Some v → IsSubterm q pairs (at_spot (at_slot slot) v)
+value_subterm q pairs slot v legal bound =
+    let whole = (all_at (IsBinding q.slots) pairs slot v legal.bindings bound).whole in
+    record {
+      term = whole.0;
+      stands = value_stands q pairs slot v whole.0 legal bound whole.1;
+      whole = whole.1;
+    }
 
 -- a chain is no longer than the list
 pub chain_full : (q : Question) (pairs : Pairs) (from spot : Spot) (steps : ℕ) → IsOnChain q pairs from spot steps → length pairs ≤ steps → IsUnbound pairs (slot_at q pairs spot)
@@ -134,6 +151,3 @@ chain_full q pairs from spot steps h full = at_end (slot_at q pairs spot) refl
     at_end : (o : Option ℕ) → slot_at q pairs spot ≡ o → IsUnbound pairs o
     at_end None e = tt
     at_end (Some slot) e = bound_end slot e (value_at pairs slot) refl
-
-pub chain_spot : (q : Question) (pairs : Pairs) (from spot : Spot) (steps : ℕ) → IsOnChain q pairs from spot steps → IsSpot q pairs spot
-chain_spot q pairs from spot steps h = let r = h.comes h.some.0 h.some.1 in (r.term, r.stands)

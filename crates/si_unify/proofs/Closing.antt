@@ -12,7 +12,7 @@ use Rattle.si_unify.specs.Solving.{Pairs, IsSolvedBy}
 use Rattle.si_unify.specs.Spots.{IsLegal, MakesEqual, MakesEqualUpTo, IsApart, ArePairs, Grows, IsGoingOn, Follows, HasCompared, HasClosed}
 use Rattle.si_unify.proofs.Lists.{all_map, all_with, all_append, all_front, all_take}
 use Rattle.si_unify.proofs.Meeting.{goes_nowhere, all_slice}
-use Rattle.si_unify.proofs.Comparing.{size_some, equal_before, solved_before, going_further, stood_before}
+use Rattle.si_unify.proofs.Comparing.{size_some, up_to_fewer, equal_before, solved_before, going_further, stood_before}
 
 pub record IsClosing (q : Question) (old pairs : Pairs) (old_keys keys : List SpotPair) (next : ℕ) : Type 0 where
   pub going : IsGoingOn q old pairs old_keys keys
@@ -100,16 +100,13 @@ all_for_each P [] h = tt
 all_for_each P (k ∷ keys) h = (λ n. (h n).0, all_for_each P keys (λ n. (h n).1))
 
 module _ (q : Question) (pairs : Pairs) (keys : List SpotPair) (done : AllByRecursion (Follows q pairs keys) keys) (f : Variable → Term) (solved : IsSolvedBy q.slots pairs f) where
-  up_to_fewer : (m n : ℕ) → m ≤ n → AllByRecursion (MakesEqualUpTo q pairs f n) keys → AllByRecursion (MakesEqualUpTo q pairs f m) keys
-  up_to_fewer m n less h = all_map (MakesEqualUpTo q pairs f n) (MakesEqualUpTo q pairs f m) keys (λ k e t u left right few. e t u left right (omega (arith, few, less))) h
-
   equal_up_to : (n : ℕ) → AllByRecursion (MakesEqualUpTo q pairs f n) keys
   equal_up_to zero =
       all_map (Follows q pairs keys) (MakesEqualUpTo q pairs f 0) keys
       (λ k _ t u left right few. absurd (omega (arith, few, size_some (terms.substitute f t)))) done
   equal_up_to (suc n) =
       all_map (Follows q pairs keys) (MakesEqualUpTo q pairs f (suc n)) keys
-      (λ k follows t u left right few. follows t u left right f solved (λ m less. up_to_fewer m n (omega (arith, few, less)) (equal_up_to n))) done
+      (λ k follows t u left right few. follows t u left right f solved (λ m less. up_to_fewer q pairs keys f m n (omega (arith, few, less)) (equal_up_to n))) done
 
   pub all_equal : AllByRecursion (MakesEqual q pairs f) keys
   all_equal =

@@ -2,22 +2,23 @@
 use Rattle.std.proofs.Common.{◌≡◌, ℕ, ◌+◌, ◌<◌, ◌≤◌, Bool, true, false, List, [], ◌∷◌, ◌++◌, length, take, drop, get_or, refl, sym, ◌∙◌, ap, subst, arith, append_assoc, length-append, Some, Ok, Err}
 use Rattle.std.proofs.Math.ListN.{drop_of_length-le}
 use Rattle.std.proofs.Common.{add-zero}
-use Rattle.std.proofs.lemmas.List.{drop-drop, get_or-drop, length-drop, drop-append-le, length-take}
+use Rattle.std.proofs.lemmas.List.{drop-drop, get_or-drop, length-drop, drop-append-le}
 use Rattle.std.proofs.Math.Seq.{drop-append_seam}
 use Rattle.si_flat.proofs.Subterms.{length-cells_of}
 use Rattle.std.specs.Prelude.{IfOk, Result}
+use Rattle.std.specs.Borrow.{Bor}
 use Rattle.std.specs.List.{AllByRecursion}
 use Rattle.si_defs.specs.Terms as terms
 use Rattle.si_flat.specs.declared.Cell.{Cell}
-use Rattle.si_flat.specs.Cells.{Variable, query, entry, ind, Term, Terms, cells_of, cells_of_all, IsSound, AreSound, StandsFor, span}
+use Rattle.si_flat.specs.Cells.{Variable, Term, Terms, cells_of, cells_of_all, IsSound, AreSound, StandsFor, IsWhole}
 use Rattle.si_unify.specs.declared.spots.Spot.{Spot}
 use Rattle.si_unify.specs.declared.spots.SpotPair.{SpotPair}
 use Rattle.si_unify.specs.declared.spots.Question.{Question}
 use Rattle.si_unify.specs.Solving.{Pairs, IsSolvedBy}
-use Rattle.si_unify.specs.Spots.{text, StandsAt, IsSpot, IsEnd, ComesTo, common_arity, IsLegal, MakesEqual, MakesEqualUpTo, IsApart, ArePairs, Grows, IsGoingOn, HasMet, HasCompared}
+use Rattle.si_unify.specs.Spots.{text, StandsAt, IsSpot, IsSubterm, at_spot, IsEnd, ComesTo, common_arity, IsLegal, MakesEqual, MakesEqualUpTo, IsApart, ArePairs, Grows, IsGoingOn, HasMet, HasCompared}
 use Rattle.si_unify.proofs.Lists.{all_map, all_front}
 use Rattle.si_unify.proofs.Places.{at_unique, first_cell, first_of}
-use Rattle.si_unify.proofs.Binding.{stands_still, stood, solved_front}
+use Rattle.si_unify.proofs.Binding.{stands_still, stood, solved_front, cut_stands}
 use Rattle.si_unify.proofs.Pieces.{handed_on}
 use Rattle.si_unify.proofs.Meeting.{goes_nowhere, have_head}
 use Rattle.si_unify.proofs.Rows.{join, cells-join, sound-join, count-join, sizes-join, substitute-join, count-substitute, join_injective}
@@ -356,19 +357,17 @@ going_further q old pairs new old_keys keys new_keys a b = record {
 }
 
 pub comparing_goes_on :
-    (q : Question) (old pairs new : Pairs) (old_keys keys new_keys : List SpotPair) (pair : SpotPair) (left right : List Cell) (i j m n : ℕ) (d : Cell)
-    → IsComparing q old pairs old_keys keys pair left right i j
-    → i < length left
-    → m ≡ span (get_or left i d)
-    → n ≡ span (get_or right j d)
+    (q : Question) (old pairs new : Pairs) (old_keys keys new_keys : List SpotPair) (pair : SpotPair) (left right : List Cell) (i j m n : ℕ)
+    → (h : IsComparing q old pairs old_keys keys pair left right i j)
+    → (less : i < length left)
+    → m ≡ terms.size (next_at q old pairs old_keys keys pair left right i j h less).left
+    → n ≡ terms.size (next_at q old pairs old_keys keys pair left right i j h less).right
     → HasMet q pairs new keys new_keys (moved pair.left i) (moved pair.right j) true
     → IsComparing q old new old_keys new_keys pair left right (i + m) (j + n)
-comparing_goes_on q old pairs new old_keys keys new_keys pair left right i j m n d h less m_is n_is met =
+comparing_goes_on q old pairs new old_keys keys new_keys pair left right i j m n h less left_span right_span met =
     let x = next_at q old pairs old_keys keys pair left right i j h less in
     let left_e = rest_cells left i h.left_rest x.left_others x.left h.left_cells x.left_is in
     let right_e = rest_cells right j h.right_rest x.right_others x.right h.right_cells x.right_is in
-    let left_span : m ≡ terms.size x.left = m_is ∙ ap span (cell_of left i x.left _ d left_e) ∙ span_first x.left in
-    let right_span : n ≡ terms.size x.right = n_is ∙ ap span (cell_of right j x.right _ d right_e) ∙ span_first x.right in
     let left_sound : AreSound (terms.more x.left x.left_others) = subst AreSound x.left_is h.left_sound in
     let right_sound : AreSound (terms.more x.right x.right_others) = subst AreSound x.right_is h.right_sound in
     let meets = met.1 x.left x.right
@@ -414,12 +413,6 @@ comparing_goes_on q old pairs new old_keys keys new_keys pair left right i j m n
           let c = meets.complete f r.0 r.1 front in
           (c.0, c.1, back);
     }
-  where
-    span_first : (t : Term) → span (first_cell t) ≡ terms.size t
-    span_first (terms.var (query k)) = refl
-    span_first (terms.var (entry k)) = refl
-    span_first (terms.var (ind k)) = refl
-    span_first (terms.app s ts) = refl
 
 pub comparing_fails :
     (q : Question) (old pairs new : Pairs) (old_keys keys new_keys : List SpotPair) (pair : SpotPair) (left right : List Cell) (i j : ℕ)
@@ -437,55 +430,113 @@ comparing_fails q old pairs new old_keys keys new_keys pair left right i j h les
     (left_next q old pairs old_keys keys pair left right i j h x) (right_next q old pairs old_keys keys pair left right i j h x)
     f r.0 front
 
-pub spot_inside :
-    (q : Question) (old pairs : Pairs) (old_keys keys : List SpotPair) (pair : SpotPair) (left right : List Cell) (i j : ℕ)
-    → IsComparing q old pairs old_keys keys pair left right i j
-    → i < length left
-    → IsSpot q pairs (moved pair.left i) × IsSpot q pairs (moved pair.right j)
-spot_inside q old pairs old_keys keys pair left right i j h less =
-    let x = next_at q old pairs old_keys keys pair left right i j h less in (
-      (x.left, left_next q old pairs old_keys keys pair left right i j h x),
-      (x.right, right_next q old pairs old_keys keys pair left right i j h x),
-    )
-
--- where a piece that was cut out ends
-pub piece_ends : (cells piece : List Cell) (at : ℕ) → piece ≡ take (length piece) (drop at cells) → at < length cells → at + length piece ≤ length cells
-piece_ends cells piece at e less =
-    let few = ap length e ∙ length-take (length piece) (drop at cells) in
-    omega (arith, few, length-drop at cells)
-
-step_within : (cells : List Cell) (i m : ℕ) (t : Term) (others : Terms) (d : Cell) → drop i cells ≡ cells_of t ++ cells_of_all others → i ≤ length cells → m ≡ span (get_or cells i d) → (i + m ≤ length cells) × (0 < m)
-step_within cells i m t others d e within m_is =
-    let size : m ≡ terms.size t = m_is ∙ ap span (cell_of cells i t _ d e) ∙ span_first t in (
-      omega (arith, size, length-cells_of t, ap length e, length-append (cells_of t) (cells_of_all others), length-drop i cells),
-      omega (arith, size, size_some t),
-    )
-  where
-    span_first : (t : Term) → span (first_cell t) ≡ terms.size t
-    span_first (terms.var (query k)) = refl
-    span_first (terms.var (entry k)) = refl
-    span_first (terms.var (ind k)) = refl
-    span_first (terms.app s ts) = refl
-
-pub left_step :
-    (q : Question) (old pairs : Pairs) (old_keys keys : List SpotPair) (pair : SpotPair) (left right : List Cell) (i j m : ℕ) (d : Cell)
-    → IsComparing q old pairs old_keys keys pair left right i j
-    → i < length left
-    → m ≡ span (get_or left i d)
-    → (i + m ≤ length left) × (0 < m)
-left_step q old pairs old_keys keys pair left right i j m d h less m_is =
+-- what was cut out at the two places
+left_cut :
+    (q : Question) (old pairs : Pairs) (old_keys keys : List SpotPair) (pair : SpotPair) (left right : List Cell) (i j : ℕ) (piece : List Cell)
+    → (h : IsComparing q old pairs old_keys keys pair left right i j)
+    → (less : i < length left)
+    → piece ≡ take (length piece) (drop i left)
+    → IsWhole piece
+    → StandsFor piece (next_at q old pairs old_keys keys pair left right i j h less).left
+left_cut q old pairs old_keys keys pair left right i j piece h less place whole =
     let x = next_at q old pairs old_keys keys pair left right i j h less in
-    step_within left i m x.left x.left_others d (rest_cells left i h.left_rest x.left_others x.left h.left_cells x.left_is) h.left_within m_is
+    let sound : AreSound (terms.more x.left x.left_others) = subst AreSound x.left_is h.left_sound in
+    cut_stands left piece i x.left
+    (record { after = cells_of_all x.left_others; from = rest_cells left i h.left_rest x.left_others x.left h.left_cells x.left_is; sound = sound.0 })
+    place whole
 
-pub right_step :
-    (q : Question) (old pairs : Pairs) (old_keys keys : List SpotPair) (pair : SpotPair) (left right : List Cell) (i j n : ℕ) (d : Cell)
+right_cut :
+    (q : Question) (old pairs : Pairs) (old_keys keys : List SpotPair) (pair : SpotPair) (left right : List Cell) (i j : ℕ) (piece : List Cell)
+    → (h : IsComparing q old pairs old_keys keys pair left right i j)
+    → (less : i < length left)
+    → piece ≡ take (length piece) (drop j right)
+    → IsWhole piece
+    → StandsFor piece (next_at q old pairs old_keys keys pair left right i j h less).right
+right_cut q old pairs old_keys keys pair left right i j piece h less place whole =
+    let x = next_at q old pairs old_keys keys pair left right i j h less in
+    let sound : AreSound (terms.more x.right x.right_others) = subst AreSound x.right_is h.right_sound in
+    cut_stands right piece j x.right
+    (record { after = cells_of_all x.right_others; from = rest_cells right j h.right_rest x.right_others x.right h.right_cells x.right_is; sound = sound.0 })
+    place whole
+
+pub left_part :
+    (q : Question) (old pairs : Pairs) (old_keys keys : List SpotPair) (pair : SpotPair) (left right : List Cell) (i j : ℕ) (piece : Bor (List Cell))
     → IsComparing q old pairs old_keys keys pair left right i j
     → i < length left
-    → n ≡ span (get_or right j d)
-    → (j + n ≤ length right) × (0 < n)
-right_step q old pairs old_keys keys pair left right i j n d h less n_is =
+    → piece.now ≡ take (length piece.now) (drop i left)
+    → IsWhole piece.now
+    → IsSubterm q pairs (at_spot (moved pair.left i) piece)
+left_part q old pairs old_keys keys pair left right i j piece h less place whole =
     let x = next_at q old pairs old_keys keys pair left right i j h less in
-    step_within right j n x.right x.right_others d (rest_cells right j h.right_rest x.right_others x.right h.right_cells x.right_is) h.right_within n_is
+    record {
+      term = x.left;
+      stands = left_next q old pairs old_keys keys pair left right i j h x;
+      whole = left_cut q old pairs old_keys keys pair left right i j piece.now h less place whole;
+    }
+
+pub right_part :
+    (q : Question) (old pairs : Pairs) (old_keys keys : List SpotPair) (pair : SpotPair) (left right : List Cell) (i j : ℕ) (piece : Bor (List Cell))
+    → IsComparing q old pairs old_keys keys pair left right i j
+    → i < length left
+    → piece.now ≡ take (length piece.now) (drop j right)
+    → IsWhole piece.now
+    → IsSubterm q pairs (at_spot (moved pair.right j) piece)
+right_part q old pairs old_keys keys pair left right i j piece h less place whole =
+    let x = next_at q old pairs old_keys keys pair left right i j h less in
+    record {
+      term = x.right;
+      stands = right_next q old pairs old_keys keys pair left right i j h x;
+      whole = right_cut q old pairs old_keys keys pair left right i j piece.now h less place whole;
+    }
+
+-- it has as many cells as the term has signs
+pub left_size :
+    (q : Question) (old pairs : Pairs) (old_keys keys : List SpotPair) (pair : SpotPair) (left right : List Cell) (i j : ℕ) (piece : List Cell)
+    → (h : IsComparing q old pairs old_keys keys pair left right i j)
+    → (less : i < length left)
+    → piece ≡ take (length piece) (drop i left)
+    → IsWhole piece
+    → length piece ≡ terms.size (next_at q old pairs old_keys keys pair left right i j h less).left
+left_size q old pairs old_keys keys pair left right i j piece h less place whole =
+    ap length (left_cut q old pairs old_keys keys pair left right i j piece h less place whole).cells_are
+    ∙ length-cells_of (next_at q old pairs old_keys keys pair left right i j h less).left
+
+pub right_size :
+    (q : Question) (old pairs : Pairs) (old_keys keys : List SpotPair) (pair : SpotPair) (left right : List Cell) (i j : ℕ) (piece : List Cell)
+    → (h : IsComparing q old pairs old_keys keys pair left right i j)
+    → (less : i < length left)
+    → piece ≡ take (length piece) (drop j right)
+    → IsWhole piece
+    → length piece ≡ terms.size (next_at q old pairs old_keys keys pair left right i j h less).right
+right_size q old pairs old_keys keys pair left right i j piece h less place whole =
+    ap length (right_cut q old pairs old_keys keys pair left right i j piece h less place whole).cells_are
+    ∙ length-cells_of (next_at q old pairs old_keys keys pair left right i j h less).right
 
 pub stood_before : (q : Question) (old pairs : Pairs) (spot : Spot) (before after : Term) → Grows old pairs → StandsAt q old spot before → StandsAt q pairs spot after → StandsAt q old spot after
 stood_before q old pairs spot before after grows stands k = stood q old grows.0 spot before after stands (subst (λ l. StandsAt q l spot after) grows.1 k)
+
+-- ---- two terms whose arguments have been compared have met
+pub up_to_fewer : (q : Question) (pairs : Pairs) (keys : List SpotPair) (f : Variable → Term) (m n : ℕ) → m ≤ n → AllByRecursion (MakesEqualUpTo q pairs f n) keys → AllByRecursion (MakesEqualUpTo q pairs f m) keys
+up_to_fewer q pairs keys f m n less h =
+    all_map (MakesEqualUpTo q pairs f n) (MakesEqualUpTo q pairs f m) keys (λ k e t u left right few. e t u left right (omega (arith, few, less))) h
+
+makes_equal : (q : Question) (pairs : Pairs) (f : Variable → Term) (pair : SpotPair) (t u : Term) → StandsAt q pairs pair.left t → StandsAt q pairs pair.right u → terms.substitute f t ≡ terms.substitute f u → MakesEqual q pairs f pair
+makes_equal q pairs f pair t u left right e t' u' left' right' =
+    ap (terms.substitute f) (at_unique _ _ t' t left' left) ∙ e ∙ ap (terms.substitute f) (at_unique _ _ u u' right right')
+
+pub compared_met :
+    (q : Question) (old new : Pairs) (old_keys new_keys : List SpotPair) (pair : SpotPair) (b : Bool)
+    → old_keys ≡ []
+    → HasCompared q old new old_keys new_keys pair b
+    → HasMet q old new old_keys new_keys pair.left pair.right b
+compared_met q old new old_keys new_keys pair true none h = (
+  h.0,
+  λ t u left right. record {
+    sound = λ f solved equal.
+        h.1 t u (stands_now q old new pair.left t h.0.grows left) (stands_now q old new pair.right u h.0.grows right) f solved
+        (λ n less. up_to_fewer q new new_keys f n (terms.size (terms.substitute f t)) (omega (arith, less)) equal);
+    complete = λ f solved equal e. h.2 f solved equal (makes_equal q old f pair t u left right e);
+  },
+)
+compared_met q old new old_keys new_keys pair false none h =
+    λ t u left right f solved e. h f solved (subst (AllByRecursion (MakesEqual q old f)) (sym none) tt) (makes_equal q old f pair t u left right e)

@@ -332,6 +332,23 @@ all_slice P [] i k all e = cc
 all_slice P (x ∷ keys) zero k all e = let here : x ≡ k = cc in subst P here all.0
 all_slice P (x ∷ keys) (suc i) k all e = all_slice P keys i k all.1 e
 
+-- two spots whose cells have the same symbol
+pub apart_at :
+    (q : Question) (pairs : Pairs) (left right : Spot) (arity : ℕ)
+    → IsSpot q pairs left
+    → IsSpot q pairs right
+    → common_arity (cell_at q pairs left) (cell_at q pairs right) ≡ Some arity
+    → IsApart q pairs (record { left = left; right = right })
+apart_at q pairs left right arity t u e =
+    let head = common_at q pairs left right t.0 u.0 arity t.1 u.1 e in
+    record {
+      symbol = head.symbol;
+      left_arguments = head.left_arguments;
+      right_arguments = head.right_arguments;
+      left = subst (StandsAt q pairs left) head.left t.1;
+      right = subst (StandsAt q pairs right) head.right u.1;
+    }
+
 -- a pair that is to be compared
 pub pair_met :
     (q : Question) (pairs : Pairs) (keys new_keys : List SpotPair) (left right : Spot) (arity i : ℕ)
@@ -342,16 +359,7 @@ pub pair_met :
     → HasMet q pairs pairs keys new_keys left right true
 pair_met q pairs keys new_keys left right arity i h e grown stored =
     let pair : SpotPair = record { left = left; right = right } in
-    let t0 = h.left_end.spot_is in
-    let u0 = h.right_end.spot_is in
-    let head0 = common_at q pairs left right t0.0 u0.0 arity t0.1 u0.1 e in
-    let here : IsApart q pairs pair = record {
-      symbol = head0.symbol;
-      left_arguments = head0.left_arguments;
-      right_arguments = head0.right_arguments;
-      left = subst (StandsAt q pairs left) head0.left t0.1;
-      right = subst (StandsAt q pairs right) head0.right u0.1;
-    } in (
+    let here : IsApart q pairs pair = apart_at q pairs left right arity h.left_end.spot_is h.right_end.spot_is e in (
       record {
         grows = ([], sym (append-nil pairs));
         keys_grow = elim grown [ inl g ↦ ([], g ∙ sym (append-nil keys)) | inr g ↦ (pair ∷ [], g) ];

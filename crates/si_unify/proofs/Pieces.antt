@@ -1,14 +1,15 @@
 -- Slices of what was handed in: of the two terms and of the values of a list of bindings.
 use Rattle.std.proofs.Common.{◌≡◌, ℕ, ◌≤◌, inl, inr, true, false, cond, List, [], ◌∷◌, ◌++◌, length, take, drop, refl, sym, ◌∙◌, ap, arith, append-nil, append_assoc, length-append, Option, None, Some}
-use Rattle.std.proofs.lemmas.List.{take-append-drop}
-use Rattle.std.specs.Prelude.{◌==◌, ◌+◌}
+use Rattle.std.proofs.lemmas.List.{take-append-drop, length-drop, length-take}
+use Rattle.std.specs.Prelude.{◌==◌, ◌+◌, ◌<◌}
 use Rattle.std.specs.List.{AllByRecursion}
 use Rattle.std.specs.Borrow.{Bor}
 use Rattle.si_flat.specs.declared.Cell.{Cell}
+use Rattle.si_flat.specs.Cells.{Term, StandsFor}
 use Rattle.si_trail.specs.Trails.{value_at}
 use Rattle.si_unify.specs.declared.spots.Question.{Question}
 use Rattle.si_unify.specs.Solving.{Pairs, slot_count, IsPieceOf, IsPieceOfValue, IsHandedIn, AreHandedIn}
-use Rattle.si_unify.specs.Spots.{cells_now, text}
+use Rattle.si_unify.specs.Spots.{cells_now, text, IsAt}
 use Rattle.si_unify.proofs.Lists.{all_map, all_append}
 use Rattle.si_unify.proofs.Places.{all_at}
 
@@ -34,18 +35,21 @@ piece_of_piece cells part piece h k = record {
       ∙ append_assoc (h.before ++ k.before ++ piece) k.after h.after;
 }
 
-pub piece_cut : (cells piece : List Cell) (at : ℕ) → piece ≡ take (length piece) (drop at cells) → IsPieceOf cells piece
-piece_cut cells piece at e = record {
+-- where a piece that was cut out ends
+pub piece_ends : (cells piece : List Cell) (at : ℕ) → piece ≡ take (length piece) (drop at cells) → at < length cells → at + length piece ≤ length cells
+piece_ends cells piece at e less =
+    let few = ap length e ∙ length-take (length piece) (drop at cells) in
+    omega (arith, few, length-drop at cells)
+
+-- the cells of a term that stands among others
+pub piece_at : (cells piece : List Cell) (at : ℕ) (t : Term) → IsAt cells at t → StandsFor piece t → IsPieceOf cells piece
+piece_at cells piece at t stands whole = record {
   before = take at cells;
-  after = drop (length piece) (drop at cells);
+  after = stands.after;
   whole =
       sym (take-append-drop at cells)
-      ∙ ap (λ l. take at cells ++ l)
-      (
-      sym (take-append-drop (length piece) (drop at cells))
-      ∙ ap (λ l. l ++ drop (length piece) (drop at cells)) (sym e)
-      )
-      ∙ sym (append_assoc (take at cells) piece (drop (length piece) (drop at cells)));
+      ∙ ap (λ l. take at cells ++ l) (stands.from ∙ ap (λ l. l ++ stands.after) (sym whole.cells_are))
+      ∙ sym (append_assoc (take at cells) piece stands.after);
 }
 
 piece_within : (cells piece : List Cell) → IsPieceOf cells piece → length piece ≤ length cells

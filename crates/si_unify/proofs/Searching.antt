@@ -7,6 +7,7 @@ use Rattle.std.proofs.lemmas.Bool.{eq-eqb}
 use Rattle.std.proofs.lemmas.Option.{slice_get_within, get_or_from_slice_get}
 use Rattle.std.proofs.lemmas.List.Sums.{sum_by-set}
 use Rattle.std.specs.Prelude.{◌==◌, ◌^◌, sum_by, slice_get}
+use Rattle.std.specs.Option.{is_some}
 use Rattle.std.specs.List.{AllByRecursion}
 use Rattle.std.specs.Borrow.{Bor}
 use Rattle.si_defs.specs.Substitutions.{IsAmong}
@@ -20,7 +21,7 @@ use Rattle.si_unify.specs.declared.circles.Task.{Task}
 use Rattle.si_unify.specs.declared.circles.Task.TheVariants.{Enter, Leave}
 use Rattle.si_unify.specs.Solving.{Pairs, slot_count, IsTriangularBy, RanksBelow, IsBinding}
 use Rattle.si_unify.specs.Spots.{cell_slot}
-use Rattle.si_unify.specs.Circles.{if_value, if_bound, with_slot, bound_slots, weight, HasStepped, HasDone, enter_each, pile, tasks_of, AreEntered, below_value, slots_below, task_slot, task_slots, IsDone, AreCovered, RanksUnder, ComeDown, IsRanked, leave_slots, IsSearching, StayDone, HasSearched}
+use Rattle.si_unify.specs.Circles.{if_value, if_bound, with_slot, bound_slots, weight, HasStepped, HasDone, enter_each, pile, tasks_of, AreEntered, below_value, slots_below, task_slot, task_slots, IsDone, AreCovered, RanksUnder, ComeDown, AreRanked, leave_slots, IsSearching, StayDone, HasSearched}
 use Rattle.si_unify.proofs.Lists.{all_map}
 use Rattle.si_unify.proofs.StateLaws.{get-set_same, get-set_other}
 use Rattle.si_unify.proofs.Places.{all_at}
@@ -88,7 +89,7 @@ all_among P (x ∷ xs) give = (give x (inl refl), all_among P xs (λ z h. give z
 
 -- ---- ranks of what is done
 -- a slot that was done is done again
-ordered_kept : (slots : Slots) (pairs : Pairs) (states : List State) (slot : ℕ) → IsRanked slots pairs states → IsDone states slot → IsRanked slots pairs (set states slot Done)
+ordered_kept : (slots : Slots) (pairs : Pairs) (states : List State) (slot : ℕ) → AreRanked slots pairs (IsDone states) → IsDone states slot → AreRanked slots pairs (IsDone (set states slot Done))
 ordered_kept slots pairs states slot h was =
     let less : slot < length states = slice_get_within states slot Done was in
     let back : (z : ℕ) → IsDone (set states slot Done) z → IsDone states z =
@@ -112,7 +113,7 @@ raised_same : (rank : ℕ → ℕ) (top slot z : ℕ) → z ≡ slot → raised 
 raised_same rank top slot z e = rw (eq-eqb z slot e) refl
 
 -- a slot comes behind all that were done before
-ordered_more : (slots : Slots) (pairs : Pairs) (states : List State) (slot : ℕ) → slot < length states → IsRanked slots pairs states → (IsDone states slot → ⊥) → AllByRecursion (IsDone states) (slots_below slots pairs slot) → IsRanked slots pairs (set states slot Done)
+ordered_more : (slots : Slots) (pairs : Pairs) (states : List State) (slot : ℕ) → slot < length states → AreRanked slots pairs (IsDone states) → (IsDone states slot → ⊥) → AllByRecursion (IsDone states) (slots_below slots pairs slot) → AreRanked slots pairs (IsDone (set states slot Done))
 ordered_more slots pairs states slot less h not_done children =
     let other : (c : ℕ) → IsDone states c → c ≢ slot = λ c d e. not_done (subst (IsDone states) e d) in
     record {
@@ -172,7 +173,7 @@ leave_step slots pairs states slot tasks h =
     children_done : AllByRecursion (IsDone states) (slots_below slots pairs slot)
     children_done = all_map (λ c. IsDone states c ⊎ IsAmong [] c) (IsDone states) (slots_below slots pairs slot) (λ c k. elim k [ inl d ↦ d | inr n ↦ elim n [ ] ]) h.covered.0
 
-    ordered_left : (o : Option State) → slice_get states slot ≡ o → IsRanked slots pairs (set states slot Done)
+    ordered_left : (o : Option State) → slice_get states slot ≡ o → AreRanked slots pairs (IsDone (set states slot Done))
     ordered_left (Some Done) e = ordered_kept slots pairs states slot h.ordered e
     ordered_left (Some New) e = ordered_more slots pairs states slot (omega (arith, h.valid.0, h.long)) h.ordered (λ d. let bad : Some New ≡ Some Done = sym e ∙ d in cc) children_done
     ordered_left (Some Open) e = ordered_more slots pairs states slot (omega (arith, h.valid.0, h.long)) h.ordered (λ d. let bad : Some Open ≡ Some Done = sym e ∙ d in cc) children_done
@@ -250,6 +251,25 @@ one_entered slots pairs cells i next d old before new less h e is =
     is
     ∙ ap (λ l. Enter next ∷ l) h
     ∙ ap (λ l. enter_each l ++ old) (sym (ap (λ l. pile (bound_slots slots pairs l) []) (take_more cells i d less) ∙ one_entry_more slots pairs (take i cells) (get_or cells i d) (Some next) e))
+
+-- ---- cells of which none is a bound variable's
+pub one_unbound :
+    (slots : Slots) (pairs : Pairs) (cells : List Cell) (i : ℕ) (d : Cell) (o : Option ℕ)
+    → i < length cells
+    → bound_slots slots pairs (take i cells) ≡ []
+    → o ≡ if_bound pairs (cell_slot slots (get_or cells i d))
+    → is_some o ≡ false
+    → bound_slots slots pairs (take (i + 1) cells) ≡ []
+one_unbound slots pairs cells i d o less h is none =
+    ap (bound_slots slots pairs) (take_more cells i d less)
+    ∙ bound_slots-append slots pairs (take i cells) (get_or cells i d)
+    ∙ ap (λ l. l ++ with_slot (if_bound pairs (cell_slot slots (get_or cells i d))) []) h
+    ∙ ap (λ p. with_slot p []) (sym is)
+    ∙ nothing o none
+  where
+    nothing : (p : Option ℕ) → is_some p ≡ false → with_slot p [] ≡ []
+    nothing None e = refl
+    nothing (Some z) e = cc
 
 -- ---- opening a slot
 all_pile : (P : ℕ → Type 0) (xs before : List ℕ) → AllByRecursion P xs → AllByRecursion P before → AllByRecursion P (pile xs before)

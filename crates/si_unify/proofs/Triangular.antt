@@ -18,7 +18,7 @@ use Rattle.si_unify.specs.declared.circles.Task.{Task}
 use Rattle.si_unify.specs.declared.circles.Task.TheVariants.{Enter}
 use Rattle.si_unify.specs.Solving.{Pairs, slot_count, slot_of, IsTriangularBy, IsAcyclic, RanksBelow, IsBinding}
 use Rattle.si_unify.specs.Spots.{cell_slot}
-use Rattle.si_unify.specs.Circles.{if_value, if_bound, with_slot, bound_slots, below_value, enter_each, task_slot, task_slots, IsDone, AreCovered, RanksUnder, ComeDown, IsRanked, IsSearching, HasSearched, AreEntries, IsTold}
+use Rattle.si_unify.specs.Circles.{if_value, if_bound, with_slot, bound_slots, below_value, enter_each, task_slot, task_slots, IsDone, AreCovered, RanksUnder, ComeDown, slots_below, AreRanked, IsSearching, HasSearched, AreEntries, IsResolved, AreResolved, IsTold}
 use Rattle.si_unify.proofs.Lists.{all_map, all_with, all_append, all_take, all_drop}
 use Rattle.si_unify.proofs.StateLaws.{new_at}
 use Rattle.si_unify.proofs.Searching.{ranks_below_cell}
@@ -103,6 +103,9 @@ not_done states slot h d = let bad : Done ≡ New = new_at states slot Done h d 
 not_open : {P : Type 0} (states : List State) (slot : ℕ) → AreNew states → slice_get states slot ≡ Some Open → P
 not_open states slot h d = let bad : Open ≡ New = new_at states slot Open h d in cc
 
+before : (m n : ℕ) → m < n + 1 → m ≢ n → m < n
+before m n less differs = omega (arith, less, differs)
+
 pub entries_none : (pairs : Pairs) (mark : ℕ) → HasDistinctSlots pairs → AreEntries pairs mark mark []
 entries_none pairs mark distinct = record {
   slots = [];
@@ -124,9 +127,6 @@ entries_more pairs mark n slot tasks new h s is = record {
       ];
   distinct = h.distinct;
 }
-  where
-    before : (m n : ℕ) → m < n + 1 → m ≢ n → m < n
-    before m n less differs = omega (arith, less, differs)
 
 pub search_begins : (slots : Slots) (pairs : Pairs) (states : List State) (tasks : List Task) (mark n : ℕ) → AllByRecursion (IsBinding slots) pairs → slot_count slots ≤ length states → AreNew states → AreEntries pairs mark n tasks → IsSearching slots pairs states tasks
 search_begins slots pairs states tasks mark n bindings long fresh e = record {
@@ -153,7 +153,101 @@ search_begins slots pairs states tasks mark n bindings long fresh e = record {
       );
 }
 
--- ---- the ranks behind a search
+-- ---- the ranks of slots of which some are known
+-- the slots that are known, and a test for them
+pub record AreTested (Known : ℕ → Type 0) : Type 0 where
+  pub test : ℕ → Bool
+  pub passes : (slot : ℕ) → Known slot → test slot ≡ true
+  pub tells : (slot : ℕ) → Known slot ⊎ (test slot ≡ false)
+
+module _ (slots : Slots) (pairs : Pairs) (Known : ℕ → Type 0) (known : AreTested Known) (ordered : AreRanked slots pairs Known) (rank : ℕ → ℕ) where
+  -- an unbound slot comes first, then those that are known, then the others
+  abbrev rank_by : Option (Bor (List Cell)) → Bool → ℕ → ℕ
+  rank_by None b z = 0
+  rank_by (Some v) true z = 1 + ordered.rank z
+  rank_by (Some v) false z = 1 + ordered.top + rank z
+
+  abbrev all_rank : ℕ → ℕ
+  all_rank z = rank_by (value_at pairs z) (known.test z) z
+
+  rank_unbound : (z : ℕ) → value_at pairs z ≡ None → all_rank z ≡ 0
+  rank_unbound z e = ap (λ o. rank_by o (known.test z) z) e
+
+  rank_known : (z : ℕ) (v : Bor (List Cell)) → value_at pairs z ≡ Some v → Known z → all_rank z ≡ 1 + ordered.rank z
+  rank_known z v e d = ap (λ o. rank_by o (known.test z) z) e ∙ ap (λ b. rank_by (Some v) b z) (known.passes z d)
+
+  rank_other : (z : ℕ) (v : Bor (List Cell)) → value_at pairs z ≡ Some v → known.test z ≡ false → all_rank z ≡ 1 + ordered.top + rank z
+  rank_other z v e d = ap (λ o. rank_by o (known.test z) z) e ∙ ap (λ b. rank_by (Some v) b z) d
+
+  ranks_at : (slot : ℕ) (c : Cell) → ((next : ℕ) → cell_slot slots c ≡ Some next → all_rank next < all_rank slot) → RanksBelow slots all_rank slot c
+  ranks_at slot (cell.App s a n) give = tt
+  ranks_at slot (cell.Query n) give = give (slot_of slots (query n)) refl
+  ranks_at slot (cell.Entry n) give = give (slot_of slots (entry n)) refl
+  ranks_at slot (cell.Ind n) give = give (slot_of slots (ind n)) refl
+
+  others_of : (P : ℕ → Type 0) (o : Option ℕ) (xs : List ℕ) → AllByRecursion P (with_slot o xs) → AllByRecursion P xs
+  others_of P None xs h = h
+  others_of P (Some x) xs h = h.1
+
+  next_under_known : (z next : ℕ) (v : Bor (List Cell)) (xs : List ℕ) (o : Option (Bor (List Cell))) → value_at pairs z ≡ Some v → Known z → value_at pairs next ≡ o → AllByRecursion (λ y. Known y × (ordered.rank y < ordered.rank z)) (with_slot (if_value o next) xs) → all_rank next < all_rank z
+  next_under_known z next v xs None bound is e h = omega (arith, rank_unbound next e, rank_known z v bound is)
+  next_under_known z next v xs (Some w) bound is e h = omega (arith, rank_known next w e h.0.0, rank_known z v bound is, h.0.1)
+
+  known_cells : (z : ℕ) (v : Bor (List Cell)) (cells : List Cell) → value_at pairs z ≡ Some v → Known z → AllByRecursion (λ y. Known y × (ordered.rank y < ordered.rank z)) (bound_slots slots pairs cells) → AllByRecursion (RanksBelow slots all_rank z) cells
+  known_cells z v [] bound is h = tt
+  known_cells z v (c ∷ cells) bound is h = (
+    ranks_at z c
+        (λ next e.
+        next_under_known z next v (bound_slots slots pairs cells) (value_at pairs next) bound is refl
+        (subst (λ o. AllByRecursion (λ y. Known y × (ordered.rank y < ordered.rank z)) (with_slot (if_bound pairs o) (bound_slots slots pairs cells))) e h)),
+    known_cells z v cells bound is
+        (others_of (λ y. Known y × (ordered.rank y < ordered.rank z)) (if_bound pairs (cell_slot slots c)) (bound_slots slots pairs cells) h),
+  )
+
+  known_pair : (pair : ℕ × Bor (List Cell)) → value_at pairs pair.0 ≡ Some pair.1 → Known pair.0 → AllByRecursion (RanksBelow slots all_rank pair.0) pair.1.now
+  known_pair pair bound is =
+      known_cells pair.0 pair.1 pair.1.now bound is
+      (subst (λ o. AllByRecursion (λ y. Known y × (ordered.rank y < ordered.rank pair.0)) (below_value slots pairs o)) bound (ordered.down pair.0 is))
+
+  next_under_other : (z next : ℕ) (v : Bor (List Cell)) (o : Option (Bor (List Cell))) → value_at pairs z ≡ Some v → known.test z ≡ false → value_at pairs next ≡ o → rank next < rank z → all_rank next < all_rank z
+  next_under_other z next v None bound other e less = omega (arith, rank_unbound next e, rank_other z v bound other)
+  next_under_other z next v (Some w) bound other e less =
+      elim (known.tells next) [
+        | inl d ↦ omega (arith, rank_known next w e d, rank_other z v bound other, ordered.few next d)
+        | inr d ↦ omega (arith, rank_other next w e d, rank_other z v bound other, less)
+      ]
+
+  old_pair : (pair : ℕ × Bor (List Cell)) → value_at pairs pair.0 ≡ Some pair.1 → AllByRecursion (RanksBelow slots rank pair.0) pair.1.now → AllByRecursion (RanksBelow slots all_rank pair.0) pair.1.now
+  old_pair pair bound old =
+      elim (known.tells pair.0) [
+        | inl d ↦ known_pair pair bound d
+        | inr d ↦
+            all_map (RanksBelow slots rank pair.0) (RanksBelow slots all_rank pair.0) pair.1.now
+            (λ c k. ranks_at pair.0 c (λ next e. next_under_other pair.0 next pair.1 (value_at pairs next) bound d refl (ranks_below_cell slots rank pair.0 next c k e)))
+            old
+      ]
+
+  pub triangular_behind : (mark : ℕ) → HasDistinctSlots pairs → IsTriangularBy slots rank (take mark pairs) → AllByRecursion (HasSlot Known) (drop mark pairs) → IsAcyclic slots pairs
+  triangular_behind mark distinct old is =
+      let told : AllByRecursion (IsFound pairs) pairs = all_told pairs distinct in (
+        all_rank,
+        subst (IsTriangularBy slots all_rank) (take-append-drop mark pairs)
+            (
+            all_append (HasRanks slots all_rank) (take mark pairs) (drop mark pairs)
+            (
+            all_with (IsFound pairs) (HasRanks slots rank)
+            (HasRanks slots all_rank) (take mark pairs) old_pair
+            (all_take (IsFound pairs) mark pairs told) old
+            )
+            (
+            all_with (IsFound pairs) (HasSlot Known)
+            (HasRanks slots all_rank) (drop mark pairs) known_pair
+            (all_drop (IsFound pairs) mark pairs told) is
+            )
+            ),
+      )
+
+-- ---- behind a search
 abbrev is_done : Option State → Bool
 is_done None = false
 is_done (Some New) = false
@@ -166,92 +260,12 @@ tells_done (Some New) = inr refl
 tells_done (Some Open) = inr refl
 tells_done (Some Done) = inl refl
 
-module _ (slots : Slots) (pairs : Pairs) (states : List State) (ordered : IsRanked slots pairs states) (rank : ℕ → ℕ) where
-  -- an unbound slot comes first, then those that are done, then the others
-  abbrev rank_by : Option (Bor (List Cell)) → Bool → ℕ → ℕ
-  rank_by None b z = 0
-  rank_by (Some v) true z = 1 + ordered.rank z
-  rank_by (Some v) false z = 1 + ordered.top + rank z
-
-  abbrev all_rank : ℕ → ℕ
-  all_rank z = rank_by (value_at pairs z) (is_done (slice_get states z)) z
-
-  rank_unbound : (z : ℕ) → value_at pairs z ≡ None → all_rank z ≡ 0
-  rank_unbound z e = ap (λ o. rank_by o (is_done (slice_get states z)) z) e
-
-  rank_done : (z : ℕ) (v : Bor (List Cell)) → value_at pairs z ≡ Some v → IsDone states z → all_rank z ≡ 1 + ordered.rank z
-  rank_done z v e d = ap (λ o. rank_by o (is_done (slice_get states z)) z) e ∙ ap (λ s. rank_by (Some v) (is_done s) z) d
-
-  rank_other : (z : ℕ) (v : Bor (List Cell)) → value_at pairs z ≡ Some v → is_done (slice_get states z) ≡ false → all_rank z ≡ 1 + ordered.top + rank z
-  rank_other z v e d = ap (λ o. rank_by o (is_done (slice_get states z)) z) e ∙ ap (λ b. rank_by (Some v) b z) d
-
-  ranks_at : (slot : ℕ) (c : Cell) → ((next : ℕ) → cell_slot slots c ≡ Some next → all_rank next < all_rank slot) → RanksBelow slots all_rank slot c
-  ranks_at slot (cell.App s a n) give = tt
-  ranks_at slot (cell.Query n) give = give (slot_of slots (query n)) refl
-  ranks_at slot (cell.Entry n) give = give (slot_of slots (entry n)) refl
-  ranks_at slot (cell.Ind n) give = give (slot_of slots (ind n)) refl
-
-  others_of : (P : ℕ → Type 0) (o : Option ℕ) (xs : List ℕ) → AllByRecursion P (with_slot o xs) → AllByRecursion P xs
-  others_of P None xs h = h
-  others_of P (Some x) xs h = h.1
-
-  next_under_done : (z next : ℕ) (v : Bor (List Cell)) (xs : List ℕ) (o : Option (Bor (List Cell))) → value_at pairs z ≡ Some v → IsDone states z → value_at pairs next ≡ o → AllByRecursion (λ y. IsDone states y × (ordered.rank y < ordered.rank z)) (with_slot (if_value o next) xs) → all_rank next < all_rank z
-  next_under_done z next v xs None bound done e h = omega (arith, rank_unbound next e, rank_done z v bound done)
-  next_under_done z next v xs (Some w) bound done e h = omega (arith, rank_done next w e h.0.0, rank_done z v bound done, h.0.1)
-
-  done_cells : (z : ℕ) (v : Bor (List Cell)) (cells : List Cell) → value_at pairs z ≡ Some v → IsDone states z → AllByRecursion (λ y. IsDone states y × (ordered.rank y < ordered.rank z)) (bound_slots slots pairs cells) → AllByRecursion (RanksBelow slots all_rank z) cells
-  done_cells z v [] bound done h = tt
-  done_cells z v (c ∷ cells) bound done h = (
-    ranks_at z c
-        (λ next e.
-        next_under_done z next v (bound_slots slots pairs cells) (value_at pairs next) bound done refl
-        (subst (λ o. AllByRecursion (λ y. IsDone states y × (ordered.rank y < ordered.rank z)) (with_slot (if_bound pairs o) (bound_slots slots pairs cells))) e h)),
-    done_cells z v cells bound done
-        (others_of (λ y. IsDone states y × (ordered.rank y < ordered.rank z)) (if_bound pairs (cell_slot slots c)) (bound_slots slots pairs cells) h),
-  )
-
-  done_pair : (pair : ℕ × Bor (List Cell)) → value_at pairs pair.0 ≡ Some pair.1 → IsDone states pair.0 → AllByRecursion (RanksBelow slots all_rank pair.0) pair.1.now
-  done_pair pair bound done =
-      done_cells pair.0 pair.1 pair.1.now bound done
-      (subst (λ o. AllByRecursion (λ y. IsDone states y × (ordered.rank y < ordered.rank pair.0)) (below_value slots pairs o)) bound (ordered.down pair.0 done))
-
-  next_under_other : (z next : ℕ) (v : Bor (List Cell)) (o : Option (Bor (List Cell))) → value_at pairs z ≡ Some v → is_done (slice_get states z) ≡ false → value_at pairs next ≡ o → rank next < rank z → all_rank next < all_rank z
-  next_under_other z next v None bound other e less = omega (arith, rank_unbound next e, rank_other z v bound other)
-  next_under_other z next v (Some w) bound other e less =
-      elim (tells_done (slice_get states next)) [
-        | inl d ↦ omega (arith, rank_done next w e d, rank_other z v bound other, ordered.few next d)
-        | inr d ↦ omega (arith, rank_other next w e d, rank_other z v bound other, less)
-      ]
-
-  old_pair : (pair : ℕ × Bor (List Cell)) → value_at pairs pair.0 ≡ Some pair.1 → AllByRecursion (RanksBelow slots rank pair.0) pair.1.now → AllByRecursion (RanksBelow slots all_rank pair.0) pair.1.now
-  old_pair pair bound old =
-      elim (tells_done (slice_get states pair.0)) [
-        | inl d ↦ done_pair pair bound d
-        | inr d ↦
-            all_map (RanksBelow slots rank pair.0) (RanksBelow slots all_rank pair.0) pair.1.now
-            (λ c k. ranks_at pair.0 c (λ next e. next_under_other pair.0 next pair.1 (value_at pairs next) bound d refl (ranks_below_cell slots rank pair.0 next c k e)))
-            old
-      ]
-
-  pub triangular_behind : (mark : ℕ) → HasDistinctSlots pairs → IsTriangularBy slots rank (take mark pairs) → AllByRecursion (HasSlot (IsDone states)) (drop mark pairs) → IsAcyclic slots pairs
-  triangular_behind mark distinct old done =
-      let told : AllByRecursion (IsFound pairs) pairs = all_told pairs distinct in (
-        all_rank,
-        subst (IsTriangularBy slots all_rank) (take-append-drop mark pairs)
-            (
-            all_append (HasRanks slots all_rank) (take mark pairs) (drop mark pairs)
-            (
-            all_with (IsFound pairs) (HasRanks slots rank)
-            (HasRanks slots all_rank) (take mark pairs) old_pair
-            (all_take (IsFound pairs) mark pairs told) old
-            )
-            (
-            all_with (IsFound pairs) (HasSlot (IsDone states))
-            (HasRanks slots all_rank) (drop mark pairs) done_pair
-            (all_drop (IsFound pairs) mark pairs told) done
-            )
-            ),
-      )
+done_tested : (states : List State) → AreTested (IsDone states)
+done_tested states = record {
+  test = λ z. is_done (slice_get states z);
+  passes = λ z d. ap is_done d;
+  tells = λ z. tells_done (slice_get states z);
+}
 
 pub search_tells :
     (slots : Slots) (pairs : Pairs) (states new : List State) (tasks : List Task) (mark : ℕ) (b : Bool)
@@ -261,10 +275,67 @@ pub search_tells :
     → IsTold slots pairs b
 search_tells slots pairs states new tasks mark false e old h = λ t. h t.0 t.1
 search_tells slots pairs states new tasks mark true e old h = (
-  triangular_behind slots pairs new h.0.ordered old.0 mark e.distinct old.1
+  triangular_behind slots pairs (IsDone new) (done_tested new) h.0.ordered old.0 mark e.distinct old.1
       (
       all_behind (IsDone new) pairs mark
       (λ m slot a b s. h.2 slot (subst (λ l. IsAmong (task_slots l) slot) (sym e.tasks_are) (among_alone e.slots slot (e.complete m slot a b s))))
       ),
   e.distinct,
 )
+
+-- ---- without a search
+abbrev is_empty : List ℕ → Bool
+is_empty [] = true
+is_empty (x ∷ xs) = false
+
+tells_empty : (xs : List ℕ) → (xs ≡ []) ⊎ (is_empty xs ≡ false)
+tells_empty [] = inl refl
+tells_empty (x ∷ xs) = inr refl
+
+resolved_tested : (slots : Slots) (pairs : Pairs) → AreTested (IsResolved slots pairs)
+resolved_tested slots pairs = record {
+  test = λ z. is_empty (slots_below slots pairs z);
+  passes = λ z e. ap is_empty e;
+  tells = λ z. tells_empty (slots_below slots pairs z);
+}
+
+resolved_ranked : (slots : Slots) (pairs : Pairs) → AreRanked slots pairs (IsResolved slots pairs)
+resolved_ranked slots pairs = record {
+  rank = λ z. 0;
+  top = 1;
+  few = λ z e. omega arith;
+  down = λ z e. subst (AllByRecursion (λ c. IsResolved slots pairs c × (0 < 0))) (sym e) tt;
+}
+
+pub resolved_tells :
+    (slots : Slots) (pairs : Pairs) (mark : ℕ)
+    → AreResolved slots pairs mark (length pairs)
+    → IsAcyclic slots (take mark pairs)
+    → IsTold slots pairs true
+resolved_tells slots pairs mark h old = (
+  triangular_behind slots pairs (IsResolved slots pairs) (resolved_tested slots pairs) (resolved_ranked slots pairs) old.0 mark h.distinct old.1
+      (all_behind (IsResolved slots pairs) pairs mark h.resolved),
+  h.distinct,
+)
+
+pub resolved_none : (slots : Slots) (pairs : Pairs) (mark : ℕ) → HasDistinctSlots pairs → AreResolved slots pairs mark mark
+resolved_none slots pairs mark distinct = record {
+  resolved = λ m slot a b s. absurd (omega (arith, a, b));
+  distinct = distinct;
+}
+
+pub resolved_more : (slots : Slots) (pairs : Pairs) (mark n slot : ℕ) → AreResolved slots pairs mark n → IsSlotOf pairs n slot → IsResolved slots pairs slot → AreResolved slots pairs mark (n + 1)
+resolved_more slots pairs mark n slot h s is = record {
+  resolved = λ m other a b o.
+      elim (eqb_tells m n) [
+        | inl e ↦ subst (IsResolved slots pairs) (same_pair_slot pairs m n other slot e.1 o s) is
+        | inr e ↦ h.resolved m other a (before m n b e.1) o
+      ];
+  distinct = h.distinct;
+}
+
+pub resolved_fewer : (slots : Slots) (pairs : Pairs) (mark k n : ℕ) → k ≤ n → AreResolved slots pairs mark n → AreResolved slots pairs mark k
+resolved_fewer slots pairs mark k n fewer h = record {
+  resolved = λ m slot a b s. h.resolved m slot a (omega (arith, fewer, b)) s;
+  distinct = h.distinct;
+}

@@ -88,12 +88,12 @@ abbrev pub ComeDown : (ℕ → ℕ) → List Task → Type 0
 ComeDown rank [] = Unit {0}
 ComeDown rank (t ∷ ts) = AllByRecursion (RanksUnder rank (task_slot t)) ts × ComeDown rank ts
 
--- what is known of the slots that are done
-pub record IsRanked (slots : Slots) (pairs : Pairs) (states : List State) : Type 0 where
+-- slots of which it is known that no circle goes through them
+pub record AreRanked (slots : Slots) (pairs : Pairs) (Known : ℕ → Type 0) : Type 0 where
   pub rank : ℕ → ℕ
   pub top : ℕ
-  pub few : (slot : ℕ) → IsDone states slot → rank slot < top
-  pub down : (slot : ℕ) → IsDone states slot → AllByRecursion (λ c. IsDone states c × (rank c < rank slot)) (slots_below slots pairs slot)
+  pub few : (slot : ℕ) → Known slot → rank slot < top
+  pub down : (slot : ℕ) → Known slot → AllByRecursion (λ c. Known c × (rank c < rank slot)) (slots_below slots pairs slot)
 
 -- the slots that are being searched
 abbrev pub leave_slot : Task → List ℕ → List ℕ
@@ -108,7 +108,7 @@ leave_slots (t ∷ ts) = leave_slot t (leave_slots ts)
 pub record IsSearching (slots : Slots) (pairs : Pairs) (states : List State) (tasks : List Task) : Type 0 where
   pub bindings : AllByRecursion (IsBinding slots) pairs
   pub long : slot_count slots ≤ length states
-  pub ordered : IsRanked slots pairs states
+  pub ordered : AreRanked slots pairs (IsDone states)
   pub covered : AreCovered slots pairs states [] tasks
   pub come_down : (rank : ℕ → ℕ) → IsTriangularBy slots rank pairs → ComeDown rank tasks
   pub opened : (slot : ℕ) → slice_get states slot ≡ Some Open → IsAmong (leave_slots tasks) slot
@@ -149,6 +149,15 @@ pub record AreEntries (pairs : Pairs) (mark n : ℕ) (tasks : List Task) : Type 
   pub tasks_are : tasks ≡ enter_each slots
   pub sound : AllByRecursion (λ slot. (m : ℕ) × IsSlotOf pairs m slot) slots
   pub complete : (m slot : ℕ) → mark ≤ m → m < n → IsSlotOf pairs m slot → IsAmong slots slot
+  pub distinct : HasDistinctSlots pairs
+
+-- no variable in the slot's value is bound
+abbrev pub IsResolved : Slots → Pairs → ℕ → Type 0
+IsResolved slots pairs slot = slots_below slots pairs slot ≡ []
+
+-- nor in the values of the bindings from the mark on, up to this number
+pub record AreResolved (slots : Slots) (pairs : Pairs) (mark n : ℕ) : Type 0 where
+  pub resolved : (m slot : ℕ) → mark ≤ m → m < n → IsSlotOf pairs m slot → IsResolved slots pairs slot
   pub distinct : HasDistinctSlots pairs
 
 -- whether the list is triangular; its slots are distinct

@@ -117,8 +117,8 @@ abbrev pub HaveCommon : Slots → Pairs → List Cell → List Cell → Type 0
 HaveCommon slots pairs left right =
     (s : Substitution Symbol Variable) × IsCommon slots pairs left right s
 
--- Where there is such a solution, the solutions of the new list are exactly those of the old list
--- that also make the two terms equal; else there is none.
+-- `true`: some solution of the old list makes the two terms equal, and a substitution is a solution
+-- of the new list just where it is such a one. `false`: there is none.
 abbrev pub HasSolved : Slots → Pairs → Pairs → List Cell → List Cell → Bool → Type 0
 HasSolved slots old new left right true =
     HaveCommon slots old left right

@@ -10,6 +10,7 @@ use Rattle.si_trail.specs.Trails.{value_at, HasDistinctSlots}
 use Rattle.si_unify.specs.declared.slots.Slots.{Slots}
 use Rattle.si_unify.specs.declared.spots.Spot.{Spot}
 use Rattle.si_unify.specs.declared.spots.SpotPair.{SpotPair}
+use Rattle.si_unify.specs.declared.spots.Subterm.{Subterm}
 use Rattle.si_unify.specs.declared.spots.Question.{Question}
 use Rattle.si_unify.specs.Solving.{Pairs, slot_count, slot_of, Equalizes, IsSolvedBy, IsAcyclic, IsBinding, AreInRange, IsPieceOf, AreHandedIn}
 
@@ -34,6 +35,25 @@ StandsAt q pairs spot t = IsAt (text q pairs spot.base) spot.at t
 
 abbrev pub IsSpot : Question → Pairs → Spot → Type 0
 IsSpot q pairs spot = (t : Term) × StandsAt q pairs spot t
+
+-- the cells are those of the term that stands at the spot
+pub record IsSubterm (q : Question) (pairs : Pairs) (s : Subterm) : Type 0 where
+  pub term : Term
+  pub stands : StandsAt q pairs s.spot term
+  pub whole : StandsFor s.cells.now term
+
+abbrev pub at_spot : Spot → Bor (List Cell) → Subterm
+at_spot spot cells = record { spot = spot; cells = cells }
+
+abbrev pub spots_of : Subterm → Subterm → SpotPair
+spots_of left right = record { left = left.spot; right = right.spot }
+
+-- where the two terms stand
+abbrev pub left_spot : Question → Spot
+left_spot q = record { base = slot_count q.slots; at = 0 }
+
+abbrev pub right_spot : Question → Spot
+right_spot q = record { base = slot_count q.slots + 1; at = 0 }
 
 -- the slot of a variable's cell
 abbrev pub cell_slot : Slots → Cell → Option ℕ

@@ -1,7 +1,7 @@
 // The search for a circle through bound variables.
-ghost use Rattle.std.specs.Prelude.{◌≡◌, ◌≤◌, length, take, reverse, ◌++◌, ◌∷◌, [], IfOk, OnOk};
+ghost use Rattle.std.specs.Prelude.{◌≡◌, ◌≤◌, true, length, take, reverse, ◌++◌, ◌∷◌, [], IfOk, OnOk};
 ghost use Rattle.std.specs.List.{AllByRecursion};
-ghost use Rattle.si_unify.specs.Circles.{if_bound, tasks_of, AreEntered, AreEntries, IsSearching, HasSearched, HasDone, IsTold};
+ghost use Rattle.si_unify.specs.Circles.{if_bound, bound_slots, slots_below, tasks_of, AreEntered, AreEntries, AreResolved, IsSearching, HasSearched, HasDone, IsTold};
 ghost use Rattle.si_unify.specs.Solving.{IsAcyclic, IsBinding};
 ghost use Rattle.si_unify.specs.States.{AreNew};
 ghost use Rattle.si_unify.specs.Spots.{cell_slot};
@@ -134,7 +134,43 @@ fn enter_bound<'a>(
     Ok(())
 }
 
-// Whether the list is triangular, where it was so up to the mark.
+// Whether none of these cells is a bound variable's.
+fn are_unbound<'a>(trail: &Trail<&'a [Cell]>, slots: &Slots, value: &[Cell]) -> bool
+    ensures { result ≡ true → bound_slots slots.now trail.now.pairs value.now ≡ [] }
+{
+    for &cell in value {
+        if bound_slot(trail, slots, cell).is_some() {
+            return false;
+        }
+    }
+    true
+}
+
+// Whether no variable in the value of a slot is bound.
+fn is_resolved<'a>(trail: &Trail<&'a [Cell]>, slots: &Slots, slot: usize) -> bool
+    ensures { result ≡ true → slots_below slots.now trail.now.pairs slot ≡ [] }
+{
+    match trail.get(slot) {
+        Some(value) => are_unbound(trail, slots, value),
+        None => true,
+    }
+}
+
+// Whether no variable in the values of the bindings from the mark on is bound.
+fn are_resolved<'a>(trail: &Trail<&'a [Cell]>, slots: &Slots, mark: usize) -> bool
+    ensures { result ≡ true → AreResolved slots.now trail.now.pairs mark
+        (length trail.now.pairs) }
+{
+    for n in mark..trail.mark() {
+        if !is_resolved(trail, slots, trail.slot(n)) {
+            return false;
+        }
+    }
+    true
+}
+
+// Whether the list is triangular, where it was so up to the mark. No circle goes through a value
+// whose variables are unbound, so most lists need no search.
 pub(crate) fn is_triangular<'a>(
     states: &mut States,
     tasks: &mut Vec<Task>,
@@ -149,6 +185,9 @@ pub(crate) fn is_triangular<'a>(
     requires before { IsAcyclic slots.now (take mark trail.now.pairs) }
     ensures { IfOk result (IsTold slots.now trail.now.pairs) }
 {
+    if are_resolved(trail, slots, mark) {
+        return Ok(true);
+    }
     states.make_room(slots.count())?;
     enter_bound(trail, mark, tasks)?;
     search(trail, slots, states, tasks)

@@ -1,28 +1,14 @@
 // One equation: between the heads at two spots.
-ghost use Rattle.std.specs.Prelude.{◌≡◌, ◌<◌, ◌≤◌, false, Ok, None, IfOk, OnErr};
-ghost use Rattle.si_trail.specs.Trails.{value_at};
+ghost use Rattle.std.specs.Prelude.{◌≡◌, ◌≤◌, false, Ok, IfOk, OnErr};
 ghost use Rattle.si_unify.specs.Solving.{slot_count};
-ghost use Rattle.si_unify.specs.Spots.{same_slot, common_arity, IsLegal, IsSpot, IsEnd, Binds, ArePairs, HasMet};
+ghost use Rattle.si_unify.specs.Spots.{same_slot, common_arity, IsLegal, IsSubterm, IsEnd, ArePairs, HasMet};
 
 use crate::heights::Heights;
-use crate::spots::{Question, Spot, SpotPair, cell_at, follow, text};
+use crate::spots::{Question, SpotPair, Subterm, follow};
 use indexmap::IndexSet;
-use si_flat::{Cell, sub};
+use si_flat::Cell;
 use si_trail::Trail;
 use std::alloc::AllocError;
-
-// Binds a variable to what stands at a spot.
-fn bind<'a>(trail: &mut Trail<&'a [Cell]>, question: &Question<'a>, slot: usize, to: Spot)
-    requires legal { IsLegal question.now trail.old.pairs }
-    requires spot { IsSpot question.now trail.old.pairs to }
-    requires room { slot < trail.old.slots }
-    requires unbound { value_at trail.old.pairs slot ≡ None }
-    ensures binds { Binds question.now trail.old.pairs trail.new.pairs slot to }
-    ensures slots { trail.new.slots ≡ trail.old.slots }
-{
-    let value = sub(text(trail, question, to.base), to.at);
-    trail.bind(slot, value);
-}
 
 // Whether both are the slot of one variable.
 fn same_slot(left: Option<usize>, right: Option<usize>) -> bool
@@ -71,22 +57,24 @@ fn meet_ends<'a>(
     question: &Question<'a>,
     keys: &mut IndexSet<SpotPair>,
     heights: &mut Heights,
-    left: Spot,
-    right: Spot,
+    left: Subterm<'a>,
+    right: Subterm<'a>,
 ) -> Result<bool, AllocError>
     requires legal { IsLegal question.now trail.old.pairs }
     requires keys { ArePairs question.now trail.old.pairs keys.old.keys }
     requires room { slot_count question.now.slots ≤ trail.old.slots }
-    requires left { IsEnd question.now trail.old.pairs left }
-    requires right { IsEnd question.now trail.old.pairs right }
+    requires left { IsSubterm question.now trail.old.pairs left }
+    requires right { IsSubterm question.now trail.old.pairs right }
+    requires left_end { IsEnd question.now trail.old.pairs left.spot }
+    requires right_end { IsEnd question.now trail.old.pairs right.spot }
     ensures met { IfOk result (HasMet question.now trail.old.pairs trail.new.pairs keys.old.keys
-        keys.new.keys left right) }
+        keys.new.keys left.entry.spot right.entry.spot) }
     ensures no { result ≡ Ok false → trail.new.pairs ≡ trail.old.pairs }
     ensures err { OnErr result (trail.new.pairs ≡ trail.old.pairs) }
     ensures slots { trail.new.slots ≡ trail.old.slots }
 {
-    let left_cell = cell_at(trail, question, left);
-    let right_cell = cell_at(trail, question, right);
+    let left_cell = left.cells[0];
+    let right_cell = right.cells[0];
     if same_slot(
         question.slots.slot_of(left_cell),
         question.slots.slot_of(right_cell),
@@ -97,23 +85,26 @@ fn meet_ends<'a>(
     let right_free = question.slots.free_slot(right_cell);
     if turns(heights, question, left_free, right_free)? {
         if let Some(slot) = right_free {
-            bind(trail, question, slot, left);
+            trail.bind(slot, left.cells);
             return Ok(true);
         }
     }
     if let Some(slot) = left_free {
-        bind(trail, question, slot, right);
+        trail.bind(slot, right.cells);
         return Ok(true);
     }
     if let Some(slot) = right_free {
-        bind(trail, question, slot, left);
+        trail.bind(slot, left.cells);
         return Ok(true);
     }
     match common_arity(left_cell, right_cell) {
         None => Ok(false),
         Some(0) => Ok(true),
         Some(_) => {
-            keys.insert_full(SpotPair { left, right })?;
+            keys.insert_full(SpotPair {
+                left: left.spot,
+                right: right.spot,
+            })?;
             Ok(true)
         }
     }
@@ -125,16 +116,16 @@ pub(crate) fn meet<'a>(
     question: &Question<'a>,
     keys: &mut IndexSet<SpotPair>,
     heights: &mut Heights,
-    left: Spot,
-    right: Spot,
+    left: Subterm<'a>,
+    right: Subterm<'a>,
 ) -> Result<bool, AllocError>
     requires legal { IsLegal question.now trail.old.pairs }
     requires keys { ArePairs question.now trail.old.pairs keys.old.keys }
     requires room { slot_count question.now.slots ≤ trail.old.slots }
-    requires left { IsSpot question.now trail.old.pairs left }
-    requires right { IsSpot question.now trail.old.pairs right }
+    requires left { IsSubterm question.now trail.old.pairs left }
+    requires right { IsSubterm question.now trail.old.pairs right }
     ensures met { IfOk result (HasMet question.now trail.old.pairs trail.new.pairs keys.old.keys
-        keys.new.keys left right) }
+        keys.new.keys left.entry.spot right.entry.spot) }
     ensures no { result ≡ Ok false → trail.new.pairs ≡ trail.old.pairs }
     ensures err { OnErr result (trail.new.pairs ≡ trail.old.pairs) }
     ensures slots { trail.new.slots ≡ trail.old.slots }

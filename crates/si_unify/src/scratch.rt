@@ -31,7 +31,10 @@ impl Buffers {
         ensures states { AreNew self.new.states }
         ensures tasks { self.new.tasks.items ≡ [] }
     {
-        self.keys.clear();
+        // Clearing the set costs as much as it ever held.
+        if !self.keys.is_empty() {
+            self.keys.clear();
+        }
         self.heights.reset();
         self.states.reset();
         self.tasks.clear();

@@ -7,8 +7,7 @@ use si_flat::Cell;
 
 /// How many variables there are of each kind, and which of them are constants.
 ///
-/// The slot of `Query(i)` is i, that of `Entry(i)` is `query + i`, and that of `Ind(i)` is `query +
-/// entry + i`.
+/// Slots number the query's variables first, then the entry's, and the indicators last.
 #[derive(Clone, Copy, Debug)]
 pub struct Slots {
     /// How many variables the query has.

@@ -1,17 +1,16 @@
 // From two terms to the bindings that make them equal.
-ghost use Rattle.std.specs.Prelude.{◌≡◌, ◌≤◌, true, false, Ok, IfOk, OnErr};
+ghost use Rattle.std.specs.Prelude.{◌≡◌, ◌<◌, ◌≤◌, ◌^◌, length, true, false, Ok, IfOk, OnErr};
 ghost use Rattle.std.specs.List.{AllByRecursion};
 ghost use Rattle.si_flat.specs.Cells.{IsWhole};
 ghost use Rattle.si_unify.specs.Scratch.{AreClear};
 ghost use Rattle.si_unify.specs.Solving.{slot_count, AreInRange, IsAcyclic, IsBinding, AreHandedIn, HasSolved};
 ghost use Rattle.si_unify.specs.Spots.{Grows, HasAnswered};
 
-use crate::arguments::close;
+use crate::arguments::{close, meet_terms};
 use crate::circles::is_triangular;
-use crate::equations::meet;
 use crate::scratch::{Buffers, Scratch};
 use crate::slots::Slots;
-use crate::spots::{Question, Spot};
+use crate::spots::Question;
 use si_flat::Cell;
 use si_trail::Trail;
 use std::alloc::{AllocError, Global};
@@ -25,6 +24,8 @@ fn attempt<'a>(
     requires clear { AreClear buffers.old }
     requires left { IsWhole question.now.left.now }
     requires right { IsWhole question.now.right.now }
+    requires left_small { length question.now.left.now < 2 ^ 64 }
+    requires right_small { length question.now.right.now < 2 ^ 64 }
     requires left_range { AreInRange question.now.slots question.now.left.now }
     requires right_range { AreInRange question.now.slots question.now.right.now }
     requires room { slot_count question.now.slots ≤ trail.old.slots }
@@ -35,20 +36,7 @@ fn attempt<'a>(
     ensures slots { trail.new.slots ≡ trail.old.slots }
 {
     let mark = trail.mark();
-    let count = question.slots.count();
-    let left = Spot { base: count, at: 0 };
-    let right = Spot {
-        base: count + 1,
-        at: 0,
-    };
-    if !meet(
-        trail,
-        question,
-        &mut buffers.keys,
-        &mut buffers.heights,
-        left,
-        right,
-    )? {
+    if !meet_terms(trail, question, &mut buffers.keys, &mut buffers.heights)? {
         return Ok(false);
     }
     if !close(trail, question, &mut buffers.keys, &mut buffers.heights)? {

@@ -1,10 +1,10 @@
 // Places in the values of the bindings and in the two terms.
-ghost use Rattle.std.specs.Prelude.{◌≡◌};
+ghost use Rattle.std.specs.Prelude.{◌≡◌, ◌+◌, ◌^◌, ◌<◌, length};
 ghost use Rattle.si_flat.specs.Cells.{Term};
-ghost use Rattle.si_unify.specs.Spots.{text, cell_at, IsLegal, IsSpot, StandsAt, ComesTo};
+ghost use Rattle.si_unify.specs.Spots.{text, at_spot, IsLegal, IsSpot, IsSubterm, StandsAt, ComesTo};
 
 use crate::slots::Slots;
-use si_flat::Cell;
+use si_flat::{Cell, sub};
 use si_trail::Trail;
 
 /// A place in a text: a cell of the value of a slot, or of one of the two terms.
@@ -21,6 +21,13 @@ pub(crate) struct SpotPair {
     pub(crate) right: Spot,
 }
 
+/// A subterm of a text, and where it stands.
+#[derive(Clone, Copy)]
+pub(crate) struct Subterm<'a> {
+    pub(crate) spot: Spot,
+    pub(crate) cells: &'a [Cell],
+}
+
 /// Two terms that are to be made equal.
 #[derive(Clone, Copy)]
 pub(crate) struct Question<'a> {
@@ -30,11 +37,7 @@ pub(crate) struct Question<'a> {
 }
 
 // The cells of a base: the first term, the second, or the value of a slot.
-pub(crate) fn text<'a>(
-    trail: &Trail<&'a [Cell]>,
-    question: &Question<'a>,
-    base: usize,
-) -> &'a [Cell]
+fn text<'a>(trail: &Trail<&'a [Cell]>, question: &Question<'a>, base: usize) -> &'a [Cell]
     ensures { result.now ≡ text question.now trail.now.pairs base }
 {
     let count = question.slots.count();
@@ -50,31 +53,47 @@ pub(crate) fn text<'a>(
     }
 }
 
-// The cell at a spot.
-pub(crate) fn cell_at<'a>(trail: &Trail<&'a [Cell]>, question: &Question<'a>, spot: Spot) -> Cell
-    requires { IsSpot question.now trail.now.pairs spot }
-    ensures { result ≡ cell_at question.now trail.now.pairs spot }
+// The cells of the term at a spot.
+pub(crate) fn cells_at<'a>(
+    trail: &Trail<&'a [Cell]>,
+    question: &Question<'a>,
+    spot: Spot,
+) -> &'a [Cell]
+    requires legal { IsLegal question.now trail.now.pairs }
+    requires spot { IsSpot question.now trail.now.pairs spot }
+    ensures subterm { IsSubterm question.now trail.now.pairs (at_spot spot result) }
+    ensures small { spot.at + length result.now < 2 ^ 64 }
 {
-    text(trail, question, spot.base)[spot.at]
+    sub(text(trail, question, spot.base), spot.at)
 }
 
 // Goes down a chain of variables that are bound to variables.
-pub(crate) fn follow<'a>(trail: &Trail<&'a [Cell]>, question: &Question<'a>, from: Spot) -> Spot
+pub(crate) fn follow<'a>(
+    trail: &Trail<&'a [Cell]>,
+    question: &Question<'a>,
+    from: Subterm<'a>,
+) -> Subterm<'a>
     requires legal { IsLegal question.now trail.now.pairs }
-    requires spot { IsSpot question.now trail.now.pairs from }
-    ensures { (t : Term) → StandsAt question.now trail.now.pairs from t → ComesTo question.now
-        trail.now.pairs t result }
+    requires subterm { IsSubterm question.now trail.now.pairs from }
+    ensures comes { (t : Term) → StandsAt question.now trail.now.pairs from.entry.spot t → ComesTo
+        question.now trail.now.pairs t result.spot }
+    ensures subterm { IsSubterm question.now trail.now.pairs result }
 {
-    let mut spot = from;
+    let mut reached = from;
     for _ in 0..trail.mark() {
-        let Some(slot) = question.slots.slot_of(cell_at(trail, question, spot)) else {
-            return spot;
+        let Some(slot) = question.slots.slot_of(reached.cells[0]) else {
+            return reached;
         };
         match trail.get(slot) {
-            Some(_) => spot = Spot { base: slot, at: 0 },
-            None => return spot,
+            Some(value) => {
+                reached = Subterm {
+                    spot: Spot { base: slot, at: 0 },
+                    cells: value,
+                }
+            }
+            None => return reached,
         }
     }
     // Each binding was passed once, so none is left.
-    spot
+    reached
 }

@@ -10,6 +10,16 @@ loop-next-init c = record {
   slots_stay = refl;
 }
 
+pub cells_at-requires-clause-spot : goal.cells_at-requires-clause-spot
+cells_at-requires-clause-spot c =
+    let apart = all_slice (IsApart c.args.question.now c.loop-next.trail.pairs) c.loop-next.keys.keys c.loop-next.next c.index-pair.result.now c.loop-next.invariant.closing_on.going.keys c.index-pair.ensures in
+    (_, apart.left)
+
+pub cells_at-requires-in-loop-next-clause-spot : goal.cells_at-requires-in-loop-next-clause-spot
+cells_at-requires-in-loop-next-clause-spot c =
+    let apart = all_slice (IsApart c.args.question.now c.loop-next.trail.pairs) c.loop-next.keys.keys c.loop-next.next c.index-pair.result.now c.loop-next.invariant.closing_on.going.keys c.index-pair.ensures in
+    (_, apart.right)
+
 pub compare-requires-clause-apart : goal.compare-requires-clause-apart
 compare-requires-clause-apart c =
     all_slice (IsApart c.args.question.now c.loop-next.trail.pairs) c.loop-next.keys.keys c.loop-next.next c.index-pair.result.now c.loop-next.invariant.closing_on.going.keys c.index-pair.ensures

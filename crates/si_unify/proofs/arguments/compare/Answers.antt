@@ -1,45 +1,18 @@
-use Rattle.std.proofs.Common.{◌≡◌, ◌+◌, ◌-◌, ◌<◌, List, length, take, drop, refl, sym, ap, ◌∙◌, subst, arith}
-use Rattle.si_defs.specs.Terms as terms
-use Rattle.si_flat.specs.declared.Cell.{Cell}
-use Rattle.si_flat.specs.Cells.{IsWhole}
-use Rattle.si_unify.specs.Spots.{text, HasMet}
-use Rattle.si_unify.proofs.Places.{inside}
-use Rattle.si_unify.proofs.Chains.{no_cell}
-use Rattle.si_unify.proofs.Binding.{text_whole, cut_stands}
-use Rattle.si_unify.proofs.Comparing.{comparing_starts, comparing_ends, comparing_descends, comparing_goes_on, comparing_fails, right_inside, spot_inside, piece_ends, left_step, right_step, moved}
+use Rattle.std.proofs.Common.{◌+◌, ◌-◌, ◌<◌, length, refl, sym, ◌∙◌, subst, arith}
+use Rattle.si_unify.specs.Spots.{spots_of, HasMet}
+use Rattle.si_unify.proofs.Chains.{no_cell, head_inside}
+use Rattle.si_unify.proofs.Pieces.{piece_ends}
+use Rattle.si_unify.proofs.Binding.{same_whole}
+use Rattle.si_unify.proofs.Comparing.{comparing_starts, comparing_ends, comparing_descends, comparing_goes_on, comparing_fails, right_inside, left_part, right_part, left_size, right_size, moved}
 use Rattle.si_unify.proofs.arguments.compare.Goals as goal
 
-pub sub-left-requires-clause-whole : goal.sub-left-requires-clause-whole
-sub-left-requires-clause-whole c =
-    let h = c.requires.apart in
-    subst IsWhole (sym c.text.ensures) (text_whole c.args.question.now c.args.trail.now.pairs c.args.pair.left c.requires.legal (terms.app h.symbol h.left_arguments, h.left))
-
-pub sub-right-requires-clause-whole : goal.sub-right-requires-clause-whole
-sub-right-requires-clause-whole c =
-    let h = c.requires.apart in
-    subst IsWhole (sym c.text-2.ensures) (text_whole c.args.question.now c.args.trail.now.pairs c.args.pair.right c.requires.legal (terms.app h.symbol h.right_arguments, h.right))
-
 pub loop-i-init : goal.loop-i-init
-loop-i-init c =
-    let h = c.requires.apart in
-    let left_text : List Cell = text c.args.question.now c.args.trail.now.pairs c.args.pair.left.base in
-    let right_text : List Cell = text c.args.question.now c.args.trail.now.pairs c.args.pair.right.base in
-    let left : List Cell = c.sub-left.result.now in
-    let right : List Cell = c.sub-right.result.now in
-    let left_place : left ≡ take (length left) (drop c.args.pair.left.at left_text) =
-    c.sub-left.ensures.place ∙ ap (λ l. take (length left) (drop c.args.pair.left.at l)) c.text.ensures in
-    let right_place : right ≡ take (length right) (drop c.args.pair.right.at right_text) =
-    c.sub-right.ensures.place ∙ ap (λ l. take (length right) (drop c.args.pair.right.at l)) c.text-2.ensures in
-    let left_end = piece_ends left_text left c.args.pair.left.at left_place (inside left_text c.args.pair.left.at _ h.left) in
-    let right_end = piece_ends right_text right c.args.pair.right.at right_place (inside right_text c.args.pair.right.at _ h.right) in
-    record {
-      comparing_on =
-          comparing_starts _ _ _ c.args.pair left right c.requires.legal c.requires.keys h
-          (cut_stands left_text left c.args.pair.left.at _ h.left left_place c.sub-left.ensures.whole)
-          (cut_stands right_text right c.args.pair.right.at _ h.right right_place c.sub-right.ensures.whole);
-      slots_stay = refl;
-      inside = (omega (arith, left_end, ap length c.text.ensures, c.text.type_inv.0), omega (arith, right_end, ap length c.text-2.ensures, c.text-2.type_inv.0));
-    }
+loop-i-init c = record {
+  comparing_on =
+      comparing_starts _ _ _ (spots_of c.args.left c.args.right) c.args.left.cells.now c.args.right.cells.now c.requires.legal c.requires.keys c.requires.apart
+      (same_whole _ _ _ _ c.requires.left c.requires.apart.left) (same_whole _ _ _ _ c.requires.right c.requires.apart.right);
+  slots_stay = refl;
+}
 
 pub bounds-right-j : goal.bounds-right-j
 bounds-right-j c = right_inside _ _ _ _ _ _ _ _ _ _ c.loop-i.invariant.comparing_on c.loop-i-test.true
@@ -48,60 +21,61 @@ pub loop-i-preserved-in-Some : goal.loop-i-preserved-in-Some
 loop-i-preserved-in-Some c = record {
   comparing_on = comparing_descends _ _ _ _ _ _ _ _ _ _ c.in-Some.field-0 no_cell c.loop-i.invariant.comparing_on c.loop-i-test.true (sym c.in-Some.ensures);
   slots_stay = c.loop-i.invariant.slots_stay;
-  inside = c.loop-i.invariant.inside;
 }
 
+pub sub-requires-in-None-clause-inside : goal.sub-requires-in-None-clause-inside
+sub-requires-in-None-clause-inside c = right_inside _ _ _ _ _ _ _ _ _ _ c.loop-i.invariant.comparing_on c.loop-i-test.true
+
 pub meet-requires-clause-left : goal.meet-requires-clause-left
-meet-requires-clause-left c = (spot_inside _ _ _ _ _ _ _ _ _ _ c.loop-i.invariant.comparing_on c.loop-i-test.true).0
+meet-requires-clause-left c =
+    left_part _ _ _ _ _ _ _ _ _ _ c.sub.result c.loop-i.invariant.comparing_on c.loop-i-test.true c.sub.ensures.place c.sub.ensures.whole
 
 pub meet-requires-clause-right : goal.meet-requires-clause-right
-meet-requires-clause-right c = (spot_inside _ _ _ _ _ _ _ _ _ _ c.loop-i.invariant.comparing_on c.loop-i-test.true).1
+meet-requires-clause-right c =
+    right_part _ _ _ _ _ _ _ _ _ _ c.sub-in-None.result c.loop-i.invariant.comparing_on c.loop-i-test.true c.sub-in-None.ensures.place c.sub-in-None.ensures.whole
 
 pub returns-then-not-branch-clause-compared : goal.returns-then-not-branch-clause-compared
 returns-then-not-branch-clause-compared c =
-    comparing_fails c.args.question.now c.args.trail.now.pairs c.loop-i.trail.pairs c.meet.new.trail.pairs c.args.keys.now.keys c.loop-i.keys.keys c.meet.new.keys.keys c.args.pair c.sub-left.result.now c.sub-right.result.now c.loop-i.i c.loop-i.j
+    comparing_fails c.args.question.now c.args.trail.now.pairs c.loop-i.trail.pairs c.meet.new.trail.pairs c.args.keys.now.keys c.loop-i.keys.keys c.meet.new.keys.keys (spots_of c.args.left c.args.right) c.args.left.cells.now c.args.right.cells.now c.loop-i.i c.loop-i.j
     c.loop-i.invariant.comparing_on c.loop-i-test.true
     (
     subst
-    (HasMet c.args.question.now c.loop-i.trail.pairs c.meet.new.trail.pairs c.loop-i.keys.keys c.meet.new.keys.keys (moved c.args.pair.left c.loop-i.i) (moved c.args.pair.right c.loop-i.j))
+    (HasMet c.args.question.now c.loop-i.trail.pairs c.meet.new.trail.pairs c.loop-i.keys.keys c.meet.new.keys.keys (moved c.args.left.spot c.loop-i.i) (moved c.args.right.spot c.loop-i.j))
     c.if-not-branch.true
     c.in_ok-meet-in-None.ensures.met
     )
 
 pub overflow_add-i-in-None : goal.overflow_add-i-in-None
-overflow_add-i-in-None c =
-    let step = left_step _ _ _ _ _ _ _ _ _ _ _ no_cell c.loop-i.invariant.comparing_on c.loop-i-test.true c.span.ensures in
-    omega (arith, step.0, c.sub-left.type_inv.0)
-
-pub bounds-right-j-in-None : goal.bounds-right-j-in-None
-bounds-right-j-in-None c = right_inside _ _ _ _ _ _ _ _ _ _ c.loop-i.invariant.comparing_on c.loop-i-test.true
+overflow_add-i-in-None c = omega (arith, piece_ends _ _ _ c.sub.ensures.place c.loop-i-test.true, c.requires.left_small)
 
 pub overflow_add-j-in-None : goal.overflow_add-j-in-None
 overflow_add-j-in-None c =
-    let step = right_step _ _ _ _ _ _ _ _ _ _ _ no_cell c.loop-i.invariant.comparing_on c.loop-i-test.true c.span-in-None.ensures in
-    omega (arith, step.0, c.sub-right.type_inv.0)
+    let less = right_inside _ _ _ _ _ _ _ _ _ _ c.loop-i.invariant.comparing_on c.loop-i-test.true in
+    omega (arith, piece_ends _ _ _ c.sub-in-None.ensures.place less, c.requires.right_small)
 
 pub loop-i-smaller : goal.loop-i-smaller
 loop-i-smaller c =
-    let step = left_step _ _ _ _ _ _ _ _ _ _ _ no_cell c.loop-i.invariant.comparing_on c.loop-i-test.true c.span.ensures in
-    let less : c.loop-i.i < length c.sub-left.result.now = c.loop-i-test.true in
-    let smaller : length c.sub-left.result.now - (c.loop-i.i + c.span.result) < length c.sub-left.result.now - c.loop-i.i = omega (arith, step.0, step.1) in
+    let part = left_part _ _ _ _ _ _ _ _ _ _ c.sub.result c.loop-i.invariant.comparing_on c.loop-i-test.true c.sub.ensures.place c.sub.ensures.whole in
+    let some = head_inside _ _ _ part in
+    let within = piece_ends _ _ _ c.sub.ensures.place c.loop-i-test.true in
+    let smaller : length c.args.left.cells.now - (c.loop-i.i + length c.sub.result.now) < length c.args.left.cells.now - c.loop-i.i = omega (arith, some, within) in
     smaller
 
 pub loop-i-preserved : goal.loop-i-preserved
 loop-i-preserved c = record {
   comparing_on =
-      comparing_goes_on c.args.question.now c.args.trail.now.pairs c.loop-i.trail.pairs c.meet.new.trail.pairs c.args.keys.now.keys c.loop-i.keys.keys c.meet.new.keys.keys c.args.pair c.sub-left.result.now c.sub-right.result.now c.loop-i.i c.loop-i.j
-      c.span.result c.span-in-None.result no_cell
-      c.loop-i.invariant.comparing_on c.loop-i-test.true c.span.ensures c.span-in-None.ensures
+      comparing_goes_on c.args.question.now c.args.trail.now.pairs c.loop-i.trail.pairs c.meet.new.trail.pairs c.args.keys.now.keys c.loop-i.keys.keys c.meet.new.keys.keys (spots_of c.args.left c.args.right) c.args.left.cells.now c.args.right.cells.now c.loop-i.i c.loop-i.j
+      (length c.sub.result.now) (length c.sub-in-None.result.now)
+      c.loop-i.invariant.comparing_on c.loop-i-test.true
+      (left_size _ _ _ _ _ _ _ _ _ _ _ c.loop-i.invariant.comparing_on c.loop-i-test.true c.sub.ensures.place c.sub.ensures.whole)
+      (right_size _ _ _ _ _ _ _ _ _ _ _ c.loop-i.invariant.comparing_on c.loop-i-test.true c.sub-in-None.ensures.place c.sub-in-None.ensures.whole)
       (
       subst
-      (HasMet c.args.question.now c.loop-i.trail.pairs c.meet.new.trail.pairs c.loop-i.keys.keys c.meet.new.keys.keys (moved c.args.pair.left c.loop-i.i) (moved c.args.pair.right c.loop-i.j))
+      (HasMet c.args.question.now c.loop-i.trail.pairs c.meet.new.trail.pairs c.loop-i.keys.keys c.meet.new.keys.keys (moved c.args.left.spot c.loop-i.i) (moved c.args.right.spot c.loop-i.j))
       c.if-not-branch.false
       c.in_ok-meet-in-None.ensures.met
       );
   slots_stay = c.in_ok-meet-in-None.ensures.slots ∙ c.loop-i.invariant.slots_stay;
-  inside = c.loop-i.invariant.inside;
 }
 
 pub returns-clause-compared : goal.returns-clause-compared

@@ -1,31 +1,25 @@
-use Rattle.std.proofs.Common.{◌+◌, take, sym, ap, ◌∙◌, subst, arith}
+use Rattle.std.proofs.Common.{take, sym, ap, ◌∙◌, subst, arith}
 use Rattle.si_unify.specs.Solving.{IsAcyclic}
-use Rattle.si_unify.specs.Spots.{HasMet, HasClosed, IsLegal}
+use Rattle.si_unify.specs.Spots.{left_spot, right_spot, HasMet, HasClosed, IsLegal}
 use Rattle.si_unify.proofs.Comparing.{if_ok, grows_on}
-use Rattle.si_unify.proofs.Answering.{spot, legal_at_first, left_stands, right_stands, front_of, front_within, answered, answered_unclosed, answered_unmet}
+use Rattle.si_unify.proofs.Answering.{legal_at_first, front_of, front_within, answered, answered_unclosed, answered_unmet}
 use Rattle.si_unify.proofs.solver.attempt.Goals as goal
 
-pub meet-requires-clause-legal : goal.meet-requires-clause-legal
-meet-requires-clause-legal c =
+pub meet_terms-requires-clause-legal : goal.meet_terms-requires-clause-legal
+meet_terms-requires-clause-legal c =
     legal_at_first _ _ c.requires.bindings c.requires.triangular c.requires.left c.requires.right c.requires.left_range c.requires.right_range
-
-pub meet-requires-clause-left : goal.meet-requires-clause-left
-meet-requires-clause-left c = (c.requires.left.0, left_stands c.args.question.now _ _ _ c.count-count.ensures.count c.requires.left.1)
-
-pub meet-requires-clause-right : goal.meet-requires-clause-right
-meet-requires-clause-right c = (c.requires.right.0, right_stands c.args.question.now _ _ _ c.count-count.ensures.count c.requires.right.1)
 
 pub returns-then-not-branch-clause-answered : goal.returns-then-not-branch-clause-answered
 returns-then-not-branch-clause-answered c =
     let legal : IsLegal c.args.question.now c.args.trail.now.pairs =
     legal_at_first _ _ c.requires.bindings c.requires.triangular c.requires.left c.requires.right c.requires.left_range c.requires.right_range in
-    answered_unmet c.args.question.now c.args.trail.now.pairs c.meet.new.trail.pairs c.args.buffers.now.keys.keys c.meet.new.keys.keys c.count-count.result
-    c.requires.clear.keys c.count-count.ensures.count legal c.meet.new.trail.pairs
+    answered_unmet c.args.question.now c.args.trail.now.pairs c.meet_terms.new.trail.pairs c.args.buffers.now.keys.keys c.meet_terms.new.keys.keys
+    c.requires.clear.keys legal c.meet_terms.new.trail.pairs
     (
     subst
-    (HasMet c.args.question.now c.args.trail.now.pairs c.meet.new.trail.pairs c.args.buffers.now.keys.keys c.meet.new.keys.keys (spot c.count-count.result) (spot (c.count-count.result + 1)))
+    (HasMet c.args.question.now c.args.trail.now.pairs c.meet_terms.new.trail.pairs c.args.buffers.now.keys.keys c.meet_terms.new.keys.keys (left_spot c.args.question.now) (right_spot c.args.question.now))
     c.if-not-branch.true
-    c.in_ok-meet.ensures.met
+    c.in_ok-meet_terms.ensures.met
     )
 
 pub returns-in_err-close-clause-grows : goal.returns-in_err-close-clause-grows
@@ -33,9 +27,9 @@ returns-in_err-close-clause-grows c =
     grows_on _ _ _
     (
     subst
-    (HasMet c.args.question.now c.args.trail.now.pairs c.meet.new.trail.pairs c.args.buffers.now.keys.keys c.meet.new.keys.keys (spot c.count-count.result) (spot (c.count-count.result + 1)))
+    (HasMet c.args.question.now c.args.trail.now.pairs c.meet_terms.new.trail.pairs c.args.buffers.now.keys.keys c.meet_terms.new.keys.keys (left_spot c.args.question.now) (right_spot c.args.question.now))
     c.if-not-branch.false
-    c.in_ok-meet.ensures.met
+    c.in_ok-meet_terms.ensures.met
     ).0.grows
     c.in_err-close.ensures.grows
 
@@ -43,17 +37,17 @@ pub returns-then-not-branch-2-clause-answered : goal.returns-then-not-branch-2-c
 returns-then-not-branch-2-clause-answered c =
     let legal : IsLegal c.args.question.now c.args.trail.now.pairs =
     legal_at_first _ _ c.requires.bindings c.requires.triangular c.requires.left c.requires.right c.requires.left_range c.requires.right_range in
-    answered_unclosed c.args.question.now c.args.trail.now.pairs c.meet.new.trail.pairs c.args.buffers.now.keys.keys c.meet.new.keys.keys c.count-count.result
-    c.requires.clear.keys c.count-count.ensures.count legal
+    answered_unclosed c.args.question.now c.args.trail.now.pairs c.meet_terms.new.trail.pairs c.args.buffers.now.keys.keys c.meet_terms.new.keys.keys
+    c.requires.clear.keys legal
     (
     subst
-    (HasMet c.args.question.now c.args.trail.now.pairs c.meet.new.trail.pairs c.args.buffers.now.keys.keys c.meet.new.keys.keys (spot c.count-count.result) (spot (c.count-count.result + 1)))
+    (HasMet c.args.question.now c.args.trail.now.pairs c.meet_terms.new.trail.pairs c.args.buffers.now.keys.keys c.meet_terms.new.keys.keys (left_spot c.args.question.now) (right_spot c.args.question.now))
     c.if-not-branch.false
-    c.in_ok-meet.ensures.met
+    c.in_ok-meet_terms.ensures.met
     )
     c.close.new.trail.pairs
     (
-    subst (HasClosed c.args.question.now c.meet.new.trail.pairs c.close.new.trail.pairs c.meet.new.keys.keys) c.if-not-branch-2.true
+    subst (HasClosed c.args.question.now c.meet_terms.new.trail.pairs c.close.new.trail.pairs c.meet_terms.new.keys.keys) c.if-not-branch-2.true
     c.in_ok-close.ensures.closed
     )
 
@@ -62,21 +56,21 @@ returns-then-not-branch-2-clause-grows c =
     grows_on _ _ _
     (
     subst
-    (HasMet c.args.question.now c.args.trail.now.pairs c.meet.new.trail.pairs c.args.buffers.now.keys.keys c.meet.new.keys.keys (spot c.count-count.result) (spot (c.count-count.result + 1)))
+    (HasMet c.args.question.now c.args.trail.now.pairs c.meet_terms.new.trail.pairs c.args.buffers.now.keys.keys c.meet_terms.new.keys.keys (left_spot c.args.question.now) (right_spot c.args.question.now))
     c.if-not-branch.false
-    c.in_ok-meet.ensures.met
+    c.in_ok-meet_terms.ensures.met
     ).0.grows
     c.in_ok-close.ensures.grows
 
 pub is_triangular-requires-clause-before : goal.is_triangular-requires-clause-before
 is_triangular-requires-clause-before c =
     let grows =
-    grows_on c.args.trail.now.pairs c.meet.new.trail.pairs c.close.new.trail.pairs
+    grows_on c.args.trail.now.pairs c.meet_terms.new.trail.pairs c.close.new.trail.pairs
     (
     subst
-    (HasMet c.args.question.now c.args.trail.now.pairs c.meet.new.trail.pairs c.args.buffers.now.keys.keys c.meet.new.keys.keys (spot c.count-count.result) (spot (c.count-count.result + 1)))
+    (HasMet c.args.question.now c.args.trail.now.pairs c.meet_terms.new.trail.pairs c.args.buffers.now.keys.keys c.meet_terms.new.keys.keys (left_spot c.args.question.now) (right_spot c.args.question.now))
     c.if-not-branch.false
-    c.in_ok-meet.ensures.met
+    c.in_ok-meet_terms.ensures.met
     ).0.grows
     c.in_ok-close.ensures.grows in
     subst (IsAcyclic c.args.question.now.slots)
@@ -86,12 +80,12 @@ is_triangular-requires-clause-before c =
 pub is_triangular-requires-clause-within : goal.is_triangular-requires-clause-within
 is_triangular-requires-clause-within c =
     let grows =
-    grows_on c.args.trail.now.pairs c.meet.new.trail.pairs c.close.new.trail.pairs
+    grows_on c.args.trail.now.pairs c.meet_terms.new.trail.pairs c.close.new.trail.pairs
     (
     subst
-    (HasMet c.args.question.now c.args.trail.now.pairs c.meet.new.trail.pairs c.args.buffers.now.keys.keys c.meet.new.keys.keys (spot c.count-count.result) (spot (c.count-count.result + 1)))
+    (HasMet c.args.question.now c.args.trail.now.pairs c.meet_terms.new.trail.pairs c.args.buffers.now.keys.keys c.meet_terms.new.keys.keys (left_spot c.args.question.now) (right_spot c.args.question.now))
     c.if-not-branch.false
-    c.in_ok-meet.ensures.met
+    c.in_ok-meet_terms.ensures.met
     ).0.grows
     c.in_ok-close.ensures.grows in
     let within = front_within c.args.trail.now.pairs c.close.new.trail.pairs grows in
@@ -103,17 +97,17 @@ returns-clause-answered c =
     legal_at_first _ _ c.requires.bindings c.requires.triangular c.requires.left c.requires.right c.requires.left_range c.requires.right_range in
     if_ok c.is_triangular.result _ _
     (λ b told.
-    answered c.args.question.now c.args.trail.now.pairs c.meet.new.trail.pairs c.args.buffers.now.keys.keys c.meet.new.keys.keys c.count-count.result
-    c.requires.clear.keys c.count-count.ensures.count legal
+    answered c.args.question.now c.args.trail.now.pairs c.meet_terms.new.trail.pairs c.args.buffers.now.keys.keys c.meet_terms.new.keys.keys
+    c.requires.clear.keys legal
     (
     subst
-    (HasMet c.args.question.now c.args.trail.now.pairs c.meet.new.trail.pairs c.args.buffers.now.keys.keys c.meet.new.keys.keys (spot c.count-count.result) (spot (c.count-count.result + 1)))
+    (HasMet c.args.question.now c.args.trail.now.pairs c.meet_terms.new.trail.pairs c.args.buffers.now.keys.keys c.meet_terms.new.keys.keys (left_spot c.args.question.now) (right_spot c.args.question.now))
     c.if-not-branch.false
-    c.in_ok-meet.ensures.met
+    c.in_ok-meet_terms.ensures.met
     )
     c.close.new.trail.pairs c.in_ok-close.ensures.grows
     (
-    subst (HasClosed c.args.question.now c.meet.new.trail.pairs c.close.new.trail.pairs c.meet.new.keys.keys) c.if-not-branch-2.false
+    subst (HasClosed c.args.question.now c.meet_terms.new.trail.pairs c.close.new.trail.pairs c.meet_terms.new.keys.keys) c.if-not-branch-2.false
     c.in_ok-close.ensures.closed
     )
     b told)
@@ -124,8 +118,8 @@ returns-clause-grows c =
     grows_on _ _ _
     (
     subst
-    (HasMet c.args.question.now c.args.trail.now.pairs c.meet.new.trail.pairs c.args.buffers.now.keys.keys c.meet.new.keys.keys (spot c.count-count.result) (spot (c.count-count.result + 1)))
+    (HasMet c.args.question.now c.args.trail.now.pairs c.meet_terms.new.trail.pairs c.args.buffers.now.keys.keys c.meet_terms.new.keys.keys (left_spot c.args.question.now) (right_spot c.args.question.now))
     c.if-not-branch.false
-    c.in_ok-meet.ensures.met
+    c.in_ok-meet_terms.ensures.met
     ).0.grows
     c.in_ok-close.ensures.grows

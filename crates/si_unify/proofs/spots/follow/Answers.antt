@@ -1,28 +1,54 @@
 use Rattle.std.proofs.Common.{sym, ap, ◌∙◌, subst, arith}
 use Rattle.si_unify.specs.Spots.{cell_slot, IsUnbound}
-use Rattle.si_unify.proofs.Chains.{chain_starts, chain_goes_on, chain_ends, chain_full, chain_spot}
+use Rattle.si_unify.proofs.Chains.{head_inside, head_is, chain_starts, chain_goes_on, chain_ends, chain_full, value_subterm}
 use Rattle.si_unify.proofs.spots.follow.Goals as goal
 
 pub loop-init : goal.loop-init
-loop-init c = chain_starts _ _ _ c.requires.legal c.requires.spot
+loop-init c = record {
+  on_chain = chain_starts _ _ _ c.requires.legal (c.requires.subterm.term, c.requires.subterm.stands);
+  still_subterm = c.requires.subterm;
+}
 
-pub cell_at-requires : goal.cell_at-requires
-cell_at-requires c = chain_spot _ _ _ _ _ c.loop.invariant
+pub bounds-reached-0 : goal.bounds-reached-0
+bounds-reached-0 c = head_inside _ _ _ c.loop.invariant.still_subterm
 
-pub returns-in_default : goal.returns-in_default
-returns-in_default c =
-    chain_ends _ _ _ _ _ c.loop.invariant
-    (subst (IsUnbound c.args.trail.now.pairs) (c.in_default.ensures ∙ ap (cell_slot c.args.question.now.slots) c.cell_at.ensures) tt)
+pub returns-in_default-clause-comes : goal.returns-in_default-clause-comes
+returns-in_default-clause-comes c =
+    chain_ends _ _ _ _ _ c.loop.invariant.on_chain
+    (
+    subst (IsUnbound c.args.trail.now.pairs)
+    (c.in_default.ensures ∙ ap (cell_slot c.args.question.now.slots) (head_is _ _ _ c.loop.invariant.still_subterm))
+    tt
+    )
 
-pub returns-in-None : goal.returns-in-None
-returns-in-None c =
-    chain_ends _ _ _ _ _ c.loop.invariant
-    (subst (IsUnbound c.args.trail.now.pairs) (c.in-Some.ensures ∙ ap (cell_slot c.args.question.now.slots) c.cell_at.ensures) (sym c.in-None.ensures))
+pub returns-in_default-clause-subterm : goal.returns-in_default-clause-subterm
+returns-in_default-clause-subterm c = c.loop.invariant.still_subterm
+
+pub returns-in-None-clause-comes : goal.returns-in-None-clause-comes
+returns-in-None-clause-comes c =
+    chain_ends _ _ _ _ _ c.loop.invariant.on_chain
+    (
+    subst (IsUnbound c.args.trail.now.pairs)
+    (c.in-Some.ensures ∙ ap (cell_slot c.args.question.now.slots) (head_is _ _ _ c.loop.invariant.still_subterm))
+    (sym c.in-None.ensures)
+    )
+
+pub returns-in-None-clause-subterm : goal.returns-in-None-clause-subterm
+returns-in-None-clause-subterm c = c.loop.invariant.still_subterm
 
 pub loop-preserved : goal.loop-preserved
-loop-preserved c =
-    chain_goes_on _ _ _ _ _ _ c.in-Some-get.field-0.now c.loop.invariant
-    (sym (c.in-Some.ensures ∙ ap (cell_slot c.args.question.now.slots) c.cell_at.ensures)) (sym c.in-Some-get.ensures)
+loop-preserved c = record {
+  on_chain =
+      chain_goes_on _ _ _ _ _ _ c.in-Some-get.value.now c.loop.invariant.on_chain
+      (sym (c.in-Some.ensures ∙ ap (cell_slot c.args.question.now.slots) (head_is _ _ _ c.loop.invariant.still_subterm)))
+      (sym c.in-Some-get.ensures);
+  still_subterm = value_subterm _ _ _ _ c.requires.legal (sym c.in-Some-get.ensures);
+}
 
-pub returns : goal.returns
-returns c = chain_ends _ _ _ _ _ c.loop.invariant (chain_full _ _ _ _ _ c.loop.invariant (omega (arith, c.loop-test.false, c.mark-end.ensures)))
+pub returns-clause-comes : goal.returns-clause-comes
+returns-clause-comes c =
+    chain_ends _ _ _ _ _ c.loop.invariant.on_chain
+    (chain_full _ _ _ _ _ c.loop.invariant.on_chain (omega (arith, c.loop-test.false, c.mark-end.ensures.number)))
+
+pub returns-clause-subterm : goal.returns-clause-subterm
+returns-clause-subterm c = c.loop.invariant.still_subterm

@@ -1,0 +1,18 @@
+use Rattle.std.proofs.Common.{subst}
+use Rattle.std.proofs.lemmas.Result.{IfOk-weaker}
+use Rattle.si_flat.specs.Cells.{IsWhole}
+use Rattle.si_measure.specs.Answers.{SolvesTerms}
+use Rattle.si_measure.proofs.random.measure.Goals as goal
+
+pub returns : goal.returns
+returns c =
+    IfOk-weaker c.solve_often.result _ SolvesTerms
+    (λ measured h. record {
+      variables = _;
+      left = c.in_ok-terms.terms.left;
+      right = c.in_ok-terms.terms.right;
+      left_whole = subst IsWhole c.terms-2.view_is c.terms-2.invariant;
+      right_whole = subst IsWhole c.terms-4.view_is c.terms-4.invariant;
+      solves = h;
+    })
+    c.solve_often.ensures

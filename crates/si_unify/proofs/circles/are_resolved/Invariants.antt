@@ -1,0 +1,5 @@
+use Rattle.si_unify.specs.Circles.{AreResolved}
+use Rattle.si_unify.proofs.circles.are_resolved.Given as goal
+
+abbrev pub invariant-loop-n : goal.invariant-loop-n
+invariant-loop-n l = AreResolved l.slots l.trail.pairs l.mark l.n

@@ -32,7 +32,7 @@ down_begins slots pairs slot acyclic less =
 abbrev pub no_cell : Cell
 no_cell = cell.App 0 0 0
 
-variable_slot : (slots : Slots) (x : Variable) → None ≡ cell_slot slots (variable_cell x) → ⊥
+pub variable_slot : (slots : Slots) (x : Variable) → None ≡ cell_slot slots (variable_cell x) → ⊥
 variable_slot slots (query n) e = cc
 variable_slot slots (entry n) e = cc
 variable_slot slots (ind n) e = cc

@@ -11,7 +11,7 @@ use Rattle.si_form.proofs.GeneralLaws.{Solves, solved_stays, general, HasUnifier
 
 module _ {S V : Type 0} where
   mutual
-    images_inside : (P : V → Type 0) (f : V → Term S V) (t : Term S V) → AllByRecursion (λ y. AllByRecursion P (variables (f y))) (variables t) → AllByRecursion P (variables (substitute f t))
+    pub images_inside : (P : V → Type 0) (f : V → Term S V) (t : Term S V) → AllByRecursion (λ y. AllByRecursion P (variables (f y))) (variables t) → AllByRecursion P (variables (substitute f t))
     images_inside P f (var x) h = h.0
     images_inside P f (app s ts) h = all_images_inside P f ts h
 

@@ -43,7 +43,7 @@ module _ (slots : Slots) (f : Variable → Term) where
   not_application k y e a = let bad : terms.var y ≡ terms.app a.0 a.1 = sym e ∙ a.2 in cc
 
   -- a leader whose image is a variable isn't to be bound
-  none_to_bind : (k : ℕ) (y : Variable) → leader slots f (f (variable_of slots k)) ≡ Some k → f (variable_of slots k) ≡ terms.var y → IsToBind slots f k → ⊥
+  pub none_to_bind : (k : ℕ) (y : Variable) → leader slots f (f (variable_of slots k)) ≡ Some k → f (variable_of slots k) ≡ terms.var y → IsToBind slots f k → ⊥
   none_to_bind k y leads e b =
       elim b.1 [
         | inl follows ↦ follows.2 (same_some follows.0 k (sym follows.1 ∙ leads))

@@ -37,3 +37,7 @@ pub mod DownLaws
 pub mod FoundLaws
 pub mod SolvedLaws
 pub mod SideLengths
+pub mod AscendingLaws
+pub mod DirectLaws
+pub mod PairLaws
+pub mod RenamingLaws

@@ -119,7 +119,7 @@ module _ (used : ℕ → Option (List ℕ)) where
   zero_or_more (suc n) = inr (omega arith)
 
   -- ---- one place more
-  next_more : (before ks : List ℕ) (k : ℕ) → AreFirstUnused used before ks → IsFirstUnused used (before ++ ks) k → AreFirstUnused used before (ks ++ k ∷ [])
+  pub next_more : (before ks : List ℕ) (k : ℕ) → AreFirstUnused used before ks → IsFirstUnused used (before ++ ks) k → AreFirstUnused used before (ks ++ k ∷ [])
   next_more before [] k h next = (subst (λ l. IsFirstUnused used l k) (append-nil before) next, tt)
   next_more before (x ∷ ks) k h next = (h.0, next_more (before ++ x ∷ []) ks k h.1 (subst (λ l. IsFirstUnused used l k) (sym (append_assoc before (x ∷ []) ks)) next))
 

@@ -28,7 +28,7 @@ use Rattle.si_form.proofs.RightSides.{right_is, right_of_leader, LeadsItself}
 
 -- ---- slots of cells
 module _ (slots : Slots) where
-  abbrev slots_of_variables : List Variable → List ℕ
+  abbrev pub slots_of_variables : List Variable → List ℕ
   slots_of_variables [] = []
   slots_of_variables (x ∷ xs) = slot_of slots x ∷ slots_of_variables xs
 
@@ -42,7 +42,7 @@ module _ (slots : Slots) where
   one_slot (ind n) = refl
 
   mutual
-    slots_of_term : (t : Term) → slots_of slots (cells_of t) ≡ slots_of_variables (terms.variables t)
+    pub slots_of_term : (t : Term) → slots_of slots (cells_of t) ≡ slots_of_variables (terms.variables t)
     slots_of_term (terms.var x) = one_slot x
     slots_of_term (terms.app s ts) = slots_of_row ts
 
@@ -54,11 +54,11 @@ module _ (slots : Slots) where
         ∙ ap (λ l. slots_of_variables (terms.variables t) ++ l) (slots_of_row ts)
         ∙ sym (variables_parts (terms.variables t) (terms.variables_of_all ts))
 
-  slot_among : (xs : List Variable) (x : Variable) → IsAmong xs x → IsAmong (slots_of_variables xs) (slot_of slots x)
+  pub slot_among : (xs : List Variable) (x : Variable) → IsAmong xs x → IsAmong (slots_of_variables xs) (slot_of slots x)
   slot_among [] x a = elim a [ ]
   slot_among (y ∷ xs) x a = elim a [ inl e ↦ inl (ap (slot_of slots) e) | inr b ↦ inr (slot_among xs x b) ]
 
-  of_slot_among : (xs : List Variable) (j : ℕ) → IsAmong (slots_of_variables xs) j → (x : Variable) × IsAmong xs x × (slot_of slots x ≡ j)
+  pub of_slot_among : (xs : List Variable) (j : ℕ) → IsAmong (slots_of_variables xs) j → (x : Variable) × IsAmong xs x × (slot_of slots x ≡ j)
   of_slot_among [] j a = elim a [ ]
   of_slot_among (y ∷ xs) j a = elim a [ inl e ↦ (y, inl refl, e) | inr b ↦ (let r = of_slot_among xs j b in (r.0, inr r.1, r.2)) ]
 
@@ -215,11 +215,11 @@ sides_use_more slots rights lists new used k long h is last = subst (AreUses slo
         ]
 
 -- ---- bindings in order
-bindings_parts : (slots : Slots) (right : ℕ → Term) (xs ys : List ℕ) → listed_bindings slots right (xs ++ ys) ≡ listed_bindings slots right xs ++ listed_bindings slots right ys
+pub bindings_parts : (slots : Slots) (right : ℕ → Term) (xs ys : List ℕ) → listed_bindings slots right (xs ++ ys) ≡ listed_bindings slots right xs ++ listed_bindings slots right ys
 bindings_parts slots right [] ys = refl
 bindings_parts slots right (x ∷ xs) ys = ap (λ l. (variable_of slots x, right x) ∷ l) (bindings_parts slots right xs ys)
 
-stands_more : (bs : List Binding) (pairs : List (Variable × Term)) (b : Binding) (pair : Variable × Term) → StandsForList bs pairs → StandsForPair b pair → StandsForList (bs ++ b ∷ []) (pairs ++ pair ∷ [])
+pub stands_more : (bs : List Binding) (pairs : List (Variable × Term)) (b : Binding) (pair : Variable × Term) → StandsForList bs pairs → StandsForPair b pair → StandsForList (bs ++ b ∷ []) (pairs ++ pair ∷ [])
 stands_more [] [] b pair h k = (k, tt)
 stands_more [] (p ∷ pairs) b pair h k = elim h [ ]
 stands_more (a ∷ bs) [] b pair h k = elim h [ ]

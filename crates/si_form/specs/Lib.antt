@@ -8,3 +8,4 @@ pub mod Classes
 pub mod Uses
 pub mod Folding
 pub mod Unifying
+pub mod Direct

@@ -105,7 +105,7 @@ pub(crate) fn variable(slots: Slots, slot: usize) -> Cell
     Cell::Entry((slot - queries) as u32)
 }
 
-// WritesCells the symbol of a class, and piles up the classes of its arguments.
+// Writes the symbol of a class, and piles up the classes of its arguments.
 fn write_symbol(
     nodes: &IndexSet<Node>,
     sizes: &[u32],

@@ -7,10 +7,12 @@
 //! Two terms can be unified where some substitution makes them equal. They are solved, and terms
 //! that become equal get one number, so that no term is ever expanded. Of the variables with one
 //! number the first leads; the others are bound to it, and it is bound to a term of theirs in which
-//! each part that has a leader is written as that. The bindings are sorted by what they use.
+//! each part that has a leader is written as that. The bindings are sorted by what they use. Where
+//! no value holds another or a bound variable, as is often so, all this is read off the bindings.
 #![tactic(auto)]
 
 mod classes;
+mod direct;
 mod folding;
 mod laws;
 mod leaders;

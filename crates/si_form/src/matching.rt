@@ -5,14 +5,18 @@ ghost use Rattle.si_form.specs.Answers.{AreNumbered};
 ghost use Rattle.si_form.specs.Matching.{variable_number, HaveSameSymbol, HasKnown, StepsOnCell, IsMatched};
 
 use si_flat::{Cell, Owner, sub};
+use smallvec::SmallVec;
 use std::alloc::AllocError;
 
 /// A variable, by its number, and the slice that it stands for.
-#[derive(Clone, Copy)]
+#[derive(Clone, Copy, Default)]
 pub(crate) struct Image<'a> {
     pub(crate) number: u32,
     pub(crate) value: &'a [Cell],
 }
+
+/// Images of variables, in order. A few take no memory.
+pub(crate) type Images<'a> = SmallVec<Image<'a>, 4>;
 
 // The number of a variable of this owner.
 pub(crate) fn variable_number(owner: Owner, cell: Cell) -> Option<u32>
@@ -63,7 +67,7 @@ fn is_same(left: Cell, right: Cell) -> bool
 }
 
 // Whether the slices have the same cells.
-fn are_same(left: &[Cell], right: &[Cell]) -> bool
+pub(crate) fn are_same(left: &[Cell], right: &[Cell]) -> bool
     ensures { IsTrue result ↔ (left.now ≡ right.now) }
 {
     if left.len() != right.len() {
@@ -79,13 +83,13 @@ fn are_same(left: &[Cell], right: &[Cell]) -> bool
 
 // Whether the variable stands for this slice; one that hasn't been met does so from now on.
 fn stands_for<'a>(
-    images: &mut Vec<Image<'a>>,
+    images: &mut Images<'a>,
     number: u32,
     value: &'a [Cell],
 ) -> Result<bool, AllocError>
     ensures { IfOk result (HasKnown number value.entry images.old.items images.new.items) }
 {
-    if let Some(image) = images.get(number as usize) {
+    if let Some(image) = images.as_slice().get(number as usize) {
         return Ok(are_same(image.value, value));
     }
     images.push(Image { number, value })?;
@@ -98,7 +102,7 @@ fn step<'a>(
     cell: Cell,
     target: &'a [Cell],
     at: usize,
-    images: &mut Vec<Image<'a>>,
+    images: &mut Images<'a>,
 ) -> Result<Option<usize>, AllocError>
     requires whole { IsWhole target.now }
     requires inside { at < length target.now }
@@ -122,7 +126,7 @@ pub(crate) fn matches<'a>(
     owner: Owner,
     pattern: &[Cell],
     target: &'a [Cell],
-    images: &mut Vec<Image<'a>>,
+    images: &mut Images<'a>,
 ) -> Result<bool, AllocError>
     requires pattern { IsWhole pattern.now }
     requires target { IsWhole target.now }

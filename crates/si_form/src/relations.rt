@@ -7,7 +7,7 @@ ghost use Rattle.si_form.specs.Answers.{AreNumbered, Answers};
 ghost use Rattle.si_form.specs.Matching.{binding_of, AreWholeImages, MatchAnswers};
 ghost use Rattle.si_form.specs.SolutionParts.{AreNoLonger};
 
-use crate::matching::{Image, matches};
+use crate::matching::{Image, Images, matches};
 use crate::solution::{Binding, Solution};
 use crate::unifying::unifier;
 use si_defs::Relation;
@@ -44,11 +44,11 @@ fn matched(
     requires numbered { AreNumbered owner pattern.now }
     ensures { IfOk result (MatchAnswers owner pattern.now target.now) }
 {
-    let mut images = Vec::new(alloc);
+    let mut images = Images::new(alloc);
     if !matches(owner, pattern, target, &mut images)? {
         return Ok(None);
     }
-    let solution = bindings(alloc, owner, &images)?;
+    let solution = bindings(alloc, owner, images.as_slice())?;
     Ok(Some(solution))
 }
 
@@ -89,7 +89,7 @@ fn variant(alloc: Global, query: &[Cell], entry: &[Cell]) -> Result<Option<Solut
     ensures answers { IfOk result (Answers Variants query.now entry.now) }
     ensures short { IfOk result (λ list. IfSome list (AreNoLonger (length entry.now))) }
 {
-    let mut images = Vec::new(alloc);
+    let mut images = Images::new(alloc);
     if !matches(Owner::Entry, entry, query, &mut images)? {
         return Ok(None);
     }

@@ -2,7 +2,9 @@
 ghost use Rattle.std.specs.Prelude.{◌≡◌, ◌<◌, [], ◌∷◌, ◌++◌, IfOk, OnOk, OnErr, Some, length, slice_get};
 
 use si_flat::{Flat, Owner};
+use smallvec::SmallVec;
 use std::alloc::{AllocError, Global};
+use std::default::MadeWith;
 use std::marker::Model;
 
 /// A variable and the term that it stands for.
@@ -16,10 +18,21 @@ pub struct Binding {
     pub value: Flat,
 }
 
-/// A list of bindings, in order.
+/// What stands in the places of a list that hold no binding. It takes no memory.
+impl MadeWith<Global> for Binding {
+    fn made_with(alloc: Global) -> Binding {
+        Binding {
+            owner: Owner::Query,
+            slot: 0,
+            value: Flat::made_with(alloc),
+        }
+    }
+}
+
+/// A list of bindings, in order. A short one takes no memory of its own.
 #[derive(Drop)]
 pub struct Solution {
-    bindings: Vec<Binding>,
+    bindings: SmallVec<Binding, 2>,
 }
 
 impl Model for Solution {
@@ -37,7 +50,7 @@ impl Solution {
         ensures { result ≡ [] }
     {
         Solution {
-            bindings: Vec::new(alloc),
+            bindings: SmallVec::new(alloc),
         }
     }
 
@@ -62,7 +75,7 @@ impl Solution {
         requires { n < length self.now }
         ensures { slice_get self.now n ≡ Some result.now }
     {
-        &self.bindings[n]
+        &self.bindings.as_slice()[n]
     }
 
     /// An equal list in memory of its own.

@@ -1,6 +1,7 @@
 // Canonical lists that were worked out by hand.
 ghost use Rattle.std.specs.Prelude.{IfOk};
 ghost use Rattle.si_flat.specs.Cells.{IsWhole};
+ghost use Rattle.si_flat.specs.declared.Owner.TheVariants.{Query, Entry};
 ghost use Rattle.si_form.specs.Answers.{AreNumbered};
 
 use crate::{Owner, Solution, canonical, canonical_lists_are_unique};
@@ -34,6 +35,7 @@ const F4: Cell = Cell::App {
     len: 4,
 };
 
+/// A term of this owner.
 fn flat(alloc: Global, owner: Owner, cells: &[Cell]) -> Result<Flat, AllocError>
     requires whole { IsWhole cells.now }
     requires numbered { AreNumbered owner cells.now }
@@ -42,52 +44,29 @@ fn flat(alloc: Global, owner: Owner, cells: &[Cell]) -> Result<Flat, AllocError>
     Flat::from_cells(alloc, cells)
 }
 
-// Whether the list binds the owner's variables, from 0 on, to these terms.
-fn assert_binds(rt: &impl Abort, solution: Option<Solution>, owner: Owner, values: &[&[Cell]]) {
-    let solution = solution.expect(rt, "a list");
-    assert_eq!(rt; solution.len(), values.len());
-    for n in 0..solution.len() {
-        let binding = solution.at(n);
-        assert_eq!(rt; binding.owner, owner);
-        assert_eq!(rt; binding.slot as usize, n);
-        assert_eq!(rt; binding.value.cells(), values[n]);
-    }
+/// The canonical list of two terms. Each list is asked for by a call of its own, so that the tests
+/// own no term.
+fn list_of(
+    alloc: Global,
+    kind: Relation,
+    query: &[Cell],
+    entry: &[Cell],
+) -> Result<Option<Solution>, AllocError>
+    requires whole_query { IsWhole query.now }
+    requires whole_entry { IsWhole entry.now }
+    requires query { AreNumbered Query query.now }
+    requires entry { AreNumbered Entry entry.now }
+{
+    let query = flat(alloc, Owner::Query, query)?;
+    let entry = flat(alloc, Owner::Entry, entry)?;
+    canonical(alloc, kind, &query, &entry)
 }
 
-// The query is f(x, g(y)); the entries f(a, g(X)), f(X, Y), f(X, g(Y)) and f(X, g(X)).
-#[test]
-fn lists_of_each_kind(rt: HostRuntime) -> Result<(), Fail> {
-    let (x, y) = (Cell::Query(0), Cell::Query(1));
-    let (left, right) = (Cell::Entry(0), Cell::Entry(1));
-    let alloc = rt.alloc();
-    let query = flat(alloc, Owner::Query, &[F4, x, G2, y])?;
-    let below = flat(alloc, Owner::Entry, &[F4, A, G2, left])?;
-    let above = flat(alloc, Owner::Entry, &[F3, left, right])?;
-    let renamed = flat(alloc, Owner::Entry, &[F4, left, G2, right])?;
-    assert_binds(
-        &rt,
-        canonical(alloc, Relation::Instances, &query, &below)?,
-        Owner::Query,
-        &[&[A], &[left]],
-    );
-    assert_binds(
-        &rt,
-        canonical(alloc, Relation::Generalizations, &query, &above)?,
-        Owner::Entry,
-        &[&[x], &[G2, y]],
-    );
-    assert_binds(
-        &rt,
-        canonical(alloc, Relation::Variants, &query, &renamed)?,
-        Owner::Query,
-        &[&[left], &[right]],
-    );
-    assert!(rt; canonical(alloc, Relation::Variants, &query, &below)?.is_none());
-    canonical_lists_are_unique();
-    Ok(())
+fn assert_none(rt: &impl Abort, solution: Option<Solution>) {
+    assert!(rt; solution.is_none());
 }
 
-// Whether these are the bindings of the list, in order.
+/// These are the bindings, in order.
 fn assert_lists(rt: &impl Abort, solution: Option<Solution>, bindings: &[(Owner, u32, &[Cell])]) {
     let solution = solution.expect(rt, "a list");
     assert_eq!(rt; solution.len(), bindings.len());
@@ -100,43 +79,75 @@ fn assert_lists(rt: &impl Abort, solution: Option<Solution>, bindings: &[(Owner,
     }
 }
 
-// The queries are f(x, x), f(x, y) and a; the entries f(g(X), Y), f(a, g(a)), f(X, g(X)), f(X, X)
-// and a.
 #[test]
-fn lists_of_unifiable_terms(rt: HostRuntime) -> Result<(), Fail> {
+fn lists_of_each_kind(rt: HostRuntime) -> Result<(), Fail> {
     let (x, y) = (Cell::Query(0), Cell::Query(1));
     let (left, right) = (Cell::Entry(0), Cell::Entry(1));
     let alloc = rt.alloc();
-    let twice = flat(alloc, Owner::Query, &[F3, x, x])?;
-    let pair = flat(alloc, Owner::Query, &[F3, x, y])?;
-    let constant = flat(alloc, Owner::Query, &[A])?;
-    let above = flat(alloc, Owner::Entry, &[F4, G2, left, right])?;
-    let ground = flat(alloc, Owner::Entry, &[F4, A, G2, A])?;
-    let circle = flat(alloc, Owner::Entry, &[F4, left, G2, left])?;
-    let same = flat(alloc, Owner::Entry, &[F3, left, left])?;
-    let only = flat(alloc, Owner::Entry, &[A])?;
+    let query = [F4, x, G2, y];
+    let below = [F4, A, G2, left];
+    let above = [F3, left, right];
+    let renamed = [F4, left, G2, right];
     assert_lists(
         &rt,
-        canonical(alloc, Relation::Unifiable, &twice, &above)?,
+        list_of(alloc, Relation::Instances, &query, &below)?,
+        &[(Owner::Query, 0, &[A]), (Owner::Query, 1, &[left])],
+    );
+    assert_lists(
+        &rt,
+        list_of(alloc, Relation::Generalizations, &query, &above)?,
+        &[(Owner::Entry, 0, &[x]), (Owner::Entry, 1, &[G2, y])],
+    );
+    assert_lists(
+        &rt,
+        list_of(alloc, Relation::Variants, &query, &renamed)?,
+        &[(Owner::Query, 0, &[left]), (Owner::Query, 1, &[right])],
+    );
+    assert_none(&rt, list_of(alloc, Relation::Variants, &query, &below)?);
+    canonical_lists_are_unique();
+    Ok(())
+}
+
+#[test]
+fn lists_of_unifiable_terms(rt: HostRuntime) -> Result<(), Fail> {
+    let kind = Relation::Unifiable;
+    let (x, y) = (Cell::Query(0), Cell::Query(1));
+    let (left, right) = (Cell::Entry(0), Cell::Entry(1));
+    let alloc = rt.alloc();
+    let twice = [F3, x, x];
+    let pair = [F3, x, y];
+    let above = [F4, G2, left, right];
+    let ground = [F4, A, G2, A];
+    let circle = [F4, left, G2, left];
+    let same = [F3, left, left];
+    let below = [F4, A, G2, left];
+    assert_lists(
+        &rt,
+        list_of(alloc, kind, &twice, &above)?,
         &[(Owner::Entry, 1, &[x]), (Owner::Query, 0, &[G2, left])],
     );
     assert_lists(
         &rt,
-        canonical(alloc, Relation::Unifiable, &pair, &ground)?,
+        list_of(alloc, kind, &pair, &ground)?,
         &[(Owner::Query, 1, &[G2, x]), (Owner::Query, 0, &[A])],
     );
-    assert!(rt; canonical(alloc, Relation::Unifiable, &twice, &circle)?.is_none());
+    assert_none(&rt, list_of(alloc, kind, &twice, &circle)?);
     assert_lists(
         &rt,
-        canonical(alloc, Relation::Unifiable, &pair, &same)?,
+        list_of(alloc, kind, &pair, &same)?,
         &[(Owner::Query, 1, &[x]), (Owner::Entry, 0, &[x])],
     );
     assert_lists(
         &rt,
-        canonical(alloc, Relation::Unifiable, &constant, &only)?,
-        &[],
+        list_of(alloc, kind, &pair, &circle)?,
+        &[(Owner::Query, 1, &[G2, x]), (Owner::Entry, 0, &[x])],
     );
-    let none = canonical(alloc, Relation::Unifiable, &twice, &ground)?;
-    assert!(rt; none.is_none());
+    assert_lists(
+        &rt,
+        list_of(alloc, kind, &pair, &below)?,
+        &[(Owner::Query, 0, &[A]), (Owner::Query, 1, &[G2, left])],
+    );
+    assert_lists(&rt, list_of(alloc, kind, &[A], &[A])?, &[]);
+    assert_none(&rt, list_of(alloc, kind, &twice, &ground)?);
     Ok(())
 }

@@ -4,19 +4,19 @@ ghost use Rattle.std.specs.List.{AllByRecursion};
 ghost use Rattle.si_defs.specs.declared.Relation.TheVariants.{Unifiable};
 ghost use Rattle.si_flat.specs.Cells.{IsWhole};
 ghost use Rattle.si_flat.specs.declared.Owner.TheVariants.{Query as OfQuery, Entry as OfEntry};
-ghost use Rattle.si_flat.specs.Flattening.{owners_variable};
 ghost use Rattle.si_trail.specs.Trails.{HasDistinctSlots};
-ghost use Rattle.si_unify.specs.Solving.{slot_count, variable_of, IsAcyclic, IsBinding};
+ghost use Rattle.si_unify.specs.Solving.{slot_count, IsAcyclic, IsBinding};
 ghost use Rattle.si_form.specs.Answers.{AreNumbered, Answers};
 ghost use Rattle.si_form.specs.Ordering.{list_of};
 ghost use Rattle.si_form.specs.SolutionParts.{AreNoLonger};
 ghost use Rattle.si_form.specs.Unifying.{IsBoundTo, AreFound, HasGeneral, HasRightSide, HaveRightSides, AreUses, slots_among, AreListed, ListsBindings, ListsAllBindings, AreFree, AreSlotsOf};
 
 use crate::classes::{Classes, find_classes};
+use crate::direct::{binding, direct_list};
 use crate::folding::{fold, leader_of, sizes, variable};
 use crate::leaders::leaders;
 use crate::order::order;
-use crate::solution::{Binding, Solution};
+use crate::solution::Solution;
 use crate::uses::{slot_of, slots_of};
 use crate::variables::{count_variables, size};
 use si_flat::{Cell, Flat, Owner};
@@ -137,28 +137,6 @@ fn uses_of_sides(
     Ok(lists)
 }
 
-// The binding of the variable of a slot.
-fn binding(slots: Slots, slot: usize, value: Flat) -> Binding
-    requires none { slots.inds ≡ 0 }
-    requires inside { slot < slot_count slots }
-    ensures left { variable_of slots slot ≡ owners_variable result.owner result.slot }
-    ensures right { result.value ≡ value }
-{
-    let queries = slots.query as usize;
-    if slot < queries {
-        return Binding {
-            owner: Owner::Query,
-            slot: slot as u32,
-            value,
-        };
-    }
-    Binding {
-        owner: Owner::Entry,
-        slot: (slot - queries) as u32,
-        value,
-    }
-}
-
 // The bindings of these slots, in order.
 fn list(
     alloc: Global,
@@ -195,6 +173,9 @@ fn whole_list<'a>(
     ensures distinct { HasDistinctSlots trail.now.pairs }
     ensures all { IfOk result (ListsAllBindings slots.now trail.now.pairs) }
 {
+    if let Some(solution) = direct_list(alloc, slots, trail)? {
+        return Ok(solution);
+    }
     let rights = right_sides(alloc, slots, trail)?;
     let lists = uses_of_sides(alloc, slots, &rights)?;
     let order = order(alloc, &lists)?;

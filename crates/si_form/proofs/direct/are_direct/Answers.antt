@@ -1,0 +1,22 @@
+use Rattle.std.proofs.Common.{sym, arith}
+use Rattle.si_form.specs.Direct.{IsDirect}
+use Rattle.si_form.proofs.DirectLaws.{some_cells}
+use Rattle.si_form.proofs.PairLaws.{all_more, all_begins, all_ends, pair_at}
+use Rattle.si_form.proofs.direct.are_direct.Goals as goal
+
+pub loop-n-init : goal.loop-n-init
+loop-n-init c = all_begins (IsDirect c.args.slots.now c.args.trail.now.pairs) c.args.trail.now.pairs
+
+pub is_direct-requires : goal.is_direct-requires
+is_direct-requires c = some_cells c.args.slots.now c.args.trail.now.pairs c.requires c.slot-slot.result c.in-Some.value.now (sym c.in-Some.ensures)
+
+pub loop-n-preserved : goal.loop-n-preserved
+loop-n-preserved c =
+    all_more (IsDirect c.args.slots.now c.args.trail.now.pairs) c.args.trail.now.pairs c.loop-n.n (c.slot-slot.result, c.in-Some.value.now)
+    (pair_at c.args.trail.now.pairs c.loop-n.n c.slot-slot.result c.in-Some.value.now c.mark-n-end.ensures.distinct c.slot-slot.ensures (sym c.in-Some.ensures))
+    (c.is_direct.ensures c.if-not-is_direct.false) c.loop-n.invariant
+
+pub returns : goal.returns
+returns c e =
+    all_ends (IsDirect c.args.slots.now c.args.trail.now.pairs) c.args.trail.now.pairs c.loop-n.n
+    (omega (arith, c.loop-n-test.false, c.mark-n-end.ensures.number)) c.loop-n.invariant

@@ -1,0 +1,18 @@
+use Rattle.std.proofs.Common.{sym, ◌∙◌, arith}
+use Rattle.si_form.proofs.PairLaws.{piece_length, piece_later}
+use Rattle.si_form.proofs.direct.has_piece.Goals as goal
+
+pub returns-then-cells-piece : goal.returns-then-cells-piece
+returns-then-cells-piece c e p = omega (arith, piece_length c.args.cells.now c.args.piece.now p, c.if-cells-piece.true)
+
+pub loop-at-init : goal.loop-at-init
+loop-at-init c p = omega arith
+
+pub loop-at-preserved : goal.loop-at-preserved
+loop-at-preserved c =
+    piece_later c.args.cells.now c.args.piece.now c.loop-at.at
+    (λ same. let bad = sym (c.are_same.ensures.1 same) ∙ c.if-are_same.false in cc)
+    c.loop-at.invariant
+
+pub returns : goal.returns
+returns c e p = omega (arith, piece_length c.args.cells.now c.args.piece.now p, c.loop-at.invariant p, c.loop-at-test.false, c.if-cells-piece.false)

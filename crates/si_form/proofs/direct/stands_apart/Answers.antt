@@ -1,0 +1,24 @@
+use Rattle.std.proofs.Common.{◌≢◌, sym, arith}
+use Rattle.si_unify.specs.Solving.{IsPieceOf}
+use Rattle.si_form.proofs.PairLaws.{all_more, all_begins, all_ends, pair_at}
+use Rattle.si_form.proofs.direct.stands_apart.Goals as goal
+
+pub loop-n-init : goal.loop-n-init
+loop-n-init c = all_begins (λ other. other.0 ≢ c.args.slot → IsPieceOf other.1.now c.args.value.now → ⊥) c.args.trail.now.pairs
+
+pub loop-n-preserved-then-other-slot : goal.loop-n-preserved-then-other-slot
+loop-n-preserved-then-other-slot c =
+    all_more (λ other. other.0 ≢ c.args.slot → IsPieceOf other.1.now c.args.value.now → ⊥) c.args.trail.now.pairs c.loop-n.n
+    (c.slot-other.result, c.slot-other.ensures.0) c.slot-other.ensures.1 (λ differs piece. differs c.if-other-slot.true) c.loop-n.invariant
+
+pub loop-n-preserved : goal.loop-n-preserved
+loop-n-preserved c =
+    all_more (λ other. other.0 ≢ c.args.slot → IsPieceOf other.1.now c.args.value.now → ⊥) c.args.trail.now.pairs c.loop-n.n
+    (c.slot-other.result, c.in-Some.cells.now)
+    (pair_at c.args.trail.now.pairs c.loop-n.n c.slot-other.result c.in-Some.cells.now c.mark-n-end.ensures.distinct c.slot-other.ensures (sym c.in-Some.ensures))
+    (λ differs piece. c.has_piece.ensures c.if-has_piece.false piece) c.loop-n.invariant
+
+pub returns : goal.returns
+returns c e =
+    all_ends (λ other. other.0 ≢ c.args.slot → IsPieceOf other.1.now c.args.value.now → ⊥) c.args.trail.now.pairs c.loop-n.n
+    (omega (arith, c.loop-n-test.false, c.mark-n-end.ensures.number)) c.loop-n.invariant

@@ -50,7 +50,7 @@ adds_one s e m old new pushed match is = record {
   more = m ∷ [];
   appended = pushed;
   matches = (match, tt);
-  hits = inl (subst (λ f. Stands s.relation (pattern_in s) f.1.entry) (sym is) match.list.stands, ([], refl, ap (λ f. f ∷ []) (sym is)));
+  hits = inl (subst (λ f. Stands s.relation (pattern_in s) f.1.entry) (sym is) match.solved.list.stands, ([], refl, ap (λ f. f ∷ []) (sym is)));
 }
 
 pub adds_no : (s : Search) (e : ℕ × Placed) (ms : List Match) → (Stands s.relation (pattern_in s) e.1.entry → ⊥) → Adds s (e ∷ []) ms ms
@@ -261,4 +261,4 @@ matches_few s cs ms h =
 pub hits_solved : (s : Search) (ms : List Match) → AllByRecursion (IsMatch s) ms → AllByRecursion (λ (hit : ℕ × Placed). HasSolution s.relation (pattern_in s) hit.1.entry) (map hit_of ms)
 hits_solved s [] all = tt
 hits_solved s (m ∷ ms) all =
-    (record { stands = all.0.list.stands; solution = all.0.list.solution; solves = all.0.list.solves }, hits_solved s ms all.1)
+    (record { stands = all.0.solved.list.stands; solution = all.0.solved.list.solution; solves = all.0.solved.list.solves }, hits_solved s ms all.1)

@@ -1,6 +1,6 @@
 -- What a search finds: of the entries of the kept clauses, in order, exactly those that stand in a
 -- relation to a pattern.
-use Rattle.std.specs.Prelude.{◌≡◌, ◌⊎◌, ℕ, ◌+◌, List, [], ◌∷◌, ◌++◌, map, refl}
+use Rattle.std.specs.Prelude.{◌≡◌, ◌⊎◌, ℕ, ◌+◌, List, [], ◌∷◌, ◌++◌, map, refl, Some, slice_get}
 use Rattle.std.specs.Coded.{Coded, code_by, coded×, coded⊎, coded_ℕ, coded_list}
 use Rattle.std.proofs.Common.{inl, inr}
 use Rattle.si_defs.specs.Clauses.{Term, Literal, Clause, Pattern, literal_pattern, term_pattern}
@@ -83,3 +83,8 @@ finding_code =
     (λ f. (f.index, (f.relation, (f.pattern, f.hits))))
     (λ p. record { index = p.0; relation = p.1.0; pattern = p.1.1.0; hits = p.1.1.1 })
     (λ _. refl)
+
+-- the clause of the hit with this number
+abbrev pub IsClauseOf : Finding → ℕ → Clause → Type 0
+IsClauseOf finding n c =
+    (hit : ℕ × Placed) × (slice_get finding.hits n ≡ Some hit) × (slice_get finding.index.clauses hit.0 ≡ Some c)

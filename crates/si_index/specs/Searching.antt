@@ -1,6 +1,6 @@
 -- A search through the entries of clauses: what it is made of, what it asks of the entries, and
 -- what it has gathered.
-use Rattle.std.specs.Prelude.{◌≡◌, ℕ, ◌≤◌, List, [], ◌∷◌, ◌++◌, length, map, Option, Some, None, bytes_eq}
+use Rattle.std.specs.Prelude.{◌≡◌, ℕ, ◌≤◌, List, [], ◌∷◌, ◌++◌, length, map, Option, Some, None, slice_get, bytes_eq}
 use Rattle.std.specs.List.{AllByRecursion}
 use Rattle.si_defs.specs.Bytes.{Bytes}
 use Rattle.si_defs.specs.Terms.{size, sizes, symbols, symbols_of_all, firsts}
@@ -12,7 +12,7 @@ use Rattle.si_defs.specs.declared.TheConstants.{MOST_OCCURRENCES}
 use Rattle.si_defs.specs.declared.Relation.{Relation}
 use Rattle.si_state.specs.Signatures.{numbering}
 use Rattle.si_state.specs.Answers.{Stands, Solves}
-use Rattle.si_term.specs.Meaning.{pattern_of, entry_of, place_of}
+use Rattle.si_term.specs.Meaning.{pattern_of, entry_of, clause_of, place_of}
 use Rattle.si_flat.specs.Numbered.{number_in}
 use Rattle.si_flat.specs.Flattened.{IsSoundEntry, FlattensPattern, whole_of, query_numbers}
 use Rattle.si_form.specs.declared.solution.Binding.{Binding}
@@ -20,11 +20,11 @@ use Rattle.si_form.specs.Answers.{StandsForList}
 use Rattle.si_form.specs.Numberings.{variable_by, list_by, symbols_of}
 use Rattle.si_form.specs.SolutionParts.{IsBindingOf}
 use Rattle.si_form.specs.TableNumbers.{HaveNumbers}
-use Rattle.si_index.specs.Kept.{Kept}
 use Rattle.si_index.specs.Finding.{AreHits}
 use Rattle.si_index.specs.declared.search.Search.{Search}
 use Rattle.si_index.specs.declared.search.Solved.{Solved}
 use Rattle.si_index.specs.declared.gather.Match.{Match}
+use Rattle.si_index.specs.declared.gather.Spot.{Spot}
 
 -- ---- what is searched for
 abbrev pub numbers_of : Search → Numbering
@@ -95,16 +95,24 @@ AnswersEntry relation numbers p e (Some bindings) = SolvesEntry relation numbers
 -- by the numbers of the search, with the names of the entry's variables
 pub record SolvesIn (s : Search) (e : Entry) (solved : Solved) : Type 0 where
   pub list : SolvesEntry s.relation (query_numbers (numbers_of s) s.query.extra) (pattern_in s) e solved.solution
-  pub are_names : solved.entry_names ≡ names_in e
+  pub are_names : map (λ name. name.now) solved.entry_names.items ≡ names_in e
 
 abbrev pub AnswersIn : Search → Entry → Option Solved → Type 0
 AnswersIn s e None = Stands s.relation (pattern_in s) e → ⊥
 AnswersIn s e (Some solved) = SolvesIn s e solved
 
 -- ---- what was gathered
--- an entry that stands in the relation, with its list and its names
-abbrev pub IsMatch : Search → Match → Type 0
-IsMatch s m = SolvesIn s (entry_of m.entry) m.solved
+-- the clause stands at this position of the index
+abbrev pub IsThere : Search → ℕ → Clause → Type 0
+IsThere s position c = slice_get s.index.now.clauses position ≡ Some c
+
+abbrev pub IsSpot : Search → Spot → Type 0
+IsSpot s spot = IsThere s spot.position (clause_of spot.clause.now)
+
+-- an entry that stands in the relation, with its list and its names, and the clause of its position
+pub record IsMatch (s : Search) (m : Match) : Type 0 where
+  pub solved : SolvesIn s (entry_of m.entry) m.solved
+  pub there : IsThere s m.hit.clause (clause_of m.clause.now)
 
 -- the match as a hit
 abbrev pub hit_of : Match → ℕ × Placed
@@ -125,8 +133,8 @@ placed_under position number path (o ∷ os) =
     ∷ placed_under position number path os
 
 -- what was found in an index: no more than its clauses may have
-pub record IsFound (index : Kept) (s : Search) (query_names : List Bytes) (matches : List Match) : Type 0 where
-  pub numbers : numbers_of s ≡ index.numbers
+pub record IsFound (s : Search) (query_names : List Bytes) (matches : List Match) : Type 0 where
+  pub numbers : numbers_of s ≡ s.index.now.numbers
   pub ready : IsReady s
   pub names : query_names ≡ names_in (pattern_entry (pattern_in s))
   pub few : length matches ≤ MOST_OCCURRENCES

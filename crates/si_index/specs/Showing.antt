@@ -34,7 +34,7 @@ pub record ShowsEntry (numbers : Numbering) (relation : Relation) (pattern : Pat
 
 -- what is lent, as what is shown
 abbrev pub shown_of : Lent → Shown
-shown_of l = record { solution = l.solution.now; query_names = l.query_names.now; entry_names = l.entry_names.now; extra = l.extra.now }
+shown_of l = record { solution = l.solution.now; query_names = l.query_names.now; entry_names = map (λ name. name.now) l.entry_names.now; extra = l.extra.now }
 
 -- the same of the hit with this number
 abbrev pub ShowsHit : Finding → ℕ → Shown → Type 0

@@ -3,7 +3,7 @@ ghost use Rattle.std.specs.Prelude.{◌≡◌, ◌<◌, IfOk, Some, length, map,
 ghost use Rattle.std.specs.List.{AllByRecursion};
 ghost use Rattle.si_defs.specs.Clauses.{IsSoundPattern};
 ghost use Rattle.si_term.specs.Terms.{symbol_of};
-ghost use Rattle.si_term.specs.Meaning.{pattern_of, place_of};
+ghost use Rattle.si_term.specs.Meaning.{clause_of, pattern_of, place_of};
 
 use crate::gather::{Match, search_clauses};
 use crate::index::Index;
@@ -11,7 +11,7 @@ use crate::search::Search;
 use si_defs::Relation;
 use si_flat::flatten_pattern;
 use si_form::Solution;
-use si_term::{Pattern, Place, Syms, Texts, vars_of};
+use si_term::{Clause, Pattern, Place, Syms, Texts, vars_of};
 use std::alloc::{AllocError, Global};
 use std::marker::Model;
 
@@ -40,17 +40,16 @@ pub struct Shown {
 
 /// The parts of a `Shown`, lent by what was found.
 #[derive(Drop)]
-pub struct Lent<'a> {
-    pub solution: &'a Solution,
-    pub query_names: &'a Texts,
-    pub entry_names: &'a Texts,
-    pub extra: &'a Syms,
+pub struct Lent<'a, 'b> {
+    pub solution: &'b Solution,
+    pub query_names: &'b Texts,
+    pub entry_names: &'b [&'a [u8]],
+    pub extra: &'b Syms,
 }
 
 /// The entries that stand in a relation to a pattern, in the order of acceptance and of entries.
 #[derive(Drop)]
 pub struct Found<'a> {
-    index: &'a Index,
     search: Search<'a>,
     query_names: Texts,
     matches: Vec<Match<'a>>,
@@ -68,7 +67,7 @@ impl<'a> Model for Found<'a> {
     ghost use Rattle.si_index.specs.Searching.{hit_of};
 
     ghost view = { λ f. record {
-      index = f.index.now;
+      index = f.search.index.now;
       relation = f.search.relation;
       pattern = pattern_of f.search.pattern.now;
       hits = map hit_of f.matches.items;
@@ -77,11 +76,11 @@ impl<'a> Model for Found<'a> {
     ghost use Rattle.si_index.specs.Searching.{IsFound};
 
     ghost invariant = { λ f.
-        IsFound f.index.now f.search f.query_names f.matches.items };
+        IsFound f.search f.query_names f.matches.items };
 }
 
 impl<'a> Found<'a> {
-    ghost use Rattle.si_index.specs.Finding.{position_and_place};
+    ghost use Rattle.si_index.specs.Finding.{position_and_place, IsClauseOf};
     ghost use Rattle.si_index.specs.Showing.{ShowsHit, shown_of};
 
     /// The number of hits.
@@ -100,6 +99,14 @@ impl<'a> Found<'a> {
         &self.matches[n as usize].hit
     }
 
+    /// The clause of the hit with this number from 0.
+    pub fn clause(&self, n: u32) -> &Clause
+        requires { n < length self.now.hits }
+        ensures { IsClauseOf self.now n (clause_of result.now) }
+    {
+        self.matches[n as usize].clause
+    }
+
     /// The canonical list of the hit with this number from 0.
     pub fn shown(&self, n: u32) -> Result<Shown, AllocError>
         requires { n < length self.now.hits }
@@ -116,7 +123,7 @@ impl<'a> Found<'a> {
     }
 
     /// What `shown` gives, without memory.
-    pub fn lent(&self, n: u32) -> Lent<'_>
+    pub fn lent(&self, n: u32) -> Lent<'a, '_>
         requires { n < length self.now.hits }
         ensures { ShowsHit self.now n (shown_of result) }
     {
@@ -124,7 +131,7 @@ impl<'a> Found<'a> {
         Lent {
             solution: &found.solved.solution,
             query_names: &self.query_names,
-            entry_names: &found.solved.entry_names,
+            entry_names: found.solved.entry_names.as_slice(),
             extra: &self.search.query.extra,
         }
     }
@@ -169,15 +176,15 @@ impl Index {
         let signature = self.signature();
         let search = Search {
             alloc,
+            index: self,
             signature,
             relation,
             pattern,
             query: flatten_pattern(alloc, signature, pattern)?,
         };
         let query_names = vars_of(alloc, pattern.as_entry())?;
-        let matches = search_clauses(&search, self, stats.clauses)?;
+        let matches = search_clauses(&search, stats.clauses)?;
         Ok(Found {
-            index: self,
             search,
             query_names,
             matches,

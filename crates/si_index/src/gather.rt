@@ -8,20 +8,21 @@ ghost use Rattle.si_defs.specs.declared.TheConstants.{MOST_OCCURRENCES};
 ghost use Rattle.si_term.specs.Terms.{term_of};
 ghost use Rattle.si_term.specs.Meaning.{literal_of, clause_of, entry_of};
 ghost use Rattle.si_index.specs.Finding.{at_position, entries_from_position};
-ghost use Rattle.si_index.specs.Searching.{numbers_of, pattern_in, IsReady, IsTermPattern, AreAlike, IsKnownTerm, AreKnownTerms, IsKnownEntry, IsKnownClause, Adds, placed_under};
+ghost use Rattle.si_index.specs.Searching.{numbers_of, pattern_in, IsReady, IsTermPattern, IsSpot, IsThere, AreAlike, IsKnownTerm, AreKnownTerms, IsKnownEntry, IsKnownClause, Adds, placed_under};
 
 use crate::found::Hit;
-use crate::index::Index;
 use crate::search::{Search, Solved, Workspace};
 use si_term::{Clause, Entry, Literal, Path, Pattern, Place, Term};
 use std::alloc::{AllocError, Global};
 
-/// An entry that was found: where it stands, its canonical list, and the names of its variables.
+/// An entry that was found: where it stands, its clause, its canonical list, and the names of its
+/// variables.
 #[derive(Drop)]
 pub(crate) struct Match<'a> {
     pub(crate) hit: Hit,
+    pub(crate) clause: &'a Clause,
     pub(crate) entry: Entry<'a>,
-    pub(crate) solved: Solved,
+    pub(crate) solved: Solved<'a>,
 }
 
 /// What a walk has gathered, the argument numbers from 1 that lead from the atom to where it
@@ -33,39 +34,30 @@ struct Gathered<'a> {
     matches: Vec<Match<'a>>,
 }
 
-/// A literal, by the position of its clause from 0 and its number from 1.
+/// A literal, by its clause, the position of that from 0, and its own number from 1.
 #[derive(Clone, Copy)]
-struct Spot {
-    clause: u32,
+struct Spot<'a> {
+    clause: &'a Clause,
+    position: u32,
     literal: u32,
-}
-
-/// A path in memory of its own.
-fn copy_path(alloc: Global, path: &[u32]) -> Result<Path, AllocError>
-    ensures { IfOk result (λ copy. copy ≡ path.now) }
-{
-    let mut copy = Path::new(alloc);
-    for step in path {
-        copy.push(*step)?;
-    }
-    Ok(copy)
 }
 
 /// Adds an entry if it stands in the relation.
 fn try_entry<'a>(
     search: &Search<'a>,
-    spot: Spot,
+    spot: Spot<'a>,
     entry: Entry<'a>,
     gathered: &mut Gathered<'a>,
 ) -> Result<(), AllocError>
     requires ready { IsReady search.now }
+    requires spot { IsSpot search.now spot }
     requires known { IsKnownEntry (numbers_of search.now) (entry_of entry) }
     requires alike { AreAlike (pattern_in search.now) (entry_of entry) }
     ensures adds { OnOk result (Adds search.now ((
-      spot.clause,
+      spot.entry.position,
       record {
         entry = entry_of entry.entry;
-        place = record { literal = spot.literal; path = gathered.old.path.items };
+        place = record { literal = spot.entry.literal; path = gathered.old.path.items };
       },
     ) ∷ []) gathered.old.matches.items gathered.new.matches.items) }
     ensures path { OnOk result (gathered.new.path.items ≡ gathered.old.path.items) }
@@ -73,15 +65,20 @@ fn try_entry<'a>(
     let Some(solved) = search.solve(&mut gathered.workspace, entry)? else {
         return Ok(());
     };
-    let path = copy_path(search.alloc, &gathered.path)?;
+    let path = Path::from_steps(search.alloc, &gathered.path)?;
     let hit = Hit {
-        clause: spot.clause,
+        clause: spot.position,
         place: Place {
             literal: spot.literal,
             path,
         },
     };
-    gathered.matches.push(Match { hit, entry, solved })?;
+    gathered.matches.push(Match {
+        hit,
+        clause: spot.clause,
+        entry,
+        solved,
+    })?;
     Ok(())
 }
 
@@ -98,14 +95,15 @@ fn descend(path: &mut Vec<u32>, index: usize) -> Result<(), AllocError>
 #[cycle(searching)]
 fn search_term<'a>(
     search: &Search<'a>,
-    spot: Spot,
+    spot: Spot<'a>,
     term: &'a Term,
     gathered: &mut Gathered<'a>,
 ) -> Result<(), AllocError>
     requires ready { IsReady search.now }
+    requires spot { IsSpot search.now spot }
     requires alike { IsTermPattern (pattern_in search.now) }
     requires known { IsKnownTerm (numbers_of search.now) (term_of term.now) }
-    ensures adds { OnOk result (Adds search.now (placed_under spot.clause spot.literal
+    ensures adds { OnOk result (Adds search.now (placed_under spot.entry.position spot.entry.literal
         gathered.old.path.items (occurrences (term_of term.now)))
         gathered.old.matches.items gathered.new.matches.items) }
     ensures path { OnOk result (gathered.new.path.items ≡ gathered.old.path.items) }
@@ -121,14 +119,15 @@ fn search_term<'a>(
 #[cycle(searching)]
 fn search_arguments<'a>(
     search: &Search<'a>,
-    spot: Spot,
+    spot: Spot<'a>,
     arguments: &'a [Term],
     gathered: &mut Gathered<'a>,
 ) -> Result<(), AllocError>
     requires ready { IsReady search.now }
+    requires spot { IsSpot search.now spot }
     requires alike { IsTermPattern (pattern_in search.now) }
     requires known { AreKnownTerms (numbers_of search.now) (row (map term_of arguments.now)) }
-    ensures adds { OnOk result (Adds search.now (placed_under spot.clause spot.literal
+    ensures adds { OnOk result (Adds search.now (placed_under spot.entry.position spot.entry.literal
         gathered.old.path.items (occurrences_from 1 (row (map term_of arguments.now))))
         gathered.old.matches.items gathered.new.matches.items) }
     ensures path { OnOk result (gathered.new.path.items ≡ gathered.old.path.items) }
@@ -145,16 +144,17 @@ fn search_arguments<'a>(
 fn search_whole<'a>(
     search: &Search<'a>,
     wanted: &Literal,
-    spot: Spot,
+    spot: Spot<'a>,
     literal: &'a Literal,
     gathered: &mut Gathered<'a>,
 ) -> Result<(), AllocError>
     requires ready { IsReady search.now }
+    requires spot { IsSpot search.now spot }
     requires wanted { pattern_in search.now ≡ literal_pattern (literal_of wanted.now) }
     requires known { IsKnownEntry (numbers_of search.now) (literal_entry (literal_of literal.now)) }
     requires root { gathered.old.path.items ≡ [] }
-    ensures adds { OnOk result (Adds search.now (map (at_position spot.clause)
-        (literal_entries spot.literal (literal_of literal.now)))
+    ensures adds { OnOk result (Adds search.now (map (at_position spot.entry.position)
+        (literal_entries spot.entry.literal (literal_of literal.now)))
         gathered.old.matches.items gathered.new.matches.items) }
     ensures root { OnOk result (gathered.new.path.items ≡ []) }
 {
@@ -167,16 +167,17 @@ fn search_whole<'a>(
 /// Adds the proper subterms of the literal's atom that stand in the relation.
 fn search_parts<'a>(
     search: &Search<'a>,
-    spot: Spot,
+    spot: Spot<'a>,
     literal: &'a Literal,
     gathered: &mut Gathered<'a>,
 ) -> Result<(), AllocError>
     requires ready { IsReady search.now }
+    requires spot { IsSpot search.now spot }
     requires alike { IsTermPattern (pattern_in search.now) }
     requires known { IsKnownEntry (numbers_of search.now) (literal_entry (literal_of literal.now)) }
     requires root { gathered.old.path.items ≡ [] }
-    ensures adds { OnOk result (Adds search.now (map (at_position spot.clause)
-        (literal_entries spot.literal (literal_of literal.now)))
+    ensures adds { OnOk result (Adds search.now (map (at_position spot.entry.position)
+        (literal_entries spot.entry.literal (literal_of literal.now)))
         gathered.old.matches.items gathered.new.matches.items) }
     ensures root { OnOk result (gathered.new.path.items ≡ []) }
 {
@@ -189,15 +190,16 @@ fn search_parts<'a>(
 /// Adds the entries of a literal that stand in the relation.
 fn search_literal<'a>(
     search: &Search<'a>,
-    spot: Spot,
+    spot: Spot<'a>,
     literal: &'a Literal,
     gathered: &mut Gathered<'a>,
 ) -> Result<(), AllocError>
     requires ready { IsReady search.now }
+    requires spot { IsSpot search.now spot }
     requires known { IsKnownEntry (numbers_of search.now) (literal_entry (literal_of literal.now)) }
     requires root { gathered.old.path.items ≡ [] }
-    ensures adds { OnOk result (Adds search.now (map (at_position spot.clause)
-        (literal_entries spot.literal (literal_of literal.now)))
+    ensures adds { OnOk result (Adds search.now (map (at_position spot.entry.position)
+        (literal_entries spot.entry.literal (literal_of literal.now)))
         gathered.old.matches.items gathered.new.matches.items) }
     ensures root { OnOk result (gathered.new.path.items ≡ []) }
 {
@@ -215,6 +217,7 @@ fn search_clause<'a>(
     gathered: &mut Gathered<'a>,
 ) -> Result<(), AllocError>
     requires ready { IsReady search.now }
+    requires there { IsThere search.now position (clause_of clause.now) }
     requires known { IsKnownClause (numbers_of search.now) (clause_of clause.now) }
     requires root { gathered.old.path.items ≡ [] }
     ensures adds { OnOk result (Adds search.now (map (at_position position)
@@ -225,7 +228,8 @@ fn search_clause<'a>(
     let literals = clause.literals.as_slice();
     for i in 0..literals.len() {
         let spot = Spot {
-            clause: position,
+            clause,
+            position,
             literal: i as u32 + 1,
         };
         search_literal(search, spot, &literals[i], gathered)?;
@@ -233,24 +237,24 @@ fn search_clause<'a>(
     Ok(())
 }
 
-/// The entries of the kept clauses, of which there are so many, that stand in the relation.
+/// The entries of the index, which has so many clauses, that stand in the relation.
 pub(crate) fn search_clauses<'a>(
     search: &Search<'a>,
-    index: &'a Index,
     count: u32,
 ) -> Result<Vec<Match<'a>>, AllocError>
-    requires count { count ≡ length index.now.clauses }
+    requires count { count ≡ length search.now.index.now.clauses }
     requires ready { IsReady search.now }
-    requires known { AllByRecursion (IsKnownClause (numbers_of search.now)) index.now.clauses }
-    ensures { IfOk result (λ matches. Adds search.now (entries_from_position 0 index.now.clauses)
-        [] matches.items) }
+    requires known { AllByRecursion (IsKnownClause (numbers_of search.now))
+        search.now.index.now.clauses }
+    ensures { IfOk result (λ matches. Adds search.now
+        (entries_from_position 0 search.now.index.now.clauses) [] matches.items) }
 {
     let mut gathered = Gathered {
         workspace: Workspace::new(search.alloc),
         path: Vec::new(search.alloc),
         matches: Vec::new(search.alloc),
     };
-    let mut left = index.kept();
+    let mut left = search.index.kept();
     for position in 0..count {
         let Some((_, clause)) = left.next() else {
             unreachable!()

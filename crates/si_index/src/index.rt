@@ -91,7 +91,7 @@ impl Index {
         }
     }
 
-    /// The clause at this position, from 0, in logarithmic time.
+    /// The clause at this position, from 0.
     pub fn clause(&self, at: u32) -> &Clause
         requires { at < length self.now.clauses }
         ensures { slice_get self.now.clauses at ≡ Some (clause_of result.now) }

@@ -77,7 +77,7 @@ impl<T> KeyedList<T> {
         Some(&kept.item)
     }
 
-    /// The key and the item at a position, in logarithmic time.
+    /// The key and the item at a position.
     pub fn at(&self, position: usize) -> (usize, &T)
         requires { position < length self.now }
         ensures { slice_get self.now position ≡ Some (result.0, result.1.now) }
@@ -86,7 +86,7 @@ impl<T> KeyedList<T> {
         (kept.key, &kept.item)
     }
 
-    /// The key of the last item, in logarithmic time.
+    /// The key of the last item.
     pub fn last_key(&self) -> Option<usize>
         ensures some { IfSome result (λ key. HasKeyAt self.now (length self.now - 1) key) }
         ensures none { IfNone result (self.now ≡ []) }
@@ -96,7 +96,7 @@ impl<T> KeyedList<T> {
         Some(kept.key)
     }
 
-    /// The position of the item with this key, in logarithmic time.
+    /// The position of the item with this key.
     pub fn position(&self, key: usize) -> usize
         requires { HasKey self.now key }
         ensures { HasKeyAt self.now result key }

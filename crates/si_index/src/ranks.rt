@@ -1,5 +1,5 @@
-// Counts of a list of places, from which a rank and the place of a rank are found in logarithmic
-// time.
+// Counts of a list of places, from which a rank and the place of a rank are found. Sums over halves
+// stand above them, so that a search looks at one sum of each length; no clause speaks of time.
 ghost use Rattle.std.specs.Prelude.{◌≡◌, ◌<◌, ◌≤◌, ◌+◌, ◌-◌, ◌^◌, [], ◌∷◌, ◌++◌, IfSome, IfNone, OnOk, OnErr, length, take, replicate, slice_index_or, slice_set, vec_capacity};
 ghost use Rattle.si_index.specs.Halves.{halves, sum_of};
 ghost use Rattle.si_index.specs.Ranks.{IsSummed, HasRoom};

@@ -35,8 +35,8 @@ fn has_target(literal: &Literal, targets: &[Literal]) -> bool
     false
 }
 
-/// Whether the first literals of `c` allow a map to those of `d`. It takes no memory, and a time
-/// that is linear in the length of `d`.
+/// Whether the first literals of `c` allow a map to those of `d`. It takes no memory, and looks at
+/// each literal of `d` a fixed number of times at most; no clause says so.
 pub(crate) fn may_have_map(c: &Literals, d: &Literals) -> bool
     ensures { IsFalse result → (ns : List ℕ)
         → IsMap (map literal_of c.now) (map literal_of d.now) ns → ⊥ }

@@ -1,22 +1,25 @@
 // Whether an entry stands in a relation to a pattern, and how.
-ghost use Rattle.std.specs.Prelude.{◌≡◌, IfOk, map};
+ghost use Rattle.std.specs.Prelude.{◌≡◌, IfOk};
 ghost use Rattle.si_term.specs.Terms.{term_of};
 ghost use Rattle.si_term.specs.Meaning.{entry_of};
 ghost use Rattle.si_flat.specs.Flattened.{whole_of};
 ghost use Rattle.si_index.specs.Searching.{numbers_of, pattern_in, IsReady, AreAlike, IsKnownEntry, AnswersIn};
 
 use crate::fitting::fits;
+use crate::index::Index;
 use si_defs::Relation;
 use si_flat::{EntryBuffer, FlatQuery};
 use si_form::{Scratch, Solution, canonical_with};
 use si_sign::Signature;
-use si_term::{Entry, Pattern, Term, Text, Texts};
+use si_term::{Entry, Pattern, Term};
+use smallvec::SmallVec;
 use std::alloc::{AllocError, Global};
 
-/// What is searched for, and by which numbers.
+/// What is searched for, and where.
 #[derive(Drop)]
 pub(crate) struct Search<'a> {
     pub(crate) alloc: Global,
+    pub(crate) index: &'a Index,
     pub(crate) signature: &'a Signature,
     pub(crate) relation: Relation,
     pub(crate) pattern: &'a Pattern,
@@ -26,9 +29,9 @@ pub(crate) struct Search<'a> {
 
 /// The canonical list of an entry, and the names of its variables.
 #[derive(Drop)]
-pub(crate) struct Solved {
+pub(crate) struct Solved<'a> {
     pub(crate) solution: Solution,
-    pub(crate) entry_names: Texts,
+    pub(crate) entry_names: SmallVec<&'a [u8], 2>,
 }
 
 /// The memory that a search works in, lent from entry to entry.
@@ -48,17 +51,6 @@ impl<'a> Workspace<'a> {
     }
 }
 
-/// Names in memory of their own.
-fn copy_names(alloc: Global, names: &[&[u8]]) -> Result<Texts, AllocError>
-    ensures { IfOk result (λ copies. copies ≡ map (λ name. name.now) names.now) }
-{
-    let mut copies = Texts::new(alloc);
-    for &name in names {
-        copies.push(Text::from_bytes(alloc, name)?)?;
-    }
-    Ok(copies)
-}
-
 /// The atom of a literal, or the term.
 fn whole_term(entry: Entry<'_>) -> &Term
     ensures { term_of result.now ≡ whole_of (entry_of entry.entry) }
@@ -76,7 +68,7 @@ impl<'a> Search<'a> {
         &self,
         workspace: &mut Workspace<'a>,
         entry: Entry<'a>,
-    ) -> Result<Option<Solved>, AllocError>
+    ) -> Result<Option<Solved<'a>>, AllocError>
         requires ready { IsReady self.now }
         requires known { IsKnownEntry (numbers_of self.now) (entry_of entry) }
         requires alike { AreAlike (pattern_in self.now) (entry_of entry) }
@@ -99,7 +91,7 @@ impl<'a> Search<'a> {
         else {
             return Ok(None);
         };
-        let entry_names = copy_names(self.alloc, workspace.buffer.names())?;
+        let entry_names = SmallVec::from_slice(self.alloc, workspace.buffer.names())?;
         Ok(Some(Solved {
             solution,
             entry_names,

@@ -2,9 +2,11 @@
 //! places. No call takes memory.
 #![tactic(auto)]
 
+mod names;
 mod printing;
 mod solution;
 
+pub use names::NameList;
 pub use printing::{
     put_bytes, put_file, put_map, put_name, put_number, put_place, put_quoted, put_symbol, put_term,
 };

@@ -8,20 +8,31 @@ ghost use Rattle.si_defs.specs.Printing.{word_text, file_text, name_text, symbol
 ghost use Rattle.si_io.specs.Puts.{Puts};
 ghost use Rattle.si_io.specs.Faults.{HasCause};
 ghost use Rattle.si_term.specs.Terms.{symbol_of, term_of};
-ghost use Rattle.si_term.specs.Meaning.{name_of};
+ghost use Rattle.si_term.specs.Meaning.{name_of, place_of};
 ghost use Rattle.si_reply.specs.PrintedParts.{arguments_text, numbers_behind, number_list};
 
 use itoa::Buffer;
 use si_flat::LitMap;
 use si_io::{Failed, Sink, write_all};
-use si_term::{Name, NameKind, Sym, SymKind, Term};
+use si_term::{Name, NameKind, Place, Sym, SymKind, Term};
 
 /// Writes the bytes.
+#[inline(always)]
 pub fn put_bytes<K: Sink>(sink: &mut K, bytes: &[u8]) -> Result<(), Failed>
     ensures text { Puts result bytes.now (K.written sink.old) (K.written sink.new) }
     ensures cause { HasCause (K.faults sink.old) (K.faults sink.new) result }
 {
-    write_all(sink, bytes)
+    if bytes.is_empty() {
+        return Ok(());
+    }
+    let count = sink.write(bytes)?;
+    if count == bytes.len() {
+        return Ok(());
+    }
+    if count == 0 {
+        return Err(Failed);
+    }
+    write_all(sink, &bytes[count..])
 }
 
 /// Writes a word, and then a number.
@@ -105,19 +116,14 @@ pub fn put_term<K: Sink>(sink: &mut K, term: &Term, mark: &[u8]) -> Result<(), F
 
 /// Writes where an entry stands: its clause, its literal's number and its path.
 #[tactic(auto, using(si_io::proofs::Content::writes))]
-pub fn put_place<K: Sink>(
-    sink: &mut K,
-    name: &Name,
-    literal: u32,
-    path: &[u32],
-) -> Result<(), Failed>
-    ensures text { Puts result (place_text (name_of name.now)
-        (record { literal = literal; path = path.now })) (K.written sink.old) (K.written sink.new) }
+pub fn put_place<K: Sink>(sink: &mut K, name: &Name, place: &Place) -> Result<(), Failed>
+    ensures text { Puts result (place_text (name_of name.now) (place_of place.now))
+        (K.written sink.old) (K.written sink.new) }
     ensures cause { HasCause (K.faults sink.old) (K.faults sink.new) result }
 {
     put_name(sink, name)?;
-    put_number(sink, b":", u64::from(literal))?;
-    put_path(sink, path)
+    put_number(sink, b":", u64::from(place.literal))?;
+    put_path(sink, place.path.as_slice())
 }
 
 /// Writes a map of literals.

@@ -13,6 +13,7 @@ ghost use Rattle.si_flat.specs.Cells.{IsWhole};
 ghost use Rattle.si_reply.specs.PrintedParts.{arguments_text, binding_text, bindings_text};
 ghost use Rattle.si_reply.specs.NamedLists.{naming, ShowsTerm, ShowAll, ShowsVariable, ShowsSymbol, ShowsBinding, ShowsList};
 
+use crate::names::NameList;
 use crate::printing::{put_bytes, put_symbol};
 use si_flat::{Cell, FIRST_EXTRA, Owner};
 use si_form::{Binding, Solution};
@@ -23,37 +24,38 @@ use std::marker::Model;
 /// What stands for the numbers: the symbols of a table, those that it lacks, and the names of
 /// variables.
 #[derive(Drop)]
-struct Words<'a, T: SymTable> {
+struct Words<'a, T: SymTable, N: NameList> {
     table: &'a T,
     extra: &'a Syms,
     query_names: &'a Texts,
-    entry_names: &'a Texts,
+    entry_names: &'a N,
 }
 
-impl<'a, T: SymTable> Model for Words<'a, T> {
+impl<'a, T: SymTable, N: NameList> Model for Words<'a, T, N> {
     ghost use Rattle.si_reply.specs.NamedLists as named;
     ghost use Rattle.si_reply.specs.NamedLists.{naming};
 
     ghost Value = { named.Naming };
 
     ghost view = { λ w.
-        naming (T.pairs w.table.now) w.extra.now w.query_names.now w.entry_names.now };
+        naming (T.pairs w.table.now) w.extra.now w.query_names.now (N.names w.entry_names.now) };
 }
 
 /// Writes a solution list. Each of its numbers has to stand for a symbol of the table or an extra
 /// one, or for a name. A term is written by recursion over its nesting.
-pub fn put_solution<K: Sink, T: SymTable>(
+pub fn put_solution<K: Sink, T: SymTable, N: NameList>(
     sink: &mut K,
     solution: &Solution,
     table: &T,
     extra: &Syms,
     query_names: &Texts,
-    entry_names: &Texts,
+    entry_names: &N,
 ) -> Result<(), Failed>
     requires known { (list : variables.Solution) × ShowsList
-        (naming (T.pairs table.now) extra.now query_names.now entry_names.now) solution.now list }
+        (naming (T.pairs table.now) extra.now query_names.now (N.names entry_names.now))
+        solution.now list }
     ensures text { (list : variables.Solution)
-        → ShowsList (naming (T.pairs table.now) extra.now query_names.now entry_names.now)
+        → ShowsList (naming (T.pairs table.now) extra.now query_names.now (N.names entry_names.now))
         solution.now list
         → Puts result (solution_text variable_text list) (K.written sink.old)
         (K.written sink.new) }
@@ -71,9 +73,9 @@ pub fn put_solution<K: Sink, T: SymTable>(
 }
 
 /// Writes the bindings with semicolons between them.
-fn put_bindings<K: Sink, T: SymTable>(
+fn put_bindings<K: Sink, T: SymTable, N: NameList>(
     sink: &mut K,
-    words: &Words<'_, T>,
+    words: &Words<'_, T, N>,
     solution: &Solution,
 ) -> Result<(), Failed>
     requires known { (list : variables.Solution) × ShowsList words.now solution.now list }
@@ -93,9 +95,9 @@ fn put_bindings<K: Sink, T: SymTable>(
 }
 
 /// Writes a variable and its term.
-fn put_binding<K: Sink, T: SymTable>(
+fn put_binding<K: Sink, T: SymTable, N: NameList>(
     sink: &mut K,
-    words: &Words<'_, T>,
+    words: &Words<'_, T, N>,
     binding: &Binding,
 ) -> Result<(), Failed>
     requires known { (b : variables.Variable × Apart) × ShowsBinding words.now binding.now b }
@@ -109,9 +111,9 @@ fn put_binding<K: Sink, T: SymTable>(
 }
 
 /// Writes a variable of the pattern or of the entry.
-fn put_variable<K: Sink, T: SymTable>(
+fn put_variable<K: Sink, T: SymTable, N: NameList>(
     sink: &mut K,
-    words: &Words<'_, T>,
+    words: &Words<'_, T, N>,
     owner: Owner,
     slot: u32,
 ) -> Result<(), Failed>
@@ -125,12 +127,12 @@ fn put_variable<K: Sink, T: SymTable>(
             put_bytes(sink, b"?")?;
             put_bytes(sink, words.query_names.at(slot as usize).as_bytes())
         }
-        Owner::Entry => put_bytes(sink, words.entry_names.at(slot as usize).as_bytes()),
+        Owner::Entry => put_bytes(sink, words.entry_names.name(slot as usize)),
     }
 }
 
 /// The symbol with this number.
-fn symbol_at<'a, T: SymTable>(words: &Words<'a, T>, number: u32) -> &'a Sym
+fn symbol_at<'a, T: SymTable, N: NameList>(words: &Words<'a, T, N>, number: u32) -> &'a Sym
     requires known { (s : symbols.Symbol) × ShowsSymbol words.now number s }
     ensures { (s : symbols.Symbol) → ShowsSymbol words.now number s
         → symbol_of result.now ≡ s }
@@ -143,9 +145,9 @@ fn symbol_at<'a, T: SymTable>(words: &Words<'a, T>, number: u32) -> &'a Sym
 
 /// Writes the term of these cells.
 #[cycle(put_terms)]
-fn put_flat<K: Sink, T: SymTable>(
+fn put_flat<K: Sink, T: SymTable, N: NameList>(
     sink: &mut K,
-    words: &Words<'_, T>,
+    words: &Words<'_, T, N>,
     cells: &[Cell],
 ) -> Result<(), Failed>
     requires known { (t : Apart) × ShowsTerm words.now cells.now t }
@@ -166,9 +168,9 @@ fn put_flat<K: Sink, T: SymTable>(
 
 /// Writes the terms of these cells as arguments, in parentheses where there are any.
 #[cycle(put_terms)]
-fn put_flat_arguments<K: Sink, T: SymTable>(
+fn put_flat_arguments<K: Sink, T: SymTable, N: NameList>(
     sink: &mut K,
-    words: &Words<'_, T>,
+    words: &Words<'_, T, N>,
     cells: &[Cell],
 ) -> Result<(), Failed>
     requires known { (ts : terms.Terms symbols.Symbol variables.Variable)
@@ -191,9 +193,9 @@ fn put_flat_arguments<K: Sink, T: SymTable>(
 
 /// Writes the terms of these cells, each behind a comma.
 #[cycle(put_terms)]
-fn put_flat_others<'a, K: Sink, T: SymTable>(
+fn put_flat_others<'a, K: Sink, T: SymTable, N: NameList>(
     sink: &mut K,
-    words: &Words<'_, T>,
+    words: &Words<'_, T, N>,
     cells: &'a [Cell],
 ) -> Result<(), Failed>
     requires known { (ts : terms.Terms symbols.Symbol variables.Variable)

@@ -17,8 +17,6 @@ use Rattle.si_io.specs.Content.{Told, Receives, ReceivesPrefix}
 use Rattle.si_io.specs.Puts.{Puts}
 use Rattle.si_io.specs.declared.failed.Failed.{Failed}
 use Rattle.si_io.proofs.Content.{append_told-nil, Receives_then, ReceivesPrefix_then, ReceivesPrefix_more, Puts_then}
-use Rattle.si_term.specs.declared.clause.Place as term
-use Rattle.si_term.specs.Meaning.{place_of}
 use Rattle.si_index.specs.Kept.{Kept}
 use Rattle.si_index.specs.Searching.{HasSolution}
 use Rattle.si_index.specs.Finding.{Finding, AreHits, at_position, entries_from_position, position_and_place}
@@ -189,13 +187,6 @@ line_parts name place list = four_apart (place_text name place) (sign_text Space
 pub line_is : (hit : Hit) → hit_line hit.clause.name hit.placed.place hit.solution ≡ ended (hit_text hit ∷ [])
 unfolding hit_line sign_text
 line_is hit = refl
-
-pub line_at : (name : Name) (place : term.Place) (path : List ℕ) (list : Solution) → path ≡ place.path
-    → hit_line name (place_of place) list
-    ≡ place_text name (record { literal = place.literal; path = path }) ++ (sign_text Space ++ (solution_text variable_text list ++ sign_text LineFeed))
-line_at name place path list e =
-    ap (λ p. hit_line name (record { literal = place.literal; path = p }) list) (sym e)
-    ∙ line_parts name (record { literal = place.literal; path = path }) list
 
 -- ---- what a number finds
 pub at_number : (fs : Found) (n : ℕ) (f : ℕ × Placed) (k : ℕ) (place : Place) → slice_get fs n ≡ Some f

@@ -9,7 +9,7 @@ use Rattle.std.proofs.lemmas.List.{append_cancel_left, drop-append-le, length-ta
 use Rattle.std.specs.Prelude.{IsTrue, IsFalse, is_err, slice_set, Result, Ok, Err}
 use Rattle.si_io.specs.Content.{Told, bytes_then, append_told, Receives, ReceivesPrefix}
 use Rattle.si_io.proofs.Content.{Receives_more, append_told-append, Receives_then, ReceivesPrefix_more}
-use Rattle.si_session.specs.Buffering.{held, given_since, since, HasBytesSince, HasRoomSince}
+use Rattle.si_session.specs.Buffering.{held, told_with, given_since, since, HasBytesSince, HasRoomSince}
 
 -- what is left of some bytes, once the first of them were taken
 left_of : (now after : Told) (all : List ℕ) (n : ℕ) → Receives now (take n all) after → append_told after (drop n all) ≡ append_told now all
@@ -86,6 +86,22 @@ passed_more a b c bytes from at count on first second =
     let size : at - from + count ≡ at + count - from = omega (arith, on) in
     subst (λ (n : ℕ). Receives a (take n (drop from bytes)) c) size
     (Receives_more a b c (drop from bytes) (at - from) count first (subst (λ (l : List ℕ). Receives b (take count l) c) rest second))
+
+-- some bytes from the front of those that are held were handed on, up to a place
+front_held : (bytes : List ℕ) (at place end : ℕ) → at ≤ place → place ≤ end → end ≤ length bytes
+    → held bytes at end ≡ drop at (take place bytes) ++ held bytes place end
+front_held bytes at place end from to within =
+    let split : take end bytes ≡ take place bytes ++ held bytes place end =
+    sym (take-append-drop place (take end bytes)) ∙ ap (λ (l : List ℕ). l ++ held bytes place end) (take-take place end bytes to) in
+    ap (drop at) split ∙ drop-append-le at (take place bytes) (held bytes place end) (omega (arith, from, length-take-le place bytes (omega (arith, to, within))))
+
+pub front_handed_on : (now after : Told) (bytes : List ℕ) (start at place end : ℕ) → start ≤ place → at ≤ place → place ≤ end → end ≤ length bytes
+    → append_told after (drop at (take place bytes)) ≡ append_told now (drop start (take place bytes)) → told_with after bytes at end ≡ told_with now bytes start end
+front_handed_on now after bytes start at place end from on to within left =
+    let rest = held bytes place end in
+    ap (append_told after) (front_held bytes at place end on to within) ∙ sym (append_told-append after (drop at (take place bytes)) rest)
+    ∙ ap (λ (t : Told). append_told t rest) left
+    ∙ append_told-append now (drop start (take place bytes)) rest ∙ ap (append_told now) (sym (front_held bytes start place end from to within))
 
 -- ---- at the end of a reply
 -- What was handed on since the start, and then some rest that wasn't, is the front of a text.

@@ -1,5 +1,5 @@
 // The answer to a query: a line for each hit.
-ghost use Rattle.std.specs.Prelude.{◌≡◌, ◌<◌, length};
+ghost use Rattle.std.specs.Prelude.{◌≡◌, ◌<◌, length, map};
 ghost use Rattle.std.specs.List.{AllByRecursion};
 ghost use Rattle.si_defs.specs.Variables as variables;
 ghost use Rattle.si_state.specs.Signatures.{numbering};
@@ -25,20 +25,20 @@ fn put_hit<K: Sink>(
     sink: &mut K,
     name: &Name,
     place: &Place,
-    lent: &Lent<'_>,
+    lent: &Lent<'_, '_>,
     signature: &Signature,
 ) -> Result<(), Failed>
     requires known { (list : variables.Solution) × ShowsList (naming (numbering signature.now)
-        lent.now.extra.now lent.now.query_names.now lent.now.entry_names.now)
-        lent.now.solution.now list }
+        lent.now.extra.now lent.now.query_names.now
+        (map (λ name. name.now) lent.now.entry_names.now)) lent.now.solution.now list }
     ensures text { (list : variables.Solution) → ShowsList (naming (numbering signature.now)
-        lent.now.extra.now lent.now.query_names.now lent.now.entry_names.now)
-        lent.now.solution.now list
+        lent.now.extra.now lent.now.query_names.now
+        (map (λ name. name.now) lent.now.entry_names.now)) lent.now.solution.now list
         → Puts result (hit_line (name_of name.now) (place_of place.now) list)
         (K.written sink.old) (K.written sink.new) }
     ensures cause { HasCause (K.faults sink.old) (K.faults sink.new) result }
 {
-    put_place(sink, name, place.literal, place.path.as_slice())?;
+    put_place(sink, name, place)?;
     put_sign(sink, Sign::Space)?;
     put_solution(
         sink,
@@ -46,7 +46,7 @@ fn put_hit<K: Sink>(
         signature,
         lent.extra,
         lent.query_names,
-        lent.entry_names,
+        &lent.entry_names,
     )?;
     put_sign(sink, Sign::LineFeed)
 }
@@ -55,14 +55,13 @@ fn put_hit<K: Sink>(
 fn tell_hit<K: Sink>(index: &Index, found: &Found<'_>, n: u32, sink: &mut K) -> Result<(), Failed>
     requires index { found.now.index ≡ index.now }
     requires there { n < length found.now.hits }
-    requires inside { AllByRecursion (IsInside index.now.clauses) found.now.hits }
     ensures told { TellsHit found.now n result (K.written sink.old) (K.written sink.new) }
     ensures cause { HasCause (K.faults sink.old) (K.faults sink.new) result }
 {
-    let lent = found.lent(n);
+    let clause = found.clause(n);
     let hit = found.hit(n);
-    let name = &index.clause(hit.clause).name;
-    put_hit(sink, name, &hit.place, &lent, index.signature())
+    let lent = found.lent(n);
+    put_hit(sink, &clause.name, &hit.place, &lent, index.signature())
 }
 
 /// Writes the lines of the hits.

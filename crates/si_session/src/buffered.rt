@@ -72,6 +72,7 @@ fn hand_on<S: Borrowed>(sink: &mut S, bytes: &[u8], from: &mut usize) -> Result<
         ≡ append_told (S.given sink.old) (drop from.old bytes.now) }
     ensures on { from.old ≤ from.new }
     ensures within { from.new ≤ length bytes.now }
+    ensures all { OnOk result (from.new ≡ length bytes.now) }
     ensures cause { HasCause (S.failures sink.old) (S.failures sink.new) result }
     ensures same { S.name sink.new ≡ S.name sink.old }
 {
@@ -120,36 +121,71 @@ impl<S: Borrowed, B: Origin> Buffered<S, B> {
         }
     }
 
-    /// Makes room for some of so many bytes.
-    fn make_room(&mut self, count: usize) -> Result<(), Failed>
+    /// Hands on what is held up to a place.
+    fn hand_on_to(&mut self, place: usize) -> Result<(), Failed>
+        requires from { self.old.start ≤ place }
+        requires within { place ≤ self.old.end }
         ensures same { told_with (S.given self.new.sink) self.new.bytes self.new.start self.new.end
             ≡ told_with (S.given self.old.sink) self.old.bytes self.old.start self.old.end }
-        ensures some { OnOk result (0 < count → self.new.end < 1023) }
+        ensures start { OnOk result (self.new.start ≡ place) }
+        ensures bytes { self.new.bytes ≡ self.old.bytes }
+        ensures end { self.new.end ≡ self.old.end }
         ensures full { OnErr result ((S.given self.old.sink).room
             < length (held self.old.bytes self.old.start self.old.end)) }
         ensures cause { HasCause (S.failures self.old.sink) (S.failures self.new.sink) result }
     {
-        if count <= HELD - self.end {
-            return Ok(());
+        hand_on(&mut self.sink, &self.bytes[..place], &mut self.start)
+    }
+
+    /// The place of a line feed that is held at the end, or else the end.
+    fn before_line_feed(&self) -> usize
+        ensures from { self.now.start ≤ result }
+        ensures within { result ≤ self.now.end }
+        ensures near { self.now.end ≤ result + 1 }
+    {
+        if self.start < self.end && self.bytes[self.end - 1] == LINE_FEED {
+            return self.end - 1;
         }
-        hand_on(&mut self.sink, &self.bytes[..self.end], &mut self.start)?;
+        self.end
+    }
+
+    /// Hands on what is held, but for a line feed at its end: a sink that hands bytes on at the end
+    /// of a line would do so within a reply.
+    #[inline(never)]
+    fn hand_on_held(&mut self) -> Result<(), Failed>
+        ensures same { told_with (S.given self.new.sink) self.new.bytes self.new.start self.new.end
+            ≡ told_with (S.given self.old.sink) self.old.bytes self.old.start self.old.end }
+        ensures few { OnOk result (self.new.end ≤ 1) }
+        ensures full { OnErr result ((S.given self.old.sink).room
+            < length (held self.old.bytes self.old.start self.old.end)) }
+        ensures cause { HasCause (S.failures self.old.sink) (S.failures self.new.sink) result }
+    {
+        let place = self.before_line_feed();
+        self.hand_on_to(place)?;
+        self.bytes[0] = self.bytes[place];
+        self.end -= place;
         self.start = 0;
-        self.end = 0;
         Ok(())
     }
 
-    /// Takes as many bytes as there is room for behind those that are held.
-    fn take_in(&mut self, bytes: &[u8]) -> usize
-        ensures count { result ≡ min (length bytes.now) (1023 - self.old.end) }
+    /// Holds bytes behind those that are held.
+    #[inline(always)]
+    fn hold(&mut self, bytes: &[u8])
+        requires { self.old.end + length bytes.now ≤ 1023 }
         ensures held { held self.new.bytes self.new.start self.new.end
-            ≡ held self.old.bytes self.old.start self.old.end ++ take result bytes.now }
+            ≡ held self.old.bytes self.old.start self.old.end ++ bytes.now }
         ensures sink { self.new.sink ≡ self.old.sink }
     {
-        let end = self.end;
-        let count = bytes.len().min(HELD - end);
-        self.bytes[end..end + count].copy_from_slice(&bytes[..count]);
-        self.end = end + count;
-        count
+        let start = self.end;
+        // One byte is stored without a call.
+        if bytes.len() == 1 {
+            self.bytes[start] = bytes[0];
+            self.end = start + 1;
+            return;
+        }
+        let end = start + bytes.len();
+        self.bytes[start..end].copy_from_slice(bytes);
+        self.end = end;
     }
 
     /// Ends a reply of which all was told but its last line feed: hands on what is held, and that.
@@ -184,8 +220,15 @@ impl<S: Borrowed, B: Origin> Sink for Buffered<S, B> {
 
     ghost faults = { λ b. S.failures b.sink };
 
+    #[inline(always)]
     fn write(&mut self, bytes: &[u8]) -> Result<usize, Failed> {
-        self.make_room(bytes.len())?;
-        Ok(self.take_in(bytes))
+        if bytes.len() <= HELD - self.end {
+            self.hold(bytes);
+            return Ok(bytes.len());
+        }
+        self.hand_on_held()?;
+        let count = bytes.len().min(HELD - self.end);
+        self.hold(&bytes[..count]);
+        Ok(count)
     }
 }

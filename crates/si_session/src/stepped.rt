@@ -3,13 +3,13 @@
 /// What became of a line.
 #[derive(Clone, Copy, Debug, PartialEq, Eq)]
 pub enum Stepped {
-    /// The whole reply was written, and its last line doesn't begin with `!`.
+    /// The reply went out in full, and is no refusal.
     Answered,
-    /// The whole reply was written, its last line begins with `!`, and the clauses are as before.
+    /// The reply went out in full. It ends in a line with `!` in front, and no clause was taken or
+    /// given up.
     Refused,
     /// The line has no reply.
     Silent,
-    /// The sink failed; a prefix of the reply was written, and the clauses are those that go with
-    /// the whole reply.
+    /// The sink failed within the reply. The clauses are those to which the reply in full belongs.
     SinkFailed,
 }

@@ -1,6 +1,6 @@
 use super::*;
 use si_io::MemorySink;
-use si_term::{Side, Terms, Text};
+use si_term::{Path, Side, Terms, Text};
 use std::alloc::{AllocError, Global};
 use std::test::Fail;
 
@@ -37,10 +37,17 @@ fn term(alloc: Global) -> Result<Term, AllocError> {
 }
 
 /// Writes the term as a pattern's and the place, with a space between them.
-fn put_both<K: Sink>(sink: &mut K, term: &Term, name: &Name, path: &[u32]) -> Result<(), Failed> {
+fn put_both<K: Sink>(sink: &mut K, term: &Term, name: &Name, place: &Place) -> Result<(), Failed> {
     put_term(sink, term, b"?")?;
     put_bytes(sink, b" ")?;
-    put_place(sink, name, 10, path)
+    put_place(sink, name, place)
+}
+
+fn place(alloc: Global, path: &[u32]) -> Result<Place, AllocError> {
+    Ok(Place {
+        literal: 10,
+        path: Path::from_steps(alloc, path)?,
+    })
 }
 
 #[test]
@@ -48,13 +55,18 @@ fn texts_are_spelled_as_tptp_spells_them(rt: HostRuntime) -> Result<(), Fail> {
     let alloc = rt.alloc();
     let mut sink = MemorySink::new(alloc, 200, 3, Vec::new(alloc))?;
     let quoted = name(alloc, NameKind::Word, b"It's")?;
-    put_both(&mut sink, &term(alloc)?, &quoted, &[2, 1, 30])?;
+    put_both(
+        &mut sink,
+        &term(alloc)?,
+        &quoted,
+        &place(alloc, &[2, 1, 30])?,
+    )?;
     let number = name(alloc, NameKind::Int, b"12")?;
     put_both(
         &mut sink,
         &constant(alloc, SymKind::Word, b"c_1")?,
         &number,
-        &[],
+        &place(alloc, &[])?,
     )?;
     let want = b"f(?X,'A b',\"q\\\"\\\\\") 'It\\'s':10:2.1.30c_1 12:10";
     assert_eq!(rt; sink.bytes(), want.as_slice());

@@ -19,8 +19,11 @@ search_arguments-search_term-requires t c =
       (
         c.requires.ready,
         (
-          c.requires.alike,
-          known_argument (numbers_of c.args.search.now) c.args.arguments.now c.loop-i.i c.index-arguments-i.result c.loop-i-test.true c.index-arguments-i.is c.requires.known,
+          c.requires.spot,
+          (
+            c.requires.alike,
+            known_argument (numbers_of c.args.search.now) c.args.arguments.now c.loop-i.i c.index-arguments-i.result c.loop-i-test.true c.index-arguments-i.is c.requires.known,
+          ),
         ),
       ),
     )
@@ -31,7 +34,7 @@ search_arguments-loop-i-init t c = record { so_far = so_far_start c.args.search.
 pub search_arguments-loop-i-preserved : goal.search_arguments-loop-i-preserved
 search_arguments-loop-i-preserved t c =
     let down = c.in_ok-descend.ensures ∙ ap (λ p. p ++ (c.loop-i.i + 1) ∷ []) c.loop-i.invariant.kept in
-    let step = arguments_step c.args.spot.clause c.args.spot.literal c.args.gathered.now.path.items c.descend.new.path.items
+    let step = arguments_step c.args.spot.position c.args.spot.literal c.args.gathered.now.path.items c.descend.new.path.items
     c.args.arguments.now c.loop-i.i c.index-arguments-i.result c.loop-i-test.true c.index-arguments-i.is down in
     record {
       so_far = so_far_more c.args.search.now _ _ _ _ _ _ _ step c.loop-i.invariant.so_far c.in_ok-search_term.ensures.adds;
@@ -40,12 +43,12 @@ search_arguments-loop-i-preserved t c =
 
 pub search_arguments-returns-clause-adds : goal.search_arguments-returns-clause-adds
 search_arguments-returns-clause-adds t c =
-    so_far_end c.args.search.now _ _ _ _ (arguments_end c.args.spot.clause c.args.spot.literal c.args.gathered.now.path.items (c.loop-i.i + 1) c.args.arguments.now c.loop-i.i c.loop-i-test.false)
+    so_far_end c.args.search.now _ _ _ _ (arguments_end c.args.spot.position c.args.spot.literal c.args.gathered.now.path.items (c.loop-i.i + 1) c.args.arguments.now c.loop-i.i c.loop-i-test.false)
     c.loop-i.invariant.so_far
 
 pub search_term-returns-in_default-clause-adds : goal.search_term-returns-in_default-clause-adds
 search_term-returns-in_default-clause-adds t c =
-    variable_tried c.args.search.now c.args.spot.clause c.args.spot.literal c.args.gathered.now.path.items c.args.term.now _ c.args.gathered.now.matches.items c.in_default.is
+    variable_tried c.args.search.now c.args.spot.position c.args.spot.literal c.args.gathered.now.path.items c.args.term.now _ c.args.gathered.now.matches.items c.in_default.is
 
 pub search_term-try_entry-requires-clause-known : goal.search_term-try_entry-requires-clause-known
 search_term-try_entry-requires-clause-known t c = known_sub (numbers_of c.args.search.now) (term_of c.args.term.now) c.requires.known
@@ -61,8 +64,11 @@ search_term-search_arguments-requires t c =
       (
         c.requires.ready,
         (
-          c.requires.alike,
-          known_arguments (numbers_of c.args.search.now) c.args.term.now c.in-App.field-0 c.in-App.arguments c.as_slice.result.now c.in-App.is c.as_slice.ensures c.requires.known,
+          c.requires.spot,
+          (
+            c.requires.alike,
+            known_arguments (numbers_of c.args.search.now) c.args.term.now c.in-App.field-0 c.in-App.arguments c.as_slice.result.now c.in-App.is c.as_slice.ensures c.requires.known,
+          ),
         ),
       ),
     )
@@ -70,7 +76,7 @@ search_term-search_arguments-requires t c =
 pub search_term-returns-clause-adds : goal.search_term-returns-clause-adds
 search_term-returns-clause-adds t c =
     on_ok_then c.search_arguments.result
-    (application_tried c.args.search.now c.args.spot.clause c.args.spot.literal c.args.gathered.now.path.items c.try_entry.new.gathered.path.items
+    (application_tried c.args.search.now c.args.spot.position c.args.spot.literal c.args.gathered.now.path.items c.try_entry.new.gathered.path.items
     c.args.term.now c.in-App.field-0 c.in-App.arguments (map term_of c.as_slice.result.now) c.args.gathered.now.matches.items c.try_entry.new.gathered.matches.items c.search_arguments.new.gathered.matches.items
     c.in-App.is c.as_slice.ensures c.in_ok-try_entry.ensures.path c.in_ok-try_entry.ensures.adds)
     c.search_arguments.ensures.adds

@@ -9,29 +9,34 @@ use Rattle.si_index.proofs.gather.search_clauses.Goals as goal
 
 pub unreachable-requires : goal.unreachable-requires
 unreachable-requires c =
-    kept_some c.args.index.now.clauses c.loop-position.position (omega (arith, c.loop-position-test.true, c.requires.count))
+    kept_some c.args.search.now.index.now.clauses c.loop-position.position (omega (arith, c.loop-position-test.true, c.requires.count))
     (none_kept (λ b. b.now) c.loop-position.left c.next.new.self c.next.result c.next.ensures.steps c.in_default.is ∙ c.loop-position.invariant.left)
+
+pub search_clause-requires-clause-there : goal.search_clause-requires-clause-there
+search_clause-requires-clause-there c =
+    let first = kept_next (λ b. b.now) c.loop-position.left c.next.new.self c.next.result c.next.ensures.steps _ c.in-Some.is ∙ c.loop-position.invariant.left in
+    kept_got c.args.search.now.index.now.clauses c.loop-position.position (clause_of c.in-Some.clause.now) (clauses_of c.next.new.self) first
 
 pub search_clause-requires-clause-known : goal.search_clause-requires-clause-known
 search_clause-requires-clause-known c =
     let first = kept_next (λ b. b.now) c.loop-position.left c.next.new.self c.next.result c.next.ensures.steps _ c.in-Some.is ∙ c.loop-position.invariant.left in
-    at_position_of_all (IsKnownClause (numbers_of c.args.search.now)) c.args.index.now.clauses c.loop-position.position (clause_of c.in-Some.clause.now)
-    (kept_got c.args.index.now.clauses c.loop-position.position (clause_of c.in-Some.clause.now) (clauses_of c.next.new.self) first) c.requires.known
+    at_position_of_all (IsKnownClause (numbers_of c.args.search.now)) c.args.search.now.index.now.clauses c.loop-position.position (clause_of c.in-Some.clause.now)
+    (kept_got c.args.search.now.index.now.clauses c.loop-position.position (clause_of c.in-Some.clause.now) (clauses_of c.next.new.self) first) c.requires.known
 
 pub loop-position-preserved : goal.loop-position-preserved
 loop-position-preserved c =
-    let first : clause_of c.in-Some.clause.now ∷ clauses_of c.next.new.self ≡ drop c.loop-position.position c.args.index.now.clauses =
+    let first : clause_of c.in-Some.clause.now ∷ clauses_of c.next.new.self ≡ drop c.loop-position.position c.args.search.now.index.now.clauses =
     kept_next (λ b. b.now) c.loop-position.left c.next.new.self c.next.result c.next.ensures.steps _ c.in-Some.is ∙ c.loop-position.invariant.left in
     let step =
-    clauses_step c.args.index.now.clauses c.loop-position.position (clause_of c.in-Some.clause.now)
-    (kept_got c.args.index.now.clauses c.loop-position.position (clause_of c.in-Some.clause.now) (clauses_of c.next.new.self) first) in
+    clauses_step c.args.search.now.index.now.clauses c.loop-position.position (clause_of c.in-Some.clause.now)
+    (kept_got c.args.search.now.index.now.clauses c.loop-position.position (clause_of c.in-Some.clause.now) (clauses_of c.next.new.self) first) in
     record {
       so_far = so_far_more c.args.search.now _ _ _ _ _ _ _ step c.loop-position.invariant.so_far c.in_ok-search_clause.ensures.adds;
       root = c.in_ok-search_clause.ensures.root;
-      left = kept_rest c.args.index.now.clauses c.loop-position.position (clause_of c.in-Some.clause.now) (clauses_of c.next.new.self) first;
+      left = kept_rest c.args.search.now.index.now.clauses c.loop-position.position (clause_of c.in-Some.clause.now) (clauses_of c.next.new.self) first;
     }
 
 pub returns : goal.returns
 returns c =
-    let past : length c.args.index.now.clauses ≤ c.loop-position.position = omega (arith, c.loop-position-test.false, c.requires.count) in
-    so_far_end c.args.search.now _ _ _ _ (clauses_end c.args.index.now.clauses c.loop-position.position c.loop-position.position past) c.loop-position.invariant.so_far
+    let past : length c.args.search.now.index.now.clauses ≤ c.loop-position.position = omega (arith, c.loop-position-test.false, c.requires.count) in
+    so_far_end c.args.search.now _ _ _ _ (clauses_end c.args.search.now.index.now.clauses c.loop-position.position c.loop-position.position past) c.loop-position.invariant.so_far

@@ -17,7 +17,7 @@ search_arguments-requires-clause-known c =
 pub returns-clause-adds : goal.returns-clause-adds
 returns-clause-adds c =
     on_ok_then c.search_arguments.result
-    (parts_tried c.args.search.now c.args.spot.clause c.args.spot.literal c.args.gathered.now.path.items c.args.literal.now c.in-App.field-0 c.in-App.arguments (map term_of c.as_slice.result.now)
+    (parts_tried c.args.search.now c.args.spot.position c.args.spot.literal c.args.gathered.now.path.items c.args.literal.now c.in-App.field-0 c.in-App.arguments (map term_of c.as_slice.result.now)
     c.args.gathered.now.matches.items c.search_arguments.new.gathered.matches.items c.requires.alike c.in-App.is c.as_slice.ensures c.requires.root)
     c.search_arguments.ensures.adds
 

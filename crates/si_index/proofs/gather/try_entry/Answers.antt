@@ -11,14 +11,18 @@ returns-in_default-clause-adds c =
 
 pub returns-clause-adds : goal.returns-clause-adds
 returns-clause-adds c =
-    let at : List ℕ → ℕ × Placed = λ path. (c.args.spot.clause, record { entry = entry_of c.args.entry; place = record { literal = c.args.spot.literal; path = path } }) in
+    let at : List ℕ → ℕ × Placed = λ path. (c.args.spot.position, record { entry = entry_of c.args.entry; place = record { literal = c.args.spot.literal; path = path } }) in
     adds_one c.args.search.now (at c.args.gathered.now.path.items)
     (record {
-      hit = record { clause = c.args.spot.clause; place = record { literal = c.args.spot.literal; path = c.in_ok-path.path } };
+      hit = record { clause = c.args.spot.position; place = record { literal = c.args.spot.literal; path = c.in_ok-path.path } };
+      clause = c.args.spot.clause;
       entry = c.args.entry;
       solved = c.in-Some.solved;
     })
     c.args.gathered.now.matches.items c.push.new.self.items
     c.in_ok-push.ensures.items
-    (subst (AnswersIn c.args.search.now (entry_of c.args.entry)) c.in-Some.is c.in_ok-solved.ensures)
+    (record {
+      solved = subst (AnswersIn c.args.search.now (entry_of c.args.entry)) c.in-Some.is c.in_ok-solved.ensures;
+      there = c.requires.spot;
+    })
     (ap at (sym (c.in_ok-path.ensures ∙ c.deref.ensures.value)))

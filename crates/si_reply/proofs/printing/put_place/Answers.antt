@@ -1,5 +1,6 @@
-use Rattle.std.proofs.Common.{rules, ◌≡◌, ◌++◌, ap, refl, ◌∙◌}
+use Rattle.std.proofs.Common.{rules, ◌≡◌, ◌++◌, ap, subst, refl, ◌∙◌}
 use Rattle.std.specs.Prelude.{codes, decimal}
+use Rattle.si_io.specs.Puts.{Puts}
 use Rattle.si_defs.specs.Printing.{name_text, path_text}
 use Rattle.si_term.specs.Meaning.{name_of}
 use Rattle.si_term.proofs.Results.{on_err}
@@ -14,10 +15,10 @@ returns-in_err-put_number-clause-text g c =
     let numbered = g.K.Sink.written c.put_number.new.sink in
     let name = name_text (name_of c.args.name.now) in
     let number = codes ":" ++ decimal c.from.result in
-    let path = path_text c.args.path.now in
-    let whole = name ++ codes ":" ++ decimal c.args.literal ++ path in
-    let read : c.args.literal ≡ c.from.result = cc in
-    let split : whole ≡ name ++ (number ++ path) = place_split name (codes ":") (decimal c.args.literal) path ∙ ap (λ n. name ++ ((codes ":" ++ decimal n) ++ path)) read in
+    let path = path_text c.args.place.now.path in
+    let whole = name ++ codes ":" ++ decimal c.args.place.now.literal ++ path in
+    let read : c.args.place.now.literal ≡ c.from.result = cc in
+    let split : whole ≡ name ++ (number ++ path) = place_split name (codes ":") (decimal c.args.place.now.literal) path ∙ ap (λ n. name ++ ((codes ":" ++ decimal n) ++ path)) read in
     let first = wrote_piece old old named whole whole name (number ++ path) split (wrote_none old whole) c.in_ok-put_name.ensures.text.all in
     record { all = search rules; part = on_err c.from_residual-in_err-put_number.result (wrote_part old named numbered whole (number ++ path) number path refl first c.in_err-put_number.ensures.text.part) }
 
@@ -28,11 +29,12 @@ returns-clause-text g c =
     let numbered = g.K.Sink.written c.put_number.new.sink in
     let name = name_text (name_of c.args.name.now) in
     let number = codes ":" ++ decimal c.from.result in
-    let path = path_text c.args.path.now in
-    let whole = name ++ codes ":" ++ decimal c.args.literal ++ path in
-    let read : c.args.literal ≡ c.from.result = cc in
-    let split : whole ≡ name ++ (number ++ path) = place_split name (codes ":") (decimal c.args.literal) path ∙ ap (λ n. name ++ ((codes ":" ++ decimal n) ++ path)) read in
+    let path = path_text c.args.place.now.path in
+    let whole = name ++ codes ":" ++ decimal c.args.place.now.literal ++ path in
+    let read : c.args.place.now.literal ≡ c.from.result = cc in
+    let split : whole ≡ name ++ (number ++ path) = place_split name (codes ":") (decimal c.args.place.now.literal) path ∙ ap (λ n. name ++ ((codes ":" ++ decimal n) ++ path)) read in
     let first = wrote_piece old old named whole whole name (number ++ path) split (wrote_none old whole) c.in_ok-put_name.ensures.text.all in
     let last = g.K.Sink.written c.put_path.new.sink in
     let second = wrote_piece old named numbered whole (number ++ path) number path refl first c.in_ok-put_number.ensures.text.all in
-    puts_rest c.put_path.result old numbered last whole path second c.put_path.ensures.text
+    let rest = subst (λ p. Puts c.put_path.result (path_text p) numbered last) c.as_slice.ensures c.put_path.ensures.text in
+    puts_rest c.put_path.result old numbered last whole path second rest

@@ -49,7 +49,7 @@ put_flat-put_flat_arguments-requires g t c κs within =
     let f = app_front _ _ c.requires.known.0 (cell.App 0 0 0) c.in-App.sym c.in-App.arity c.in-App.len c.requires.known.1 c.in-App.is in
     let same = take_all (length c.args.cells.now - 1) (drop 1 c.args.cells.now) (omega (arith, length-drop 1 c.args.cells.now)) in (
       omega (arith, some, ap length same, length-drop 1 c.args.cells.now),
-      (within.0, (within.1, (f.arguments, subst (λ l. ShowAll c.args.words.now l f.arguments) (sym same) f.rest))),
+      (within.0, (within.1.0, (within.1.1, (f.arguments, subst (λ l. ShowAll c.args.words.now l f.arguments) (sym same) f.rest)))),
     )
 
 pub put_flat-put_variable-requires : goal.put_flat-put_variable-requires
@@ -93,7 +93,7 @@ pub put_flat_arguments-put_flat-requires : goal.put_flat_arguments-put_flat-requ
 put_flat_arguments-put_flat-requires g t c κs within =
     let some : 0 < length c.args.cells.now = search rules in
     let h = halves _ _ _ _ c.span.result (cell.App 0 0 0) c.requires.known.0 c.requires.known.1 some c.span.ensures c.split_at.ensures.front c.split_at.ensures.back in
-    (omega (arith, c.split_at.ensures.back_len, c.split_at.ensures.front_len), (within.0, (within.1, (h.term, h.shows))))
+    (omega (arith, c.split_at.ensures.back_len, c.split_at.ensures.front_len), (within.0, (within.1.0, (within.1.1, (h.term, h.shows)))))
 
 pub put_flat_arguments-returns-in_err-put_flat-clause-text : goal.put_flat_arguments-returns-in_err-put_flat-clause-text
 put_flat_arguments-returns-in_err-put_flat-clause-text g t c = λ ts shown.
@@ -114,7 +114,7 @@ put_flat_arguments-put_flat_others-requires g t c κs within =
     let some : 0 < length c.args.cells.now = search rules in
     let b = begins _ _ (cell.App 0 0 0) c.requires.known.0 c.requires.known.1 some in
     let h = halves _ _ _ _ c.span.result (cell.App 0 0 0) c.requires.known.0 c.requires.known.1 some c.span.ensures c.split_at.ensures.front c.split_at.ensures.back in
-    (omega (arith, c.split_at.ensures.back_len, c.span.ensures, b.some), (within.0, (within.1, (h.behind, h.rest))))
+    (omega (arith, c.split_at.ensures.back_len, c.span.ensures, b.some), (within.0, (within.1.0, (within.1.1, (h.behind, h.rest)))))
 
 pub put_flat_arguments-returns-in_err-put_flat_others-clause-text : goal.put_flat_arguments-returns-in_err-put_flat_others-clause-text
 put_flat_arguments-returns-in_err-put_flat_others-clause-text g t c = λ ts shown.
@@ -170,7 +170,7 @@ put_flat_others-put_flat-requires g t c κs within =
     let some : 0 < length c.loop-rest.rest.now = search rules in
     let l = c.loop-rest.invariant.left c.requires.known.0 c.requires.known.1 in
     let h = halves _ _ _ _ c.span.result (cell.App 0 0 0) l.left l.shows some c.span.ensures c.split_at.ensures.front c.split_at.ensures.back in
-    (omega (arith, c.split_at.ensures.back_len, c.split_at.ensures.front_len, c.loop-rest.invariant.shorter), (within.0, (within.1, (h.term, h.shows))))
+    (omega (arith, c.split_at.ensures.back_len, c.split_at.ensures.front_len, c.loop-rest.invariant.shorter), (within.0, (within.1.0, (within.1.1, (h.term, h.shows)))))
 
 pub put_flat_others-returns-in_err-put_flat-clause-text : goal.put_flat_others-returns-in_err-put_flat-clause-text
 put_flat_others-returns-in_err-put_flat-clause-text g t c = λ ts shown.

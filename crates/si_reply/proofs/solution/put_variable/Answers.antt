@@ -14,8 +14,8 @@ at-requires g c =
     let h = subst (λ n. ShowsVariable n Query c.args.slot x) (sym c.words.view_is) (subst (λ o. ShowsVariable c.args.words.now o c.args.slot x) c.in-Query.is c.requires.known.1) in
     (pattern_name _ c.args.slot x h).at.inside
 
-pub at-requires-in-Entry : goal.at-requires-in-Entry
-at-requires-in-Entry g c =
+pub name-requires : goal.name-requires
+name-requires g c =
     let x = c.requires.known.0 in
     let h = subst (λ n. ShowsVariable n Entry c.args.slot x) (sym c.words.view_is) (subst (λ o. ShowsVariable c.args.words.now o c.args.slot x) c.in-Entry.is c.requires.known.1) in
     (entry_name _ c.args.slot x h).at.inside
@@ -39,5 +39,5 @@ returns-in-Entry-clause-text g c = λ x h.
     let last = g.K.Sink.written c.put_bytes-in-Entry.new.sink in
     let k = subst (λ n. ShowsVariable n Entry c.args.slot x) (sym c.words.view_is) (subst (λ o. ShowsVariable c.args.words.now o c.args.slot x) c.in-Entry.is h) in
     let y = entry_name _ c.args.slot x k in
-    let is : c.as_bytes-in-Entry.result.now ≡ variable_text x = c.as_bytes-in-Entry.ensures ∙ y.at.found c.at-in-Entry.result.now c.at-in-Entry.ensures ∙ sym (ap variable_text y.is) in
+    let is : c.name.result.now ≡ variable_text x = y.at.found c.name.result.now c.name.ensures ∙ sym (ap variable_text y.is) in
     subst (λ l. Puts c.put_bytes-in-Entry.result l old last) is c.put_bytes-in-Entry.ensures.text

@@ -1,5 +1,4 @@
 use Rattle.std.proofs.Common.{rules, ◌++◌, refl}
-use Rattle.si_defs.specs.Entries.{Place}
 use Rattle.si_defs.specs.Printing.{place_text, solution_text}
 use Rattle.si_defs.specs.Variables.{variable_text}
 use Rattle.si_term.specs.Meaning.{name_of, place_of}
@@ -8,7 +7,7 @@ use Rattle.si_reply.proofs.Writing.{wrote_none, wrote_piece, wrote_part, puts_re
 use Rattle.si_session.specs.Signs.{sign_text}
 use Rattle.si_session.specs.Answering.{hit_line}
 use Rattle.si_session.specs.declared.sign.Sign.TheVariants.{Space, LineFeed}
-use Rattle.si_session.proofs.Answering.{line_at}
+use Rattle.si_session.proofs.Answering.{line_parts}
 use Rattle.si_session.proofs.answer.put_hit.Goals as goal
 
 pub returns-in_err-put_place-clause-text : goal.returns-in_err-put_place-clause-text
@@ -16,9 +15,9 @@ returns-in_err-put_place-clause-text g c = λ list h.
     let old = g.K.Sink.written c.args.sink.now in
     let placed = g.K.Sink.written c.put_place.new.sink in
     let name = name_of c.args.name.now in
-    let place : Place = record { literal = c.args.place.now.literal; path = c.as_slice.result.now } in
-    let whole = hit_line name (place_of c.args.place.now) list in
-    let parts = line_at name c.args.place.now c.as_slice.result.now list c.as_slice.ensures in
+    let place = place_of c.args.place.now in
+    let whole = hit_line name place list in
+    let parts = line_parts name place list in
     let text = solution_text variable_text list in
     record { all = search rules; part = on_err c.from_residual.result (wrote_part old old placed whole whole (place_text name place) (sign_text Space ++ (text ++ sign_text LineFeed)) parts (wrote_none old whole) c.in_err-put_place.ensures.text.part) }
 
@@ -28,9 +27,9 @@ returns-in_err-put_sign-clause-text g c = λ list h.
     let placed = g.K.Sink.written c.put_place.new.sink in
     let spaced = g.K.Sink.written c.put_sign.new.sink in
     let name = name_of c.args.name.now in
-    let place : Place = record { literal = c.args.place.now.literal; path = c.as_slice.result.now } in
-    let whole = hit_line name (place_of c.args.place.now) list in
-    let parts = line_at name c.args.place.now c.as_slice.result.now list c.as_slice.ensures in
+    let place = place_of c.args.place.now in
+    let whole = hit_line name place list in
+    let parts = line_parts name place list in
     let text = solution_text variable_text list in
     let first = wrote_piece old old placed whole whole (place_text name place) (sign_text Space ++ (text ++ sign_text LineFeed)) parts (wrote_none old whole) c.in_ok-put_place.ensures.text.all in
     record { all = search rules; part = on_err c.from_residual-in_err-put_sign.result (wrote_part old placed spaced whole (sign_text Space ++ (text ++ sign_text LineFeed)) (sign_text Space) (text ++ sign_text LineFeed) refl first c.in_err-put_sign.ensures.text.part) }
@@ -42,9 +41,9 @@ returns-in_err-put_solution-clause-text g c = λ list h.
     let spaced = g.K.Sink.written c.put_sign.new.sink in
     let listed = g.K.Sink.written c.put_solution.new.sink in
     let name = name_of c.args.name.now in
-    let place : Place = record { literal = c.args.place.now.literal; path = c.as_slice.result.now } in
-    let whole = hit_line name (place_of c.args.place.now) list in
-    let parts = line_at name c.args.place.now c.as_slice.result.now list c.as_slice.ensures in
+    let place = place_of c.args.place.now in
+    let whole = hit_line name place list in
+    let parts = line_parts name place list in
     let text = solution_text variable_text list in
     let first = wrote_piece old old placed whole whole (place_text name place) (sign_text Space ++ (text ++ sign_text LineFeed)) parts (wrote_none old whole) c.in_ok-put_place.ensures.text.all in
     let second = wrote_piece old placed spaced whole (sign_text Space ++ (text ++ sign_text LineFeed)) (sign_text Space) (text ++ sign_text LineFeed) refl first c.in_ok-put_sign.ensures.text.all in
@@ -58,9 +57,9 @@ returns-clause-text g c = λ list h.
     let listed = g.K.Sink.written c.put_solution.new.sink in
     let last = g.K.Sink.written c.put_sign-2.new.sink in
     let name = name_of c.args.name.now in
-    let place : Place = record { literal = c.args.place.now.literal; path = c.as_slice.result.now } in
-    let whole = hit_line name (place_of c.args.place.now) list in
-    let parts = line_at name c.args.place.now c.as_slice.result.now list c.as_slice.ensures in
+    let place = place_of c.args.place.now in
+    let whole = hit_line name place list in
+    let parts = line_parts name place list in
     let text = solution_text variable_text list in
     let first = wrote_piece old old placed whole whole (place_text name place) (sign_text Space ++ (text ++ sign_text LineFeed)) parts (wrote_none old whole) c.in_ok-put_place.ensures.text.all in
     let second = wrote_piece old placed spaced whole (sign_text Space ++ (text ++ sign_text LineFeed)) (sign_text Space) (text ++ sign_text LineFeed) refl first c.in_ok-put_sign.ensures.text.all in

@@ -1,5 +1,6 @@
-use Rattle.std.proofs.Common.{◌≡◌, Some, [], ◌∷◌, sym, ◌∙◌, ap, subst}
+use Rattle.std.proofs.Common.{◌≡◌, ℕ, Some, [], ◌∷◌, sym, ◌∙◌, ap, subst}
 use Rattle.std.specs.Prelude.{slice_get}
+use Rattle.si_defs.specs.Entries.{Placed}
 use Rattle.si_state.specs.Answers.{Hit, hit_text}
 use Rattle.si_steps.specs.Runs.{ended}
 use Rattle.si_io.specs.Puts.{Puts}
@@ -23,9 +24,11 @@ returns-clause-told g c =
     let numbers = ap (λ k. k.numbers) c.requires.index ∙ sym c.signature.ensures.numbers in
     let known = shows_hit c.args.found.now c.args.n _ (shown_of c.lent-lent.result) numbers shows in
     let at = at_number c.args.found.now.hits c.args.n f c.hit-hit.result.now.clause (place_of c.hit-hit.result.now.place) shows.1 c.hit-hit.ensures in
-    let hit : Hit = record { clause = clause_of c.clause.result.now; placed = f.1; solution = e.solution } in
+    let hit : Hit = record { clause = clause_of c.clause-clause.result.now; placed = f.1; solution = e.solution } in
+    let of = c.clause-clause.ensures in
+    let same : of.0 ≡ f = (let both : Some of.0 ≡ Some f = sym of.1 ∙ shows.1 in cc) in
     let there : slice_get c.args.found.now.index.clauses f.0 ≡ Some hit.clause =
-    ap (λ k. slice_get k.clauses f.0) c.requires.index ∙ ap (λ n. slice_get c.args.index.now.clauses n) at.0 ∙ c.clause.ensures in
+    subst (λ (g : ℕ × Placed). slice_get c.args.found.now.index.clauses g.0 ≡ Some hit.clause) same of.2 in
     let line : hit_line hit.clause.name (place_of c.hit-hit.result.now.place) e.solution ≡ ended (hit_text hit ∷ []) =
     ap (λ p. hit_line hit.clause.name p e.solution) (sym at.1) ∙ line_is hit in (
       f,

@@ -1,4 +1,5 @@
-use Rattle.std.proofs.Common.{refl, ap, subst}
+use Rattle.std.proofs.Common.{Bor, map, refl, ap, ◌∙◌, subst}
+use Rattle.si_defs.specs.Bytes.{Bytes}
 use Rattle.si_term.specs.Meaning.{entry_of}
 use Rattle.si_index.specs.Finding.{Finding}
 use Rattle.si_index.specs.Showing.{ShowsHit}
@@ -13,9 +14,11 @@ returns c =
     let m = c.index-found.result.now in
     let less = inside ms c.args.n c.args.self.now.hits (ap (λ (f : Finding). f.hits) c.self.view_is) c.requires in
     let here = each_at (IsMatch s) ms c.args.n m less c.index-found.ensures c.self.invariant.each in
-    subst (λ (f : Finding). ShowsHit f c.args.n (record { solution = m.solved.solution; query_names = c.self.inside.query_names; entry_names = m.solved.entry_names; extra = s.query.extra })) c.self.view_is (
+    let now : Bor Bytes → Bytes = λ name. name.now in
+    let names = map now c.as_slice.result.now in
+    subst (λ (f : Finding). ShowsHit f c.args.n (record { solution = m.solved.solution; query_names = c.self.inside.query_names; entry_names = names; extra = s.query.extra })) c.self.view_is (
       hit_of m,
       hit_at ms c.args.n m less c.index-found.ensures,
-      shows_entry s c.self.inside.index.now.numbers (entry_of m.entry) m.solved.solution c.self.inside.query_names m.solved.entry_names s.query.extra
-          c.self.invariant.numbers c.self.invariant.ready here.list c.self.invariant.names here.are_names refl,
+      shows_entry s s.index.now.numbers (entry_of m.entry) m.solved.solution c.self.inside.query_names names s.query.extra
+          c.self.invariant.numbers c.self.invariant.ready here.solved.list c.self.invariant.names (ap (map now) c.as_slice.ensures ∙ here.solved.are_names) refl,
     )

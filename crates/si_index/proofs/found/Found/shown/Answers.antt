@@ -17,9 +17,9 @@ returns c =
     subst (λ (f : Finding). ShowsHit f c.args.n (record { solution = c.in_ok-copy.field-0; query_names = c.in_ok-vars_of.field-0; entry_names = c.in_ok-vars_of-2.field-0; extra = c.in_ok-copy_symbols.field-0 })) c.self.view_is (
       hit_of m,
       hit_at ms c.args.n m less c.index-hit.ensures,
-      shows_entry s c.self.inside.index.now.numbers (entry_of m.entry) c.in_ok-copy.field-0 c.in_ok-vars_of.field-0 c.in_ok-vars_of-2.field-0 c.in_ok-copy_symbols.field-0
+      shows_entry s s.index.now.numbers (entry_of m.entry) c.in_ok-copy.field-0 c.in_ok-vars_of.field-0 c.in_ok-vars_of-2.field-0 c.in_ok-copy_symbols.field-0
           c.self.invariant.numbers c.self.invariant.ready
-          (subst (SolvesEntry s.relation (query_numbers (numbers_of s) s.query.extra) (pattern_in s) (entry_of m.entry)) (sym c.in_ok-copy.ensures) here.list)
+          (subst (SolvesEntry s.relation (query_numbers (numbers_of s) s.query.extra) (pattern_in s) (entry_of m.entry)) (sym c.in_ok-copy.ensures) here.solved.list)
           (c.in_ok-vars_of.ensures ∙ ap names_in c.as_entry.ensures)
           c.in_ok-vars_of-2.ensures
           c.in_ok-copy_symbols.ensures,

@@ -1,5 +1,6 @@
-use Rattle.std.proofs.Common.{◌≡◌, ap, sym, ◌∙◌, subst}
+use Rattle.std.proofs.Common.{◌≡◌, Bor, map, ap, sym, ◌∙◌, subst}
 use Rattle.std.specs.Prelude.{Some, None}
+use Rattle.si_defs.specs.Bytes.{Bytes}
 use Rattle.si_defs.specs.Entries.{pattern_entry}
 use Rattle.si_term.specs.Terms.{term_of}
 use Rattle.si_term.specs.Meaning.{entry_of}
@@ -63,5 +64,5 @@ returns c =
       list =
           solved_in s e c.cells.result.now c.cells-2.result.now c.fill.new.self.0 c.fill.new.self.1 c.cells.ensures.cells c.cells-2.ensures c.requires.ready c.requires.known c.requires.alike holds (Some c.in-Some.solution)
           (subst (Answers s.relation c.cells.result.now c.cells-2.result.now) c.in-Some.is c.in_ok-solution.ensures.answers);
-      are_names = c.in_ok-entry_names.ensures ∙ c.names.ensures ∙ holds.are_names;
+      are_names = ap (map (λ (name : Bor Bytes). name.now)) c.in_ok-entry_names.ensures.ok ∙ c.names.ensures ∙ holds.are_names;
     }

@@ -15,3 +15,4 @@ pub mod Samples
 pub mod Harvests
 pub mod Loads
 pub mod Subsumption
+pub mod Bounds

@@ -4,6 +4,7 @@
 #![tactic(auto)]
 
 mod answers;
+mod bounds;
 mod entries;
 mod grammar;
 mod harvests;
@@ -22,6 +23,7 @@ mod tokens;
 mod unifiers;
 
 pub use answers::answers_to_patterns;
+pub use bounds::largest_inputs;
 pub use entries::entries_of_clauses;
 pub use grammar::{items, nestings, parts_of_clauses, symbols_and_names};
 pub use harvests::{clauses_of_files, faulty_files, unopened_files};

@@ -22,11 +22,10 @@ use std::alloc::Global;
 const CHUNK: usize = 4096;
 
 /// Reads the words as `stindex [--strict] [FILE]...`, loads the files, reads the input to its end,
-/// line by line, and writes the reply to each. Files come from the library. Words among which
-/// `--strict` stands at most once, and no other of which begins with `-`, are never declined.
+/// line by line, and writes the reply to each. Files come from the library. It declines no words
+/// where no two are `--strict` and none of the others starts with `-`.
 ///
-/// After as many bytes as a session may have it reads no more. All memory of its own is taken
-/// before the first read.
+/// After as many bytes as a session may have it reads no more.
 pub fn serve<S: Source, K: Sink, L: Library>(
     alloc: Global,
     words: &[String],

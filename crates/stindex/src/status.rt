@@ -21,7 +21,8 @@ pub enum Status {
 }
 
 impl Status {
-    /// The exit code of the program, from 0 to 6 in the order of the variants.
+    /// The exit code of the program: 0 for a run that ended, and 1 to 6 for the others as they
+    /// stand above.
     pub fn code(self) -> u8
         ensures { result ≡ code_of self }
     {

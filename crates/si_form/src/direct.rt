@@ -1,4 +1,4 @@
-// The canonical list where it can be read off the bindings, as it can for most small terms.
+// The canonical list where it can be read off the bindings.
 // No bound variable stands in a value then, and no value that is an application in another. So each
 // application leads its class alone, and variables that become the same are led by the first.
 ghost use Rattle.std.specs.Prelude.{◌≡◌, ◌<◌, false, IsTrue, IfOk, IfSome, None, Some, length};

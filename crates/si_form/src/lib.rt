@@ -8,7 +8,7 @@
 //! that become equal get one number, so that no term is ever expanded. Of the variables with one
 //! number the first leads; the others are bound to it, and it is bound to a term of theirs in which
 //! each part that has a leader is written as that. The bindings are sorted by what they use. Where
-//! no value holds another or a bound variable, as is often so, all this is read off the bindings.
+//! no value holds another or a bound variable, all this is read off the bindings.
 #![tactic(auto)]
 
 mod classes;

@@ -42,8 +42,36 @@ struct Spot<'a> {
     literal: u32,
 }
 
-/// Adds an entry if it stands in the relation.
+/// Adds an entry if it stands in the relation. Most don't, by their symbols.
 fn try_entry<'a>(
+    search: &Search<'a>,
+    spot: Spot<'a>,
+    entry: Entry<'a>,
+    gathered: &mut Gathered<'a>,
+) -> Result<(), AllocError>
+    requires ready { IsReady search.now }
+    requires spot { IsSpot search.now spot }
+    requires known { IsKnownEntry (numbers_of search.now) (entry_of entry) }
+    requires alike { AreAlike (pattern_in search.now) (entry_of entry) }
+    ensures adds { OnOk result (Adds search.now ((
+      spot.entry.position,
+      record {
+        entry = entry_of entry.entry;
+        place = record { literal = spot.entry.literal; path = gathered.old.path.items };
+      },
+    ) ∷ []) gathered.old.matches.items gathered.new.matches.items) }
+    ensures path { OnOk result (gathered.new.path.items ≡ gathered.old.path.items) }
+{
+    if !search.allows(entry) {
+        return Ok(());
+    }
+    solve_entry(search, spot, entry, gathered)
+}
+
+/// Does the same without a look at the symbols. It is no part of its caller, for it begins by
+/// clearing what it works in.
+#[inline(never)]
+fn solve_entry<'a>(
     search: &Search<'a>,
     spot: Spot<'a>,
     entry: Entry<'a>,

@@ -1,5 +1,5 @@
 // Whether an entry stands in a relation to a pattern, and how.
-ghost use Rattle.std.specs.Prelude.{◌≡◌, IfOk};
+ghost use Rattle.std.specs.Prelude.{◌≡◌, None, IfOk, IsFalse};
 ghost use Rattle.si_term.specs.Terms.{term_of};
 ghost use Rattle.si_term.specs.Meaning.{entry_of};
 ghost use Rattle.si_flat.specs.Flattened.{whole_of};
@@ -62,8 +62,16 @@ fn whole_term(entry: Entry<'_>) -> &Term
 }
 
 impl<'a> Search<'a> {
-    /// The canonical list of an entry; `None` where it doesn't stand in the relation. The entry is
-    /// walked over only where the symbols allow the relation.
+    /// Whether the symbols of the pattern and of an entry allow the relation. It takes no memory.
+    pub(crate) fn allows(&self, entry: Entry<'a>) -> bool
+        requires { AreAlike (pattern_in self.now) (entry_of entry) }
+        ensures { IsFalse result → AnswersIn self.now (entry_of entry.entry) None }
+    {
+        let wanted = whole_term(self.pattern.as_entry());
+        fits(self.relation, wanted, whole_term(entry))
+    }
+
+    /// The canonical list of an entry; `None` where it doesn't stand in the relation.
     pub(crate) fn solve(
         &self,
         workspace: &mut Workspace<'a>,
@@ -74,10 +82,6 @@ impl<'a> Search<'a> {
         requires alike { AreAlike (pattern_in self.now) (entry_of entry) }
         ensures { IfOk result (AnswersIn self.now (entry_of entry.entry)) }
     {
-        let wanted = whole_term(self.pattern.as_entry());
-        if !fits(self.relation, wanted, whole_term(entry)) {
-            return Ok(None);
-        }
         if !workspace.buffer.fill(self.signature, entry)? {
             unreachable!()
         }

@@ -75,8 +75,8 @@ pub(crate) fn follow<'a>(
 ) -> Subterm<'a>
     requires legal { IsLegal question.now trail.now.pairs }
     requires subterm { IsSubterm question.now trail.now.pairs from }
-    ensures comes { (t : Term) → StandsAt question.now trail.now.pairs from.entry.spot t → ComesTo
-        question.now trail.now.pairs t result.spot }
+    ensures comes { (t : Term) → StandsAt question.now trail.now.pairs from.entry.spot t →
+        ComesTo question.now trail.now.pairs t result.spot }
     ensures subterm { IsSubterm question.now trail.now.pairs result }
 {
     let mut reached = from;

@@ -1,27 +1,16 @@
-use Rattle.std.proofs.Common.{◌≡◌, Bor, map, ap, sym, ◌∙◌, subst}
+use Rattle.std.proofs.Common.{Bor, map, ap, sym, ◌∙◌, subst}
 use Rattle.std.specs.Prelude.{Some, None}
 use Rattle.si_defs.specs.Bytes.{Bytes}
 use Rattle.si_defs.specs.Entries.{pattern_entry}
-use Rattle.si_term.specs.Terms.{term_of}
 use Rattle.si_term.specs.Meaning.{entry_of}
 use Rattle.si_flat.specs.declared.Owner.TheVariants.{Query, Entry}
 use Rattle.si_flat.specs.Cells.{IsWhole}
-use Rattle.si_flat.specs.Flattened.{HoldsEntry, FillsEntry, whole_of, query_numbers}
+use Rattle.si_flat.specs.Flattened.{HoldsEntry, FillsEntry, query_numbers}
 use Rattle.si_form.specs.Answers.{AreNumbered, Answers}
-use Rattle.si_form.specs.Numberings.{TextsRelate}
 use Rattle.si_index.specs.Searching.{numbers_of, pattern_in}
-use Rattle.si_index.proofs.FlatLaws.{unfit_fails, none_lacks, flat_is_numbered}
+use Rattle.si_index.proofs.FlatLaws.{none_lacks, flat_is_numbered}
 use Rattle.si_index.proofs.SolvedLaws.{solved_in}
 use Rattle.si_index.proofs.search.Search.solve.Goals as goal
-
-pub returns-then-not-fits : goal.returns-then-not-fits
-returns-then-not-fits c =
-    let kind = c.args.self.now.relation in
-    let pattern = whole_of (pattern_entry (pattern_in c.args.self.now)) in
-    let wanted : term_of c.whole_term-wanted.result.now ≡ pattern = c.whole_term-wanted.ensures ∙ ap whole_of c.as_entry.ensures in
-    unfit_fails kind (pattern_in c.args.self.now) (entry_of c.args.entry) c.requires.alike
-    (λ r. c.fits.ensures c.if-not-fits.true
-    (subst (λ t. TextsRelate kind t (term_of c.whole_term.result.now)) (sym wanted) (subst (TextsRelate kind pattern) (sym c.whole_term.ensures) r)))
 
 pub unreachable-requires : goal.unreachable-requires
 unreachable-requires c =

@@ -1,6 +1,6 @@
 -- The bytes that a source has left and those that a sink was given. A device that doesn't tell them
 -- has None.
-use Rattle.std.specs.Prelude.{◌≡◌, ℕ, ◌-◌, ◌<◌, ◌≤◌, List, [], ◌++◌, length, take, ⊤, Option, None, Some, Result, IsOkAnd}
+use Rattle.std.specs.Prelude.{◌≡◌, ℕ, ◌-◌, ◌<◌, ◌≤◌, List, ◌++◌, length, take, Option, None, Some, Result, IsOkAnd}
 
 -- What a sink tells of itself: the bytes that it was given, and how many more it is sure to take.
 -- While the bytes of a write fit this room, it doesn't fail; a sink that may fail at any call has

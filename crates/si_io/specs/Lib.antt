@@ -1,5 +1,6 @@
 pub mod Content
 pub mod Counted
+pub mod Disk
 pub mod Faults
 pub mod Folder
 pub mod Library

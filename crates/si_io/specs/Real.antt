@@ -4,7 +4,7 @@ use Rattle.std.specs.List.{ends_with}
 use Rattle.si_io.specs.declared.real.source.RealSource.{RealSource}
 use Rattle.si_io.specs.declared.real.sink.RealSink.{RealSink}
 use Rattle.si_io.specs.declared.real.library.RealLibrary.{RealLibrary}
-use Rattle.si_io.specs.Folder.{counts_of}
+use Rattle.si_io.specs.Folder.{disk_of, counts_of}
 use Rattle.si_io.specs.Library.{Counts}
 use Rattle.si_io.specs.Counted.{device_of, faults_of, is_flushed}
 
@@ -32,6 +32,10 @@ is_writer_flushed sink = is_flushed sink.writer
 abbrev pub EndsLine : List ℕ → Type 0
 EndsLine bytes = IsTrue (ends_with nat_eq bytes (10 ∷ []))
 
+-- the disk behind a library
+abbrev pub library_disk : {D : Type 0} → RealLibrary D → D
+library_disk library = disk_of library.folder
+
 -- what a library counted so far
-abbrev pub library_counts : {R : Type 0} → RealLibrary R → Counts
+abbrev pub library_counts : {D : Type 0} → RealLibrary D → Counts
 library_counts library = counts_of library.folder

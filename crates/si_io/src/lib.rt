@@ -15,7 +15,7 @@ mod source;
 pub use failed::Failed;
 pub use library::{Fetched, Library};
 pub use memory::{MemoryLibrary, MemorySink, MemorySource};
-pub use real::{RealLibrary, RealSink, RealSource};
+pub use real::{Disk, RealLibrary, RealSink, RealSource, System};
 pub use sink::{Sink, write_all};
 pub use source::Source;
 

@@ -1,5 +1,8 @@
+ghost use Rattle.std.specs.Prelude.{⊤};
+
 use crate::*;
 use std::alloc::{AllocError, Global};
+use std::cell::Cell;
 use std::io::{Read, Write};
 use std::test::Fail;
 use std::{fs, io};
@@ -104,7 +107,8 @@ fn a_real_sink_flushes_at_the_end_of_a_line(rt: HostRuntime) {
     let mut sink = RealSink::new(&mut page);
     assert_eq!(rt; write_all(&mut sink, b"ab"), Ok(()));
     assert_eq!(rt; write_all(&mut sink, b"cd\n"), Ok(()));
-    assert_eq!(rt; write_all(&mut sink, b"e\nf"), Ok(()));
+    // Three of four bytes are taken, and what is left is the caller's.
+    assert_eq!(rt; sink.write(b"e\nf\n"), Ok(3));
     assert_eq!(rt; write_all(&mut sink, b"\n"), Ok(()));
     assert_eq!(rt; write_all(&mut sink, b""), Ok(()));
     assert_eq!(rt; page.text.as_slice(), b"abcd\ne\nf\n".as_slice());
@@ -218,11 +222,14 @@ fn a_library_in_memory_has_the_last_put(rt: HostRuntime) -> Result<(), Fail> {
 fn a_real_library_opens_paths(rt: HostRuntime) -> Result<(), Fail> {
     let alloc = rt.alloc();
     let long = vec![in alloc; b'x'; 40000]?;
+    let far = "axioms/a-file-of-axioms-with-a-name-of-more-than-sixty-four-letters.ax";
     fs::create_dir(&rt, "axioms")?;
+    fs::write(&rt, far, "far")?;
     fs::write(&rt, "axioms/short.ax", "abc")?;
     fs::write(&rt, "axioms/long.ax", long.as_slice())?;
     let mut library = RealLibrary::new(rt);
-    let rows: [(&[u8], usize, Fetched, &[u8]); 8] = [
+    let rows: [(&[u8], usize, Fetched, &[u8]); 9] = [
+        (far.as_bytes(), 3, Fetched::Found, b"far"),
         (b"axioms/short.ax", 3, Fetched::Found, b"abc"),
         (b"axioms/short.ax", 2, Fetched::TooBig, b""),
         (b"axioms/none.ax", 9, Fetched::Missing, b""),
@@ -236,6 +243,88 @@ fn a_real_library_opens_paths(rt: HostRuntime) -> Result<(), Fail> {
         let (got, left) = fetch(alloc, &mut library, name, limit)?;
         assert_eq!(rt; got, answer, "limit {limit}");
         assert!(rt; left.as_slice() == bytes, "limit {limit}");
+    }
+    Ok(())
+}
+
+/// A file of nine letters. A read gives up to four of them, and one of the reads fails.
+#[derive(Drop)]
+struct Sheet<'a> {
+    left: usize,
+    reads: &'a Cell<u32>,
+    fails_at: u32,
+}
+
+impl Read for Sheet<'_> {
+    fn read(&mut self, into: &mut [u8]) -> io::Result<usize> {
+        self.reads.set(self.reads.get().saturating_add(1));
+        if self.reads.get() == self.fails_at {
+            return Err(io::Error::from(io::ErrorKind::BrokenPipe));
+        }
+        let count = into.len().min(4).min(self.left);
+        into[..count].fill(b'x');
+        self.left -= count;
+        Ok(count)
+    }
+}
+
+/// A disk with the file `a`, one that may not be opened, and no file `b`. It counts its calls and
+/// the reads of the file.
+#[derive(Drop)]
+struct Shelf<'a> {
+    opens: &'a Cell<u32>,
+    reads: &'a Cell<u32>,
+    fails_at: u32,
+}
+
+impl<'a> Disk for Shelf<'a> {
+    type File = Sheet<'a>;
+
+    ghost opens = { λ before path answer after. ⊤ };
+
+    fn open(&mut self, path: &str) -> io::Result<Sheet<'a>> {
+        self.opens.set(self.opens.get().saturating_add(1));
+        if path == "b" {
+            return Err(io::Error::from(io::ErrorKind::NotFound));
+        }
+        if path != "a" {
+            return Err(io::Error::from(io::ErrorKind::PermissionDenied));
+        }
+        Ok(Sheet {
+            left: 9,
+            reads: self.reads,
+            fails_at: self.fails_at,
+        })
+    }
+}
+
+#[test]
+fn a_real_library_makes_each_call_once(rt: HostRuntime) -> Result<(), Fail> {
+    let alloc = rt.alloc();
+    let rows: [(&[u8], usize, u32, Fetched, (u32, u32)); 7] = [
+        (b"a", 9, 0, Fetched::Found, (1, 4)),
+        (b"a", 8, 0, Fetched::TooBig, (1, 3)),
+        (b"a", 9, 1, Fetched::Failed, (1, 1)),
+        (b"a", 9, 3, Fetched::Failed, (1, 3)),
+        (b"b", 9, 0, Fetched::Missing, (1, 0)),
+        (b"c", 9, 0, Fetched::Failed, (1, 0)),
+        (b"a\xff", 9, 0, Fetched::Failed, (0, 0)),
+    ];
+    for (name, limit, fails_at, answer, calls) in rows {
+        let opens = Cell::new(0);
+        let reads = Cell::new(0);
+        let mut library = RealLibrary::over(Shelf {
+            opens: &opens,
+            reads: &reads,
+            fails_at,
+        });
+        let (got, _) = fetch(alloc, &mut library, name, limit)?;
+        assert_eq!(rt; got, answer, "limit {limit}, {fails_at}");
+        assert_eq!(rt;
+            (opens.get(), reads.get()),
+            calls,
+            "limit {limit}, {fails_at}"
+        );
     }
     Ok(())
 }

@@ -1,26 +1,24 @@
-// What stands between the real library and std. It opens and reads files, and counts what went
+// What stands between the real library and its disk. It opens and reads files, and counts what went
 // wrong.
 ghost use Rattle.std.specs.Prelude.{◌≡◌, ◌≤◌, length, IfOk};
 ghost use Rattle.std.specs.Io.KnownBytes.{ReadConsumes};
-ghost use Rattle.si_io.specs.Folder.{counts_of, CountsOpened, CountsRead};
+ghost use Rattle.si_io.specs.Disk.{AsksOnce};
+ghost use Rattle.si_io.specs.Folder.{disk_of, counts_of, opened, CountsOpened, CountsRead};
 ghost use Rattle.si_io.specs.Library.{counted};
 
+use super::disk::Disk;
 use crate::{Failed, Fetched};
-use std::fs::File;
 use std::io::{ErrorKind, Read};
-use std::rt::Files;
 
-/// The files of the system, with the counts of what went wrong, each up to the largest `u64`.
+/// The files of a disk, with the counts of what went wrong, each up to the largest `u64`.
 ///
-/// Outside this file nothing gets at the system or at the counts but by these calls. A name is a
-/// path from the folder where the program was started.
+/// Outside this file nothing gets at the disk or at the counts but by these calls.
 ///
-/// std's traits don't tell how often they were called or refused. So no clause says that `open` and
-/// `read` each call the system once, and pass on what it answered. This has to be read in their
-/// bodies; tests cover it.
+/// std's `Read` doesn't tell how often it was called or refused. So no clause says that `read`
+/// calls it once, and passes on what it answered. This has to be read in its body; tests cover it.
 #[derive(Drop)]
-pub struct Folder<R> {
-    system: R,
+pub struct Folder<D> {
+    disk: D,
     faults: u64,
     misses: u64,
     bigs: u64,
@@ -35,12 +33,13 @@ pub enum Unopened {
     Refused,
 }
 
-impl<R> Folder<R> {
-    pub fn new(system: R) -> Folder<R>
-        ensures { counts_of result ≡ record { faults = 0; misses = 0; bigs = 0 } }
+impl<D> Folder<D> {
+    pub fn new(disk: D) -> Folder<D>
+        ensures disk { disk_of result ≡ disk }
+        ensures counts { counts_of result ≡ record { faults = 0; misses = 0; bigs = 0 } }
     {
         Folder {
-            system,
+            disk,
             faults: 0,
             misses: 0,
             bigs: 0,
@@ -49,7 +48,8 @@ impl<R> Folder<R> {
 
     /// Counts a file that has too many bytes.
     pub fn count_too_big(&mut self)
-        ensures { counts_of self.new ≡ counted Fetched.TooBig (counts_of self.old) }
+        ensures counts { counts_of self.new ≡ counted Fetched.TooBig (counts_of self.old) }
+        ensures disk { disk_of self.new ≡ disk_of self.old }
     {
         self.bigs = self.bigs.saturating_add(1);
     }
@@ -57,6 +57,7 @@ impl<R> Folder<R> {
     fn not_found(&mut self) -> Unopened
         ensures what { result ≡ Unopened.NotFound }
         ensures counts { counts_of self.new ≡ counted Fetched.Missing (counts_of self.old) }
+        ensures disk { disk_of self.new ≡ disk_of self.old }
     {
         self.misses = self.misses.saturating_add(1);
         Unopened::NotFound
@@ -65,6 +66,7 @@ impl<R> Folder<R> {
     fn refused(&mut self) -> Unopened
         ensures what { result ≡ Unopened.Refused }
         ensures counts { counts_of self.new ≡ counted Fetched.Failed (counts_of self.old) }
+        ensures disk { disk_of self.new ≡ disk_of self.old }
     {
         self.faults = self.faults.saturating_add(1);
         Unopened::Refused
@@ -76,6 +78,7 @@ impl<R> Folder<R> {
         ensures bytes { ReadConsumes (F.remaining file.old) (F.remaining file.new) result
             into.new }
         ensures counts { CountsRead (counts_of self.old) (counts_of self.new) result }
+        ensures disk { disk_of self.new ≡ disk_of self.old }
     {
         match file.read(into) {
             Ok(count) => Ok(count),
@@ -87,15 +90,19 @@ impl<R> Folder<R> {
     }
 }
 
-impl<R: Files> Folder<R> {
+impl<D: Disk> Folder<D> {
+    ghost use Rattle.std.specs.Prelude.{Err};
+
     /// Opens a file. A name that isn't UTF-8 is refused.
-    pub fn open(&mut self, name: &[u8]) -> Result<R::File, Unopened>
-        ensures { CountsOpened (counts_of self.old) (counts_of self.new) result }
+    pub fn open(&mut self, name: &[u8]) -> Result<D::File, Unopened>
+        ensures asks { AsksOnce D.opens (disk_of self.old) name.now (disk_of self.new)
+            (λ answer. result ≡ opened answer) (result ≡ Err Unopened.Refused) }
+        ensures counts { CountsOpened (counts_of self.old) (counts_of self.new) result }
     {
         let Ok(path) = str::from_utf8(name) else {
             return Err(self.refused());
         };
-        match File::open(&self.system, path) {
+        match self.disk.open(path) {
             Ok(file) => Ok(file),
             Err(error) => match error.kind() {
                 ErrorKind::NotFound => Err(self.not_found()),

@@ -1,8 +1,9 @@
 ghost use Rattle.std.specs.Prelude.{◌≡◌, ◌-◌, ◌<◌, ◌≤◌, [], length, take, drop, vec_len, IfOk, OnOk};
 ghost use Rattle.std.specs.Io.KnownBytes.{Consumes, IsAtEnd};
-ghost use Rattle.si_io.specs.Folder.{counts_of, CountsRead};
+ghost use Rattle.si_io.specs.Folder.{disk_of, counts_of, CountsRead};
 ghost use Rattle.si_io.specs.Library.{counted, IsFileRead};
 
+use super::disk::{Disk, System};
 use super::folder::{Folder, Unopened};
 use crate::{Failed, Fetched, Library};
 use std::alloc::AllocError;
@@ -12,33 +13,45 @@ use std::rt::Files;
 /// Bytes that are asked of a file at first: room for them is filled and cut again, so few.
 const FIRST: usize = 1 << 12;
 
-/// A library over the files of the system. A name is a path from the folder where the program was
-/// started.
+/// A library over the files of a disk, such as those of the system. A name is a path.
 ///
 /// A file that isn't found is missing. Any other error is a fault, and so is a folder, or a name
-/// that isn't UTF-8. Nothing is told of the files.
+/// that isn't UTF-8. It tells no files, but of each fetch what the disk answered.
 #[derive(Drop)]
-pub struct RealLibrary<R> {
-    folder: Folder<R>,
+pub struct RealLibrary<D> {
+    folder: Folder<D>,
 }
 
-impl<R: Files> RealLibrary<R> {
+impl<R: Files> RealLibrary<System<R>> {
     ghost use Rattle.si_io.specs.Real.{library_counts};
 
     /// A library over the files of this runtime, which has counted nothing yet.
-    pub fn new(rt: R) -> RealLibrary<R>
+    pub fn new(rt: R) -> RealLibrary<System<R>>
         ensures { library_counts result ≡ record { faults = 0; misses = 0; bigs = 0 } }
     {
+        RealLibrary::over(System(rt))
+    }
+}
+
+impl<D: Disk> RealLibrary<D> {
+    ghost use Rattle.si_io.specs.Real.{library_disk, library_counts};
+
+    /// A library over this disk, which has counted nothing yet.
+    pub fn over(disk: D) -> RealLibrary<D>
+        ensures disk { library_disk result ≡ disk }
+        ensures counts { library_counts result ≡ record { faults = 0; misses = 0; bigs = 0 } }
+    {
         RealLibrary {
-            folder: Folder::new(rt),
+            folder: Folder::new(disk),
         }
     }
 }
 
-impl<R: Files> Library for RealLibrary<R> {
+impl<D: Disk> Library for RealLibrary<D> {
     ghost use Rattle.std.specs.Prelude.{None, true};
+    ghost use Rattle.si_io.specs.Disk.{AsksOnce, FetchesAnswer};
     ghost use Rattle.si_io.specs.Library.{Holds, HasFetchCause};
-    ghost use Rattle.si_io.specs.Real.{library_counts};
+    ghost use Rattle.si_io.specs.Real.{library_disk, library_counts};
 
     ghost files = { λ library. None };
 
@@ -46,11 +59,14 @@ impl<R: Files> Library for RealLibrary<R> {
 
     ghost may_fail = { λ library. true };
 
-    /// Reads the file to its end, or to one byte more than the limit. Beside what every library
-    /// promises, each answer is counted once.
+    /// Opens the file of this name, once, and reads it to its end, or to one byte more than the
+    /// limit. Beside what every library promises, each answer is counted once.
     fn fetch(&mut self, name: &[u8], into: &mut Vec<u8>, limit: usize) -> Fetched
         ensures holds { Holds result limit into.new.items }
         ensures cause { HasFetchCause (library_counts self.old) (library_counts self.new) result }
+        ensures asks { AsksOnce D.opens (library_disk self.old) name.now (library_disk self.new)
+            (λ answer. FetchesAnswer D.File.remaining limit answer result into.new.items)
+            (result ≡ Fetched.Failed) }
         ensures once { library_counts self.new ≡ counted result (library_counts self.old) }
     {
         into.clear();
@@ -82,6 +98,7 @@ fn read_file<S, F: Read>(
     requires { into.old.items ≡ [] }
     ensures read { IsFileRead (F.remaining file.old) limit result into.new.items }
     ensures counts { counts_of folder.new ≡ counted result (counts_of folder.old) }
+    ensures disk { disk_of folder.new ≡ disk_of folder.old }
 {
     let most = limit.saturating_add(1);
     let mut filled = 0;
@@ -116,6 +133,7 @@ fn read_behind<S, F: Read>(
         (take n (drop filled into.new))) }
     ensures ended { IfOk result (λ n. n ≡ 0 → IsAtEnd (F.remaining file.new)) }
     ensures counts { CountsRead (counts_of folder.old) (counts_of folder.new) result }
+    ensures disk { disk_of folder.new ≡ disk_of folder.old }
 {
     folder.read(file, &mut into[filled..])
 }

@@ -33,4 +33,5 @@ loop-filled-preserved g c =
       room = ok_so c.make_room.result ok c.make_room.ensures.bound;
       taken = subst P (sym (written new behind len (filled + count) size ∙ all)) (Consumes-trans _ _ _ _ _ c.loop-filled.invariant.taken c.in-Ok.ensures.given);
       counts = c.in-Ok.ensures.counts ∙ c.loop-filled.invariant.counts;
+      disk = c.in-Ok.ensures.disk ∙ c.loop-filled.invariant.disk;
     }

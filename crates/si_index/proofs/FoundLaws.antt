@@ -3,6 +3,7 @@ use Rattle.std.proofs.Common.{◌≡◌, ℕ, zero, suc, ◌<◌, List, [], ◌�
 use Rattle.std.specs.Prelude.{slice_get, Some}
 use Rattle.std.specs.List.{AllByRecursion}
 use Rattle.std.proofs.lemmas.List.{length-map}
+use Rattle.std.proofs.lemmas.Option.{get_or_from_slice_get}
 use Rattle.si_defs.specs.Bytes.{Bytes}
 use Rattle.si_defs.specs.Symbols.{Symbol, Numbering}
 use Rattle.si_defs.specs.Entries.{Entry, Placed, pattern_entry}
@@ -17,8 +18,9 @@ use Rattle.si_form.specs.Numberings.{variable_by, list_by, symbols_of}
 use Rattle.si_form.specs.TableNumbers.{HaveNumbers}
 use Rattle.si_index.specs.Finding.{position_and_place}
 use Rattle.si_index.specs.Showing.{ShowsEntry}
-use Rattle.si_index.specs.Searching.{numbers_of, pattern_in, IsReady, names_in, SolvesEntry, hit_of}
+use Rattle.si_index.specs.Searching.{numbers_of, pattern_in, IsReady, names_in, SolvesEntry, SolvesIn, HasList, IsMatch, hit_of}
 use Rattle.si_index.specs.declared.search.Search.{Search}
+use Rattle.si_index.specs.declared.search.Solved.{Solved}
 use Rattle.si_index.specs.declared.gather.Match.{Match}
 
 -- there are as many hits as matches
@@ -46,6 +48,14 @@ each_at P ms n m h read all = subst P (sym read) (at ms n m h all) where
   at [] n d h all = absurd (omega arith)
   at (m ∷ ms) zero d h all = all.0
   at (m ∷ ms) (suc n) d h all = at ms n d (omega arith) all.1
+
+-- the match that a hit's number reads
+pub match_at : (s : Search) (lists : List Solved) (ms : List Match) (n : ℕ) (m : Match) (hits : List (ℕ × Placed)) → map hit_of ms ≡ hits → n < length hits → m ≡ get_or ms n m → AllByRecursion (IsMatch s lists) ms → IsMatch s lists m
+match_at s lists ms n m hits seen h = each_at (IsMatch s lists) ms n m (inside ms n hits seen h)
+
+-- a list that is read by its number solves the entry
+pub solves_at : (s : Search) (e : Entry) (lists : List Solved) (n : ℕ) (read : Solved) → HasList s e lists (Some n) → read ≡ get_or lists n read → SolvesIn s e read
+solves_at s e lists n read h is = subst (SolvesIn s e) (sym (get_or_from_slice_get lists n h.0 read h.1) ∙ sym is) h.2
 
 -- what was solved is shown
 pub shows_entry : (s : Search) (numbers : Numbering) (e : Entry) (bindings : List Binding) (query_names entry_names : List Bytes) (extra : List Sym)

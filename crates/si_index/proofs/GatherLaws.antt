@@ -16,10 +16,14 @@ use Rattle.si_term.specs.declared.term.Sym as symbol
 use Rattle.si_term.specs.declared.term.Term as program
 use Rattle.si_term.specs.declared.term.Term.TheVariants.{Var, App}
 use Rattle.si_term.specs.declared.clause.Literal as program_literal
+use Rattle.si_unify.proofs.Lists.{all_map, all_append}
+use Rattle.si_form.proofs.NodeLaws.{get_front}
 use Rattle.si_index.specs.Finding.{at_position, entries_from_position, AreHits}
-use Rattle.si_index.specs.Searching.{pattern_in, IsTermPattern, HasSolution, IsMatch, hit_of, Adds, placed_under}
+use Rattle.si_index.specs.Searching.{pattern_in, IsTermPattern, HasSolution, IsAtFront, IsMatch, AreMatches, hit_of, Adds, Gathers, placed_under}
 use Rattle.si_index.specs.declared.search.Search.{Search}
+use Rattle.si_index.specs.declared.search.Solved.{Solved}
 use Rattle.si_index.specs.declared.gather.Match.{Match}
+use Rattle.si_index.specs.declared.gather.Matches.{Matches}
 
 -- ---- hits among entries one behind the other
 hits-append : (kind : Relation) (p : Pattern) (es fs hs ks : List (ℕ × Placed)) → AreHits kind p es hs → AreHits kind p fs ks → AreHits kind p (es ++ fs) (hs ++ ks)
@@ -30,54 +34,65 @@ hits-append kind p (e ∷ es) fs hs ks h k =
       | inr s ↦ inr (s.0, hits-append kind p es fs hs ks s.1 k)
     ]
 
-all-append : {T : Type 0} (P : T → Type 0) (xs ys : List T) → AllByRecursion P xs → AllByRecursion P ys → AllByRecursion P (xs ++ ys)
-all-append P [] ys h k = k
-all-append P (x ∷ xs) ys h k = (h.0, all-append P xs ys h.1 k)
+-- ---- what was found keeps its lists where more are made
+match_stays : (s : Search) (old new : List Solved) (m : Match) → IsAtFront old new → IsMatch s old m → IsMatch s new m
+match_stays s old new m front h = record {
+  list = (h.list.0, ap (λ l. slice_get l m.list) front.1 ∙ get_front old front.0 m.list h.list.0 h.list.1, h.list.2);
+  there = h.there;
+}
 
-pub adds_none : (s : Search) (ms : List Match) → Adds s [] ms ms
-adds_none s ms = record { more = []; appended = sym (append-nil ms); matches = tt; hits = refl }
+pub matches_stay : (s : Search) (old new : List Solved) (ms : List Match) → IsAtFront old new → AllByRecursion (IsMatch s old) ms → AllByRecursion (IsMatch s new) ms
+matches_stay s old new ms front = all_map (IsMatch s old) (IsMatch s new) ms (λ m. match_stays s old new m front)
 
-pub adds_then : (s : Search) (es fs : List (ℕ × Placed)) (a b c : List Match) → Adds s es a b → Adds s fs b c → Adds s (es ++ fs) a c
+-- ---- what was added
+pub adds_none : (s : Search) (ms : Matches) → AreMatches s ms → Adds s [] ms.found.items ms
+adds_none s ms each = record { more = []; appended = sym (append-nil ms.found.items); each = each; hits = refl }
+
+pub adds_then : (s : Search) (es fs : List (ℕ × Placed)) (a : List Match) (b c : Matches) → Adds s es a b → Adds s fs b.found.items c → Adds s (es ++ fs) a c
 adds_then s es fs a b c h k = record {
   more = h.more ++ k.more;
   appended = k.appended ∙ ap (λ l. l ++ k.more) h.appended ∙ append_assoc a h.more k.more;
-  matches = all-append (IsMatch s) h.more k.more h.matches k.matches;
+  each = k.each;
   hits = subst (AreHits s.relation (pattern_in s) (es ++ fs)) (sym (map-append hit_of h.more k.more)) (hits-append s.relation (pattern_in s) es fs (map hit_of h.more) (map hit_of k.more) h.hits k.hits);
 }
 
-pub adds_one : (s : Search) (e : ℕ × Placed) (m : Match) (old new : List Match) → new ≡ old ++ m ∷ [] → IsMatch s m → e ≡ hit_of m → Adds s (e ∷ []) old new
-adds_one s e m old new pushed match is = record {
+pub adds_one : (s : Search) (e : ℕ × Placed) (m : Match) (old : List Match) (new : Matches) → new.found.items ≡ old ++ m ∷ [] → AllByRecursion (IsMatch s new.lists.items) old → IsMatch s new.lists.items m → e ≡ hit_of m → Adds s (e ∷ []) old new
+adds_one s e m old new pushed each match is = record {
   more = m ∷ [];
   appended = pushed;
-  matches = (match, tt);
-  hits = inl (subst (λ f. Stands s.relation (pattern_in s) f.1.entry) (sym is) match.solved.list.stands, ([], refl, ap (λ f. f ∷ []) (sym is)));
+  each = subst (AllByRecursion (IsMatch s new.lists.items)) (sym pushed) (all_append (IsMatch s new.lists.items) old (m ∷ []) each (match, tt));
+  hits = inl (subst (λ f. Stands s.relation (pattern_in s) f.1.entry) (sym is) match.list.2.list.stands, ([], refl, ap (λ f. f ∷ []) (sym is)));
 }
 
-pub adds_no : (s : Search) (e : ℕ × Placed) (ms : List Match) → (Stands s.relation (pattern_in s) e.1.entry → ⊥) → Adds s (e ∷ []) ms ms
-adds_no s e ms fails = record { more = []; appended = sym (append-nil ms); matches = tt; hits = inr (fails, refl) }
+pub adds_no : (s : Search) (e : ℕ × Placed) (old : List Match) (new : Matches) → new.found.items ≡ old → AreMatches s new → (Stands s.relation (pattern_in s) e.1.entry → ⊥) → Adds s (e ∷ []) old new
+adds_no s e old new same each fails = record { more = []; appended = same ∙ sym (append-nil old); each = each; hits = inr (fails, refl) }
+
+-- an entry before the others that doesn't stand in the relation
+adds_skip : (s : Search) (e : ℕ × Placed) (es : List (ℕ × Placed)) (old : List Match) (new : Matches) → (Stands s.relation (pattern_in s) e.1.entry → ⊥) → Adds s es old new → Adds s (e ∷ es) old new
+adds_skip s e es old new fails h = record { more = h.more; appended = h.appended; each = h.each; hits = inr (fails, h.hits) }
 
 -- entries of which none stands in the relation
-pub adds_nothing : (s : Search) (es : List (ℕ × Placed)) (ms : List Match) → AllByRecursion (λ e. Stands s.relation (pattern_in s) e.1.entry → ⊥) es → Adds s es ms ms
-adds_nothing s [] ms none = adds_none s ms
-adds_nothing s (e ∷ es) ms none = adds_then s (e ∷ []) es ms ms ms (adds_no s e ms none.0) (adds_nothing s es ms none.1)
+pub adds_nothing : (s : Search) (es : List (ℕ × Placed)) (ms : Matches) → AreMatches s ms → AllByRecursion (λ e. Stands s.relation (pattern_in s) e.1.entry → ⊥) es → Adds s es ms.found.items ms
+adds_nothing s [] ms each none = adds_none s ms each
+adds_nothing s (e ∷ es) ms each none = adds_skip s e es ms.found.items ms none.0 (adds_nothing s es ms each none.1)
 
 -- ---- a loop that has passed the first of some entries
-pub record SoFar (s : Search) (left all : List (ℕ × Placed)) (old now : List Match) : Type 0 where
+pub record SoFar (s : Search) (left all : List (ℕ × Placed)) (old : List Match) (now : Matches) : Type 0 where
   pub passed : List (ℕ × Placed)
   pub whole : all ≡ passed ++ left
   pub adds : Adds s passed old now
 
-pub so_far_start : (s : Search) (all : List (ℕ × Placed)) (ms : List Match) → SoFar s all all ms ms
-so_far_start s all ms = record { passed = []; whole = refl; adds = adds_none s ms }
+pub so_far_start : (s : Search) (all : List (ℕ × Placed)) (ms : Matches) → AreMatches s ms → SoFar s all all ms.found.items ms
+so_far_start s all ms each = record { passed = []; whole = refl; adds = adds_none s ms each }
 
-pub so_far_more : (s : Search) (left piece rest all : List (ℕ × Placed)) (a b c : List Match) → left ≡ piece ++ rest → SoFar s left all a b → Adds s piece b c → SoFar s rest all a c
+pub so_far_more : (s : Search) (left piece rest all : List (ℕ × Placed)) (a : List Match) (b c : Matches) → left ≡ piece ++ rest → SoFar s left all a b → Adds s piece b.found.items c → SoFar s rest all a c
 so_far_more s left piece rest all a b c step h k = record {
   passed = h.passed ++ piece;
   whole = h.whole ∙ ap (λ l. h.passed ++ l) step ∙ sym (append_assoc h.passed piece rest);
   adds = adds_then s h.passed piece a b c h.adds k;
 }
 
-pub so_far_end : (s : Search) (left all : List (ℕ × Placed)) (a b : List Match) → left ≡ [] → SoFar s left all a b → Adds s all a b
+pub so_far_end : (s : Search) (left all : List (ℕ × Placed)) (a : List Match) (b : Matches) → left ≡ [] → SoFar s left all a b → Adds s all a b
 so_far_end s left all a b none h = subst (λ l. Adds s l a b) (sym (h.whole ∙ ap (λ l. h.passed ++ l) none ∙ append-nil h.passed)) h.adds
 
 -- ---- subterms under a path
@@ -126,7 +141,7 @@ terms_fail kind p q k n path [] e = tt
 terms_fail kind p q k n path (x ∷ xs) e = (λ h. subst (λ r. Stands kind r (term_entry x.1)) e h, terms_fail kind p q k n path xs e)
 
 -- of a literal pattern, only the literal itself
-pub literal_tried : (s : Search) (k n : ℕ) (path : List ℕ) (l q : Literal) (old new : List Match) → pattern_in s ≡ literal_pattern q → path ≡ []
+pub literal_tried : (s : Search) (k n : ℕ) (path : List ℕ) (l q : Literal) (old : List Match) (new : Matches) → pattern_in s ≡ literal_pattern q → path ≡ []
     → Adds s ((k, record { entry = literal_entry l; place = record { literal = n; path = path } }) ∷ []) old new
     → Adds s (map (at_position k) (literal_entries n l)) old new
 literal_tried s k n path l q old new is root h =
@@ -134,16 +149,16 @@ literal_tried s k n path l q old new is root h =
     subst (λ es. Adds s (first ∷ es) old new) (sym (under-root k n (proper_occurrences l.atom)))
     (adds_then s (first ∷ []) (placed_under k n [] (proper_occurrences l.atom)) old new new
     (subst (λ p. Adds s ((k, record { entry = literal_entry l; place = record { literal = n; path = p } }) ∷ []) old new) root h)
-    (adds_nothing s (placed_under k n [] (proper_occurrences l.atom)) new (terms_fail s.relation (pattern_in s) q k n [] (proper_occurrences l.atom) is)))
+    (adds_nothing s (placed_under k n [] (proper_occurrences l.atom)) new h.each (terms_fail s.relation (pattern_in s) q k n [] (proper_occurrences l.atom) is)))
 
 -- nor that where the sign is another
 signs_fail : (kind : Relation) (p : Pattern) (q l : Literal) → p ≡ literal_pattern q → (q.positive ≡ l.positive → ⊥) → Stands kind p (literal_entry l) → ⊥
 signs_fail kind p q l e differ h = differ (subst (λ r. Stands kind r (literal_entry l)) e h).0
 
-pub other_sign : (s : Search) (k n : ℕ) (l q : Literal) (ms : List Match) → pattern_in s ≡ literal_pattern q → (q.positive ≡ l.positive → ⊥) → Adds s (map (at_position k) (literal_entries n l)) ms ms
-other_sign s k n l q ms is differ =
-    literal_tried s k n [] l q ms ms is refl
-    (adds_no s (k, record { entry = literal_entry l; place = record { literal = n; path = [] } }) ms (signs_fail s.relation (pattern_in s) q l is differ))
+pub other_sign : (s : Search) (k n : ℕ) (l q : Literal) (ms : Matches) → AreMatches s ms → pattern_in s ≡ literal_pattern q → (q.positive ≡ l.positive → ⊥) → Adds s (map (at_position k) (literal_entries n l)) ms.found.items ms
+other_sign s k n l q ms each is differ =
+    literal_tried s k n [] l q ms.found.items ms is refl
+    (adds_no s (k, record { entry = literal_entry l; place = record { literal = n; path = [] } }) ms.found.items ms refl each (signs_fail s.relation (pattern_in s) q l is differ))
 
 -- what the test of two signs says
 pub signs_differ : (a b : Bool) → not (beq a b) ≡ true → a ≡ b → ⊥
@@ -163,7 +178,7 @@ literal_fails_at : (kind : Relation) (p : Pattern) (l : Literal) → IsTermPatte
 literal_fails_at kind (literal_pattern q) l is h = is
 literal_fails_at kind (term_pattern t) l is h = h
 
-pub parts_tried : (s : Search) (k n : ℕ) (path : List ℕ) (l : program_literal.Literal) (f : symbol.Sym) (args us : List Term) (old new : List Match) → IsTermPattern (pattern_in s) → l.atom ≡ App f args → us ≡ args → path ≡ []
+pub parts_tried : (s : Search) (k n : ℕ) (path : List ℕ) (l : program_literal.Literal) (f : symbol.Sym) (args us : List Term) (old : List Match) (new : Matches) → IsTermPattern (pattern_in s) → l.atom ≡ App f args → us ≡ args → path ≡ []
     → Adds s (placed_under k n path (terms.occurrences_from 1 (terms.row us))) old new
     → Adds s (map (at_position k) (literal_entries n (literal_of l))) old new
 parts_tried s k n path l f args us old new is atom seen root h =
@@ -173,16 +188,15 @@ parts_tried s k n path l f args us old new is atom seen root h =
     ∙ ap (λ p. placed_under k n p (terms.occurrences_from 1 (terms.row args))) (sym root)
     ∙ ap (λ ts. placed_under k n path (terms.occurrences_from 1 (terms.row ts))) (sym seen) in
     subst (λ es. Adds s (first ∷ es) old new) (sym (under-root k n (proper_occurrences (term_of l.atom)) ∙ parts))
-    (adds_then s (first ∷ []) (placed_under k n path (terms.occurrences_from 1 (terms.row us))) old old new
-    (adds_no s first old (literal_fails_at s.relation (pattern_in s) (literal_of l) is)) h)
+    (adds_skip s first (placed_under k n path (terms.occurrences_from 1 (terms.row us))) old new (literal_fails_at s.relation (pattern_in s) (literal_of l) is) h)
 
 -- ---- the subterms of a term
-pub variable_tried : (s : Search) (k n : ℕ) (path : List ℕ) (t : program.Term) (x : List ℕ) (ms : List Match) → t ≡ Var x → Adds s (placed_under k n path (terms.occurrences (term_of t))) ms ms
-variable_tried s k n path t x ms is = subst (λ (u : program.Term). Adds s (placed_under k n path (terms.occurrences (term_of u))) ms ms) (sym is) (adds_none s ms)
+pub variable_tried : (s : Search) (k n : ℕ) (path : List ℕ) (t : program.Term) (x : List ℕ) (ms : Matches) → AreMatches s ms → t ≡ Var x → Adds s (placed_under k n path (terms.occurrences (term_of t))) ms.found.items ms
+variable_tried s k n path t x ms each is = subst (λ (u : program.Term). Adds s (placed_under k n path (terms.occurrences (term_of u))) ms.found.items ms) (sym is) (adds_none s ms each)
 
-pub application_tried : (s : Search) (k n : ℕ) (path same : List ℕ) (t : program.Term) (f : symbol.Sym) (args us : List Term) (a b c : List Match) → t ≡ App f args → us ≡ args → same ≡ path
+pub application_tried : (s : Search) (k n : ℕ) (path same : List ℕ) (t : program.Term) (f : symbol.Sym) (args us : List Term) (a : List Match) (b c : Matches) → t ≡ App f args → us ≡ args → same ≡ path
     → Adds s ((k, record { entry = term_entry (term_of t); place = record { literal = n; path = path } }) ∷ []) a b
-    → Adds s (placed_under k n same (terms.occurrences_from 1 (terms.row us))) b c
+    → Adds s (placed_under k n same (terms.occurrences_from 1 (terms.row us))) b.found.items c
     → Adds s (placed_under k n path (terms.occurrences (term_of t))) a c
 application_tried s k n path same t f args us a b c is seen kept h rest =
     let first : Term → ℕ × Placed = λ u. (k, record { entry = term_entry u; place = record { literal = n; path = path } }) in
@@ -194,7 +208,7 @@ application_tried s k n path same t f args us a b c is seen kept h rest =
     (subst (λ es. Adds s es a c) (sym own)
     (adds_then s (first (term_of (App f args)) ∷ []) (placed_under k n path (terms.occurrences_from 1 (terms.row args))) a b c
     (subst (λ (u : program.Term). Adds s (first (term_of u) ∷ []) a b) is h)
-    (subst (λ es. Adds s es b c) behind rest)))
+    (subst (λ es. Adds s es b.found.items c) behind rest)))
 
 -- ---- the entries of literals, and of clauses
 pub literals_step : (k : ℕ) (ls : List program_literal.Literal) (i : ℕ) (l : program_literal.Literal) → i < length ls → l ≡ get_or ls i l
@@ -247,18 +261,22 @@ length_positions k (c ∷ cs) =
       length_positions (1 + k) cs,
     )
 
-pub matches_few : (s : Search) (cs : List Clause) (ms : List Match) → Adds s (entries_from_position 0 cs) [] ms → length ms ≤ length (state_entries cs)
+pub matches_few : (s : Search) (cs : List Clause) (ms : Matches) → Gathers s (entries_from_position 0 cs) ms → length ms.found.items ≤ length (state_entries cs)
 matches_few s cs ms h =
     omega (
       arith,
-      ap length h.appended,
-      length-map h.more hit_of,
-      hits_few s.relation (pattern_in s) (entries_from_position 0 cs) (map hit_of h.more) h.hits,
+      length-map ms.found.items hit_of,
+      hits_few s.relation (pattern_in s) (entries_from_position 0 cs) (map hit_of ms.found.items) h.hits,
       length_positions 0 cs,
     )
 
+-- all that was added to nothing was gathered
+pub gathered_all : (s : Search) (es : List (ℕ × Placed)) (ms : Matches) → Adds s es [] ms → Gathers s es ms
+gathered_all s es ms h = record { each = h.each; hits = subst (λ l. AreHits s.relation (pattern_in s) es (map hit_of l)) (sym h.appended) h.hits }
+
 -- each hit has a solution
-pub hits_solved : (s : Search) (ms : List Match) → AllByRecursion (IsMatch s) ms → AllByRecursion (λ (hit : ℕ × Placed). HasSolution s.relation (pattern_in s) hit.1.entry) (map hit_of ms)
-hits_solved s [] all = tt
-hits_solved s (m ∷ ms) all =
-    (record { stands = all.0.solved.list.stands; solution = all.0.solved.list.solution; solves = all.0.solved.list.solves }, hits_solved s ms all.1)
+pub hits_solved : (s : Search) (lists : List Solved) (ms : List Match) → AllByRecursion (IsMatch s lists) ms → AllByRecursion (λ (hit : ℕ × Placed). HasSolution s.relation (pattern_in s) hit.1.entry) (map hit_of ms)
+hits_solved s lists [] all = tt
+hits_solved s lists (m ∷ ms) all =
+    let list = all.0.list.2.list in
+    (record { stands = list.stands; solution = list.solution; solves = list.solves }, hits_solved s lists ms all.1)

@@ -24,6 +24,7 @@ use Rattle.si_index.specs.Finding.{AreHits}
 use Rattle.si_index.specs.declared.search.Search.{Search}
 use Rattle.si_index.specs.declared.search.Solved.{Solved}
 use Rattle.si_index.specs.declared.gather.Match.{Match}
+use Rattle.si_index.specs.declared.gather.Matches.{Matches}
 use Rattle.si_index.specs.declared.gather.Spot.{Spot}
 
 -- ---- what is searched for
@@ -109,21 +110,42 @@ IsThere s position c = slice_get s.index.now.clauses position ≡ Some c
 abbrev pub IsSpot : Search → Spot → Type 0
 IsSpot s spot = IsThere s spot.position (clause_of spot.clause.now)
 
--- an entry that stands in the relation, with its list and its names, and the clause of its position
-pub record IsMatch (s : Search) (m : Match) : Type 0 where
-  pub solved : SolvesIn s (entry_of m.entry) m.solved
+-- the list with this number solves the entry; where there is no number, the entry doesn't stand in the relation
+abbrev pub HasList : Search → Entry → (lists : List Solved) → Option ℕ → Type 0
+HasList s e lists None = Stands s.relation (pattern_in s) e → ⊥
+HasList s e lists (Some n) = (solved : Solved) × slice_get lists n ≡ Some solved × SolvesIn s e solved
+
+-- the first list begins the second
+abbrev pub IsAtFront : {T : Type 0} → List T → List T → Type 0
+IsAtFront front whole = (more : _) × whole ≡ front ++ more
+
+-- an entry that stands in the relation, with the number of its list, and the clause of its position
+pub record IsMatch (s : Search) (lists : List Solved) (m : Match) : Type 0 where
+  pub list : HasList s (entry_of m.entry) lists (Some m.list)
   pub there : IsThere s m.hit.clause (clause_of m.clause.now)
+
+abbrev pub AreMatches : Search → Matches → Type 0
+AreMatches s ms = AllByRecursion (IsMatch s ms.lists.items) ms.found.items
 
 -- the match as a hit
 abbrev pub hit_of : Match → ℕ × Placed
 hit_of m = (m.hit.clause, record { entry = entry_of m.entry; place = place_of m.hit.place })
 
 -- those of these entries were added that stand in the relation
-pub record Adds (s : Search) (es : List (ℕ × Placed)) (old new : List Match) : Type 0 where
+pub record Adds (s : Search) (es : List (ℕ × Placed)) (old : List Match) (new : Matches) : Type 0 where
   pub more : List Match
-  pub appended : new ≡ old ++ more
-  pub matches : AllByRecursion (IsMatch s) more
+  pub appended : new.found.items ≡ old ++ more
+  pub each : AreMatches s new
   pub hits : AreHits s.relation (pattern_in s) es (map hit_of more)
+
+-- those of these entries were found that stand in the relation
+pub record Gathers (s : Search) (es : List (ℕ × Placed)) (ms : Matches) : Type 0 where
+  pub each : AreMatches s ms
+  pub hits : AreHits s.relation (pattern_in s) es (map hit_of ms.found.items)
+
+-- an entry at the end of a path in a literal
+abbrev pub placed_at : Spot → (path : List ℕ) → Entry → ℕ × Placed
+placed_at spot path e = (spot.position, record { entry = e; place = record { literal = spot.literal; path = path } })
 
 -- subterms of the literal with this number, each at the end of a path
 abbrev pub placed_under : ℕ → ℕ → List ℕ → List (List ℕ × Term) → List (ℕ × Placed)
@@ -133,9 +155,9 @@ placed_under position number path (o ∷ os) =
     ∷ placed_under position number path os
 
 -- what was found in an index: no more than its clauses may have
-pub record IsFound (s : Search) (query_names : List Bytes) (matches : List Match) : Type 0 where
+pub record IsFound (s : Search) (query_names : List Bytes) (ms : Matches) : Type 0 where
   pub numbers : numbers_of s ≡ s.index.now.numbers
   pub ready : IsReady s
   pub names : query_names ≡ names_in (pattern_entry (pattern_in s))
-  pub few : length matches ≤ MOST_OCCURRENCES
-  pub each : AllByRecursion (IsMatch s) matches
+  pub few : length ms.found.items ≤ MOST_OCCURRENCES
+  pub each : AreMatches s ms

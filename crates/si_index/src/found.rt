@@ -5,7 +5,7 @@ ghost use Rattle.si_defs.specs.Clauses.{IsSoundPattern};
 ghost use Rattle.si_term.specs.Terms.{symbol_of};
 ghost use Rattle.si_term.specs.Meaning.{clause_of, pattern_of, place_of};
 
-use crate::gather::{Match, search_clauses};
+use crate::gather::{Matches, search_clauses};
 use crate::index::Index;
 use crate::search::Search;
 use si_defs::Relation;
@@ -52,7 +52,7 @@ pub struct Lent<'a, 'b> {
 pub struct Found<'a> {
     search: Search<'a>,
     query_names: Texts,
-    matches: Vec<Match<'a>>,
+    matches: Matches<'a>,
 }
 
 impl<'a> Model for Found<'a> {
@@ -70,13 +70,13 @@ impl<'a> Model for Found<'a> {
       index = f.search.index.now;
       relation = f.search.relation;
       pattern = pattern_of f.search.pattern.now;
-      hits = map hit_of f.matches.items;
+      hits = map hit_of f.matches.found.items;
     } };
 
     ghost use Rattle.si_index.specs.Searching.{IsFound};
 
     ghost invariant = { λ f.
-        IsFound f.search f.query_names f.matches.items };
+        IsFound f.search f.query_names f.matches };
 }
 
 impl<'a> Found<'a> {
@@ -87,7 +87,7 @@ impl<'a> Found<'a> {
     pub fn len(&self) -> u32
         ensures { result ≡ length self.now.hits }
     {
-        self.matches.len() as u32
+        self.matches.found.len() as u32
     }
 
     /// The hit with this number from 0.
@@ -96,7 +96,7 @@ impl<'a> Found<'a> {
         ensures { slice_get (map position_and_place self.now.hits) n ≡ Some
             (result.now.clause, place_of result.now.place) }
     {
-        &self.matches[n as usize].hit
+        &self.matches.found[n as usize].hit
     }
 
     /// The clause of the hit with this number from 0.
@@ -104,7 +104,7 @@ impl<'a> Found<'a> {
         requires { n < length self.now.hits }
         ensures { IsClauseOf self.now n (clause_of result.now) }
     {
-        self.matches[n as usize].clause
+        self.matches.found[n as usize].clause
     }
 
     /// The canonical list of the hit with this number from 0.
@@ -113,11 +113,12 @@ impl<'a> Found<'a> {
         ensures { IfOk result (λ shown. ShowsHit self.now n shown) }
     {
         let search = &self.search;
-        let hit = &self.matches[n as usize];
+        let found = &self.matches.found[n as usize];
+        let solved = &self.matches.lists[found.list];
         Ok(Shown {
-            solution: hit.solved.solution.copy(search.alloc)?,
+            solution: solved.solution.copy(search.alloc)?,
             query_names: vars_of(search.alloc, search.pattern.as_entry())?,
-            entry_names: vars_of(search.alloc, hit.entry)?,
+            entry_names: vars_of(search.alloc, found.entry)?,
             extra: copy_symbols(search.alloc, &search.query.extra)?,
         })
     }
@@ -127,11 +128,12 @@ impl<'a> Found<'a> {
         requires { n < length self.now.hits }
         ensures { ShowsHit self.now n (shown_of result) }
     {
-        let found = &self.matches[n as usize];
+        let found = &self.matches.found[n as usize];
+        let solved = &self.matches.lists[found.list];
         Lent {
-            solution: &found.solved.solution,
+            solution: &solved.solution,
             query_names: &self.query_names,
-            entry_names: found.solved.entry_names.as_slice(),
+            entry_names: solved.entry_names.as_slice(),
             extra: &self.search.query.extra,
         }
     }

@@ -11,6 +11,7 @@ mod keyed;
 mod known;
 mod names;
 mod ranks;
+mod same;
 mod screen;
 mod search;
 mod subsuming;

@@ -62,7 +62,8 @@ fn whole_term(entry: Entry<'_>) -> &Term
 }
 
 impl<'a> Search<'a> {
-    /// Whether the symbols of the pattern and of an entry allow the relation. It takes no memory.
+    /// Whether the symbols of the pattern and of an entry allow the relation: `false` only where it
+    /// fails. It takes no memory.
     pub(crate) fn allows(&self, entry: Entry<'a>) -> bool
         requires { AreAlike (pattern_in self.now) (entry_of entry) }
         ensures { IsFalse result → AnswersIn self.now (entry_of entry.entry) None }

@@ -22,14 +22,17 @@ search_arguments-search_term-requires t c =
           c.requires.spot,
           (
             c.requires.alike,
-            known_argument (numbers_of c.args.search.now) c.args.arguments.now c.loop-i.i c.index-arguments-i.result c.loop-i-test.true c.index-arguments-i.is c.requires.known,
+            (
+              known_argument (numbers_of c.args.search.now) c.args.arguments.now c.loop-i.i c.index-arguments-i.result c.loop-i-test.true c.index-arguments-i.is c.requires.known,
+              c.loop-i.invariant.so_far.adds.each,
+            ),
           ),
         ),
       ),
     )
 
 pub search_arguments-loop-i-init : goal.search_arguments-loop-i-init
-search_arguments-loop-i-init t c = record { so_far = so_far_start c.args.search.now _ c.args.gathered.now.matches.items; kept = refl }
+search_arguments-loop-i-init t c = record { so_far = so_far_start c.args.search.now _ c.args.gathered.now.matches c.requires.each; kept = refl }
 
 pub search_arguments-loop-i-preserved : goal.search_arguments-loop-i-preserved
 search_arguments-loop-i-preserved t c =
@@ -48,7 +51,7 @@ search_arguments-returns-clause-adds t c =
 
 pub search_term-returns-in_default-clause-adds : goal.search_term-returns-in_default-clause-adds
 search_term-returns-in_default-clause-adds t c =
-    variable_tried c.args.search.now c.args.spot.position c.args.spot.literal c.args.gathered.now.path.items c.args.term.now _ c.args.gathered.now.matches.items c.in_default.is
+    variable_tried c.args.search.now c.args.spot.position c.args.spot.literal c.args.gathered.now.path.items c.args.term.now _ c.args.gathered.now.matches c.requires.each c.in_default.is
 
 pub search_term-try_entry-requires-clause-known : goal.search_term-try_entry-requires-clause-known
 search_term-try_entry-requires-clause-known t c = known_sub (numbers_of c.args.search.now) (term_of c.args.term.now) c.requires.known
@@ -67,7 +70,10 @@ search_term-search_arguments-requires t c =
           c.requires.spot,
           (
             c.requires.alike,
-            known_arguments (numbers_of c.args.search.now) c.args.term.now c.in-App.field-0 c.in-App.arguments c.as_slice.result.now c.in-App.is c.as_slice.ensures c.requires.known,
+            (
+              known_arguments (numbers_of c.args.search.now) c.args.term.now c.in-App.field-0 c.in-App.arguments c.as_slice.result.now c.in-App.is c.as_slice.ensures c.requires.known,
+              c.in_ok-try_entry.ensures.adds.each,
+            ),
           ),
         ),
       ),
@@ -77,6 +83,6 @@ pub search_term-returns-clause-adds : goal.search_term-returns-clause-adds
 search_term-returns-clause-adds t c =
     on_ok_then c.search_arguments.result
     (application_tried c.args.search.now c.args.spot.position c.args.spot.literal c.args.gathered.now.path.items c.try_entry.new.gathered.path.items
-    c.args.term.now c.in-App.field-0 c.in-App.arguments (map term_of c.as_slice.result.now) c.args.gathered.now.matches.items c.try_entry.new.gathered.matches.items c.search_arguments.new.gathered.matches.items
+    c.args.term.now c.in-App.field-0 c.in-App.arguments (map term_of c.as_slice.result.now) c.args.gathered.now.matches.found.items c.try_entry.new.gathered.matches c.search_arguments.new.gathered.matches
     c.in-App.is c.as_slice.ensures c.in_ok-try_entry.ensures.path c.in_ok-try_entry.ensures.adds)
     c.search_arguments.ensures.adds

@@ -11,8 +11,8 @@ invariant-search_arguments-loop-i l = record {
   so_far : SoFar l.search
       (placed_under l.spot.position l.spot.literal l.fn.gathered.path.items (occurrences_from (l.i + 1) (row (map term_of (drop l.i l.arguments)))))
       (placed_under l.spot.position l.spot.literal l.fn.gathered.path.items (occurrences_from 1 (row (map term_of l.arguments))))
-      l.fn.gathered.matches.items
-      l.gathered.matches.items;
+      l.fn.gathered.matches.found.items
+      l.gathered.matches;
   kept : l.gathered.path.items ≡ l.fn.gathered.path.items;
 }
 

@@ -20,7 +20,7 @@ loop-i-init c =
     let all = map (at_position c.args.position) (entries (clause_of c.args.clause.now)) in
     let whole = ap (λ l. map (at_position c.args.position) (entries_from 1 (map literal_of l))) (sym c.as_slice-literals.ensures) in
     record {
-      so_far = subst (λ l. SoFar s l all c.args.gathered.now.matches.items c.args.gathered.now.matches.items) whole (so_far_start s all c.args.gathered.now.matches.items);
+      so_far = subst (λ l. SoFar s l all c.args.gathered.now.matches.found.items c.args.gathered.now.matches) whole (so_far_start s all c.args.gathered.now.matches c.requires.each);
       root = c.requires.root;
     }
 
@@ -28,6 +28,9 @@ pub search_literal-requires-clause-known : goal.search_literal-requires-clause-k
 search_literal-requires-clause-known c =
     known_literal (numbers_of c.args.search.now) (clause_of c.args.clause.now) c.as_slice-literals.result.now c.loop-i.i c.index-literals-i.result
     (ap (map literal_of) c.as_slice-literals.ensures) c.loop-i-test.true c.index-literals-i.is c.requires.known
+
+pub search_literal-requires-clause-each : goal.search_literal-requires-clause-each
+search_literal-requires-clause-each c = c.loop-i.invariant.so_far.adds.each
 
 pub loop-i-preserved : goal.loop-i-preserved
 loop-i-preserved c =

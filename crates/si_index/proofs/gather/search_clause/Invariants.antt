@@ -10,7 +10,7 @@ abbrev pub invariant-loop-i : goal.invariant-loop-i
 invariant-loop-i l = record {
   so_far : SoFar l.search (map (at_position l.position) (entries_from (l.i + 1) (map literal_of (drop l.i l.literals))))
       (map (at_position l.position) (entries (clause_of l.clause)))
-      l.fn.gathered.matches.items
-      l.gathered.matches.items;
+      l.fn.gathered.matches.found.items
+      l.gathered.matches;
   root : l.gathered.path.items ≡ [];
 }

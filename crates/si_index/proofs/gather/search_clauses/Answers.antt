@@ -4,7 +4,7 @@ use Rattle.si_index.specs.Kept.{clauses_of}
 use Rattle.si_index.specs.Searching.{numbers_of, IsKnownClause}
 use Rattle.si_index.proofs.EntryLaws.{at_position_of_all}
 use Rattle.si_index.proofs.KeptLaws.{kept_got, kept_rest, kept_some, kept_next, none_kept}
-use Rattle.si_index.proofs.GatherLaws.{so_far_more, so_far_end, clauses_step, clauses_end}
+use Rattle.si_index.proofs.GatherLaws.{so_far_more, so_far_end, gathered_all, clauses_step, clauses_end}
 use Rattle.si_index.proofs.gather.search_clauses.Goals as goal
 
 pub unreachable-requires : goal.unreachable-requires
@@ -23,6 +23,9 @@ search_clause-requires-clause-known c =
     at_position_of_all (IsKnownClause (numbers_of c.args.search.now)) c.args.search.now.index.now.clauses c.loop-position.position (clause_of c.in-Some.clause.now)
     (kept_got c.args.search.now.index.now.clauses c.loop-position.position (clause_of c.in-Some.clause.now) (clauses_of c.next.new.self) first) c.requires.known
 
+pub search_clause-requires-clause-each : goal.search_clause-requires-clause-each
+search_clause-requires-clause-each c = c.loop-position.invariant.so_far.adds.each
+
 pub loop-position-preserved : goal.loop-position-preserved
 loop-position-preserved c =
     let first : clause_of c.in-Some.clause.now ∷ clauses_of c.next.new.self ≡ drop c.loop-position.position c.args.search.now.index.now.clauses =
@@ -39,4 +42,5 @@ loop-position-preserved c =
 pub returns : goal.returns
 returns c =
     let past : length c.args.search.now.index.now.clauses ≤ c.loop-position.position = omega (arith, c.loop-position-test.false, c.requires.count) in
-    so_far_end c.args.search.now _ _ _ _ (clauses_end c.args.search.now.index.now.clauses c.loop-position.position c.loop-position.position past) c.loop-position.invariant.so_far
+    gathered_all c.args.search.now _ _
+    (so_far_end c.args.search.now _ _ _ _ (clauses_end c.args.search.now.index.now.clauses c.loop-position.position c.loop-position.position past) c.loop-position.invariant.so_far)

@@ -18,7 +18,7 @@ pub returns-clause-adds : goal.returns-clause-adds
 returns-clause-adds c =
     on_ok_then c.search_arguments.result
     (parts_tried c.args.search.now c.args.spot.position c.args.spot.literal c.args.gathered.now.path.items c.args.literal.now c.in-App.field-0 c.in-App.arguments (map term_of c.as_slice.result.now)
-    c.args.gathered.now.matches.items c.search_arguments.new.gathered.matches.items c.requires.alike c.in-App.is c.as_slice.ensures c.requires.root)
+    c.args.gathered.now.matches.found.items c.search_arguments.new.gathered.matches c.requires.alike c.in-App.is c.as_slice.ensures c.requires.root)
     c.search_arguments.ensures.adds
 
 pub returns-clause-root : goal.returns-clause-root

@@ -8,8 +8,8 @@ use Rattle.si_index.proofs.gather.search_whole.Goals as goal
 
 pub returns-then-wanted-literal-clause-adds : goal.returns-then-wanted-literal-clause-adds
 returns-then-wanted-literal-clause-adds c =
-    other_sign c.args.search.now c.args.spot.position c.args.spot.literal (literal_of c.args.literal.now) (literal_of c.args.wanted.now) c.args.gathered.now.matches.items
-    c.requires.wanted (signs_differ c.args.wanted.now.positive c.args.literal.now.positive c.if-wanted-literal.true)
+    other_sign c.args.search.now c.args.spot.position c.args.spot.literal (literal_of c.args.literal.now) (literal_of c.args.wanted.now) c.args.gathered.now.matches
+    c.requires.each c.requires.wanted (signs_differ c.args.wanted.now.positive c.args.literal.now.positive c.if-wanted-literal.true)
 
 pub try_entry-requires-clause-alike : goal.try_entry-requires-clause-alike
 try_entry-requires-clause-alike c =
@@ -20,7 +20,7 @@ pub returns-clause-adds : goal.returns-clause-adds
 returns-clause-adds c =
     on_ok_then c.try_entry.result
     (literal_tried c.args.search.now c.args.spot.position c.args.spot.literal c.args.gathered.now.path.items (literal_of c.args.literal.now) (literal_of c.args.wanted.now)
-    c.args.gathered.now.matches.items c.try_entry.new.gathered.matches.items c.requires.wanted c.requires.root)
+    c.args.gathered.now.matches.found.items c.try_entry.new.gathered.matches c.requires.wanted c.requires.root)
     c.try_entry.ensures.adds
 
 pub returns-clause-root : goal.returns-clause-root

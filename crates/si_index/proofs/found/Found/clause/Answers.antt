@@ -7,8 +7,8 @@ use Rattle.si_index.proofs.found.Found.clause.Goals as goal
 
 pub returns : goal.returns
 returns c =
-    let ms = c.self.inside.matches.items in
+    let ms = c.self.inside.matches.found.items in
     let m = c.index.result.now in
     let less = inside ms c.args.n c.args.self.now.hits (ap (λ (f : Finding). f.hits) c.self.view_is) c.requires in
-    let here = each_at (IsMatch c.self.inside.search) ms c.args.n m less c.index.ensures c.self.invariant.each in
+    let here = each_at (IsMatch c.self.inside.search c.self.inside.matches.lists.items) ms c.args.n m less c.index.ensures c.self.invariant.each in
     subst (λ (f : Finding). IsClauseOf f c.args.n (clause_of m.clause.now)) c.self.view_is (hit_of m, hit_at ms c.args.n m less c.index.ensures, here.there)

@@ -29,7 +29,7 @@ use Rattle.si_sign.specs.declared.faults.AddFault.{AddFault}
 use Rattle.si_sign.specs.declared.faults.AddFault.TheVariants as add_fault
 use Rattle.si_index.specs.Kept.{Kept}
 use Rattle.si_index.specs.declared.index.Stats.{Stats}
-use Rattle.si_session.specs.declared.reply.Reply as reply
+use Rattle.si_session.specs.declared.reply.ReplyLine as reply
 use Rattle.si_session.specs.Replies.{reply_line, misused_text}
 use Rattle.si_session.specs.Rejections.{HasHead, NamesEntry, TellsFault, TellsWhy}
 use Rattle.si_io.specs.Library.{Counts}
@@ -76,7 +76,7 @@ at_seam before after own s n e h =
       seam (x ∷ xs) = seam xs
 
 -- a clause that isn't kept
-fault_acts : (limits : Limits) (state new : List Clause) (r : Rejected) (told : reply.Reply) (o : Stepped) (a b : Told) (why : AddFault)
+fault_acts : (limits : Limits) (state new : List Clause) (r : Rejected) (told : reply.ReplyLine) (o : Stepped) (a b : Told) (why : AddFault)
     → Rejects limits.entries state (clause_of r.clause) why → TellsFault r told why → new ≡ state → Writes o (reply_line told ∷ []) a b
     → HasPerformed (Performs limits (add (clause_of r.clause)) state) state new o a b
 fault_acts limits state new r told o a b add_fault.Taken h t e w =
@@ -91,7 +91,7 @@ fault_acts limits state new r told o a b (add_fault.Full needed most) h t e w =
     rightly (reply_line told ∷ []) (inl (full needed, h.0, ap (λ l. l ∷ []) (t ∙ ap (full_line needed) h.1), e)) w
 fault_acts limits state new r told o a b add_fault.Memory h t e w = at_once e (subst (λ l. Writes o (l ∷ []) a b) t w)
 
-pub refuses : (limits : Limits) (state new : List Clause) (r : Rejected) (told : reply.Reply) (o : Stepped) (a b : Told)
+pub refuses : (limits : Limits) (state new : List Clause) (r : Rejected) (told : reply.ReplyLine) (o : Stepped) (a b : Told)
     → Rejects limits.entries state (clause_of r.clause) r.why → TellsWhy r told → new ≡ state → Writes o (reply_line told ∷ []) a b
     → HasPerformed (Performs limits (add (clause_of r.clause)) state) state new o a b
 refuses limits state new r told o a b h t e w = fault_acts limits state new r told o a b r.why h t e w
@@ -113,7 +113,7 @@ pub added : (old new : Kept) (clause : Clause) (o : Stepped) (n : ℕ) (a b : To
 added old new clause o n a b k e w limits same =
     accepts limits clause old.clauses new.clauses o n a b (subst (λ l. Accepts l old.clauses clause new.clauses) (sym same) k) e w
 
-pub refused : (old new : Kept) (r : Rejected) (told : reply.Reply) (o : Stepped) (a b : Told)
+pub refused : (old new : Kept) (r : Rejected) (told : reply.ReplyLine) (o : Stepped) (a b : Told)
     → Rejects old.limit old.clauses (clause_of r.clause) r.why → TellsWhy r told → new.clauses ≡ old.clauses → Writes o (reply_line told ∷ []) a b
     → ActsOn (λ limits. Performs limits (add (clause_of r.clause))) old new o a b
 refused old new r told o a b h t e w limits same =

@@ -23,7 +23,7 @@ use Rattle.si_harvest.specs.declared.faults.HarvestFault.TheVariants as harvest_
 use Rattle.si_harvest.specs.Faults.{IsReason, NamesFault, Explains, HasFaultCause}
 use Rattle.si_harvest.specs.Gains.{Gained, GainsByLoad}
 use Rattle.si_harvest.specs.Opened.{HasFault}
-use Rattle.si_session.specs.declared.reply.Reply as program
+use Rattle.si_session.specs.declared.reply.ReplyLine as program
 use Rattle.si_session.specs.declared.stepped.Stepped.{Stepped}
 use Rattle.si_session.specs.Replies.{reply_line, misused_text}
 use Rattle.si_session.specs.Rejections.{TellsFault, IsTellable, TellsFaultOfLoad}
@@ -39,7 +39,7 @@ rejects limit state clause refusal (add_fault.Full n most) reason h = (subst (Re
 rejects limit state clause refusal add_fault.Memory reason h = absurd reason
 
 -- the line that tells it
-rejection_line : (limit : ℕ) (state : List Clause) (r : Rejected) (told : program.Reply) (refusal : Refusal) (why : AddFault) → IsReason limit why refusal
+rejection_line : (limit : ℕ) (state : List Clause) (r : Rejected) (told : program.ReplyLine) (refusal : Refusal) (why : AddFault) → IsReason limit why refusal
     → Refuses limit state (clause_of r.clause) refusal → TellsFault r told why → reply_line told ≡ refusal_line limit (name_of r.clause.name) refusal
 rejection_line limit state r told refusal add_fault.Taken reason h t = t ∙ ap (refusal_line limit (name_of r.clause.name)) (sym reason)
 rejection_line limit state r told refusal (add_fault.Clash c) reason h t =
@@ -70,7 +70,7 @@ pub tellable : (limit : ℕ) (e : HarvestFault) (P : Fault → Type 0) → Expla
 tellable limit e P (inl m) = subst IsTellable (sym m) tt
 tellable limit e P (inr t) = tellable_where limit e t.fault t.told
 
-pub fault_told : (limit : ℕ) (e : HarvestFault) (fault : Fault) (told : program.Reply) → NamesFault limit e fault → TellsFaultOfLoad e told → reply_line told ≡ fault_line limit fault
+pub fault_told : (limit : ℕ) (e : HarvestFault) (fault : Fault) (told : program.ReplyLine) → NamesFault limit e fault → TellsFaultOfLoad e told → reply_line told ≡ fault_line limit fault
 fault_told limit (harvest_fault.Syntax file line) fault told n t = t ∙ ap (fault_line limit) (sym n)
 fault_told limit (harvest_fault.Language file line) fault told n t = t ∙ ap (fault_line limit) (sym n)
 fault_told limit (harvest_fault.Rejected r) fault told n t =
@@ -103,7 +103,7 @@ module _ (limits : Limits) (told : Option Files) (file : Bytes) (old new : List 
   refused_where None fault h e = inr (fault, refl, refl, e)
   refused_where (Some files) fault h e = (h.0, Some fault, h.1, refl, refl, e)
 
-  pub load_refused : (e : HarvestFault) (line : program.Reply) → Explains limits.entries e (HasFault told (load_bounds limits) limits.entries old file)
+  pub load_refused : (e : HarvestFault) (line : program.ReplyLine) → Explains limits.entries e (HasFault told (load_bounds limits) limits.entries old file)
       → TellsFaultOfLoad e line → HasFaultCause may_fail x y e → new ≡ old → Writes o (reply_line line ∷ []) a b → HasLoaded limits told file old new o (around a x may_fail) (around b y now)
   load_refused e line (inl m) t h same w =
       let out : reply_line line ≡ memory_line = subst (λ f. TellsFaultOfLoad f line) m t in

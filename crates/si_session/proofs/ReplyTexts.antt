@@ -19,19 +19,19 @@ use Rattle.si_session.specs.declared.reply.FileFault.{FileFault}
 use Rattle.si_session.specs.declared.reply.FileFault.TheVariants as file_fault
 use Rattle.si_session.specs.declared.reply.LineFault.{LineFault}
 use Rattle.si_session.specs.declared.reply.LineFault.TheVariants as line_fault
-use Rattle.si_session.specs.declared.reply.Reply.{Reply}
-use Rattle.si_session.specs.declared.reply.Reply.TheVariants as reply
+use Rattle.si_session.specs.declared.reply.ReplyLine.{ReplyLine}
+use Rattle.si_session.specs.declared.reply.ReplyLine.TheVariants as reply
 
 four : (x s d f : Bytes) → x ++ ((s ++ d) ++ f) ≡ ((x ++ s) ++ d) ++ f
 four x s d f = ap (λ l. x ++ l) (append_assoc s d f) ∙ sym (append_assoc x s (d ++ f)) ∙ sym (append_assoc (x ++ s) d f)
 
-pub ok_text : (r : Reply) (clauses entries : ℕ) → r ≡ reply.Ok clauses entries
+pub ok_text : (r : ReplyLine) (clauses entries : ℕ) → r ≡ reply.Ok clauses entries
     → (codes "ok " ++ decimal clauses) ++ ((codes " " ++ decimal entries) ++ sign_text LineFeed) ≡ ended_line r
 unfolding sign_text ended_line
 ok_text r clauses entries e = four (codes "ok " ++ decimal clauses) (codes " ") (decimal entries) (10 ∷ []) ∙ ap ended_line (sym e)
 
 -- a line and its line feed
-pub ended_is : (r : Reply) → ended_line r ≡ reply_line r ++ 10 ∷ []
+pub ended_is : (r : ReplyLine) → ended_line r ≡ reply_line r ++ 10 ∷ []
 unfolding ended_line
 ended_is r = refl
 
@@ -71,7 +71,7 @@ seven a b c d e f g =
     ∙ sym (append_assoc (((a ++ b) ++ c) ++ d) e (f ++ g))
     ∙ sym (append_assoc ((((a ++ b) ++ c) ++ d) ++ e) f g)
 
-pub misused_is : (r : Reply) (symbol : Bor Sym) (found kept : Shape) → r ≡ reply.Misused symbol found kept
+pub misused_is : (r : ReplyLine) (symbol : Bor Sym) (found kept : Shape) → r ≡ reply.Misused symbol found kept
     → codes "! use " ++ (symbol_text (symbol_of symbol.now) ++ (sign_text Space ++ (closed_shape found ++ (sign_text Space ++ (closed_shape kept ++ sign_text LineFeed)))))
     ≡ ended_line r
 unfolding sign_text closed_shape ended_line
@@ -79,12 +79,12 @@ misused_is r symbol found kept e =
     seven (codes "! use ") (symbol_text (symbol_of symbol.now)) (codes " ") (shape_text found.side found.arity) (codes " ") (shape_text kept.side kept.arity) (10 ∷ [])
     ∙ ap ended_line (sym e)
 
-pub full_text : (r : Reply) (needed limit : ℕ) → r ≡ reply.Full needed limit
+pub full_text : (r : ReplyLine) (needed limit : ℕ) → r ≡ reply.Full needed limit
     → (codes "! full " ++ decimal needed) ++ ((codes " " ++ decimal limit) ++ sign_text LineFeed) ≡ ended_line r
 unfolding sign_text ended_line
 full_text r needed limit e = four (codes "! full " ++ decimal needed) (codes " ") (decimal limit) (10 ∷ []) ∙ ap ended_line (sym e)
 
-pub stats_line_is : (r : Reply) (stats : Stats) → r ≡ reply.Stats stats → stats_text stats ≡ ended_line r
+pub stats_line_is : (r : ReplyLine) (stats : Stats) → r ≡ reply.Stats stats → stats_text stats ≡ ended_line r
 unfolding stats_text ended_line
 stats_line_is r stats e = ap ended_line (sym e)
 
@@ -96,17 +96,17 @@ pub sample_is : (clauses gained sum : ℕ) → sampled clauses gained sum ≡ sa
 unfolding sign_text sample_text
 sample_is clauses gained sum = six (codes "sample " ++ decimal clauses) (codes " ") (decimal gained) (codes " ") (decimal sum) (10 ∷ [])
 
-pub sample_line_is : (r : Reply) (clauses gained sum : ℕ) → r ≡ reply.Sample clauses gained sum → sample_text clauses gained sum ≡ ended_line r
+pub sample_line_is : (r : ReplyLine) (clauses gained sum : ℕ) → r ≡ reply.Sample clauses gained sum → sample_text clauses gained sum ≡ ended_line r
 unfolding sample_text ended_line
 sample_line_is r clauses gained sum e = ap ended_line (sym e)
 
 -- ---- files
-pub file_told : (r : Reply) (fault : FileFault) (file : Bor Text) (w b : Bytes) → r ≡ reply.File fault file → w ≡ file_word fault → b ≡ file.now
+pub file_told : (r : ReplyLine) (fault : FileFault) (file : Bor Text) (w b : Bytes) → r ≡ reply.File fault file → w ≡ file_word fault → b ≡ file.now
     → w ++ file_text b ++ sign_text LineFeed ≡ ended_line r
 unfolding sign_text ended_line
 file_told r fault file w b e word bytes = ap₂ (λ x y. (x ++ file_text y) ++ 10 ∷ []) word bytes ∙ ap ended_line (sym e)
 
-pub line_told : (r : Reply) (fault : LineFault) (file : Bor Text) (line : ℕ) (w b : Bytes) → r ≡ reply.Line fault file line → w ≡ line_word fault → b ≡ file.now
+pub line_told : (r : ReplyLine) (fault : LineFault) (file : Bor Text) (line : ℕ) (w b : Bytes) → r ≡ reply.Line fault file line → w ≡ line_word fault → b ≡ file.now
     → w ++ (file_text b ++ ((codes " " ++ decimal line) ++ sign_text LineFeed)) ≡ ended_line r
 unfolding sign_text ended_line
 line_told r fault file line w b e word bytes =
@@ -128,11 +128,11 @@ line_marked line_fault.Syntax file line = refl
 line_marked line_fault.Language file line = refl
 
 -- a line on a file is a refusal
-pub file_refuses : (r : Reply) (fault : FileFault) (file : Bor Text) → r ≡ reply.File fault file → true ≡ begins_with 33 (reply_line r)
+pub file_refuses : (r : ReplyLine) (fault : FileFault) (file : Bor Text) → r ≡ reply.File fault file → true ≡ begins_with 33 (reply_line r)
 file_refuses r fault file e = file_marked fault file.now ∙ ap (λ x. begins_with 33 (reply_line x)) (sym e)
 
-pub line_refuses : (r : Reply) (fault : LineFault) (file : Bor Text) (line : ℕ) → r ≡ reply.Line fault file line → true ≡ begins_with 33 (reply_line r)
+pub line_refuses : (r : ReplyLine) (fault : LineFault) (file : Bor Text) (line : ℕ) → r ≡ reply.Line fault file line → true ≡ begins_with 33 (reply_line r)
 line_refuses r fault file line e = line_marked fault file.now line ∙ ap (λ x. begins_with 33 (reply_line x)) (sym e)
 
-pub fetches_refuses : (r : Reply) → r ≡ reply.Fetches → true ≡ begins_with 33 (reply_line r)
+pub fetches_refuses : (r : ReplyLine) → r ≡ reply.Fetches → true ≡ begins_with 33 (reply_line r)
 fetches_refuses r e = ap (λ x. begins_with 33 (reply_line x)) (sym e)

@@ -23,7 +23,7 @@ use Rattle.si_harvest.specs.declared.faults.Loaded.{Loaded}
 use Rattle.si_harvest.specs.declared.faults.HarvestFault.{HarvestFault}
 use Rattle.si_harvest.specs.Faults.{Explains}
 use Rattle.si_harvest.specs.Texts.{GainsText}
-use Rattle.si_session.specs.declared.reply.Reply as program
+use Rattle.si_session.specs.declared.reply.ReplyLine as program
 use Rattle.si_session.specs.declared.stepped.Stepped.{Stepped}
 use Rattle.si_session.specs.Replies.{reply_line}
 use Rattle.si_session.specs.Rejections.{TellsFaultOfLoad}
@@ -225,7 +225,7 @@ module _ (start count : ℕ) (old new : Kept) (o : Stepped) (a b : Told) where
   first_refused limits (foreign file line) h same = absurd h.2
   first_refused limits (malformed file line) h same = absurd h.2
 
-  refused_by : (e : HarvestFault) (line : program.Reply) (limits : Limits) → Explains limits.entries e (RefusesSample limits.entries start count old.clauses) → TellsFaultOfLoad e line
+  refused_by : (e : HarvestFault) (line : program.ReplyLine) (limits : Limits) → Explains limits.entries e (RefusesSample limits.entries start count old.clauses) → TellsFaultOfLoad e line
       → new.clauses ≡ old.clauses → Writes o (reply_line line ∷ []) a b → HasPerformed (Performs limits (sample start count) old.clauses) old.clauses new.clauses o a b
   refused_by e line limits (inl m) t same w =
       let out : reply_line line ≡ memory_line = subst (λ f. TellsFaultOfLoad f line) m t in
@@ -234,7 +234,7 @@ module _ (start count : ℕ) (old new : Kept) (o : Stepped) (a b : Told) where
       rightly (fault_line limits.entries r.fault ∷ []) (first_refused limits r.fault r.holds same)
       (subst (λ l. Writes o (l ∷ []) a b) (fault_told limits.entries e r.fault line r.told t) w)
 
-  pub sample_refused : (e : HarvestFault) (line : program.Reply) → Explains old.limit e (RefusesSample old.limit start count old.clauses) → TellsFaultOfLoad e line
+  pub sample_refused : (e : HarvestFault) (line : program.ReplyLine) → Explains old.limit e (RefusesSample old.limit start count old.clauses) → TellsFaultOfLoad e line
       → new.clauses ≡ old.clauses → Writes o (reply_line line ∷ []) a b → ActsOn (λ limits. Performs limits (sample start count)) old new o a b
   sample_refused e line h t same w limits fits =
       refused_by e line limits (subst (λ l. Explains l e (RefusesSample l start count old.clauses)) (sym fits) h) t same w

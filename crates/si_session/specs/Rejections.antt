@@ -11,7 +11,7 @@ use Rattle.si_sign.specs.declared.faults.AddFault.TheVariants as add_fault
 use Rattle.si_harvest.specs.declared.faults.HarvestFault.{HarvestFault}
 use Rattle.si_harvest.specs.declared.faults.HarvestFault.TheVariants as harvest_fault
 use Rattle.si_session.specs.Replies.{reply_line, misused_text}
-use Rattle.si_session.specs.declared.reply.Reply.{Reply}
+use Rattle.si_session.specs.declared.reply.ReplyLine.{ReplyLine}
 
 -- the entry of a clash is one of the clause
 abbrev pub NamesEntry : Rejected → AddFault → Type 0
@@ -23,7 +23,7 @@ abbrev pub HasHead : Rejected → Type 0
 HasHead rejected = IsSoundClause (clause_of rejected.clause) × NamesEntry rejected rejected.why
 
 -- the reply's line says this fault
-abbrev pub TellsFault : Rejected → Reply → AddFault → Type 0
+abbrev pub TellsFault : Rejected → ReplyLine → AddFault → Type 0
 TellsFault rejected reply add_fault.Taken = reply_line reply ≡ taken_line (name_of rejected.clause.name)
 TellsFault rejected reply (add_fault.Clash c) =
     (s : Symbol) → slice_get (clause_symbols (clause_of rejected.clause)) c.entry ≡ Some s
@@ -32,7 +32,7 @@ TellsFault rejected reply (add_fault.Full needed limit) = reply_line reply ≡ f
 TellsFault rejected reply add_fault.Memory = reply_line reply ≡ memory_line
 
 -- the reply says why
-abbrev pub TellsWhy : Rejected → Reply → Type 0
+abbrev pub TellsWhy : Rejected → ReplyLine → Type 0
 TellsWhy rejected reply = TellsFault rejected reply rejected.why
 
 -- ---- loads
@@ -42,7 +42,7 @@ IsTellable (harvest_fault.Rejected r) = HasHead r
 IsTellable fault = Unit {0}
 
 -- the reply's line says this fault of a load
-abbrev pub TellsFaultOfLoad : HarvestFault → Reply → Type 0
+abbrev pub TellsFaultOfLoad : HarvestFault → ReplyLine → Type 0
 TellsFaultOfLoad (harvest_fault.Syntax file line) reply = reply_line reply ≡ spot_line (codes "! syntax ") file line
 TellsFaultOfLoad (harvest_fault.Language file line) reply = reply_line reply ≡ spot_line (codes "! language ") file line
 TellsFaultOfLoad (harvest_fault.Rejected r) reply = TellsWhy r reply

@@ -13,8 +13,8 @@ use Rattle.si_session.specs.declared.reply.FileFault.{FileFault}
 use Rattle.si_session.specs.declared.reply.FileFault.TheVariants as file_fault
 use Rattle.si_session.specs.declared.reply.LineFault.{LineFault}
 use Rattle.si_session.specs.declared.reply.LineFault.TheVariants as line_fault
-use Rattle.si_session.specs.declared.reply.Reply.{Reply}
-use Rattle.si_session.specs.declared.reply.Reply.TheVariants as reply
+use Rattle.si_session.specs.declared.reply.ReplyLine.{ReplyLine}
+use Rattle.si_session.specs.declared.reply.ReplyLine.TheVariants as reply
 
 -- a side and an arity
 unfoldable pub closed_shape : Shape → Bytes
@@ -38,7 +38,7 @@ unfoldable pub line_word : LineFault → Bytes
 line_word line_fault.Syntax = codes "! syntax "
 line_word line_fault.Language = codes "! language "
 
-abbrev pub reply_line : Reply → Bytes
+abbrev pub reply_line : ReplyLine → Bytes
 reply_line (reply.Ok clauses entries) = ok_line clauses entries
 reply_line (reply.Stats stats) = stats_line stats.clauses stats.entries stats.symbols
 reply_line (reply.Sample clauses gained sum) = sample_line clauses gained sum
@@ -60,7 +60,7 @@ abbrev pub unended : List Bytes → Bytes → Bytes
 unended lines last = ended lines ++ last
 
 -- with its line feed
-unfoldable pub ended_line : Reply → Bytes
+unfoldable pub ended_line : ReplyLine → Bytes
 ended_line r = reply_line r ++ 10 ∷ []
 
 -- how much is kept, with its line feed

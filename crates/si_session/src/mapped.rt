@@ -15,7 +15,7 @@ ghost use Rattle.si_session.specs.Session.{Writes, ActsOn};
 ghost use Rattle.si_session.specs.declared.stepped.Stepped.TheVariants.{SinkFailed};
 
 use crate::buffered::{Borrowed, Buffered, Origin};
-use crate::reply::{Reply, put_end, tell};
+use crate::reply::{ReplyLine, put_end, tell};
 use crate::sign::{Sign, put_sign};
 use crate::stepped::Stepped;
 use si_flat::LitMap;
@@ -118,7 +118,7 @@ pub fn subsumers<K: Sink>(index: &Index, formula: &Literals, sink: &mut K) -> St
 {
     match index.subsumers(formula) {
         Ok(found) => tell_mapped(index, &found, sink),
-        Err(_) => tell(sink, Reply::Memory),
+        Err(_) => tell(sink, ReplyLine::Memory),
     }
 }
 
@@ -134,6 +134,6 @@ pub fn subsumed<K: Sink>(index: &Index, formula: &Literals, sink: &mut K) -> Ste
 {
     match index.subsumed(formula) {
         Ok(found) => tell_mapped(index, &found, sink),
-        Err(_) => tell(sink, Reply::Memory),
+        Err(_) => tell(sink, ReplyLine::Memory),
     }
 }

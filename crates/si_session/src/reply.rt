@@ -1,4 +1,4 @@
-// Replies, written to a sink.
+// Replies of one line, written to a sink.
 ghost use Rattle.std.specs.Prelude.{◌≡◌, ◌≤◌, ◌++◌, [], ◌∷◌, decimal};
 ghost use Rattle.si_defs.specs.Printing.{name_text, file_text, symbol_text};
 ghost use Rattle.si_steps.specs.Replies.{is_refusal, end_line};
@@ -46,7 +46,7 @@ pub enum LineFault {
 
 /// A reply of one line.
 #[derive(Clone, Copy)]
-pub enum Reply<'a> {
+pub enum ReplyLine<'a> {
     /// So many clauses with so many entries were gained.
     Ok {
         clauses: u64,
@@ -268,54 +268,57 @@ pub fn put_end<K: Sink>(sink: &mut K, lines: u64) -> Result<(), Failed>
 }
 
 /// Writes a reply of one line.
-fn put_reply<K: Sink>(sink: &mut K, reply: Reply<'_>) -> Result<(), Failed>
+fn put_reply<K: Sink>(sink: &mut K, reply: ReplyLine<'_>) -> Result<(), Failed>
     ensures text { Puts result (ended_line reply.entry) (K.written sink.old) (K.written sink.new) }
     ensures cause { HasCause (K.faults sink.old) (K.faults sink.new) result }
 {
     match reply {
-        Reply::Ok { clauses, entries } => put_counts(sink, b"ok ", clauses, b" ", entries),
-        Reply::Stats(stats) => put_stats(sink, stats),
-        Reply::Sample {
+        ReplyLine::Ok { clauses, entries } => put_counts(sink, b"ok ", clauses, b" ", entries),
+        ReplyLine::Stats(stats) => put_stats(sink, stats),
+        ReplyLine::Sample {
             clauses,
             entries,
             sum,
         } => put_sample(sink, clauses, entries, sum),
-        Reply::Taken(name) => put_named(sink, b"! taken ", name),
-        Reply::Misused {
+        ReplyLine::Taken(name) => put_named(sink, b"! taken ", name),
+        ReplyLine::Misused {
             symbol,
             found,
             kept,
         } => put_misused(sink, b"! use ", symbol, found, kept),
-        Reply::Full { needed, limit } => put_counts(sink, b"! full ", needed, b" ", limit),
-        Reply::Unknown(name) => put_named(sink, b"! unknown ", name),
-        Reply::File(fault, file) => put_filed(sink, file_word(fault), file.as_bytes()),
-        Reply::Line(fault, file, line) => {
+        ReplyLine::Full { needed, limit } => put_counts(sink, b"! full ", needed, b" ", limit),
+        ReplyLine::Unknown(name) => put_named(sink, b"! unknown ", name),
+        ReplyLine::File(fault, file) => put_filed(sink, file_word(fault), file.as_bytes()),
+        ReplyLine::Line(fault, file, line) => {
             put_lined(sink, line_word(fault), file.as_bytes(), b" ", line)
         }
-        Reply::Fetches => put_bytes(sink, b"! fetches\n"),
-        Reply::Long => put_bytes(sink, b"! long\n"),
-        Reply::Later => put_bytes(sink, b"! later\n"),
-        Reply::Language => put_bytes(sink, b"! language\n"),
-        Reply::Syntax => put_bytes(sink, b"! syntax\n"),
-        Reply::Memory => put_bytes(sink, b"! memory\n"),
+        ReplyLine::Fetches => put_bytes(sink, b"! fetches\n"),
+        ReplyLine::Long => put_bytes(sink, b"! long\n"),
+        ReplyLine::Later => put_bytes(sink, b"! later\n"),
+        ReplyLine::Language => put_bytes(sink, b"! language\n"),
+        ReplyLine::Syntax => put_bytes(sink, b"! syntax\n"),
+        ReplyLine::Memory => put_bytes(sink, b"! memory\n"),
     }
 }
 
 /// Whether the line is a refusal.
-fn refuses(reply: Reply<'_>) -> bool
+fn refuses(reply: ReplyLine<'_>) -> bool
     ensures { result ≡ is_refusal (reply_line reply.entry ∷ []) }
 {
     match reply {
-        Reply::Ok { .. } | Reply::Stats(_) | Reply::Sample { .. } => false,
-        Reply::Taken(_) | Reply::Misused { .. } | Reply::Full { .. } | Reply::Unknown(_) => true,
-        Reply::File(..) | Reply::Line(..) | Reply::Fetches => true,
-        Reply::Long | Reply::Later | Reply::Language => true,
-        Reply::Syntax | Reply::Memory => true,
+        ReplyLine::Ok { .. } | ReplyLine::Stats(_) | ReplyLine::Sample { .. } => false,
+        ReplyLine::Taken(_)
+        | ReplyLine::Misused { .. }
+        | ReplyLine::Full { .. }
+        | ReplyLine::Unknown(_) => true,
+        ReplyLine::File(..) | ReplyLine::Line(..) | ReplyLine::Fetches => true,
+        ReplyLine::Long | ReplyLine::Later | ReplyLine::Language => true,
+        ReplyLine::Syntax | ReplyLine::Memory => true,
     }
 }
 
 /// Writes a line of a reply, and says what became of the command line.
-pub fn tell<K: Sink>(sink: &mut K, reply: Reply<'_>) -> Stepped
+pub fn tell<K: Sink>(sink: &mut K, reply: ReplyLine<'_>) -> Stepped
     ensures written { Writes result (reply_line reply.entry ∷ []) (K.written sink.old)
         (K.written sink.new) }
     ensures later { K.faults sink.old ≤ K.faults sink.new }

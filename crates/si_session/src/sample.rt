@@ -15,7 +15,7 @@ ghost use Rattle.si_session.specs.Sums.{GainsSample, RefusesSample, CountsUnifia
 ghost use Rattle.si_session.specs.declared.stepped.Stepped.TheVariants.{SinkFailed};
 
 use crate::refusals::load_refusal;
-use crate::reply::{Reply, tell};
+use crate::reply::{ReplyLine, tell};
 use crate::stepped::Stepped;
 use si_defs::Relation;
 use si_harvest::{HarvestFault, Loaded, roll_back, take_text};
@@ -81,7 +81,7 @@ fn tell_sum<K: Sink>(alloc: Global, index: &mut Index, gained: Loaded, sink: &mu
     match sum_last(alloc, index, gained.clauses) {
         Ok(sum) => tell(
             sink,
-            Reply::Sample {
+            ReplyLine::Sample {
                 clauses: u64::from(gained.clauses),
                 entries: u64::from(gained.entries),
                 sum,
@@ -89,7 +89,7 @@ fn tell_sum<K: Sink>(alloc: Global, index: &mut Index, gained: Loaded, sink: &mu
         ),
         Err(_) => {
             roll_back(index, gained.clauses);
-            tell(sink, Reply::Memory)
+            tell(sink, ReplyLine::Memory)
         }
     }
 }

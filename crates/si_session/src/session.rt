@@ -17,7 +17,7 @@ use crate::answer::tell_answer;
 use crate::command::{Command, read_command};
 use crate::mapped::{subsumed, subsumers};
 use crate::refusals::{load_refusal, refusal};
-use crate::reply::{Reply, tell};
+use crate::reply::{ReplyLine, tell};
 use crate::sample::sample;
 use crate::stepped::Stepped;
 use si_defs::Relation;
@@ -40,6 +40,7 @@ pub struct Session {
 
 impl Model for Session {
     ghost use Rattle.std.specs.Prelude.{◌≡◌};
+    ghost use Rattle.si_steps.specs.Limits.{AllowsLimits};
     ghost use Rattle.si_session.specs.Session.{State, state_code};
 
     ghost Value = { State };
@@ -48,7 +49,7 @@ impl Model for Session {
 
     ghost view = { λ s. record { clauses = s.index.clauses; limits = s.limits } };
 
-    ghost invariant = { λ s. s.index.limit ≡ s.limits.entries };
+    ghost invariant = { λ s. (s.index.limit ≡ s.limits.entries) × AllowsLimits s.limits };
 }
 
 impl Session {
@@ -72,7 +73,6 @@ impl Session {
         library: &mut L,
         sink: &mut K,
     ) -> Stepped
-        requires { AllowsLimits self.old.limits }
         ensures step { Steps (L.files library.old) self.old self.new (a_line line.now) result
             (around (K.written sink.old) (L.counts library.old) (L.may_fail library.old))
             (around (K.written sink.new) (L.counts library.new) (L.may_fail library.new)) }
@@ -85,13 +85,13 @@ impl Session {
         ensures failed { result ≡ SinkFailed → Rose (K.faults sink.old) (K.faults sink.new) }
     {
         if line.len() > self.limits.line {
-            return tell(sink, Reply::Long);
+            return tell(sink, ReplyLine::Long);
         }
         match read_command(self.alloc, line) {
             Ok(Command::Blank) => Stepped::Silent,
-            Ok(Command::Later) => tell(sink, Reply::Later),
-            Ok(Command::Foreign) => tell(sink, Reply::Language),
-            Ok(Command::Wrong) => tell(sink, Reply::Syntax),
+            Ok(Command::Later) => tell(sink, ReplyLine::Later),
+            Ok(Command::Foreign) => tell(sink, ReplyLine::Language),
+            Ok(Command::Wrong) => tell(sink, ReplyLine::Syntax),
             Ok(Command::Add(clause)) => add(&mut self.index, clause, sink),
             Ok(Command::Load(name)) => load_named(
                 self.alloc,
@@ -107,11 +107,11 @@ impl Session {
             }
             Ok(Command::Subsumers(formula)) => subsumers(&self.index, &formula, sink),
             Ok(Command::Subsumed(formula)) => subsumed(&self.index, &formula, sink),
-            Ok(Command::Stats) => tell(sink, Reply::Stats(self.index.stats())),
+            Ok(Command::Stats) => tell(sink, ReplyLine::Stats(self.index.stats())),
             Ok(Command::Sample { start, count }) => {
                 sample(self.alloc, &mut self.index, start, count, sink)
             }
-            Err(_) => tell(sink, Reply::Memory),
+            Err(_) => tell(sink, ReplyLine::Memory),
         }
     }
 
@@ -123,7 +123,6 @@ impl Session {
         library: &mut L,
         sink: &mut K,
     ) -> Stepped
-        requires { AllowsLimits self.old.limits }
         ensures step { Steps (L.files library.old) self.old self.new (a_word word.now) result
             (around (K.written sink.old) (L.counts library.old) (L.may_fail library.old))
             (around (K.written sink.new) (L.counts library.new) (L.may_fail library.new)) }
@@ -136,7 +135,7 @@ impl Session {
         ensures failed { result ≡ SinkFailed → Rose (K.faults sink.old) (K.faults sink.new) }
     {
         if !names_file(word) {
-            return tell(sink, Reply::Syntax);
+            return tell(sink, ReplyLine::Syntax);
         }
         load(
             self.alloc,
@@ -176,7 +175,7 @@ fn add<K: Sink>(index: &mut Index, clause: Clause, sink: &mut K) -> Stepped
     match index.add(clause) {
         Ok(gained) => tell(
             sink,
-            Reply::Ok {
+            ReplyLine::Ok {
                 clauses: 1,
                 entries: u64::from(gained),
             },
@@ -240,7 +239,7 @@ fn load<L: Library, K: Sink>(
     match expand(alloc, library, name, &bounds, index) {
         Ok(gained) => tell(
             sink,
-            Reply::Ok {
+            ReplyLine::Ok {
                 clauses: u64::from(gained.clauses),
                 entries: u64::from(gained.entries),
             },
@@ -261,12 +260,12 @@ fn remove<K: Sink>(index: &mut Index, name: Name, sink: &mut K) -> Stepped
     match index.remove(&name) {
         Some(gone) => tell(
             sink,
-            Reply::Ok {
+            ReplyLine::Ok {
                 clauses: 1,
                 entries: u64::from(gone),
             },
         ),
-        None => tell(sink, Reply::Unknown(&name)),
+        None => tell(sink, ReplyLine::Unknown(&name)),
     }
 }
 
@@ -281,7 +280,7 @@ fn answer<K: Sink>(index: &Index, relation: Relation, pattern: &Pattern, sink: &
 {
     let found = match index.find(relation, pattern) {
         Ok(found) => found,
-        Err(_) => return tell(sink, Reply::Memory),
+        Err(_) => return tell(sink, ReplyLine::Memory),
     };
     match tell_answer(index, &found, sink) {
         Ok(()) => Stepped::Answered,

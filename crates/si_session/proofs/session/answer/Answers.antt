@@ -1,10 +1,20 @@
+use Rattle.std.proofs.Common.{ℕ, sym, subst}
+use Rattle.std.specs.List.{AllByRecursion}
+use Rattle.si_defs.specs.Entries.{Placed}
 use Rattle.si_term.specs.Meaning.{pattern_of}
+use Rattle.si_index.specs.Searching.{HasSolution}
 use Rattle.si_session.proofs.Acting.{answers, fails}
 use Rattle.si_session.proofs.Answering.{are_inside, whole_answer}
 use Rattle.si_session.proofs.session.answer.Goals as goal
 
 pub tell_answer-requires-clause-inside : goal.tell_answer-requires-clause-inside
 tell_answer-requires-clause-inside g c = are_inside c.args.relation (pattern_of c.args.pattern.now) c.args.index.now.clauses c.in-Ok.found.hits c.in-Ok.ensures.hits
+
+pub tell_answer-requires-clause-solved : goal.tell_answer-requires-clause-solved
+tell_answer-requires-clause-solved g c =
+    let f = c.in-Ok.found in
+    subst (λ kind. AllByRecursion (λ (hit : ℕ × Placed). HasSolution kind f.pattern hit.1.entry) f.hits) (sym c.in-Ok.ensures.relation)
+    (subst (λ p. AllByRecursion (λ (hit : ℕ × Placed). HasSolution c.args.relation p hit.1.entry) f.hits) (sym c.in-Ok.ensures.pattern) c.in-Ok.ensures.solved)
 
 pub returns-in-Ok-tell_answer-clause-acts : goal.returns-in-Ok-tell_answer-clause-acts
 returns-in-Ok-tell_answer-clause-acts g c limits same =

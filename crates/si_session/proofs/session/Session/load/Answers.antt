@@ -1,4 +1,4 @@
 use Rattle.si_session.proofs.session.Session.load.Goals as goal
 
 pub load-requires-clause-limit : goal.load-requires-clause-limit
-load-requires-clause-limit g c = c.self.invariant
+load-requires-clause-limit g c = c.self.invariant.0

@@ -15,14 +15,15 @@ use std::io::{self, BufWriter};
 use std::process::ExitCode;
 
 fn main(rt: HostRuntime) -> ExitCode {
-    let Ok(words) = call_words(&rt) else {
-        return ExitCode::from(Status::Memory.code());
-    };
     let Ok(output) = BufWriter::new(rt.alloc(), rt.stdout()) else {
         return ExitCode::from(Status::Memory.code());
     };
-    let mut source = RealSource::new(rt.stdin());
     let mut sink = RealSink::new(output);
+    let words = match call_words(&rt) {
+        Ok(words) => words,
+        Err(error) => return ExitCode::from(serve::decline(&error, &mut sink).code()),
+    };
+    let mut source = RealSource::new(rt.stdin());
     let mut library = RealLibrary::new(rt);
     let status = serve::serve(
         rt.alloc(),

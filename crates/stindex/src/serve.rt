@@ -1,5 +1,7 @@
 // The run over the words of the call and the whole input: lines in, replies out.
 ghost use Rattle.std.specs.Prelude.{◌≡◌, ◌+◌, ◌<◌, ◌≤◌, ℕ, [], map, string_bytes, OnOk, IfErr, IsTrue, IsFalse};
+ghost use Rattle.std.specs.IoError.{error_kind};
+ghost use Rattle.std.specs.declared.io.ErrorKind.TheVariants.{OutOfMemory};
 ghost use Rattle.si_steps.specs.Runs.{a_word, a_line};
 ghost use Rattle.si_steps.specs.Limits.{AllowsLimits};
 ghost use Rattle.si_io.specs.Faults.{Rose};
@@ -17,6 +19,7 @@ use clap::ArgMatches;
 use si_io::{Library, Sink, Source, write_all};
 use si_session::{Limits, Session, Stepped};
 use std::alloc::Global;
+use std::io::{Error, ErrorKind};
 
 /// Bytes that one call reads at most.
 const CHUNK: usize = 4096;
@@ -64,6 +67,22 @@ pub fn serve<S: Source, K: Sink, L: Library>(
         Ok(matches) => start(alloc, &matches, limits, source, sink, library),
         Err(WordFault::Memory) => Status::Memory,
         Err(WordFault::Usage) => tell_usage(sink),
+    }
+}
+
+/// Ends a run whose words couldn't be gathered: one of them isn't UTF-8, or memory ran out.
+pub fn decline<K: Sink>(error: &Error, sink: &mut K) -> Status
+    ensures memory { error_kind error.now ≡ OutOfMemory → result ≡ Memory }
+    ensures usage { (error_kind error.now ≡ OutOfMemory → ⊥)
+        → WritesUsage result (K.written sink.old) (K.written sink.new) }
+    ensures unwritten { result ≡ Memory → K.written sink.new ≡ K.written sink.old }
+    ensures later { K.faults sink.old ≤ K.faults sink.new }
+    ensures counts { (source : ℕ) → CountsFaults result source source (K.faults sink.old)
+        (K.faults sink.new) }
+{
+    match error.kind() {
+        ErrorKind::OutOfMemory => Status::Memory,
+        _ => tell_usage(sink),
     }
 }
 
@@ -130,7 +149,6 @@ fn run<S: Source, K: Sink, L: Library>(
     sink: &mut K,
     library: &mut L,
 ) -> Status
-    requires allows { AllowsLimits limits.now }
     requires start { session.old ≡ record { clauses = []; limits = limits.now } }
     requires held { held_of pending.old ≡ [] }
     requires limit { limit_of pending.old ≡ limits.now.line }
@@ -182,8 +200,7 @@ fn load_files<K: Sink, L: Library>(
     sink: &mut K,
     library: &mut L,
 ) -> Result<(), Stop>
-    requires allows { AllowsLimits session.old.limits }
-    requires start { session.old.clauses ≡ [] }
+    requires { session.old.clauses ≡ [] }
     ensures loaded { OnOk result (LoadsWords session.old.limits (L.files library.old) strict
         (asked_of matches.now).files
         (around (K.written sink.old) (L.counts library.old) (L.may_fail library.old))
@@ -218,7 +235,6 @@ fn load<K: Sink, L: Library>(
     sink: &mut K,
     library: &mut L,
 ) -> Result<(), Stop>
-    requires { AllowsLimits session.old.limits }
     ensures acted { OnOk result (ActsOnRequest session.old.limits (L.files library.old) strict
         session.old.clauses session.new.clauses (a_word word.now)
         (around (K.written sink.old) (L.counts library.old) (L.may_fail library.old))
@@ -247,7 +263,6 @@ fn act<K: Sink, L: Library>(
     sink: &mut K,
     library: &mut L,
 ) -> Result<(), Stop>
-    requires { AllowsLimits session.old.limits }
     ensures acted { OnOk result (ActsOnRequest session.old.limits (L.files library.old) strict
         session.old.clauses session.new.clauses (a_line (held_of pending.old))
         (around (K.written sink.old) (L.counts library.old) (L.may_fail library.old))
@@ -291,8 +306,7 @@ fn feed<K: Sink, L: Library>(
     sink: &mut K,
     library: &mut L,
 ) -> Result<(), Stop>
-    requires allows { AllowsLimits session.old.limits }
-    requires limit { limit_of pending.old ≡ session.old.limits.line }
+    requires { limit_of pending.old ≡ session.old.limits.line }
     ensures fed { OnOk result (Advances session.old.limits (L.files library.old) strict bytes.now
         session.old.clauses (held_of pending.old)
         (around (K.written sink.old) (L.counts library.old) (L.may_fail library.old))
@@ -330,7 +344,6 @@ fn close<K: Sink, L: Library>(
     sink: &mut K,
     library: &mut L,
 ) -> Result<(), Stop>
-    requires { AllowsLimits session.old.limits }
     ensures closed { OnOk result (Closes session.old.limits (L.files library.old) strict
         session.old.clauses (held_of pending.old)
         (around (K.written sink.old) (L.counts library.old) (L.may_fail library.old))

@@ -1,9 +1,11 @@
 // Calls with words.
 use super::{ROOM, WHOLE, call};
+use crate::serve::decline;
 use crate::status::Status;
-use si_io::MemoryLibrary;
+use si_io::{MemoryLibrary, MemorySink};
 use si_session::Limits;
 use std::alloc::{AllocError, Global};
+use std::io::{Error, ErrorKind};
 use std::test::Fail;
 
 const USAGE: &[u8] = b"usage: stindex [--strict] [FILE]...\n";
@@ -66,7 +68,7 @@ const CALLS: [(&[&str], Status, &[u8]); 17] = [
 ];
 
 /// The words as the program has them.
-fn owned(alloc: Global, words: &[&str]) -> Result<Vec<String>, AllocError> {
+pub fn owned(alloc: Global, words: &[&str]) -> Result<Vec<String>, AllocError> {
     let mut all = Vec::new(alloc);
     for word in words {
         all.push(word.to_string(alloc)?)?;
@@ -157,6 +159,33 @@ fn refusals_end_strict_runs_alone(rt: HostRuntime) -> Result<(), Fail> {
         let (status, bytes) = called(alloc, words, &limits, twice, input)?;
         assert_eq!(rt; status, *end);
         assert_eq!(rt; bytes.as_slice(), *due);
+    }
+    Ok(())
+}
+
+/// How a call ends whose words couldn't be gathered, and what it writes; the write with this number
+/// fails, where 0 is none.
+fn declined(
+    alloc: Global,
+    kind: ErrorKind,
+    fails_at: u32,
+) -> Result<(Status, Vec<u8>), AllocError> {
+    let writes = vec![in alloc; fails_at]?;
+    let mut sink = MemorySink::new(alloc, ROOM, WHOLE.chunk, writes)?;
+    let status = decline(&Error::from(kind), &mut sink);
+    Ok((status, sink.bytes().to_vec(alloc)?))
+}
+
+#[test]
+fn words_that_are_no_text_are_no_call(rt: HostRuntime) -> Result<(), Fail> {
+    let rows: [(ErrorKind, u32, Status, &[u8]); 3] = [
+        (ErrorKind::InvalidData, 0, Status::Usage, USAGE),
+        (ErrorKind::InvalidData, 1, Status::SinkFault, b""),
+        (ErrorKind::OutOfMemory, 0, Status::Memory, b""),
+    ];
+    for (kind, fails_at, status, text) in rows {
+        let (ended, written) = declined(rt.alloc(), kind, fails_at)?;
+        assert_eq!(rt; (ended, written.as_slice()), (status, text));
     }
     Ok(())
 }

@@ -11,7 +11,7 @@ pub returns-in_default-clause-loaded : goal.returns-in_default-clause-loaded
 returns-in_default-clause-loaded g c =
     let now = around (g.K.Sink.written c.args.sink.now) (g.L.Library.counts c.args.library.now) (g.L.Library.may_fail c.args.library.now) in
     subst (λ ws. LoadsWords c.args.session.now.limits (g.L.Library.files c.args.library.now) c.args.strict ws now c.args.session.now.clauses now)
-    (files_none (found_of c.args.matches.now) c.in_default.ensures) (words_none _ _ _ _ now c.requires.start)
+    (files_none (found_of c.args.matches.now) c.in_default.ensures) (words_none _ _ _ _ now c.requires)
 
 pub returns-in_err-load-clause-broken : goal.returns-in_err-load-clause-broken
 returns-in_err-load-clause-broken g c =

@@ -817,9 +817,7 @@ def replies_to(files: Iterable[bytes], data: bytes, folder: str) -> Iterator[tup
 
 def run(words: list[bytes], data: bytes, folder: str) -> tuple[list[tuple[bytes, bytes]], int]:
     """The lines that are acted on, each with its reply, and the status."""
-    if not all(map(is_utf8, words)):
-        return [], 5
-    call = read_words(words)
+    call = read_words(words) if all(map(is_utf8, words)) else None
     if call is None:
         return [(b"", USAGE)], 2
     strict, files = call

@@ -55,7 +55,8 @@ impl Row {
         Ok(())
     }
 
-    /// The term of the symbol with this number and these arguments. So are more cells.
+    /// The term of the symbol with this number and these arguments. More cells than have a number
+    /// are answered like want of memory.
     pub(crate) fn under(self, sym: u32) -> Result<Flat, AllocError>
         ensures { IfOk result (λ f. f ≡ under_symbol sym self) }
     {

@@ -21,7 +21,7 @@ pub fn to_pattern(alloc: Global, entry: Entry<'_>) -> Result<Pattern, AllocError
 }
 
 /// Equal texts.
-pub fn copy_texts(alloc: Global, texts: &[&[u8]]) -> Result<Texts, AllocError>
+pub(crate) fn copy_texts(alloc: Global, texts: &[&[u8]]) -> Result<Texts, AllocError>
     ensures { IfOk result (λ copies. copies ≡ map (λ t. t.now) texts.now) }
 {
     let mut copies = Texts::new(alloc);

@@ -86,8 +86,8 @@ impl<'a> EntryBuffer<'a> {
 
     /// Puts the flat term of an entry in place of what the buffer held: the cells that
     /// [`flatten_entry`] gives, and the names of the entry's variables in the order of their
-    /// numbers. It tells whether the table has each of the symbols. Behind an error the buffer holds
-    /// no entry, and the next call puts one in place of whatever is there.
+    /// numbers. It tells whether the table has each of the symbols. Behind an error the buffer
+    /// holds no entry, and the next call puts one in place of whatever is there.
     pub fn fill<T: SymTable>(&mut self, table: &T, entry: Entry<'a>) -> Result<bool, AllocError>
         requires { IsSoundEntry (entry_of entry) }
         ensures { IfOk result (FillsEntry (T.pairs table.now) (entry_of entry.entry) self.new.0

@@ -1,5 +1,5 @@
 // Paths.
-ghost use Rattle.std.specs.Prelude.{◌≡◌, [], ◌∷◌, ◌++◌, IfOk, OnOk, OnErr, reverse};
+ghost use Rattle.std.specs.Prelude.{◌≡◌, ◌<◌, [], ◌∷◌, ◌++◌, IfOk, OnOk, OnErr, Some, length, reverse, slice_get};
 
 use smallvec::SmallVec;
 use std::alloc::{AllocError, Global};
@@ -46,8 +46,23 @@ impl Path {
         self.steps.as_slice()
     }
 
-    /// Appends a step.
-    pub(crate) fn push(&mut self, step: u32) -> Result<(), AllocError>
+    /// The number of steps.
+    pub fn len(&self) -> usize
+        ensures { result ≡ length self.now }
+    {
+        self.steps.len()
+    }
+
+    /// The step with this number from 0.
+    pub fn at(&self, n: usize) -> &u32
+        requires { n < length self.now }
+        ensures { slice_get self.now n ≡ Some result.now }
+    {
+        &self.steps.as_slice()[n]
+    }
+
+    /// Appends a step. At an error the path is as before.
+    pub fn push(&mut self, step: u32) -> Result<(), AllocError>
         ensures ok { OnOk result (self.new ≡ self.old ++ step ∷ []) }
         ensures err { OnErr result (self.new ≡ self.old) }
     {

@@ -20,6 +20,11 @@ pub err_again : {T E : Type 0} (r : Result T E) (e : E) (P : E → Type 0) → I
 err_again (Ok x) e P h p = tt
 err_again (Err x) e P h p = subst P (sym h) p
 
+-- an error has it
+pub err_has : {T E : Type 0} (r : Result T E) (e : E) (P : E → Type 0) → IsErrAnd r (λ x. x ≡ e) → P e → IsErrAnd r P
+err_has (Ok x) e P h p = absurd h
+err_has (Err x) e P h p = subst P (sym h) p
+
 pub cause_again : {T : Type 0} (r : Result T HarvestFault) (e : HarvestFault) (may_fail : Bool) (before now : Counts) → IsErrAnd r (λ x. x ≡ e) → HasFaultCause may_fail before now e → HasLoadCause may_fail before now r
 cause_again (Ok x) e may_fail before now h c = absurd h
 cause_again (Err x) e may_fail before now h c = subst (HasFaultCause may_fail before now) (sym h) c

@@ -251,13 +251,16 @@ module _ (told : Option Files) (bounds : Bounds) (limit : ℕ) (start : List Cla
             (subst (λ x. IfSome x (λ fs. IsWithheld fs bounds name fault)) t no_file)
 
   -- ---- the first file
+  pub may_begin : (old new : Reading) → old.files.items ≡ [] → old.fetches ≡ 0 → OpensInside told bounds file None old new → MayAsk bounds [] 0 file
+  may_begin old new none zero h = subst (λ n. MayAsk bounds [] n file) zero (subst (λ l. MayAsk bounds (opened l) old.fetches file) none h.may)
+
   pub begins : (old new : Reading) → old.files.items ≡ [] → old.fetches ≡ 0 → OpensInside told bounds file None old new → IsUnderway told bounds limit start file new start
   begins old new none zero h = record {
     spots = inner ∷ [];
     stand = subst (λ fs. Stand fs (inner ∷ [])) (sym (ap (λ l. reverse l) (h.inside ∙ ap (λ l. l ++ h.file ∷ []) none))) (own, tt);
     events = ask file ∷ [];
     gained = sym (append-nil start);
-    goes_on = λ files q es fault k. loads_opened files bounds limit start file h.file.bytes.items es fault may
+    goes_on = λ files q es fault k. loads_opened files bounds limit start file h.file.bytes.items es fault (may_begin old new none zero h)
         (subst (λ x. IfSome x (λ fs. fs file ≡ Some h.file.bytes.items)) q h.given.given) h.given.small
         (subst (λ n. Finishes files bounds limit (inner ∷ []) n start es fault) (h.counted ∙ ap (λ n. n + 1) zero) k);
   } where
@@ -273,9 +276,6 @@ module _ (told : Option Files) (bounds : Bounds) (limit : ℕ) (start : List Cla
       left = ap (λ n. drop n h.file.bytes.items) (sym h.given.front);
     }
 
-    may : MayAsk bounds [] 0 file
-    may = subst (λ n. MayAsk bounds [] n file) zero (subst (λ l. MayAsk bounds (opened l) old.fetches file) none h.may)
-
   pub never_begins : (old : Reading) (fault : Fault) → old.files.items ≡ [] → old.fetches ≡ 0 → IsUnopened told bounds file old fault → HasFault told bounds limit start file fault
   never_begins old fault none zero h = by told refl h where
     by : (t : Option Files) → told ≡ t → IsUnopened told bounds file old fault → IfSome t (λ files. (events : List Event) × Loads files bounds limit start file events (Some fault))
@@ -287,6 +287,13 @@ module _ (told : Option Files) (bounds : Bounds) (limit : ℕ) (start : List Cla
       withheld [] [] 0 start file fault (subst (λ n. MayAsk bounds [] n file) zero (subst (λ l. MayAsk bounds (opened l) old.fetches file) none may))
           (subst (λ x. IfSome x (λ fs. IsWithheld fs bounds file fault)) e no_file),
     )
+
+  pub may_not_begin : (old : Reading) (fault : Fault) → old.files.items ≡ [] → old.fetches ≡ 0 → (MayAsk bounds [] 0 file → ⊥) → IsUnopened told bounds file old fault
+      → IsBarred bounds [] 0 file fault
+  may_not_begin old fault none zero never h = by h where
+    by : IsUnopened told bounds file old fault → IsBarred bounds [] 0 file fault
+    by (inl no_one) = subst (λ n. IsBarred bounds [] n file fault) zero (subst (λ l. IsBarred bounds (opened l) old.fetches file fault) none no_one)
+    by (inr (may, no_file)) = absurd (never (subst (λ n. MayAsk bounds [] n file) zero (subst (λ l. MayAsk bounds (opened l) old.fetches file) none may)))
 
   -- no file is open any more
   pub is_over : (old : Reading) (state : List Clause) → old.files.items ≡ [] → IsUnderway told bounds limit start file old state

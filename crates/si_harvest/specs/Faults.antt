@@ -1,10 +1,11 @@
 -- Why a load is refused, as the program tells it.
-use Rattle.std.specs.Prelude.{◌≡◌, ◌⊎◌, ℕ, Bool, List, Result, Ok, Err, IsTrue}
+use Rattle.std.specs.Prelude.{◌≡◌, ◌⊎◌, ℕ, Bool, List, [], Result, Ok, Err, IsErrAnd, IsTrue}
+use Rattle.si_defs.specs.Bytes.{Bytes}
 use Rattle.si_defs.specs.Symbols.{Symbol}
 use Rattle.si_defs.specs.Clauses.{Clause, IsSoundClause}
 use Rattle.si_state.specs.Acceptance as state
 use Rattle.si_state.specs.Acceptance.{Refusal, Refuses}
-use Rattle.si_state.specs.Harvest.{Bounds, Fault, cycle, too_deep, too_many, missing, too_big, failed, foreign, malformed, rejected}
+use Rattle.si_state.specs.Harvest.{Bounds, MayAsk, IsBarred, Fault, cycle, too_deep, too_many, missing, too_big, failed, foreign, malformed, rejected}
 use Rattle.si_term.specs.Meaning.{clause_of}
 use Rattle.si_io.specs.Faults.{Rose}
 use Rattle.si_io.specs.Library.{Counts}
@@ -56,6 +57,12 @@ pub record NamesOneOf (limit : ℕ) (e : HarvestFault) (P : Fault → Type 0) : 
 
 abbrev pub Explains : ℕ → HarvestFault → (Fault → Type 0) → Type 0
 Explains limit e P = (e ≡ Memory) ⊎ NamesOneOf limit e P
+
+-- The start of a load is checked before the library is asked, whatever that tells: a load of a file
+-- that may not be asked for is refused for the first reason why not.
+abbrev pub ChecksStart : {T : Type 0} → Bounds → ℕ → Bytes → Result T HarvestFault → Type 0
+ChecksStart bounds limit file result =
+    (MayAsk bounds [] 0 file → ⊥) → IsErrAnd result (λ e. Explains limit e (IsBarred bounds [] 0 file))
 
 -- A library's failures, missing files and files that are too big have a count each, which rose
 -- where a load is refused for it, and no other count moved. For a failure it is refused only where

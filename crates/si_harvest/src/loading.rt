@@ -1,7 +1,7 @@
 // Loads: all clauses of a file, or none.
 ghost use Rattle.std.specs.Prelude.{◌≡◌, ◌≤◌, IfOk, IfErr, IfSome, OnOk, OnErr};
 ghost use Rattle.si_defs.specs.declared.TheConstants.{MOST_OCCURRENCES};
-ghost use Rattle.si_harvest.specs.Faults.{Explains, HasLoadCause, bounds_of};
+ghost use Rattle.si_harvest.specs.Faults.{Explains, ChecksStart, HasLoadCause, bounds_of};
 ghost use Rattle.si_harvest.specs.Opened.{HasFault};
 ghost use Rattle.si_harvest.specs.Gains.{CountsNoMore, Gained, GainsByLoad};
 
@@ -32,6 +32,7 @@ pub fn expand<L: Library, T: ClauseStore>(
     ensures fault { IfErr result (λ e. Explains (T.limit store.old) e (HasFault
         (L.files library.old) (bounds_of limits.now) (T.limit store.old) (T.clauses store.old)
         name.now)) }
+    ensures start { ChecksStart (bounds_of limits.now) (T.limit store.old) name.now result }
     ensures err { OnErr result (T.clauses store.new ≡ T.clauses store.old) }
     ensures limit { T.limit store.new ≡ T.limit store.old }
     ensures told { L.files library.new ≡ L.files library.old }
@@ -72,6 +73,7 @@ fn read_all<L: Library, T: ClauseStore>(
     ensures fault { IfErr result (λ e. Explains (T.limit store.old) e (HasFault
         (L.files library.old) (bounds_of limits.now) (T.limit store.old) (T.clauses store.old)
         name.now)) }
+    ensures start { ChecksStart (bounds_of limits.now) (T.limit store.old) name.now result }
     ensures gained { Gained (T.limit store.old) (T.clauses store.old) loaded.new
         (T.clauses store.new) }
     ensures limit { T.limit store.new ≡ T.limit store.old }

@@ -1,12 +1,13 @@
-use Rattle.std.proofs.Common.{None, refl, sym, subst}
+use Rattle.std.proofs.Common.{None, [], refl, sym, subst}
 use Rattle.std.specs.Prelude.{IfSome}
+use Rattle.si_state.specs.Harvest.{IsBarred}
 use Rattle.si_harvest.specs.declared.faults.HarvestFault.{HarvestFault}
 use Rattle.si_harvest.specs.Faults.{Explains, bounds_of}
 use Rattle.si_harvest.specs.Opened.{HasFault}
 use Rattle.si_harvest.specs.Gains.{GainsByLoad}
 use Rattle.si_harvest.specs.Underway.{AreWithin}
-use Rattle.si_harvest.proofs.Errors.{blames_weaker, err_again}
-use Rattle.si_harvest.proofs.Moves.{begins, never_begins, is_over}
+use Rattle.si_harvest.proofs.Errors.{blames_weaker, err_again, err_has}
+use Rattle.si_harvest.proofs.Moves.{begins, may_begin, never_begins, may_not_begin, is_over}
 use Rattle.si_harvest.proofs.Safety.{within_entered}
 use Rattle.si_harvest.proofs.Stepping.{steps_false}
 use Rattle.si_harvest.proofs.loading.read_all.Goals as goal
@@ -23,6 +24,17 @@ returns-in_err-enter-clause-fault g c =
     (λ fault h. never_begins told bounds limit start c.args.name.now c.new-reading.result fault c.new-reading.ensures.files c.new-reading.ensures.fetches h)
     (c.in_err-enter.ensures.unopened limit))
 
+pub returns-in_err-enter-clause-start : goal.returns-in_err-enter-clause-start
+returns-in_err-enter-clause-start g c = λ never.
+    let told = g.L.Library.files c.args.library.now in
+    let bounds = bounds_of c.args.limits.now in
+    let limit = g.T.ClauseStore.limit c.args.store.now in
+    let start = g.T.ClauseStore.clauses c.args.store.now in
+    err_has c.from_residual.result c.in_err-enter.field-0.0 (λ e. Explains limit e (IsBarred bounds [] 0 c.args.name.now)) c.from_residual.ensures.1
+    (blames_weaker limit c.in_err-enter.field-0.0 _ _
+    (λ fault h. may_not_begin told bounds limit start c.args.name.now c.new-reading.result fault c.new-reading.ensures.files c.new-reading.ensures.fetches never h)
+    (c.in_err-enter.ensures.unopened limit))
+
 pub loop-reading-init : goal.loop-reading-init
 loop-reading-init g c =
     let told = g.L.Library.files c.args.library.now in
@@ -36,6 +48,8 @@ loop-reading-init g c =
         counted = c.requires.counted;
         gained = c.requires.gained;
       };
+      may = may_begin told bounds (g.T.ClauseStore.limit c.args.store.now) (g.T.ClauseStore.clauses c.args.store.now) c.args.name.now c.new-reading.result c.enter.new.self
+          c.new-reading.ensures.files c.new-reading.ensures.fetches c.in_ok-enter.ensures.entered;
       told = c.enter.ensures.told;
       same = c.enter.ensures.same;
       counts = c.in_ok-enter.ensures.cause;
@@ -52,3 +66,9 @@ returns-clause-right g c =
     (g.T.ClauseStore.clauses c.loop-reading.store) (g.T.ClauseStore.clauses c.step.new.store) c.in_ok-step.field-0 c.if-branch.false c.in_ok-step.ensures.stepped in
     subst (λ s. IfSome told (λ files. GainsByLoad files bounds limit start c.args.name.now s)) (sym over.1)
     (is_over told bounds limit start c.args.name.now c.loop-reading.reading (g.T.ClauseStore.clauses c.loop-reading.store) over.0 c.loop-reading.invariant.loading.under_way)
+
+pub returns-in_err-step-clause-start : goal.returns-in_err-step-clause-start
+returns-in_err-step-clause-start g c = λ never. absurd (never c.loop-reading.invariant.may)
+
+pub returns-clause-start : goal.returns-clause-start
+returns-clause-start g c = λ never. absurd (never c.loop-reading.invariant.may)

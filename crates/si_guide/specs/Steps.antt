@@ -15,6 +15,7 @@ use Rattle.si_flat.specs.Flattened.{FlattensEntry, FlattensPattern}
 use Rattle.si_parse.specs.Reading.{IsItemRead}
 use Rattle.si_sign.specs.Stores.{Rejects}
 use Rattle.si_sign.specs.declared.faults.AddFault.{AddFault}
+use Rattle.si_sign.specs.declared.faults.AddFault.TheVariants.{Memory}
 use Rattle.si_index.specs.Kept.{Kept}
 use Rattle.si_index.specs.Finding.{AreHits, entries_from_position}
 use Rattle.si_index.specs.Showing.{ShowsEntry}
@@ -32,10 +33,10 @@ abbrev pub FlattensBoth : Numbering → Pattern → Entry → Option FlatPair �
 FlattensBoth pairs pattern e (Some pair) = FlattensPattern pairs pattern pair.query × FlattensEntry pairs e (Some pair.entry)
 FlattensBoth pairs pattern e None = FlattensEntry pairs e None
 
--- the index keeps this clause alone; or the clause is refused, or memory ran out
+-- the index keeps this clause alone; or the clause is refused, and not for want of memory
 abbrev pub KeepsClause : ℕ → clauses.Clause → Option Kept → Type 0
 KeepsClause limit clause (Some index) = Accepts limit [] clause index.clauses × (index.limit ≡ limit)
-KeepsClause limit clause None = (why : AddFault) × Rejects limit [] clause why
+KeepsClause limit clause None = (why : AddFault) × Rejects limit [] clause why × (why ≡ Memory → ⊥)
 
 -- the first of the kept entries that stand in the relation is shown; or none stands in it
 abbrev pub ShowsFirst : Kept → Relation → Pattern → Option Shown → Type 0

@@ -7,11 +7,11 @@ ghost use Rattle.si_guide.specs.Steps.{KeepsClause, ShowsFirst};
 
 use si_defs::Relation;
 use si_index::{Index, Shown};
-use si_sign::ClauseStore;
+use si_sign::{AddFault, ClauseStore};
 use si_term::{Clause, Pattern};
 use std::alloc::{AllocError, Global};
 
-/// An index that keeps one clause. `None` where the clause is refused, or memory runs out at it.
+/// An index that keeps one clause. `None` exactly where the clause is refused.
 pub fn keep(alloc: Global, limit: u64, clause: Clause) -> Result<Option<Index>, AllocError>
     requires limit { limit ≤ MOST_OCCURRENCES }
     requires sound { IsSoundClause (clause_of clause) }
@@ -20,7 +20,12 @@ pub fn keep(alloc: Global, limit: u64, clause: Clause) -> Result<Option<Index>, 
     let mut index = Index::new(alloc, limit)?;
     match index.add(clause) {
         Ok(_) => Ok(Some(index)),
-        Err(_) => Ok(None),
+        Err(rejected) => {
+            if let AddFault::Memory = rejected.why {
+                return Err(AllocError);
+            }
+            Ok(None)
+        }
     }
 }
 

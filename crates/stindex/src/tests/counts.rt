@@ -224,7 +224,8 @@ fn no_call_is_empty_or_late(rt: HostRuntime) -> Result<(), Fail> {
     Ok(())
 }
 
-/// Files that include others, one that isn't there, and one of more than 40 bytes.
+/// Files that include others, one that isn't there, one of more than 40 bytes, one with three files
+/// open, one with four fetches, and one that includes itself.
 const FILES: &[(&[u8], &[u8])] = &[
     (b"a", b"include('b').\ninclude('c')."),
     (b"b", b"cnf(b,axiom,p)."),
@@ -232,16 +233,22 @@ const FILES: &[(&[u8], &[u8])] = &[
     (b"m", b"include('none').\ninclude('b')."),
     (b"g", b"include('big')."),
     (b"big", b"cnf(long,axiom,p(a) | p(b) | p(c) | p(d))."),
+    (b"d", b"include('a')."),
+    (b"e", b""),
+    (b"f", b"include('e').include('e').include('e')."),
+    (b"o", b"include('o')."),
 ];
 
 /// Words of the call, the fetch and the write that fail, where 0 is none, the input, and how many
-/// files it names on the way to its end or to the fault.
-const FETCHES: [(&[&str], u32, u32, &[u8], u32); 9] = [
+/// files it may ask for on the way to its end or to the fault.
+const FETCHES: [(&[&str], u32, u32, &[u8], u32); 10] = [
     (&[], 0, 0, b"stats\nload\nload ''\nx\n", 0),
     (&["a", "none"], 0, 0, b"load 'b'\n", 5),
     (&[], 0, 0, b"load 'a'\nload 'none'\nload 'big'\n", 5),
     (&[], 0, 0, b"load 'm'\nload 'g'\nload 'b'\nstats\n", 5),
     (&["--strict", "m", "b"], 0, 0, b"load 'b'\n", 2),
+    // A file too many, and one that is open already, isn't asked for.
+    (&[], 0, 0, b"load 'd'\nload 'f'\nload 'o'\n", 6),
     // A fault of the library ends its load, and no other.
     (&["a", "b"], 2, 0, b"load 'c'\n", 4),
     (&["a"], 3, 0, b"load 'm'\n", 5),
@@ -260,6 +267,8 @@ fn load_watched(
 ) -> Result<(), AllocError> {
     let limits = Limits {
         file: 40,
+        fetches: 3,
+        depth: 2,
         ..Limits::standard()
     };
     if !limits.fits() {
@@ -283,7 +292,7 @@ fn load_watched(
 }
 
 #[test]
-fn each_file_that_is_named_is_fetched_once(rt: HostRuntime) -> Result<(), Fail> {
+fn each_file_that_may_be_asked_for_is_fetched_once(rt: HostRuntime) -> Result<(), Fail> {
     for (words, fetch, write, input, due) in FETCHES {
         let calls = Calls::new();
         load_watched(rt.alloc(), words, (fetch, write), input, &calls)?;

@@ -7,6 +7,5 @@ pub mod Walking
 pub mod FirstPlaces
 pub mod ExtraNumbers
 pub mod FlattenLaws
-pub mod OneSymbol
 pub mod ClauseWalks
 pub mod ClauseLaws

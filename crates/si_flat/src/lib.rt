@@ -146,6 +146,3 @@ pub fn sub(cells: &[Cell], at: usize) -> &[Cell]
     let rest = &cells[at..];
     &rest[..rest[0].span()]
 }
-
-#[cfg(test)]
-mod tests;

@@ -4,7 +4,6 @@ pub mod ImageLaws
 pub mod Agreeing
 pub mod CanonicalLaws
 pub mod AnswerLaws
-pub mod TestTerms
 pub mod UnifierLaws
 pub mod Translating
 pub mod Carrying

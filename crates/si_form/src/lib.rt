@@ -20,8 +20,6 @@ mod matching;
 mod order;
 mod relations;
 mod solution;
-#[cfg(test)]
-mod tests;
 mod unifying;
 mod uses;
 mod variables;

@@ -16,6 +16,3 @@ pub use faults::{HarvestFault, HarvestLimits, Loaded};
 pub use loading::expand;
 pub use store::roll_back;
 pub use texts::take_text;
-
-#[cfg(test)]
-mod tests;

@@ -5,8 +5,6 @@ mod fitting;
 mod found;
 mod gather;
 mod index;
-#[cfg(test)]
-mod index_tests;
 mod keyed;
 mod known;
 mod names;

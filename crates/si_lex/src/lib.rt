@@ -7,8 +7,6 @@ mod lexeme;
 mod lexing;
 mod scans;
 mod spellings;
-#[cfg(test)]
-mod tests;
 mod token;
 
 pub use lexeme::Lexeme;

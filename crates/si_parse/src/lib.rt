@@ -7,6 +7,4 @@
 pub mod grammar;
 pub mod item;
 pub mod pattern;
-#[cfg(test)]
-mod tests;
 pub mod text;

@@ -272,6 +272,3 @@ fn put_numbers<K: Sink>(sink: &mut K, mark: &[u8], numbers: &[u32]) -> Result<()
     }
     Ok(())
 }
-
-#[cfg(test)]
-mod tests;

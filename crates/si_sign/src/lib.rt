@@ -9,8 +9,6 @@ mod keys;
 mod plain;
 pub mod signature;
 pub mod store;
-#[cfg(test)]
-mod tests;
 mod texts;
 mod uses;
 mod walk;

@@ -14,6 +14,3 @@ mod variables;
 
 pub use flat::least_map_of;
 pub use literals::least_map;
-
-#[cfg(test)]
-mod tests;

@@ -24,6 +24,3 @@ pub use si_defs::{NameKind, Side, SymKind};
 pub use table::SymTable;
 pub use term::{Sym, Term, Terms};
 pub use text::Text;
-
-#[cfg(test)]
-mod tests;

@@ -15,4 +15,3 @@ pub mod Weights
 pub mod Triangular
 pub mod Answering
 pub mod Solutions
-pub mod TestTerms

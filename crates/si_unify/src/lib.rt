@@ -14,8 +14,6 @@ mod slots;
 mod solver;
 mod spots;
 mod states;
-#[cfg(test)]
-mod tests;
 
 pub use scratch::Scratch;
 pub use slots::Slots;

@@ -1,0 +1,3 @@
+pub mod OneSymbol
+pub mod BuiltTerms
+pub mod WrittenTerms

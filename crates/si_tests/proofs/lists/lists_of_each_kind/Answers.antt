@@ -1,0 +1,54 @@
+use Rattle.std.proofs.Common.{refl}
+use Rattle.si_defs.specs.Terms.{var}
+use Rattle.si_flat.specs.Cells.{query, entry}
+use Rattle.si_flat.specs.declared.Owner.TheVariants.{Query, Entry}
+use Rattle.si_tests.proofs.WrittenTerms.{a, g, f, numbered_by, query_stands, below_stands, above_stands, renamed_stands}
+use Rattle.si_tests.proofs.lists.lists_of_each_kind.Goals as goal
+
+pub list_of-requires-clause-whole_query : goal.list_of-requires-clause-whole_query
+list_of-requires-clause-whole_query _ c = (f (var (query 0)) (g (var (query 1))), query_stands)
+
+pub list_of-requires-clause-whole_entry : goal.list_of-requires-clause-whole_entry
+list_of-requires-clause-whole_entry _ c = (f a (g (var (entry 0))), below_stands)
+
+pub list_of-requires-clause-query : goal.list_of-requires-clause-query
+list_of-requires-clause-query _ c = numbered_by Query _ (f (var (query 0)) (g (var (query 1)))) query_stands (2, refl)
+
+pub list_of-requires-clause-entry : goal.list_of-requires-clause-entry
+list_of-requires-clause-entry _ c = numbered_by Entry _ (f a (g (var (entry 0)))) below_stands (1, refl)
+
+pub list_of-requires-2-clause-whole_query : goal.list_of-requires-2-clause-whole_query
+list_of-requires-2-clause-whole_query _ c = (f (var (query 0)) (g (var (query 1))), query_stands)
+
+pub list_of-requires-2-clause-whole_entry : goal.list_of-requires-2-clause-whole_entry
+list_of-requires-2-clause-whole_entry _ c = (f (var (entry 0)) (var (entry 1)), above_stands)
+
+pub list_of-requires-2-clause-query : goal.list_of-requires-2-clause-query
+list_of-requires-2-clause-query _ c = numbered_by Query _ (f (var (query 0)) (g (var (query 1)))) query_stands (2, refl)
+
+pub list_of-requires-2-clause-entry : goal.list_of-requires-2-clause-entry
+list_of-requires-2-clause-entry _ c = numbered_by Entry _ (f (var (entry 0)) (var (entry 1))) above_stands (2, refl)
+
+pub list_of-requires-3-clause-whole_query : goal.list_of-requires-3-clause-whole_query
+list_of-requires-3-clause-whole_query _ c = (f (var (query 0)) (g (var (query 1))), query_stands)
+
+pub list_of-requires-3-clause-whole_entry : goal.list_of-requires-3-clause-whole_entry
+list_of-requires-3-clause-whole_entry _ c = (f (var (entry 0)) (g (var (entry 1))), renamed_stands)
+
+pub list_of-requires-3-clause-query : goal.list_of-requires-3-clause-query
+list_of-requires-3-clause-query _ c = numbered_by Query _ (f (var (query 0)) (g (var (query 1)))) query_stands (2, refl)
+
+pub list_of-requires-3-clause-entry : goal.list_of-requires-3-clause-entry
+list_of-requires-3-clause-entry _ c = numbered_by Entry _ (f (var (entry 0)) (g (var (entry 1)))) renamed_stands (2, refl)
+
+pub list_of-requires-4-clause-whole_query : goal.list_of-requires-4-clause-whole_query
+list_of-requires-4-clause-whole_query _ c = (f (var (query 0)) (g (var (query 1))), query_stands)
+
+pub list_of-requires-4-clause-whole_entry : goal.list_of-requires-4-clause-whole_entry
+list_of-requires-4-clause-whole_entry _ c = (f a (g (var (entry 0))), below_stands)
+
+pub list_of-requires-4-clause-query : goal.list_of-requires-4-clause-query
+list_of-requires-4-clause-query _ c = numbered_by Query _ (f (var (query 0)) (g (var (query 1)))) query_stands (2, refl)
+
+pub list_of-requires-4-clause-entry : goal.list_of-requires-4-clause-entry
+list_of-requires-4-clause-entry _ c = numbered_by Entry _ (f a (g (var (entry 0)))) below_stands (1, refl)

@@ -1,0 +1,31 @@
+//! Tests of the libraries, one file a library. They stand in a crate of their own, over all of
+//! them: beside a library its own functions would be proved once more with its tests, and here
+//! clauses and patterns are read from texts.
+#![tactic(auto)]
+
+#[cfg(test)]
+mod equations;
+#[cfg(test)]
+mod flats;
+#[cfg(test)]
+mod indexes;
+#[cfg(test)]
+mod items;
+#[cfg(test)]
+mod lists;
+#[cfg(test)]
+mod loads;
+#[cfg(test)]
+mod maps;
+#[cfg(test)]
+mod prints;
+#[cfg(test)]
+mod signatures;
+#[cfg(test)]
+mod stores;
+#[cfg(test)]
+mod terms;
+#[cfg(test)]
+mod texts;
+#[cfg(test)]
+mod tokens;

@@ -1,0 +1,70 @@
+// The least maps of one clause to another.
+use crate::texts::formula_in;
+use si_flat::LitMap;
+use si_subsume::least_map;
+use std::alloc::{AllocError, Global};
+use std::process::Abort;
+use std::test::Fail;
+
+/// The numbers of the least map, and none where there is no map.
+fn answer(alloc: Global, c: &[u8], d: &[u8]) -> Result<LitMap, AllocError> {
+    let c = formula_in(alloc, c)?;
+    let d = formula_in(alloc, d)?;
+    let map = least_map(alloc, &c, &d)?;
+    Ok(map.unwrap_or(LitMap::new(alloc)))
+}
+
+/// Two formulas, and the least map, or nothing.
+type Row = (&'static [u8], &'static [u8], &'static [u32]);
+
+fn assert_rows(rt: &impl Abort, alloc: Global, rows: &[Row]) -> Result<(), AllocError> {
+    for row in rows {
+        let map = answer(alloc, row.0, row.1)?;
+        assert_eq!(rt; map.as_slice(), row.2);
+    }
+    Ok(())
+}
+
+#[test]
+fn maps_are_the_least(rt: HostRuntime) -> Result<(), Fail> {
+    let rows: [Row; 20] = [
+        (b"q(X)|r(X)", b"q(a)|q(b)|r(b)", &[2, 3]),
+        (b"q(X)|r(X)", b"q(a)|r(b)", &[]),
+        (b"p(X)|p(Y)", b"p(a)|p(b)", &[1, 1]),
+        (b"p(a)|p(b)", b"p(X)|p(Y)", &[]),
+        (b"p(X)|p(X)|p(X)", b"p(a)|p(b)", &[1, 1, 1]),
+        (b"p(b)|p(a)|p(b)", b"p(a)|p(b)|p(a)", &[2, 1, 2]),
+        (b"p(a)", b"p(a)|p(a)", &[1]),
+        (b"p(a)|q(b)|~r(X)", b"~r(c)|q(b)|p(a)", &[3, 2, 1]),
+        (b"p(X)|~p(X)", b"p(a)|~p(b)", &[]),
+        (b"p(X)|~p(X)", b"p(a)|p(b)|~p(b)", &[2, 3]),
+        (b"p(X)", b"~p(a)|~p(b)", &[]),
+        (b"q(X)|r(Y)|s(X)", b"q(a)|q(b)|r(c)|r(d)|s(b)", &[2, 3, 5]),
+        (
+            b"q(X)|r(Y)|t(Z)|s(X)|u(Y)",
+            b"q(a)|q(b)|r(c)|r(d)|t(e)|t(f)|s(b)|u(d)",
+            &[2, 4, 5, 7, 8],
+        ),
+        (
+            b"q(X)|r(Y)|t(Z)|s(X)|u(Y)",
+            b"q(a)|q(b)|r(c)|r(d)|t(e)|t(f)|s(b)|u(e)",
+            &[],
+        ),
+        (
+            b"r(Y)|q(X)|s(X)|u(Y)",
+            b"r(c)|r(d)|q(a)|q(b)|s(b)|s(a)|u(c)",
+            &[1, 3, 6, 7],
+        ),
+        (b"p(X)|q(X)", b"p(Y)|q(Z)", &[]),
+        (b"p(Y)|q(Z)", b"p(X)|q(X)", &[1, 2]),
+        (b"p(X)|q(X)", b"q(Y)|p(Y)", &[2, 1]),
+        (b"p(X)", b"p(a)|p(b)|p(c)", &[1]),
+        (
+            b"p(X)|p(Y)|q(X)|q(Y)",
+            b"p(a)|p(b)|p(c)|q(c)",
+            &[3, 3, 4, 4],
+        ),
+    ];
+    assert_rows(&rt, rt.alloc(), &rows)?;
+    Ok(())
+}

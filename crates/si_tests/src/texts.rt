@@ -1,0 +1,73 @@
+// Clauses and patterns of texts. A text that is none is answered like want of memory.
+ghost use Rattle.std.specs.Prelude.{IfOk};
+ghost use Rattle.si_defs.specs.Clauses.{AreSoundLiterals, IsSoundClause, IsSoundPattern};
+ghost use Rattle.si_parse.specs.Meaning.{literals_of};
+ghost use Rattle.si_term.specs.Meaning.{clause_of, pattern_of};
+
+use si_defs::MOST_BYTES;
+use si_parse::item::{Read, next_item};
+use si_parse::pattern::{PatternKind, read_pattern};
+use si_parse::text::{read_formula, read_name};
+use si_term::{Clause, Literals, Name, Pattern};
+use std::alloc::{AllocError, Global};
+
+/// The clause at the front of a text.
+pub fn clause_in(alloc: Global, text: &[u8]) -> Result<Clause, AllocError>
+    ensures { IfOk result (λ c. IsSoundClause (clause_of c)) }
+{
+    if text.len() > MOST_BYTES {
+        return Err(AllocError);
+    }
+    let Read::Cnf(clause, _) = next_item(alloc, text, 0)? else {
+        return Err(AllocError);
+    };
+    Ok(clause)
+}
+
+/// The pattern that a text is.
+pub fn pattern_in(alloc: Global, text: &[u8], kind: PatternKind) -> Result<Pattern, AllocError>
+    ensures { IfOk result (λ p. IsSoundPattern (pattern_of p)) }
+{
+    if text.len() > MOST_BYTES {
+        return Err(AllocError);
+    }
+    let Some(pattern) = read_pattern(alloc, text, kind)? else {
+        return Err(AllocError);
+    };
+    Ok(pattern)
+}
+
+/// The clause `cnf('n',axiom,p(a)).`, with these three letters for `n`, `p` and `a`.
+pub fn clause_of_letters(alloc: Global, letters: &[u8; 3]) -> Result<Clause, AllocError>
+    ensures { IfOk result (λ c. IsSoundClause (clause_of c)) }
+{
+    let mut text = *b"cnf('n',axiom,p(a)).";
+    text[5] = letters[0];
+    text[14] = letters[1];
+    text[16] = letters[2];
+    clause_in(alloc, &text)
+}
+
+/// The name that a text is.
+pub fn name_in(alloc: Global, text: &[u8]) -> Result<Name, AllocError> {
+    if text.len() > MOST_BYTES {
+        return Err(AllocError);
+    }
+    let Some(name) = read_name(alloc, text)? else {
+        return Err(AllocError);
+    };
+    Ok(name)
+}
+
+/// The literals of the formula that a text is.
+pub fn formula_in(alloc: Global, text: &[u8]) -> Result<Literals, AllocError>
+    ensures { IfOk result (λ ls. AreSoundLiterals (literals_of ls)) }
+{
+    if text.len() > MOST_BYTES {
+        return Err(AllocError);
+    }
+    let Some(literals) = read_formula(alloc, text)? else {
+        return Err(AllocError);
+    };
+    Ok(literals)
+}

@@ -1,0 +1,198 @@
+// The lexer at texts that were read by hand.
+use si_defs::TokenKind;
+use si_lex::{Lexed, Lexeme, Stop, Token, lex, lex_item, next_token};
+use std::alloc::{AllocError, Global};
+use std::process::Abort;
+use std::test::Fail;
+
+/// Some bytes, and their first token: its kind, places and text.
+type Row = (&'static [u8], TokenKind, usize, usize, &'static [u8]);
+
+/// What stands behind the blanks: a token, or the place where there is none.
+fn seen(lexed: &Lexed) -> (Option<&Token>, Option<usize>) {
+    match lexed {
+        Lexed::Token(token) => (Some(token), None),
+        Lexed::Bad(place) => (None, Some(*place)),
+        Lexed::End => (None, None),
+    }
+}
+
+/// The token behind the blanks from a place on.
+fn assert_token(rt: &impl Abort, alloc: Global, at: usize, row: &Row) -> Result<(), AllocError> {
+    if at > row.0.len() {
+        return Err(AllocError);
+    }
+    let lexed = next_token(alloc, row.0, at)?;
+    let token = seen(&lexed).0.expect(rt, "a token");
+    let found = (token.kind, token.start, token.end, token.text.as_bytes());
+    assert_eq!(rt; found, (row.1, row.2, row.3, row.4));
+    Ok(())
+}
+
+/// The place where no token stands, and none at the end.
+fn assert_none(
+    rt: &impl Abort,
+    alloc: Global,
+    text: &[u8],
+    place: Option<usize>,
+) -> Result<(), AllocError> {
+    let lexed = next_token(alloc, text, 0)?;
+    let (token, bad) = seen(&lexed);
+    assert!(rt; token.is_none());
+    assert_eq!(rt; bad, place);
+    Ok(())
+}
+
+#[test]
+fn tokens_at_their_edges(rt: HostRuntime) -> Result<(), Fail> {
+    let rows: [Row; 26] = [
+        (b"01", TokenKind::Int, 0, 1, b"0"),
+        (b"1.5", TokenKind::Int, 0, 1, b"1"),
+        (b"-", TokenKind::Mark, 0, 1, b"-"),
+        (b"-0", TokenKind::Int, 0, 2, b"-0"),
+        (b"-01", TokenKind::Int, 0, 2, b"-0"),
+        (b"+", TokenKind::Mark, 0, 1, b"+"),
+        (b"+120a", TokenKind::Int, 0, 4, b"+120"),
+        (b"!", TokenKind::Mark, 0, 1, b"!"),
+        (b"! =", TokenKind::Mark, 0, 1, b"!"),
+        (b"!=", TokenKind::NotEqual, 0, 2, b"!="),
+        (b"/", TokenKind::Mark, 0, 1, b"/"),
+        (b"//", TokenKind::Mark, 0, 1, b"/"),
+        (b"/**/a", TokenKind::Lower, 4, 5, b"a"),
+        (b"/*/*/a", TokenKind::Lower, 5, 6, b"a"),
+        (b"% c\na", TokenKind::Lower, 4, 5, b"a"),
+        (b"\t\n\x0c\r a_1Z'", TokenKind::Lower, 5, 9, b"a_1Z"),
+        (b"$a", TokenKind::Dollar, 0, 2, b"$a"),
+        (b"$$a", TokenKind::Dollar, 0, 3, b"$$a"),
+        (b"' ~'", TokenKind::Single, 0, 4, b" ~"),
+        (b"'\"'", TokenKind::Single, 0, 3, b"\""),
+        (b"'a\\'\\\\b'", TokenKind::Single, 0, 8, b"a'\\b"),
+        (b"\"\"", TokenKind::Double, 0, 2, b""),
+        (b"\"\\\"'\"", TokenKind::Double, 0, 5, b"\"'"),
+        (b"~", TokenKind::Mark, 0, 1, b"~"),
+        (b"|", TokenKind::Mark, 0, 1, b"|"),
+        (b"{", TokenKind::Mark, 0, 1, b"{"),
+    ];
+    for row in &rows {
+        assert_token(&rt, rt.alloc(), 0, row)?;
+    }
+    assert_token(&rt, rt.alloc(), 2, &(b" 01", TokenKind::Int, 2, 3, b"1"))?;
+    Ok(())
+}
+
+#[test]
+fn no_tokens(rt: HostRuntime) -> Result<(), Fail> {
+    let bad: [(&[u8], usize); 28] = [
+        (b"''", 0),
+        (b"'\\n'", 0),
+        (b"'\\\"'", 0),
+        (b"'a", 0),
+        (b"\"a'", 0),
+        (b"'\x1f'", 0),
+        (b"'\x7f'", 0),
+        (b"'\x80'", 0),
+        (b"'\xff'", 0),
+        (b"\"\x1f\"", 0),
+        (b"\"\x7f\"", 0),
+        (b"\"\x80\"", 0),
+        (b"\"\xff\"", 0),
+        (b"\x1f", 0),
+        (b"\x7f", 0),
+        (b"\x80", 0),
+        (b"\xff", 0),
+        (b"\x0b", 0),
+        (b"_a", 0),
+        (b"$", 0),
+        (b"$$", 0),
+        (b"$A", 0),
+        (b"$$$a", 0),
+        (b"/*/", 0),
+        (b" /**/ /* c", 6),
+        (b"% c\n\x0b", 4),
+        (b"\xef\xbb\xbfp", 0),
+        (b"\\", 0),
+    ];
+    for (text, place) in bad {
+        assert_none(&rt, rt.alloc(), text, Some(place))?;
+    }
+    let blank: [&[u8]; 6] = [b"", b" ", b"/**/", b"%", b"% c", b"%\n /* % */"];
+    for text in blank {
+        assert_none(&rt, rt.alloc(), text, None)?;
+    }
+    Ok(())
+}
+
+/// How many tokens the list of a whole text has, and where it stops.
+fn assert_list(
+    rt: &impl Abort,
+    alloc: Global,
+    text: &[u8],
+    due: (usize, Stop),
+) -> Result<(), AllocError> {
+    let lexing = lex(alloc, text, 0)?;
+    assert_eq!(rt; (lexing.tokens.len(), lexing.stop), due);
+    Ok(())
+}
+
+/// How many tokens an item has, where they begin and end, and where its list stops.
+fn assert_item(
+    rt: &impl Abort,
+    alloc: Global,
+    text: &[u8],
+    due: (usize, usize, usize, Stop),
+) -> Result<(), AllocError> {
+    let item = lex_item(alloc, text, 0)?;
+    let seen = (item.tokens.len(), item.start, item.end, item.stop);
+    assert_eq!(rt; seen, due);
+    Ok(())
+}
+
+fn assert_word(rt: &impl Abort, alloc: Global, word: &Lexeme) -> Result<(), AllocError> {
+    assert_eq!(rt; word.text(alloc)?.as_bytes(), b"cnf".as_slice());
+    assert!(rt; word.is_lower(b"cnf"));
+    assert!(rt; !word.is_mark(b'c'));
+    Ok(())
+}
+
+#[test]
+fn lists_of_tokens(rt: HostRuntime) -> Result<(), Fail> {
+    let text = b" cnf(a.b). q";
+    assert_item(&rt, rt.alloc(), text, (7, 1, 10, Stop::FullStop))?;
+    assert_list(&rt, rt.alloc(), text, (8, Stop::End))?;
+    let word = Lexeme {
+        kind: TokenKind::Lower,
+        spelling: b"cnf",
+    };
+    assert_word(&rt, rt.alloc(), &word)?;
+    Ok(())
+}
+
+/// The tokens of `X!=-3.`
+const SIDE_BY_SIDE: [(TokenKind, &[u8]); 4] = [
+    (TokenKind::Upper, b"X"),
+    (TokenKind::NotEqual, b"!="),
+    (TokenKind::Int, b"-3"),
+    (TokenKind::Mark, b"."),
+];
+
+fn assert_lexemes(rt: &impl Abort, lexemes: &[Lexeme]) {
+    assert_eq!(rt; lexemes.len(), SIDE_BY_SIDE.len());
+    for (lexeme, (kind, spelling)) in lexemes.iter().zip(SIDE_BY_SIDE) {
+        assert_eq!(rt; (lexeme.kind, lexeme.spelling), (kind, spelling));
+    }
+}
+
+#[test]
+fn tokens_side_by_side(rt: HostRuntime) -> Result<(), Fail> {
+    let lexing = lex(rt.alloc(), b"X!=-3.", 0)?;
+    assert_lexemes(&rt, lexing.tokens.as_slice());
+    Ok(())
+}
+
+#[test]
+fn nesting(rt: HostRuntime) -> Result<(), Fail> {
+    assert_list(&rt, rt.alloc(), &[b'['; 512], (512, Stop::End))?;
+    let deeper = lex_item(rt.alloc(), &[b'('; 513], 0)?;
+    assert_eq!(rt; (deeper.tokens.len(), deeper.stop), (512, Stop::Bad));
+    Ok(())
+}

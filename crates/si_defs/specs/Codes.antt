@@ -50,13 +50,18 @@ module _ {S V : Type 0} (symbols : Coded S) (variables : Coded V) where
   mutual
     pub term_tree_injective : (t u : Term S V) → term_tree t ≡ term_tree u → t ≡ u
     term_tree_injective (var x) (var y) p = ap var (variables.inj x y (ap right p))
-    term_tree_injective (app s ts) (app r us) p = λ i. app (symbols.inj s r (ap (λ g. left (right g)) p) i) (terms_tree_injective ts us (ap (λ g. right (right g)) p) i)
-    term_tree_injective (var x) (app r us) p = absurd (suc-ne-zero 0 (sym (ap (λ g. number (left g)) p)))
+    term_tree_injective (app s ts) (app r us) p =
+        λ i. app (symbols.inj s r (ap (λ g. left (right g)) p) i)
+        (terms_tree_injective ts us (ap (λ g. right (right g)) p) i)
+    term_tree_injective (var x) (app r us) p =
+        absurd (suc-ne-zero 0 (sym (ap (λ g. number (left g)) p)))
     term_tree_injective (app s ts) (var y) p = absurd (suc-ne-zero 0 (ap (λ g. number (left g)) p))
 
     pub terms_tree_injective : (ts us : Terms S V) → terms_tree ts ≡ terms_tree us → ts ≡ us
     terms_tree_injective none none p = refl
-    terms_tree_injective (more t ts) (more u us) p = λ i. more (term_tree_injective t u (ap left p) i) (terms_tree_injective ts us (ap right p) i)
+    terms_tree_injective (more t ts) (more u us) p =
+        λ i. more (term_tree_injective t u (ap left p) i)
+        (terms_tree_injective ts us (ap right p) i)
     terms_tree_injective none (more u us) p = absurd (suc-ne-zero 0 (sym (ap is_pair p)))
     terms_tree_injective (more t ts) none p = absurd (suc-ne-zero 0 (ap is_pair p))
 
@@ -65,20 +70,28 @@ module _ {S V : Type 0} (symbols : Coded S) (variables : Coded V) where
 
 abbrev pub symbol_code : Coded Symbol
 symbol_code =
-    code_by (SymKind × (Bytes × (Side × ℕ))) (coded× kind_contracts.the_row.coded (coded× (coded_list coded_ℕ) (coded× side_contracts.the_row.coded coded_ℕ)))
+    code_by (SymKind × (Bytes × (Side × ℕ)))
+    (coded× kind_contracts.the_row.coded
+    (coded× (coded_list coded_ℕ) (coded× side_contracts.the_row.coded coded_ℕ)))
     (λ s. (s.kind, (s.text, (s.side, s.arity))))
     (λ p. record { kind = p.0; text = p.1.0; side = p.1.1.0; arity = p.1.1.1 })
     (λ _. refl)
 
 abbrev pub name_code : Coded Name
-name_code = code_by (NameKind × Bytes) (coded× name_contracts.the_row.coded (coded_list coded_ℕ)) (λ n. (n.kind, n.text)) (λ p. record { kind = p.0; text = p.1 }) (λ _. refl)
+name_code =
+    code_by (NameKind × Bytes) (coded× name_contracts.the_row.coded (coded_list coded_ℕ))
+    (λ n. (n.kind, n.text)) (λ p. record { kind = p.0; text = p.1 }) (λ _. refl)
 
 abbrev pub literal_code : Coded Literal
-literal_code = code_by (Bool × Term Symbol Bytes) (coded× coded_bool (coded_term symbol_code (coded_list coded_ℕ))) (λ l. (l.positive, l.atom)) (λ p. record { positive = p.0; atom = p.1 }) (λ _. refl)
+literal_code =
+    code_by (Bool × Term Symbol Bytes)
+    (coded× coded_bool (coded_term symbol_code (coded_list coded_ℕ)))
+    (λ l. (l.positive, l.atom)) (λ p. record { positive = p.0; atom = p.1 }) (λ _. refl)
 
 abbrev pub clause_code : Coded Clause
 clause_code =
-    code_by (Name × (Bytes × List Literal)) (coded× name_code (coded× (coded_list coded_ℕ) (coded_list literal_code)))
+    code_by (Name × (Bytes × List Literal))
+    (coded× name_code (coded× (coded_list coded_ℕ) (coded_list literal_code)))
     (λ c. (c.name, (c.role, c.literals)))
     (λ p. record { name = p.0; role = p.1.0; literals = p.1.1 })
     (λ _. refl)

@@ -1,6 +1,6 @@
 -- What a query looks through: the literals and subterms of clauses (MathWebSearch's queries over
 -- all subterms).
-use Rattle.std.specs.Prelude.{ℕ, ◌+◌, List, [], ◌∷◌, ◌++◌, map, Option}
+use Rattle.std.specs.Prelude.{ℕ, ◌+◌, List, [], ◌∷◌, ◌++◌, map, flat_map, bytes_eq, Option}
 use Rattle.si_defs.specs.Bytes.{Bytes}
 use Rattle.si_defs.specs.Terms as terms
 use Rattle.si_defs.specs.Symbols.{Symbol}
@@ -14,6 +14,10 @@ pub data Entry : Type 0 where
 abbrev pub entry_variables : Entry → List Bytes
 entry_variables (literal_entry l) = terms.variables l.atom
 entry_variables (term_entry t) = terms.variables t
+
+-- the variables of an entry, each once, in the order of their first occurrence
+abbrev pub distinct_variables : Entry → List Bytes
+distinct_variables e = terms.firsts bytes_eq (entry_variables e)
 
 -- the symbol at the head of an entry: of a literal's atom, or of a term
 abbrev pub entry_head : Entry → Option Symbol
@@ -41,7 +45,8 @@ proper_occurrences (terms.var x) = []
 proper_occurrences (terms.app s ts) = terms.occurrences_from 1 ts
 
 abbrev pub placed_term : ℕ → List ℕ × Term → Placed
-placed_term number (path, t) = record { entry = term_entry t; place = record { literal = number; path = path } }
+placed_term number (path, t) =
+    record { entry = term_entry t; place = record { literal = number; path = path } }
 
 -- those of the literal with this number: the literal itself, and then its atom's proper subterms in
 -- preorder
@@ -57,6 +62,10 @@ entries_from number (l ∷ ls) = literal_entries number l ++ entries_from (1 + n
 -- the entries of a clause, in order
 abbrev pub entries : Clause → List Placed
 entries c = entries_from 1 c.literals
+
+-- the occurrences of variables in these literals
+abbrev pub literals_variables : List Literal → List Bytes
+literals_variables ls = flat_map (λ l. terms.variables l.atom) ls
 
 -- The occurrences of symbols in a clause, in the order of its entries: each is the head of one of
 -- them.

@@ -26,7 +26,8 @@ exactly bytes before text after = (text ≡ bytes) × (after ≡ before)
 infixl 20 ◌before◌
 unfoldable pub ◌before◌ : Rule → Rule → Rule
 (P before Q) first text last =
-    (left : Bytes) × (between : ℕ) × (right : Bytes) × P first left between × Q between right last × (text ≡ left ++ right)
+    (left : Bytes) × (between : ℕ) × (right : Bytes) × P first left between × Q between right last
+    × (text ≡ left ++ right)
 
 -- the rule with this number, from 0
 abbrev pub rule_at : List Rule → ℕ → Rule
@@ -36,7 +37,8 @@ rule_at (P ∷ Ps) (suc number) first text last = rule_at Ps number first text l
 
 -- one of these rules, by a draw below their number
 unfoldable pub one_of : List Rule → Rule
-one_of rules first text last = rule_at rules (drawn (length rules) (next first)) (next first) text last
+one_of rules first text last =
+    rule_at rules (drawn (length rules) (next first)) (next first) text last
 
 -- ---- the grammar
 -- the variables and the constants
@@ -50,7 +52,8 @@ term (suc depth) =
     one_of
     (leaves
     ++ (exactly (codes "g(") before term depth before exactly (codes ")"))
-    ∷ (exactly (codes "f(") before term depth before exactly (codes ",") before term depth before exactly (codes ")"))
+    ∷ (exactly (codes "f(") before term depth before exactly (codes ",") before term depth
+    before exactly (codes ")"))
     ∷ [])
 
 abbrev pub sign : Rule
@@ -59,7 +62,8 @@ sign = one_of (exactly [] ∷ exactly (codes "~") ∷ [])
 abbrev pub atom : Rule
 atom =
     one_of
-    ((exactly (codes "p(") before term 2 before exactly (codes ",") before term 2 before exactly (codes ")"))
+    ((exactly (codes "p(") before term 2 before exactly (codes ",") before term 2
+    before exactly (codes ")"))
     ∷ (exactly (codes "q(") before term 2 before exactly (codes ")"))
     ∷ [])
 
@@ -72,7 +76,9 @@ literals = one_of (literal ∷ (literal before exactly (codes "|") before litera
 
 -- the line of the clause with this number
 unfoldable pub clause : ℕ → Rule
-clause number = exactly (codes "cnf(s" ++ decimal number ++ codes ",axiom,") before literals before exactly (codes ").\n")
+clause number =
+    exactly (codes "cnf(s" ++ decimal number ++ codes ",axiom,") before literals
+    before exactly (codes ").\n")
 
 -- the lines of the clauses with the numbers from 1 to this one
 unfoldable pub clauses : ℕ → Rule

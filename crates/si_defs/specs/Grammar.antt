@@ -60,16 +60,19 @@ abbrev mutual
   pub IsTerm : Term → List Token → Type 0
   IsTerm (terms.var x) ts = ts ≡ upper x ∷ []
   IsTerm (terms.app s terms.none) ts =
-      (s.side ≡ Function) × (s.arity ≡ 0) × ((t : Token) × IsConstant s.kind s.text t × (ts ≡ t ∷ []))
+      (s.side ≡ Function) × (s.arity ≡ 0)
+      × ((t : Token) × IsConstant s.kind s.text t × (ts ≡ t ∷ []))
   IsTerm (terms.app s (terms.more u us)) ts =
       (s.side ≡ Function) × (s.arity ≡ 1 + terms.count us)
-      × ((t : Token) × (first : List Token) × (others : List Token) × IsHead s.kind s.text t × IsTerm u first × AreMoreTerms us others
+      × ((t : Token) × (first : List Token) × (others : List Token) × IsHead s.kind s.text t
+      × IsTerm u first × AreMoreTerms us others
       × (ts ≡ t ∷ left_bracket ∷ first ++ others ++ right_bracket ∷ []))
 
   -- each behind a comma
   pub AreMoreTerms : Terms → List Token → Type 0
   AreMoreTerms terms.none ts = ts ≡ []
-  AreMoreTerms (terms.more u us) ts = (first : List Token) × (others : List Token) × IsTerm u first × AreMoreTerms us others × (ts ≡ comma ∷ first ++ others)
+  AreMoreTerms (terms.more u us) ts = (first : List Token) × (others : List Token) × IsTerm u first
+      × AreMoreTerms us others × (ts ≡ comma ∷ first ++ others)
 
 -- ---- literals and formulas
 abbrev pub equality : Symbol
@@ -79,7 +82,8 @@ equality = record { kind = Equal; text = codes "="; side = Predicate; arity = 2 
 abbrev pub AreSides : Token → Symbol → Term → Terms → List Token → Type 0
 AreSides sign s l terms.none ts = ⊥
 AreSides sign s l (terms.more r terms.none) ts =
-    (s ≡ equality) × ((left : List Token) × (right : List Token) × IsTerm l left × IsTerm r right × (ts ≡ left ++ sign ∷ right))
+    (s ≡ equality) × ((left : List Token) × (right : List Token) × IsTerm l left × IsTerm r right
+    × (ts ≡ left ++ sign ∷ right))
 AreSides sign s l (terms.more r (terms.more u us)) ts = ⊥
 
 -- a word with its arguments, or two terms with `=` between them
@@ -89,7 +93,8 @@ IsAtom (terms.app s terms.none) ts =
     (s.side ≡ Predicate) × (s.arity ≡ 0) × ((t : Token) × IsHead s.kind s.text t × (ts ≡ t ∷ []))
 IsAtom (terms.app s (terms.more u us)) ts =
     ((s.side ≡ Predicate) × (s.arity ≡ 1 + terms.count us)
-    × ((t : Token) × (first : List Token) × (others : List Token) × IsHead s.kind s.text t × IsTerm u first × AreMoreTerms us others
+    × ((t : Token) × (first : List Token) × (others : List Token) × IsHead s.kind s.text t
+    × IsTerm u first × AreMoreTerms us others
     × (ts ≡ t ∷ left_bracket ∷ first ++ others ++ right_bracket ∷ [])))
     ⊎ AreSides (mark 61) s u us ts
 
@@ -103,7 +108,8 @@ abbrev pub IsSignedAtom : Bool → Term → List Token → Type 0
 IsSignedAtom true atom ts = IsAtom atom ts
 IsSignedAtom false atom ts =
     ((us : List Token) × IsAtom atom us × (ts ≡ mark 126 ∷ us))
-    ⊎ (((us : List Token) × IsAtom atom us × (ts ≡ mark 126 ∷ left_bracket ∷ us ++ right_bracket ∷ []))
+    ⊎ (((us : List Token) × IsAtom atom us
+    × (ts ≡ mark 126 ∷ left_bracket ∷ us ++ right_bracket ∷ []))
     ⊎ IsInequation atom ts)
 
 abbrev pub IsLiteral : Literal → List Token → Type 0
@@ -112,15 +118,18 @@ IsLiteral l ts = IsSignedAtom l.positive l.atom ts
 -- each behind a bar
 abbrev pub AreMoreLiterals : List Literal → List Token → Type 0
 AreMoreLiterals [] ts = ts ≡ []
-AreMoreLiterals (l ∷ ls) ts = (first : List Token) × (others : List Token) × IsLiteral l first × AreMoreLiterals ls others × (ts ≡ mark 124 ∷ first ++ others)
+AreMoreLiterals (l ∷ ls) ts = (first : List Token) × (others : List Token) × IsLiteral l first
+    × AreMoreLiterals ls others × (ts ≡ mark 124 ∷ first ++ others)
 
 abbrev pub IsDisjunction : List Literal → List Token → Type 0
 IsDisjunction [] ts = ⊥
-IsDisjunction (l ∷ ls) ts = (first : List Token) × (others : List Token) × IsLiteral l first × AreMoreLiterals ls others × (ts ≡ first ++ others)
+IsDisjunction (l ∷ ls) ts = (first : List Token) × (others : List Token) × IsLiteral l first
+    × AreMoreLiterals ls others × (ts ≡ first ++ others)
 
 -- a disjunction in any number of round brackets
 abbrev pub IsFormula : List Literal → List Token → Type 0
-IsFormula ls ts = (n : ℕ) × (inner : List Token) × IsDisjunction ls inner × (ts ≡ replicate n left_bracket ++ inner ++ replicate n right_bracket)
+IsFormula ls ts = (n : ℕ) × (inner : List Token) × IsDisjunction ls inner
+    × (ts ≡ replicate n left_bracket ++ inner ++ replicate n right_bracket)
 
 -- ---- brackets
 pub data Bracket : Type 0 where
@@ -192,22 +201,27 @@ IsExtra (t ∷ ts) = (t ≡ comma) × (ts ≢ []) × IsTrue (balances ts [])
 
 abbrev pub IsClause : Clause → List Token → Type 0
 IsClause c ts =
-    (name : Token) × (formula : List Token) × (extra : List Token) × IsName c.name name × IsFormula c.literals formula × IsExtra extra
-    × (ts ≡ lower (codes "cnf") ∷ left_bracket ∷ name ∷ comma ∷ lower c.role ∷ comma ∷ formula ++ extra ++ right_bracket ∷ full_stop ∷ [])
+    (name : Token) × (formula : List Token) × (extra : List Token) × IsName c.name name
+    × IsFormula c.literals formula × IsExtra extra
+    × (ts ≡ lower (codes "cnf") ∷ left_bracket ∷ name ∷ comma ∷ lower c.role ∷ comma ∷ formula
+    ++ extra ++ right_bracket ∷ full_stop ∷ [])
 
 -- each behind a comma
 abbrev pub AreMoreNames : List Name → List Token → Type 0
 AreMoreNames [] ts = ts ≡ []
-AreMoreNames (n ∷ ns) ts = (t : Token) × (others : List Token) × IsName n t × AreMoreNames ns others × (ts ≡ comma ∷ t ∷ others)
+AreMoreNames (n ∷ ns) ts = (t : Token) × (others : List Token) × IsName n t × AreMoreNames ns others
+    × (ts ≡ comma ∷ t ∷ others)
 
 abbrev pub IsSelection : Selection → List Token → Type 0
 IsSelection all ts = ts ≡ []
 IsSelection (only []) ts = ⊥
 IsSelection (only (n ∷ ns)) ts =
-    (t : Token) × (others : List Token) × IsName n t × AreMoreNames ns others × (ts ≡ comma ∷ mark 91 ∷ t ∷ others ++ mark 93 ∷ [])
+    (t : Token) × (others : List Token) × IsName n t × AreMoreNames ns others
+    × (ts ≡ comma ∷ mark 91 ∷ t ∷ others ++ mark 93 ∷ [])
 
 abbrev pub IsItem : Item → List Token → Type 0
 IsItem (clause_item c) ts = IsClause c ts
 IsItem (include_item file selection) ts =
     (names : List Token) × IsSelection selection names
-    × (ts ≡ lower (codes "include") ∷ left_bracket ∷ record { kind = token.Single; text = file } ∷ names ++ right_bracket ∷ full_stop ∷ [])
+    × (ts ≡ lower (codes "include") ∷ left_bracket ∷ record { kind = token.Single; text = file }
+    ∷ names ++ right_bracket ∷ full_stop ∷ [])

@@ -47,7 +47,8 @@ abbrev mutual
   pub term_text : {V : Type 0} → (V → Bytes) → terms.Term Symbol V → Bytes
   term_text f (terms.var x) = f x
   term_text f (terms.app s terms.none) = symbol_text s
-  term_text f (terms.app s (terms.more t ts)) = symbol_text s ++ codes "(" ++ term_text f t ++ more_texts f ts ++ codes ")"
+  term_text f (terms.app s (terms.more t ts)) =
+      symbol_text s ++ codes "(" ++ term_text f t ++ more_texts f ts ++ codes ")"
 
   -- each behind a comma
   pub more_texts : {V : Type 0} → (V → Bytes) → terms.Terms Symbol V → Bytes

@@ -34,7 +34,8 @@ module _ {S V : Type 0} (same : V → V → Bool) where
 
   -- every unifier makes each left side equal to its right side
   abbrev pub IsMostGeneral : Term S V → Term S V → List (V × Term S V) → Type 0
-  IsMostGeneral q e bs = (s : Substitution S V) → Unifies same q e s → AllByRecursion (λ b. apply same s (var b.0) ≡ apply same s b.1) bs
+  IsMostGeneral q e bs = (s : Substitution S V) → Unifies same q e s
+      → AllByRecursion (λ b. apply same s (var b.0) ≡ apply same s b.1) bs
 
   -- the list binds each of these variables, in the order of their first occurrence
   abbrev pub BindsEach : List V → List (V × Term S V) → Type 0
@@ -52,7 +53,9 @@ module _ {S V : Type 0} (same : V → V → Bool) where
 
     -- x stands in the order, and none of these that stands before it does
     abbrev pub IsFirstOf : (V → Type 0) → V → Type 0
-    IsFirstOf P x = P x × ((before : List V) × (after : List V) × (order ≡ before ++ x ∷ after) × AllByRecursion (λ y. P y → ⊥) before)
+    IsFirstOf P x =
+        P x × ((before : List V) × (after : List V) × (order ≡ before ++ x ∷ after)
+        × AllByRecursion (λ y. P y → ⊥) before)
 
     -- w is the first of the variables that are joined with x
     abbrev pub IsLeader : V → V → Type 0
@@ -62,7 +65,8 @@ module _ {S V : Type 0} (same : V → V → Bool) where
     abbrev mutual
       pub IsFolded : Term S V → Type 0
       IsFolded (var x) = Unit {0}
-      IsFolded (app s ts) = AllByRecursion (λ y. AreJoined (app s ts) (var y) → ⊥) order × AreFolded ts
+      IsFolded (app s ts) =
+          AllByRecursion (λ y. AreJoined (app s ts) (var y) → ⊥) order × AreFolded ts
 
       pub AreFolded : Terms S V → Type 0
       AreFolded none = Unit {0}
@@ -78,16 +82,19 @@ module _ {S V : Type 0} (same : V → V → Bool) where
     abbrev pub IsOrdered : List (V × Term S V) → Type 0
     IsOrdered [] = Unit {0}
     IsOrdered (b ∷ bs) =
-        IsFirstOf (λ x. IsAmong (lefts (b ∷ bs)) x × AllByRecursion (λ t. IsAmong (variables t) x → ⊥) (rights (b ∷ bs))) b.0
+        IsFirstOf (λ x. IsAmong (lefts (b ∷ bs)) x
+        × AllByRecursion (λ t. IsAmong (variables t) x → ⊥) (rights (b ∷ bs))) b.0
         × IsOrdered bs
 
     pub record IsCanonicalUnifier (bs : List (V × Term S V)) : Type 0 where
       pub triangular : IsTriangular bs
       pub achieves : Achieves Unifiable q e bs
       pub most_general : IsMostGeneral q e bs
-      pub known : AllByRecursion (λ b. IsAmong order b.0 × AllByRecursion (IsAmong order) (variables b.1)) bs
+      pub known : AllByRecursion
+          (λ b. IsAmong order b.0 × AllByRecursion (IsAmong order) (variables b.1)) bs
       pub leaders : AllByRecursion (λ b. AllByRecursion (λ x. IsLeader x x) (variables b.1)) bs
-      pub followers : (x w : V) → IsAmong order x → IsLeader x w → (w ≡ x → ⊥) → IsAmong bs (x, var w)
+      pub followers : (x w : V) → IsAmong order x → IsLeader x w → (w ≡ x → ⊥)
+          → IsAmong bs (x, var w)
       pub folded : AllByRecursion (λ b. IsFoldedInside b.1) bs
       pub ordered : IsOrdered bs
 

@@ -1,5 +1,5 @@
 -- Substitutions: finite maps from variables to terms (Robinson 1965).
-use Rattle.std.specs.Prelude.{◌≡◌, Bool, cond, ◌⊎◌, List, [], ◌∷◌}
+use Rattle.std.specs.Prelude.{◌≡◌, Bool, cond, ◌⊎◌, List, [], ◌∷◌, ◌++◌}
 use Rattle.std.specs.List.{AllByRecursion}
 use Rattle.si_defs.specs.Terms.{Term, var, substitute}
 
@@ -12,6 +12,10 @@ IsAmong (y ∷ ys) x = (y ≡ x) ⊎ IsAmong ys x
 abbrev pub AreDistinct : {V : Type 0} → List V → Type 0
 AreDistinct [] = Unit {0}
 AreDistinct (x ∷ xs) = (IsAmong xs x → ⊥) × AreDistinct xs
+
+-- the list is the old one with others behind it
+abbrev pub Grows : {V : Type 0} → List V → List V → Type 0
+Grows {V} old new = (more : List V) × (new ≡ old ++ more)
 
 -- A finite map is a list of pairs; the first pair of a variable counts. A list of bindings has the
 -- same form.

@@ -28,7 +28,9 @@ same_side Function Function = true
 same_side _ _ = false
 
 abbrev pub same_symbol : Symbol → Symbol → Bool
-same_symbol s r = same_kind s.kind r.kind && same_side s.side r.side && s.arity == r.arity && bytes_eq s.text r.text
+same_symbol s r =
+    same_kind s.kind r.kind && same_side s.side r.side && s.arity == r.arity
+    && bytes_eq s.text r.text
 
 -- how often the symbol occurs among these
 abbrev pub times : Symbol → List Symbol → ℕ

@@ -1,4 +1,4 @@
--- What bytes mean: items at the front of a text, patterns, formulas, names and file words as whole
+-- What bytes mean: items at the front of a text, patterns, formulas, names and file names as whole
 -- texts, and the two faults (TPTP's files, with this project's bound on nesting).
 use Rattle.std.specs.Prelude.{◌≡◌, ℕ, ◌+◌, ◌≤◌, List, [], ◌∷◌, length, count_by, ◌==◌, codes}
 use Rattle.si_defs.specs.Bytes.{Bytes}
@@ -51,7 +51,8 @@ languages = codes "fof" ∷ codes "tff" ∷ codes "thf" ∷ codes "tcf" ∷ code
 
 -- the next two tokens are a word of another language and a bracket
 abbrev pub IsForeign : Bytes → Type 0
-IsForeign bytes = (word : Bytes) × (rest : Bytes) × IsAmong languages word × Begins bytes (lower word ∷ left_bracket ∷ []) rest
+IsForeign bytes = (word : Bytes) × (rest : Bytes) × IsAmong languages word
+    × Begins bytes (lower word ∷ left_bracket ∷ []) rest
 
 -- neither the end of the text nor an item
 pub record IsFaulty (bytes : Bytes) : Type 0 where

@@ -42,12 +42,14 @@ IsLineComment text = (body : Bytes) × (text ≡ 37 ∷ body) × IsFalse (list_a
 
 -- `/*` up to the next `*/`
 abbrev pub IsBlockComment : Bytes → Type 0
-IsBlockComment text = (body : Bytes) × (text ≡ codes "/*" ++ body ++ codes "*/") × IsFalse (has_close (body ++ 42 ∷ []))
+IsBlockComment text = (body : Bytes) × (text ≡ codes "/*" ++ body ++ codes "*/")
+    × IsFalse (has_close (body ++ 42 ∷ []))
 
 -- one byte of white space, or one comment; a line comment has its line feed with it
 pub data IsBlank (text : Bytes) : Type 0 where
   white : (c : ℕ) → text ≡ c ∷ [] → IsTrue (is_white c) → IsBlank text
-  line_comment : (comment : Bytes) → text ≡ comment ++ 10 ∷ [] → IsLineComment comment → IsBlank text
+  line_comment : (comment : Bytes) → text ≡ comment ++ 10 ∷ [] → IsLineComment comment
+      → IsBlank text
   block_comment : IsBlockComment text → IsBlank text
 
 -- texts one after the other
@@ -84,7 +86,8 @@ Spells Lower text bytes = (bytes ≡ text) × IsTrue (is_lower_word text)
 Spells Upper text bytes = (bytes ≡ text) × IsTrue (is_upper_word text)
 Spells Dollar text bytes = (bytes ≡ text) × IsTrue (is_dollar_word text)
 Spells Int text bytes = (bytes ≡ text) × IsTrue (is_integer text)
-Spells Single text bytes = (bytes ≡ quoted 39 text) × IsTrue (list_all is_printable text) × (text ≡ [] → ⊥)
+Spells Single text bytes = (bytes ≡ quoted 39 text) × IsTrue (list_all is_printable text)
+    × (text ≡ [] → ⊥)
 Spells Double text bytes = (bytes ≡ quoted 34 text) × IsTrue (list_all is_printable text)
 Spells NotEqual text bytes = (bytes ≡ text) × (text ≡ codes "!=")
 Spells Mark text bytes = (bytes ≡ text) × ((c : ℕ) × (text ≡ c ∷ []) × IsTrue (is_mark c))
@@ -95,7 +98,8 @@ pub record TokenAt (bytes : Bytes) (token : Token) (rest : Bytes) : Type 0 where
   pub spelling : Bytes
   pub spelled : Spells token.kind token.text spelling
   pub front : bytes ≡ spelling ++ rest
-  pub longest : (kind : TokenKind) (text other behind : Bytes) → Spells kind text other → bytes ≡ other ++ behind → length other ≤ length spelling
+  pub longest : (kind : TokenKind) (text other behind : Bytes) → Spells kind text other
+      → bytes ≡ other ++ behind → length other ≤ length spelling
   pub no_comment : IsFalse (opens_comment bytes)
 
 -- the token stands behind some blanks
@@ -107,7 +111,8 @@ pub record NextToken (bytes : Bytes) (token : Token) (rest : Bytes) : Type 0 whe
 -- the bytes begin with these tokens, each behind some blanks, and rest stands behind the last
 abbrev pub Begins : Bytes → List Token → Bytes → Type 0
 Begins bytes [] rest = bytes ≡ rest
-Begins bytes (token ∷ tokens) rest = (after : Bytes) × NextToken bytes token after × Begins after tokens rest
+Begins bytes (token ∷ tokens) rest = (after : Bytes) × NextToken bytes token after
+    × Begins after tokens rest
 
 -- the bytes are these tokens, with blanks before, between and behind them
 pub record Consists (bytes : Bytes) (tokens : List Token) : Type 0 where

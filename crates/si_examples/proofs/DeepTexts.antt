@@ -7,7 +7,8 @@ use Rattle.si_defs.specs.Tokens.{lower, Begins, Consists}
 use Rattle.si_defs.specs.Grammar.{left_bracket, right_bracket, nesting_from, nesting}
 use Rattle.si_defs.specs.declared.TokenKind.TheVariants.{Lower, Mark}
 use Rattle.si_defs.specs.declared.TheConstants.{DEEPEST_NESTING}
-use Rattle.si_lex.proofs.TokenLaws.{begins_append, consists_unique}
+use Rattle.si_defs.proofs.TokenLaws.{begins_append}
+use Rattle.si_lex.proofs.TokenLaws.{consists_unique}
 use Rattle.si_examples.specs.Grammar.{bracketed, BracketedFormula, DeepestNesting, NoDeeperNesting}
 use Rattle.si_examples.specs.Texts.{bracketed_text, DeepestText, NoDeeperText}
 use Rattle.si_examples.proofs.Pieces.{next, nothing}

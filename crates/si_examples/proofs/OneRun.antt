@@ -1,5 +1,5 @@
 -- A run of two lines.
-use Rattle.std.proofs.Common.{◌≤◌, [], ◌∷◌, true, length, codes, refl, inl, inr, arith}
+use Rattle.std.proofs.Common.{[], ◌∷◌, true, codes, refl, inl, inr, arith}
 use Rattle.std.proofs.lemmas.Fmt.{decimal_digit}
 use Rattle.si_defs.specs.Bytes.{Bytes}
 use Rattle.si_defs.specs.Clauses.{Literal, literal_pattern}
@@ -7,25 +7,21 @@ use Rattle.si_defs.specs.Entries.{literal_entry}
 use Rattle.si_defs.specs.declared.Relation.TheVariants.{Instances}
 use Rattle.si_defs.specs.Tokens.{lower, Consists}
 use Rattle.si_state.specs.Answers.{Hit, IsAnswer}
-use Rattle.si_steps.specs.declared.limits.Limits.{Limits}
 use Rattle.si_steps.specs.declared.word.Word.TheVariants.{Add, Ask}
-use Rattle.si_steps.specs.Commands.{IsDecided, IsUnbuilt, Means, add, query}
+use Rattle.si_steps.specs.Commands.{IsUnbuilt, Means, add, query}
 use Rattle.si_steps.specs.Loads.{nothing}
 use Rattle.si_steps.specs.Steps.{performed, right}
 use Rattle.si_examples.specs.Entries.{predicate, placed}
 use Rattle.si_examples.specs.Runs.{AddedAndFound}
 use Rattle.si_examples.proofs.Pieces.{space, word, consists}
 use Rattle.si_examples.proofs.OneLine.{clause, added_line, add_tokens, not_unbuilt}
+use Rattle.si_examples.proofs.OneStep.{decided}
 
 abbrev first_line : Bytes
 first_line = codes "add cnf(c,axiom,p)."
 
 abbrev second_line : Bytes
 second_line = codes "instances lit p"
-
--- a line of a word that is built is read, where it is not too long
-decided : (limits : Limits) (line : Bytes) → length line ≤ limits.line → (IsUnbuilt line → ⊥) → IsDecided limits line
-decided limits line w u = record { short = w; built = u }
 
 first_built : IsUnbuilt first_line → ⊥
 first_built u = let b = add_tokens.begins in not_unbuilt first_line Add b.0 refl b.1 u

@@ -5,6 +5,7 @@ use Rattle.si_defs.specs.Clauses.{Clause}
 use Rattle.si_defs.specs.Tokens.{Token, lower, NextToken, AreBlanks, Begins, Consists, white}
 use Rattle.si_defs.specs.Grammar.{left_bracket, full_stop}
 use Rattle.si_defs.specs.declared.TokenKind.TheVariants.{Lower, Single}
+use Rattle.si_defs.proofs.TokenLaws.{skips_nothing}
 use Rattle.si_steps.specs.declared.limits.Limits.{Limits}
 use Rattle.si_steps.specs.declared.word.Word.{Word}
 use Rattle.si_steps.specs.declared.word.Word.TheVariants.{Add, Load, Remove, Ask, Subsumers, Subsumed, Stats, Tree, Sample}
@@ -15,7 +16,6 @@ use Rattle.si_steps.specs.Loads.{Owed}
 use Rattle.si_steps.specs.Steps.{RightStep, long, later, silent, foreign, wrong, performed, loaded, right, memory_at_once, memory_behind, IsNoCommand}
 use Rattle.si_steps.specs.Commands.{IsDecided, IsUnbuilt, AddsForeign, Command, add, load, remove, query, subsumers, subsumed, stats, sample, command_word, AreOperands}
 use Rattle.si_steps.proofs.WordLaws.{word_with, word_back, same_word}
-use Rattle.si_lex.proofs.BlankLaws.{skips_nothing}
 use Rattle.si_lex.proofs.TokenLaws.{next_unique, blanks_none, begins_prefix, consists_unique}
 use Rattle.si_examples.specs.Steps.{HasOneReply, SilentLine, SilentComment, SilentOnly, OpenComment, UnbuiltWord, UnreadOperands, UnknownWord, WordInQuotes, JoinedWord, WordAlone, OtherLanguageAdded, LanguageAlone, TooLong, TooLongBlank, NoMemoryWhereTooLong}
 use Rattle.si_examples.proofs.Differ.{differ, first_byte, texts_differ}
@@ -57,7 +57,7 @@ later_where line u limits told state w = (later (w, u) refl refl refl, λ other 
   only other owed new (loaded l file m p) = absurd (l.built u)
 
 -- a line that is not too long, and begins with no word for later
-decided : (limits : Limits) (line : Bytes) → length line ≤ limits.line → (IsUnbuilt line → ⊥) → IsDecided limits line
+pub decided : (limits : Limits) (line : Bytes) → length line ≤ limits.line → (IsUnbuilt line → ⊥) → IsDecided limits line
 decided limits line w u = record { short = w; built = u }
 
 foreign_where : (line : Bytes) → (IsUnbuilt line → ⊥) → AddsForeign line → IsNoCommand line → HasOneReply line (codes "! language" ∷ [])

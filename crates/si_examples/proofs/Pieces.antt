@@ -7,7 +7,8 @@ use Rattle.si_defs.specs.Bytes.{Bytes, is_white, is_printable, is_lower_word, is
 use Rattle.si_defs.specs.Tokens.{Spells, Token, TokenAt, NextToken, Skips, AreBlanks, Consists, IsBlank, white, block_comment, quoted, has_close, opens_comment, is_mark}
 use Rattle.si_defs.specs.declared.TokenKind.{TokenKind}
 use Rattle.si_defs.specs.declared.TokenKind.TheVariants.{Lower, Upper, Dollar, Int, Single, Double, NotEqual, Mark}
-use Rattle.si_lex.proofs.BlankLaws.{skips_nothing, skips_first}
+use Rattle.si_defs.proofs.TokenLaws.{skips_nothing}
+use Rattle.si_lex.proofs.BlankLaws.{skips_first}
 use Rattle.si_lex.proofs.ReadBackTokens.{stops, stands_where}
 
 -- a byte of white space, a comment in `/*` with this body, or a token

@@ -9,9 +9,10 @@ use Rattle.si_defs.specs.Solutions.{AreJoined, IsLeader, bind, in_sequence}
 use Rattle.si_defs.specs.Variables.{Variable, of_pattern, of_entry, same_variable, Apart, Solution}
 use Rattle.si_defs.specs.declared.SymKind.TheVariants.{Word}
 use Rattle.si_defs.specs.declared.Side.TheVariants.{Function}
+use Rattle.si_defs.proofs.ListLaws.{not_empty}
 use Rattle.si_examples.specs.Entries.{function}
 use Rattle.si_examples.specs.Unifiers.{asked, kept_variable, other, asked_term, kept_term, part, both_asked, BoundToTerm, NoListOfCycle, EqualVariables, NoTermTwice, NoPartForVariable}
-use Rattle.si_examples.proofs.TwoVariables.{first, never_same, apart}
+use Rattle.si_examples.proofs.TwoVariables.{first, never_same, no_asked}
 use Rattle.si_examples.proofs.Differ.{differ, first_byte}
 
 -- ---- which terms differ
@@ -28,11 +29,6 @@ other_kept e = never_same (codes "Z") (codes "Y") e
 
 asked_other : asked ≡ other → ⊥
 asked_other e = differ 88 90 refl (ap (λ x. first_byte (text_of x)) e)
-
--- nothing stands in the empty list
-none_behind : (before after : List Variable) (w : Variable) → [] ≡ before ++ w ∷ after → ⊥
-none_behind [] after w e = cc
-none_behind (b ∷ before) after w e = cc
 
 never_variable : (x : Variable) (s : Symbol) (ts : terms.Terms Symbol Variable) → terms.var x ≡ terms.app s ts → ⊥
 never_variable x s ts e = cc
@@ -79,23 +75,20 @@ one_followed x w a l n = absurd (by l.1.0 l.1.1 a l.1.2 l.1.3) where
   by [] after (inr (inl e)) h k = one_apart (subst (λ v. JoinedOne v asked) (sym e) (subst (λ v. JoinedOne x v) (sym (ap first h)) joined))
   by (b ∷ before) after (inl e) h k = k.0 (subst (λ v. JoinedOne x v) (ap first h) (subst (λ v. JoinedOne v asked) e (λ s u. refl)))
   by (b ∷ []) after (inr (inl e)) h k = n (sym (ap (λ vs. first (behind vs)) h) ∙ e)
-  by (b ∷ d ∷ before) after (inr (inl e)) h k = none_behind before after w (ap (λ vs. behind (behind vs)) h)
+  by (b ∷ d ∷ before) after (inr (inl e)) h k = not_empty before w after (ap (λ vs. behind (behind vs)) h)
   by before after (inr (inr f)) h k = f
 
 pub bound_to_term : BoundToTerm
 bound_to_term = record {
-  triangular = (λ h. h, (λ h. by h, tt), tt);
+  triangular = (λ h. h, (no_asked, tt), tt);
   achieves = refl;
   most_general = λ s u. (u, tt);
   known = ((inl refl, (inr (inl refl), tt)), tt);
   leaders = ((((λ s u. refl), (asked ∷ [], [], refl, (one_apart, tt))), tt), tt);
   followers = one_followed;
   folded = ((tt, tt), tt);
-  ordered = (((inl refl, ((λ h. by h), tt)), ([], kept_variable ∷ [], refl, tt)), tt);
-} where
-  by : IsAmong (kept_variable ∷ []) asked → ⊥
-  by (inl e) = apart (sym e)
-  by (inr h) = h
+  ordered = (((inl refl, (no_asked, tt)), ([], kept_variable ∷ [], refl, tt)), tt);
+}
 
 -- ---- g(?X,?Z) and g(f(Y),f(Y))
 abbrev both_parts : Apart
@@ -130,7 +123,7 @@ followed x w a l n = by l.1.0 l.1.1 a l.1.2 l.1.3 where
   by [] after (inr (inr (inl e))) h k = absurd (kept_alone w (inl (sym (ap first h))) (subst (λ v. Joined v w) (sym e) joined))
   by (b ∷ []) after (inr (inr (inl e))) h k = absurd (kept_alone w (inr (sym (ap (λ vs. first (behind vs)) h))) (subst (λ v. Joined v w) (sym e) joined))
   by (b ∷ d ∷ []) after (inr (inr (inl e))) h k = absurd (n (sym (ap (λ vs. first (behind (behind vs))) h) ∙ e))
-  by (b ∷ d ∷ f ∷ before) after (inr (inr (inl e))) h k = absurd (none_behind before after w (ap (λ vs. behind (behind (behind vs))) h))
+  by (b ∷ d ∷ f ∷ before) after (inr (inr (inl e))) h k = absurd (not_empty before w after (ap (λ vs. behind (behind (behind vs))) h))
   by before after (inr (inr (inr f))) h k = absurd f
 
 pub equal_variables : EqualVariables
@@ -154,10 +147,6 @@ equal_variables = record {
   no_kept : IsAmong (kept_variable ∷ []) other → ⊥
   no_kept (inl e) = other_kept (sym e)
   no_kept (inr h) = h
-
-  no_asked : IsAmong (kept_variable ∷ []) asked → ⊥
-  no_asked (inl e) = apart (sym e)
-  no_asked (inr h) = h
 
 -- ?Z is bound to ?X
 pub no_term_twice : NoTermTwice

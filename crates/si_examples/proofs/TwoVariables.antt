@@ -32,6 +32,10 @@ never_same x y e = cc
 pub apart : asked ≡ kept_variable → ⊥
 apart e = never_same (codes "X") (codes "Y") e
 
+pub no_asked : IsAmong (kept_variable ∷ []) asked → ⊥
+no_asked (inl e) = apart (sym e)
+no_asked (inr h) = h
+
 -- whatever is joined with the first variable is led by it
 first_leads : (x w : Variable) → Joined x asked → Leads x w → w ≡ asked
 first_leads x w j l = by l.1.0 l.1.1 l.1.2 l.1.3 where
@@ -56,15 +60,11 @@ leads = record {
   leaders = (((self asked, ([], kept_variable ∷ [], refl, tt)), tt), tt);
   followers = followed;
   folded = (tt, tt);
-  ordered = (((inl refl, ((λ h. by h), tt)), (asked ∷ [], [], refl, ((λ h. not_among h.0), tt))), tt);
+  ordered = (((inl refl, ((λ h. by h), tt)), (asked ∷ [], [], refl, ((λ h. no_asked h.0), tt))), tt);
 } where
   by : IsAmong (asked ∷ []) kept_variable → ⊥
   by (inl e) = apart e
   by (inr h) = h
-
-  not_among : IsAmong (kept_variable ∷ []) asked → ⊥
-  not_among (inl e) = apart (sym e)
-  not_among (inr h) = h
 
 -- the second variable leads not even itself
 pub follows : SecondVariableFollows

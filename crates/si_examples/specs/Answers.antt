@@ -34,7 +34,9 @@ OneHit = IsAnswer Instances pattern (state_entries state) (hit ∷ [])
 
 -- so the reply has its line, and then the number of hits
 abbrev pub AnsweredPattern : Type 0
-AnsweredPattern = (limits : Limits) → Performs limits (query Instances pattern) state (codes "c1:1:1 {?Y -> X}" ∷ codes "end 1" ∷ []) state
+AnsweredPattern = (limits : Limits)
+    → Performs limits (query Instances pattern) state
+    (codes "c1:1:1 {?Y -> X}" ∷ codes "end 1" ∷ []) state
 
 -- it may not be left out
 abbrev pub NoHitLeftOut : Type 0

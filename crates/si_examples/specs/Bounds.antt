@@ -17,7 +17,8 @@ NoLargerSample = (start count : ℕ) → count ≡ 10001 → AllowsSample start 
 
 -- a literal may have 536,870,912 occurrences of symbols and variables
 abbrev pub LargestLiteral : Type 0
-LargestLiteral = (l : Literal) → IsSoundLiteral l → literal_size l ≡ 536870912 → AreSoundLiterals (l ∷ [])
+LargestLiteral = (l : Literal) → IsSoundLiteral l → literal_size l ≡ 536870912
+    → AreSoundLiterals (l ∷ [])
 
 -- and no literals have more together
 abbrev pub NoLargerLiterals : Type 0

@@ -13,11 +13,23 @@ use Rattle.si_defs.specs.declared.NameKind.TheVariants as named
 -- ---- the terms of the examples
 -- a word inside a term, with as many arguments as it has here
 abbrev pub function : {V : Type 0} → Bytes → List (terms.Term Symbol V) → terms.Term Symbol V
-function text ts = terms.app (record { kind = Word; text = text; side = Function; arity = terms.count (terms.row ts) }) (terms.row ts)
+function text ts =
+    terms.app (record {
+      kind = Word;
+      text = text;
+      side = Function;
+      arity = terms.count (terms.row ts);
+    }) (terms.row ts)
 
 -- a word at the head of an atom
 abbrev pub predicate : {V : Type 0} → Bytes → List (terms.Term Symbol V) → terms.Term Symbol V
-predicate text ts = terms.app (record { kind = Word; text = text; side = Predicate; arity = terms.count (terms.row ts) }) (terms.row ts)
+predicate text ts =
+    terms.app (record {
+      kind = Word;
+      text = text;
+      side = Predicate;
+      arity = terms.count (terms.row ts);
+    }) (terms.row ts)
 
 abbrev pub variable : Bytes → Term
 variable x = terms.var x
@@ -64,18 +76,22 @@ positive_literal atom = literal_entry (record { positive = true; atom = atom })
 abbrev pub FirstEntries : Type 0
 FirstEntries =
     entries (fact (codes "c1") first_atom)
-    ≡ placed (positive_literal first_atom) [] ∷ placed (term_entry f_of_x) (1 ∷ []) ∷ placed (term_entry a) (2 ∷ []) ∷ []
+    ≡ placed (positive_literal first_atom) [] ∷ placed (term_entry f_of_x) (1 ∷ [])
+    ∷ placed (term_entry a) (2 ∷ []) ∷ []
 
 -- those of p(X,f(Y,a)): the literal, f(Y,a) at 2 and a at 2.2
 abbrev pub SecondEntries : Type 0
 SecondEntries =
     entries (fact (codes "c2") second_atom)
-    ≡ placed (positive_literal second_atom) [] ∷ placed (term_entry f_of_y_a) (2 ∷ []) ∷ placed (term_entry a) (2 ∷ 2 ∷ []) ∷ []
+    ≡ placed (positive_literal second_atom) [] ∷ placed (term_entry f_of_y_a) (2 ∷ [])
+    ∷ placed (term_entry a) (2 ∷ 2 ∷ []) ∷ []
 
 -- a variable is no entry: none of p(X,f(Y,a)) stands at 1
 abbrev pub NoVariableEntry : Type 0
-NoVariableEntry = (e : Entry) → IsAmong (entries (fact (codes "c2") second_atom)) (placed e (1 ∷ [])) → ⊥
+NoVariableEntry = (e : Entry)
+    → IsAmong (entries (fact (codes "c2") second_atom)) (placed e (1 ∷ [])) → ⊥
 
 -- the atom of a literal is no term entry
 abbrev pub NoAtomEntry : Type 0
-NoAtomEntry = (path : List ℕ) → IsAmong (entries (fact (codes "c1") first_atom)) (placed (term_entry first_atom) path) → ⊥
+NoAtomEntry = (path : List ℕ)
+    → IsAmong (entries (fact (codes "c1") first_atom)) (placed (term_entry first_atom) path) → ⊥

@@ -17,18 +17,21 @@ use Rattle.si_examples.specs.Entries.{constant, predicate, first_atom, fact}
 abbrev pub FirstClause : Type 0
 FirstClause = IsClause (fact (codes "c1") first_atom)
     (lower (codes "cnf") ∷ left_bracket ∷ lower (codes "c1") ∷ comma ∷ lower (codes "axiom") ∷ comma
-    ∷ lower (codes "p") ∷ left_bracket ∷ lower (codes "f") ∷ left_bracket ∷ upper (codes "X") ∷ right_bracket ∷ comma ∷ lower (codes "a") ∷ right_bracket
+    ∷ lower (codes "p") ∷ left_bracket ∷ lower (codes "f") ∷ left_bracket ∷ upper (codes "X")
+    ∷ right_bracket ∷ comma ∷ lower (codes "a") ∷ right_bracket
     ∷ right_bracket ∷ full_stop ∷ [])
 
 -- `cnf(c2,axiom,).` is no item
 abbrev pub NoEmptyFormula : Type 0
 NoEmptyFormula = (item : Item)
-    → IsItem item (lower (codes "cnf") ∷ left_bracket ∷ lower (codes "c2") ∷ comma ∷ lower (codes "axiom") ∷ comma ∷ right_bracket ∷ full_stop ∷ []) → ⊥
+    → IsItem item (lower (codes "cnf") ∷ left_bracket ∷ lower (codes "c2") ∷ comma
+    ∷ lower (codes "axiom") ∷ comma ∷ right_bracket ∷ full_stop ∷ []) → ⊥
 
 -- and `cnf(c2,axiom,~).` is none
 abbrev pub NoSignAlone : Type 0
 NoSignAlone = (item : Item)
-    → IsItem item (lower (codes "cnf") ∷ left_bracket ∷ lower (codes "c2") ∷ comma ∷ lower (codes "axiom") ∷ comma ∷ mark 126 ∷ right_bracket ∷ full_stop ∷ []) → ⊥
+    → IsItem item (lower (codes "cnf") ∷ left_bracket ∷ lower (codes "c2") ∷ comma
+    ∷ lower (codes "axiom") ∷ comma ∷ mark 126 ∷ right_bracket ∷ full_stop ∷ []) → ⊥
 
 -- and `cnf(c2,axiom,p(X).`, where a bracket stays open, is none
 abbrev pub NoOpenBracket : Type 0
@@ -51,7 +54,9 @@ abbrev pub not_p : Literal
 not_p = record { positive = false; atom = predicate (codes "p") [] }
 
 abbrev pub NegatedLiteral : Type 0
-NegatedLiteral = IsLiteral not_p (mark 126 ∷ lower (codes "p") ∷ []) × IsLiteral not_p (mark 126 ∷ left_bracket ∷ lower (codes "p") ∷ right_bracket ∷ [])
+NegatedLiteral =
+    IsLiteral not_p (mark 126 ∷ lower (codes "p") ∷ [])
+    × IsLiteral not_p (mark 126 ∷ left_bracket ∷ lower (codes "p") ∷ right_bracket ∷ [])
 
 -- `~ ~ p` is none
 abbrev pub NoDoubleSign : Type 0
@@ -59,7 +64,11 @@ NoDoubleSign = (l : Literal) → IsLiteral l (mark 126 ∷ mark 126 ∷ lower (c
 
 -- `s != t` and `~ s = t` are one literal, the negation of an equality
 abbrev pub unequal : Literal
-unequal = record { positive = false; atom = terms.app equality (terms.row (constant (codes "s") ∷ constant (codes "t") ∷ [])) }
+unequal =
+    record {
+      positive = false;
+      atom = terms.app equality (terms.row (constant (codes "s") ∷ constant (codes "t") ∷ []));
+    }
 
 abbrev pub Inequation : Type 0
 Inequation =
@@ -68,7 +77,8 @@ Inequation =
 
 -- `s != t` is no atom
 abbrev pub NoUnequalAtom : Type 0
-NoUnequalAtom = (atom : Term) → IsAtom atom (lower (codes "s") ∷ not_equal ∷ lower (codes "t") ∷ []) → ⊥
+NoUnequalAtom = (atom : Term)
+    → IsAtom atom (lower (codes "s") ∷ not_equal ∷ lower (codes "t") ∷ []) → ⊥
 
 -- ---- symbols and names
 -- these texts in single and in double quotes
@@ -83,18 +93,27 @@ integer text = record { kind = Int; text = text }
 
 -- `cat` and `'cat'` are one symbol
 abbrev pub QuotedWord : Type 0
-QuotedWord = IsTerm (constant (codes "cat")) (lower (codes "cat") ∷ []) × IsTerm (constant (codes "cat")) (single (codes "cat") ∷ [])
+QuotedWord =
+    IsTerm (constant (codes "cat")) (lower (codes "cat") ∷ [])
+    × IsTerm (constant (codes "cat")) (single (codes "cat") ∷ [])
 
 -- `"cat"` is another: a distinct object
 abbrev pub DistinctObject : Type 0
-DistinctObject = IsTerm (terms.app (record { kind = Distinct; text = codes "cat"; side = Function; arity = 0 }) terms.none) (double (codes "cat") ∷ [])
+DistinctObject =
+    IsTerm (terms.app (record {
+      kind = Distinct;
+      text = codes "cat";
+      side = Function;
+      arity = 0;
+    }) terms.none) (double (codes "cat") ∷ [])
 
 abbrev pub NoDistinctWord : Type 0
 NoDistinctWord = IsTerm (constant (codes "cat")) (double (codes "cat") ∷ []) → ⊥
 
 -- it has no arguments: `"f"(X)` is no term
 abbrev pub NoDistinctFunction : Type 0
-NoDistinctFunction = (t : Term) → IsTerm t (double (codes "f") ∷ left_bracket ∷ upper (codes "X") ∷ right_bracket ∷ []) → ⊥
+NoDistinctFunction = (t : Term)
+    → IsTerm t (double (codes "f") ∷ left_bracket ∷ upper (codes "X") ∷ right_bracket ∷ []) → ⊥
 
 -- `c1` and `'c1'` are one name
 abbrev pub named_word : Bytes → Name
@@ -104,7 +123,9 @@ abbrev pub named_integer : Bytes → Name
 named_integer text = record { kind = named.Int; text = text }
 
 abbrev pub QuotedName : Type 0
-QuotedName = IsName (named_word (codes "c1")) (lower (codes "c1")) × IsName (named_word (codes "c1")) (single (codes "c1"))
+QuotedName =
+    IsName (named_word (codes "c1")) (lower (codes "c1"))
+    × IsName (named_word (codes "c1")) (single (codes "c1"))
 
 -- but `'1'` is not the name `1`
 abbrev pub NoQuotedInteger : Type 0
@@ -114,14 +135,17 @@ NoQuotedInteger = IsName (named_integer (codes "1")) (single (codes "1")) → �
 -- `include('a.p',[c1,2]).` keeps the clauses of these names
 abbrev pub SelectedInclude : Type 0
 SelectedInclude =
-    IsItem (include_item (codes "a.p") (only (named_word (codes "c1") ∷ named_integer (codes "2") ∷ [])))
-    (lower (codes "include") ∷ left_bracket ∷ single (codes "a.p") ∷ comma ∷ mark 91 ∷ lower (codes "c1") ∷ comma ∷ integer (codes "2") ∷ mark 93
+    IsItem (include_item (codes "a.p")
+    (only (named_word (codes "c1") ∷ named_integer (codes "2") ∷ [])))
+    (lower (codes "include") ∷ left_bracket ∷ single (codes "a.p") ∷ comma ∷ mark 91
+    ∷ lower (codes "c1") ∷ comma ∷ integer (codes "2") ∷ mark 93
     ∷ right_bracket ∷ full_stop ∷ [])
 
 -- `include('a.p',[]).` is no item
 abbrev pub NoEmptySelection : Type 0
 NoEmptySelection = (item : Item)
-    → IsItem item (lower (codes "include") ∷ left_bracket ∷ single (codes "a.p") ∷ comma ∷ mark 91 ∷ mark 93 ∷ right_bracket ∷ full_stop ∷ []) → ⊥
+    → IsItem item (lower (codes "include") ∷ left_bracket ∷ single (codes "a.p") ∷ comma ∷ mark 91
+    ∷ mark 93 ∷ right_bracket ∷ full_stop ∷ []) → ⊥
 
 -- ---- annotations
 -- the annotations `,[()]` balance
@@ -137,7 +161,8 @@ CrossedBrackets = IsExtra (comma ∷ mark 91 ∷ left_bracket ∷ mark 93 ∷ ri
 abbrev pub NestingOfTwo : Type 0
 NestingOfTwo =
     nesting
-    (lower (codes "p") ∷ left_bracket ∷ lower (codes "f") ∷ left_bracket ∷ upper (codes "X") ∷ right_bracket ∷ comma
+    (lower (codes "p") ∷ left_bracket ∷ lower (codes "f") ∷ left_bracket ∷ upper (codes "X")
+    ∷ right_bracket ∷ comma
     ∷ lower (codes "f") ∷ left_bracket ∷ lower (codes "a") ∷ right_bracket ∷ right_bracket ∷ [])
     ≡ 2
 
@@ -147,7 +172,8 @@ bracketed n = replicate n left_bracket ++ (lower (codes "p") ∷ []) ++ replicat
 
 -- it is a formula however many there are
 abbrev pub BracketedFormula : Type 0
-BracketedFormula = (n : ℕ) → IsFormula (record { positive = true; atom = predicate (codes "p") [] } ∷ []) (bracketed n)
+BracketedFormula = (n : ℕ)
+    → IsFormula (record { positive = true; atom = predicate (codes "p") [] } ∷ []) (bracketed n)
 
 -- it may be read with 512
 abbrev pub DeepestNesting : Type 0

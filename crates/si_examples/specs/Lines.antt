@@ -29,20 +29,24 @@ AddedLine = Means (add (fact (codes "c") (predicate (codes "p") []))) (codes "ad
 
 -- a comment parts two words as a space does
 abbrev pub CommentBehindWord : Type 0
-CommentBehindWord = Means (add (fact (codes "c") (predicate (codes "p") []))) (codes "add/**/cnf(c,axiom,p).")
+CommentBehindWord =
+    Means (add (fact (codes "c") (predicate (codes "p") []))) (codes "add/**/cnf(c,axiom,p).")
 
 -- `instances f(Y)` is no command: whether literals or terms are asked for is not said
 abbrev pub NoKindOfPattern : Type 0
 NoKindOfPattern = (command : Command)
-    → IsCommand command (lower (codes "instances") ∷ lower (codes "f") ∷ left_bracket ∷ upper (codes "Y") ∷ right_bracket ∷ []) → ⊥
+    → IsCommand command (lower (codes "instances") ∷ lower (codes "f") ∷ left_bracket
+    ∷ upper (codes "Y") ∷ right_bracket ∷ []) → ⊥
 
 -- `tree f` is none: it is not built
 abbrev pub NoUnbuiltCommand : Type 0
-NoUnbuiltCommand = (command : Command) → IsCommand command (lower (codes "tree") ∷ lower (codes "f") ∷ []) → ⊥
+NoUnbuiltCommand = (command : Command)
+    → IsCommand command (lower (codes "tree") ∷ lower (codes "f") ∷ []) → ⊥
 
 -- `sample 1 0` is none: no clauses would be drawn
 abbrev pub NoEmptySample : Type 0
-NoEmptySample = (command : Command) → IsCommand command (lower (codes "sample") ∷ numeral 1 ∷ numeral 0 ∷ []) → ⊥
+NoEmptySample = (command : Command)
+    → IsCommand command (lower (codes "sample") ∷ numeral 1 ∷ numeral 0 ∷ []) → ⊥
 
 -- `add cnf(` adds no formula of another language
 abbrev pub OwnLanguageAdded : Type 0

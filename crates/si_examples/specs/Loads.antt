@@ -8,7 +8,8 @@ use Rattle.si_examples.specs.Harvests.{bounds, c, plain, selecting}
 
 -- of the two clauses of an included file the one that is listed is kept
 abbrev pub LoadedLine : Type 0
-LoadedLine = (limits : Limits) → 8 ≤ limits.line → load_bounds limits ≡ bounds 30 2 2 → limits.entries ≡ 2
+LoadedLine = (limits : Limits) → 8 ≤ limits.line → load_bounds limits ≡ bounds 30 2 2
+    → limits.entries ≡ 2
     → RightStep limits (Some selecting) [] (codes "load 'm'") (codes "ok 1 1" ∷ []) nothing (c ∷ [])
 
 -- no file has the name, so the reply that nothing was gained is wrong, whatever the state behind it

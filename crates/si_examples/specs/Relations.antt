@@ -40,7 +40,9 @@ RenamedPair = Relates bytes_eq Variants (p_of x y) (p_of z (variable (codes "V")
 
 -- p(X,Y) and p(Z,Z) are none, though the second is an instance of the first
 abbrev pub NoVariantOfSquare : Type 0
-NoVariantOfSquare = IsInstance bytes_eq (p_of x y) (p_of z z) × (Relates bytes_eq Variants (p_of x y) (p_of z z) → ⊥)
+NoVariantOfSquare =
+    IsInstance bytes_eq (p_of x y) (p_of z z)
+    × (Relates bytes_eq Variants (p_of x y) (p_of z z) → ⊥)
 
 -- p(X,a) and p(b,Y) are unifiable
 abbrev pub UnifiablePair : Type 0

@@ -9,7 +9,8 @@ use Rattle.si_examples.specs.Entries.{fact, predicate}
 
 -- two clauses from the start 1
 abbrev pub TwoClauses : Type 0
-TwoClauses = IsSample 1 2 (codes "cnf(s1,axiom,q(Y)).\n" ++ codes "cnf(s2,axiom,~p(b,X)|q(f(X,X))).\n")
+TwoClauses =
+    IsSample 1 2 (codes "cnf(s1,axiom,q(Y)).\n" ++ codes "cnf(s2,axiom,~p(b,X)|q(f(X,X))).\n")
 
 -- from each start there is a text of so many clauses
 abbrev pub SomeText : Type 0
@@ -17,7 +18,8 @@ SomeText = (start count : ℕ) → (text : Bytes) × IsSample start count text
 
 -- and no other
 abbrev pub NoOtherText : Type 0
-NoOtherText = (start count : ℕ) (text other : Bytes) → IsSample start count text → IsSample start count other → other ≡ text
+NoOtherText = (start count : ℕ) (text other : Bytes) → IsSample start count text
+    → IsSample start count other → other ≡ text
 
 -- the variable of the first clause is another one
 abbrev pub NoOtherVariable : Type 0
@@ -36,4 +38,5 @@ drawn_fact = fact (codes "s") (predicate (codes "p") [])
 
 -- the one entry that is drawn unifies with itself, and with the one that was kept
 abbrev pub KeptCounted : Type 0
-KeptCounted = SumsAnswers (state_entries (kept ∷ drawn_fact ∷ [])) (state_entries (drawn_fact ∷ [])) 2
+KeptCounted =
+    SumsAnswers (state_entries (kept ∷ drawn_fact ∷ [])) (state_entries (drawn_fact ∷ [])) 2

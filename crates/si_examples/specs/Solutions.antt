@@ -49,18 +49,23 @@ CanonicalList = Solves Instances first_pattern first_entry first_solution
 
 -- {?Z -> a; ?Y -> f(X)} is not: the order counts
 abbrev pub NoOtherOrder : Type 0
-NoOtherOrder = Solves Instances first_pattern first_entry ((of_pattern (codes "Z"), a) ∷ (of_pattern (codes "Y"), f_of_entry) ∷ []) → ⊥
+NoOtherOrder =
+    Solves Instances first_pattern first_entry
+    ((of_pattern (codes "Z"), a) ∷ (of_pattern (codes "Y"), f_of_entry) ∷ []) → ⊥
 
 -- {?Y -> f(X)} is not: each variable of the pattern is bound
 abbrev pub NoneLeftOut : Type 0
-NoneLeftOut = Solves Instances first_pattern first_entry ((of_pattern (codes "Y"), f_of_entry) ∷ []) → ⊥
+NoneLeftOut =
+    Solves Instances first_pattern first_entry ((of_pattern (codes "Y"), f_of_entry) ∷ []) → ⊥
 
 -- for the pattern g(X,Y) and the entry g(a,a) {?X -> ?Y; ?Y -> a} is not: a variable is bound to
 -- its image
 abbrev pub NoFoldedList : Type 0
 NoFoldedList =
-    Solves Instances (term_pattern (function (codes "g") (x ∷ y ∷ []))) (term_entry (function (codes "g") (a ∷ a ∷ [])))
-    ((of_pattern (codes "X"), terms.var (of_pattern (codes "Y"))) ∷ (of_pattern (codes "Y"), a) ∷ [])
+    Solves Instances (term_pattern (function (codes "g") (x ∷ y ∷ [])))
+    (term_entry (function (codes "g") (a ∷ a ∷ [])))
+    ((of_pattern (codes "X"), terms.var (of_pattern (codes "Y")))
+    ∷ (of_pattern (codes "Y"), a) ∷ [])
     → ⊥
 
 -- a pattern without variables has the empty list

@@ -38,9 +38,11 @@ front_symbol (terms.app s ts) = s
 -- ---- lines that change nothing
 -- where the line is not too long, this reply is right and no other, and the state stays
 abbrev pub HasOneReply : Bytes → Reply → Type 0
-HasOneReply line reply = (limits : Limits) (told : Option Files) (state : List Clause) → length line ≤ limits.line
+HasOneReply line reply = (limits : Limits) (told : Option Files) (state : List Clause)
+    → length line ≤ limits.line
     → RightStep limits told state line reply nothing state
-    × ((other : Reply) (owed : Owed) (new : List Clause) → RightStep limits told state line other owed new → (other ≡ reply) × (new ≡ state))
+    × ((other : Reply) (owed : Owed) (new : List Clause)
+    → RightStep limits told state line other owed new → (other ≡ reply) × (new ≡ state))
 
 -- a line of white space alone has no reply
 abbrev pub SilentLine : Type 0
@@ -52,7 +54,8 @@ SilentComment = HasOneReply (codes "% a") []
 
 -- and white space has none even where memory runs out
 abbrev pub SilentOnly : Type 0
-SilentOnly = (limits : Limits) (told : Option Files) (state : List Clause) (reply : Reply) (owed : Owed) (new : List Clause) → 1 ≤ limits.line
+SilentOnly = (limits : Limits) (told : Option Files) (state : List Clause) (reply : Reply)
+    (owed : Owed) (new : List Clause) → 1 ≤ limits.line
     → Step limits told state (codes " ") reply owed new → (reply ≡ []) × (new ≡ state)
 
 -- a comment that is not closed is wrong
@@ -94,38 +97,47 @@ LanguageAlone = HasOneReply (codes "add fof.") (codes "! syntax" ∷ [])
 -- ---- lines that are too long
 -- a line that is too long has one reply, whatever it says, and the state stays
 abbrev pub TooLong : Type 0
-TooLong = (limits : Limits) (told : Option Files) (state : List Clause) (line : Bytes) (reply : Reply) (owed : Owed) (new : List Clause) → limits.line < length line
+TooLong = (limits : Limits) (told : Option Files) (state : List Clause) (line : Bytes)
+    (reply : Reply) (owed : Owed) (new : List Clause) → limits.line < length line
     → Step limits told state line reply owed new → (reply ≡ codes "! long" ∷ []) × (new ≡ state)
 
 -- also where it is blank
 abbrev pub TooLongBlank : Type 0
-TooLongBlank = (limits : Limits) (told : Option Files) (state : List Clause) → limits.line < 2 → RightStep limits told state (codes "  ") (codes "! long" ∷ []) nothing state
+TooLongBlank = (limits : Limits) (told : Option Files) (state : List Clause) → limits.line < 2
+    → RightStep limits told state (codes "  ") (codes "! long" ∷ []) nothing state
 
 -- a line that is too long does not run out of memory
 abbrev pub NoMemoryWhereTooLong : Type 0
-NoMemoryWhereTooLong = (limits : Limits) (told : Option Files) (state : List Clause) (line : Bytes) (owed : Owed) (new : List Clause) → limits.line < length line
+NoMemoryWhereTooLong = (limits : Limits) (told : Option Files) (state : List Clause) (line : Bytes)
+    (owed : Owed) (new : List Clause) → limits.line < length line
     → Step limits told state line (codes "! memory" ∷ []) owed new → ⊥
 
 -- ---- clauses that are added
 -- a clause of a new name is counted, and its three entries
 abbrev pub AddedClause : Type 0
-AddedClause = (limits : Limits) → 3 ≤ limits.entries → Performs limits (add kept_clause) [] (codes "ok 1 3" ∷ []) (kept_clause ∷ [])
+AddedClause = (limits : Limits) → 3 ≤ limits.entries
+    → Performs limits (add kept_clause) [] (codes "ok 1 3" ∷ []) (kept_clause ∷ [])
 
 -- a clause of a taken name is refused, and the state stays
 abbrev pub TakenName : Type 0
-TakenName = (limits : Limits) → Performs limits (add of_taken_name) (kept_clause ∷ []) (codes "! taken c1" ∷ []) (kept_clause ∷ [])
+TakenName = (limits : Limits)
+    → Performs limits (add of_taken_name) (kept_clause ∷ []) (codes "! taken c1" ∷ [])
+    (kept_clause ∷ [])
 
 -- the reply of an added clause is wrong there
 abbrev pub NoOtherReply : Type 0
-NoOtherReply = (limits : Limits) (new : List Clause) → Performs limits (add of_taken_name) (kept_clause ∷ []) (codes "ok 1 3" ∷ []) new → ⊥
+NoOtherReply = (limits : Limits) (new : List Clause)
+    → Performs limits (add of_taken_name) (kept_clause ∷ []) (codes "ok 1 3" ∷ []) new → ⊥
 
 -- it is never accepted, whatever the state behind it
 abbrev pub NoSecondClause : Type 0
-NoSecondClause = (limit : ℕ) (new : List Clause) → Accepts limit (kept_clause ∷ []) of_taken_name new → ⊥
+NoSecondClause = (limit : ℕ) (new : List Clause)
+    → Accepts limit (kept_clause ∷ []) of_taken_name new → ⊥
 
 -- where two entries may be, three are too many
 abbrev pub FullIndex : Type 0
-FullIndex = (limits : Limits) → limits.entries ≡ 2 → Performs limits (add kept_clause) [] (codes "! full 3 2" ∷ []) []
+FullIndex = (limits : Limits) → limits.entries ≡ 2
+    → Performs limits (add kept_clause) [] (codes "! full 3 2" ∷ []) []
 
 -- one entry more than may be is not accepted
 abbrev pub NoClauseTooMany : Type 0
@@ -133,7 +145,9 @@ NoClauseTooMany = (new : List Clause) → Accepts 2 [] kept_clause new → ⊥
 
 -- `a` with an argument stands against the constant `a`
 abbrev pub ClashingSymbol : Type 0
-ClashingSymbol = Refuses 9 (kept_clause ∷ []) (fact (codes "d") a_of_b) (misused 0 (front_symbol a_of_b) (front_symbol a))
+ClashingSymbol =
+    Refuses 9 (kept_clause ∷ []) (fact (codes "d") a_of_b)
+    (misused 0 (front_symbol a_of_b) (front_symbol a))
 
 -- the same symbols in two clauses agree
 abbrev pub NoClash : Type 0
@@ -141,25 +155,32 @@ NoClash = AllAgree (state_symbols (kept_clause ∷ [])) (clause_symbols (fact (c
 
 -- but not with an atom `a(b)` between them
 abbrev pub NoAgreement : Type 0
-NoAgreement = AllAgree (state_symbols (kept_clause ∷ [])) (clause_symbols (fact (codes "d") a_of_b)) → ⊥
+NoAgreement =
+    AllAgree (state_symbols (kept_clause ∷ [])) (clause_symbols (fact (codes "d") a_of_b)) → ⊥
 
 -- ---- clauses that go
 -- the clause of this name goes, with its three entries
 abbrev pub RemovedClause : Type 0
-RemovedClause = (limits : Limits) → Performs limits (remove kept_clause.name) (kept_clause ∷ []) (codes "ok 1 3" ∷ []) []
+RemovedClause = (limits : Limits)
+    → Performs limits (remove kept_clause.name) (kept_clause ∷ []) (codes "ok 1 3" ∷ []) []
 
 -- none has this name
 abbrev pub UnknownName : Type 0
-UnknownName = (limits : Limits) → Performs limits (remove (record { kind = named.Int; text = codes "1" })) (kept_clause ∷ []) (codes "! unknown 1" ∷ []) (kept_clause ∷ [])
+UnknownName = (limits : Limits)
+    → Performs limits (remove (record { kind = named.Int; text = codes "1" })) (kept_clause ∷ [])
+    (codes "! unknown 1" ∷ []) (kept_clause ∷ [])
 
 -- a clause that is kept is not unknown
 abbrev pub NoUnknownName : Type 0
-NoUnknownName = (limits : Limits) (new : List Clause) → Performs limits (remove kept_clause.name) (kept_clause ∷ []) (codes "! unknown c1" ∷ []) new → ⊥
+NoUnknownName = (limits : Limits) (new : List Clause)
+    → Performs limits (remove kept_clause.name) (kept_clause ∷ []) (codes "! unknown c1" ∷ []) new
+    → ⊥
 
 -- ---- counts
 -- nothing is kept
 abbrev pub NothingCounted : Type 0
-NothingCounted = (limits : Limits) → Performs limits stats [] (codes "clauses 0 entries 0 symbols 0" ∷ []) []
+NothingCounted = (limits : Limits)
+    → Performs limits stats [] (codes "clauses 0 entries 0 symbols 0" ∷ []) []
 
 -- a symbol that occurs is counted
 abbrev pub NoneUncounted : Type 0
@@ -167,7 +188,12 @@ NoneUncounted = CountsSymbols (kept_clause ∷ []) 0 → ⊥
 
 -- `1` and `'1'` are two names
 abbrev pub TwoNames : Type 0
-TwoNames = IsTaken (record { name = record { kind = named.Int; text = codes "1" }; role = codes "axiom"; literals = [] } ∷ []) (record { kind = named.Word; text = codes "1" }) → ⊥
+TwoNames =
+    IsTaken (record {
+      name = record { kind = named.Int; text = codes "1" };
+      role = codes "axiom";
+      literals = [];
+    } ∷ []) (record { kind = named.Word; text = codes "1" }) → ⊥
 
 -- ---- refusals
 -- a reply that begins with `!` is a refusal

@@ -31,7 +31,9 @@ two = atom_of (codes "q") a ∷ atom_of (codes "r") b ∷ []
 
 -- p(X)|p(Y) subsumes p(a): both go to its one literal
 abbrev pub TwoToOne : Type 0
-TwoToOne = IsLeastMap (atom_of (codes "p") x ∷ atom_of (codes "p") y ∷ []) (atom_of (codes "p") a ∷ []) (1 ∷ 1 ∷ [])
+TwoToOne =
+    IsLeastMap (atom_of (codes "p") x ∷ atom_of (codes "p") y ∷ []) (atom_of (codes "p") a ∷ [])
+    (1 ∷ 1 ∷ [])
 
 -- q(X)|r(X) subsumes q(a)|q(b)|r(b): the first literal there is of no use
 abbrev pub SkippedLiteral : Type 0
@@ -52,7 +54,12 @@ NoOtherSign = Subsumes (atom_of (codes "p") x ∷ []) negative → ⊥
 -- ---- answers
 -- the clause of these literals, with this name
 abbrev pub clause_with : Bytes → List Literal → Clause
-clause_with name literals = record { name = record { kind = named.Word; text = name }; role = codes "axiom"; literals = literals }
+clause_with name literals =
+    record {
+      name = record { kind = named.Word; text = name };
+      role = codes "axiom";
+      literals = literals;
+    }
 
 -- the clause s: p(X)|p(Y)
 abbrev pub pair : Clause
@@ -60,9 +67,12 @@ pair = clause_with (codes "s") (atom_of (codes "p") x ∷ atom_of (codes "p") y 
 
 -- `subsumers p(a)` names it, with its map
 abbrev pub ToldSubsumer : Type 0
-ToldSubsumer = (limits : Limits) → Performs limits (subsumers (atom_of (codes "p") a ∷ [])) (pair ∷ []) (codes "s [1,1]" ∷ codes "end 1" ∷ []) (pair ∷ [])
+ToldSubsumer = (limits : Limits)
+    → Performs limits (subsumers (atom_of (codes "p") a ∷ [])) (pair ∷ [])
+    (codes "s [1,1]" ∷ codes "end 1" ∷ []) (pair ∷ [])
 
 -- The clause n: ~p(a) is not named at `subsumed p(X)`.
 abbrev pub NoSubsumedTold : Type 0
 NoSubsumedTold = (limits : Limits) (line : Bytes) (new : List Clause)
-    → Performs limits (subsumed (atom_of (codes "p") x ∷ [])) (clause_with (codes "n") negative ∷ []) (line ∷ codes "end 1" ∷ []) new → ⊥
+    → Performs limits (subsumed (atom_of (codes "p") x ∷ []))
+    (clause_with (codes "n") negative ∷ []) (line ∷ codes "end 1" ∷ []) new → ⊥

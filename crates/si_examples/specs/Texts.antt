@@ -24,7 +24,8 @@ OwnLanguage = IsForeign (codes "cnf(c,axiom,p).") → ⊥
 
 -- and no item begins with `fof`
 abbrev pub NoForeignItem : Type 0
-NoForeignItem = (item : Item) (rest : Bytes) → BeginsWithItem (codes "fof(c,axiom,p).") item rest → ⊥
+NoForeignItem = (item : Item) (rest : Bytes)
+    → BeginsWithItem (codes "fof(c,axiom,p).") item rest → ⊥
 
 -- `p` in this many brackets
 abbrev pub bracketed_text : ℕ → Bytes
@@ -32,7 +33,9 @@ bracketed_text n = replicate n 40 ++ codes "p" ++ replicate n 41
 
 -- is read where there are 512
 abbrev pub DeepestText : Type 0
-DeepestText = (n : ℕ) → n ≡ 512 → IsFormulaText (record { positive = true; atom = predicate (codes "p") [] } ∷ []) (bracketed_text n)
+DeepestText = (n : ℕ) → n ≡ 512
+    → IsFormulaText (record { positive = true; atom = predicate (codes "p") [] } ∷ [])
+    (bracketed_text n)
 
 -- and has no meaning where there are 513
 abbrev pub NoDeeperText : Type 0

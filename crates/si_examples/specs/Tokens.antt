@@ -33,11 +33,15 @@ NoOneInteger = (token : Token) → TokenAt (codes "01") token [] → ⊥
 
 -- `X!=-3.` is four: a variable, a sign, an integer and a full stop
 abbrev pub SignedInteger : Type 0
-SignedInteger = Consists (codes "X!=-3.") (upper (codes "X") ∷ not_equal ∷ integer (codes "-3") ∷ full_stop ∷ [])
+SignedInteger =
+    Consists (codes "X!=-3.")
+    (upper (codes "X") ∷ not_equal ∷ integer (codes "-3") ∷ full_stop ∷ [])
 
 -- `f( X )` is four, with blanks between them
 abbrev pub WordAndVariable : Type 0
-WordAndVariable = Consists (codes "f( X )") (lower (codes "f") ∷ left_bracket ∷ upper (codes "X") ∷ right_bracket ∷ [])
+WordAndVariable =
+    Consists (codes "f( X )")
+    (lower (codes "f") ∷ left_bracket ∷ upper (codes "X") ∷ right_bracket ∷ [])
 
 -- a word ends only where it can go on no further: the first token of `ab` is not `a`
 abbrev pub NoPartOfWord : Type 0

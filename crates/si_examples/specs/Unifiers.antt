@@ -21,11 +21,13 @@ kept_term = terms.var kept_variable
 
 -- ?X and Y have the list {Y -> ?X}: the pattern's variable comes first, and stands for both
 abbrev pub FirstVariableLeads : Type 0
-FirstVariableLeads = IsCanonical same_variable Unifiable asked_term kept_term ((kept_variable, asked_term) ∷ [])
+FirstVariableLeads =
+    IsCanonical same_variable Unifiable asked_term kept_term ((kept_variable, asked_term) ∷ [])
 
 -- {?X -> Y} is not the list
 abbrev pub SecondVariableFollows : Type 0
-SecondVariableFollows = IsCanonical same_variable Unifiable asked_term kept_term ((asked, kept_term) ∷ []) → ⊥
+SecondVariableFollows =
+    IsCanonical same_variable Unifiable asked_term kept_term ((asked, kept_term) ∷ []) → ⊥
 
 -- nor is the list empty
 abbrev pub NoEmptyList : Type 0
@@ -52,18 +54,26 @@ BoundToTerm = IsCanonical same_variable Unifiable asked_term part ((asked, part)
 
 -- g(?X,?X) and g(Y,f(Y)) have none
 abbrev pub NoListOfCycle : Type 0
-NoListOfCycle = (list : Solution) → IsCanonical same_variable Unifiable (function (codes "g") (asked_term ∷ asked_term ∷ [])) (function (codes "g") (kept_term ∷ part ∷ [])) list → ⊥
+NoListOfCycle = (list : Solution)
+    → IsCanonical same_variable Unifiable (function (codes "g") (asked_term ∷ asked_term ∷ []))
+    (function (codes "g") (kept_term ∷ part ∷ [])) list → ⊥
 
 -- the list of g(?X,?Z) and g(f(Y),f(Y)) is {?Z -> ?X; ?X -> f(Y)}: the first of two equal variables
 -- stands for both
 abbrev pub EqualVariables : Type 0
-EqualVariables = IsCanonical same_variable Unifiable both_asked (function (codes "g") (part ∷ part ∷ [])) ((other, asked_term) ∷ (asked, part) ∷ [])
+EqualVariables =
+    IsCanonical same_variable Unifiable both_asked (function (codes "g") (part ∷ part ∷ []))
+    ((other, asked_term) ∷ (asked, part) ∷ [])
 
 -- and not {?X -> f(Y); ?Z -> f(Y)}
 abbrev pub NoTermTwice : Type 0
-NoTermTwice = IsCanonical same_variable Unifiable both_asked (function (codes "g") (part ∷ part ∷ [])) ((asked, part) ∷ (other, part) ∷ []) → ⊥
+NoTermTwice =
+    IsCanonical same_variable Unifiable both_asked (function (codes "g") (part ∷ part ∷ []))
+    ((asked, part) ∷ (other, part) ∷ []) → ⊥
 
 -- nor is {?X -> f(Y); ?Z -> h(f(Y))} that of g(?X,?Z) and g(f(Y),h(f(Y))), where ?X stands for the
 -- part f(Y)
 abbrev pub NoPartForVariable : Type 0
-NoPartForVariable = IsCanonical same_variable Unifiable both_asked (function (codes "g") (part ∷ whole ∷ [])) ((asked, part) ∷ (other, whole) ∷ []) → ⊥
+NoPartForVariable =
+    IsCanonical same_variable Unifiable both_asked (function (codes "g") (part ∷ whole ∷ []))
+    ((asked, part) ∷ (other, whole) ∷ []) → ⊥

@@ -8,16 +8,16 @@ use Rattle.si_defs.specs.Bytes.{Bytes}
 use Rattle.si_defs.specs.Terms as terms
 use Rattle.si_defs.specs.Symbols.{Symbol, same_symbol}
 use Rattle.si_defs.specs.Clauses.{Literal, IsSoundLiteral, AreSoundLiterals, literals_size}
-use Rattle.si_defs.specs.Entries.{literals_symbols}
+use Rattle.si_defs.specs.Entries.{literals_symbols, literals_variables}
 use Rattle.si_flat.specs.declared.Owner.{Owner}
 use Rattle.si_flat.specs.declared.Owner.TheVariants.{Query, Entry}
 use Rattle.si_flat.specs.Cells.{Variable, cells_of, AreSound, StandsFor}
 use Rattle.si_flat.specs.Numbered.{number_in, signed, place_in}
 use Rattle.si_flat.specs.Flattened.{numbers_from, unnumbered}
 use Rattle.si_flat.specs.Flattening.{owners_variable, WalkState, Flattens}
-use Rattle.si_flat.specs.FlatClauses.{variables_of, numbered_atoms, numbered_clause, flat_clause, clause_scheme, clause_piece, FlattensClauses}
-use Rattle.si_flat.proofs.Inserted.{inserted-append, inserted-firsts, inserted_extends, inserted_length}
-use Rattle.si_flat.proofs.Keys.{symbol-Decides}
+use Rattle.si_flat.specs.FlatClauses.{numbered_atoms, numbered_clause, flat_clause, clause_scheme, clause_piece, FlattensClauses}
+use Rattle.si_term.proofs.Inserted.{inserted-append, inserted-firsts, inserted_extends, inserted_length}
+use Rattle.si_defs.proofs.SymbolLaws.{symbol-Decides}
 use Rattle.si_flat.proofs.FirstPlaces.{firsts_apart}
 use Rattle.si_flat.proofs.ExtraNumbers.{all_have_from, numbers_from_zero}
 use Rattle.si_flat.proofs.Walking.{symbols_few}
@@ -49,8 +49,8 @@ module _ (owner : Owner) (a b : WalkState) (ls : List Literal) (names : a.names 
   pub clause_stands : (all : List Symbol) (more : List Symbol) → AreSoundLiterals ls → all ≡ b.extra ++ more → StandsFor b.cells (flat_clause (numbers_from 0 all) (owners_variable owner) ls)
   clause_stands all more sound is = record {
     cells_are =
-        let met : b.names ++ [] ≡ terms.firsts bytes_eq (variables_of ls) =
-        append-nil b.names ∙ walked.names ∙ ap (λ l. insert_all bytes_eq l (variables_of ls)) names ∙ inserted-firsts bytes_eq bytes_eq-Decides (variables_of ls) in
+        let met : b.names ++ [] ≡ terms.firsts bytes_eq (literals_variables ls) =
+        append-nil b.names ∙ walked.names ∙ ap (λ l. insert_all bytes_eq l (literals_variables ls)) names ∙ inserted-firsts bytes_eq bytes_eq-Decides (literals_variables ls) in
         walked.cells [] more
         ∙ λ i. cells i ++ cells_of (numbered_clause (λ s. number_in (numbers_from 0 (sym is i)) s) (λ x. owners_variable owner (place_in bytes_eq (met i) x)) ls);
     sound = (count-atoms _ _ ls, sound_atoms _ _ ls sound.each);

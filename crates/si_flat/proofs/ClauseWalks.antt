@@ -6,7 +6,7 @@ use Rattle.si_defs.specs.Bytes.{Bytes}
 use Rattle.si_defs.specs.Terms as terms
 use Rattle.si_defs.specs.Symbols.{Symbol, IsNumbering, same_symbol}
 use Rattle.si_defs.specs.Clauses.{Literal, literals_size, literal_size}
-use Rattle.si_defs.specs.Entries.{literals_symbols}
+use Rattle.si_defs.specs.Entries.{literals_symbols, literals_variables}
 use Rattle.si_flat.specs.declared.Cell.{Cell}
 use Rattle.si_flat.specs.declared.Cell.TheVariants as cell
 use Rattle.si_flat.specs.declared.Owner.{Owner}
@@ -16,7 +16,7 @@ use Rattle.si_flat.specs.Cells.{Variable, Terms, cells_of, cells_of_all}
 use Rattle.si_flat.specs.Numbered.{number_in, signed, place_in, numbered}
 use Rattle.si_flat.specs.Flattened.{numbers_from, unnumbered}
 use Rattle.si_flat.specs.Flattening.{owners_variable, number_by, MayMeet, WalkState, WalkPiece, walk_state, term_piece, Flattens}
-use Rattle.si_flat.specs.FlatClauses.{variables_of, numbered_atoms, literals_piece, clause_scheme, clause_piece}
+use Rattle.si_flat.specs.FlatClauses.{numbered_atoms, literals_piece, clause_scheme, clause_piece}
 use Rattle.si_flat.proofs.Subterms.{length-cells_of_all}
 use Rattle.si_flat.proofs.Walking.{flattens_then, room_after, numbered_size}
 
@@ -106,7 +106,7 @@ module _ (owner : Owner) (b c : WalkState) (first : Cell) (ls : List Literal) (b
       → ds ≡ slice_set c.cells 0 (cell.App (2 ^ 32 - 1) n m)
       → Flattens [] (clause_scheme owner) a (record { names = c.names; extra = c.extra; cells = ds }) (clause_piece ls)
   clause_closed a n m ds none names extra count long placed = record {
-    names = walked.names ∙ ap (λ l. insert_all bytes_eq l (variables_of ls)) names;
+    names = walked.names ∙ ap (λ l. insert_all bytes_eq l (literals_variables ls)) names;
     extra = walked.extra ∙ ap (λ l. insert_all same_symbol l (unnumbered [] (literals_symbols ls))) extra;
     cells = λ xs ss.
         let size : m ≡ 1 + terms.sizes (atoms xs ss) = omega (arith, long, clause_length, numbered_atoms_sizes (number_by [] (clause_scheme owner) (c.extra ++ ss)) (λ x. owners_variable owner (place_in bytes_eq (c.names ++ xs) x)) ls) in

@@ -1,20 +1,17 @@
 -- Numbers for the symbols that a table lacks, behind those of the table.
 use Rattle.std.proofs.Common.{◌≡◌, ◌⊎◌, inl, inr, ℕ, ◌+◌, ◌*◌, ◌<◌, ◌≤◌, ◌^◌, Bool, true, false, not, ◌||◌, List, [], ◌∷◌, ◌++◌, length, refl, ap, sym, ◌∙◌, arith, subst, true≢false}
 use Rattle.std.specs.Prelude.{filter}
+use Rattle.std.proofs.lemmas.Bool.{not-true}
 use Rattle.si_defs.specs.Symbols.{Symbol, Numbering, IsNumbering, same_symbol}
 use Rattle.si_defs.specs.Substitutions.{IsAmong}
 use Rattle.si_defs.specs.Terms.{firsts}
 use Rattle.si_flat.specs.Flattened.{numbers_from, extra_numbers, has_number, unnumbered, IsQueryNumbering}
-use Rattle.si_flat.proofs.Keys.{symbol-Decides}
+use Rattle.si_defs.proofs.SymbolLaws.{symbol-Decides, symbol_is}
+use Rattle.si_defs.proofs.ListLaws.{among_parts}
 use Rattle.si_flat.proofs.Numbers.{has-among}
 use Rattle.si_flat.proofs.FirstPlaces.{NoneAgain, among_filter, filter_among, among_firsts, firsts_among, firsts_apart}
 
--- ---- members of two lists
-pub among_either : {V : Type 0} (xs ys : List V) (x : V) → IsAmong (xs ++ ys) x → IsAmong xs x ⊎ IsAmong ys x
-among_either [] ys x h = inr h
-among_either (y ∷ xs) ys x (inl e) = inl (inl e)
-among_either (y ∷ xs) ys x (inr h) = elim (among_either xs ys x h) [ inl a ↦ inl (inr a) | inr b ↦ inr b ]
-
+-- ---- the numbers of two lists
 has-append : (pairs others : Numbering) (s : Symbol) → has_number (pairs ++ others) s ≡ (has_number pairs s || has_number others s)
 has-append [] others s = refl
 has-append (pair ∷ pairs) others s = by (same_symbol pair.0 s) (has-append pairs others s) where
@@ -74,10 +71,7 @@ lacking pairs ss = firsts same_symbol (unnumbered pairs ss)
 
 lacks : (pairs : Numbering) (ss : List Symbol) (s : Symbol) → IsAmong (lacking pairs ss) s → has_number pairs s ≡ false
 lacks pairs ss s h =
-    by (has_number pairs s) (among_filter (λ r. not (has_number pairs r)) ss s (firsts_among same_symbol symbol-Decides (unnumbered pairs ss) s h)).1 where
-      by : (b : Bool) → not b ≡ true → b ≡ false
-      by true e = absurd (true≢false (sym e))
-      by false e = refl
+    not-true (has_number pairs s) (among_filter (λ r. not (has_number pairs r)) ss s (firsts_among same_symbol (unnumbered pairs ss) s h)).1
 
 none_left : {V : Type 0} (p : V → Bool) (xs : List V) → ((x : V) → IsAmong xs x → p x ≡ false) → filter p xs ≡ []
 none_left p [] h = refl
@@ -89,7 +83,7 @@ all_have_from first pairs ss = none_left (λ s. not (has_number (pairs ++ number
   by : (s : Symbol) → IsAmong ss s → (b : Bool) → has_number pairs s ≡ b → (b || has_number (numbers_from first (lacking pairs ss)) s) ≡ true
   by s m true e = refl
   by s m false e =
-      has-from first (lacking pairs ss) s (among_firsts same_symbol symbol-Decides (unnumbered pairs ss) s (filter_among (λ r. not (has_number pairs r)) ss s m (ap not e)))
+      has-from first (lacking pairs ss) s (among_firsts same_symbol symbol_is (unnumbered pairs ss) s (filter_among (λ r. not (has_number pairs r)) ss s m (ap not e)))
 
 pub all_have : (pairs : Numbering) (ss : List Symbol) → unnumbered (pairs ++ extra_numbers (lacking pairs ss)) ss ≡ []
 all_have pairs ss = all_have_from (2 ^ 31) pairs ss
@@ -139,7 +133,7 @@ module _ (pairs : Numbering) (ss : List Symbol) (numbering : IsNumbering pairs) 
 
   pub extra_numbering : IsQueryNumbering (pairs ++ extra_numbers (lacking pairs ss))
   extra_numbering = record {
-    one_number = λ s m n a b. one_number_of s m n (among_either pairs (extra_numbers (lacking pairs ss)) (s, m) a) (among_either pairs (extra_numbers (lacking pairs ss)) (s, n) b);
-    one_symbol = λ s r n a b. one_symbol_of s r n (among_either pairs (extra_numbers (lacking pairs ss)) (s, n) a) (among_either pairs (extra_numbers (lacking pairs ss)) (r, n) b);
-    even = λ s n a. even_of s n (among_either pairs (extra_numbers (lacking pairs ss)) (s, n) a);
+    one_number = λ s m n a b. one_number_of s m n (among_parts pairs (extra_numbers (lacking pairs ss)) (s, m) a) (among_parts pairs (extra_numbers (lacking pairs ss)) (s, n) b);
+    one_symbol = λ s r n a b. one_symbol_of s r n (among_parts pairs (extra_numbers (lacking pairs ss)) (s, n) a) (among_parts pairs (extra_numbers (lacking pairs ss)) (r, n) b);
+    even = λ s n a. even_of s n (among_parts pairs (extra_numbers (lacking pairs ss)) (s, n) a);
   }

@@ -1,7 +1,7 @@
 -- Members numbered by their places among the first occurrences.
-use Rattle.std.proofs.Common.{◌≡◌, inl, inr, ℕ, suc, ◌+◌, Bool, true, false, cond, not, ◌==◌, List, [], ◌∷◌, ◌++◌, length, map, refl, ap, sym, ◌∙◌, arith, true≢false, Decides}
+use Rattle.std.proofs.Common.{◌≡◌, inl, inr, ℕ, zero, suc, ◌+◌, Bool, true, false, cond, not, ◌==◌, List, [], ◌∷◌, ◌++◌, length, map, refl, ap, sym, ◌∙◌, arith, true≢false, one-add, Decides}
 use Rattle.std.specs.Prelude.{filter, bytes_eq}
-use Rattle.std.proofs.lemmas.Bool.{eqb-true, eq-eqb}
+use Rattle.std.proofs.lemmas.Bool.{eqb-true, eq-eqb, not-true}
 use Rattle.std.proofs.lemmas.List.{map-append}
 use Rattle.std.proofs.lemmas.Slice.Eq.{bytes_eq-Decides}
 use Rattle.si_defs.specs.Bytes.{Bytes}
@@ -10,6 +10,8 @@ use Rattle.si_defs.specs.Substitutions.{IsAmong}
 use Rattle.si_defs.specs.Terms as terms
 use Rattle.si_defs.specs.Terms.{firsts}
 use Rattle.si_defs.specs.Clauses as clauses
+use Rattle.si_defs.proofs.SymbolLaws.{text_is}
+use Rattle.si_defs.proofs.BoolLaws.{agreed}
 use Rattle.si_flat.specs.Cells.{Variable, same_variable}
 use Rattle.si_flat.specs.Numbered.{place_in, numbered, all_numbered}
 use Rattle.si_flat.specs.Flattened.{counted_from, IsNumberedBy}
@@ -53,14 +55,14 @@ module _ {V : Type 0} where
     by true h = ap (λ l. f x ∷ l) h
     by false h = h
 
-module _ {V : Type 0} (same : V → V → Bool) (decides : (x y : V) → Decides (same x y) (x ≡ y)) where
-  -- the first occurrences are the members
-  pub among_firsts : (xs : List V) (y : V) → IsAmong xs y → IsAmong (firsts same xs) y
-  among_firsts [] y h = absurd h
-  among_firsts (x ∷ xs) y (inl e) = inl e
-  among_firsts (x ∷ xs) y (inr h) = by (same x y) refl (among_firsts xs y h) where
+-- the first occurrences are the members
+module _ {V : Type 0} (same : V → V → Bool) where
+  pub among_firsts : ((x y : V) → same x y ≡ true → x ≡ y) → (xs : List V) (y : V) → IsAmong xs y → IsAmong (firsts same xs) y
+  among_firsts tells [] y h = absurd h
+  among_firsts tells (x ∷ xs) y (inl e) = inl e
+  among_firsts tells (x ∷ xs) y (inr h) = by (same x y) refl (among_firsts tells xs y h) where
     by : (b : Bool) → same x y ≡ b → IsAmong (firsts same xs) y → IsAmong (firsts same (x ∷ xs)) y
-    by true e g = inl ((decides x y).0 e)
+    by true e g = inl (tells x y e)
     by false e g = inr (filter_among (λ z. not (same x z)) (firsts same xs) y g (ap not e))
 
   pub firsts_among : (xs : List V) (y : V) → IsAmong (firsts same xs) y → IsAmong xs y
@@ -68,14 +70,11 @@ module _ {V : Type 0} (same : V → V → Bool) (decides : (x y : V) → Decides
   firsts_among (x ∷ xs) y (inl e) = inl e
   firsts_among (x ∷ xs) y (inr h) = inr (firsts_among xs y (among_filter (λ z. not (same x z)) (firsts same xs) y h).0)
 
+module _ {V : Type 0} (same : V → V → Bool) (decides : (x y : V) → Decides (same x y) (x ≡ y)) where
   -- none of them comes again
   abbrev pub NoneAgain : List V → Type 0
   NoneAgain [] = Unit {0}
   NoneAgain (x ∷ xs) = ((y : V) → IsAmong xs y → same x y ≡ false) × NoneAgain xs
-
-  not_true : (b : Bool) → not b ≡ true → b ≡ false
-  not_true true h = absurd (true≢false (sym h))
-  not_true false h = refl
 
   filter_apart : (p : V → Bool) (xs : List V) → NoneAgain xs → NoneAgain (filter p xs)
   filter_apart p [] apart = tt
@@ -87,12 +86,12 @@ module _ {V : Type 0} (same : V → V → Bool) (decides : (x y : V) → Decides
   pub firsts_apart : (xs : List V) → NoneAgain (firsts same xs)
   firsts_apart [] = tt
   firsts_apart (x ∷ xs) = (
-    λ y m. not_true (same x y) (among_filter (λ z. not (same x z)) (firsts same xs) y m).1,
+    λ y m. not-true (same x y) (among_filter (λ z. not (same x z)) (firsts same xs) y m).1,
     filter_apart (λ z. not (same x z)) (firsts same xs) (firsts_apart xs),
   )
 
   -- members at one place are equal
-  place_one : (xs : List V) (x y : V) → IsAmong xs x → IsAmong xs y → place_in same xs x ≡ place_in same xs y → x ≡ y
+  pub place_one : (xs : List V) (x y : V) → IsAmong xs x → IsAmong xs y → place_in same xs x ≡ place_in same xs y → x ≡ y
   place_one [] x y mx my e = absurd mx
   place_one (z ∷ xs) x y mx my e = by (same z x) (same z y) refl refl e mx my (place_one xs x y) where
     of_rest : (w : V) → same z w ≡ false → IsAmong (z ∷ xs) w → IsAmong xs w
@@ -129,8 +128,26 @@ module _ {V : Type 0} (same : V → V → Bool) (decides : (x y : V) → Decides
         ap (λ l. f x ∷ filter (λ w. not (other (f x) w)) l) (firsts_map xs (λ y z my mz. h y z (inr my) (inr mz)))
         ∙ ap (λ l. f x ∷ l) (
         filter_map f (λ w. not (other (f x) w)) (firsts same xs)
-        ∙ ap (map f) (filter_agrees (λ y. not (other (f x) (f y))) (λ y. not (same x y)) (firsts same xs) (λ y m. ap not (h x y (inl refl) (inr (firsts_among xs y m)))))
+        ∙ ap (map f) (filter_agrees (λ y. not (other (f x) (f y))) (λ y. not (same x y)) (firsts same xs) (λ y m. ap not (h x y (inl refl) (inr (firsts_among same xs y m)))))
         )
+
+-- the text at a place
+abbrev pub text_at : List Bytes → ℕ → Bytes
+text_at [] n = []
+text_at (x ∷ xs) zero = x
+text_at (x ∷ xs) (suc n) = text_at xs n
+
+pub at_place : (xs : List Bytes) (x : Bytes) → IsAmong xs x → text_at xs (place_in bytes_eq xs x) ≡ x
+at_place [] x a = absurd a
+at_place (y ∷ xs) x a = by (bytes_eq y x) refl (at_place xs x)
+  where
+    by : (b : Bool) → bytes_eq y x ≡ b → (IsAmong xs x → text_at xs (place_in bytes_eq xs x) ≡ x) → text_at (y ∷ xs) (cond b 0 (1 + place_in bytes_eq xs x)) ≡ x
+    by true e rest = text_is y x e
+    by false e rest =
+        elim a [
+          | inl same ↦ absurd (true≢false (sym ((bytes_eq-Decides y x).1 same) ∙ e))
+          | inr b ↦ ap (text_at (y ∷ xs)) (one-add (place_in bytes_eq xs x)) ∙ rest b
+        ]
 
 -- ---- the variables of a numbered term
 mutual
@@ -159,16 +176,11 @@ numbered_by n variable tells t =
           ∙ map_among v (λ x. variable (0 + place_in bytes_eq xs x)) xs (λ y m. ap variable (omega arith))
           ∙ places_counted bytes_eq bytes_eq-Decides variable 0 xs (firsts_apart bytes_eq bytes_eq-Decides vs),
     ) where
-      agreed : (b c : Bool) → (b ≡ true → c ≡ true) → (c ≡ true → b ≡ true) → b ≡ c
-      agreed true c f g = sym (f refl)
-      agreed false true f g = g refl
-      agreed false false f g = refl
-
       one_place : (vs : List Bytes) (x y : Bytes) → IsAmong vs x → IsAmong vs y → (place_in bytes_eq (firsts bytes_eq vs) x == place_in bytes_eq (firsts bytes_eq vs) y) ≡ bytes_eq x y
       one_place vs x y mx my =
           let xs = firsts bytes_eq vs in
           agreed
           (place_in bytes_eq xs x == place_in bytes_eq xs y)
           (bytes_eq x y)
-          (λ e. (bytes_eq-Decides x y).1 (place_one bytes_eq bytes_eq-Decides xs x y (among_firsts bytes_eq bytes_eq-Decides vs x mx) (among_firsts bytes_eq bytes_eq-Decides vs y my) (eqb-true _ _ e)))
+          (λ e. (bytes_eq-Decides x y).1 (place_one bytes_eq bytes_eq-Decides xs x y (among_firsts bytes_eq text_is vs x mx) (among_firsts bytes_eq text_is vs y my) (eqb-true _ _ e)))
           (λ e. eq-eqb _ _ (ap (place_in bytes_eq xs) ((bytes_eq-Decides x y).0 e)))

@@ -17,9 +17,9 @@ use Rattle.si_flat.specs.Cells.{Variable, query, same_variable, cells_of, IsSoun
 use Rattle.si_flat.specs.Numbered.{number_in, signed, place_in, numbered, all_numbered}
 use Rattle.si_flat.specs.Flattened.{extra_numbers, unnumbered, whole_of, is_positive, IsSoundEntry, numbered_entry, IsNumberedBy, IsFlatOf, IsQueryNumbering, FlattensPattern, FillsEntry}
 use Rattle.si_flat.specs.Flattening.{owners_variable, met_names, met_extra, number_by, entry_scheme, WritesEntry}
-use Rattle.si_flat.proofs.Inserted.{inserted-firsts}
+use Rattle.si_term.proofs.Inserted.{inserted-firsts}
 use Rattle.si_flat.proofs.ExtraNumbers.{all_have, extra_numbering}
-use Rattle.si_flat.proofs.Keys.{symbol-Decides}
+use Rattle.si_defs.proofs.SymbolLaws.{symbol-Decides}
 use Rattle.si_flat.proofs.FirstPlaces.{numbered_by}
 
 -- ---- each symbol keeps its arguments

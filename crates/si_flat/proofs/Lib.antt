@@ -1,5 +1,5 @@
 pub mod Subterms
-pub mod Inserted
+mod InsertedPlaces
 pub mod NameLaws
 pub mod Keys
 pub mod Numbers
@@ -9,3 +9,4 @@ pub mod ExtraNumbers
 pub mod FlattenLaws
 pub mod ClauseWalks
 pub mod ClauseLaws
+pub mod VariableLaws

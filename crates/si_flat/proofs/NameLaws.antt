@@ -1,13 +1,12 @@
 -- Names of which the first few are compared one by one, and the others are in a set.
-use Rattle.std.proofs.Common.{◌≡◌, ℕ, suc, ◌+◌, ◌≤◌, ◌<◌, Bool, true, false, true≢false, cond, not, ◌||◌, List, [], ◌∷◌, ◌++◌, length, map, take, drop, get_or, Some, refl, ap, sym, ◌∙◌, arith, length-append}
+use Rattle.std.proofs.Common.{◌≡◌, ℕ, suc, ◌+◌, ◌≤◌, ◌<◌, Bool, true, false, true≢false, cond, not, ◌||◌, List, [], ◌∷◌, ◌++◌, length, take, drop, get_or, Some, refl, ap, sym, ◌∙◌, arith, length-append}
 use Rattle.std.specs.Prelude.{bytes_eq}
 use Rattle.std.specs.List.{list_any, position_or_len}
 use Rattle.std.proofs.lemmas.List.{map-append, drop_more, drop_all, take-append-drop, length-take-le}
 use Rattle.std.proofs.lemmas.List.Folds.{list_any-append}
 use Rattle.indexmap.specs.IndexSet.{insert_key}
-use Rattle.si_defs.specs.Bytes.{Bytes}
 use Rattle.si_flat.specs.Flattening.{FindsPlace}
-use Rattle.si_flat.proofs.Inserted.{Lent, lent_eq, any-shown, place-shown}
+use Rattle.si_term.proofs.Inserted.{Lent, lent_eq, shown, any-shown, place-shown}
 
 module _ {V : Type 0} (p : V → Bool) where
   -- those before number i fail the test
@@ -78,9 +77,6 @@ module _ {V : Type 0} (p : V → Bool) where
   found_later xs ys none = (list_any-append p xs ys ∙ ap (λ b. b || list_any p ys) none, found_behind xs ys none)
 
 -- ---- a name and those that were met
-abbrev pub shown : List Lent → List Bytes
-shown names = map (λ k. k.now) names
-
 module _ (names : List Lent) (x : Lent) where
   abbrev pub IsInserted : List Lent → ℕ → Type 0
   IsInserted after n =

@@ -6,8 +6,8 @@ use Rattle.si_defs.specs.Symbols.{Symbol, Numbering, IsNumbering, same_symbol}
 use Rattle.si_defs.specs.Substitutions.{IsAmong}
 use Rattle.si_flat.specs.Numbered.{number_in, signed, one_above, place_in}
 use Rattle.si_flat.specs.Flattened.{numbers_from, has_number}
-use Rattle.si_flat.proofs.Keys.{symbol-Decides}
-use Rattle.si_flat.proofs.Inserted.{inserted-known}
+use Rattle.si_defs.proofs.SymbolLaws.{symbol-Decides}
+use Rattle.si_term.proofs.Inserted.{inserted-known}
 
 -- whether a symbol has a number
 pub has-among : (pairs : Numbering) (s : Symbol) (n : ℕ) → IsAmong pairs (s, n) → has_number pairs s ≡ true

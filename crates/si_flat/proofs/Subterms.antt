@@ -19,6 +19,19 @@ mutual
   length-cells_of_all terms.none = refl
   length-cells_of_all (terms.more t ts) = length-append (cells_of t) (cells_of_all ts) ∙ omega (arith, length-cells_of t, length-cells_of_all ts)
 
+-- no term has no cells
+pub cells_some : (t : Term) → 0 < length (cells_of t)
+cells_some (terms.var x) = omega arith
+cells_some (terms.app s ts) = omega arith
+
+pub some_cell : (cells : List Cell) → IsWhole cells → 0 < length cells
+some_cell cells whole = omega (arith, ap length whole.1.cells_are, cells_some whole.0)
+
+pub without_cells : (ts : Terms) → cells_of_all ts ≡ [] → ts ≡ terms.none
+without_cells terms.none e = refl
+without_cells (terms.more (terms.var x) ts) e = cc
+without_cells (terms.more (terms.app s us) ts) e = cc
+
 -- the first cell of a term tells its number of cells
 pub span-first : (t : Term) (rest : List Cell) (d : Cell) → span (get_or (cells_of t ++ rest) 0 d) ≡ terms.size t
 span-first (terms.var (query n)) rest d = refl
@@ -129,7 +142,8 @@ sub-found cells at f = record {
   sound = f.sound;
 }
 
--- the same of the slice that begins at the place, with the number of cells that its first cell tells
+-- the same of the slice that begins at the place, with the number of cells that its first cell
+-- tells
 pub record IsCut (cells : List Cell) (at n : ℕ) : Type 0 where
   pub whole : IsWhole (take n (take (length cells - at) (drop at cells)))
   pub long : n ≤ length (take (length cells - at) (drop at cells))

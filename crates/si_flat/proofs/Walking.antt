@@ -16,7 +16,7 @@ use Rattle.si_flat.specs.Numbered.{place_in, numbered, all_numbered}
 use Rattle.si_flat.specs.Flattened.{unnumbered, has_number}
 use Rattle.si_flat.specs.Flattening.{owners_variable, number_by, IsIndex, IsSymbolNumber, MayMeet, met_names, met_extra, WalkState, walk_state, WalkPiece, piece_then, term_piece, terms_piece, Flattens}
 use Rattle.si_flat.proofs.Subterms.{length-cells_of_all}
-use Rattle.si_flat.proofs.Inserted.{inserted-append, inserted_extends, inserted_length}
+use Rattle.si_term.proofs.Inserted.{inserted-append, inserted_extends, inserted_length}
 
 -- ---- how many
 mutual

@@ -25,6 +25,11 @@ Term = terms.Term Symbol Variable
 abbrev pub Terms : Type 0
 Terms = terms.Terms Symbol Variable
 
+-- rows of terms, one behind the other
+abbrev pub join : Terms → Terms → Terms
+join terms.none us = us
+join (terms.more t ts) us = terms.more t (join ts us)
+
 abbrev pub variable_cell : Variable → Cell
 variable_cell (query n) = cell.Query n
 variable_cell (entry n) = cell.Entry n

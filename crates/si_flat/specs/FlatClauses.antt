@@ -1,11 +1,11 @@
 -- What the flat terms of two clauses stand for: each has its literals' atoms below one head.
-use Rattle.std.specs.Prelude.{◌≡◌, ℕ, ◌-◌, ◌^◌, true, List, [], ◌∷◌, ◌++◌, length, bytes_eq, flat_map}
+use Rattle.std.specs.Prelude.{◌≡◌, ℕ, ◌-◌, ◌^◌, true, List, [], ◌∷◌, ◌++◌, length, bytes_eq}
 use Rattle.si_defs.specs.Bytes.{Bytes}
 use Rattle.si_defs.specs.Terms as terms
 use Rattle.si_defs.specs.Symbols as symbols
 use Rattle.si_defs.specs.Symbols.{Numbering, IsNumbering, same_symbol}
 use Rattle.si_defs.specs.Clauses.{Literal}
-use Rattle.si_defs.specs.Entries.{literals_symbols}
+use Rattle.si_defs.specs.Entries.{literals_symbols, literals_variables}
 use Rattle.si_flat.specs.declared.Cell.{Cell}
 use Rattle.si_flat.specs.declared.Owner.{Owner}
 use Rattle.si_flat.specs.Cells.{Symbol, Variable, query, entry, Term, Terms, StandsFor, cells_of, cells_of_all}
@@ -19,28 +19,28 @@ use Rattle.si_flat.specs.declared.walk.Scheme.{Scheme}
 abbrev pub numbered_atoms : (symbols.Symbol → ℕ) → (Bytes → Variable) → List Literal → Terms
 numbered_atoms number variable [] = terms.none
 numbered_atoms number variable (l ∷ ls) =
-    terms.more (numbered (signed l.positive number) variable l.atom) (numbered_atoms number variable ls)
+    terms.more (numbered (signed l.positive number) variable l.atom)
+    (numbered_atoms number variable ls)
 
 -- the head of a clause has a number that is no symbol's
 abbrev pub clause_head : ℕ → Symbol
 clause_head literals = record { number = 2 ^ 32 - 1; arity = literals }
 
 abbrev pub numbered_clause : (symbols.Symbol → ℕ) → (Bytes → Variable) → List Literal → Term
-numbered_clause number variable ls = terms.app (clause_head (length ls)) (numbered_atoms number variable ls)
-
--- the occurrences of variables in the literals
-abbrev pub variables_of : List Literal → List Bytes
-variables_of ls = flat_map (λ l. terms.variables l.atom) ls
+numbered_clause number variable ls =
+    terms.app (clause_head (length ls)) (numbered_atoms number variable ls)
 
 -- The variables are numbered from 0 in the order of their first occurrence in all literals.
 abbrev pub flat_clause : Numbering → (ℕ → Variable) → List Literal → Term
 flat_clause pairs variable ls =
-    numbered_clause (number_in pairs) (λ x. variable (place_in bytes_eq (terms.firsts bytes_eq (variables_of ls)) x)) ls
+    numbered_clause (number_in pairs)
+    (λ x. variable (place_in bytes_eq (terms.firsts bytes_eq (literals_variables ls)) x)) ls
 
--- The symbols of both clauses have even numbers from 0 in the order of their first occurrence, those
--- of the first clause before those of the second.
+-- The symbols of both clauses have even numbers from 0 in the order of their first occurrence,
+-- those of the first clause before those of the second.
 abbrev pub clause_numbers : List Literal → List Literal → Numbering
-clause_numbers c d = numbers_from 0 (terms.firsts same_symbol (literals_symbols c ++ literals_symbols d))
+clause_numbers c d =
+    numbers_from 0 (terms.firsts same_symbol (literals_symbols c ++ literals_symbols d))
 
 pub record FlattensClauses (c d : List Literal) (flat : List Cell × List Cell) : Type 0 where
   pub first : StandsFor flat.0 (flat_clause (clause_numbers c d) query c)
@@ -51,7 +51,7 @@ pub record FlattensClauses (c d : List Literal) (flat : List Cell × List Cell) 
 -- ---- a walk over literals
 abbrev pub literals_piece : List Literal → WalkPiece
 literals_piece ls = record {
-  variables = variables_of ls;
+  variables = literals_variables ls;
   symbols = literals_symbols ls;
   cells = λ number variable. cells_of_all (numbered_atoms number variable ls);
 }
@@ -62,7 +62,7 @@ clause_scheme owner = record { positive = true; owner = owner; first = 0 }
 
 abbrev pub clause_piece : List Literal → WalkPiece
 clause_piece ls = record {
-  variables = variables_of ls;
+  variables = literals_variables ls;
   symbols = literals_symbols ls;
   cells = λ number variable. cells_of (numbered_clause number variable ls);
 }

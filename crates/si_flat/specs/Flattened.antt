@@ -6,7 +6,7 @@ use Rattle.si_defs.specs.Symbols.{Symbol, Numbering, IsNumbering, same_symbol}
 use Rattle.si_defs.specs.Substitutions.{IsAmong}
 use Rattle.si_defs.specs.Clauses as clauses
 use Rattle.si_defs.specs.Clauses.{IsSoundTerm, IsSoundLiteral, literal_size}
-use Rattle.si_defs.specs.Entries.{Entry, literal_entry, term_entry, entry_variables, pattern_entry}
+use Rattle.si_defs.specs.Entries.{Entry, literal_entry, term_entry, distinct_variables, pattern_entry}
 use Rattle.si_defs.specs.declared.TheConstants.{MOST_OCCURRENCES}
 use Rattle.si_term.specs.Terms.{symbol_of}
 use Rattle.si_term.specs.declared.term.Sym.{Sym}
@@ -60,7 +60,7 @@ abbrev pub numbered_entry : Numbering → (ℕ → Variable) → Entry → Term
 numbered_entry pairs variable e =
     numbered
     (signed (is_positive e) (number_in pairs))
-    (λ x. variable (place_in bytes_eq (firsts bytes_eq (entry_variables e)) x))
+    (λ x. variable (place_in bytes_eq (distinct_variables e) x))
     (whole_of e)
 
 -- so many variables, from a number on
@@ -72,20 +72,23 @@ counted_from variable k (suc n) = variable k ∷ counted_from variable (suc k) n
 abbrev pub IsNumberedBy : (ℕ → Variable) → Term → Type 0
 IsNumberedBy variable t = (n : ℕ) × (firsts same_variable (variables t) ≡ counted_from variable 0 n)
 
-pub record IsFlatOf (pairs : Numbering) (variable : ℕ → Variable) (e : Entry) (cells : List Cell) : Type 0 where
+pub record IsFlatOf (pairs : Numbering) (variable : ℕ → Variable) (e : Entry)
+    (cells : List Cell) : Type 0 where
   pub stands : StandsFor cells (numbered_entry pairs variable e)
   pub numbered : IsNumberedBy variable (numbered_entry pairs variable e)
 
 -- the entry's term, where each of its symbols has a number, and else none
 abbrev pub FlattensEntry : Numbering → Entry → Option (List Cell) → Type 0
 FlattensEntry pairs e None = unnumbered pairs (symbols (whole_of e)) ≡ [] → ⊥
-FlattensEntry pairs e (Some cells) = (unnumbered pairs (symbols (whole_of e)) ≡ []) × IsFlatOf pairs entry e cells
+FlattensEntry pairs e (Some cells) = (unnumbered pairs (symbols (whole_of e)) ≡ [])
+    × IsFlatOf pairs entry e cells
 
 -- the same in a buffer, with the names of the variables in the order of their numbers
-pub record HoldsEntry (pairs : Numbering) (e : Entry) (cells : List Cell) (names : List Bytes) : Type 0 where
+pub record HoldsEntry (pairs : Numbering) (e : Entry) (cells : List Cell)
+    (names : List Bytes) : Type 0 where
   pub known : unnumbered pairs (symbols (whole_of e)) ≡ []
   pub flat : IsFlatOf pairs entry e cells
-  pub are_names : names ≡ firsts bytes_eq (entry_variables e)
+  pub are_names : names ≡ distinct_variables e
 
 abbrev pub FillsEntry : Numbering → Entry → List Cell → List Bytes → Bool → Type 0
 FillsEntry pairs e cells names false = unnumbered pairs (symbols (whole_of e)) ≡ [] → ⊥
@@ -98,7 +101,9 @@ query_numbers pairs extra = pairs ++ extra_numbers (map symbol_of extra)
 -- Each of the symbols that have no number comes once, and they are numbered behind the others. All
 -- symbols have numbers then.
 pub record FlattensPattern (pairs : Numbering) (p : clauses.Pattern) (q : FlatQuery) : Type 0 where
-  pub extra : map symbol_of q.extra ≡ firsts same_symbol (unnumbered pairs (symbols (whole_of (pattern_entry p))))
+  pub extra : map symbol_of q.extra
+      ≡ firsts same_symbol (unnumbered pairs (symbols (whole_of (pattern_entry p))))
   pub flat : IsFlatOf (query_numbers pairs q.extra) query (pattern_entry p) q.flat
-  pub complete : unnumbered (query_numbers pairs q.extra) (symbols (whole_of (pattern_entry p))) ≡ []
+  pub complete : unnumbered (query_numbers pairs q.extra)
+      (symbols (whole_of (pattern_entry p))) ≡ []
   pub numbering : IsNumbering pairs → IsQueryNumbering (query_numbers pairs q.extra)

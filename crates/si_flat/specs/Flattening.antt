@@ -49,7 +49,8 @@ walk_state m cells = record { names = met_names m; extra = met_extra m; cells = 
 -- the place of the first member that passes a test, if there is one
 abbrev pub FindsPlace : {V : Type 0} → (V → Bool) → List V → Option ℕ → Type 0
 FindsPlace test xs None = list_any test xs ≡ false
-FindsPlace test xs (Some n) = (list_any test xs ≡ true) × (position_or_len test xs ≡ n) × (n < length xs)
+FindsPlace test xs (Some n) = (list_any test xs ≡ true) × (position_or_len test xs ≡ n)
+    × (n < length xs)
 
 -- so many stand before x, whatever comes behind
 abbrev pub IsIndex : {V : Type 0} → (V → V → Bool) → List V → V → ℕ → Type 0
@@ -57,10 +58,12 @@ IsIndex {V} same xs x n = (more : List V) → place_in same (xs ++ more) x ≡ n
 
 -- the number of a symbol, whatever is met later
 abbrev pub number_by : Numbering → Scheme → List Symbol → Symbol → ℕ
-number_by pairs scheme extra = signed scheme.positive (number_in (pairs ++ numbers_from scheme.first extra))
+number_by pairs scheme extra =
+    signed scheme.positive (number_in (pairs ++ numbers_from scheme.first extra))
 
 abbrev pub IsSymbolNumber : Numbering → Scheme → List Symbol → Symbol → ℕ → Type 0
-IsSymbolNumber pairs scheme extra s n = (more : List Symbol) → number_by pairs scheme (extra ++ more) s ≡ n
+IsSymbolNumber pairs scheme extra s n = (more : List Symbol)
+    → number_by pairs scheme (extra ++ more) s ≡ n
 
 -- what is walked over: its variables and symbols, and its cells by their numbers
 pub record WalkPiece : Type 0 where
@@ -91,7 +94,8 @@ piece_then p q = record {
 }
 
 -- Its variables and symbols were met in turn, and its cells were written, whatever is met later.
-pub record Flattens (pairs : Numbering) (scheme : Scheme) (old new : WalkState) (piece : WalkPiece) : Type 0 where
+pub record Flattens (pairs : Numbering) (scheme : Scheme) (old new : WalkState)
+    (piece : WalkPiece) : Type 0 where
   pub names : new.names ≡ insert_all bytes_eq old.names piece.variables
   pub extra : new.extra ≡ insert_all same_symbol old.extra (unnumbered pairs piece.symbols)
   pub cells : (xs : List Bytes) (ss : List Symbol)
@@ -111,4 +115,5 @@ entry_scheme owner positive = record { positive = positive; owner = owner; first
 
 abbrev pub WritesEntry : Numbering → Owner → entries.Entry → WrittenEntry → Type 0
 WritesEntry pairs owner e w =
-    Flattens pairs (entry_scheme owner (is_positive e)) empty_walk (walk_state w.met w.cells.items) (term_piece (whole_of e))
+    Flattens pairs (entry_scheme owner (is_positive e)) empty_walk (walk_state w.met w.cells.items)
+    (term_piece (whole_of e))

@@ -28,12 +28,14 @@ place_in same (y ∷ ys) x = cond (same y x) 0 (1 + place_in same ys x)
 
 -- the term with these numbers for its symbols and these variables for its own
 abbrev mutual
-  pub numbered : {V : Type 0} → (symbols.Symbol → ℕ) → (V → Variable) → terms.Term symbols.Symbol V → Term
+  pub numbered : {V : Type 0} → (symbols.Symbol → ℕ) → (V → Variable)
+      → terms.Term symbols.Symbol V → Term
   numbered number variable (terms.var x) = terms.var (variable x)
   numbered number variable (terms.app s ts) =
       terms.app (record { number = number s; arity = s.arity }) (all_numbered number variable ts)
 
-  pub all_numbered : {V : Type 0} → (symbols.Symbol → ℕ) → (V → Variable) → terms.Terms symbols.Symbol V → Terms
+  pub all_numbered : {V : Type 0} → (symbols.Symbol → ℕ) → (V → Variable)
+      → terms.Terms symbols.Symbol V → Terms
   all_numbered number variable terms.none = terms.none
   all_numbered number variable (terms.more t ts) =
       terms.more (numbered number variable t) (all_numbered number variable ts)

@@ -1,5 +1,5 @@
 // Entries and patterns as flat terms.
-ghost use Rattle.std.specs.Prelude.{◌≡◌, IfOk, map};
+ghost use Rattle.std.specs.Prelude.{◌≡◌, [], IfOk, map};
 ghost use Rattle.si_defs.specs.Clauses.{IsSoundPattern};
 ghost use Rattle.si_term.specs.Meaning.{entry_of, pattern_of};
 ghost use Rattle.si_flat.specs.Flattened.{IsSoundEntry, FillsEntry, FlattensEntry, FlattensPattern};
@@ -78,7 +78,9 @@ impl<'a> Model for EntryBuffer<'a> {
 
 impl<'a> EntryBuffer<'a> {
     /// An empty buffer. It takes no memory.
-    pub fn new(alloc: Global) -> EntryBuffer<'a> {
+    pub fn new(alloc: Global) -> EntryBuffer<'a>
+        ensures { result ≡ ([], []) }
+    {
         EntryBuffer {
             written: WrittenEntry::new(alloc),
         }
@@ -86,8 +88,8 @@ impl<'a> EntryBuffer<'a> {
 
     /// Puts the flat term of an entry in place of what the buffer held: the cells that
     /// [`flatten_entry`] gives, and the names of the entry's variables in the order of their
-    /// numbers. It tells whether the table has each of the symbols. Behind an error the buffer
-    /// holds no entry, and the next call puts one in place of whatever is there.
+    /// numbers. It tells whether the table has each of the symbols. Where it lacks one, and behind
+    /// an error, what the buffer shows is no entry's; the next call puts one in its place.
     pub fn fill<T: SymTable>(&mut self, table: &T, entry: Entry<'a>) -> Result<bool, AllocError>
         requires { IsSoundEntry (entry_of entry) }
         ensures { IfOk result (FillsEntry (T.pairs table.now) (entry_of entry.entry) self.new.0

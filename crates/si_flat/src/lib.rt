@@ -72,6 +72,11 @@ impl Cell {
 
 /// A query's first variable. It stands in the places of a list that hold nothing.
 impl Default for Cell {
+    ghost use Rattle.std.specs.Prelude.{◌≡◌};
+    ghost use Rattle.si_flat.specs.declared.Cell.TheVariants.{Query};
+
+    ghost is_default = { λ c. c ≡ Query 0 };
+
     fn default() -> Cell {
         Cell::Query(0)
     }

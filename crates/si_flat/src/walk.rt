@@ -1,5 +1,5 @@
 // A walk over a term of the program, which writes its cells.
-ghost use Rattle.std.specs.Prelude.{◌≡◌, ◌<◌, ◌≤◌, ◌-◌, ◌^◌, OnOk, length, map, slice_set};
+ghost use Rattle.std.specs.Prelude.{◌≡◌, ◌<◌, ◌≤◌, ◌-◌, ◌^◌, [], OnOk, length, map, slice_set};
 ghost use Rattle.si_defs.specs.Terms.{row, size, sizes};
 ghost use Rattle.si_defs.specs.declared.TheConstants.{MOST_OCCURRENCES};
 ghost use Rattle.si_term.specs.Terms.{term_of};
@@ -7,7 +7,7 @@ ghost use Rattle.si_term.specs.Meaning.{entry_of};
 ghost use Rattle.si_flat.specs.declared.Cell.TheVariants.{App};
 ghost use Rattle.si_flat.specs.Cells.{variable_cell};
 ghost use Rattle.si_flat.specs.Flattened.{whole_of};
-ghost use Rattle.si_flat.specs.Flattening.{owners_variable, walk_state, MayMeet, Flattens, WritesEntry, term_piece, terms_piece};
+ghost use Rattle.si_flat.specs.Flattening.{owners_variable, met_names, walk_state, MayMeet, Flattens, WritesEntry, term_piece, terms_piece};
 
 use crate::met::{FIRST_EXTRA, Met};
 use crate::{Cell, Owner};
@@ -33,7 +33,10 @@ pub(crate) struct WrittenEntry<'a> {
 
 impl<'a> WrittenEntry<'a> {
     // Nothing was met or written.
-    pub(crate) fn new(alloc: Global) -> WrittenEntry<'a> {
+    pub(crate) fn new(alloc: Global) -> WrittenEntry<'a>
+        ensures names { met_names result.met ≡ [] }
+        ensures cells { result.cells.items ≡ [] }
+    {
         WrittenEntry {
             met: Met::new(alloc),
             cells: Vec::new(alloc),

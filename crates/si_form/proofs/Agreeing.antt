@@ -5,12 +5,13 @@ use Rattle.std.proofs.Math.Seq.{drop-append_seam}
 use Rattle.std.specs.Prelude.{slice_get, IsTrue}
 use Rattle.std.specs.Borrow.{Bor}
 use Rattle.si_defs.specs.Terms as terms
+use Rattle.si_defs.proofs.TermLaws.{size_some}
 use Rattle.si_flat.specs.declared.Cell.{Cell}
 use Rattle.si_flat.specs.declared.Cell.TheVariants as cell
-use Rattle.si_flat.specs.Cells.{Symbol, Variable, query, entry, ind, same_variable, Term, Terms, variable_cell, cells_of, cells_of_all, IsSound, AreSound, StandsFor, IsWhole}
+use Rattle.si_flat.specs.Cells.{Symbol, Variable, query, entry, ind, same_variable, Term, Terms, variable_cell, cells_of, cells_of_all, IsSound, AreSound, StandsFor, IsWhole, join}
 use Rattle.si_flat.proofs.Subterms.{length-cells_of}
-use Rattle.si_unify.proofs.Reading.{same_term}
-use Rattle.si_unify.proofs.Rows.{join, cells-join, sound-join, count-join, substitute-join, count-substitute, join_injective}
+use Rattle.si_unify.proofs.Reading.{same_term, one_term}
+use Rattle.si_unify.proofs.Rows.{cells-join, sound-join, count-join, substitute-join, count-substitute, join_injective}
 use Rattle.si_flat.specs.declared.Owner.{Owner}
 use Rattle.si_flat.specs.declared.Owner.TheVariants.{Query, Entry}
 use Rattle.si_form.specs.declared.matching.Image.{Image}
@@ -38,9 +39,6 @@ variables-join terms.none us = refl
 variables-join (terms.more t ts) us =
     ap (λ l. terms.variables t ++ l) (variables-join ts us) ∙ sym (append_assoc (terms.variables t) (terms.variables_of_all ts) (terms.variables_of_all us))
 
-pub same_value : (cells : List Cell) (t u : Term) → StandsFor cells t → StandsFor cells u → t ≡ u
-same_value cells t u h k = (same_term t u [] [] h.sound k.sound (append-nil (cells_of t) ∙ sym h.cells_are ∙ k.cells_are ∙ sym (append-nil (cells_of u)))).same
-
 pub no_number : (owner : Owner) (s a n : ℕ) → variable_number owner (cell.App s a n) ≡ None
 no_number Query s a n = refl
 no_number Entry s a n = refl
@@ -49,10 +47,6 @@ variable_differs : (s a n : ℕ) (y : Variable) → HaveSameSymbol (cell.App s a
 variable_differs s a n (query k) h = h
 variable_differs s a n (entry k) h = h
 variable_differs s a n (ind k) h = h
-
-size_positive : (t : Term) → 0 < terms.size t
-size_positive (terms.var x) = omega arith
-size_positive (terms.app s ts) = omega arith
 
 symbol_of : (s r : Symbol) → s.number ≡ r.number → s.arity ≡ r.arity → s ≡ r
 symbol_of s r number arity =
@@ -215,7 +209,7 @@ module _ (owner : Owner) (q e : Term) (pattern target : List Cell) (i j m : ℕ)
   }
     where
       term_same : image.term ≡ r
-      term_same = same_value value image.term r (subst (λ l. StandsFor l image.term) same image.stands) stands
+      term_same = one_term value image.term r (subst (λ l. StandsFor l image.term) same image.stands) stands
 
       rest : (f : Variable → Term) → terms.more (f x) (terms.substitute_all f ts) ≡ terms.more r others → terms.substitute_all f ts ≡ others
       rest f row = cc
@@ -383,12 +377,12 @@ module _ (owner : Owner) (q e : Term) (pattern target : List Cell) (i j m : ℕ)
   still_inside old terms.none rs us h less = absurd (omega (arith, less, ap length h.pattern_rest, length-drop i pattern))
   still_inside old (terms.more t ts) terms.none us h less = absurd (omega (arith, h.same_count))
   still_inside old (terms.more t ts) (terms.more r others) us h less =
-      omega (arith, ap length h.target_rest, length-drop j target, length-append (cells_of r) (cells_of_all others), length-cells_of r, size_positive r)
+      omega (arith, ap length h.target_rest, length-drop j target, length-append (cells_of r) (cells_of_all others), length-cells_of r, size_some r)
 
   -- the whole pattern has been compared
   pub ends : (images : List Image) (ts rs : Terms) (us : List Term) → Rest images ts rs us → length pattern ≤ i → terms.firsts same_variable (terms.variables q) ≡ owners_variables owner 0 m → IsMatchedBy owner q e images true
   ends images (terms.more t ts) rs us h done numbered =
-      absurd (omega (arith, done, ap length h.pattern_rest, length-drop i pattern, length-append (cells_of t) (cells_of_all ts), length-cells_of t, size_positive t))
+      absurd (omega (arith, done, ap length h.pattern_rest, length-drop i pattern, length-append (cells_of t) (cells_of_all ts), length-cells_of t, size_some t))
   ends images terms.none (terms.more r others) us h done numbered = absurd (omega (arith, h.same_count))
   ends images terms.none terms.none us h done numbered = (
     us,

@@ -16,7 +16,8 @@ use Rattle.si_form.specs.declared.matching.Image.{Image}
 use Rattle.si_flat.specs.Flattening.{owners_variable}
 use Rattle.si_form.specs.Answers.{owners_variables, IsNumbered, AreNumbered, StandsForList, AnswersTo, Answers}
 use Rattle.si_form.specs.Matching.{AreNumberedImages, AreWholeImages, pairs, Assigns, MatchesBy, NoMatch, IsMatched, binding_of, MatchAnswersTo, MatchAnswers}
-use Rattle.si_form.proofs.VariableLaws.{same_tells, same_itself, variable_injective}
+use Rattle.si_flat.proofs.VariableLaws.{variable_is, variable_self}
+use Rattle.si_form.proofs.VariableLaws.{variable_injective}
 use Rattle.si_form.proofs.Counting.{NumberedTo, numbered_to}
 use Rattle.si_form.proofs.CanonicalLaws.{canonical_match, one_match}
 
@@ -43,7 +44,7 @@ later_image : (owner : Owner) (k m : ℕ) (u : Term) (bs : List (Variable × Ter
 later_image owner k m u bs less = by (same_variable (owners_variable owner k) (owners_variable owner m)) refl
   where
     by : (b : Bool) → same_variable (owners_variable owner k) (owners_variable owner m) ≡ b → cond b u (image same_variable bs (owners_variable owner m)) ≡ image same_variable bs (owners_variable owner m)
-    by true e = absurd (omega (arith, less, variable_injective owner k m (same_tells (owners_variable owner k) (owners_variable owner m) e)))
+    by true e = absurd (omega (arith, less, variable_injective owner k m (variable_is (owners_variable owner k) (owners_variable owner m) e)))
     by false e = refl
 
 agrees_later : (owner : Owner) (f g : Variable → Term) (k : ℕ) (us : List Term) → ((m : ℕ) → k < suc m → f (owners_variable owner m) ≡ g (owners_variable owner m)) → Assigns owner g k us → Assigns owner f k us
@@ -53,7 +54,7 @@ agrees_later owner f g k (u ∷ us) give h = (give k (omega arith) ∙ h.0, agre
 pub image_agrees : (owner : Owner) (k : ℕ) (us : List Term) → Assigns owner (image same_variable (pairs owner k us)) k us
 image_agrees owner k [] = tt
 image_agrees owner k (u ∷ us) = (
-  ap (λ b. cond b u (image same_variable (pairs owner (suc k) us) (owners_variable owner k))) (same_itself (owners_variable owner k)),
+  ap (λ b. cond b u (image same_variable (pairs owner (suc k) us) (owners_variable owner k))) (variable_self (owners_variable owner k)),
   agrees_later owner (image same_variable (pairs owner k (u ∷ us))) (image same_variable (pairs owner (suc k) us)) (suc k) us
       (λ m less. later_image owner k m u (pairs owner (suc k) us) (omega (arith, less))) (image_agrees owner (suc k) us),
 )
@@ -89,14 +90,14 @@ some_numbered owner n m (y ∷ xs) x h a =
 -- ---- canonical
 canonical_of : (owner : Owner) (q e : Term) (us : List Term) → MatchesBy owner q e us → IsNumbered (other owner) e → IsCanonicalMatch same_variable q e (pairs owner 0 us)
 canonical_of owner q e us h numbered =
-    canonical_match same_variable same_tells same_itself (IsNot owner) q e (pairs owner 0 us)
+    canonical_match same_variable variable_is variable_self (IsNot owner) q e (pairs owner 0 us)
     (lefts_counted owner 0 us ∙ sym h.numbered)
     (h.takes (image same_variable (pairs owner 0 us)) (image_agrees owner 0 us))
     (none_numbered owner 0 numbered.0 (terms.variables e) (numbered_to (other owner) numbered.0 (terms.variables e) numbered.1))
     (λ x a p. let k = some_numbered owner 0 (length us) (terms.variables q) x (numbered_to owner (length us) (terms.variables q) h.numbered) a in p k.0 k.1)
 
 only_one : (q e : Term) (bs cs : List (Variable × Term)) → IsCanonicalMatch same_variable q e bs → IsCanonicalMatch same_variable q e cs → cs ≡ bs
-only_one q e bs cs h k = one_match same_variable same_tells same_itself q e cs bs k h
+only_one q e bs cs h k = one_match same_variable variable_is variable_self q e cs bs k h
 
 no_instance : (q e : Term) → NoMatch q e → relations.IsInstance same_variable q e → ⊥
 no_instance q e h s = h (image same_variable s.0) s.1.takes

@@ -5,6 +5,7 @@ use Rattle.std.proofs.lemmas.Bool.{cases_lt}
 use Rattle.std.proofs.lemmas.Bool.Decides.{eqb_tells}
 use Rattle.si_defs.specs.Terms as terms
 use Rattle.si_defs.specs.Substitutions.{IsAmong}
+use Rattle.si_defs.proofs.ListLaws.{all_at, among_front, among_back, among_parts}
 use Rattle.si_flat.specs.declared.Cell.{Cell}
 use Rattle.si_flat.specs.Cells.{Variable, Term, StandsFor}
 use Rattle.si_flat.specs.Flattening.{owners_variable}
@@ -15,7 +16,6 @@ use Rattle.si_form.specs.Answers.{StandsForPair, StandsForList}
 use Rattle.si_form.specs.Folding.{leader}
 use Rattle.si_form.specs.Ordering.{with_listed, list_or_none, IsListed, IsFirstUnused, AreFirstUnused, AreOrdered}
 use Rattle.si_form.specs.Unifying.{ImagesStay, right_side, IsToBind, listed_bindings, HasUses, IsWholeList, IsGeneral, HasRightSide, ListsAllBindings}
-use Rattle.si_form.proofs.CanonicalLaws.{all_at, among_front, among_back, among_parts}
 use Rattle.si_form.proofs.NodeLaws.{slot_again}
 use Rattle.si_form.proofs.OrderingLaws.{next_more}
 use Rattle.si_form.proofs.RightSides.{LeadsItself, right_is}

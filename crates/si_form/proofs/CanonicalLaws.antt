@@ -1,66 +1,16 @@
 -- A list that matches is the canonical one, and the only one.
-use Rattle.std.proofs.Common.{◌≡◌, ◌⊎◌, inl, inr, Bool, true, false, cond, not, List, [], ◌∷◌, ◌++◌, refl, sym, ◌∙◌, ap, subst}
+use Rattle.std.proofs.Common.{◌≡◌, inl, inr, Bool, true, false, cond, not, List, [], ◌∷◌, refl, sym, ◌∙◌, ap, subst}
 use Rattle.std.specs.Prelude.{filter}
 use Rattle.std.specs.List.{AllByRecursion}
 use Rattle.si_defs.specs.Terms.{Term, Terms, var, app, none, more, variables, variables_of_all, substitute, substitute_all, firsts}
-use Rattle.si_defs.specs.Substitutions.{image, apply, lefts, rights, IsAmong, IsOn}
+use Rattle.si_defs.specs.Substitutions.{image, apply, lefts, rights, IsAmong, IsOn, AreDistinct}
 use Rattle.si_defs.specs.Solutions.{bind, in_sequence, IsCanonicalMatch}
+use Rattle.si_defs.proofs.ListLaws.{all_at, all_from, all_front, all_back, all_append, among_parts}
+use Rattle.si_defs.proofs.TermLaws.{same_app, same_more}
+use Rattle.si_flat.proofs.FirstPlaces.{among_filter, firsts_among}
 
 -- ---- elements of lists
 module _ {X : Type 0} where
-  pub all_at : (P : X → Type 0) (xs : List X) (x : X) → AllByRecursion P xs → IsAmong xs x → P x
-  all_at P [] x h a = elim a [ ]
-  all_at P (y ∷ ys) x h a = elim a [ inl e ↦ subst P e h.0 | inr b ↦ all_at P ys x h.1 b ]
-
-  pub all_from : (P : X → Type 0) (xs : List X) → ((x : X) → IsAmong xs x → P x) → AllByRecursion P xs
-  all_from P [] give = tt
-  all_from P (x ∷ xs) give = (give x (inl refl), all_from P xs (λ y a. give y (inr a)))
-
-  pub all_front : (P : X → Type 0) (xs ys : List X) → AllByRecursion P (xs ++ ys) → AllByRecursion P xs
-  all_front P [] ys h = tt
-  all_front P (x ∷ xs) ys h = (h.0, all_front P xs ys h.1)
-
-  pub all_back : (P : X → Type 0) (xs ys : List X) → AllByRecursion P (xs ++ ys) → AllByRecursion P ys
-  all_back P [] ys h = h
-  all_back P (x ∷ xs) ys h = all_back P xs ys h.1
-
-  pub all_append : (P : X → Type 0) (xs ys : List X) → AllByRecursion P xs → AllByRecursion P ys → AllByRecursion P (xs ++ ys)
-  all_append P [] ys h k = k
-  all_append P (x ∷ xs) ys h k = (h.0, all_append P xs ys h.1 k)
-
-  pub among_front : (xs ys : List X) (x : X) → IsAmong xs x → IsAmong (xs ++ ys) x
-  among_front [] ys x a = elim a [ ]
-  among_front (z ∷ xs) ys x a = elim a [ inl e ↦ inl e | inr b ↦ inr (among_front xs ys x b) ]
-
-  pub among_back : (xs ys : List X) (x : X) → IsAmong ys x → IsAmong (xs ++ ys) x
-  among_back [] ys x a = a
-  among_back (z ∷ xs) ys x a = inr (among_back xs ys x a)
-
-  pub among_parts : (xs ys : List X) (x : X) → IsAmong (xs ++ ys) x → IsAmong xs x ⊎ IsAmong ys x
-  among_parts [] ys x a = inr a
-  among_parts (y ∷ xs) ys x a =
-      elim a [
-        | inl e ↦ inl (inl e)
-        | inr b ↦ elim (among_parts xs ys x b) [ inl f ↦ inl (inr f) | inr g ↦ inr g ]
-      ]
-
-  -- no element stands twice
-  abbrev pub AreDistinct : List X → Type 0
-  AreDistinct [] = Unit {0}
-  AreDistinct (x ∷ xs) = (IsAmong xs x → ⊥) × AreDistinct xs
-
-  pub among_filter : (p : X → Bool) (xs : List X) (x : X) → IsAmong (filter p xs) x → IsAmong xs x × (p x ≡ true)
-  among_filter p [] x a = elim a [ ]
-  among_filter p (y ∷ xs) x a = by (p y) refl a (among_filter p xs x)
-    where
-      by : (b : Bool) → p y ≡ b → IsAmong (cond b (y ∷ filter p xs) (filter p xs)) x → (IsAmong (filter p xs) x → IsAmong xs x × (p x ≡ true)) → IsAmong (y ∷ xs) x × (p x ≡ true)
-      by true e h rest =
-          elim h [
-            | inl same ↦ (inl same, subst (λ z. p z ≡ true) same e)
-            | inr k ↦ let r = rest k in (inr r.0, r.1)
-          ]
-      by false e h rest = let r = rest h in (inr r.0, r.1)
-
   distinct_filter : (p : X → Bool) (xs : List X) → AreDistinct xs → AreDistinct (filter p xs)
   distinct_filter p [] h = tt
   distinct_filter p (x ∷ xs) h = by (p x) (distinct_filter p xs h.1)
@@ -98,23 +48,14 @@ module _ {S V : Type 0} where
     -- two maps that make one term of t agree at its variables
     pub agree : (f g : V → Term S V) (t : Term S V) → substitute f t ≡ substitute g t → AllByRecursion (λ x. f x ≡ g x) (variables t)
     agree f g (var x) e = (e, tt)
-    agree f g (app s ts) e = all_agree f g ts (arguments (substitute_all f ts) (substitute_all g ts) e)
-      where
-        arguments : (us vs : Terms S V) → app s us ≡ app s vs → us ≡ vs
-        arguments us vs same = cc
+    agree f g (app s ts) e = all_agree f g ts (same_app s s (substitute_all f ts) (substitute_all g ts) e).1
 
     all_agree : (f g : V → Term S V) (ts : Terms S V) → substitute_all f ts ≡ substitute_all g ts → AllByRecursion (λ x. f x ≡ g x) (variables_of_all ts)
     all_agree f g none e = tt
     all_agree f g (more t ts) e =
         all_append (λ x. f x ≡ g x) (variables t) (variables_of_all ts)
-        (agree f g t (first (substitute f t) (substitute g t) (substitute_all f ts) (substitute_all g ts) e))
-        (all_agree f g ts (others (substitute f t) (substitute g t) (substitute_all f ts) (substitute_all g ts) e))
-      where
-        first : (t u : Term S V) (us vs : Terms S V) → more t us ≡ more u vs → t ≡ u
-        first t u us vs same = cc
-
-        others : (t u : Term S V) (us vs : Terms S V) → more t us ≡ more u vs → us ≡ vs
-        others t u us vs same = cc
+        (agree f g t (same_more (substitute f t) (substitute g t) (substitute_all f ts) (substitute_all g ts) e).0)
+        (all_agree f g ts (same_more (substitute f t) (substitute g t) (substitute_all f ts) (substitute_all g ts) e).1)
 
   mutual
     -- the variables of a variable's image are variables of the whole image
@@ -132,14 +73,6 @@ module _ {S V : Type 0} where
 
 -- ---- first occurrences
 module _ {V : Type 0} (same : V → V → Bool) (tells : (x y : V) → same x y ≡ true → x ≡ y) (itself : (x : V) → same x x ≡ true) where
-  pub firsts_among : (xs : List V) (x : V) → IsAmong (firsts same xs) x → IsAmong xs x
-  firsts_among [] x a = a
-  firsts_among (y ∷ xs) x a =
-      elim a [
-        | inl e ↦ inl e
-        | inr b ↦ inr (firsts_among xs x (among_filter (λ z. not (same y z)) (firsts same xs) x b).0)
-      ]
-
   pub distinct_firsts : (xs : List V) → AreDistinct (firsts same xs)
   distinct_firsts [] = tt
   distinct_firsts (x ∷ xs) = (
@@ -232,7 +165,7 @@ module _ {S V : Type 0} (same : V → V → Bool) (tells : (x y : V) → same x 
   }
     where
       on : IsOn (variables q) bs
-      on = subst (AllByRecursion (IsAmong (variables q))) (sym each) (all_from (IsAmong (variables q)) (firsts same (variables q)) (λ x a. firsts_among same tells itself (variables q) x a))
+      on = subst (AllByRecursion (IsAmong (variables q))) (sym each) (all_from (IsAmong (variables q)) (firsts same (variables q)) (λ x a. firsts_among same (variables q) x a))
 
       whole : AllByRecursion P (variables (apply same bs q))
       whole = subst (λ t. AllByRecursion P (variables t)) (sym takes) target

@@ -7,7 +7,7 @@ use Rattle.si_defs.specs.declared.Relation.{Relation}
 use Rattle.si_defs.specs.declared.Relation.TheVariants.{Variants, Instances, Generalizations, Unifiable}
 use Rattle.si_defs.specs.Relations.{Relates}
 use Rattle.si_defs.specs.Solutions.{order, IsLeader, IsFoldedInside, IsCanonicalUnifier, IsCanonicalMatch, IsCanonical}
-use Rattle.si_form.proofs.CanonicalLaws.{all_at, among_back}
+use Rattle.si_defs.proofs.ListLaws.{all_at, among_back}
 use Rattle.si_form.proofs.Translating.{variable_made, translated_variables, Translation, back, translated, translated_list, symbol_returns, variable_returns, Returns, returned, returns_there, list_returned}
 use Rattle.si_form.proofs.Carrying.{Vocabulary, returns_or_not, relates_there}
 use Rattle.si_form.proofs.MadeLaws.{order_made, canonical_made}

@@ -8,7 +8,7 @@ use Rattle.si_defs.specs.declared.Relation.{Relation}
 use Rattle.si_defs.specs.declared.Relation.TheVariants.{Variants, Instances, Generalizations, Unifiable}
 use Rattle.si_defs.specs.Relations.{IsInstance, IsUnifiable, Relates}
 use Rattle.si_defs.specs.Solutions.{AreJoined}
-use Rattle.si_form.proofs.CanonicalLaws.{all_front, all_back, all_from, among_front, among_back}
+use Rattle.si_defs.proofs.ListLaws.{all_from, all_front, all_back, among_front, among_back}
 use Rattle.si_form.proofs.Translating.{translate, translate_all, Translation, translated, symbol_returns, Returns, AllReturn}
 
 -- Symbols and variables that are told apart, and more than one of each.

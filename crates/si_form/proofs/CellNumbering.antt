@@ -1,26 +1,28 @@
 -- The numbers of the terms from a place among cells on.
-use Rattle.std.proofs.Common.{◌≡◌, ℕ, ◌+◌, ◌<◌, ◌≤◌, inl, inr, List, [], ◌∷◌, ◌++◌, length, drop, get_or, suc, zero, refl, sym, ◌∙◌, ap, subst, arith, append_assoc, append-nil, Some, Result, Ok, Err}
+use Rattle.std.proofs.Common.{◌≡◌, ℕ, ◌+◌, ◌<◌, ◌≤◌, inl, inr, List, [], ◌∷◌, ◌++◌, length, drop, get_or, suc, zero, refl, sym, ◌∙◌, ap, subst, append_assoc, append-nil, Some}
 use Rattle.std.proofs.lemmas.List.{drop_more, drop_all}
-use Rattle.std.specs.Prelude.{slice_get, IfOk}
+use Rattle.std.specs.Prelude.{slice_get}
+use Rattle.std.proofs.lemmas.Option.{same_Some}
 use Rattle.si_defs.specs.Substitutions.{IsAmong}
 use Rattle.si_defs.specs.Terms as terms
+use Rattle.si_defs.proofs.ListLaws.{same_head, same_tail}
 use Rattle.si_flat.specs.declared.Cell.{Cell}
 use Rattle.si_flat.specs.declared.Cell.TheVariants as cell
-use Rattle.si_flat.specs.Cells.{Variable, query, entry, ind, Term, Terms, variable_cell, cells_of, cells_of_all, IsSound, AreSound, StandsFor, IsWhole}
+use Rattle.si_flat.specs.Cells.{Variable, query, entry, ind, Term, Terms, variable_cell, cells_of, cells_of_all, IsSound, AreSound, StandsFor, join}
 use Rattle.si_flat.proofs.Subterms.{Found, found_in, from_place}
 use Rattle.si_unify.specs.declared.slots.Slots.{Slots}
 use Rattle.si_unify.specs.Solving.{slot_of, AreInRange}
 use Rattle.si_unify.proofs.Places.{variable_of-slot_of, in_range-variable}
 use Rattle.si_unify.proofs.Reading.{same_term}
 use Rattle.si_form.specs.declared.classes.Node.{Node}
-use Rattle.si_form.specs.Classes.{chain, GrowsTo, HaveClasses, Applies, slots_of, KnowsSlot, IsSlotsClass, NumbersCell, HasClass, HaveRow, IsClassNumbering}
-use Rattle.si_form.proofs.NodeLaws.{grows_on, still_known, same_some}
+use Rattle.si_form.specs.Classes.{GrowsTo, HaveClasses, Applies, slots_of, KnowsSlot, IsSlotsClass, NumbersCell, HasClass, HaveRow, IsClassNumbering}
+use Rattle.si_form.proofs.NodeLaws.{grows_on, still_known}
 
 -- ---- rows of cells
 -- a row that begins with the cells of others begins with them
 pub record Splits (us row : Terms) (after : List Cell) : Type 0 where
   pub rest : Terms
-  pub row_is : row ≡ chain us rest
+  pub row_is : row ≡ join us rest
   pub sound : AreSound rest
   pub cells_are : cells_of_all rest ≡ after
 
@@ -37,9 +39,6 @@ splits (terms.more u us) (terms.more t row) after su sr e =
     record { rest = r.rest; row_is = ap (λ x. terms.more x row) (sym first.same) ∙ ap (terms.more u) r.row_is; sound = r.sound; cells_are = r.cells_are }
 
 -- ---- one cell
-same_heads : (c d : Cell) (xs ys : List Cell) → c ∷ xs ≡ d ∷ ys → (c ≡ d) × (xs ≡ ys)
-same_heads c d xs ys e = (cc, cc)
-
 slot_among : (slots : Slots) (x : Variable) (cells : List Cell) → IsAmong (slots_of slots (variable_cell x ∷ cells)) (slot_of slots x)
 slot_among slots (query n) cells = inl refl
 slot_among slots (entry n) cells = inl refl
@@ -85,12 +84,13 @@ module _ (slots : Slots) (classes : List ℕ) (cells : List Cell) (nodes1 nodes2
 
       by : (u : Term) → drop at cells ≡ cells_of u ++ found.after → IsSound u → HaveRow slots f known nodes2 cells at (n ∷ numbers2)
       by (terms.var x) from sound =
-          let heads = same_heads c (variable_cell x) (drop (at + 1) cells) found.after (sym place ∙ from) in
-          let own = variable_numbered slots classes nodes1 nodes2 numbers1 numbers2 x n (subst (λ d. NumbersCell slots classes nodes1 nodes2 numbers1 numbers2 d n) heads.0 numbered) in
-          let here : drop at cells ≡ variable_cell x ∷ drop (at + 1) cells = place ∙ ap (λ d. d ∷ drop (at + 1) cells) heads.0 in
+          let whole : c ∷ drop (at + 1) cells ≡ variable_cell x ∷ found.after = sym place ∙ from in
+          let head : c ≡ variable_cell x = same_head whole in
+          let own = variable_numbered slots classes nodes1 nodes2 numbers1 numbers2 x n (subst (λ d. NumbersCell slots classes nodes1 nodes2 numbers1 numbers2 d n) head numbered) in
+          let here : drop at cells ≡ variable_cell x ∷ drop (at + 1) cells = place ∙ ap (λ d. d ∷ drop (at + 1) cells) head in
           let in_x = in_range-variable slots x (subst (AreInRange slots) here (in_range_dropped slots cells at range)).0 in
           let k = knows (slot_of slots x) (among_dropped slots cells at (slot_of slots x) (subst (λ l. IsAmong (slots_of slots l) (slot_of slots x)) (sym here) (slot_among slots x (drop (at + 1) cells)))) in
-          let number_is : k.number ≡ n = same_some k.number n (sym k.class_is ∙ own.2) in
+          let number_is : k.number ≡ n = same_Some k.number n (sym k.class_is ∙ own.2) in
           let image : slice_get known n ≡ Some (f x) = ap (slice_get known) (sym number_is) ∙ k.image_is ∙ ap (λ y. Some (f y)) (variable_of-slot_of slots x in_x) in
           let grown : GrowsTo slots known nodes2 h.known' = subst (λ l. GrowsTo slots known l h.known') (sym own.0) h.grows in
           record {
@@ -102,9 +102,10 @@ module _ (slots : Slots) (classes : List ℕ) (cells : List Cell) (nodes1 nodes2
             numbers_are = (still_known slots known nodes2 h.known' n (f x) grown image, subst (λ l. HaveClasses f h.known' l h.row) (sym own.1) h.numbers_are);
           }
       by (terms.app s us) from sound =
-          let heads = same_heads c (cell.App s.number s.arity (1 + terms.sizes us)) (drop (at + 1) cells) (cells_of_all us ++ found.after) (sym place ∙ from) in
-          let parts = splits us h.row found.after sound.1 h.sound (sym heads.1 ∙ h.cells_are) in
-          let applies : Applies nodes1 nodes2 numbers1 numbers2 s n = subst (λ d. NumbersCell slots classes nodes1 nodes2 numbers1 numbers2 d n) heads.0 numbered in
+          let whole : c ∷ drop (at + 1) cells ≡ cell.App s.number s.arity (1 + terms.sizes us) ∷ (cells_of_all us ++ found.after) = sym place ∙ from in
+          let head : c ≡ cell.App s.number s.arity (1 + terms.sizes us) = same_head whole in
+          let parts = splits us h.row found.after sound.1 h.sound (sym (same_tail whole) ∙ h.cells_are) in
+          let applies : Applies nodes1 nodes2 numbers1 numbers2 s n = subst (λ d. NumbersCell slots classes nodes1 nodes2 numbers1 numbers2 d n) head numbered in
           let r = applies slots f h.known' us parts.rest h.grows.nodes_are (subst (HaveClasses f h.known' numbers1) parts.row_is h.numbers_are) sound.0 in
           record {
             known' = r.0;
@@ -162,14 +163,3 @@ numbering_ends nodes nodes1 nodes2 slots classes cells before n numbers1 numbers
     by (terms.more u us) known' grown sound e have =
         let same = same_term u t (cells_of_all us) [] sound.0 stands.sound (sym e ∙ stands.cells_are ∙ sym (append-nil (cells_of t))) in
         (known', grown, have.0 ∙ ap (λ v. Some (terms.substitute f v)) same.same)
-
-pub some_cell : (cells : List Cell) → IsWhole cells → 0 < length cells
-some_cell cells whole = by whole.0 (ap length whole.1.cells_are)
-  where
-    by : (t : Term) → length cells ≡ length (cells_of t) → 0 < length cells
-    by (terms.var x) e = omega (arith, e)
-    by (terms.app s ts) e = omega (arith, e)
-
-pub if_class : {E : Type 0} (r : Result ℕ E) (P Q : ℕ → Type 0) → ((n : ℕ) → P n → Q n) → IfOk r P → IfOk r Q
-if_class (Ok n) P Q give h = give n h
-if_class (Err e) P Q give h = h

@@ -1,5 +1,5 @@
 -- The classes of slots, from the last of an order to the first.
-use Rattle.std.proofs.Common.{◌≡◌, ◌≢◌, ℕ, ◌+◌, ◌<◌, ◌⊎◌, inl, inr, List, [], ◌∷◌, ◌++◌, length, suc, zero, refl, sym, ◌∙◌, ap, subst, arith, append_assoc, append-nil, length-append, Option, Some, None, Vec}
+use Rattle.std.proofs.Common.{◌≡◌, ℕ, ◌+◌, ◌<◌, ◌⊎◌, inl, inr, List, [], ◌∷◌, ◌++◌, length, refl, sym, ◌∙◌, ap, subst, arith, append_assoc, append-nil, length-append, Option, Some, None, Vec}
 use Rattle.std.proofs.lemmas.Bool.Decides.{eqb_tells}
 use Rattle.std.proofs.lemmas.List.{length-set}
 use Rattle.std.proofs.Math.ListN.{set}
@@ -8,6 +8,7 @@ use Rattle.std.specs.List.{AllByRecursion}
 use Rattle.std.specs.Borrow.{Bor}
 use Rattle.si_defs.specs.Substitutions.{IsAmong}
 use Rattle.si_defs.specs.Terms as terms
+use Rattle.si_defs.proofs.ListLaws.{among_parts, among_front, get_front, get_here, set_same, set_other}
 use Rattle.si_flat.specs.declared.Cell.{Cell}
 use Rattle.si_flat.specs.Cells.{Variable, Term, variable_cell}
 use Rattle.si_trail.specs.Trails.{value_at}
@@ -19,10 +20,8 @@ use Rattle.si_form.specs.declared.classes.Node.TheVariants.{Variable as Of}
 use Rattle.si_form.specs.Classes.{Interns, AreNodes, slots_of, KnowsSlot, HasClass, HasSingles, LeavesUnbound, KnowsWhere, HasClasses, IsClassing}
 use Rattle.si_form.specs.Ordering.{uses_at, list_or_none, IsListed, IsOpen, AreFirstUnused, AreOrdered}
 use Rattle.si_form.specs.Uses.{used_in, UsesBelow}
-use Rattle.si_form.proofs.CanonicalLaws.{among_parts}
-use Rattle.si_form.proofs.CanonicalLaws as members
-use Rattle.si_form.proofs.FoldedLaws.{among_front}
-use Rattle.si_form.proofs.NodeLaws.{grows, still_known, get_front, get_last}
+use Rattle.si_defs.proofs.ListLaws as members
+use Rattle.si_form.proofs.NodeLaws.{grows, still_known}
 use Rattle.si_form.proofs.UsesLaws.{listed_inside, listed_of_bound, range_slots}
 
 -- ---- single classes
@@ -43,7 +42,7 @@ singles_more slots nodes new classes classes' count n less h adds is =
       long = length-append classes (n ∷ []) ∙ omega (arith, h.long);
       knows = λ slot inside.
           elim (eqb_tells slot count) [
-            | inl e ↦ subst (KnowsSlot slots terms.var r.0 (classes ++ n ∷ [])) (sym e.1) (record { number = n; class_is = ap (slice_get (classes ++ n ∷ [])) (sym h.long) ∙ get_last classes n; image_is = r.2 })
+            | inl e ↦ subst (KnowsSlot slots terms.var r.0 (classes ++ n ∷ [])) (sym e.1) (record { number = n; class_is = ap (slice_get (classes ++ n ∷ [])) (sym h.long) ∙ get_here classes n []; image_is = r.2 })
             | inr e ↦
                 let k = h.knows slot (omega (arith, inside, e.1)) in
                 record { number = k.number; class_is = get_front classes (n ∷ []) slot k.number k.class_is; image_is = still_known slots h.known new r.0 k.number (terms.var (variable_of slots slot)) r.1 k.image_is }
@@ -78,18 +77,6 @@ module _ (used : ℕ → Option (List ℕ)) where
       ]
 
 -- ---- classes that change
-get_set_same : (xs : List ℕ) (i n : ℕ) → i < length xs → slice_get (set xs i n) i ≡ Some n
-get_set_same [] i n less = absurd (omega (arith, less))
-get_set_same (x ∷ xs) zero n less = refl
-get_set_same (x ∷ xs) (suc i) n less = get_set_same xs i n (omega (arith, less))
-
-get_set_other : (xs : List ℕ) (i j n : ℕ) → j ≢ i → slice_get (set xs i n) j ≡ slice_get xs j
-get_set_other [] i j n apart = refl
-get_set_other (x ∷ xs) zero zero n apart = absurd (apart refl)
-get_set_other (x ∷ xs) zero (suc j) n apart = refl
-get_set_other (x ∷ xs) (suc i) zero n apart = refl
-get_set_other (x ∷ xs) (suc i) (suc j) n apart = get_set_other xs i j n (λ e. apart (ap suc e))
-
 module _ {A : Type 0} (slots : Slots) (pairs : Pairs) (lists : List (Option (Vec ℕ A))) (long : length lists ≡ slot_count slots) (below : UsesBelow slots pairs lists) (bindings : AllByRecursion (IsBinding slots) pairs) where
   pub classing_begins : (nodes : List Node) (classes order : List ℕ) → AreOrdered (uses_at lists) order → HasSingles slots nodes classes (slot_count slots) → IsClassing (uses_at lists) slots pairs nodes classes order
   classing_begins nodes classes order ordered h = record {
@@ -171,12 +158,12 @@ module _ {A : Type 0} (slots : Slots) (pairs : Pairs) (lists : List (Option (Vec
                   elim (eqb_tells y slot) [
                     | inl e ↦
                         subst (KnowsSlot slots f g.0 (set classes slot n)) (sym e.1)
-                        (record { number = n; class_is = get_set_same classes slot n (omega (arith, slot_inside, h.long)); image_is = g.2 ∙ ap Some (sym image) })
+                        (record { number = n; class_is = set_same classes slot n (omega (arith, slot_inside, h.long)); image_is = g.2 ∙ ap Some (sym image) })
                     | inr e ↦
                         let k = r.2 y less (elim which [ inl u ↦ inl u | inr a ↦ elim a [ inl same ↦ absurd (e.1 (sym same)) | inr b ↦ inr b ] ]) in
                         record {
                           number = k.number;
-                          class_is = get_set_other classes slot y n e.1 ∙ k.class_is;
+                          class_is = set_other classes slot y n e.1 ∙ k.class_is;
                           image_is = still_known slots r.0 new g.0 k.number (f (variable_of slots y)) g.1 k.image_is;
                         }
                   ]),
@@ -196,7 +183,3 @@ module _ {A : Type 0} (slots : Slots) (pairs : Pairs) (lists : List (Option (Vec
           by : (o : Option (Bor (List Cell))) → value_at pairs y ≡ o → (value_at pairs y ≡ None) ⊎ IsAmong h.done y
           by None e = inl e
           by (Some v) e = inr (subst (λ l. IsAmong (l ++ h.done) y) none (h.ordered.all y (listed_of_bound slots pairs lists long below bindings y v less e)))
-
-pub no_items : (xs : List ℕ) → length xs ≡ 0 → xs ≡ []
-no_items [] e = refl
-no_items (x ∷ xs) e = absurd (omega (arith, e))

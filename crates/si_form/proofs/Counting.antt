@@ -1,12 +1,13 @@
 -- Variables numbered in the order of their first occurrence, read from left to right.
 use Rattle.std.proofs.Common.{◌≡◌, ℕ, ◌+◌, ◌<◌, ◌⊎◌, inl, inr, Bool, true, false, cond, not, List, [], ◌∷◌, suc, zero, refl, sym, ◌∙◌, ap, subst, arith}
 use Rattle.std.specs.Prelude.{filter, ◌||◌}
+use Rattle.std.proofs.lemmas.Bool.{cases_Bool}
 use Rattle.si_defs.specs.Terms.{firsts}
 use Rattle.si_flat.specs.Cells.{Variable, same_variable}
 use Rattle.si_flat.specs.declared.Owner.{Owner}
 use Rattle.si_flat.specs.Flattening.{owners_variable}
 use Rattle.si_form.specs.Answers.{owners_variables}
-use Rattle.si_form.proofs.VariableLaws.{same_tells}
+use Rattle.si_flat.proofs.VariableLaws.{variable_is}
 
 -- each variable is one of the first n, or the next one; m is how many there are at the end
 abbrev pub NumberedTo : Owner → ℕ → List Variable → ℕ → Type 0
@@ -14,10 +15,6 @@ NumberedTo owner n [] m = n ≡ m
 NumberedTo owner n (x ∷ xs) m =
     ((k : ℕ) × (k < n) × (x ≡ owners_variable owner k) × NumberedTo owner n xs m)
     ⊎ ((x ≡ owners_variable owner n) × NumberedTo owner (suc n) xs m)
-
-bool_tells : (b : Bool) → (b ≡ true) ⊎ (b ≡ false)
-bool_tells true = inl refl
-bool_tells false = inr refl
 
 -- ---- filters
 filter_filter : {X : Type 0} (p q r : X → Bool) (xs : List X) → ((x : X) → cond (q x) (p x) false ≡ r x) → filter p (filter q xs) ≡ filter r xs
@@ -40,8 +37,8 @@ module _ (owner : Owner) where
   below_tells : (n : ℕ) (x : Variable) → below n x ≡ true → (k : ℕ) × (k < n) × (x ≡ owners_variable owner k)
   below_tells zero x e = cc
   below_tells (suc n) x e =
-      elim (bool_tells (same_variable (owners_variable owner n) x)) [
-        | inl same ↦ (n, omega arith, sym (same_tells (owners_variable owner n) x same))
+      elim (cases_Bool (same_variable (owners_variable owner n) x)) [
+        | inl same ↦ (n, omega arith, sym (variable_is (owners_variable owner n) x same))
         | inr same ↦
             let rest = below_tells n x (sym (ap (λ b. b || below n x) same) ∙ e) in
             (rest.0, omega (arith, rest.1), rest.2)
@@ -52,7 +49,7 @@ module _ (owner : Owner) where
   passed n x y known = by (same_variable x y) refl
     where
       by : (b : Bool) → same_variable x y ≡ b → cond (not b) (keep n y) false ≡ keep n y
-      by true same = ap not (sym known ∙ ap (below n) (same_tells x y same))
+      by true same = ap not (sym known ∙ ap (below n) (variable_is x y same))
       by false same = refl
 
   -- the next one joins what was met
@@ -86,7 +83,7 @@ module _ (owner : Owner) where
   numbered_from n d [] e = none_counted n d e
   numbered_from n d (x ∷ xs) e =
       let behind : List Variable = filter (λ y. not (same_variable x y)) (firsts same_variable xs) in
-      elim (bool_tells (below n x)) [
+      elim (cases_Bool (below n x)) [
         | inl known ↦
             let k = below_tells n x known in
             let rest : filter (keep n) behind ≡ owners_variables owner n d =

@@ -6,8 +6,10 @@ use Rattle.std.proofs.lemmas.Bool.Decides.{eqb_tells}
 use Rattle.std.proofs.lemmas.List.{map-append}
 use Rattle.std.specs.List.{AllByRecursion}
 use Rattle.std.specs.Borrow.{Bor}
+use Rattle.std.proofs.lemmas.Option.{same_Some}
 use Rattle.si_defs.specs.Terms as terms
 use Rattle.si_defs.specs.Substitutions.{IsAmong}
+use Rattle.si_defs.proofs.ListLaws.{all_with, all_at, all_from}
 use Rattle.si_flat.specs.declared.Cell.{Cell}
 use Rattle.si_flat.specs.declared.Cell.TheVariants as cell
 use Rattle.si_flat.specs.Cells.{Symbol, Variable, query, entry, ind, Term, Terms, variable_cell, cells_of, cells_of_all, IsSound, StandsFor}
@@ -15,16 +17,17 @@ use Rattle.si_trail.specs.Trails.{value_at}
 use Rattle.si_unify.specs.declared.slots.Slots.{Slots}
 use Rattle.si_unify.specs.Solving.{Pairs, slot_count, slot_of, variable_of, CellIsInRange, Equalizes, IsBinding, IsPieceOf}
 use Rattle.si_unify.specs.Spots.{cell_slot, IsUnbound}
-use Rattle.si_unify.proofs.Lists.{all_with}
 use Rattle.si_unify.proofs.Places as places
-use Rattle.si_unify.proofs.Places.{whole_at, cell-at, first_cell, in_range-at, in_range-variable, variable_of-slot_of, slot_variable}
+use Rattle.si_unify.proofs.Places.{whole_at, cell-at, first_cell, in_range-variable, variable_of-slot_of, slot_variable}
+use Rattle.si_unify.proofs.Binding.{slot_below}
+use Rattle.si_unify.proofs.Meeting.{slot_of-cell}
 use Rattle.si_form.specs.Direct.{CellIsUnbound, head_slot, IsDirect, AreDirect, BecomesThat, IsFirst, led_variable, leading, renamed, AreRenamed}
 use Rattle.si_form.specs.Folding.{leader, variable_or, folded, folded_all}
 use Rattle.si_form.specs.Unifying.{IsApplication, StaysFree, right_side, IsToBind, IsRightSide, IsGeneral, HasRightSide}
-use Rattle.si_form.proofs.CanonicalLaws.{all_at, all_from, stays}
+use Rattle.si_form.proofs.CanonicalLaws.{stays}
 use Rattle.si_form.proofs.FoldedLaws.{images_inside}
-use Rattle.si_form.proofs.NodeLaws.{same_some, slot_again}
-use Rattle.si_form.proofs.TrailLaws.{slot_below, variables_ranked}
+use Rattle.si_form.proofs.NodeLaws.{slot_again}
+use Rattle.si_form.proofs.TrailLaws.{variables_ranked}
 use Rattle.si_form.proofs.DownLaws.{no_cell, variable_slot}
 use Rattle.si_form.proofs.FoundLaws.{folded_sound, none_to_bind}
 use Rattle.si_form.proofs.RightSides.{none_led, led, right_of_leader, right_of_follower}
@@ -48,11 +51,6 @@ no_head : (slots : Slots) (t : Term) → IsApplication t → cell_slot slots (fi
 no_head slots (terms.var y) a = no_application y (terms.var y) refl a
 no_head slots (terms.app s ts) a = refl
 
-variable_slot_is : (slots : Slots) (x : Variable) → cell_slot slots (variable_cell x) ≡ Some (slot_of slots x)
-variable_slot_is slots (query n) = refl
-variable_slot_is slots (entry n) = refl
-variable_slot_is slots (ind n) = refl
-
 head_is : (slots : Slots) (cells : List Cell) (t : Term) → StandsFor cells t → head_slot slots cells ≡ cell_slot slots (first_cell t)
 head_is slots cells t stands = ap (cell_slot slots) (cell-at cells 0 t no_cell (whole_at cells t stands))
 
@@ -75,9 +73,9 @@ of_variable slots x j range e =
 
 pub cell_variable : (slots : Slots) (c : Cell) (j : ℕ) → CellIsInRange slots c → Some j ≡ cell_slot slots c → IsCellOf slots c j
 cell_variable slots (cell.App s a n) j range e = cc
-cell_variable slots (cell.Query n) j range e = of_variable slots (query n) j range (same_some j n e)
-cell_variable slots (cell.Entry n) j range e = of_variable slots (entry n) j range (same_some j (slots.query + n) e)
-cell_variable slots (cell.Ind n) j range e = of_variable slots (ind n) j range (same_some j (slots.query + slots.entry + n) e)
+cell_variable slots (cell.Query n) j range e = of_variable slots (query n) j range (same_Some j n e)
+cell_variable slots (cell.Entry n) j range e = of_variable slots (entry n) j range (same_Some j (slots.query + n) e)
+cell_variable slots (cell.Ind n) j range e = of_variable slots (ind n) j range (same_Some j (slots.query + slots.entry + n) e)
 
 -- ---- values
 module _ (slots : Slots) (pairs : Pairs) (bindings : AllByRecursion (IsBinding slots) pairs) where
@@ -223,7 +221,7 @@ module _ (slots : Slots) (pairs : Pairs) (bindings : AllByRecursion (IsBinding s
               let cells : u.0.now ≡ cells_of (terms.app s ts) = (image_at w u.0 u.1).cells_are ∙ ap cells_of l.image_is in
               elim (eqb_tells w k) [
                 | inl same ↦
-                    let value : u.0 ≡ v = same_some u.0 v (sym u.1 ∙ ap (value_at pairs) same.1 ∙ bound) in
+                    let value : u.0 ≡ v = same_Some u.0 v (sym u.1 ∙ ap (value_at pairs) same.1 ∙ bound) in
                     let long : length v.now ≡ length (cells_of (terms.app s ts)) = ap (λ b. length b.now) (sym value) ∙ ap (λ l. length l) cells in
                     absurd (omega (arith, long, ap (λ l. length l) parts, length-append (before ++ cells_of (terms.app s ts)) after, length-append before (cells_of (terms.app s ts)), some))
                 | inr differs ↦
@@ -339,7 +337,7 @@ module _ (slots : Slots) (pairs : Pairs) (bindings : AllByRecursion (IsBinding s
                 omega (arith, same, h.own)
             go (Some v) some =
                 places.all_at (λ pair. head_slot slots pair.1.now ≡ Some slot → first ≤ pair.0) pairs w v h.others some
-                (head_at w v some ∙ ap (λ t. cell_slot slots (first_cell t)) e ∙ variable_slot_is slots (variable_of slots slot) ∙ ap Some (slot_again slots slot))
+                (head_at w v some ∙ ap (λ t. cell_slot slots (first_cell t)) e ∙ slot_of-cell slots (variable_of slots slot) ∙ ap Some (slot_again slots slot))
 
         by : (o : Option ℕ) → leader slots f (terms.var (variable_of slots slot)) ≡ o → leader slots f (terms.var (variable_of slots slot)) ≡ Some first
         by None e = absurd (none_led slots f (slot_count slots) (terms.var (variable_of slots slot)) e slot less own)
@@ -381,7 +379,7 @@ module _ (slots : Slots) (pairs : Pairs) (bindings : AllByRecursion (IsBinding s
             let l = free_leader y (free_in (terms.var y) e).0 in
             elim b.1 [
               | inl follows ↦
-                  let same : l.slot ≡ follows.0 = same_some l.slot follows.0 (sym l.leads ∙ ap (leader slots f) (sym e) ∙ follows.1) in
+                  let same : l.slot ≡ follows.0 = same_Some l.slot follows.0 (sym l.leads ∙ ap (leader slots f) (sym e) ∙ follows.1) in
                   let among : IsAmong (variable_of slots follows.0 ∷ []) (variable_of slots j) = subst (λ t. IsAmong (terms.variables t) (variable_of slots j)) (right_of_follower slots f k follows.0 follows.1 follows.2) a in
                   elim among [ inl e' ↦ bindless l.slot l.unbound j (ap (variable_of slots) same ∙ e') c | inr none ↦ elim none [ ] ]
               | inr leads ↦ no_application y (f (variable_of slots k)) e leads.1

@@ -14,8 +14,9 @@ use Rattle.si_unify.specs.Solving.{Pairs, slot_count, variable_of, CellIsInRange
 use Rattle.si_unify.specs.Spots.{cell_slot, IsBelow, ComesDown, IsChained}
 use Rattle.si_unify.proofs.Places.{all_at, whole_at, first_cell, cell-at, inside, in_range-at, in_range-variable, variable_of-slot_of, slot_variable}
 use Rattle.si_unify.proofs.Ranks.{chained_of_triangular}
+use Rattle.si_unify.proofs.Binding.{slot_below}
 use Rattle.si_form.specs.Unifying.{IsGeneral, HasApplication, IsBoundTo}
-use Rattle.si_form.proofs.TrailLaws.{HasSlot, slot_below, cell_has_slot, variables_ranked}
+use Rattle.si_form.proofs.TrailLaws.{HasSlot, cell_has_slot, variables_ranked}
 
 -- so many steps down from a slot
 pub record IsDown (slots : Slots) (pairs : Pairs) (slot at k : ℕ) : Type 0 where

@@ -1,11 +1,12 @@
 -- A list that binds each variable to its leader, or a leader to a folded term, is canonical.
-use Rattle.std.proofs.Common.{◌≡◌, inl, inr, Bool, true, false, cond, not, List, [], ◌∷◌, ◌++◌, refl, sym, ◌∙◌, ap, subst}
-use Rattle.std.specs.Prelude.{filter}
+use Rattle.std.proofs.Common.{◌≡◌, inl, inr, Bool, true, false, cond, List, [], ◌∷◌, ◌++◌, refl, sym, ◌∙◌, ap, subst}
 use Rattle.std.specs.List.{AllByRecursion}
-use Rattle.si_defs.specs.Terms.{Term, Terms, var, app, none, more, variables, variables_of_all, substitute, substitute_all, firsts}
+use Rattle.si_defs.specs.Terms.{Term, Terms, var, app, none, more, variables, variables_of_all, substitute, substitute_all}
 use Rattle.si_defs.specs.Substitutions.{apply, lefts, rights, IsAmong}
 use Rattle.si_defs.specs.Solutions.{bind, in_sequence, IsTriangular, order, AreJoined, IsFirstOf, IsLeader, IsFolded, AreFolded, IsFoldedInside, IsOrdered, IsCanonicalUnifier}
-use Rattle.si_form.proofs.CanonicalLaws.{all_at, all_from, all_front, all_back, all_append}
+use Rattle.si_defs.proofs.ListLaws.{all_at, all_from, all_front, all_back, all_append, among_front, among_back}
+use Rattle.si_defs.proofs.TermLaws.{same_app, same_more}
+use Rattle.si_flat.proofs.FirstPlaces.{among_firsts}
 use Rattle.si_form.proofs.UnifierLaws.{first_unique, pair_of_right}
 use Rattle.si_form.proofs.GeneralLaws.{Solves, solved_stays, general, HasUnifiers, general_unifies, equal_of_joined, joined_of_equal}
 
@@ -21,36 +22,6 @@ module _ {S V : Type 0} where
         all_append P (variables (substitute f t)) (variables_of_all (substitute_all f ts))
         (images_inside P f t (all_front (λ y. AllByRecursion P (variables (f y))) (variables t) (variables_of_all ts) h))
         (all_images_inside P f ts (all_back (λ y. AllByRecursion P (variables (f y))) (variables t) (variables_of_all ts) h))
-
--- ---- members of lists
-module _ {V : Type 0} where
-  pub among_front : (xs ys : List V) (x : V) → IsAmong xs x → IsAmong (xs ++ ys) x
-  among_front [] ys x a = elim a [ ]
-  among_front (y ∷ xs) ys x a = elim a [ inl e ↦ inl e | inr k ↦ inr (among_front xs ys x k) ]
-
-  pub among_back : (xs ys : List V) (x : V) → IsAmong ys x → IsAmong (xs ++ ys) x
-  among_back [] ys x a = a
-  among_back (y ∷ xs) ys x a = inr (among_back xs ys x a)
-
-  kept_among : (p : V → Bool) (xs : List V) (x : V) → IsAmong xs x → p x ≡ true → IsAmong (filter p xs) x
-  kept_among p [] x a k = elim a [ ]
-  kept_among p (y ∷ xs) x a k = by (p y) refl a (λ b. kept_among p xs x b k)
-    where
-      by : (c : Bool) → p y ≡ c → IsAmong (y ∷ xs) x → (IsAmong xs x → IsAmong (filter p xs) x) → IsAmong (cond c (y ∷ filter p xs) (filter p xs)) x
-      by true e a rest = elim a [ inl same ↦ inl same | inr b ↦ inr (rest b) ]
-      by false e a rest = elim a [ inl same ↦ (let bad : true ≡ false = sym k ∙ ap p (sym same) ∙ e in cc) | inr b ↦ rest b ]
-
-  pub firsts_all : (same : V → V → Bool) (tells : (x y : V) → same x y ≡ true → x ≡ y) (xs : List V) (x : V) → IsAmong xs x → IsAmong (firsts same xs) x
-  firsts_all same tells [] x a = elim a [ ]
-  firsts_all same tells (y ∷ xs) x a = by (same y x) refl (λ b. firsts_all same tells xs x b)
-    where
-      by : (c : Bool) → same y x ≡ c → (IsAmong xs x → IsAmong (firsts same xs) x) → IsAmong (firsts same (y ∷ xs)) x
-      by true e rest = inl (tells y x e)
-      by false e rest =
-          elim a [
-            | inl h ↦ inl h
-            | inr b ↦ inr (kept_among (λ z. not (same y z)) (firsts same xs) x (rest b) (ap not e))
-          ]
 
 module _ {S V : Type 0} (same : V → V → Bool) (tells : (x y : V) → same x y ≡ true → x ≡ y) (itself : (x : V) → same x x ≡ true) where
   bound_inside : (P : V → Type 0) (x : V) (u t : Term S V) → AllByRecursion (λ y. same x y ≡ false → P y) (variables t) → AllByRecursion P (variables u) → AllByRecursion P (variables (bind same x u t))
@@ -147,31 +118,19 @@ module _ {S V : Type 0} (same : V → V → Bool) (tells : (x y : V) → same x 
         one_term (var a) (app s us) p r j = let bad : var p.0.stands ≡ app s (substitute_all f us) = sym p.0.image_is ∙ j in cc
         one_term (app s ts) (var b) p r j = let bad : app s (substitute_all f ts) ≡ var r.0.stands = j ∙ r.0.image_is in cc
         one_term (app s ts) (app r us) p k j =
-            let heads : s ≡ r = head s r (substitute_all f ts) (substitute_all f us) j in
-            let rest : substitute_all f ts ≡ substitute_all f us = arguments s r (substitute_all f ts) (substitute_all f us) j in
-            ap (λ x. app x ts) heads ∙ ap (app r) (one_row ts us p k rest)
-          where
-            head : (s r : S) (ts us : Terms S V) → app s ts ≡ app r us → s ≡ r
-            head s r ts us j = cc
-
-            arguments : (s r : S) (ts us : Terms S V) → app s ts ≡ app r us → ts ≡ us
-            arguments s r ts us j = cc
+            let parts = same_app s r (substitute_all f ts) (substitute_all f us) j in
+            ap (λ x. app x ts) parts.0 ∙ ap (app r) (one_row ts us p k parts.1)
 
         one_row : (ts us : Terms S V) → AllByRecursion IsFree (variables_of_all ts) → AllByRecursion IsFree (variables_of_all us) → substitute_all f ts ≡ substitute_all f us → ts ≡ us
         one_row none none p r j = refl
         one_row none (more u us) p r j = cc
         one_row (more t ts) none p r j = cc
         one_row (more t ts) (more u us) p r j =
+            let parts = same_more (substitute f t) (substitute f u) (substitute_all f ts) (substitute_all f us) j in
             ap (λ x. more x ts)
-            (one_term t u (all_front IsFree (variables t) (variables_of_all ts) p) (all_front IsFree (variables u) (variables_of_all us) r) (head (substitute f t) (substitute f u) (substitute_all f ts) (substitute_all f us) j))
+            (one_term t u (all_front IsFree (variables t) (variables_of_all ts) p) (all_front IsFree (variables u) (variables_of_all us) r) parts.0)
             ∙ ap (more u)
-            (one_row ts us (all_back IsFree (variables t) (variables_of_all ts) p) (all_back IsFree (variables u) (variables_of_all us) r) (others (substitute f t) (substitute f u) (substitute_all f ts) (substitute_all f us) j))
-          where
-            head : (t u : Term S V) (ts us : Terms S V) → more t ts ≡ more u us → t ≡ u
-            head t u ts us j = cc
-
-            others : (t u : Term S V) (ts us : Terms S V) → more t ts ≡ more u us → ts ≡ us
-            others t u ts us j = cc
+            (one_row ts us (all_back IsFree (variables t) (variables_of_all ts) p) (all_back IsFree (variables u) (variables_of_all us) r) parts.1)
 
       -- what the list makes of a term has free variables alone
       all_free : (t : Term S V) → AllByRecursion (IsAmong (order same q e)) (variables t) → AllByRecursion IsFree (variables (in_sequence same bs t))
@@ -241,7 +200,7 @@ module _ {S V : Type 0} (same : V → V → Bool) (tells : (x y : V) → same x 
     inside_of (app s us) h = all_folded_of us h
 
     variables_known : (t : Term S V) → ((y : V) → IsAmong (variables t) y → IsAmong (variables q ++ variables e) y) → AllByRecursion (IsAmong (order same q e)) (variables t)
-    variables_known t give = all_from (IsAmong (order same q e)) (variables t) (λ y a. firsts_all same tells (variables q ++ variables e) y (give y a))
+    variables_known t give = all_from (IsAmong (order same q e)) (variables t) (λ y a. among_firsts same tells (variables q ++ variables e) y (give y a))
 
     pub canonical_of_folded : (bs : List (V × Term S V)) → IsFoldedList q e f bs → IsCanonicalUnifier same q e bs
     canonical_of_folded bs h = record {

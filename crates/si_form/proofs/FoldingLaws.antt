@@ -1,56 +1,53 @@
 -- Leaders of classes, and folded terms.
-use Rattle.std.proofs.Common.{◌≡◌, ◌≢◌, ℕ, ◌+◌, ◌-◌, ◌<◌, ◌≤◌, inl, inr, Bool, true, false, List, [], ◌∷◌, ◌++◌, length, take, get_or, replicate, suc, zero, refl, sym, ◌∙◌, ap, subst, arith, length-append, Option, Some, None}
+use Rattle.std.proofs.Common.{◌≡◌, ℕ, ◌+◌, ◌-◌, ◌<◌, ◌≤◌, inl, inr, Bool, true, false, List, [], ◌∷◌, ◌++◌, length, take, get_or, replicate, suc, zero, refl, sym, ◌∙◌, ap, subst, arith, length-append, Option, Some, None}
 use Rattle.std.proofs.lemmas.Bool.Decides.{eqb_tells}
-use Rattle.std.proofs.lemmas.Bool.{eq-eqb}
+use Rattle.std.proofs.lemmas.Bool.{and_from, and_parts}
 use Rattle.std.proofs.Math.ListN.{set}
-use Rattle.std.specs.Prelude.{slice_get, min, ◌^◌, ◌==◌, ◌&&◌}
+use Rattle.std.specs.Prelude.{slice_get, min, ◌^◌}
+use Rattle.std.proofs.lemmas.Option.{slice_get_within, same_Some, get_or_from_slice_get}
 use Rattle.si_defs.specs.Terms as terms
-use Rattle.si_flat.specs.Cells.{Symbol, Term, Terms}
+use Rattle.si_defs.proofs.ListLaws.{get_some, get_front, get_here, set_same, set_other}
+use Rattle.si_defs.proofs.TermLaws.{same_app}
+use Rattle.si_flat.specs.Cells.{Symbol, Term, Terms, join}
 use Rattle.si_unify.specs.declared.slots.Slots.{Slots}
 use Rattle.si_unify.specs.Solving.{variable_of}
+use Rattle.si_unify.proofs.Rows.{join-more, join-none}
 use Rattle.si_form.specs.declared.classes.Node.{Node}
 use Rattle.si_form.specs.declared.classes.Node.TheVariants.{Variable as Of, Head, With}
-use Rattle.si_form.specs.Classes.{chain, with_last, StandsForNode, AreNodes}
+use Rattle.si_form.specs.Classes.{with_last, StandsForNode, AreNodes}
 use Rattle.si_form.specs.Folding.{same_numbered, same_terms, same_rows, or_slot, leader_below, LeadClasses, HaveKnown, Descends, HasDescended, IsDescending, HasTerms, IsBefore, AreSizes, node_size, part_size}
-use Rattle.si_form.proofs.VariableLaws.{same_tells, same_itself}
-use Rattle.si_form.proofs.NodeLaws.{number_tells, both_true, get_inside, get_some, same_some, same_app, chain_last, chain_none, known_of, get_last, get_front}
+use Rattle.si_flat.proofs.VariableLaws.{variable_is, variable_self}
+use Rattle.si_form.proofs.NodeLaws.{known_of}
+use Rattle.si_form.proofs.Vocabularies.{number_tells, number_itself}
+use Rattle.si_form.proofs.UsesLaws.{get_or_front}
 
 -- ---- equal terms
-symbol_tells : (s r : Symbol) → same_numbered s r ≡ true → s ≡ r
-symbol_tells s r e =
-    let both = both_true (s.number == r.number) (s.arity == r.arity) e in
-    let make : ℕ → ℕ → Symbol = λ a b. record { number = a; arity = b } in
-    ap (λ a. make a s.arity) (number_tells s.number r.number both.0) ∙ ap (make r.number) (number_tells s.arity r.arity both.1)
-
 mutual
   pub terms_tell : (t u : Term) → same_terms t u ≡ true → t ≡ u
-  terms_tell (terms.var x) (terms.var y) e = ap terms.var (same_tells x y e)
+  terms_tell (terms.var x) (terms.var y) e = ap terms.var (variable_is x y e)
   terms_tell (terms.var x) (terms.app r us) e = cc
   terms_tell (terms.app s ts) (terms.var y) e = cc
   terms_tell (terms.app s ts) (terms.app r us) e =
-      let both = both_true (same_numbered s r) (same_rows ts us) e in
-      ap (λ x. terms.app x ts) (symbol_tells s r both.0) ∙ ap (terms.app r) (rows_tell ts us both.1)
+      let parts = and_parts (same_numbered s r) (same_rows ts us) e in
+      ap (λ x. terms.app x ts) (number_tells s r parts.0) ∙ ap (terms.app r) (rows_tell ts us parts.1)
 
   pub rows_tell : (ts us : Terms) → same_rows ts us ≡ true → ts ≡ us
   rows_tell terms.none terms.none e = refl
   rows_tell terms.none (terms.more u us) e = cc
   rows_tell (terms.more t ts) terms.none e = cc
   rows_tell (terms.more t ts) (terms.more u us) e =
-      let both = both_true (same_terms t u) (same_rows ts us) e in
-      ap (λ x. terms.more x ts) (terms_tell t u both.0) ∙ ap (terms.more u) (rows_tell ts us both.1)
-
-and_true : (a b : Bool) → a ≡ true → b ≡ true → (a && b) ≡ true
-and_true a b e k = ap (λ c. c && b) e ∙ k
+      let parts = and_parts (same_terms t u) (same_rows ts us) e in
+      ap (λ x. terms.more x ts) (terms_tell t u parts.0) ∙ ap (terms.more u) (rows_tell ts us parts.1)
 
 mutual
   pub terms_itself : (t : Term) → same_terms t t ≡ true
-  terms_itself (terms.var x) = same_itself x
+  terms_itself (terms.var x) = variable_self x
   terms_itself (terms.app s ts) =
-      and_true (same_numbered s s) (same_rows ts ts) (and_true (s.number == s.number) (s.arity == s.arity) (eq-eqb s.number s.number refl) (eq-eqb s.arity s.arity refl)) (rows_itself ts)
+      and_from (same_numbered s s) (same_rows ts ts) (number_itself s) (rows_itself ts)
 
   pub rows_itself : (ts : Terms) → same_rows ts ts ≡ true
   rows_itself terms.none = refl
-  rows_itself (terms.more t ts) = and_true (same_terms t t) (same_rows ts ts) (terms_itself t) (rows_itself ts)
+  rows_itself (terms.more t ts) = and_from (same_terms t t) (same_rows ts ts) (terms_itself t) (rows_itself ts)
 
 pub terms_differ : (t u : Term) → (t ≡ u → ⊥) → same_terms t u ≡ false
 terms_differ t u apart = by (same_terms t u) refl
@@ -60,23 +57,6 @@ terms_differ t u apart = by (same_terms t u) refl
     by false e = e
 
 -- ---- leaders of classes
-set_same : {X : Type 0} (xs : List X) (i : ℕ) (x : X) → i < length xs → slice_get (set xs i x) i ≡ Some x
-set_same [] i x less = absurd (omega (arith, less))
-set_same (y ∷ xs) zero x less = refl
-set_same (y ∷ xs) (suc i) x less = set_same xs i x (omega (arith, less))
-
-set_other : {X : Type 0} (xs : List X) (i j : ℕ) (x : X) → j ≢ i → slice_get (set xs i x) j ≡ slice_get xs j
-set_other [] i j x apart = refl
-set_other (y ∷ xs) zero zero x apart = absurd (apart refl)
-set_other (y ∷ xs) zero (suc j) x apart = refl
-set_other (y ∷ xs) (suc i) zero x apart = refl
-set_other (y ∷ xs) (suc i) (suc j) x apart = set_other xs i j x (λ e. apart (ap suc e))
-
-pub at_default : {X : Type 0} (xs : List X) (i : ℕ) (d x : X) → slice_get xs i ≡ Some x → get_or xs i d ≡ x
-at_default [] i d x e = cc
-at_default (y ∷ xs) zero d x e = same_some y x e
-at_default (y ∷ xs) (suc i) d x e = at_default xs i d x e
-
 get_replicate : {X : Type 0} (x : X) (n m : ℕ) → m < n → slice_get (replicate n x) m ≡ Some x
 get_replicate x zero m less = absurd (omega (arith, less))
 get_replicate x (suc n) zero less = refl
@@ -84,7 +64,7 @@ get_replicate x (suc n) (suc m) less = get_replicate x n m (omega (arith, less))
 
 pub leads_begin : (slots : Slots) (nodes : List Node) (classes : List ℕ) (leaders : List (Option ℕ)) (n : ℕ) → n ≡ length nodes → leaders ≡ replicate n None → LeadClasses slots nodes classes 0 leaders
 leads_begin slots nodes classes leaders n long is f known are m t e =
-    ap (λ l. slice_get l m) is ∙ get_replicate None n m (omega (arith, get_inside known m t e, are.are.long, long))
+    ap (λ l. slice_get l m) is ∙ get_replicate None n m (omega (arith, slice_get_within known m t e, are.are.long, long))
 
 pub leads_more :
     (slots : Slots) (nodes : List Node) (classes : List ℕ) (k c : ℕ) (leaders new : List (Option ℕ))
@@ -95,20 +75,20 @@ pub leads_more :
     → LeadClasses slots nodes classes (k + 1) new
 leads_more slots nodes classes k c leaders new less class_is is h f known are m t e =
     let at_slot = are.knows k (omega (arith, less, are.long)) in
-    let number_is : at_slot.number ≡ c = same_some at_slot.number c (sym at_slot.class_is ∙ class_is) in
+    let number_is : at_slot.number ≡ c = same_Some at_slot.number c (sym at_slot.class_is ∙ class_is) in
     let image : slice_get known c ≡ Some (f (variable_of slots k)) = ap (slice_get known) (sym number_is) ∙ at_slot.image_is in
     let before = h f known are in
     let next : leader_below slots f (k + 1) t ≡ or_slot (leader_below slots f k t) (same_terms (f (variable_of slots k)) t) k =
     (let n : k + 1 ≡ suc k = omega arith in ap (λ j. leader_below slots f j t) n) in
     elim (eqb_tells m c) [
       | inl same ↦
-          let t_is : f (variable_of slots k) ≡ t = same_some (f (variable_of slots k)) t (sym image ∙ ap (slice_get known) (sym same.1) ∙ e) in
+          let t_is : f (variable_of slots k) ≡ t = same_Some (f (variable_of slots k)) t (sym image ∙ ap (slice_get known) (sym same.1) ∙ e) in
           let fits : same_terms (f (variable_of slots k)) t ≡ true = ap (λ u. same_terms u t) t_is ∙ terms_itself t in
           let here = before m t e in
           ap (λ l. slice_get l m) is
           ∙ ap (slice_get (set leaders c (or_slot (get_or leaders c None) true k))) same.1
-          ∙ set_same leaders c (or_slot (get_or leaders c None) true k) (get_inside leaders c (leader_below slots f k t) (ap (slice_get leaders) (sym same.1) ∙ here))
-          ∙ ap (λ o. Some (or_slot o true k)) (at_default leaders c None (leader_below slots f k t) (ap (slice_get leaders) (sym same.1) ∙ here))
+          ∙ set_same leaders c (or_slot (get_or leaders c None) true k) (slice_get_within leaders c (leader_below slots f k t) (ap (slice_get leaders) (sym same.1) ∙ here))
+          ∙ ap (λ o. Some (or_slot o true k)) (get_or_from_slice_get leaders c (leader_below slots f k t) None (ap (slice_get leaders) (sym same.1) ∙ here))
           ∙ ap (λ b. Some (or_slot (leader_below slots f k t) b k)) (sym fits)
           ∙ ap Some (sym next)
       | inr differs ↦
@@ -123,11 +103,6 @@ leads_more slots nodes classes k c leaders new less class_is is h f known are m 
     no_slot : (o : Option ℕ) (k : ℕ) → or_slot o false k ≡ o
     no_slot None k = refl
     no_slot (Some j) k = refl
-
-pub read_at : {X : Type 0} (xs : List X) (i : ℕ) (x : X) → i < length xs → x ≡ get_or xs i x → slice_get xs i ≡ Some x
-read_at [] i x less e = absurd (omega (arith, less))
-read_at (y ∷ xs) zero x less e = ap Some (sym e)
-read_at (y ∷ xs) (suc i) x less e = read_at xs i x (omega (arith, less)) e
 
 take_none : {X : Type 0} (n : ℕ) (xs : List X) → xs ≡ [] → take n xs ≡ []
 take_none zero [] e = refl
@@ -144,7 +119,7 @@ pub descending_begins : (nodes : List Node) (left : List ℕ) (class : ℕ) → 
 descending_begins nodes left class slots known s ts rest are class_is have = record {
   before = ts;
   behind = terms.none;
-  parts = sym (chain_none ts);
+  parts = sym (join-none ts);
   front_is = class_is;
   piled = have;
 }
@@ -160,7 +135,7 @@ descending_more nodes left left1 left2 class front before argument h node pushed
     subst (λ l. HasDescended known l s ts rest before) (sym pushed) (record {
       before = m.arguments;
       behind = terms.more m.last d.behind;
-      parts = d.parts ∙ ap (λ us. chain us d.behind) same.1 ∙ sym (chain_last m.arguments d.behind m.last);
+      parts = d.parts ∙ ap (λ us. join us d.behind) same.1 ∙ join-more m.arguments d.behind m.last;
       front_is = m.front_is ∙ ap (λ r. Some (terms.app r m.arguments)) (sym same.0);
       piled = (m.last_is, d.piled);
     })
@@ -174,7 +149,7 @@ descending_ends nodes left left1 class front a b h node slots known s ts rest ar
     let m = front_known slots nodes known front (Head a b) s d.before are (sym node) d.front_is in
     let same = same_app s (record { number = a; arity = b }) d.before terms.none m in (
       ap (λ x. Some (x, b)) (ap (λ r. r.number) (sym same.0)) ∙ ap (λ y. Some (s.number, y)) (ap (λ r. r.arity) (sym same.0)),
-      subst (λ us. HaveKnown known left1 (chain us rest)) (sym (d.parts ∙ ap (λ us. chain us d.behind) same.1)) d.piled,
+      subst (λ us. HaveKnown known left1 (join us rest)) (sym (d.parts ∙ ap (λ us. join us d.behind) same.1)) d.piled,
     )
 
 pub descending_no_variable : (nodes : List Node) (left left1 : List ℕ) (class front slot : ℕ) → IsDescending nodes left left1 class front → Some (Of slot) ≡ slice_get nodes front → Descends nodes left left1 class None
@@ -186,7 +161,7 @@ descending_no_variable nodes left left1 class front slot h node slots known s ts
 pub descending_inside : (nodes : List Node) (left left1 : List ℕ) (class front : ℕ) → IsDescending nodes left left1 class front → None ≡ slice_get nodes front → Descends nodes left left1 class None
 descending_inside nodes left left1 class front h none slots known s ts rest are class_is have =
     let d = h slots known s ts rest are class_is have in
-    let r = get_some nodes front (omega (arith, get_inside known front (terms.app s d.before) d.front_is, are.long)) in
+    let r = get_some nodes front (omega (arith, slice_get_within known front (terms.app s d.before) d.front_is, are.long)) in
     let bad : None ≡ Some r.0 = none ∙ r.1 in cc
 
 -- ---- sizes
@@ -198,17 +173,12 @@ is_before nodes n (With p q) has at = let m = (known_of has.0 nodes has.1 has.2 
 pub sizes_begin : (nodes : List Node) (leaders : List (Option ℕ)) (sizes : List ℕ) → sizes ≡ [] → AreSizes nodes leaders 0 sizes
 sizes_begin nodes leaders sizes none = record { long = ap length none; sizes_are = λ n node less at. absurd (omega (arith, less)) }
 
-get_or_front : (xs ys : List ℕ) (i : ℕ) → i < length xs → get_or (xs ++ ys) i 0 ≡ get_or xs i 0
-get_or_front [] ys i less = absurd (omega (arith, less))
-get_or_front (x ∷ xs) ys zero less = refl
-get_or_front (x ∷ xs) ys (suc i) less = get_or_front xs ys i (omega (arith, less))
-
 size_front : (sizes more : List ℕ) (leaders : List (Option ℕ)) (node : Node) → IsBefore (length sizes) node → node_size (sizes ++ more) leaders node ≡ node_size sizes leaders node
 size_front sizes more leaders (Of slot) h = refl
 size_front sizes more leaders (Head s a) h = refl
 size_front sizes more leaders (With p q) h =
-    ap (λ x. min (x + part_size (get_or leaders q None) (get_or (sizes ++ more) q 0)) (2 ^ 32 - 1)) (get_or_front sizes more p h.0)
-    ∙ ap (λ x. min (get_or sizes p 0 + part_size (get_or leaders q None) x) (2 ^ 32 - 1)) (get_or_front sizes more q h.1)
+    ap (λ x. min (x + part_size (get_or leaders q None) (get_or (sizes ++ more) q 0)) (2 ^ 32 - 1)) (get_or_front sizes more p 0 h.0)
+    ∙ ap (λ x. min (get_or sizes p 0 + part_size (get_or leaders q None) x) (2 ^ 32 - 1)) (get_or_front sizes more q 0 h.1)
 
 later_before : (m n : ℕ) (node : Node) → m ≤ n → IsBefore m node → IsBefore n node
 later_before m n (Of slot) less h = tt
@@ -223,8 +193,8 @@ sizes_more nodes leaders sizes new k size node has at h size_is is = subst (AreS
       let same : node_size (sizes ++ size ∷ []) leaders other ≡ node_size sizes leaders other = size_front sizes (size ∷ []) leaders other before in
       elim (eqb_tells n k) [
         | inl e ↦
-            let node_is : other ≡ node = same_some other node (sym here ∙ ap (slice_get nodes) e.1 ∙ sym at) in
-            ap (slice_get (sizes ++ size ∷ [])) (e.1 ∙ sym h.long) ∙ get_last sizes size ∙ ap Some (size_is ∙ ap (node_size sizes leaders) (sym node_is) ∙ sym same)
+            let node_is : other ≡ node = same_Some other node (sym here ∙ ap (slice_get nodes) e.1 ∙ sym at) in
+            ap (slice_get (sizes ++ size ∷ [])) (e.1 ∙ sym h.long) ∙ get_here sizes size [] ∙ ap Some (size_is ∙ ap (node_size sizes leaders) (sym node_is) ∙ sym same)
         | inr e ↦ get_front sizes (size ∷ []) n (node_size sizes leaders other) (h.sizes_are n other (omega (arith, less, e.1)) here) ∙ ap Some (sym same)
       ];
 })

@@ -3,7 +3,9 @@ use Rattle.std.proofs.Common.{◌≡◌, ◌≢◌, ℕ, ◌+◌, ◌<◌, inl, 
 use Rattle.std.proofs.lemmas.Bool.Decides.{eqb_tells}
 use Rattle.std.specs.Prelude.{slice_get}
 use Rattle.std.specs.List.{AllByRecursion}
+use Rattle.std.proofs.lemmas.Option.{slice_get_within, same_Some, get_or_from_slice_get}
 use Rattle.si_defs.specs.Terms as terms
+use Rattle.si_defs.proofs.ListLaws.{all_at, all_from}
 use Rattle.si_flat.specs.declared.Cell.{Cell}
 use Rattle.si_flat.specs.Cells.{Variable, Term, Terms, variable_cell, IsSound, AreSound, StandsFor}
 use Rattle.si_unify.specs.declared.slots.Slots.{Slots}
@@ -14,9 +16,6 @@ use Rattle.si_form.specs.Folding.{leader, variable_or, folded, folded_all, AreCl
 use Rattle.si_form.specs.Unifying.{IsApplication, StaysFree, IsToBind, IsRightSide, IsGeneral, HasGeneral, AreFound, IsBoundTo, HasRightSide, HaveRightSides}
 use Rattle.si_form.specs.Ordering.{list_of}
 use Rattle.si_form.proofs.UsesLaws.{get_or_front, get_or_last}
-use Rattle.si_form.proofs.CanonicalLaws.{all_from, all_at}
-use Rattle.si_form.proofs.NodeLaws.{same_some, get_inside}
-use Rattle.si_form.proofs.FoldingLaws.{at_default}
 use Rattle.si_form.proofs.RightSides.{led, none_led, no_leader, none_longer, right_of_follower, right_of_leader}
 
 -- ---- folded terms are sound
@@ -46,7 +45,7 @@ module _ (slots : Slots) (f : Variable → Term) where
   pub none_to_bind : (k : ℕ) (y : Variable) → leader slots f (f (variable_of slots k)) ≡ Some k → f (variable_of slots k) ≡ terms.var y → IsToBind slots f k → ⊥
   none_to_bind k y leads e b =
       elim b.1 [
-        | inl follows ↦ follows.2 (same_some follows.0 k (sym follows.1 ∙ leads))
+        | inl follows ↦ follows.2 (same_Some follows.0 k (sym follows.1 ∙ leads))
         | inr own ↦ not_application k y e own.1
       ]
 
@@ -66,7 +65,7 @@ module _ (slots : Slots) (pairs : Pairs) (nodes : List Node) (classes : List ℕ
       let are : AreClasses slots f nodes classes knows.0 = record { are = knows.1; long = found.classes_are.long; knows = λ j less. knows.2 j less tt } in
       let own = knows.2 slot inside tt in
       let image : slice_get knows.0 class ≡ Some (f (variable_of slots slot)) =
-      ap (slice_get knows.0) (same_some class own.number (sym class_is ∙ own.class_is)) ∙ own.image_is in
+      ap (slice_get knows.0) (same_Some class own.number (sym class_is ∙ own.class_is)) ∙ own.image_is in
       record {
         known = knows.0;
         are = are;
@@ -76,10 +75,10 @@ module _ (slots : Slots) (pairs : Pairs) (nodes : List Node) (classes : List ℕ
       }
 
   pub class_inside : class < length leaders
-  class_inside = let c = class_of found.some.0 found.some.1 in get_inside leaders class (leader slots found.some.0 (found.some.0 (variable_of slots slot))) c.leader_is
+  class_inside = let c = class_of found.some.0 found.some.1 in slice_get_within leaders class (leader slots found.some.0 (found.some.0 (variable_of slots slot))) c.leader_is
 
   leader_at : (f : Variable → Term) → IsGeneral slots pairs f → (o : Option ℕ) → o ≡ get_or leaders class None → leader slots f (f (variable_of slots slot)) ≡ o
-  leader_at f general o is = sym (is ∙ at_default leaders class None (leader slots f (f (variable_of slots slot))) (class_of f general).leader_is)
+  leader_at f general o is = sym (is ∙ get_or_from_slice_get leaders class (leader slots f (f (variable_of slots slot))) None (class_of f general).leader_is)
 
   pub leader_inside : (w : ℕ) → Some w ≡ get_or leaders class None → w < slot_count slots
   leader_inside w is =
@@ -145,7 +144,7 @@ module _ (slots : Slots) (pairs : Pairs) (nodes : List Node) (classes : List ℕ
   numbers_inside [] n give = tt
   numbers_inside (x ∷ xs) n give =
       let first = give 0 (omega arith) in
-      (subst (λ m. m < n) (sym (same_some x first.0 first.1)) first.2, numbers_inside xs n (λ i less. give (suc i) (omega (arith, less))))
+      (subst (λ m. m < n) (sym (same_Some x first.0 first.1)) first.2, numbers_inside xs n (λ i less. give (suc i) (omega (arith, less))))
 
   pub classes_inside : AllByRecursion (λ m. m < length nodes) classes
   classes_inside =
@@ -155,7 +154,7 @@ module _ (slots : Slots) (pairs : Pairs) (nodes : List Node) (classes : List ℕ
       let own = knows.2 i (omega (arith, less, h.long)) tt in (
         own.number,
         own.class_is,
-        omega (arith, get_inside knows.0 own.number (f (variable_of slots i)) own.image_is, knows.1.long),
+        omega (arith, slice_get_within knows.0 own.number (f (variable_of slots i)) own.image_is, knows.1.long),
       ))
 
   pub has_terms : HasTerms nodes

@@ -5,7 +5,8 @@ use Rattle.si_defs.specs.Terms.{Term, var, variables, substitute}
 use Rattle.si_defs.specs.Substitutions.{Substitution, image, lefts, rights, IsAmong}
 use Rattle.si_defs.specs.Relations.{Unifies}
 use Rattle.si_defs.specs.Solutions.{bind, in_sequence, IsTriangular, AreJoined}
-use Rattle.si_form.proofs.CanonicalLaws.{all_at, all_from, stays, twice, differs}
+use Rattle.si_defs.proofs.ListLaws.{all_at, all_from}
+use Rattle.si_form.proofs.CanonicalLaws.{stays, twice, differs}
 use Rattle.si_form.proofs.UnifierLaws.{sequence_map, sequence_is, left_among, right_among}
 
 module _ {S V : Type 0} where

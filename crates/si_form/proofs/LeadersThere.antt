@@ -6,7 +6,7 @@ use Rattle.std.proofs.lemmas.List.{map-append}
 use Rattle.si_defs.specs.Terms.{Term, Terms, var, app, none, more, variables}
 use Rattle.si_defs.specs.Substitutions.{lefts, rights, IsAmong}
 use Rattle.si_defs.specs.Solutions.{IsMostGeneral, order, AreJoined, IsFirstOf, IsLeader, IsFolded, AreFolded, IsFoldedInside, IsOrdered}
-use Rattle.si_form.proofs.CanonicalLaws.{all_at, among_front}
+use Rattle.si_defs.proofs.ListLaws.{all_at, among_front}
 use Rattle.si_form.proofs.Translating.{translate_all, Translation, back, translated, translated_list, symbol_returns, variable_returns, Returns, AllReturn, ListReturns, returned, returns_there}
 use Rattle.si_form.proofs.Carrying.{Vocabulary, returns_or_not, joined_back}
 use Rattle.si_form.proofs.MadeLaws.{order_made}

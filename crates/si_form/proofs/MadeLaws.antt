@@ -2,12 +2,14 @@
 use Rattle.std.proofs.Common.{◌≡◌, ◌⊎◌, List, [], ◌∷◌, ◌++◌, inl, inr, refl, sym, ◌∙◌, ap, subst}
 use Rattle.std.specs.List.{AllByRecursion}
 use Rattle.si_defs.specs.Terms.{Term, Terms, var, app, none, more, variables, variables_of_all, substitute, substitute_all}
-use Rattle.si_defs.specs.Substitutions.{Substitution, image, apply, lefts, IsAmong}
+use Rattle.si_defs.specs.Substitutions.{Substitution, image, apply, lefts, IsAmong, AreDistinct}
 use Rattle.si_defs.specs.declared.Relation.{Relation}
 use Rattle.si_defs.specs.declared.Relation.TheVariants.{Variants, Instances, Generalizations, Unifiable}
 use Rattle.si_defs.specs.Relations.{Unifies}
 use Rattle.si_defs.specs.Solutions.{order, AreJoined, IsMostGeneral, IsCanonicalUnifier, IsCanonicalMatch, IsCanonical}
-use Rattle.si_form.proofs.CanonicalLaws.{all_at, all_from, AreDistinct, distinct_firsts, firsts_among, among_parts, image_first, image_other, among_front, among_back}
+use Rattle.si_defs.proofs.ListLaws.{all_at, all_from, among_front, among_back, among_parts}
+use Rattle.si_flat.proofs.FirstPlaces.{firsts_among}
+use Rattle.si_form.proofs.CanonicalLaws.{distinct_firsts, image_first, image_other}
 use Rattle.si_form.proofs.UnifierLaws.{sequence_map, sequence_is}
 use Rattle.si_form.proofs.Translating.{IsMadeOf, AreMadeOf, made_with, all_made_with, variable_made, variables_made, image_made, images_made, translate, translate_all}
 use Rattle.si_form.proofs.Carrying.{Vocabulary, tabulate, image_tabulated}
@@ -128,7 +130,7 @@ module _ {S V : Type 0} (A : Vocabulary S V) (P : S → Type 0) (Q : V → Type 
   of_both q e in_q in_e =
       all_from Q (order A.same q e)
       (λ x a.
-      elim (among_parts (variables q) (variables e) x (firsts_among A.same A.tells A.itself (variables q ++ variables e) x a)) [
+      elim (among_parts (variables q) (variables e) x (firsts_among A.same (variables q ++ variables e) x a)) [
         | inl b ↦ in_q x b
         | inr b ↦ in_e x b
       ])

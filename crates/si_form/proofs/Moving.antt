@@ -6,7 +6,9 @@ use Rattle.std.proofs.lemmas.List.{map-append}
 use Rattle.si_defs.specs.Terms.{Term, Terms, var, app, none, more, variables, substitute, substitute_all, firsts}
 use Rattle.si_defs.specs.Substitutions.{image, apply, lefts, rights, IsAmong}
 use Rattle.si_defs.specs.Solutions.{bind, in_sequence, IsTriangular, order}
-use Rattle.si_form.proofs.CanonicalLaws.{all_at, all_from, firsts_among, differs}
+use Rattle.si_defs.proofs.ListLaws.{all_at, all_from}
+use Rattle.si_flat.proofs.FirstPlaces.{firsts_among}
+use Rattle.si_form.proofs.CanonicalLaws.{differs}
 use Rattle.si_form.proofs.Translating.{variable_made, substitute_made, translated_variables, translate_all, Translation, translated, translated_list, symbol_returns, variable_returns, Returns, AllReturn, ListReturns}
 use Rattle.si_form.proofs.Carrying.{Vocabulary}
 
@@ -70,7 +72,7 @@ module _ {S V R W : Type 0} (A : Vocabulary S V) (B : Vocabulary R W) (k : Trans
       (
       sym
       (filter_there x (firsts A.same xs) h.0
-      (all_from (variable_returns k) (firsts A.same xs) (λ y a. all_at (variable_returns k) xs y h.1 (firsts_among A.same A.tells A.itself xs y a))))
+      (all_from (variable_returns k) (firsts A.same xs) (λ y a. all_at (variable_returns k) xs y h.1 (firsts_among A.same xs y a))))
       )
 
   pub variables_return : (t : Term S V) → Returns k t → AllByRecursion (variable_returns k) (variables t)

@@ -1,37 +1,34 @@
 -- Nodes and their numbers.
-use Rattle.std.proofs.Common.{◌≡◌, ℕ, ◌+◌, ◌<◌, ◌≤◌, ◌⊎◌, inl, inr, Bool, true, false, List, [], ◌∷◌, ◌++◌, length, suc, zero, refl, sym, ◌∙◌, ap, subst, arith, append_assoc, append-nil, length-append, reverse, Some}
-use Rattle.std.proofs.lemmas.Bool.Decides.{eqb_tells, nat_tests}
-use Rattle.std.proofs.lemmas.Bool.{eq-eqb}
-use Rattle.std.specs.Prelude.{◌==◌, ◌&&◌, nat_lt, slice_get, if◌then◌else◌}
+use Rattle.std.proofs.Common.{◌≡◌, ℕ, ◌+◌, ◌<◌, ◌≤◌, inl, inr, Bool, true, false, List, [], ◌∷◌, ◌++◌, length, suc, refl, sym, ◌∙◌, ap, subst, arith, append_assoc, append-nil, length-append, reverse, Some}
+use Rattle.std.proofs.lemmas.Bool.{eq-eqb, eqb-true, and_parts}
+use Rattle.std.specs.Prelude.{◌==◌, ◌&&◌, slice_get, if◌then◌else◌}
 use Rattle.std.specs.List.{list_any, position_or_len}
+use Rattle.std.proofs.lemmas.Option.{slice_get_within, same_Some}
 use Rattle.si_defs.specs.Substitutions.{IsAmong}
 use Rattle.si_defs.specs.Terms as terms
-use Rattle.si_flat.specs.Cells.{Symbol, Variable, Term, Terms}
+use Rattle.si_defs.proofs.ListLaws.{get_some, get_front, get_here, get_either, get_among}
+use Rattle.si_defs.proofs.TermLaws.{same_app}
+use Rattle.si_flat.specs.Cells.{Symbol, Variable, Term, Terms, join}
 use Rattle.si_unify.specs.declared.slots.Slots.{Slots}
 use Rattle.si_unify.specs.Solving.{slot_of, variable_of}
+use Rattle.si_unify.proofs.Solutions.{lt_tells}
+use Rattle.si_unify.proofs.Rows.{count-join, join-none, join-more}
 use Rattle.si_form.specs.declared.classes.Node.{Node}
 use Rattle.si_form.specs.declared.classes.Node.TheVariants.{Variable as Of, Head, With}
 use Rattle.si_form.specs.contracts.classes.NodePartialEq.TheImpl.{eq-value}
-use Rattle.si_form.specs.Classes.{Interns, chain, with_last, HasOneMore, StandsForNode, AreNodes, GrowsTo, HaveClasses, Applies, HasApplied, IsApplying}
+use Rattle.si_form.specs.Classes.{Interns, with_last, HasOneMore, StandsForNode, AreNodes, GrowsTo, HaveClasses, Applies, HasApplied, IsApplying}
 
 -- ---- equal nodes
-pub number_tells : (m n : ℕ) → (m == n) ≡ true → m ≡ n
-number_tells m n e = elim (eqb_tells m n) [ inl h ↦ h.1 | inr h ↦ let bad : true ≡ false = sym e ∙ h.0 in cc ]
-
-pub both_true : (a b : Bool) → (a && b) ≡ true → (a ≡ true) × (b ≡ true)
-both_true true b e = (refl, e)
-both_true false b e = cc
-
 eq_tells : (a b : Node) → eq-value.it a b ≡ true → a ≡ b
-eq_tells (Of m) (Of n) e = ap Of (number_tells m n e)
+eq_tells (Of m) (Of n) e = ap Of (eqb-true m n e)
 eq_tells (Of m) (Head s a) e = cc
 eq_tells (Of m) (With p q) e = cc
 eq_tells (Head s a) (Of n) e = cc
-eq_tells (Head s a) (Head r b) e = let both = both_true (s == r) (a == b) e in ap (λ x. Head x a) (number_tells s r both.0) ∙ ap (Head r) (number_tells a b both.1)
+eq_tells (Head s a) (Head r b) e = let parts = and_parts (s == r) (a == b) e in ap (λ x. Head x a) (eqb-true s r parts.0) ∙ ap (Head r) (eqb-true a b parts.1)
 eq_tells (Head s a) (With p q) e = cc
 eq_tells (With f g) (Of n) e = cc
 eq_tells (With f g) (Head r b) e = cc
-eq_tells (With f g) (With p q) e = let both = both_true (f == p) (g == q) e in ap (λ x. With x g) (number_tells f p both.0) ∙ ap (With p) (number_tells g q both.1)
+eq_tells (With f g) (With p q) e = let parts = and_parts (f == p) (g == q) e in ap (λ x. With x g) (eqb-true f p parts.0) ∙ ap (With p) (eqb-true g q parts.1)
 
 eq_itself : (a : Node) → eq-value.it a a ≡ true
 eq_itself (Of m) = eq-eqb m m refl
@@ -63,42 +60,6 @@ interned old new node n is place = by (list_any (eq-value.it node) old) refl
     by true k = inl ((rw k at is), ap (slice_get old) place ∙ place_found old node k)
     by false k = let r = place_missed old node k in inr ((rw k at is), place ∙ r.0, r.1)
 
--- ---- places of lists
-module _ {X : Type 0} where
-  pub get_inside : (xs : List X) (n : ℕ) (x : X) → slice_get xs n ≡ Some x → n < length xs
-  get_inside [] n x e = cc
-  get_inside (y ∷ xs) zero x e = omega arith
-  get_inside (y ∷ xs) (suc n) x e = omega (arith, get_inside xs n x e)
-
-  pub get_some : (xs : List X) (n : ℕ) → n < length xs → (x : X) × (slice_get xs n ≡ Some x)
-  get_some [] n less = absurd (omega (arith, less))
-  get_some (y ∷ xs) zero less = (y, refl)
-  get_some (y ∷ xs) (suc n) less = get_some xs n (omega (arith, less))
-
-  pub get_front : (xs ys : List X) (n : ℕ) (x : X) → slice_get xs n ≡ Some x → slice_get (xs ++ ys) n ≡ Some x
-  get_front [] ys n x e = cc
-  get_front (y ∷ xs) ys zero x e = e
-  get_front (y ∷ xs) ys (suc n) x e = get_front xs ys n x e
-
-  pub get_last : (xs : List X) (y : X) → slice_get (xs ++ y ∷ []) (length xs) ≡ Some y
-  get_last [] y = refl
-  get_last (x ∷ xs) y = get_last xs y
-
-  -- an element of a list with one more is an old one, or the new one
-  pub get_either : (xs : List X) (y : X) (n : ℕ) (x : X) → slice_get (xs ++ y ∷ []) n ≡ Some x → (slice_get xs n ≡ Some x) ⊎ ((n ≡ length xs) × (x ≡ y))
-  get_either [] y zero x e = inr (refl, cc)
-  get_either [] y (suc n) x e = cc
-  get_either (z ∷ xs) y zero x e = inl e
-  get_either (z ∷ xs) y (suc n) x e = elim (get_either xs y n x e) [ inl k ↦ inl k | inr k ↦ inr (ap suc k.0, k.1) ]
-
-  pub same_some : (x y : X) → Some x ≡ Some y → x ≡ y
-  same_some x y e = cc
-
-  pub get_among : (xs : List X) (n : ℕ) (x : X) → slice_get xs n ≡ Some x → IsAmong xs x
-  get_among [] n x e = cc
-  get_among (y ∷ xs) zero x e = inl (same_some y x e)
-  get_among (y ∷ xs) (suc n) x e = inr (get_among xs n x e)
-
 -- ---- rows
 last_of_none : (ts : Terms) (u : Term) → with_last ts u ≡ terms.none → ⊥
 last_of_none terms.none u e = cc
@@ -114,9 +75,6 @@ same_last (terms.more v ts) (terms.more w us) t u e =
     let r = same_last ts us t u others in
     (ap (λ x. terms.more x ts) first ∙ ap (terms.more w) r.0, r.1)
 
-pub same_app : (s r : Symbol) (ts us : Terms) → terms.app s ts ≡ terms.app r us → (s ≡ r) × (ts ≡ us)
-same_app s r ts us e = (cc, cc)
-
 same_variables : (x y : Variable) (t : Term) → t ≡ terms.var x → t ≡ terms.var y → x ≡ y
 same_variables x y t e f = cc
 
@@ -124,30 +82,11 @@ substitute_last : (f : Variable → Term) (ts : Terms) (u : Term) → terms.subs
 substitute_last f terms.none u = refl
 substitute_last f (terms.more t ts) u = ap (terms.more (terms.substitute f t)) (substitute_last f ts u)
 
-pub chain_last : (ts us : Terms) (u : Term) → chain ts (terms.more u us) ≡ chain (with_last ts u) us
-chain_last terms.none us u = refl
-chain_last (terms.more t ts) us u = ap (terms.more t) (chain_last ts us u)
-
 count_last : (ts : Terms) (u : Term) → terms.count (with_last ts u) ≡ terms.count ts + 1
 count_last terms.none u = omega arith
 count_last (terms.more t ts) u = omega (arith, count_last ts u)
 
-pub count_chain : (ts us : Terms) → terms.count (chain ts us) ≡ terms.count ts + terms.count us
-count_chain terms.none us = omega arith
-count_chain (terms.more t ts) us = omega (arith, count_chain ts us)
-
-pub chain_none : (ts : Terms) → chain ts terms.none ≡ ts
-chain_none terms.none = refl
-chain_none (terms.more t ts) = ap (terms.more t) (chain_none ts)
-
 -- ---- slots
-lt_tells : (m n : ℕ) → ((nat_lt m n ≡ true) × (m < n)) ⊎ ((nat_lt m n ≡ false) × (n ≤ m))
-lt_tells m n = go (nat_lt m n) refl
-  where
-    go : (b : Bool) → nat_lt m n ≡ b → ((nat_lt m n ≡ true) × (m < n)) ⊎ ((nat_lt m n ≡ false) × (n ≤ m))
-    go true e = inl (e, grind (arith, nat_tests))
-    go false e = inr (e, grind (arith, nat_tests))
-
 pub slot_again : (slots : Slots) (k : ℕ) → slot_of slots (variable_of slots k) ≡ k
 slot_again slots k =
     elim (lt_tells k slots.query) [
@@ -158,6 +97,9 @@ slot_again slots k =
             | inr j ↦ rw (h.0, j.0) (omega (arith, h.1, j.1))
           ]
     ]
+
+pub same_slots : (slots : Slots) (m n : ℕ) → variable_of slots m ≡ variable_of slots n → m ≡ n
+same_slots slots m n e = sym (slot_again slots m) ∙ ap (slot_of slots) e ∙ slot_again slots n
 
 -- ---- what nodes stand for
 node_known : (slots : Slots) (known more : List Term) (n : ℕ) (node : Node) (t : Term) → StandsForNode slots known n node t → StandsForNode slots (known ++ more) n node t
@@ -178,8 +120,8 @@ node_term : (slots : Slots) (known : List Term) (m n : ℕ) (node : Node) (t u :
 node_term slots known m n (Of k) t u h j = h.1 ∙ sym j.1
 node_term slots known m n (Head s a) t u h j = h ∙ sym j
 node_term slots known m n (With p q) t u h j =
-    let fronts = same_app h.symbol j.symbol h.arguments j.arguments (same_some (terms.app h.symbol h.arguments) (terms.app j.symbol j.arguments) (sym h.front_is ∙ j.front_is)) in
-    let lasts = same_some h.last j.last (sym h.last_is ∙ j.last_is) in
+    let fronts = same_app h.symbol j.symbol h.arguments j.arguments (same_Some (terms.app h.symbol h.arguments) (terms.app j.symbol j.arguments) (sym h.front_is ∙ j.front_is)) in
+    let lasts = same_Some h.last j.last (sym h.last_is ∙ j.last_is) in
     h.term_is
     ∙ ap (λ s. terms.app s (with_last h.arguments h.last)) fronts.0
     ∙ ap (λ ts. terms.app j.symbol (with_last ts h.last)) fronts.1
@@ -212,12 +154,12 @@ module _ (slots : Slots) (nodes : List Node) (known : List Term) (are : AreNodes
 
   pub known_of : (n : ℕ) (node : Node) → slice_get nodes n ≡ Some node → (t : Term) × (slice_get known n ≡ Some t) × StandsForNode slots known n node t
   known_of n node e =
-      let r = get_some known n (omega (arith, get_inside nodes n node e, are.long)) in
+      let r = get_some known n (omega (arith, slice_get_within nodes n node e, are.long)) in
       (r.0, r.1, are.stands n node r.0 e r.1)
 
   pub node_of : (n : ℕ) (t : Term) → slice_get known n ≡ Some t → (node : Node) × (slice_get nodes n ≡ Some node) × StandsForNode slots known n node t
   node_of n t e =
-      let r = get_some nodes n (omega (arith, get_inside known n t e, are.long)) in
+      let r = get_some nodes n (omega (arith, slice_get_within known n t e, are.long)) in
       (r.0, r.1, are.stands n r.0 t r.1 e)
 
   one_more : (node : Node) (t : Term) → (IsAmong nodes node → ⊥) → StandsForNode slots known (length nodes) node t → AreNodes slots (nodes ++ node ∷ []) (known ++ t ∷ [])
@@ -228,11 +170,11 @@ module _ (slots : Slots) (nodes : List Node) (known : List Term) (are : AreNodes
           | inl old ↦
               elim (get_either known t n u k) [
                 | inl was ↦ node_known slots known (t ∷ []) n a u (are.stands n a u old was)
-                | inr last ↦ absurd (omega (arith, last.0, are.long, get_inside nodes n a old))
+                | inr last ↦ absurd (omega (arith, last.0, are.long, slice_get_within nodes n a old))
               ]
           | inr new ↦
               elim (get_either known t n u k) [
-                | inl was ↦ absurd (omega (arith, new.0, are.long, get_inside known n u was))
+                | inl was ↦ absurd (omega (arith, new.0, are.long, slice_get_within known n u was))
                 | inr last ↦
                     subst (λ i. StandsForNode slots (known ++ t ∷ []) i a u) (sym new.0)
                     (subst (λ b. StandsForNode slots (known ++ t ∷ []) (length nodes) b u) (sym new.1)
@@ -277,7 +219,7 @@ module _ (slots : Slots) (nodes : List Node) (known : List Term) (are : AreNodes
             known_is = refl;
             nodes_are = subst (λ l. AreNodes slots l (known ++ t ∷ [])) (sym new.0) (one_more node t new.2 means);
           },
-          ap (slice_get (known ++ t ∷ [])) (new.1 ∙ sym are.long) ∙ get_last known t,
+          ap (slice_get (known ++ t ∷ [])) (new.1 ∙ sym are.long) ∙ get_here known t [],
         )
       ]
 
@@ -310,22 +252,22 @@ applying_begins nodes nodes' numbers s n h slots f known us rest are have count_
       arguments = refl;
       count_is = refl;
       front_is = r.2;
-      others = still_numbers slots f known nodes' r.0 numbers (chain us rest) r.1 have;
+      others = still_numbers slots f known nodes' r.0 numbers (join us rest) r.1 have;
     }
 
 module _ (slots : Slots) (f : Variable → Term) (known : List Term) (nodes nodes' : List Node) (s : Symbol) (us rest : Terms) (k front : ℕ) (count_all : terms.count us ≡ s.arity) (less : k < s.arity) where
   applied_none : HasApplied slots f known nodes [] s us rest k front → ⊥
   applied_none h = by h.left h.arguments h.others
     where
-      by : (left : Terms) → us ≡ chain h.done left → HaveClasses f h.known' [] (chain left rest) → ⊥
-      by terms.none e have = omega (arith, ap terms.count e, count_chain h.done terms.none, h.count_is, count_all, less)
+      by : (left : Terms) → us ≡ join h.done left → HaveClasses f h.known' [] (join left rest) → ⊥
+      by terms.none e have = omega (arith, ap terms.count e, count-join h.done terms.none, h.count_is, count_all, less)
       by (terms.more u left) e have = have
 
   applied_more : (argument n : ℕ) (numbers : List ℕ) → HasApplied slots f known nodes (argument ∷ numbers) s us rest k front → Interns nodes nodes' (With front argument) n → HasApplied slots f known nodes' numbers s us rest (k + 1) n
   applied_more argument n numbers h adds = by h.left h.arguments h.others
     where
-      by : (left : Terms) → us ≡ chain h.done left → HaveClasses f h.known' (argument ∷ numbers) (chain left rest) → HasApplied slots f known nodes' numbers s us rest (k + 1) n
-      by terms.none e have = absurd (omega (arith, ap terms.count e, count_chain h.done terms.none, h.count_is, count_all, less))
+      by : (left : Terms) → us ≡ join h.done left → HaveClasses f h.known' (argument ∷ numbers) (join left rest) → HasApplied slots f known nodes' numbers s us rest (k + 1) n
+      by terms.none e have = absurd (omega (arith, ap terms.count e, count-join h.done terms.none, h.count_is, count_all, less))
       by (terms.more u left) e have =
           let means : HasOneMore h.known' front argument (length nodes) (terms.app s (with_last (terms.substitute_all f h.done) (terms.substitute f u))) =
           record {
@@ -335,8 +277,8 @@ module _ (slots : Slots) (f : Variable → Term) (known : List Term) (nodes node
             front_is = h.front_is;
             last_is = have.0;
             term_is = refl;
-            front_before = omega (arith, get_inside h.known' front (terms.app s (terms.substitute_all f h.done)) h.front_is, h.grows.nodes_are.long);
-            argument_before = omega (arith, get_inside h.known' argument (terms.substitute f u) have.0, h.grows.nodes_are.long);
+            front_before = omega (arith, slice_get_within h.known' front (terms.app s (terms.substitute_all f h.done)) h.front_is, h.grows.nodes_are.long);
+            argument_before = omega (arith, slice_get_within h.known' argument (terms.substitute f u) have.0, h.grows.nodes_are.long);
           } in
           let r = grows slots nodes h.known' h.grows.nodes_are nodes' (With front argument) n (terms.app s (with_last (terms.substitute_all f h.done) (terms.substitute f u))) adds means in
           record {
@@ -344,10 +286,10 @@ module _ (slots : Slots) (f : Variable → Term) (known : List Term) (nodes node
             done = with_last h.done u;
             left = left;
             grows = grows_on slots known h.known' r.0 nodes nodes' h.grows r.1;
-            arguments = e ∙ chain_last h.done left u;
+            arguments = e ∙ sym (join-more h.done left u);
             count_is = omega (arith, count_last h.done u, h.count_is);
             front_is = r.2 ∙ ap (λ ts. Some (terms.app s ts)) (sym (substitute_last f h.done u));
-            others = still_numbers slots f h.known' nodes' r.0 numbers (chain left rest) r.1 have.1;
+            others = still_numbers slots f h.known' nodes' r.0 numbers (join left rest) r.1 have.1;
           }
 
 pub applying_none : (nodes nodes1 : List Node) (numbers : List ℕ) (s : Symbol) (k front : ℕ) → k < s.arity → IsApplying nodes nodes1 numbers [] s k front → Applies nodes nodes1 numbers [] s front
@@ -365,9 +307,9 @@ applying_ends nodes nodes1 numbers numbers1 s k front less h slots f known us re
     let a = h slots f known us rest are have count_is in
     by a a.left a.arguments a.others
   where
-    by : (a : HasApplied slots f known nodes1 numbers1 s us rest k front) (left : Terms) → us ≡ chain a.done left → HaveClasses f a.known' numbers1 (chain left rest) → (known' : List Term) × GrowsTo slots known nodes1 known' × (slice_get known' front ≡ Some (terms.app s (terms.substitute_all f us))) × HaveClasses f known' numbers1 rest
-    by a terms.none e others = (a.known', a.grows, a.front_is ∙ ap (λ ts. Some (terms.app s (terms.substitute_all f ts))) (sym (e ∙ chain_none a.done)), others)
-    by a (terms.more u left) e others = absurd (omega (arith, ap terms.count e, count_chain a.done (terms.more u left), a.count_is, count_is, less))
+    by : (a : HasApplied slots f known nodes1 numbers1 s us rest k front) (left : Terms) → us ≡ join a.done left → HaveClasses f a.known' numbers1 (join left rest) → (known' : List Term) × GrowsTo slots known nodes1 known' × (slice_get known' front ≡ Some (terms.app s (terms.substitute_all f us))) × HaveClasses f known' numbers1 rest
+    by a terms.none e others = (a.known', a.grows, a.front_is ∙ ap (λ ts. Some (terms.app s (terms.substitute_all f ts))) (sym (e ∙ join-none a.done)), others)
+    by a (terms.more u left) e others = absurd (omega (arith, ap terms.count e, count-join a.done (terms.more u left), a.count_is, count_is, less))
 
 pub none_piled : (xs : List ℕ) → length xs ≡ 0 → reverse xs ≡ []
 none_piled [] e = refl

@@ -1,11 +1,9 @@
 -- Answers to terms with numbers hold of the terms with texts.
-use Rattle.std.proofs.Common.{◌≡◌, ℕ, ◌+◌, Bool, true, false, cond, List, [], ◌∷◌, suc, zero, inl, inr, refl, sym, ◌∙◌, ap, subst, arith, Option, Some, None}
-use Rattle.std.specs.Prelude.{bytes_eq}
+use Rattle.std.proofs.Common.{◌≡◌, ℕ, Bool, true, false, cond, List, [], ◌∷◌, inl, inr, refl, sym, ◌∙◌, ap, subst, Option, Some, None}
 use Rattle.std.specs.List.{AllByRecursion}
-use Rattle.std.proofs.lemmas.Slice.Eq.{bytes_eq-Decides}
 use Rattle.si_defs.specs.Bytes.{Bytes}
 use Rattle.si_defs.specs.Terms as terms
-use Rattle.si_defs.specs.Terms.{var, app, none, more, variables, symbols, rename, rename_all}
+use Rattle.si_defs.specs.Terms.{var, app, none, more, variables, symbols}
 use Rattle.si_defs.specs.Symbols.{Symbol}
 use Rattle.si_defs.specs.Clauses.{Term}
 use Rattle.si_defs.specs.Substitutions.{IsAmong}
@@ -15,59 +13,40 @@ use Rattle.si_defs.specs.declared.Relation.{Relation}
 use Rattle.si_defs.specs.Relations.{Relates}
 use Rattle.si_defs.specs.Solutions.{IsCanonical}
 use Rattle.si_defs.specs.Variables.{Variable, of_pattern, of_entry, pattern_term, entry_term, Solution}
+use Rattle.si_defs.proofs.ListLaws.{all_at, all_from, among_front, among_back}
 use Rattle.si_flat.specs.Cells as cells
-use Rattle.si_flat.specs.Numbered.{signed, place_in, numbered, all_numbered}
+use Rattle.si_flat.specs.Numbered.{signed, numbered, all_numbered}
+use Rattle.si_flat.proofs.FirstPlaces.{at_place, text_at}
 use Rattle.si_form.specs.declared.solution.Binding.{Binding}
 use Rattle.si_form.specs.Answers.{StandsForList, AnswersTo}
 use Rattle.si_form.specs.Numberings.{query_by, entry_by, variable_by, list_by, symbols_of, IsFor, TextsRelate, NumbersRelate, RelationsAreKept, PlacesAreFree, AnswersToTexts, AnswersAreKept}
-use Rattle.si_form.proofs.CanonicalLaws.{all_at, all_from, among_front, among_back}
 use Rattle.si_form.proofs.Translating.{renamed_made, translate, translate_all, translate_renamed, Translation, translated, translated_list, symbol_returns, variable_returns, Returns}
 use Rattle.si_form.proofs.Carrying.{relates_there}
 use Rattle.si_form.proofs.CanonicalThere.{relates_before, canonical_before}
 use Rattle.si_form.proofs.SignLaws.{relates_of_canonical, one_number}
-use Rattle.si_form.proofs.Vocabularies.{with_texts, same_number, number_tells, number_itself, with_numbers}
+use Rattle.si_form.proofs.Vocabularies.{with_texts, number_tells, number_itself, with_numbers}
+use Rattle.si_form.specs.Folding.{same_numbered}
 
 -- ---- back from numbers
--- the text at this place
-abbrev text_at : List Bytes → ℕ → Bytes
-text_at [] n = []
-text_at (x ∷ xs) zero = x
-text_at (x ∷ xs) (suc n) = text_at xs n
-
-next : (n : ℕ) → 1 + n ≡ suc n
-next n = omega arith
-
-at_place : (xs : List Bytes) (x : Bytes) → IsAmong xs x → text_at xs (place_in bytes_eq xs x) ≡ x
-at_place [] x a = elim a [ ]
-at_place (y ∷ xs) x a = by (bytes_eq y x) refl (at_place xs x)
-  where
-    by : (b : Bool) → bytes_eq y x ≡ b → (IsAmong xs x → text_at xs (place_in bytes_eq xs x) ≡ x) → text_at (y ∷ xs) (cond b 0 (1 + place_in bytes_eq xs x)) ≡ x
-    by true e rest = (bytes_eq-Decides y x).0 e
-    by false e rest =
-        elim a [
-          | inl same ↦ (let bad : true ≡ false = sym ((bytes_eq-Decides y x).1 same) ∙ e in cc)
-          | inr b ↦ ap (text_at (y ∷ xs)) (next (place_in bytes_eq xs x)) ∙ rest b
-        ]
-
 -- the first of these symbols that has the number
 module _ (f : Symbol → cells.Symbol) where
   abbrev symbol_with : List Symbol → cells.Symbol → Symbol
   symbol_with [] r = record { kind = Word; text = []; side = Function; arity = 0 }
-  symbol_with (s ∷ ss) r = cond (same_number (f s) r) s (symbol_with ss r)
+  symbol_with (s ∷ ss) r = cond (same_numbered (f s) r) s (symbol_with ss r)
 
   with_number : (ss : List Symbol) (s : Symbol) → IsAmong ss s → ((r : Symbol) → IsAmong ss r → f r ≡ f s → r ≡ s) → symbol_with ss (f s) ≡ s
   with_number [] s a one = elim a [ ]
-  with_number (r ∷ ss) s a one = by (same_number (f r) (f s)) refl (with_number ss s)
+  with_number (r ∷ ss) s a one = by (same_numbered (f r) (f s)) refl (with_number ss s)
     where
       by :
           (b : Bool)
-          → same_number (f r) (f s) ≡ b
+          → same_numbered (f r) (f s) ≡ b
           → (IsAmong ss s → ((z : Symbol) → IsAmong ss z → f z ≡ f s → z ≡ s) → symbol_with ss (f s) ≡ s)
           → cond b r (symbol_with ss (f s)) ≡ s
       by true e rest = one r (inl refl) (number_tells (f r) (f s) e)
       by false e rest =
           elim a [
-            | inl same ↦ (let bad : true ≡ false = sym (number_itself (f s)) ∙ ap (λ z. same_number (f z) (f s)) (sym same) ∙ e in cc)
+            | inl same ↦ (let bad : true ≡ false = sym (number_itself (f s)) ∙ ap (λ z. same_numbered (f z) (f s)) (sym same) ∙ e in cc)
             | inr b ↦ rest b (λ z c. one z (inr c))
           ]
 

@@ -1,7 +1,8 @@
 -- The order of the variables of a query and an entry is that of their slots.
 use Rattle.std.proofs.Common.{◌≡◌, ℕ, ◌+◌, ◌<◌, ◌≤◌, inl, inr, Bool, true, false, cond, not, List, [], ◌∷◌, ◌++◌, suc, zero, refl, sym, ◌∙◌, ap, arith}
-use Rattle.std.proofs.lemmas.Bool.Decides.{nat_tests}
-use Rattle.std.specs.Prelude.{filter, nat_lt}
+use Rattle.std.specs.Prelude.{filter}
+use Rattle.std.proofs.lemmas.Bool.{lt-ltb, le-ltb}
+use Rattle.std.proofs.lemmas.List.Elements.{filter-append}
 use Rattle.si_defs.specs.Terms as terms
 use Rattle.si_defs.specs.Substitutions.{IsAmong}
 use Rattle.si_defs.specs.Solutions.{order}
@@ -11,9 +12,8 @@ use Rattle.si_unify.specs.Solving as solving
 use Rattle.si_unify.specs.Solving.{slot_count}
 use Rattle.si_flat.specs.declared.Owner.TheVariants.{Query, Entry}
 use Rattle.si_form.specs.Answers.{owners_variables}
-use Rattle.si_form.proofs.VariableLaws.{same_tells}
-use Rattle.si_form.proofs.CanonicalLaws.{firsts_among}
-use Rattle.si_form.proofs.VariableLaws.{same_itself}
+use Rattle.si_flat.proofs.VariableLaws.{variable_is}
+use Rattle.si_flat.proofs.FirstPlaces.{firsts_among}
 use Rattle.si_form.proofs.OrderedLaws.{variables_of_slots}
 
 -- ---- first occurrences in two lists that are apart
@@ -22,37 +22,23 @@ kept_all x [] apart = refl
 kept_all x (y ∷ ys) apart = by (same_variable x y) refl (kept_all x ys (λ a. apart (inr a)))
   where
     by : (b : Bool) → same_variable x y ≡ b → filter (λ z. not (same_variable x z)) ys ≡ ys → cond (not b) (y ∷ filter (λ z. not (same_variable x z)) ys) (filter (λ z. not (same_variable x z)) ys) ≡ y ∷ ys
-    by true e rest = absurd (apart (inl (sym (same_tells x y e))))
+    by true e rest = absurd (apart (inl (sym (variable_is x y e))))
     by false e rest = ap (λ l. y ∷ l) rest
-
-filter_parts : (p : Variable → Bool) (xs ys : List Variable) → filter p (xs ++ ys) ≡ filter p xs ++ filter p ys
-filter_parts p [] ys = refl
-filter_parts p (x ∷ xs) ys = by (p x) (filter_parts p xs ys)
-  where
-    by : (b : Bool) → filter p (xs ++ ys) ≡ filter p xs ++ filter p ys → cond b (x ∷ filter p (xs ++ ys)) (filter p (xs ++ ys)) ≡ cond b (x ∷ filter p xs) (filter p xs) ++ filter p ys
-    by true e = ap (λ l. x ∷ l) e
-    by false e = e
 
 firsts_parts : (xs ys : List Variable) → ((x : Variable) → IsAmong xs x → IsAmong ys x → ⊥) → terms.firsts same_variable (xs ++ ys) ≡ terms.firsts same_variable xs ++ terms.firsts same_variable ys
 firsts_parts [] ys apart = refl
 firsts_parts (x ∷ xs) ys apart =
     ap (λ l. x ∷ filter (λ y. not (same_variable x y)) l) (firsts_parts xs ys (λ y a b. apart y (inr a) b))
-    ∙ ap (λ l. x ∷ l) (filter_parts (λ y. not (same_variable x y)) (terms.firsts same_variable xs) (terms.firsts same_variable ys))
+    ∙ ap (λ l. x ∷ l) (filter-append (λ y. not (same_variable x y)) (terms.firsts same_variable xs) (terms.firsts same_variable ys))
     ∙ ap (λ l. x ∷ (filter (λ y. not (same_variable x y)) (terms.firsts same_variable xs) ++ l))
-    (kept_all x (terms.firsts same_variable ys) (λ a. apart x (inl refl) (firsts_among same_variable same_tells same_itself ys x a)))
+    (kept_all x (terms.firsts same_variable ys) (λ a. apart x (inl refl) (firsts_among same_variable ys x a)))
 
 -- ---- the variables of the slots
-below : (m n : ℕ) → m < n → nat_lt m n ≡ true
-below m n h = grind (arith, nat_tests)
-
-not_below : (m n : ℕ) → n ≤ m → nat_lt m n ≡ false
-not_below m n h = grind (arith, nat_tests)
-
 query_slot : (slots : Slots) (k : ℕ) → k < slots.query → solving.variable_of slots k ≡ query k
-query_slot slots k less = rw (below k slots.query less) refl
+query_slot slots k less = rw (lt-ltb k slots.query less) refl
 
 entry_slot : (slots : Slots) (k : ℕ) → k < slots.entry → solving.variable_of slots (slots.query + k) ≡ entry k
-entry_slot slots k less = rw (not_below (slots.query + k) slots.query (omega arith), below (slots.query + k) (slots.query + slots.entry) (omega (arith, less))) (ap entry (omega arith))
+entry_slot slots k less = rw (le-ltb (slots.query + k) slots.query (omega arith), lt-ltb (slots.query + k) (slots.query + slots.entry) (omega (arith, less))) (ap entry (omega arith))
 
 query_slots : (slots : Slots) (k n : ℕ) (rest : ℕ) → k + n ≤ slots.query → variables_of_slots slots k (n + rest) ≡ owners_variables Query k n ++ variables_of_slots slots (k + n) rest
 query_slots slots k zero rest less = (let e : 0 + rest ≡ rest = omega arith in ap (variables_of_slots slots k) e) ∙ (let e : k ≡ k + 0 = omega arith in ap (λ j. variables_of_slots slots j rest) e)

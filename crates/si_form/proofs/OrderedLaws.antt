@@ -5,12 +5,11 @@ use Rattle.std.specs.List.{AllByRecursion}
 use Rattle.si_defs.specs.Terms as terms
 use Rattle.si_defs.specs.Substitutions.{lefts, rights, IsAmong}
 use Rattle.si_defs.specs.Solutions.{order, IsTriangular, IsOrdered}
+use Rattle.si_defs.proofs.ListLaws.{all_at, all_from, among_parts, among_front, among_back}
 use Rattle.si_flat.specs.Cells.{Variable, same_variable, Term}
 use Rattle.si_unify.specs.declared.slots.Slots.{Slots}
-use Rattle.si_unify.specs.Solving.{slot_of, variable_of}
-use Rattle.si_form.proofs.CanonicalLaws.{all_at, all_from, among_parts}
-use Rattle.si_form.proofs.FoldedLaws.{among_front, among_back}
-use Rattle.si_form.proofs.NodeLaws.{slot_again}
+use Rattle.si_unify.specs.Solving.{variable_of}
+use Rattle.si_form.proofs.NodeLaws.{slot_again, same_slots}
 use Rattle.si_form.specs.Ordering.{list_or_none, IsListed, AreFirstUnused}
 use Rattle.si_form.specs.Unifying.{HasUses, listed_bindings}
 
@@ -73,9 +72,6 @@ module _ (used : ℕ → Option (List ℕ)) where
     right_of [] k a = elim a [ ]
     right_of (j ∷ ks) k a = elim a [ inl e ↦ inl (ap right e) | inr b ↦ inr (right_of ks k b) ]
 
-    same_slots : (m n : ℕ) → variable_of slots m ≡ variable_of slots n → m ≡ n
-    same_slots m n e = sym (slot_again slots m) ∙ ap (slot_of slots) e ∙ slot_again slots n
-
     -- none of these uses the slot
     abbrev IsUnused : List ℕ → ℕ → Type 0
     IsUnused ks j = (i : ℕ) → IsAmong ks i → IsAmong (list_or_none (used i)) j → ⊥
@@ -107,7 +103,7 @@ module _ (used : ℕ → Option (List ℕ)) where
         (λ a.
             let r = left_slot ks (variable_of slots k) a in
             all_at (λ j. IsAmong (before ++ k ∷ []) j → ⊥) ks r.0 (behind_all (before ++ k ∷ []) ks h.1) r.1
-            (among_back before (k ∷ []) r.0 (inl (sym (same_slots r.0 k r.2))))),
+            (among_back before (k ∷ []) r.0 (inl (sym (same_slots slots r.0 k r.2))))),
         clear (k ∷ ks) k (has_all before (k ∷ ks) h) (unused_here before k ks h),
         triangular_of (before ++ k ∷ []) ks h.1,
       )
@@ -139,7 +135,7 @@ module _ (used : ℕ → Option (List ℕ)) where
           not_here : (j : ℕ) → j < k → IsHere (variable_of slots j) → ⊥
           not_here j less here =
               let r = left_slot (k ∷ ks) (variable_of slots j) here.0 in
-              let among : IsAmong (k ∷ ks) j = subst (IsAmong (k ∷ ks)) (same_slots r.0 j r.2) r.1 in
+              let among : IsAmong (k ∷ ks) j = subst (IsAmong (k ∷ ks)) (same_slots slots r.0 j r.2) r.1 in
               h.0.first j less
               (record {
                 listed = all_at (IsListed used) (k ∷ ks) j (listed_all before (k ∷ ks) h) among;

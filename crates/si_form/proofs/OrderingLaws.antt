@@ -2,18 +2,16 @@
 use Rattle.std.proofs.Common.{◌≡◌, ◌≢◌, ℕ, ◌+◌, ◌-◌, ◌<◌, ◌≤◌, ◌↔◌, ◌⊎◌, inl, inr, true, false, if◌then◌else◌, List, [], ◌∷◌, ◌++◌, length, take, drop, get_or, suc, zero, refl, sym, ◌∙◌, ap, subst, arith, append_assoc, append-nil, length-append, Option, Some, None}
 use Rattle.std.proofs.lemmas.Bool.Decides.{eqb_tells}
 use Rattle.std.proofs.lemmas.Bool.{cases_lt}
-use Rattle.std.proofs.lemmas.List.{drop_more, get_or_default, get_or-set_same, get_or-set_other, length-set, length-take}
+use Rattle.std.proofs.lemmas.List.{drop_more, get_or_default, get_or-set_same, get_or-set_other, length-set, length-take, take_more}
 use Rattle.std.proofs.Math.ListN.{set}
-use Rattle.std.proofs.Math.Seq.{take-suc}
 use Rattle.std.specs.Prelude.{◌==◌, Vec}
 use Rattle.std.proofs.Common.{Ordering, Less, Equal, Greater}
 use Rattle.std.specs.Ordering.{nat_cmp, match_ordering, MatchOrdering}
 use Rattle.std.specs.Cmp.{ranks}
 use Rattle.std.specs.BTreeSet.{insert_key}
 use Rattle.std.specs.List.{AllByRecursion}
-use Rattle.si_defs.specs.Substitutions.{IsAmong}
-use Rattle.si_form.proofs.CanonicalLaws.{all_at, all_from, AreDistinct, among_parts}
-use Rattle.si_form.proofs.FoldedLaws.{among_front, among_back}
+use Rattle.si_defs.specs.Substitutions.{IsAmong, AreDistinct}
+use Rattle.si_defs.proofs.ListLaws.{all_at, all_from, among_parts, among_front, among_back}
 use Rattle.si_form.specs.Ordering.{list_of, uses_at, list_or_none, times_among, IsListed, IsFirstUnused, AreFirstUnused, AreOrdered, HasNoCircle, times_used, with_listed, listed_below, IsPartlyOrdered, IsListedFree}
 
 -- ---- occurrences
@@ -415,7 +413,7 @@ pub raised_more :
 raised_more old now new used i less is inside so_far j =
     let x : ℕ = get_or used i 0 in
     let taken : times_among (take (i + 1) used) j ≡ times_among (take i used) j + times_among (get_or used i 0 ∷ []) j =
-    ap (λ l. times_among l j) (take-more i used 0 less) ∙ times_append (take i used) (get_or used i 0 ∷ []) j in
+    ap (λ l. times_among l j) (take_more used i 0 less) ∙ times_append (take i used) (get_or used i 0 ∷ []) j in
     elim (eqb_tells (get_or used i 0) j) [
       | inl e ↦
           let one : times_among (get_or used i 0 ∷ []) j ≡ 1 = rw e.0 refl in
@@ -430,9 +428,6 @@ raised_more old now new used i less is inside so_far j =
           ∙ get_or-set_other now (get_or used i 0) j (get_or now (get_or used i 0) 0 + 1) 0 (λ k. e.1 (sym k)) in
           omega (arith, none, taken, now_is, so_far j)
     ]
-  where
-    take-more : (i : ℕ) (xs : List ℕ) (d : ℕ) → i < length xs → take (i + 1) xs ≡ take i xs ++ get_or xs i d ∷ []
-    take-more i xs d less = (let n : i + 1 ≡ suc i = omega arith in ap (λ m. take m xs) n) ∙ take-suc xs i d less
 
 -- each count stays small
 pub raised_room : (old now : List ℕ) (used : List ℕ) (i k n : ℕ) → i < length used → get_or old k 0 + length used < n → ((j : ℕ) → get_or now j 0 ≡ get_or old j 0 + times_among (take i used) j) → get_or now k 0 + 1 < n
@@ -488,11 +483,6 @@ unlisted_at lists k o less is none = ap list_of (get_or_default lists k None o l
 
 pub not_listed : (used : ℕ → Option (List ℕ)) (k : ℕ) → used k ≡ None → IsListed used k → ⊥
 not_listed used k none l = let bad : None ≡ Some l.0 = sym none ∙ l.1 in cc
-
-pub place_inside : (P : ℕ → Type 0) (xs : List ℕ) (i : ℕ) → AllByRecursion P xs → i < length xs → P (get_or xs i 0)
-place_inside P [] i h less = absurd (omega (arith, less))
-place_inside P (x ∷ xs) zero h less = h.0
-place_inside P (x ∷ xs) (suc i) h less = place_inside P xs i h.1 (omega (arith, less))
 
 module _ (used : ℕ → Option (List ℕ)) (n : ℕ) (counts free free' order : List ℕ) (k : ℕ) (h : IsPartlyOrdered used n counts free order []) (is : free ≡ k ∷ free') where
   first_left : IsAmong h.rest k

@@ -5,11 +5,12 @@ use Rattle.std.proofs.lemmas.List.{take_all, length-drop}
 use Rattle.std.proofs.Math.Seq.{take-append_seam, drop-append_seam}
 use Rattle.std.specs.Prelude.{slice_get}
 use Rattle.std.specs.List.{AllByRecursion}
+use Rattle.std.proofs.lemmas.Option.{same_Some}
+use Rattle.si_defs.proofs.ListLaws.{all_got}
 use Rattle.si_flat.specs.declared.Cell.{Cell}
 use Rattle.si_trail.specs.Trails.{value_at, HasDistinctSlots, IsSlotOf}
 use Rattle.si_unify.specs.Solving.{IsPieceOf}
 use Rattle.si_unify.proofs.Lists.{apart_from}
-use Rattle.si_form.proofs.NodeLaws.{same_some}
 
 -- ---- slices
 module _ (cells piece : List Cell) where
@@ -44,7 +45,7 @@ module _ (cells piece : List Cell) where
 module _ {X : Type 0} (P : X → Type 0) where
   all_next : (xs : List X) (i : ℕ) (x : X) → slice_get xs i ≡ Some x → P x → AllByRecursion P (take i xs) → AllByRecursion P (take (suc i) xs)
   all_next [] i x e p h = tt
-  all_next (y ∷ xs) zero x e p h = (subst P (sym (same_some y x e)) p, first xs)
+  all_next (y ∷ xs) zero x e p h = (subst P (sym (same_Some y x e)) p, first xs)
     where
       first : (ys : List X) → AllByRecursion P (take zero ys)
       first [] = tt
@@ -63,26 +64,21 @@ module _ {X : Type 0} (P : X → Type 0) where
 
 -- ---- the pair of a slot
 module _ {T : Type 0} where
-  pair_among : (pairs : List (ℕ × T)) (n : ℕ) (pair : ℕ × T) (P : ℕ × T → Type 0) → slice_get pairs n ≡ Some pair → AllByRecursion P pairs → P pair
-  pair_among [] n pair P e h = cc
-  pair_among (p ∷ pairs) zero pair P e h = subst P (same_some p pair e) h.0
-  pair_among (p ∷ pairs) (suc n) pair P e h = pair_among pairs n pair P e h.1
-
   pub pair_at : (pairs : List (ℕ × T)) (n slot : ℕ) (v : T) → HasDistinctSlots pairs → IsSlotOf pairs n slot → value_at pairs slot ≡ Some v → slice_get pairs n ≡ Some (slot, v)
   pair_at [] n slot v distinct s bound = cc
   pair_at (p ∷ pairs) zero slot v distinct s bound =
-      let pair : p ≡ (slot, s.0) = same_some p (slot, s.0) s.1 in
+      let pair : p ≡ (slot, s.0) = same_Some p (slot, s.0) s.1 in
       let own : p.0 ≡ slot = ap (λ q. q.0) pair in
       elim (eqb_tells p.0 slot) [
-        | inl h ↦ let value : p.1 ≡ v = same_some p.1 v (rw h.0 at bound) in ap Some (pair ∙ ap (λ w. (slot, w)) (sym (ap (λ q. q.1) pair) ∙ value))
+        | inl h ↦ let value : p.1 ≡ v = same_Some p.1 v (rw h.0 at bound) in ap Some (pair ∙ ap (λ w. (slot, w)) (sym (ap (λ q. q.1) pair) ∙ value))
         | inr h ↦ absurd (h.1 own)
       ]
   pair_at (p ∷ pairs) (suc n) slot v distinct s bound =
       elim (eqb_tells p.0 slot) [
-        | inl h ↦ absurd (pair_among pairs n (slot, s.0) (λ q. q.0 ≢ slot) s.1 (apart_from pairs slot (ap (value_at pairs) (sym h.1) ∙ distinct.0)) refl)
+        | inl h ↦ absurd (all_got (λ q. q.0 ≢ slot) pairs n (slot, s.0) (apart_from pairs slot (ap (value_at pairs) (sym h.1) ∙ distinct.0)) s.1 refl)
         | inr h ↦ pair_at pairs n slot v distinct.1 s (rw h.0 at bound)
       ]
 
   -- the slot of a pair is bound
   pub slot_bound : (pairs : List (ℕ × T)) (n slot : ℕ) → IsSlotOf pairs n slot → value_at pairs slot ≡ None → ⊥
-  slot_bound pairs n slot s none = pair_among pairs n (slot, s.0) (λ q. q.0 ≢ slot) s.1 (apart_from pairs slot none) refl
+  slot_bound pairs n slot s none = all_got (λ q. q.0 ≢ slot) pairs n (slot, s.0) (apart_from pairs slot none) s.1 refl

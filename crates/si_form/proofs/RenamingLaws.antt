@@ -5,6 +5,7 @@ use Rattle.std.proofs.Math.Seq.{take-suc}
 use Rattle.std.specs.Prelude.{slice_get}
 use Rattle.std.specs.List.{AllByRecursion}
 use Rattle.std.specs.Borrow.{Bor}
+use Rattle.si_defs.proofs.ListLaws.{all_weaker, all_get}
 use Rattle.si_flat.specs.declared.Cell.{Cell}
 use Rattle.si_flat.specs.declared.Cell.TheVariants as cell
 use Rattle.si_flat.specs.Cells.{Variable, Term, variable_cell, IsWhole}
@@ -12,7 +13,6 @@ use Rattle.si_trail.specs.Trails.{value_at, HasDistinctSlots}
 use Rattle.si_unify.specs.declared.slots.Slots.{Slots}
 use Rattle.si_unify.specs.Solving.{Pairs, slot_count, variable_of, CellIsInRange, AreInRange, IsAcyclic, IsBinding}
 use Rattle.si_unify.specs.Spots.{cell_slot, IsUnbound}
-use Rattle.si_unify.proofs.Lists.{all_map}
 use Rattle.si_unify.proofs.Places as places
 use Rattle.si_form.specs.Direct.{CellIsUnbound, head_slot, IsFirstAmong, IsFirst, led_variable, renamed, AreRenamed, AreDirect, AreApplied, CanBeReadOff}
 use Rattle.si_form.specs.Unifying.{right_side, IsGeneral, HasRightSide, AreFree}
@@ -20,7 +20,6 @@ use Rattle.si_form.proofs.DownLaws.{no_cell}
 use Rattle.si_form.proofs.PairLaws.{all_more, all_begins, all_ends}
 use Rattle.si_form.proofs.DirectLaws.{IsCellOf, cell_variable, binding_at, direct_at, first_leads, variable_renamed, application_right, leader_right}
 use Rattle.si_form.proofs.TrailLaws.{has_general}
-use Rattle.si_form.proofs.UnifierThere.{all_get}
 
 pub can_be_read : (slots : Slots) (pairs : Pairs) → AreFree slots → AllByRecursion (IsBinding slots) pairs → HasDistinctSlots pairs → IsAcyclic slots pairs → AreDirect slots pairs → CanBeReadOff slots pairs
 can_be_read slots pairs free bindings distinct triangular direct = record {
@@ -54,7 +53,7 @@ module _ (slots : Slots) (pairs : Pairs) (slot : ℕ) where
       others =
           all_more (λ pair. head_slot slots pair.1.now ≡ Some slot → other ≤ pair.0) pairs n (other, v) at (λ e. omega arith)
           (
-          all_map (λ pair. head_slot slots pair.1.now ≡ Some slot → first ≤ pair.0) (λ pair. head_slot slots pair.1.now ≡ Some slot → other ≤ pair.0) (take n pairs)
+          all_weaker (λ pair. head_slot slots pair.1.now ≡ Some slot → first ≤ pair.0) (λ pair. head_slot slots pair.1.now ≡ Some slot → other ≤ pair.0) (take n pairs)
           (λ pair least e. let l = least e in omega (arith, l, before)) h.others
           );
     }
@@ -67,10 +66,6 @@ module _ (slots : Slots) (pairs : Pairs) (slot : ℕ) where
   }
 
 -- ---- renamed cells
-pub take_none : {X : Type 0} (xs : List X) → take 0 xs ≡ []
-take_none [] = refl
-take_none (x ∷ xs) = refl
-
 module _ (slots : Slots) (pairs : Pairs) (can : CanBeReadOff slots pairs) where
   pub symbol_stays : (c : Cell) → None ≡ cell_slot slots c → (f : Variable → Term) → c ≡ renamed slots f c
   symbol_stays (cell.App s a n) e f = refl
@@ -128,7 +123,7 @@ module _ (slots : Slots) (pairs : Pairs) (can : CanBeReadOff slots pairs) where
       becomes = inl refl;
       own = omega arith;
       others =
-          all_map (λ pair. head_slot slots pair.1.now ≡ None) (λ pair. head_slot slots pair.1.now ≡ Some slot → slot ≤ pair.0) pairs
+          all_weaker (λ pair. head_slot slots pair.1.now ≡ None) (λ pair. head_slot slots pair.1.now ≡ Some slot → slot ≤ pair.0) pairs
           (λ pair none some. let bad : None ≡ Some slot = sym none ∙ some in cc) applied;
     }
 

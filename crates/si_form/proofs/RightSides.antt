@@ -3,20 +3,20 @@ use Rattle.std.proofs.Common.{◌≡◌, ◌≢◌, ℕ, ◌+◌, ◌<◌, ◌�
 use Rattle.std.proofs.lemmas.Bool.Decides.{eqb_tells}
 use Rattle.std.proofs.lemmas.Bool.{eq-eqb}
 use Rattle.std.specs.List.{AllByRecursion}
+use Rattle.std.proofs.lemmas.Option.{same_Some}
 use Rattle.si_defs.specs.Terms as terms
 use Rattle.si_defs.specs.Substitutions.{lefts, IsAmong}
 use Rattle.si_defs.specs.Solutions.{order}
+use Rattle.si_defs.proofs.ListLaws.{all_at, all_from, all_front, all_back, all_append}
 use Rattle.si_flat.specs.Cells.{Variable, same_variable, Term, Terms}
 use Rattle.si_unify.specs.declared.slots.Slots.{Slots}
 use Rattle.si_unify.specs.Solving.{slot_count, variable_of}
 use Rattle.si_form.specs.Folding.{same_terms, or_slot, leader_below, leader, variable_or, folded, folded_all}
 use Rattle.si_form.specs.Ordering.{IsListed, AreOrdered}
 use Rattle.si_form.specs.Unifying.{StaysFree, IsApplication, ImagesStay, right_by, right_side, IsToBind, HasUses, listed_bindings}
-use Rattle.si_form.proofs.VariableLaws.{same_tells, same_itself}
-use Rattle.si_form.proofs.CanonicalLaws.{all_at, all_from, all_front, all_back, all_append}
+use Rattle.si_flat.proofs.VariableLaws.{variable_is, variable_self}
 use Rattle.si_form.proofs.UnifierLaws.{first_unique}
 use Rattle.si_form.proofs.FoldedLaws.{Leads, IsFoldedBy, AreFoldedBy, IsFoldedInsideBy, IsFree, IsFoldedList}
-use Rattle.si_form.proofs.NodeLaws.{same_some}
 use Rattle.si_form.proofs.FoldingLaws.{terms_tell, terms_itself}
 use Rattle.si_form.proofs.OrderedLaws.{variables_of_slots, parts_at, left_of, listed_all, triangular_of, ordered_of}
 
@@ -50,11 +50,11 @@ module _ (slots : Slots) (f : Variable → Term) where
     where
       by : (o : Option ℕ) → leader_below slots f k t ≡ o → (b : Bool) → same_terms (f (variable_of slots k)) t ≡ b → (leader_below slots f k t ≡ Some w → IsLed k w t) → IsLed (suc k) w t
       by (Some v) p b q later =
-          let same : v ≡ w = same_some v w (sym (ap (λ o. or_slot o (same_terms (f (variable_of slots k)) t) k) p) ∙ e) in
+          let same : v ≡ w = same_Some v w (sym (ap (λ o. or_slot o (same_terms (f (variable_of slots k)) t) k) p) ∙ e) in
           let r = later (p ∙ ap Some same) in
           record { below = omega (arith, r.below); image_is = r.image_is; first = r.first }
       by None p true q later =
-          let same : k ≡ w = same_some k w (sym (ap (λ o. or_slot o (same_terms (f (variable_of slots k)) t) k) p ∙ ap (λ b. or_slot None b k) q) ∙ e) in
+          let same : k ≡ w = same_Some k w (sym (ap (λ o. or_slot o (same_terms (f (variable_of slots k)) t) k) p ∙ ap (λ b. or_slot None b k) q) ∙ e) in
           subst (λ i. IsLed (suc k) i t) same (record { below = omega arith; image_is = terms_tell (f (variable_of slots k)) t q; first = none_led k t p })
       by None p false q later = let bad : None ≡ Some w = sym (ap (λ o. or_slot o (same_terms (f (variable_of slots k)) t) k) p ∙ ap (λ b. or_slot None b k) q) ∙ e in cc
 
@@ -157,7 +157,7 @@ module _ (slots : Slots) (f : Variable → Term) where
     known_slot j less = subst (λ l. IsAmong l (variable_of slots j)) (sym order_is) (among_from (slot_count slots) 0 j j (omega arith) less)
 
     -- the leader of a slot leads it
-    leads_of : (x : Variable) (w : ℕ) → leader slots f (f x) ≡ Some w → Leads same_variable same_tells same_itself q e f x (variable_of slots w)
+    leads_of : (x : Variable) (w : ℕ) → leader slots f (f x) ≡ Some w → Leads same_variable variable_is variable_self q e f x (variable_of slots w)
     leads_of x w l =
         let h = led (slot_count slots) w (f x) l in
         let p = parts_at slots 0 (slot_count slots) w w (omega arith) h.below in (
@@ -171,7 +171,7 @@ module _ (slots : Slots) (f : Variable → Term) where
           ),
         )
 
-    leader_is : (x w : Variable) → Leads same_variable same_tells same_itself q e f x w → (k : ℕ) → leader slots f (f x) ≡ Some k → variable_of slots k ≡ w
+    leader_is : (x w : Variable) → Leads same_variable variable_is variable_self q e f x w → (k : ℕ) → leader slots f (f x) ≡ Some k → variable_of slots k ≡ w
     leader_is x w h k l =
         let m = leads_of x k l in
         first_unique (λ y. f x ≡ f y) (λ y. f x ≡ f y) m.1.0 m.1.1 h.1.0 h.1.1 (variable_of slots k) w (sym m.1.2 ∙ h.1.2) m.0 h.0 m.1.3 h.1.3 (λ z p. p) (λ z p. p)
@@ -184,7 +184,7 @@ module _ (slots : Slots) (f : Variable → Term) where
         by (Some w) l = (w, l)
 
     mutual
-      folds : (t : Term) → AllByRecursion (StaysFree slots f) (terms.variables t) → (o : Option ℕ) → leader slots f t ≡ o → IsFoldedBy same_variable same_tells same_itself q e f (variable_or slots f o (folded slots f t))
+      folds : (t : Term) → AllByRecursion (StaysFree slots f) (terms.variables t) → (o : Option ℕ) → leader slots f t ≡ o → IsFoldedBy same_variable variable_is variable_self q e f (variable_or slots f o (folded slots f t))
       folds t h (Some w) l = tt
       folds (terms.var y) h None l = no_leader y h.0 l
       folds (terms.app s ts) h None l = (
@@ -193,7 +193,7 @@ module _ (slots : Slots) (f : Variable → Term) where
         all_folds ts h,
       )
 
-      all_folds : (ts : Terms) → AllByRecursion (StaysFree slots f) (terms.variables_of_all ts) → AreFoldedBy same_variable same_tells same_itself q e f (folded_all slots f ts)
+      all_folds : (ts : Terms) → AllByRecursion (StaysFree slots f) (terms.variables_of_all ts) → AreFoldedBy same_variable variable_is variable_self q e f (folded_all slots f ts)
       all_folds terms.none h = tt
       all_folds (terms.more t ts) h = (
         folds t (all_front (StaysFree slots f) (terms.variables t) (terms.variables_of_all ts) h) (leader slots f t) refl,
@@ -201,15 +201,15 @@ module _ (slots : Slots) (f : Variable → Term) where
       )
 
     -- ---- right sides
-    folded_in : (t : Term) → AllByRecursion (StaysFree slots f) (terms.variables t) → IsFoldedInsideBy same_variable same_tells same_itself q e f (folded slots f t)
+    folded_in : (t : Term) → AllByRecursion (StaysFree slots f) (terms.variables t) → IsFoldedInsideBy same_variable variable_is variable_self q e f (folded slots f t)
     folded_in (terms.var y) h = tt
     folded_in (terms.app s ts) h = all_folds ts h
 
-    inside_is : ImagesStay slots f → (k : ℕ) → IsToBind slots f k → IsFoldedInsideBy same_variable same_tells same_itself q e f (right_side slots f k)
+    inside_is : ImagesStay slots f → (k : ℕ) → IsToBind slots f k → IsFoldedInsideBy same_variable variable_is variable_self q e f (right_side slots f k)
     inside_is stays k b =
         elim b.1 [
-          | inl follows ↦ subst (IsFoldedInsideBy same_variable same_tells same_itself q e f) (sym (right_of_follower k follows.0 follows.1 follows.2)) tt
-          | inr leads ↦ subst (IsFoldedInsideBy same_variable same_tells same_itself q e f) (sym (right_of_leader k leads.0)) (folded_in (f (variable_of slots k)) (stays k b.0))
+          | inl follows ↦ subst (IsFoldedInsideBy same_variable variable_is variable_self q e f) (sym (right_of_follower k follows.0 follows.1 follows.2)) tt
+          | inr leads ↦ subst (IsFoldedInsideBy same_variable variable_is variable_self q e f) (sym (right_of_leader k leads.0)) (folded_in (f (variable_of slots k)) (stays k b.0))
         ]
 
     module _ (used : ℕ → Option (List ℕ)) (ks : List ℕ) (ordered : AreOrdered used ks) (to_bind : (k : ℕ) → IsListed used k → IsToBind slots f k) (of_bind : (k : ℕ) → IsToBind slots f k → IsListed used k) (has : (k : ℕ) → IsListed used k → HasUses used slots (right_side slots f) k) (stays : ImagesStay slots f) where
@@ -224,7 +224,7 @@ module _ (slots : Slots) (f : Variable → Term) where
       pair_among [] k a = elim a [ ]
       pair_among (j ∷ some) k a = elim a [ inl s ↦ inl (ap (λ i. (variable_of slots i, right_side slots f i)) s) | inr b ↦ inr (pair_among some k b) ]
 
-      pub folded_list : IsFoldedList same_variable same_tells same_itself q e f (listed_bindings slots (right_side slots f) ks)
+      pub folded_list : IsFoldedList same_variable variable_is variable_self q e f (listed_bindings slots (right_side slots f) ks)
       folded_list = record {
         triangular = triangular_of used slots (right_side slots f) q e (slot_count slots) order_is (λ k l. (to_bind k l).0) has [] ks ordered.next;
         ordered = ordered_of used slots (right_side slots f) q e (slot_count slots) order_is (λ k l. (to_bind k l).0) has [] ks ordered.next ordered.all;
@@ -237,18 +237,18 @@ module _ (slots : Slots) (f : Variable → Term) where
                   (λ y a. let r = all_at LeadsItself (terms.variables (right_side slots f k)) y (right_is stays k (to_bind k l)).leads a in subst (IsAmong (order same_variable q e)) (sym r.2) (known_slot r.0 r.1)),
             ));
         leaders =
-            all_bindings (λ b. AllByRecursion (λ x. Leads same_variable same_tells same_itself q e f x x) (terms.variables b.1))
+            all_bindings (λ b. AllByRecursion (λ x. Leads same_variable variable_is variable_self q e f x x) (terms.variables b.1))
             (λ k l.
-            all_from (λ x. Leads same_variable same_tells same_itself q e f x x) (terms.variables (right_side slots f k))
+            all_from (λ x. Leads same_variable variable_is variable_self q e f x x) (terms.variables (right_side slots f k))
             (λ y a.
             let r = all_at LeadsItself (terms.variables (right_side slots f k)) y (right_is stays k (to_bind k l)).leads a in
-            subst (λ x. Leads same_variable same_tells same_itself q e f x x) (sym r.2) (leads_of (variable_of slots r.0) r.0 r.3)));
+            subst (λ x. Leads same_variable variable_is variable_self q e f x x) (sym r.2) (leads_of (variable_of slots r.0) r.0 r.3)));
         followers = λ x w a leads differs. follows x w (slot_of_known x a) leads differs;
-        folded = all_bindings (λ b. IsFoldedInsideBy same_variable same_tells same_itself q e f b.1) (λ k l. inside_is stays k (to_bind k l));
+        folded = all_bindings (λ b. IsFoldedInsideBy same_variable variable_is variable_self q e f b.1) (λ k l. inside_is stays k (to_bind k l));
         free = λ y a apart. frees y (slot_of_known y a) apart;
       }
         where
-          follows : (x w : Variable) → (j : ℕ) × (j < slot_count slots) × (x ≡ variable_of slots j) → Leads same_variable same_tells same_itself q e f x w → (w ≡ x → ⊥) → IsAmong (listed_bindings slots (right_side slots f) ks) (x, terms.var w)
+          follows : (x w : Variable) → (j : ℕ) × (j < slot_count slots) × (x ≡ variable_of slots j) → Leads same_variable variable_is variable_self q e f x w → (w ≡ x → ⊥) → IsAmong (listed_bindings slots (right_side slots f) ks) (x, terms.var w)
           follows x w s leads differs =
               let own = has_leader s.0 s.1 in
               let w_is : variable_of slots own.0 ≡ w = leader_is x w leads own.0 (ap (λ y. leader slots f (f y)) s.2 ∙ own.1) in
@@ -261,11 +261,11 @@ module _ (slots : Slots) (f : Variable → Term) where
               )
               (pair_among ks s.0 (ordered.all s.0 listed))
 
-          free_by : (y : Variable) (t : Term) → f y ≡ t → (IsApplication t → ⊥) → Leads same_variable same_tells same_itself q e f y y → IsFree same_variable same_tells same_itself q e f y
+          free_by : (y : Variable) (t : Term) → f y ≡ t → (IsApplication t → ⊥) → Leads same_variable variable_is variable_self q e f y y → IsFree same_variable variable_is variable_self q e f y
           free_by y (terms.var z) e none leads = record { leads = leads; stands = z; image_is = e }
           free_by y (terms.app s ts) e none leads = absurd (none (s, ts, refl))
 
-          frees : (y : Variable) → (j : ℕ) × (j < slot_count slots) × (y ≡ variable_of slots j) → (IsAmong (lefts (listed_bindings slots (right_side slots f) ks)) y → ⊥) → IsFree same_variable same_tells same_itself q e f y
+          frees : (y : Variable) → (j : ℕ) × (j < slot_count slots) × (y ≡ variable_of slots j) → (IsAmong (lefts (listed_bindings slots (right_side slots f) ks)) y → ⊥) → IsFree same_variable variable_is variable_self q e f y
           frees y s apart =
               let own = has_leader s.0 s.1 in
               let not_listed : IsListed used s.0 → ⊥ =
@@ -273,7 +273,7 @@ module _ (slots : Slots) (f : Variable → Term) where
               elim (eqb_tells own.0 s.0) [
                 | inl same ↦
                     let leads_self : leader slots f (f (variable_of slots s.0)) ≡ Some s.0 = own.1 ∙ ap Some same.1 in
-                    subst (IsFree same_variable same_tells same_itself q e f) (sym s.2)
+                    subst (IsFree same_variable variable_is variable_self q e f) (sym s.2)
                     (free_by (variable_of slots s.0) (f (variable_of slots s.0)) refl (λ a. not_listed (of_bind s.0 (s.1, inr (leads_self, a)))) (leads_of (variable_of slots s.0) s.0 leads_self))
                 | inr differs ↦ absurd (not_listed (of_bind s.0 (s.1, inl (own.0, own.1, differs.1))))
               ]

@@ -4,13 +4,13 @@ use Rattle.std.specs.Prelude.{max, IfSome}
 use Rattle.std.specs.List.{AllByRecursion}
 use Rattle.si_defs.specs.Substitutions.{image, IsAmong}
 use Rattle.si_defs.specs.Terms as terms
+use Rattle.si_defs.proofs.ListLaws.{all_weaker, all_from}
 use Rattle.si_flat.specs.declared.Cell.{Cell}
 use Rattle.si_flat.specs.declared.Owner.{Owner}
 use Rattle.si_flat.specs.Cells.{Variable, same_variable, Term, StandsFor, IsWhole}
-use Rattle.si_flat.proofs.Subterms.{length-cells_of}
+use Rattle.si_flat.proofs.Subterms.{length-cells_of, some_cell}
 use Rattle.si_unify.specs.declared.slots.Slots.{Slots}
 use Rattle.si_unify.specs.Solving.{Pairs, variable_of, IsAcyclic, IsBinding, AreHandedIn}
-use Rattle.si_unify.proofs.Lists.{all_map}
 use Rattle.si_unify.proofs.Pieces.{all_within}
 use Rattle.si_form.specs.declared.solution.Binding.{Binding}
 use Rattle.si_form.specs.Answers.{owners_variables, StandsForList}
@@ -20,13 +20,11 @@ use Rattle.si_form.specs.Ordering.{IsListed}
 use Rattle.si_form.specs.SolutionParts.{AreNoLonger}
 use Rattle.si_form.specs.Unifying.{IsApplication, right_side, IsToBind, listed_bindings, HasGeneral, ListsAllBindings}
 use Rattle.si_form.proofs.AnswerLaws.{image_agrees}
-use Rattle.si_form.proofs.CanonicalLaws.{all_from, firsts_among}
-use Rattle.si_form.proofs.CellNumbering.{some_cell}
 use Rattle.si_form.proofs.DownLaws.{ComesFromUpTo, comes_from_value}
 use Rattle.si_form.proofs.OrderedLaws.{listed_all}
 use Rattle.si_form.proofs.RightSides.{none_longer, right_of_follower, right_of_leader}
 use Rattle.si_form.proofs.UnifierThere.{size_inside}
-use Rattle.si_form.proofs.VariableLaws.{same_tells, same_itself}
+use Rattle.si_flat.proofs.FirstPlaces.{firsts_among}
 
 length_of : (cells : List Cell) (t : Term) → StandsFor cells t → length cells ≡ terms.size t
 length_of cells t h = ap length h.cells_are ∙ length-cells_of t
@@ -54,7 +52,7 @@ matched_within owner pattern target (Some bindings) p t h =
     (
     all_from (λ x. terms.size (f x) ≤ length target) (owners_variables owner 0 (length us))
     (λ x a.
-    let among = firsts_among same_variable same_tells same_itself (terms.variables p.0) x (subst (λ l. IsAmong l x) (sym found.2.numbered) a) in
+    let among = firsts_among same_variable (terms.variables p.0) x (subst (λ l. IsAmong l x) (sym found.2.numbered) a) in
     let part = size_inside f p.0 x among in
     omega (arith, part, ap terms.size whole, length_of target t.0 t.1))
     )
@@ -100,7 +98,7 @@ list_within slots solved n bindings some legal acyclic few has all =
     let whole = all f has.1 in
     sides_within slots f n some whole.ks bindings
     (
-    all_map (IsListed whole.used) (λ k. terms.size (right_side slots f k) ≤ n) whole.ks
+    all_weaker (IsListed whole.used) (λ k. terms.size (right_side slots f k) ≤ n) whole.ks
     (λ k l.
     let b = whole.to_bind k l in
     side_within slots f n some k b (comes_from_value slots solved legal n few k f has.1 acyclic b.0))

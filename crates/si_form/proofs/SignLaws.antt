@@ -2,7 +2,7 @@
 use Rattle.std.proofs.Common.{◌≡◌, ◌⊎◌, ℕ, ◌+◌, ◌*◌, Bool, true, false, List, inl, inr, refl, sym, ◌∙◌, ap, arith, Option, Some, None}
 use Rattle.si_defs.specs.Bytes.{Bytes}
 use Rattle.si_defs.specs.Terms as terms
-use Rattle.si_defs.specs.Terms.{var, app, none, more, variables, symbols, rename, rename_all}
+use Rattle.si_defs.specs.Terms.{var, app, symbols}
 use Rattle.si_defs.specs.Symbols.{Symbol}
 use Rattle.si_defs.specs.Clauses.{Terms}
 use Rattle.si_defs.specs.Substitutions.{Substitution, IsAmong}
@@ -12,12 +12,13 @@ use Rattle.si_defs.specs.declared.Relation.{Relation}
 use Rattle.si_defs.specs.declared.Relation.TheVariants.{Variants, Instances, Generalizations, Unifiable}
 use Rattle.si_defs.specs.Relations.{Relates}
 use Rattle.si_defs.specs.Solutions.{IsCanonical}
+use Rattle.si_defs.proofs.ListLaws.{among_back}
+use Rattle.si_defs.proofs.TermLaws.{same_app}
 use Rattle.si_flat.specs.Cells as cells
 use Rattle.si_flat.specs.Numbered.{one_above, signed}
 use Rattle.si_form.specs.declared.solution.Binding.{Binding}
 use Rattle.si_form.specs.Answers.{AnswersTo}
 use Rattle.si_form.specs.Numberings.{query_by, entry_by, symbols_of, SignsAreTold, SidesAreTold}
-use Rattle.si_form.proofs.CanonicalLaws.{among_back}
 use Rattle.si_form.proofs.UnifierLaws.{sequence_map, sequence_is}
 use Rattle.si_form.proofs.Carrying.{Vocabulary}
 use Rattle.si_form.proofs.Vocabularies.{with_numbers}
@@ -65,14 +66,11 @@ one_number number s r one other h k e =
 
 -- ---- heads
 module _ {S V : Type 0} (A : Vocabulary S V) (s r : S) (ts us : terms.Terms S V) where
-  head_is : (vs ws : terms.Terms S V) → app s vs ≡ app r ws → s ≡ r
-  head_is vs ws h = cc
-
   relates_heads : (kind : Relation) → Relates A.same kind (app s ts) (app r us) → s ≡ r
-  relates_heads Unifiable h = head_is _ _ h.1
-  relates_heads Instances h = head_is _ _ h.1.takes
-  relates_heads Generalizations h = head_is _ _ (sym h.1.takes)
-  relates_heads Variants h = head_is _ _ h.0.1.takes
+  relates_heads Unifiable h = (same_app s r _ _ h.1).0
+  relates_heads Instances h = (same_app s r _ _ h.1.takes).0
+  relates_heads Generalizations h = (same_app s r _ _ (sym h.1.takes)).0
+  relates_heads Variants h = (same_app s r _ _ h.0.1.takes).0
 
 -- what is answered has one head
 one_head :

@@ -1,6 +1,7 @@
 -- The sizes of classes are those of their folded terms.
 use Rattle.std.proofs.Common.{◌≡◌, ℕ, ◌+◌, ◌-◌, ◌^◌, ◌<◌, ◌≤◌, List, length, get_or, suc, zero, refl, sym, ◌∙◌, ap, arith, Option, Some, None}
 use Rattle.std.specs.Prelude.{slice_get, min}
+use Rattle.std.proofs.lemmas.Option.{slice_get_within, get_or_from_slice_get}
 use Rattle.si_defs.specs.Terms as terms
 use Rattle.si_flat.specs.Cells.{Variable, Term, Terms}
 use Rattle.si_unify.specs.declared.slots.Slots.{Slots}
@@ -9,8 +10,7 @@ use Rattle.si_form.specs.declared.classes.Node.{Node}
 use Rattle.si_form.specs.declared.classes.Node.TheVariants.{Variable as Of, Head, With}
 use Rattle.si_form.specs.Classes.{with_last, StandsForNode, AreNodes}
 use Rattle.si_form.specs.Folding.{leader, variable_or, folded, folded_all, AreLeaders, part_size, node_size, AreSizes}
-use Rattle.si_form.proofs.NodeLaws.{get_inside, node_of}
-use Rattle.si_form.proofs.FoldingLaws.{at_default}
+use Rattle.si_form.proofs.NodeLaws.{node_of}
 
 folded_last : (slots : Slots) (f : Variable → Term) (ts : Terms) (u : Term) → terms.sizes (folded_all slots f (with_last ts u)) ≡ terms.sizes (folded_all slots f ts) + terms.size (variable_or slots f (leader slots f u) (folded slots f u))
 folded_last slots f terms.none u = omega arith
@@ -27,11 +27,11 @@ module _ (slots : Slots) (f : Variable → Term) (nodes : List Node) (known : Li
   IsExact bound = (m : ℕ) (t : Term) → m < bound → slice_get known m ≡ Some t → Fits t → slice_get sizes m ≡ Some (terms.size (folded slots f t))
 
   part_exact : (bound q : ℕ) (u : Term) → IsExact bound → q < bound → slice_get known q ≡ Some u → terms.size (variable_or slots f (leader slots f u) (folded slots f u)) ≤ 2 ^ 32 - 1 → part_size (get_or leaders q None) (get_or sizes q 0) ≡ terms.size (variable_or slots f (leader slots f u) (folded slots f u))
-  part_exact bound q u exact less at fits = ap (λ o. part_size o (get_or sizes q 0)) (at_default leaders q None (leader slots f u) (led q u at)) ∙ by (leader slots f u) fits
+  part_exact bound q u exact less at fits = ap (λ o. part_size o (get_or sizes q 0)) (get_or_from_slice_get leaders q (leader slots f u) None (led q u at)) ∙ by (leader slots f u) fits
     where
       by : (o : Option ℕ) → terms.size (variable_or slots f o (folded slots f u)) ≤ 2 ^ 32 - 1 → part_size o (get_or sizes q 0) ≡ terms.size (variable_or slots f o (folded slots f u))
       by (Some w) k = refl
-      by None k = at_default sizes q 0 (terms.size (folded slots f u)) (exact q u less at k)
+      by None k = get_or_from_slice_get sizes q (terms.size (folded slots f u)) 0 (exact q u less at k)
 
   node_exact : (bound m : ℕ) (node : Node) (t : Term) → IsExact bound → m ≤ bound → StandsForNode slots known m node t → Fits t → node_size sizes leaders node ≡ terms.size (folded slots f t)
   node_exact bound m (Of slot) t exact less means fits = sym (ap (λ u. terms.size (folded slots f u)) means.1)
@@ -41,7 +41,7 @@ module _ (slots : Slots) (f : Variable → Term) (nodes : List Node) (known : Li
       let whole : terms.size (folded slots f t) ≡ 1 + (terms.sizes (folded_all slots f means.arguments) + terms.size (variable_or slots f (leader slots f means.last) (folded slots f means.last))) =
       ap (λ u. terms.size (folded slots f u)) means.term_is ∙ ap (λ n. 1 + n) (folded_last slots f means.arguments means.last) in
       let front : get_or sizes p 0 ≡ 1 + terms.sizes (folded_all slots f means.arguments) =
-      at_default sizes p 0 (1 + terms.sizes (folded_all slots f means.arguments))
+      get_or_from_slice_get sizes p (1 + terms.sizes (folded_all slots f means.arguments)) 0
       (exact p (terms.app means.symbol means.arguments) (omega (arith, means.front_before, less)) means.front_is (omega (arith, fits, whole))) in
       let part = part_exact bound q means.last exact (omega (arith, means.argument_before, less)) means.last_is (omega (arith, fits, whole)) in
       let sum : get_or sizes p 0 + part_size (get_or leaders q None) (get_or sizes q 0) ≡ terms.size (folded slots f t) = omega (arith, front, part, whole) in
@@ -51,7 +51,7 @@ module _ (slots : Slots) (f : Variable → Term) (nodes : List Node) (known : Li
   exact_below zero m t less at fits = absurd (omega (arith, less))
   exact_below (suc bound) m t less at fits =
       let r = node_of slots nodes known are m t at in
-      sized.sizes_are m r.0 (omega (arith, get_inside known m t at, are.long)) r.1
+      sized.sizes_are m r.0 (omega (arith, slice_get_within known m t at, are.long)) r.1
       ∙ ap Some (node_exact bound m r.0 t (λ k u l a b. exact_below bound k u l a b) (omega (arith, less)) r.2 fits)
 
   -- the size of a class is that of its folded term, if that can be written

@@ -15,11 +15,12 @@ use Rattle.si_flat.specs.Numbered.{one_above, signed, numbered, all_numbered}
 use Rattle.si_form.specs.Answers.{StandsForList}
 use Rattle.si_form.specs.Numberings.{list_by, symbols_of, IsVariableOf}
 use Rattle.si_form.specs.SolutionParts.{IsBindingOf, SolutionsAreOfTerms, HasFunctionsAlone, PredicatesStayOut, SignsStayOut, AtomsAreAnswered}
-use Rattle.si_form.proofs.CanonicalLaws.{all_at, all_from, all_front, all_back, among_front, among_back}
 use Rattle.si_form.proofs.UnifierLaws.{among_tells}
 use Rattle.si_form.proofs.Translating.{IsMadeOf, AreMadeOf, symbols_made, variable_made, renamed_made}
 use Rattle.si_form.proofs.MadeLaws.{IsListOf, canonical_made, canonical_made_inside}
-use Rattle.si_form.proofs.Vocabularies.{with_texts, symbol_tells, symbol_itself}
+use Rattle.si_defs.proofs.SymbolLaws.{symbol_is, symbol_self}
+use Rattle.si_defs.proofs.ListLaws.{all_at, all_from, all_front, all_back, among_front, among_back}
+use Rattle.si_form.proofs.Vocabularies.{with_texts}
 
 -- ---- symbols and variables of a solution
 bindings_of : (p u : Term) (bs : Solution) → IsListOf (IsAmong (symbols_of p u)) (IsVariableOf p u) bs → AllByRecursion (IsBindingOf p u) bs
@@ -41,7 +42,7 @@ solutions_are_of_terms kind p u solution h =
     let Q = IsVariableOf p u in
     bindings_of p u solution
     (
-    canonical_made with_texts P Q (among_tells same_symbol symbol_tells symbol_itself (symbols_of p u)) kind (pattern_term p) (entry_term u) solution
+    canonical_made with_texts P Q (among_tells same_symbol symbol_is symbol_self (symbols_of p u)) kind (pattern_term p) (entry_term u) solution
     (renamed_made P Q of_pattern p (all_from P (symbols p) (λ s a. among_front (symbols p) (symbols u) s a)) (all_from (λ x. Q (of_pattern x)) (variables p) (λ x a. a)))
     (renamed_made P Q of_entry u (all_from P (symbols u) (λ s a. among_back (symbols p) (symbols u) s a)) (all_from (λ y. Q (of_entry y)) (variables u) (λ y a. a)))
     h

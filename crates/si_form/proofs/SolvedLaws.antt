@@ -13,7 +13,7 @@ use Rattle.si_unify.specs.Solving.{Pairs, slot_count, AreInRange, IsAcyclic, IsB
 use Rattle.si_form.specs.declared.solution.Binding.{Binding}
 use Rattle.si_form.specs.Answers.{AnswersTo}
 use Rattle.si_form.specs.Unifying.{right_side, listed_bindings, ListsAllBindings, AreSlotsOf}
-use Rattle.si_form.proofs.VariableLaws.{same_tells, same_itself}
+use Rattle.si_flat.proofs.VariableLaws.{variable_is, variable_self}
 use Rattle.si_form.proofs.UnifierLaws.{one_unifier}
 use Rattle.si_form.proofs.GeneralLaws.{general}
 use Rattle.si_form.proofs.FoldedLaws.{canonical_of_folded}
@@ -45,17 +45,17 @@ module _ (slots : Slots) (query_cells entry_cells : List Cell) (of : AreSlotsOf 
   module _ (pairs : Pairs) (bindings : AllByRecursion (IsBinding slots) pairs) (distinct : HasDistinctSlots pairs) (acyclic : IsAcyclic slots pairs) where
     pub answered : (list : List Binding) → HasSolved slots [] pairs query_cells entry_cells true → ListsAllBindings slots pairs list → (q e : Term) → StandsFor query_cells q → StandsFor entry_cells e → AnswersTo Unifiable q e (Some list)
     answered list solved all q e p t =
-        let f = general same_variable same_tells same_itself (bound_list slots of.free.query of.free.entry pairs bindings distinct acyclic) in
+        let f = general same_variable variable_is variable_self (bound_list slots of.free.query of.free.entry pairs bindings distinct acyclic) in
         let is = is_general slots of.free.query of.free.entry pairs bindings distinct acyclic in
         let whole = all f is in
         let folded = folded_list slots f q e (order_is q e p t) whole.used whole.ks whole.ordered whole.to_bind whole.of_bind whole.has is.stays in
         let has = has_unifiers slots of.free.query of.free.entry pairs bindings distinct acyclic query_cells entry_cells q e p t solved in
         let canonical =
-        canonical_of_folded same_variable same_tells same_itself q e (bound_list slots of.free.query of.free.entry pairs bindings distinct acyclic) has (listed_bindings slots (right_side slots f) whole.ks) folded in (
+        canonical_of_folded same_variable variable_is variable_self q e (bound_list slots of.free.query of.free.entry pairs bindings distinct acyclic) has (listed_bindings slots (right_side slots f) whole.ks) folded in (
           listed_bindings slots (right_side slots f) whole.ks,
           whole.stands,
           record {
             canonical = canonical;
-            only = λ other h. one_unifier same_variable same_tells same_itself q e other (listed_bindings slots (right_side slots f) whole.ks) h canonical;
+            only = λ other h. one_unifier same_variable variable_is variable_self q e other (listed_bindings slots (right_side slots f) whole.ks) h canonical;
           },
         )

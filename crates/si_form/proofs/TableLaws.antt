@@ -5,8 +5,8 @@ use Rattle.si_defs.specs.Symbols.{Symbol, Numbering, IsNumbering, same_symbol}
 use Rattle.si_defs.specs.Substitutions.{IsAmong}
 use Rattle.si_flat.specs.Numbered.{number_in, one_above, signed}
 use Rattle.si_form.specs.TableNumbers.{AreQueryNumbers, NumbersTellApart, EntriesNeedTheTableAlone}
-use Rattle.si_form.proofs.CanonicalLaws.{all_from, among_parts}
-use Rattle.si_form.proofs.Vocabularies.{symbol_tells, symbol_itself}
+use Rattle.si_defs.proofs.SymbolLaws.{symbol_is, symbol_self}
+use Rattle.si_defs.proofs.ListLaws.{all_from, among_parts}
 use Rattle.si_form.proofs.SolutionLaws.{numbered_same}
 
 number_among : (pairs : Numbering) (s : Symbol) (n : ℕ) → IsAmong pairs (s, n) → IsAmong pairs (s, number_in pairs s)
@@ -14,10 +14,10 @@ number_among [] s n a = elim a [ ]
 number_among (pair ∷ pairs) s n a = by (same_symbol pair.0 s) refl (number_among pairs s n)
   where
     by : (b : Bool) → same_symbol pair.0 s ≡ b → (IsAmong pairs (s, n) → IsAmong pairs (s, number_in pairs s)) → IsAmong (pair ∷ pairs) (s, cond b pair.1 (number_in pairs s))
-    by true e rest = inl (ap (λ r. (r, pair.1)) (symbol_tells pair.0 s e))
+    by true e rest = inl (ap (λ r. (r, pair.1)) (symbol_is pair.0 s e))
     by false e rest =
         elim a [
-          | inl same ↦ (let bad : true ≡ false = sym (symbol_itself s) ∙ ap (λ z. same_symbol z.0 s) (sym same) ∙ e in cc)
+          | inl same ↦ (let bad : true ≡ false = sym (symbol_self s) ∙ ap (λ z. same_symbol z.0 s) (sym same) ∙ e in cc)
           | inr b ↦ inr (rest b)
         ]
 
@@ -29,7 +29,7 @@ number_in_front (pair ∷ pairs) extra s n a = by (same_symbol pair.0 s) refl (n
     by true e rest = refl
     by false e rest =
         elim a [
-          | inl same ↦ (let bad : true ≡ false = sym (symbol_itself s) ∙ ap (λ z. same_symbol z.0 s) (sym same) ∙ e in cc)
+          | inl same ↦ (let bad : true ≡ false = sym (symbol_self s) ∙ ap (λ z. same_symbol z.0 s) (sym same) ∙ e in cc)
           | inr b ↦ rest b
         ]
 

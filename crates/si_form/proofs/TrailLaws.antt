@@ -1,4 +1,5 @@
--- A triangular list of bindings that solves two terms, as a list whose solutions are their unifiers.
+-- A triangular list of bindings that solves two terms, as a list whose solutions are their
+-- unifiers.
 use Rattle.std.proofs.Common.{◌≡◌, ◌≢◌, ℕ, ◌<◌, ◌≤◌, inl, inr, Bool, true, false, cond, List, [], ◌∷◌, refl, sym, ◌∙◌, ap, subst, arith}
 use Rattle.std.proofs.lemmas.Bool.Decides.{nat_tests}
 use Rattle.std.specs.Prelude.{nat_lt}
@@ -7,34 +8,30 @@ use Rattle.si_defs.specs.Terms as terms
 use Rattle.si_defs.specs.Substitutions.{Substitution, image, lefts, rights, IsAmong}
 use Rattle.si_defs.specs.Relations.{Unifies}
 use Rattle.si_defs.specs.Solutions.{IsTriangular, in_sequence}
+use Rattle.si_defs.proofs.ListLaws.{all_weaker, all_front, all_back}
 use Rattle.si_flat.specs.declared.Cell.{Cell}
 use Rattle.si_flat.specs.Cells.{Symbol, Variable, query, entry, ind, same_variable, Term, Terms, variable_cell, cells_of, cells_of_all, IsSound, AreSound, StandsFor}
 use Rattle.si_trail.specs.Trails.{HasDistinctSlots}
 use Rattle.si_unify.specs.declared.slots.Slots.{Slots}
 use Rattle.si_unify.specs.Solving as solving
-use Rattle.si_unify.specs.Solving.{Pairs, slot_count, slot_of, variable_of, is_frozen, IsInRange, Equalizes, IsSolvedBy, IsBinding, RanksBelow, IsTriangularBy, IsSolution, HasSolved}
-use Rattle.si_unify.proofs.Lists.{all_map, all_front, all_back, apart_from}
-use Rattle.si_form.proofs.VariableLaws.{same_tells, same_itself}
-use Rattle.si_form.proofs.CanonicalLaws as members
+use Rattle.si_unify.specs.Solving.{Pairs, slot_count, slot_of, variable_of, is_frozen, Equalizes, IsSolvedBy, IsBinding, RanksBelow, IsTriangularBy, HasSolved}
+use Rattle.si_unify.proofs.Lists.{apart_from}
+use Rattle.si_flat.proofs.VariableLaws.{variable_is, variable_self}
+use Rattle.si_defs.proofs.ListLaws as members
 use Rattle.si_form.proofs.UnifierLaws.{sequence_is, free_stays}
 use Rattle.si_form.proofs.GeneralLaws.{Solves, general, general_solves, HasUnifiers}
-use Rattle.si_form.proofs.Agreeing.{same_value}
-use Rattle.si_form.proofs.NodeLaws.{slot_again}
+use Rattle.si_form.proofs.NodeLaws.{slot_again, same_slots}
 use Rattle.si_unify.specs.Solving.{CellIsInRange}
 use Rattle.si_unify.proofs.Places.{variable_of-slot_of, in_range-variable}
 use Rattle.si_form.proofs.FoldedLaws.{sequence_inside, lefts_gone}
 use Rattle.si_unify.proofs.Rows.{count-substitute}
+use Rattle.si_unify.proofs.Reading.{one_term}
+use Rattle.si_unify.proofs.Binding.{slot_below}
+use Rattle.si_unify.proofs.Solutions.{rows, IsApartFrom}
 use Rattle.si_form.specs.Unifying.{StaysFree, IsGeneral, HasGeneral}
 use Rattle.si_form.specs.Classes.{LeavesUnbound}
 
 -- ---- rows of slots and terms
-abbrev rows : (slots : Slots) (pairs : Pairs) → AllByRecursion (IsBinding slots) pairs → List (ℕ × Term)
-rows slots [] b = []
-rows slots (pair ∷ pairs) b = (pair.0, b.0.whole.0) ∷ rows slots pairs b.1
-
-abbrev IsApartFrom : ℕ → ℕ × Term → Type 0
-IsApartFrom slot row = row.0 ≢ slot
-
 abbrev AreApart : List (ℕ × Term) → Type 0
 AreApart [] = Unit {0}
 AreApart (row ∷ rows) = AllByRecursion (IsApartFrom row.0) rows × AreApart rows
@@ -106,7 +103,7 @@ module _ (rank : ℕ → ℕ) where
       by : (b : Bool) → nat_lt (rank s.0) (rank r.0) ≡ b → AreFalling (insert r rs) → AreFalling (cond b (r ∷ s ∷ rs) (s ∷ insert r rs))
       by true e k =
           let less : rank s.0 ≤ rank r.0 = grind (arith, nat_tests) in
-          ((less, all_map (RanksUpTo (rank s.0)) (RanksUpTo (rank r.0)) rs (λ row m. up row.0 m less) h.0), h)
+          ((less, all_weaker (RanksUpTo (rank s.0)) (RanksUpTo (rank r.0)) rs (λ row m. up row.0 m less) h.0), h)
         where
           up : (z : ℕ) → rank z ≤ rank s.0 → rank s.0 ≤ rank r.0 → rank z ≤ rank r.0
           up z m less = omega (arith, m, less)
@@ -120,9 +117,6 @@ module _ (rank : ℕ → ℕ) where
 abbrev named : Slots → List (ℕ × Term) → List (Variable × Term)
 named slots [] = []
 named slots (r ∷ rs) = (variable_of slots r.0, r.1) ∷ named slots rs
-
-same_slots : (slots : Slots) (m n : ℕ) → variable_of slots m ≡ variable_of slots n → m ≡ n
-same_slots slots m n e = sym (slot_again slots m) ∙ ap (slot_of slots) e ∙ slot_again slots n
 
 pub not_named : (slots : Slots) (rs : List (ℕ × Term)) (slot : ℕ) → AllByRecursion (IsApartFrom slot) rs → IsAmong (lefts (named slots rs)) (variable_of slots slot) → ⊥
 not_named slots [] slot h a = elim a [ ]
@@ -200,20 +194,15 @@ of_rows_equal : (slots : Slots) (f : Variable → Term) (pairs : Pairs) (b : All
 of_rows_equal slots f [] b h = tt
 of_rows_equal slots f (pair ∷ pairs) b h = (
   (λ t u left right.
-      ap (terms.substitute f) (same_value (variable_cell (variable_of slots pair.0) ∷ []) t (terms.var (variable_of slots pair.0)) left (record { cells_are = refl; sound = tt }))
+      ap (terms.substitute f) (one_term (variable_cell (variable_of slots pair.0) ∷ []) t (terms.var (variable_of slots pair.0)) left (record { cells_are = refl; sound = tt }))
       ∙ h.0
-      ∙ ap (terms.substitute f) (same_value pair.1.now b.0.whole.0 u b.0.whole.1 right)),
+      ∙ ap (terms.substitute f) (one_term pair.1.now b.0.whole.0 u b.0.whole.1 right)),
   of_rows_equal slots f pairs b.1 h.1,
 )
 
 -- ---- the variables of rows
 abbrev pub HasSlot : Slots → Variable → Type 0
 HasSlot slots y = (j : ℕ) × (j < slot_count slots) × (y ≡ variable_of slots j)
-
-pub slot_below : (slots : Slots) (x : Variable) → IsInRange slots x → slot_of slots x < slot_count slots
-slot_below slots (query n) h = omega (arith, h)
-slot_below slots (entry n) h = omega (arith, h)
-slot_below slots (ind n) h = omega (arith, h)
 
 pub cell_has_slot : (slots : Slots) (x : Variable) → CellIsInRange slots (variable_cell x) → HasSlot slots x
 cell_has_slot slots x h =
@@ -292,46 +281,46 @@ module _ (slots : Slots) (free_query : slots.freeze_query ≡ false) (free_entry
   }
 
   -- the map that the list makes solves the bindings, and leaves the variables that aren't bound
-  pub general_of_bound : IsSolvedBy slots pairs (general same_variable same_tells same_itself bound_list)
-  general_of_bound = of_solves (general same_variable same_tells same_itself bound_list) (general_solves same_variable same_tells same_itself bound_list bound_triangular)
+  pub general_of_bound : IsSolvedBy slots pairs (general same_variable variable_is variable_self bound_list)
+  general_of_bound = of_solves (general same_variable variable_is variable_self bound_list) (general_solves same_variable variable_is variable_self bound_list bound_triangular)
 
-  pub general_leaves : LeavesUnbound slots pairs (general same_variable same_tells same_itself bound_list)
+  pub general_leaves : LeavesUnbound slots pairs (general same_variable variable_is variable_self bound_list)
   general_leaves slot less unbound =
-      sym (sequence_is same_variable same_tells same_itself bound_list (terms.var (variable_of slots slot)))
-      ∙ free_stays same_variable same_tells same_itself bound_list (variable_of slots slot)
+      sym (sequence_is same_variable variable_is variable_self bound_list (terms.var (variable_of slots slot)))
+      ∙ free_stays same_variable variable_is variable_self bound_list (variable_of slots slot)
       (not_named slots (sorted triangular.0 (rows slots pairs bindings)) slot
       (sorted_all triangular.0 (IsApartFrom slot) (rows slots pairs bindings) (rows_from slots pairs bindings slot (apart_from pairs slot unbound))))
 
   -- the variables of images are variables of slots that the map leaves
-  pub general_stays : (k : ℕ) → k < slot_count slots → AllByRecursion (StaysFree slots (general same_variable same_tells same_itself bound_list)) (terms.variables (general same_variable same_tells same_itself bound_list (variable_of slots k)))
+  pub general_stays : (k : ℕ) → k < slot_count slots → AllByRecursion (StaysFree slots (general same_variable variable_is variable_self bound_list)) (terms.variables (general same_variable variable_is variable_self bound_list (variable_of slots k)))
   general_stays k less =
-      subst (λ t. AllByRecursion (StaysFree slots (general same_variable same_tells same_itself bound_list)) (terms.variables t)) (sequence_is same_variable same_tells same_itself bound_list (terms.var (variable_of slots k)))
+      subst (λ t. AllByRecursion (StaysFree slots (general same_variable variable_is variable_self bound_list)) (terms.variables t)) (sequence_is same_variable variable_is variable_self bound_list (terms.var (variable_of slots k)))
       (
-      members.all_from (StaysFree slots (general same_variable same_tells same_itself bound_list)) (terms.variables (in_sequence same_variable bound_list (terms.var (variable_of slots k))))
+      members.all_from (StaysFree slots (general same_variable variable_is variable_self bound_list)) (terms.variables (in_sequence same_variable bound_list (terms.var (variable_of slots k))))
       (λ y a.
       let known =
       members.all_at (HasSlot slots) (terms.variables (in_sequence same_variable bound_list (terms.var (variable_of slots k)))) y
-      (sequence_inside same_variable same_tells same_itself (HasSlot slots) bound_list (terms.var (variable_of slots k)) ((k, less, refl), tt)
+      (sequence_inside same_variable variable_is variable_self (HasSlot slots) bound_list (terms.var (variable_of slots k)) ((k, less, refl), tt)
       (named_rights slots (sorted triangular.0 (rows slots pairs bindings)) (sorted_all triangular.0 (HasSlots slots) (rows slots pairs bindings) (rows_have_slots slots pairs bindings))))
       a in (
         known.0,
         known.1,
         known.2,
-        sym (sequence_is same_variable same_tells same_itself bound_list (terms.var y))
-            ∙ free_stays same_variable same_tells same_itself bound_list y
-            (λ l. lefts_gone same_variable same_tells same_itself bound_list (terms.var (variable_of slots k)) y bound_triangular l a),
+        sym (sequence_is same_variable variable_is variable_self bound_list (terms.var y))
+            ∙ free_stays same_variable variable_is variable_self bound_list y
+            (λ l. lefts_gone same_variable variable_is variable_self bound_list (terms.var (variable_of slots k)) y bound_triangular l a),
       ))
       )
 
-  pub general_sound : (x : Variable) → IsSound (general same_variable same_tells same_itself bound_list x)
+  pub general_sound : (x : Variable) → IsSound (general same_variable variable_is variable_self bound_list x)
   general_sound x =
-      subst IsSound (sequence_is same_variable same_tells same_itself bound_list (terms.var x))
+      subst IsSound (sequence_is same_variable variable_is variable_self bound_list (terms.var x))
       (
       sequence_sound bound_list (terms.var x) tt
       (named_sound slots (sorted triangular.0 (rows slots pairs bindings)) (sorted_all triangular.0 (λ row. IsSound row.1) (rows slots pairs bindings) (rows_sound slots pairs bindings)))
       )
 
-  pub is_general : IsGeneral slots pairs (general same_variable same_tells same_itself bound_list)
+  pub is_general : IsGeneral slots pairs (general same_variable variable_is variable_self bound_list)
   is_general = record {
     solves = general_of_bound;
     leaves = general_leaves;
@@ -340,10 +329,10 @@ module _ (slots : Slots) (free_query : slots.freeze_query ≡ false) (free_entry
   }
 
   pub has_general : HasGeneral slots pairs
-  has_general = (general same_variable same_tells same_itself bound_list, is_general)
+  has_general = (general same_variable variable_is variable_self bound_list, is_general)
 
   -- its solutions are the unifiers of the two terms that were solved
-  pub has_unifiers : (left right : List Cell) (q e : Term) → StandsFor left q → StandsFor right e → HasSolved slots [] pairs left right true → HasUnifiers same_variable same_tells same_itself q e bound_list
+  pub has_unifiers : (left right : List Cell) (q e : Term) → StandsFor left q → StandsFor right e → HasSolved slots [] pairs left right true → HasUnifiers same_variable variable_is variable_self q e bound_list
   has_unifiers left right q e p t solved = record {
     triangular = bound_triangular;
     every = λ s unifies.
@@ -351,7 +340,7 @@ module _ (slots : Slots) (free_query : slots.freeze_query ≡ false) (free_entry
         ((solved.1 s).1 (
           record { frozen = λ x k. none_frozen slots free_query free_entry x k; equal = tt },
           (λ u v left_u right_v.
-              ap (terms.substitute (image same_variable s)) (same_value left u q left_u p) ∙ unifies ∙ ap (terms.substitute (image same_variable s)) (same_value right e v t right_v)),
+              ap (terms.substitute (image same_variable s)) (one_term left u q left_u p) ∙ unifies ∙ ap (terms.substitute (image same_variable s)) (one_term right e v t right_v)),
         ));
     only = λ s solves. ((solved.1 s).0 (of_solves (image same_variable s) solves)).1 q e p t;
   }
@@ -363,6 +352,6 @@ module _ (slots : Slots) (free_query : slots.freeze_query ≡ false) (free_entry
         (
           record { frozen = λ x k. none_frozen slots free_query free_entry x k; equal = tt },
           (λ u v left_u right_v.
-              ap (terms.substitute (image same_variable s)) (same_value left u q left_u p) ∙ unifies ∙ ap (terms.substitute (image same_variable s)) (same_value right e v t right_v)),
+              ap (terms.substitute (image same_variable s)) (one_term left u q left_u p) ∙ unifies ∙ ap (terms.substitute (image same_variable s)) (one_term right e v t right_v)),
         ),
       )

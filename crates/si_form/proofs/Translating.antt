@@ -4,7 +4,7 @@ use Rattle.std.specs.List.{AllByRecursion}
 use Rattle.std.proofs.lemmas.List.{map-append}
 use Rattle.si_defs.specs.Terms.{Term, Terms, var, app, none, more, variables, variables_of_all, symbols, symbols_of_all, substitute, substitute_all, rename, rename_all}
 use Rattle.si_defs.specs.Substitutions.{IsAmong}
-use Rattle.si_form.proofs.CanonicalLaws.{all_front, all_back, all_append, among_parts}
+use Rattle.si_defs.proofs.ListLaws.{all_front, all_back, all_append, among_parts}
 
 -- ---- the symbols and the variables of a term, each by a property
 module _ {S V : Type 0} (P : S → Type 0) (Q : V → Type 0) where

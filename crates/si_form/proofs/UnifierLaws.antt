@@ -5,7 +5,8 @@ use Rattle.si_defs.specs.Terms.{Term, Terms, var, app, none, more, variables, va
 use Rattle.si_defs.specs.Substitutions.{Substitution, image, apply, lefts, rights, IsAmong}
 use Rattle.si_defs.specs.Relations.{Unifies}
 use Rattle.si_defs.specs.Solutions.{bind, in_sequence, IsTriangular, order, AreJoined, IsLeader, IsFolded, AreFolded, IsFoldedInside, IsOrdered, IsCanonicalUnifier}
-use Rattle.si_form.proofs.CanonicalLaws.{all_at, all_from, all_front, all_back, stays, twice}
+use Rattle.si_defs.proofs.ListLaws.{all_at, all_from, all_front, all_back}
+use Rattle.si_form.proofs.CanonicalLaws.{stays, twice}
 
 -- ---- the first of a list with a property
 pub first_unique : {X : Type 0} (P Q : X → Type 0) (b1 a1 b2 a2 : List X) (x y : X) → b1 ++ x ∷ a1 ≡ b2 ++ y ∷ a2 → P x → Q y → AllByRecursion (λ z. P z → ⊥) b1 → AllByRecursion (λ z. Q z → ⊥) b2 → ((z : X) → P z → Q z) → ((z : X) → Q z → P z) → x ≡ y

@@ -1,5 +1,5 @@
 -- The canonical list of two terms that can be unified.
-use Rattle.std.proofs.Common.{◌≡◌, ◌≢◌, ℕ, ◌+◌, ◌*◌, ◌<◌, ◌≤◌, inl, inr, Bool, true, false, List, [], ◌∷◌, ◌++◌, length, take, get_or, suc, zero, refl, sym, ◌∙◌, ap, subst, arith, length-append, Option, Some, None, Vec}
+use Rattle.std.proofs.Common.{◌≡◌, ◌≢◌, ℕ, ◌+◌, ◌*◌, ◌<◌, ◌≤◌, inl, inr, Bool, true, false, List, [], ◌∷◌, ◌++◌, length, take, get_or, refl, sym, ◌∙◌, ap, subst, arith, length-append, Option, Some, None, Vec}
 use Rattle.std.proofs.lemmas.Bool.{eq-eqb, cases_lt}
 use Rattle.std.proofs.lemmas.Bool.Decides.{eqb_tells}
 use Rattle.std.specs.Prelude.{◌==◌}
@@ -18,12 +18,11 @@ use Rattle.si_form.proofs.OrderedLaws.{listed_all}
 use Rattle.si_form.specs.declared.solution.Binding.{Binding}
 use Rattle.si_form.specs.Answers.{StandsForPair, StandsForList}
 use Rattle.si_flat.specs.Flattening.{owners_variable}
-use Rattle.std.proofs.lemmas.List.{take_all}
-use Rattle.std.proofs.Math.Seq.{take-suc}
-use Rattle.si_form.proofs.CanonicalLaws.{all_at, all_from, all_front, all_back, among_parts}
+use Rattle.std.proofs.lemmas.List.{take_all, take_more, get_or_past}
+use Rattle.std.proofs.lemmas.Option.{get_or_from_slice_get, slice_get_read}
+use Rattle.si_defs.proofs.ListLaws.{all_at, all_from, all_front, all_back, among_parts, all_get}
 use Rattle.si_form.proofs.NodeLaws.{slot_again}
-use Rattle.si_form.proofs.UsesLaws.{slots_append, beyond, get_or_front, get_or_last}
-use Rattle.si_form.proofs.FoldingLaws.{at_default, read_at}
+use Rattle.si_form.proofs.UsesLaws.{slots_append, get_or_front, get_or_last}
 use Rattle.si_form.proofs.RightSides.{right_is, right_of_leader, LeadsItself}
 
 -- ---- slots of cells
@@ -97,7 +96,7 @@ module _ {A B : Type 0} (slots : Slots) (f : Variable → Term) (rights : List (
   listed_inside k l =
       elim (cases_lt k (length lists)) [
         | inl less ↦ less
-        | inr more ↦ let bad : None ≡ Some l.0 = sym (ap list_of (beyond lists k None more)) ∙ l.1 in cc
+        | inr more ↦ let bad : None ≡ Some l.0 = sym (ap list_of (get_or_past lists k None more)) ∙ l.1 in cc
       ]
 
   side_of : (k : ℕ) → IsListed (uses_at lists) k → IsSide slots f (uses_at lists k) k
@@ -225,21 +224,13 @@ stands_more [] (p ∷ pairs) b pair h k = elim h [ ]
 stands_more (a ∷ bs) [] b pair h k = elim h [ ]
 stands_more (a ∷ bs) (p ∷ pairs) b pair h k = (h.0, stands_more bs pairs b pair h.1 k)
 
-pub all_get : {X : Type 0} (P : X → Type 0) (xs : List X) (i : ℕ) (d : X) → AllByRecursion P xs → i < length xs → P (get_or xs i d)
-all_get P [] i d h less = absurd (omega (arith, less))
-all_get P (x ∷ xs) zero d h less = h.0
-all_get P (x ∷ xs) (suc i) d h less = all_get P xs i d h.1 (omega (arith, less))
-
-take_more : (xs : List ℕ) (i d : ℕ) → i < length xs → take (i + 1) xs ≡ take i xs ++ get_or xs i d ∷ []
-take_more xs i d less = (let n : i + 1 ≡ suc i = omega arith in ap (λ m. take m xs) n) ∙ take-suc xs i d less
+take_none : {X : Type 0} (xs : List X) → take 0 xs ≡ []
+take_none [] = refl
+take_none (x ∷ xs) = refl
 
 module _ {A : Type 0} (slots : Slots) (rights : List (Option (Vec Cell A))) (ks : List ℕ) where
   pub lists_begin : ListsBindings slots rights (take 0 ks) []
   lists_begin = subst (λ l. ListsBindings slots rights l []) (sym (take_none ks)) (λ f sides binds. tt)
-    where
-      take_none : (xs : List ℕ) → take 0 xs ≡ []
-      take_none [] = refl
-      take_none (x ∷ xs) = refl
 
   module _ (i k : ℕ) (bs : List Binding) (less : i < length ks) (is : k ≡ get_or ks i 0) (h : ListsBindings slots rights (take i ks) bs) where
     taken : take (i + 1) ks ≡ take i ks ++ k ∷ []
@@ -271,7 +262,7 @@ module _ {A : Type 0} (slots : Slots) (rights : List (Option (Vec Cell A))) (ks 
 
   -- what was read is what stands at the place
   pub right_at : (k : ℕ) (o : Option (Vec Cell A)) → k < length rights → o ≡ get_or rights k o → list_of (get_or rights k None) ≡ list_of o
-  right_at k o less is = ap list_of (at_default rights k None o (read_at rights k o less is))
+  right_at k o less is = ap list_of (get_or_from_slice_get rights k o None (slice_get_read rights _ k o refl less is))
 
   pub lists_end : (i : ℕ) (bs : List Binding) → length ks ≤ i → ListsBindings slots rights (take i ks) bs → ListsBindings slots rights ks bs
   lists_end i bs full h = subst (λ l. ListsBindings slots rights l bs) (take_all i ks full) h

@@ -1,11 +1,13 @@
 -- Which slots the values of bindings use.
-use Rattle.std.proofs.Common.{◌≡◌, ℕ, ◌+◌, ◌<◌, ◌≤◌, inl, inr, List, [], ◌∷◌, ◌++◌, length, take, get_or, suc, zero, refl, sym, ◌∙◌, ap, subst, arith, length-append, Option, Some, None}
+use Rattle.std.proofs.Common.{◌≡◌, ℕ, ◌+◌, ◌<◌, inl, inr, List, [], ◌∷◌, ◌++◌, length, take, get_or, suc, zero, refl, sym, ◌∙◌, ap, subst, arith, length-append, Option, Some, None}
 use Rattle.std.proofs.Math.Seq.{take-suc}
 use Rattle.std.proofs.lemmas.Bool.Decides.{eqb_tells}
 use Rattle.std.proofs.lemmas.Bool.{cases_lt}
 use Rattle.std.specs.Prelude.{Vec}
 use Rattle.std.specs.List.{AllByRecursion}
 use Rattle.std.specs.Borrow.{Bor}
+use Rattle.std.proofs.lemmas.Option.{same_Some}
+use Rattle.std.proofs.lemmas.List.{get_or_past}
 use Rattle.si_flat.specs.declared.Cell.{Cell}
 use Rattle.si_flat.specs.declared.Cell.TheVariants as cell
 use Rattle.si_trail.specs.Trails.{value_at}
@@ -16,7 +18,6 @@ use Rattle.si_unify.specs.Circles.{with_slot}
 use Rattle.si_unify.proofs.Places.{all_at}
 use Rattle.si_form.specs.Classes.{slots_of}
 use Rattle.si_form.specs.Ordering.{list_of, uses_at, list_or_none, IsListed, HasNoCircle}
-use Rattle.si_form.proofs.NodeLaws.{same_some}
 use Rattle.si_form.specs.Uses.{used_in, used_by, UsesBelow}
 
 -- ---- the slots among cells
@@ -58,11 +59,6 @@ uses_more slots pairs lists new used h is last = subst (UsesBelow slots pairs) (
               ap list_of (get_or_front lists (used ∷ []) slot None before) ∙ h slot before
         ]
 
-pub beyond : {X : Type 0} (xs : List X) (k : ℕ) (d : X) → length xs ≤ k → get_or xs k d ≡ d
-beyond [] k d less = refl
-beyond (x ∷ xs) zero d less = absurd (omega (arith, less))
-beyond (x ∷ xs) (suc k) d less = beyond xs k d (omega (arith, less))
-
 -- ---- no circle
 pub range_slots : (slots : Slots) (cells : List Cell) → AreInRange slots cells → AllByRecursion (λ j. j < slot_count slots) (slots_of slots cells)
 range_slots slots [] h = tt
@@ -83,7 +79,7 @@ module _ {A : Type 0} (slots : Slots) (pairs : Pairs) (lists : List (Option (Vec
   listed_inside k l =
       elim (cases_lt k (length lists)) [
         | inl less ↦ omega (arith, less, long)
-        | inr more ↦ let bad : None ≡ Some l.0 = sym (ap list_of (beyond lists k None more)) ∙ l.1 in cc
+        | inr more ↦ let bad : None ≡ Some l.0 = sym (ap list_of (get_or_past lists k None more)) ∙ l.1 in cc
       ]
 
   -- a number that has a list is a bound slot
@@ -107,7 +103,7 @@ module _ {A : Type 0} (slots : Slots) (pairs : Pairs) (lists : List (Option (Vec
       by None e = tt
       by (Some xs) e =
           let b = bound_of_listed k (xs, e) in
-          let same : xs ≡ slots_of slots b.0.now = same_some xs (slots_of slots b.0.now) (sym e ∙ b.2) in
+          let same : xs ≡ slots_of slots b.0.now = same_Some xs (slots_of slots b.0.now) (sym e ∙ b.2) in
           subst (AllByRecursion (P k)) (sym same) (give b.0 b.1)
 
   pub no_circle : IsAcyclic slots pairs → HasNoCircle (uses_at lists) (length lists)

@@ -17,8 +17,8 @@ use Rattle.si_form.specs.Matching.{variable_number}
 use Rattle.si_form.specs.Unifying.{HasVariables}
 use Rattle.std.proofs.Math.ListN.{drop_of_length-le}
 use Rattle.std.proofs.Math.Seq.{drop-cons}
+use Rattle.si_defs.proofs.ListLaws.{all_at}
 use Rattle.si_form.proofs.Agreeing.{drop_none, no_number}
-use Rattle.si_form.proofs.CanonicalLaws.{all_at}
 use Rattle.si_form.proofs.Counting.{NumberedTo, numbered_to}
 use Rattle.si_form.proofs.VariableLaws.{number_of}
 
@@ -187,13 +187,6 @@ apart_owners m n xs ys of_q of_e x a b =
     not_both one.0 other.0 x one.2 other.2
 
 -- ---- the number of cells
-positive : (t : Term) → 0 < length (cells_of t)
-positive (terms.var x) = omega arith
-positive (terms.app s ts) = omega arith
-
-pub some_cells : (cells : List Cell) → IsWhole cells → 0 < length cells
-some_cells cells h = subst (λ l. 0 < length l) (sym h.1.cells_are) (positive h.0)
-
 pub first_span : (cells : List Cell) → IsWhole cells → (d : Cell) → span (get_or cells 0 d) ≡ length cells
 first_span cells h d =
     ap (λ l. span (get_or l 0 d)) (h.1.cells_are ∙ sym (append-nil (cells_of h.0)))

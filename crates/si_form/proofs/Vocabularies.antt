@@ -1,72 +1,16 @@
 -- The symbols and variables with texts, and those with numbers.
-use Rattle.std.proofs.Common.{◌≡◌, ◌+◌, Bool, true, false, ◌&&◌, ◌==◌, [], refl, ap, arith}
-use Rattle.std.specs.Prelude.{bytes_eq}
-use Rattle.std.proofs.lemmas.Bool.{eqb-true, eq-eqb}
-use Rattle.std.proofs.lemmas.Slice.Eq.{bytes_eq-Decides}
-use Rattle.si_defs.specs.Symbols.{Symbol, same_kind, same_side, same_symbol}
-use Rattle.si_defs.specs.declared.SymKind.{SymKind}
-use Rattle.si_defs.specs.declared.SymKind.TheVariants.{Word, Dollar, Number, Distinct, Equal}
-use Rattle.si_defs.specs.declared.Side.{Side}
-use Rattle.si_defs.specs.declared.Side.TheVariants.{Predicate, Function}
+use Rattle.std.proofs.Common.{◌≡◌, ◌+◌, true, ◌&&◌, ◌==◌, [], refl, ap, arith}
+use Rattle.std.proofs.lemmas.Bool.{eqb-true, eq-eqb, and_parts}
+use Rattle.si_defs.specs.Symbols.{Symbol, same_symbol}
 use Rattle.si_defs.specs.Variables.{Variable, of_pattern, of_entry, same_variable}
+use Rattle.si_defs.proofs.SymbolLaws.{symbol_is, symbol_self}
+use Rattle.si_defs.proofs.VariableLaws.{variable_is, variable_self}
 use Rattle.si_flat.specs.Cells as cells
-use Rattle.si_form.proofs.VariableLaws.{same_tells, same_itself}
+use Rattle.si_flat.proofs.VariableLaws.{variable_is as number_is, variable_self as number_self}
 use Rattle.si_form.proofs.Carrying.{Vocabulary}
-
-both : (a b : Bool) → (a && b) ≡ true → (a ≡ true) × (b ≡ true)
-both true b h = (refl, h)
-both false b h = cc
+use Rattle.si_form.specs.Folding.{same_numbered}
 
 -- ---- texts
-kind_tells : (a b : SymKind) → same_kind a b ≡ true → a ≡ b
-kind_tells Word Word h = refl
-kind_tells Dollar Dollar h = refl
-kind_tells Number Number h = refl
-kind_tells Distinct Distinct h = refl
-kind_tells Equal Equal h = refl
-kind_tells a b h = cc
-
-kind_itself : (a : SymKind) → same_kind a a ≡ true
-kind_itself Word = refl
-kind_itself Dollar = refl
-kind_itself Number = refl
-kind_itself Distinct = refl
-kind_itself Equal = refl
-
-side_tells : (a b : Side) → same_side a b ≡ true → a ≡ b
-side_tells Predicate Predicate h = refl
-side_tells Function Function h = refl
-side_tells a b h = cc
-
-side_itself : (a : Side) → same_side a a ≡ true
-side_itself Predicate = refl
-side_itself Function = refl
-
-pub symbol_tells : (s r : Symbol) → same_symbol s r ≡ true → s ≡ r
-symbol_tells s r h =
-    let texts = both (same_kind s.kind r.kind && same_side s.side r.side && s.arity == r.arity) (bytes_eq s.text r.text) h in
-    let arities = both (same_kind s.kind r.kind && same_side s.side r.side) (s.arity == r.arity) texts.0 in
-    let kinds = both (same_kind s.kind r.kind) (same_side s.side r.side) arities.0 in
-    λ i. record {
-      kind = kind_tells s.kind r.kind kinds.0 i;
-      text = (bytes_eq-Decides s.text r.text).0 texts.1 i;
-      side = side_tells s.side r.side kinds.1 i;
-      arity = eqb-true s.arity r.arity arities.1 i;
-    }
-
-pub symbol_itself : (s : Symbol) → same_symbol s s ≡ true
-symbol_itself s = λ i. kind_itself s.kind i && side_itself s.side i && eq-eqb s.arity s.arity refl i && (bytes_eq-Decides s.text s.text).1 refl i
-
-pub variable_tells : (x y : Variable) → same_variable x y ≡ true → x ≡ y
-variable_tells (of_pattern x) (of_pattern y) h = ap of_pattern ((bytes_eq-Decides x y).0 h)
-variable_tells (of_entry x) (of_entry y) h = ap of_entry ((bytes_eq-Decides x y).0 h)
-variable_tells (of_pattern x) (of_entry y) h = cc
-variable_tells (of_entry x) (of_pattern y) h = cc
-
-pub variable_itself : (x : Variable) → same_variable x x ≡ true
-variable_itself (of_pattern x) = (bytes_eq-Decides x x).1 refl
-variable_itself (of_entry x) = (bytes_eq-Decides x x).1 refl
-
 pub more_arguments : Symbol → Symbol
 more_arguments s = record s { arity = 1 + s.arity }
 
@@ -80,28 +24,25 @@ sides_apart h = cc
 abbrev pub with_texts : Vocabulary Symbol Variable
 with_texts = record {
   same_symbol = same_symbol;
-  symbol_tells = symbol_tells;
-  symbol_itself = symbol_itself;
+  symbol_tells = symbol_is;
+  symbol_itself = symbol_self;
   other = more_arguments;
   differs = more_differs;
   same = same_variable;
-  tells = variable_tells;
-  itself = variable_itself;
+  tells = variable_is;
+  itself = variable_self;
   first = of_pattern [];
   second = of_entry [];
   apart = sides_apart;
 }
 
 -- ---- numbers
-abbrev pub same_number : cells.Symbol → cells.Symbol → Bool
-same_number s r = s.number == r.number && s.arity == r.arity
-
-pub number_tells : (s r : cells.Symbol) → same_number s r ≡ true → s ≡ r
+pub number_tells : (s r : cells.Symbol) → same_numbered s r ≡ true → s ≡ r
 number_tells s r h =
-    let parts = both (s.number == r.number) (s.arity == r.arity) h in
+    let parts = and_parts (s.number == r.number) (s.arity == r.arity) h in
     λ i. record { number = eqb-true s.number r.number parts.0 i; arity = eqb-true s.arity r.arity parts.1 i }
 
-pub number_itself : (s : cells.Symbol) → same_number s s ≡ true
+pub number_itself : (s : cells.Symbol) → same_numbered s s ≡ true
 number_itself s = λ i. eq-eqb s.number s.number refl i && eq-eqb s.arity s.arity refl i
 
 pub next_number : cells.Symbol → cells.Symbol
@@ -116,14 +57,14 @@ owners_apart h = cc
 
 abbrev pub with_numbers : Vocabulary cells.Symbol cells.Variable
 with_numbers = record {
-  same_symbol = same_number;
+  same_symbol = same_numbered;
   symbol_tells = number_tells;
   symbol_itself = number_itself;
   other = next_number;
   differs = next_differs;
   same = cells.same_variable;
-  tells = same_tells;
-  itself = same_itself;
+  tells = number_is;
+  itself = number_self;
   first = cells.query 0;
   second = cells.entry 0;
   apart = owners_apart;

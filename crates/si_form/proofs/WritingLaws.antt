@@ -2,46 +2,38 @@
 use Rattle.std.proofs.Common.{◌≡◌, ℕ, ◌+◌, ◌-◌, ◌^◌, ◌<◌, ◌≤◌, List, [], ◌∷◌, ◌++◌, length, get_or, refl, sym, ◌∙◌, ap, subst, arith, append_assoc, append-nil, length-append, Option, Some, None}
 use Rattle.std.specs.Prelude.{slice_get}
 use Rattle.std.specs.List.{AllByRecursion}
+use Rattle.std.proofs.lemmas.Option.{slice_get_within, get_or_from_slice_get, same_Some, none-some}
 use Rattle.si_defs.specs.Terms as terms
+use Rattle.si_defs.proofs.ListLaws.{all_front, all_back, all_append}
+use Rattle.si_defs.proofs.TermLaws.{size_some}
 use Rattle.si_flat.specs.declared.Cell.{Cell}
 use Rattle.si_flat.specs.declared.Cell.TheVariants as cell
-use Rattle.si_flat.specs.Cells.{Variable, Term, Terms, variable_cell, cells_of, cells_of_all}
+use Rattle.si_flat.specs.Cells.{Variable, Term, Terms, variable_cell, cells_of, cells_of_all, join}
 use Rattle.si_flat.proofs.Subterms.{length-cells_of, length-cells_of_all}
 use Rattle.si_unify.specs.declared.slots.Slots.{Slots}
 use Rattle.si_unify.specs.Solving.{slot_count, variable_of}
+use Rattle.si_unify.proofs.Rows.{cells-join}
 use Rattle.si_form.specs.declared.classes.Node.{Node}
-use Rattle.si_form.specs.Classes.{chain}
 use Rattle.si_form.specs.Folding.{leader, variable_or, folded, folded_all, HaveKnown, CanFold, HasFolded, Descends, WritesCells, HasWritten, IsWriting}
-use Rattle.si_form.proofs.CanonicalLaws.{all_front, all_back, all_append}
-use Rattle.si_form.proofs.NodeLaws.{get_inside}
-use Rattle.si_form.proofs.FoldingLaws.{at_default}
 use Rattle.si_form.proofs.SizeLaws.{exact_sizes}
 use Rattle.si_form.proofs.RightSides.{led}
 
-cells-chain : (ts us : Terms) → cells_of_all (chain ts us) ≡ cells_of_all ts ++ cells_of_all us
-cells-chain terms.none us = refl
-cells-chain (terms.more t ts) us = ap (λ l. cells_of t ++ l) (cells-chain ts us) ∙ sym (append_assoc (cells_of t) (cells_of_all ts) (cells_of_all us))
+folded-join : (slots : Slots) (f : Variable → Term) (ts us : Terms) → folded_all slots f (join ts us) ≡ join (folded_all slots f ts) (folded_all slots f us)
+folded-join slots f terms.none us = refl
+folded-join slots f (terms.more t ts) us = ap (terms.more (variable_or slots f (leader slots f t) (folded slots f t))) (folded-join slots f ts us)
 
-folded-chain : (slots : Slots) (f : Variable → Term) (ts us : Terms) → folded_all slots f (chain ts us) ≡ chain (folded_all slots f ts) (folded_all slots f us)
-folded-chain slots f terms.none us = refl
-folded-chain slots f (terms.more t ts) us = ap (terms.more (variable_or slots f (leader slots f t) (folded slots f t))) (folded-chain slots f ts us)
-
-variables-chain : (P : Variable → Type 0) (ts us : Terms) → AllByRecursion P (terms.variables_of_all ts) → AllByRecursion P (terms.variables_of_all us) → AllByRecursion P (terms.variables_of_all (chain ts us))
-variables-chain P terms.none us h k = k
-variables-chain P (terms.more t ts) us h k =
-    all_append P (terms.variables t) (terms.variables_of_all (chain ts us)) (all_front P (terms.variables t) (terms.variables_of_all ts) h)
-    (variables-chain P ts us (all_back P (terms.variables t) (terms.variables_of_all ts) h) k)
-
-some_size : (u : Term) → 0 < terms.size u
-some_size (terms.var x) = omega arith
-some_size (terms.app s us) = omega arith
+all_variables-join : (P : Variable → Type 0) (ts us : Terms) → AllByRecursion P (terms.variables_of_all ts) → AllByRecursion P (terms.variables_of_all us) → AllByRecursion P (terms.variables_of_all (join ts us))
+all_variables-join P terms.none us h k = k
+all_variables-join P (terms.more t ts) us h k =
+    all_append P (terms.variables t) (terms.variables_of_all (join ts us)) (all_front P (terms.variables t) (terms.variables_of_all ts) h)
+    (all_variables-join P ts us (all_back P (terms.variables t) (terms.variables_of_all ts) h) k)
 
 module _ (slots : Slots) (nodes : List Node) (leaders : List (Option ℕ)) (sizes : List ℕ) (class : ℕ) where
   abbrev IsLed : (Variable → Term) → Variable → Type 0
   IsLed f y = leader slots f (terms.var y) ≡ None → ⊥
 
   size_at : (f : Variable → Term) (known : List Term) (t : Term) → CanFold slots nodes leaders sizes class f known t → (n : ℕ) (u : Term) → slice_get known n ≡ Some u → terms.size (folded slots f u) ≤ 2 ^ 32 - 1 → get_or sizes n 0 ≡ terms.size (folded slots f u)
-  size_at f known t can n u at fits = at_default sizes n 0 (terms.size (folded slots f u)) (exact_sizes slots f nodes known leaders sizes can.are can.led can.sized n u at fits)
+  size_at f known t can n u at fits = get_or_from_slice_get sizes n (terms.size (folded slots f u)) 0 (exact_sizes slots f nodes known leaders sizes can.are can.led can.sized n u at fits)
 
   -- the symbol has been written
   pub writing_begins : (left : List ℕ) (cells : List Cell) → WritesCells nodes sizes [] left [] cells class → IsWriting slots nodes leaders sizes class cells left 1
@@ -52,14 +44,14 @@ module _ (slots : Slots) (nodes : List Node) (leaders : List (Option ℕ)) (size
       ap (λ u. cells_of (folded slots f u)) can.term_is
       ∙ ap (λ u. cell.App can.symbol.number can.symbol.arity (terms.size (folded slots f u)) ∷ cells_of_all (folded_all slots f can.arguments)) (sym can.term_is) in
       record {
-        rest = chain can.arguments terms.none;
+        rest = join can.arguments terms.none;
         piled = w.1;
-        leads = variables-chain (IsLed f) can.arguments terms.none (subst (λ u. AllByRecursion (IsLed f) (terms.variables u)) can.term_is can.leads) tt;
+        leads = all_variables-join (IsLed f) can.arguments terms.none (subst (λ u. AllByRecursion (IsLed f) (terms.variables u)) can.term_is can.leads) tt;
         whole =
-            ap (λ l. l ++ cells_of_all (folded_all slots f (chain can.arguments terms.none))) w.0
-            ∙ ap (λ n. cell.App can.symbol.number can.symbol.arity n ∷ cells_of_all (folded_all slots f (chain can.arguments terms.none))) size
-            ∙ ap (λ us. cell.App can.symbol.number can.symbol.arity (terms.size (folded slots f t)) ∷ cells_of_all us) (folded-chain slots f can.arguments terms.none)
-            ∙ ap (λ l. cell.App can.symbol.number can.symbol.arity (terms.size (folded slots f t)) ∷ l) (cells-chain (folded_all slots f can.arguments) terms.none ∙ append-nil (cells_of_all (folded_all slots f can.arguments)))
+            ap (λ l. l ++ cells_of_all (folded_all slots f (join can.arguments terms.none))) w.0
+            ∙ ap (λ n. cell.App can.symbol.number can.symbol.arity n ∷ cells_of_all (folded_all slots f (join can.arguments terms.none))) size
+            ∙ ap (λ us. cell.App can.symbol.number can.symbol.arity (terms.size (folded slots f t)) ∷ cells_of_all us) (folded-join slots f can.arguments terms.none)
+            ∙ ap (λ l. cell.App can.symbol.number can.symbol.arity (terms.size (folded slots f t)) ∷ l) (cells-join (folded_all slots f can.arguments) terms.none ∙ append-nil (cells_of_all (folded_all slots f can.arguments)))
             ∙ sym whole;
         count_is = ap length w.0;
       }
@@ -88,7 +80,7 @@ module _ (slots : Slots) (nodes : List Node) (leaders : List (Option ℕ)) (size
               length-append cells (cells_of_all (folded_all slots f (terms.more u rest))),
               length-cells_of_all (folded_all slots f (terms.more u rest)),
               length-cells_of (folded slots f t),
-              some_size (variable_or slots f (leader slots f u) (folded slots f u)),
+              size_some (variable_or slots f (leader slots f u) (folded slots f u)),
             ))
 
     -- the next one
@@ -122,7 +114,7 @@ module _ (slots : Slots) (nodes : List Node) (leaders : List (Option ℕ)) (size
 
     pub written_variable : (next slot : ℕ) (left : List ℕ) (cells cells' : List Cell) (k : ℕ) → HasNext next left cells k → get_or leaders next None ≡ Some slot → cells' ≡ cells ++ variable_cell (variable_of slots slot) ∷ [] → HasWritten slots f known t cells' left (k + 1)
     written_variable next slot left cells cells' k h led is =
-        let leader_is : leader slots f h.term ≡ Some slot = sym (at_default leaders next None (leader slots f h.term) h.leader_at) ∙ led in
+        let leader_is : leader slots f h.term ≡ Some slot = sym (get_or_from_slice_get leaders next (leader slots f h.term) None h.leader_at) ∙ led in
         record {
           rest = h.rest;
           piled = h.piled;
@@ -139,7 +131,7 @@ module _ (slots : Slots) (nodes : List Node) (leaders : List (Option ℕ)) (size
     written_symbol next left left' cells cells' k h led writes = by h.term h.term_is h.term_leads (leader_none) (ap (λ o. cells ++ (cells_of (variable_or slots f o (folded slots f h.term)) ++ cells_of_all (folded_all slots f h.rest))) (sym leader_none) ∙ h.whole)
       where
         leader_none : leader slots f h.term ≡ None
-        leader_none = sym (at_default leaders next None (leader slots f h.term) h.leader_at) ∙ led
+        leader_none = sym (get_or_from_slice_get leaders next (leader slots f h.term) None h.leader_at) ∙ led
 
         by : (u : Term) → slice_get known next ≡ Some u → AllByRecursion (IsLed f) (terms.variables u) → leader slots f u ≡ None → cells ++ (cells_of (folded slots f u) ++ cells_of_all (folded_all slots f h.rest)) ≡ cells_of (folded slots f t) → HasWritten slots f known t cells' left' (k + 1)
         by (terms.var y) at l none whole = absurd (l.0 none)
@@ -157,14 +149,14 @@ module _ (slots : Slots) (nodes : List Node) (leaders : List (Option ℕ)) (size
             ) in
             let size = size_at f known t can next (terms.app s us) at few in
             record {
-              rest = chain us h.rest;
+              rest = join us h.rest;
               piled = w.1;
-              leads = variables-chain (IsLed f) us h.rest l h.leads;
+              leads = all_variables-join (IsLed f) us h.rest l h.leads;
               whole =
-                  ap (λ m. m ++ cells_of_all (folded_all slots f (chain us h.rest))) w.0
-                  ∙ append_assoc cells (cell.App s.number s.arity (get_or sizes next 0) ∷ []) (cells_of_all (folded_all slots f (chain us h.rest)))
-                  ∙ ap (λ n. cells ++ (cell.App s.number s.arity n ∷ cells_of_all (folded_all slots f (chain us h.rest)))) size
-                  ∙ ap (λ m. cells ++ (cell.App s.number s.arity (terms.size (folded slots f (terms.app s us))) ∷ m)) (ap cells_of_all (folded-chain slots f us h.rest) ∙ cells-chain (folded_all slots f us) (folded_all slots f h.rest))
+                  ap (λ m. m ++ cells_of_all (folded_all slots f (join us h.rest))) w.0
+                  ∙ append_assoc cells (cell.App s.number s.arity (get_or sizes next 0) ∷ []) (cells_of_all (folded_all slots f (join us h.rest)))
+                  ∙ ap (λ n. cells ++ (cell.App s.number s.arity n ∷ cells_of_all (folded_all slots f (join us h.rest)))) size
+                  ∙ ap (λ m. cells ++ (cell.App s.number s.arity (terms.size (folded slots f (terms.app s us))) ∷ m)) (ap cells_of_all (folded-join slots f us h.rest) ∙ cells-join (folded_all slots f us) (folded_all slots f h.rest))
                   ∙ whole;
               count_is = ap length w.0 ∙ length-append cells (cell.App s.number s.arity (get_or sizes next 0) ∷ []) ∙ omega (arith, h.count_is);
             }
@@ -172,23 +164,17 @@ module _ (slots : Slots) (nodes : List Node) (leaders : List (Option ℕ)) (size
 -- ---- a symbol
 pub symbol_refused : (nodes : List Node) (sizes left left' : List ℕ) (cells cells' : List Cell) (class : ℕ) → Descends nodes left left' class None → WritesCells nodes sizes left left' cells cells' class
 symbol_refused nodes sizes left left' cells cells' class h slots known s ts rest are at have =
-    let bad : None ≡ Some (s.number, s.arity) = (h slots known s ts rest are at have).0 in absurd (not_some (s.number, s.arity) bad)
-  where
-    not_some : (p : ℕ × ℕ) → None ≡ Some p → ⊥
-    not_some p e = cc
+    let bad : None ≡ Some (s.number, s.arity) = (h slots known s ts rest are at have).0 in absurd (none-some (s.number, s.arity) bad)
 
 pub symbol_written : (nodes : List Node) (sizes left left' : List ℕ) (cells cells' : List Cell) (class a b size : ℕ) → Descends nodes left left' class (Some (a, b)) → size ≡ get_or sizes class 0 → cells' ≡ cells ++ cell.App a b size ∷ [] → WritesCells nodes sizes left left' cells cells' class
 symbol_written nodes sizes left left' cells cells' class a b size h size_is is slots known s ts rest are at have =
     let r = h slots known s ts rest are at have in
-    let pair : (a, b) ≡ (s.number, s.arity) = same_pair (a, b) (s.number, s.arity) r.0 in (
+    let pair : (a, b) ≡ (s.number, s.arity) = same_Some (a, b) (s.number, s.arity) r.0 in (
       is
           ∙ ap (λ n. cells ++ cell.App a b n ∷ []) size_is
           ∙ ap (λ p. cells ++ cell.App p.0 p.1 (get_or sizes class 0) ∷ []) pair,
       r.1,
     )
-  where
-    same_pair : (p q : ℕ × ℕ) → Some p ≡ Some q → p ≡ q
-    same_pair p q e = cc
 
 pub none_left : (nodes : List Node) (slots : Slots) (leaders : List (Option ℕ)) (sizes : List ℕ) (class : ℕ) (left : List ℕ) (cells : List Cell) (k : ℕ) → left ≡ [] → IsWriting slots nodes leaders sizes class cells left k → HasFolded slots nodes leaders sizes class cells
 none_left nodes slots leaders sizes class left cells k none h f known t can =
@@ -204,9 +190,9 @@ pub asked : (slots : Slots) (nodes : List Node) (leaders : List (Option ℕ)) (s
 asked slots nodes leaders sizes class next left cells k f known t can h =
     let n = next_of slots nodes leaders sizes class f known t can next left cells k h in
     record {
-      led = get_inside leaders next (leader slots f n.term) n.leader_at;
-      sized = omega (arith, get_inside known next n.term n.term_is, can.are.long, can.sized.long);
-      slot_inside = λ slot e. (led slots f (slot_count slots) slot n.term (sym (at_default leaders next None (leader slots f n.term) n.leader_at) ∙ e)).below;
+      led = slice_get_within leaders next (leader slots f n.term) n.leader_at;
+      sized = omega (arith, slice_get_within known next n.term n.term_is, can.are.long, can.sized.long);
+      slot_inside = λ slot e. (led slots f (slot_count slots) slot n.term (sym (get_or_from_slice_get leaders next (leader slots f n.term) None n.leader_at) ∙ e)).below;
     }
 
 module _ (slots : Slots) (nodes : List Node) (leaders : List (Option ℕ)) (sizes : List ℕ) (class next : ℕ) (left left' : List ℕ) (cells : List Cell) (k : ℕ) (is : left ≡ next ∷ left') (h : IsWriting slots nodes leaders sizes class cells left k) where

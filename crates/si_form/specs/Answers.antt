@@ -35,14 +35,17 @@ StandsForList (b ∷ bs) [] = ⊥
 StandsForList (b ∷ bs) (pair ∷ pairs) = StandsForPair b pair × StandsForList bs pairs
 
 -- the list is canonical, and no other one is
-pub record IsTheCanonical (kind : Relation) (q e : Term) (list : List (Variable × Term)) : Type 0 where
+pub record IsTheCanonical (kind : Relation) (q e : Term)
+    (list : List (Variable × Term)) : Type 0 where
   pub canonical : IsCanonical same_variable kind q e list
-  pub only : (other : List (Variable × Term)) → IsCanonical same_variable kind q e other → other ≡ list
+  pub only : (other : List (Variable × Term)) → IsCanonical same_variable kind q e other
+      → other ≡ list
 
 -- Where the relation holds, the canonical list is found; else none is, and then only.
 abbrev pub AnswersTo : Relation → Term → Term → Option (List Binding) → Type 0
 AnswersTo kind q e None = Relates same_variable kind q e → ⊥
-AnswersTo kind q e (Some bindings) = (list : List (Variable × Term)) × StandsForList bindings list × IsTheCanonical kind q e list
+AnswersTo kind q e (Some bindings) =
+    (list : List (Variable × Term)) × StandsForList bindings list × IsTheCanonical kind q e list
 
 abbrev pub Answers : Relation → List Cell → List Cell → Option (List Binding) → Type 0
 Answers kind query_cells entry_cells answer =

@@ -4,7 +4,7 @@ use Rattle.si_defs.specs.Substitutions.{IsAmong}
 use Rattle.si_defs.specs.Terms as terms
 use Rattle.si_flat.specs.declared.Cell.{Cell}
 use Rattle.si_flat.specs.declared.Cell.TheVariants as cell
-use Rattle.si_flat.specs.Cells.{Symbol, Variable, query, entry, ind, Term, Terms, cells_of_all, AreSound, StandsFor}
+use Rattle.si_flat.specs.Cells.{Symbol, Variable, query, entry, ind, Term, Terms, cells_of_all, AreSound, StandsFor, join}
 use Rattle.si_trail.specs.Trails.{value_at}
 use Rattle.si_unify.specs.Spots.{cell_slot}
 use Rattle.si_unify.specs.Circles.{with_slot}
@@ -20,13 +20,9 @@ Interns old new node n =
     ((new ≡ old) × (slice_get old n ≡ Some node))
     ⊎ ((new ≡ old ++ node ∷ []) × (n ≡ length old) × (IsAmong old node → ⊥))
 
--- rows of arguments, one behind the other, and one argument more
-abbrev pub chain : Terms → Terms → Terms
-chain terms.none us = us
-chain (terms.more t ts) us = terms.more t (chain ts us)
-
+-- a row of arguments, and one argument more
 abbrev pub with_last : Terms → Term → Terms
-with_last ts u = chain ts (terms.more u terms.none)
+with_last ts u = join ts (terms.more u terms.none)
 
 -- what a node stands for, where numbers stand for these terms
 pub record HasOneMore (known : List Term) (front argument n : ℕ) (t : Term) : Type 0 where
@@ -40,18 +36,23 @@ pub record HasOneMore (known : List Term) (front argument n : ℕ) (t : Term) : 
   pub argument_before : argument < n
 
 abbrev pub StandsForNode : Slots → List Term → ℕ → Node → Term → Type 0
-StandsForNode slots known n (Of slot) t = (slot < slot_count slots) × (t ≡ terms.var (variable_of slots slot))
-StandsForNode slots known n (Head sym arity) t = t ≡ terms.app (record { number = sym; arity = arity }) terms.none
+StandsForNode slots known n (Of slot) t =
+    (slot < slot_count slots) × (t ≡ terms.var (variable_of slots slot))
+StandsForNode slots known n (Head sym arity) t =
+    t ≡ terms.app (record { number = sym; arity = arity }) terms.none
 StandsForNode slots known n (With front argument) t = HasOneMore known front argument n t
 
 -- each node stands for a term, and no two for the same
 pub record AreNodes (slots : Slots) (nodes : List Node) (known : List Term) : Type 0 where
   pub long : length known ≡ length nodes
-  pub stands : (n : ℕ) (node : Node) (t : Term) → slice_get nodes n ≡ Some node → slice_get known n ≡ Some t → StandsForNode slots known n node t
-  pub distinct : (m n : ℕ) (t : Term) → slice_get known m ≡ Some t → slice_get known n ≡ Some t → m ≡ n
+  pub stands : (n : ℕ) (node : Node) (t : Term) → slice_get nodes n ≡ Some node
+      → slice_get known n ≡ Some t → StandsForNode slots known n node t
+  pub distinct : (m n : ℕ) (t : Term) → slice_get known m ≡ Some t
+      → slice_get known n ≡ Some t → m ≡ n
 
 -- the nodes stand for these terms, of which those that stood there before are the first
-pub record GrowsTo (slots : Slots) (old : List Term) (nodes : List Node) (known : List Term) : Type 0 where
+pub record GrowsTo (slots : Slots) (old : List Term) (nodes : List Node)
+    (known : List Term) : Type 0 where
   pub more : List Term
   pub known_is : known ≡ old ++ more
   pub nodes_are : AreNodes slots nodes known
@@ -61,14 +62,15 @@ abbrev pub HaveClasses : (Variable → Term) → List Term → List ℕ → Term
 HaveClasses f known [] terms.none = Unit {0}
 HaveClasses f known [] (terms.more t ts) = ⊥
 HaveClasses f known (n ∷ ns) terms.none = ⊥
-HaveClasses f known (n ∷ ns) (terms.more t ts) = (slice_get known n ≡ Some (terms.substitute f t)) × HaveClasses f known ns ts
+HaveClasses f known (n ∷ ns) (terms.more t ts) =
+    (slice_get known n ≡ Some (terms.substitute f t)) × HaveClasses f known ns ts
 
 -- the number is that of the symbol with as many of these as it has arguments; the others stay
 abbrev pub Applies : List Node → List Node → List ℕ → List ℕ → Symbol → ℕ → Type 0
 Applies nodes nodes' numbers numbers' s n =
     (slots : Slots) (f : Variable → Term) (known : List Term) (us rest : Terms)
     → AreNodes slots nodes known
-    → HaveClasses f known numbers (chain us rest)
+    → HaveClasses f known numbers (join us rest)
     → terms.count us ≡ s.arity
     → (known' : List Term)
     × GrowsTo slots known nodes' known'
@@ -77,21 +79,22 @@ Applies nodes nodes' numbers numbers' s n =
 
 -- ---- how far an application has come
 -- so many arguments stand behind the symbol
-pub record HasApplied (slots : Slots) (f : Variable → Term) (known : List Term) (nodes : List Node) (numbers : List ℕ) (s : Symbol) (us rest : Terms) (k n : ℕ) : Type 0 where
+pub record HasApplied (slots : Slots) (f : Variable → Term) (known : List Term) (nodes : List Node)
+    (numbers : List ℕ) (s : Symbol) (us rest : Terms) (k n : ℕ) : Type 0 where
   pub known' : List Term
   pub done : Terms
   pub left : Terms
   pub grows : GrowsTo slots known nodes known'
-  pub arguments : us ≡ chain done left
+  pub arguments : us ≡ join done left
   pub count_is : terms.count done ≡ k
   pub front_is : slice_get known' n ≡ Some (terms.app s (terms.substitute_all f done))
-  pub others : HaveClasses f known' numbers (chain left rest)
+  pub others : HaveClasses f known' numbers (join left rest)
 
 abbrev pub IsApplying : List Node → List Node → List ℕ → List ℕ → Symbol → ℕ → ℕ → Type 0
 IsApplying nodes nodes' numbers numbers' s k n =
     (slots : Slots) (f : Variable → Term) (known : List Term) (us rest : Terms)
     → AreNodes slots nodes known
-    → HaveClasses f known numbers (chain us rest)
+    → HaveClasses f known numbers (join us rest)
     → terms.count us ≡ s.arity
     → HasApplied slots f known nodes' numbers' s us rest k n
 
@@ -102,21 +105,28 @@ slots_of slots [] = []
 slots_of slots (c ∷ cells) = with_slot (cell_slot slots c) (slots_of slots cells)
 
 -- the class of the slot's variable stands for its image
-pub record KnowsSlot (slots : Slots) (f : Variable → Term) (known : List Term) (classes : List ℕ) (slot : ℕ) : Type 0 where
+pub record KnowsSlot (slots : Slots) (f : Variable → Term) (known : List Term) (classes : List ℕ)
+    (slot : ℕ) : Type 0 where
   pub number : ℕ
   pub class_is : slice_get classes slot ≡ Some number
   pub image_is : slice_get known number ≡ Some (f (variable_of slots slot))
 
 -- the number is that of the term that begins with the cell; the numbers of its arguments go
-abbrev pub IsSlotsClass : Slots → List ℕ → List Node → List Node → List ℕ → List ℕ → Variable → ℕ → Type 0
+abbrev pub IsSlotsClass : Slots → List ℕ → List Node → List Node → List ℕ → List ℕ → Variable
+    → ℕ → Type 0
 IsSlotsClass slots classes nodes nodes' numbers numbers' x n =
     (nodes' ≡ nodes) × (numbers' ≡ numbers) × (slice_get classes (slot_of slots x) ≡ Some n)
 
-abbrev pub NumbersCell : Slots → List ℕ → List Node → List Node → List ℕ → List ℕ → Cell → ℕ → Type 0
-NumbersCell slots classes nodes nodes' numbers numbers' (cell.App sym arity len) n = Applies nodes nodes' numbers numbers' (record { number = sym; arity = arity }) n
-NumbersCell slots classes nodes nodes' numbers numbers' (cell.Query k) n = IsSlotsClass slots classes nodes nodes' numbers numbers' (query k) n
-NumbersCell slots classes nodes nodes' numbers numbers' (cell.Entry k) n = IsSlotsClass slots classes nodes nodes' numbers numbers' (entry k) n
-NumbersCell slots classes nodes nodes' numbers numbers' (cell.Ind k) n = IsSlotsClass slots classes nodes nodes' numbers numbers' (ind k) n
+abbrev pub NumbersCell : Slots → List ℕ → List Node → List Node → List ℕ → List ℕ → Cell
+    → ℕ → Type 0
+NumbersCell slots classes nodes nodes' numbers numbers' (cell.App sym arity len) n =
+    Applies nodes nodes' numbers numbers' (record { number = sym; arity = arity }) n
+NumbersCell slots classes nodes nodes' numbers numbers' (cell.Query k) n =
+    IsSlotsClass slots classes nodes nodes' numbers numbers' (query k) n
+NumbersCell slots classes nodes nodes' numbers numbers' (cell.Entry k) n =
+    IsSlotsClass slots classes nodes nodes' numbers numbers' (entry k) n
+NumbersCell slots classes nodes nodes' numbers numbers' (cell.Ind k) n =
+    IsSlotsClass slots classes nodes nodes' numbers numbers' (ind k) n
 
 -- the number is that of what f makes of the cells' term
 abbrev pub HasClass : List Node → List Node → Slots → List ℕ → List Cell → ℕ → Type 0
@@ -125,10 +135,12 @@ HasClass nodes nodes' slots classes cells n =
     → StandsFor cells t
     → AreNodes slots nodes known
     → ((slot : ℕ) → IsAmong (slots_of slots cells) slot → KnowsSlot slots f known classes slot)
-    → (known' : List Term) × GrowsTo slots known nodes' known' × (slice_get known' n ≡ Some (terms.substitute f t))
+    → (known' : List Term) × GrowsTo slots known nodes' known'
+    × (slice_get known' n ≡ Some (terms.substitute f t))
 
 -- the numbers are those of the terms from a place on
-pub record HaveRow (slots : Slots) (f : Variable → Term) (known : List Term) (nodes : List Node) (cells : List Cell) (at : ℕ) (numbers : List ℕ) : Type 0 where
+pub record HaveRow (slots : Slots) (f : Variable → Term) (known : List Term) (nodes : List Node)
+    (cells : List Cell) (at : ℕ) (numbers : List ℕ) : Type 0 where
   pub known' : List Term
   pub row : Terms
   pub grows : GrowsTo slots known nodes known'
@@ -136,7 +148,8 @@ pub record HaveRow (slots : Slots) (f : Variable → Term) (known : List Term) (
   pub cells_are : drop at cells ≡ cells_of_all row
   pub numbers_are : HaveClasses f known' numbers row
 
-abbrev pub IsClassNumbering : List Node → List Node → Slots → List ℕ → List Cell → ℕ → List ℕ → Type 0
+abbrev pub IsClassNumbering : List Node → List Node → Slots → List ℕ → List Cell → ℕ
+    → List ℕ → Type 0
 IsClassNumbering nodes nodes' slots classes cells at numbers =
     (t : Term) (f : Variable → Term) (known : List Term)
     → StandsFor cells t
@@ -146,7 +159,8 @@ IsClassNumbering nodes nodes' slots classes cells at numbers =
 
 -- ---- all slots
 -- each of the first so many variables has a class of its own
-pub record HasSingles (slots : Slots) (nodes : List Node) (classes : List ℕ) (count : ℕ) : Type 0 where
+pub record HasSingles (slots : Slots) (nodes : List Node) (classes : List ℕ)
+    (count : ℕ) : Type 0 where
   pub known : List Term
   pub are : AreNodes slots nodes known
   pub long : length classes ≡ count
@@ -154,22 +168,29 @@ pub record HasSingles (slots : Slots) (nodes : List Node) (classes : List ℕ) (
 
 -- f leaves the variables that aren't bound
 abbrev pub LeavesUnbound : Slots → Pairs → (Variable → Term) → Type 0
-LeavesUnbound slots pairs f = (slot : ℕ) → slot < slot_count slots → value_at pairs slot ≡ None → f (variable_of slots slot) ≡ terms.var (variable_of slots slot)
+LeavesUnbound slots pairs f = (slot : ℕ) → slot < slot_count slots → value_at pairs slot ≡ None
+    → f (variable_of slots slot) ≡ terms.var (variable_of slots slot)
 
 -- the nodes stand for terms, and the classes of the variables are those of their images
 abbrev pub KnowsWhere : Slots → (Variable → Term) → List Node → List ℕ → (ℕ → Type 0) → Type 0
-KnowsWhere slots f nodes classes P = (known : List Term) × AreNodes slots nodes known × ((slot : ℕ) → slot < slot_count slots → P slot → KnowsSlot slots f known classes slot)
+KnowsWhere slots f nodes classes P =
+    (known : List Term) × AreNodes slots nodes known
+    × ((slot : ℕ) → slot < slot_count slots → P slot → KnowsSlot slots f known classes slot)
 
 -- The classes of the variables are those of their images under the map that solves the list and
 -- leaves the variables that aren't bound.
-pub record HasClasses (slots : Slots) (pairs : Pairs) (nodes : List Node) (classes : List ℕ) : Type 0 where
+pub record HasClasses (slots : Slots) (pairs : Pairs) (nodes : List Node)
+    (classes : List ℕ) : Type 0 where
   pub long : length classes ≡ slot_count slots
-  pub knows : (f : Variable → Term) → IsSolvedBy slots pairs f → LeavesUnbound slots pairs f → KnowsWhere slots f nodes classes (λ slot. Unit {0})
+  pub knows : (f : Variable → Term) → IsSolvedBy slots pairs f → LeavesUnbound slots pairs f
+      → KnowsWhere slots f nodes classes (λ slot. Unit {0})
 
 -- the same of the variables that aren't bound and those that are done; the others are left, in the
 -- order that `used` makes
-pub record IsClassing (used : ℕ → Option (List ℕ)) (slots : Slots) (pairs : Pairs) (nodes : List Node) (classes left : List ℕ) : Type 0 where
+pub record IsClassing (used : ℕ → Option (List ℕ)) (slots : Slots) (pairs : Pairs)
+    (nodes : List Node) (classes left : List ℕ) : Type 0 where
   pub done : List ℕ
   pub ordered : AreOrdered used (left ++ done)
   pub long : length classes ≡ slot_count slots
-  pub knows : (f : Variable → Term) → IsSolvedBy slots pairs f → LeavesUnbound slots pairs f → KnowsWhere slots f nodes classes (λ slot. (value_at pairs slot ≡ None) ⊎ IsAmong done slot)
+  pub knows : (f : Variable → Term) → IsSolvedBy slots pairs f → LeavesUnbound slots pairs f
+      → KnowsWhere slots f nodes classes (λ slot. (value_at pairs slot ≡ None) ⊎ IsAmong done slot)

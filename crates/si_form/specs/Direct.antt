@@ -49,7 +49,8 @@ pub record CanBeReadOff (slots : Slots) (pairs : Pairs) : Type 0 where
 -- an unbound slot, and one that is it, or is bound to its variable
 abbrev pub BecomesThat : Slots → Pairs → ℕ → ℕ → Type 0
 BecomesThat slots pairs slot k =
-    (k ≡ slot) ⊎ ((v : Bor (List Cell)) × (value_at pairs k ≡ Some v) × (head_slot slots v.now ≡ Some slot))
+    (k ≡ slot)
+    ⊎ ((v : Bor (List Cell)) × (value_at pairs k ≡ Some v) × (head_slot slots v.now ≡ Some slot))
 
 -- the first such slot, as far as these pairs tell
 pub record IsFirstAmong (slots : Slots) (pairs some : Pairs) (slot first : ℕ) : Type 0 where

@@ -5,12 +5,12 @@ use Rattle.si_defs.specs.Terms as terms
 use Rattle.std.specs.List.{AllByRecursion}
 use Rattle.si_flat.specs.declared.Cell.{Cell}
 use Rattle.si_flat.specs.declared.Cell.TheVariants as cell
-use Rattle.si_flat.specs.Cells.{Symbol, Variable, same_variable, Term, Terms, cells_of, cells_of_all}
+use Rattle.si_flat.specs.Cells.{Symbol, Variable, same_variable, Term, Terms, cells_of, cells_of_all, join}
 use Rattle.si_unify.specs.declared.slots.Slots.{Slots}
 use Rattle.si_unify.specs.Solving.{slot_count, variable_of}
 use Rattle.si_form.specs.declared.classes.Node.{Node}
 use Rattle.si_form.specs.declared.classes.Node.TheVariants.{Variable as Of, Head, With}
-use Rattle.si_form.specs.Classes.{chain, AreNodes, KnowsSlot}
+use Rattle.si_form.specs.Classes.{AreNodes, KnowsSlot}
 
 abbrev pub same_numbered : Symbol → Symbol → Bool
 same_numbered s r = s.number == r.number && s.arity == r.arity
@@ -65,12 +65,14 @@ module _ (slots : Slots) (f : Variable → Term) where
 
   -- the leaders of the classes, among so many slots
   abbrev pub AreLeaders : ℕ → List Term → List (Option ℕ) → Type 0
-  AreLeaders k known leaders = (m : ℕ) (t : Term) → slice_get known m ≡ Some t → slice_get leaders m ≡ Some (leader_below k t)
+  AreLeaders k known leaders = (m : ℕ) (t : Term) → slice_get known m ≡ Some t
+      → slice_get leaders m ≡ Some (leader_below k t)
 
 -- the leaders of the classes, whatever they stand for
 abbrev pub LeadClasses : Slots → List Node → List ℕ → ℕ → List (Option ℕ) → Type 0
 LeadClasses slots nodes classes k leaders =
-    (f : Variable → Term) (known : List Term) → AreClasses slots f nodes classes known → AreLeaders slots f k known leaders
+    (f : Variable → Term) (known : List Term) → AreClasses slots f nodes classes known
+    → AreLeaders slots f k known leaders
 
 -- ---- from a class to its symbol
 -- the numbers stand for these terms
@@ -87,15 +89,16 @@ Descends nodes left left' class answer =
     → AreNodes slots nodes known
     → slice_get known class ≡ Some (terms.app s ts)
     → HaveKnown known left rest
-    → (answer ≡ Some (s.number, s.arity)) × HaveKnown known left' (chain ts rest)
+    → (answer ≡ Some (s.number, s.arity)) × HaveKnown known left' (join ts rest)
 
 -- so far the arguments behind a front have been piled up
-pub record HasDescended (known : List Term) (left : List ℕ) (s : Symbol) (ts rest : Terms) (front : ℕ) : Type 0 where
+pub record HasDescended (known : List Term) (left : List ℕ) (s : Symbol) (ts rest : Terms)
+    (front : ℕ) : Type 0 where
   pub before : Terms
   pub behind : Terms
-  pub parts : ts ≡ chain before behind
+  pub parts : ts ≡ join before behind
   pub front_is : slice_get known front ≡ Some (terms.app s before)
-  pub piled : HaveKnown known left (chain behind rest)
+  pub piled : HaveKnown known left (join behind rest)
 
 abbrev pub IsDescending : List Node → List ℕ → List ℕ → ℕ → ℕ → Type 0
 IsDescending nodes left left' class front =
@@ -118,7 +121,8 @@ abbrev pub node_size : List ℕ → List (Option ℕ) → Node → ℕ
 node_size sizes leaders (Of slot) = 1
 node_size sizes leaders (Head sym arity) = 1
 node_size sizes leaders (With front argument) =
-    min (slice_index_or sizes front 0 + part_size (slice_index_or leaders argument None) (slice_index_or sizes argument 0)) (2 ^ 32 - 1)
+    min (slice_index_or sizes front 0 + part_size (slice_index_or leaders argument None)
+    (slice_index_or sizes argument 0)) (2 ^ 32 - 1)
 
 -- the node's parts are among the first so many
 abbrev pub IsBefore : ℕ → Node → Type 0
@@ -126,13 +130,16 @@ IsBefore n (Of slot) = Unit {0}
 IsBefore n (Head sym arity) = Unit {0}
 IsBefore n (With front argument) = (front < n) × (argument < n)
 
-pub record AreSizes (nodes : List Node) (leaders : List (Option ℕ)) (k : ℕ) (sizes : List ℕ) : Type 0 where
+pub record AreSizes (nodes : List Node) (leaders : List (Option ℕ)) (k : ℕ)
+    (sizes : List ℕ) : Type 0 where
   pub long : length sizes ≡ k
-  pub sizes_are : (n : ℕ) (node : Node) → n < k → slice_get nodes n ≡ Some node → slice_get sizes n ≡ Some (node_size sizes leaders node)
+  pub sizes_are : (n : ℕ) (node : Node) → n < k → slice_get nodes n ≡ Some node
+      → slice_get sizes n ≡ Some (node_size sizes leaders node)
 
 -- ---- writing
 -- what is asked where the folded term of a class is to be written
-pub record CanFold (slots : Slots) (nodes : List Node) (leaders : List (Option ℕ)) (sizes : List ℕ) (class : ℕ) (f : Variable → Term) (known : List Term) (t : Term) : Type 0 where
+pub record CanFold (slots : Slots) (nodes : List Node) (leaders : List (Option ℕ)) (sizes : List ℕ)
+    (class : ℕ) (f : Variable → Term) (known : List Term) (t : Term) : Type 0 where
   pub are : AreNodes slots nodes known
   pub led : AreLeaders slots f (slot_count slots) known leaders
   pub sized : AreSizes nodes leaders (length nodes) sizes
@@ -145,7 +152,8 @@ pub record CanFold (slots : Slots) (nodes : List Node) (leaders : List (Option �
 
 abbrev pub HasFolded : Slots → List Node → List (Option ℕ) → List ℕ → ℕ → List Cell → Type 0
 HasFolded slots nodes leaders sizes class cells =
-    (f : Variable → Term) (known : List Term) (t : Term) → CanFold slots nodes leaders sizes class f known t → cells ≡ cells_of (folded slots f t)
+    (f : Variable → Term) (known : List Term) (t : Term)
+    → CanFold slots nodes leaders sizes class f known t → cells ≡ cells_of (folded slots f t)
 
 -- a class's symbol has been written; its arguments stand before the others
 abbrev pub WritesCells : List Node → List ℕ → List ℕ → List ℕ → List Cell → List Cell → ℕ → Type 0
@@ -154,16 +162,21 @@ WritesCells nodes sizes left left' cells cells' class =
     → AreNodes slots nodes known
     → slice_get known class ≡ Some (terms.app s ts)
     → HaveKnown known left rest
-    → (cells' ≡ cells ++ cell.App s.number s.arity (slice_index_or sizes class 0) ∷ []) × HaveKnown known left' (chain ts rest)
+    → (cells' ≡ cells ++ cell.App s.number s.arity (slice_index_or sizes class 0) ∷ [])
+    × HaveKnown known left' (join ts rest)
 
 -- so many cells have been written, and these classes are left
-pub record HasWritten (slots : Slots) (f : Variable → Term) (known : List Term) (t : Term) (cells : List Cell) (left : List ℕ) (k : ℕ) : Type 0 where
+pub record HasWritten (slots : Slots) (f : Variable → Term) (known : List Term) (t : Term)
+    (cells : List Cell) (left : List ℕ) (k : ℕ) : Type 0 where
   pub rest : Terms
   pub piled : HaveKnown known left rest
-  pub leads : AllByRecursion (λ y. leader slots f (terms.var y) ≡ None → ⊥) (terms.variables_of_all rest)
+  pub leads : AllByRecursion (λ y. leader slots f (terms.var y) ≡ None → ⊥)
+      (terms.variables_of_all rest)
   pub whole : cells ++ cells_of_all (folded_all slots f rest) ≡ cells_of (folded slots f t)
   pub count_is : length cells ≡ k
 
-abbrev pub IsWriting : Slots → List Node → List (Option ℕ) → List ℕ → ℕ → List Cell → List ℕ → ℕ → Type 0
+abbrev pub IsWriting : Slots → List Node → List (Option ℕ) → List ℕ → ℕ → List Cell → List ℕ
+    → ℕ → Type 0
 IsWriting slots nodes leaders sizes class cells left k =
-    (f : Variable → Term) (known : List Term) (t : Term) → CanFold slots nodes leaders sizes class f known t → HasWritten slots f known t cells left k
+    (f : Variable → Term) (known : List Term) (t : Term)
+    → CanFold slots nodes leaders sizes class f known t → HasWritten slots f known t cells left k

@@ -26,13 +26,16 @@ HaveSameSymbol _ _ = ⊥
 -- ---- one cell of the pattern
 -- a variable that was met stands for what it stood for; another is added
 abbrev pub HasKnownAs : ℕ → Bor (List Cell) → List Image → List Image → Option Image → Bool → Type 0
-HasKnownAs number value old new None fits = (fits ≡ true) × (new ≡ old ++ (record { number = number; value = value }) ∷ [])
-HasKnownAs number value old new (Some image) fits = (new ≡ old) × (IsTrue fits ↔ (image.value.now ≡ value.now))
+HasKnownAs number value old new None fits =
+    (fits ≡ true) × (new ≡ old ++ (record { number = number; value = value }) ∷ [])
+HasKnownAs number value old new (Some image) fits =
+    (new ≡ old) × (IsTrue fits ↔ (image.value.now ≡ value.now))
 
 abbrev pub HasKnown : ℕ → Bor (List Cell) → List Image → List Image → Bool → Type 0
 HasKnown number value old new = HasKnownAs number value old new (slice_get old number)
 
-pub record StepsOver (number : ℕ) (target : List Cell) (at : ℕ) (old new : List Image) (answer : Option ℕ) : Type 0 where
+pub record StepsOver (number : ℕ) (target : List Cell) (at : ℕ) (old new : List Image)
+    (answer : Option ℕ) : Type 0 where
   pub value : Bor (List Cell)
   pub place : value.now ≡ take (length value.now) (drop at target)
   pub whole : IsWhole value.now
@@ -46,7 +49,8 @@ ComparesSymbols c d None = HaveSameSymbol c d → ⊥
 
 abbrev pub StepsAs : Cell → List Cell → ℕ → List Image → List Image → Option ℕ → Option ℕ → Type 0
 StepsAs c target at old new (Some number) answer = StepsOver number target at old new answer
-StepsAs c target at old new None answer = (new ≡ old) × ComparesSymbols c (get_or target at (cell.App 0 0 0)) answer
+StepsAs c target at old new None answer =
+    (new ≡ old) × ComparesSymbols c (get_or target at (cell.App 0 0 0)) answer
 
 abbrev pub StepsOnCell : Owner → Cell → List Cell → ℕ → List Image → List Image → Option ℕ → Type 0
 StepsOnCell owner c target at old new = StepsAs c target at old new (variable_number owner c)
@@ -57,7 +61,8 @@ abbrev pub AreNumberedImages : ℕ → List Image → List Term → Type 0
 AreNumberedImages k [] [] = Unit {0}
 AreNumberedImages k [] (u ∷ us) = ⊥
 AreNumberedImages k (i ∷ is) [] = ⊥
-AreNumberedImages k (i ∷ is) (u ∷ us) = (i.number ≡ k) × StandsFor i.value.now u × AreNumberedImages (suc k) is us
+AreNumberedImages k (i ∷ is) (u ∷ us) =
+    (i.number ≡ k) × StandsFor i.value.now u × AreNumberedImages (suc k) is us
 
 abbrev pub AreWholeImages : List Image → Type 0
 AreWholeImages = AllByRecursion (λ i. IsWhole i.value.now)
@@ -74,14 +79,16 @@ Assigns owner f k (u ∷ us) = (f (owners_variable owner k) ≡ u) × Assigns ow
 
 -- q has as many variables as there are terms, and becomes e where they are replaced by these
 pub record MatchesBy (owner : Owner) (q e : Term) (us : List Term) : Type 0 where
-  pub numbered : terms.firsts same_variable (terms.variables q) ≡ owners_variables owner 0 (length us)
+  pub numbered : terms.firsts same_variable (terms.variables q)
+      ≡ owners_variables owner 0 (length us)
   pub takes : (f : Variable → Term) → Assigns owner f 0 us → terms.substitute f q ≡ e
 
 abbrev pub NoMatch : Term → Term → Type 0
 NoMatch q e = (f : Variable → Term) → terms.substitute f q ≡ e → ⊥
 
 abbrev pub IsMatchedBy : Owner → Term → Term → List Image → Bool → Type 0
-IsMatchedBy owner q e images true = (us : List Term) × AreNumberedImages 0 images us × MatchesBy owner q e us
+IsMatchedBy owner q e images true =
+    (us : List Term) × AreNumberedImages 0 images us × MatchesBy owner q e us
 IsMatchedBy owner q e images false = NoMatch q e
 
 abbrev pub IsMatched : Owner → List Cell → List Cell → List Image → Bool → Type 0
@@ -94,7 +101,8 @@ binding_of owner i = record { owner = owner; slot = i.number; value = i.value.no
 
 abbrev pub MatchAnswersTo : Owner → Term → Term → Option (List Binding) → Type 0
 MatchAnswersTo owner q e None = NoMatch q e
-MatchAnswersTo owner q e (Some bindings) = (us : List Term) × StandsForList bindings (pairs owner 0 us) × MatchesBy owner q e us
+MatchAnswersTo owner q e (Some bindings) =
+    (us : List Term) × StandsForList bindings (pairs owner 0 us) × MatchesBy owner q e us
 
 abbrev pub MatchAnswers : Owner → List Cell → List Cell → Option (List Binding) → Type 0
 MatchAnswers owner pattern target answer =

@@ -16,7 +16,8 @@ use Rattle.si_form.specs.declared.solution.Binding.{Binding}
 use Rattle.si_form.specs.Answers.{StandsForList, AnswersTo}
 
 -- ---- numbers in place of symbols and variables
--- the terms and lists with these numbers, and with each variable by its place in the list of its side
+-- the terms and lists with these numbers, and with each variable by its place in the list of its
+-- side
 abbrev pub query_by : (Symbol → ℕ) → List Bytes → Term → cells.Term
 query_by number xs p = numbered number (λ x. cells.query (place_in bytes_eq xs x)) p
 
@@ -27,9 +28,11 @@ abbrev pub variable_by : List Bytes → List Bytes → Variable → cells.Variab
 variable_by xs ys (of_pattern x) = cells.query (place_in bytes_eq xs x)
 variable_by xs ys (of_entry y) = cells.entry (place_in bytes_eq ys y)
 
-abbrev pub list_by : (Symbol → ℕ) → (Variable → cells.Variable) → Solution → List (cells.Variable × cells.Term)
+abbrev pub list_by : (Symbol → ℕ) → (Variable → cells.Variable) → Solution
+    → List (cells.Variable × cells.Term)
 list_by number variable [] = []
-list_by number variable (b ∷ bs) = (variable b.0, numbered number variable b.1) ∷ list_by number variable bs
+list_by number variable (b ∷ bs) = (variable b.0, numbered number variable b.1)
+    ∷ list_by number variable bs
 
 -- the symbols of the two terms, and their variables
 abbrev pub symbols_of : Term → Term → List Symbol
@@ -55,7 +58,8 @@ abbrev pub TextsRelate : Relation → Term → Term → Type 0
 TextsRelate kind p u = Relates same_variable kind (pattern_term p) (entry_term u)
 
 abbrev pub NumbersRelate : Relation → Term → Term → (Symbol → ℕ) → List Bytes → List Bytes → Type 0
-NumbersRelate kind p u number xs ys = Relates cells.same_variable kind (query_by number xs p) (entry_by number ys u)
+NumbersRelate kind p u number xs ys =
+    Relates cells.same_variable kind (query_by number xs p) (entry_by number ys u)
 
 -- terms with texts stand in a relation exactly where those with numbers do
 abbrev pub RelationsAreKept : Type 0
@@ -68,50 +72,61 @@ RelationsAreKept =
 -- it doesn't matter in which lists the variables have their places
 abbrev pub PlacesAreFree : Type 0
 PlacesAreFree =
-    (kind : Relation) (p u : Term) (number : Symbol → ℕ) (xs ys xs' ys' : List Bytes) (positive : Bool)
+    (kind : Relation) (p u : Term) (number : Symbol → ℕ) (xs ys xs' ys' : List Bytes)
+    (positive : Bool)
     → IsFor p u number xs ys
     → IsFor p u number xs' ys'
     → NumbersRelate kind p u (signed positive number) xs ys
     → NumbersRelate kind p u (signed positive number) xs' ys'
 
 abbrev pub IsCanonicalFor : Relation → Term → Term → Solution → Type 0
-IsCanonicalFor kind p u solution = IsCanonical same_variable kind (pattern_term p) (entry_term u) solution
+IsCanonicalFor kind p u solution =
+    IsCanonical same_variable kind (pattern_term p) (entry_term u) solution
 
 -- the terms stand in the relation, and the bindings stand for a canonical list of theirs
-pub record StandForSolution (kind : Relation) (p u : Term) (number : Symbol → ℕ) (variable : Variable → cells.Variable) (bindings : List Binding) : Type 0 where
+pub record StandForSolution (kind : Relation) (p u : Term) (number : Symbol → ℕ)
+    (variable : Variable → cells.Variable) (bindings : List Binding) : Type 0 where
   pub relates : TextsRelate kind p u
   pub solution : Solution
   pub canonical : IsCanonicalFor kind p u solution
   pub stands : StandsForList bindings (list_by number variable solution)
 
-abbrev pub AnswersToTexts : Relation → Term → Term → (Symbol → ℕ) → (Variable → cells.Variable) → Option (List Binding) → Type 0
+abbrev pub AnswersToTexts : Relation → Term → Term → (Symbol → ℕ) → (Variable → cells.Variable)
+    → Option (List Binding) → Type 0
 AnswersToTexts kind p u number variable None = TextsRelate kind p u → ⊥
-AnswersToTexts kind p u number variable (Some bindings) = StandForSolution kind p u number variable bindings
+AnswersToTexts kind p u number variable (Some bindings) =
+    StandForSolution kind p u number variable bindings
 
 -- what answers to terms with numbers says, it says of the terms with texts
 abbrev pub AnswersAreKept : Type 0
 AnswersAreKept =
-    (kind : Relation) (p u : Term) (number : Symbol → ℕ) (xs ys : List Bytes) (positive : Bool) (answer : Option (List Binding))
+    (kind : Relation) (p u : Term) (number : Symbol → ℕ) (xs ys : List Bytes) (positive : Bool)
+    (answer : Option (List Binding))
     → IsFor p u number xs ys
-    → AnswersTo kind (query_by (signed positive number) xs p) (entry_by (signed positive number) ys u) answer
+    → AnswersTo kind (query_by (signed positive number) xs p)
+    (entry_by (signed positive number) ys u) answer
     → AnswersToTexts kind p u (signed positive number) (variable_by xs ys) answer
 
 -- atoms of literals with different signs are never answered
 abbrev pub SignsAreTold : Type 0
 SignsAreTold =
-    (kind : Relation) (p u : Term) (number : Symbol → ℕ) (xs ys : List Bytes) (one other : Bool) (answer : Option (List Binding))
+    (kind : Relation) (p u : Term) (number : Symbol → ℕ) (xs ys : List Bytes) (one other : Bool)
+    (answer : Option (List Binding))
     → IsSoundAtom p
     → IsSoundAtom u
     → TellsApart number (symbols_of p u)
     → (one ≡ other → ⊥)
-    → AnswersTo kind (query_by (signed one number) xs p) (entry_by (signed other number) ys u) answer
+    → AnswersTo kind (query_by (signed one number) xs p)
+    (entry_by (signed other number) ys u) answer
     → answer ≡ None
 
 -- nor are terms whose heads stand on different sides, as an atom and a term inside one
 abbrev pub SidesAreTold : Type 0
 SidesAreTold =
-    (kind : Relation) (s r : Symbol) (ts us : Terms) (number : Symbol → ℕ) (xs ys : List Bytes) (one other : Bool) (answer : Option (List Binding))
+    (kind : Relation) (s r : Symbol) (ts us : Terms) (number : Symbol → ℕ) (xs ys : List Bytes)
+    (one other : Bool) (answer : Option (List Binding))
     → TellsApart number (symbols_of (app s ts) (app r us))
     → (s.side ≡ r.side → ⊥)
-    → AnswersTo kind (query_by (signed one number) xs (app s ts)) (entry_by (signed other number) ys (app r us)) answer
+    → AnswersTo kind (query_by (signed one number) xs (app s ts))
+    (entry_by (signed other number) ys (app r us)) answer
     → answer ≡ None

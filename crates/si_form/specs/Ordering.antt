@@ -33,7 +33,8 @@ module _ (used : ℕ → Option (List ℕ)) where
   pub record IsOpen (before : List ℕ) (j : ℕ) : Type 0 where
     pub listed : IsListed j
     pub behind : IsAmong before j → ⊥
-    pub unused : (i : ℕ) → IsListed i → (IsAmong before i → ⊥) → IsAmong (list_or_none (used i)) j → ⊥
+    pub unused : (i : ℕ) → IsListed i → (IsAmong before i → ⊥)
+        → IsAmong (list_or_none (used i)) j → ⊥
 
   -- the least of these
   pub record IsFirstUnused (before : List ℕ) (k : ℕ) : Type 0 where

@@ -41,14 +41,16 @@ PredicatesStayOut =
 -- so its numbers don't depend on the sign
 abbrev pub SignsStayOut : Type 0
 SignsStayOut =
-    (number : Symbol → ℕ) (variable : Variable → cells.Variable) (positive : Bool) (solution : Solution)
+    (number : Symbol → ℕ) (variable : Variable → cells.Variable) (positive : Bool)
+    (solution : Solution)
     → HasFunctionsAlone solution
     → list_by (signed positive number) variable solution ≡ list_by number variable solution
 
 -- So bindings of atoms stand for a solution with numbers that have no sign.
 abbrev pub AtomsAreAnswered : Type 0
 AtomsAreAnswered =
-    (kind : Relation) (p u : Term) (number : Symbol → ℕ) (variable : Variable → cells.Variable) (positive : Bool) (answer : Option (List Binding))
+    (kind : Relation) (p u : Term) (number : Symbol → ℕ) (variable : Variable → cells.Variable)
+    (positive : Bool) (answer : Option (List Binding))
     → IsSoundAtom p
     → IsSoundAtom u
     → AnswersToTexts kind p u (signed positive number) variable answer

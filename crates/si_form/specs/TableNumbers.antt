@@ -31,4 +31,5 @@ abbrev pub EntriesNeedTheTableAlone : Type 0
 EntriesNeedTheTableAlone =
     (pairs extra : Numbering) (positive : Bool) (ys : List Bytes) (u : Term)
     → HaveNumbers pairs (symbols u)
-    → entry_by (signed positive (number_in pairs)) ys u ≡ entry_by (signed positive (number_in (pairs ++ extra))) ys u
+    → entry_by (signed positive (number_in pairs)) ys u
+    ≡ entry_by (signed positive (number_in (pairs ++ extra))) ys u

@@ -18,7 +18,8 @@ use Rattle.si_form.specs.Ordering.{list_of, uses_at, list_or_none, IsListed, Are
 
 -- the variables of the cells' term are so many of the owner's
 abbrev pub HasVariables : Owner → List Cell → ℕ → Type 0
-HasVariables owner cells n = (t : Term) → StandsFor cells t → terms.firsts same_variable (terms.variables t) ≡ owners_variables owner 0 n
+HasVariables owner cells n = (t : Term) → StandsFor cells t
+    → terms.firsts same_variable (terms.variables t) ≡ owners_variables owner 0 n
 
 abbrev pub IsApplication : Term → Type 0
 IsApplication t = (s : Symbol) × (ts : Terms) × (t ≡ terms.app s ts)
@@ -29,12 +30,14 @@ module _ (slots : Slots) (f : Variable → Term) where
   StaysFree y = (j : ℕ) × (j < slot_count slots) × (y ≡ variable_of slots j) × (f y ≡ terms.var y)
 
   abbrev pub ImagesStay : Type 0
-  ImagesStay = (k : ℕ) → k < slot_count slots → AllByRecursion StaysFree (terms.variables (f (variable_of slots k)))
+  ImagesStay = (k : ℕ) → k < slot_count slots
+      → AllByRecursion StaysFree (terms.variables (f (variable_of slots k)))
 
   -- ---- right sides
   abbrev pub right_by : ℕ → Option ℕ → Term
   right_by k None = folded slots f (f (variable_of slots k))
-  right_by k (Some w) = if w == k then folded slots f (f (variable_of slots k)) else terms.var (variable_of slots w)
+  right_by k (Some w) =
+      if w == k then folded slots f (f (variable_of slots k)) else terms.var (variable_of slots w)
 
   -- a follower's is its leader, a leader's its folded image
   abbrev pub right_side : ℕ → Term
@@ -42,7 +45,11 @@ module _ (slots : Slots) (f : Variable → Term) where
 
   -- a follower, or a leader whose image is no variable
   abbrev pub IsToBind : ℕ → Type 0
-  IsToBind k = (k < slot_count slots) × (((w : ℕ) × (leader slots f (f (variable_of slots k)) ≡ Some w) × (w ≢ k)) ⊎ ((leader slots f (f (variable_of slots k)) ≡ Some k) × IsApplication (f (variable_of slots k))))
+  IsToBind k =
+      (k < slot_count slots)
+      × (((w : ℕ) × (leader slots f (f (variable_of slots k)) ≡ Some w) × (w ≢ k))
+      ⊎ ((leader slots f (f (variable_of slots k)) ≡ Some k)
+      × IsApplication (f (variable_of slots k))))
 
   -- the cells are those of the slot's right side; there are none where it isn't to be bound
   abbrev pub IsRightSide : ℕ → Option (List Cell) → Type 0
@@ -51,12 +58,14 @@ module _ (slots : Slots) (f : Variable → Term) where
 
   -- those of the first slots
   abbrev pub AreRightSides : {A : Type 0} → List (Option (Vec Cell A)) → Type 0
-  AreRightSides rights = (k : ℕ) → k < length rights → IsRightSide k (list_of (slice_index_or rights k None))
+  AreRightSides rights = (k : ℕ) → k < length rights
+      → IsRightSide k (list_of (slice_index_or rights k None))
 
 -- the bindings of these slots, in order
 abbrev pub listed_bindings : Slots → (ℕ → Term) → List ℕ → List (Variable × Term)
 listed_bindings slots right [] = []
-listed_bindings slots right (k ∷ ks) = (variable_of slots k, right k) ∷ listed_bindings slots right ks
+listed_bindings slots right (k ∷ ks) = (variable_of slots k, right k)
+    ∷ listed_bindings slots right ks
 
 -- ---- the map that solves the bindings and makes nothing equal but what they do
 pub record IsGeneral (slots : Slots) (pairs : Pairs) (f : Variable → Term) : Type 0 where
@@ -73,28 +82,35 @@ pub record HasApplication (slots : Slots) (f : Variable → Term) (slot size : �
   pub symbol : Symbol
   pub arguments : Terms
   pub image_is : f (variable_of slots slot) ≡ terms.substitute f (terms.app symbol arguments)
-  pub known : AllByRecursion (λ y. (j : ℕ) × (j < slot_count slots) × (y ≡ variable_of slots j)) (terms.variables_of_all arguments)
+  pub known : AllByRecursion (λ y. (j : ℕ) × (j < slot_count slots) × (y ≡ variable_of slots j))
+      (terms.variables_of_all arguments)
   pub size_is : terms.size (terms.app symbol arguments) ≡ size
 
 abbrev pub IsBoundTo : Slots → Pairs → ℕ → Option ℕ → Type 0
 IsBoundTo slots pairs slot None =
-    (f : Variable → Term) → IsGeneral slots pairs f → (y : Variable) × (f (variable_of slots slot) ≡ terms.var y)
+    (f : Variable → Term) → IsGeneral slots pairs f
+    → (y : Variable) × (f (variable_of slots slot) ≡ terms.var y)
 IsBoundTo slots pairs slot (Some size) =
-    (size < 2 ^ 32) × ((f : Variable → Term) → IsGeneral slots pairs f → HasApplication slots f slot size)
+    (size < 2 ^ 32)
+    × ((f : Variable → Term) → IsGeneral slots pairs f → HasApplication slots f slot size)
 
 -- ---- what is known of the classes that the bindings make
-pub record AreFound (slots : Slots) (pairs : Pairs) (nodes : List Node) (classes : List ℕ) (leaders : List (Option ℕ)) (sizes : List ℕ) : Type 0 where
+pub record AreFound (slots : Slots) (pairs : Pairs) (nodes : List Node) (classes : List ℕ)
+    (leaders : List (Option ℕ)) (sizes : List ℕ) : Type 0 where
   pub some : HasGeneral slots pairs
   pub classes_are : HasClasses slots pairs nodes classes
-  pub led : (f : Variable → Term) (known : List Term) → AreClasses slots f nodes classes known → AreLeaders slots f (slot_count slots) known leaders
+  pub led : (f : Variable → Term) (known : List Term) → AreClasses slots f nodes classes known
+      → AreLeaders slots f (slot_count slots) known leaders
   pub sized : AreSizes nodes leaders (length nodes) sizes
 
 -- the right side of the slot, by the map that the bindings make
 abbrev pub HasRightSide : Slots → Pairs → ℕ → Option (List Cell) → Type 0
-HasRightSide slots pairs k right = (f : Variable → Term) → IsGeneral slots pairs f → IsRightSide slots f k right
+HasRightSide slots pairs k right = (f : Variable → Term) → IsGeneral slots pairs f
+    → IsRightSide slots f k right
 
 abbrev pub HaveRightSides : {A : Type 0} → Slots → Pairs → List (Option (Vec Cell A)) → Type 0
-HaveRightSides slots pairs rights = (f : Variable → Term) → IsGeneral slots pairs f → AreRightSides slots f rights
+HaveRightSides slots pairs rights = (f : Variable → Term) → IsGeneral slots pairs f
+    → AreRightSides slots f rights
 
 -- ---- the whole list
 abbrev pub slots_among : Slots → Option (List Cell) → Option (List ℕ)
@@ -102,25 +118,34 @@ slots_among slots None = None
 slots_among slots (Some cells) = Some (slots_of slots cells)
 
 -- the lists are those of the slots in the right sides
-abbrev pub AreUses : {A B : Type 0} → Slots → List (Option (Vec Cell A)) → List (Option (Vec ℕ B)) → Type 0
-AreUses slots rights lists = (k : ℕ) → k < length lists → uses_at lists k ≡ slots_among slots (list_of (slice_index_or rights k None))
+abbrev pub AreUses : {A B : Type 0} → Slots → List (Option (Vec Cell A))
+    → List (Option (Vec ℕ B)) → Type 0
+AreUses slots rights lists = (k : ℕ) → k < length lists
+    → uses_at lists k ≡ slots_among slots (list_of (slice_index_or rights k None))
 
 -- each of these slots is to be bound, by some map
 abbrev pub AreListed : {A : Type 0} → Slots → List (Option (Vec Cell A)) → List ℕ → Type 0
-AreListed slots rights ks = (f : Variable → Term) × AreRightSides slots f rights × AllByRecursion (IsToBind slots f) ks
+AreListed slots rights ks =
+    (f : Variable → Term) × AreRightSides slots f rights × AllByRecursion (IsToBind slots f) ks
 
 -- the bindings of these slots have these right sides, whatever terms these stand for
-abbrev pub ListsBindings : {A : Type 0} → Slots → List (Option (Vec Cell A)) → List ℕ → List Binding → Type 0
+abbrev pub ListsBindings : {A : Type 0} → Slots → List (Option (Vec Cell A)) → List ℕ
+    → List Binding → Type 0
 ListsBindings slots rights ks bindings =
-    (f : Variable → Term) → AreRightSides slots f rights → AllByRecursion (IsToBind slots f) ks → StandsForList bindings (listed_bindings slots (right_side slots f) ks)
+    (f : Variable → Term) → AreRightSides slots f rights → AllByRecursion (IsToBind slots f) ks
+    → StandsForList bindings (listed_bindings slots (right_side slots f) ks)
 
 -- the variables of a right side are those of the slots that are used
-pub record HasUses (used : ℕ → Option (List ℕ)) (slots : Slots) (right : ℕ → Term) (k : ℕ) : Type 0 where
-  pub uses : (x : Variable) → IsAmong (terms.variables (right k)) x → IsAmong (list_or_none (used k)) (slot_of slots x)
-  pub used_in : (j : ℕ) → IsAmong (list_or_none (used k)) j → IsAmong (terms.variables (right k)) (variable_of slots j)
+pub record HasUses (used : ℕ → Option (List ℕ)) (slots : Slots) (right : ℕ → Term)
+    (k : ℕ) : Type 0 where
+  pub uses : (x : Variable) → IsAmong (terms.variables (right k)) x
+      → IsAmong (list_or_none (used k)) (slot_of slots x)
+  pub used_in : (j : ℕ) → IsAmong (list_or_none (used k)) j
+      → IsAmong (terms.variables (right k)) (variable_of slots j)
 
 -- the bindings are those of all slots that are to be bound, ordered by what their right sides use
-pub record IsWholeList (slots : Slots) (f : Variable → Term) (bindings : List Binding) : Type 0 where
+pub record IsWholeList (slots : Slots) (f : Variable → Term)
+    (bindings : List Binding) : Type 0 where
   pub used : ℕ → Option (List ℕ)
   pub ks : List ℕ
   pub ordered : AreOrdered used ks
@@ -130,7 +155,8 @@ pub record IsWholeList (slots : Slots) (f : Variable → Term) (bindings : List 
   pub stands : StandsForList bindings (listed_bindings slots (right_side slots f) ks)
 
 abbrev pub ListsAllBindings : Slots → Pairs → List Binding → Type 0
-ListsAllBindings slots pairs bindings = (f : Variable → Term) → IsGeneral slots pairs f → IsWholeList slots f bindings
+ListsAllBindings slots pairs bindings = (f : Variable → Term) → IsGeneral slots pairs f
+    → IsWholeList slots f bindings
 
 -- ---- the slots of a query and an entry
 -- all variables may be bound, and there are no others

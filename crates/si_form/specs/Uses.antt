@@ -18,4 +18,5 @@ used_by slots pairs slot = used_in slots (value_at pairs slot)
 
 -- the lists are those of the first slots
 abbrev pub UsesBelow : {A : Type 0} → Slots → Pairs → List (Option (Vec ℕ A)) → Type 0
-UsesBelow slots pairs lists = (slot : ℕ) → slot < length lists → uses_at lists slot ≡ used_by slots pairs slot
+UsesBelow slots pairs lists = (slot : ℕ) → slot < length lists
+    → uses_at lists slot ≡ used_by slots pairs slot

@@ -11,10 +11,6 @@ pub blames_weaker : (limit : ℕ) (e : HarvestFault) (P Q : Fault → Type 0) �
 blames_weaker limit e P Q f (inl m) = inl m
 blames_weaker limit e P Q f (inr t) = inr (record { fault = t.fault; told = t.told; holds = f t.fault t.holds })
 
-pub err_weaker : {T E : Type 0} (r : Result T E) (P Q : E → Type 0) → ((e : E) → P e → Q e) → IfErr r P → IfErr r Q
-err_weaker (Ok x) P Q f h = tt
-err_weaker (Err e) P Q f h = f e h
-
 -- the same fault
 pub err_again : {T E : Type 0} (r : Result T E) (e : E) (P : E → Type 0) → IsErrAnd r (λ x. x ≡ e) → P e → IfErr r P
 err_again (Ok x) e P h p = tt

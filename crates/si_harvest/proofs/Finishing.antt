@@ -8,12 +8,8 @@ use Rattle.si_defs.specs.Texts.{BeginsWithItem}
 use Rattle.si_state.specs.Acceptance.{Refusal, Accepts, Refuses}
 use Rattle.si_state.specs.Harvest.{Files, Bounds, Event, ask, attempt, Fault, rejected, fetches, tried, MayAsk, IsBarred, IsWithheld, narrowed, IsSelected, Spot, IsStuck, Harvests, barred, withheld, fetched, Continues, ended, stuck, passed_over, accepted, refused, expanded, broken_off, Loads}
 use Rattle.std.specs.Prelude.{length, ◌≤◌}
+use Rattle.si_state.proofs.HarvestLaws.{tried-append}
 use Rattle.si_harvest.specs.Underway.{Finishes}
-
-pub tried-append : (xs ys : List Event) → tried (xs ++ ys) ≡ tried xs ++ tried ys
-tried-append [] ys = refl
-tried-append (ask f ∷ xs) ys = tried-append xs ys
-tried-append (attempt c ∷ xs) ys = ap (λ l. c ∷ l) (tried-append xs ys)
 
 module _ (files : Files) (bounds : Bounds) (limit : ℕ) where
   -- the count and the state may be written in another way

@@ -6,13 +6,9 @@ use Rattle.si_defs.specs.Clauses.{Literal, Clause, IsSoundClause}
 use Rattle.si_defs.specs.Entries.{entries, entries_from, literal_entries, placed_in, state_entries}
 use Rattle.si_state.specs.Acceptance.{Accepts}
 use Rattle.si_state.specs.Harvest.{AreAccepted}
+use Rattle.si_sign.proofs.StoreLaws.{count_append}
 use Rattle.si_harvest.specs.declared.faults.Loaded.{Loaded}
 use Rattle.si_harvest.specs.Gains.{CountsNoMore, Gained}
-
-entries-append : (xs ys : List Clause) → length (state_entries (xs ++ ys)) ≡ length (state_entries xs) + length (state_entries ys)
-entries-append [] ys = omega arith
-entries-append (c ∷ cs) ys =
-    omega (arith, length-append (map (placed_in c) (entries c)) (state_entries (cs ++ ys)), length-append (map (placed_in c) (entries c)) (state_entries cs), entries-append cs ys)
 
 one_entries : (c : Clause) → length (state_entries (c ∷ [])) ≡ length (entries c)
 one_entries c = omega (arith, length-append (map (placed_in c) (entries c)) [], length-map (entries c) (placed_in c))
@@ -35,7 +31,7 @@ pub counts_more : (loaded : Loaded) (limit : ℕ) (state state' : List Clause) (
     → CountsNoMore loaded state → CountsNoMore (record { clauses = loaded.clauses + 1; entries = loaded.entries + n }) state'
 counts_more loaded limit state state' c n s a e h = record {
   clauses = omega (arith, h.clauses, some_entries c s, e);
-  entries = omega (arith, h.entries, e, ap (λ l. length (state_entries l)) a.added, entries-append state (c ∷ []), one_entries c);
+  entries = omega (arith, h.entries, e, ap (λ l. length (state_entries l)) a.added, count_append state (c ∷ []), one_entries c);
 }
 
 pub gained_more : (loaded : Loaded) (limit : ℕ) (start state state' : List Clause) (c : Clause) (n : ℕ) → Accepts limit state c state' → n ≡ length (entries c)
@@ -46,7 +42,7 @@ gained_more loaded limit start state state' c n a e h = record {
   accepted = accepted-append limit start h.gained c h.accepted
       (subst (λ l. Accepts limit l c (l ++ c ∷ [])) h.whole (subst (Accepts limit state c) a.added a));
   clauses = omega (arith, h.clauses, length-append h.gained (c ∷ []));
-  entries = omega (arith, h.entries, e, entries-append h.gained (c ∷ []), one_entries c);
+  entries = omega (arith, h.entries, e, count_append h.gained (c ∷ []), one_entries c);
 }
 
 pub gained_nothing : (limit : ℕ) (state : List Clause) → Gained limit state (record { clauses = 0; entries = 0 }) state

@@ -1,3 +1,4 @@
+mod AnyLaws
 mod Stands
 mod Finishing
 mod Moves

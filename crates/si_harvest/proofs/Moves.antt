@@ -8,6 +8,7 @@ use Rattle.si_defs.specs.Grammar.{Selection, all, only, clause_item, include_ite
 use Rattle.si_defs.specs.Texts.{BeginsWithItem}
 use Rattle.si_state.specs.Acceptance.{Accepts}
 use Rattle.si_state.specs.Harvest.{Files, Bounds, Event, ask, attempt, Fault, cycle, too_deep, too_many, missing, too_big, failed, foreign, malformed, rejected, tried, MayAsk, IsBarred, IsWithheld, narrowed, IsSelected, Spot, IsStuck, IsRejected, Loads, barred, withheld}
+use Rattle.si_state.proofs.HarvestLaws.{tried-append}
 use Rattle.si_harvest.specs.declared.files.OpenFile.{OpenFile}
 use Rattle.si_harvest.specs.declared.names.NameSet.{NameSet}
 use Rattle.si_harvest.specs.declared.reading.Reading.{Reading}
@@ -15,7 +16,7 @@ use Rattle.si_harvest.specs.Opened.{opened, is_selected, OpensInside, IsUnopened
 use Rattle.si_harvest.specs.Underway.{Lists, Narrows, IsAtSpot, Stand, Finishes, IsUnderway}
 use Rattle.si_harvest.specs.Gains.{GainsByLoad}
 use Rattle.si_harvest.proofs.Stands.{innermost, stand_names, stand_selected, stand_unselected, selected-reverse}
-use Rattle.si_harvest.proofs.Finishing.{tried-append, finishes_end, finishes_over, finishes_accepted, finishes_opened, finishes_stuck, finishes_refused, finishes_barred, finishes_withheld, loads_opened}
+use Rattle.si_harvest.proofs.Finishing.{finishes_end, finishes_over, finishes_accepted, finishes_opened, finishes_stuck, finishes_refused, finishes_barred, finishes_withheld, loads_opened}
 
 -- the spot of the innermost file, and those of the others
 pub record Front (f : OpenFile) (fs : List OpenFile) (ss : List Spot) : Type 0 where

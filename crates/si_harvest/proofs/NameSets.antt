@@ -6,16 +6,19 @@ use Rattle.std.proofs.lemmas.List.{map-append}
 use Rattle.si_term.specs.declared.clause.Name as program
 use Rattle.si_term.specs.Meaning.{name_of}
 use Rattle.std.specs.List.{list_any}
-use Rattle.std.proofs.lemmas.Bool.{false≢true}
+use Rattle.std.proofs.lemmas.Bool.{false≢true, or_right}
 use Rattle.std.proofs.lemmas.Slice.Eq.{bytes_eq-Decides}
-use Rattle.si_term.proofs.Gathered.{bytes_eq_true}
 use Rattle.si_defs.specs.Bytes.{Bytes}
 use Rattle.si_defs.specs.Clauses.{Name}
 use Rattle.si_defs.specs.Substitutions.{IsAmong}
 use Rattle.si_defs.specs.declared.NameKind.{NameKind}
 use Rattle.si_defs.specs.declared.NameKind.TheVariants.{Word, Int}
+use Rattle.si_defs.proofs.ListLaws.{among_front, among_back, among_either}
+use Rattle.si_defs.proofs.SymbolLaws.{text_is}
+use Rattle.si_defs.proofs.NameLaws.{name_is}
 use Rattle.si_harvest.specs.declared.names.NameSet.{NameSet}
 use Rattle.si_harvest.specs.Chosen.{holds, IsSetOf}
+use Rattle.si_harvest.proofs.AnyLaws.{any_last}
 
 module _ {K : Type 0} (items : K → Bytes) where
   abbrev pub has_key : List K → Bytes → Bool
@@ -26,18 +29,12 @@ module _ {K : Type 0} (items : K → Bytes) where
   inserted keys key = cond (has_key keys (items key)) keys (keys ++ key ∷ [])
 
   key-append : (keys : List K) (key : K) (text : Bytes) → has_key (keys ++ key ∷ []) text ≡ (bytes_eq text (items key) || has_key keys text)
-  key-append [] key text = refl
-  key-append (k ∷ ks) key text = ap (λ b. bytes_eq text (items k) || b) (key-append ks key text) ∙ swap (bytes_eq text (items k)) (bytes_eq text (items key)) (has_key ks text) where
-    swap : (a b c : Bool) → (a || (b || c)) ≡ (b || (a || c))
-    swap true true c = refl
-    swap true false c = refl
-    swap false true c = refl
-    swap false false c = refl
+  key-append keys key text = any_last (λ k. bytes_eq text (items k)) keys key
 
   pub key_found : (keys : List K) (key : K) (text : Bytes) → has_key (inserted keys key) text ≡ true → (has_key keys text ≡ true) ⊎ (items key ≡ text)
   key_found keys key text h = by (has_key keys (items key)) refl where
     last : (b : Bool) → bytes_eq text (items key) ≡ b → (b || has_key keys text) ≡ true → (has_key keys text ≡ true) ⊎ (items key ≡ text)
-    last true q g = inr (sym (bytes_eq_true text (items key) q))
+    last true q g = inr (sym (text_is text (items key) q))
     last false q g = inl g
 
     by : (b : Bool) → has_key keys (items key) ≡ b → (has_key keys text ≡ true) ⊎ (items key ≡ text)
@@ -46,15 +43,11 @@ module _ {K : Type 0} (items : K → Bytes) where
         let g : has_key (keys ++ key ∷ []) text ≡ true = subst (λ b. has_key (cond b keys (keys ++ key ∷ [])) text ≡ true) q h in
         last (bytes_eq text (items key)) refl (sym (key-append keys key text) ∙ g)
 
-  or_true : (a b : Bool) → b ≡ true → (a || b) ≡ true
-  or_true true b h = refl
-  or_true false b h = h
-
   pub key_kept : (keys : List K) (key : K) (text : Bytes) → has_key keys text ≡ true → has_key (inserted keys key) text ≡ true
   key_kept keys key text h = by (has_key keys (items key)) where
     by : (b : Bool) → has_key (cond b keys (keys ++ key ∷ [])) text ≡ true
     by true = h
-    by false = key-append keys key text ∙ or_true (bytes_eq text (items key)) (has_key keys text) h
+    by false = key-append keys key text ∙ or_right (bytes_eq text (items key)) (has_key keys text) h
 
   pub key_there : (keys : List K) (key : K) → has_key (inserted keys key) (items key) ≡ true
   key_there keys key = by (has_key keys (items key)) refl where
@@ -63,37 +56,19 @@ module _ {K : Type 0} (items : K → Bytes) where
     by false q = key-append keys key (items key) ∙ ap (λ b. b || has_key keys (items key)) ((bytes_eq-Decides (items key) (items key)).1 refl)
 
 -- ---- names
-among_left : (names : List Name) (n m : Name) → IsAmong names m → IsAmong (names ++ n ∷ []) m
-among_left [] n m h = absurd h
-among_left (x ∷ xs) n m (inl e) = inl e
-among_left (x ∷ xs) n m (inr h) = inr (among_left xs n m h)
-
-among_last : (names : List Name) (n m : Name) → n ≡ m → IsAmong (names ++ n ∷ []) m
-among_last [] n m e = inl e
-among_last (x ∷ xs) n m e = inr (among_last xs n m e)
-
-among_split : (names : List Name) (n m : Name) → IsAmong (names ++ n ∷ []) m → IsAmong names m ⊎ (n ≡ m)
-among_split [] n m (inl e) = inr e
-among_split [] n m (inr h) = absurd h
-among_split (x ∷ xs) n m (inl e) = inl (inl e)
-among_split (x ∷ xs) n m (inr h) = elim (among_split xs n m h) [ inl k ↦ inl (inr k) | inr e ↦ inr e ]
-
 -- the set has one name more
-pub record Grows (before after : NameSet) (n : Name) : Type 0 where
+pub record Gains (before after : NameSet) (n : Name) : Type 0 where
   pub found : (m : Name) → holds after m ≡ true → (holds before m ≡ true) ⊎ (n ≡ m)
   pub kept : (m : Name) → holds before m ≡ true → holds after m ≡ true
   pub there : (m : Name) → n ≡ m → holds after m ≡ true
 
-pub set_more : (before after : NameSet) (names : List Name) (n : Name) → Grows before after n → IsSetOf names before → IsSetOf (names ++ n ∷ []) after
+pub set_more : (before after : NameSet) (names : List Name) (n : Name) → Gains before after n → IsSetOf names before → IsSetOf (names ++ n ∷ []) after
 set_more before after names n g s = record { exactly = λ m. (there m, back m) } where
   there : (m : Name) → holds after m ≡ true → IsAmong (names ++ n ∷ []) m
-  there m h = elim (g.found m h) [ inl k ↦ among_left names n m ((s.exactly m).0 k) | inr e ↦ among_last names n m e ]
+  there m h = elim (g.found m h) [ inl k ↦ among_front names (n ∷ []) m ((s.exactly m).0 k) | inr e ↦ among_back names (n ∷ []) m (inl e) ]
 
   back : (m : Name) → IsAmong (names ++ n ∷ []) m → holds after m ≡ true
-  back m h = elim (among_split names n m h) [ inl k ↦ g.kept m ((s.exactly m).1 k) | inr e ↦ g.there m e ]
-
-same_name : (a b : Name) → a.kind ≡ b.kind → a.text ≡ b.text → a ≡ b
-same_name a b k t = λ i. record { kind = k i; text = t i }
+  back m h = elim (among_either names n m h) [ inl k ↦ g.kept m ((s.exactly m).1 k) | inr e ↦ g.there m e ]
 
 -- ---- one kind of names
 abbrev Key : Type 0
@@ -107,12 +82,12 @@ module _ (kind other : NameKind) (cases : (k : NameKind) → (k ≡ kind) ⊎ (k
     (own : (set : NameSet) (m : Name) → m.kind ≡ kind → holds set m ≡ has_key text_of (column set) m.text)
     (apart : (set : NameSet) (m : Name) → m.kind ≡ other → holds set m ≡ has_key text_of (rest set) m.text) where
   grows : (before after : NameSet) (n : Name) (key : Key) → n.kind ≡ kind → key.items ≡ n.text → column after ≡ inserted text_of (column before) key → rest after ≡ rest before
-      → Grows before after n
+      → Gains before after n
   grows before after n key k t c r = record {
     found = λ m h. elim (cases m.kind) [
       | inl q ↦ elim (key_found text_of (column before) key m.text (ap (λ ks. has_key text_of ks m.text) (sym c) ∙ sym (own after m q) ∙ h)) [
         | inl g ↦ inl (own before m q ∙ g)
-        | inr g ↦ inr (same_name n m (k ∙ sym q) (sym t ∙ g))
+        | inr g ↦ inr (name_is n m (k ∙ sym q) (sym t ∙ g))
       ]
       | inr q ↦ inl (apart before m q ∙ ap (λ ks. has_key text_of ks m.text) (sym r) ∙ sym (apart after m q) ∙ h)
     ];

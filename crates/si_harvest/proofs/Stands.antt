@@ -3,16 +3,17 @@ use Rattle.std.proofs.Common.{◌≡◌, Bool, true, false, ◌&&◌, ◌||◌, 
 use Rattle.std.proofs.lemmas.Bool.{and_parts, false≢true}
 use Rattle.std.specs.Prelude.{bytes_eq}
 use Rattle.std.proofs.lemmas.Slice.Eq.{bytes_eq-Decides}
-use Rattle.si_term.proofs.Gathered.{bytes_eq_true}
 use Rattle.std.proofs.lemmas.List.{reverse-append, length-map, length-reverse}
 use Rattle.si_defs.specs.Bytes.{Bytes}
 use Rattle.si_defs.specs.Clauses.{Name}
 use Rattle.si_defs.specs.Substitutions.{IsAmong}
+use Rattle.si_defs.proofs.SymbolLaws.{text_is}
 use Rattle.si_state.specs.Harvest.{Spot, IsSelected}
 use Rattle.si_harvest.specs.declared.files.OpenFile.{OpenFile}
 use Rattle.si_harvest.specs.declared.names.NameSet.{NameSet}
 use Rattle.si_harvest.specs.Opened.{file_names, opened, has_open, lists, is_selected}
 use Rattle.si_harvest.specs.Underway.{opened_at, around_at, Narrows, Stand}
+use Rattle.si_harvest.proofs.AnyLaws.{any_last}
 
 -- the last file is the innermost
 pub innermost : (fs : List OpenFile) (f : OpenFile) → reverse (fs ++ f ∷ []) ≡ f ∷ reverse fs
@@ -79,13 +80,7 @@ selected-reverse (f ∷ fs) name =
 -- ---- names
 -- a name that is listed is among the names of the files, in any order
 listed-append : (fs : List OpenFile) (f : OpenFile) (name : Bytes) → has_open (fs ++ f ∷ []) name ≡ (bytes_eq f.name name || has_open fs name)
-listed-append [] f name = refl
-listed-append (e ∷ es) f name = ap (λ b. bytes_eq e.name name || b) (listed-append es f name) ∙ swap (bytes_eq e.name name) (bytes_eq f.name name) (has_open es name) where
-  swap : (a b c : Bool) → (a || (b || c)) ≡ (b || (a || c))
-  swap true true c = refl
-  swap true false c = refl
-  swap false true c = refl
-  swap false false c = refl
+listed-append fs f name = any_last (λ e. bytes_eq e.name name) fs f
 
 listed-reverse : (fs : List OpenFile) (name : Bytes) → has_open (reverse fs) name ≡ has_open fs name
 listed-reverse [] name = refl
@@ -98,7 +93,7 @@ listed_among : (fs : List OpenFile) (name : Bytes) → has_open fs name ≡ true
 listed_among [] name h = absurd (false≢true h)
 listed_among (f ∷ fs) name h = by (bytes_eq f.name name) refl h (listed_among fs name) where
   by : (b : Bool) → bytes_eq f.name name ≡ b → (b || has_open fs name) ≡ true → (has_open fs name ≡ true → IsAmong (file_names fs) name) → IsAmong (file_names (f ∷ fs)) name
-  by true q g k = inl (bytes_eq_true f.name name q)
+  by true q g k = inl (text_is f.name name q)
   by false q g k = inr (k g)
 
 unlisted_among : (fs : List OpenFile) (name : Bytes) → has_open fs name ≡ false → IsAmong (file_names fs) name → ⊥

@@ -1,19 +1,15 @@
 -- Clauses that are taken away one by one, the last first.
-use Rattle.std.proofs.Common.{◌≡◌, ℕ, zero, suc, ◌+◌, ◌-◌, ◌≤◌, List, [], ◌∷◌, ◌++◌, take, length, refl, sym, ap, ap₂, ◌∙◌, Option, None, Some, IfSome, arith}
+use Rattle.std.proofs.Common.{◌≡◌, ℕ, zero, suc, ◌+◌, ◌-◌, ◌≤◌, List, [], ◌∷◌, ◌++◌, take, length, refl, sym, ap, ap₂, ◌∙◌, Option, None, Some, IfSome, arith, take_all}
 use Rattle.std.specs.Prelude.{IfNone}
 use Rattle.si_defs.specs.Clauses.{Clause}
+use Rattle.si_defs.proofs.ListLaws.{not_empty}
 
 -- so many of the last are gone
 pub record IsShortened (whole : List Clause) (gone : ℕ) (left : List Clause) : Type 0 where
   pub front : left ≡ take (length whole - gone) whole
 
 pub none_gone : (whole : List Clause) → IsShortened whole 0 whole
-none_gone whole = record { front = sym (all whole (length whole - 0) (omega arith)) } where
-  all : (xs : List Clause) (n : ℕ) → length xs ≤ n → take n xs ≡ xs
-  all [] zero h = refl
-  all [] (suc n) h = refl
-  all (x ∷ xs) zero h = absurd (omega (arith, h))
-  all (x ∷ xs) (suc n) h = ap (λ l. x ∷ l) (all xs n (omega (arith, h)))
+none_gone whole = record { front = sym (take_all (length whole - 0) whole (omega arith)) }
 
 count : (m : ℕ) → suc (suc m - 1) ≡ suc (suc m) - 1
 count m = omega arith
@@ -34,10 +30,7 @@ shorter (x ∷ xs) (suc n) (z ∷ zs) y e h =
     let f : take n xs ≡ zs ++ y ∷ [] = cc in
     more n f (shorter xs n zs y f (omega (arith, h))) same where
       more : (m : ℕ) → take m xs ≡ zs ++ y ∷ [] → zs ≡ take (m - 1) xs → x ≡ z → z ∷ zs ≡ take (suc m - 1) (x ∷ xs)
-      more zero f k s = let g : [] ≡ zs ++ y ∷ [] = f in absurd (empty zs y g) where
-        empty : (ws : List Clause) (y : Clause) → [] ≡ ws ++ y ∷ [] → ⊥
-        empty [] y q = cc
-        empty (w ∷ ws) y q = cc
+      more zero f k s = let g : [] ≡ zs ++ y ∷ [] = f in absurd (not_empty zs y [] g)
       more (suc m) f k s = ap₂ (λ w l. w ∷ l) (sym s) k ∙ ap (λ n. take n (x ∷ xs)) (count m)
 
 pub one_gone : (r : Option ℕ) (whole old new : List Clause) (gone : ℕ) (P : ℕ → Clause → Type 0) → IsShortened whole gone old

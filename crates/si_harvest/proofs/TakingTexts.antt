@@ -1,16 +1,15 @@
 -- Texts of clauses, clause by clause.
-use Rattle.std.proofs.Common.{◌≡◌, ℕ, ◌≤◌, ◌<◌, ◌-◌, List, [], ◌∷◌, ◌++◌, codes, drop, length, length-drop, refl, sym, ap, ◌∙◌, subst, append_assoc, append-nil, arith, Option, Some, None}
+use Rattle.std.proofs.Common.{◌≡◌, ℕ, ◌≤◌, ◌<◌, ◌-◌, List, [], ◌∷◌, ◌++◌, drop, length, length-drop, refl, sym, ap, ◌∙◌, subst, append_assoc, append-nil, arith, Option, Some, None}
 use Rattle.std.specs.Prelude.{IfSome, IfNone}
 use Rattle.std.proofs.lemmas.List.{append_cancel_left}
 use Rattle.si_defs.specs.Bytes.{Bytes}
 use Rattle.si_defs.specs.Clauses.{Clause}
-use Rattle.si_defs.specs.Tokens.{Token, AreBlanks, Begins, lower}
-use Rattle.si_defs.specs.Grammar.{Item, Selection, clause_item, include_item}
-use Rattle.si_defs.specs.Texts.{BeginsWithItem}
+use Rattle.si_defs.specs.Tokens.{AreBlanks}
+use Rattle.si_defs.specs.Grammar.{Selection, clause_item, include_item}
 use Rattle.si_state.specs.Acceptance.{Refuses}
 use Rattle.si_state.specs.Harvest.{Fault, cycle, too_deep, too_many, missing, too_big, failed, foreign, malformed, rejected, AreClauses, IsRejected}
-use Rattle.si_lex.proofs.TokenLaws.{blanks_none}
 use Rattle.si_parse.specs.Reading.{IsItemRead, IsFault}
+use Rattle.si_parse.proofs.GrammarStops.{no_item_in_blanks}
 use Rattle.si_harvest.specs.declared.faults.Loaded.{Loaded}
 use Rattle.si_harvest.specs.declared.faults.HarvestFault.{HarvestFault}
 use Rattle.si_harvest.specs.Faults.{Explains}
@@ -20,15 +19,6 @@ use Rattle.si_harvest.proofs.Errors.{blames_weaker}
 use Rattle.si_harvest.proofs.Shorter.{item_shorter}
 
 -- ---- what stands in front of a text of clauses
-begins_none : (bytes : Bytes) (t : Token) (ts us : List Token) (rest : Bytes) → us ≡ t ∷ ts → Begins bytes us rest → AreBlanks bytes → ⊥
-begins_none bytes t ts us rest e b blank =
-    let k : Begins bytes (t ∷ ts) rest = subst (λ vs. Begins bytes vs rest) e b in
-    blanks_none bytes blank t k.0 k.1
-
-blanks_no_item : (bytes : Bytes) (item : Item) (rest : Bytes) → BeginsWithItem bytes item rest → AreBlanks bytes → ⊥
-blanks_no_item bytes (clause_item c) rest b blank = begins_none bytes (lower (codes "cnf")) _ b.tokens rest b.spelled.6 b.begins blank
-blanks_no_item bytes (include_item file selection) rest b blank = begins_none bytes (lower (codes "include")) _ b.tokens rest b.spelled.2 b.begins blank
-
 -- the clauses that are left behind the first
 pub record Behind (clauses : List Clause) (bytes : Bytes) (end : ℕ) (first : Clause) : Type 0 where
   pub others : List Clause
@@ -36,7 +26,7 @@ pub record Behind (clauses : List Clause) (bytes : Bytes) (end : ℕ) (first : C
   pub left : AreClauses others (drop end bytes)
 
 pub behind : (clauses : List Clause) (bytes : Bytes) (at end : ℕ) (c : Clause) → AreClauses clauses (drop at bytes) → IsItemRead bytes at (clause_item c) end → Behind clauses bytes end c
-behind [] bytes at end c h r = absurd (blanks_no_item (drop at bytes) (clause_item c) (drop end bytes) r.begins h)
+behind [] bytes at end c h r = absurd (no_item_in_blanks (drop at bytes) (clause_item c) (drop end bytes) h r.begins)
 behind (d ∷ ds) bytes at end c h r =
     let e = r.only (clause_item d) h.0 h.1 in
     let same : d ≡ c = let f : clause_item d ≡ clause_item c = e.0 in cc in
@@ -45,7 +35,7 @@ behind (d ∷ ds) bytes at end c h r =
 -- no include and no fault
 pub no_include : (clauses : List Clause) (bytes : Bytes) (at end : ℕ) (file : Bytes) (selection : Selection) → AreClauses clauses (drop at bytes)
     → IsItemRead bytes at (include_item file selection) end → ⊥
-no_include [] bytes at end file selection h r = blanks_no_item (drop at bytes) (include_item file selection) (drop end bytes) r.begins h
+no_include [] bytes at end file selection h r = no_item_in_blanks (drop at bytes) (include_item file selection) (drop end bytes) h r.begins
 no_include (d ∷ ds) bytes at end file selection h r = let f : clause_item d ≡ include_item file selection = (r.only (clause_item d) h.0 h.1).0 in cc
 
 pub no_fault : (clauses : List Clause) (bytes : Bytes) (at place : ℕ) → AreClauses clauses (drop at bytes) → IsFault bytes at place → ⊥
@@ -100,7 +90,7 @@ taking_ends limit start bytes at loaded loaded' state state' b same g h = (all, 
 
   none : (others : List Clause) → AreClauses others (drop at bytes) → others ≡ []
   none [] k = refl
-  none (d ∷ ds) k = absurd (blanks_no_item (drop at bytes) (clause_item d) k.0 k.1 b)
+  none (d ∷ ds) k = absurd (no_item_in_blanks (drop at bytes) (clause_item d) k.0 b k.1)
 
   exactly : (clauses : List Clause) → AreClauses clauses bytes → clauses ≡ all.gained
   exactly clauses a =

@@ -25,7 +25,8 @@ bounds_of limits = record { file = limits.file; fetches = limits.fetches; depth 
 abbrev pub IsReason : ℕ → AddFault → Refusal → Type 0
 IsReason limit add_fault.Taken refusal = refusal ≡ state.taken
 IsReason limit (add_fault.Clash c) refusal =
-    (found : Symbol) × (kept : Symbol) × (refusal ≡ state.misused c.entry found kept) × HasShapes c found kept
+    (found : Symbol) × (kept : Symbol) × (refusal ≡ state.misused c.entry found kept)
+    × HasShapes c found kept
 IsReason limit (add_fault.Full n most) refusal = (refusal ≡ state.full n) × (most ≡ limit)
 IsReason limit add_fault.Memory refusal = ⊥
 
@@ -40,7 +41,9 @@ pub record IsRejection (limit : ℕ) (r : Rejected) (refusal : Refusal) : Type 0
 abbrev pub NamesFault : ℕ → HarvestFault → Fault → Type 0
 NamesFault limit (Syntax file line) fault = fault ≡ malformed file line
 NamesFault limit (Language file line) fault = fault ≡ foreign file line
-NamesFault limit (harvest_fault.Rejected r) fault = (refusal : Refusal) × (fault ≡ rejected (clause_of r.clause) refusal) × IsRejection limit r refusal
+NamesFault limit (harvest_fault.Rejected r) fault =
+    (refusal : Refusal)
+    × (fault ≡ rejected (clause_of r.clause) refusal) × IsRejection limit r refusal
 NamesFault limit (Missing file) fault = fault ≡ missing file
 NamesFault limit (Big file) fault = fault ≡ too_big file
 NamesFault limit (LibraryFault file) fault = fault ≡ failed file
@@ -58,18 +61,21 @@ pub record NamesOneOf (limit : ℕ) (e : HarvestFault) (P : Fault → Type 0) : 
 abbrev pub Explains : ℕ → HarvestFault → (Fault → Type 0) → Type 0
 Explains limit e P = (e ≡ Memory) ⊎ NamesOneOf limit e P
 
--- The start of a load is checked before the library is asked, whatever that tells: a load of a file
--- that may not be asked for is refused for the first reason why not.
+-- A load of a file that may not be asked for at its start is refused for the first reason why not,
+-- or for want of memory, whatever the library tells.
 abbrev pub ChecksStart : {T : Type 0} → Bounds → ℕ → Bytes → Result T HarvestFault → Type 0
 ChecksStart bounds limit file result =
-    (MayAsk bounds [] 0 file → ⊥) → IsErrAnd result (λ e. Explains limit e (IsBarred bounds [] 0 file))
+    (MayAsk bounds [] 0 file → ⊥) →
+    IsErrAnd result (λ e. Explains limit e (IsBarred bounds [] 0 file))
 
 -- A library's failures, missing files and files that are too big have a count each, which rose
 -- where a load is refused for it, and no other count moved. For a failure it is refused only where
 -- the library may fail.
 abbrev pub HasFaultCause : Bool → Counts → Counts → HarvestFault → Type 0
-HasFaultCause may_fail before now (Missing file) = Rose before.misses now.misses × (now ≡ record before { misses = now.misses })
-HasFaultCause may_fail before now (Big file) = Rose before.bigs now.bigs × (now ≡ record before { bigs = now.bigs })
+HasFaultCause may_fail before now (Missing file) =
+    Rose before.misses now.misses × (now ≡ record before { misses = now.misses })
+HasFaultCause may_fail before now (Big file) =
+    Rose before.bigs now.bigs × (now ≡ record before { bigs = now.bigs })
 HasFaultCause may_fail before now (LibraryFault file) =
     Rose before.faults now.faults × (now ≡ record before { faults = now.faults }) × IsTrue may_fail
 HasFaultCause may_fail before now fault = now ≡ before

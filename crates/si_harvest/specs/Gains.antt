@@ -13,7 +13,8 @@ pub record CountsNoMore (loaded : Loaded) (state : List Clause) : Type 0 where
 
 -- the state is that at the start, and then clauses that were accepted one after the other and are
 -- counted
-pub record Gained (limit : ℕ) (start : List Clause) (loaded : Loaded) (state : List Clause) : Type 0 where
+pub record Gained (limit : ℕ) (start : List Clause) (loaded : Loaded)
+    (state : List Clause) : Type 0 where
   pub gained : List Clause
   pub whole : state ≡ start ++ gained
   pub accepted : AreAccepted limit start gained
@@ -22,4 +23,6 @@ pub record Gained (limit : ℕ) (start : List Clause) (loaded : Loaded) (state :
 
 -- a load of the file gives this state, and no fault
 abbrev pub GainsByLoad : Files → Bounds → ℕ → List Clause → Bytes → List Clause → Type 0
-GainsByLoad files bounds limit start file state = (events : List Event) × Loads files bounds limit start file events None × (state ≡ start ++ tried events)
+GainsByLoad files bounds limit start file state =
+    (events : List Event)
+    × Loads files bounds limit start file events None × (state ≡ start ++ tried events)

@@ -9,7 +9,8 @@ use Rattle.si_harvest.specs.Gains.{CountsNoMore, Gained}
 use Rattle.si_harvest.specs.Underway.{IsUnderway, AreWithin}
 
 -- it is under way, its places are within their files, and what it gained is counted
-pub record IsLoading (told : Option Files) (bounds : Bounds) (limit : ℕ) (start : List Clause) (file : Bytes) (reading : Reading) (state : List Clause) (loaded : Loaded) : Type 0 where
+pub record IsLoading (told : Option Files) (bounds : Bounds) (limit : ℕ) (start : List Clause)
+    (file : Bytes) (reading : Reading) (state : List Clause) (loaded : Loaded) : Type 0 where
   pub under_way : IsUnderway told bounds limit start file reading state
   pub within : AreWithin reading.files.items
   pub counted : CountsNoMore loaded state

@@ -30,7 +30,8 @@ abbrev pub is_selected : List OpenFile → Name → Bool
 is_selected files name = list_all (λ f. lists f.chosen name) files
 
 -- the library gave the file, which is open at its front
-pub record HasOpened (told : Option Files) (bounds : Bounds) (name : Bytes) (chosen : Option NameSet) (file : OpenFile) : Type 0 where
+pub record HasOpened (told : Option Files) (bounds : Bounds) (name : Bytes)
+    (chosen : Option NameSet) (file : OpenFile) : Type 0 where
   pub named : file.name ≡ name
   pub given : IfSome told (λ files. files name ≡ Some file.bytes.items)
   pub small : length file.bytes.items ≤ bounds.file
@@ -38,7 +39,8 @@ pub record HasOpened (told : Option Files) (bounds : Bounds) (name : Bytes) (cho
   pub selects : file.chosen ≡ chosen
 
 -- a file is open inside the others, behind one fetch more
-pub record OpensInside (told : Option Files) (bounds : Bounds) (name : Bytes) (chosen : Option NameSet) (before after : Reading) : Type 0 where
+pub record OpensInside (told : Option Files) (bounds : Bounds) (name : Bytes)
+    (chosen : Option NameSet) (before after : Reading) : Type 0 where
   pub may : MayAsk bounds (opened before.files.items) before.fetches name
   pub file : OpenFile
   pub given : HasOpened told bounds name chosen file
@@ -49,7 +51,8 @@ pub record OpensInside (told : Option Files) (bounds : Bounds) (name : Bytes) (c
 abbrev pub IsUnopened : Option Files → Bounds → Bytes → Reading → Fault → Type 0
 IsUnopened told bounds name reading fault =
     IsBarred bounds (opened reading.files.items) reading.fetches name fault
-    ⊎ (MayAsk bounds (opened reading.files.items) reading.fetches name × IfSome told (λ files. IsWithheld files bounds name fault))
+    ⊎ (MayAsk bounds (opened reading.files.items) reading.fetches name
+    × IfSome told (λ files. IsWithheld files bounds name fault))
 
 -- The clause was passed over where the selections don't all list it, and else it was accepted.
 abbrev pub TriesClause : ℕ → List OpenFile → Clause → List Clause → List Clause → Type 0
@@ -59,4 +62,6 @@ TriesClause limit files clause before after =
 
 -- a load of the file has this fault
 abbrev pub HasFault : Option Files → Bounds → ℕ → List Clause → Bytes → Fault → Type 0
-HasFault told bounds limit start file fault = IfSome told (λ files. (events : List Event) × Loads files bounds limit start file events (Some fault))
+HasFault told bounds limit start file fault =
+    IfSome told (λ files. (events : List Event)
+    × Loads files bounds limit start file events (Some fault))

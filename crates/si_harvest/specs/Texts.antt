@@ -12,7 +12,8 @@ use Rattle.si_harvest.specs.Gains.{Gained}
 -- exactly the clauses of the text were gained
 abbrev pub GainsText : ℕ → List Clause → Bytes → Loaded → List Clause → Type 0
 GainsText limit start bytes loaded state =
-    (all : Gained limit start loaded state) × ((clauses : List Clause) → AreClauses clauses bytes → clauses ≡ all.gained)
+    (all : Gained limit start loaded state)
+    × ((clauses : List Clause) → AreClauses clauses bytes → clauses ≡ all.gained)
 
 -- the fault is the first of these clauses that is refused, and why
 abbrev pub RefusesFirst : ℕ → List Clause → List Clause → Fault → Type 0
@@ -21,11 +22,13 @@ RefusesFirst limit start clauses fault = ⊥
 
 -- and these are the clauses of the text
 abbrev pub RefusesText : ℕ → List Clause → Bytes → Fault → Type 0
-RefusesText limit start bytes fault = (clauses : List Clause) → AreClauses clauses bytes → RefusesFirst limit start clauses fault
+RefusesText limit start bytes fault = (clauses : List Clause) → AreClauses clauses bytes
+    → RefusesFirst limit start clauses fault
 
 -- ---- one clause of a text
 -- the clause behind a place was accepted
-pub record TakesNext (limit : ℕ) (bytes : Bytes) (at end : ℕ) (before after : List Clause) : Type 0 where
+pub record TakesNext (limit : ℕ) (bytes : Bytes) (at end : ℕ)
+    (before after : List Clause) : Type 0 where
   pub clause : Clause
   pub read : IsItemRead bytes at (clause_item clause) end
   pub accepted : Accepts limit before clause after
@@ -33,4 +36,5 @@ pub record TakesNext (limit : ℕ) (bytes : Bytes) (at end : ℕ) (before after 
 -- it is refused
 abbrev pub RefusesNext : ℕ → Bytes → ℕ → List Clause → Fault → Type 0
 RefusesNext limit bytes at state fault =
-    (clause : Clause) × (end : ℕ) × IsItemRead bytes at (clause_item clause) end × IsRejected limit state clause fault
+    (clause : Clause) × (end : ℕ) × IsItemRead bytes at (clause_item clause) end
+    × IsRejected limit state clause fault

@@ -54,19 +54,24 @@ module _ (files : Files) (bounds : Bounds) (limit : ℕ) where
   abbrev pub Finishes : List Spot → ℕ → List Clause → List Event → Option Fault → Type 0
   Finishes [] made state events fault = (events ≡ []) × (fault ≡ None)
   Finishes (s ∷ ss) made state events fault =
-      ((own : List Event) × (others : List Event) × Continues files bounds limit s made state own None
-      × Finishes ss (made + fetches own) (state ++ tried own) others fault × (events ≡ own ++ others))
-      ⊎ ((early : Fault) × Continues files bounds limit s made state events (Some early) × (fault ≡ Some early))
+      ((own : List Event) × (others : List Event)
+      × Continues files bounds limit s made state own None
+      × Finishes ss (made + fetches own) (state ++ tried own) others fault
+      × (events ≡ own ++ others))
+      ⊎ ((early : Fault) × Continues files bounds limit s made state events (Some early)
+      × (fault ≡ Some early))
 
 -- The load of a file began in the state at the start. Behind some events it is in this state, and
 -- what the readings give from here on, the load gives behind those events.
-pub record IsUnderway (told : Option Files) (bounds : Bounds) (limit : ℕ) (start : List Clause) (file : Bytes) (reading : Reading) (state : List Clause) : Type 0 where
+pub record IsUnderway (told : Option Files) (bounds : Bounds) (limit : ℕ) (start : List Clause)
+    (file : Bytes) (reading : Reading) (state : List Clause) : Type 0 where
   pub spots : List Spot
   pub stand : Stand (reverse reading.files.items) spots
   pub events : List Event
   pub gained : state ≡ start ++ tried events
   pub goes_on : (files : Files) → told ≡ Some files → (others : List Event) (fault : Option Fault)
-      → Finishes files bounds limit spots reading.fetches state others fault → Loads files bounds limit start file (events ++ others) fault
+      → Finishes files bounds limit spots reading.fetches state others fault
+      → Loads files bounds limit start file (events ++ others) fault
 
 -- ---- safety
 -- no place is behind the end of its file, and no file is larger than may be read
@@ -84,4 +89,5 @@ left_of (f ∷ fs) = (length f.bytes.items - f.at) + 1 + left_of fs
 
 -- more than so many steps can't follow
 abbrev pub steps_left : Bounds → Reading → ℕ
-steps_left bounds reading = (bounds.fetches - reading.fetches) * (bounds.file + 2) + left_of reading.files.items
+steps_left bounds reading = (bounds.fetches - reading.fetches) *
+    (bounds.file + 2) + left_of reading.files.items

@@ -1,6 +1,5 @@
 -- Terms, literals and clauses whose symbols have numbers, and the parts of them.
 use Rattle.std.proofs.Common.{◌≡◌, ℕ, zero, suc, ◌<◌, ◌≤◌, List, [], ◌∷◌, length, map, get_or, inr, refl, ap, sym, subst, arith}
-use Rattle.std.specs.Prelude.{slice_get, Some, None}
 use Rattle.std.specs.List.{AllByRecursion}
 use Rattle.si_defs.specs.Terms.{app, row, symbols, symbols_of_all}
 use Rattle.si_defs.specs.Symbols.{Numbering}
@@ -8,6 +7,7 @@ use Rattle.si_defs.specs.Clauses.{Term, Literal, Clause, Pattern, literal_patter
 use Rattle.si_defs.specs.Entries.{literal_entry, term_entry, clause_symbols, literals_symbols, state_symbols}
 use Rattle.si_defs.specs.Substitutions.{IsAmong}
 use Rattle.si_defs.specs.declared.TheConstants.{MOST_OCCURRENCES}
+use Rattle.si_defs.proofs.ListLaws.{among_front, among_back}
 use Rattle.si_state.specs.Signatures.{Signature, IsSignatureOf, numbering}
 use Rattle.si_term.specs.Terms.{symbol_of, term_of}
 use Rattle.si_term.specs.Meaning.{literal_of}
@@ -16,7 +16,7 @@ use Rattle.si_term.specs.declared.term.Term as program
 use Rattle.si_term.specs.declared.term.Term.TheVariants.{Var, App}
 use Rattle.si_term.specs.declared.clause.Literal as program_literal
 use Rattle.si_term.proofs.Rows.{size-read, app-term, positive}
-use Rattle.si_sign.proofs.UsesOf.{among_left, among_right, among_numbering, uses_positive, times_among}
+use Rattle.si_sign.proofs.UsesOf.{among_numbering, uses_positive, times_among}
 use Rattle.si_form.specs.TableNumbers.{HaveNumbers}
 use Rattle.si_index.specs.Searching.{IsTermPattern, AreAlike, IsKnownTerm, AreKnownTerms, IsKnownEntry, IsKnownClause}
 
@@ -25,9 +25,9 @@ argument_at : (numbers : Numbering) (ts : List program.Term) (i : ℕ) (d : prog
     → AreSoundTerms (row (map term_of ts)) → HaveNumbers numbers (symbols_of_all (row (map term_of ts)))
     → IsSoundTerm (term_of (get_or ts i d)) × HaveNumbers numbers (symbols (term_of (get_or ts i d)))
 argument_at numbers [] i d h sound have = absurd (omega arith)
-argument_at numbers (t ∷ ts) zero d h sound have = (sound.0, λ s a. have s (among_left (symbols (term_of t)) (symbols_of_all (row (map term_of ts))) s a))
+argument_at numbers (t ∷ ts) zero d h sound have = (sound.0, λ s a. have s (among_front (symbols (term_of t)) (symbols_of_all (row (map term_of ts))) s a))
 argument_at numbers (t ∷ ts) (suc i) d h sound have =
-    argument_at numbers ts i d (omega arith) sound.1 (λ s a. have s (among_right (symbols (term_of t)) (symbols_of_all (row (map term_of ts))) s a))
+    argument_at numbers ts i d (omega arith) sound.1 (λ s a. have s (among_back (symbols (term_of t)) (symbols_of_all (row (map term_of ts))) s a))
 
 pub known_argument : (numbers : Numbering) (ts : List program.Term) (i : ℕ) (t : program.Term) → i < length ts → t ≡ get_or ts i t → AreKnownTerms numbers (row (map term_of ts)) → IsKnownTerm numbers (term_of t)
 known_argument numbers ts i t h read known =
@@ -82,10 +82,10 @@ literal_at : (numbers : Numbering) (ls : List program_literal.Literal) (i : ℕ)
 literal_at numbers [] i d h sound small have = absurd (omega arith)
 literal_at numbers (l ∷ ls) zero d h sound small have = record {
   sound = (sound.0, omega (arith, small));
-  numbered = λ s a. have s (among_left (symbols (term_of l.atom)) (literals_symbols (map literal_of ls)) s a);
+  numbered = λ s a. have s (among_front (symbols (term_of l.atom)) (literals_symbols (map literal_of ls)) s a);
 }
 literal_at numbers (l ∷ ls) (suc i) d h sound small have =
-    literal_at numbers ls i d (omega arith) sound.1 (omega (arith, small)) (λ s a. have s (among_right (symbols (term_of l.atom)) (literals_symbols (map literal_of ls)) s a))
+    literal_at numbers ls i d (omega arith) sound.1 (omega (arith, small)) (λ s a. have s (among_back (symbols (term_of l.atom)) (literals_symbols (map literal_of ls)) s a))
 
 pub known_literal : (numbers : Numbering) (c : Clause) (ls : List program_literal.Literal) (i : ℕ) (l : program_literal.Literal) → map literal_of ls ≡ c.literals → i < length ls → l ≡ get_or ls i l → IsKnownClause numbers c → IsKnownEntry numbers (literal_entry (literal_of l))
 known_literal numbers c ls i l seen h read known =
@@ -104,8 +104,8 @@ count_literals (l ∷ ls) = omega (arith, count_literals ls, positive (term_of l
 clauses_known : (numbers : Numbering) (cs : List Clause) → AllByRecursion IsSoundClause cs → HaveNumbers numbers (state_symbols cs) → AllByRecursion (IsKnownClause numbers) cs
 clauses_known numbers [] sound have = tt
 clauses_known numbers (c ∷ cs) sound have = (
-  record { sound = sound.0; numbered = λ s a. have s (among_left (clause_symbols c) (state_symbols cs) s a) },
-  clauses_known numbers cs sound.1 (λ s a. have s (among_right (clause_symbols c) (state_symbols cs) s a)),
+  record { sound = sound.0; numbered = λ s a. have s (among_front (clause_symbols c) (state_symbols cs) s a) },
+  clauses_known numbers cs sound.1 (λ s a. have s (among_back (clause_symbols c) (state_symbols cs) s a)),
 )
 
 -- the numbers of the signature of clauses are those of their symbols
@@ -116,9 +116,3 @@ signature_numbers cs known signed s a =
 
 pub all_clauses_known : (numbers : Numbering) (cs : List Clause) (known : Signature) → numbering known ≡ numbers → IsSignatureOf cs known → AllByRecursion IsSoundClause cs → AllByRecursion (IsKnownClause numbers) cs
 all_clauses_known numbers cs known same signed sound = clauses_known numbers cs sound (subst (λ n. HaveNumbers n (state_symbols cs)) same (signature_numbers cs known signed))
-
-pub at_position_of_all : (P : Clause → Type 0) (cs : List Clause) (i : ℕ) (c : Clause) → slice_get cs i ≡ Some c → AllByRecursion P cs → P c
-at_position_of_all P [] zero c e all = absurd (let wrong : None ≡ Some c = e in cc)
-at_position_of_all P [] (suc i) c e all = absurd (let wrong : None ≡ Some c = e in cc)
-at_position_of_all P (d ∷ cs) zero c e all = let same : d ≡ c = cc in subst P same all.0
-at_position_of_all P (d ∷ cs) (suc i) c e all = at_position_of_all P cs i c e all.1

@@ -1,6 +1,7 @@
 -- Terms that stand in a relation do so at each place.
 use Rattle.std.proofs.Common.{◌≡◌, ◌<◌, ℕ, zero, suc, List, [], ◌∷◌, length, map, get_or, true, false, ap, sym, subst, ◌∙◌, arith}
 use Rattle.std.specs.Prelude.{Some, None}
+use Rattle.std.proofs.lemmas.Option.{same_Some}
 use Rattle.si_defs.specs.Bytes.{Bytes}
 use Rattle.si_defs.specs.Terms as terms
 use Rattle.si_defs.specs.Terms.{var, app, none, more, head, row, substitute, substitute_all, rename, rename_all}
@@ -12,7 +13,7 @@ use Rattle.si_defs.specs.declared.Relation.{Relation}
 use Rattle.si_defs.specs.declared.Relation.TheVariants.{Variants, Instances, Generalizations, Unifiable}
 use Rattle.si_term.specs.Terms.{term_of}
 use Rattle.si_term.specs.declared.term.Term as program
-use Rattle.si_flat.proofs.Keys.{symbol-Decides}
+use Rattle.si_defs.proofs.SymbolLaws.{symbol-Decides}
 use Rattle.si_form.specs.Numberings.{TextsRelate}
 use Rattle.si_index.specs.Fitting.{Witness, Becomes, BecomeAll, KeepsQuery, KeepsEntry}
 
@@ -24,17 +25,14 @@ related_becomes Generalizations q u h = (([], h.0), h.1.takes)
 related_becomes Variants q u h = ((h.0.0, h.1.0), (h.0.1.takes, h.1.1.takes))
 
 -- ---- heads
-one_head : (s r : Symbol) → Some s ≡ Some r → s ≡ r
-one_head s r e = cc
-
 no_head : (s : Symbol) → Some s ≡ None → ⊥
 no_head s e = cc
 
 heads_agree : (kind : Relation) (w : Witness) (s r : Symbol) (ts us : Terms) → Becomes kind w (app s ts) (app r us) → s ≡ r
-heads_agree Unifiable w s r ts us h = one_head s r (ap head h)
-heads_agree Instances w s r ts us h = one_head s r (ap head h)
-heads_agree Generalizations w s r ts us h = sym (one_head r s (ap head h))
-heads_agree Variants w s r ts us h = one_head s r (ap head h.0)
+heads_agree Unifiable w s r ts us h = same_Some s r (ap head h)
+heads_agree Instances w s r ts us h = same_Some s r (ap head h)
+heads_agree Generalizations w s r ts us h = sym (same_Some r s (ap head h))
+heads_agree Variants w s r ts us h = same_Some s r (ap head h.0)
 
 pub heads_differ : (kind : Relation) (w : Witness) (s r : Symbol) (ts us : Terms) → same_symbol s r ≡ false → Becomes kind w (app s ts) (app r us) → ⊥
 heads_differ kind w s r ts us e h = let same : true ≡ false = sym ((symbol-Decides s r).1 (heads_agree kind w s r ts us h)) ∙ e in cc

@@ -1,15 +1,17 @@
--- What is answered to the flat terms of a pattern and an entry, it says of the pattern and the entry.
+-- What is answered to the flat terms of a pattern and an entry, it says of the pattern and the
+-- entry.
 use Rattle.std.proofs.Common.{◌≡◌, ℕ, Bool, true, false, not, List, [], ◌∷◌, ◌++◌, map, inl, inr, refl, ap, sym, subst}
 use Rattle.std.specs.Prelude.{Option, Some, None, bytes_eq}
 use Rattle.std.specs.List.{AllByRecursion}
-use Rattle.std.proofs.lemmas.Slice.Eq.{bytes_eq-Decides}
 use Rattle.si_defs.specs.Bytes.{Bytes}
 use Rattle.si_defs.specs.Terms.{symbols, variables, firsts}
 use Rattle.si_defs.specs.Symbols.{Symbol, Numbering, IsNumbering}
 use Rattle.si_defs.specs.Substitutions.{IsAmong}
 use Rattle.si_defs.specs.Clauses.{Term, Pattern, literal_pattern, term_pattern, IsSoundPattern}
-use Rattle.si_defs.specs.Entries.{Entry, literal_entry, term_entry, pattern_entry}
+use Rattle.si_defs.specs.Entries.{Entry, literal_entry, term_entry, pattern_entry, distinct_variables}
 use Rattle.si_defs.specs.declared.Relation.{Relation}
+use Rattle.si_defs.proofs.ListLaws.{among_front, among_parts, all_from}
+use Rattle.si_defs.proofs.SymbolLaws.{text_is}
 use Rattle.si_state.specs.Answers.{Stands}
 use Rattle.si_term.specs.Terms.{symbol_of}
 use Rattle.si_flat.specs.declared.Cell.{Cell}
@@ -21,16 +23,15 @@ use Rattle.si_flat.specs.Flattened.{has_number, unnumbered, extra_numbers, query
 use Rattle.si_flat.specs.Flattening.{owners_variable}
 use Rattle.si_flat.proofs.Numbers.{has-among, among-number}
 use Rattle.si_flat.proofs.FirstPlaces.{among_firsts, filter_among}
+use Rattle.si_unify.proofs.Reading.{one_term}
 use Rattle.si_form.specs.declared.solution.Binding.{Binding}
 use Rattle.si_form.specs.Answers.{IsNumbered, AreNumbered, AnswersTo, Answers}
 use Rattle.si_form.specs.Numberings.{query_by, entry_by, variable_by, symbols_of, TellsApart, IsFor, TextsRelate, AnswersToTexts}
 use Rattle.si_form.specs.TableNumbers.{HaveNumbers}
-use Rattle.si_form.proofs.Agreeing.{same_value}
 use Rattle.si_form.proofs.NumberingLaws.{answers_are_kept}
 use Rattle.si_form.proofs.SolutionLaws.{solutions_are_of_terms, atoms_are_answered}
 use Rattle.si_form.proofs.TableLaws.{entries_need_the_table_alone}
-use Rattle.si_sign.proofs.UsesOf.{among_left, among_append, all_among}
-use Rattle.si_index.specs.Searching.{AreAlike, IsKnownEntry, names_in, AnswersEntry}
+use Rattle.si_index.specs.Searching.{AreAlike, IsKnownEntry, AnswersEntry}
 
 -- ---- numbers
 -- symbols that have numbers don't lack one, and the other way round
@@ -59,17 +60,17 @@ tells_apart numbers ss numbering have =
     }
 
 more_numbers : (numbers others : Numbering) (ss : List Symbol) → HaveNumbers numbers ss → HaveNumbers (numbers ++ others) ss
-more_numbers numbers others ss have s a = ((have s a).0, among_left numbers others (s, (have s a).0) (have s a).1)
+more_numbers numbers others ss have s a = ((have s a).0, among_front numbers others (s, (have s a).0) (have s a).1)
 
 both_numbered : (numbers : Numbering) (p u : Term) → HaveNumbers numbers (symbols p) → HaveNumbers numbers (symbols u) → HaveNumbers numbers (symbols_of p u)
 both_numbered numbers p u of_p of_u s a =
-    elim (among_append (symbols p) (symbols u) s a) [
+    elim (among_parts (symbols p) (symbols u) s a) [
       | inl b ↦ of_p s b
       | inr b ↦ of_u s b
     ]
 
 variables_placed : (xs : List Bytes) → AllByRecursion (IsAmong (firsts bytes_eq xs)) xs
-variables_placed xs = all_among (IsAmong (firsts bytes_eq xs)) xs (λ x a. among_firsts bytes_eq bytes_eq-Decides xs x a)
+variables_placed xs = all_from (IsAmong (firsts bytes_eq xs)) xs (λ x a. among_firsts bytes_eq text_is xs x a)
 
 is_for : (numbers : Numbering) (p u : Term) → IsQueryNumbering numbers → HaveNumbers numbers (symbols p) → HaveNumbers numbers (symbols u) → IsFor p u (number_in numbers) (firsts bytes_eq (variables p)) (firsts bytes_eq (variables u))
 is_for numbers p u numbering of_p of_u = record {
@@ -81,7 +82,7 @@ is_for numbers p u numbering of_p of_u = record {
 -- ---- flat terms
 pub flat_is_numbered : (numbers : Numbering) (owner : Owner) (e : Entry) (list : List Cell) → IsFlatOf numbers (owners_variable owner) e list → AreNumbered owner list
 flat_is_numbered numbers owner e list flat t stands =
-    subst (IsNumbered owner) (same_value list _ t flat.stands stands) flat.numbered
+    subst (IsNumbered owner) (one_term list _ t flat.stands stands) flat.numbered
 
 -- two terms and their numbers; the entry's are in the table
 module _ (kind : Relation) (table extra : Numbering) (p u : Term) (positive : Bool) (numbering : IsQueryNumbering (table ++ extra)) (of_p : HaveNumbers (table ++ extra) (symbols p)) (of_u : HaveNumbers table (symbols u)) where
@@ -98,7 +99,7 @@ module _ (kind : Relation) (table extra : Numbering) (p u : Term) (positive : Bo
 entry_answered : (kind : Relation) (numbers : Numbering) (p : Pattern) (e : Entry) (answer : Option (List Binding))
     → AreAlike p e
     → HaveNumbers numbers (symbols_of (whole_of (pattern_entry p)) (whole_of e))
-    → AnswersToTexts kind (whole_of (pattern_entry p)) (whole_of e) (number_in numbers) (variable_by (names_in (pattern_entry p)) (names_in e)) answer
+    → AnswersToTexts kind (whole_of (pattern_entry p)) (whole_of e) (number_in numbers) (variable_by (distinct_variables (pattern_entry p)) (distinct_variables e)) answer
     → AnswersEntry kind numbers p e answer
 entry_answered kind numbers (literal_pattern l) (literal_entry k) None alike have h = λ s. h s.1
 entry_answered kind numbers (literal_pattern l) (literal_entry k) (Some bs) alike have h = record {

@@ -6,7 +6,8 @@ use Rattle.std.proofs.lemmas.List.{length-map}
 use Rattle.std.proofs.lemmas.Option.{get_or_from_slice_get}
 use Rattle.si_defs.specs.Bytes.{Bytes}
 use Rattle.si_defs.specs.Symbols.{Symbol, Numbering}
-use Rattle.si_defs.specs.Entries.{Entry, Placed, pattern_entry}
+use Rattle.si_defs.specs.Entries.{Entry, Placed, pattern_entry, distinct_variables}
+use Rattle.si_defs.proofs.ListLaws.{all_get}
 use Rattle.si_term.specs.Terms.{symbol_of}
 use Rattle.si_term.specs.Meaning.{place_of}
 use Rattle.si_term.specs.declared.term.Sym.{Sym}
@@ -18,7 +19,7 @@ use Rattle.si_form.specs.Numberings.{variable_by, list_by, symbols_of}
 use Rattle.si_form.specs.TableNumbers.{HaveNumbers}
 use Rattle.si_index.specs.Finding.{position_and_place}
 use Rattle.si_index.specs.Showing.{ShowsEntry}
-use Rattle.si_index.specs.Searching.{numbers_of, pattern_in, IsReady, names_in, SolvesEntry, SolvesIn, HasList, IsMatch, hit_of}
+use Rattle.si_index.specs.Searching.{numbers_of, pattern_in, IsReady, SolvesEntry, SolvesIn, HasList, IsMatch, hit_of}
 use Rattle.si_index.specs.declared.search.Search.{Search}
 use Rattle.si_index.specs.declared.search.Solved.{Solved}
 use Rattle.si_index.specs.declared.gather.Match.{Match}
@@ -43,11 +44,7 @@ place_at ms n m h read = at ms n m h ∙ ap (λ (k : Match). Some (k.hit.clause,
   at (m ∷ ms) (suc n) d h = at ms n d (omega arith)
 
 pub each_at : (P : Match → Type 0) (ms : List Match) (n : ℕ) (m : Match) → n < length ms → m ≡ get_or ms n m → AllByRecursion P ms → P m
-each_at P ms n m h read all = subst P (sym read) (at ms n m h all) where
-  at : (ms : List Match) (n : ℕ) (d : Match) → n < length ms → AllByRecursion P ms → P (get_or ms n d)
-  at [] n d h all = absurd (omega arith)
-  at (m ∷ ms) zero d h all = all.0
-  at (m ∷ ms) (suc n) d h all = at ms n d (omega arith) all.1
+each_at P ms n m h read all = subst P (sym read) (all_get P ms n m all h)
 
 -- the match that a hit's number reads
 pub match_at : (s : Search) (lists : List Solved) (ms : List Match) (n : ℕ) (m : Match) (hits : List (ℕ × Placed)) → map hit_of ms ≡ hits → n < length hits → m ≡ get_or ms n m → AllByRecursion (IsMatch s lists) ms → IsMatch s lists m
@@ -62,8 +59,8 @@ pub shows_entry : (s : Search) (numbers : Numbering) (e : Entry) (bindings : Lis
     → numbers_of s ≡ numbers
     → IsReady s
     → SolvesEntry s.relation (query_numbers (numbers_of s) s.query.extra) (pattern_in s) e bindings
-    → query_names ≡ names_in (pattern_entry (pattern_in s))
-    → entry_names ≡ names_in e
+    → query_names ≡ distinct_variables (pattern_entry (pattern_in s))
+    → entry_names ≡ distinct_variables e
     → map symbol_of extra ≡ map symbol_of s.query.extra
     → ShowsEntry numbers s.relation (pattern_in s) e (record { solution = bindings; query_names = query_names; entry_names = entry_names; extra = extra })
 shows_entry s numbers e bindings query_names entry_names extra same ready solved queries entries copied =
@@ -78,5 +75,5 @@ shows_entry s numbers e bindings query_names entry_names extra same ready solved
       symbols = subst (λ (l : List Symbol). HaveNumbers (numbers_of s ++ extra_numbers l) (symbols_of (whole_of (pattern_entry (pattern_in s))) (whole_of e))) (sym copied) solved.symbols;
       list = subst (λ (l : List Symbol). StandsForList bindings (list_by (number_in (numbers_of s ++ extra_numbers l)) (variable_by query_names entry_names) solved.solution)) (sym copied)
           (subst (λ l. StandsForList bindings (list_by (number_in (query_numbers (numbers_of s) s.query.extra)) (variable_by query_names l) solved.solution)) (sym entries)
-          (subst (λ l. StandsForList bindings (list_by (number_in (query_numbers (numbers_of s) s.query.extra)) (variable_by l (names_in e)) solved.solution)) (sym queries) solved.list));
+          (subst (λ l. StandsForList bindings (list_by (number_in (query_numbers (numbers_of s) s.query.extra)) (variable_by l (distinct_variables e)) solved.solution)) (sym queries) solved.list));
     })

@@ -5,10 +5,12 @@ use Rattle.std.specs.List.{AllByRecursion}
 use Rattle.std.proofs.lemmas.List.{drop_more, drop_all, map-append, length-map}
 use Rattle.std.proofs.Math.Seq.{take-append_seam}
 use Rattle.std.proofs.Math.Bool.{beq}
+use Rattle.si_defs.specs.Substitutions.{Grows}
 use Rattle.si_defs.specs.Terms as terms
 use Rattle.si_defs.specs.Clauses.{Term, Literal, Clause, Pattern, literal_pattern, term_pattern}
 use Rattle.si_defs.specs.Entries.{literal_entry, term_entry, Placed, literal_entries, proper_occurrences, placed_term, placed_in, entries_from, entries, state_entries}
 use Rattle.si_defs.specs.declared.Relation.{Relation}
+use Rattle.si_defs.proofs.ListLaws.{all_weaker, all_append, get_front}
 use Rattle.si_state.specs.Answers.{Stands}
 use Rattle.si_term.specs.Terms.{term_of}
 use Rattle.si_term.specs.Meaning.{literal_of}
@@ -16,10 +18,8 @@ use Rattle.si_term.specs.declared.term.Sym as symbol
 use Rattle.si_term.specs.declared.term.Term as program
 use Rattle.si_term.specs.declared.term.Term.TheVariants.{Var, App}
 use Rattle.si_term.specs.declared.clause.Literal as program_literal
-use Rattle.si_unify.proofs.Lists.{all_map, all_append}
-use Rattle.si_form.proofs.NodeLaws.{get_front}
 use Rattle.si_index.specs.Finding.{at_position, entries_from_position, AreHits}
-use Rattle.si_index.specs.Searching.{pattern_in, IsTermPattern, HasSolution, IsAtFront, IsMatch, AreMatches, hit_of, Adds, Gathers, placed_under}
+use Rattle.si_index.specs.Searching.{pattern_in, IsTermPattern, HasSolution, IsMatch, AreMatches, hit_of, Adds, Gathers, placed_under}
 use Rattle.si_index.specs.declared.search.Search.{Search}
 use Rattle.si_index.specs.declared.search.Solved.{Solved}
 use Rattle.si_index.specs.declared.gather.Match.{Match}
@@ -35,14 +35,14 @@ hits-append kind p (e ∷ es) fs hs ks h k =
     ]
 
 -- ---- what was found keeps its lists where more are made
-match_stays : (s : Search) (old new : List Solved) (m : Match) → IsAtFront old new → IsMatch s old m → IsMatch s new m
+match_stays : (s : Search) (old new : List Solved) (m : Match) → Grows old new → IsMatch s old m → IsMatch s new m
 match_stays s old new m front h = record {
   list = (h.list.0, ap (λ l. slice_get l m.list) front.1 ∙ get_front old front.0 m.list h.list.0 h.list.1, h.list.2);
   there = h.there;
 }
 
-pub matches_stay : (s : Search) (old new : List Solved) (ms : List Match) → IsAtFront old new → AllByRecursion (IsMatch s old) ms → AllByRecursion (IsMatch s new) ms
-matches_stay s old new ms front = all_map (IsMatch s old) (IsMatch s new) ms (λ m. match_stays s old new m front)
+pub matches_stay : (s : Search) (old new : List Solved) (ms : List Match) → Grows old new → AllByRecursion (IsMatch s old) ms → AllByRecursion (IsMatch s new) ms
+matches_stay s old new ms front = all_weaker (IsMatch s old) (IsMatch s new) ms (λ m. match_stays s old new m front)
 
 -- ---- what was added
 pub adds_none : (s : Search) (ms : Matches) → AreMatches s ms → Adds s [] ms.found.items ms

@@ -2,6 +2,7 @@
 use Rattle.std.proofs.Common.{suc, zero, ◌≡◌, ◌<◌, ◌≤◌, ◌+◌, ◌-◌, ◌*◌, ℕ, List, [], ◌∷◌, ◌++◌, length, take, replicate, refl, sym, ◌∙◌, ap, subst, arith}
 use Rattle.std.specs.Prelude.{◌/◌, ◌%◌, slice_index_or, slice_set}
 use Rattle.si_index.specs.Halves.{halves, sum_of}
+use Rattle.si_index.specs.RanksFall.{length_halves}
 
 half_more : (i : ℕ) → suc (suc i) / 2 ≡ suc (i / 2)
 half_more i = omega arith
@@ -150,11 +151,6 @@ some_inside [] zero n p = omega (arith, p)
 some_inside [] (suc k) n p = omega (arith, p)
 some_inside (x ∷ xs) zero n p = omega arith
 some_inside (x ∷ xs) (suc k) n p = omega (arith, some_inside xs k n p)
-
-pub length_halves : (xs : List ℕ) → length (halves xs) + length (halves xs) ≤ length xs + 1
-length_halves [] = omega arith
-length_halves (x ∷ []) = omega arith
-length_halves (x ∷ y ∷ zs) = omega (arith, length_halves zs)
 
 pub fewer_halves : (xs : List ℕ) → 2 ≤ length xs → length (halves xs) < length xs
 fewer_halves xs p = omega (arith, p, length_halves xs)

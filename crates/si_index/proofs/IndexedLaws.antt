@@ -1,5 +1,6 @@
 -- Laws of what is kept beside the slots: keys that lead to places, and counts.
 use Rattle.std.proofs.Common.{◌≡◌, ◌≢◌, ◌<◌, ◌≤◌, ◌+◌, ◌-◌, ℕ, List, [], ◌∷◌, ◌++◌, Option, Some, None, IsSome, is_some, count_by, length, take, replicate, slice_index_or, slice_set, slice_get, refl, sym, ◌∙◌, ap, subst, arith}
+use Rattle.std.proofs.lemmas.Option.{same_Some}
 use Rattle.std.specs.List.{filter}
 use Rattle.std.proofs.lemmas.List.{get_or_read, length-append}
 use Rattle.slab.specs.Slab.{Slab, get, slab_len, Updates}
@@ -8,7 +9,7 @@ use Rattle.si_index.specs.Halves.{sum_of}
 use Rattle.si_index.specs.Keyed.{HasKey, HasKeyAt, IsTakenOut}
 use Rattle.si_index.specs.KeyedSlots.{kept, flags, HoldsAt, IsLinked, KnowsKeys, IsIndexed}
 use Rattle.si_index.specs.declared.keyed.Kept.{Kept}
-use Rattle.si_index.proofs.SlotLaws.{same_some, entry, stands_inside, kept_pushed, flags_pushed, taken_out, flag_there, flags_without, flags_length, flags_total, kept_bound, rank_there, found_there, key_at, among_there, kept_filtered}
+use Rattle.si_index.proofs.SlotLaws.{entry, stands_inside, kept_pushed, flags_pushed, taken_out, flag_there, flags_without, flags_length, flags_total, kept_bound, rank_there, found_there, key_at, among_there, kept_filtered}
 use Rattle.si_index.proofs.LinkLaws.{linked_pushed, linked_without, linked_knows}
 
 -- a value there, by an equation
@@ -30,7 +31,7 @@ module _ {T : Type 0} where
       → Some place ≡ place_of key → read ≡ slice_index_or slots place read → Some k ≡ read → IsAmong (kept slots) (key, k.item)
   got slots place_of key place read k h leads reads is =
       let found = h.back key place (sym leads) in
-      let item : found.0 ≡ k = same_some (sym (read_there slots place read found.0 found.1 reads) ∙ sym is) in
+      let item : found.0 ≡ k = same_Some _ _ (sym (read_there slots place read found.0 found.1 reads) ∙ sym is) in
       subst (λ n. IsAmong (kept slots) (n, k.item)) (ap (λ i. i.key) (sym item) ∙ found.2) (among_there slots place k (found.1 ∙ ap Some item))
 
   pub is_known : (slots : List (Option (Kept T))) (place_of : ℕ → Option ℕ) (key : ℕ) → IsLinked slots place_of → HasKey (kept slots) key → IsSome (place_of key)
@@ -110,7 +111,7 @@ module _ {T : Type 0} where
       → place_of key ≡ Some place → HoldsAt slots place k → kept slots ≡ items → new ≡ kept (slice_set slots place None) → IsTakenOut items key k.item new
   took slots place_of key place k items new h leads at is rest =
       let found = h.back key place leads in
-      let same : k.key ≡ key = ap (λ i. i.key) (same_some (sym at ∙ found.1)) ∙ found.2 in
+      let same : k.key ≡ key = ap (λ i. i.key) (same_Some _ _ (sym at ∙ found.1)) ∙ found.2 in
       subst (λ n. IsTakenOut items n k.item new) same
       (subst (λ l. IsTakenOut l k.key k.item new) is
       (subst (λ l. IsTakenOut (kept slots) k.key k.item l) (sym rest) (taken_out slots place k at)))

@@ -1,6 +1,7 @@
 -- What is known of clauses, as one is added, refused or taken away.
 use Rattle.std.proofs.Common.{◌≡◌, inr, ℕ, ◌+◌, ◌-◌, ◌≤◌, List, [], ◌∷◌, ◌++◌, Option, None, Some, IsSome, length, refl, sym, ap, ◌∙◌, subst, arith, append-nil, length-append}
 use Rattle.std.proofs.lemmas.List.{map-append}
+use Rattle.std.proofs.lemmas.Bool.{false≢true}
 use Rattle.si_defs.specs.Symbols.{Symbol, times}
 use Rattle.si_defs.specs.Clauses.{Name, Clause, IsSoundClause}
 use Rattle.si_defs.specs.Entries.{entries, state_entries, clause_symbols, state_symbols}
@@ -14,11 +15,11 @@ use Rattle.si_sign.specs.Stores.{IsStored, Rejects}
 use Rattle.si_sign.specs.declared.faults.AddFault.{AddFault}
 use Rattle.si_sign.specs.declared.faults.AddFault.TheVariants as add_fault
 use Rattle.si_sign.specs.declared.uses.TheConstants.{MOST_USES}
-use Rattle.si_sign.proofs.SymbolLaws.{differs}
+use Rattle.si_defs.proofs.ListLaws.{among_back, all_at}
 use Rattle.si_sign.specs.Shapes.{NamesFirstClash}
 use Rattle.si_sign.proofs.StateLaws.{agrees_in_state, clashes_in_state}
 use Rattle.si_sign.proofs.StoreLaws.{stored_more, stored_less}
-use Rattle.si_sign.proofs.UsesOf.{among_right, one_of_all, among_numbering, numbering_among, uses_positive, uses_among}
+use Rattle.si_sign.proofs.UsesOf.{among_numbering, numbering_among, uses_positive, uses_among}
 use Rattle.si_index.specs.Keyed.{HasKey, HasKeyAt, IsTakenOut}
 use Rattle.si_index.specs.Kept.{clauses_of}
 use Rattle.si_index.specs.Names.{key_of, ChangesName}
@@ -31,7 +32,7 @@ use Rattle.si_index.proofs.StoreLaws.{symbols_few, entries_between, times_betwee
 
 -- ---- why a clause isn't added
 some_is : {A : Type 0} (o : Option A) → IsSome o → (x : A) × (o ≡ Some x)
-some_is None h = differs h
+some_is None h = absurd (false≢true h)
 some_is (Some x) h = (x, refl)
 
 module _ (limit : ℕ) (items : List (ℕ × term.Clause)) (known : Known) (c : Clause) (is : IsKnownOf items known) (good : IsSignature known.signature) where
@@ -132,7 +133,7 @@ pub numbers_through : (old between new : Signature) → IsSignature old → ((s 
 numbers_through old between new good more first second s m n a b =
     let there = numbering_among old (s, m) a in
     let uses : uses_of old there.used.symbol ≡ there.used.uses = uses_among old there.used good.one_shape there.among in
-    let some : 1 ≤ there.used.uses = one_of_all (λ u. 1 ≤ u.uses) old there.used good.used there.among in
+    let some : 1 ≤ there.used.uses = all_at (λ u. 1 ≤ u.uses) old there.used good.used there.among in
     let symbol : there.used.symbol ≡ s = ap (λ p. p.0) there.is in
     let still : 1 ≤ uses_of between s = omega (arith, some, uses, ap (uses_of old) symbol, more s) in
     let here = uses_positive between s still in
@@ -224,8 +225,8 @@ module _ (limit : ℕ) (old : Known) (items : List (ℕ × term.Clause)) (key : 
   key_once d among =
       free_without
       (subst (IsTaken (clauses_of (out.before ++ out.after)))
-      (sym (named_so (name_of d.name) (names_there.listed key d (among_right out.before ((key, c) ∷ out.after) (key, d) (inr among)))))
-      (among_taken (out.before ++ out.after) key d (among_right out.before out.after (key, d) among)))
+      (sym (named_so (name_of d.name) (names_there.listed key d (among_back out.before ((key, c) ∷ out.after) (key, d) (inr among)))))
+      (among_taken (out.before ++ out.after) key d (among_back out.before out.after (key, d) among)))
 
   key_behind : HasKeyAt items (length items - 1) key → 1 ≤ length out.after → HasKey out.after key
   key_behind last some =

@@ -2,9 +2,9 @@ mod EntryLaws
 mod KeptLaws
 mod SolvedLaws
 mod FittingLaws
-mod FlatLaws
+pub mod FlatLaws
 mod FoundLaws
-mod GatherLaws
+pub mod GatherLaws
 mod HalfLaws
 mod IndexedLaws
 mod KnownLaws
@@ -14,6 +14,7 @@ mod NamedLaws
 mod PutLaws
 mod Results
 mod ScreenLaws
+pub mod ShownNames
 mod SlotLaws
 mod StoreLaws
 mod SubsumingLaws

@@ -5,7 +5,8 @@ use Rattle.si_defs.specs.Clauses.{Name}
 use Rattle.si_defs.specs.declared.NameKind.{NameKind}
 use Rattle.si_defs.specs.declared.NameKind.TheVariants.{Word, Int}
 use Rattle.si_sign.specs.Keys.{HasAt}
-use Rattle.si_sign.proofs.SymbolLaws.{text_either}
+use Rattle.si_defs.proofs.SymbolLaws.{text_either}
+use Rattle.si_defs.proofs.NameLaws.{name_is}
 use Rattle.si_index.specs.Names.{key_of_text, of_name_kind, key_of, ChangesName}
 use Rattle.si_index.specs.declared.names.Names.{Names}
 
@@ -15,9 +16,6 @@ same_kind_either Word Word = inl refl
 same_kind_either Int Int = inl refl
 same_kind_either Word Int = inr (λ e. cc)
 same_kind_either Int Word = inr (λ e. cc)
-
-name_is : (m n : Name) → m.kind ≡ n.kind → m.text ≡ n.text → m ≡ n
-name_is m n k t = λ i. record { kind = k i; text = t i }
 
 pub name_either : (m n : Name) → (m ≡ n) ⊎ (m ≡ n → ⊥)
 name_either m n = by (same_kind_either m.kind n.kind) (text_either m.text n.text) where

@@ -1,33 +1,19 @@
 -- Laws of items with keys, and of names that lead to the keys of their clauses.
 use Rattle.std.proofs.Common.{◌≡◌, ◌⊎◌, inl, inr, ℕ, zero, suc, ◌+◌, ◌≤◌, List, [], ◌∷◌, ◌++◌, Some, None, length, slice_get, refl, sym, ap, ◌∙◌, subst, arith, length-append}
+use Rattle.std.proofs.lemmas.Option.{same_Some, none-some}
 use Rattle.si_defs.specs.Clauses as defs
 use Rattle.si_defs.specs.Substitutions.{IsAmong}
+use Rattle.si_defs.proofs.ListLaws.{among_front, among_back, among_parts, get_among, same_head, same_tail, not_empty}
 use Rattle.si_state.specs.Acceptance.{IsTaken}
 use Rattle.si_term.specs.Meaning.{name_of}
 use Rattle.si_term.specs.declared.clause.Clause.{Clause}
-use Rattle.si_sign.proofs.UsesOf.{among_left, among_right, among_append}
 use Rattle.si_index.specs.Keyed.{item_keys, HasKey, IsTakenOut}
 use Rattle.si_index.specs.Kept.{clauses_of}
 use Rattle.si_index.specs.Known.{AreNamed}
 use Rattle.si_index.specs.Names.{key_of, ChangesName}
 use Rattle.si_index.specs.declared.names.Names.{Names}
 use Rattle.si_index.proofs.NameLaws.{name_either}
-use Rattle.si_index.proofs.SlotLaws.{same_some, not_none, key_among}
-
-same_tail : {A : Type 0} {x y : A} {xs ys : List A} → x ∷ xs ≡ y ∷ ys → xs ≡ ys
-same_tail h = cc
-
-same_head : {A : Type 0} {x y : A} {xs ys : List A} → x ∷ xs ≡ y ∷ ys → x ≡ y
-same_head h = cc
-
-not_empty : {A : Type 0} (xs : List A) (y : A) (ys : List A) → [] ≡ xs ++ y ∷ ys → ⊥
-not_empty [] y ys h = cc
-not_empty (x ∷ xs) y ys h = cc
-
-pub get_among : {A : Type 0} (xs : List A) (n : ℕ) (x : A) → slice_get xs n ≡ Some x → IsAmong xs x
-get_among [] n x h = absurd (not_none h)
-get_among (y ∷ xs) zero x h = inl (same_some h)
-get_among (y ∷ xs) (suc n) x h = inr (get_among xs n x h)
+use Rattle.si_index.proofs.SlotLaws.{key_among}
 
 -- what stands last is all that is taken away from there
 split_last : {A : Type 0} (xs before after : List A) (x y : A) → (IsAmong xs y → ⊥) → xs ++ x ∷ [] ≡ before ++ y ∷ after → before ++ after ≡ xs
@@ -46,18 +32,18 @@ module _ {T : Type 0} where
   item_of (x ∷ items) key (inr h) = let found = item_of items key h in (found.0, inr found.1)
 
   pub key_taken : (items : List (ℕ × T)) (key : ℕ) (c : T) (rest : List (ℕ × T)) → IsTakenOut items key c rest → IsAmong items (key, c)
-  key_taken items key c rest out = subst (λ l. IsAmong l (key, c)) (sym out.whole) (among_right out.before ((key, c) ∷ out.after) (key, c) (inl refl))
+  key_taken items key c rest out = subst (λ l. IsAmong l (key, c)) (sym out.whole) (among_back out.before ((key, c) ∷ out.after) (key, c) (inl refl))
 
   -- where the key is fresh, the item that it leads to is the one that was pushed
   pub pushed_item : (items : List (ℕ × T)) (key : ℕ) (c d : T) → (HasKey items key → ⊥) → IsAmong (items ++ (key, c) ∷ []) (key, d) → d ≡ c
-  pushed_item items key c d fresh h = by (among_append items ((key, c) ∷ []) (key, d) h) where
+  pushed_item items key c d fresh h = by (among_parts items ((key, c) ∷ []) (key, d) h) where
     by : IsAmong items (key, d) ⊎ IsAmong {V = ℕ × T} ((key, c) ∷ []) (key, d) → d ≡ c
     by (inl k) = absurd (fresh (key_among items (key, d) k))
     by (inr (inl e)) = ap (λ p. p.1) (sym e)
     by (inr (inr k)) = absurd k
 
   pub pushed_key : (items : List (ℕ × T)) (key : ℕ) (c : T) → HasKey (items ++ (key, c) ∷ []) key
-  pushed_key items key c = key_among (items ++ (key, c) ∷ []) (key, c) (among_right items ((key, c) ∷ []) (key, c) (inl refl))
+  pushed_key items key c = key_among (items ++ (key, c) ∷ []) (key, c) (among_back items ((key, c) ∷ []) (key, c) (inl refl))
 
   pub taken_back : (items : List (ℕ × T)) (key : ℕ) (c d : T) (new : List (ℕ × T)) → (HasKey items key → ⊥) → IsTakenOut (items ++ (key, c) ∷ []) key d new
       → new ≡ items
@@ -92,13 +78,13 @@ module _ (items : List (ℕ × Clause)) (names : Names) (are : AreNamed items na
   pub unknown_free : (n : defs.Name) → key_of names n ≡ None → IsTaken (clauses_of items) n → ⊥
   unknown_free n h taken =
       let found = taken_among items n taken in
-      not_none (sym h ∙ ap (key_of names) (sym found.2) ∙ are.listed found.0.0 found.0.1 found.1)
+      none-some _ (sym h ∙ ap (key_of names) (sym found.2) ∙ are.listed found.0.0 found.0.1 found.1)
 
 -- ---- a clause more
 module _ (items : List (ℕ × Clause)) (key : ℕ) (c : Clause) (old new : Names) (are : AreNamed items old) (fresh : HasKey items key → ⊥)
     (free : key_of old (name_of c.name) ≡ None) (change : ChangesName (name_of c.name) (Some key) (key_of old) (key_of new)) where
   own_key : (n : defs.Name) (k : ℕ) → key_of new n ≡ Some k → n ≡ name_of c.name → key ≡ k
-  own_key n k h e = same_some (sym change.here ∙ ap (key_of new) (sym e) ∙ h)
+  own_key n k h e = same_Some _ _ (sym change.here ∙ ap (key_of new) (sym e) ∙ h)
 
   other_key : (n : defs.Name) (k : ℕ) → key_of new n ≡ Some k → (n ≡ name_of c.name → ⊥) → key_of old n ≡ Some k
   other_key n k h f = sym (change.others n f) ∙ h
@@ -107,7 +93,7 @@ module _ (items : List (ℕ × Clause)) (key : ℕ) (c : Clause) (old new : Name
   more_there n k h (inl e) = subst (HasKey (items ++ (key, c) ∷ [])) (own_key n k h e) (pushed_key items key c)
   more_there n k h (inr f) =
       let found = item_of items k (are.there n k (other_key n k h f)) in
-      key_among (items ++ (key, c) ∷ []) (k, found.0) (among_left items ((key, c) ∷ []) (k, found.0) found.1)
+      key_among (items ++ (key, c) ∷ []) (k, found.0) (among_front items ((key, c) ∷ []) (k, found.0) found.1)
 
   more_named : (n : defs.Name) (k : ℕ) → key_of new n ≡ Some k → (d : Clause) → (n ≡ name_of c.name) ⊎ (n ≡ name_of c.name → ⊥)
       → IsAmong items (k, d) ⊎ IsAmong {V = ℕ × Clause} ((key, c) ∷ []) (k, d) → name_of d.name ≡ n
@@ -121,7 +107,7 @@ module _ (items : List (ℕ × Clause)) (key : ℕ) (c : Clause) (old new : Name
   more_listed : (k : ℕ) (d : Clause) → IsAmong items (k, d) ⊎ IsAmong {V = ℕ × Clause} ((key, c) ∷ []) (k, d) → key_of new (name_of d.name) ≡ Some k
   more_listed k d (inl among) =
       let known = are.listed k d among in
-      change.others (name_of d.name) (λ e. not_none (sym free ∙ ap (key_of old) (sym e) ∙ known)) ∙ known
+      change.others (name_of d.name) (λ e. none-some _ (sym free ∙ ap (key_of old) (sym e) ∙ known)) ∙ known
   more_listed k d (inr (inl is)) =
       ap (λ (p : ℕ × Clause). key_of new (name_of p.1.name)) (sym is) ∙ change.here ∙ ap (λ (p : ℕ × Clause). Some p.0) is
   more_listed k d (inr (inr among)) = absurd among
@@ -129,31 +115,31 @@ module _ (items : List (ℕ × Clause)) (key : ℕ) (c : Clause) (old new : Name
   pub named_more : AreNamed (items ++ (key, c) ∷ []) new
   named_more = record {
     there = λ n k h. more_there n k h (name_either n (name_of c.name));
-    named = λ n k h d among. more_named n k h d (name_either n (name_of c.name)) (among_append items ((key, c) ∷ []) (k, d) among);
-    listed = λ k d among. more_listed k d (among_append items ((key, c) ∷ []) (k, d) among);
+    named = λ n k h d among. more_named n k h d (name_either n (name_of c.name)) (among_parts items ((key, c) ∷ []) (k, d) among);
+    listed = λ k d among. more_listed k d (among_parts items ((key, c) ∷ []) (k, d) among);
   }
 
 -- ---- a clause less
 module _ (before : List (ℕ × Clause)) (key : ℕ) (c : Clause) (after : List (ℕ × Clause)) (old new : Names) (are : AreNamed (before ++ (key, c) ∷ after) old)
     (free : IsTaken (clauses_of (before ++ after)) (name_of c.name) → ⊥) (change : ChangesName (name_of c.name) None (key_of old) (key_of new)) where
   still : (n : defs.Name) (k : ℕ) → key_of new n ≡ Some k → (n ≡ name_of c.name) ⊎ (n ≡ name_of c.name → ⊥) → (key_of old n ≡ Some k) × (n ≡ name_of c.name → ⊥)
-  still n k h (inl e) = absurd (not_none (sym change.here ∙ ap (key_of new) (sym e) ∙ h))
+  still n k h (inl e) = absurd (none-some _ (sym change.here ∙ ap (key_of new) (sym e) ∙ h))
   still n k h (inr f) = (sym (change.others n f) ∙ h, f)
 
   around : (k : ℕ) (d : Clause) → IsAmong (before ++ after) (k, d) → IsAmong (before ++ (key, c) ∷ after) (k, d)
-  around k d h = by (among_append before after (k, d) h) where
+  around k d h = by (among_parts before after (k, d) h) where
     by : IsAmong before (k, d) ⊎ IsAmong after (k, d) → IsAmong (before ++ (key, c) ∷ after) (k, d)
-    by (inl among) = among_left before ((key, c) ∷ after) (k, d) among
-    by (inr among) = among_right before ((key, c) ∷ after) (k, d) (inr among)
+    by (inl among) = among_front before ((key, c) ∷ after) (k, d) among
+    by (inr among) = among_back before ((key, c) ∷ after) (k, d) (inr among)
 
   less_there : (n : defs.Name) (k : ℕ) → (key_of old n ≡ Some k) × (n ≡ name_of c.name → ⊥) → HasKey (before ++ after) k
   less_there n k h =
       let found = item_of (before ++ (key, c) ∷ after) k (are.there n k h.0) in
-      by found.0 (are.named n k h.0 found.0 found.1) (among_append before ((key, c) ∷ after) (k, found.0) found.1) where
+      by found.0 (are.named n k h.0 found.0 found.1) (among_parts before ((key, c) ∷ after) (k, found.0) found.1) where
         by : (d : Clause) → name_of d.name ≡ n → IsAmong before (k, d) ⊎ IsAmong {V = ℕ × Clause} ((key, c) ∷ after) (k, d) → HasKey (before ++ after) k
-        by d e (inl among) = key_among (before ++ after) (k, d) (among_left before after (k, d) among)
+        by d e (inl among) = key_among (before ++ after) (k, d) (among_front before after (k, d) among)
         by d e (inr (inl is)) = absurd (h.1 (sym e ∙ ap (λ (p : ℕ × Clause). name_of p.1.name) (sym is)))
-        by d e (inr (inr among)) = key_among (before ++ after) (k, d) (among_right before after (k, d) among)
+        by d e (inr (inr among)) = key_among (before ++ after) (k, d) (among_back before after (k, d) among)
 
   less_listed : (k : ℕ) (d : Clause) → IsAmong (before ++ after) (k, d) → key_of new (name_of d.name) ≡ Some k
   less_listed k d among =

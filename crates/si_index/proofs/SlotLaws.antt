@@ -1,17 +1,12 @@
 -- Laws of slots with holes: what is kept there, and how many stand before a place.
 use Rattle.std.proofs.Common.{suc, zero, ◌≡◌, ◌<◌, ◌≤◌, ◌+◌, ℕ, List, [], ◌∷◌, ◌++◌, Option, Some, None, is_some, length, take, drop, slice_index_or, slice_set, slice_get, inl, inr, refl, ◌∙◌, ap, subst, arith}
+use Rattle.std.proofs.lemmas.Option.{same_Some, none-some}
 use Rattle.std.specs.List.{filter}
 use Rattle.si_defs.specs.Substitutions.{IsAmong}
 use Rattle.si_index.specs.Halves.{sum_of}
 use Rattle.si_index.specs.Keyed.{item_keys, HasKey, IsTakenOut}
 use Rattle.si_index.specs.KeyedSlots.{kept, flags, HoldsAt}
 use Rattle.si_index.specs.declared.keyed.Kept.{Kept}
-
-pub same_some : {X : Type 0} {x y : X} → Some x ≡ Some y → x ≡ y
-same_some h = cc
-
-pub not_none : {X : Type 0} {x : X} → None ≡ Some x → ⊥
-not_none h = cc
 
 get_next : {X : Type 0} (x : X) (xs : List X) (n : ℕ) → slice_get (x ∷ xs) (1 + n) ≡ slice_get xs n
 get_next x xs n = subst (λ m. slice_get (x ∷ xs) m ≡ slice_get xs n) {x = suc n} (omega arith) refl
@@ -22,7 +17,7 @@ module _ {T : Type 0} where
   entry k = (k.key, k.item)
 
   pub stands_inside : (slots : List (Option (Kept T))) (place : ℕ) (k : Kept T) → HoldsAt slots place k → place < length slots
-  stands_inside [] place k h = absurd (not_none h)
+  stands_inside [] place k h = absurd (none-some _ h)
   stands_inside (s ∷ slots) zero k h = omega arith
   stands_inside (s ∷ slots) (suc place) k h = omega (arith, stands_inside slots place k h)
 
@@ -40,15 +35,15 @@ module _ {T : Type 0} where
   -- ---- an item taken out
   pub kept_around : (slots : List (Option (Kept T))) (place : ℕ) (k : Kept T) → HoldsAt slots place k
       → kept slots ≡ kept (take place slots) ++ entry k ∷ kept (drop (suc place) slots)
-  kept_around [] place k h = absurd (not_none h)
-  kept_around (None ∷ slots) zero k h = absurd (not_none h)
-  kept_around (Some j ∷ slots) zero k h = ap (λ i. entry i ∷ kept slots) (same_some h)
+  kept_around [] place k h = absurd (none-some _ h)
+  kept_around (None ∷ slots) zero k h = absurd (none-some _ h)
+  kept_around (Some j ∷ slots) zero k h = ap (λ i. entry i ∷ kept slots) (same_Some _ _ h)
   kept_around (None ∷ slots) (suc place) k h = kept_around slots place k h
   kept_around (Some j ∷ slots) (suc place) k h = ap (λ l. entry j ∷ l) (kept_around slots place k h)
 
   kept_without : (slots : List (Option (Kept T))) (place : ℕ) (k : Kept T) → HoldsAt slots place k
       → kept (slice_set slots place None) ≡ kept (take place slots) ++ kept (drop (suc place) slots)
-  kept_without [] place k h = absurd (not_none h)
+  kept_without [] place k h = absurd (none-some _ h)
   kept_without (s ∷ slots) zero k h = refl
   kept_without (None ∷ slots) (suc place) k h = kept_without slots place k h
   kept_without (Some j ∷ slots) (suc place) k h = ap (λ l. entry j ∷ l) (kept_without slots place k h)
@@ -63,8 +58,8 @@ module _ {T : Type 0} where
   }
 
   pub flag_there : (slots : List (Option (Kept T))) (place : ℕ) (k : Kept T) → HoldsAt slots place k → slice_index_or (flags slots) place 0 ≡ 1
-  flag_there [] place k h = absurd (not_none h)
-  flag_there (None ∷ slots) zero k h = absurd (not_none h)
+  flag_there [] place k h = absurd (none-some _ h)
+  flag_there (None ∷ slots) zero k h = absurd (none-some _ h)
   flag_there (Some j ∷ slots) zero k h = refl
   flag_there (None ∷ slots) (suc place) k h = flag_there slots place k h
   flag_there (Some j ∷ slots) (suc place) k h = flag_there slots place k h
@@ -96,9 +91,9 @@ module _ {T : Type 0} where
   -- the item at a place has as many before it as stand at the places before
   pub rank_there : (slots : List (Option (Kept T))) (place : ℕ) (k : Kept T) → HoldsAt slots place k
       → slice_get (kept slots) (sum_of (take place (flags slots))) ≡ Some (entry k)
-  rank_there [] place k h = absurd (not_none h)
-  rank_there (None ∷ slots) zero k h = absurd (not_none h)
-  rank_there (Some j ∷ slots) zero k h = ap (λ i. Some (entry i)) (same_some h)
+  rank_there [] place k h = absurd (none-some _ h)
+  rank_there (None ∷ slots) zero k h = absurd (none-some _ h)
+  rank_there (Some j ∷ slots) zero k h = ap (λ i. Some (entry i)) (same_Some _ _ h)
   rank_there (None ∷ slots) (suc place) k h =
       subst (λ m. slice_get (kept slots) m ≡ Some (entry k)) {x = sum_of (take place (flags slots))} (omega arith) (rank_there slots place k h)
   rank_there (Some j ∷ slots) (suc place) k h = get_next (entry j) (kept slots) (sum_of (take place (flags slots))) ∙ rank_there slots place k h
@@ -124,15 +119,15 @@ module _ {T : Type 0} where
       )
 
   pub key_at : (items : List (ℕ × T)) (position : ℕ) (e : ℕ × T) → slice_get items position ≡ Some e → slice_get (item_keys items) position ≡ Some e.0
-  key_at [] position e h = absurd (not_none h)
-  key_at (x ∷ items) zero e h = ap (λ y. Some y.0) (same_some h)
+  key_at [] position e h = absurd (none-some _ h)
+  key_at (x ∷ items) zero e h = ap (λ y. Some y.0) (same_Some _ _ h)
   key_at (x ∷ items) (suc position) e h = key_at items position e h
 
   -- ---- keys
   pub among_there : (slots : List (Option (Kept T))) (place : ℕ) (k : Kept T) → HoldsAt slots place k → IsAmong (kept slots) (entry k)
-  among_there [] place k h = absurd (not_none h)
-  among_there (None ∷ slots) zero k h = absurd (not_none h)
-  among_there (Some j ∷ slots) zero k h = inl (ap (λ i. entry i) (same_some h))
+  among_there [] place k h = absurd (none-some _ h)
+  among_there (None ∷ slots) zero k h = absurd (none-some _ h)
+  among_there (Some j ∷ slots) zero k h = inl (ap (λ i. entry i) (same_Some _ _ h))
   among_there (None ∷ slots) (suc place) k h = among_there slots place k h
   among_there (Some j ∷ slots) (suc place) k h = inr (among_there slots place k h)
 

@@ -18,13 +18,15 @@ at_position position e = (position, e)
 -- the entries of these clauses, in order, of which the first has the position k
 abbrev pub entries_from_position : ℕ → List Clause → List (ℕ × Placed)
 entries_from_position k [] = []
-entries_from_position k (c ∷ cs) = map (at_position k) (entries c) ++ entries_from_position (1 + k) cs
+entries_from_position k (c ∷ cs) =
+    map (at_position k) (entries c) ++ entries_from_position (1 + k) cs
 
 -- of these entries, in order, exactly those that stand in the relation
 abbrev pub AreHits : Relation → Pattern → List (ℕ × Placed) → List (ℕ × Placed) → Type 0
 AreHits relation pattern [] hits = hits ≡ []
 AreHits relation pattern (e ∷ es) hits =
-    (Stands relation pattern e.1.entry × ((others : List (ℕ × Placed)) × AreHits relation pattern es others × (hits ≡ e ∷ others)))
+    (Stands relation pattern e.1.entry
+    × ((others : List (ℕ × Placed)) × AreHits relation pattern es others × (hits ≡ e ∷ others)))
     ⊎ ((Stands relation pattern e.1.entry → ⊥) × AreHits relation pattern es hits)
 
 -- where a hit stands
@@ -54,7 +56,8 @@ pattern_back (literal_pattern l) = refl
 pattern_back (term_pattern t) = refl
 
 abbrev pattern_code : Coded Pattern
-pattern_code = code_by (Literal ⊎ Term) (coded⊎ literal_code term_code) pattern_parts pattern_from pattern_back
+pattern_code =
+    code_by (Literal ⊎ Term) (coded⊎ literal_code term_code) pattern_parts pattern_from pattern_back
 
 abbrev entry_parts : Entry → Literal ⊎ Term
 entry_parts (literal_entry l) = inl l
@@ -79,7 +82,9 @@ placed_code =
 abbrev pub finding_code : Coded Finding
 finding_code =
     code_by (Kept × (Relation × (Pattern × List (ℕ × Placed))))
-    (coded× kept_code (coded× relation_contracts.the_row.coded (coded× pattern_code (coded_list (coded× coded_ℕ placed_code)))))
+    (coded× kept_code
+    (coded× relation_contracts.the_row.coded
+    (coded× pattern_code (coded_list (coded× coded_ℕ placed_code)))))
     (λ f. (f.index, (f.relation, (f.pattern, f.hits))))
     (λ p. record { index = p.0; relation = p.1.0; pattern = p.1.1.0; hits = p.1.1.1 })
     (λ _. refl)
@@ -87,4 +92,5 @@ finding_code =
 -- the clause of the hit with this number
 abbrev pub IsClauseOf : Finding → ℕ → Clause → Type 0
 IsClauseOf finding n c =
-    (hit : ℕ × Placed) × (slice_get finding.hits n ≡ Some hit) × (slice_get finding.index.clauses hit.0 ≡ Some c)
+    (hit : ℕ × Placed) × (slice_get finding.hits n ≡ Some hit)
+    × (slice_get finding.index.clauses hit.0 ≡ Some c)

@@ -13,11 +13,13 @@ abbrev pub Witness : Type 0
 Witness = Substitution Symbol Variable × Substitution Symbol Variable
 
 abbrev pub Becomes : Relation → Witness → Term → Term → Type 0
-Becomes Unifiable w q u = apply same_variable w.0 (pattern_term q) ≡ apply same_variable w.0 (entry_term u)
+Becomes Unifiable w q u =
+    apply same_variable w.0 (pattern_term q) ≡ apply same_variable w.0 (entry_term u)
 Becomes Instances w q u = apply same_variable w.0 (pattern_term q) ≡ entry_term u
 Becomes Generalizations w q u = apply same_variable w.1 (entry_term u) ≡ pattern_term q
 Becomes Variants w q u =
-    (apply same_variable w.0 (pattern_term q) ≡ entry_term u) × (apply same_variable w.1 (entry_term u) ≡ pattern_term q)
+    (apply same_variable w.0 (pattern_term q) ≡ entry_term u)
+    × (apply same_variable w.1 (entry_term u) ≡ pattern_term q)
 
 -- the same of terms in two rows, as far as both go
 abbrev pub BecomeAll : Relation → Witness → Terms → Terms → Type 0

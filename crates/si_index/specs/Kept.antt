@@ -25,7 +25,8 @@ kept_code =
 
 -- a symbol that has a number at both times has the same
 abbrev pub NumbersStay : Kept → Kept → Type 0
-NumbersStay old new = (s : Symbol) (m n : ℕ) → IsAmong old.numbers (s, m) → IsAmong new.numbers (s, n) → m ≡ n
+NumbersStay old new = (s : Symbol) (m n : ℕ) → IsAmong old.numbers (s, m)
+    → IsAmong new.numbers (s, n) → m ≡ n
 
 -- the clauses of a list where they go by keys
 abbrev pub clauses_of : List (ℕ × term.Clause) → List Clause

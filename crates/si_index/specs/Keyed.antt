@@ -16,7 +16,8 @@ module _ {T : Type 0} where
   HasKeyAt items position key = slice_get (item_keys items) position ≡ Some key
 
   -- the item with this key was taken from between the others
-  pub record IsTakenOut (old : List (ℕ × T)) (key : ℕ) (item : T) (new : List (ℕ × T)) : Type 0 where
+  pub record IsTakenOut (old : List (ℕ × T)) (key : ℕ) (item : T)
+      (new : List (ℕ × T)) : Type 0 where
     pub before : List (ℕ × T)
     pub after : List (ℕ × T)
     pub whole : old ≡ before ++ (key, item) ∷ after

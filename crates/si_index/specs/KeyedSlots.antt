@@ -35,7 +35,8 @@ module _ {T : Type 0} where
     pub only : (key place : ℕ) → place_of key ≡ Some place → HasKey items key
 
   -- the table of places leads to the items, and the ranks count them
-  pub record IsIndexed (slots : List (Option (Kept T))) (places : Slab ℕ) (ranks : List ℕ) : Type 0 where
+  pub record IsIndexed (slots : List (Option (Kept T))) (places : Slab ℕ)
+      (ranks : List ℕ) : Type 0 where
     pub linked : IsLinked slots (λ key. get places key)
     pub number : slab_len places ≡ length (kept slots)
     pub counted : ranks ≡ flags slots

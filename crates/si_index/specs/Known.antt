@@ -22,7 +22,8 @@ pub record AreNamed (items : List (ℕ × term.Clause)) (names : Names) : Type 0
   pub there : (name : Name) (key : ℕ) → key_of names name ≡ Some key → HasKey items key
   pub named : (name : Name) (key : ℕ) → key_of names name ≡ Some key
       → (c : term.Clause) → IsAmong items (key, c) → name_of c.name ≡ name
-  pub listed : (key : ℕ) (c : term.Clause) → IsAmong items (key, c) → key_of names (name_of c.name) ≡ Some key
+  pub listed : (key : ℕ) (c : term.Clause) → IsAmong items (key, c)
+      → key_of names (name_of c.name) ≡ Some key
 
 -- it is what is known of these clauses; a symbol heads each of their entries
 pub record IsKnownOf (items : List (ℕ × term.Clause)) (known : Known) : Type 0 where
@@ -31,7 +32,8 @@ pub record IsKnownOf (items : List (ℕ × term.Clause)) (known : Known) : Type 
   pub counted : total known.signature ≡ length (state_entries (clauses_of items))
 
 -- the clause is put last, and its name leads to its key
-pub record IsPut (clause : term.Clause) (items new : List (ℕ × term.Clause)) (old names : Names) : Type 0 where
+pub record IsPut (clause : term.Clause) (items new : List (ℕ × term.Clause))
+    (old names : Names) : Type 0 where
   pub key : ℕ
   pub fresh : HasKey items key → ⊥
   pub pushed : new ≡ items ++ (key, clause) ∷ []
@@ -46,14 +48,16 @@ pub record Admits (limit : ℕ) (known : Known) (clause : Clause) : Type 0 where
 -- the symbols of the clause are entered
 pub record Enters (clause : Clause) (old new : Known) : Type 0 where
   pub names : new.names ≡ old.names
-  pub uses : (s : Symbol) → uses_of new.signature s ≡ uses_of old.signature s + times s (clause_symbols clause)
+  pub uses : (s : Symbol)
+      → uses_of new.signature s ≡ uses_of old.signature s + times s (clause_symbols clause)
   pub sum : total new.signature ≡ total old.signature + length (clause_symbols clause)
   pub numbers : KeepsNumbers old.signature new.signature
 
 -- the clause is struck out
 pub record Leaves (clause : Clause) (old new : Known) : Type 0 where
   pub name : ChangesName clause.name None (key_of old.names) (key_of new.names)
-  pub uses : (s : Symbol) → uses_of new.signature s + times s (clause_symbols clause) ≡ uses_of old.signature s
+  pub uses : (s : Symbol)
+      → uses_of new.signature s + times s (clause_symbols clause) ≡ uses_of old.signature s
   pub sum : total new.signature + length (clause_symbols clause) ≡ total old.signature
   pub numbers : KeepsNumbers old.signature new.signature
 
@@ -68,8 +72,11 @@ pub record Stays (old new : Known) : Type 0 where
 abbrev pub Bars : ℕ → Known → Clause → AddFault → Type 0
 Bars limit known clause add_fault.Taken = IsSome (key_of known.names clause.name)
 Bars limit known clause (add_fault.Clash c) =
-    (key_of known.names clause.name ≡ None) × NamesFirstClash (known_symbols known.signature) (clause_symbols clause) c
+    (key_of known.names clause.name ≡ None)
+    × NamesFirstClash (known_symbols known.signature) (clause_symbols clause) c
 Bars limit known clause (add_fault.Full needed most) =
-    (key_of known.names clause.name ≡ None) × AllAgree (known_symbols known.signature) (clause_symbols clause)
-    × (limit < needed) × (needed ≡ total known.signature + length (clause_symbols clause)) × (most ≡ limit)
+    (key_of known.names clause.name ≡ None)
+    × AllAgree (known_symbols known.signature) (clause_symbols clause)
+    × (limit < needed) × (needed ≡ total known.signature + length (clause_symbols clause))
+    × (most ≡ limit)
 Bars limit known clause add_fault.Memory = Unit {0}

@@ -19,7 +19,9 @@ of_name_kind word integer Int = integer
 
 -- the key of a name
 abbrev pub key_of : Names → Name → Option ℕ
-key_of names name = of_name_kind (key_of_text names.words name.text) (key_of_text names.integers name.text) name.kind
+key_of names name =
+    of_name_kind (key_of_text names.words name.text)
+    (key_of_text names.integers name.text) name.kind
 
 -- the name has this now, and each other one has what it had
 pub record ChangesName (name : Name) (is : Option ℕ) (old new : Name → Option ℕ) : Type 0 where

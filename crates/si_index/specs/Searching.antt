@@ -1,12 +1,12 @@
 -- A search through the entries of clauses: what it is made of, what it asks of the entries, and
 -- what it has gathered.
-use Rattle.std.specs.Prelude.{◌≡◌, ℕ, ◌≤◌, List, [], ◌∷◌, ◌++◌, length, map, Option, Some, None, slice_get, bytes_eq}
+use Rattle.std.specs.Prelude.{◌≡◌, ℕ, ◌≤◌, List, [], ◌∷◌, ◌++◌, length, map, Option, Some, None, slice_get}
 use Rattle.std.specs.List.{AllByRecursion}
 use Rattle.si_defs.specs.Bytes.{Bytes}
-use Rattle.si_defs.specs.Terms.{size, sizes, symbols, symbols_of_all, firsts}
+use Rattle.si_defs.specs.Terms.{size, sizes, symbols, symbols_of_all}
 use Rattle.si_defs.specs.Symbols.{Numbering, IsNumbering}
 use Rattle.si_defs.specs.Clauses.{Term, Terms, Clause, Pattern, literal_pattern, term_pattern, IsSoundTerm, AreSoundTerms, IsSoundClause, IsSoundPattern}
-use Rattle.si_defs.specs.Entries.{Entry, literal_entry, term_entry, Placed, entry_variables, pattern_entry, clause_symbols}
+use Rattle.si_defs.specs.Entries.{Entry, literal_entry, term_entry, Placed, pattern_entry, clause_symbols, distinct_variables}
 use Rattle.si_defs.specs.Variables.{Solution}
 use Rattle.si_defs.specs.declared.TheConstants.{MOST_OCCURRENCES}
 use Rattle.si_defs.specs.declared.Relation.{Relation}
@@ -77,17 +77,16 @@ pub record HasSolution (relation : Relation) (p : Pattern) (e : Entry) : Type 0 
   pub solution : Solution
   pub solves : Solves relation p e solution
 
-abbrev pub names_in : Entry → List Bytes
-names_in e = firsts bytes_eq (entry_variables e)
-
 -- the entry stands in the relation, and the bindings stand for its canonical list
-pub record SolvesEntry (relation : Relation) (numbers : Numbering) (p : Pattern) (e : Entry) (bindings : List Binding) : Type 0 where
+pub record SolvesEntry (relation : Relation) (numbers : Numbering) (p : Pattern) (e : Entry)
+    (bindings : List Binding) : Type 0 where
   pub stands : Stands relation p e
   pub solution : Solution
   pub solves : Solves relation p e solution
   pub parts : AllByRecursion (IsBindingOf (whole_of (pattern_entry p)) (whole_of e)) solution
   pub symbols : HaveNumbers numbers (symbols_of (whole_of (pattern_entry p)) (whole_of e))
-  pub list : StandsForList bindings (list_by (number_in numbers) (variable_by (names_in (pattern_entry p)) (names_in e)) solution)
+  pub list : StandsForList bindings
+      (list_by (number_in numbers) (variable_by (distinct_variables (pattern_entry p)) (distinct_variables e)) solution)
 
 abbrev pub AnswersEntry : Relation → Numbering → Pattern → Entry → Option (List Binding) → Type 0
 AnswersEntry relation numbers p e None = Stands relation p e → ⊥
@@ -95,8 +94,9 @@ AnswersEntry relation numbers p e (Some bindings) = SolvesEntry relation numbers
 
 -- by the numbers of the search, with the names of the entry's variables
 pub record SolvesIn (s : Search) (e : Entry) (solved : Solved) : Type 0 where
-  pub list : SolvesEntry s.relation (query_numbers (numbers_of s) s.query.extra) (pattern_in s) e solved.solution
-  pub are_names : map (λ name. name.now) solved.entry_names.items ≡ names_in e
+  pub list : SolvesEntry s.relation (query_numbers (numbers_of s) s.query.extra)
+      (pattern_in s) e solved.solution
+  pub are_names : map (λ name. name.now) solved.entry_names.items ≡ distinct_variables e
 
 abbrev pub AnswersIn : Search → Entry → Option Solved → Type 0
 AnswersIn s e None = Stands s.relation (pattern_in s) e → ⊥
@@ -110,14 +110,12 @@ IsThere s position c = slice_get s.index.now.clauses position ≡ Some c
 abbrev pub IsSpot : Search → Spot → Type 0
 IsSpot s spot = IsThere s spot.position (clause_of spot.clause.now)
 
--- the list with this number solves the entry; where there is no number, the entry doesn't stand in the relation
+-- the list with this number solves the entry; where there is no number, the entry doesn't stand in
+-- the relation
 abbrev pub HasList : Search → Entry → (lists : List Solved) → Option ℕ → Type 0
 HasList s e lists None = Stands s.relation (pattern_in s) e → ⊥
-HasList s e lists (Some n) = (solved : Solved) × slice_get lists n ≡ Some solved × SolvesIn s e solved
-
--- the first list begins the second
-abbrev pub IsAtFront : {T : Type 0} → List T → List T → Type 0
-IsAtFront front whole = (more : _) × whole ≡ front ++ more
+HasList s e lists (Some n) =
+    (solved : Solved) × slice_get lists n ≡ Some solved × SolvesIn s e solved
 
 -- an entry that stands in the relation, with the number of its list, and the clause of its position
 pub record IsMatch (s : Search) (lists : List Solved) (m : Match) : Type 0 where
@@ -132,7 +130,8 @@ abbrev pub hit_of : Match → ℕ × Placed
 hit_of m = (m.hit.clause, record { entry = entry_of m.entry; place = place_of m.hit.place })
 
 -- those of these entries were added that stand in the relation
-pub record Adds (s : Search) (es : List (ℕ × Placed)) (old : List Match) (new : Matches) : Type 0 where
+pub record Adds (s : Search) (es : List (ℕ × Placed)) (old : List Match)
+    (new : Matches) : Type 0 where
   pub more : List Match
   pub appended : new.found.items ≡ old ++ more
   pub each : AreMatches s new
@@ -145,19 +144,25 @@ pub record Gathers (s : Search) (es : List (ℕ × Placed)) (ms : Matches) : Typ
 
 -- an entry at the end of a path in a literal
 abbrev pub placed_at : Spot → (path : List ℕ) → Entry → ℕ × Placed
-placed_at spot path e = (spot.position, record { entry = e; place = record { literal = spot.literal; path = path } })
+placed_at spot path e =
+    (spot.position, record { entry = e; place = record { literal = spot.literal; path = path } })
 
 -- subterms of the literal with this number, each at the end of a path
 abbrev pub placed_under : ℕ → ℕ → List ℕ → List (List ℕ × Term) → List (ℕ × Placed)
 placed_under position number path [] = []
-placed_under position number path (o ∷ os) =
-    (position, record { entry = term_entry o.1; place = record { literal = number; path = path ++ o.0 } })
+placed_under position number path (o ∷ os) = (
+  position,
+  record {
+    entry = term_entry o.1;
+    place = record { literal = number; path = path ++ o.0 };
+  },
+)
     ∷ placed_under position number path os
 
 -- what was found in an index: no more than its clauses may have
 pub record IsFound (s : Search) (query_names : List Bytes) (ms : Matches) : Type 0 where
   pub numbers : numbers_of s ≡ s.index.now.numbers
   pub ready : IsReady s
-  pub names : query_names ≡ names_in (pattern_entry (pattern_in s))
+  pub names : query_names ≡ distinct_variables (pattern_entry (pattern_in s))
   pub few : length ms.found.items ≤ MOST_OCCURRENCES
   pub each : AreMatches s ms

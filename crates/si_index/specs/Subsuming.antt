@@ -1,4 +1,5 @@
--- The kept clauses that subsume a formula, and those that it subsumes: by position, each with its map.
+-- The kept clauses that subsume a formula, and those that it subsumes: by position, each with its
+-- map.
 use Rattle.std.specs.Prelude.{◌≡◌, ◌⊎◌, ℕ, suc, List, [], ◌∷◌, ◌++◌}
 use Rattle.si_defs.specs.Clauses.{Literal, Clause}
 use Rattle.si_state.specs.Subsumption.{IsMap, IsLeast}
@@ -22,7 +23,8 @@ IsMapIn FromFormula formula ls = IsMap formula ls
 
 -- The clause at this position was tried: it is named behind the others if it has a map, and with
 -- the least.
-abbrev pub Tries : (List Literal → List ℕ → Type 0) → ℕ → Clause → List Mapped → List Mapped → Type 0
+abbrev pub Tries : (List Literal → List ℕ → Type 0) → ℕ → Clause → List Mapped
+    → List Mapped → Type 0
 Tries P k c old new =
     ((m : Mapped) × (m.clause ≡ k) × IsLeast (P c.literals) m.map × (new ≡ old ++ m ∷ []))
     ⊎ (((ns : List ℕ) → P c.literals ns → ⊥) × (new ≡ old))

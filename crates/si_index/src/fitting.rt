@@ -9,8 +9,8 @@ ghost use Rattle.si_index.specs.Fitting.{Witness, Becomes, BecomeAll, KeepsQuery
 use si_defs::Relation;
 use si_term::{Sym, Term};
 
-/// Whether no place of two terms forbids the relation. Both are walked over, as far as variables of
-/// either, and no memory is taken.
+/// `false` only where the terms don't stand in the relation. Both are walked over, as far as
+/// variables of either, and no memory is taken.
 pub(crate) fn fits(relation: Relation, query: &Term, term: &Term) -> bool
     ensures { IsFalse result
         → TextsRelate relation (term_of query.now) (term_of term.now) → ⊥ }
@@ -18,7 +18,7 @@ pub(crate) fn fits(relation: Relation, query: &Term, term: &Term) -> bool
     may_become(relation, query, term)
 }
 
-/// Whether some substitutions may make the terms stand in the relation.
+/// `false` only where no substitutions make the terms stand in the relation.
 #[cycle(fitting)]
 pub(crate) fn may_become(relation: Relation, query: &Term, term: &Term) -> bool
     ensures { IsFalse result → (w : Witness)
@@ -49,7 +49,7 @@ fn all_may_become(relation: Relation, queries: &[Term], terms: &[Term]) -> bool
     true
 }
 
-/// Whether variables of the pattern may stand for applications.
+/// `false` only where no variable of the pattern stands for an application.
 fn binds_query(relation: Relation) -> bool
     ensures { IsFalse result → KeepsQuery relation }
 {
@@ -59,7 +59,7 @@ fn binds_query(relation: Relation) -> bool
     }
 }
 
-/// Whether variables of the entry may.
+/// `false` only where none of the entry does.
 fn binds_entry(relation: Relation) -> bool
     ensures { IsFalse result → KeepsEntry relation }
 {

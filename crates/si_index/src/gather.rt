@@ -1,6 +1,7 @@
 // The walk through the entries of clauses, which gathers those that stand in a relation.
 ghost use Rattle.std.specs.Prelude.{◌≡◌, ◌<◌, ◌+◌, [], ◌∷◌, ◌++◌, IfOk, OnOk, map, length};
 ghost use Rattle.std.specs.List.{AllByRecursion};
+ghost use Rattle.si_defs.specs.Substitutions.{Grows};
 ghost use Rattle.si_defs.specs.Terms.{row, occurrences, occurrences_from};
 ghost use Rattle.si_defs.specs.Clauses.{literal_pattern};
 ghost use Rattle.si_defs.specs.Entries.{literal_entry, literal_entries, entries};
@@ -8,7 +9,7 @@ ghost use Rattle.si_defs.specs.declared.TheConstants.{MOST_OCCURRENCES};
 ghost use Rattle.si_term.specs.Terms.{term_of};
 ghost use Rattle.si_term.specs.Meaning.{literal_of, clause_of, entry_of};
 ghost use Rattle.si_index.specs.Finding.{at_position, entries_from_position};
-ghost use Rattle.si_index.specs.Searching.{numbers_of, pattern_in, IsReady, IsTermPattern, IsSpot, IsThere, AreAlike, IsKnownTerm, AreKnownTerms, IsKnownEntry, IsKnownClause, HasList, IsAtFront, AreMatches, Adds, Gathers, placed_at, placed_under};
+ghost use Rattle.si_index.specs.Searching.{numbers_of, pattern_in, IsReady, IsTermPattern, IsSpot, IsThere, AreAlike, IsKnownTerm, AreKnownTerms, IsKnownEntry, IsKnownClause, HasList, AreMatches, Adds, Gathers, placed_at, placed_under};
 
 use crate::found::Hit;
 use crate::same::is_same_entry;
@@ -153,7 +154,7 @@ fn make_list<'a>(
     requires known { IsKnownEntry (numbers_of search.now) (entry_of entry) }
     requires alike { AreAlike (pattern_in search.now) (entry_of entry) }
     ensures list { IfOk result (HasList search.now (entry_of entry.entry) lists.new.items) }
-    ensures kept { IsAtFront lists.old.items lists.new.items }
+    ensures kept { Grows lists.old.items lists.new.items }
 {
     let Some(solved) = search.solve(workspace, entry)? else {
         return Ok(None);

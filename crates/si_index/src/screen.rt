@@ -12,7 +12,7 @@ use si_term::{Literal, Literals};
 // So many literals are looked at, so that long clauses aren't compared literal by literal.
 const LOOKED_AT: usize = 8;
 
-/// Whether some substitution may take the literal to the other.
+/// `false` only where no substitution takes the literal to the other.
 fn may_be_taken(literal: &Literal, target: &Literal) -> bool
     ensures { IsFalse result → (s : Solution)
         → TakesTo s (literal_of literal.now) (literal_of target.now) → ⊥ }
@@ -21,7 +21,7 @@ fn may_be_taken(literal: &Literal, target: &Literal) -> bool
         && may_become(Relation::Instances, &literal.atom, &target.atom)
 }
 
-/// Whether some substitution may take the literal to one of the others.
+/// `false` only where no substitution takes the literal to one of the others.
 fn has_target(literal: &Literal, targets: &[Literal]) -> bool
     ensures { IsFalse result → (s : Solution) (n : ℕ) (k : clauses.Literal)
         → item_at (map literal_of targets.now) n ≡ Some k
@@ -35,8 +35,8 @@ fn has_target(literal: &Literal, targets: &[Literal]) -> bool
     false
 }
 
-/// Whether the first literals of `c` allow a map to those of `d`. It takes no memory, and looks at
-/// each literal of `d` a fixed number of times at most; no clause says so.
+/// `false` only where there is no map from `c` to `d`, by the first literals of `c`. It takes no
+/// memory, and looks at each literal of `d` a fixed number of times at most; no clause says so.
 pub(crate) fn may_have_map(c: &Literals, d: &Literals) -> bool
     ensures { IsFalse result → (ns : List ℕ)
         → IsMap (map literal_of c.now) (map literal_of d.now) ns → ⊥ }

@@ -1,4 +1,5 @@
--- What one call after the other makes of the bytes that a sink was given and of those that a source has left.
+-- What one call after the other makes of the bytes that a sink was given and of those that a source
+-- has left.
 use Rattle.std.proofs.Common.{◌≡◌, ℕ, ◌+◌, ◌-◌, ◌≤◌, List, [], ◌++◌, Option, None, Some, IfSome, length, take, drop, refl, sym, ap, ◌∙◌, append_assoc, append-nil, arith, take-add, length-append, drop-drop, take-append-drop}
 use Rattle.std.proofs.Math.Seq.{take-append-add, take-append_seam, drop-append_seam}
 use Rattle.std.proofs.lemmas.List.{take-append-le}
@@ -106,7 +107,8 @@ Takes_all None b bs taken ended = tt
 Takes_all (Some ws) None bs taken ended = cc
 Takes_all (Some ws) (Some rest) bs taken ended = let same : ws ≡ bs ++ rest = cc in same ∙ ap (λ (l : List ℕ). bs ++ l) ended ∙ append-nil bs
 
--- a copy of the next n bytes at the front of a slice, from bytes that are held as a list and a place in it
+-- a copy of the next n bytes at the front of a slice, from bytes that are held as a list and a
+-- place in it
 pub Takes_copy : (bytes front behind : List ℕ) (at n : ℕ) → front ≡ take n (drop at bytes) → length front ≡ n → Takes (Some (drop at bytes)) (take n (front ++ behind)) (Some (drop (at + n) bytes))
 Takes_copy bytes front behind at n copied size =
     let given : take n (front ++ behind) ≡ take n (drop at bytes) = rw (← size) (take-append_seam front behind ∙ copied ∙ ap (λ (m : ℕ). take m (drop at bytes)) (sym size)) in

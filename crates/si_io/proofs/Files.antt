@@ -18,7 +18,8 @@ module _ {K V : Type 0} (eq : K → K → Bool) (test : K → Bool) (k : K) (v :
   passed false true w new rest apart e = e
   passed false false w new rest apart e = e
 
-  -- a test that takes the new key takes the keys that are equal to it, and no other; so it finds the new value first
+  -- a test that takes the new key takes the keys that are equal to it, and no other; so it finds
+  -- the new value first
   pub lookup-insert_entry : ((j : K) → eq k j ≡ true → test j ≡ test k) → ((j : K) → test k ≡ true → test j ≡ eq k j) → (es : List (K × V))
       → lookup test (insert_entry eq es k v) ≡ cond (test k) (Some v) (lookup test es)
   lookup-insert_entry alike own [] = refl

@@ -12,7 +12,8 @@ Keeps_none (Some xs) (Some ys) grown = grown ∙ append-nil xs
 same_count : {E : Type 0} (m n : ℕ) (answer : Result ℕ E) → answer ≡ Ok m → answer ≡ Ok n → m ≡ n
 same_count m n answer first second = cc
 
--- the answer as it was seen is the answer, but that an error may stand for nothing taken; and it was passed on
+-- the answer as it was seen is the answer, but that an error may stand for nothing taken; and it
+-- was passed on
 pub WriteAppends_passed : {E F : Type 0} (old new : Option (List ℕ)) (bytes : List ℕ) (answer seen : Result ℕ E) (result : Result ℕ F) → WriteAppends old new answer bytes → MatchResult seen (λ n. answer ≡ Ok n) (λ _. IsErr answer ⊎ ((answer ≡ Ok 0) × (0 < length bytes))) → MatchResult seen (λ n. result ≡ Ok n) (λ _. IsErr result) → WriteAppends old new result bytes
 WriteAppends_passed old new bytes (Ok m) (Ok n) (Ok k) wrote same passed =
     let P : ℕ → Type 0 = λ taken. Appends old new (take taken bytes) in

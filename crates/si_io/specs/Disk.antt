@@ -9,11 +9,14 @@ use Rattle.si_io.specs.declared.library.Fetched.{Fetched}
 use Rattle.si_io.specs.declared.library.Fetched.TheVariants.{Missing, Failed}
 use Rattle.si_io.specs.Library.{IsFileRead}
 
--- Where the name is text, the disk was asked once to open it, and Then says what comes of its answer. Any other name
--- is refused without a call, and Else says what comes of that.
-abbrev pub AsksOnce : {D F : Type 0} → (opens : D → List ℕ → Result F Error → D → Type 0) → (before : D) → (name : List ℕ) → (after : D) → (Then : Result F Error → Type 0) → (Else : Type 0) → Type 0
+-- Where the name is text, the disk was asked once to open it, and Then says what comes of its
+-- answer. Any other name is refused without a call, and Else says what comes of that.
+abbrev pub AsksOnce : {D F : Type 0} → (opens : D → List ℕ → Result F Error → D → Type 0)
+    → (before : D) → (name : List ℕ) → (after : D) → (Then : Result F Error → Type 0)
+    → (Else : Type 0) → Type 0
 AsksOnce opens before name after Then Else =
-    (IsUtf8 name × ((answer : _) × opens before name answer after × Then answer)) ⊎ (¬ IsUtf8 name × (after ≡ before) × Else)
+    (IsUtf8 name × ((answer : _) × opens before name answer after × Then answer))
+    ⊎ (¬ IsUtf8 name × (after ≡ before) × Else)
 
 -- the one kind of error that says that there is no such file
 abbrev pub is_not_found : ErrorKind → Bool
@@ -24,8 +27,9 @@ is_not_found _ = false
 abbrev pub unfetched : Error → Fetched
 unfetched error = if is_not_found (error_kind error) then Missing else Failed
 
--- What a fetch makes of the answer: of an open file what is read of it, whose bytes may be known, and else why there
--- is none.
-abbrev pub FetchesAnswer : {F : Type 0} → (remaining : F → Option (List ℕ)) → (limit : ℕ) → Result F Error → Fetched → (into : List ℕ) → Type 0
+-- What a fetch makes of the answer: of an open file what is read of it, whose bytes may be known,
+-- and else why there is none.
+abbrev pub FetchesAnswer : {F : Type 0} → (remaining : F → Option (List ℕ)) → (limit : ℕ)
+    → Result F Error → Fetched → (into : List ℕ) → Type 0
 FetchesAnswer remaining limit (Ok file) result into = IsFileRead (remaining file) limit result into
 FetchesAnswer remaining limit (Err error) result into = result ≡ unfetched error

@@ -14,7 +14,8 @@ pub record HasCause {T E : Type 0} (before now : ℕ) (result : Result T E) : Ty
 
 -- The same of a write of these bytes, which also fails where it takes none of them though there are
 -- some.
-pub record HasWriteCause {E : Type 0} (before now : ℕ) (bytes : List ℕ) (result : Result ℕ E) : Type 0 where
+pub record HasWriteCause {E : Type 0} (before now : ℕ) (bytes : List ℕ)
+    (result : Result ℕ E) : Type 0 where
   pub later : before ≤ now
   pub kept : IfOk result (λ n. 0 < n → now ≡ before)
   pub idle : length bytes ≡ 0 → OnOk result (now ≡ before)

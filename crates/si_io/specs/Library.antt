@@ -45,9 +45,12 @@ pub record Counts : Type 0 where
 -- Each answer but Found and Memory has a count of its own. It rose, and no other count moved.
 abbrev pub HasFetchCause : Counts → Counts → Fetched → Type 0
 HasFetchCause before now Found = now ≡ before
-HasFetchCause before now Missing = Rose before.misses now.misses × (now ≡ record before { misses = now.misses })
-HasFetchCause before now TooBig = Rose before.bigs now.bigs × (now ≡ record before { bigs = now.bigs })
-HasFetchCause before now Failed = Rose before.faults now.faults × (now ≡ record before { faults = now.faults })
+HasFetchCause before now Missing =
+    Rose before.misses now.misses × (now ≡ record before { misses = now.misses })
+HasFetchCause before now TooBig =
+    Rose before.bigs now.bigs × (now ≡ record before { bigs = now.bigs })
+HasFetchCause before now Failed =
+    Rose before.faults now.faults × (now ≡ record before { faults = now.faults })
 HasFetchCause before now Memory = now ≡ before
 
 -- the counts after such an answer, where each is counted once

@@ -65,7 +65,8 @@ sink_faults sink = sink.plan.faults
 
 -- how many more bytes it is sure to take: those that there is room for, if no call is to fail
 abbrev pub sink_sure : MemorySink → ℕ
-sink_sure sink = if lists_any (sink_failing sink) then 0 else sink_room sink - length (sink_bytes sink)
+sink_sure sink =
+    if lists_any (sink_failing sink) then 0 else sink_room sink - length (sink_bytes sink)
 
 -- what it tells of itself
 abbrev pub sink_told : MemorySink → Told
@@ -79,7 +80,8 @@ pub record SameSink (old new : MemorySink) : Type 0 where
 
 -- the files by name
 abbrev pub library_files : MemoryLibrary → Files
-library_files library name = option_map (λ bytes. bytes.items) (get_by (λ key. bytes_eq name key.items) library.files)
+library_files library name =
+    option_map (λ bytes. bytes.items) (get_by (λ key. bytes_eq name key.items) library.files)
 
 -- the numbers of the fetches that fail
 abbrev pub library_failing : MemoryLibrary → List ℕ
@@ -95,7 +97,8 @@ library_calls library = library.plan.calls
 
 -- how often it has failed, had no such file, and had one that was too big
 abbrev pub library_counts : MemoryLibrary → Counts
-library_counts library = record { faults = library.plan.faults; misses = library.misses; bigs = library.bigs }
+library_counts library =
+    record { faults = library.plan.faults; misses = library.misses; bigs = library.bigs }
 
 -- no name has a file
 abbrev pub has_no_file : Files

@@ -1,31 +1,21 @@
 -- An answer is one: each hit has one canonical list.
-use Rattle.std.proofs.Common.{◌≡◌, inl, inr, true, List, [], ◌∷◌, sym, ap, ◌∙◌}
+use Rattle.std.proofs.Common.{◌≡◌, inl, inr, List, [], ◌∷◌, sym, ◌∙◌}
 use Rattle.si_defs.specs.Clauses.{Clause, Pattern, literal_pattern, term_pattern}
 use Rattle.si_defs.specs.Entries.{Entry, literal_entry, term_entry, Placed}
-use Rattle.si_defs.specs.Variables.{Variable, of_pattern, of_entry, same_variable, Apart, Solution}
+use Rattle.si_defs.specs.Variables.{same_variable, Apart, Solution}
 use Rattle.si_defs.specs.Solutions.{IsCanonical}
 use Rattle.si_defs.specs.declared.Relation.{Relation}
 use Rattle.si_defs.specs.declared.Relation.TheVariants.{Variants, Instances, Generalizations, Unifiable}
 use Rattle.si_state.specs.Answers.{Hit, IsAnswer, Solves}
-use Rattle.si_sign.proofs.SymbolLaws.{text_is, text_same}
+use Rattle.si_defs.proofs.VariableLaws.{variable_is, variable_self}
 use Rattle.si_form.proofs.CanonicalLaws.{one_match}
 use Rattle.si_form.proofs.UnifierLaws.{one_unifier}
 
-variable_is : (x y : Variable) → same_variable x y ≡ true → x ≡ y
-variable_is (of_pattern x) (of_pattern y) h = ap of_pattern (text_is x y h)
-variable_is (of_entry x) (of_entry y) h = ap of_entry (text_is x y h)
-variable_is (of_pattern x) (of_entry y) h = cc
-variable_is (of_entry x) (of_pattern y) h = cc
-
-variable_same : (x : Variable) → same_variable x x ≡ true
-variable_same (of_pattern x) = text_same x
-variable_same (of_entry x) = text_same x
-
 one_canonical : (relation : Relation) (q e : Apart) (bs cs : Solution) → IsCanonical same_variable relation q e bs → IsCanonical same_variable relation q e cs → bs ≡ cs
-one_canonical Variants q e bs cs h k = one_match same_variable variable_is variable_same q e bs cs h.1 k.1
-one_canonical Instances q e bs cs h k = one_match same_variable variable_is variable_same q e bs cs h k
-one_canonical Generalizations q e bs cs h k = one_match same_variable variable_is variable_same e q bs cs h k
-one_canonical Unifiable q e bs cs h k = one_unifier same_variable variable_is variable_same q e bs cs h k
+one_canonical Variants q e bs cs h k = one_match same_variable variable_is variable_self q e bs cs h.1 k.1
+one_canonical Instances q e bs cs h k = one_match same_variable variable_is variable_self q e bs cs h k
+one_canonical Generalizations q e bs cs h k = one_match same_variable variable_is variable_self e q bs cs h k
+one_canonical Unifiable q e bs cs h k = one_unifier same_variable variable_is variable_self q e bs cs h k
 
 one_solution : (relation : Relation) (p : Pattern) (e : Entry) (bs cs : Solution) → Solves relation p e bs → Solves relation p e cs → bs ≡ cs
 one_solution relation (literal_pattern l) (literal_entry k) bs cs h i = one_canonical relation _ _ bs cs h.1 i.1

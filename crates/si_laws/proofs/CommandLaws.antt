@@ -7,9 +7,9 @@ use Rattle.si_defs.specs.Clauses.{Name, Literal, Clause, Pattern, literal_patter
 use Rattle.si_defs.specs.Tokens.{Token, lower}
 use Rattle.si_defs.specs.declared.TokenKind.TheVariants.{Single}
 use Rattle.si_defs.specs.Grammar.{IsName, IsClause, IsFormula}
+use Rattle.si_defs.proofs.ListLaws.{same_head, same_tail}
 use Rattle.si_state.specs.Samples.{AllowsSample}
 use Rattle.si_lex.proofs.TokenLaws.{consists_unique}
-use Rattle.si_parse.proofs.ParseSteps.{heads, tails}
 use Rattle.si_steps.specs.declared.word.Word.{Word}
 use Rattle.si_steps.specs.declared.word.Word.TheVariants.{Add, Load, Remove, Ask, Subsumers, Subsumed, Stats, Tree, Explain, Sample}
 use Rattle.si_steps.specs.Commands.{Command, add, load, remove, query, subsumers, subsumed, stats, sample, command_word, numeral, IsQuery, AreOperands, IsCommand}
@@ -40,11 +40,11 @@ drawable_count start count h = omega (arith, h.count_fits)
 
 query_one : (p q : Pattern) (ts us : List Token) → ts ≡ us → IsQuery p ts → IsQuery q us → p ≡ q
 query_one (literal_pattern l) (literal_pattern k) ts us e (vs, h, f) (ws, i, g) =
-    ap literal_pattern (literal_one l k vs ws [] [] (ap (λ z. z ++ []) (tails (sym f ∙ e ∙ g))) h i tt tt).0
+    ap literal_pattern (literal_one l k vs ws [] [] (ap (λ z. z ++ []) (same_tail (sym f ∙ e ∙ g))) h i tt tt).0
 query_one (term_pattern t) (term_pattern u) ts us e (vs, h, f) (ws, i, g) =
-    ap term_pattern (term_one t u vs ws [] [] (ap (λ z. z ++ []) (tails (sym f ∙ e ∙ g))) h i tt tt).0
-query_one (literal_pattern l) (term_pattern u) ts us e (vs, h, f) (ws, i, g) = absurd (literal_no_term (heads (sym f ∙ e ∙ g)))
-query_one (term_pattern t) (literal_pattern k) ts us e (vs, h, f) (ws, i, g) = absurd (literal_no_term (sym (heads (sym f ∙ e ∙ g))))
+    ap term_pattern (term_one t u vs ws [] [] (ap (λ z. z ++ []) (same_tail (sym f ∙ e ∙ g))) h i tt tt).0
+query_one (literal_pattern l) (term_pattern u) ts us e (vs, h, f) (ws, i, g) = absurd (literal_no_term (same_head (sym f ∙ e ∙ g)))
+query_one (term_pattern t) (literal_pattern k) ts us e (vs, h, f) (ws, i, g) = absurd (literal_no_term (sym (same_head (sym f ∙ e ∙ g))))
 
 -- a command that begins with this word and has these operands, one row a word
 abbrev IsOf : Word → Command → List Token → Type 0
@@ -72,16 +72,16 @@ is_of (sample start count) ts (drawable, e) = (start, count, refl, drawable, e)
 -- the operands determine it
 one_of_word : (w : Word) (c d : Command) (ts us : List Token) → ts ≡ us → IsOf w c ts → IsOf w d us → c ≡ d
 one_of_word Add c d ts us e (a, of, h) (b, of_too, k) = of ∙ ap add (clause_one a b ts us e h k) ∙ sym of_too
-one_of_word Load c d ts us e (file, of, h) (other, of_too, k) = of ∙ ap (λ (t : Token). load t.text) (heads (sym h ∙ e ∙ k)) ∙ sym of_too
-one_of_word Remove c d ts us e (n, t, of, h, f) (m, u, of_too, k, g) = of ∙ ap remove (name_one n m t u (heads (sym f ∙ e ∙ g)) h k) ∙ sym of_too
+one_of_word Load c d ts us e (file, of, h) (other, of_too, k) = of ∙ ap (λ (t : Token). load t.text) (same_head (sym h ∙ e ∙ k)) ∙ sym of_too
+one_of_word Remove c d ts us e (n, t, of, h, f) (m, u, of_too, k, g) = of ∙ ap remove (name_one n m t u (same_head (sym f ∙ e ∙ g)) h k) ∙ sym of_too
 one_of_word (Ask relation) c d ts us e (p, of, h) (q, of_too, k) = of ∙ ap (query relation) (query_one p q ts us e h k) ∙ sym of_too
 one_of_word Subsumers c d ts us e (ls, of, h) (ks, of_too, k) = of ∙ ap subsumers (whole_one ls ks ts us e h k) ∙ sym of_too
 one_of_word Subsumed c d ts us e (ls, of, h) (ks, of_too, k) = of ∙ ap subsumed (whole_one ls ks ts us e h k) ∙ sym of_too
 one_of_word Stats c d ts us e of of_too = of ∙ sym of_too
 one_of_word Sample c d ts us e (m, i, of, h, f) (n, j, of_too, k, g) =
     let both = sym f ∙ e ∙ g in
-    let start = decimal_injective m n (drawable_start m i h) (drawable_start n j k) (ap (λ (t : Token). t.text) (heads both)) in
-    let count = decimal_injective i j (drawable_count m i h) (drawable_count n j k) (ap (λ (t : Token). t.text) (heads (tails both))) in
+    let start = decimal_injective m n (drawable_start m i h) (drawable_start n j k) (ap (λ (t : Token). t.text) (same_head both)) in
+    let count = decimal_injective i j (drawable_count m i h) (drawable_count n j k) (ap (λ (t : Token). t.text) (same_head (same_tail both))) in
     of ∙ (λ x. sample (start x) (count x)) ∙ sym of_too
 one_of_word Tree c d ts us e h k = absurd h
 one_of_word Explain c d ts us e h k = absurd h
@@ -90,8 +90,8 @@ one_of_word Explain c d ts us e h k = absurd h
 command_one : (c d : Command) (ts : List Token) → IsCommand c ts → IsCommand d ts → c ≡ d
 command_one c d ts h k =
     let whole = sym h.whole ∙ k.whole in
-    let word = same_word (command_word c) (command_word d) (ap (λ (t : Token). t.text) (heads whole)) in
-    one_of_word (command_word d) c d h.operands k.operands (tails whole)
+    let word = same_word (command_word c) (command_word d) (ap (λ (t : Token). t.text) (same_head whole)) in
+    one_of_word (command_word d) c d h.operands k.operands (same_tail whole)
     (subst (λ w. IsOf w c h.operands) word (is_of c h.operands h.spelled)) (is_of d k.operands k.spelled)
 
 pub one_meaning : (line : Bytes) → HasOneMeaning line

@@ -1,5 +1,7 @@
--- The reading of a file is one, up to a failure of the library, and what it accepts stays consistent.
+-- The reading of a file is one, up to a failure of the library, and what it accepts stays
+-- consistent.
 use Rattle.std.proofs.Common.{◌≡◌, ℕ, ◌+◌, ◌≤◌, ◌<◌, List, [], ◌∷◌, ◌++◌, length, Option, Some, None, IsSomeAnd, refl, sym, ap, ◌∙◌, subst, append_assoc, append-nil, arith}
+use Rattle.std.proofs.lemmas.Option.{same_Some, none-some}
 use Rattle.std.proofs.lemmas.List.{append_cancel_right}
 use Rattle.si_defs.specs.Bytes.{Bytes}
 use Rattle.si_defs.specs.Clauses.{Name, Clause}
@@ -8,11 +10,12 @@ use Rattle.si_defs.specs.Grammar.{Selection, Item, clause_item, include_item}
 use Rattle.si_defs.specs.Texts.{BeginsWithItem, line_of}
 use Rattle.si_state.specs.Acceptance.{Refuses}
 use Rattle.si_state.specs.Harvest.{Files, Bounds, Event, ask, attempt, tried, fetches, Fault, cycle, too_deep, too_many, missing, too_big, failed, foreign, malformed, rejected, MayAsk, IsBarred, IsWithheld, narrowed, IsSelected, Spot, IsOnLine, IsStuck, Harvests, barred, withheld, fetched, Continues, ended, stuck, passed_over, accepted, refused, expanded, broken_off, AreAccepted}
+use Rattle.si_state.proofs.HarvestLaws.{tried-append}
 use Rattle.si_steps.specs.Loads.{nothing, a_failure, owed_by}
 use Rattle.si_lex.proofs.BlankLaws.{place_unique}
+use Rattle.si_parse.proofs.GrammarStops.{no_item_in_blanks}
 use Rattle.si_laws.specs.OneReply.{IsConsistent, TellsNoFailure}
-use Rattle.si_laws.proofs.GrammarLaws.{some_is, none_some}
-use Rattle.si_laws.proofs.ItemLaws.{one_item, blanks_no_item}
+use Rattle.si_laws.proofs.ItemLaws.{one_item, item_is}
 use Rattle.si_laws.proofs.RefusalLaws.{accepts_or_refuses, one_refusal}
 use Rattle.si_laws.proofs.StateLaws.{consistent_more}
 
@@ -85,7 +88,7 @@ module _ (files : Files) (bounds : Bounds) (file : Bytes) where
   withheld_no_file (cycle n) bytes well h e small = h
   withheld_no_file (too_deep n) bytes well h e small = h
   withheld_no_file too_many bytes well h e small = h
-  withheld_no_file (missing n) bytes well h e small = absurd (none_some (sym h.1 ∙ e))
+  withheld_no_file (missing n) bytes well h e small = absurd (none-some _ (sym h.1 ∙ e))
   withheld_no_file (too_big n) bytes well h e small = absurd (omega (arith, subst (λ o. IsSomeAnd o (λ b. bounds.file < length b)) e h.1, small))
   withheld_no_file (failed n) bytes well h e small = well refl
   withheld_no_file (foreign n line) bytes well h e small = h
@@ -182,9 +185,7 @@ module _ (spot : Spot) where
   no_both c file s r q a b = let same = (one_item spot.rest (clause_item c) (include_item file s) r q a b).0 in cc
 
   same_clause : (c d : Clause) (r q : Bytes) → BeginsWithItem spot.rest (clause_item c) r → BeginsWithItem spot.rest (clause_item d) q → (c ≡ d) × (r ≡ q)
-  same_clause c d r q a b = let same = one_item spot.rest (clause_item c) (clause_item d) r q a b in (clause_is c d same.0, same.1) where
-    clause_is : (c d : Clause) → clause_item c ≡ clause_item d → c ≡ d
-    clause_is c d e = cc
+  same_clause c d r q a b = let same = one_item spot.rest (clause_item c) (clause_item d) r q a b in (item_is c d same.0, same.1)
 
   same_include : (f g : Bytes) (s t : Selection) (r q : Bytes) → BeginsWithItem spot.rest (include_item f s) r → BeginsWithItem spot.rest (include_item g t) q → (f ≡ g) × (s ≡ t) × (r ≡ q)
   same_include f g s t r q a b = let same = one_item spot.rest (include_item f s) (include_item g t) r q a b in (file_is f g s t same.0, selection_is f g s t same.0, same.1) where
@@ -195,11 +196,6 @@ module _ (spot : Spot) where
     selection_is f g s t e = cc
 
 -- ---- the reading of files
-tried_append : (xs ys : List Event) → tried (xs ++ ys) ≡ tried xs ++ tried ys
-tried_append [] ys = refl
-tried_append (ask file ∷ xs) ys = tried_append xs ys
-tried_append (attempt c ∷ xs) ys = ap (λ cs. c ∷ cs) (tried_append xs ys)
-
 module _ (files : Files) (bounds : Bounds) (limit : ℕ) where
   mutual
     -- what a reading without a fault accepted keeps the state consistent
@@ -219,7 +215,7 @@ module _ (files : Files) (bounds : Bounds) (limit : ℕ) where
     continues_stays spot made state events is (expanded _ _ _ file selection after begins inside own whole fault harvest rest parts) =
         let behind = harvest_stays spot.opened (narrowed selection spot.around) made state file inside is harvest in
         let all = continues_stays (record spot { rest = after }) (made + fetches inside) (state ++ tried inside) own behind rest in
-        subst IsConsistent (append_assoc state (tried inside) (tried own) ∙ ap (λ cs. state ++ cs) (sym (tried_append inside own) ∙ ap tried (sym parts))) all
+        subst IsConsistent (append_assoc state (tried inside) (tried own) ∙ ap (λ cs. state ++ cs) (sym (tried-append inside own) ∙ ap tried (sym parts))) all
 
   mutual
     -- two readings of a file give the same events, and the same fault or none
@@ -240,7 +236,7 @@ module _ (files : Files) (bounds : Bounds) (limit : ℕ) where
     one_harvest opened around made state file events others f g is (fetched _ _ _ _ _ bytes may found small own fault rest) (withheld _ _ _ _ _ because may_too k) a b =
         absurd (withheld_no_file files bounds file because bytes b k found small)
     one_harvest opened around made state file events others f g is (fetched _ _ _ _ _ bytes may found small own fault rest) (fetched _ _ _ _ _ content may_too found_too small_too more fault_too rest_too) a b =
-        let same : bytes ≡ content = some_is (sym found ∙ found_too) in
+        let same : bytes ≡ content = same_Some _ _ (sym found ∙ found_too) in
         let rests =
         one_continues (record { file = file; bytes = bytes; opened = file ∷ opened; around = around; rest = bytes }) (made + 1) state own more f g is rest
         (subst (λ x. Continues files bounds limit (record { file = file; bytes = x; opened = file ∷ opened; around = around; rest = x }) (made + 1) state more g) (sym same) rest_too) a b in
@@ -250,11 +246,11 @@ module _ (files : Files) (bounds : Bounds) (limit : ℕ) where
         → Continues files bounds limit spot made state events f → Continues files bounds limit spot made state others g → Ends f → Ends g → (events ≡ others) × (f ≡ g)
     one_continues spot made state events others f g is (ended _ _ _ blanks) (ended _ _ _ blanks_too) a b = (refl, refl)
     one_continues spot made state events others f g is (ended _ _ _ blanks) (stuck _ _ _ because k) a b = absurd (stuck_no_blanks spot because k blanks)
-    one_continues spot made state events others f g is (ended _ _ _ blanks) (passed_over _ _ _ d left starts passed_too more _ rest_too) a b = absurd (blanks_no_item spot.rest (clause_item d) left blanks starts)
-    one_continues spot made state events others f g is (ended _ _ _ blanks) (accepted _ _ _ d left starts selected_too accepts_too more _ rest_too) a b = absurd (blanks_no_item spot.rest (clause_item d) left blanks starts)
-    one_continues spot made state events others f g is (ended _ _ _ blanks) (refused _ _ _ d left starts selected_too cause refuses_too) a b = absurd (blanks_no_item spot.rest (clause_item d) left blanks starts)
-    one_continues spot made state events others f g is (ended _ _ _ blanks) (expanded _ _ _ name choice left starts within more full _ harvest_too rest_too parts_too) a b = absurd (blanks_no_item spot.rest (include_item name choice) left blanks starts)
-    one_continues spot made state events others f g is (ended _ _ _ blanks) (broken_off _ _ _ name choice left starts more because harvest_too) a b = absurd (blanks_no_item spot.rest (include_item name choice) left blanks starts)
+    one_continues spot made state events others f g is (ended _ _ _ blanks) (passed_over _ _ _ d left starts passed_too more _ rest_too) a b = absurd (no_item_in_blanks spot.rest (clause_item d) left blanks starts)
+    one_continues spot made state events others f g is (ended _ _ _ blanks) (accepted _ _ _ d left starts selected_too accepts_too more _ rest_too) a b = absurd (no_item_in_blanks spot.rest (clause_item d) left blanks starts)
+    one_continues spot made state events others f g is (ended _ _ _ blanks) (refused _ _ _ d left starts selected_too cause refuses_too) a b = absurd (no_item_in_blanks spot.rest (clause_item d) left blanks starts)
+    one_continues spot made state events others f g is (ended _ _ _ blanks) (expanded _ _ _ name choice left starts within more full _ harvest_too rest_too parts_too) a b = absurd (no_item_in_blanks spot.rest (include_item name choice) left blanks starts)
+    one_continues spot made state events others f g is (ended _ _ _ blanks) (broken_off _ _ _ name choice left starts more because harvest_too) a b = absurd (no_item_in_blanks spot.rest (include_item name choice) left blanks starts)
     one_continues spot made state events others f g is (stuck _ _ _ why h) (ended _ _ _ blanks_too) a b = absurd (stuck_no_blanks spot why h blanks_too)
     one_continues spot made state events others f g is (stuck _ _ _ why h) (stuck _ _ _ because k) a b = (refl, ap Some (stuck_one spot why because h k))
     one_continues spot made state events others f g is (stuck _ _ _ why h) (passed_over _ _ _ d left starts passed_too more _ rest_too) a b = absurd (stuck_no_item spot why (clause_item d) left h starts)
@@ -262,7 +258,7 @@ module _ (files : Files) (bounds : Bounds) (limit : ℕ) where
     one_continues spot made state events others f g is (stuck _ _ _ why h) (refused _ _ _ d left starts selected_too cause refuses_too) a b = absurd (stuck_no_item spot why (clause_item d) left h starts)
     one_continues spot made state events others f g is (stuck _ _ _ why h) (expanded _ _ _ name choice left starts within more full _ harvest_too rest_too parts_too) a b = absurd (stuck_no_item spot why (include_item name choice) left h starts)
     one_continues spot made state events others f g is (stuck _ _ _ why h) (broken_off _ _ _ name choice left starts more because harvest_too) a b = absurd (stuck_no_item spot why (include_item name choice) left h starts)
-    one_continues spot made state events others f g is (passed_over _ _ _ c after begins passed own _ rest) (ended _ _ _ blanks_too) a b = absurd (blanks_no_item spot.rest (clause_item c) after blanks_too begins)
+    one_continues spot made state events others f g is (passed_over _ _ _ c after begins passed own _ rest) (ended _ _ _ blanks_too) a b = absurd (no_item_in_blanks spot.rest (clause_item c) after blanks_too begins)
     one_continues spot made state events others f g is (passed_over _ _ _ c after begins passed own _ rest) (stuck _ _ _ because k) a b = absurd (stuck_no_item spot because (clause_item c) after k begins)
     one_continues spot made state events others f g is (passed_over _ _ _ c after begins passed own _ rest) (passed_over _ _ _ d left starts passed_too more _ rest_too) a b =
         let same = same_clause spot c d after left begins starts in
@@ -272,7 +268,7 @@ module _ (files : Files) (bounds : Bounds) (limit : ℕ) where
     one_continues spot made state events others f g is (passed_over _ _ _ c after begins passed own _ rest) (refused _ _ _ d left starts selected_too cause refuses_too) a b = absurd (passed (subst (λ (x : Clause). IsSelected spot.around x.name) (sym (same_clause spot c d after left begins starts).0) selected_too))
     one_continues spot made state events others f g is (passed_over _ _ _ c after begins passed own _ rest) (expanded _ _ _ name choice left starts within more full _ harvest_too rest_too parts_too) a b = absurd (no_both spot c name choice after left begins starts)
     one_continues spot made state events others f g is (passed_over _ _ _ c after begins passed own _ rest) (broken_off _ _ _ name choice left starts more because harvest_too) a b = absurd (no_both spot c name choice after left begins starts)
-    one_continues spot made state events others f g is (accepted _ _ _ c after begins selected accepts own _ rest) (ended _ _ _ blanks_too) a b = absurd (blanks_no_item spot.rest (clause_item c) after blanks_too begins)
+    one_continues spot made state events others f g is (accepted _ _ _ c after begins selected accepts own _ rest) (ended _ _ _ blanks_too) a b = absurd (no_item_in_blanks spot.rest (clause_item c) after blanks_too begins)
     one_continues spot made state events others f g is (accepted _ _ _ c after begins selected accepts own _ rest) (stuck _ _ _ because k) a b = absurd (stuck_no_item spot because (clause_item c) after k begins)
     one_continues spot made state events others f g is (accepted _ _ _ c after begins selected accepts own _ rest) (passed_over _ _ _ d left starts passed_too more _ rest_too) a b = absurd (passed_too (subst (λ (x : Clause). IsSelected spot.around x.name) (same_clause spot c d after left begins starts).0 selected))
     one_continues spot made state events others f g is (accepted _ _ _ c after begins selected accepts own _ rest) (accepted _ _ _ d left starts selected_too accepts_too more _ rest_too) a b =
@@ -286,7 +282,7 @@ module _ (files : Files) (bounds : Bounds) (limit : ℕ) where
         (subst (λ x. Refuses limit state x cause) (sym (same_clause spot c d after left begins starts).0) refuses_too))
     one_continues spot made state events others f g is (accepted _ _ _ c after begins selected accepts own _ rest) (expanded _ _ _ name choice left starts within more full _ harvest_too rest_too parts_too) a b = absurd (no_both spot c name choice after left begins starts)
     one_continues spot made state events others f g is (accepted _ _ _ c after begins selected accepts own _ rest) (broken_off _ _ _ name choice left starts more because harvest_too) a b = absurd (no_both spot c name choice after left begins starts)
-    one_continues spot made state events others f g is (refused _ _ _ c after begins selected reason refuses) (ended _ _ _ blanks_too) a b = absurd (blanks_no_item spot.rest (clause_item c) after blanks_too begins)
+    one_continues spot made state events others f g is (refused _ _ _ c after begins selected reason refuses) (ended _ _ _ blanks_too) a b = absurd (no_item_in_blanks spot.rest (clause_item c) after blanks_too begins)
     one_continues spot made state events others f g is (refused _ _ _ c after begins selected reason refuses) (stuck _ _ _ because k) a b = absurd (stuck_no_item spot because (clause_item c) after k begins)
     one_continues spot made state events others f g is (refused _ _ _ c after begins selected reason refuses) (passed_over _ _ _ d left starts passed_too more _ rest_too) a b = absurd (passed_too (subst (λ (x : Clause). IsSelected spot.around x.name) (same_clause spot c d after left begins starts).0 selected))
     one_continues spot made state events others f g is (refused _ _ _ c after begins selected reason refuses) (accepted _ _ _ d left starts selected_too accepts_too more _ rest_too) a b =
@@ -298,7 +294,7 @@ module _ (files : Files) (bounds : Bounds) (limit : ℕ) where
         ((λ i. attempt (same.0 i) ∷ []), (λ i. Some (rejected (same.0 i) (reasons i))))
     one_continues spot made state events others f g is (refused _ _ _ c after begins selected reason refuses) (expanded _ _ _ name choice left starts within more full _ harvest_too rest_too parts_too) a b = absurd (no_both spot c name choice after left begins starts)
     one_continues spot made state events others f g is (refused _ _ _ c after begins selected reason refuses) (broken_off _ _ _ name choice left starts more because harvest_too) a b = absurd (no_both spot c name choice after left begins starts)
-    one_continues spot made state events others f g is (expanded _ _ _ file selection after begins inside own whole _ harvest rest parts) (ended _ _ _ blanks_too) a b = absurd (blanks_no_item spot.rest (include_item file selection) after blanks_too begins)
+    one_continues spot made state events others f g is (expanded _ _ _ file selection after begins inside own whole _ harvest rest parts) (ended _ _ _ blanks_too) a b = absurd (no_item_in_blanks spot.rest (include_item file selection) after blanks_too begins)
     one_continues spot made state events others f g is (expanded _ _ _ file selection after begins inside own whole _ harvest rest parts) (stuck _ _ _ because k) a b = absurd (stuck_no_item spot because (include_item file selection) after k begins)
     one_continues spot made state events others f g is (expanded _ _ _ file selection after begins inside own whole _ harvest rest parts) (passed_over _ _ _ d left starts passed_too more _ rest_too) a b = absurd (no_both spot d file selection left after starts begins)
     one_continues spot made state events others f g is (expanded _ _ _ file selection after begins inside own whole _ harvest rest parts) (accepted _ _ _ d left starts selected_too accepts_too more _ rest_too) a b = absurd (no_both spot d file selection left after starts begins)
@@ -318,8 +314,8 @@ module _ (files : Files) (bounds : Bounds) (limit : ℕ) where
         let inner =
         one_harvest spot.opened (narrowed selection spot.around) made state file inside more None (Some because) is harvest
         (subst (λ (x : Bytes × Selection). Harvests files bounds limit spot.opened (narrowed x.1 spot.around) made state x.0 more (Some because)) (λ i. (sym same.0 i, sym same.1 i)) harvest_too) ends_well b in
-        absurd (none_some inner.1)
-    one_continues spot made state events others f g is (broken_off _ _ _ file selection after begins own why harvest) (ended _ _ _ blanks_too) a b = absurd (blanks_no_item spot.rest (include_item file selection) after blanks_too begins)
+        absurd (none-some _ inner.1)
+    one_continues spot made state events others f g is (broken_off _ _ _ file selection after begins own why harvest) (ended _ _ _ blanks_too) a b = absurd (no_item_in_blanks spot.rest (include_item file selection) after blanks_too begins)
     one_continues spot made state events others f g is (broken_off _ _ _ file selection after begins own why harvest) (stuck _ _ _ because k) a b = absurd (stuck_no_item spot because (include_item file selection) after k begins)
     one_continues spot made state events others f g is (broken_off _ _ _ file selection after begins own why harvest) (passed_over _ _ _ d left starts passed_too more _ rest_too) a b = absurd (no_both spot d file selection left after starts begins)
     one_continues spot made state events others f g is (broken_off _ _ _ file selection after begins own why harvest) (accepted _ _ _ d left starts selected_too accepts_too more _ rest_too) a b = absurd (no_both spot d file selection left after starts begins)
@@ -329,7 +325,7 @@ module _ (files : Files) (bounds : Bounds) (limit : ℕ) where
         let inner =
         one_harvest spot.opened (narrowed selection spot.around) made state file own within (Some why) None is harvest
         (subst (λ (x : Bytes × Selection). Harvests files bounds limit spot.opened (narrowed x.1 spot.around) made state x.0 within None) (λ i. (sym same.0 i, sym same.1 i)) harvest_too) a ends_well in
-        absurd (none_some (sym inner.1))
+        absurd (none-some _ (sym inner.1))
     one_continues spot made state events others f g is (broken_off _ _ _ file selection after begins own why harvest) (broken_off _ _ _ name choice left starts more because harvest_too) a b =
         let same = same_include spot file name selection choice after left begins starts in
         let inner =

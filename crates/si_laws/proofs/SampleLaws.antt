@@ -1,11 +1,12 @@
--- A sample has one right outcome: its clauses are those of one text, they are accepted or one is the
--- first that is refused, and one sum belongs to them.
+-- A sample has one right outcome: its clauses are those of one text, they are accepted or one is
+-- the first that is refused, and one sum belongs to them.
 use Rattle.std.proofs.Common.{◌≡◌, inl, inr, ℕ, ◌+◌, List, [], ◌∷◌, ◌++◌, length, refl, sym, ap, ◌∙◌, subst, append_assoc, append-nil}
 use Rattle.si_defs.specs.Bytes.{Bytes}
 use Rattle.si_defs.specs.Clauses.{Clause, Pattern, literal_pattern, term_pattern}
 use Rattle.si_defs.specs.Entries.{Placed, pattern_entry, state_entries}
 use Rattle.si_defs.specs.Grammar.{clause_item}
 use Rattle.si_defs.specs.declared.Relation.TheVariants.{Unifiable}
+use Rattle.si_defs.proofs.ListLaws.{same_head, same_tail}
 use Rattle.si_state.specs.Acceptance.{Refusal, Refuses}
 use Rattle.si_state.specs.Answers.{IsAnswer}
 use Rattle.si_state.specs.Harvest.{AreClauses, AreAccepted, IsFirstRefused}
@@ -15,21 +16,19 @@ use Rattle.si_steps.specs.Commands.{sample}
 use Rattle.si_steps.specs.Replies.{Reply, refusal_line, sample_line}
 use Rattle.si_steps.specs.Steps.{Performs}
 use Rattle.si_laws.specs.OneReply.{IsConsistent, HasOneOutcome}
-use Rattle.si_laws.proofs.ItemLaws.{one_item, blanks_no_item}
+use Rattle.si_laws.proofs.ItemLaws.{one_item, item_is}
 use Rattle.si_laws.proofs.RefusalLaws.{accepts_or_refuses, one_refusal}
 use Rattle.si_laws.proofs.StateLaws.{consistent_more}
 use Rattle.si_laws.proofs.LoadLaws.{accepted_stay}
 use Rattle.si_laws.proofs.AnswerLaws.{same_answer}
 use Rattle.si_steps.proofs.OneSample.{no_other_text}
+use Rattle.si_parse.proofs.GrammarStops.{no_item_in_blanks}
 
 -- ---- what is drawn
-item_is : (c d : Clause) → clause_item c ≡ clause_item d → c ≡ d
-item_is c d e = cc
-
 one_list : (cs ds : List Clause) (bytes : Bytes) → AreClauses cs bytes → AreClauses ds bytes → cs ≡ ds
 one_list [] [] bytes h k = refl
-one_list [] (d ∷ ds) bytes h (after, begins, more) = absurd (blanks_no_item bytes (clause_item d) after h begins)
-one_list (c ∷ cs) [] bytes (after, begins, more) k = absurd (blanks_no_item bytes (clause_item c) after k begins)
+one_list [] (d ∷ ds) bytes h (after, begins, more) = absurd (no_item_in_blanks bytes (clause_item d) after h begins)
+one_list (c ∷ cs) [] bytes (after, begins, more) k = absurd (no_item_in_blanks bytes (clause_item c) after k begins)
 one_list (c ∷ cs) (d ∷ ds) bytes (after, begins, more) (left, starts, others) =
     let same = one_item bytes (clause_item c) (clause_item d) after left begins starts in
     let clause : c ≡ d = item_is c d same.0 in
@@ -55,32 +54,26 @@ module _ (limit : ℕ) where
   pub all_or_first : (state clauses : List Clause) (c : Clause) (why : Refusal) → AreAccepted limit state clauses → IsFirstRefused limit state clauses c why → ⊥
   all_or_first state clauses c why h f = none_refused state clauses f.before f.after c why f.splits h f.refused
 
-  heads_same : (x y : Clause) (xs ys : List Clause) → x ∷ xs ≡ y ∷ ys → x ≡ y
-  heads_same x y xs ys e = cc
-
-  tails_same : (x y : Clause) (xs ys : List Clause) → x ∷ xs ≡ y ∷ ys → xs ≡ ys
-  tails_same x y xs ys e = cc
-
   first_same : (state front begin back end : List Clause) (c d : Clause) (why because : Refusal) → IsConsistent state → front ++ c ∷ back ≡ begin ++ d ∷ end
       → AreAccepted limit state front → AreAccepted limit state begin → Refuses limit (state ++ front) c why → Refuses limit (state ++ begin) d because
       → (c ≡ d) × (why ≡ because)
   first_same state [] [] back end c d why because is e h k r q =
-      let same = heads_same c d back end e in (
+      let same = same_head e in (
         same,
         one_refusal limit state c is why because (subst (λ s. Refuses limit s c why) (append-nil state) r)
             (subst (λ x. Refuses limit state x because) (sym same) (subst (λ s. Refuses limit s d because) (append-nil state) q)),
       )
   first_same state [] (y ∷ begin) back end c d why because is e h k r q =
-      let same = heads_same c y back (begin ++ d ∷ end) e in
+      let same = same_head e in
       absurd (accepts_or_refuses limit state y (state ++ y ∷ []) why k.0 (subst (λ x. Refuses limit state x why) same (subst (λ s. Refuses limit s c why) (append-nil state) r)))
   first_same state (x ∷ front) [] back end c d why because is e h k r q =
-      let same = heads_same x d (front ++ c ∷ back) end e in
+      let same = same_head e in
       absurd (accepts_or_refuses limit state x (state ++ x ∷ []) because h.0
       (subst (λ z. Refuses limit state z because) (sym same) (subst (λ s. Refuses limit s d because) (append-nil state) q)))
   first_same state (x ∷ front) (y ∷ begin) back end c d why because is e h k r q =
-      let same = heads_same x y (front ++ c ∷ back) (begin ++ d ∷ end) e in
+      let same = same_head e in
       first_same (state ++ x ∷ []) front begin back end c d why because (consistent_more limit state x (state ++ x ∷ []) is h.0)
-      (tails_same x y (front ++ c ∷ back) (begin ++ d ∷ end) e) h.1 (subst (λ z. AreAccepted limit (state ++ z ∷ []) begin) (sym same) k.1)
+      (same_tail e) h.1 (subst (λ z. AreAccepted limit (state ++ z ∷ []) begin) (sym same) k.1)
       (subst (λ s. Refuses limit s c why) (sym (append_assoc state (x ∷ []) front)) r)
       (subst (λ s. Refuses limit s d because) (sym (append_assoc state (x ∷ []) begin)) (subst (λ z. Refuses limit (state ++ z ∷ begin) d because) (sym same) q))
 

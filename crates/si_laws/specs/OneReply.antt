@@ -33,7 +33,8 @@ HasOneOutcome limits command state =
 abbrev pub LoadsToOneOutcome : Limits → Files → Bytes → List Clause → Type 0
 LoadsToOneOutcome limits files file state =
     (reply other : Reply) (owed due : Owed) (new behind : List Clause)
-    → PerformsLoad limits (Some files) file state reply owed new → PerformsLoad limits (Some files) file state other due behind
+    → PerformsLoad limits (Some files) file state reply owed new
+    → PerformsLoad limits (Some files) file state other due behind
     → TellsNoFailure owed → TellsNoFailure due → (reply ≡ other) × (owed ≡ due) × (new ≡ behind)
 
 -- the line is one command at most
@@ -44,7 +45,8 @@ HasOneMeaning line = (one other : Command) → Means one line → Means other li
 abbrev pub OneRightStep : Limits → Files → List Clause → Bytes → Type 0
 OneRightStep limits files state line =
     (reply other : Reply) (owed due : Owed) (new behind : List Clause)
-    → RightStep limits (Some files) state line reply owed new → RightStep limits (Some files) state line other due behind
+    → RightStep limits (Some files) state line reply owed new
+    → RightStep limits (Some files) state line other due behind
     → TellsNoFailure owed → TellsNoFailure due → (reply ≡ other) × (owed ≡ due) × (new ≡ behind)
 
 -- the line loads no file
@@ -55,29 +57,36 @@ LoadsNothing line = (file : Bytes) → Means (load file) line → ⊥
 abbrev pub OneStepOfAnyLibrary : Limits → List Clause → Bytes → Type 0
 OneStepOfAnyLibrary limits state line =
     (told tell : Option Files) (reply other : Reply) (owed due : Owed) (new behind : List Clause)
-    → RightStep limits told state line reply owed new → RightStep limits tell state line other due behind
+    → RightStep limits told state line reply owed new
+    → RightStep limits tell state line other due behind
     → (reply ≡ other) × (owed ≡ due) × (new ≡ behind)
 
 -- a right step keeps the state so
 abbrev pub StaysConsistent : Limits → Option Files → List Clause → Bytes → Type 0
 StaysConsistent limits told state line =
-    (reply : Reply) (owed : Owed) (new : List Clause) → IsConsistent state → RightStep limits told state line reply owed new → IsConsistent new
+    (reply : Reply) (owed : Owed) (new : List Clause) → IsConsistent state
+    → RightStep limits told state line reply owed new → IsConsistent new
 
 -- two right steps over the word are the same, where none tells a failure
 abbrev pub OneRightWord : Limits → Files → List Clause → Bytes → Type 0
 OneRightWord limits files state word =
     (reply other : Reply) (owed due : Owed) (new behind : List Clause)
-    → RightWord limits (Some files) state word reply owed new → RightWord limits (Some files) state word other due behind
+    → RightWord limits (Some files) state word reply owed new
+    → RightWord limits (Some files) state word other due behind
     → TellsNoFailure owed → TellsNoFailure due → (reply ≡ other) × (owed ≡ due) × (new ≡ behind)
 
 -- what is rightly done at a request
-abbrev pub RightlyActs : Limits → Files → List Clause → Request → Reply → Owed → List Clause → Type 0
-RightlyActs limits files state (a_word word) reply owed new = RightWord limits (Some files) state word reply owed new
-RightlyActs limits files state (a_line line) reply owed new = RightStep limits (Some files) state line reply owed new
+abbrev pub RightlyActs : Limits → Files → List Clause → Request → Reply → Owed
+    → List Clause → Type 0
+RightlyActs limits files state (a_word word) reply owed new =
+    RightWord limits (Some files) state word reply owed new
+RightlyActs limits files state (a_line line) reply owed new =
+    RightStep limits (Some files) state line reply owed new
 
 -- From this state on the requests have these right replies, of which none tells a failure, and the
 -- new state stands behind them.
-abbrev pub RightRun : Limits → Files → List Clause → List Request → List Reply → List Clause → Type 0
+abbrev pub RightRun : Limits → Files → List Clause → List Request → List Reply
+    → List Clause → Type 0
 RightRun limits files state [] replies new = (replies ≡ []) × (new ≡ state)
 RightRun limits files state (request ∷ requests) replies new =
     (reply : Reply) × (owed : Owed) × (next : List Clause) × (others : List Reply)
@@ -88,5 +97,6 @@ RightRun limits files state (request ∷ requests) replies new =
 abbrev pub OneRightRun : Limits → Files → List Request → Type 0
 OneRightRun limits files requests =
     (replies others : List Reply) (new behind : List Clause)
-    → RightRun limits files [] requests replies new → RightRun limits files [] requests others behind
+    → RightRun limits files [] requests replies new
+    → RightRun limits files [] requests others behind
     → (replies ≡ others) × (new ≡ behind)

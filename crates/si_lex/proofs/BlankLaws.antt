@@ -5,6 +5,7 @@ use Rattle.std.proofs.lemmas.Bool.{or_parts, false≢true}
 use Rattle.si_defs.specs.Bytes.{Bytes, is_white}
 use Rattle.si_defs.specs.Tokens.{IsBlank, white, line_comment, block_comment, joined, Skips, IsLineComment, has_close, begins_with}
 use Rattle.si_defs.specs.Texts.{IsPlace}
+use Rattle.si_defs.proofs.TokenLaws.{skips_nothing}
 use Rattle.si_lex.specs.Blanks.{NoBlankAt}
 
 -- ---- what stands behind the blank at the front
@@ -51,9 +52,6 @@ pub blank_unique : (a b r s : Bytes) → IsBlank a → IsBlank b → a ++ r ≡ 
 blank_unique a b r s p q e = sym (behind_blank_is a r p) ∙ ap behind_blank e ∙ behind_blank_is b s q
 
 -- ---- blanks behind blanks
-pub skips_nothing : (bytes : Bytes) → Skips bytes bytes
-skips_nothing bytes = record { blanks = []; each = tt; whole = refl }
-
 pub skips_first : (bytes blank rest place : Bytes) → IsBlank blank → bytes ≡ blank ++ rest → Skips rest place → Skips bytes place
 skips_first bytes blank rest place b e s = record {
   blanks = blank ∷ s.blanks;

@@ -5,10 +5,11 @@ use Rattle.std.proofs.lemmas.List.{drop_more, drop_all, length-drop, length-take
 use Rattle.std.proofs.lemmas.Bool.{false≢true, cases_lt}
 use Rattle.si_defs.specs.Bytes.{Bytes, is_white}
 use Rattle.si_defs.specs.Tokens.{IsBlank, white, line_comment, block_comment, Skips, AreBlanks, IsLineComment, begins_with}
+use Rattle.si_defs.proofs.TokenLaws.{skips_nothing}
 use Rattle.si_lex.specs.Blanks.{NoBlankAt, NothingBlankAt, IsOneBlank}
 use Rattle.si_lex.specs.Places.{IsBehindBlanks}
 use Rattle.si_lex.specs.Scans.{is_in_line, before_close}
-use Rattle.si_lex.proofs.BlankLaws.{skips_nothing, skips_first, skips_more, skips_none, skips_further, skips_nil, line_open, place_where}
+use Rattle.si_lex.proofs.BlankLaws.{skips_first, skips_more, skips_none, skips_further, skips_nil, line_open, place_where}
 use Rattle.si_lex.proofs.PlaceLaws.{second_at}
 use Rattle.si_lex.proofs.ScanLaws.{line_has_no_feed, line_feed_behind, comment_not_closed, close_behind, close_found}
 

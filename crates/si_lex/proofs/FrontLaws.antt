@@ -9,11 +9,12 @@ use Rattle.si_defs.specs.Bytes.{Bytes, is_small_letter, is_capital_letter, is_di
 use Rattle.si_defs.specs.Tokens.{Spells, TokenAt, Token, is_mark, escaped, quoted, opens_comment, begins_with}
 use Rattle.si_defs.specs.declared.TokenKind.{TokenKind}
 use Rattle.si_defs.specs.declared.TokenKind.TheVariants.{Lower, Upper, Dollar, Int, Single, Double, NotEqual, Mark}
+use Rattle.si_defs.proofs.TokenLaws.{decimal_digit}
 use Rattle.si_lex.specs.Texts.{text_of}
 use Rattle.si_lex.specs.Places.{NoTokenAt}
 use Rattle.si_lex.specs.Scans.{decimal_len, lower_len, behind_quote}
 use Rattle.si_lex.specs.Firsts.{is_lone_mark}
-use Rattle.si_lex.proofs.SpellingLaws.{of_listed, leads, decimal_digit, spelling_leads, spelling_some, kind_of, kind_of-spelling, text_of-quoted, small_kind, capital_kind}
+use Rattle.si_lex.proofs.SpellingLaws.{of_listed, leads, spelling_leads, spelling_some, kind_of, kind_of-spelling, text_of-quoted, small_kind, capital_kind}
 use Rattle.si_lex.proofs.ScanLaws.{run_passes, run_longest, decimal_is, decimal_longest, decimal_within, lower_is, lower_longest, lower_within, AreCharacters, quote_found}
 
 -- the token of this kind that is spelled so

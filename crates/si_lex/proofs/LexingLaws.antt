@@ -7,6 +7,7 @@ use Rattle.si_defs.specs.Tokens.{Token, TokenAt, NextToken, AreBlanks, Begins, C
 use Rattle.si_defs.specs.Grammar.{open_behind, nesting_from, nesting}
 use Rattle.si_defs.specs.declared.TheConstants.{DEEPEST_NESTING}
 use Rattle.si_defs.specs.Texts.{IsPlace}
+use Rattle.si_defs.proofs.TokenLaws.{begins_append, begins_split}
 use Rattle.si_lex.specs.declared.lexeme.Lexeme.{Lexeme}
 use Rattle.si_lex.specs.declared.lexing.Lexing.{Lexing}
 use Rattle.si_lex.specs.declared.lexing.Stop.{Stop}
@@ -16,7 +17,7 @@ use Rattle.si_lex.specs.Places.{IsBehindBlanks, IsLexemeAt, NoTokenWithin}
 use Rattle.si_lex.specs.FullStops.{IsStop, HasNoStop, GoesToStop, EndsAtStop}
 use Rattle.si_lex.specs.Lexing.{IsLexed, IsItemLexing, IsLexingUpTo}
 use Rattle.si_lex.proofs.BlankLaws.{place_unique}
-use Rattle.si_lex.proofs.TokenLaws.{next_place, blanks_none, begins_unique, begins_prefix, begins_append}
+use Rattle.si_lex.proofs.TokenLaws.{next_place, blanks_none, begins_unique, begins_prefix}
 
 -- ---- open brackets
 -- the number of brackets that are open behind some tokens
@@ -60,11 +61,6 @@ nothing_behind_stop d (t ∷ ts) u us (inl e) g = nothing ts (g.0 e.0) where
 nothing_behind_stop d (t ∷ ts) u us (inr e) g = nothing_behind_stop (open_behind d t) ts u us e.1 g.1
 
 -- ---- the tokens so far
--- the bytes behind some tokens and before others
-begins_split : (ts us : List Token) (bytes rest : Bytes) → Begins bytes (ts ++ us) rest → (middle : Bytes) × Begins bytes ts middle × Begins middle us rest
-begins_split [] us bytes rest b = (bytes, refl, b)
-begins_split (t ∷ ts) us bytes rest b = let s = begins_split ts us b.0 rest b.2 in (s.0, (b.0, b.1, s.1), s.2)
-
 -- the tokens up to the place behind the blanks behind them, and the number of brackets that are
 -- open there
 pub record IsSoFar (item : Bool) (bytes : Bytes) (at start : ℕ) (tokens : List Lexeme) (depth place : ℕ) : Type 0 where

@@ -7,10 +7,10 @@ use Rattle.si_defs.specs.Bytes.{Bytes, is_small_letter, is_capital_letter, is_di
 use Rattle.si_defs.specs.Tokens.{Spells, TokenAt, NextToken, is_mark, escaped, opens_comment, begins_with}
 use Rattle.si_defs.specs.declared.TokenKind.{TokenKind}
 use Rattle.si_defs.specs.declared.TokenKind.TheVariants.{Lower, Upper, Dollar, Int, Single, Double, NotEqual, Mark}
+use Rattle.si_defs.proofs.TokenLaws.{skips_nothing}
 use Rattle.si_lex.specs.Scans.{behind_quote}
 use Rattle.si_lex.proofs.SpellingLaws.{of_listed, marks, leads, spelling_leads, spelling_some, kind_of, small_kind, capital_kind, kind_of-spelling}
 use Rattle.si_lex.proofs.ScanLaws.{quote_found}
-use Rattle.si_lex.proofs.BlankLaws.{skips_nothing}
 
 -- the first byte passes
 abbrev pub starts : (ℕ → Bool) → Bytes → Bool

@@ -4,10 +4,11 @@ use Rattle.std.specs.List.{list_all, list_any, flat_map}
 use Rattle.std.proofs.lemmas.Bool.{and_parts, or_cases, false≢true, not-true, eqb-true}
 use Rattle.std.proofs.lemmas.List.{take_at}
 use Rattle.std.proofs.lemmas.Bool.Decides.{nat_tests}
-use Rattle.si_defs.specs.Bytes.{Bytes, is_small_letter, is_capital_letter, is_digit, is_word_byte, is_white, is_between, is_lower_word, is_upper_word, is_dollar_word, is_integer, is_decimal}
+use Rattle.si_defs.specs.Bytes.{Bytes, is_small_letter, is_capital_letter, is_digit, is_word_byte, is_white, is_lower_word, is_upper_word, is_dollar_word, is_integer, is_decimal}
 use Rattle.si_defs.specs.Tokens.{Spells, is_mark, escaped, quoted}
 use Rattle.si_defs.specs.declared.TokenKind.{TokenKind}
 use Rattle.si_defs.specs.declared.TokenKind.TheVariants.{Lower, Upper, Dollar, Int, Single, Double, NotEqual, Mark}
+use Rattle.si_defs.proofs.TokenLaws.{decimal_digit}
 use Rattle.si_lex.specs.Texts.{unescaped_behind, unescaped, inside, text_of}
 
 -- what holds of each of a list of bytes holds of one that is among them
@@ -32,13 +33,6 @@ leads Single c = c == 39
 leads Double c = c == 34
 leads NotEqual c = c == 33
 leads Mark c = is_mark c
-
--- a decimal begins with a digit
-pub decimal_digit : (c : ℕ) (o : Bytes) → is_decimal (c ∷ o) ≡ true → is_digit c ≡ true
-decimal_digit c [] h = h
-decimal_digit c (d ∷ o) h =
-    let k = and_parts (is_between 49 57 c) (list_all is_digit (d ∷ o)) h in
-    grind (arith, nat_tests)
 
 -- a decimal is no sign
 integer_leads : (c : ℕ) (o : Bytes) → is_integer (c ∷ o) ≡ true → leads Int c ≡ true

@@ -107,11 +107,6 @@ begins_prefix (t ∷ ts) (u ∷ us) bytes r s a b = by (begins_prefix ts us a.0 
   by (inl m) = inl (m.0, cc (same.0, m.1))
   by (inr m) = inr (m.0, cc (same.0, m.1))
 
--- one list and then another
-pub begins_append : (ts us : List Token) (bytes middle rest : Bytes) → Begins bytes ts middle → Begins middle us rest → Begins bytes (ts ++ us) rest
-begins_append [] us bytes middle rest a b = subst (λ x. Begins x us rest) (sym a) b
-begins_append (t ∷ ts) us bytes middle rest a b = (a.0, a.1, begins_append ts us a.0 middle rest a.2 b)
-
 -- the bytes consist of one list of tokens only
 pub consists_unique : (ts us : List Token) (bytes : Bytes) → Consists bytes ts → Consists bytes us → ts ≡ us
 consists_unique ts us bytes a b = walk ts us bytes a.begins b.begins where

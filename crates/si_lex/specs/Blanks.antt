@@ -16,4 +16,5 @@ NothingBlankAt bytes = NoBlankAt bytes × (IsLineComment bytes → ⊥)
 pub record IsOneBlank (bytes : Bytes) (at end : ℕ) : Type 0 where
   pub from : at < end
   pub within : end ≤ length bytes
-  pub blank : ((b : Bytes) × IsBlank b × (drop at bytes ≡ b ++ drop end bytes)) ⊎ (IsLineComment (drop at bytes) × (end ≡ length bytes))
+  pub blank : ((b : Bytes) × IsBlank b × (drop at bytes ≡ b ++ drop end bytes))
+      ⊎ (IsLineComment (drop at bytes) × (end ≡ length bytes))

@@ -14,9 +14,15 @@ mark_or_nothing c = cond (is_lone_mark c) LoneMark Nothing
 
 abbrev pub first_of : ℕ → First
 first_of c =
-    cond (is_white c) White (cond (c == 37) Percent (cond (is_small_letter c) Small (cond (is_capital_letter c) Capital (cond (is_digit c) Digit (cond (c == 43 || c == 45) Sign
-    (cond (c == 36) Dollar (cond (c == 39) SingleQuote (cond (c == 34) DoubleQuote (cond (c == 33) Exclamation (cond (c == 47) Slash
-    (cond (c == 40 || c == 91) Opening (cond (c == 41 || c == 93) Closing (cond (c == 95) Underscore (mark_or_nothing c))))))))))))))
+    cond (is_white c) White
+    (cond (c == 37) Percent
+    (cond (is_small_letter c) Small
+    (cond (is_capital_letter c) Capital (cond (is_digit c) Digit (cond (c == 43 || c == 45) Sign
+    (cond (c == 36) Dollar
+    (cond (c == 39) SingleQuote
+    (cond (c == 34) DoubleQuote (cond (c == 33) Exclamation (cond (c == 47) Slash
+    (cond (c == 40 || c == 91) Opening
+    (cond (c == 41 || c == 93) Closing (cond (c == 95) Underscore (mark_or_nothing c))))))))))))))
 
 -- whether blanks may begin so
 abbrev pub begins_blank : First → Bool

@@ -20,4 +20,5 @@ GoesToStop depth (t ∷ ts) = (IsStop depth t → ts ≡ []) × GoesToStop (open
 -- the last token is a full stop outside brackets, and no earlier one is
 abbrev pub EndsAtStop : ℕ → List Token → Type 0
 EndsAtStop depth [] = ⊥
-EndsAtStop depth (t ∷ ts) = (IsStop depth t × (ts ≡ [])) ⊎ ((IsStop depth t → ⊥) × EndsAtStop (open_behind depth t) ts)
+EndsAtStop depth (t ∷ ts) =
+    (IsStop depth t × (ts ≡ [])) ⊎ ((IsStop depth t → ⊥) × EndsAtStop (open_behind depth t) ts)

@@ -33,7 +33,8 @@ pub record IsLexing (bytes : Bytes) (at : ℕ) (l : Lexing) : Type 0 where
   pub read : IsLexed bytes at l rest
   pub no_stop : l.stop ≡ FullStop → ⊥
   -- whatever tokens the bytes begin with, nested no deeper, they are the first of these
-  pub every : (ts : List Token) (behind : Bytes) → Begins (drop at bytes) ts behind → nesting ts ≤ DEEPEST_NESTING
+  pub every : (ts : List Token) (behind : Bytes) → Begins (drop at bytes) ts behind
+      → nesting ts ≤ DEEPEST_NESTING
       → (others : List Token) × (tokens_of l.tokens.items ≡ ts ++ others)
   -- and whatever tokens the bytes consist of, nested no deeper, these are they
   pub whole : (ts : List Token) → Consists (drop at bytes) ts → nesting ts ≤ DEEPEST_NESTING
@@ -48,7 +49,8 @@ pub record IsItemLexing (bytes : Bytes) (at : ℕ) (l : Lexing) : Type 0 where
   pub no_stop : (l.stop ≡ FullStop → ⊥) → HasNoStop 0 (tokens_of l.tokens.items)
   -- whatever tokens the bytes begin with, nested no deeper and up to a full stop at most, they are
   -- the first of these
-  pub every : (ts : List Token) (behind : Bytes) → Begins (drop at bytes) ts behind → nesting ts ≤ DEEPEST_NESTING → GoesToStop 0 ts
+  pub every : (ts : List Token) (behind : Bytes) → Begins (drop at bytes) ts behind
+      → nesting ts ≤ DEEPEST_NESTING → GoesToStop 0 ts
       → (others : List Token) × (tokens_of l.tokens.items ≡ ts ++ others)
 
 -- the one or the other

@@ -47,7 +47,8 @@ pub record IsLexemeWithin (bytes : Bytes) (at depth : ℕ) (l : Lexeme) (behind 
 pub record IsTokenTo (bytes : Bytes) (at : ℕ) (kind : TokenKind) (end : ℕ) : Type 0 where
   pub some : at < end
   pub within : end ≤ length bytes
-  pub stands : TokenAt (drop at bytes) (record { kind = kind; text = text_of kind (slice_range bytes at end) }) (drop end bytes)
+  pub stands : TokenAt (drop at bytes)
+      (record { kind = kind; text = text_of kind (slice_range bytes at end) }) (drop end bytes)
 
 -- ---- with its text
 -- the token behind the blanks
@@ -56,7 +57,8 @@ pub record IsNextToken (bytes : Bytes) (at : ℕ) (t : Token) : Type 0 where
   pub some : t.start < t.end
   pub within : t.end ≤ length bytes
   pub behind : IsPlace (drop at bytes) (drop t.start bytes)
-  pub stands : TokenAt (drop t.start bytes) (record { kind = t.kind; text = t.text }) (drop t.end bytes)
+  pub stands : TokenAt (drop t.start bytes) (record { kind = t.kind; text = t.text })
+      (drop t.end bytes)
   pub more : AreBlanks (drop at bytes) → ⊥
 
 -- behind the longest blanks, at this place, no token stands, and the bytes go on

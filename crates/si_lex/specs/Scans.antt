@@ -28,4 +28,6 @@ abbrev pub behind_quote : ℕ → Bool → Bytes → Option Bytes
 behind_quote quote backslash [] = None
 behind_quote quote true (c ∷ cs) = cond (c == quote || c == 92) (behind_quote quote false cs) None
 behind_quote quote false (c ∷ cs) =
-    cond (c == quote) (Some cs) (cond (c == 92) (behind_quote quote true cs) (cond (is_printable c) (behind_quote quote false cs) None))
+    cond (c == quote) (Some cs)
+    (cond (c == 92) (behind_quote quote true cs)
+    (cond (is_printable c) (behind_quote quote false cs) None))

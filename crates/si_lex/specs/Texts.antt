@@ -8,7 +8,8 @@ use Rattle.si_defs.specs.declared.TokenKind.TheVariants.{Single, Double}
 -- The flag says that such a backslash stands before.
 abbrev pub unescaped_behind : Bool → Bytes → Bytes
 unescaped_behind backslash [] = []
-unescaped_behind backslash (c ∷ cs) = cond (not backslash && c == 92) (unescaped_behind true cs) (c ∷ unescaped_behind false cs)
+unescaped_behind backslash (c ∷ cs) =
+    cond (not backslash && c == 92) (unescaped_behind true cs) (c ∷ unescaped_behind false cs)
 
 abbrev pub unescaped : Bytes → Bytes
 unescaped bytes = unescaped_behind false bytes

@@ -4,9 +4,9 @@ use Rattle.std.proofs.lemmas.List.{map-append}
 use Rattle.si_defs.specs.Terms as terms
 use Rattle.si_flat.specs.declared.Cell.{Cell}
 use Rattle.si_flat.specs.declared.Cell.TheVariants as cell
-use Rattle.si_flat.specs.Cells.{Term, cells_of, cells_of_all, IsWhole}
+use Rattle.si_flat.specs.Cells.{Term, cells_of, cells_of_all, IsWhole, join}
 use Rattle.si_flat.proofs.Subterms.{length-cells_of_all}
-use Rattle.si_unify.proofs.Rows.{join, cells-join, sound-join, count-join}
+use Rattle.si_unify.proofs.Rows.{cells-join, sound-join, count-join}
 use Rattle.si_measure.specs.Rows.{Arguments, AreArguments, with_argument, under_symbol}
 use Rattle.si_measure.specs.Systems.{Equation, twice, with_terms, Adds}
 use Rattle.si_measure.specs.declared.towers.Sides.{Sides}

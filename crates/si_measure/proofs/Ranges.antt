@@ -2,6 +2,7 @@
 use Rattle.std.proofs.Common.{ℕ, zero, suc, ◌+◌, ◌-◌, ◌<◌, List, [], ◌∷◌, ◌++◌, map, sym, subst, arith}
 use Rattle.std.specs.List.{AllByRecursion}
 use Rattle.si_defs.specs.Terms as terms
+use Rattle.si_defs.proofs.ListLaws.{all_append}
 use Rattle.si_flat.specs.declared.Cell.{Cell}
 use Rattle.si_flat.specs.declared.Owner.{Owner}
 use Rattle.si_flat.specs.declared.Owner.TheVariants.{Query, Entry}
@@ -12,10 +13,6 @@ use Rattle.si_measure.specs.Systems.{Equation, variable, doubled, tower, two_tow
 use Rattle.si_measure.specs.Answers.{slots_for, HaveSlots}
 use Rattle.si_measure.specs.declared.task.Shape.{Shape}
 use Rattle.si_measure.specs.declared.task.Shape.TheVariants.{One, Both, Shifted}
-
-all_append : {A : Type 0} (P : A → Type 0) (xs ys : List A) → AllByRecursion P xs → AllByRecursion P ys → AllByRecursion P (xs ++ ys)
-all_append P [] ys h k = k
-all_append P (x ∷ xs) ys h k = (h.0, all_append P xs ys h.1 k)
 
 variable_in_range : (owner : Owner) (n m : ℕ) → n < m → AreInRange (slots_for m) (cells_of (variable owner n))
 variable_in_range Query n m less = (less, tt)

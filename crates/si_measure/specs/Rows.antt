@@ -19,7 +19,8 @@ pub record AreArguments (cells : List Cell) (count : ℕ) : Type 0 where
 
 -- one argument more
 abbrev pub with_argument : Arguments → List Cell → Arguments
-with_argument arguments term = record { cells = arguments.cells ++ term; count = arguments.count + 1 }
+with_argument arguments term =
+    record { cells = arguments.cells ++ term; count = arguments.count + 1 }
 
 -- the cells of the term with these arguments
 abbrev pub under_symbol : ℕ → Arguments → List Cell

@@ -58,7 +58,10 @@ pub record AreSides (equations : List Equation) (left right : List Cell) : Type 
 -- so many terms more
 abbrev pub with_terms : Arguments → List Term → Arguments
 with_terms arguments ts =
-    record { cells = arguments.cells ++ cells_of_all (terms.row ts); count = arguments.count + length ts }
+    record {
+      cells = arguments.cells ++ cells_of_all (terms.row ts);
+      count = arguments.count + length ts;
+    }
 
 -- the sides of the equations come behind the others
 pub record Adds (old new : Sides) (equations : List Equation) : Type 0 where

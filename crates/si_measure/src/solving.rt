@@ -1,9 +1,8 @@
 // Two terms that are solved so many times.
-ghost use Rattle.std.specs.Prelude.{IsTrue, IsFalse, IfOk};
-ghost use Rattle.si_unify.specs.Solving.{CellIsInRange, AreInRange};
+ghost use Rattle.std.specs.Prelude.{IfOk};
 ghost use Rattle.si_measure.specs.Answers.{Solves};
 
-use si_flat::{Cell, Flat};
+use si_flat::Flat;
 use si_trail::Trail;
 use si_unify::{Scratch, Slots, solve_with};
 use std::alloc::{AllocError, Global};
@@ -45,10 +44,10 @@ pub(crate) fn solve_often(
         freeze_query: false,
         freeze_entry: false,
     };
-    if !are_in_range(&slots, left) {
+    if !slots.are_in_range(left) {
         return Ok(unsolved);
     }
-    if !are_in_range(&slots, right) {
+    if !slots.are_in_range(right) {
         return Ok(unsolved);
     }
     let mut scratch = Scratch::new(alloc);
@@ -66,28 +65,4 @@ pub(crate) fn solve_often(
         bindings: Some(trail.mark()),
         ..unsolved
     })
-}
-
-fn are_in_range(slots: &Slots, cells: &[Cell]) -> bool
-    ensures yes { IsTrue result → AreInRange slots.now cells.now }
-    ensures no { IsFalse result → AreInRange slots.now cells.now → ⊥ }
-{
-    for &cell in cells {
-        if !is_in_range(slots, cell) {
-            return false;
-        }
-    }
-    true
-}
-
-fn is_in_range(slots: &Slots, cell: Cell) -> bool
-    ensures yes { IsTrue result → CellIsInRange slots.now cell }
-    ensures no { IsFalse result → CellIsInRange slots.now cell → ⊥ }
-{
-    match cell {
-        Cell::App { .. } => true,
-        Cell::Query(number) => number < slots.query,
-        Cell::Entry(number) => number < slots.entry,
-        Cell::Ind(number) => number < slots.inds,
-    }
 }

@@ -3,9 +3,10 @@ use Rattle.std.proofs.Common.{◌≡◌, ℕ, zero, suc, ◌+◌, ◌<◌, Bool,
 use Rattle.si_defs.specs.Clauses.{Term, Literal}
 use Rattle.si_defs.specs.Tokens.{Token, mark}
 use Rattle.si_defs.specs.Grammar.{IsSignedAtom, IsLiteral, AreMoreLiterals, IsDisjunction, IsFormula, left_bracket, right_bracket}
+use Rattle.si_defs.proofs.ListLaws.{same_tail}
 use Rattle.si_parse.specs.Parsing.{ReadsTokens, Anything, NoBracket, NoSign, NoLiteral}
 use Rattle.si_parse.specs.GrammarRules.{AreMore, AreLiterals, AreClosing, positively}
-use Rattle.si_parse.proofs.ParseSteps.{parses_none, parses_some, parses_uses, parses_one, parses_never, tails}
+use Rattle.si_parse.proofs.ParseSteps.{parses_none, parses_some, parses_uses, parses_one, parses_never}
 use Rattle.si_parse.proofs.GrammarTerms.{marks_apart, mark_unequal, no_bracket, opens}
 use Rattle.si_parse.proofs.GrammarLiterals.{statement_first, mark_no_first, negatively}
 
@@ -60,14 +61,14 @@ literals_bare (l ∷ ls) ts rest (first, others, one, all, e) =
     subst NoBracket (sym (ap (λ x. x ++ rest) e ∙ append_assoc first others rest)) (begins_bare l.positive l.atom first (others ++ rest) one)
 
 -- as many brackets stand before what begins with none
-same_brackets : (n m : ℕ) (xs ys : List Token) → NoBracket xs → NoBracket ys → replicate n left_bracket ++ xs ≡ replicate m left_bracket ++ ys → (n ≡ m) × (xs ≡ ys)
+pub same_brackets : (n m : ℕ) (xs ys : List Token) → NoBracket xs → NoBracket ys → replicate n left_bracket ++ xs ≡ replicate m left_bracket ++ ys → (n ≡ m) × (xs ≡ ys)
 same_brackets zero zero xs ys h k e = (refl, e)
 same_brackets zero (suc m) xs ys h k e = absurd (opens xs _ h e)
 same_brackets (suc n) zero xs ys h k e = absurd (opens ys _ k (sym e))
-same_brackets (suc n) (suc m) xs ys h k e = let same = same_brackets n m xs ys h k (tails e) in (ap suc same.0, same.1)
+same_brackets (suc n) (suc m) xs ys h k e = let same = same_brackets n m xs ys h k (same_tail e) in (ap suc same.0, same.1)
 
 -- closing brackets, and what may follow the last literal
-closing_follows : (n : ℕ) (rest : List Token) → NoLiteral rest → NoLiteral (replicate n right_bracket ++ rest)
+pub closing_follows : (n : ℕ) (rest : List Token) → NoLiteral rest → NoLiteral (replicate n right_bracket ++ rest)
 closing_follows zero rest h = h
 closing_follows (suc n) rest h = right_no_literal (replicate n right_bracket ++ rest)
 
@@ -122,7 +123,7 @@ module _ {tokens inner : List Token} (n : ℕ) (opened : tokens ≡ replicate n 
 -- so many stand in front of what is left
 same_front : (n : ℕ) (xs ys : List Token) → replicate n right_bracket ++ xs ≡ replicate n right_bracket ++ ys → xs ≡ ys
 same_front zero xs ys e = e
-same_front (suc n) xs ys e = same_front n xs ys (tails e)
+same_front (suc n) xs ys e = same_front n xs ys (same_tail e)
 
 pub closing_some : (n : ℕ) (tokens left : List Token) → tokens ≡ replicate n right_bracket ++ left → ReadsTokens (λ (u : Unit {0}) used. AreClosing n used) Anything tokens (Some (tt {0}, left))
 closing_some n tokens left e = parses_some tt (replicate n right_bracket) left e refl (λ u used after f means follows.
@@ -132,7 +133,7 @@ closing_some n tokens left e = parses_some tt (replicate n right_bracket) left e
 one_more : (i n : ℕ) (left after : List Token) → i < n → replicate i right_bracket ++ left ≡ replicate n right_bracket ++ after → (rest : List Token) × (left ≡ right_bracket ∷ rest)
 one_more i zero left after h e = absurd (omega (arith, h))
 one_more zero (suc n) left after h e = (replicate n right_bracket ++ after, e)
-one_more (suc i) (suc n) left after h e = one_more i n left after (omega (arith, h)) (tails e)
+one_more (suc i) (suc n) left after h e = one_more i n left after (omega (arith, h)) (same_tail e)
 
 pub closing_none : (n i : ℕ) (tokens left : List Token) → i < n → tokens ≡ replicate i right_bracket ++ left → ((rest : List Token) → left ≡ right_bracket ∷ rest → ⊥)
     → ReadsTokens (λ (u : Unit {0}) used. AreClosing n used) Anything tokens None

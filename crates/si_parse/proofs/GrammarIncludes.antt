@@ -4,12 +4,13 @@ use Rattle.std.specs.Prelude.{codes}
 use Rattle.si_defs.specs.Bytes.{Bytes}
 use Rattle.si_defs.specs.Clauses.{Name}
 use Rattle.si_defs.specs.Tokens.{Token, mark, lower}
-use Rattle.si_defs.specs.Grammar.{IsName, AreMoreNames, Selection, IsSelection, IsItem, include_item, left_bracket, right_bracket, comma, full_stop}
+use Rattle.si_defs.specs.Grammar.{AreMoreNames, Selection, IsSelection, left_bracket, right_bracket, comma, full_stop}
 use Rattle.si_defs.specs.Grammar as selected
 use Rattle.si_defs.specs.declared.TokenKind.TheVariants as token
+use Rattle.si_defs.proofs.ListLaws.{same_head, same_tail}
 use Rattle.si_parse.specs.Parsing.{ReadsTokens, Anything, NoName}
 use Rattle.si_parse.specs.GrammarRules.{AreMore, IsMark, IsOpening, IsNameToken, AreNames, AreChosen, IsFileToken, AreLast, IsInclude}
-use Rattle.si_parse.proofs.ParseSteps.{parses_none, parses_some, parses_uses, parses_one, parses_never, heads, tails, front_tails}
+use Rattle.si_parse.proofs.ParseSteps.{parses_none, parses_some, parses_uses, parses_one, parses_never, front_tails}
 use Rattle.si_parse.proofs.ParseSequences.{Then, then_none, then_stop, renamed_some, renamed_none}
 use Rattle.si_parse.proofs.GrammarTerms.{marks_apart}
 
@@ -47,7 +48,7 @@ module _ (rest : List Token) where
       parses_some ns (mark 91 ∷ h.0 ++ mark 93 ∷ []) behind (ap (λ x. mark 91 ∷ x) (h.1 ∙ sym (append_assoc h.0 (mark 93 ∷ []) behind))) (h.0, h.2, refl) unique where
         unique : (ms : List Name) (used after : List Token) → mark 91 ∷ rest ≡ used ++ after → AreChosen ms used → Anything after → (ns ≡ ms) × (behind ≡ after)
         unique ms used after e (inner, all, f) any =
-            let same = parses_one p ms inner (mark 93 ∷ after) (chosen_inside used inner after e f) all (bracket_ends after) in (same.0, tails same.1)
+            let same = parses_one p ms inner (mark 93 ∷ after) (chosen_inside used inner after e f) all (bracket_ends after) in (same.0, same_tail same.1)
 
 -- without an opening bracket there are none
 pub chosen_bare : {tokens : List Token} → ((rest : List Token) → tokens ≡ mark 91 ∷ rest → ⊥) → ReadsTokens AreChosen Anything tokens None
@@ -70,7 +71,7 @@ chosen_of (n ∷ ns) used (t, others, is, all, e) =
 -- a comma follows where one stands
 comma_follows : (rest xs : List Token) → NoName xs → xs ≡ comma ∷ rest → ⊥
 comma_follows rest [] h e = cc
-comma_follows rest (x ∷ xs) h e = h.0 (heads e)
+comma_follows rest (x ∷ xs) h e = h.0 (same_head e)
 
 -- without a comma all are selected
 pub selection_all : (tokens : List Token) → ((rest : List Token) → tokens ≡ comma ∷ rest → ⊥) → ReadsTokens IsSelection NoName tokens (Some (selected.all, tokens))

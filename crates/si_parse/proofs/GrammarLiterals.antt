@@ -1,5 +1,6 @@
 -- Literals: what the readers of them give.
 use Rattle.std.proofs.Common.{◌≡◌, ℕ, ◌+◌, Bool, true, false, List, [], ◌∷◌, ◌++◌, Option, Some, None, refl, sym, ap, ◌∙◌, subst, append_assoc, arith, inl, inr}
+use Rattle.std.proofs.lemmas.Option.{same_Some, none-some}
 use Rattle.std.specs.Prelude.{option_map}
 use Rattle.std.proofs.lemmas.Bool.{false≢true}
 use Rattle.si_defs.specs.Bytes.{Bytes}
@@ -12,16 +13,11 @@ use Rattle.si_defs.specs.declared.SymKind.{SymKind}
 use Rattle.si_defs.specs.declared.SymKind.TheVariants.{Word, Dollar, Number, Distinct, Equal}
 use Rattle.si_defs.specs.declared.Side.{Side}
 use Rattle.si_defs.specs.declared.Side.TheVariants.{Predicate}
+use Rattle.si_defs.proofs.ListLaws.{same_head, same_tail}
 use Rattle.si_parse.specs.Parsing.{ReadsTokens, Anything, NoBracket, NoSign}
 use Rattle.si_parse.specs.GrammarRules.{function_symbol, as_atom, positively, equation, equality_sign, IsSign, IsStatement, IsNegated}
-use Rattle.si_parse.proofs.ParseSteps.{parses_none, parses_some, parses_uses, parses_one, parses_never, heads, tails, front_heads, front_tails}
+use Rattle.si_parse.proofs.ParseSteps.{parses_none, parses_some, parses_uses, parses_one, parses_never, front_heads, front_tails}
 use Rattle.si_parse.proofs.GrammarTerms.{First, variable, symbol, term_first, symbol_kind, head_constant, marks_apart, mark_unequal}
-
-some_same : {A : Type 0} (x y : A) → Some x ≡ Some y → x ≡ y
-some_same x y e = cc
-
-none_some : {A : Type 0} (x : A) → None ≡ Some x → ⊥
-none_some x e = cc
 
 -- ---- atoms as terms
 -- the symbol of a predicate
@@ -40,16 +36,16 @@ as_atom-head Equal text arity us t h = absurd h
 -- the tokens of a term spell its atom
 atom_by : (kind : SymKind) (text : Bytes) (side : Side) (arity : ℕ) (us : Terms) (m : Term) (ts : List Token) → IsTerm (terms.app (record { kind = kind; text = text; side = side; arity = arity }) us) ts
     → as_atom (terms.app (record { kind = kind; text = text; side = side; arity = arity }) us) ≡ Some m → IsAtom m ts
-atom_by Word text side arity terms.none m ts (on_side, count, parts) e = subst (λ x. IsAtom x ts) (some_same _ m e) (refl, count, parts)
-atom_by Word text side arity (terms.more u us) m ts (on_side, count, parts) e = subst (λ x. IsAtom x ts) (some_same _ m e) (inl (refl, count, parts))
-atom_by Dollar text side arity terms.none m ts (on_side, count, parts) e = subst (λ x. IsAtom x ts) (some_same _ m e) (refl, count, parts)
-atom_by Dollar text side arity (terms.more u us) m ts (on_side, count, parts) e = subst (λ x. IsAtom x ts) (some_same _ m e) (inl (refl, count, parts))
-atom_by Number text side arity us m ts h e = absurd (none_some m e)
-atom_by Distinct text side arity us m ts h e = absurd (none_some m e)
-atom_by Equal text side arity us m ts h e = absurd (none_some m e)
+atom_by Word text side arity terms.none m ts (on_side, count, parts) e = subst (λ x. IsAtom x ts) (same_Some _ m e) (refl, count, parts)
+atom_by Word text side arity (terms.more u us) m ts (on_side, count, parts) e = subst (λ x. IsAtom x ts) (same_Some _ m e) (inl (refl, count, parts))
+atom_by Dollar text side arity terms.none m ts (on_side, count, parts) e = subst (λ x. IsAtom x ts) (same_Some _ m e) (refl, count, parts)
+atom_by Dollar text side arity (terms.more u us) m ts (on_side, count, parts) e = subst (λ x. IsAtom x ts) (same_Some _ m e) (inl (refl, count, parts))
+atom_by Number text side arity us m ts h e = absurd (none-some m e)
+atom_by Distinct text side arity us m ts h e = absurd (none-some m e)
+atom_by Equal text side arity us m ts h e = absurd (none-some m e)
 
 pub atom_of : (t m : Term) (ts : List Token) → IsTerm t ts → as_atom t ≡ Some m → IsAtom m ts
-atom_of (terms.var x) m ts h e = absurd (none_some m e)
+atom_of (terms.var x) m ts h e = absurd (none-some m e)
 atom_of (terms.app s us) m ts h e = atom_by s.kind s.text s.side s.arity us m ts h e
 
 -- ---- statements
@@ -92,7 +88,7 @@ sides_mean false left right front back one two = (refl, (front, back, one, two, 
 
 -- ---- signs
 -- no sign opens a bracket
-sign_no_bracket : (positive : Bool) (rest : List Token) → NoBracket (equality_sign positive ∷ rest)
+pub sign_no_bracket : (positive : Bool) (rest : List Token) → NoBracket (equality_sign positive ∷ rest)
 sign_no_bracket true rest = (marks_apart 61 40 (λ e. absurd (omega (arith, e))), tt)
 sign_no_bracket false rest = (λ e. mark_unequal 40 (sym e), tt)
 
@@ -110,13 +106,13 @@ no_sign-none (t ∷ ts) h s = (
 )
 
 -- and none follows
-sign_never : (positive : Bool) (rest after : List Token) → NoSign after → after ≡ equality_sign positive ∷ rest → ⊥
+pub sign_never : (positive : Bool) (rest after : List Token) → NoSign after → after ≡ equality_sign positive ∷ rest → ⊥
 sign_never positive rest [] h e = cc
-sign_never true rest (t ∷ ts) h e = h.1.0 (heads e)
-sign_never false rest (t ∷ ts) h e = h.1.1.0 (heads e)
+sign_never true rest (t ∷ ts) h e = h.1.0 (same_head e)
+sign_never false rest (t ∷ ts) h e = h.1.1.0 (same_head e)
 
 -- the signs are different tokens
-signs_apart : (a b : Bool) → equality_sign a ≡ equality_sign b → a ≡ b
+pub signs_apart : (a b : Bool) → equality_sign a ≡ equality_sign b → a ≡ b
 signs_apart true true e = refl
 signs_apart false false e = refl
 signs_apart true false e = absurd (mark_unequal 61 e)
@@ -155,7 +151,7 @@ module _ {tokens behind : List Token} {left : Term} (p : ReadsTokens IsTerm NoBr
       by (sided l' right front back one two f g) =
           let h = left_side l' l.positive used front back after e one g in
           let same = sym (sign_front s) ∙ h.1 in
-          k l right back after two (tails same) follows (ap (λ x. equation x right) h.0 ∙ f) (signs_apart positive l.positive (heads same))
+          k l right back after two (same_tail same) follows (ap (λ x. equation x right) h.0 ∙ f) (signs_apart positive l.positive (same_head same))
 
     -- no term behind the sign
     pub statement_stop : ReadsTokens IsTerm NoBracket next None → ReadsTokens IsStatement NoSign tokens None
@@ -188,11 +184,11 @@ module _ {tokens behind : List Token} {left : Term} (p : ReadsTokens IsTerm NoBr
           absurd (parses_never s l.positive (equality_sign l.positive ∷ []) (back ++ after) h.1 refl tt)
 
     pub statement_bare : (result : Option Term) → as_atom left ≡ result → ReadsTokens IsStatement NoSign tokens (option_map (λ m. (positively m, behind)) result)
-    statement_bare None none = parses_none (headed_by (λ l after. ⊥) (λ l after e f g. none_some l.atom (sym none ∙ f)))
+    statement_bare None none = parses_none (headed_by (λ l after. ⊥) (λ l after e f g. none-some l.atom (sym none ∙ f)))
     statement_bare (Some m) some =
         let h = parses_uses left behind p in
         parses_some (positively m) h.0 behind h.1 (atom_of left m h.0 h.2 some)
-        (headed_by (λ l after. (positively m ≡ l) × (behind ≡ after)) (λ l after e f g. ((λ i. record { positive = sym g i; atom = some_same m l.atom (sym some ∙ f) i }), e)))
+        (headed_by (λ l after. (positively m ≡ l) × (behind ≡ after)) (λ l after e f g. ((λ i. record { positive = sym g i; atom = same_Some m l.atom (sym some ∙ f) i }), e)))
 
 -- ---- atoms
 -- a positive statement is an atom
@@ -222,7 +218,7 @@ statement_first l ts h = by (spelled_of l ts h) where
 -- is no mark
 pub mark_no_first : (c : ℕ) (t : Token) → First t → mark c ≡ t → ⊥
 mark_no_first c t (variable k) e = cc (ap (λ (x : Token). x.kind) e, k)
-mark_no_first c t (symbol kind k) e = none_some kind (ap (λ (x : Token). symbol_kind x.kind) e ∙ k)
+mark_no_first c t (symbol kind k) e = none-some kind (ap (λ (x : Token). symbol_kind x.kind) e ∙ k)
 
 pub statement_no_mark : (c : ℕ) (l : Literal) (used rest after tokens : List Token) → tokens ≡ mark c ∷ rest → tokens ≡ used ++ after → IsStatement l used → ⊥
 statement_no_mark c l used rest after tokens opens e h =
@@ -252,7 +248,7 @@ module _ (rest : List Token) where
   negated_some {m = m} {behind = behind} p =
       let h = parses_uses m (right_bracket ∷ behind) p in
       parses_some m (left_bracket ∷ h.0 ++ right_bracket ∷ []) behind (ap (λ x. left_bracket ∷ x) (h.1 ∙ sym (append_assoc h.0 (right_bracket ∷ []) behind))) (inr (h.0, h.2, refl))
-      (round_by (λ other after. (m ≡ other) × (behind ≡ after)) (λ other inner after g e. let same = parses_one p other inner (right_bracket ∷ after) e g (right_no_sign after) in (same.0, tails same.1)))
+      (round_by (λ other after. (m ≡ other) × (behind ≡ after)) (λ other inner after g e. let same = parses_one p other inner (right_bracket ∷ after) e g (right_no_sign after) in (same.0, same_tail same.1)))
 
 -- without a bracket, an atom
 pub negated_bare : {tokens : List Token} → ((rest : List Token) → tokens ≡ left_bracket ∷ rest → ⊥) → (result : Option (Term × List Token)) → ReadsTokens IsAtom NoSign tokens result → ReadsTokens IsNegated NoSign tokens result

@@ -1,5 +1,6 @@
 -- Names, roles and files: what the readers of them give.
 use Rattle.std.proofs.Common.{◌≡◌, List, [], ◌∷◌, ◌++◌, Option, Some, None, refl, sym, ap, ◌∙◌, subst, inl, inr}
+use Rattle.std.proofs.lemmas.Option.{none-some, same_Some}
 use Rattle.si_defs.specs.Bytes.{Bytes}
 use Rattle.si_defs.specs.Clauses.{Name}
 use Rattle.si_defs.specs.Tokens.{Token, lower}
@@ -11,9 +12,6 @@ use Rattle.si_defs.specs.declared.TokenKind.TheVariants as token
 use Rattle.si_parse.specs.Parsing.{ReadsTokens, Anything, NoName}
 use Rattle.si_parse.specs.GrammarRules.{IsMark, IsOpening, IsNameToken}
 use Rattle.si_parse.proofs.ParseSteps.{parses_none, parses_some, front_heads, front_tails}
-
-none_some : {A : Type 0} (x : A) → None ≡ Some x → ⊥
-none_some x e = cc
 
 -- which name a token is
 abbrev pub name_kind : TokenKind → Option NameKind
@@ -43,23 +41,20 @@ named_by token.Single text named.Word e = inr refl
 named_by token.Single text named.Int e = cc
 named_by token.Int text named.Int e = refl
 named_by token.Int text named.Word e = cc
-named_by token.Upper text name e = absurd (none_some name e)
-named_by token.Dollar text name e = absurd (none_some name e)
-named_by token.Double text name e = absurd (none_some name e)
-named_by token.NotEqual text name e = absurd (none_some name e)
-named_by token.Mark text name e = absurd (none_some name e)
+named_by token.Upper text name e = absurd (none-some name e)
+named_by token.Dollar text name e = absurd (none-some name e)
+named_by token.Double text name e = absurd (none-some name e)
+named_by token.NotEqual text name e = absurd (none-some name e)
+named_by token.Mark text name e = absurd (none-some name e)
 
 -- a name in front
 pub name_some : (t : Token) (rest : List Token) (kind : NameKind) → name_kind t.kind ≡ Some kind → ReadsTokens IsNameToken Anything (t ∷ rest) (Some (record { kind = kind; text = t.text }, rest))
 name_some t rest kind e = parses_some (record { kind = kind; text = t.text }) (t ∷ []) rest refl (t, named_by t.kind t.text kind e, refl) unique where
-  same_kind : (a b : NameKind) → Some a ≡ Some b → a ≡ b
-  same_kind a b f = cc
-
   unique : (n : Name) (used behind : List Token) → t ∷ rest ≡ used ++ behind → IsNameToken n used → Anything behind → (record { kind = kind; text = t.text } ≡ n) × (rest ≡ behind)
   unique n used behind f (u, is, g) any =
       let same = front_heads behind f g in
       let k = name_of_token n u is in
-      let kinds = same_kind kind n.kind (sym e ∙ ap (λ (x : Token). name_kind x.kind) same ∙ k.0) in
+      let kinds = same_Some kind n.kind (sym e ∙ ap (λ (x : Token). name_kind x.kind) same ∙ k.0) in
       let texts = ap (λ (x : Token). x.text) same ∙ k.1 in
       ((λ i. record { kind = kinds i; text = texts i }), front_tails behind f g)
 
@@ -68,7 +63,7 @@ pub name_none : (t : Token) (rest : List Token) → name_kind t.kind ≡ None �
 name_none t rest e = parses_none never where
   never : (n : Name) (used behind : List Token) → t ∷ rest ≡ used ++ behind → IsNameToken n used → Anything behind → ⊥
   never n used behind f (u, is, g) any =
-      none_some n.kind (sym e ∙ ap (λ (x : Token). name_kind x.kind) (front_heads behind f g) ∙ (name_of_token n u is).0)
+      none-some n.kind (sym e ∙ ap (λ (x : Token). name_kind x.kind) (front_heads behind f g) ∙ (name_of_token n u is).0)
 
 pub name_empty : ReadsTokens IsNameToken Anything [] None
 name_empty = parses_none never where

@@ -1,5 +1,6 @@
 -- Annotations and the end of a clause: what the readers of them give.
 use Rattle.std.proofs.Common.{◌≡◌, ◌≢◌, ℕ, Bool, true, false, ◌==◌, cond, List, [], ◌∷◌, ◌++◌, Option, Some, None, refl, sym, ap, ◌∙◌, subst, append_assoc, arith, IsTrue}
+use Rattle.std.proofs.lemmas.Option.{same_Some, none-some}
 use Rattle.std.proofs.lemmas.Bool.{false≢true, ne_eqb, eqb-true}
 use Rattle.std.specs.Option.{option_map_or}
 use Rattle.si_defs.specs.Bytes.{Bytes}
@@ -7,17 +8,12 @@ use Rattle.si_defs.specs.Tokens.{Token, mark}
 use Rattle.si_defs.specs.Grammar.{Bracket, round, square, neither, opening_of, closing_of, brackets_behind, balances, right_bracket, comma}
 use Rattle.si_defs.specs.declared.TokenKind.{TokenKind}
 use Rattle.si_defs.specs.declared.TokenKind.TheVariants as token
+use Rattle.si_defs.proofs.ListLaws.{same_head, same_tail}
 use Rattle.si_parse.specs.Parsing.{ReadsTokens, Anything, NoLiteral}
 use Rattle.si_parse.specs.GrammarRules.{AreAnnotations, IsClosed}
 use Rattle.si_parse.proofs.GrammarTerms.{marks_apart, mark_unequal}
 use Rattle.si_parse.proofs.GrammarFormulas.{right_no_literal}
-use Rattle.si_parse.proofs.ParseSteps.{parses_none, parses_some, heads, tails}
-
-some_same : {A : Type 0} (x y : A) → Some x ≡ Some y → x ≡ y
-some_same x y e = cc
-
-none_some : {A : Type 0} (x : A) → None ≡ Some x → ⊥
-none_some x e = cc
+use Rattle.si_parse.proofs.ParseSteps.{parses_none, parses_some}
 
 -- ---- which brackets are open
 abbrev pub and_then : (List Bracket → Option (List Bracket)) → Option (List Bracket) → Option (List Bracket)
@@ -32,14 +28,14 @@ open_after (t ∷ ts) pending = and_then (open_after ts) (brackets_behind t pend
 
 -- behind one more token
 pub open_more : (ts : List Token) (t : Token) (pending next : List Bracket) → open_after ts pending ≡ Some next → open_after (ts ++ t ∷ []) pending ≡ brackets_behind t next
-open_more [] t pending next e = by (brackets_behind t pending) ∙ ap (brackets_behind t) (some_same pending next e) where
+open_more [] t pending next e = by (brackets_behind t pending) ∙ ap (brackets_behind t) (same_Some pending next e) where
   by : (o : Option (List Bracket)) → and_then Some o ≡ o
   by None = refl
   by (Some x) = refl
 open_more (u ∷ us) t pending next e = by (λ p f. open_more us t p next f) (brackets_behind u pending) e where
   by : ((p : List Bracket) → open_after us p ≡ Some next → open_after (us ++ t ∷ []) p ≡ brackets_behind t next)
       → (o : Option (List Bracket)) → and_then (open_after us) o ≡ Some next → and_then (open_after (us ++ t ∷ [])) o ≡ brackets_behind t next
-  by again None f = absurd (none_some next f)
+  by again None f = absurd (none-some next f)
   by again (Some p) f = again p f
 
 -- tokens balance where no bracket is open behind them
@@ -53,10 +49,10 @@ balanced_open (t ∷ ts) pending h = by (λ p f. balanced_open ts p f) (brackets
 
 pub open_balanced : (ts : List Token) (pending : List Bracket) → open_after ts pending ≡ Some [] → IsTrue (balances ts pending)
 open_balanced [] [] h = refl
-open_balanced [] (b ∷ bs) h = let e : b ∷ bs ≡ [] = some_same (b ∷ bs) [] h in cc
+open_balanced [] (b ∷ bs) h = let e : b ∷ bs ≡ [] = same_Some (b ∷ bs) [] h in cc
 open_balanced (t ∷ ts) pending h = by (λ p f. open_balanced ts p f) (brackets_behind t pending) h where
   by : ((p : List Bracket) → open_after ts p ≡ Some [] → IsTrue (balances ts p)) → (o : Option (List Bracket)) → and_then (open_after ts) o ≡ Some [] → IsTrue (option_map_or (balances ts) o false)
-  by again None f = absurd (none_some [] f)
+  by again None f = absurd (none-some [] f)
   by again (Some p) f = again p f
 
 -- How some tokens stand beside annotations and their bracket: those end here, or the next token is
@@ -72,27 +68,27 @@ beside_more u v front notes t stack rest behind e (goes_on next f) = goes_on nex
 
 pub beside : (front notes : List Token) (t : Token) (pending stack : List Bracket) (rest behind : List Token) → open_after front pending ≡ Some stack → open_after notes pending ≡ Some []
     → front ++ t ∷ rest ≡ notes ++ right_bracket ∷ behind → Beside front notes t stack rest behind
-beside [] [] t pending stack rest behind h k e = ends refl (sym (some_same pending stack h) ∙ some_same pending [] k) (heads e) (tails e)
+beside [] [] t pending stack rest behind h k e = ends refl (sym (same_Some pending stack h) ∙ same_Some pending [] k) (same_head e) (same_tail e)
 beside [] (u ∷ us) t pending stack rest behind h k e = by (brackets_behind u pending) refl k where
   by : (o : Option (List Bracket)) → brackets_behind u pending ≡ o → and_then (open_after us) o ≡ Some [] → Beside [] (u ∷ us) t stack rest behind
-  by None f g = absurd (none_some [] g)
-  by (Some next) f g = goes_on next (ap (λ x. brackets_behind x stack) (heads e) ∙ ap (brackets_behind u) (sym (some_same pending stack h)) ∙ f)
+  by None f g = absurd (none-some [] g)
+  by (Some next) f g = goes_on next (ap (λ x. brackets_behind x stack) (same_head e) ∙ ap (brackets_behind u) (sym (same_Some pending stack h)) ∙ f)
 beside (f ∷ fs) [] t pending stack rest behind h k e =
-    absurd (none_some stack (sym (ap (λ p. and_then (open_after fs) (brackets_behind right_bracket p)) (some_same pending [] k)) ∙ ap (λ x. and_then (open_after fs) (brackets_behind x pending)) (sym (heads e)) ∙ h))
+    absurd (none-some stack (sym (ap (λ p. and_then (open_after fs) (brackets_behind right_bracket p)) (same_Some pending [] k)) ∙ ap (λ x. and_then (open_after fs) (brackets_behind x pending)) (sym (same_head e)) ∙ h))
 beside (f ∷ fs) (u ∷ us) t pending stack rest behind h k e =
-    by (λ p g l. beside fs us t p stack rest behind g l (tails e)) (brackets_behind f pending) h (ap (λ x. and_then (open_after us) (brackets_behind x pending)) (heads e) ∙ k) where
+    by (λ p g l. beside fs us t p stack rest behind g l (same_tail e)) (brackets_behind f pending) h (ap (λ x. and_then (open_after us) (brackets_behind x pending)) (same_head e) ∙ k) where
       by : ((p : List Bracket) → open_after fs p ≡ Some stack → open_after us p ≡ Some [] → Beside fs us t stack rest behind)
           → (o : Option (List Bracket)) → and_then (open_after fs) o ≡ Some stack → and_then (open_after us) o ≡ Some [] → Beside (f ∷ fs) (u ∷ us) t stack rest behind
-      by again None g l = absurd (none_some stack g)
-      by again (Some p) g l = beside_more f u fs us t stack rest behind (heads e) (again p g l)
+      by again None g l = absurd (none-some stack g)
+      by again (Some p) g l = beside_more f u fs us t stack rest behind (same_head e) (again p g l)
 
 -- behind annotations and their bracket nothing balances
 overrun : (notes behind : List Token) (pending stack : List Bracket) → open_after notes pending ≡ Some [] → open_after (notes ++ right_bracket ∷ behind) pending ≡ Some stack → ⊥
-overrun [] behind pending stack h k = none_some stack (sym (ap (λ p. and_then (open_after behind) (brackets_behind right_bracket p)) (some_same pending [] h)) ∙ k)
+overrun [] behind pending stack h k = none-some stack (sym (ap (λ p. and_then (open_after behind) (brackets_behind right_bracket p)) (same_Some pending [] h)) ∙ k)
 overrun (u ∷ us) behind pending stack h k = by (λ p f g. overrun us behind p stack f g) (brackets_behind u pending) h k where
   by : ((p : List Bracket) → open_after us p ≡ Some [] → open_after (us ++ right_bracket ∷ behind) p ≡ Some stack → ⊥)
       → (o : Option (List Bracket)) → and_then (open_after us) o ≡ Some [] → and_then (open_after (us ++ right_bracket ∷ behind)) o ≡ Some stack → ⊥
-  by again None f g = none_some [] f
+  by again None f g = none-some [] f
   by again (Some p) f g = again p f g
 
 -- ---- annotations
@@ -106,7 +102,7 @@ annotations_some front rest tokens h e some =
     parses_some tt (front ++ right_bracket ∷ []) rest (e ∙ sym (append_assoc front (right_bracket ∷ []) rest)) (front, some, open_balanced front [] h, refl) unique where
       by : (notes behind : List Token) → Beside front notes right_bracket [] rest behind → rest ≡ behind
       by notes behind (ends f g k l) = l
-      by notes behind (goes_on next f) = absurd (none_some next f)
+      by notes behind (goes_on next f) = absurd (none-some next f)
 
       unique : (u : Unit {0}) (used behind : List Token) → tokens ≡ used ++ behind → AreAnnotations used → Anything behind → (◌≡◌ {A = Unit {0}} tt u) × (rest ≡ behind)
       unique u used behind f (notes, more, balanced, g) any =
@@ -117,7 +113,7 @@ pub annotations_empty : (rest tokens : List Token) → tokens ≡ right_bracket 
 annotations_empty rest tokens e = parses_none never where
   by : (notes behind : List Token) → Beside [] notes right_bracket [] rest behind → notes ≢ [] → ⊥
   by notes behind (ends f g k l) some = some (sym f)
-  by notes behind (goes_on next f) some = none_some next f
+  by notes behind (goes_on next f) some = none-some next f
 
   never : (u : Unit {0}) (used behind : List Token) → tokens ≡ used ++ behind → AreAnnotations used → Anything behind → ⊥
   never u used behind f (notes, some, balanced, g) any =
@@ -129,7 +125,7 @@ pub annotations_fail : (front rest tokens : List Token) (t : Token) (stack : Lis
 annotations_fail front rest tokens t stack h e fails not_end = parses_none never where
   by : (notes behind : List Token) → Beside front notes t stack rest behind → ⊥
   by notes behind (ends f g k l) = not_end k g
-  by notes behind (goes_on next f) = none_some next (sym fails ∙ f)
+  by notes behind (goes_on next f) = none-some next (sym fails ∙ f)
 
   never : (u : Unit {0}) (used behind : List Token) → tokens ≡ used ++ behind → AreAnnotations used → Anything behind → ⊥
   never u used behind f (notes, some, balanced, g) any =
@@ -187,9 +183,9 @@ closed_noted tokens rest begins result p = record {
   found u behind used e (notes, some, balanced, f) = (comma ∷ used, begins ∙ ap (λ x. comma ∷ x) e, (comma ∷ notes, (refl, some, balanced), ap (λ x. comma ∷ x) f))
 
   every : (u : Unit {0}) (used behind : List Token) → tokens ≡ used ++ behind → IsClosed used → result ≡ Some (u, behind)
-  every u used behind e ([], extra, f) = absurd (marks_apart 44 41 (λ g. absurd (omega (arith, g))) (heads (sym begins ∙ e ∙ ap (λ x. x ++ behind) f)))
+  every u used behind e ([], extra, f) = absurd (marks_apart 44 41 (λ g. absurd (omega (arith, g))) (same_head (sym begins ∙ e ∙ ap (λ x. x ++ behind) f)))
   every u used behind e (t ∷ ts, (is, some, balanced), f) =
-      p.every u (ts ++ right_bracket ∷ []) behind (tails (sym begins ∙ e ∙ ap (λ x. x ++ behind) f)) (ts, some, balanced, refl) tt
+      p.every u (ts ++ right_bracket ∷ []) behind (same_tail (sym begins ∙ e ∙ ap (λ x. x ++ behind) f)) (ts, some, balanced, refl) tt
 
 -- without a comma it is a closing bracket
 pub closed_bare : (tokens : List Token) → ((rest : List Token) → tokens ≡ comma ∷ rest → ⊥) → (result : Option (Unit {0} × List Token)) → ReadsTokens (λ (u : Unit {0}) used. used ≡ mark 41 ∷ []) Anything tokens result

@@ -1,5 +1,6 @@
 -- In the tokens of an item the only full stop outside brackets is the last token.
 use Rattle.std.proofs.Common.{◌≡◌, ℕ, zero, suc, ◌+◌, ◌-◌, Bool, true, false, List, [], ◌∷◌, ◌++◌, replicate, length, Option, Some, None, refl, sym, ap, ◌∙◌, subst, append_assoc, arith, inl, inr, IsTrue}
+use Rattle.std.proofs.lemmas.Option.{same_Some, none-some}
 use Rattle.std.specs.Prelude.{codes}
 use Rattle.std.specs.Option.{option_map_or}
 use Rattle.std.proofs.lemmas.Bool.{false≢true}
@@ -7,40 +8,38 @@ use Rattle.si_defs.specs.Bytes.{Bytes}
 use Rattle.si_defs.specs.Terms as terms
 use Rattle.si_defs.specs.Clauses.{Term, Terms, Literal, Name}
 use Rattle.si_defs.specs.Symbols.{Symbol}
-use Rattle.si_defs.specs.Tokens.{Token, mark, lower}
-use Rattle.si_defs.specs.Grammar.{IsTerm, AreMoreTerms, IsHead, IsConstant, IsAtom, IsInequation, AreSides, IsSignedAtom, IsLiteral, AreMoreLiterals, IsDisjunction, IsFormula, IsName, AreMoreNames, Selection, IsSelection, IsExtra, IsClause, Item, clause_item, include_item, IsItem, Bracket, round, square, neither, opening_of, closing_of, closed, brackets_behind, balances, open_behind, left_bracket, right_bracket, comma, full_stop, not_equal}
+use Rattle.si_defs.specs.Tokens.{Token, mark, lower, AreBlanks, Begins}
+use Rattle.si_defs.specs.Grammar.{IsTerm, AreMoreTerms, IsHead, IsConstant, IsAtom, IsInequation, AreSides, IsSignedAtom, AreMoreLiterals, IsDisjunction, IsFormula, IsName, AreMoreNames, Selection, IsSelection, IsExtra, Item, clause_item, include_item, IsItem, Bracket, round, square, neither, opening_of, closing_of, closed, brackets_behind, balances, open_behind, left_bracket, right_bracket, comma, full_stop, not_equal}
 use Rattle.si_defs.specs.Grammar as grammar
 use Rattle.si_defs.specs.declared.SymKind.{SymKind}
 use Rattle.si_defs.specs.declared.SymKind.TheVariants.{Word, Dollar, Number, Distinct, Equal}
 use Rattle.si_defs.specs.declared.NameKind.{NameKind}
 use Rattle.si_defs.specs.declared.NameKind.TheVariants as named
 use Rattle.si_defs.specs.declared.TokenKind.TheVariants.{Single}
+use Rattle.si_defs.specs.Texts.{BeginsWithItem}
 use Rattle.si_lex.specs.FullStops.{IsStop, HasNoStop, GoesToStop, EndsAtStop}
+use Rattle.si_lex.proofs.TokenLaws.{blanks_none}
+use Rattle.si_lex.proofs.LexingLaws.{depth_from}
 use Rattle.si_parse.proofs.GrammarTerms.{head_constant}
-
--- the number of brackets that are open behind some tokens
-abbrev pub depth_after : ℕ → List Token → ℕ
-depth_after d [] = d
-depth_after d (t ∷ ts) = depth_after (open_behind d t) ts
 
 -- Inside brackets these tokens have no full stop outside them, and leave as many open as before.
 abbrev pub Level : List Token → Type 0
-Level ts = (d : ℕ) → HasNoStop (suc d) ts × (depth_after (suc d) ts ≡ suc d)
+Level ts = (d : ℕ) → HasNoStop (suc d) ts × (depth_from (suc d) ts ≡ suc d)
 
 -- inside brackets no full stop is outside
 inside : (d : ℕ) (t : Token) → IsStop (suc d) t → ⊥
 inside d t h = absurd (omega (arith, h.0))
 
 -- ---- one after another
-no_stop_append : (d : ℕ) (ts us : List Token) → HasNoStop d ts → HasNoStop (depth_after d ts) us → HasNoStop d (ts ++ us)
+no_stop_append : (d : ℕ) (ts us : List Token) → HasNoStop d ts → HasNoStop (depth_from d ts) us → HasNoStop d (ts ++ us)
 no_stop_append d [] us h k = k
 no_stop_append d (t ∷ ts) us h k = (h.0, no_stop_append (open_behind d t) ts us h.1 k)
 
-depth_append : (d : ℕ) (ts us : List Token) → depth_after d (ts ++ us) ≡ depth_after (depth_after d ts) us
+depth_append : (d : ℕ) (ts us : List Token) → depth_from d (ts ++ us) ≡ depth_from (depth_from d ts) us
 depth_append d [] us = refl
 depth_append d (t ∷ ts) us = depth_append (open_behind d t) ts us
 
-ends_append : (d : ℕ) (ts us : List Token) → HasNoStop d ts → EndsAtStop (depth_after d ts) us → EndsAtStop d (ts ++ us)
+ends_append : (d : ℕ) (ts us : List Token) → HasNoStop d ts → EndsAtStop (depth_from d ts) us → EndsAtStop d (ts ++ us)
 ends_append d [] us h k = k
 ends_append d (t ∷ ts) us h k = inr (h.0, ends_append (open_behind d t) ts us h.1 k)
 
@@ -50,7 +49,7 @@ level_none d = (tt, refl)
 level_append : (ts us : List Token) → Level ts → Level us → Level (ts ++ us)
 level_append ts us h k d = (
   no_stop_append (suc d) ts us (h d).0 (subst (λ n. HasNoStop n us) (sym (h d).1) (k d).0),
-  depth_append (suc d) ts us ∙ ap (λ n. depth_after n us) (h d).1 ∙ (k d).1,
+  depth_append (suc d) ts us ∙ ap (λ n. depth_from n us) (h d).1 ∙ (k d).1,
 )
 
 level_at : {ts us : List Token} → ts ≡ us → Level us → Level ts
@@ -65,7 +64,7 @@ flat_depth : (d : ℕ) (t : Token) → Flat t → open_behind d t ≡ d
 flat_depth d t h = rw (h.0, h.1) refl
 
 level_flat : (t : Token) (ts : List Token) → Flat t → Level ts → Level (t ∷ ts)
-level_flat t ts h k d = ((inside d t, subst (λ n. HasNoStop n ts) (sym (flat_depth (suc d) t h)) (k d).0), ap (λ n. depth_after n ts) (flat_depth (suc d) t h) ∙ (k d).1)
+level_flat t ts h k d = ((inside d t, subst (λ n. HasNoStop n ts) (sym (flat_depth (suc d) t h)) (k d).0), ap (λ n. depth_from n ts) (flat_depth (suc d) t h) ∙ (k d).1)
 
 flat_at : {t u : Token} → t ≡ u → Flat u → Flat t
 flat_at e h = subst Flat (sym e) h
@@ -81,25 +80,25 @@ one_less d = omega arith
 level_round : (ts : List Token) → Level ts → Level (left_bracket ∷ ts ++ right_bracket ∷ [])
 level_round ts h d =
     let open_now = one_more (suc d) in
-    let closed_now : depth_after (suc (suc d)) (right_bracket ∷ []) ≡ suc d = one_less (suc d) in (
+    let closed_now : depth_from (suc (suc d)) (right_bracket ∷ []) ≡ suc d = one_less (suc d) in (
       (
         inside d left_bracket,
         subst (λ n. HasNoStop n (ts ++ right_bracket ∷ [])) (sym open_now)
             (no_stop_append (suc (suc d)) ts (right_bracket ∷ []) (h (suc d)).0 (subst (λ n. HasNoStop n (right_bracket ∷ [])) (sym (h (suc d)).1) (inside (suc d) right_bracket, tt))),
       ),
-      ap (λ n. depth_after n (ts ++ right_bracket ∷ [])) open_now ∙ depth_append (suc (suc d)) ts (right_bracket ∷ []) ∙ ap (λ n. depth_after n (right_bracket ∷ [])) (h (suc d)).1 ∙ closed_now,
+      ap (λ n. depth_from n (ts ++ right_bracket ∷ [])) open_now ∙ depth_append (suc (suc d)) ts (right_bracket ∷ []) ∙ ap (λ n. depth_from n (right_bracket ∷ [])) (h (suc d)).1 ∙ closed_now,
     )
 
 level_square : (ts : List Token) → Level ts → Level (mark 91 ∷ ts ++ mark 93 ∷ [])
 level_square ts h d =
     let open_now = one_more (suc d) in
-    let closed_now : depth_after (suc (suc d)) (mark 93 ∷ []) ≡ suc d = one_less (suc d) in (
+    let closed_now : depth_from (suc (suc d)) (mark 93 ∷ []) ≡ suc d = one_less (suc d) in (
       (
         inside d (mark 91),
         subst (λ n. HasNoStop n (ts ++ mark 93 ∷ [])) (sym open_now)
             (no_stop_append (suc (suc d)) ts (mark 93 ∷ []) (h (suc d)).0 (subst (λ n. HasNoStop n (mark 93 ∷ [])) (sym (h (suc d)).1) (inside (suc d) (mark 93), tt))),
       ),
-      ap (λ n. depth_after n (ts ++ mark 93 ∷ [])) open_now ∙ depth_append (suc (suc d)) ts (mark 93 ∷ []) ∙ ap (λ n. depth_after n (mark 93 ∷ [])) (h (suc d)).1 ∙ closed_now,
+      ap (λ n. depth_from n (ts ++ mark 93 ∷ [])) open_now ∙ depth_append (suc (suc d)) ts (mark 93 ∷ []) ∙ ap (λ n. depth_from n (mark 93 ∷ [])) (h (suc d)).1 ∙ closed_now,
     )
 
 -- ---- terms
@@ -180,12 +179,6 @@ level_formula ls ts (n, inner, h, e) = level_at e (level_brackets n inner (level
 -- the brackets that are open, and their number
 step_depth : (t : Token) (pending next : List Bracket) (k : ℕ) → brackets_behind t pending ≡ Some next → open_behind (length pending + k) t ≡ length next + k
 step_depth t pending next k e = by (opening_of t) refl where
-  some_same : (x y : List Bracket) → Some x ≡ Some y → x ≡ y
-  some_same x y f = cc
-
-  none_some : (x : List Bracket) → None ≡ Some x → ⊥
-  none_some x f = cc
-
   longer : (b : Bracket) → b ∷ pending ≡ next → length pending + k + 1 ≡ length next + k
   longer b f = omega (arith, ap length f)
 
@@ -193,27 +186,27 @@ step_depth t pending next k e = by (opening_of t) refl where
   shorter b others f g = omega (arith, ap length f, ap length g)
 
   by_closing : opening_of t ≡ neither → (c : Bracket) → closing_of t ≡ c → closed c pending ≡ Some next → open_behind (length pending + k) t ≡ length next + k
-  by_closing f neither g h = rw (f, g) (ap (λ x. length x + k) (some_same pending next h))
+  by_closing f neither g h = rw (f, g) (ap (λ x. length x + k) (same_Some pending next h))
   by_closing f round g h = rw (f, g) (by_pending pending refl h) where
     by_pending : (p : List Bracket) → pending ≡ p → closed round p ≡ Some next → length pending + k - 1 ≡ length next + k
-    by_pending [] i j = absurd (none_some next j)
-    by_pending (round ∷ others) i j = shorter round others i (some_same others next j)
-    by_pending (square ∷ others) i j = absurd (none_some next j)
-    by_pending (neither ∷ others) i j = absurd (none_some next j)
+    by_pending [] i j = absurd (none-some next j)
+    by_pending (round ∷ others) i j = shorter round others i (same_Some others next j)
+    by_pending (square ∷ others) i j = absurd (none-some next j)
+    by_pending (neither ∷ others) i j = absurd (none-some next j)
   by_closing f square g h = rw (f, g) (by_pending pending refl h) where
     by_pending : (p : List Bracket) → pending ≡ p → closed square p ≡ Some next → length pending + k - 1 ≡ length next + k
-    by_pending [] i j = absurd (none_some next j)
-    by_pending (round ∷ others) i j = absurd (none_some next j)
-    by_pending (square ∷ others) i j = shorter square others i (some_same others next j)
-    by_pending (neither ∷ others) i j = absurd (none_some next j)
+    by_pending [] i j = absurd (none-some next j)
+    by_pending (round ∷ others) i j = absurd (none-some next j)
+    by_pending (square ∷ others) i j = shorter square others i (same_Some others next j)
+    by_pending (neither ∷ others) i j = absurd (none-some next j)
 
   by : (o : Bracket) → opening_of t ≡ o → open_behind (length pending + k) t ≡ length next + k
-  by round f = rw f (longer round (some_same (round ∷ pending) next (rw f at e)))
-  by square f = rw f (longer square (some_same (square ∷ pending) next (rw f at e)))
+  by round f = rw f (longer round (same_Some (round ∷ pending) next (rw f at e)))
+  by square f = rw f (longer square (same_Some (square ∷ pending) next (rw f at e)))
   by neither f = by_closing f (closing_of t) refl (rw f at e)
 
 -- balanced tokens leave as many brackets open as were open before those that they close
-level_balanced : (ts : List Token) (pending : List Bracket) (d : ℕ) → IsTrue (balances ts pending) → HasNoStop (length pending + suc d) ts × (depth_after (length pending + suc d) ts ≡ suc d)
+level_balanced : (ts : List Token) (pending : List Bracket) (d : ℕ) → IsTrue (balances ts pending) → HasNoStop (length pending + suc d) ts × (depth_from (length pending + suc d) ts ≡ suc d)
 level_balanced [] [] d h = (tt, omega arith)
 level_balanced [] (b ∷ bs) d h = absurd (false≢true h)
 level_balanced (t ∷ ts) pending d h = by (brackets_behind t pending) refl h (λ next f. level_balanced ts next d f) where
@@ -221,13 +214,13 @@ level_balanced (t ∷ ts) pending d h = by (brackets_behind t pending) refl h (�
   outside s = absurd (omega (arith, s.0))
 
   by : (o : Option (List Bracket)) → brackets_behind t pending ≡ o → IsTrue (option_map_or (balances ts) o false)
-      → ((next : List Bracket) → IsTrue (balances ts next) → HasNoStop (length next + suc d) ts × (depth_after (length next + suc d) ts ≡ suc d))
-      → HasNoStop (length pending + suc d) (t ∷ ts) × (depth_after (length pending + suc d) (t ∷ ts) ≡ suc d)
+      → ((next : List Bracket) → IsTrue (balances ts next) → HasNoStop (length next + suc d) ts × (depth_from (length next + suc d) ts ≡ suc d))
+      → HasNoStop (length pending + suc d) (t ∷ ts) × (depth_from (length pending + suc d) (t ∷ ts) ≡ suc d)
   by None e f again = absurd (false≢true f)
   by (Some next) e f again =
       let k = again next f in
       let depth = step_depth t pending next (suc d) e in
-      ((outside, subst (λ n. HasNoStop n ts) (sym depth) k.0), ap (λ n. depth_after n ts) depth ∙ k.1)
+      ((outside, subst (λ n. HasNoStop n ts) (sym depth) k.0), ap (λ n. depth_from n ts) depth ∙ k.1)
 
 level_extra : (ts : List Token) → IsExtra ts → Level ts
 level_extra [] h = level_none
@@ -235,8 +228,8 @@ level_extra (t ∷ ts) (is, some, balanced) = level_flat t ts (flat_at is (refl,
   zero_more : (d : ℕ) → 0 + suc d ≡ suc d
   zero_more d = omega arith
 
-  level_here : (d : ℕ) → HasNoStop (0 + suc d) ts × (depth_after (0 + suc d) ts ≡ suc d) → HasNoStop (suc d) ts × (depth_after (suc d) ts ≡ suc d)
-  level_here d h = subst (λ n. HasNoStop n ts × (depth_after n ts ≡ suc d)) (zero_more d) h
+  level_here : (d : ℕ) → HasNoStop (0 + suc d) ts × (depth_from (0 + suc d) ts ≡ suc d) → HasNoStop (suc d) ts × (depth_from (suc d) ts ≡ suc d)
+  level_here d h = subst (λ n. HasNoStop n ts × (depth_from n ts ≡ suc d)) (zero_more d) h
 
 -- ---- names
 flat_name : (kind : NameKind) (text : Bytes) (t : Token) → IsName (record { kind = kind; text = text }) t → Flat t
@@ -302,3 +295,10 @@ pub ends_never : (d : ℕ) (ts us : List Token) → EndsAtStop d ts → HasNoSto
 ends_never d [] us h k = h
 ends_never d (t ∷ ts) us (inl (s, e)) k = k.0 s
 ends_never d (t ∷ ts) us (inr (s, h)) k = ends_never (open_behind d t) ts us h k.1
+
+-- nothing but blanks is no item
+pub no_item_in_blanks : (text : Bytes) (item : Item) (rest : Bytes) → AreBlanks text → BeginsWithItem text item rest → ⊥
+no_item_in_blanks text item rest blanks h = by h.tokens h.begins (item_stops item h.tokens h.spelled) where
+  by : (ts : List Token) → Begins text ts rest → EndsAtStop 0 ts → ⊥
+  by [] begins ends = ends
+  by (t ∷ ts) begins ends = blanks_none text blanks t begins.0 begins.1

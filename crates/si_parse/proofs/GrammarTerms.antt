@@ -1,5 +1,6 @@
 -- Terms and their arguments: what the readers of them give.
 use Rattle.std.proofs.Common.{◌≡◌, ℕ, ◌+◌, List, [], ◌∷◌, ◌++◌, length, Option, Some, None, refl, sym, ap, ◌∙◌, subst, append_assoc, arith, inl, inr}
+use Rattle.std.proofs.lemmas.Option.{none-some, same_Some}
 use Rattle.si_defs.specs.Bytes.{Bytes}
 use Rattle.si_defs.specs.Terms as terms
 use Rattle.si_defs.specs.Symbols.{Symbol}
@@ -11,14 +12,15 @@ use Rattle.si_defs.specs.declared.SymKind.TheVariants.{Word, Dollar, Number, Dis
 use Rattle.si_defs.specs.declared.Side.TheVariants.{Function}
 use Rattle.si_defs.specs.declared.TokenKind.{TokenKind}
 use Rattle.si_defs.specs.declared.TokenKind.TheVariants as token
+use Rattle.si_defs.proofs.ListLaws.{same_head, same_tail}
 use Rattle.si_parse.specs.Parsing.{ReadsTokens, NoBracket, NoTerm}
 use Rattle.si_parse.specs.GrammarRules.{AreMore, AreTerms, IsApplied, function_symbol}
-use Rattle.si_parse.proofs.ParseSteps.{parses_none, parses_some, parses_uses, parses_one, parses_never, heads, tails, front_heads, front_tails}
+use Rattle.si_parse.proofs.ParseSteps.{parses_none, parses_some, parses_uses, parses_one, parses_never, front_heads, front_tails}
 
 -- ---- marks
 -- different marks are different tokens
 pub marks_apart : (c d : ℕ) → (c ≡ d → ⊥) → mark c ≡ mark d → ⊥
-marks_apart c d h e = h (heads (ap (λ (t : Token). t.text) e))
+marks_apart c d h e = h (same_head (ap (λ (t : Token). t.text) e))
 
 -- a mark is no inequality sign
 pub mark_unequal : (c : ℕ) → mark c ≡ not_equal → ⊥
@@ -36,7 +38,7 @@ no_bracket-none (t ∷ ts) h = (λ e. h ts (ap (λ x. x ∷ ts) e), tt)
 -- no bracket follows where one stands
 pub opens : (xs ys : List Token) → NoBracket xs → xs ≡ left_bracket ∷ ys → ⊥
 opens [] ys h e = cc
-opens (x ∷ xs) ys h e = h.0 (heads e)
+opens (x ∷ xs) ys h e = h.0 (same_head e)
 
 -- ---- which symbol a token is
 abbrev pub symbol_kind : TokenKind → Option SymKind
@@ -65,13 +67,6 @@ constant_is Dollar text t e = (ap (λ (u : Token). symbol_kind u.kind) e, sym (a
 constant_is Number text t e = (ap (λ (u : Token). symbol_kind u.kind) e, sym (ap (λ (u : Token). u.text) e))
 constant_is Distinct text t e = (ap (λ (u : Token). symbol_kind u.kind) e, sym (ap (λ (u : Token). u.text) e))
 constant_is Equal text t e = absurd e
-
--- no two kinds are one
-same_kind : (a b : SymKind) → Some a ≡ Some b → a ≡ b
-same_kind a b e = cc
-
-none_some : {A : Type 0} (x : A) → None ≡ Some x → ⊥
-none_some x e = cc
 
 -- a symbol is its four parts
 pub symbol_is : (s : Symbol) (kind : SymKind) (text : Bytes) (arity : ℕ) → s.kind ≡ kind → s.text ≡ text → s.side ≡ Function → s.arity ≡ arity → s ≡ function_symbol kind text arity
@@ -102,7 +97,7 @@ terms_more (terms.more u us) ts (first, others, one, all, e) = (first, others, o
 pub term_upper : (t : Token) (rest : List Token) → t.kind ≡ token.Upper → ReadsTokens IsTerm NoBracket (t ∷ rest) (Some (terms.var t.text, rest))
 term_upper t rest k = parses_some (terms.var t.text) (t ∷ []) rest refl (λ i. record { kind = k i; text = t.text } ∷ []) (λ m used behind e means follows. unique m used behind e means) where
   never : (kind : SymKind) (text : Bytes) (u : Token) → IsConstant kind text u → t ≡ u → ⊥
-  never kind text u h e = none_some kind (sym (ap symbol_kind (ap (λ (x : Token). x.kind) (sym e) ∙ k)) ∙ (constant_is kind text u h).0)
+  never kind text u h e = none-some kind (sym (ap symbol_kind (ap (λ (x : Token). x.kind) (sym e) ∙ k)) ∙ (constant_is kind text u h).0)
 
   unique : (m : Term) (used behind : List Token) → t ∷ rest ≡ used ++ behind → IsTerm m used → (terms.var t.text ≡ m) × (rest ≡ behind)
   unique (terms.var y) used behind e means =
@@ -129,7 +124,7 @@ term_none t rest not_upper none = parses_none (λ m used behind e means follows.
     let f = term_first m used means in never f.0 f.2 (front_heads {ys = f.1} behind e f.3)) where
       never : (u : Token) → First u → t ≡ u → ⊥
       never u (variable k) e = not_upper (ap (λ (x : Token). x.kind) e ∙ k)
-      never u (symbol kind k) e = none_some kind (sym none ∙ ap (λ (x : Token). symbol_kind x.kind) e ∙ k)
+      never u (symbol kind k) e = none-some kind (sym none ∙ ap (λ (x : Token). symbol_kind x.kind) e ∙ k)
 
 -- nor of nothing
 pub term_empty : ReadsTokens IsTerm NoBracket [] None
@@ -140,10 +135,10 @@ module _ (t : Token) (rest : List Token) (kind : SymKind) (is_kind : symbol_kind
   symbol_of : (other : SymKind) (text : Bytes) (u : Token) → IsConstant other text u → t ≡ u → (other ≡ kind) × (text ≡ t.text)
   symbol_of other text u h e =
       let c = constant_is other text u h in
-      (same_kind other kind (sym c.0 ∙ ap (λ (x : Token). symbol_kind x.kind) (sym e) ∙ is_kind), c.1 ∙ ap (λ (x : Token). x.text) (sym e))
+      (same_Some other kind (sym c.0 ∙ ap (λ (x : Token). symbol_kind x.kind) (sym e) ∙ is_kind), c.1 ∙ ap (λ (x : Token). x.text) (sym e))
 
   not_variable : (x : Bytes) → t ≡ record { kind = token.Upper; text = x } → ⊥
-  not_variable x e = none_some kind (sym (ap (λ (u : Token). symbol_kind u.kind) e) ∙ is_kind)
+  not_variable x e = none-some kind (sym (ap (λ (u : Token). symbol_kind u.kind) e) ∙ is_kind)
 
   -- a symbol that takes no arguments
   pub term_constant : ((text : Bytes) (u : Token) → IsHead kind text u → ⊥) → IsConstant kind t.text t
@@ -244,7 +239,7 @@ module _ (kind : SymKind) (text : Bytes) (rest : List Token) where
         unique (terms.app s terms.none) used after e (is, g) follows = absurd (opens after rest follows (sym (e ∙ ap (λ x. x ++ after) g)))
         unique (terms.app s (terms.more v vs)) used after e (is, (inner, all, g)) follows =
             let same = parses_one p (v ∷ terms.list vs) inner (right_bracket ∷ after) (inside inner after e g) all (right_ends after) in
-            (λ i. terms.app (joined same.0 i) (rows same.0 i), tails same.1) where
+            (λ i. terms.app (joined same.0 i) (rows same.0 i), same_tail same.1) where
               rows : u ∷ us ≡ v ∷ terms.list vs → terms.row (u ∷ us) ≡ terms.more v vs
               rows f = ap terms.row f ∙ ap (λ x. terms.more v x) (row_list vs)
 

@@ -1,11 +1,12 @@
 -- Rows: what the reader of items with a sign between them gives, by what the reader of one item
 -- gives.
-use Rattle.std.proofs.Common.{◌≡◌, map, ◌+◌, ◌≤◌, List, [], ◌∷◌, ◌++◌, length, Some, None, refl, sym, ap, ◌∙◌, subst, append_assoc, append-nil, arith}
+use Rattle.std.proofs.Common.{◌≡◌, ◌+◌, ◌≤◌, List, [], ◌∷◌, ◌++◌, length, Some, None, refl, sym, ap, ◌∙◌, subst, append_assoc, append-nil, arith}
 use Rattle.std.proofs.lemmas.List.{length-append}
 use Rattle.si_defs.specs.Tokens.{Token}
+use Rattle.si_defs.proofs.ListLaws.{same_tail}
 use Rattle.si_parse.specs.Parsing.{ReadsTokens}
 use Rattle.si_parse.specs.GrammarRules.{AreMore, IsRow}
-use Rattle.si_parse.proofs.ParseSteps.{parses_none, parses_some, parses_uses, parses_one, parses_never, tails}
+use Rattle.si_parse.proofs.ParseSteps.{parses_none, parses_some, parses_uses, parses_one, parses_never}
 
 -- Some items of a row were read: what is left goes on with a sign and the others as the tokens do.
 pub record Along {M : Type 0} (Means : M → List Token → Type 0) (sign : Token) (Ends : List Token → Type 0) (tokens : List Token) (done : List M) (left : List Token) : Type 0 where
@@ -17,11 +18,6 @@ pub record Along {M : Type 0} (Means : M → List Token → Type 0) (sign : Toke
 pub along_at : {M : Type 0} {Means : M → List Token → Type 0} {sign : Token} {Ends : List Token → Type 0} {tokens left : List Token} {done same : List M} → done ≡ same
     → Along Means sign Ends tokens same left → Along Means sign Ends tokens done left
 along_at {Means = Means} {sign = sign} {Ends = Ends} {tokens = tokens} {left = left} e along = subst (λ x. Along Means sign Ends tokens x left) (sym e) along
-
--- one more item, by what it stands for
-pub map_push : {A B : Type 0} (f : A → B) (xs : List A) (x : A) → map f (xs ++ x ∷ []) ≡ map f xs ++ f x ∷ []
-map_push f [] x = refl
-map_push f (y ∷ ys) x = ap (λ z. f y ∷ z) (map_push f ys x)
 
 -- there are no more items than tokens, and one
 more_few : {M : Type 0} (Means : M → List Token → Type 0) (sign : Token) (ms : List M) (ts : List Token) → AreMore Means sign ms ts → length ms ≤ length ts
@@ -87,7 +83,7 @@ module _ {M : Type 0} (Means : M → List Token → Type 0) {sign : Token} {Foll
           → (u : M) × (us : List M) × (first : List Token) × (more : List Token) × (others ≡ u ∷ us) × Means u first × AreMore Means sign us more × (next ≡ first ++ (more ++ rest)) × Follows (more ++ rest)
       row_goes [] behind rest e all ends = absurd (stops next (subst Ends (sym e ∙ goes) (subst (λ x. Ends (x ++ rest)) (sym all) ends)))
       row_goes (u ∷ us) behind rest e (first, more, one, all, f) ends =
-          (u, us, first, more, refl, one, all, tails (sym goes ∙ e ∙ ap (λ x. x ++ rest) f) ∙ append_assoc first more rest, behind_one us more rest all ends)
+          (u, us, first, more, refl, one, all, same_tail (sym goes ∙ e ∙ ap (λ x. x ++ rest) f) ∙ append_assoc first more rest, behind_one us more rest all ends)
 
       -- without an item behind it there is no row
       pub row_stop : ReadsTokens Means Follows next None → ReadsTokens (IsRow Means sign) Ends tokens None

@@ -1,23 +1,17 @@
 -- Steps of readers: what a reader of a sequence gives, by what its parts give.
 use Rattle.std.proofs.Common.{◌≡◌, List, ◌∷◌, ◌++◌, Option, Some, None, refl, sym, ap, ◌∙◌, subst}
+use Rattle.std.proofs.lemmas.Option.{none-some, same_Some}
 use Rattle.si_defs.specs.Tokens.{Token}
+use Rattle.si_defs.proofs.ListLaws.{same_head, same_tail}
 use Rattle.si_parse.specs.Parsing.{ReadsTokens}
-
--- nothing is not something
-none_is_some : {A : Type 0} {x : A} → None ≡ Some x → ⊥
-none_is_some e = cc
-
--- equal results hold equal pairs
-same_pair : {A B : Type 0} {p q : A × B} → Some p ≡ Some q → p ≡ q
-same_pair e = cc
 
 -- of equal meanings
 same_meaning : {A : Type 0} {x y : A} {xs ys : List Token} → ◌≡◌ {A = Option (A × List Token)} (Some (x, xs)) (Some (y, ys)) → x ≡ y
-same_meaning e = ap (λ p. p.0) (same_pair e)
+same_meaning e = ap (λ p. p.0) (same_Some _ _ e)
 
 -- and equal rests
 same_rest : {A : Type 0} {x y : A} {xs ys : List Token} → ◌≡◌ {A = Option (A × List Token)} (Some (x, xs)) (Some (y, ys)) → xs ≡ ys
-same_rest e = ap (λ p. p.1) (same_pair e)
+same_rest e = ap (λ p. p.1) (same_Some _ _ e)
 
 -- equal meanings and rests make equal results
 same_result : {A : Type 0} {x y : A} {xs ys : List Token} → x ≡ y → xs ≡ ys → ◌≡◌ {A = Option (A × List Token)} (Some (x, xs)) (Some (y, ys))
@@ -28,7 +22,7 @@ pub parses_none : {M : Type 0} {Means : M → List Token → Type 0} {Follows : 
     → ((m : M) (used rest : List Token) → tokens ≡ used ++ rest → Means m used → Follows rest → ⊥)
     → ReadsTokens Means Follows tokens None
 parses_none never = record {
-  found = λ m rest e. absurd (none_is_some e);
+  found = λ m rest e. absurd (none-some _ e);
   every = λ m used rest e means follows. absurd (never m used rest e means follows);
 }
 
@@ -58,7 +52,7 @@ parses_one p other front behind e means follows =
 pub parses_never : {M : Type 0} {Means : M → List Token → Type 0} {Follows : List Token → Type 0} {tokens : List Token}
     → ReadsTokens Means Follows tokens None
     → (m : M) (used rest : List Token) → tokens ≡ used ++ rest → Means m used → Follows rest → ⊥
-parses_never p m used rest e means follows = none_is_some (p.every m used rest e means follows)
+parses_never p m used rest e means follows = none-some _ (p.every m used rest e means follows)
 
 -- where what follows is not allowed, no front has a meaning with what is allowed behind it
 pub parses_refused : {M : Type 0} {Means : M → List Token → Type 0} {Follows : List Token → Type 0} {tokens : List Token}
@@ -67,20 +61,13 @@ parses_refused {Follows = Follows} p refused = parses_none (λ other used behind
     refused (subst Follows (sym (parses_one p other used behind e means follows).1) follows))
 
 -- ---- fronts of lists
-pub heads : {A : Type 0} {x y : A} {xs ys : List A} → x ∷ xs ≡ y ∷ ys → x ≡ y
-heads e = cc
-
--- equal lists have equal tails
-pub tails : {A : Type 0} {x y : A} {xs ys : List A} → x ∷ xs ≡ y ∷ ys → xs ≡ ys
-tails e = cc
-
 -- the first token of a front that is known
 pub front_heads : {x y : Token} {xs used ys : List Token} (rest : List Token) → x ∷ xs ≡ used ++ rest → used ≡ y ∷ ys → x ≡ y
-front_heads rest e f = heads (e ∙ ap (λ u. u ++ rest) f)
+front_heads rest e f = same_head (e ∙ ap (λ u. u ++ rest) f)
 
 -- and what stands behind it
 pub front_tails : {x y : Token} {xs used ys : List Token} (rest : List Token) → x ∷ xs ≡ used ++ rest → used ≡ y ∷ ys → xs ≡ ys ++ rest
-front_tails rest e f = tails (e ∙ ap (λ u. u ++ rest) f)
+front_tails rest e f = same_tail (e ∙ ap (λ u. u ++ rest) f)
 
 -- the same reading of equal tokens with an equal result
 pub parses_at : {M : Type 0} {Means : M → List Token → Type 0} {Follows : List Token → Type 0} {tokens same : List Token} {result other : Option (M × List Token)}

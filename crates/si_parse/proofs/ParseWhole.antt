@@ -1,5 +1,6 @@
 -- What is read of tokens of which nothing is left.
 use Rattle.std.proofs.Common.{◌≡◌, List, [], ◌∷◌, ◌++◌, length, refl, ap, sym, ◌∙◌, subst, append-nil}
+use Rattle.std.proofs.lemmas.Option.{same_Some}
 use Rattle.std.specs.Prelude.{Option, Some, None, option_map, true, false, ◌==◌}
 use Rattle.std.specs.Borrow.{Bor}
 use Rattle.std.proofs.Common.{arith}
@@ -14,13 +15,10 @@ empty : (ts : List Lexeme) → tokens_of ts ≡ [] → ts ≡ []
 empty [] h = refl
 empty (t ∷ ts) h = cc
 
-pub some_injective : {A : Type 0} (x y : A) → Some x ≡ Some y → x ≡ y
-some_injective x y h = cc
-
 -- a list that is not empty
-pub not_empty : {A : Type 0} (xs : List A) → false ≡ (length xs == 0) → xs ≡ [] → ⊥
-not_empty [] h e = cc
-not_empty (x ∷ xs) h e = cc
+pub never_empty : {A : Type 0} (xs : List A) → false ≡ (length xs == 0) → xs ≡ [] → ⊥
+never_empty [] h e = cc
+never_empty (x ∷ xs) h e = cc
 
 -- a list that is
 pub is_empty : {A : Type 0} (xs : List A) → true ≡ (length xs == 0) → xs ≡ []
@@ -32,7 +30,7 @@ with_left x r = (x, r)
 
 -- two readings of the same tokens leave the same
 pub same_left : {X : Type 0} (x y : X) (r s : Bor (List Lexeme)) → Some (with_left x r) ≡ Some (with_left y s) → s.now ≡ [] → r.now ≡ []
-same_left {X = X} x y r s h e = ap (λ (p : X × Bor (List Lexeme)). p.1.now) (some_injective (with_left x r) (with_left y s) h) ∙ e
+same_left {X = X} x y r s h e = ap (λ (p : X × Bor (List Lexeme)). p.1.now) (same_Some (with_left x r) (with_left y s) h) ∙ e
 
 module _ {X M : Type 0} (view : X → M) {Means : M → List defs.Token → Type 0} {Follows : List defs.Token → Type 0} (tokens : List Lexeme) (ends : Follows []) where
   -- a reading with nothing left is what all the tokens mean
@@ -44,7 +42,7 @@ module _ {X M : Type 0} (view : X → M) {Means : M → List defs.Token → Type
 
   -- and they mean nothing else
   pub whole_only : (x : X) (r : Bor (List Lexeme)) → Reads view Means Follows tokens (Some (x, r)) → (m : M) → Means m (tokens_of tokens) → m ≡ view x
-  whole_only x r p m h = ap (λ (y : M × List defs.Token). y.0) (sym (some_injective _ (m, []) (p.every m (tokens_of tokens) [] (sym (append-nil (tokens_of tokens))) h ends)))
+  whole_only x r p m h = ap (λ (y : M × List defs.Token). y.0) (sym (same_Some _ (m, []) (p.every m (tokens_of tokens) [] (sym (append-nil (tokens_of tokens))) h ends)))
 
   -- where something is left, or nothing was found, they mean nothing
   pub whole_none : (found : Option (X × Bor (List Lexeme))) → Reads view Means Follows tokens found → ((x : X) (r : Bor (List Lexeme)) → found ≡ Some (x, r) → r.now ≡ [] → ⊥)
@@ -55,4 +53,4 @@ module _ {X M : Type 0} (view : X → M) {Means : M → List defs.Token → Type
 
     by : (found : Option (X × Bor (List Lexeme))) → ((x : X) (r : Bor (List Lexeme)) → found ≡ Some (x, r) → r.now ≡ [] → ⊥) → option_map seen found ≡ Some (m, []) → ⊥
     by None left e = cc
-    by (Some x) left e = left x.0 x.1 refl (empty x.1.now (ap (λ (y : M × List defs.Token). y.1) (some_injective _ (m, []) e)))
+    by (Some x) left e = left x.0 x.1 refl (empty x.1.now (ap (λ (y : M × List defs.Token). y.1) (same_Some _ (m, []) e)))

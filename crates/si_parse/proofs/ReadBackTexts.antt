@@ -1,4 +1,4 @@
--- Printed names, file words and terms are read back: the grammar gives each the meaning that it was
+-- Printed names, file names and terms are read back: the grammar gives each the meaning that it was
 -- printed from.
 use Rattle.std.proofs.Common.{◌≡◌, ℕ, ◌≤◌, Bool, true, false, cond, not, ◌==◌, List, [], ◌∷◌, ◌++◌, codes, refl, ap, ap₂, sym, ◌∙◌, subst, inl, inr, arith, append_assoc}
 use Rattle.std.specs.Prelude.{max}
@@ -22,9 +22,9 @@ use Rattle.si_defs.specs.declared.SymKind.TheVariants as symbol
 use Rattle.si_defs.specs.declared.TokenKind.{TokenKind}
 use Rattle.si_defs.specs.declared.TokenKind.TheVariants.{Lower, Upper, Dollar, Int, Single, Double, NotEqual, Mark}
 use Rattle.si_defs.specs.declared.TheConstants.{DEEPEST_NESTING}
+use Rattle.si_defs.proofs.ListLaws.{among_front, among_back}
+use Rattle.si_defs.proofs.TokenLaws.{begins_append, skips_nothing}
 use Rattle.si_lex.proofs.SpellingLaws.{leads, spelling_leads, spelling_some}
-use Rattle.si_lex.proofs.BlankLaws.{skips_nothing}
-use Rattle.si_lex.proofs.TokenLaws.{begins_append}
 use Rattle.si_lex.proofs.ReadBackTokens.{starts, stops, next_where}
 
 -- ---- tokens that are no marks
@@ -283,15 +283,6 @@ more_text a b rest = simp append_assoc
 abbrev pub Keeps : (Bytes → Bytes) → List Bytes → Type 0
 Keeps f xs = (x : Bytes) → IsAmong xs x → f x ≡ x
 
-among_left : (xs ys : List Bytes) (x : Bytes) → IsAmong xs x → IsAmong (xs ++ ys) x
-among_left [] ys x a = absurd a
-among_left (z ∷ xs) ys x (inl e) = inl e
-among_left (z ∷ xs) ys x (inr a) = inr (among_left xs ys x a)
-
-among_right : (xs ys : List Bytes) (x : Bytes) → IsAmong ys x → IsAmong (xs ++ ys) x
-among_right [] ys x a = a
-among_right (z ∷ xs) ys x a = inr (among_right xs ys x a)
-
 more_ends : (f : Bytes → Bytes) (us : Terms) (rest : Bytes) → EndsWord rest → EndsWord (more_texts f us ++ rest)
 more_ends f terms.none rest h = h
 more_ends f (terms.more u us) rest h = refl
@@ -315,8 +306,8 @@ mutual
       let r = head_prints s.kind s.text m.0 m.3 q.0 in
       let a = term_text f u in
       let b = more_texts f us in
-      let first = term_begins f u m.1 m.4 (spelled_left m.1 m.2 inner) (λ x i. k x (among_left (terms.variables u) (terms.variables_of_all us) x i)) (b ++ 41 ∷ rest) (more_ends f us (41 ∷ rest) refl) in
-      let others = more_begins f us m.2 m.5 (spelled_right m.1 m.2 inner) (λ x i. k x (among_right (terms.variables u) (terms.variables_of_all us) x i)) (41 ∷ rest) refl in
+      let first = term_begins f u m.1 m.4 (spelled_left m.1 m.2 inner) (λ x i. k x (among_front (terms.variables u) (terms.variables_of_all us) x i)) (b ++ 41 ∷ rest) (more_ends f us (41 ∷ rest) refl) in
+      let others = more_begins f us m.2 m.5 (spelled_right m.1 m.2 inner) (λ x i. k x (among_back (terms.variables u) (terms.variables_of_all us) x i)) (41 ∷ rest) refl in
       subst (λ bytes. Begins bytes (term_tokens (terms.app s (terms.more u us))) rest) (sym (applied_text (symbol_text s) a b rest)) (
         40 ∷ (a ++ (b ++ 41 ∷ rest)),
         bare_next (symbol_token s) (symbol_text s) (40 ∷ (a ++ (b ++ 41 ∷ rest))) r.0 r.1 refl,
@@ -336,8 +327,8 @@ mutual
       let q = subst AreSpelled h.4 p in
       let a = term_text f u in
       let b = more_texts f us in
-      let first = term_begins f u h.0 h.2 (spelled_left h.0 h.1 q.1) (λ x i. k x (among_left (terms.variables u) (terms.variables_of_all us) x i)) (b ++ rest) (more_ends f us rest e) in
-      let others = more_begins f us h.1 h.3 (spelled_right h.0 h.1 q.1) (λ x i. k x (among_right (terms.variables u) (terms.variables_of_all us) x i)) rest e in
+      let first = term_begins f u h.0 h.2 (spelled_left h.0 h.1 q.1) (λ x i. k x (among_front (terms.variables u) (terms.variables_of_all us) x i)) (b ++ rest) (more_ends f us rest e) in
+      let others = more_begins f us h.1 h.3 (spelled_right h.0 h.1 q.1) (λ x i. k x (among_back (terms.variables u) (terms.variables_of_all us) x i)) rest e in
       subst (λ bytes. Begins bytes (more_tokens (terms.more u us)) rest) (sym (more_text a b rest)) (
         a ++ (b ++ rest),
         comma_next (a ++ (b ++ rest)),

@@ -4,11 +4,13 @@ use Rattle.std.proofs.lemmas.List.{length-map, length-append, length-drop}
 use Rattle.si_defs.specs.Bytes.{Bytes}
 use Rattle.si_defs.specs.Clauses.{Clause}
 use Rattle.si_defs.specs.Tokens.{Token, Spells, NextToken, AreBlanks, Begins, joined, lower}
-use Rattle.si_defs.specs.Grammar.{open_behind, nesting_from, nesting, Selection, Item, clause_item, include_item, IsClause, IsItem, left_bracket}
+use Rattle.si_defs.specs.Grammar.{Selection, Item, clause_item, include_item, IsClause, IsItem, left_bracket}
 use Rattle.si_defs.specs.Substitutions.{IsAmong}
 use Rattle.si_defs.specs.Texts.{BeginsWithItem, IsForeign, IsText, languages}
 use Rattle.si_defs.specs.declared.TokenKind.{TokenKind}
 use Rattle.si_defs.specs.declared.TokenKind.TheVariants.{Lower, Upper, Dollar, Int, Single, Double, NotEqual, Mark}
+use Rattle.si_defs.proofs.ListLaws.{same_head}
+use Rattle.si_defs.proofs.TokenLaws.{begins_split}
 use Rattle.si_lex.specs.Lexemes.{token_of, tokens_of}
 use Rattle.si_lex.specs.Lexing.{IsLexing, IsItemLexing}
 use Rattle.si_lex.specs.FullStops.{HasNoStop, EndsAtStop}
@@ -66,11 +68,6 @@ pub text_few : (bytes : Bytes) (l : Lexing) → IsLexing bytes 0 l → length l.
 text_few bytes l h = tokens_few bytes 0 l.tokens.items h.rest h.read.begins
 
 -- ---- fronts
--- the front of some tokens
-pub begins_split : (ts us : List Token) (a b : Bytes) → Begins a (ts ++ us) b → (m : Bytes) × Begins a ts m × Begins m us b
-begins_split [] us a b g = (a, refl, g)
-begins_split (t ∷ ts) us a b g = let k = begins_split ts us g.0 b g.2 in (k.0, (g.0, g.1, k.1), k.2)
-
 -- the first two tokens of a formula of another language
 pub foreign_front : (ts : List Token) → AreForeign ts → (word : Bytes) × (others : List Token) × IsAmong languages word × (ts ≡ lower word ∷ left_bracket ∷ others)
 foreign_front [] f = absurd f
@@ -204,7 +201,7 @@ no_item_read bytes at l h p q result f = by l.tokens.items refl l.stop refl f wh
 -- a clause is no include
 clause_no_include : (c : Clause) (file : Bytes) (s : Selection) (ts : List Token) → IsItem (clause_item c) ts → IsItem (include_item file s) ts → ⊥
 clause_no_include c file s ts (name, formula, extra, is_name, is_formula, is_extra, e) (names, selection, f) =
-    let words : lower (Rattle.std.specs.Prelude.codes "cnf") ≡ lower (Rattle.std.specs.Prelude.codes "include") = Rattle.si_parse.proofs.ParseSteps.heads (sym e ∙ f) in
+    let words : lower (Rattle.std.specs.Prelude.codes "cnf") ≡ lower (Rattle.std.specs.Prelude.codes "include") = same_head (sym e ∙ f) in
     let texts : Rattle.std.specs.Prelude.codes "cnf" ≡ Rattle.std.specs.Prelude.codes "include" = ap (λ (t : Token). t.text) words in
     absurd (omega (arith, ap length texts))
 

@@ -29,4 +29,5 @@ IsEdge t (Some (Closes b)) = (opening_of t ≡ neither) × (closing_of t ≡ bra
 abbrev pub IsTurn : Token → List grammar.Bracket → List grammar.Bracket → Turn → Type 0
 IsTurn t before behind GoesOn = brackets_behind t before ≡ Some behind
 IsTurn t before behind Ends = (opening_of t ≡ neither) × (closing_of t ≡ round) × (before ≡ [])
-IsTurn t before behind Fails = (brackets_behind t before ≡ None) × (closing_of t ≡ round → before ≡ [] → ⊥)
+IsTurn t before behind Fails =
+    (brackets_behind t before ≡ None) × (closing_of t ≡ round → before ≡ [] → ⊥)

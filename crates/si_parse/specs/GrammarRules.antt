@@ -16,13 +16,15 @@ use Rattle.si_defs.specs.declared.TokenKind.TheVariants as token
 abbrev pub AreMore : {M : Type 0} → (M → List Token → Type 0) → Token → List M → List Token → Type 0
 AreMore Means sign [] ts = ts ≡ []
 AreMore Means sign (m ∷ ms) ts =
-    (first : List Token) × (others : List Token) × Means m first × AreMore Means sign ms others × (ts ≡ sign ∷ first ++ others)
+    (first : List Token) × (others : List Token) × Means m first × AreMore Means sign ms others
+    × (ts ≡ sign ∷ first ++ others)
 
 -- at least one, with a sign between each two
 abbrev pub IsRow : {M : Type 0} → (M → List Token → Type 0) → Token → List M → List Token → Type 0
 IsRow Means sign [] ts = ⊥
 IsRow Means sign (m ∷ ms) ts =
-    (first : List Token) × (others : List Token) × Means m first × AreMore Means sign ms others × (ts ≡ first ++ others)
+    (first : List Token) × (others : List Token) × Means m first × AreMore Means sign ms others
+    × (ts ≡ first ++ others)
 
 -- one token
 abbrev pub IsMark : ℕ → List Token → Type 0
@@ -31,7 +33,8 @@ IsMark c ts = ts ≡ mark c ∷ []
 -- ---- terms
 -- the symbol of a function
 abbrev pub function_symbol : SymKind → Bytes → ℕ → Symbol
-function_symbol kind text arity = record { kind = kind; text = text; side = Function; arity = arity }
+function_symbol kind text arity =
+    record { kind = kind; text = text; side = Function; arity = arity }
 
 -- terms with commas between them
 abbrev pub AreTerms : List Term → List Token → Type 0
@@ -43,7 +46,8 @@ IsApplied kind text (terms.var x) ts = ⊥
 IsApplied kind text (terms.app s terms.none) ts = (s ≡ function_symbol kind text 0) × (ts ≡ [])
 IsApplied kind text (terms.app s (terms.more u us)) ts =
     (s ≡ function_symbol kind text (1 + terms.count us))
-    × ((inner : List Token) × AreTerms (u ∷ terms.list us) inner × (ts ≡ left_bracket ∷ inner ++ right_bracket ∷ []))
+    × ((inner : List Token) × AreTerms (u ∷ terms.list us) inner
+    × (ts ≡ left_bracket ∷ inner ++ right_bracket ∷ []))
 
 -- ---- literals
 -- the atom of a term that is read as one: its head is a word
@@ -51,8 +55,15 @@ abbrev pub as_atom : Term → Option Term
 as_atom (terms.var x) = None
 as_atom (terms.app s us) = by s.kind where
   by : SymKind → Option Term
-  by Word = Some (terms.app (record { kind = Word; text = s.text; side = Predicate; arity = s.arity }) us)
-  by Dollar = Some (terms.app (record { kind = Dollar; text = s.text; side = Predicate; arity = s.arity }) us)
+  by Word =
+      Some (terms.app (record { kind = Word; text = s.text; side = Predicate; arity = s.arity }) us)
+  by Dollar =
+      Some (terms.app (record {
+        kind = Dollar;
+        text = s.text;
+        side = Predicate;
+        arity = s.arity;
+      }) us)
   by Number = None
   by Distinct = None
   by Equal = None
@@ -82,7 +93,9 @@ IsStatement l ts = by l.positive where
 
 -- an atom, bare or in round brackets
 abbrev pub IsNegated : Term → List Token → Type 0
-IsNegated m ts = (IsAtom m ts) ⊎ ((inner : List Token) × IsAtom m inner × (ts ≡ left_bracket ∷ inner ++ right_bracket ∷ []))
+IsNegated m ts =
+    (IsAtom m ts)
+    ⊎ ((inner : List Token) × IsAtom m inner × (ts ≡ left_bracket ∷ inner ++ right_bracket ∷ []))
 
 -- ---- formulas
 -- literals with bars between them
@@ -112,7 +125,9 @@ IsHeading h ts = (t : Token) × IsName h.0 t × (ts ≡ t ∷ comma ∷ lower h.
 
 -- annotations behind their comma, up to and with the closing bracket of the clause
 abbrev pub AreAnnotations : List Token → Type 0
-AreAnnotations ts = (notes : List Token) × (notes ≢ []) × IsTrue (balances notes []) × (ts ≡ notes ++ right_bracket ∷ [])
+AreAnnotations ts =
+    (notes : List Token) × (notes ≢ []) × IsTrue (balances notes [])
+    × (ts ≡ notes ++ right_bracket ∷ [])
 
 -- what stands behind the formula of a clause, up to and with its closing bracket
 abbrev pub IsClosed : List Token → Type 0

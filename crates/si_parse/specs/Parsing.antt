@@ -9,10 +9,13 @@ use Rattle.std.specs.Borrow.{Bor}
 
 -- The meaning that was found is spelled by the tokens in front of what is left, and whatever the
 -- front tokens mean was found, where what follows them allows it.
-pub record ReadsTokens {M : Type 0} (Means : M → List Token → Type 0) (Follows : List Token → Type 0)
+pub record ReadsTokens {M : Type 0} (Means : M → List Token → Type 0)
+    (Follows : List Token → Type 0)
     (tokens : List Token) (result : Option (M × List Token)) : Type 0 where
-  pub found : (m : M) (rest : List Token) → result ≡ Some (m, rest) → (used : List Token) × (tokens ≡ used ++ rest) × Means m used
-  pub every : (m : M) (used rest : List Token) → tokens ≡ used ++ rest → Means m used → Follows rest → result ≡ Some (m, rest)
+  pub found : (m : M) (rest : List Token) → result ≡ Some (m, rest)
+      → (used : List Token) × (tokens ≡ used ++ rest) × Means m used
+  pub every : (m : M) (used rest : List Token) → tokens ≡ used ++ rest → Means m used → Follows rest
+      → result ≡ Some (m, rest)
 
 abbrev pub Anything : List Token → Type 0
 Anything rest = Unit {0}
@@ -43,14 +46,17 @@ abbrev pub NoName : List Token → Type 0
 NoName rest = Without (mark 44 ∷ []) rest
 
 -- the same of the program's tokens and values, by what they stand for
-abbrev pub Reads : {X M : Type 0} → (X → M) → (M → List Token → Type 0) → (List Token → Type 0) → List Lexeme → Option (X × Bor (List Lexeme)) → Type 0
+abbrev pub Reads : {X M : Type 0} → (X → M) → (M → List Token → Type 0) → (List Token → Type 0)
+    → List Lexeme → Option (X × Bor (List Lexeme)) → Type 0
 Reads view Means Follows tokens result =
-    ReadsTokens Means Follows (tokens_of tokens) (option_map (λ r. (view r.0, tokens_of r.1.now)) result)
+    ReadsTokens Means Follows (tokens_of tokens)
+    (option_map (λ r. (view r.0, tokens_of r.1.now)) result)
 
 -- the same where only what is left is given
 abbrev pub Passes : (List Token → Type 0) → List Lexeme → Option (Bor (List Lexeme)) → Type 0
 Passes Spelled tokens result =
-    ReadsTokens (λ (u : Unit {0}) used. Spelled used) Anything (tokens_of tokens) (option_map (λ r. (tt {0}, tokens_of r.now)) result)
+    ReadsTokens (λ (u : Unit {0}) used. Spelled used) Anything (tokens_of tokens)
+    (option_map (λ r. (tt {0}, tokens_of r.now)) result)
 
 -- what is left behind what was found, if anything was, is this
 abbrev pub IfLeft : {X : Type 0} → (List Token → Type 0) → Option (X × Bor (List Lexeme)) → Type 0

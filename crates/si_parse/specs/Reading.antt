@@ -45,7 +45,8 @@ pub record IsItemRead (bytes : Bytes) (at : ℕ) (item : Item) (end : ℕ) : Typ
   pub from : at ≤ end
   pub within : end ≤ length bytes
   pub begins : BeginsWithItem (drop at bytes) item (drop end bytes)
-  pub only : (other : Item) (rest : Bytes) → BeginsWithItem (drop at bytes) other rest → (other ≡ item) × (rest ≡ drop end bytes)
+  pub only : (other : Item) (rest : Bytes) → BeginsWithItem (drop at bytes) other rest
+      → (other ≡ item) × (rest ≡ drop end bytes)
 
 -- neither the end nor an item stands behind the blanks, and this is the place behind them
 pub record IsFault (bytes : Bytes) (at place : ℕ) : Type 0 where
@@ -55,21 +56,27 @@ pub record IsFault (bytes : Bytes) (at place : ℕ) : Type 0 where
   pub behind : IsPlace (drop at bytes) (drop place bytes)
 
 abbrev pub IsRead : Bytes → ℕ → Read → Type 0
-IsRead bytes at (read.Cnf c end) = IsItemRead bytes at (clause_item (clause_of c)) end × IsSoundClause (clause_of c)
-IsRead bytes at (read.Include file s end) = IsItemRead bytes at (include_item file (selection_of s)) end
+IsRead bytes at (read.Cnf c end) =
+    IsItemRead bytes at (clause_item (clause_of c)) end × IsSoundClause (clause_of c)
+IsRead bytes at (read.Include file s end) =
+    IsItemRead bytes at (include_item file (selection_of s)) end
 IsRead bytes at read.End = AreBlanks (drop at bytes)
 IsRead bytes at (read.Syntax place) = IsFault bytes at place × (IsForeign (drop at bytes) → ⊥)
 IsRead bytes at (read.Language place) = IsFault bytes at place × IsForeign (drop at bytes)
 
 -- ---- whole tokens and whole texts
 -- all the tokens spell this, and nothing else
-abbrev pub ReadsAll : {X M : Type 0} → (X → M) → (M → List Token → Type 0) → List Token → Option X → Type 0
-ReadsAll {M = M} view Means ts (Some x) = Means (view x) ts × ((other : M) → Means other ts → other ≡ view x)
+abbrev pub ReadsAll : {X M : Type 0} → (X → M) → (M → List Token → Type 0) → List Token
+    → Option X → Type 0
+ReadsAll {M = M} view Means ts (Some x) =
+    Means (view x) ts × ((other : M) → Means other ts → other ≡ view x)
 ReadsAll {M = M} view Means ts None = (m : M) → Means m ts → ⊥
 
 -- the whole bytes are this, and nothing else
-abbrev pub ReadsText : {X M : Type 0} → (X → M) → (M → List Token → Type 0) → Bytes → Option X → Type 0
-ReadsText {M = M} view Means bytes (Some x) = IsText (Means (view x)) bytes × ((other : M) → IsText (Means other) bytes → other ≡ view x)
+abbrev pub ReadsText : {X M : Type 0} → (X → M) → (M → List Token → Type 0) → Bytes
+    → Option X → Type 0
+ReadsText {M = M} view Means bytes (Some x) =
+    IsText (Means (view x)) bytes × ((other : M) → IsText (Means other) bytes → other ≡ view x)
 ReadsText {M = M} view Means bytes None = (m : M) → IsText (Means m) bytes → ⊥
 
 -- ---- patterns
@@ -81,7 +88,8 @@ IsOfKind kind.Term (clauses.literal_pattern l) = ⊥
 IsOfKind kind.Term (clauses.term_pattern t) = Unit {0}
 
 -- all the tokens spell this pattern, and no other one of this kind
-pub record IsWholePattern (ts : List Token) (kind : PatternKind) (p : clauses.Pattern) : Type 0 where
+pub record IsWholePattern (ts : List Token) (kind : PatternKind)
+    (p : clauses.Pattern) : Type 0 where
   pub of_kind : IsOfKind kind p
   pub spelled : IsPattern p ts
   pub only : (other : clauses.Pattern) → IsOfKind kind other → IsPattern other ts → other ≡ p

@@ -2,3 +2,4 @@ pub mod Writing
 pub mod Pieces
 pub mod Escapes
 pub mod Naming
+pub mod ShownLists

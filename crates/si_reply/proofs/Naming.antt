@@ -14,14 +14,14 @@ use Rattle.si_flat.specs.declared.Cell.{Cell}
 use Rattle.si_flat.specs.declared.Cell.TheVariants as cell
 use Rattle.si_flat.specs.declared.Owner.TheVariants.{Query, Entry}
 use Rattle.si_flat.specs.Cells as cells
-use Rattle.si_flat.specs.Cells.{StandsFor, cells_of, cells_of_all, span}
+use Rattle.si_flat.specs.Cells.{cells_of, cells_of_all, span}
 use Rattle.si_flat.specs.Numbered.{numbered, all_numbered, place_in}
 use Rattle.si_flat.specs.Flattened.{numbers_from, extra_numbers}
 use Rattle.si_flat.proofs.Numbers.{has-among, among-number}
-use Rattle.si_flat.proofs.ExtraNumbers.{among_either}
 use Rattle.si_flat.proofs.Subterms.{length-cells_of, span-first}
 use Rattle.si_io.specs.Content.{Told}
 use Rattle.si_defs.specs.Printing.{separated, term_text, more_texts, bindings_texts, solution_text}
+use Rattle.si_defs.proofs.ListLaws.{among_parts}
 use Rattle.si_reply.specs.PrintedParts.{arguments_text, binding_text, more_bindings_text, bindings_text}
 use Rattle.si_reply.proofs.Pieces.{four_apart}
 use Rattle.si_reply.proofs.Writing.{Wrote}
@@ -54,7 +54,7 @@ known_among n number s h =
 
 module _ (pairs : Numbering) (extra : List Sym) (xs ys : List Bytes) (number : ℕ) (s : Symbol) (shown : ShowsSymbol (naming pairs extra xs ys) number s) where
   either : IsAmong pairs (s, number) ⊎ IsAmong {V = Symbol × ℕ} (extra_numbers (map symbol_of extra)) (s, number)
-  either = among_either pairs (extra_numbers (map symbol_of extra)) (s, number) (known_among (naming pairs extra xs ys) number s shown)
+  either = among_parts pairs (extra_numbers (map symbol_of extra)) (s, number) (known_among (naming pairs extra xs ys) number s shown)
 
   -- the table doesn't have the number, so it is an extra symbol's
   pub is_extra : ((r : Symbol) → IsAmong pairs (r, number) → ⊥) → ExtraAt (2 ^ 31) extra s number

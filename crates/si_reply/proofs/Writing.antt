@@ -1,5 +1,6 @@
 -- A text that is written piece by piece.
-use Rattle.std.proofs.Common.{◌≡◌, ℕ, List, [], ◌++◌, Result, Ok, Err, OnOk, OnErr, refl, sym, ap, subst, ◌∙◌, append_assoc, append-nil}
+use Rattle.std.proofs.Common.{◌≡◌, ℕ, List, [], ◌++◌, Result, refl, sym, ap, subst, ◌∙◌, append_assoc, append-nil}
+use Rattle.std.proofs.lemmas.Result.{on_ok_weaker, on_err_weaker}
 use Rattle.si_io.specs.Content.{Told, Receives, ReceivesPrefix}
 use Rattle.si_io.specs.Puts.{Puts}
 use Rattle.si_io.proofs.Content.{append_told-nil, Receives_then, ReceivesPrefix_then, ReceivesPrefix_more}
@@ -35,20 +36,11 @@ wrote_all a b whole rest none w =
     let P : List ℕ → Type 0 = λ l. Receives a l b in
     subst P (sym all) w.given
 
--- what follows from what a call ensures at each of its results
-pub err_so : {T E : Type 0} (r : Result T E) {P Q : Type 0} → (P → Q) → OnErr r P → OnErr r Q
-err_so (Ok x) f p = tt
-err_so (Err e) f p = f p
-
-pub ok_so : {T E : Type 0} (r : Result T E) {P Q : Type 0} → (P → Q) → OnOk r P → OnOk r Q
-ok_so (Ok x) f p = f p
-ok_so (Err e) f p = tt
-
 -- a text of which this is written, and then what a last call writes of the rest
 pub puts_rest : {T E : Type 0} (r : Result T E) (a b c : Told) (whole rest : List ℕ) → Wrote a b whole rest → Puts r rest b c → Puts r whole a c
 puts_rest r a b c whole rest w p = record {
-  all = ok_so r (λ h. wrote_all a c whole [] refl (wrote_piece a b c whole rest rest [] (sym (append-nil rest)) w h)) p.all;
-  part = err_so r (wrote_part a b c whole rest rest [] (sym (append-nil rest)) w) p.part;
+  all = on_ok_weaker r (λ h. wrote_all a c whole [] refl (wrote_piece a b c whole rest rest [] (sym (append-nil rest)) w h)) p.all;
+  part = on_err_weaker r (wrote_part a b c whole rest rest [] (sym (append-nil rest)) w) p.part;
 }
 
 -- what is left has another form

@@ -25,7 +25,11 @@ pub record Naming : Type 0 where
 -- the numbers of a table, and behind them those of the extra symbols
 abbrev pub naming : Numbering → List Sym → List Bytes → List Bytes → Naming
 naming pairs extra query_names entry_names =
-    record { numbers = query_numbers pairs extra; query_names = query_names; entry_names = entry_names }
+    record {
+      numbers = query_numbers pairs extra;
+      query_names = query_names;
+      entry_names = entry_names;
+    }
 
 abbrev pub symbol_number : Naming → Symbol → ℕ
 symbol_number n s = number_in n.numbers s

@@ -1,5 +1,5 @@
-//! Printed texts, written to a sink piece by piece: bytes, numbers, names, symbols, terms and
-//! places. No call takes memory.
+//! Printed texts, written to a sink piece by piece: bytes, numbers, names, names of files, symbols,
+//! terms, places, maps and solution lists. No call takes memory.
 #![tactic(auto)]
 
 mod names;

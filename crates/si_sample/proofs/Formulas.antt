@@ -1,7 +1,8 @@
 -- What the texts stand for that the generator's rules draw: terms, atoms, literals, disjunctions.
-use Rattle.std.proofs.Common.{◌≡◌, ℕ, zero, suc, ◌+◌, ◌-◌, ◌≤◌, Bool, true, false, ◌&&◌, List, [], ◌∷◌, ◌++◌, length, codes, refl, sym, ap, subst, ◌∙◌, ◌⊎◌, inl, inr, append_assoc, append-nil, arith}
+use Rattle.std.proofs.Common.{◌≡◌, ℕ, zero, suc, ◌+◌, ◌-◌, ◌≤◌, true, false, List, [], ◌∷◌, ◌++◌, length, codes, refl, sym, ap, subst, ◌∙◌, ◌⊎◌, inl, inr, append_assoc, append-nil, arith}
 use Rattle.std.specs.Prelude.{IsTrue}
 use Rattle.std.proofs.Math.Nat.{max-le}
+use Rattle.std.proofs.lemmas.Bool.{and_right}
 use Rattle.si_defs.specs.Bytes.{Bytes, is_word_byte, is_lower_word, is_upper_word}
 use Rattle.si_defs.specs.Terms as terms
 use Rattle.si_defs.specs.Symbols.{Symbol}
@@ -13,6 +14,7 @@ use Rattle.si_defs.specs.declared.SymKind.TheVariants.{Word}
 use Rattle.si_defs.specs.declared.Side.{Side}
 use Rattle.si_defs.specs.declared.Side.TheVariants.{Predicate, Function}
 use Rattle.si_defs.specs.declared.TokenKind.TheVariants.{Lower, Upper, Mark}
+use Rattle.si_defs.proofs.TokenLaws.{begins_append}
 use Rattle.si_sample.proofs.Tokens.{is_letter, continues_word, is_plain, next_token}
 
 -- The text is tokens of which this holds, whatever stands behind it that no word goes on in. No
@@ -32,30 +34,22 @@ pub record DrawsPhrases {A : Type 0} (Is : A → List Token → Type 0) (deep : 
   pub each : (first : ℕ) (text : Bytes) (last : ℕ) → rule first text last → (a : A) × IsPhrase (Is a) deep text
 
 -- ---- tokens
-pub begins_append : (ts us : List Token) (bytes middle rest : Bytes) → Begins bytes ts middle → Begins middle us rest → Begins bytes (ts ++ us) rest
-begins_append [] us bytes middle rest a b = subst (λ x. Begins x us rest) (sym a) b
-begins_append (t ∷ ts) us bytes middle rest a b = (a.0, a.1, begins_append ts us a.0 middle rest a.2 b)
-
 -- a mark before tokens
 pub begins_mark : (c : ℕ) (ts : List Token) (bytes rest : Bytes) → IsTrue (is_mark c) → is_plain c ≡ true → is_letter c ≡ false → Begins bytes ts rest
     → Begins (c ∷ bytes) (mark c ∷ ts) rest
 begins_mark c ts bytes rest m p l b = (bytes, next_token Mark (c ∷ []) c [] bytes (refl, (c, refl, m)) p (rw l refl), b)
 
-no_more : (letter more : Bool) → more ≡ false → (letter && more) ≡ false
-no_more true more h = h
-no_more false more h = refl
-
 -- a word that doesn't go on
 pub begins_word : (c : ℕ) (cs : Bytes) (ts : List Token) (bytes rest : Bytes) → IsTrue (is_lower_word (c ∷ cs)) → is_plain c ≡ true → continues_word bytes ≡ false
     → Begins bytes ts rest → Begins (c ∷ cs ++ bytes) (lower (c ∷ cs) ∷ ts) rest
-begins_word c cs ts bytes rest w p n b = (bytes, next_token Lower (c ∷ cs) c cs bytes (refl, w) p (no_more (is_letter c) (continues_word bytes) n), b)
+begins_word c cs ts bytes rest w p n b = (bytes, next_token Lower (c ∷ cs) c cs bytes (refl, w) p (and_right (is_letter c) (continues_word bytes) n), b)
 
 -- ---- leaves
 variable_phrase : (c deep : ℕ) → IsTrue (is_upper_word (c ∷ [])) → is_plain c ≡ true → IsPhrase (IsTerm (terms.var (c ∷ []))) deep (c ∷ [])
 variable_phrase c deep w p = record {
   tokens = upper (c ∷ []) ∷ [];
   spelled = refl;
-  begins = λ rest n. (rest, next_token Upper (c ∷ []) c [] rest (refl, w) p (no_more (is_letter c) (continues_word rest) n), refl);
+  begins = λ rest n. (rest, next_token Upper (c ∷ []) c [] rest (refl, w) p (and_right (is_letter c) (continues_word rest) n), refl);
   nested = λ depth most others d h. max-le (omega (arith, d)) h;
 }
 

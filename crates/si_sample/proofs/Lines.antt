@@ -13,9 +13,9 @@ use Rattle.si_defs.specs.Texts.{BeginsWithItem}
 use Rattle.si_defs.specs.Generator.{exactly, ◌before◌, literals, clause, clauses, IsSample}
 use Rattle.si_defs.specs.declared.NameKind.TheVariants as named
 use Rattle.si_defs.specs.declared.TheConstants.{DEEPEST_NESTING}
+use Rattle.si_defs.proofs.TokenLaws.{skips_nothing, begins_append}
 use Rattle.si_state.specs.Harvest.{AreClauses}
-use Rattle.si_sample.proofs.Tokens.{skips_nothing}
-use Rattle.si_sample.proofs.Formulas.{IsPhrase, begins_append, begins_mark, begins_word, before_bytes, behind_bytes, draws_literals}
+use Rattle.si_sample.proofs.Formulas.{IsPhrase, begins_mark, begins_word, before_bytes, behind_bytes, draws_literals}
 
 -- ---- names
 -- a digit may stand in a word, and so a number may

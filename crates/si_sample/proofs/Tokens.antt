@@ -3,11 +3,11 @@ use Rattle.std.proofs.Common.{◌≡◌, ℕ, ◌≤◌, Bool, true, false, not,
 use Rattle.std.specs.Prelude.{IsTrue}
 use Rattle.std.specs.List.{list_all}
 use Rattle.std.proofs.lemmas.Bool.{and_parts, or_cases, or_parts, false≢true, not-true, eq-eqb}
-use Rattle.std.proofs.lemmas.Bool.Decides.{nat_tests}
-use Rattle.si_defs.specs.Bytes.{Bytes, is_small_letter, is_capital_letter, is_digit, is_word_byte, is_between, is_lower_word, is_upper_word, is_dollar_word, is_integer, is_decimal}
-use Rattle.si_defs.specs.Tokens.{Spells, NextToken, Skips, opens_comment}
+use Rattle.si_defs.specs.Bytes.{Bytes, is_small_letter, is_capital_letter, is_digit, is_word_byte, is_lower_word, is_upper_word, is_dollar_word, is_integer, is_decimal}
+use Rattle.si_defs.specs.Tokens.{Spells, NextToken, opens_comment}
 use Rattle.si_defs.specs.declared.TokenKind.{TokenKind}
 use Rattle.si_defs.specs.declared.TokenKind.TheVariants.{Lower, Upper, Dollar, Int, Single, Double, NotEqual, Mark}
+use Rattle.si_defs.proofs.TokenLaws.{decimal_digit, skips_nothing}
 
 abbrev pub is_letter : ℕ → Bool
 is_letter c = is_small_letter c || is_capital_letter c
@@ -50,16 +50,10 @@ usual c h =
     let y = or_parts (c == 34) (c == 33) t.1 in
     record { digit = v.0; sign = v.1; dollar = x.0; single = x.1; double = y.0; exclamation = y.1; slash = not-true (c == 47) w.1 }
 
-begins_decimal : (c : ℕ) (o : Bytes) → is_decimal (c ∷ o) ≡ true → is_digit c ≡ true
-begins_decimal c [] h = h
-begins_decimal c (d ∷ o) h =
-    let k = and_parts (is_between 49 57 c) (list_all is_digit (d ∷ o)) h in
-    grind (arith, nat_tests)
-
 no_integer : (c : ℕ) (o : Bytes) → IsUsual c → is_integer (c ∷ o) ≡ true → ⊥
 no_integer c o p h = by (or_cases (is_decimal (c ∷ o)) ((c == 43 || c == 45) && is_decimal o) h) where
   by : (is_decimal (c ∷ o) ≡ true) ⊎ (((c == 43 || c == 45) && is_decimal o) ≡ true) → ⊥
-  by (inl e) = false≢true (sym p.digit ∙ begins_decimal c o e)
+  by (inl e) = false≢true (sym p.digit ∙ decimal_digit c o e)
   by (inr e) = false≢true (sym p.sign ∙ (and_parts (c == 43 || c == 45) (is_decimal o) e).0)
 
 small_is : (c : ℕ) → is_small_letter c ≡ true → is_letter c ≡ true
@@ -117,9 +111,6 @@ no_longer c cs rest p n kind text (d ∷ o) behind s e = by (follows kind text c
       let ends : continues_word rest ≡ false = rw g.0 at n in
       let m = word_stops cs rest o behind ends tail g.1 in
       omega arith
-
-pub skips_nothing : (bytes : Bytes) → Skips bytes bytes
-skips_nothing bytes = record { blanks = []; each = tt; whole = refl }
 
 -- the token at the front, without blanks before it
 pub next_token : (kind : TokenKind) (text : Bytes) (c : ℕ) (cs rest : Bytes) → Spells kind text (c ∷ cs) → is_plain c ≡ true → (is_letter c && continues_word rest) ≡ false

@@ -7,6 +7,7 @@ use Rattle.si_defs.specs.Symbols.{Symbol}
 use Rattle.si_defs.specs.Clauses.{Name, Clause, Pattern, IsSoundClause}
 use Rattle.si_defs.specs.Entries.{entries, state_entries, clause_symbols}
 use Rattle.si_defs.specs.declared.Relation.{Relation}
+use Rattle.si_defs.proofs.ListLaws.{get_here}
 use Rattle.si_state.specs.Acceptance.{IsTaken, Accepts, Removes, taken, misused, full}
 use Rattle.si_state.specs.Signatures.{CountsSymbols}
 use Rattle.si_state.specs.Answers.{Hit, IsAnswer, hit_texts}
@@ -70,10 +71,7 @@ accepts limits clause state new o n a b k e w = rightly (ok_line 1 n ∷ []) (in
 -- the symbol at a clash
 pub at_seam : (before after own : List Symbol) (s : Symbol) (n : ℕ) → own ≡ before ++ s ∷ after → n ≡ length before → slice_get own n ≡ Some s
 at_seam before after own s n e h =
-    subst (λ l. slice_get l n ≡ Some s) (sym e) (subst (λ k. slice_get (before ++ s ∷ after) k ≡ Some s) (sym h) (seam before)) where
-      seam : (before : List Symbol) → slice_get (before ++ s ∷ after) (length before) ≡ Some s
-      seam [] = refl
-      seam (x ∷ xs) = seam xs
+    subst (λ l. slice_get l n ≡ Some s) (sym e) (subst (λ k. slice_get (before ++ s ∷ after) k ≡ Some s) (sym h) (get_here before s after))
 
 -- a clause that isn't kept
 fault_acts : (limits : Limits) (state new : List Clause) (r : Rejected) (told : reply.ReplyLine) (o : Stepped) (a b : Told) (why : AddFault)

@@ -1,5 +1,5 @@
 -- What is found, with its lists, is the answer; and its lines, written one after the other.
-use Rattle.std.proofs.Common.{◌≡◌, inl, inr, ℕ, zero, suc, ◌+◌, ◌<◌, ◌≤◌, List, [], ◌∷◌, ◌++◌, length, map, take, drop, Some, refl, sym, ◌∙◌, ap, subst, arith, append_assoc, take-append-drop, take_all}
+use Rattle.std.proofs.Common.{◌≡◌, inl, inr, ℕ, zero, suc, ◌+◌, ◌<◌, ◌≤◌, List, [], ◌∷◌, ◌++◌, length, map, take, drop, Some, refl, sym, ◌∙◌, ap, subst, arith, append_assoc, take-append-drop, take_all, length-append}
 use Rattle.std.specs.Prelude.{Result, Ok, Err, IsErrAnd, slice_get}
 use Rattle.std.specs.List.{AllByRecursion}
 use Rattle.si_defs.specs.Clauses.{Name, Clause, Pattern}
@@ -17,6 +17,7 @@ use Rattle.si_io.specs.Content.{Told, Receives, ReceivesPrefix}
 use Rattle.si_io.specs.Puts.{Puts}
 use Rattle.si_io.specs.declared.failed.Failed.{Failed}
 use Rattle.si_io.proofs.Content.{append_told-nil, Receives_then, ReceivesPrefix_then, ReceivesPrefix_more, Puts_then}
+use Rattle.si_defs.proofs.ListLaws.{all_drop, get_some, get_here}
 use Rattle.si_index.specs.Kept.{Kept}
 use Rattle.si_index.specs.Searching.{HasSolution}
 use Rattle.si_index.specs.Finding.{Finding, AreHits, at_position, entries_from_position, position_and_place}
@@ -25,15 +26,6 @@ use Rattle.si_session.proofs.Told.{ended-append}
 
 abbrev Found : Type 0
 Found = List (ℕ × Placed)
-
--- ---- positions
-pub at_front : (front back : List Clause) (c : Clause) → slice_get (front ++ c ∷ back) (length front) ≡ Some c
-at_front [] back c = refl
-at_front (x ∷ front) back c = at_front front back c
-
-one_more : (front : List Clause) (c : Clause) → length (front ++ c ∷ []) ≡ 1 + length front
-one_more [] c = omega arith
-one_more (x ∷ front) c = omega (arith, one_more front c)
 
 module _ (relation : Relation) (p : Pattern) (clauses : List Clause) where
   -- what is found in one clause, and then in others
@@ -56,11 +48,12 @@ module _ (relation : Relation) (p : Pattern) (clauses : List Clause) where
       → AreHits relation p (entries_from_position (length front) back) fs → AreHitsOf relation p clauses fs hits → IsAnswer relation p (state_entries back) hits
   of_all front [] e fs hits h g = subst (λ l. AreHitsOf relation p clauses l hits) h g
   of_all front (c ∷ back) e fs hits h g =
-      of_clause (length front) c (subst (λ l. slice_get l (length front) ≡ Some c) (sym e) (at_front front back c)) (entries c)
+      let behind : 1 + length front ≡ length (front ++ c ∷ []) = omega (arith, length-append front (c ∷ [])) in
+      of_clause (length front) c (subst (λ l. slice_get l (length front) ≡ Some c) (sym e) (get_here front c back)) (entries c)
       (entries_from_position (1 + length front) back) (state_entries back)
       (λ gs xs a b.
       of_all (front ++ c ∷ []) back (e ∙ sym (append_assoc front (c ∷ []) back)) gs xs
-      (subst (λ k. AreHits relation p (entries_from_position k back) gs) (sym (one_more front c)) a) b)
+      (subst (λ k. AreHits relation p (entries_from_position k back) gs) behind a) b)
       fs hits h g
 
   -- all that is found stands inside
@@ -79,16 +72,11 @@ module _ (relation : Relation) (p : Pattern) (clauses : List Clause) where
       inside_clause k (omega (arith, e)) (entries c) (entries_from_position (1 + k) back) (λ gs a. inside_all (1 + k) back (omega (arith, e)) gs a) fs h
 
   -- each of them has its hit
-  clause_there : (cs : List Clause) (k : ℕ) → k < length cs → (c : Clause) × (slice_get cs k ≡ Some c)
-  clause_there [] k less = absurd (omega (arith, less))
-  clause_there (c ∷ cs) zero less = (c, refl)
-  clause_there (c ∷ cs) (suc k) less = clause_there cs k (omega (arith, less))
-
   pub hits_of : (fs : Found) → AllByRecursion (IsInside clauses) fs → AllByRecursion (λ f. HasSolution relation p f.1.entry) fs → (hits : List Hit) × AreHitsOf relation p clauses fs hits
   hits_of [] inside solved = ([], refl)
   hits_of (f ∷ fs) inside solved =
       let others = hits_of fs inside.1 solved.1 in
-      let c = clause_there clauses f.0 inside.0 in
+      let c = get_some clauses f.0 inside.0 in
       let hit : Hit = record { clause = c.0; placed = f.1; solution = solved.0.solution } in
       (hit ∷ others.0, (hit, others.0, record { clause = c.1; placed = refl; solves = solved.0.solves }, others.1, refl))
 
@@ -113,11 +101,6 @@ texts-append (x ∷ xs) ys = ap (λ l. hit_text x ∷ l) (texts-append xs ys)
 
 lines-append : (xs ys : List Hit) → ended (hit_texts (xs ++ ys)) ≡ ended (hit_texts xs) ++ ended (hit_texts ys)
 lines-append xs ys = ap ended (texts-append xs ys) ∙ ended-append (hit_texts xs) (hit_texts ys)
-
-all_dropped : {X : Type 0} (P : X → Type 0) (n : ℕ) (xs : List X) → AllByRecursion P xs → AllByRecursion P (drop n xs)
-all_dropped P zero xs h = h
-all_dropped P (suc n) [] h = h
-all_dropped P (suc n) (x ∷ xs) h = all_dropped P n xs h.1
 
 take_next : (fs : Found) (n : ℕ) (f : ℕ × Placed) → slice_get fs n ≡ Some f → take (n + 1) fs ≡ take n fs ++ f ∷ []
 take_next [] n f is = absurd (let bad = is in cc)
@@ -157,7 +140,7 @@ module _ (f : Finding) (before : Told) where
   module _ (inside : AllByRecursion (IsInside f.index.clauses) f.hits) (solved : AllByRecursion (λ h. HasSolution f.relation f.pattern h.1.entry) f.hits) where
     -- the others have their hits too
     behind_these : (n : ℕ) → (hits : List Hit) × AreHitsOf f.relation f.pattern f.index.clauses (drop n f.hits) hits
-    behind_these n = hits_of f.relation f.pattern f.index.clauses (drop n f.hits) (all_dropped _ n f.hits inside) (all_dropped _ n f.hits solved)
+    behind_these n = hits_of f.relation f.pattern f.index.clauses (drop n f.hits) (all_drop _ n f.hits inside) (all_drop _ n f.hits solved)
 
     -- broken off at this one
     pub told_broken : (e : Failed) (n : ℕ) (now after : Told) → ToldTo f n before now → TellsHit f n (Err e) now after → TellsHits f (Err e) before after

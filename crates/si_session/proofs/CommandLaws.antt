@@ -10,6 +10,7 @@ use Rattle.si_defs.specs.Tokens.{Token, lower, AreBlanks, NextToken, Begins}
 use Rattle.si_defs.specs.Grammar.{IsClause, IsFormula, IsLiteral, IsTerm, left_bracket}
 use Rattle.si_defs.specs.Substitutions.{IsAmong}
 use Rattle.si_defs.specs.Texts.{IsPattern, languages}
+use Rattle.si_defs.proofs.TokenLaws.{begins_split}
 use Rattle.si_state.specs.Samples.{AllowsSample}
 use Rattle.si_steps.specs.declared.word.Word.{Word}
 use Rattle.si_steps.specs.declared.word.Word.TheVariants.{Add, Load, Remove, Ask, Subsumers, Subsumed, Stats, Sample}
@@ -30,7 +31,7 @@ use Rattle.si_parse.specs.declared.pattern.PatternKind.TheVariants as kind
 use Rattle.si_parse.specs.Parsing as reads
 use Rattle.si_parse.specs.Parsing.{Anything}
 use Rattle.si_parse.proofs.ParseWhole.{whole_means, whole_none}
-use Rattle.si_parse.proofs.ReadingLaws.{begins_split, foreign_front}
+use Rattle.si_parse.proofs.ReadingLaws.{foreign_front}
 use Rattle.si_term.specs.declared.clause.Clause as program_clause
 use Rattle.si_term.specs.declared.clause.Name as program_name
 use Rattle.si_term.specs.declared.clause.Literal as program_literal

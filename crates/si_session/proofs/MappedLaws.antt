@@ -9,7 +9,7 @@ use Rattle.si_state.specs.Subsumption.{MappedClause, AreMapped, mapped_text}
 use Rattle.si_steps.specs.Replies.{mapped_reply}
 use Rattle.si_steps.specs.Runs.{ended}
 use Rattle.si_io.specs.Content.{Told}
-use Rattle.si_form.proofs.NodeLaws.{get_some}
+use Rattle.si_defs.proofs.ListLaws.{get_some, get_here}
 use Rattle.si_index.specs.declared.subsuming.Mapped.{Mapped}
 use Rattle.si_index.specs.Subsuming.{AreMappedFrom}
 use Rattle.si_session.specs.Signs.{sign_text}
@@ -18,7 +18,6 @@ use Rattle.si_session.specs.Session.{Writes, HasPerformed, rightly}
 use Rattle.si_session.specs.declared.sign.Sign.TheVariants.{Space, LineFeed}
 use Rattle.si_session.specs.declared.stepped.Stepped.{Stepped}
 use Rattle.si_reply.proofs.Pieces.{four_apart}
-use Rattle.si_session.proofs.Answering.{at_front}
 
 -- ---- positions
 one_behind : (front : List Clause) (c : Clause) → suc (length front) ≡ length (front ++ c ∷ [])
@@ -36,7 +35,7 @@ module _ (P : List Literal → List ℕ → Type 0) (clauses : List Clause) wher
   mapped_from front (c ∷ back) e found (inr h) =
       inr (h.0, mapped_from (front ++ c ∷ []) back (e ∙ sym (append_assoc front (c ∷ []) back)) found (subst (λ k. AreMappedFrom P k back found) (one_behind front c) h.1))
   mapped_from front (c ∷ back) e found (inl h) =
-      let there : slice_get clauses h.0.clause ≡ Some c = ap (slice_get clauses) h.2 ∙ subst (λ l. slice_get l (length front) ≡ Some c) (sym e) (at_front front back c) in
+      let there : slice_get clauses h.0.clause ≡ Some c = ap (slice_get clauses) h.2 ∙ subst (λ l. slice_get l (length front) ≡ Some c) (sym e) (get_here front c back) in
       let others = mapped_from (front ++ c ∷ []) back (e ∙ sym (append_assoc front (c ∷ []) back)) h.1 (subst (λ k. AreMappedFrom P k back h.1) (one_behind front c) h.4) in
       inl (h.0.map, all_mapped clauses h.1, h.3, others, ap (all_mapped clauses) h.5 ∙ ap (λ o. mapped_at o h.0 ++ all_mapped clauses h.1) there)
 

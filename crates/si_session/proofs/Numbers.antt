@@ -6,7 +6,7 @@ use Rattle.std.specs.Str.Parse.{ParsesUnsigned}
 use Rattle.std.proofs.lemmas.Str.{IsUtf8-from_ascii}
 use Rattle.std.proofs.lemmas.Fmt.{IsAscii-decimal, parse-decimal}
 use Rattle.si_defs.specs.Bytes.{Bytes}
-use Rattle.si_sign.proofs.SymbolLaws.{text_same}
+use Rattle.si_defs.proofs.SymbolLaws.{text_self}
 
 -- it is text
 pub decimal_text : (text : Bytes) (n : ℕ) → n < 2 ^ 32 → text ≡ decimal n → IsUtf8 text
@@ -24,5 +24,5 @@ decimal_refused text n x read small e h is =
 -- two texts that were found to differ
 pub texts_differ : (b : Bool) (xs ys : Bytes) → b ≡ bytes_eq xs ys → b ≡ false → xs ≡ ys → ⊥
 texts_differ b xs ys e f same =
-    let yes : bytes_eq xs ys ≡ true = subst (λ t. bytes_eq xs t ≡ true) same (text_same xs) in
+    let yes : bytes_eq xs ys ≡ true = subst (λ t. bytes_eq xs t ≡ true) same (text_self xs) in
     let both : false ≡ true = sym f ∙ e ∙ yes in cc

@@ -3,6 +3,7 @@ use Rattle.std.proofs.Common.{◌≡◌, ℕ, zero, suc, ◌+◌, ◌*◌, ◌-�
 use Rattle.std.proofs.lemmas.List.{length-map}
 use Rattle.std.specs.Prelude.{slice_get}
 use Rattle.std.specs.List.{AllByRecursion}
+use Rattle.si_index.proofs.GatherLaws.{drop_got}
 use Rattle.si_defs.specs.Bytes.{Bytes}
 use Rattle.si_defs.specs.Terms as terms
 use Rattle.si_defs.specs.Clauses.{Term, Terms, Literal, Clause, IsSoundTerm, AreSoundTerms, IsSoundAtom, IsSoundLiteral, IsSoundClause, literal_size, literals_size}
@@ -16,8 +17,8 @@ use Rattle.si_steps.specs.Commands.{sample}
 use Rattle.si_steps.specs.Replies.{sample_line, memory_line, fault_line}
 use Rattle.si_steps.specs.Steps.{Performs}
 use Rattle.si_io.specs.Content.{Told}
+use Rattle.si_defs.proofs.ListLaws.{all_append}
 use Rattle.si_flat.specs.Flattened.{IsSoundEntry}
-use Rattle.si_form.proofs.CanonicalLaws.{all_append}
 use Rattle.si_index.specs.Kept.{Kept}
 use Rattle.si_harvest.specs.declared.faults.Loaded.{Loaded}
 use Rattle.si_harvest.specs.declared.faults.HarvestFault.{HarvestFault}
@@ -143,13 +144,6 @@ pub clause_small : (all : All) (c : Clause) (left : All) (sum : ℕ) → SumsTo 
 clause_small all c left sum s = omega (arith, sums_small all (of_clause c) left sum s, length-map (entries c) (placed_in c))
 
 -- ---- the entries of the last clauses
-next_clause : (cs : List Clause) (n : ℕ) (c : Clause) → slice_get cs n ≡ Some c → drop n cs ≡ c ∷ drop (n + 1) cs
-next_clause [] n c is = absurd (let bad = is in cc)
-next_clause (x ∷ cs) zero c is = let same : x ≡ c = cc in ap (λ y. y ∷ cs) same
-next_clause (x ∷ cs) (suc n) c is =
-    let next : suc n + 1 ≡ suc (n + 1) = omega arith in
-    next_clause cs n c is ∙ ap (λ m. c ∷ drop m (x ∷ cs)) (sym next)
-
 fewer : (cs : List Clause) (n : ℕ) → length (state_entries (drop n cs)) ≤ length (state_entries cs)
 fewer cs zero = omega arith
 fewer [] (suc n) = omega arith
@@ -157,10 +151,10 @@ fewer (c ∷ cs) (suc n) = omega (arith, fewer cs n, length-append (of_clause c)
 
 module _ (cs : List Clause) (n : ℕ) (c : Clause) (is : slice_get cs n ≡ Some c) where
   entries_split : state_entries (drop n cs) ≡ of_clause c ++ state_entries (drop (n + 1) cs)
-  entries_split = ap state_entries (next_clause cs n c is)
+  entries_split = ap state_entries (drop_got cs n c is)
 
-  pub clause_few : length (state_entries cs) ≤ MOST_OCCURRENCES → length (entries c) ≤ MOST_OCCURRENCES
-  clause_few few =
+  pub kept_few : length (state_entries cs) ≤ MOST_OCCURRENCES → length (entries c) ≤ MOST_OCCURRENCES
+  kept_few few =
       omega (arith, few, fewer cs n, ap length entries_split, length-append (of_clause c) (state_entries (drop (n + 1) cs)), length-map (entries c) (placed_in c))
 
   module _ (all : All) (first sum m : ℕ) (s : SumsTo all (state_entries (drop first cs)) (state_entries (drop n cs)) sum) (small : m ≤ 4294967296 * length (entries c)) where

@@ -18,7 +18,8 @@ use Rattle.si_session.specs.Signs.{sign_text}
 use Rattle.si_session.specs.declared.sign.Sign.TheVariants.{Space, LineFeed}
 
 -- the hit of what was found at a position among these clauses, with a canonical list
-pub record IsHitOf (relation : Relation) (pattern : Pattern) (clauses : List Clause) (found : ℕ × Placed) (hit : Hit) : Type 0 where
+pub record IsHitOf (relation : Relation) (pattern : Pattern) (clauses : List Clause)
+    (found : ℕ × Placed) (hit : Hit) : Type 0 where
   pub clause : slice_get clauses found.0 ≡ Some hit.clause
   pub placed : hit.placed ≡ found.1
   pub solves : Solves relation pattern found.1.entry hit.solution
@@ -37,12 +38,14 @@ IsInside clauses found = found.0 < length clauses
 abbrev pub TellsHit : Finding → ℕ → Result (Unit {0}) Failed → Told → Told → Type 0
 TellsHit f n result before after =
     (found : ℕ × Placed) × (hit : Hit) × (slice_get f.hits n ≡ Some found)
-    × IsHitOf f.relation f.pattern f.index.clauses found hit × Puts result (ended (hit_text hit ∷ [])) before after
+    × IsHitOf f.relation f.pattern f.index.clauses found hit
+    × Puts result (ended (hit_text hit ∷ [])) before after
 
 -- the lines of the hits were written, or the sink failed at one of them
 abbrev pub TellsHits : Finding → Result (Unit {0}) Failed → Told → Told → Type 0
 TellsHits f result before after =
-    (hits : List Hit) × AreHitsOf f.relation f.pattern f.index.clauses f.hits hits × Puts result (ended (hit_texts hits)) before after
+    (hits : List Hit) × AreHitsOf f.relation f.pattern f.index.clauses f.hits hits
+    × Puts result (ended (hit_texts hits)) before after
 
 -- The lines of the hits were written and the one of their number, without its line feed; or the
 -- sink failed at them.
@@ -54,8 +57,11 @@ TellsUnended f result before after =
 -- the answer was written, or the sink failed at it
 abbrev pub TellsAnswer : Finding → Result (Unit {0}) Failed → Told → Told → Type 0
 TellsAnswer f result before after =
-    (hits : List Hit) × AreHitsOf f.relation f.pattern f.index.clauses f.hits hits × Puts result (ended (answer_reply hits)) before after
+    (hits : List Hit) × AreHitsOf f.relation f.pattern f.index.clauses f.hits hits
+    × Puts result (ended (answer_reply hits)) before after
 
 -- a line of a place and a list, with its end
 unfoldable pub hit_line : Name → Place → Solution → Bytes
-hit_line name place solution = place_text name place ++ sign_text Space ++ solution_text variable_text solution ++ sign_text LineFeed
+hit_line name place solution =
+    place_text name place ++ sign_text Space ++ solution_text variable_text solution
+    ++ sign_text LineFeed

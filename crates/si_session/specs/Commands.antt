@@ -36,16 +36,22 @@ IsPerformed c line = (IsUnbuilt line → ⊥) × (AreBlanks line → ⊥) × Mea
 abbrev pub ReadsCommand : Bytes → Command → Type 0
 ReadsCommand line command.Blank = (IsUnbuilt line → ⊥) × AreBlanks line
 ReadsCommand line command.Later = (AreBlanks line → ⊥) × IsUnbuilt line
-ReadsCommand line command.Foreign = (IsUnbuilt line → ⊥) × (AreBlanks line → ⊥) × AddsForeign line × IsNoCommand line
+ReadsCommand line command.Foreign =
+    (IsUnbuilt line → ⊥) × (AreBlanks line → ⊥) × AddsForeign line × IsNoCommand line
 ReadsCommand line command.Wrong = IsWrong line
-ReadsCommand line (command.Add c) = IsPerformed (defs.add (clause_of c)) line × IsSoundClause (clause_of c)
+ReadsCommand line (command.Add c) =
+    IsPerformed (defs.add (clause_of c)) line × IsSoundClause (clause_of c)
 ReadsCommand line (command.Load file) = IsPerformed (defs.load file) line
 ReadsCommand line (command.Remove n) = IsPerformed (defs.remove (name_of n)) line
 ReadsCommand line command.Stats = IsPerformed defs.stats line
-ReadsCommand line (command.Sample start count) = IsPerformed (defs.sample start count) line × AllowsSample start count
-ReadsCommand line (command.Query r p) = IsPerformed (defs.query r (pattern_of p)) line × IsSoundPattern (pattern_of p)
-ReadsCommand line (command.Subsumers ls) = IsPerformed (defs.subsumers (map literal_of ls)) line × AreSoundLiterals (map literal_of ls)
-ReadsCommand line (command.Subsumed ls) = IsPerformed (defs.subsumed (map literal_of ls)) line × AreSoundLiterals (map literal_of ls)
+ReadsCommand line (command.Sample start count) =
+    IsPerformed (defs.sample start count) line × AllowsSample start count
+ReadsCommand line (command.Query r p) =
+    IsPerformed (defs.query r (pattern_of p)) line × IsSoundPattern (pattern_of p)
+ReadsCommand line (command.Subsumers ls) =
+    IsPerformed (defs.subsumers (map literal_of ls)) line × AreSoundLiterals (map literal_of ls)
+ReadsCommand line (command.Subsumed ls) =
+    IsPerformed (defs.subsumed (map literal_of ls)) line × AreSoundLiterals (map literal_of ls)
 
 -- ---- the tokens of a line
 -- the first of them is the word of a command that isn't built
@@ -66,16 +72,21 @@ Commands ts stop command.Foreign = AddForeign ts × ((c : defs.Command) → IsCo
 Commands ts stop command.Wrong =
     (BeginUnbuilt ts → ⊥) × (AddForeign ts → ⊥) × (stop ≡ End → ts ≡ [] → ⊥)
     × (stop ≡ End → (c : defs.Command) → IsCommand c ts → ⊥)
-Commands ts stop (command.Add c) = (stop ≡ End) × IsCommand (defs.add (clause_of c)) ts × IsSoundClause (clause_of c)
+Commands ts stop (command.Add c) =
+    (stop ≡ End) × IsCommand (defs.add (clause_of c)) ts × IsSoundClause (clause_of c)
 Commands ts stop (command.Load file) = (stop ≡ End) × IsCommand (defs.load file) ts
 Commands ts stop (command.Remove n) = (stop ≡ End) × IsCommand (defs.remove (name_of n)) ts
 Commands ts stop command.Stats = (stop ≡ End) × IsCommand defs.stats ts
-Commands ts stop (command.Sample start count) = (stop ≡ End) × IsCommand (defs.sample start count) ts × AllowsSample start count
-Commands ts stop (command.Query r p) = (stop ≡ End) × IsCommand (defs.query r (pattern_of p)) ts × IsSoundPattern (pattern_of p)
+Commands ts stop (command.Sample start count) =
+    (stop ≡ End) × IsCommand (defs.sample start count) ts × AllowsSample start count
+Commands ts stop (command.Query r p) =
+    (stop ≡ End) × IsCommand (defs.query r (pattern_of p)) ts × IsSoundPattern (pattern_of p)
 Commands ts stop (command.Subsumers ls) =
-    (stop ≡ End) × IsCommand (defs.subsumers (map literal_of ls)) ts × AreSoundLiterals (map literal_of ls)
+    (stop ≡ End) × IsCommand (defs.subsumers (map literal_of ls)) ts
+    × AreSoundLiterals (map literal_of ls)
 Commands ts stop (command.Subsumed ls) =
-    (stop ≡ End) × IsCommand (defs.subsumed (map literal_of ls)) ts × AreSoundLiterals (map literal_of ls)
+    (stop ≡ End) × IsCommand (defs.subsumed (map literal_of ls)) ts
+    × AreSoundLiterals (map literal_of ls)
 
 -- the word of a kind of pattern
 abbrev pub kind_word : PatternKind → Bytes
@@ -84,5 +95,6 @@ kind_word kind.Term = codes "term"
 
 -- the formula that all these tokens are, if nothing but blanks stands behind them
 abbrev pub ReadsOperand : List Token → Stop → Option (List term.Literal) → Type 0
-ReadsOperand ts stop (Some ls) = (stop ≡ End) × IsFormula (map literal_of ls) ts × AreSoundLiterals (map literal_of ls)
+ReadsOperand ts stop (Some ls) =
+    (stop ≡ End) × IsFormula (map literal_of ls) ts × AreSoundLiterals (map literal_of ls)
 ReadsOperand ts stop None = stop ≡ End → (formula : List Literal) → IsFormula formula ts → ⊥

@@ -24,7 +24,8 @@ HasHead rejected = IsSoundClause (clause_of rejected.clause) × NamesEntry rejec
 
 -- the reply's line says this fault
 abbrev pub TellsFault : Rejected → ReplyLine → AddFault → Type 0
-TellsFault rejected reply add_fault.Taken = reply_line reply ≡ taken_line (name_of rejected.clause.name)
+TellsFault rejected reply add_fault.Taken =
+    reply_line reply ≡ taken_line (name_of rejected.clause.name)
 TellsFault rejected reply (add_fault.Clash c) =
     (s : Symbol) → slice_get (clause_symbols (clause_of rejected.clause)) c.entry ≡ Some s
     → reply_line reply ≡ misused_text s c.found c.kept
@@ -43,13 +44,19 @@ IsTellable fault = Unit {0}
 
 -- the reply's line says this fault of a load
 abbrev pub TellsFaultOfLoad : HarvestFault → ReplyLine → Type 0
-TellsFaultOfLoad (harvest_fault.Syntax file line) reply = reply_line reply ≡ spot_line (codes "! syntax ") file line
-TellsFaultOfLoad (harvest_fault.Language file line) reply = reply_line reply ≡ spot_line (codes "! language ") file line
+TellsFaultOfLoad (harvest_fault.Syntax file line) reply =
+    reply_line reply ≡ spot_line (codes "! syntax ") file line
+TellsFaultOfLoad (harvest_fault.Language file line) reply =
+    reply_line reply ≡ spot_line (codes "! language ") file line
 TellsFaultOfLoad (harvest_fault.Rejected r) reply = TellsWhy r reply
-TellsFaultOfLoad (harvest_fault.Missing file) reply = reply_line reply ≡ file_line (codes "! missing ") file
+TellsFaultOfLoad (harvest_fault.Missing file) reply =
+    reply_line reply ≡ file_line (codes "! missing ") file
 TellsFaultOfLoad (harvest_fault.Big file) reply = reply_line reply ≡ file_line (codes "! big ") file
-TellsFaultOfLoad (harvest_fault.Fault file) reply = reply_line reply ≡ file_line (codes "! fault ") file
-TellsFaultOfLoad (harvest_fault.Cycle file) reply = reply_line reply ≡ file_line (codes "! cycle ") file
-TellsFaultOfLoad (harvest_fault.Depth file) reply = reply_line reply ≡ file_line (codes "! depth ") file
+TellsFaultOfLoad (harvest_fault.Fault file) reply =
+    reply_line reply ≡ file_line (codes "! fault ") file
+TellsFaultOfLoad (harvest_fault.Cycle file) reply =
+    reply_line reply ≡ file_line (codes "! cycle ") file
+TellsFaultOfLoad (harvest_fault.Depth file) reply =
+    reply_line reply ≡ file_line (codes "! depth ") file
 TellsFaultOfLoad harvest_fault.Fetches reply = reply_line reply ≡ fetches_line
 TellsFaultOfLoad harvest_fault.Memory reply = reply_line reply ≡ memory_line

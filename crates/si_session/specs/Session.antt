@@ -23,11 +23,14 @@ pub record State : Type 0 where
   pub limits : Limits
 
 abbrev pub state_code : Coded State
-state_code = code_by (List Clause × Limits) (coded× (coded_list clause_code) limits_contracts.the_row.coded) (λ s. (s.clauses, s.limits)) (λ p. record { clauses = p.0; limits = p.1 }) (λ _. refl)
+state_code =
+    code_by (List Clause × Limits) (coded× (coded_list clause_code) limits_contracts.the_row.coded)
+    (λ s. (s.clauses, s.limits)) (λ p. record { clauses = p.0; limits = p.1 }) (λ _. refl)
 
 -- what stands in the sink behind a step with this reply
 abbrev pub Writes : Stepped → Reply → Told → Told → Type 0
-Writes Answered reply before after = Receives before (ended reply) after × (reply ≡ [] → ⊥) × IsFalse (is_refusal reply)
+Writes Answered reply before after =
+    Receives before (ended reply) after × (reply ≡ [] → ⊥) × IsFalse (is_refusal reply)
 Writes Refused reply before after = Receives before (ended reply) after × IsTrue (is_refusal reply)
 Writes Silent reply before after = Receives before (ended reply) after × (reply ≡ [])
 Writes SinkFailed reply before after = ReceivesPrefix before (ended reply) after
@@ -36,8 +39,10 @@ Writes SinkFailed reply before after = ReceivesPrefix before (ended reply) after
 -- only where the library may fail.
 abbrev pub IsCounted : Bool → Owed → Counts → Counts → Type 0
 IsCounted may_fail nothing before now = now ≡ before
-IsCounted may_fail a_miss before now = Rose before.misses now.misses × (now ≡ record before { misses = now.misses })
-IsCounted may_fail a_big before now = Rose before.bigs now.bigs × (now ≡ record before { bigs = now.bigs })
+IsCounted may_fail a_miss before now =
+    Rose before.misses now.misses × (now ≡ record before { misses = now.misses })
+IsCounted may_fail a_big before now =
+    Rose before.bigs now.bigs × (now ≡ record before { bigs = now.bigs })
 IsCounted may_fail a_failure before now =
     Rose before.faults now.faults × (now ≡ record before { faults = now.faults }) × IsTrue may_fail
 
@@ -53,7 +58,8 @@ around sink counts may_fail = record { sink = sink; counts = counts; may_fail = 
 
 -- The call went one step over a library: the state is the one behind it, its reply was written, or
 -- at a sink's fault a prefix of it, and what the reply owes to the library was counted.
-pub record Steps (told : Option Files) (old new : State) (request : Request) (outcome : Stepped) (before after : Around) : Type 0 where
+pub record Steps (told : Option Files) (old new : State) (request : Request) (outcome : Stepped)
+    (before after : Around) : Type 0 where
   pub reply : Reply
   pub owed : Owed
   pub step : Acts old.limits told old.clauses request reply owed new.clauses
@@ -64,21 +70,32 @@ pub record Steps (told : Option Files) (old new : State) (request : Request) (ou
 -- ---- parts of a step
 -- What a command did: its reply P was right, and so is the state behind it; or memory ran out, at
 -- once or behind some of the lines of the right reply, and the state stayed.
-pub data HasPerformed (P : Reply → List Clause → Type 0) (old new : List Clause) (outcome : Stepped) (before after : Told) : Type 0 where
-  rightly : (reply : Reply) → P reply new → Writes outcome reply before after → HasPerformed P old new outcome before after
-  at_once : new ≡ old → Writes outcome (memory_line ∷ []) before after → HasPerformed P old new outcome before after
-  behind : (whole : Reply) (next : List Clause) → P whole next → (written left : Reply) → whole ≡ written ++ left → (left ≡ [] → ⊥)
-      → new ≡ old → Writes outcome (written ++ memory_line ∷ []) before after → HasPerformed P old new outcome before after
+pub data HasPerformed (P : Reply → List Clause → Type 0) (old new : List Clause) (outcome : Stepped)
+    (before after : Told) : Type 0 where
+  rightly : (reply : Reply) → P reply new → Writes outcome reply before after
+      → HasPerformed P old new outcome before after
+  at_once : new ≡ old → Writes outcome (memory_line ∷ []) before after
+      → HasPerformed P old new outcome before after
+  behind : (whole : Reply) (next : List Clause) → P whole next → (written left : Reply)
+      → whole ≡ written ++ left → (left ≡ [] → ⊥)
+      → new ≡ old → Writes outcome (written ++ memory_line ∷ []) before after
+      → HasPerformed P old new outcome before after
 
 -- the same of an index, under limits that allow as many entries as it does
-abbrev pub ActsOn : (Limits → List Clause → Reply → List Clause → Type 0) → Kept → Kept → Stepped → Told → Told → Type 0
+abbrev pub ActsOn : (Limits → List Clause → Reply → List Clause → Type 0) → Kept → Kept → Stepped
+    → Told → Told → Type 0
 ActsOn P old new outcome before after =
-    (limits : Limits) → limits.entries ≡ old.limit → HasPerformed (P limits old.clauses) old.clauses new.clauses outcome before after
+    (limits : Limits) → limits.entries ≡ old.limit
+    → HasPerformed (P limits old.clauses) old.clauses new.clauses outcome before after
 
 -- What a load did: its reply was right, what it owes was counted, and the state is the one behind
 -- it; or memory ran out, and the state stayed.
-pub data HasLoaded (limits : Limits) (told : Option Files) (file : Bytes) (old new : List Clause) (outcome : Stepped) (before after : Around) : Type 0 where
-  rightly_loaded : (reply : Reply) (owed : Owed) → PerformsLoad limits told file old reply owed new → Writes outcome reply before.sink after.sink
-      → IsCounted before.may_fail owed before.counts after.counts → HasLoaded limits told file old new outcome before after
-  ran_out : new ≡ old → Writes outcome (memory_line ∷ []) before.sink after.sink → after.counts ≡ before.counts
+pub data HasLoaded (limits : Limits) (told : Option Files) (file : Bytes) (old new : List Clause)
+    (outcome : Stepped) (before after : Around) : Type 0 where
+  rightly_loaded : (reply : Reply) (owed : Owed) → PerformsLoad limits told file old reply owed new
+      → Writes outcome reply before.sink after.sink
+      → IsCounted before.may_fail owed before.counts after.counts
+      → HasLoaded limits told file old new outcome before after
+  ran_out : new ≡ old → Writes outcome (memory_line ∷ []) before.sink after.sink
+      → after.counts ≡ before.counts
       → HasLoaded limits told file old new outcome before after

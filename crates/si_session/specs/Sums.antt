@@ -17,24 +17,29 @@ use Rattle.si_session.specs.Session.{Writes}
 -- ---- the clauses
 -- so many clauses that are drawn from this start were gained
 abbrev pub GainsSample : ℕ → ℕ → ℕ → List Clause → Loaded → List Clause → Type 0
-GainsSample limit start count state loaded new = (all : Gained limit state loaded new) × AreDrawn start count all.gained
+GainsSample limit start count state loaded new =
+    (all : Gained limit state loaded new) × AreDrawn start count all.gained
 
 -- the fault is the first of them that is refused, and why
 abbrev pub RefusesSample : ℕ → ℕ → ℕ → List Clause → Fault → Type 0
-RefusesSample limit start count state fault = (drawn : List Clause) × AreDrawn start count drawn × RefusesFirst limit state drawn fault
+RefusesSample limit start count state fault =
+    (drawn : List Clause) × AreDrawn start count drawn × RefusesFirst limit state drawn fault
 
 -- ---- the sum
 -- so many of the entries unify with the pattern
 abbrev pub CountsUnifiable : List (Clause × Placed) → Pattern → ℕ → Type 0
-CountsUnifiable all pattern n = (hits : List Hit) × IsAnswer Unifiable pattern all hits × (n ≡ length hits)
+CountsUnifiable all pattern n =
+    (hits : List Hit) × IsAnswer Unifiable pattern all hits × (n ≡ length hits)
 
 -- and with this entry, asked for as a pattern
 abbrev pub CountsAnswers : List (Clause × Placed) → Entry → ℕ → Type 0
-CountsAnswers all entry n = (pattern : Pattern) × (pattern_entry pattern ≡ entry) × CountsUnifiable all pattern n
+CountsAnswers all entry n =
+    (pattern : Pattern) × (pattern_entry pattern ≡ entry) × CountsUnifiable all pattern n
 
 -- the answers among the entries of all clauses to the entries of the last ones, so many of them
 abbrev pub SumsLast : List Clause → ℕ → ℕ → Type 0
-SumsLast clauses count sum = SumsAnswers (state_entries clauses) (state_entries (drop (length clauses - count) clauses)) sum
+SumsLast clauses count sum =
+    SumsAnswers (state_entries clauses) (state_entries (drop (length clauses - count) clauses)) sum
 
 -- Some of these entries were asked for, and the others are left. No entry has more answers than a
 -- number of 32 bits tells.
@@ -49,4 +54,5 @@ abbrev pub TellsSum : Loaded → List Clause → List Clause → Stepped → Tol
 TellsSum gained old new outcome before after =
     ((sum : ℕ) × SumsLast old gained.clauses sum × (new ≡ old)
     × Writes outcome (sample_line gained.clauses gained.entries sum ∷ []) before after)
-    ⊎ ((new ≡ take (length old - gained.clauses) old) × Writes outcome (memory_line ∷ []) before after)
+    ⊎ ((new ≡ take (length old - gained.clauses) old)
+    × Writes outcome (memory_line ∷ []) before after)

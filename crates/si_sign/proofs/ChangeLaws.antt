@@ -1,5 +1,7 @@
 -- One slot of the symbols in use changes.
 use Rattle.std.proofs.Common.{◌≡◌, ◌⊎◌, inl, inr, ℕ, ◌+◌, ◌*◌, ◌<◌, ◌≤◌, Bool, true, false, cond, Option, Some, None, refl, sym, ap, ◌∙◌, arith}
+use Rattle.std.proofs.lemmas.Option.{same_Some}
+use Rattle.std.proofs.lemmas.Bool.Decides.{eqb_tells}
 use Rattle.slab.specs.Slab.{get}
 use Rattle.si_defs.specs.Bytes.{Bytes}
 use Rattle.si_defs.specs.Symbols.{Symbol, same_symbol}
@@ -11,9 +13,9 @@ use Rattle.si_sign.specs.Uses.{seen, IsUses}
 use Rattle.si_sign.specs.declared.uses.Counted.{Counted}
 use Rattle.si_sign.specs.declared.uses.Uses.{Uses}
 use Rattle.si_sign.specs.declared.uses.TheConstants.{MOST_USES}
-use Rattle.si_sign.proofs.SymbolLaws.{symbol_is, number_either, name_either}
+use Rattle.si_defs.proofs.SymbolLaws.{symbol_is, name_either}
 use Rattle.si_sign.proofs.SeenLaws.{uses_in, total_changes}
-use Rattle.si_sign.proofs.KeptLaws.{slot_key, slot_of, uses_for, uses_unknown, uses_known, some_is}
+use Rattle.si_sign.proofs.KeptLaws.{slot_key, slot_of, uses_for, uses_unknown, uses_known}
 
 -- the key, where the slot has a symbol
 abbrev pub key_if : ℕ → Option Counted → Option ℕ
@@ -27,7 +29,7 @@ record IsKeyOf (k : ℕ) (o : Option Counted) (key : ℕ) : Type 0 where
 
 key_if_some : (k : ℕ) (o : Option Counted) (key : ℕ) → key_if k o ≡ Some key → IsKeyOf k o key
 key_if_some k None key h = cc
-key_if_some k (Some c) key h = record { counted = c; there = refl; same = sym (some_is k key h) }
+key_if_some k (Some c) key h = record { counted = c; there = refl; same = sym (same_Some k key h) }
 
 -- The slot with the key k is one of this kind and text, or of no symbol, before and behind.
 pub record Changes (t v : Uses) (kind : SymKind) (text : Bytes) (k : ℕ) : Type 0 where
@@ -70,15 +72,16 @@ module _ (t v : Uses) (kind : SymKind) (text : Bytes) (k : ℕ) (facts : IsUses 
       apart (key_if_some k (get t.slots k) j (sym change.was ∙ (λ n. symbol_key t.keys (sym e n) (sym f n)) ∙ facts.held j c there)).same
 
   held : (j : ℕ) (c : Counted) → get v.slots j ≡ Some c → symbol_key v.keys c.sym.kind c.sym.text ≡ Some j
-  held j c there = by (number_either j k) where
-    by : (j ≡ k) ⊎ (j ≡ k → ⊥) → symbol_key v.keys c.sym.kind c.sym.text ≡ Some j
-    by (inl e) =
-        let here = ap (get v.slots) (sym e) ∙ there in
-        let a = change.after c here in
-        (λ n. symbol_key v.keys (a.0 n) (a.1 n)) ∙ change.is ∙ ap (key_if k) here ∙ ap Some (sym e)
-    by (inr apart) =
-        let before = sym (change.others j apart) ∙ there in
-        change.keys c.sym.kind c.sym.text (other_name j c before apart) ∙ facts.held j c before
+  held j c there =
+      elim (eqb_tells j k) [
+        | inl e ↦
+            let here = ap (get v.slots) (sym e.1) ∙ there in
+            let a = change.after c here in
+            (λ n. symbol_key v.keys (a.0 n) (a.1 n)) ∙ change.is ∙ ap (key_if k) here ∙ ap Some (sym e.1)
+        | inr e ↦
+            let before = sym (change.others j e.1) ∙ there in
+            change.keys c.sym.kind c.sym.text (other_name j c before e.1) ∙ facts.held j c before
+      ]
 
   found : (l : SymKind) (x : Bytes) (j : ℕ) → symbol_key v.keys l x ≡ Some j → (c : Counted) × (get v.slots j ≡ Some c) × (c.sym.kind ≡ l) × (c.sym.text ≡ x)
   found l x j known = by (name_either l kind x text) where
@@ -93,16 +96,18 @@ module _ (t v : Uses) (kind : SymKind) (text : Bytes) (k : ℕ) (facts : IsUses 
         (r.0, change.others j (other_slot l x j before apart) ∙ r.1, r.2, r.3)
 
   used : (j : ℕ) (c : Counted) → get v.slots j ≡ Some c → 1 ≤ c.uses
-  used j c there = by (number_either j k) where
-    by : (j ≡ k) ⊎ (j ≡ k → ⊥) → 1 ≤ c.uses
-    by (inl e) = change.used c (ap (get v.slots) (sym e) ∙ there)
-    by (inr apart) = facts.used j c (sym (change.others j apart) ∙ there)
+  used j c there =
+      elim (eqb_tells j k) [
+        | inl e ↦ change.used c (ap (get v.slots) (sym e.1) ∙ there)
+        | inr e ↦ facts.used j c (sym (change.others j e.1) ∙ there)
+      ]
 
   below : (j : ℕ) (c : Counted) → get v.slots j ≡ Some c → j < MOST_USES
-  below j c there = by (number_either j k) where
-    by : (j ≡ k) ⊎ (j ≡ k → ⊥) → j < MOST_USES
-    by (inl e) = omega (arith, e, change.small)
-    by (inr apart) = facts.below j c (sym (change.others j apart) ∙ there)
+  below j c there =
+      elim (eqb_tells j k) [
+        | inl e ↦ omega (arith, e.1, change.small)
+        | inr e ↦ facts.below j c (sym (change.others j e.1) ∙ there)
+      ]
 
   pub changed : IsUses v
   changed = record {
@@ -153,5 +158,5 @@ module _ (t v : Uses) (kind : SymKind) (text : Bytes) (k : ℕ) (facts : IsUses 
             let g = key_if_some k (get v.slots k) j (sym change.is ∙ (λ h. symbol_key v.keys (sym e.0 h) (sym e.1 h)) ∙ new) in
             omega (arith, p, q, f.same, g.same)
         by s i j old new m n p q (inr apart) =
-            let f = some_is i j (sym old ∙ sym (change.keys s.kind s.text apart) ∙ new) in
+            let f = same_Some i j (sym old ∙ sym (change.keys s.kind s.text apart) ∙ new) in
             omega (arith, p, q, f)

@@ -1,8 +1,10 @@
 -- What the program keeps of the symbols in use is a signature.
 use Rattle.std.proofs.Common.{◌≡◌, ℕ, suc, ◌+◌, ◌*◌, ◌≤◌, Bool, true, false, cond, [], ◌∷◌, Option, Some, None, length, refl, sym, ap, ◌∙◌, subst, arith}
+use Rattle.std.proofs.lemmas.Option.{same_Some}
 use Rattle.std.specs.Prelude.{count_by, is_some}
 use Rattle.std.specs.List.{AllByRecursion}
 use Rattle.std.proofs.lemmas.List.Sums.{sum_by-cons}
+use Rattle.std.proofs.lemmas.Bool.{false≢true}
 use Rattle.slab.specs.Slab.{get, slab_len}
 use Rattle.si_defs.specs.Symbols.{Symbol, IsNumbering, same_symbol}
 use Rattle.si_defs.specs.Bytes.{Bytes}
@@ -14,9 +16,10 @@ use Rattle.si_sign.specs.Keys.{symbol_key}
 use Rattle.si_sign.specs.Uses.{used_at, seen_from, seen, IsUses}
 use Rattle.si_sign.specs.declared.uses.Counted.{Counted}
 use Rattle.si_sign.specs.declared.uses.Uses.{Uses}
-use Rattle.si_sign.proofs.SymbolLaws.{symbol_is, symbol_same, differs}
+use Rattle.si_defs.proofs.SymbolLaws.{symbol_is, symbol_same}
+use Rattle.si_defs.proofs.ListLaws.{all_from}
 use Rattle.si_sign.proofs.SeenLaws.{Slots, at, among_seen, seen_among}
-use Rattle.si_sign.proofs.UsesOf.{all_among, key, keys_among, symbols_among, numbering_among, among_symbols, among_numbering, uses_absent, uses_among}
+use Rattle.si_sign.proofs.UsesOf.{key, keys_among, symbols_among, numbering_among, among_symbols, among_numbering, uses_absent, uses_among}
 
 -- no two slots have a symbol of one kind and text
 abbrev IsOneShape : Slots → Type 0
@@ -35,13 +38,10 @@ distinct n (Some c ∷ xs) one = (
   distinct (1 + n) xs (λ i j c d a b k t. let e = one (suc i) (suc j) c d a b k t in omega (arith, e)),
 )
 
-pub some_is : {A : Type 0} (x y : A) → Some x ≡ Some y → x ≡ y
-some_is x y e = cc
-
 module _ (u : Uses) (facts : IsUses u) where
   pub one_shape : AreDistinct (keys (seen u))
   one_shape = distinct 0 u.slots.slots (λ i j c d a b k t.
-      some_is i j (sym (facts.held i c a) ∙ (λ n. symbol_key u.keys (k n) (t n)) ∙ facts.held j d b))
+      same_Some i j (sym (facts.held i c a) ∙ (λ n. symbol_key u.keys (k n) (t n)) ∙ facts.held j d b))
 
   -- the slot of a symbol in use
   pub record Kept (s : Symbol) : Type 0 where
@@ -55,7 +55,7 @@ module _ (u : Uses) (facts : IsUses u) where
 
   -- a symbol has one slot
   pub one_slot : (i j : ℕ) (c d : Counted) (s : Symbol) → get u.slots i ≡ Some c → get u.slots j ≡ Some d → symbol_of c.sym ≡ s → symbol_of d.sym ≡ s → i ≡ j
-  one_slot i j c d s a b e f = some_is i j (sym (slot_key i c s a e) ∙ slot_key j d s b f)
+  one_slot i j c d s a b e f = same_Some i j (sym (slot_key i c s a e) ∙ slot_key j d s b f)
 
   pub record Numbered (s : Symbol) (m : ℕ) : Type 0 where
     pub slot : ℕ
@@ -97,7 +97,7 @@ module _ (u : Uses) (facts : IsUses u) where
         let x = slot_of s n a in
         let y = slot_of r n b in
         let e : x.slot ≡ y.slot = omega (arith, x.twice, y.twice) in
-        let c = some_is x.counted y.counted (sym x.there ∙ ap (get u.slots) e ∙ y.there) in
+        let c = same_Some x.counted y.counted (sym x.there ∙ ap (get u.slots) e ∙ y.there) in
         sym x.is ∙ ap (λ (d : Counted). symbol_of d.sym) c ∙ y.is;
     even = λ s n a. let x = slot_of s n a in (x.slot, sym x.twice);
     small = λ s n a.
@@ -109,7 +109,7 @@ module _ (u : Uses) (facts : IsUses u) where
   is_signature = record {
     one_shape = one_shape;
     numbered = numbered;
-    used = all_among (λ v. 1 ≤ v.uses) (seen u) (λ v h.
+    used = all_from (λ v. 1 ≤ v.uses) (seen u) (λ v h.
         let t = seen_among 0 u.slots.slots v h in
         omega (arith, facts.used t.key t.counted t.there, ap (λ (w : Used). w.uses) t.is));
   }
@@ -151,9 +151,9 @@ module _ (u : Uses) (facts : IsUses u) (s : Symbol) where
     by true e = ap (uses_of (seen u)) (sym (symbol_is (symbol_of c.sym) s e)) ∙ uses_at u facts k c there
     by false e = uses_absent (seen u) s (λ v h f.
         let t = kept_of u facts s (subst (IsAmong (known_symbols (seen u))) f (among_symbols (seen u) v h)) in
-        let slot = some_is t.slot k (sym (slot_key u facts t.slot t.counted s t.there t.is) ∙ known) in
-        let same = some_is t.counted c (sym t.there ∙ ap (get u.slots) slot ∙ there) in
-        differs (sym e ∙ symbol_same (symbol_of c.sym) s (ap (λ (d : Counted). symbol_of d.sym) (sym same) ∙ t.is)))
+        let slot = same_Some t.slot k (sym (slot_key u facts t.slot t.counted s t.there t.is) ∙ known) in
+        let same = same_Some t.counted c (sym t.there ∙ ap (get u.slots) slot ∙ there) in
+        absurd (false≢true (sym e ∙ symbol_same (symbol_of c.sym) s (ap (λ (d : Counted). symbol_of d.sym) (sym same) ∙ t.is))))
 
 -- ---- how many
 count_seen : (n : ℕ) (xs : Slots) → length (seen_from n xs) ≡ count_by is_some xs

@@ -5,7 +5,7 @@ use Rattle.std.specs.Map.{lookup, IsKeyTest, AreApart, KeepsOthers}
 use Rattle.si_defs.specs.Bytes.{Bytes}
 use Rattle.si_defs.specs.declared.SymKind.{SymKind}
 use Rattle.si_sign.specs.Keys.{HasAt, HasAtKind}
-use Rattle.si_sign.proofs.SymbolLaws.{text_is, kind_either}
+use Rattle.si_defs.proofs.SymbolLaws.{text_is, kind_either}
 
 abbrev Map : Type 0
 Map = Bytes → Option ℕ

@@ -1,4 +1,3 @@
-pub mod SymbolLaws
 pub mod KeyLaws
 pub mod SeenLaws
 pub mod UsesOf

@@ -1,15 +1,14 @@
 -- Looking through lists of symbols and of clauses.
-use Rattle.std.proofs.Common.{◌≡◌, ◌⊎◌, inl, inr, ℕ, zero, suc, ◌+◌, ◌<◌, ◌≤◌, Bool, true, false, not, ◌&&◌, ◌==◌, List, [], ◌∷◌, ◌++◌, length, get_or, take, drop, map, refl, sym, ap, ◌∙◌, subst, add-one, arith, append_assoc, append-nil, Option, None, Some}
+use Rattle.std.proofs.Common.{◌≡◌, ◌⊎◌, inl, inr, ℕ, zero, suc, ◌+◌, ◌<◌, ◌≤◌, Bool, true, false, not, ◌&&◌, ◌==◌, List, [], ◌∷◌, ◌++◌, length, get_or, take, drop, map, refl, sym, ap, ◌∙◌, subst, add-one, arith, append_assoc, append-nil, Option, None, Some, length-take-le}
 use Rattle.std.specs.Prelude.{bytes_eq, option_to_list, slice_get, is_some, IfSome, if◌then◌else◌}
 use Rattle.std.specs.List.{AllByRecursion, remove}
 use Rattle.std.specs.Borrow.{Bor}
 use Rattle.std.proofs.Math.Seq.{take-suc}
 use Rattle.std.proofs.lemmas.List.{map-append, take-append-drop, take_all, length-map}
-use Rattle.std.proofs.lemmas.Option.{get_or_from_slice_get}
-use Rattle.std.proofs.lemmas.Bool.{eq-eqb, eqb-true}
-use Rattle.si_defs.specs.Clauses.{Name, Clause, IsSoundClause}
+use Rattle.std.proofs.lemmas.Option.{get_or_from_slice_get, slice_get_within}
+use Rattle.std.proofs.lemmas.Bool.{eq-eqb, eqb-true, not-true, and_parts, false≢true}
+use Rattle.si_defs.specs.Clauses.{Name, IsSoundClause}
 use Rattle.si_defs.specs.Entries.{entries, state_entries, clause_symbols, state_symbols}
-use Rattle.si_defs.specs.declared.TheConstants.{MOST_OCCURRENCES}
 use Rattle.si_defs.specs.Symbols.{Symbol, same_kind, same_side}
 use Rattle.si_defs.specs.Substitutions.{IsAmong}
 use Rattle.si_state.specs.Acceptance.{names, IsTaken, Accepts, Removes, Clashes, Agrees, AllAgree, IsFirstClash}
@@ -17,39 +16,34 @@ use Rattle.si_term.specs.Terms.{symbol_of}
 use Rattle.si_term.specs.declared.term.Sym.{Sym}
 use Rattle.si_term.specs.Meaning.{clause_of, name_of}
 use Rattle.si_term.specs.declared.clause.Clause as term
-use Rattle.si_term.proofs.Alone.{entries_few}
 use Rattle.si_sign.specs.Stores.{IsStored}
 use Rattle.si_sign.specs.Plain.{lent_symbols, is_clash}
-use Rattle.si_sign.proofs.SymbolLaws.{both, differs, kind_is, kind_same, side_is, side_same, text_is, text_same}
-use Rattle.si_sign.proofs.UsesOf.{among_right, among_append, all_among, one_of_all}
+use Rattle.si_defs.proofs.SymbolLaws.{kind_is, kind_self, side_is, side_self, text_is, text_self}
+use Rattle.si_defs.proofs.ListLaws.{among_back, among_parts, all_from, all_at, all_back}
 use Rattle.si_sign.proofs.StateLaws.{state_append}
-use Rattle.si_sign.proofs.StoreLaws.{names_append, count_front, count_append, all_here, stored_more, stored_less}
-
-not_true : (b : Bool) → not b ≡ true → b ≡ false
-not_true false h = refl
-not_true true h = differs h
+use Rattle.si_sign.proofs.StoreLaws.{names_append, count_front, count_append, stored_more, stored_less}
 
 pub clash_is : (s r : Symbol) → is_clash s r ≡ true → Clashes s r
 clash_is s r h =
-    let parts = both (same_kind s.kind r.kind && bytes_eq s.text r.text) (not (same_side s.side r.side && s.arity == r.arity)) h in
-    let names = both (same_kind s.kind r.kind) (bytes_eq s.text r.text) parts.0 in
-    let other = not_true (same_side s.side r.side && s.arity == r.arity) parts.1 in
+    let parts = and_parts (same_kind s.kind r.kind && bytes_eq s.text r.text) (not (same_side s.side r.side && s.arity == r.arity)) h in
+    let names = and_parts (same_kind s.kind r.kind) (bytes_eq s.text r.text) parts.0 in
+    let other = not-true (same_side s.side r.side && s.arity == r.arity) parts.1 in
     record {
       kind = kind_is s.kind r.kind names.0;
       text = text_is s.text r.text names.1;
-      differ = λ side arity. differs (sym other ∙ (λ n. same_side s.side (sym side n) && s.arity == sym arity n) ∙ (λ n. side_same s.side n && eq-eqb s.arity s.arity refl n));
+      differ = λ side arity. absurd (false≢true (sym other ∙ (λ n. same_side s.side (sym side n) && s.arity == sym arity n) ∙ (λ n. side_self s.side n && eq-eqb s.arity s.arity refl n)));
     }
 
 pub no_clash : (s r : Symbol) → is_clash s r ≡ false → Clashes s r → ⊥
 no_clash s r h clash = by (same_side s.side r.side && s.arity == r.arity) refl where
   names : (same_kind s.kind r.kind && bytes_eq s.text r.text) ≡ true
-  names = (λ n. same_kind s.kind (sym clash.kind n) && bytes_eq s.text (sym clash.text n)) ∙ (λ n. kind_same s.kind n && text_same s.text n)
+  names = (λ n. same_kind s.kind (sym clash.kind n) && bytes_eq s.text (sym clash.text n)) ∙ (λ n. kind_self s.kind n && text_self s.text n)
 
   by : (b : Bool) → (same_side s.side r.side && s.arity == r.arity) ≡ b → ⊥
   by true e =
-      let parts = both (same_side s.side r.side) (s.arity == r.arity) e in
+      let parts = and_parts (same_side s.side r.side) (s.arity == r.arity) e in
       clash.differ (side_is s.side r.side parts.0) (eqb-true s.arity r.arity parts.1)
-  by false e = differs (sym h ∙ (λ n. names n && not (e n)))
+  by false e = absurd (false≢true (sym h ∙ (λ n. names n && not (e n))))
 
 -- ---- one more of the symbols that are lent
 pub shown_next : (ss : List (Bor Sym)) (i : ℕ) (d : Bor Sym) → i < length ss → lent_symbols (take (i + 1) ss) ≡ lent_symbols (take i ss) ++ symbol_of (get_or ss i d).now ∷ []
@@ -69,22 +63,17 @@ shown_among (s ∷ ss) zero d h = inl refl
 shown_among (s ∷ ss) (suc i) d h = inr (shown_among ss i d (omega arith))
 
 pub agrees_next : (s : Symbol) (ks : List Symbol) (r : Symbol) → Agrees ks s → is_clash s r ≡ false → Agrees (ks ++ r ∷ []) s
-agrees_next s ks r a h = all_among (λ q. Clashes s q → ⊥) (ks ++ r ∷ []) (λ q k. by q (among_append ks (r ∷ []) q k)) where
+agrees_next s ks r a h = all_from (λ q. Clashes s q → ⊥) (ks ++ r ∷ []) (λ q k. by q (among_parts ks (r ∷ []) q k)) where
   by : (q : Symbol) → IsAmong ks q ⊎ IsAmong (r ∷ []) q → Clashes s q → ⊥
-  by q (inl k) = one_of_all (λ p. Clashes s p → ⊥) ks q a k
+  by q (inl k) = all_at (λ p. Clashes s p → ⊥) ks q a k
   by q (inr (inl e)) = subst (λ p. Clashes s p → ⊥) e (no_clash s r h)
   by q (inr (inr k)) = elim k [ ]
 
 pub agrees_both : (s : Symbol) (ks ls : List Symbol) → Agrees ks s → Agrees ls s → Agrees (ks ++ ls) s
-agrees_both s ks ls a b = all_among (λ q. Clashes s q → ⊥) (ks ++ ls) (λ q k. by q (among_append ks ls q k)) where
+agrees_both s ks ls a b = all_from (λ q. Clashes s q → ⊥) (ks ++ ls) (λ q k. by q (among_parts ks ls q k)) where
   by : (q : Symbol) → IsAmong ks q ⊎ IsAmong ls q → Clashes s q → ⊥
-  by q (inl k) = one_of_all (λ p. Clashes s p → ⊥) ks q a k
-  by q (inr k) = one_of_all (λ p. Clashes s p → ⊥) ls q b k
-
-take_length : {A : Type 0} (i : ℕ) (xs : List A) → i ≤ length xs → length (take i xs) ≡ i
-take_length zero xs h = refl
-take_length (suc i) [] h = absurd (omega arith)
-take_length (suc i) (x ∷ xs) h = omega (arith, take_length i xs (omega arith))
+  by q (inl k) = all_at (λ p. Clashes s p → ⊥) ks q a k
+  by q (inr k) = all_at (λ p. Clashes s p → ⊥) ls q b k
 
 -- the symbol with this number clashes, and those before it agree
 pub first_at : (ks : List Symbol) (os : List (Bor Sym)) (i : ℕ) (one : Bor Sym) (kept : Symbol) → i < length os → one ≡ get_or os i one → AllAgree ks (lent_symbols (take i os))
@@ -93,16 +82,13 @@ first_at ks os i one kept h read agree against clashes = record {
   before = lent_symbols (take i os);
   after = lent_symbols (drop (i + 1) os);
   splits = shown_split os i one h ∙ ap (λ o. lent_symbols (take i os) ++ symbol_of o.now ∷ lent_symbols (drop (i + 1) os)) (sym read);
-  position = omega (arith, length-map (take i os) (λ s. symbol_of s.now), take_length i os (omega arith));
+  position = omega (arith, length-map (take i os) (λ s. symbol_of s.now), length-take-le i os (omega arith));
   earlier = agree;
   against = against;
   clashes = clashes;
 }
 
 -- ---- clauses
-pub clause_few : (c : Clause) → IsSoundClause c → length (entries c) ≤ MOST_OCCURRENCES
-clause_few c sound = omega (arith, entries_few 1 c.literals, sound.sound.no_larger)
-
 pub clauses_all : (cs : List term.Clause) (i : ℕ) → length cs ≤ i → map clause_of (take i cs) ≡ map clause_of cs
 clauses_all cs i past = ap (map clause_of) (take_all i cs past)
 
@@ -123,7 +109,7 @@ module _ (cs : List term.Clause) (i : ℕ) (one : term.Clause) (within : i < len
       ∙ append_assoc (map clause_of (take i cs)) (clause_of one ∷ []) (map clause_of (drop (i + 1) cs))
 
   pub sound_at : AllByRecursion IsSoundClause (map clause_of cs) → IsSoundClause (clause_of one)
-  sound_at all = all_here IsSoundClause (map clause_of (take i cs)) (clause_of one) (map clause_of (drop (i + 1) cs)) (subst (AllByRecursion IsSoundClause) clauses_split all)
+  sound_at all = (all_back IsSoundClause (map clause_of (take i cs)) (clause_of one ∷ map clause_of (drop (i + 1) cs)) (subst (AllByRecursion IsSoundClause) clauses_split all)).0
 
   pub symbols_next : state_symbols (map clause_of (take (i + 1) cs)) ≡ state_symbols (map clause_of (take i cs)) ++ clause_symbols (clause_of one)
   symbols_next =
@@ -152,7 +138,7 @@ module _ (cs : List term.Clause) (i : ℕ) (one : term.Clause) (within : i < len
   pub taken_next : (n : Name) → IsTaken (map clause_of (take (i + 1) cs)) n → IsTaken (map clause_of (take i cs)) n ⊎ (name_of one.name ≡ n)
   taken_next n h =
       by
-      (among_append (names (map clause_of (take i cs))) (name_of one.name ∷ []) n
+      (among_parts (names (map clause_of (take i cs))) (name_of one.name ∷ []) n
       (subst (λ l. IsAmong l n) (names_append (map clause_of (take i cs)) (clause_of one ∷ [])) (subst (λ l. IsTaken l n) clauses_next h))) where
         by : IsTaken (map clause_of (take i cs)) n ⊎ IsAmong (name_of one.name ∷ []) n → IsTaken (map clause_of (take i cs)) n ⊎ (name_of one.name ≡ n)
         by (inl k) = inl k
@@ -163,7 +149,7 @@ module _ (cs : List term.Clause) (i : ℕ) (one : term.Clause) (within : i < len
   taken_at n e =
       subst (λ l. IsTaken l n) (sym clauses_split)
       (subst (λ l. IsAmong l n) (sym (names_append (map clause_of (take i cs)) (clause_of one ∷ map clause_of (drop (i + 1) cs))))
-      (among_right (names (map clause_of (take i cs))) (name_of one.name ∷ names (map clause_of (drop (i + 1) cs))) n (inl e)))
+      (among_back (names (map clause_of (take i cs))) (name_of one.name ∷ names (map clause_of (drop (i + 1) cs))) n (inl e)))
 
   less : map clause_of (remove cs i) ≡ map clause_of (take i cs) ++ map clause_of (drop (i + 1) cs)
   less = map-append clause_of (take i cs) (drop (suc i) cs) ∙ ap (λ n. map clause_of (take i cs) ++ map clause_of (drop n cs)) (sym (add-one i))
@@ -183,15 +169,10 @@ module _ (cs : List term.Clause) (i : ℕ) (one : term.Clause) (within : i < len
       (stored_less limit (map clause_of (take i cs)) (clause_of one) (map clause_of (drop (i + 1) cs)) (subst (IsStored limit) clauses_split stored))
 
 -- ---- the position of a clause
-pub within_if_some : (cs : List term.Clause) (i : ℕ) (c : term.Clause) → slice_get cs i ≡ Some c → i < length cs
-within_if_some [] i c h = cc
-within_if_some (d ∷ cs) zero c h = omega arith
-within_if_some (d ∷ cs) (suc i) c h = omega (arith, within_if_some cs i c h)
-
 pub taken_if_some : (cs : List term.Clause) (n : Name) (at : Option ℕ) → IfSome at (λ i. (c : term.Clause) × (slice_get cs i ≡ Some c) × (name_of c.name ≡ n)) → is_some at ≡ true
     → IsTaken (map clause_of cs) n
-taken_if_some cs n None found some = differs some
-taken_if_some cs n (Some i) (c, read, named) some = taken_at cs i c (within_if_some cs i c read) (sym (get_or_from_slice_get cs i c c read)) n named
+taken_if_some cs n None found some = absurd (false≢true some)
+taken_if_some cs n (Some i) (c, read, named) some = taken_at cs i c (slice_get_within cs i c read) (sym (get_or_from_slice_get cs i c c read)) n named
 
 -- ---- a clause is pushed
 pub stored_pushed : (limit : ℕ) (cs new : List term.Clause) (c : term.Clause) (pushed : Bool) → new ≡ (if pushed then cs ++ c ∷ [] else cs)

@@ -4,11 +4,12 @@ use Rattle.si_defs.specs.Symbols.{Symbol, times}
 use Rattle.si_defs.specs.Clauses.{Clause}
 use Rattle.si_defs.specs.Entries.{clause_symbols, state_symbols}
 use Rattle.si_defs.specs.Substitutions.{IsAmong, AreDistinct}
+use Rattle.si_defs.proofs.ListLaws.{among_front, among_back, among_parts}
 use Rattle.si_state.specs.Acceptance.{AllAgree}
 use Rattle.si_state.specs.Signatures.{Signature, IsSignature, IsSignatureOf, CountsSymbols, keys, known_symbols, uses_of}
 use Rattle.si_sign.specs.Shapes.{NamesFirstClash}
 use Rattle.si_sign.specs.declared.faults.Clash.{Clash}
-use Rattle.si_sign.proofs.UsesOf.{among_left, among_right, among_append, among_keys, symbols_among, times_append, times_among, among_times}
+use Rattle.si_sign.proofs.UsesOf.{among_keys, symbols_among, times_append, times_among, among_times}
 use Rattle.si_sign.proofs.TakeLaws.{symbols_used, used_symbols, agree_within}
 
 -- ---- one clause more or less
@@ -60,14 +61,14 @@ module _ (state : List Clause) (known : Signature) (is : IsSignature known) (of 
       splits = first.splits;
       position = first.position;
       earlier = agrees_in_state first.before first.earlier;
-      against = by (among_append (known_symbols known) first.before kept first.against);
+      against = by (among_parts (known_symbols known) first.before kept first.against);
       clashes = first.clashes;
     },
     shapes,
   ) where
     by : IsAmong (known_symbols known) kept ⊎ IsAmong first.before kept → IsAmong (state_symbols state ++ first.before) kept
-    by (inl h) = among_left (state_symbols state) first.before kept (in_state kept h)
-    by (inr h) = among_right (state_symbols state) first.before kept h
+    by (inl h) = among_front (state_symbols state) first.before kept (in_state kept h)
+    by (inr h) = among_back (state_symbols state) first.before kept h
 
   -- as many symbols as `len` tells
   pub counts_symbols : CountsSymbols state (length known)

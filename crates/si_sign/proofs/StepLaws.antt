@@ -1,7 +1,8 @@
 -- One occurrence of a symbol is taken, refused or given back.
 use Rattle.std.proofs.Common.{◌≡◌, ◌⊎◌, inl, inr, ℕ, zero, suc, ◌+◌, ◌<◌, ◌≤◌, Bool, true, false, ◌&&◌, ◌==◌, cond, [], ◌∷◌, Option, Some, None, length, refl, sym, ap, ◌∙◌, arith}
+use Rattle.std.proofs.lemmas.Option.{same_Some}
 use Rattle.std.proofs.lemmas.List.{get_or-set_same, get_or-set_other}
-use Rattle.std.proofs.lemmas.Bool.{eq-eqb}
+use Rattle.std.proofs.lemmas.Bool.{eq-eqb, false≢true}
 use Rattle.slab.specs.Slab.{get, with_value}
 use Rattle.si_defs.specs.Symbols.{Symbol, same_side, same_symbol, times}
 use Rattle.si_state.specs.Acceptance.{Clashes, Agrees}
@@ -16,10 +17,11 @@ use Rattle.si_sign.specs.declared.faults.TakeFault.TheVariants as take_fault
 use Rattle.si_sign.specs.declared.uses.Counted.{Counted}
 use Rattle.si_sign.specs.declared.uses.Uses.{Uses}
 use Rattle.si_sign.specs.declared.uses.TheConstants.{MOST_USES}
-use Rattle.si_sign.proofs.SymbolLaws.{symbol_is, symbol_same, symbol_either, side_same, differs}
+use Rattle.si_defs.proofs.SymbolLaws.{symbol_is, symbol_same, symbol_either, side_self}
+use Rattle.si_defs.proofs.ListLaws.{among_front, all_from}
 use Rattle.si_sign.proofs.SeenLaws.{Slots, at, uses_in}
-use Rattle.si_sign.proofs.UsesOf.{all_among, among_left, among_symbols, times_cons}
-use Rattle.si_sign.proofs.KeptLaws.{some_is, slot_key, kept_of, in_seen, uses_for}
+use Rattle.si_sign.proofs.UsesOf.{among_symbols, times_cons}
+use Rattle.si_sign.proofs.KeptLaws.{slot_key, kept_of, in_seen, uses_for}
 use Rattle.si_sign.proofs.ChangeLaws.{Changes, changed, uses_change, keeps_numbers, key_if}
 use Rattle.si_sign.proofs.TakeLaws.{used_symbols}
 
@@ -32,7 +34,7 @@ within (x ∷ xs) (suc k) c h = omega (arith, within xs k c h)
 pub known_slot : (t : Uses) → IsUses t → (s : Symbol) (k : ℕ) (c : Counted) → symbol_key t.keys s.kind s.text ≡ Some k → get t.slots k ≡ Some c → (c.sym.kind ≡ s.kind) × (c.sym.text ≡ s.text)
 known_slot t facts s k c known there =
     let r = facts.found s.kind s.text k known in
-    let same = some_is r.0 c (sym r.1 ∙ there) in
+    let same = same_Some r.0 c (sym r.1 ∙ there) in
     (ap (λ (d : Counted). d.sym.kind) (sym same) ∙ r.2, ap (λ (d : Counted). d.sym.text) (sym same) ∙ r.3)
 
 pub record UsedSlot (t : Uses) (s : Symbol) : Type 0 where
@@ -73,9 +75,9 @@ recounted t facts s k c d n known there same one sum few =
       is = known ∙ ap (key_if k) (sym here);
       before = λ e h. known_slot t facts s k e known h;
       after = λ e h.
-          let f = some_is d e (sym here ∙ h) in
+          let f = same_Some d e (sym here ∙ h) in
           (ap (λ (g : Counted). g.sym.kind) (sym f) ∙ ap (λ y. y.kind) same ∙ of.0, ap (λ (g : Counted). g.sym.text) (sym f) ∙ ap (λ y. y.text) same ∙ of.1);
-      used = λ e h. omega (arith, one, ap (λ (g : Counted). g.uses) (some_is d e (sym here ∙ h)));
+      used = λ e h. omega (arith, one, ap (λ (g : Counted). g.uses) (same_Some d e (sym here ∙ h)));
       small = facts.below k c there;
       sum = omega (arith, sum, ap uses_in there, ap uses_in here);
       few = few;
@@ -91,9 +93,9 @@ admitted t v facts s k d is one none vacant small keyed here others sum room = r
   is = keyed.here ∙ ap (key_if k) (sym here);
   before = λ e h. let clash : None ≡ Some e = sym vacant ∙ h in cc;
   after = λ e h.
-      let f = some_is d e (sym here ∙ h) in
+      let f = same_Some d e (sym here ∙ h) in
       (ap (λ (g : Counted). g.sym.kind) (sym f) ∙ ap (λ (r : Symbol). r.kind) is, ap (λ (g : Counted). g.sym.text) (sym f) ∙ ap (λ (r : Symbol). r.text) is);
-  used = λ e h. omega (arith, one, ap (λ (g : Counted). g.uses) (some_is d e (sym here ∙ h)));
+  used = λ e h. omega (arith, one, ap (λ (g : Counted). g.uses) (same_Some d e (sym here ∙ h)));
   small = small;
   sum = omega (arith, sum, one, ap uses_in vacant, ap uses_in here);
   few = omega (arith, sum, room);
@@ -180,16 +182,16 @@ module _ (t v : Uses) (s : Symbol) (k : ℕ) (b o : Option Counted) (facts : IsU
 
 -- ---- whether a symbol agrees
 pub agrees_new : (t : Uses) → IsUses t → (s : Symbol) → symbol_key t.keys s.kind s.text ≡ None → Agrees (known_symbols (seen t)) s
-agrees_new t facts s none = all_among (λ r. Clashes s r → ⊥) (known_symbols (seen t)) (λ r h clash.
+agrees_new t facts s none = all_from (λ r. Clashes s r → ⊥) (known_symbols (seen t)) (λ r h clash.
     let k = kept_of t facts r h in
     let e : None ≡ Some k.slot = sym none ∙ (λ n. symbol_key t.keys (clash.kind n) (clash.text n)) ∙ slot_key t facts k.slot k.counted r k.there k.is in
     cc)
 
 pub agrees_known : (t : Uses) → IsUses t → (s : Symbol) (k : ℕ) (c : Counted) → symbol_key t.keys s.kind s.text ≡ Some k → get t.slots k ≡ Some c → symbol_of c.sym ≡ s → Agrees (known_symbols (seen t)) s
-agrees_known t facts s k c known there is = all_among (λ r. Clashes s r → ⊥) (known_symbols (seen t)) (λ r h clash.
+agrees_known t facts s k c known there is = all_from (λ r. Clashes s r → ⊥) (known_symbols (seen t)) (λ r h clash.
     let m = kept_of t facts r h in
-    let slot = some_is m.slot k (sym (slot_key t facts m.slot m.counted r m.there m.is) ∙ (λ n. symbol_key t.keys (sym clash.kind n) (sym clash.text n)) ∙ known) in
-    let same = some_is m.counted c (sym m.there ∙ ap (get t.slots) slot ∙ there) in
+    let slot = same_Some m.slot k (sym (slot_key t facts m.slot m.counted r m.there m.is) ∙ (λ n. symbol_key t.keys (sym clash.kind n) (sym clash.text n)) ∙ known) in
+    let same = same_Some m.counted c (sym m.there ∙ ap (get t.slots) slot ∙ there) in
     let e : s ≡ r = sym is ∙ ap (λ (d : Counted). symbol_of d.sym) (sym same) ∙ m.is in
     clash.differ (ap (λ (q : Symbol). q.side) e) (ap (λ (q : Symbol). q.arity) e))
 
@@ -207,11 +209,11 @@ refuses_known begin t facts s k c e known there other found kept position =
         splits = refl;
         position = refl;
         earlier = tt;
-        against = among_left (known_symbols (seen t)) [] (symbol_of c.sym) (among_symbols (seen t) (used_at k c) (in_seen t facts k c there));
+        against = among_front (known_symbols (seen t)) [] (symbol_of c.sym) (among_symbols (seen t) (used_at k c) (in_seen t facts k c there));
         clashes = record {
           kind = sym of.0;
           text = sym of.1;
-          differ = λ side arity. differs (sym other ∙ (λ n. same_side s.side (sym side n) && s.arity == sym arity n) ∙ (λ n. side_same s.side n && eq-eqb s.arity s.arity refl n));
+          differ = λ side arity. absurd (false≢true (sym other ∙ (λ n. same_side s.side (sym side n) && s.arity == sym arity n) ∙ (λ n. side_self s.side n && eq-eqb s.arity s.arity refl n)));
         };
       },
       (found, kept),
@@ -226,6 +228,6 @@ same_shape s c of side arity = λ n. record { kind = of.0 n; text = of.1 n; side
 pub slot_symbol : (t : Uses) → IsUses t → (s : Symbol) (k : ℕ) (c : Counted) → 1 ≤ uses_of (seen t) s → symbol_key t.keys s.kind s.text ≡ Some k → get t.slots k ≡ Some c → symbol_of c.sym ≡ s
 slot_symbol t facts s k c h known there =
     let u = used_slot t facts s h in
-    let slot = some_is u.slot k (sym u.known ∙ known) in
-    let same = some_is u.counted c (sym u.there ∙ ap (get t.slots) slot ∙ there) in
+    let slot = same_Some u.slot k (sym u.known ∙ known) in
+    let same = same_Some u.counted c (sym u.there ∙ ap (get t.slots) slot ∙ there) in
     ap (λ (d : Counted). symbol_of d.sym) (sym same) ∙ u.is

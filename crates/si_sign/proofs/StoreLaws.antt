@@ -1,20 +1,19 @@
 -- A list of clauses that is stored stays so when a clause is accepted, and when one goes.
 use Rattle.std.proofs.Common.{◌≡◌, ◌⊎◌, inl, inr, ℕ, ◌+◌, List, [], ◌∷◌, ◌++◌, length, map, refl, sym, ap, ◌∙◌, subst, arith, append-nil, length-append}
-use Rattle.std.specs.List.{AllByRecursion}
 use Rattle.std.proofs.lemmas.List.{length-map}
 use Rattle.si_defs.specs.Clauses.{Clause, IsSoundClause}
 use Rattle.si_defs.specs.Entries.{entries, placed_in, state_entries, clause_symbols, state_symbols}
 use Rattle.si_defs.specs.Substitutions.{IsAmong, AreDistinct}
+use Rattle.si_defs.proofs.ListLaws.{among_front, among_back, among_parts, all_append, all_front, all_back}
 use Rattle.si_state.specs.Acceptance.{names, IsTaken, HasDistinctNames, AllAgree, Accepts}
 use Rattle.si_sign.specs.Stores.{IsStored}
-use Rattle.si_sign.proofs.UsesOf.{among_left, among_right, among_append}
 use Rattle.si_sign.proofs.TakeLaws.{agree_append, agree_between}
 use Rattle.si_sign.proofs.StateLaws.{state_append}
 
 module _ {A : Type 0} where
   distinct_more : (xs : List A) (x : A) → AreDistinct xs → (IsAmong xs x → ⊥) → AreDistinct (xs ++ x ∷ [])
   distinct_more [] x d new = ((λ h. h), tt)
-  distinct_more (y ∷ ys) x d new = ((λ h. by (among_append ys (x ∷ []) y h)), distinct_more ys x d.1 (λ h. new (inr h))) where
+  distinct_more (y ∷ ys) x d new = ((λ h. by (among_parts ys (x ∷ []) y h)), distinct_more ys x d.1 (λ h. new (inr h))) where
     by : IsAmong ys y ⊎ IsAmong (x ∷ []) y → ⊥
     by (inl k) = d.0 k
     by (inr (inl e)) = new (inl (sym e))
@@ -22,22 +21,10 @@ module _ {A : Type 0} where
 
   distinct_less : (xs : List A) (y : A) (zs : List A) → AreDistinct (xs ++ y ∷ zs) → AreDistinct (xs ++ zs)
   distinct_less [] y zs d = d.1
-  distinct_less (x ∷ xs) y zs d = ((λ h. d.0 (by (among_append xs zs x h))), distinct_less xs y zs d.1) where
+  distinct_less (x ∷ xs) y zs d = ((λ h. d.0 (by (among_parts xs zs x h))), distinct_less xs y zs d.1) where
     by : IsAmong xs x ⊎ IsAmong zs x → IsAmong (xs ++ y ∷ zs) x
-    by (inl k) = among_left xs (y ∷ zs) x k
-    by (inr k) = among_right xs (y ∷ zs) x (inr k)
-
-  all_more : (P : A → Type 0) (xs : List A) (x : A) → AllByRecursion P xs → P x → AllByRecursion P (xs ++ x ∷ [])
-  all_more P [] x all one = (one, tt)
-  all_more P (y ∷ ys) x all one = (all.0, all_more P ys x all.1 one)
-
-  pub all_here : (P : A → Type 0) (xs : List A) (y : A) (zs : List A) → AllByRecursion P (xs ++ y ∷ zs) → P y
-  all_here P [] y zs all = all.0
-  all_here P (x ∷ xs) y zs all = all_here P xs y zs all.1
-
-  all_less : (P : A → Type 0) (xs : List A) (y : A) (zs : List A) → AllByRecursion P (xs ++ y ∷ zs) → AllByRecursion P (xs ++ zs)
-  all_less P [] y zs all = all.1
-  all_less P (x ∷ xs) y zs all = (all.0, all_less P xs y zs all.1)
+    by (inl k) = among_front xs (y ∷ zs) x k
+    by (inr k) = among_back xs (y ∷ zs) x (inr k)
 
 pub names_append : (cs ds : List Clause) → names (cs ++ ds) ≡ names cs ++ names ds
 names_append [] ds = refl
@@ -79,7 +66,7 @@ pub stored_more : (limit : ℕ) (state : List Clause) (c : Clause) → IsStored 
 stored_more limit state c is sound accepts = record {
   distinct = names_more state c is.distinct accepts.free;
   agree = symbols_more state c is.agree accepts.agree;
-  sound = all_more IsSoundClause state c is.sound sound;
+  sound = all_append IsSoundClause state (c ∷ []) is.sound (sound, tt);
   few = omega (arith, accepts.room, count_append state (c ∷ []), count_front c []);
 }
 
@@ -87,6 +74,6 @@ pub stored_less : (limit : ℕ) (before : List Clause) (c : Clause) (after : Lis
 stored_less limit before c after is = record {
   distinct = names_less before c after is.distinct;
   agree = symbols_less before c after is.agree;
-  sound = all_less IsSoundClause before c after is.sound;
+  sound = all_append IsSoundClause before after (all_front IsSoundClause before (c ∷ after) is.sound) (all_back IsSoundClause before (c ∷ after) is.sound).1;
   few = omega (arith, is.few, count_append before (c ∷ after), count_append before after, count_front c after);
 }

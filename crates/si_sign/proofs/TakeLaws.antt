@@ -3,19 +3,20 @@ use Rattle.std.proofs.Common.{◌≡◌, ◌⊎◌, inl, inr, ℕ, zero, suc, �
 use Rattle.std.specs.Prelude.{Result, Ok, Err, OnOk, OnErr}
 use Rattle.si_defs.specs.Symbols.{Symbol, times}
 use Rattle.si_defs.specs.Substitutions.{IsAmong}
+use Rattle.si_defs.proofs.ListLaws.{among_front, among_back, among_parts, all_from, all_at}
 use Rattle.si_state.specs.Acceptance.{Clashes, AllAgree}
 use Rattle.si_state.specs.Signatures.{Used, Signature, IsSignature, known_symbols, numbering, uses_of, KeepsNumbers}
 use Rattle.si_sign.specs.Taking.{TakesUses, GivesBack, RefusesFrom}
 use Rattle.si_sign.specs.declared.faults.TakeFault.{TakeFault}
 use Rattle.si_sign.specs.declared.faults.TakeFault.TheVariants as take_fault
 use Rattle.si_sign.proofs.SeenLaws.{IsRising, same_rising}
-use Rattle.si_sign.proofs.UsesOf.{among_left, among_right, among_append, all_among, one_of_all, among_symbols, among_numbering, symbols_among, numbering_among, uses_positive, uses_among, times_append, times_among, among_times}
+use Rattle.si_sign.proofs.UsesOf.{among_symbols, among_numbering, symbols_among, numbering_among, uses_positive, uses_among, times_append, times_among, among_times}
 
 -- ---- which symbols are in use
 pub symbols_used : (us : Signature) → IsSignature us → (s : Symbol) → IsAmong (known_symbols us) s → 1 ≤ uses_of us s
 symbols_used us is s h =
     let m = symbols_among us s h in
-    let one = one_of_all (λ (u : Used). 1 ≤ u.uses) us m.used is.used m.among in
+    let one = all_at (λ (u : Used). 1 ≤ u.uses) us m.used is.used m.among in
     omega (arith, one, uses_among us m.used is.one_shape m.among, ap (uses_of us) m.is)
 
 pub used_symbols : (us : Signature) (s : Symbol) → 1 ≤ uses_of us s → IsAmong (known_symbols us) s
@@ -41,12 +42,12 @@ positive_either (suc m) n h = inl (omega arith)
 pub agree_within : (ks ls ss : List Symbol) → ((r : Symbol) → IsAmong ls r → IsAmong ks r) → AllAgree ks ss → AllAgree ls ss
 agree_within ks ls [] sub a = tt
 agree_within ks ls (s ∷ ss) sub a = (
-  all_among (λ r. Clashes s r → ⊥) ls (λ r h. one_of_all (λ r. Clashes s r → ⊥) ks r a.0 (sub r h)),
-  agree_within (ks ++ s ∷ []) (ls ++ s ∷ []) ss (λ r h. by r (among_append ls (s ∷ []) r h)) a.1,
+  all_from (λ r. Clashes s r → ⊥) ls (λ r h. all_at (λ r. Clashes s r → ⊥) ks r a.0 (sub r h)),
+  agree_within (ks ++ s ∷ []) (ls ++ s ∷ []) ss (λ r h. by r (among_parts ls (s ∷ []) r h)) a.1,
 ) where
   by : (r : Symbol) → IsAmong ls r ⊎ IsAmong (s ∷ []) r → IsAmong (ks ++ s ∷ []) r
-  by r (inl h) = among_left ks (s ∷ []) r (sub r h)
-  by r (inr h) = among_right ks (s ∷ []) r h
+  by r (inl h) = among_front ks (s ∷ []) r (sub r h)
+  by r (inr h) = among_back ks (s ∷ []) r h
 
 pub agree_append : (ks xs ys : List Symbol) → AllAgree ks xs → AllAgree (ks ++ xs) ys → AllAgree ks (xs ++ ys)
 agree_append ks [] ys a b = subst (λ l. AllAgree l ys) (append-nil ks) b
@@ -63,7 +64,7 @@ pub agree_between : (xs own ys : List Symbol) → AllAgree [] (xs ++ (own ++ ys)
 agree_between xs own ys a =
     let front = agree_split [] xs (own ++ ys) a in
     let back = agree_split xs own ys front.1 in
-    agree_append [] xs ys front.0 (agree_within (xs ++ own) xs ys (among_left xs own) back.1)
+    agree_append [] xs ys front.0 (agree_within (xs ++ own) xs ys (among_front xs own) back.1)
 
 -- ---- taking
 pub takes_none : (a : Signature) → IsSignature a → TakesUses [] a a
@@ -76,7 +77,7 @@ takes_none a is = record {
 
 module _ (a b : Signature) (xs ys : List Symbol) (at_first : IsSignature a) (taken : TakesUses xs a b) where
   kept_or_own : (r : Symbol) → IsAmong (known_symbols a ++ xs) r → IsAmong (known_symbols b) r
-  kept_or_own r h = by (among_append (known_symbols a) xs r h) where
+  kept_or_own r h = by (among_parts (known_symbols a) xs r h) where
     by : IsAmong (known_symbols a) r ⊎ IsAmong xs r → IsAmong (known_symbols b) r
     by (inl k) = used_symbols b r (omega (arith, taken.uses r, symbols_used a at_first r k))
     by (inr k) = used_symbols b r (omega (arith, taken.uses r, times_among r xs k))
@@ -90,14 +91,14 @@ module _ (a b : Signature) (xs ys : List Symbol) (at_first : IsSignature a) (tak
   }
 
   against_more : IsSignature b → (before : List Symbol) (r : Symbol) → IsAmong (known_symbols b ++ before) r → IsAmong (known_symbols a ++ (xs ++ before)) r
-  against_more now before r h = by (among_append (known_symbols b) before r h) where
+  against_more now before r h = by (among_parts (known_symbols b) before r h) where
     of : (1 ≤ uses_of a r) ⊎ (1 ≤ times r xs) → IsAmong (known_symbols a ++ (xs ++ before)) r
-    of (inl k) = among_left (known_symbols a) (xs ++ before) r (used_symbols a r k)
-    of (inr k) = among_right (known_symbols a) (xs ++ before) r (among_left xs before r (among_times r xs k))
+    of (inl k) = among_front (known_symbols a) (xs ++ before) r (used_symbols a r k)
+    of (inr k) = among_back (known_symbols a) (xs ++ before) r (among_front xs before r (among_times r xs k))
 
     by : IsAmong (known_symbols b) r ⊎ IsAmong before r → IsAmong (known_symbols a ++ (xs ++ before)) r
     by (inl k) = of (positive_either (uses_of a r) (times r xs) (omega (arith, taken.uses r, symbols_used b now r k)))
-    by (inr k) = among_right (known_symbols a) (xs ++ before) r (among_right xs before r k)
+    by (inr k) = among_back (known_symbols a) (xs ++ before) r (among_back xs before r k)
 
   -- what is refused behind what was taken
   pub refuses_more : IsSignature b → (begin : ℕ) (f : TakeFault) → RefusesFrom begin b ys f → RefusesFrom begin a (xs ++ ys) f
@@ -159,7 +160,7 @@ carried : (a c : Signature) → IsSignature a → IsSignature c → ((s : Symbol
     → ((s : Symbol) (m n : ℕ) → IsAmong (numbering a) (s, m) → IsAmong (numbering c) (s, n) → m ≡ n) → (u : Used) → IsAmong c u → IsAmong a u
 carried a c first last same numbers u h =
     let uses = uses_among c u last.one_shape h in
-    let one = one_of_all (λ (v : Used). 1 ≤ v.uses) c u last.used h in
+    let one = all_at (λ (v : Used). 1 ≤ v.uses) c u last.used h in
     let m = uses_positive a u.symbol (omega (arith, uses, one, same u.symbol)) in
     let number = numbers u.symbol m.used.number u.number (subst (λ r. IsAmong (numbering a) (r, m.used.number)) m.is (among_numbering a m.used m.among)) (among_numbering c u h) in
     let times_used : m.used.uses ≡ u.uses = omega (arith, uses, same u.symbol, uses_among a m.used first.one_shape m.among, ap (uses_of a) m.is) in

@@ -1,41 +1,12 @@
 -- How often symbols occur by a signature, and in a list.
-use Rattle.std.proofs.Common.{◌≡◌, ◌⊎◌, inl, inr, ℕ, ◌+◌, ◌≤◌, Bool, true, false, cond, List, [], ◌∷◌, ◌++◌, refl, sym, ap, subst, arith}
-use Rattle.std.specs.List.{AllByRecursion}
+use Rattle.std.proofs.Common.{◌≡◌, inl, inr, ℕ, ◌+◌, ◌≤◌, Bool, true, false, cond, List, [], ◌∷◌, ◌++◌, refl, sym, ap, subst, arith}
 use Rattle.std.proofs.lemmas.List.Sums.{sum_by-append, sum_by-cons}
 use Rattle.si_defs.specs.Symbols.{Symbol, same_symbol, times}
 use Rattle.si_defs.specs.Substitutions.{IsAmong, AreDistinct}
 use Rattle.si_defs.specs.Bytes.{Bytes}
 use Rattle.si_defs.specs.declared.SymKind.{SymKind}
 use Rattle.si_state.specs.Signatures.{Used, Signature, keys, numbering, known_symbols, uses_of}
-use Rattle.si_sign.proofs.SymbolLaws.{symbol_is, symbol_self, symbol_same}
-
--- ---- members of lists
-module _ {A : Type 0} where
-  pub among_left : (xs ys : List A) (x : A) → IsAmong xs x → IsAmong (xs ++ ys) x
-  among_left [] ys x h = absurd h
-  among_left (y ∷ xs) ys x (inl e) = inl e
-  among_left (y ∷ xs) ys x (inr h) = inr (among_left xs ys x h)
-
-  pub among_right : (xs ys : List A) (x : A) → IsAmong ys x → IsAmong (xs ++ ys) x
-  among_right [] ys x h = h
-  among_right (y ∷ xs) ys x h = inr (among_right xs ys x h)
-
-  pub among_append : (xs ys : List A) (x : A) → IsAmong (xs ++ ys) x → IsAmong xs x ⊎ IsAmong ys x
-  among_append [] ys x h = inr h
-  among_append (y ∷ xs) ys x (inl e) = inl (inl e)
-  among_append (y ∷ xs) ys x (inr h) = by (among_append xs ys x h) where
-    by : IsAmong xs x ⊎ IsAmong ys x → IsAmong (y ∷ xs) x ⊎ IsAmong ys x
-    by (inl k) = inl (inr k)
-    by (inr k) = inr k
-
-  pub all_among : (P : A → Type 0) (xs : List A) → ((x : A) → IsAmong xs x → P x) → AllByRecursion P xs
-  all_among P [] h = tt
-  all_among P (x ∷ xs) h = (h x (inl refl), all_among P xs (λ y k. h y (inr k)))
-
-  pub one_of_all : (P : A → Type 0) (xs : List A) (x : A) → AllByRecursion P xs → IsAmong xs x → P x
-  one_of_all P [] x all h = absurd h
-  one_of_all P (y ∷ xs) x all (inl e) = subst P e all.0
-  one_of_all P (y ∷ xs) x all (inr h) = one_of_all P xs x all.1 h
+use Rattle.si_defs.proofs.SymbolLaws.{symbol_is, symbol_self, symbol_same}
 
 -- ---- members of a signature
 abbrev pub key : Used → SymKind × Bytes

@@ -21,13 +21,17 @@ text_key m text = lookup (λ k. bytes_eq text k.items) m.keys.entries
 
 -- the key of a kind and text
 abbrev pub symbol_key : SymbolKeys → SymKind → Bytes → Option ℕ
-symbol_key m kind = of_kind (text_key m.words) (text_key m.dollars) (text_key m.numbers) (text_key m.distincts) (text_key m.equals) kind
+symbol_key m kind =
+    of_kind (text_key m.words) (text_key m.dollars) (text_key m.numbers) (text_key m.distincts)
+    (text_key m.equals) kind
 
 -- the text has this now, and each other one has what it had
 abbrev pub HasAt : Bytes → Option ℕ → (Bytes → Option ℕ) → (Bytes → Option ℕ) → Type 0
-HasAt text key old new = (new text ≡ key) × ((other : Bytes) → (other ≡ text → ⊥) → new other ≡ old other)
+HasAt text key old new =
+    (new text ≡ key) × ((other : Bytes) → (other ≡ text → ⊥) → new other ≡ old other)
 
 -- the same for a kind and text
-pub record HasAtKind (kind : SymKind) (text : Bytes) (key : Option ℕ) (old new : SymKind → Bytes → Option ℕ) : Type 0 where
+pub record HasAtKind (kind : SymKind) (text : Bytes) (key : Option ℕ)
+    (old new : SymKind → Bytes → Option ℕ) : Type 0 where
   pub here : new kind text ≡ key
   pub others : (k : SymKind) (t : Bytes) → (k ≡ kind → t ≡ text → ⊥) → new k t ≡ old k t

@@ -11,4 +11,6 @@ lent_symbols ss = map (λ s. symbol_of s.now) ss
 
 -- whether they are of one kind and text, but not of one side and arity
 abbrev pub is_clash : Symbol → Symbol → Bool
-is_clash s r = same_kind s.kind r.kind && bytes_eq s.text r.text && not (same_side s.side r.side && s.arity == r.arity)
+is_clash s r =
+    same_kind s.kind r.kind && bytes_eq s.text r.text
+    && not (same_side s.side r.side && s.arity == r.arity)

@@ -22,6 +22,8 @@ pub record IsStored (limit : ℕ) (state : List clauses.Clause) : Type 0 where
 abbrev pub Rejects : ℕ → List clauses.Clause → clauses.Clause → AddFault → Type 0
 Rejects limit state clause add_fault.Taken = Refuses limit state clause taken
 Rejects limit state clause (add_fault.Clash c) =
-    (found : Symbol) × (kept : Symbol) × Refuses limit state clause (misused c.entry found kept) × HasShapes c found kept
-Rejects limit state clause (add_fault.Full n most) = Refuses limit state clause (full n) × (most ≡ limit)
+    (found : Symbol) × (kept : Symbol) × Refuses limit state clause (misused c.entry found kept)
+    × HasShapes c found kept
+Rejects limit state clause (add_fault.Full n most) =
+    Refuses limit state clause (full n) × (most ≡ limit)
 Rejects limit state clause add_fault.Memory = Unit {0}

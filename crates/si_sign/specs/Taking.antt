@@ -24,6 +24,7 @@ pub record GivesBack (own : List Symbol) (old new : Signature) : Type 0 where
 -- `begin`; or memory ran out.
 abbrev pub RefusesFrom : ℕ → Signature → List Symbol → TakeFault → Type 0
 RefusesFrom begin old own (take_fault.Clash c) =
-    (number : ℕ) × (found : Symbol) × (kept : Symbol) × IsFirstClash (known_symbols old) own number found kept × HasShapes c found kept
+    (number : ℕ) × (found : Symbol) × (kept : Symbol)
+    × IsFirstClash (known_symbols old) own number found kept × HasShapes c found kept
     × (begin + c.entry ≡ total old + number)
 RefusesFrom begin old own take_fault.Memory = Unit {0}

@@ -26,7 +26,8 @@ seen u = seen_from 0 u.slots.slots
 -- Each symbol in use is found under its kind and text, and nothing else is found; and all uses are
 -- counted.
 pub record IsUses (u : Uses) : Type 0 where
-  pub held : (key : ℕ) (c : Counted) → get u.slots key ≡ Some c → symbol_key u.keys c.sym.kind c.sym.text ≡ Some key
+  pub held : (key : ℕ) (c : Counted) → get u.slots key ≡ Some c
+      → symbol_key u.keys c.sym.kind c.sym.text ≡ Some key
   pub found : (kind : SymKind) (text : Bytes) (key : ℕ) → symbol_key u.keys kind text ≡ Some key
       → (c : Counted) × (get u.slots key ≡ Some c) × (c.sym.kind ≡ kind) × (c.sym.text ≡ text)
   pub used : (key : ℕ) (c : Counted) → get u.slots key ≡ Some c → 1 ≤ c.uses

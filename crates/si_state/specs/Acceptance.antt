@@ -50,7 +50,8 @@ abbrev pub needed : List Clause → Clause → ℕ
 needed state clause = length (state_entries state) + length (entries clause)
 
 -- the clause is accepted, and stands last
-pub record Accepts (limit : ℕ) (state : List Clause) (clause : Clause) (new : List Clause) : Type 0 where
+pub record Accepts (limit : ℕ) (state : List Clause) (clause : Clause)
+    (new : List Clause) : Type 0 where
   pub free : IsTaken state clause.name → ⊥
   pub agree : AllAgree (state_symbols state) (clause_symbols clause)
   pub room : needed state clause ≤ limit
@@ -76,7 +77,8 @@ Refuses limit state clause (full n) =
 
 -- ---- a clause goes
 -- the clause with this name is gone, and the others stay in order
-pub record Removes (state : List Clause) (name : Name) (removed : Clause) (new : List Clause) : Type 0 where
+pub record Removes (state : List Clause) (name : Name) (removed : Clause)
+    (new : List Clause) : Type 0 where
   pub before : List Clause
   pub after : List Clause
   pub splits : state ≡ before ++ removed ∷ after

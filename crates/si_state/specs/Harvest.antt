@@ -114,7 +114,8 @@ IsStuck spot fault = ⊥
 -- ---- a clause that is refused
 -- the fault is that the clause is refused in this state
 abbrev pub IsRejected : ℕ → List Clause → Clause → Fault → Type 0
-IsRejected limit state clause (rejected c refusal) = (c ≡ clause) × Refuses limit state clause refusal
+IsRejected limit state clause (rejected c refusal) = (c ≡ clause)
+    × Refuses limit state clause refusal
 IsRejected limit state clause fault = ⊥
 
 -- ---- the reading of files
@@ -122,28 +123,41 @@ module _ (files : Files) (bounds : Bounds) (limit : ℕ) where
   mutual
     -- While these files are open, with these selections round it, behind so many fetches and in
     -- this state, the reading of a file gives these events, and a fault if it ends early.
-    pub data Harvests : List Bytes → List (List Name) → ℕ → List Clause → Bytes → List Event → Option Fault → Type 0 where
-      barred : (opened : List Bytes) (around : List (List Name)) (made : ℕ) (state : List Clause) (file : Bytes) (fault : Fault)
+    pub data Harvests : List Bytes → List (List Name) → ℕ → List Clause → Bytes → List Event
+        → Option Fault → Type 0 where
+      barred : (opened : List Bytes) (around : List (List Name)) (made : ℕ) (state : List Clause)
+          (file : Bytes) (fault : Fault)
           → IsBarred bounds opened made file fault
           → Harvests opened around made state file (ask file ∷ []) (Some fault)
-      withheld : (opened : List Bytes) (around : List (List Name)) (made : ℕ) (state : List Clause) (file : Bytes) (fault : Fault)
+      withheld : (opened : List Bytes) (around : List (List Name)) (made : ℕ) (state : List Clause)
+          (file : Bytes) (fault : Fault)
           → MayAsk bounds opened made file → IsWithheld files bounds file fault
           → Harvests opened around made state file (ask file ∷ []) (Some fault)
-      fetched : (opened : List Bytes) (around : List (List Name)) (made : ℕ) (state : List Clause) (file bytes : Bytes)
+      fetched : (opened : List Bytes) (around : List (List Name)) (made : ℕ) (state : List Clause)
+          (file bytes : Bytes)
           → MayAsk bounds opened made file → files file ≡ Some bytes → length bytes ≤ bounds.file
           → (events : List Event) (fault : Option Fault)
-          → Continues (record { file = file; bytes = bytes; opened = file ∷ opened; around = around; rest = bytes }) (made + 1) state
+          → Continues
+          (record {
+            file = file;
+            bytes = bytes;
+            opened = file ∷ opened;
+            around = around;
+            rest = bytes;
+          }) (made + 1) state
           events fault
           → Harvests opened around made state file (ask file ∷ events) fault
 
     -- From here to the end of the file, behind so many fetches and in this state, the reading gives
     -- these events, and a fault if it ends early.
     pub data Continues : Spot → ℕ → List Clause → List Event → Option Fault → Type 0 where
-      ended : (spot : Spot) (made : ℕ) (state : List Clause) → AreBlanks spot.rest → Continues spot made state [] None
+      ended : (spot : Spot) (made : ℕ) (state : List Clause) → AreBlanks spot.rest
+          → Continues spot made state [] None
       stuck : (spot : Spot) (made : ℕ) (state : List Clause) (fault : Fault) → IsStuck spot fault
           → Continues spot made state [] (Some fault)
       passed_over : (spot : Spot) (made : ℕ) (state : List Clause) (clause : Clause) (after : Bytes)
-          → BeginsWithItem spot.rest (clause_item clause) after → (IsSelected spot.around clause.name → ⊥)
+          → BeginsWithItem spot.rest (clause_item clause) after
+          → (IsSelected spot.around clause.name → ⊥)
           → (events : List Event) (fault : Option Fault)
           → Continues (record spot { rest = after }) made state events fault
           → Continues spot made state events fault
@@ -157,21 +171,26 @@ module _ (files : Files) (bounds : Bounds) (limit : ℕ) where
           → BeginsWithItem spot.rest (clause_item clause) after → IsSelected spot.around clause.name
           → (refusal : Refusal) → Refuses limit state clause refusal
           → Continues spot made state (attempt clause ∷ []) (Some (rejected clause refusal))
-      expanded : (spot : Spot) (made : ℕ) (state : List Clause) (file : Bytes) (selection : Selection) (after : Bytes)
+      expanded : (spot : Spot) (made : ℕ) (state : List Clause) (file : Bytes)
+          (selection : Selection) (after : Bytes)
           → BeginsWithItem spot.rest (include_item file selection) after
           → (inside events whole : List Event) (fault : Option Fault)
           → Harvests spot.opened (narrowed selection spot.around) made state file inside None
-          → Continues (record spot { rest = after }) (made + fetches inside) (state ++ tried inside) events fault
+          → Continues (record spot { rest = after }) (made + fetches inside)
+          (state ++ tried inside) events fault
           → whole ≡ inside ++ events → Continues spot made state whole fault
-      broken_off : (spot : Spot) (made : ℕ) (state : List Clause) (file : Bytes) (selection : Selection) (after : Bytes)
+      broken_off : (spot : Spot) (made : ℕ) (state : List Clause) (file : Bytes)
+          (selection : Selection) (after : Bytes)
           → BeginsWithItem spot.rest (include_item file selection) after
           → (events : List Event) (fault : Fault)
-          → Harvests spot.opened (narrowed selection spot.around) made state file events (Some fault)
+          → Harvests spot.opened (narrowed selection spot.around) made state file events
+          (Some fault)
           → Continues spot made state events (Some fault)
 
 -- with this limit on entries a load of the file gives these events, and a fault if it is refused
 abbrev pub Loads : Files → Bounds → ℕ → List Clause → Bytes → List Event → Option Fault → Type 0
-Loads files bounds limit state file events fault = Harvests files bounds limit [] [] 0 state file events fault
+Loads files bounds limit state file events fault =
+    Harvests files bounds limit [] [] 0 state file events fault
 
 -- the state behind a load: with the clauses that were tried last, in order, or as it was
 abbrev pub state_behind : List Clause → List Event → Option Fault → List Clause
@@ -192,7 +211,8 @@ AreAccepted limit state (c ∷ cs) =
     Accepts limit state c (state ++ c ∷ []) × AreAccepted limit (state ++ c ∷ []) cs
 
 -- tried in order, this is the first that is refused
-pub record IsFirstRefused (limit : ℕ) (state clauses : List Clause) (clause : Clause) (refusal : Refusal) : Type 0 where
+pub record IsFirstRefused (limit : ℕ) (state clauses : List Clause) (clause : Clause)
+    (refusal : Refusal) : Type 0 where
   pub before : List Clause
   pub after : List Clause
   pub splits : clauses ≡ before ++ clause ∷ after

@@ -26,5 +26,6 @@ abbrev pub SumsAnswers : List (Clause × Placed) → List (Clause × Placed) →
 SumsAnswers all [] sum = sum ≡ 0
 SumsAnswers all ((c, e) ∷ es) sum =
     (pattern : Pattern) × (hits : List Hit) × (others : ℕ)
-    × (pattern_entry pattern ≡ e.entry) × IsAnswer Unifiable pattern all hits × SumsAnswers all es others
+    × (pattern_entry pattern ≡ e.entry) × IsAnswer Unifiable pattern all hits
+    × SumsAnswers all es others
     × (sum ≡ length hits + others)

@@ -59,5 +59,6 @@ KeepsNumbers old new =
 -- the number of different symbols that occur
 abbrev pub CountsSymbols : List Clause → ℕ → Type 0
 CountsSymbols state count =
-    (each : List Symbol) × AreDistinct each × ((s : Symbol) → IsAmong each s ↔ IsAmong (state_symbols state) s)
+    (each : List Symbol) × AreDistinct each
+    × ((s : Symbol) → IsAmong each s ↔ IsAmong (state_symbols state) s)
     × (count ≡ length each)

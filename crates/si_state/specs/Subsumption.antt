@@ -1,9 +1,9 @@
 -- Subsumption of clauses by sets of literals (Robinson 1965): two literals may have one image. That
 -- the least map is told is this project's profile.
-use Rattle.std.specs.Prelude.{◌≡◌, ◌⊎◌, ℕ, zero, suc, ◌<◌, List, [], ◌∷◌, ◌++◌, map, flat_map, slice_get, Option, None, Some, codes}
+use Rattle.std.specs.Prelude.{◌≡◌, ◌⊎◌, ℕ, zero, suc, ◌<◌, List, [], ◌∷◌, ◌++◌, map, slice_get, Option, None, Some, codes}
 use Rattle.si_defs.specs.Bytes.{Bytes}
-use Rattle.si_defs.specs.Terms.{variables}
 use Rattle.si_defs.specs.Clauses.{Literal, Clause}
+use Rattle.si_defs.specs.Entries.{literals_variables}
 use Rattle.si_defs.specs.Substitutions.{apply, IsOn}
 use Rattle.si_defs.specs.Variables.{of_pattern, same_variable, pattern_term, entry_term, Solution}
 use Rattle.si_defs.specs.Printing.{name_text, map_text}
@@ -39,10 +39,6 @@ AnswersLeast P None = (ns : List ℕ) → P ns → ⊥
 AnswersLeast P (Some ns) = IsLeast P ns
 
 -- ---- literals
--- the occurrences of variables in these literals
-abbrev pub literals_variables : List Literal → List Bytes
-literals_variables ls = flat_map (λ l. variables l.atom) ls
-
 -- The substitution takes a literal to its image. Their variables are apart.
 pub record TakesTo (s : Solution) (l k : Literal) : Type 0 where
   pub sign : l.positive ≡ k.positive
@@ -74,7 +70,8 @@ pub record MappedClause : Type 0 where
 abbrev pub AreMapped : (List Literal → List ℕ → Type 0) → List Clause → List MappedClause → Type 0
 AreMapped P [] ms = ms ≡ []
 AreMapped P (c ∷ cs) ms =
-    ((ns : List ℕ) × (others : List MappedClause) × IsLeast (P c.literals) ns × AreMapped P cs others
+    ((ns : List ℕ) × (others : List MappedClause) × IsLeast (P c.literals) ns
+    × AreMapped P cs others
     × (ms ≡ record { clause = c; numbers = ns } ∷ others))
     ⊎ (((ns : List ℕ) → P c.literals ns → ⊥) × AreMapped P cs ms)
 

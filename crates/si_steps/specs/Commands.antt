@@ -37,7 +37,8 @@ command_word stats = Stats
 command_word (sample start count) = Sample
 
 abbrev pub IsQuery : Pattern → List Token → Type 0
-IsQuery (literal_pattern l) ts = (us : List Token) × IsLiteral l us × (ts ≡ lower (codes "lit") ∷ us)
+IsQuery (literal_pattern l) ts =
+    (us : List Token) × IsLiteral l us × (ts ≡ lower (codes "lit") ∷ us)
 IsQuery (term_pattern t) ts = (us : List Token) × IsTerm t us × (ts ≡ lower (codes "term") ∷ us)
 
 -- the token of this number, without sign
@@ -53,7 +54,8 @@ AreOperands (query relation pattern) ts = IsQuery pattern ts
 AreOperands (subsumers formula) ts = IsFormula formula ts
 AreOperands (subsumed formula) ts = IsFormula formula ts
 AreOperands stats ts = ts ≡ []
-AreOperands (sample start count) ts = AllowsSample start count × (ts ≡ numeral start ∷ numeral count ∷ [])
+AreOperands (sample start count) ts =
+    AllowsSample start count × (ts ≡ numeral start ∷ numeral count ∷ [])
 
 -- the word of a command that is built, and its operands
 pub record IsCommand (command : Command) (ts : List Token) : Type 0 where

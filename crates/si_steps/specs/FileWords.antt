@@ -15,11 +15,17 @@ names_file word = not (length word == 0) && list_all is_printable word
 
 -- The right reply to a word, what the reply owes to the library, and the right state behind it. A
 -- word that can't name a file is refused; any other is loaded.
-pub data RightWord (limits : Limits) (told : Option Files) (state : List Clause) (word : Bytes) (reply : Reply) (owed : Owed) (new : List Clause) : Type 0 where
-  nameless : IsFalse (names_file word) → reply ≡ syntax_line ∷ [] → owed ≡ nothing → new ≡ state → RightWord limits told state word reply owed new
-  named : IsTrue (names_file word) → PerformsLoad limits told word state reply owed new → RightWord limits told state word reply owed new
+pub data RightWord (limits : Limits) (told : Option Files) (state : List Clause) (word : Bytes)
+    (reply : Reply) (owed : Owed) (new : List Clause) : Type 0 where
+  nameless : IsFalse (names_file word) → reply ≡ syntax_line ∷ [] → owed ≡ nothing → new ≡ state
+      → RightWord limits told state word reply owed new
+  named : IsTrue (names_file word) → PerformsLoad limits told word state reply owed new
+      → RightWord limits told state word reply owed new
 
 -- The step is right, or memory runs out at a load, and the state stays.
-pub data WordStep (limits : Limits) (told : Option Files) (state : List Clause) (word : Bytes) (reply : Reply) (owed : Owed) (new : List Clause) : Type 0 where
-  right_word : RightWord limits told state word reply owed new → WordStep limits told state word reply owed new
-  no_memory : IsTrue (names_file word) → reply ≡ memory_line ∷ [] → owed ≡ nothing → new ≡ state → WordStep limits told state word reply owed new
+pub data WordStep (limits : Limits) (told : Option Files) (state : List Clause) (word : Bytes)
+    (reply : Reply) (owed : Owed) (new : List Clause) : Type 0 where
+  right_word : RightWord limits told state word reply owed new
+      → WordStep limits told state word reply owed new
+  no_memory : IsTrue (names_file word) → reply ≡ memory_line ∷ [] → owed ≡ nothing → new ≡ state
+      → WordStep limits told state word reply owed new

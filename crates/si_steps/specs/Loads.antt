@@ -36,11 +36,16 @@ load_line limit events (Some fault) = fault_line limit fault
 
 -- Where the library tells its files, the reading of them decides. Where it doesn't, some clauses
 -- are accepted one after the other, or the load is refused and the state stays.
-abbrev pub PerformsLoad : Limits → Option Files → Bytes → List Clause → Reply → Owed → List Clause → Type 0
+abbrev pub PerformsLoad : Limits → Option Files → Bytes → List Clause → Reply → Owed
+    → List Clause → Type 0
 PerformsLoad limits (Some files) file state reply owed new =
-    (events : List Event) × (fault : Option Fault) × Loads files (load_bounds limits) limits.entries state file events fault
-    × (reply ≡ load_line limits.entries events fault ∷ []) × (owed ≡ owed_by fault) × (new ≡ state_behind state events fault)
+    (events : List Event) × (fault : Option Fault)
+    × Loads files (load_bounds limits) limits.entries state file events fault
+    × (reply ≡ load_line limits.entries events fault ∷ []) × (owed ≡ owed_by fault)
+    × (new ≡ state_behind state events fault)
 PerformsLoad limits None file state reply owed new =
-    ((gained : List Clause) × AreAccepted limits.entries state gained × (reply ≡ gained_line gained ∷ []) × (owed ≡ nothing)
+    ((gained : List Clause) × AreAccepted limits.entries state gained
+    × (reply ≡ gained_line gained ∷ []) × (owed ≡ nothing)
     × (new ≡ state ++ gained))
-    ⊎ ((fault : Fault) × (reply ≡ fault_line limits.entries fault ∷ []) × (owed ≡ owed_by_fault fault) × (new ≡ state))
+    ⊎ ((fault : Fault) × (reply ≡ fault_line limits.entries fault ∷ [])
+    × (owed ≡ owed_by_fault fault) × (new ≡ state))

@@ -25,7 +25,8 @@ end_line count = codes "end " ++ decimal count
 -- so many clauses are kept, with so many entries and so many different symbols
 abbrev pub stats_line : ℕ → ℕ → ℕ → Bytes
 stats_line clauses entries symbols =
-    codes "clauses " ++ decimal clauses ++ codes " entries " ++ decimal entries ++ codes " symbols " ++ decimal symbols
+    codes "clauses " ++ decimal clauses ++ codes " entries " ++ decimal entries ++ codes " symbols "
+    ++ decimal symbols
 
 -- so many clauses with so many entries were gained, and these, as patterns, have so many answers of
 -- `unifiable` together

@@ -46,7 +46,8 @@ abbrev pub requests : (words lines : List Bytes) → List Request
 requests words lines = map a_word words ++ map a_line lines
 
 -- what is done at a request
-abbrev pub Acts : Limits → Option Files → List Clause → Request → Reply → Owed → List Clause → Type 0
+abbrev pub Acts : Limits → Option Files → List Clause → Request → Reply → Owed
+    → List Clause → Type 0
 Acts limits told state (a_word word) reply owed new = WordStep limits told state word reply owed new
 Acts limits told state (a_line line) reply owed new = Step limits told state line reply owed new
 
@@ -56,21 +57,25 @@ GoesOn strict reply = IsTrue strict → IsFalse (is_refusal reply)
 
 -- From this state on the requests have this output, which tells so many failures of the library,
 -- and the new state stands behind them. The run goes on behind each.
-abbrev pub Run : Limits → Option Files → (strict : Bool) → List Clause → List Request → Bytes → ℕ → List Clause → Type 0
+abbrev pub Run : Limits → Option Files → (strict : Bool) → List Clause → List Request → Bytes → ℕ
+    → List Clause → Type 0
 Run limits told strict state [] output failures new = (output ≡ []) × (failures ≡ 0) × (new ≡ state)
 Run limits told strict state (request ∷ requests) output failures new =
     (reply : Reply) × (owed : Owed) × (next : List Clause) × (others : Bytes) × (further : ℕ)
-    × Acts limits told state request reply owed next × GoesOn strict reply × Run limits told strict next requests others further new
+    × Acts limits told state request reply owed next × GoesOn strict reply
+    × Run limits told strict next requests others further new
     × (output ≡ ended reply ++ others) × (failures ≡ failures_in owed + further)
 
 -- the output of a session over all these requests, which begins with no clause, and how many
 -- failures it tells
 abbrev pub IsOutput : Limits → Option Files → (strict : Bool) → List Request → Bytes → ℕ → Type 0
-IsOutput limits told strict requests output failures = (new : List Clause) × Run limits told strict [] requests output failures new
+IsOutput limits told strict requests output failures =
+    (new : List Clause) × Run limits told strict [] requests output failures new
 
 -- The output of such a session over the first of these requests. It ends with this reply, behind
 -- which the run need not go on.
-pub record IsOutputTo (limits : Limits) (told : Option Files) (strict : Bool) (requests : List Request) (reply : Reply) (output : Bytes) (failures : ℕ) : Type 0 where
+pub record IsOutputTo (limits : Limits) (told : Option Files) (strict : Bool)
+    (requests : List Request) (reply : Reply) (output : Bytes) (failures : ℕ) : Type 0 where
   pub done : List Request
   pub last : Request
   pub others : List Request

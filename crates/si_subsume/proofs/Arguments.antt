@@ -6,25 +6,18 @@ use Rattle.std.specs.Borrow.{Bor}
 use Rattle.si_defs.specs.Terms as terms
 use Rattle.si_flat.specs.declared.Cell.{Cell}
 use Rattle.si_flat.specs.declared.Cell.TheVariants as cell
-use Rattle.si_flat.specs.Cells.{query, entry, ind, Term, Terms, cells_of, cells_of_all, AreSound, StandsFor, IsWhole}
+use Rattle.si_flat.specs.Cells.{query, entry, ind, Term, Terms, cells_of, cells_of_all, AreSound, StandsFor, IsWhole, join}
 use Rattle.si_unify.specs.Spots.{IsAt}
-use Rattle.si_unify.proofs.Rows.{join}
 use Rattle.si_unify.proofs.Places.{at_unique, whole_at}
 use Rattle.si_unify.proofs.Binding.{cut_stands}
 use Rattle.si_subsume.specs.Maps.{arguments, arity_of, IsNoVariable, HasHeads, StandForAll}
-use Rattle.si_unify.proofs.Lists.{all_front, all_back}
 use Rattle.si_unify.specs.declared.slots.Slots.{Slots}
 use Rattle.si_unify.specs.Solving.{CellIsInRange, AreInRange}
+use Rattle.si_unify.proofs.Rows.{join-more, join-none}
 use Rattle.std.specs.List.{AllByRecursion}
+use Rattle.si_defs.proofs.ListLaws.{all_front, all_back}
+use Rattle.si_flat.proofs.Subterms.{cells_some, without_cells}
 use Rattle.si_subsume.specs.Search.{Slices, IsSymbolCell, AreFlatLiterals}
-
-join-more : (ts us : Terms) (t : Term) → join (join ts (terms.more t terms.none)) us ≡ join ts (terms.more t us)
-join-more terms.none us t = refl
-join-more (terms.more u ts) us t = ap (terms.more u) (join-more ts us t)
-
-join-none : (ts : Terms) → join ts terms.none ≡ ts
-join-none terms.none = refl
-join-none (terms.more t ts) = ap (terms.more t) (join-none ts)
 
 stand_more : (bs : Slices) (ts : Terms) (b : Bor (List Cell)) (t : Term) → StandForAll bs ts → StandsFor b.now t → StandForAll (bs ++ b ∷ []) (join ts (terms.more t terms.none))
 stand_more [] terms.none b t h one = (one, tt)
@@ -106,10 +99,6 @@ module _ (cells : List Cell) (list : Slices) (at : ℕ) (piece : Bor (List Cell)
         some = omega (arith, size, cells_some t);
         inside = omega (arith, size, long, length-append (cells_of t) (cells_of_all ts), less);
       }
-    where
-      cells_some : (t : Term) → 0 < length (cells_of t)
-      cells_some (terms.var x) = omega arith
-      cells_some (terms.app s ts) = omega arith
 
   pub next_cut : IsCutting cells list at → IsNextCut cells list at piece
   next_cut h = by h.left h.split h.from h.sound
@@ -121,12 +110,7 @@ module _ (cells : List Cell) (list : Slices) (at : ℕ) (piece : Bor (List Cell)
 pub all_cut : (cells : List Cell) (list : Slices) (at : ℕ) → IsCutting cells list at → length cells ≤ at → (t : Term) → StandsFor cells t → StandForAll list (arguments t)
 all_cut cells list at h end t stands =
     let same : t ≡ h.term = at_unique cells 0 t h.term (whole_at cells t stands) (whole_at cells h.term h.stands) in
-    subst (StandForAll list) (sym (ap arguments same ∙ h.split ∙ ap (join h.done) (none h.left (sym (sym (drop_of_length-le cells end) ∙ h.from))) ∙ join-none h.done)) h.cut
-  where
-    none : (left : Terms) → cells_of_all left ≡ [] → left ≡ terms.none
-    none terms.none e = refl
-    none (terms.more (terms.var x) ts) e = cc
-    none (terms.more (terms.app s us) ts) e = cc
+    subst (StandForAll list) (sym (ap arguments same ∙ h.split ∙ ap (join h.done) (without_cells h.left (sym (sym (drop_of_length-le cells end) ∙ h.from))) ∙ join-none h.done)) h.cut
 
 -- ---- arguments in range
 module _ (slots : Slots) where

@@ -5,15 +5,16 @@ use Rattle.std.proofs.Math.Seq.{take-append_seam}
 use Rattle.std.specs.Prelude.{slice_get}
 use Rattle.std.specs.List.{AllByRecursion}
 use Rattle.std.specs.Borrow.{Bor}
-use Rattle.si_defs.specs.Substitutions.{Substitution, image}
+use Rattle.std.proofs.lemmas.Option.{slice_get_within}
+use Rattle.std.proofs.lemmas.List.{nil_from_length}
+use Rattle.si_defs.specs.Substitutions.{Substitution, image, Grows}
+use Rattle.si_defs.proofs.ListLaws.{all_front}
 use Rattle.si_state.specs.Subsumption.{AreImages, IsNoLater}
 use Rattle.si_flat.specs.declared.Cell.{Cell}
 use Rattle.si_flat.specs.Cells.{Symbol, Variable, same_variable}
 use Rattle.si_trail.specs.Trails.{Trail}
 use Rattle.si_unify.specs.declared.slots.Slots.{Slots}
 use Rattle.si_unify.specs.Solving.{Pairs, Equalizes, IsBinding, RanksBelow, IsSolution, HaveCommon}
-use Rattle.si_unify.specs.Spots.{Grows}
-use Rattle.si_unify.proofs.Lists.{all_front}
 use Rattle.si_subsume.specs.declared.search.Choice.{Choice}
 use Rattle.si_subsume.specs.Search.{Slices, AllowsSolving, CanEnd, number_of, IsLeastSearch, IsChosen, AreChosen, AreTried, IsUnderway, IsDead, NextNumber, turns_left, GoesOnFrom, FindsTarget, IsFirstTarget}
 use Rattle.si_subsume.proofs.Turns.{turns_popped, turns_pushed}
@@ -45,16 +46,7 @@ pub bound_before : (old new : Pairs) (n : ℕ) → Grows old new → n ≡ lengt
 bound_before old new n grows is = (λ i. take (is i) (grows.1 i)) ∙ take-append_seam old grows.0
 
 pub nothing_bound : (old new : Pairs) → Grows old new → length new ≡ length old → new ≡ old
-nothing_bound old new grows same = grows.1 ∙ ap (λ l. old ++ l) (none grows.0 (omega (arith, ap length grows.1, same, length-append old grows.0))) ∙ append-nil old
-  where
-    none : (more : Pairs) → length more ≡ 0 → more ≡ []
-    none [] h = refl
-    none (pair ∷ more) h = absurd (omega (arith, h))
-
-pub got_inside : {X : Type 0} (xs : List X) (n : ℕ) (x : X) → slice_get xs n ≡ Some x → n < length xs
-got_inside [] n x e = cc
-got_inside (y ∷ xs) zero x e = omega arith
-got_inside (y ∷ xs) (suc n) x e = omega (arith, got_inside xs n x e)
+nothing_bound old new grows same = grows.1 ∙ ap (λ l. old ++ l) (nil_from_length grows.0 (omega (arith, ap length grows.1, same, length-append old grows.0))) ∙ append-nil old
 
 module _ (slots : Slots) (targets : Slices) where
   abbrev TakesTo : Substitution Symbol Variable → Bor (List Cell) → Bor (List Cell) → Type 0
@@ -225,7 +217,7 @@ module _ (slots : Slots) (targets : Slices) where
   all_inside : (old : Pairs) (literals : Slices) (choices : List Choice) (left : Slices) (new : Pairs) → AreChosen slots targets old literals choices left new → AllByRecursion (λ choice. choice.number < length targets) choices
   all_inside old literals [] left new h = tt
   all_inside old [] (c ∷ choices) left new h = absurd h
-  all_inside old (l ∷ ls) (c ∷ choices) left new h = (got_inside targets c.number h.1.target h.1.target_is, all_inside h.0 ls choices left new h.2)
+  all_inside old (l ∷ ls) (c ∷ choices) left new h = (slice_get_within targets c.number h.1.target h.1.target_is, all_inside h.0 ls choices left new h.2)
 
   pub least_found : (literals : Slices) (choices : List Choice) (left : Slices) (new : Pairs)
       → AreChosen slots targets [] literals choices left new
@@ -256,7 +248,7 @@ module _ (slots : Slots) (targets literals : Slices) (pairs : Pairs) where
         left = h.0;
         last = last;
         dead = h.2;
-        inside = got_inside targets choice.number last.chosen.target last.chosen.target_is;
+        inside = slice_get_within targets choice.number last.chosen.target last.chosen.target_is;
         marked = omega (arith, last.chosen.mark, ap length last.chosen.grows.1, length-append last.before last.chosen.grows.0);
       }
 
@@ -325,7 +317,7 @@ module _ (slots : Slots) (targets literals : Slices) (choices : List Choice) (ol
       → GoesOnFrom slots literals targets (turns_left (length targets) choices from (length literals)) after new (Some 0)
   turn_chosen choice after found mark is =
       let chosen = pushed slots targets [] literals choices here rest old new choice chosen_here (chosen_with slots targets old new here rest from choice tried_here found mark) in
-      let fewer : turns_left (length targets) (choices ++ choice ∷ []) 0 (length literals) < turns_left (length targets) choices from (length literals) = turns_pushed (length targets) from (length literals) choices choice some found.at_least (got_inside targets choice.number found.target found.target_is) in (
+      let fewer : turns_left (length targets) (choices ++ choice ∷ []) 0 (length literals) < turns_left (length targets) choices from (length literals) = turns_pushed (length targets) from (length literals) choices choice some found.at_least (slice_get_within targets choice.number found.target found.target_is) in (
         (rest, subst (λ cs. AreChosen slots targets [] literals cs rest new) (sym is) chosen, λ n ns less can. omega (arith, less)),
         subst (λ cs. turns_left (length targets) cs 0 (length literals) < turns_left (length targets) choices from (length literals)) (sym is) fewer,
       )

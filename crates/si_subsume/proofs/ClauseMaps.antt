@@ -9,9 +9,11 @@ use Rattle.si_defs.specs.Symbols as texts
 use Rattle.si_defs.specs.Symbols.{Numbering, IsNumbering}
 use Rattle.si_defs.specs.Clauses as clauses
 use Rattle.si_defs.specs.Clauses.{Literal, IsSoundAtom, IsSoundLiteral, AreSoundLiterals, literals_size}
-use Rattle.si_defs.specs.Entries.{literals_symbols}
+use Rattle.si_defs.specs.Entries.{literals_symbols, literals_variables}
 use Rattle.si_defs.specs.Substitutions.{IsAmong, image, apply}
 use Rattle.si_defs.specs.Variables.{of_pattern, Solution}
+use Rattle.si_defs.proofs.ListLaws.{all_append, all_front, all_back, all_from, all_got}
+use Rattle.si_defs.proofs.SymbolLaws.{text_is}
 use Rattle.si_state.specs.Subsumption.{AreImages, TakesTo, IsMap, AnswersLeast}
 use Rattle.si_flat.specs.declared.Cell.{Cell}
 use Rattle.si_flat.specs.declared.Owner.{Owner}
@@ -19,15 +21,14 @@ use Rattle.si_flat.specs.declared.Owner.TheVariants.{Query, Entry}
 use Rattle.si_flat.specs.Cells.{Variable, query, entry, same_variable, Term, Terms, variable_cell, cells_of, cells_of_all, StandsFor}
 use Rattle.si_flat.specs.Numbered.{number_in, signed, place_in, numbered, all_numbered}
 use Rattle.si_flat.specs.Flattened.{has_number, unnumbered}
-use Rattle.si_flat.specs.FlatClauses.{variables_of, numbered_atoms, flat_clause, clause_numbers, FlattensClauses}
+use Rattle.si_flat.specs.FlatClauses.{numbered_atoms, flat_clause, clause_numbers, FlattensClauses}
 use Rattle.si_flat.proofs.FirstPlaces.{among_firsts, firsts_among}
-use Rattle.si_flat.proofs.Inserted.{inserted-firsts, inserted_length}
+use Rattle.si_term.proofs.Inserted.{inserted-firsts, inserted_length}
 use Rattle.si_flat.proofs.Walking.{variables_few}
-use Rattle.si_unify.proofs.Lists.{all_front, all_back, all_append}
+use Rattle.si_unify.proofs.Reading.{one_term}
 use Rattle.si_subsume.specs.Maps.{arguments, IsCellOf, AreOf, IsNoVariable, HasHeads, IsFlatMap, AnswersFlat}
-use Rattle.si_subsume.proofs.Texts.{all_from, IsPlaced, pattern_variable, entry_variable, flat_literal, raise, raised_stays, lower, lefts_lowered, literal_raised, literal_lowered}
-use Rattle.si_subsume.proofs.FlatMaps.{least_same, same_stands}
-use Rattle.si_subsume.proofs.Seeking.{all_got}
+use Rattle.si_subsume.proofs.Texts.{IsPlaced, pattern_variable, entry_variable, flat_literal, raise, raised_stays, lower, lefts_lowered, literal_raised, literal_lowered}
+use Rattle.si_subsume.proofs.FlatMaps.{least_same}
 
 -- ---- cells
 module _ (owner : Owner) (n : texts.Symbol → ℕ) (v : Bytes → Variable) (of : (x : Bytes) → IsCellOf owner (variable_cell (v x))) where
@@ -52,17 +53,17 @@ place_within (y ∷ xs) x = by (bytes_eq y x) (place_within xs x)
     by true h = omega arith
     by false h = omega (arith, h)
 
-variables_of_few : (ls : List Literal) → length (variables_of ls) ≤ literals_size ls
+variables_of_few : (ls : List Literal) → length (literals_variables ls) ≤ literals_size ls
 variables_of_few [] = omega arith
-variables_of_few (l ∷ ls) = omega (arith, length-append (terms.variables l.atom) (variables_of ls), variables_few l.atom, variables_of_few ls)
+variables_of_few (l ∷ ls) = omega (arith, length-append (terms.variables l.atom) (literals_variables ls), variables_few l.atom, variables_of_few ls)
 
-few_firsts : (ls : List Literal) → AreSoundLiterals ls → (x : Bytes) → place_in bytes_eq (terms.firsts bytes_eq (variables_of ls)) x < 2 ^ 32 - 1
+few_firsts : (ls : List Literal) → AreSoundLiterals ls → (x : Bytes) → place_in bytes_eq (terms.firsts bytes_eq (literals_variables ls)) x < 2 ^ 32 - 1
 few_firsts ls sound x =
     omega (
       arith,
-      place_within (terms.firsts bytes_eq (variables_of ls)) x,
-      ap length (inserted-firsts bytes_eq bytes_eq-Decides (variables_of ls)),
-      inserted_length bytes_eq [] (variables_of ls),
+      place_within (terms.firsts bytes_eq (literals_variables ls)) x,
+      ap length (inserted-firsts bytes_eq bytes_eq-Decides (literals_variables ls)),
+      inserted_length bytes_eq [] (literals_variables ls),
       variables_of_few ls,
       sound.no_larger,
     )
@@ -84,7 +85,7 @@ atom_heads n v (l ∷ ls) h = (one l.atom h.0, atom_heads n v ls h.1)
 
 clause_heads : (pairs : Numbering) (variable : ℕ → Variable) (ls : List Literal) (cells : List Cell) → AreSoundLiterals ls → StandsFor cells (flat_clause pairs variable ls) → HasHeads cells
 clause_heads pairs variable ls cells sound stands t own =
-    subst (λ u. AllByRecursion IsNoVariable (terms.list (arguments u))) (same_stands cells (flat_clause pairs variable ls) t stands own) (atom_heads (number_in pairs) _ ls sound.each)
+    subst (λ u. AllByRecursion IsNoVariable (terms.list (arguments u))) (one_term cells (flat_clause pairs variable ls) t stands own) (atom_heads (number_in pairs) _ ls sound.each)
 
 -- ---- literals at their numbers
 module _ (pairs : Numbering) (v : Bytes → Variable) where
@@ -164,30 +165,30 @@ known_all pairs (s ∷ ss) e = by (has_number pairs s) refl e (known_all pairs s
 placed_all : (pairs : Numbering) (numbering : IsNumbering pairs) (xs ys zs : List Bytes) (ls : List Literal)
     → AllByRecursion IsSoundLiteral ls
     → AllByRecursion (λ s. has_number pairs s ≡ true) (literals_symbols ls)
-    → AllByRecursion (IsAmong zs) (variables_of ls)
+    → AllByRecursion (IsAmong zs) (literals_variables ls)
     → AllByRecursion (IsPlaced pairs numbering xs ys zs) ls
 placed_all pairs numbering xs ys zs [] sound known placed = tt
 placed_all pairs numbering xs ys zs (l ∷ ls) sound known placed = (
   record {
     sound = sound.0;
     known = all_front (λ s. has_number pairs s ≡ true) (terms.symbols l.atom) (literals_symbols ls) known;
-    placed = all_front (IsAmong zs) (terms.variables l.atom) (variables_of ls) placed;
+    placed = all_front (IsAmong zs) (terms.variables l.atom) (literals_variables ls) placed;
   },
-  placed_all pairs numbering xs ys zs ls sound.1 (all_back (λ s. has_number pairs s ≡ true) (terms.symbols l.atom) (literals_symbols ls) known) (all_back (IsAmong zs) (terms.variables l.atom) (variables_of ls) placed),
+  placed_all pairs numbering xs ys zs ls sound.1 (all_back (λ s. has_number pairs s ≡ true) (terms.symbols l.atom) (literals_symbols ls) known) (all_back (IsAmong zs) (terms.variables l.atom) (literals_variables ls) placed),
 )
 
-all_placed : (ls : List Literal) → AllByRecursion (IsAmong (terms.firsts bytes_eq (variables_of ls))) (variables_of ls)
-all_placed ls = all_from (IsAmong (terms.firsts bytes_eq (variables_of ls))) (variables_of ls) (λ x a. among_firsts bytes_eq bytes_eq-Decides (variables_of ls) x a)
+all_placed : (ls : List Literal) → AllByRecursion (IsAmong (terms.firsts bytes_eq (literals_variables ls))) (literals_variables ls)
+all_placed ls = all_from (IsAmong (terms.firsts bytes_eq (literals_variables ls))) (literals_variables ls) (λ x a. among_firsts bytes_eq text_is (literals_variables ls) x a)
 
 module _ (c d : List Literal) (flat : List Cell × List Cell) (sound_c : AreSoundLiterals c) (sound_d : AreSoundLiterals d) (h : FlattensClauses c d flat) where
   abbrev pairs : Numbering
   pairs = clause_numbers c d
 
   abbrev xs : List Bytes
-  xs = terms.firsts bytes_eq (variables_of c)
+  xs = terms.firsts bytes_eq (literals_variables c)
 
   abbrev ys : List Bytes
-  ys = terms.firsts bytes_eq (variables_of d)
+  ys = terms.firsts bytes_eq (literals_variables d)
 
   known : AllByRecursion (λ s. has_number pairs s ≡ true) (literals_symbols c ++ literals_symbols d)
   known = known_all pairs (literals_symbols c ++ literals_symbols d) h.complete
@@ -212,8 +213,8 @@ module _ (c d : List Literal) (flat : List Cell × List Cell) (sound_c : AreSoun
     lower pairs h.numbering xs ys (image same_variable m.0),
     record {
       on =
-          subst (AllByRecursion (IsAmong (map of_pattern (variables_of c)))) (sym (lefts_lowered pairs h.numbering xs ys (image same_variable m.0) xs))
-          (all_patterns xs (variables_of c) (λ z a. firsts_among bytes_eq bytes_eq-Decides (variables_of c) z a));
+          subst (AllByRecursion (IsAmong (map of_pattern (literals_variables c)))) (sym (lefts_lowered pairs h.numbering xs ys (image same_variable m.0) xs))
+          (all_patterns xs (literals_variables c) (λ z a. firsts_among bytes_eq (literals_variables c) z a));
       taken = taken_down pairs h.numbering xs ys d placed_d (image same_variable m.0) c ns placed_c m.1.taken;
     },
   )

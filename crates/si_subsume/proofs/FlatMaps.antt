@@ -5,14 +5,14 @@ use Rattle.std.specs.List.{AllByRecursion}
 use Rattle.std.specs.Borrow.{Bor}
 use Rattle.si_defs.specs.Terms as terms
 use Rattle.si_defs.specs.Substitutions.{Substitution, image, apply}
+use Rattle.si_defs.proofs.ListLaws.{all_front, all_back}
 use Rattle.si_state.specs.Subsumption.{AreImages, AnswersLeast}
 use Rattle.si_flat.specs.declared.Cell.{Cell}
 use Rattle.si_flat.specs.declared.Owner.TheVariants.{Entry}
 use Rattle.si_flat.specs.Cells.{Symbol, Variable, query, entry, ind, same_variable, Term, Terms, cells_of, cells_of_all, StandsFor}
 use Rattle.si_unify.specs.declared.slots.Slots.{Slots}
 use Rattle.si_unify.specs.Solving.{is_frozen, Equalizes}
-use Rattle.si_unify.proofs.Places.{at_unique, whole_at}
-use Rattle.si_unify.proofs.Lists.{all_front, all_back}
+use Rattle.si_unify.proofs.Reading.{one_term}
 use Rattle.si_subsume.specs.Maps.{arguments, IsFlatMap, AnswersFlat, AreOf, StandForAll}
 use Rattle.si_subsume.specs.Search.{Slices, CanEnd, AnswersSlices}
 
@@ -74,9 +74,6 @@ item_back (b ∷ bs) (terms.more v us) (suc n) u h of e =
     let i = item_back bs us n u h.1 of.1 e in
     record { slice = i.slice; is = i.is; stands = i.stands; of_entry = i.of_entry }
 
-pub same_stands : (cells : List Cell) (t u : Term) → StandsFor cells t → StandsFor cells u → t ≡ u
-same_stands cells t u h k = at_unique cells 0 t u (whole_at cells t h) (whole_at cells u k)
-
 module _ (s : Substitution Symbol Variable) (stay : (n : ℕ) → image same_variable s (entry n) ≡ terms.var (entry n))
     (targets : Slices) (us : Terms) (stand : StandForAll targets us) (of : AllByRecursion IsOfEntry (terms.list us)) where
   abbrev TakesSlice : Bor (List Cell) → Bor (List Cell) → Type 0
@@ -109,10 +106,10 @@ module _ (s : Substitution Symbol Variable) (stay : (n : ℕ) → image same_var
           i.slice,
           i.is,
           λ v w left right.
-              ap (terms.substitute (image same_variable s)) (same_stands l.now v t left h.0)
+              ap (terms.substitute (image same_variable s)) (one_term l.now v t left h.0)
               ∙ k.0.2
               ∙ sym (stays (image same_variable s) k.0.0 stay i.of_entry)
-              ∙ ap (terms.substitute (image same_variable s)) (same_stands i.slice.now k.0.0 w i.stands right),
+              ∙ ap (terms.substitute (image same_variable s)) (one_term i.slice.now k.0.0 w i.stands right),
         ),
         taken_back ls ts ns h.1 k.1,
       )

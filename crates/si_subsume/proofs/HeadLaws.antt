@@ -7,6 +7,7 @@ use Rattle.std.specs.Map.{lookup}
 use Rattle.std.specs.Option.{unwrap_or}
 use Rattle.std.specs.Prelude.{slice_get, Option}
 use Rattle.std.specs.Borrow.{Bor}
+use Rattle.si_defs.proofs.BoolLaws.{agreed}
 use Rattle.si_flat.specs.declared.Cell.{Cell}
 use Rattle.si_subsume.specs.declared.heads.Head.{Head}
 use Rattle.si_subsume.specs.Heads.{same_head, slice_head, first_in, nexts, IsFirstBy}
@@ -63,12 +64,7 @@ indexing_more old new next after targets behind number later d h less number_is 
     whole split start = ap (λ k. drop k targets) start ∙ split
 
     flipped : (m n : ℕ) → (m == n) ≡ (n == m)
-    flipped m n = go (m == n) (n == m) (λ e. eq-eqb n m (sym (eqb-true m n e))) (λ e. eq-eqb m n (sym (eqb-true n m e)))
-      where
-        go : (a b : Bool) → (a ≡ true → b ≡ true) → (b ≡ true → a ≡ true) → a ≡ b
-        go true b f g = sym (f refl)
-        go false true f g = g refl
-        go false false f g = refl
+    flipped m n = agreed (m == n) (n == m) (λ e. eq-eqb n m (sym (eqb-true m n e))) (λ e. eq-eqb m n (sym (eqb-true n m e)))
 
     swapped : (h g : Head) → same_head h g ≡ same_head g h
     swapped h g = λ i. flipped h.sym g.sym i && flipped h.arity g.arity i

@@ -2,9 +2,10 @@
 use Rattle.std.proofs.Common.{◌≡◌, inl, inr, ℕ, zero, suc, ◌+◌, ◌-◌, ◌<◌, ◌≤◌, Bool, true, false, cond, List, [], ◌∷◌, length, get_or, drop, refl, ap, sym, ◌∙◌, subst, arith, None, Some, length-drop}
 use Rattle.std.proofs.lemmas.Bool.{eq-eqb}
 use Rattle.std.specs.Prelude.{◌↔◌, ◌==◌, ◌&&◌, slice_get, Result, Ok, Err, IfOk}
-use Rattle.std.specs.List.{AllByRecursion}
 use Rattle.std.specs.Borrow.{Bor}
-use Rattle.si_defs.specs.Substitutions.{image}
+use Rattle.std.proofs.lemmas.Option.{slice_get_within, slice_get-get_or}
+use Rattle.si_defs.specs.Substitutions.{image, Grows}
+use Rattle.si_defs.proofs.ListLaws.{all_got}
 use Rattle.si_state.specs.Subsumption.{AreImages}
 use Rattle.si_flat.specs.Cells.{same_variable}
 use Rattle.si_flat.specs.declared.Cell.{Cell}
@@ -12,13 +13,12 @@ use Rattle.si_flat.specs.declared.Cell.TheVariants as cell
 use Rattle.si_trail.specs.Trails.{Trail}
 use Rattle.si_unify.specs.declared.slots.Slots.{Slots}
 use Rattle.si_unify.specs.Solving.{Pairs, Equalizes, IsSolution, IsCommon, HasSolved, HaveCommon}
-use Rattle.si_unify.specs.Spots.{Grows}
 use Rattle.si_subsume.specs.declared.heads.Head.{Head}
 use Rattle.si_subsume.specs.Search.{Slices, CanEnd, IsSymbolCell, IsFlatLiteral, AreFlatLiterals, HaveOtherHeads, IsFirstTarget, FindsTarget}
 use Rattle.si_subsume.specs.Heads.{head_of, same_head, first_cell, slice_head, first_in, nexts, IsFirstToTry, TakesFrom}
-use Rattle.si_subsume.proofs.Unequal.{never_equal, got_read, term_read}
+use Rattle.si_subsume.proofs.Unequal.{never_equal, term_read}
 use Rattle.si_subsume.proofs.HeadLaws.{skipped, hit, next_at, got_behind, heads_same}
-use Rattle.si_subsume.proofs.Choices.{compare, got_inside}
+use Rattle.si_subsume.proofs.Choices.{compare}
 
 -- ---- other heads
 other_heads : (c d : Cell) → IsSymbolCell c → IsSymbolCell d → same_head (head_of c) (head_of d) ≡ false → HaveOtherHeads c d
@@ -31,11 +31,6 @@ other_heads (cell.App s a m) (cell.Ind n) h k e = absurd k
 other_heads (cell.Query n) d h k e = absurd h
 other_heads (cell.Entry n) d h k e = absurd h
 other_heads (cell.Ind n) d h k e = absurd h
-
-pub all_got : {X : Type 0} (P : X → Type 0) (xs : List X) (n : ℕ) (x : X) → AllByRecursion P xs → slice_get xs n ≡ Some x → P x
-all_got P [] n x h e = cc
-all_got P (y ∷ xs) zero x h e = let same : y ≡ x = cc in subst P same h.0
-all_got P (y ∷ xs) (suc n) x h e = all_got P xs n x h.1 e
 
 abbrev literal_head : List Cell → Head
 literal_head literal = head_of (first_cell literal)
@@ -52,7 +47,7 @@ pub first_of_all : (targets : Slices) (h : Head) (from number : ℕ) → number 
 first_of_all targets h from number is = record {
   none = λ k other at_least below got. skipped (length targets) 0 targets h k other got (omega (arith, below, is));
   has = λ b got.
-      let there = hit (length targets) 0 targets h (omega (arith, is, got_inside targets number b got)) in
+      let there = hit (length targets) 0 targets h (omega (arith, is, slice_get_within targets number b got)) in
       let place : number ≡ there.place = omega (arith, is, there.number) in
       let same : Some b ≡ Some there.slice = sym got ∙ ap (slice_get targets) place ∙ there.slice_is in
       let slice : b ≡ there.slice = cc in
@@ -71,7 +66,7 @@ first_behind targets h before next here got_here head is =
           let differs = skipped (length targets) (suc (0 + before)) (drop (suc before) targets) (slice_head here) (k - suc before) other behind (omega (arith, place, below, next_is)) in
           ap (λ q. same_head q (slice_head other)) head ∙ differs;
       has = λ b got.
-          let hits = hit (length targets) (suc (0 + before)) (drop (suc before) targets) (slice_head here) (omega (arith, next_is, got_inside targets next b got)) in
+          let hits = hit (length targets) (suc (0 + before)) (drop (suc before) targets) (slice_head here) (omega (arith, next_is, slice_get_within targets next b got)) in
           let place : next ≡ suc before + hits.place = omega (arith, next_is, hits.number) in
           let same : Some b ≡ Some hits.slice = sym got ∙ ap (slice_get targets) place ∙ sym (got_behind targets (suc before) hits.place) ∙ hits.slice_is in
           let slice : b ≡ hits.slice = cc in
@@ -109,7 +104,7 @@ module _ (slots : Slots) (targets : Slices) (old new : Trail (Bor (List Cell))) 
   seeking_on after next less fails slots_stay is =
       let d : Bor (List Cell) = record { ref_ptr = (0, 0); now = [] } in
       let here = get_or targets number d in
-      let got_here : slice_get targets number ≡ Some here = got_read targets number d less in
+      let got_here : slice_get targets number ≡ Some here = slice_get-get_or targets number d less in
       let head : literal_head literal ≡ slice_head here = heads_same (literal_head literal) (slice_head here) (h.has here got_here) in
       let begins = first_behind targets (literal_head literal) number next here got_here head is in
       record {
@@ -133,7 +128,7 @@ module _ (slots : Slots) (targets : Slices) (old new : Trail (Bor (List Cell))) 
   sought after less takes =
       let d : Bor (List Cell) = record { ref_ptr = (0, 0); now = [] } in
       let here = get_or targets number d in
-      let got_here : slice_get targets number ≡ Some here = got_read targets number d less in
+      let got_here : slice_get targets number ≡ Some here = slice_get-get_or targets number d less in
       let solved = takes.2 here got_here in
       record {
         at_least = takes.0;
@@ -146,7 +141,7 @@ module _ (slots : Slots) (targets : Slices) (old new : Trail (Bor (List Cell))) 
       }
 
   pub sought_all : length targets ≤ number → FindsTarget slots targets old.pairs new.pairs literal from None
-  sought_all all = (pairs_same, λ k other at_least got common. h.none k other at_least (omega (arith, all, got_inside targets k other got)) got common)
+  sought_all all = (pairs_same, λ k other at_least got common. h.none k other at_least (omega (arith, all, slice_get_within targets k other got)) got common)
 
 -- the next number is larger
 pub first_above : (end k : ℕ) (bs : Slices) (h : Head) → k + length bs ≡ end → k ≤ first_in end k bs h
@@ -163,7 +158,7 @@ next_above targets number less =
     let here = get_or targets number d in
     omega (
       arith,
-      next_at (length targets) 0 targets number here (got_read targets number d less),
+      next_at (length targets) 0 targets number here (slice_get-get_or targets number d less),
       first_above (length targets) (suc (0 + number)) (drop (suc number) targets) (slice_head here) (omega (arith, length-drop (suc number) targets, less)),
     )
 
@@ -210,5 +205,5 @@ without_target slots literals targets i d terms target_terms less none ns can =
     let t = taken_at (λ (l k : Bor (List Cell)). Equalizes (image same_variable can.0) l.now k.now) targets literals ns i d can.2 less in
     let term = term_read slots literals i d terms less in
     never_there slots targets [] (get_or literals i d).now term target_terms t.0 t.1 t.2
-    (skipped (length targets) 0 targets (slice_head (get_or literals i d)) t.0 t.1 t.2 (omega (arith, none, got_inside targets t.0 t.1 t.2)))
+    (skipped (length targets) 0 targets (slice_head (get_or literals i d)) t.0 t.1 t.2 (omega (arith, none, slice_get_within targets t.0 t.1 t.2)))
     (can.0, (can.1, t.3))

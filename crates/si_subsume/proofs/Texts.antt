@@ -1,12 +1,12 @@
 -- Maps between the literals of flat clauses are maps between the literals themselves.
-use Rattle.std.proofs.Common.{◌≡◌, inl, inr, ℕ, zero, suc, ◌+◌, ◌*◌, ◌==◌, Bool, true, false, cond, List, [], ◌∷◌, map, refl, ap, sym, ◌∙◌, subst, arith}
+use Rattle.std.proofs.Common.{◌≡◌, inl, inr, ℕ, ◌+◌, ◌*◌, ◌==◌, Bool, true, false, cond, List, [], ◌∷◌, map, refl, ap, sym, ◌∙◌, arith}
 use Rattle.std.proofs.lemmas.Bool.Decides.{eqb_tells}
 use Rattle.std.proofs.lemmas.Slice.Eq.{bytes_eq-Decides}
 use Rattle.std.specs.Prelude.{bytes_eq}
 use Rattle.std.specs.List.{AllByRecursion}
 use Rattle.si_defs.specs.Bytes.{Bytes}
 use Rattle.si_defs.specs.Terms as terms
-use Rattle.si_defs.specs.Terms.{var, app, none, more, rename, rename_all, substitute, substitute_all, variables, variables_of_all, symbols, symbols_of_all, firsts}
+use Rattle.si_defs.specs.Terms.{var, app, none, more, rename_all, substitute, substitute_all, variables, variables_of_all, symbols, symbols_of_all}
 use Rattle.si_defs.specs.Symbols as texts
 use Rattle.si_defs.specs.Symbols.{Numbering, IsNumbering}
 use Rattle.si_defs.specs.Clauses as clauses
@@ -16,46 +16,14 @@ use Rattle.si_defs.specs.Variables as apart
 use Rattle.si_defs.specs.Variables.{Apart, of_pattern, of_entry, pattern_term, entry_term, Solution}
 use Rattle.si_defs.specs.declared.SymKind.TheVariants.{Word}
 use Rattle.si_defs.specs.declared.Side.TheVariants.{Predicate, Function}
+use Rattle.si_defs.proofs.ListLaws.{all_front, all_back}
 use Rattle.si_flat.specs.Cells.{Symbol, Variable, query, entry, ind, same_variable, Term, Terms}
 use Rattle.si_flat.specs.Numbered.{number_in, signed, one_above, place_in, numbered, all_numbered}
 use Rattle.si_flat.specs.Flattened.{has_number}
 use Rattle.si_flat.proofs.Numbers.{among-number}
-use Rattle.si_unify.proofs.Lists.{all_front, all_back}
+use Rattle.si_flat.proofs.FirstPlaces.{at_place, text_at, place_one}
 
--- ---- lists
-pub all_from : {X : Type 0} (P : X → Type 0) (xs : List X) → ((x : X) → IsAmong xs x → P x) → AllByRecursion P xs
-all_from P [] give = tt
-all_from P (x ∷ xs) give = (give x (inl refl), all_from P xs (λ y a. give y (inr a)))
-
-pub all_at : {X : Type 0} (P : X → Type 0) (xs : List X) (x : X) → AllByRecursion P xs → IsAmong xs x → P x
-all_at P [] x h a = absurd a
-all_at P (y ∷ xs) x h (inl e) = subst P e h.0
-all_at P (y ∷ xs) x h (inr a) = all_at P xs x h.1 a
-
--- the text at a place
-abbrev text_at : List Bytes → ℕ → Bytes
-text_at [] n = []
-text_at (x ∷ xs) zero = x
-text_at (x ∷ xs) (suc n) = text_at xs n
-
-at_place : (xs : List Bytes) (x : Bytes) → IsAmong xs x → text_at xs (place_in bytes_eq xs x) ≡ x
-at_place [] x a = absurd a
-at_place (y ∷ xs) x a = by (bytes_eq y x) refl (at_place xs x)
-  where
-    next : (n : ℕ) → 1 + n ≡ suc n
-    next n = omega arith
-
-    by : (b : Bool) → bytes_eq y x ≡ b → (IsAmong xs x → text_at xs (place_in bytes_eq xs x) ≡ x) → text_at (y ∷ xs) (cond b 0 (1 + place_in bytes_eq xs x)) ≡ x
-    by true e rest = (bytes_eq-Decides y x).0 e
-    by false e rest =
-        elim a [
-          | inl same ↦ (let bad : true ≡ false = sym ((bytes_eq-Decides y x).1 same) ∙ e in cc)
-          | inr b ↦ ap (text_at (y ∷ xs)) (next (place_in bytes_eq xs x)) ∙ rest b
-        ]
-
-same_place : (xs : List Bytes) (x y : Bytes) → IsAmong xs x → IsAmong xs y → place_in bytes_eq xs x ≡ place_in bytes_eq xs y → x ≡ y
-same_place xs x y a b e = sym (at_place xs x a) ∙ ap (text_at xs) e ∙ at_place xs y b
-
+-- ---- back from numbers
 -- the first symbol with a number
 abbrev symbol_at : Numbering → ℕ → texts.Symbol
 symbol_at [] n = record { kind = Word; text = []; side = Function; arity = 0 }
@@ -127,7 +95,7 @@ module _ (pairs : Numbering) (numbering : IsNumbering pairs) (xs ys : List Bytes
     raised_at [] x inside a b = absurd b
     raised_at (z ∷ zs) x inside a b =
         elim (eqb_tells (place_in bytes_eq xs z) (place_in bytes_eq xs x)) [
-          | inl k ↦ rw k.0 (ap (λ y. up (image apart.same_variable S (of_pattern y))) (same_place xs z x (inside z (inl refl)) a k.1))
+          | inl k ↦ rw k.0 (ap (λ y. up (image apart.same_variable S (of_pattern y))) (place_one bytes_eq bytes_eq-Decides xs z x (inside z (inl refl)) a k.1))
           | inr k ↦
               rw k.0 (
               elim b [

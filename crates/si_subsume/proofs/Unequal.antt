@@ -1,6 +1,5 @@
 -- Terms with different heads, which no substitution makes equal; and slices that are terms.
-use Rattle.std.proofs.Common.{◌≡◌, ℕ, zero, suc, ◌<◌, List, [], ◌∷◌, length, get_or, refl, ap, subst, arith}
-use Rattle.std.specs.Prelude.{slice_get, Some}
+use Rattle.std.proofs.Common.{◌≡◌, ℕ, zero, suc, ◌<◌, List, [], ◌∷◌, length, get_or, ap, subst, arith}
 use Rattle.std.specs.Borrow.{Bor}
 use Rattle.si_defs.specs.Terms as terms
 use Rattle.si_flat.specs.declared.Cell.{Cell}
@@ -9,11 +8,6 @@ use Rattle.si_flat.specs.Cells.{Symbol, Variable, query, entry, ind, Term, IsWho
 use Rattle.si_unify.specs.declared.slots.Slots.{Slots}
 use Rattle.si_unify.specs.Solving.{Pairs, HaveCommon}
 use Rattle.si_subsume.specs.Search.{Slices, IsFlatLiteral, AreFlatLiterals, HaveOtherHeads}
-
--- there is a first cell
-pub some_cell : (cells : List Cell) → IsWhole cells → 0 < length cells
-some_cell cells (terms.var x, stands) = omega (arith, ap length stands.cells_are)
-some_cell cells (terms.app s ts, stands) = omega (arith, ap length stands.cells_are)
 
 first : Term → Cell
 first t = get_or (cells_of t) 0 (cell.App 0 0 0)
@@ -45,8 +39,3 @@ pub term_read : (slots : Slots) (all : Slices) (n : ℕ) (d : Bor (List Cell)) �
 term_read slots [] n d h less = absurd (omega (arith, less))
 term_read slots (b ∷ bs) zero d h less = h.0
 term_read slots (b ∷ bs) (suc n) d h less = term_read slots bs n d h.1 (omega (arith, less))
-
-pub got_read : {X : Type 0} (xs : List X) (n : ℕ) (d : X) → n < length xs → slice_get xs n ≡ Some (get_or xs n d)
-got_read [] n d less = absurd (omega (arith, less))
-got_read (x ∷ xs) zero d less = refl
-got_read (x ∷ xs) (suc n) d less = got_read xs n d (omega (arith, less))

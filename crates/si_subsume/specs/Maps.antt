@@ -15,9 +15,10 @@ abbrev pub arguments : Term → Terms
 arguments (terms.var x) = terms.none
 arguments (terms.app s ts) = ts
 
--- One substitution, which leaves the entry's variables, takes each of these terms to the one that the
--- map tells.
-pub record IsFlatMapBy (cs ds : List Term) (ns : List ℕ) (s : Substitution Symbol Variable) : Type 0 where
+-- One substitution, which leaves the entry's variables, takes each of these terms to the one that
+-- the map tells.
+pub record IsFlatMapBy (cs ds : List Term) (ns : List ℕ)
+    (s : Substitution Symbol Variable) : Type 0 where
   pub stay : (n : ℕ) → image same_variable s (entry n) ≡ terms.var (entry n)
   pub taken : AreImages (λ t u. apply same_variable s t ≡ u) ds cs ns
 
@@ -36,10 +37,12 @@ IsNoVariable (terms.var x) = ⊥
 IsNoVariable (terms.app s ts) = Unit {0}
 
 abbrev pub HasHeads : List Cell → Type 0
-HasHeads cells = (t : Term) → StandsFor cells t → AllByRecursion IsNoVariable (terms.list (arguments t))
+HasHeads cells = (t : Term) → StandsFor cells t
+    → AllByRecursion IsNoVariable (terms.list (arguments t))
 
 -- ---- cells
--- the variables of the cells are the owner's, and a number is left that is larger than all of theirs
+-- the variables of the cells are the owner's, and a number is left that is larger than all of
+-- theirs
 abbrev pub IsCellOf : Owner → Cell → Type 0
 IsCellOf owner (cell.App s arity n) = Unit {0}
 IsCellOf Query (cell.Query n) = n < 2 ^ 32 - 1

@@ -3,14 +3,13 @@ use Rattle.std.specs.Prelude.{◌≡◌, ◌⊎◌, ℕ, zero, suc, ◌+◌, ◌
 use Rattle.std.specs.List.{AllByRecursion}
 use Rattle.std.specs.Borrow.{Bor}
 use Rattle.std.specs.declared.alloc.Global.{Global}
-use Rattle.si_defs.specs.Substitutions.{Substitution, image}
+use Rattle.si_defs.specs.Substitutions.{Substitution, image, Grows}
 use Rattle.si_state.specs.Subsumption.{AreImages, IsLeast, AnswersLeast}
 use Rattle.si_flat.specs.declared.Cell.{Cell}
 use Rattle.si_flat.specs.declared.Cell.TheVariants as cell
 use Rattle.si_flat.specs.Cells.{Symbol, Variable, same_variable, IsWhole}
 use Rattle.si_unify.specs.declared.slots.Slots.{Slots}
 use Rattle.si_unify.specs.Solving.{Pairs, slot_count, AreInRange, IsAcyclic, IsBinding, Equalizes, IsSolution, IsCommon, HaveCommon}
-use Rattle.si_unify.specs.Spots.{Grows}
 use Rattle.si_subsume.specs.declared.search.Choice.{Choice}
 
 abbrev pub Slices : Type 0
@@ -53,29 +52,34 @@ CanEnd slots targets pairs literals ns =
 abbrev pub number_of : Choice → ℕ
 number_of choice = suc choice.number
 
-pub record IsLeastSearch (slots : Slots) (literals targets : Slices) (choices : List Choice) : Type 0 where
+pub record IsLeastSearch (slots : Slots) (literals targets : Slices)
+    (choices : List Choice) : Type 0 where
   pub least : IsLeast (CanEnd slots targets [] literals) (map number_of choices)
   pub inside : AllByRecursion (λ choice. choice.number < length targets) choices
 
 abbrev pub AnswersSearch : Slots → Slices → Slices → Option (Vec Choice Global) → Type 0
 AnswersSearch slots literals targets None = (ns : List ℕ) → CanEnd slots targets [] literals ns → ⊥
-AnswersSearch slots literals targets (Some choices) = IsLeastSearch slots literals targets choices.items
+AnswersSearch slots literals targets (Some choices) =
+    IsLeastSearch slots literals targets choices.items
 
 -- the same, by the numbers
 abbrev pub AnswersSlices : Slots → Slices → Slices → Option (List ℕ) → Type 0
 AnswersSlices slots literals targets answer = AnswersLeast (CanEnd slots targets [] literals) answer
 
 -- ---- choices
--- A target was chosen for the literal: the new bindings are solved by just those solutions of the old
--- ones that take the literal there. With a smaller number no map can be completed.
-pub record IsChosen (slots : Slots) (targets : Slices) (old new : Pairs) (literal : Bor (List Cell)) (rest : Slices) (choice : Choice) : Type 0 where
+-- A target was chosen for the literal: the new bindings are solved by just those solutions of the
+-- old ones that take the literal there. With a smaller number no map can be completed.
+pub record IsChosen (slots : Slots) (targets : Slices) (old new : Pairs) (literal : Bor (List Cell))
+    (rest : Slices) (choice : Choice) : Type 0 where
   pub mark : choice.mark ≡ length old
   pub grows : Grows old new
   pub target : Bor (List Cell)
   pub target_is : slice_get targets choice.number ≡ Some target
   pub solved : (s : Substitution Symbol Variable) × IsSolution slots new s
-  pub solves : (s : Substitution Symbol Variable) → IsSolution slots new s ↔ IsCommon slots old literal.now target.now s
-  pub none_before : (n : ℕ) (ns : List ℕ) → n < choice.number → CanEnd slots targets old (literal ∷ rest) (suc n ∷ ns) → ⊥
+  pub solves : (s : Substitution Symbol Variable) → IsSolution slots new s
+      ↔ IsCommon slots old literal.now target.now s
+  pub none_before : (n : ℕ) (ns : List ℕ) → n < choice.number
+      → CanEnd slots targets old (literal ∷ rest) (suc n ∷ ns) → ⊥
 
 module _ (slots : Slots) (targets : Slices) where
   -- These choices were made one after the other, from the old bindings to the new ones. Of the
@@ -84,11 +88,13 @@ module _ (slots : Slots) (targets : Slices) where
   AreChosen old literals [] left new = (left ≡ literals) × (new ≡ old)
   AreChosen old [] (choice ∷ choices) left new = ⊥
   AreChosen old (literal ∷ rest) (choice ∷ choices) left new =
-      (next : Pairs) × IsChosen slots targets old next literal rest choice × AreChosen next rest choices left new
+      (next : Pairs) × IsChosen slots targets old next literal rest choice
+      × AreChosen next rest choices left new
 
   -- no target below is of use for the next literal
   abbrev pub AreTried : Pairs → Slices → ℕ → Type 0
-  AreTried pairs left from = (n : ℕ) (ns : List ℕ) → n < from → CanEnd slots targets pairs left (suc n ∷ ns) → ⊥
+  AreTried pairs left from = (n : ℕ) (ns : List ℕ) → n < from
+      → CanEnd slots targets pairs left (suc n ∷ ns) → ⊥
 
   abbrev pub IsUnderway : Slices → List Choice → Pairs → ℕ → Type 0
   IsUnderway literals choices pairs from =
@@ -97,7 +103,8 @@ module _ (slots : Slots) (targets : Slices) where
   -- the choices can't be completed
   abbrev pub IsDead : Slices → List Choice → Pairs → Type 0
   IsDead literals choices pairs =
-      (left : Slices) × AreChosen [] literals choices left pairs × ((ns : List ℕ) → CanEnd slots targets pairs left ns → ⊥)
+      (left : Slices) × AreChosen [] literals choices left pairs
+      × ((ns : List ℕ) → CanEnd slots targets pairs left ns → ⊥)
 
 -- ---- how long it may go on
 -- k multiple w
@@ -115,7 +122,8 @@ turns_left targets [] from zero = 0
 turns_left targets [] from (suc left) = 1 + multiple (targets - from) (most_turns targets left)
 turns_left targets (choice ∷ choices) from zero = 0
 turns_left targets (choice ∷ choices) from (suc left) =
-    1 + multiple (targets - suc choice.number) (most_turns targets left) + turns_left targets choices from left
+    1 + multiple (targets - suc choice.number)
+    (most_turns targets left) + turns_left targets choices from left
 
 -- a choice that came to nothing: where it bound nothing, none of the other targets is of use
 abbrev pub NextNumber : Choice → ℕ → ℕ → ℕ → Type 0
@@ -124,24 +132,30 @@ NextNumber choice mark end next =
 
 -- what a turn comes to: the search goes on with another target, or there is no map
 abbrev pub GoesOnFrom : Slots → Slices → Slices → ℕ → List Choice → Pairs → Option ℕ → Type 0
-GoesOnFrom slots literals targets before choices pairs None = (ns : List ℕ) → CanEnd slots targets [] literals ns → ⊥
+GoesOnFrom slots literals targets before choices pairs None = (ns : List ℕ)
+    → CanEnd slots targets [] literals ns → ⊥
 GoesOnFrom slots literals targets before choices pairs (Some from) =
     IsUnderway slots targets literals choices pairs from
     × (turns_left (length targets) choices from (length literals) < before)
 
 -- ---- one literal
 -- the first target from a number on to which the literal can be taken, and none below
-pub record IsFirstTarget (slots : Slots) (targets : Slices) (old new : Pairs) (literal : List Cell) (from n : ℕ) : Type 0 where
+pub record IsFirstTarget (slots : Slots) (targets : Slices) (old new : Pairs) (literal : List Cell)
+    (from n : ℕ) : Type 0 where
   pub at_least : from ≤ n
   pub target : Bor (List Cell)
   pub target_is : slice_get targets n ≡ Some target
   pub grows : Grows old new
   pub solved : (s : Substitution Symbol Variable) × IsSolution slots new s
-  pub solves : (s : Substitution Symbol Variable) → IsSolution slots new s ↔ IsCommon slots old literal target.now s
-  pub none_before : (k : ℕ) (other : Bor (List Cell)) → from ≤ k → k < n → slice_get targets k ≡ Some other → HaveCommon slots old literal other.now → ⊥
+  pub solves : (s : Substitution Symbol Variable) → IsSolution slots new s
+      ↔ IsCommon slots old literal target.now s
+  pub none_before : (k : ℕ) (other : Bor (List Cell)) → from ≤ k → k < n
+      → slice_get targets k ≡ Some other → HaveCommon slots old literal other.now → ⊥
 
 abbrev pub FindsTarget : Slots → Slices → Pairs → Pairs → List Cell → ℕ → Option ℕ → Type 0
 FindsTarget slots targets old new literal from None =
     (new ≡ old)
-    × ((k : ℕ) (other : Bor (List Cell)) → from ≤ k → slice_get targets k ≡ Some other → HaveCommon slots old literal other.now → ⊥)
-FindsTarget slots targets old new literal from (Some n) = IsFirstTarget slots targets old new literal from n
+    × ((k : ℕ) (other : Bor (List Cell)) → from ≤ k → slice_get targets k ≡ Some other
+    → HaveCommon slots old literal other.now → ⊥)
+FindsTarget slots targets old new literal from (Some n) =
+    IsFirstTarget slots targets old new literal from n

@@ -2,8 +2,9 @@
 use Rattle.std.proofs.Common.{◌≡◌, ℕ, ◌+◌, ◌≤◌, List, [], ◌∷◌, ◌++◌, length, map, reverse, refl, sym, ap, ◌∙◌, arith, length-append}
 use Rattle.std.proofs.lemmas.List.{length-map, map-append, reverse-append}
 use Rattle.si_defs.specs.Terms as terms
-use Rattle.si_defs.specs.Clauses.{Term, Terms, Literal, literals_size}
-use Rattle.si_defs.specs.Entries.{literal_entry, term_entry, Place, placed_term, proper_occurrences, literal_entries, entries_from}
+use Rattle.si_defs.specs.Clauses.{Term, Terms, Literal, Clause, literals_size, IsSoundClause}
+use Rattle.si_defs.specs.Entries.{literal_entry, term_entry, Place, placed_term, proper_occurrences, literal_entries, entries_from, entries}
+use Rattle.si_defs.specs.declared.TheConstants.{MOST_OCCURRENCES}
 use Rattle.si_term.specs.Walks.{subterms, subterms_of_all, under, paths, paths_from, arguments, entries_alone}
 
 -- ---- the terms of the occurrences
@@ -133,3 +134,6 @@ alone-few (l ∷ ls) =
 
 pub entries_few : (n : ℕ) (ls : List Literal) → length (entries_from n ls) ≤ literals_size ls
 entries_few n ls = omega (arith, length-entries n ls, alone-few ls)
+
+pub clause_few : (c : Clause) → IsSoundClause c → length (entries c) ≤ MOST_OCCURRENCES
+clause_few c sound = omega (arith, entries_few 1 c.literals, sound.sound.no_larger)

@@ -49,15 +49,15 @@ length-symbols c sound =
     ∙ length-map (clause_symbols c) Some
 
 -- ---- the head of one of them
-get_some : {A : Type 0} (xs : List A) (n : ℕ) (o : Option A) → slice_get (map Some xs) n ≡ Some o → (x : A) × (o ≡ Some x) × (slice_get xs n ≡ Some x)
-get_some [] n o h = cc
-get_some (x ∷ xs) zero o h = let e : o ≡ Some x = cc in (x, e, refl)
-get_some (x ∷ xs) (suc n) o h = get_some xs n o h
+get_map_some : {A : Type 0} (xs : List A) (n : ℕ) (o : Option A) → slice_get (map Some xs) n ≡ Some o → (x : A) × (o ≡ Some x) × (slice_get xs n ≡ Some x)
+get_map_some [] n o h = cc
+get_map_some (x ∷ xs) zero o h = let e : o ≡ Some x = cc in (x, e, refl)
+get_map_some (x ∷ xs) (suc n) o h = get_map_some xs n o h
 
 pub head_found : (c : Clause) → IsSoundClause c → (n : ℕ) (e : Entry) → slice_get (map (λ p. p.entry) (entries c)) n ≡ Some e
     → (s : Symbol) × (entry_head e ≡ Some s) × (slice_get (clause_symbols c) n ≡ Some s)
 head_found c sound n e h =
-    get_some (clause_symbols c) n (entry_head e)
+    get_map_some (clause_symbols c) n (entry_head e)
     (ap (λ os. slice_get os n) (sym (heads c sound)) ∙ get-map entry_head (map (λ p. p.entry) (entries c)) n e h)
 
 twice : (ps : List Placed) → map (λ p. entry_head p.entry) ps ≡ map entry_head (map (λ p. p.entry) ps)

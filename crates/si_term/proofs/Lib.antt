@@ -2,6 +2,6 @@ pub mod Rows
 pub mod Progress
 pub mod Alone
 pub mod Literals
-pub mod Gathered
+pub mod Inserted
 pub mod Results
 pub mod EntryHeads

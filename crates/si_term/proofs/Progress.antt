@@ -1,12 +1,8 @@
 -- A walk along a list that counts down to the item that it seeks.
 use Rattle.std.proofs.Common.{◌≡◌, ℕ, zero, suc, ◌+◌, ◌-◌, List, [], ◌∷◌, ◌++◌, Some, length, slice_get, map, refl, ap, ◌∙◌, arith, length-append}
+use Rattle.si_defs.proofs.ListLaws.{get_front}
 
 module _ {A : Type 0} where
-  pub get-left : (xs ys : List A) (n : ℕ) (x : A) → slice_get xs n ≡ Some x → slice_get (xs ++ ys) n ≡ Some x
-  get-left [] ys n x h = cc
-  get-left (y ∷ xs) ys zero x h = h
-  get-left (y ∷ xs) ys (suc n) x h = get-left xs ys n x h
-
   pub get-right : (xs ys : List A) (m : ℕ) → slice_get (xs ++ ys) (length xs + m) ≡ slice_get ys m
   get-right [] ys m = let e : 0 + m ≡ m = omega arith in ap (slice_get ys) e
   get-right (x ∷ xs) ys m =
@@ -30,7 +26,7 @@ module _ {A : Type 0} where
 
   -- or the one that is sought is among them
   pub finds : (all whole xs rest : List A) (number left : ℕ) (x : A) → whole ≡ xs ++ rest → Progress all whole number left → slice_get xs left ≡ Some x → slice_get all number ≡ Some x
-  finds all whole xs rest number left x split p h = p.same ∙ ap (λ l. slice_get l left) split ∙ get-left xs rest left x h
+  finds all whole xs rest number left x split p h = p.same ∙ ap (λ l. slice_get l left) split ∙ get_front xs rest left x h
 
   -- nothing is left
   pub ends : (all whole : List A) (number left : ℕ) → whole ≡ [] → Progress all whole number left → number ≡ length all + left

@@ -1,4 +1,3 @@
 pub mod Terms
 pub mod Meaning
 pub mod Walks
-pub mod Gathered

@@ -25,10 +25,12 @@ below_size : (t : Term) → nested_below t ≤ terms.size (term_of t)
 below_size (Var x) = omega arith
 below_size (App s ts) = omega arith
 
-most_below : (items : List Term) → most nested_below items ≤ terms.sizes (terms.row (map term_of items))
+most_below : (items : List Term)
+    → most nested_below items ≤ terms.sizes (terms.row (map term_of items))
 most_below [] = omega arith
 most_below (t ∷ ts) = omega (arith, below_size t, most_below ts)
 
 -- an argument is smaller than its term
-pub deepest : (items : List Term) → max (most nested_below items) 0 ≤ terms.sizes (terms.row (map term_of items))
+pub deepest : (items : List Term)
+    → max (most nested_below items) 0 ≤ terms.sizes (terms.row (map term_of items))
 deepest items = omega (arith, most_below items)

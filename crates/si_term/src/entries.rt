@@ -1,13 +1,13 @@
 // The entries of a clause by their numbers, and the variables of an entry.
 ghost use Rattle.std.specs.Prelude.{◌≡◌, ◌<◌, ◌≤◌, ◌+◌, ℕ, Some, IfOk, OnOk, bytes_eq, length, map, slice_get};
-ghost use Rattle.si_defs.specs.Terms.{row, size, sizes, firsts, variables, variables_of_all};
+ghost use Rattle.indexmap.specs.IndexSet.{insert_all};
+ghost use Rattle.si_defs.specs.Terms.{row, size, sizes, variables, variables_of_all};
 ghost use Rattle.si_defs.specs.Clauses.{literals_size};
 ghost use Rattle.si_defs.specs.declared.TheConstants.{MOST_OCCURRENCES};
-ghost use Rattle.si_defs.specs.Entries.{entries, entry_variables, pattern_entry};
+ghost use Rattle.si_defs.specs.Entries.{entries, entry_variables, distinct_variables, pattern_entry};
 ghost use Rattle.si_term.specs.Terms.{term_of};
 ghost use Rattle.si_term.specs.Meaning.{clause_of, place_of, pattern_of, entry_of};
 ghost use Rattle.si_term.specs.Walks.{subterms, subterms_of_all, arguments, paths, paths_from, Finds, FindsPath};
-ghost use Rattle.si_term.specs.Gathered.{gathered};
 
 use crate::clause::{Clause, Entry, Pattern, Place};
 use crate::copies::copy_texts;
@@ -105,8 +105,7 @@ pub fn place_at(alloc: Global, clause: &Clause, number: u32) -> Result<Place, Al
 
 /// The variables of an entry, each once, in the order of their first occurrence.
 pub fn vars_of(alloc: Global, entry: Entry<'_>) -> Result<Texts, AllocError>
-    ensures { IfOk result (λ names. names ≡ firsts bytes_eq
-        (entry_variables (entry_of entry.entry))) }
+    ensures { IfOk result (λ names. names ≡ distinct_variables (entry_of entry.entry)) }
 {
     let mut seen = IndexSet::new(alloc);
     gather_term(whole_term(entry), &mut seen)?;
@@ -261,7 +260,7 @@ fn path_in(alloc: Global, terms: &[Term], number: u32) -> Result<PathWalk, Alloc
 /// Adds the variables of a term that aren't there yet.
 #[cycle(gather)]
 fn gather_term<'a>(term: &'a Term, seen: &mut IndexSet<&'a [u8]>) -> Result<(), AllocError>
-    ensures { OnOk result (map (λ t. t.now) seen.new.keys ≡ gathered
+    ensures { OnOk result (map (λ t. t.now) seen.new.keys ≡ insert_all bytes_eq
         (map (λ t. t.now) seen.old.keys) (variables (term_of term.now))) }
 {
     match term {
@@ -275,7 +274,7 @@ fn gather_term<'a>(term: &'a Term, seen: &mut IndexSet<&'a [u8]>) -> Result<(), 
 
 #[cycle(gather)]
 fn gather_all<'a>(terms: &'a [Term], seen: &mut IndexSet<&'a [u8]>) -> Result<(), AllocError>
-    ensures { OnOk result (map (λ t. t.now) seen.new.keys ≡ gathered
+    ensures { OnOk result (map (λ t. t.now) seen.new.keys ≡ insert_all bytes_eq
         (map (λ t. t.now) seen.old.keys) (variables_of_all (row (map term_of terms.now)))) }
 {
     for i in 0..terms.len() {

@@ -1,12 +1,12 @@
 -- Pairs of slots and values, and the table beside them.
-use Rattle.std.proofs.Common.{suc, zero, ◌≡◌, ◌≢◌, ℕ, ◌+◌, ◌<◌, ◌≤◌, inl, inr, true, false, cond, List, [], ◌∷◌, ◌++◌, length, take, drop, get_or, refl, sym, ◌∙◌, ap, subst, arith, append_assoc, length-append, Option, None, Some}
+use Rattle.std.proofs.Common.{◌≡◌, ◌≢◌, ℕ, ◌+◌, ◌<◌, ◌≤◌, inl, inr, true, false, cond, List, [], ◌∷◌, ◌++◌, length, take, drop, get_or, refl, sym, ◌∙◌, ap, subst, arith, append_assoc, length-append, Option, None, Some}
 use Rattle.std.proofs.Math.ListN.{set}
 use Rattle.std.proofs.lemmas.List.{length-set, get_or-set_same, get_or-set_other, take-append-drop, take-take}
 use Rattle.std.proofs.Math.Seq.{take-append_seam}
 use Rattle.std.proofs.lemmas.List.Sums.{sum_by-set}
 use Rattle.std.proofs.lemmas.Bool.Decides.{eqb_tells}
 use Rattle.std.proofs.lemmas.Bool.{eq-eqb}
-use Rattle.std.specs.Prelude.{sum_by, slice_get, ◌==◌}
+use Rattle.std.specs.Prelude.{sum_by, ◌==◌}
 use Rattle.si_trail.specs.Trails.{value_at, HasDistinctSlots, HasSlotsBelow, AreUnbound, vacancy, IsTableOf}
 
 module _ {T : Type 0} where
@@ -162,9 +162,3 @@ module _ {T : Type 0} where
             ∙ take-take (length rest) (length bound) all (omega (arith, one_more));
         more = omega (arith, one_more, less);
       }
-
-  -- the pair with this number
-  pub pair_at : (ps : List (ℕ × T)) (n : ℕ) (p : ℕ × T) → n < length ps → p ≡ get_or ps n p → slice_get ps n ≡ Some p
-  pair_at [] n p less e = absurd (omega arith)
-  pair_at (q ∷ ps) zero p less e = ap Some (sym e)
-  pair_at (q ∷ ps) (suc n) p less e = pair_at ps n p (omega arith) e

@@ -46,7 +46,8 @@ module _ {T : Type 0} where
 
   -- a table of values by slot, beside the pairs
   pub record IsTableOf (values : List (Option T)) (pairs : List (ℕ × T)) : Type 0 where
-    pub at : (slot : ℕ) → slot < length values → slice_index_or values slot None ≡ value_at pairs slot
+    pub at : (slot : ℕ) → slot < length values
+        → slice_index_or values slot None ≡ value_at pairs slot
     pub distinct : HasDistinctSlots pairs
     pub below : HasSlotsBelow (length values) pairs
     pub room : sum_by vacancy values + length pairs ≡ length values

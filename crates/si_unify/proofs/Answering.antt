@@ -7,13 +7,13 @@ use Rattle.std.specs.Prelude.{◌==◌}
 use Rattle.std.specs.List.{AllByRecursion}
 use Rattle.si_defs.specs.Terms as terms
 use Rattle.si_flat.specs.Cells.{Symbol, Variable, Term, same_variable, StandsFor, IsWhole}
-use Rattle.si_defs.specs.Substitutions.{Substitution, image}
+use Rattle.si_defs.specs.Substitutions.{Substitution, image, Grows}
+use Rattle.si_defs.proofs.ListLaws.{all_weaker}
 use Rattle.si_unify.specs.declared.spots.SpotPair.{SpotPair}
 use Rattle.si_unify.specs.declared.spots.Question.{Question}
 use Rattle.si_unify.specs.Solving.{Pairs, slot_count, AreInRange, Equalizes, IsSolvedBy, IsAcyclic, IsBinding, IsSolution, IsCommon, HasSolved}
-use Rattle.si_unify.specs.Spots.{text, IsAt, left_spot, right_spot, StandsAt, IsSubterm, at_spot, IsLegal, MakesEqual, MakesEqualUpTo, Grows, HasMet, HasClosed, HasAnswered}
+use Rattle.si_unify.specs.Spots.{text, IsAt, left_spot, right_spot, StandsAt, IsSubterm, at_spot, IsLegal, MakesEqual, MakesEqualUpTo, HasMet, HasClosed, HasAnswered}
 use Rattle.si_unify.specs.Circles.{IsTold}
-use Rattle.si_unify.proofs.Lists.{all_map}
 use Rattle.si_unify.proofs.Places.{whole_at}
 use Rattle.si_unify.proofs.Pieces.{handed_on}
 use Rattle.si_unify.proofs.Comparing.{equal_before, solved_before}
@@ -102,7 +102,7 @@ module _ (q : Question) (old mid : Pairs) (first keys : List SpotPair) (empty : 
           (
           equal_before q mid new keys keys f (terms.size (terms.substitute f t)) grows ([], sym (append-nil keys))
           (
-          all_map (MakesEqual q new f) (MakesEqualUpTo q new f (terms.size (terms.substitute f t))) keys
+          all_weaker (MakesEqual q new f) (MakesEqualUpTo q new f (terms.size (terms.substitute f t))) keys
           (λ k h a b stands_a stands_b few. h a b stands_a stands_b)
           (closed.1 f solved)
           )

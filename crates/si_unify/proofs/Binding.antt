@@ -7,6 +7,7 @@ use Rattle.std.specs.Prelude.{◌==◌}
 use Rattle.std.specs.List.{AllByRecursion}
 use Rattle.std.specs.Borrow.{Bor}
 use Rattle.si_defs.specs.Terms as terms
+use Rattle.si_defs.proofs.ListLaws.{all_with, all_weaker, all_append, all_front, all_back}
 use Rattle.si_flat.specs.declared.Cell.{Cell}
 use Rattle.si_flat.specs.Cells.{Variable, query, entry, ind, Term, variable_cell, cells_of, StandsFor, IsWhole}
 use Rattle.si_trail.specs.Trails.{value_at}
@@ -18,8 +19,8 @@ use Rattle.si_unify.specs.declared.spots.Question.{Question}
 use Rattle.si_unify.proofs.Pieces.{handed_one_more, piece_at}
 use Rattle.si_unify.specs.Solving.{IsHandedIn, IsPieceOf, Pairs, slot_count, slot_of, variable_of, is_frozen, IsInRange, CellIsInRange, AreInRange, Equalizes, IsSolvedBy, IsBinding}
 use Rattle.si_unify.specs.Spots.{cells_now, text, IsAt, StandsAt, IsSpot, IsSubterm, at_spot, Binds, cell_slot, IsBelow, ComesDown, IsChained, IsLegal, MakesEqual, IsApart, ArePairs, Meets, IsGoingOn, IsUnbound}
-use Rattle.si_unify.proofs.Reading.{same_term}
-use Rattle.si_unify.proofs.Lists.{all_with, all_map, all_append, all_front, all_back, apart_from, still_bound}
+use Rattle.si_unify.proofs.Reading.{same_term, one_term}
+use Rattle.si_unify.proofs.Lists.{apart_from, still_bound}
 use Rattle.si_unify.proofs.Places.{all_at, at_unique, first_cell, first_of, inside, text_in_range, variable_of-slot_of}
 
 -- ---- texts stay as the list grows
@@ -58,7 +59,7 @@ apart_still q pairs more pair h = record {
 }
 
 pub pairs_still : (q : Question) (pairs more : Pairs) (keys : List SpotPair) → ArePairs q pairs keys → ArePairs q (pairs ++ more) keys
-pairs_still q pairs more keys h = all_map (IsApart q pairs) (IsApart q (pairs ++ more)) keys (apart_still q pairs more) h
+pairs_still q pairs more keys h = all_weaker (IsApart q pairs) (IsApart q (pairs ++ more)) keys (apart_still q pairs more) h
 
 pub equal_still : (q : Question) (pairs more : Pairs) (f : Variable → Term) (keys : List SpotPair) → ArePairs q pairs keys → AllByRecursion (MakesEqual q pairs f) keys → AllByRecursion (MakesEqual q (pairs ++ more) f) keys
 equal_still q pairs more f keys apart equal =
@@ -143,7 +144,7 @@ none_all (p ∷ ps) = (tt, none_all ps)
 
 bound_apart : (pairs : Pairs) (o : Option ℕ) → IsUnbound pairs o → AllByRecursion (λ pair. IsNot o pair.0) pairs
 bound_apart pairs None ends = none_all pairs
-bound_apart pairs (Some k) ends = all_map (λ pair. pair.0 ≢ k) (λ pair. k ≢ pair.0) pairs (λ pair h e. h (sym e)) (apart_from pairs k ends)
+bound_apart pairs (Some k) ends = all_weaker (λ pair. pair.0 ≢ k) (λ pair. k ≢ pair.0) pairs (λ pair h e. h (sym e)) (apart_from pairs k ends)
 
 below_still : (o : Option ℕ) (rank : ℕ → ℕ) (slot : ℕ) (next : Option ℕ) → IsNot o slot → IsBelow rank slot next → IsBelow (λ k. above o k (rank k)) slot next
 below_still o rank slot None differs h = tt
@@ -183,7 +184,7 @@ chained_bound slots pairs slot v u chained whole ends differs =
       rank = rank;
       few = λ k. omega (arith, above_most o k (chained.rank k), chained.few k, length-append pairs ((slot, v) ∷ []));
       positive = all_append (λ pair. 0 < rank pair.0) pairs ((slot, v) ∷ [])
-          (all_map (λ pair. IsNot o pair.0) (λ pair. 0 < rank pair.0) pairs (λ pair h. omega (arith, above_exact o pair.0 (chained.rank pair.0) h)) apart)
+          (all_weaker (λ pair. IsNot o pair.0) (λ pair. 0 < rank pair.0) pairs (λ pair h. omega (arith, above_exact o pair.0 (chained.rank pair.0) h)) apart)
           (omega (arith, above_exact o slot (chained.rank slot) differs), tt);
       down = all_append (λ pair. ComesDown slots rank pair.0 pair.1.now) pairs ((slot, v) ∷ [])
           (
@@ -237,9 +238,6 @@ bound_legal q pairs keys x u slot v h = record {
 -- the only term of a variable's cell is the variable
 one_variable : (x : Variable) (t : Term) → StandsFor (variable_cell x ∷ []) t → t ≡ terms.var x
 one_variable x t h = sym (same_term (terms.var x) t [] [] tt h.sound (h.cells_are ∙ sym (append-nil (cells_of t)))).same
-
-one_term : (cells : List Cell) (t u : Term) → StandsFor cells t → StandsFor cells u → t ≡ u
-one_term cells t u h k = (same_term t u [] [] h.sound k.sound (ap (λ l. l ++ []) (sym h.cells_are ∙ k.cells_are))).same
 
 pub bound_solved :
     (q : Question) (pairs : Pairs) (keys : List SpotPair) (x : Variable) (u : Term) (slot : ℕ) (v : Bor (List Cell))

@@ -4,15 +4,17 @@ use Rattle.std.proofs.lemmas.List.{take_all, take-append-le}
 use Rattle.std.proofs.lemmas.Option.{slice_get_within}
 use Rattle.std.specs.Prelude.{slice_get}
 use Rattle.std.specs.List.{AllByRecursion}
+use Rattle.si_defs.specs.Substitutions.{Grows}
 use Rattle.si_defs.specs.Terms as terms
+use Rattle.si_defs.proofs.ListLaws.{all_with, all_weaker, all_append, all_front, all_take, all_got}
+use Rattle.si_defs.proofs.TermLaws.{size_some}
 use Rattle.si_flat.specs.Cells.{Variable, Term}
 use Rattle.si_unify.specs.declared.spots.SpotPair.{SpotPair}
 use Rattle.si_unify.specs.declared.spots.Question.{Question}
 use Rattle.si_unify.specs.Solving.{Pairs, IsSolvedBy}
-use Rattle.si_unify.specs.Spots.{IsLegal, MakesEqual, MakesEqualUpTo, IsApart, ArePairs, Grows, IsGoingOn, Follows, HasCompared, HasClosed}
-use Rattle.si_unify.proofs.Lists.{all_map, all_with, all_append, all_front, all_take}
-use Rattle.si_unify.proofs.Meeting.{goes_nowhere, all_slice}
-use Rattle.si_unify.proofs.Comparing.{size_some, up_to_fewer, equal_before, solved_before, going_further, stood_before}
+use Rattle.si_unify.specs.Spots.{IsLegal, MakesEqual, MakesEqualUpTo, IsApart, ArePairs, IsGoingOn, Follows, HasCompared, HasClosed}
+use Rattle.si_unify.proofs.Meeting.{goes_nowhere}
+use Rattle.si_unify.proofs.Comparing.{up_to_fewer, equal_before, solved_before, going_further, stood_before}
 
 pub record IsClosing (q : Question) (old pairs : Pairs) (old_keys keys : List SpotPair) (next : ℕ) : Type 0 where
   pub going : IsGoingOn q old pairs old_keys keys
@@ -82,7 +84,7 @@ closing_goes_on q old pairs new old_keys keys new_keys next pair h here compared
           (compared.1, tt)
           );
       complete = λ f solved equal.
-          let r = h.complete f solved equal in compared.2 f r.0 r.1 (all_slice (MakesEqual q pairs f) keys next pair r.1 here);
+          let r = h.complete f solved equal in compared.2 f r.0 r.1 (all_got (MakesEqual q pairs f) keys next pair r.1 here);
     }
 
 pub closing_fails :
@@ -92,7 +94,7 @@ pub closing_fails :
     → HasCompared q pairs new keys new_keys pair false
     → HasClosed q old new old_keys false
 closing_fails q old pairs new old_keys keys new_keys next pair h here compared f solved equal =
-    let r = h.complete f solved equal in compared f r.0 r.1 (all_slice (MakesEqual q pairs f) keys next pair r.1 here)
+    let r = h.complete f solved equal in compared f r.0 r.1 (all_got (MakesEqual q pairs f) keys next pair r.1 here)
 
 -- ---- at the end each pair follows from the smaller ones, so all are equal
 all_for_each : (P : ℕ → SpotPair → Type 0) (keys : List SpotPair) → ((n : ℕ) → AllByRecursion (P n) keys) → AllByRecursion (λ k. (n : ℕ) → P n k) keys
@@ -102,15 +104,15 @@ all_for_each P (k ∷ keys) h = (λ n. (h n).0, all_for_each P keys (λ n. (h n)
 module _ (q : Question) (pairs : Pairs) (keys : List SpotPair) (done : AllByRecursion (Follows q pairs keys) keys) (f : Variable → Term) (solved : IsSolvedBy q.slots pairs f) where
   equal_up_to : (n : ℕ) → AllByRecursion (MakesEqualUpTo q pairs f n) keys
   equal_up_to zero =
-      all_map (Follows q pairs keys) (MakesEqualUpTo q pairs f 0) keys
+      all_weaker (Follows q pairs keys) (MakesEqualUpTo q pairs f 0) keys
       (λ k _ t u left right few. absurd (omega (arith, few, size_some (terms.substitute f t)))) done
   equal_up_to (suc n) =
-      all_map (Follows q pairs keys) (MakesEqualUpTo q pairs f (suc n)) keys
+      all_weaker (Follows q pairs keys) (MakesEqualUpTo q pairs f (suc n)) keys
       (λ k follows t u left right few. follows t u left right f solved (λ m less. up_to_fewer q pairs keys f m n (omega (arith, few, less)) (equal_up_to n))) done
 
   pub all_equal : AllByRecursion (MakesEqual q pairs f) keys
   all_equal =
-      all_map (λ k. (n : ℕ) → MakesEqualUpTo q pairs f n k) (MakesEqual q pairs f) keys
+      all_weaker (λ k. (n : ℕ) → MakesEqualUpTo q pairs f n k) (MakesEqual q pairs f) keys
       (λ k h t u left right. h (terms.size (terms.substitute f t)) t u left right (omega arith))
       (all_for_each (MakesEqualUpTo q pairs f) keys equal_up_to)
 

@@ -4,24 +4,26 @@ use Rattle.std.proofs.Math.ListN.{drop_of_length-le}
 use Rattle.std.proofs.Common.{add-zero}
 use Rattle.std.proofs.lemmas.List.{drop-drop, get_or-drop, length-drop, drop-append-le}
 use Rattle.std.proofs.Math.Seq.{drop-append_seam}
-use Rattle.si_flat.proofs.Subterms.{length-cells_of}
+use Rattle.si_defs.specs.Substitutions.{Grows}
+use Rattle.si_flat.proofs.Subterms.{length-cells_of, without_cells}
 use Rattle.std.specs.Prelude.{IfOk, Result}
 use Rattle.std.specs.Borrow.{Bor}
 use Rattle.std.specs.List.{AllByRecursion}
 use Rattle.si_defs.specs.Terms as terms
+use Rattle.si_defs.proofs.ListLaws.{all_weaker, all_front}
+use Rattle.si_defs.proofs.TermLaws.{size_some, no_arguments}
 use Rattle.si_flat.specs.declared.Cell.{Cell}
-use Rattle.si_flat.specs.Cells.{Variable, Term, Terms, cells_of, cells_of_all, IsSound, AreSound, StandsFor, IsWhole}
+use Rattle.si_flat.specs.Cells.{Variable, Term, Terms, cells_of, cells_of_all, IsSound, AreSound, StandsFor, IsWhole, join}
 use Rattle.si_unify.specs.declared.spots.Spot.{Spot}
 use Rattle.si_unify.specs.declared.spots.SpotPair.{SpotPair}
 use Rattle.si_unify.specs.declared.spots.Question.{Question}
 use Rattle.si_unify.specs.Solving.{Pairs, IsSolvedBy}
-use Rattle.si_unify.specs.Spots.{text, StandsAt, IsSpot, IsSubterm, at_spot, IsEnd, ComesTo, common_arity, IsLegal, MakesEqual, MakesEqualUpTo, IsApart, ArePairs, Grows, IsGoingOn, HasMet, HasCompared}
-use Rattle.si_unify.proofs.Lists.{all_map, all_front}
+use Rattle.si_unify.specs.Spots.{text, StandsAt, IsSpot, IsSubterm, at_spot, IsEnd, ComesTo, common_arity, IsLegal, MakesEqual, MakesEqualUpTo, IsApart, ArePairs, IsGoingOn, HasMet, HasCompared}
 use Rattle.si_unify.proofs.Places.{at_unique, first_cell, first_of}
 use Rattle.si_unify.proofs.Binding.{stands_still, stood, solved_front, cut_stands}
 use Rattle.si_unify.proofs.Pieces.{handed_on}
 use Rattle.si_unify.proofs.Meeting.{goes_nowhere, have_head}
-use Rattle.si_unify.proofs.Rows.{join, cells-join, sound-join, count-join, sizes-join, substitute-join, count-substitute, join_injective}
+use Rattle.si_unify.proofs.Rows.{cells-join, sound-join, count-join, sizes-join, substitute-join, count-substitute, join_injective}
 
 -- ---- meeting at the ends of two chains
 pub end_of : (q : Question) (pairs : Pairs) (from to : Spot) → IsSpot q pairs from → ((t : Term) → StandsAt q pairs from t → ComesTo q pairs t to) → IsEnd q pairs to
@@ -53,10 +55,6 @@ met_through q old new old_keys new_keys left right left_end right_end true left_
         complete = λ f solved equal e. m.complete f solved equal (sym (l.same f solved) ∙ e ∙ r.same f solved);
       },
 )
-
-pub if_ok : {E : Type 0} (r : Result Bool E) (P Q : Bool → Type 0) → ((b : Bool) → P b → Q b) → IfOk r P → IfOk r Q
-if_ok (Ok b) P Q give h = give b h
-if_ok (Err e) P Q give h = h
 
 pub ok_told : {E : Type 0} (r : Result Bool E) (b : Bool) (P : Bool → Type 0) → r ≡ Ok b → P b → IfOk r P
 ok_told r b P e h = subst (λ o. IfOk o P) (sym e) h
@@ -135,8 +133,8 @@ pub comparing_ends :
     → length left ≤ i
     → HasCompared q old pairs old_keys keys pair true
 comparing_ends q old pairs old_keys keys pair left right i j h over =
-    let left_none : h.left_rest ≡ terms.none = no_cells h.left_rest (sym h.left_cells ∙ drop_of_length-le left over) in
-    let right_none : h.right_rest ≡ terms.none = nothing h.right_rest (sym h.same_count ∙ ap terms.count left_none) in
+    let left_none : h.left_rest ≡ terms.none = without_cells h.left_rest (sym h.left_cells ∙ drop_of_length-le left over) in
+    let right_none : h.right_rest ≡ terms.none = no_arguments h.right_rest (sym h.same_count ∙ ap terms.count left_none) in
     let same : (f : Variable → Term) → terms.substitute_all f h.left_rest ≡ terms.substitute_all f h.right_rest =
     λ f. ap (terms.substitute_all f) (left_none ∙ sym right_none) in (
       h.going,
@@ -151,18 +149,6 @@ comparing_ends q old pairs old_keys keys pair left right i j h over =
           (r.0, r.1),
     )
   where
-    no_cells : (ts : Terms) → cells_of_all ts ≡ [] → ts ≡ terms.none
-    no_cells terms.none e = refl
-    no_cells (terms.more t ts) e = some_cell t ts e
-      where
-        some_cell : (t : Term) (ts : Terms) → cells_of t ++ cells_of_all ts ≡ [] → terms.more t ts ≡ terms.none
-        some_cell (terms.var x) ts e = cc
-        some_cell (terms.app s us) ts e = cc
-
-    nothing : (ts : Terms) → terms.count ts ≡ 0 → ts ≡ terms.none
-    nothing terms.none e = refl
-    nothing (terms.more t ts) e = absurd (omega (arith, e))
-
     back_to : (before after : Term) (spot : Spot) → StandsAt q old spot before → StandsAt q pairs spot after → StandsAt q old spot after
     back_to before after spot stands k = stood q old h.going.grows.0 spot before after stands (subst (λ l. StandsAt q l spot after) h.going.grows.1 k)
 
@@ -207,10 +193,6 @@ after_cell cells i t back e =
     sym (drop-drop (terms.size t) i cells)
     ∙ ap (drop (terms.size t)) e
     ∙ subst (λ n. drop n (cells_of t ++ back) ≡ back) (length-cells_of t) (drop-append_seam (cells_of t) back)
-
-pub size_some : (t : Term) → 0 < terms.size t
-size_some (terms.var x) = omega arith
-size_some (terms.app s ts) = omega arith
 
 pub right_inside :
     (q : Question) (old pairs : Pairs) (old_keys keys : List SpotPair) (pair : SpotPair) (left right : List Cell) (i j : ℕ)
@@ -337,7 +319,7 @@ right_next q old pairs old_keys keys pair left right i j h n =
 -- keys and bindings that are known later say as much of those that were known before
 pub equal_before : (q : Question) (old new : Pairs) (old_keys new_keys : List SpotPair) (f : Variable → Term) (n : ℕ) → Grows old new → Grows old_keys new_keys → AllByRecursion (MakesEqualUpTo q new f n) new_keys → AllByRecursion (MakesEqualUpTo q old f n) old_keys
 equal_before q old new old_keys new_keys f n grows keys_grow equal =
-    all_map (MakesEqualUpTo q new f n) (MakesEqualUpTo q old f n) old_keys
+    all_weaker (MakesEqualUpTo q new f n) (MakesEqualUpTo q old f n) old_keys
     (λ pair h t u left right few. h t u (stands_now q old new pair.left t grows left) (stands_now q old new pair.right u grows right) few)
     (all_front (MakesEqualUpTo q new f n) old_keys keys_grow.0 (subst (AllByRecursion (MakesEqualUpTo q new f n)) keys_grow.1 equal))
 
@@ -518,7 +500,7 @@ stood_before q old pairs spot before after grows stands k = stood q old grows.0 
 -- ---- two terms whose arguments have been compared have met
 pub up_to_fewer : (q : Question) (pairs : Pairs) (keys : List SpotPair) (f : Variable → Term) (m n : ℕ) → m ≤ n → AllByRecursion (MakesEqualUpTo q pairs f n) keys → AllByRecursion (MakesEqualUpTo q pairs f m) keys
 up_to_fewer q pairs keys f m n less h =
-    all_map (MakesEqualUpTo q pairs f n) (MakesEqualUpTo q pairs f m) keys (λ k e t u left right few. e t u left right (omega (arith, few, less))) h
+    all_weaker (MakesEqualUpTo q pairs f n) (MakesEqualUpTo q pairs f m) keys (λ k e t u left right few. e t u left right (omega (arith, few, less))) h
 
 makes_equal : (q : Question) (pairs : Pairs) (f : Variable → Term) (pair : SpotPair) (t u : Term) → StandsAt q pairs pair.left t → StandsAt q pairs pair.right u → terms.substitute f t ≡ terms.substitute f u → MakesEqual q pairs f pair
 makes_equal q pairs f pair t u left right e t' u' left' right' =

@@ -1,11 +1,13 @@
 -- What happens where two ends of chains meet.
-use Rattle.std.proofs.Common.{◌≡◌, ◌≢◌, ℕ, ◌+◌, ◌<◌, ◌⊎◌, inl, inr, Bool, true, false, cond, List, [], ◌∷◌, ◌++◌, refl, sym, ◌∙◌, ap, subst, arith, suc, zero, append-nil, Option, None, Some}
+use Rattle.std.proofs.Common.{◌≡◌, ◌≢◌, ℕ, ◌+◌, ◌<◌, ◌⊎◌, inl, inr, Bool, true, false, cond, List, [], ◌∷◌, ◌++◌, refl, sym, ◌∙◌, ap, subst, arith, append-nil, Option, None, Some}
 use Rattle.std.proofs.lemmas.Bool.Decides.{eqb_tells}
-use Rattle.std.proofs.lemmas.Bool.{eq-eqb, eqb-true}
+use Rattle.std.proofs.lemmas.Bool.{eq-eqb, eqb-true, and_parts}
 use Rattle.std.specs.Prelude.{◌==◌, ◌&&◌, slice_get}
 use Rattle.std.specs.List.{AllByRecursion}
 use Rattle.std.specs.Borrow.{Bor}
 use Rattle.si_defs.specs.Terms as terms
+use Rattle.si_defs.proofs.ListLaws.{all_append, all_got}
+use Rattle.si_defs.proofs.TermLaws.{no_arguments}
 use Rattle.si_flat.specs.declared.Cell.{Cell}
 use Rattle.si_flat.specs.declared.Cell.TheVariants as cell
 use Rattle.si_flat.specs.Cells.{Symbol, Variable, query, entry, ind, Term, Terms, variable_cell, IsSound, StandsFor}
@@ -16,7 +18,6 @@ use Rattle.si_unify.specs.declared.spots.Question.{Question}
 use Rattle.si_unify.proofs.Pieces.{handed_still, handed_piece, text_handed_in}
 use Rattle.si_unify.specs.Solving.{IsPieceOf, Pairs, slot_count, slot_of, variable_of, is_frozen, CellIsInRange, AreInRange}
 use Rattle.si_unify.specs.Spots.{text, StandsAt, IsSpot, IsEnd, cell_at, slot_at, cell_slot, free_slot, same_slot, common_arity, IsLegal, MakesEqual, MakesEqualUpTo, IsApart, ArePairs, Meets, Refutes, IsGoingOn, IsUnbound, Binds, HasMet}
-use Rattle.si_unify.proofs.Lists.{all_append}
 use Rattle.si_unify.proofs.Places.{at_unique, first_cell, cell-at, inside, in_range-at, in_range-variable, variable_of-slot_of, text_in_range, slot_variable}
 use Rattle.si_unify.proofs.Chains.{no_cell}
 use Rattle.si_unify.proofs.Binding.{IsNot, CanBind, slot_below, binding_meets, binding_meets_right, binding_goes_on}
@@ -306,10 +307,6 @@ common_at : (q : Question) (pairs : Pairs) (left right : Spot) (t u : Term) (ari
 common_at q pairs left right t u arity left_stands right_stands e =
     have_head t u arity (rw (first_at q pairs left t left_stands, first_at q pairs right u right_stands) at e)
 
-no_arguments : (ts : Terms) → terms.count ts ≡ 0 → ts ≡ terms.none
-no_arguments terms.none e = refl
-no_arguments (terms.more t ts) e = absurd (omega (arith, e))
-
 -- a constant on both sides
 pub constant_met :
     (q : Question) (pairs : Pairs) (keys : List SpotPair) (left right : Spot)
@@ -326,11 +323,6 @@ constant_met q pairs keys left right h e = (
       let right_none = no_arguments head.right_arguments (right_sound.0 ∙ head.arity_is) in
       equal_meets q pairs keys t u (head.left ∙ ap (terms.app head.symbol) (left_none ∙ sym right_none) ∙ sym head.right),
 )
-
-pub all_slice : (P : SpotPair → Type 0) (keys : List SpotPair) (i : ℕ) (k : SpotPair) → AllByRecursion P keys → slice_get keys i ≡ Some k → P k
-all_slice P [] i k all e = cc
-all_slice P (x ∷ keys) zero k all e = let here : x ≡ k = cc in subst P here all.0
-all_slice P (x ∷ keys) (suc i) k all e = all_slice P keys i k all.1 e
 
 -- two spots whose cells have the same symbol
 pub apart_at :
@@ -373,7 +365,7 @@ pair_met q pairs keys new_keys left right arity i h e grown stored =
       },
       λ t u left_stands right_stands. record {
         sound = λ f solved equal.
-            all_slice (MakesEqualUpTo q pairs f (terms.size (terms.substitute f t))) new_keys i pair equal stored t u left_stands right_stands (omega arith);
+            all_got (MakesEqualUpTo q pairs f (terms.size (terms.substitute f t))) new_keys i pair equal stored t u left_stands right_stands (omega arith);
         complete = λ f solved equal same.
             let new_pair : MakesEqual q pairs f pair =
             λ t' u' left' right'.
@@ -400,18 +392,14 @@ pub either : (b : Bool) (xs ys new : List SpotPair) → new ≡ cond b xs ys →
 either true xs ys new e = inl e
 either false xs ys new e = inr e
 
-both_true : (a b : Bool) → (a && b) ≡ true → (a ≡ true) × (b ≡ true)
-both_true true b e = (refl, e)
-both_true false b e = cc
-
 same_spot : (a b : Spot) → (a.base == b.base && a.at == b.at) ≡ true → a ≡ b
 same_spot a b e =
-    let h = both_true (a.base == b.base) (a.at == b.at) e in
+    let h = and_parts (a.base == b.base) (a.at == b.at) e in
     let make : ℕ → ℕ → Spot = λ m n. record { base = m; at = n } in
     ap (λ m. make m a.at) (eqb-true a.base b.base h.0) ∙ ap (make b.base) (eqb-true a.at b.at h.1)
 
 pub same_pair : (left right : Spot) (k : SpotPair) → ((left.base == k.left.base && left.at == k.left.at) && (right.base == k.right.base && right.at == k.right.at)) ≡ true → k ≡ record { left = left; right = right }
 same_pair left right k e =
-    let h = both_true (left.base == k.left.base && left.at == k.left.at) (right.base == k.right.base && right.at == k.right.at) e in
+    let h = and_parts (left.base == k.left.base && left.at == k.left.at) (right.base == k.right.base && right.at == k.right.at) e in
     let make : Spot → Spot → SpotPair = λ m n. record { left = m; right = n } in
     sym (ap (λ m. make m right) (same_spot left k.left h.0) ∙ ap (make k.left) (same_spot right k.right h.1))

@@ -4,13 +4,13 @@ use Rattle.std.proofs.lemmas.List.{take-append-drop, length-drop, length-take}
 use Rattle.std.specs.Prelude.{◌==◌, ◌+◌, ◌<◌}
 use Rattle.std.specs.List.{AllByRecursion}
 use Rattle.std.specs.Borrow.{Bor}
+use Rattle.si_defs.proofs.ListLaws.{all_weaker, all_append}
 use Rattle.si_flat.specs.declared.Cell.{Cell}
 use Rattle.si_flat.specs.Cells.{Term, StandsFor}
 use Rattle.si_trail.specs.Trails.{value_at}
 use Rattle.si_unify.specs.declared.spots.Question.{Question}
 use Rattle.si_unify.specs.Solving.{Pairs, slot_count, IsPieceOf, IsPieceOfValue, IsHandedIn, AreHandedIn}
 use Rattle.si_unify.specs.Spots.{cells_now, text, IsAt}
-use Rattle.si_unify.proofs.Lists.{all_map, all_append}
 use Rattle.si_unify.proofs.Places.{all_at}
 
 -- ---- slices
@@ -60,7 +60,7 @@ each_itself : (pairs : Pairs) → AllByRecursion (λ pair. IsPieceOfValue pairs 
 each_itself [] = tt
 each_itself (pair ∷ pairs) = (
   inl (piece_itself pair.1.now),
-  all_map (λ p. IsPieceOfValue pairs p.1.now) (λ p. IsPieceOfValue (pair ∷ pairs) p.1.now) pairs (λ p h. inr h) (each_itself pairs),
+  all_weaker (λ p. IsPieceOfValue pairs p.1.now) (λ p. IsPieceOfValue (pair ∷ pairs) p.1.now) pairs (λ p h. inr h) (each_itself pairs),
 )
 
 piece_of_value : (pairs : Pairs) (part piece : List Cell) → IsPieceOfValue pairs part → IsPieceOf part piece → IsPieceOfValue pairs piece
@@ -71,7 +71,7 @@ piece_of_value (pair ∷ pairs) part piece h k =
 -- ---- what was handed in
 module _ (old : Pairs) (left right : List Cell) where
   pub handed_still : AreHandedIn old old left right
-  handed_still = all_map (λ p. IsPieceOfValue old p.1.now) (λ p. IsHandedIn old left right p.1.now) old (λ p h. inr (inr h)) (each_itself old)
+  handed_still = all_weaker (λ p. IsPieceOfValue old p.1.now) (λ p. IsHandedIn old left right p.1.now) old (λ p h. inr (inr h)) (each_itself old)
 
   pub handed_piece : (part piece : List Cell) → IsHandedIn old left right part → IsPieceOf part piece → IsHandedIn old left right piece
   handed_piece part piece h k =
@@ -94,7 +94,7 @@ module _ (old : Pairs) (left right : List Cell) where
 
 pub handed_on : (old mid new : Pairs) (left right : List Cell) → AreHandedIn old mid left right → AreHandedIn mid new left right → AreHandedIn old new left right
 handed_on old mid new left right a b =
-    all_map (λ p. IsHandedIn mid left right p.1.now) (λ p. IsHandedIn old left right p.1.now) new (λ p h. handed_before old left right mid p.1.now a h) b
+    all_weaker (λ p. IsHandedIn mid left right p.1.now) (λ p. IsHandedIn old left right p.1.now) new (λ p h. handed_before old left right mid p.1.now a h) b
 
 -- the text of each base
 pub text_handed_in : (q : Question) (pairs : Pairs) (base : ℕ) → IsHandedIn pairs q.left.now q.right.now (text q pairs base)
@@ -132,4 +132,4 @@ module _ (n : ℕ) (left right : List Cell) (left_within : length left ≤ n) (r
       ]
 
   pub all_within : (new : Pairs) → AreHandedIn old new left right → AllByRecursion (λ pair. length pair.1.now ≤ n) new
-  all_within new h = all_map (λ p. IsHandedIn old left right p.1.now) (λ p. length p.1.now ≤ n) new (λ p k. handed_within p.1.now k) h
+  all_within new h = all_weaker (λ p. IsHandedIn old left right p.1.now) (λ p. length p.1.now ≤ n) new (λ p k. handed_within p.1.now k) h

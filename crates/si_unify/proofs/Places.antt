@@ -1,10 +1,11 @@
 -- What stands at spots, and one step down a chain of bound variables.
-use Rattle.std.proofs.Common.{◌≡◌, ℕ, ◌+◌, ◌<◌, ◌≤◌, inl, inr, true, false, cond, List, [], ◌∷◌, ◌++◌, length, get_or, refl, sym, ◌∙◌, ap, subst, arith, suc, zero, add-zero, append-nil, Option, None, Some}
+use Rattle.std.proofs.Common.{◌≡◌, ℕ, ◌+◌, ◌<◌, inl, inr, true, false, cond, List, [], ◌∷◌, ◌++◌, length, get_or, refl, sym, ◌∙◌, ap, subst, arith, suc, zero, add-zero, append-nil, Option, None, Some}
 use Rattle.std.proofs.lemmas.List.{get_or-drop, length-drop}
 use Rattle.std.proofs.lemmas.Bool.Decides.{eqb_tells, nat_tests}
-use Rattle.std.specs.Prelude.{◌==◌, nat_lt}
+use Rattle.std.specs.Prelude.{◌==◌}
 use Rattle.std.specs.List.{AllByRecursion}
 use Rattle.std.specs.Borrow.{Bor}
+use Rattle.std.proofs.lemmas.Bool.{lt-ltb, le-ltb}
 use Rattle.si_defs.specs.Terms as terms
 use Rattle.si_flat.specs.declared.Cell.{Cell}
 use Rattle.si_flat.specs.declared.Cell.TheVariants as cell
@@ -66,20 +67,14 @@ in_range-variable slots (query n) h = h
 in_range-variable slots (entry n) h = h
 in_range-variable slots (ind n) h = h
 
-not_below : (m n : ℕ) → n ≤ m → nat_lt m n ≡ false
-not_below m n h = grind (arith, nat_tests)
-
-below : (m n : ℕ) → m < n → nat_lt m n ≡ true
-below m n h = grind (arith, nat_tests)
-
 pub variable_of-slot_of : (slots : Slots) (x : Variable) → IsInRange slots x → variable_of slots (slot_of slots x) ≡ x
-variable_of-slot_of slots (query n) h = rw (below n slots.query h) refl
+variable_of-slot_of slots (query n) h = rw (lt-ltb n slots.query h) refl
 variable_of-slot_of slots (entry n) h =
-    rw (not_below (slots.query + n) slots.query (omega arith), below (slots.query + n) (slots.query + slots.entry) (omega arith)) (ap entry (omega arith))
+    rw (le-ltb (slots.query + n) slots.query (omega arith), lt-ltb (slots.query + n) (slots.query + slots.entry) (omega arith)) (ap entry (omega arith))
 variable_of-slot_of slots (ind n) h =
     rw (
-      not_below (slots.query + slots.entry + n) slots.query (omega arith),
-      not_below (slots.query + slots.entry + n) (slots.query + slots.entry) (omega arith),
+      le-ltb (slots.query + slots.entry + n) slots.query (omega arith),
+      le-ltb (slots.query + slots.entry + n) (slots.query + slots.entry) (omega arith),
     )
     (ap ind (omega arith))
 

@@ -1,17 +1,18 @@
--- Ranks that are no larger than the number of bindings, and what a search that found no circle tells.
+-- Ranks that are no larger than the number of bindings, and what a search that found no circle
+-- tells.
 use Rattle.std.proofs.Common.{◌≡◌, ℕ, ◌+◌, ◌<◌, ◌≤◌, inl, inr, Bool, true, false, cond, List, [], ◌∷◌, length, refl, ap, arith, Option, None, Some}
 use Rattle.std.proofs.lemmas.Bool.Decides.{eqb_tells, nat_tests}
 use Rattle.std.proofs.lemmas.Bool.{eq-eqb}
 use Rattle.std.proofs.Math.Dec.{leb}
 use Rattle.std.specs.List.{AllByRecursion}
 use Rattle.std.specs.Borrow.{Bor}
+use Rattle.si_defs.proofs.ListLaws.{all_with, all_weaker}
 use Rattle.si_flat.specs.declared.Cell.{Cell}
 use Rattle.si_flat.specs.declared.Cell.TheVariants as cell
 use Rattle.si_trail.specs.Trails.{value_at}
 use Rattle.si_unify.specs.declared.slots.Slots.{Slots}
 use Rattle.si_unify.specs.Solving.{Pairs, IsAcyclic, RanksBelow}
 use Rattle.si_unify.specs.Spots.{cell_slot, IsBelow, ComesDown, IsChained}
-use Rattle.si_unify.proofs.Lists.{all_map, all_with}
 
 -- how many pairs have a slot of at most this rank
 
@@ -65,7 +66,7 @@ all_bound : (pairs : Pairs) → AllByRecursion (IsBound pairs) pairs
 all_bound [] = tt
 all_bound (pair ∷ pairs) = (
   (pair.1, rw (eq-eqb pair.0 pair.0 refl) refl),
-  all_map (IsBound pairs) (IsBound (pair ∷ pairs)) pairs (λ p h. bound_behind pair p pairs h) (all_bound pairs),
+  all_weaker (IsBound pairs) (IsBound (pair ∷ pairs)) pairs (λ p h. bound_behind pair p pairs h) (all_bound pairs),
 )
 
 below_at_most : (slots : Slots) (rank : ℕ → ℕ) (pairs : Pairs) (slot : ℕ) (o : Option ℕ) (v : Bor (List Cell)) → value_at pairs slot ≡ Some v → IsBelow rank slot o → IsBelow (λ z. at_most rank (rank z) pairs) slot o
@@ -89,7 +90,7 @@ chained_of_triangular slots pairs t =
     record {
       rank = rank;
       few = λ z. at_most_all t.0 (t.0 z) pairs;
-      positive = all_map (IsBound pairs) (λ pair. 0 < rank pair.0) pairs (λ pair h. at_most_some t.0 pairs pair.0 h.0 h.1) (all_bound pairs);
+      positive = all_weaker (IsBound pairs) (λ pair. 0 < rank pair.0) pairs (λ pair h. at_most_some t.0 pairs pair.0 h.0 h.1) (all_bound pairs);
       down =
           all_with (IsBound pairs) (λ pair. AllByRecursion (RanksBelow slots t.0 pair.0) pair.1.now) (λ pair. ComesDown slots rank pair.0 pair.1.now) pairs
           (λ pair h k. down_of_ranks slots t.0 pairs pair.0 pair.1.now h.0 h.1 k) (all_bound pairs) t.1;

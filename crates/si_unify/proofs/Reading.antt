@@ -1,9 +1,9 @@
 -- Cells tell their term: a list of cells begins with those of at most one term.
-use Rattle.std.proofs.Common.{◌≡◌, ℕ, List, ◌∷◌, ◌++◌, refl, sym, ◌∙◌, ap, arith, append_assoc}
+use Rattle.std.proofs.Common.{◌≡◌, ℕ, List, [], ◌∷◌, ◌++◌, refl, sym, ◌∙◌, ap, arith, append_assoc}
 use Rattle.si_defs.specs.Terms as terms
 use Rattle.si_flat.specs.declared.Cell.{Cell}
 use Rattle.si_flat.specs.declared.Cell.TheVariants as cell
-use Rattle.si_flat.specs.Cells.{Symbol, Variable, query, entry, ind, Term, Terms, variable_cell, cells_of, cells_of_all, IsSound, AreSound}
+use Rattle.si_flat.specs.Cells.{Symbol, Variable, query, entry, ind, Term, Terms, variable_cell, cells_of, cells_of_all, IsSound, AreSound, StandsFor}
 
 -- two terms and what stands behind each, of the same cells
 pub record SameTerms (t u : Term) (xs ys : List Cell) : Type 0 where
@@ -62,3 +62,7 @@ mutual
       let first = same_term t u _ _ st.0 su.0 e' in
       let others = same_terms ts us xs ys st.1 su.1 (omega (arith, n)) first.rest in
       record { same = ap (λ v. terms.more v ts) first.same ∙ ap (terms.more u) others.same; rest = others.rest }
+
+-- cells are those of one term
+pub one_term : (cells : List Cell) (t u : Term) → StandsFor cells t → StandsFor cells u → t ≡ u
+one_term cells t u h k = (same_term t u [] [] h.sound k.sound (ap (λ l. l ++ []) (sym h.cells_are ∙ k.cells_are))).same

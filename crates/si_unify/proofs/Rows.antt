@@ -1,11 +1,15 @@
 -- Rows of terms, one behind the other.
 use Rattle.std.proofs.Common.{◌≡◌, ◌+◌, ◌++◌, refl, sym, ◌∙◌, ap, arith, append_assoc}
 use Rattle.si_defs.specs.Terms as terms
-use Rattle.si_flat.specs.Cells.{Variable, Term, Terms, cells_of, cells_of_all, AreSound}
+use Rattle.si_flat.specs.Cells.{Variable, Term, Terms, cells_of, cells_of_all, AreSound, join}
 
-abbrev pub join : Terms → Terms → Terms
-join terms.none us = us
-join (terms.more t ts) us = terms.more t (join ts us)
+pub join-more : (ts us : Terms) (t : Term) → join (join ts (terms.more t terms.none)) us ≡ join ts (terms.more t us)
+join-more terms.none us t = refl
+join-more (terms.more u ts) us t = ap (terms.more u) (join-more ts us t)
+
+pub join-none : (ts : Terms) → join ts terms.none ≡ ts
+join-none terms.none = refl
+join-none (terms.more t ts) = ap (terms.more t) (join-none ts)
 
 pub cells-join : (ts us : Terms) → cells_of_all (join ts us) ≡ cells_of_all ts ++ cells_of_all us
 cells-join terms.none us = refl

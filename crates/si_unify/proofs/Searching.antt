@@ -11,6 +11,7 @@ use Rattle.std.specs.Option.{is_some}
 use Rattle.std.specs.List.{AllByRecursion}
 use Rattle.std.specs.Borrow.{Bor}
 use Rattle.si_defs.specs.Substitutions.{IsAmong}
+use Rattle.si_defs.proofs.ListLaws.{all_weaker, set_same, set_other, all_from}
 use Rattle.si_flat.specs.declared.Cell.{Cell}
 use Rattle.si_flat.specs.declared.Cell.TheVariants as cell
 use Rattle.si_trail.specs.Trails.{value_at}
@@ -22,30 +23,28 @@ use Rattle.si_unify.specs.declared.circles.Task.TheVariants.{Enter, Leave}
 use Rattle.si_unify.specs.Solving.{Pairs, slot_count, IsTriangularBy, RanksBelow, IsBinding}
 use Rattle.si_unify.specs.Spots.{cell_slot}
 use Rattle.si_unify.specs.Circles.{if_value, if_bound, with_slot, bound_slots, weight, HasStepped, HasDone, enter_each, pile, tasks_of, AreEntered, below_value, slots_below, task_slot, task_slots, IsDone, AreCovered, RanksUnder, ComeDown, AreRanked, leave_slots, IsSearching, StayDone, HasSearched}
-use Rattle.si_unify.proofs.Lists.{all_map}
-use Rattle.si_unify.proofs.StateLaws.{get-set_same, get-set_other}
 use Rattle.si_unify.proofs.Places.{all_at}
 
 -- ---- states of slots
 done_stays_at_done : (states : List State) (slot : ℕ) → slot < length states → StayDone states (set states slot Done)
 done_stays_at_done states slot less other done =
     elim (eqb_tells other slot) [
-      | inl h ↦ subst (IsDone (set states slot Done)) (sym h.1) (get-set_same states slot Done less)
-      | inr h ↦ get-set_other states slot other Done h.1 ∙ done
+      | inl h ↦ subst (IsDone (set states slot Done)) (sym h.1) (set_same states slot Done less)
+      | inr h ↦ set_other states slot other Done h.1 ∙ done
     ]
 
 new_not_done : (states : List State) (slot other : ℕ) → slice_get states slot ≡ Some New → IsDone states other → other ≢ slot
 new_not_done states slot other is_new done e = let bad : Some New ≡ Some Done = sym is_new ∙ subst (IsDone states) e done in cc
 
 done_stays_at_open : (states : List State) (slot : ℕ) → slice_get states slot ≡ Some New → StayDone states (set states slot Open)
-done_stays_at_open states slot is_new other done = get-set_other states slot other Open (new_not_done states slot other is_new done) ∙ done
+done_stays_at_open states slot is_new other done = set_other states slot other Open (new_not_done states slot other is_new done) ∙ done
 
 -- what is done after a slot was opened was done before
 done_before_open : (states : List State) (slot other : ℕ) → slot < length states → IsDone (set states slot Open) other → IsDone states other
 done_before_open states slot other less done =
     elim (eqb_tells other slot) [
-      | inl h ↦ let bad : Some Open ≡ Some Done = sym (get-set_same states slot Open less) ∙ subst (IsDone (set states slot Open)) h.1 done in cc
-      | inr h ↦ sym (get-set_other states slot other Open h.1) ∙ done
+      | inl h ↦ let bad : Some Open ≡ Some Done = sym (set_same states slot Open less) ∙ subst (IsDone (set states slot Open)) h.1 done in cc
+      | inr h ↦ sym (set_other states slot other Open h.1) ∙ done
     ]
 
 -- ---- covered tasks
@@ -66,7 +65,7 @@ covered_still slots pairs states new one two [] stay give h = tt
 covered_still slots pairs states new one two (Enter slot ∷ tasks) stay give h =
     (tt, covered_still slots pairs states new (slot ∷ one) (slot ∷ two) tasks stay (still_among new one two slot give) h.1)
 covered_still slots pairs states new one two (Leave slot ∷ tasks) stay give h = (
-  all_map (λ c. IsDone states c ⊎ IsAmong one c) (λ c. IsDone new c ⊎ IsAmong two c) (slots_below slots pairs slot)
+  all_weaker (λ c. IsDone states c ⊎ IsAmong one c) (λ c. IsDone new c ⊎ IsAmong two c) (slots_below slots pairs slot)
       (λ c k. elim k [ inl d ↦ inl (stay c d) | inr a ↦ give c a ]) h.0,
   covered_still slots pairs states new (slot ∷ one) (slot ∷ two) tasks stay (still_among new one two slot give) h.1,
 )
@@ -83,23 +82,19 @@ among_piled : (xs before : List ℕ) (z : ℕ) → IsAmong xs z → IsAmong (pil
 among_piled [] before z h = elim h [ ]
 among_piled (x ∷ xs) before z h = elim h [ inl e ↦ among_pile xs (x ∷ before) z (inl e) | inr k ↦ among_piled xs (x ∷ before) z k ]
 
-all_among : (P : ℕ → Type 0) (xs : List ℕ) → ((z : ℕ) → IsAmong xs z → P z) → AllByRecursion P xs
-all_among P [] give = tt
-all_among P (x ∷ xs) give = (give x (inl refl), all_among P xs (λ z h. give z (inr h)))
-
 -- ---- ranks of what is done
 -- a slot that was done is done again
 ordered_kept : (slots : Slots) (pairs : Pairs) (states : List State) (slot : ℕ) → AreRanked slots pairs (IsDone states) → IsDone states slot → AreRanked slots pairs (IsDone (set states slot Done))
 ordered_kept slots pairs states slot h was =
     let less : slot < length states = slice_get_within states slot Done was in
     let back : (z : ℕ) → IsDone (set states slot Done) z → IsDone states z =
-    λ z d. elim (eqb_tells z slot) [ inl k ↦ subst (IsDone states) (sym k.1) was | inr k ↦ sym (get-set_other states slot z Done k.1) ∙ d ] in
+    λ z d. elim (eqb_tells z slot) [ inl k ↦ subst (IsDone states) (sym k.1) was | inr k ↦ sym (set_other states slot z Done k.1) ∙ d ] in
     record {
       rank = h.rank;
       top = h.top;
       few = λ z d. h.few z (back z d);
       down = λ z d.
-          all_map (λ c. IsDone states c × (h.rank c < h.rank z)) (λ c. IsDone (set states slot Done) c × (h.rank c < h.rank z)) (slots_below slots pairs z)
+          all_weaker (λ c. IsDone states c × (h.rank c < h.rank z)) (λ c. IsDone (set states slot Done) c × (h.rank c < h.rank z)) (slots_below slots pairs z)
           (λ c k. (done_stays_at_done states slot less c k.0, k.1)) (h.down z (back z d));
     }
 
@@ -122,14 +117,14 @@ ordered_more slots pairs states slot less h not_done children =
       few = λ z d.
           elim (eqb_tells z slot) [
             | inl k ↦ omega (arith, raised_same h.rank h.top slot z k.1)
-            | inr k ↦ omega (arith, raised_other h.rank h.top slot z k.1, h.few z (sym (get-set_other states slot z Done k.1) ∙ d))
+            | inr k ↦ omega (arith, raised_other h.rank h.top slot z k.1, h.few z (sym (set_other states slot z Done k.1) ∙ d))
           ];
       down = λ z d.
           elim (eqb_tells z slot) [
             | inl k ↦
                 subst (λ y. AllByRecursion (λ c. IsDone (set states slot Done) c × (raised h.rank h.top slot c < raised h.rank h.top slot y)) (slots_below slots pairs y)) (sym k.1)
                 (
-                all_map (IsDone states) (λ c. IsDone (set states slot Done) c × (raised h.rank h.top slot c < raised h.rank h.top slot slot)) (slots_below slots pairs slot)
+                all_weaker (IsDone states) (λ c. IsDone (set states slot Done) c × (raised h.rank h.top slot c < raised h.rank h.top slot slot)) (slots_below slots pairs slot)
                 (λ c e. (
                   done_stays_at_done states slot less c e,
                   omega (arith, raised_other h.rank h.top slot c (other c e), raised_same h.rank h.top slot slot refl, h.few c e),
@@ -137,12 +132,12 @@ ordered_more slots pairs states slot less h not_done children =
                 children
                 )
             | inr k ↦
-                all_map (λ c. IsDone states c × (h.rank c < h.rank z)) (λ c. IsDone (set states slot Done) c × (raised h.rank h.top slot c < raised h.rank h.top slot z)) (slots_below slots pairs z)
+                all_weaker (λ c. IsDone states c × (h.rank c < h.rank z)) (λ c. IsDone (set states slot Done) c × (raised h.rank h.top slot c < raised h.rank h.top slot z)) (slots_below slots pairs z)
                 (λ c e. (
                   done_stays_at_done states slot less c e.0,
                   omega (arith, raised_other h.rank h.top slot c (other c e.0), raised_other h.rank h.top slot z k.1, e.1),
                 ))
-                (h.down z (sym (get-set_other states slot z Done k.1) ∙ d))
+                (h.down z (sym (set_other states slot z Done k.1) ∙ d))
           ];
     }
 
@@ -156,13 +151,13 @@ leave_step slots pairs states slot tasks h =
       ordered = ordered_left (slice_get states slot) refl;
       covered =
           covered_still slots pairs states (set states slot Done) (slot ∷ []) [] tasks (done_stays_at_done states slot less)
-          (λ z a. elim a [ inl e ↦ inl (subst (IsDone (set states slot Done)) e (get-set_same states slot Done less)) | inr n ↦ elim n [ ] ]) h.covered.1;
+          (λ z a. elim a [ inl e ↦ inl (subst (IsDone (set states slot Done)) e (set_same states slot Done less)) | inr n ↦ elim n [ ] ]) h.covered.1;
       come_down = λ rank t. (h.come_down rank t).1;
       opened = λ z e.
           elim (eqb_tells z slot) [
-            | inl k ↦ let bad : Some Done ≡ Some Open = sym (get-set_same states slot Done less) ∙ subst (λ y. slice_get (set states slot Done) y ≡ Some Open) k.1 e in cc
+            | inl k ↦ let bad : Some Done ≡ Some Open = sym (set_same states slot Done less) ∙ subst (λ y. slice_get (set states slot Done) y ≡ Some Open) k.1 e in cc
             | inr k ↦
-                elim (h.opened z (sym (get-set_other states slot z Done k.1) ∙ e)) [
+                elim (h.opened z (sym (set_other states slot z Done k.1) ∙ e)) [
                   | inl same ↦ absurd (k.1 (sym same))
                   | inr a ↦ a
                 ]
@@ -171,7 +166,7 @@ leave_step slots pairs states slot tasks h =
     }
   where
     children_done : AllByRecursion (IsDone states) (slots_below slots pairs slot)
-    children_done = all_map (λ c. IsDone states c ⊎ IsAmong [] c) (IsDone states) (slots_below slots pairs slot) (λ c k. elim k [ inl d ↦ d | inr n ↦ elim n [ ] ]) h.covered.0
+    children_done = all_weaker (λ c. IsDone states c ⊎ IsAmong [] c) (IsDone states) (slots_below slots pairs slot) (λ c k. elim k [ inl d ↦ d | inr n ↦ elim n [ ] ]) h.covered.0
 
     ordered_left : (o : Option State) → slice_get states slot ≡ o → AreRanked slots pairs (IsDone (set states slot Done))
     ordered_left (Some Done) e = ordered_kept slots pairs states slot h.ordered e
@@ -328,7 +323,7 @@ come_down_entries : (rank : ℕ → ℕ) (slot : ℕ) (xs : List ℕ) (tasks : L
 come_down_entries rank slot [] tasks h under down = (under, down)
 come_down_entries rank slot (x ∷ xs) tasks h under down = (
   under_entries rank x xs (Leave slot ∷ tasks)
-      (h.0, all_map (RanksUnder rank slot) (RanksUnder rank x) tasks (λ t k. under_further rank x slot t h.0 k) under),
+      (h.0, all_weaker (RanksUnder rank slot) (RanksUnder rank x) tasks (λ t k. under_further rank x slot t h.0 k) under),
   come_down_entries rank slot xs tasks h.1 under down,
 )
 
@@ -356,12 +351,12 @@ open_step slots pairs states slot tasks h is_new =
         top = h.ordered.top;
         few = λ z d. h.ordered.few z (done_before_open states slot z less d);
         down = λ z d.
-            all_map (λ c. IsDone states c × (h.ordered.rank c < h.ordered.rank z)) (λ c. IsDone (set states slot Open) c × (h.ordered.rank c < h.ordered.rank z)) (slots_below slots pairs z)
+            all_weaker (λ c. IsDone states c × (h.ordered.rank c < h.ordered.rank z)) (λ c. IsDone (set states slot Open) c × (h.ordered.rank c < h.ordered.rank z)) (slots_below slots pairs z)
             (λ c k. (done_stays_at_open states slot is_new c k.0, k.1)) (h.ordered.down z (done_before_open states slot z less d));
       };
       covered =
           covered_entries slots pairs (set states slot Open) [] xs (Leave slot ∷ tasks) (
-            all_among (λ c. IsDone (set states slot Open) c ⊎ IsAmong (pile xs []) c) (slots_below slots pairs slot)
+            all_from (λ c. IsDone (set states slot Open) c ⊎ IsAmong (pile xs []) c) (slots_below slots pairs slot)
                 (λ c a. inr (among_piled xs [] c (among_piled (slots_below slots pairs slot) [] c a))),
             covered_still slots pairs states (set states slot Open) (slot ∷ []) (slot ∷ pile xs []) tasks (done_stays_at_open states slot is_new)
                 (λ z a. elim a [ inl e ↦ inr (inl e) | inr n ↦ elim n [ ] ]) h.covered.1,
@@ -374,7 +369,7 @@ open_step slots pairs states slot tasks h is_new =
           (
           elim (eqb_tells z slot) [
             | inl k ↦ inl (sym k.1)
-            | inr k ↦ inr (h.opened z (sym (get-set_other states slot z Open k.1) ∙ e))
+            | inr k ↦ inr (h.opened z (sym (set_other states slot z Open k.1) ∙ e))
           ]
           );
       valid =
@@ -394,7 +389,7 @@ left_done slots pairs states slot tasks h =
     record {
       searching = leave_step slots pairs states slot tasks h;
       stay = done_stays_at_done states slot less;
-      kept = λ z a. elim a [ inl e ↦ inl (subst (IsDone (set states slot Done)) e (get-set_same states slot Done less)) | inr k ↦ inr k ];
+      kept = λ z a. elim a [ inl e ↦ inl (subst (IsDone (set states slot Done)) e (set_same states slot Done less)) | inr k ↦ inr k ];
       less = omega (arith, fewer);
     }
 

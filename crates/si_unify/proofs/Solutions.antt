@@ -1,21 +1,23 @@
--- A triangular list of bindings has a solution: the map that takes each bound variable to its value, with the variables in it
--- replaced again and again.
+-- A triangular list of bindings has a solution: the map that takes each bound variable to its
+-- value, with the variables in it replaced again and again.
 use Rattle.std.proofs.Common.{◌≡◌, ◌≢◌, ℕ, ◌+◌, ◌<◌, ◌≤◌, ◌⊎◌, inl, inr, Bool, true, false, cond, List, [], ◌∷◌, refl, sym, ◌∙◌, ap, subst, arith, suc, zero, append-nil, None, Some}
 use Rattle.std.proofs.lemmas.Bool.Decides.{eqb_tells, nat_tests}
-use Rattle.std.proofs.lemmas.Bool.{eq-eqb}
+use Rattle.std.proofs.lemmas.Bool.{eq-eqb, cases_Bool}
 use Rattle.std.specs.Prelude.{◌==◌, nat_lt}
 use Rattle.std.specs.List.{AllByRecursion}
 use Rattle.std.specs.Borrow.{Bor}
 use Rattle.si_defs.specs.Terms as terms
 use Rattle.si_defs.specs.Substitutions.{Substitution, image}
+use Rattle.si_defs.proofs.ListLaws.{all_with, all_front, all_back}
 use Rattle.si_flat.specs.declared.Cell.{Cell}
 use Rattle.si_flat.specs.Cells.{Symbol, Variable, query, entry, ind, same_variable, Term, Terms, variable_cell, cells_of, cells_of_all}
+use Rattle.si_flat.proofs.VariableLaws.{variable_is, variable_self}
 use Rattle.si_trail.specs.Trails.{value_at, HasDistinctSlots}
 use Rattle.si_unify.specs.declared.slots.Slots.{Slots}
 use Rattle.si_unify.specs.Solving.{Pairs, slot_count, slot_of, variable_of, is_frozen, IsInRange, CellIsInRange, Equalizes, IsBinding, RanksBelow, IsTriangularBy, IsAcyclic, IsSolution}
 use Rattle.si_unify.proofs.Reading.{same_term}
 use Rattle.si_unify.proofs.Places.{variable_of-slot_of, in_range-variable}
-use Rattle.si_unify.proofs.Lists.{all_with, all_front, all_back, apart_from}
+use Rattle.si_unify.proofs.Lists.{apart_from}
 
 -- ---- what holds of each variable of a term
 abbrev mutual
@@ -50,27 +52,11 @@ mutual
       ap (λ u. terms.more u (terms.substitute_all g ts)) (same_image P g h t give all.0) ∙ ap (terms.more (terms.substitute h t)) (same_images P g h ts give all.1)
 
 -- ---- variables and slots
-same_tells : (x y : Variable) → same_variable x y ≡ true → x ≡ y
-same_tells (query m) (query n) e = elim (eqb_tells m n) [ inl h ↦ ap query h.1 | inr h ↦ let bad : true ≡ false = sym e ∙ h.0 in cc ]
-same_tells (query m) (entry n) e = cc
-same_tells (query m) (ind n) e = cc
-same_tells (entry m) (query n) e = cc
-same_tells (entry m) (entry n) e = elim (eqb_tells m n) [ inl h ↦ ap entry h.1 | inr h ↦ let bad : true ≡ false = sym e ∙ h.0 in cc ]
-same_tells (entry m) (ind n) e = cc
-same_tells (ind m) (query n) e = cc
-same_tells (ind m) (entry n) e = cc
-same_tells (ind m) (ind n) e = elim (eqb_tells m n) [ inl h ↦ ap ind h.1 | inr h ↦ let bad : true ≡ false = sym e ∙ h.0 in cc ]
-
-same_itself : (x : Variable) → same_variable x x ≡ true
-same_itself (query n) = eq-eqb n n refl
-same_itself (entry n) = eq-eqb n n refl
-same_itself (ind n) = eq-eqb n n refl
-
 record IsOfSlot (slots : Slots) (k : ℕ) (x : Variable) : Type 0 where
   range : IsInRange slots x
   slot : slot_of slots x ≡ k
 
-lt_tells : (m n : ℕ) → ((nat_lt m n ≡ true) × (m < n)) ⊎ ((nat_lt m n ≡ false) × (n ≤ m))
+pub lt_tells : (m n : ℕ) → ((nat_lt m n ≡ true) × (m < n)) ⊎ ((nat_lt m n ≡ false) × (n ≤ m))
 lt_tells m n = go (nat_lt m n) refl
   where
     go : (b : Bool) → nat_lt m n ≡ b → ((nat_lt m n ≡ true) × (m < n)) ⊎ ((nat_lt m n ≡ false) × (n ≤ m))
@@ -89,7 +75,7 @@ of_slot slots k less =
     ]
 
 -- ---- rows of slots and terms
-abbrev IsApartFrom : ℕ → ℕ × Term → Type 0
+abbrev pub IsApartFrom : ℕ → ℕ × Term → Type 0
 IsApartFrom slot row = row.0 ≢ slot
 
 abbrev IsUnfrozen : Slots → ℕ × Term → Type 0
@@ -148,15 +134,11 @@ module _ (slots : Slots) (rank : ℕ → ℕ) where
   made [] f = []
   made (row ∷ rows) f = (variable_of slots row.0, f (variable_of slots row.0)) ∷ made rows f
 
-  bool_tells : (b : Bool) → (b ≡ true) ⊎ (b ≡ false)
-  bool_tells true = inl refl
-  bool_tells false = inr refl
-
   image_made : (rows : List (ℕ × Term)) (f : Variable → Term) (x : Variable) → IsInRange slots x → (image same_variable (made rows f) x ≡ f x) ⊎ ((image same_variable (made rows f) x ≡ terms.var x) × AllByRecursion (IsApartFrom (slot_of slots x)) rows)
   image_made [] f x range = inr (refl, tt)
   image_made (row ∷ rows) f x range =
-      elim (bool_tells (same_variable (variable_of slots row.0) x)) [
-        | inl k ↦ inl (ap (λ b. cond b (f (variable_of slots row.0)) (image same_variable (made rows f) x)) k ∙ ap f (same_tells (variable_of slots row.0) x k))
+      elim (cases_Bool (same_variable (variable_of slots row.0) x)) [
+        | inl k ↦ inl (ap (λ b. cond b (f (variable_of slots row.0)) (image same_variable (made rows f) x)) k ∙ ap f (variable_is (variable_of slots row.0) x k))
         | inr k ↦
             let skip : image same_variable (made (row ∷ rows) f) x ≡ image same_variable (made rows f) x =
             ap (λ b. cond b (f (variable_of slots row.0)) (image same_variable (made rows f) x)) k in
@@ -169,19 +151,19 @@ module _ (slots : Slots) (rank : ℕ → ℕ) where
       not_same : (z : ℕ) (x : Variable) → IsInRange slots x → same_variable (variable_of slots z) x ≡ false → z ≡ slot_of slots x → ⊥
       not_same z x range k same =
           let is : variable_of slots z ≡ x = ap (variable_of slots) same ∙ variable_of-slot_of slots x range in
-          let bad : true ≡ false = sym (same_itself x) ∙ sym (ap (λ y. same_variable y x) is) ∙ k in cc
+          let bad : true ≡ false = sym (variable_self x) ∙ sym (ap (λ y. same_variable y x) is) ∙ k in cc
 
   image_frozen : (rows : List (ℕ × Term)) (f : Variable → Term) (x : Variable) → AllByRecursion (IsUnfrozen slots) rows → is_frozen slots x ≡ true → image same_variable (made rows f) x ≡ terms.var x
   image_frozen [] f x free frozen = refl
   image_frozen (row ∷ rows) f x free frozen =
-      elim (bool_tells (same_variable (variable_of slots row.0) x)) [
-        | inl k ↦ let bad : true ≡ false = sym frozen ∙ sym (ap (is_frozen slots) (same_tells (variable_of slots row.0) x k)) ∙ free.0 in cc
+      elim (cases_Bool (same_variable (variable_of slots row.0) x)) [
+        | inl k ↦ let bad : true ≡ false = sym frozen ∙ sym (ap (is_frozen slots) (variable_is (variable_of slots row.0) x k)) ∙ free.0 in cc
         | inr k ↦
             ap (λ b. cond b (f (variable_of slots row.0)) (image same_variable (made rows f) x)) k ∙ image_frozen rows f x free.1 frozen
       ]
 
 -- the rows of a list of bindings: each slot with the term that its value stands for
-abbrev rows : (slots : Slots) (pairs : Pairs) → AllByRecursion (IsBinding slots) pairs → List (ℕ × Term)
+abbrev pub rows : (slots : Slots) (pairs : Pairs) → AllByRecursion (IsBinding slots) pairs → List (ℕ × Term)
 rows slots [] b = []
 rows slots (pair ∷ pairs) b = (pair.0, b.0.whole.0) ∷ rows slots pairs b.1
 

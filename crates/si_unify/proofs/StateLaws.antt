@@ -1,5 +1,5 @@
 -- States of slots, and the slots whose state has changed.
-use Rattle.std.proofs.Common.{◌≡◌, ◌≢◌, ℕ, ◌<◌, ◌⊎◌, inl, inr, List, [], ◌∷◌, ◌++◌, length, get_or, replicate, refl, sym, ◌∙◌, ap, subst, arith, suc, zero, Some}
+use Rattle.std.proofs.Common.{◌≡◌, ℕ, ◌<◌, inl, inr, List, [], ◌∷◌, ◌++◌, length, get_or, replicate, refl, sym, ◌∙◌, ap, subst, arith, suc, zero, Some}
 use Rattle.std.proofs.Math.ListN.{set}
 use Rattle.std.proofs.lemmas.List.{length-set}
 use Rattle.std.proofs.lemmas.Bool.Decides.{eqb_tells}
@@ -7,22 +7,10 @@ use Rattle.std.proofs.lemmas.Option.{get_or_from_slice_get}
 use Rattle.std.specs.Prelude.{slice_get}
 use Rattle.std.specs.List.{AllByRecursion}
 use Rattle.si_defs.specs.Substitutions.{IsAmong}
+use Rattle.si_defs.proofs.ListLaws.{all_weaker, all_append, all_front, all_back, among_front, among_either, set_same, set_other, among_back}
 use Rattle.si_unify.specs.declared.states.State.{State}
 use Rattle.si_unify.specs.declared.states.State.TheVariants.{New}
 use Rattle.si_unify.specs.States.{AreMet, AreNew}
-use Rattle.si_unify.proofs.Lists.{all_map, all_append, all_front, all_back}
-
-pub get-set_same : (states : List State) (slot : ℕ) (s : State) → slot < length states → slice_get (set states slot s) slot ≡ Some s
-get-set_same [] slot s less = absurd (omega arith)
-get-set_same (x ∷ states) zero s less = refl
-get-set_same (x ∷ states) (suc slot) s less = get-set_same states slot s (omega arith)
-
-pub get-set_other : (states : List State) (slot other : ℕ) (s : State) → other ≢ slot → slice_get (set states slot s) other ≡ slice_get states other
-get-set_other [] slot other s differs = refl
-get-set_other (x ∷ states) zero zero s differs = absurd (differs refl)
-get-set_other (x ∷ states) zero (suc other) s differs = refl
-get-set_other (x ∷ states) (suc slot) zero s differs = refl
-get-set_other (x ∷ states) (suc slot) (suc other) s differs = get-set_other states slot other s (λ e. differs (ap (λ n. suc n) e))
 
 pub new_at : (states : List State) (slot : ℕ) (s : State) → AreNew states → slice_get states slot ≡ Some s → s ≡ New
 new_at [] slot s h e = cc
@@ -45,21 +33,9 @@ all_new_by (x ∷ states) give =
     (first, all_new_by states (λ slot less. give (suc slot) (omega (arith, less))))
 
 -- ---- rows of slots
-among_front : (xs ys : List ℕ) (z : ℕ) → IsAmong xs z → IsAmong (xs ++ ys) z
-among_front [] ys z h = elim h [ ]
-among_front (x ∷ xs) ys z h = elim h [ inl e ↦ inl e | inr k ↦ inr (among_front xs ys z k) ]
-
-among_last : (xs : List ℕ) (z : ℕ) → IsAmong (xs ++ z ∷ []) z
-among_last [] z = inl refl
-among_last (x ∷ xs) z = inr (among_last xs z)
-
-among_parts : (xs : List ℕ) (y z : ℕ) → IsAmong (xs ++ y ∷ []) z → IsAmong xs z ⊎ (y ≡ z)
-among_parts [] y z h = elim h [ inl e ↦ inr e | inr n ↦ elim n [ ] ]
-among_parts (x ∷ xs) y z h = elim h [ inl e ↦ inl (inl e) | inr k ↦ elim (among_parts xs y z k) [ inl a ↦ inl (inr a) | inr e ↦ inr e ] ]
-
 still_inside : (states : List State) (met : List ℕ) (slot : ℕ) (s : State) → AllByRecursion (λ z. z < length states) met → AllByRecursion (λ z. z < length (set states slot s)) met
 still_inside states met slot s h =
-    all_map (λ z. z < length states) (λ z. z < length (set states slot s)) met (λ z less. omega (arith, less, length-set states slot s)) h
+    all_weaker (λ z. z < length states) (λ z. z < length (set states slot s)) met (λ z less. omega (arith, less, length-set states slot s)) h
 
 -- ---- the slots that were met
 -- a slot that isn't new may get any state
@@ -71,7 +47,7 @@ met_changed states met slot s h less among = record {
         | inl k ↦ inr (subst (IsAmong met) (sym k.1) among)
         | inr k ↦
             elim (h.others z (omega (arith, z_less, length-set states slot s))) [
-              | inl e ↦ inl (get-set_other states slot z s k.1 ∙ e)
+              | inl e ↦ inl (set_other states slot z s k.1 ∙ e)
               | inr a ↦ inr a
             ]
       ];
@@ -91,12 +67,12 @@ met_popped states met front slot e h =
       inside = still_inside states front slot New (all_front (λ z. z < length states) front (slot ∷ []) inside);
       others = λ z z_less.
           elim (eqb_tells z slot) [
-            | inl k ↦ inl (subst (λ y. slice_get (set states slot New) y ≡ Some New) (sym k.1) (get-set_same states slot New less))
+            | inl k ↦ inl (subst (λ y. slice_get (set states slot New) y ≡ Some New) (sym k.1) (set_same states slot New less))
             | inr k ↦
                 elim (h.others z (omega (arith, z_less, length-set states slot New))) [
-                  | inl new ↦ inl (get-set_other states slot z New k.1 ∙ new)
+                  | inl new ↦ inl (set_other states slot z New k.1 ∙ new)
                   | inr a ↦
-                      elim (among_parts front slot z (subst (λ l. IsAmong l z) e a)) [
+                      elim (among_either front slot z (subst (λ l. IsAmong l z) e a)) [
                         | inl f ↦ inr f
                         | inr same ↦ absurd (k.1 (sym same))
                       ]
@@ -122,7 +98,7 @@ pub new_changed :
     → AreMet (set now slot s) now_met
 new_changed states now met now_met slot s e f h less =
     subst (λ l. AreMet (set l slot s) now_met) (sym e)
-    (subst (AreMet (set states slot s)) (sym f) (met_changed states (met ++ slot ∷ []) slot s (met_pushed states met slot h less) less (among_last met slot)))
+    (subst (AreMet (set states slot s)) (sym f) (met_changed states (met ++ slot ∷ []) slot s (met_pushed states met slot h less) less (among_back met (slot ∷ []) slot (inl refl))))
 
 -- one whose state was another had been noted before
 pub other_changed :

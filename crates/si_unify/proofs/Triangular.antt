@@ -1,5 +1,7 @@
--- A list is triangular where it was so up to a mark, and a search from the bindings behind the mark found no circle.
+-- A list is triangular where it was so up to a mark, and a search from the bindings behind the mark
+-- found no circle.
 use Rattle.std.proofs.Common.{◌≡◌, ◌≢◌, ℕ, ◌+◌, ◌<◌, ◌≤◌, ◌⊎◌, inl, inr, Bool, true, false, List, [], ◌∷◌, length, take, drop, refl, sym, ◌∙◌, ap, subst, arith, suc, zero, Option, None, Some}
+use Rattle.std.proofs.lemmas.Option.{same_Some}
 use Rattle.std.proofs.lemmas.List.{take-append-drop}
 use Rattle.std.proofs.lemmas.Bool.Decides.{eqb_tells}
 use Rattle.std.proofs.lemmas.Bool.{eq-eqb}
@@ -7,6 +9,7 @@ use Rattle.std.specs.Prelude.{slice_get}
 use Rattle.std.specs.List.{AllByRecursion}
 use Rattle.std.specs.Borrow.{Bor}
 use Rattle.si_defs.specs.Substitutions.{IsAmong}
+use Rattle.si_defs.proofs.ListLaws.{all_with, all_weaker, all_append, all_take, all_drop, all_got}
 use Rattle.si_flat.specs.declared.Cell.{Cell}
 use Rattle.si_flat.specs.declared.Cell.TheVariants as cell
 use Rattle.si_flat.specs.Cells.{query, entry, ind}
@@ -19,7 +22,6 @@ use Rattle.si_unify.specs.declared.circles.Task.TheVariants.{Enter}
 use Rattle.si_unify.specs.Solving.{Pairs, slot_count, slot_of, IsTriangularBy, IsAcyclic, RanksBelow, IsBinding}
 use Rattle.si_unify.specs.Spots.{cell_slot}
 use Rattle.si_unify.specs.Circles.{if_value, if_bound, with_slot, bound_slots, below_value, enter_each, task_slot, task_slots, IsDone, AreCovered, RanksUnder, ComeDown, slots_below, AreRanked, IsSearching, HasSearched, AreEntries, IsResolved, AreResolved, IsTold}
-use Rattle.si_unify.proofs.Lists.{all_map, all_with, all_append, all_take, all_drop}
 use Rattle.si_unify.proofs.StateLaws.{new_at}
 use Rattle.si_unify.proofs.Searching.{ranks_below_cell}
 use Rattle.si_unify.specs.States.{AreNew}
@@ -55,18 +57,10 @@ IsFound pairs pair = value_at pairs pair.0 ≡ Some pair.1
 abbrev pub HasRanks : Slots → (ℕ → ℕ) → ℕ × Bor (List Cell) → Type 0
 HasRanks slots rank pair = AllByRecursion (RanksBelow slots rank pair.0) pair.1.now
 
-pair_get : (P : ℕ × Bor (List Cell) → Type 0) (pairs : Pairs) (n : ℕ) (pair : ℕ × Bor (List Cell)) → AllByRecursion P pairs → slice_get pairs n ≡ Some pair → P pair
-pair_get P [] n pair h e = cc
-pair_get P (p ∷ pairs) zero pair h e = let same : p ≡ pair = cc in subst P same h.0
-pair_get P (p ∷ pairs) (suc n) pair h e = pair_get P pairs n pair h.1 e
-
 same_pair_slot : (pairs : Pairs) (m n x y : ℕ) → m ≡ n → IsSlotOf pairs m x → IsSlotOf pairs n y → y ≡ x
 same_pair_slot pairs m n x y e a b =
-    let pairs_same : (y, b.0) ≡ (x, a.0) = some_same (y, b.0) (x, a.0) (sym b.1 ∙ ap (slice_get pairs) (sym e) ∙ a.1) in
+    let pairs_same : (y, b.0) ≡ (x, a.0) = same_Some (y, b.0) (x, a.0) (sym b.1 ∙ ap (slice_get pairs) (sym e) ∙ a.1) in
     ap (λ p. p.0) pairs_same
-  where
-    some_same : (p q : ℕ × Bor (List Cell)) → Some p ≡ Some q → p ≡ q
-    some_same p q e = cc
 
 all_behind : (P : ℕ → Type 0) (pairs : Pairs) (mark : ℕ) → ((m slot : ℕ) → mark ≤ m → m < length pairs → IsSlotOf pairs m slot → P slot) → AllByRecursion (HasSlot P) (drop mark pairs)
 all_behind P [] mark give = elim mark as (λ k. AllByRecursion (HasSlot P) (drop k [])) [ zero ↦ tt | suc k ↦ tt ]
@@ -92,7 +86,7 @@ all_told : (pairs : Pairs) → HasDistinctSlots pairs → AllByRecursion (IsFoun
 all_told [] h = tt
 all_told (p ∷ pairs) h = (
   rw (eq-eqb p.0 p.0 refl) refl,
-  all_map (IsFound pairs) (IsFound (p ∷ pairs)) pairs
+  all_weaker (IsFound pairs) (IsFound (p ∷ pairs)) pairs
       (λ pair e. told_behind p pair pairs h.0 e) (all_told pairs h.1),
 )
 
@@ -146,8 +140,8 @@ search_begins slots pairs states tasks mark n bindings long fresh e = record {
       (
       valid_alone slots e.slots
       (
-      all_map (λ slot. (m : ℕ) × IsSlotOf pairs m slot) (λ z. z < slot_count slots) e.slots
-      (λ slot s. (pair_get (IsBinding slots) pairs s.0 (slot, s.1.0) bindings s.1.1).below)
+      all_weaker (λ slot. (m : ℕ) × IsSlotOf pairs m slot) (λ z. z < slot_count slots) e.slots
+      (λ slot s. (all_got (IsBinding slots) pairs s.0 (slot, s.1.0) bindings s.1.1).below)
       e.sound
       )
       );
@@ -222,7 +216,7 @@ module _ (slots : Slots) (pairs : Pairs) (Known : ℕ → Type 0) (known : AreTe
       elim (known.tells pair.0) [
         | inl d ↦ known_pair pair bound d
         | inr d ↦
-            all_map (RanksBelow slots rank pair.0) (RanksBelow slots all_rank pair.0) pair.1.now
+            all_weaker (RanksBelow slots rank pair.0) (RanksBelow slots all_rank pair.0) pair.1.now
             (λ c k. ranks_at pair.0 c (λ next e. next_under_other pair.0 next pair.1 (value_at pairs next) bound d refl (ranks_below_cell slots rank pair.0 next c k e)))
             old
       ]

@@ -1,8 +1,10 @@
--- A list of bindings that has a solution is triangular: the weight of a slot is the size of its image, and then its rank.
+-- A list of bindings that has a solution is triangular: the weight of a slot is the size of its
+-- image, and then its rank.
 use Rattle.std.proofs.Common.{◌≡◌, ℕ, ◌+◌, ◌*◌, ◌<◌, ◌≤◌, List, [], ◌∷◌, length, refl, sym, ◌∙◌, ap, subst, arith}
 use Rattle.std.proofs.Math.Nat.{mul-le-mul_left}
 use Rattle.std.specs.List.{AllByRecursion}
 use Rattle.si_defs.specs.Terms as terms
+use Rattle.si_defs.proofs.ListLaws.{all_with, all_append}
 use Rattle.si_flat.specs.declared.Cell.{Cell}
 use Rattle.si_flat.specs.declared.Cell.TheVariants as cell
 use Rattle.si_flat.specs.Cells.{Variable, query, entry, ind, Term, Terms, variable_cell, cells_of, cells_of_all}
@@ -11,7 +13,6 @@ use Rattle.si_unify.specs.Solving.{Pairs, slot_of, variable_of, IsInRange, CellI
 use Rattle.si_unify.specs.Spots.{IsBelow, ComesDown, IsChained}
 use Rattle.si_unify.proofs.Places.{variable_of-slot_of, in_range-variable}
 use Rattle.si_unify.proofs.Meeting.{slot_of-cell}
-use Rattle.si_unify.proofs.Lists.{all_append, all_with}
 
 -- the image of a variable's cell is no larger than this
 abbrev pub FitsIn : (Variable → Term) → ℕ → Cell → Type 0

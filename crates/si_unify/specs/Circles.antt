@@ -30,7 +30,8 @@ with_slot (Some slot) rest = slot ∷ rest
 -- the bound slots of these cells, in order
 abbrev pub bound_slots : Slots → Pairs → List Cell → List ℕ
 bound_slots slots pairs [] = []
-bound_slots slots pairs (c ∷ cells) = with_slot (if_bound pairs (cell_slot slots c)) (bound_slots slots pairs cells)
+bound_slots slots pairs (c ∷ cells) =
+    with_slot (if_bound pairs (cell_slot slots c)) (bound_slots slots pairs cells)
 
 -- tasks, the next one first
 abbrev pub enter_each : List ℕ → List Task
@@ -56,7 +57,8 @@ tasks_of slots pairs slot = enter_each (pile (slots_below slots pairs slot) [])
 
 -- the tasks that come up for these cells stand before the others
 abbrev pub AreEntered : Slots → Pairs → List Cell → List Task → List Task → Type 0
-AreEntered slots pairs cells old new = new ≡ enter_each (pile (bound_slots slots pairs cells) []) ++ old
+AreEntered slots pairs cells old new =
+    new ≡ enter_each (pile (bound_slots slots pairs cells) []) ++ old
 
 abbrev pub task_slot : Task → ℕ
 task_slot (Enter slot) = slot
@@ -73,11 +75,13 @@ IsDone states slot = slice_get states slot ≡ Some Done
 -- among the tasks before it.
 abbrev pub IsCovered : Slots → Pairs → List State → List ℕ → Task → Type 0
 IsCovered slots pairs states before (Enter slot) = Unit {0}
-IsCovered slots pairs states before (Leave slot) = AllByRecursion (λ c. IsDone states c ⊎ IsAmong before c) (slots_below slots pairs slot)
+IsCovered slots pairs states before (Leave slot) =
+    AllByRecursion (λ c. IsDone states c ⊎ IsAmong before c) (slots_below slots pairs slot)
 
 abbrev pub AreCovered : Slots → Pairs → List State → List ℕ → List Task → Type 0
 AreCovered slots pairs states before [] = Unit {0}
-AreCovered slots pairs states before (t ∷ ts) = IsCovered slots pairs states before t × AreCovered slots pairs states (task_slot t ∷ before) ts
+AreCovered slots pairs states before (t ∷ ts) =
+    IsCovered slots pairs states before t × AreCovered slots pairs states (task_slot t ∷ before) ts
 
 -- each task's slot has a smaller rank than the slots being searched behind it
 abbrev pub RanksUnder : (ℕ → ℕ) → ℕ → Task → Type 0
@@ -93,7 +97,8 @@ pub record AreRanked (slots : Slots) (pairs : Pairs) (Known : ℕ → Type 0) : 
   pub rank : ℕ → ℕ
   pub top : ℕ
   pub few : (slot : ℕ) → Known slot → rank slot < top
-  pub down : (slot : ℕ) → Known slot → AllByRecursion (λ c. Known c × (rank c < rank slot)) (slots_below slots pairs slot)
+  pub down : (slot : ℕ) → Known slot
+      → AllByRecursion (λ c. Known c × (rank c < rank slot)) (slots_below slots pairs slot)
 
 -- the slots that are being searched
 abbrev pub leave_slot : Task → List ℕ → List ℕ
@@ -105,7 +110,8 @@ leave_slots [] = []
 leave_slots (t ∷ ts) = leave_slot t (leave_slots ts)
 
 -- what is known of the slots and the tasks, the next one first
-pub record IsSearching (slots : Slots) (pairs : Pairs) (states : List State) (tasks : List Task) : Type 0 where
+pub record IsSearching (slots : Slots) (pairs : Pairs) (states : List State)
+    (tasks : List Task) : Type 0 where
   pub bindings : AllByRecursion (IsBinding slots) pairs
   pub long : slot_count slots ≤ length states
   pub ordered : AreRanked slots pairs (IsDone states)
@@ -120,7 +126,8 @@ StayDone old new = (slot : ℕ) → IsDone old slot → IsDone new slot
 
 abbrev pub HasSearched : Slots → Pairs → List State → List State → List Task → Bool → Type 0
 HasSearched slots pairs old new tasks true =
-    IsSearching slots pairs new [] × StayDone old new × ((slot : ℕ) → IsAmong (task_slots tasks) slot → IsDone new slot)
+    IsSearching slots pairs new [] × StayDone old new
+    × ((slot : ℕ) → IsAmong (task_slots tasks) slot → IsDone new slot)
 HasSearched slots pairs old new tasks false = (rank : ℕ → ℕ) → IsTriangularBy slots rank pairs → ⊥
 
 -- how much is left to do
@@ -133,15 +140,19 @@ abbrev pub work : List State → List Task → ℕ
 work states tasks = sum_by weight states * 2 ^ 64 + length tasks
 
 -- one task has been done
-pub record HasStepped (slots : Slots) (pairs : Pairs) (old new : List State) (old_tasks new_tasks : List Task) : Type 0 where
+pub record HasStepped (slots : Slots) (pairs : Pairs) (old new : List State)
+    (old_tasks new_tasks : List Task) : Type 0 where
   pub searching : IsSearching slots pairs new new_tasks
   pub stay : StayDone old new
-  pub kept : (slot : ℕ) → IsAmong (task_slots old_tasks) slot → IsDone new slot ⊎ IsAmong (task_slots new_tasks) slot
+  pub kept : (slot : ℕ) → IsAmong (task_slots old_tasks) slot → IsDone new slot
+      ⊎ IsAmong (task_slots new_tasks) slot
   pub less : work new new_tasks < work old old_tasks
 
 abbrev pub HasDone : Slots → Pairs → List State → List State → List Task → List Task → Bool → Type 0
-HasDone slots pairs old new old_tasks new_tasks true = HasStepped slots pairs old new old_tasks new_tasks
-HasDone slots pairs old new old_tasks new_tasks false = (rank : ℕ → ℕ) → IsTriangularBy slots rank pairs → ⊥
+HasDone slots pairs old new old_tasks new_tasks true =
+    HasStepped slots pairs old new old_tasks new_tasks
+HasDone slots pairs old new old_tasks new_tasks false = (rank : ℕ → ℕ)
+    → IsTriangularBy slots rank pairs → ⊥
 
 -- the tasks enter the slots of the bindings from the mark on, up to this number
 pub record AreEntries (pairs : Pairs) (mark n : ℕ) (tasks : List Task) : Type 0 where
@@ -157,7 +168,8 @@ IsResolved slots pairs slot = slots_below slots pairs slot ≡ []
 
 -- nor in the values of the bindings from the mark on, up to this number
 pub record AreResolved (slots : Slots) (pairs : Pairs) (mark n : ℕ) : Type 0 where
-  pub resolved : (m slot : ℕ) → mark ≤ m → m < n → IsSlotOf pairs m slot → IsResolved slots pairs slot
+  pub resolved : (m slot : ℕ) → mark ≤ m → m < n → IsSlotOf pairs m slot
+      → IsResolved slots pairs slot
   pub distinct : HasDistinctSlots pairs
 
 -- whether the list is triangular; its slots are distinct

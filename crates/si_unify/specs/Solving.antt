@@ -27,7 +27,8 @@ slot_of slots (ind n) = slots.query + slots.entry + n
 abbrev pub variable_of : Slots → ℕ → Variable
 variable_of slots k =
     if nat_lt k slots.query then query k
-    else (if nat_lt k (slots.query + slots.entry) then entry (k - slots.query) else ind (k - slots.query - slots.entry))
+    else (if nat_lt k (slots.query + slots.entry) then entry (k - slots.query)
+    else ind (k - slots.query - slots.entry))
 
 abbrev pub IsInRange : Slots → Variable → Type 0
 IsInRange slots (query n) = n < slots.query
@@ -53,12 +54,14 @@ AreInRange slots = AllByRecursion (CellIsInRange slots)
 -- ---- solutions: what takes each variable to a term
 -- f makes the two slices equal
 abbrev pub Equalizes : (Variable → Term) → List Cell → List Cell → Type 0
-Equalizes f left right = (t u : Term) → StandsFor left t → StandsFor right u → terms.substitute f t ≡ terms.substitute f u
+Equalizes f left right = (t u : Term) → StandsFor left t → StandsFor right u
+    → terms.substitute f t ≡ terms.substitute f u
 
 -- f makes the variable of each slot equal to its value, and leaves frozen variables as they are
 pub record IsSolvedBy (slots : Slots) (pairs : Pairs) (f : Variable → Term) : Type 0 where
   pub frozen : (x : Variable) → is_frozen slots x ≡ true → f x ≡ terms.var x
-  pub equal : AllByRecursion (λ pair. Equalizes f (variable_cell (variable_of slots pair.0) ∷ []) pair.1.now) pairs
+  pub equal : AllByRecursion
+      (λ pair. Equalizes f (variable_cell (variable_of slots pair.0) ∷ []) pair.1.now) pairs
 
 -- ---- legal lists of bindings
 -- each variable of a value has a smaller number than the slot of the value; so the pairs can be put
@@ -70,7 +73,8 @@ RanksBelow slots rank slot (cell.Entry n) = rank (slot_of slots (entry n)) < ran
 RanksBelow slots rank slot (cell.Ind n) = rank (slot_of slots (ind n)) < rank slot
 
 abbrev pub IsTriangularBy : Slots → (ℕ → ℕ) → Pairs → Type 0
-IsTriangularBy slots rank = AllByRecursion (λ pair. AllByRecursion (RanksBelow slots rank pair.0) pair.1.now)
+IsTriangularBy slots rank =
+    AllByRecursion (λ pair. AllByRecursion (RanksBelow slots rank pair.0) pair.1.now)
 
 abbrev pub IsAcyclic : Slots → Pairs → Type 0
 IsAcyclic slots pairs = (rank : ℕ → ℕ) × IsTriangularBy slots rank pairs
@@ -122,5 +126,6 @@ HaveCommon slots pairs left right =
 abbrev pub HasSolved : Slots → Pairs → Pairs → List Cell → List Cell → Bool → Type 0
 HasSolved slots old new left right true =
     HaveCommon slots old left right
-    × ((s : Substitution Symbol Variable) → IsSolution slots new s ↔ IsCommon slots old left right s)
+    × ((s : Substitution Symbol Variable) → IsSolution slots new s
+    ↔ IsCommon slots old left right s)
 HasSolved slots old new left right false = HaveCommon slots old left right → ⊥

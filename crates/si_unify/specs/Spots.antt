@@ -2,6 +2,7 @@
 use Rattle.std.specs.Prelude.{◌≡◌, ℕ, ◌+◌, ◌<◌, ◌≤◌, ◌==◌, if◌then◌else◌, Bool, true, false, ◌&&◌, List, [], ◌∷◌, ◌++◌, drop, length, slice_index_or as get_or, Option, None, Some}
 use Rattle.std.specs.List.{AllByRecursion}
 use Rattle.std.specs.Borrow.{Bor}
+use Rattle.si_defs.specs.Substitutions.{Grows}
 use Rattle.si_defs.specs.Terms as terms
 use Rattle.si_flat.specs.declared.Cell.{Cell}
 use Rattle.si_flat.specs.declared.Cell.TheVariants as cell
@@ -97,11 +98,13 @@ pub record IsLegal (q : Question) (pairs : Pairs) : Type 0 where
 -- the pairs of spots whose terms are no larger than n, as f makes them, are made equal
 abbrev pub MakesEqual : Question → Pairs → (Variable → Term) → SpotPair → Type 0
 MakesEqual q pairs f pair =
-    (t u : Term) → StandsAt q pairs pair.left t → StandsAt q pairs pair.right u → terms.substitute f t ≡ terms.substitute f u
+    (t u : Term) → StandsAt q pairs pair.left t → StandsAt q pairs pair.right u
+    → terms.substitute f t ≡ terms.substitute f u
 
 abbrev pub MakesEqualUpTo : Question → Pairs → (Variable → Term) → ℕ → SpotPair → Type 0
 MakesEqualUpTo q pairs f n pair =
-    (t u : Term) → StandsAt q pairs pair.left t → StandsAt q pairs pair.right u → terms.size (terms.substitute f t) ≤ n → terms.substitute f t ≡ terms.substitute f u
+    (t u : Term) → StandsAt q pairs pair.left t → StandsAt q pairs pair.right u
+    → terms.size (terms.substitute f t) ≤ n → terms.substitute f t ≡ terms.substitute f u
 
 -- a pair of symbols' spots, whose heads are the same
 abbrev pub head_symbol : Term → Option Symbol
@@ -136,20 +139,18 @@ pub record IsEnd (q : Question) (pairs : Pairs) (spot : Spot) : Type 0 where
 pub record ComesTo (q : Question) (pairs : Pairs) (t : Term) (spot : Spot) : Type 0 where
   pub term : Term
   pub stands : StandsAt q pairs spot term
-  pub same : (f : Variable → Term) → IsSolvedBy q.slots pairs f → terms.substitute f t ≡ terms.substitute f term
+  pub same : (f : Variable → Term) → IsSolvedBy q.slots pairs f
+      → terms.substitute f t ≡ terms.substitute f term
   pub ends : IsUnbound pairs (slot_at q pairs spot)
 
 abbrev pub ArePairs : Question → Pairs → List SpotPair → Type 0
 ArePairs q pairs = AllByRecursion (IsApart q pairs)
 
--- the list is the old one with others behind it
-abbrev pub Grows : {X : Type 0} → List X → List X → Type 0
-Grows {X} old new = (more : List X) × (new ≡ old ++ more)
-
 -- The two terms t and u are made equal by the new bindings, once the pairs are whose terms are no
 -- larger than t; and each solution of the old ones that makes them equal is a solution of the new
 -- ones.
-pub record Meets (q : Question) (old new : Pairs) (old_keys new_keys : List SpotPair) (t u : Term) : Type 0 where
+pub record Meets (q : Question) (old new : Pairs) (old_keys new_keys : List SpotPair)
+    (t u : Term) : Type 0 where
   pub sound :
       (f : Variable → Term)
       → IsSolvedBy q.slots new f
@@ -164,10 +165,12 @@ pub record Meets (q : Question) (old new : Pairs) (old_keys new_keys : List Spot
 
 -- no solution makes the two terms equal
 abbrev pub Refutes : Question → Pairs → Term → Term → Type 0
-Refutes q pairs t u = (f : Variable → Term) → IsSolvedBy q.slots pairs f → terms.substitute f t ≡ terms.substitute f u → ⊥
+Refutes q pairs t u = (f : Variable → Term) → IsSolvedBy q.slots pairs f
+    → terms.substitute f t ≡ terms.substitute f u → ⊥
 
 -- what is kept while an equation is being solved
-pub record IsGoingOn (q : Question) (old new : Pairs) (old_keys new_keys : List SpotPair) : Type 0 where
+pub record IsGoingOn (q : Question) (old new : Pairs)
+    (old_keys new_keys : List SpotPair) : Type 0 where
   pub grows : Grows old new
   pub keys_grow : Grows old_keys new_keys
   pub legal : IsLegal q new
@@ -192,26 +195,35 @@ common_arity (cell.App s a m) (cell.App r b n) = if s == r && a == b then Some a
 common_arity _ _ = None
 
 -- the outcome of meeting: the two spots' terms are made equal, or none makes them equal
-abbrev pub HasMet : Question → Pairs → Pairs → List SpotPair → List SpotPair → Spot → Spot → Bool → Type 0
+abbrev pub HasMet : Question → Pairs → Pairs → List SpotPair → List SpotPair → Spot → Spot
+    → Bool → Type 0
 HasMet q old new old_keys new_keys left right true =
     IsGoingOn q old new old_keys new_keys
-    × ((t u : Term) → StandsAt q old left t → StandsAt q old right u → Meets q old new old_keys new_keys t u)
-HasMet q old new old_keys new_keys left right false = (t u : Term) → StandsAt q old left t → StandsAt q old right u → Refutes q old t u
+    × ((t u : Term) → StandsAt q old left t → StandsAt q old right u
+    → Meets q old new old_keys new_keys t u)
+HasMet q old new old_keys new_keys left right false = (t u : Term) → StandsAt q old left t
+    → StandsAt q old right u → Refutes q old t u
 
 -- two terms that are equal for each solution that makes the pairs equal whose terms are smaller
 abbrev pub Follows : Question → Pairs → List SpotPair → SpotPair → Type 0
 Follows q pairs keys pair =
-    (t u : Term) → StandsAt q pairs pair.left t → StandsAt q pairs pair.right u → (f : Variable → Term) → IsSolvedBy q.slots pairs f
-    → ((n : ℕ) → n < terms.size (terms.substitute f t) → AllByRecursion (MakesEqualUpTo q pairs f n) keys)
+    (t u : Term) → StandsAt q pairs pair.left t → StandsAt q pairs pair.right u
+    → (f : Variable → Term) → IsSolvedBy q.slots pairs f
+    → ((n : ℕ) → n < terms.size (terms.substitute f t)
+    → AllByRecursion (MakesEqualUpTo q pairs f n) keys)
     → terms.substitute f t ≡ terms.substitute f u
 
-abbrev pub HasCompared : Question → Pairs → Pairs → List SpotPair → List SpotPair → SpotPair → Bool → Type 0
+abbrev pub HasCompared : Question → Pairs → Pairs → List SpotPair → List SpotPair → SpotPair
+    → Bool → Type 0
 HasCompared q old new old_keys new_keys pair true =
     IsGoingOn q old new old_keys new_keys
     × Follows q new new_keys pair
-    × ((f : Variable → Term) → IsSolvedBy q.slots old f → AllByRecursion (MakesEqual q old f) old_keys → MakesEqual q old f pair → IsSolvedBy q.slots new f × AllByRecursion (MakesEqual q new f) new_keys)
+    × ((f : Variable → Term) → IsSolvedBy q.slots old f
+    → AllByRecursion (MakesEqual q old f) old_keys → MakesEqual q old f pair
+    → IsSolvedBy q.slots new f × AllByRecursion (MakesEqual q new f) new_keys)
 HasCompared q old new old_keys new_keys pair false =
-    (f : Variable → Term) → IsSolvedBy q.slots old f → AllByRecursion (MakesEqual q old f) old_keys → MakesEqual q old f pair → ⊥
+    (f : Variable → Term) → IsSolvedBy q.slots old f → AllByRecursion (MakesEqual q old f) old_keys
+    → MakesEqual q old f pair → ⊥
 
 -- The new bindings make each pair equal; and each solution of the old ones that makes them equal is
 -- a solution of the new ones.
@@ -219,9 +231,11 @@ abbrev pub HasClosed : Question → Pairs → Pairs → List SpotPair → Bool �
 HasClosed q old new keys true =
     IsLegal q new
     × ((f : Variable → Term) → IsSolvedBy q.slots new f → AllByRecursion (MakesEqual q new f) keys)
-    × ((f : Variable → Term) → IsSolvedBy q.slots old f → AllByRecursion (MakesEqual q old f) keys → IsSolvedBy q.slots new f)
+    × ((f : Variable → Term) → IsSolvedBy q.slots old f → AllByRecursion (MakesEqual q old f) keys
+    → IsSolvedBy q.slots new f)
     × AreHandedIn old new q.left.now q.right.now
-HasClosed q old new keys false = (f : Variable → Term) → IsSolvedBy q.slots old f → AllByRecursion (MakesEqual q old f) keys → ⊥
+HasClosed q old new keys false = (f : Variable → Term) → IsSolvedBy q.slots old f
+    → AllByRecursion (MakesEqual q old f) keys → ⊥
 
 -- The new bindings are legal, and solved by just those that solve the old ones and make the two
 -- terms equal.
@@ -230,7 +244,9 @@ HasAnswered q old new true =
     AllByRecursion (IsBinding q.slots) new
     × IsAcyclic q.slots new
     × ((f : Variable → Term) → IsSolvedBy q.slots new f → Equalizes f q.left.now q.right.now)
-    × ((f : Variable → Term) → IsSolvedBy q.slots old f → Equalizes f q.left.now q.right.now → IsSolvedBy q.slots new f)
+    × ((f : Variable → Term) → IsSolvedBy q.slots old f → Equalizes f q.left.now q.right.now
+    → IsSolvedBy q.slots new f)
     × HasDistinctSlots new
     × AreHandedIn old new q.left.now q.right.now
-HasAnswered q old new false = (f : Variable → Term) → IsSolvedBy q.slots old f → Equalizes f q.left.now q.right.now → ⊥
+HasAnswered q old new false = (f : Variable → Term) → IsSolvedBy q.slots old f
+    → Equalizes f q.left.now q.right.now → ⊥

@@ -12,4 +12,5 @@ AreNew = AllByRecursion (λ s. s ≡ New)
 -- each slot that isn't new is one of these, which are slots
 pub record AreMet (states : List State) (met : List ℕ) : Type 0 where
   pub inside : AllByRecursion (λ slot. slot < length states) met
-  pub others : (slot : ℕ) → slot < length states → (slice_get states slot ≡ Some New) ⊎ IsAmong met slot
+  pub others : (slot : ℕ) → slot < length states → (slice_get states slot ≡ Some New)
+      ⊎ IsAmong met slot

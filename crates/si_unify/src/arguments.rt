@@ -1,7 +1,8 @@
 // All equations that follow from one: argument by argument.
 ghost use Rattle.std.specs.Prelude.{◌≡◌, ◌+◌, ◌^◌, ◌<◌, ◌≤◌, [], length, IfOk};
+ghost use Rattle.si_defs.specs.Substitutions.{Grows};
 ghost use Rattle.si_unify.specs.Solving.{slot_count};
-ghost use Rattle.si_unify.specs.Spots.{left_spot, right_spot, spots_of, IsLegal, IsSubterm, ArePairs, IsApart, Grows, HasMet, HasCompared, HasClosed};
+ghost use Rattle.si_unify.specs.Spots.{left_spot, right_spot, spots_of, IsLegal, IsSubterm, ArePairs, IsApart, HasMet, HasCompared, HasClosed};
 
 use crate::equations::{common_arity, meet};
 use crate::heights::Heights;

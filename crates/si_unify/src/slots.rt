@@ -1,6 +1,6 @@
 // Variables and their slots.
-ghost use Rattle.std.specs.Prelude.{◌≡◌, ◌<◌, ◌^◌};
-ghost use Rattle.si_unify.specs.Solving.{slot_count};
+ghost use Rattle.std.specs.Prelude.{◌≡◌, ◌<◌, ◌^◌, ◌↔◌, IsTrue};
+ghost use Rattle.si_unify.specs.Solving.{slot_count, CellIsInRange, AreInRange};
 ghost use Rattle.si_unify.specs.Spots.{cell_slot, free_slot};
 
 use si_flat::Cell;
@@ -29,6 +29,24 @@ impl Slots {
         ensures small { result < 2 ^ 34 }
     {
         self.query as usize + self.entry as usize + self.inds as usize
+    }
+
+    /// Whether each variable of these cells has a slot, as it must have to be solved.
+    pub fn are_in_range(&self, cells: &[Cell]) -> bool
+        ensures { IsTrue result ↔ AreInRange self.now cells.now }
+    {
+        cells.iter().all(|cell| self.is_in_range(*cell))
+    }
+
+    fn is_in_range(&self, cell: Cell) -> bool
+        ensures { IsTrue result ↔ CellIsInRange self.now cell }
+    {
+        match cell {
+            Cell::App { .. } => true,
+            Cell::Query(number) => number < self.query,
+            Cell::Entry(number) => number < self.entry,
+            Cell::Ind(number) => number < self.inds,
+        }
     }
 
     // The slot of a variable's cell.

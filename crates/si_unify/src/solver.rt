@@ -1,10 +1,11 @@
 // From two terms to the bindings that make them equal.
 ghost use Rattle.std.specs.Prelude.{◌≡◌, ◌<◌, ◌≤◌, ◌^◌, length, true, false, Ok, IfOk, OnErr};
 ghost use Rattle.std.specs.List.{AllByRecursion};
+ghost use Rattle.si_defs.specs.Substitutions.{Grows};
 ghost use Rattle.si_flat.specs.Cells.{IsWhole};
 ghost use Rattle.si_unify.specs.Scratch.{AreClear};
 ghost use Rattle.si_unify.specs.Solving.{slot_count, AreInRange, IsAcyclic, IsBinding, AreHandedIn, HasSolved};
-ghost use Rattle.si_unify.specs.Spots.{Grows, HasAnswered};
+ghost use Rattle.si_unify.specs.Spots.{HasAnswered};
 
 use crate::arguments::{close, meet_terms};
 use crate::circles::is_triangular;

@@ -1,4 +1,5 @@
--- What the contract of a run says where the devices tell their bytes, and when a run ends by the session's limit.
+-- What the contract of a run says where the devices tell their bytes, and when a run ends by the
+-- session's limit.
 use Rattle.std.proofs.Common.{◌≡◌, ℕ, Bool, List, ◌++◌, Option, Some, length, refl, sym, ap, subst, ◌∙◌, arith}
 use Rattle.std.specs.Prelude.{◌↔◌}
 use Rattle.si_defs.specs.Bytes.{Bytes}
@@ -37,7 +38,8 @@ whole_run limits told strict files input had now before after known s = record {
   counted = s.ends.1.counted;
 }
 
--- Beside a refusal, a fault of the sink and want of memory, the limit is met exactly where as many bytes were taken.
+-- Beside a refusal, a fault of the sink and want of memory, the limit is met exactly where as many
+-- bytes were taken.
 pub limit_is_met : (limits : Limits) (told : Option Files) (strict : Bool) (files : List Bytes) (status : Status) (taken : Bytes) (lines : List Bytes) (rest : Bytes) (left now : Option Bytes) (before after : Around)
     → (status ≡ Refused → ⊥) → (status ≡ SinkFault → ⊥) → (status ≡ Memory → ⊥) → Ends status limits told strict files taken lines rest left now before after
     → (length taken ≡ limits.session) ↔ (status ≡ SessionLimit)

@@ -1,5 +1,7 @@
--- Words of which `--strict` is one at most, and of which no other begins with `-`, are taken, and ask for just what they say.
-use Rattle.std.proofs.Common.{◌≡◌, ◌≤◌, ◌||◌, ◌&&◌, inl, inr, Bool, true, false, not, List, [], ◌∷◌, ◌++◌, Some, None, codes, refl, sym, ap, ap₂, ◌∙◌, append_assoc, length, true≢false, le-leb, arith, cond, is_some, subst, length-append, append-nil, if◌then◌else◌}
+-- Words of which `--strict` is one at most, and of which no other begins with `-`, are taken, and
+-- ask for just what they say.
+use Rattle.std.proofs.Common.{◌≡◌, ◌≤◌, ◌||◌, ◌&&◌, inl, inr, Bool, true, false, not, List, [], ◌∷◌, ◌++◌, Some, None, codes, refl, sym, ap, ap₂, ◌∙◌, append_assoc, length, le-leb, arith, cond, is_some, subst, length-append, append-nil, if◌then◌else◌}
+use Rattle.std.proofs.lemmas.Bool.{or_parts}
 use Rattle.std.specs.List.{fold, list_all}
 use Rattle.std.specs.Option.{option_map_or}
 use Rattle.std.specs.Str.{bytes_eq}
@@ -34,10 +36,6 @@ waiting_at (word ∷ words) = positional
 
 abbrev at : List Row → List Bytes → Walk
 at rows words = record { held = held_at rows words; waiting = waiting_at words; position = 1; is_trailing = false; stopped = None }
-
-neither : (a b : Bool) → (a || b) ≡ false → (a ≡ false) × (b ≡ false)
-neither true b e = absurd (true≢false e)
-neither false b e = (refl, e)
 
 -- ---- a name
 
@@ -100,7 +98,7 @@ module _ (word : Bytes) (plain : begins_with_hyphen word ≡ false) where
 names_walked : (rows : List Row) (words names : List Bytes) → AreFileWords names → fold (walked rules []) (at rows words) names ≡ at rows (words ++ names)
 names_walked rows words [] plain = ap (at rows) (sym (append-nil words))
 names_walked rows words (name ∷ names) plain =
-    let p = neither (begins_with_hyphen name) _ plain in
+    let p = or_parts (begins_with_hyphen name) _ plain in
     ap (λ w. fold (walked rules []) w names) (name_walked name p.0 rows words)
     ∙ names_walked rows (words ++ name ∷ []) names p.1
     ∙ ap (at rows) (append_assoc words (name ∷ []) names)
@@ -110,7 +108,7 @@ names_pass : (rows : List Row) (words names rest : List Bytes) → AreFileWords 
 unfolding walk_passes
 names_pass rows words [] rest plain e = ap (λ ws. walk_passes top [] (at rows ws) rest) (sym (append-nil words)) ∙ e
 names_pass rows words (name ∷ names) rest plain e =
-    let p = neither (begins_with_hyphen name) _ plain in
+    let p = or_parts (begins_with_hyphen name) _ plain in
     let later : walk_passes top [] (at rows (words ++ name ∷ [])) (names ++ rest) ≡ true =
     names_pass rows (words ++ name ∷ []) names rest p.1 (ap (λ ws. walk_passes top [] (at rows ws) rest) (append_assoc words (name ∷ []) names) ∙ e) in
     ap₂ (λ (t : Bool) (w : Walk). t && walk_passes top [] w (names ++ rest)) (name_passes name p.0 rows words) (name_walked name p.0 rows words) ∙ later
@@ -185,19 +183,19 @@ other_word (b ∷ bs) e = rw e refl
 none_strict : (words : List Bytes) → AreFileWords words → has_strict words ≡ false
 none_strict [] plain = refl
 none_strict (word ∷ words) plain =
-    let p = neither (begins_with_hyphen word) _ plain in
+    let p = or_parts (begins_with_hyphen word) _ plain in
     ap₂ (λ a b. a || b) (other_word word p.0) (none_strict words p.1)
 
 one_strict : (before after : List Bytes) → AreFileWords before → has_strict (before ++ strict_word ∷ after) ≡ true
 one_strict [] after plain = refl
 one_strict (word ∷ words) after plain =
-    let p = neither (begins_with_hyphen word) _ plain in
+    let p = or_parts (begins_with_hyphen word) _ plain in
     ap₂ (λ a b. a || b) (other_word word p.0) (one_strict words after p.1)
 
 files_front : (before after : List Bytes) → AreFileWords before → files_in (before ++ after) ≡ before ++ files_in after
 files_front [] after plain = refl
 files_front (word ∷ words) after plain =
-    let p = neither (begins_with_hyphen word) _ plain in
+    let p = or_parts (begins_with_hyphen word) _ plain in
     ap (λ t. cond (not t) (word ∷ files_in (words ++ after)) (files_in (words ++ after))) (other_word word p.0)
     ∙ ap (λ ws. word ∷ ws) (files_front words after p.1)
 

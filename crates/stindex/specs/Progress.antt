@@ -21,12 +21,14 @@ shown limits rest = take (limits.line + 1) rest
 
 -- how a run goes on behind a step
 abbrev pub Judges : (strict : Bool) → Stepped → Result (Unit {0}) Stop → Type 0
-Judges strict outcome (Ok done) = (outcome ≡ SinkFailed → ⊥) × (IsTrue strict → outcome ≡ Refused → ⊥)
+Judges strict outcome (Ok done) =
+    (outcome ≡ SinkFailed → ⊥) × (IsTrue strict → outcome ≡ Refused → ⊥)
 Judges strict outcome (Err stop.Refused) = (outcome ≡ Refused) × IsTrue strict
 Judges strict outcome (Err stop.SinkFault) = outcome ≡ SinkFailed
 
 -- A request was acted on and its reply written, and the run goes on.
-pub record ActsOnRequest (limits : Limits) (told : Option Files) (strict : Bool) (old new : List Clause) (request : Request) (before after : Around) : Type 0 where
+pub record ActsOnRequest (limits : Limits) (told : Option Files) (strict : Bool)
+    (old new : List Clause) (request : Request) (before after : Around) : Type 0 where
   pub reply : Reply
   pub owed : Owed
   pub step : Acts limits told old request reply owed new
@@ -35,7 +37,8 @@ pub record ActsOnRequest (limits : Limits) (told : Option Files) (strict : Bool)
   pub counted : TellsFailures (failures_in owed) before after
 
 -- A request was acted on, and the run stopped at its reply.
-pub record Breaks (halt : Stop) (limits : Limits) (told : Option Files) (strict : Bool) (old new : List Clause) (request : Request) (before after : Around) : Type 0 where
+pub record Breaks (halt : Stop) (limits : Limits) (told : Option Files) (strict : Bool)
+    (old new : List Clause) (request : Request) (before after : Around) : Type 0 where
   pub reply : Reply
   pub owed : Owed
   pub step : Acts limits told old request reply owed new
@@ -44,7 +47,8 @@ pub record Breaks (halt : Stop) (limits : Limits) (told : Option Files) (strict 
 
 -- From the start on, where `before` was written, these words were acted on: they gave their output
 -- and the kept clauses.
-pub record LoadsWords (limits : Limits) (told : Option Files) (strict : Bool) (words : List Bytes) (before : Around) (clauses : List Clause) (after : Around) : Type 0 where
+pub record LoadsWords (limits : Limits) (told : Option Files) (strict : Bool) (words : List Bytes)
+    (before : Around) (clauses : List Clause) (after : Around) : Type 0 where
   pub output : Bytes
   pub failures : ℕ
   pub run : Run limits told strict [] (map a_word words) output failures clauses
@@ -52,9 +56,11 @@ pub record LoadsWords (limits : Limits) (told : Option Files) (strict : Bool) (w
   pub counted : TellsFailures failures before after
 
 -- From the start on, where `before` was written, the words and these bytes were acted on: the words
--- and the lines that are whole in the bytes gave their output and the kept clauses, and of the rest,
--- a line that was begun, the front is held.
-pub record Progress (limits : Limits) (told : Option Files) (strict : Bool) (files : List Bytes) (before : Around) (taken : Bytes) (clauses : List Clause) (held : Bytes) (after : Around) : Type 0 where
+-- and the lines that are whole in the bytes gave their output and the kept clauses, and of the
+-- rest, a line that was begun, the front is held.
+pub record Progress (limits : Limits) (told : Option Files) (strict : Bool) (files : List Bytes)
+    (before : Around) (taken : Bytes) (clauses : List Clause) (held : Bytes)
+    (after : Around) : Type 0 where
   pub lines : List Bytes
   pub rest : Bytes
   pub output : Bytes
@@ -66,54 +72,74 @@ pub record Progress (limits : Limits) (told : Option Files) (strict : Bool) (fil
   pub counted : TellsFailures failures before after
 
 -- These bytes carry every progress on.
-abbrev pub Advances : Limits → Option Files → (strict : Bool) → (bytes : Bytes) (old : List Clause) (held : Bytes) (now : Around) (new : List Clause) (holds : Bytes) (after : Around) → Type 0
+abbrev pub Advances : Limits → Option Files → (strict : Bool)
+    → (bytes : Bytes) (old : List Clause) (held : Bytes) (now : Around) (new : List Clause)
+    (holds : Bytes) (after : Around) → Type 0
 Advances limits told strict bytes old held now new holds after =
-    (files : List Bytes) (before : Around) (taken : Bytes) → Progress limits told strict files before taken old held now → Progress limits told strict files before (taken ++ bytes) new holds after
+    (files : List Bytes) (before : Around) (taken : Bytes)
+    → Progress limits told strict files before taken old held now
+    → Progress limits told strict files before (taken ++ bytes) new holds after
 
 -- Of these bytes all but the rest carry every progress on.
-pub record Feeds (limits : Limits) (told : Option Files) (strict : Bool) (bytes : Bytes) (old : List Clause) (held : Bytes) (now : Around) (rest : Bytes) (new : List Clause) (holds : Bytes) (after : Around) : Type 0 where
+pub record Feeds (limits : Limits) (told : Option Files) (strict : Bool) (bytes : Bytes)
+    (old : List Clause) (held : Bytes) (now : Around) (rest : Bytes) (new : List Clause)
+    (holds : Bytes) (after : Around) : Type 0 where
   pub done : Bytes
   pub whole : bytes ≡ done ++ rest
   pub advances : Advances limits told strict done old held now new holds after
 
 -- The run stopped at a word, or at one of the lines that are whole in the bytes taken.
-pub record BrokenOff (halt : Stop) (limits : Limits) (told : Option Files) (strict : Bool) (files : List Bytes) (before : Around) (taken : Bytes) (after : Around) : Type 0 where
+pub record BrokenOff (halt : Stop) (limits : Limits) (told : Option Files) (strict : Bool)
+    (files : List Bytes) (before : Around) (taken : Bytes) (after : Around) : Type 0 where
   pub lines : List Bytes
   pub rest : Bytes
   pub splits : Splits taken lines rest
   pub part : WritesTo halt limits told strict files lines before after
 
 -- These bytes end every progress at a reply.
-abbrev pub Fails : Stop → Limits → Option Files → (strict : Bool) → (bytes : Bytes) (old : List Clause) (held : Bytes) (now after : Around) → Type 0
+abbrev pub Fails : Stop → Limits → Option Files → (strict : Bool)
+    → (bytes : Bytes) (old : List Clause) (held : Bytes) (now after : Around) → Type 0
 Fails halt limits told strict bytes old held now after =
-    (files : List Bytes) (before : Around) (taken : Bytes) → Progress limits told strict files before taken old held now → BrokenOff halt limits told strict files before (taken ++ bytes) after
+    (files : List Bytes) (before : Around) (taken : Bytes)
+    → Progress limits told strict files before taken old held now
+    → BrokenOff halt limits told strict files before (taken ++ bytes) after
 
 -- The input ended behind the bytes taken, and every line was acted on.
-pub record Closed (limits : Limits) (told : Option Files) (strict : Bool) (files : List Bytes) (before : Around) (taken : Bytes) (after : Around) : Type 0 where
+pub record Closed (limits : Limits) (told : Option Files) (strict : Bool) (files : List Bytes)
+    (before : Around) (taken : Bytes) (after : Around) : Type 0 where
   pub lines : List Bytes
   pub rest : Bytes
   pub splits : Splits taken lines rest
   pub all : WritesAll limits told strict files (lines_at_end lines rest) before after
 
 -- The input ended behind the bytes taken, and the run stopped at the last line.
-pub record Cut (halt : Stop) (limits : Limits) (told : Option Files) (strict : Bool) (files : List Bytes) (before : Around) (taken : Bytes) (after : Around) : Type 0 where
+pub record Cut (halt : Stop) (limits : Limits) (told : Option Files) (strict : Bool)
+    (files : List Bytes) (before : Around) (taken : Bytes) (after : Around) : Type 0 where
   pub lines : List Bytes
   pub rest : Bytes
   pub splits : Splits taken lines rest
   pub part : WritesTo halt limits told strict files (lines_at_end lines rest) before after
 
 -- The end of the input closes every progress.
-abbrev pub Closes : Limits → Option Files → (strict : Bool) → (clauses : List Clause) (held : Bytes) (now after : Around) → Type 0
+abbrev pub Closes : Limits → Option Files → (strict : Bool)
+    → (clauses : List Clause) (held : Bytes) (now after : Around) → Type 0
 Closes limits told strict clauses held now after =
-    (files : List Bytes) (before : Around) (taken : Bytes) → Progress limits told strict files before taken clauses held now → Closed limits told strict files before taken after
+    (files : List Bytes) (before : Around) (taken : Bytes)
+    → Progress limits told strict files before taken clauses held now
+    → Closed limits told strict files before taken after
 
 -- The run stops at the last line of the input.
-abbrev pub Cuts : Stop → Limits → Option Files → (strict : Bool) → (clauses : List Clause) (held : Bytes) (now after : Around) → Type 0
+abbrev pub Cuts : Stop → Limits → Option Files → (strict : Bool)
+    → (clauses : List Clause) (held : Bytes) (now after : Around) → Type 0
 Cuts halt limits told strict clauses held now after =
-    (files : List Bytes) (before : Around) (taken : Bytes) → Progress limits told strict files before taken clauses held now → Cut halt limits told strict files before taken after
+    (files : List Bytes) (before : Around) (taken : Bytes)
+    → Progress limits told strict files before taken clauses held now
+    → Cut halt limits told strict files before taken after
 
 -- So many bytes were taken from the source so far, and this is the progress over them.
-pub record HasProgressed (limits : Limits) (told : Option Files) (strict : Bool) (files : List Bytes) (count : ℕ) (left now : Option Bytes) (before : Around) (clauses : List Clause) (held : Bytes) (after : Around) : Type 0 where
+pub record HasProgressed (limits : Limits) (told : Option Files) (strict : Bool)
+    (files : List Bytes) (count : ℕ) (left now : Option Bytes) (before : Around)
+    (clauses : List Clause) (held : Bytes) (after : Around) : Type 0 where
   pub taken : Bytes
   pub size : length taken ≡ count
   pub takes : Takes left taken now

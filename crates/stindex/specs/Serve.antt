@@ -30,7 +30,8 @@ pub record TellsFailures (failures : ℕ) (before after : Around) : Type 0 where
 
 -- An output of these words and lines was written whole, and the failures that it tells were
 -- counted.
-pub record WritesAll (limits : Limits) (told : Option Files) (strict : Bool) (files lines : List Bytes) (before after : Around) : Type 0 where
+pub record WritesAll (limits : Limits) (told : Option Files) (strict : Bool)
+    (files lines : List Bytes) (before after : Around) : Type 0 where
   pub output : Bytes
   pub failures : ℕ
   pub right : IsOutput limits told strict (requests files lines) output failures
@@ -39,13 +40,15 @@ pub record WritesAll (limits : Limits) (told : Option Files) (strict : Bool) (fi
 
 -- what was written of an output that ends with this reply, at which the run stops
 abbrev pub StopsAt : Stop → (strict : Bool) → Reply → Bytes → Told → Told → Type 0
-StopsAt stop.Refused strict reply output before after = Receives before output after × IsTrue strict × IsTrue (is_refusal reply)
+StopsAt stop.Refused strict reply output before after =
+    Receives before output after × IsTrue strict × IsTrue (is_refusal reply)
 StopsAt stop.SinkFault strict reply output before after = ReceivesPrefix before output after
 
 -- The run stopped at the reply to one of these words and lines. The output up to and with it was
 -- written, or at a fault of the sink a prefix of it, and nothing else; and the failures that the
 -- output tells were counted.
-pub record WritesTo (stop : Stop) (limits : Limits) (told : Option Files) (strict : Bool) (files lines : List Bytes) (before after : Around) : Type 0 where
+pub record WritesTo (stop : Stop) (limits : Limits) (told : Option Files) (strict : Bool)
+    (files lines : List Bytes) (before after : Around) : Type 0 where
   pub reply : Reply
   pub output : Bytes
   pub failures : ℕ
@@ -61,21 +64,31 @@ pub record MetEnd (limits : Limits) (taken : Bytes) (left : Option Bytes) : Type
 -- Of a run that ends so: how far it took the input, of which words and lines it wrote the replies,
 -- and how many bytes of them. The bytes that it took are these lines, and then the rest of a line
 -- that was begun.
-abbrev pub Ends : Status → Limits → Option Files → (strict : Bool) → (files : List Bytes) (taken : Bytes) (lines : List Bytes) (rest : Bytes) (left now : Option Bytes) (before after : Around) → Type 0
-Ends Ended limits told strict files taken lines rest left now before after = MetEnd limits taken now × WritesAll limits told strict files (lines_at_end lines rest) before after
+abbrev pub Ends : Status → Limits → Option Files → (strict : Bool)
+    → (files : List Bytes) (taken : Bytes) (lines : List Bytes) (rest : Bytes)
+    (left now : Option Bytes) (before after : Around) → Type 0
+Ends Ended limits told strict files taken lines rest left now before after =
+    MetEnd limits taken now
+    × WritesAll limits told strict files (lines_at_end lines rest) before after
 Ends Refused limits told strict files taken lines rest left now before after =
     WritesTo stop.Refused limits told strict files lines before after
-    ⊎ (MetEnd limits taken now × WritesTo stop.Refused limits told strict files (lines_at_end lines rest) before after)
+    ⊎ (MetEnd limits taken now
+    × WritesTo stop.Refused limits told strict files (lines_at_end lines rest) before after)
 Ends Usage limits told strict files taken lines rest left now before after = ⊥
-Ends SourceFault limits told strict files taken lines rest left now before after = (length taken < limits.session) × WritesAll limits told strict files lines before after
+Ends SourceFault limits told strict files taken lines rest left now before after =
+    (length taken < limits.session) × WritesAll limits told strict files lines before after
 Ends SinkFault limits told strict files taken lines rest left now before after =
     WritesTo stop.SinkFault limits told strict files lines before after
-    ⊎ (MetEnd limits taken now × WritesTo stop.SinkFault limits told strict files (lines_at_end lines rest) before after)
-Ends Memory limits told strict files taken lines rest left now before after = (taken ≡ []) × (now ≡ left) × (after ≡ before)
-Ends SessionLimit limits told strict files taken lines rest left now before after = (length taken ≡ limits.session) × WritesAll limits told strict files lines before after
+    ⊎ (MetEnd limits taken now
+    × WritesTo stop.SinkFault limits told strict files (lines_at_end lines rest) before after)
+Ends Memory limits told strict files taken lines rest left now before after =
+    (taken ≡ []) × (now ≡ left) × (after ≡ before)
+Ends SessionLimit limits told strict files taken lines rest left now before after =
+    (length taken ≡ limits.session) × WritesAll limits told strict files lines before after
 
 -- A run took these bytes from its source, no more than a session may have, and ended so.
-pub record Serves (limits : Limits) (told : Option Files) (strict : Bool) (files : List Bytes) (status : Status) (left now : Option Bytes) (before after : Around) : Type 0 where
+pub record Serves (limits : Limits) (told : Option Files) (strict : Bool) (files : List Bytes)
+    (status : Status) (left now : Option Bytes) (before after : Around) : Type 0 where
   pub taken : Bytes
   pub lines : List Bytes
   pub rest : Bytes
@@ -91,14 +104,16 @@ WritesUsage SinkFault before after = ReceivesPrefix before usage_line after
 WritesUsage status before after = ⊥
 
 -- The words are no call of the program. That was said, and nothing was read or fetched.
-pub record Declines (words : List Bytes) (status : Status) (left now : Option Bytes) (before after : Around) : Type 0 where
+pub record Declines (words : List Bytes) (status : Status) (left now : Option Bytes)
+    (before after : Around) : Type 0 where
   pub refused : takes program words ≡ false
   pub unread : now ≡ left
   pub unfetched : after.counts ≡ before.counts
   pub written : WritesUsage status before.sink after.sink
 
 -- The words were declined, or did what they ask for.
-abbrev pub DeclinesOrServes : Limits → Option Files → (words : List Bytes) → Status → (left now : Option Bytes) → (before after : Around) → Type 0
+abbrev pub DeclinesOrServes : Limits → Option Files → (words : List Bytes) → Status
+    → (left now : Option Bytes) → (before after : Around) → Type 0
 DeclinesOrServes limits told words status left now before after =
     Declines words status left now before after
     ⊎ Serves limits told (asked_by words).strict (asked_by words).files status left now before after
@@ -119,10 +134,12 @@ abbrev pub CountsFaults : Status → (source source_now sink sink_now : ℕ) →
 CountsFaults Ended source source_now sink sink_now = (source_now ≡ source) × (sink_now ≡ sink)
 CountsFaults Refused source source_now sink sink_now = (source_now ≡ source) × (sink_now ≡ sink)
 CountsFaults Usage source source_now sink sink_now = (source_now ≡ source) × (sink_now ≡ sink)
-CountsFaults SourceFault source source_now sink sink_now = Rose source source_now × (sink_now ≡ sink)
+CountsFaults SourceFault source source_now sink sink_now =
+    Rose source source_now × (sink_now ≡ sink)
 CountsFaults SinkFault source source_now sink sink_now = (source_now ≡ source) × Rose sink sink_now
 CountsFaults Memory source source_now sink sink_now = (source_now ≡ source) × (sink_now ≡ sink)
-CountsFaults SessionLimit source source_now sink sink_now = (source_now ≡ source) × (sink_now ≡ sink)
+CountsFaults SessionLimit source source_now sink sink_now =
+    (source_now ≡ source) × (sink_now ≡ sink)
 
 -- the sink's count of faults rose where the run stops by its fault, and is as before where it stops
 -- at a refusal
@@ -130,19 +147,25 @@ abbrev pub BlamesSink : Stop → (sink sink_now : ℕ) → Type 0
 BlamesSink stop.Refused sink sink_now = sink_now ≡ sink
 BlamesSink stop.SinkFault sink sink_now = Rose sink sink_now
 
--- what a run may write up to a reply: of these words and whole lines, or of the last line too, where
--- the end of the input was met
-abbrev pub MayWrite : Limits → Option Files → (strict : Bool) → (files : List Bytes) (taken : Bytes) (lines : List Bytes) (rest : Bytes) (now : Option Bytes) → Reply → Bytes → ℕ → Type 0
+-- what a run may write up to a reply: of these words and whole lines, or of the last line too,
+-- where the end of the input was met
+abbrev pub MayWrite : Limits → Option Files → (strict : Bool)
+    → (files : List Bytes) (taken : Bytes) (lines : List Bytes) (rest : Bytes) (now : Option Bytes)
+    → Reply → Bytes → ℕ → Type 0
 MayWrite limits told strict files taken lines rest now reply output failures =
     IsOutputTo limits told strict (requests files lines) reply output failures
-    ⊎ (MetEnd limits taken now × IsOutputTo limits told strict (requests files (lines_at_end lines rest)) reply output failures)
+    ⊎ (MetEnd limits taken now × IsOutputTo limits told strict
+    (requests files (lines_at_end lines rest)) reply output failures)
 
--- What the run may write fits the room, whatever it takes of what the source has left, and where the
--- words are declined, what is said then. If the library can't fail, this is asked of the outputs
--- alone that tell no failure.
-pub record HasRoomForOutputs (limits : Limits) (told : Option Files) (words : List Bytes) (may_fail : Bool) (left : Option Bytes) (room : ℕ) : Type 0 where
+-- What the run may write fits the room, whatever it takes of what the source has left, and where
+-- the words are declined, what is said then. If the library can't fail, this is asked of the
+-- outputs alone that tell no failure.
+pub record HasRoomForOutputs (limits : Limits) (told : Option Files) (words : List Bytes)
+    (may_fail : Bool) (left : Option Bytes) (room : ℕ) : Type 0 where
   pub usage : takes program words ≡ false → length usage_line ≤ room
-  pub outputs : (taken : Bytes) (now : Option Bytes) (lines : List Bytes) (rest : Bytes) (reply : Reply) (output : Bytes) (failures : ℕ)
+  pub outputs : (taken : Bytes) (now : Option Bytes) (lines : List Bytes) (rest : Bytes)
+      (reply : Reply) (output : Bytes) (failures : ℕ)
       → Takes left taken now → length taken ≤ limits.session → Splits taken lines rest
-      → MayWrite limits told (asked_by words).strict (asked_by words).files taken lines rest now reply output failures
+      → MayWrite limits told (asked_by words).strict
+      (asked_by words).files taken lines rest now reply output failures
       → (IsFalse may_fail → failures ≡ 0) → length output ≤ room

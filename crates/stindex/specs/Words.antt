@@ -12,7 +12,8 @@ use Rattle.clap.specs.declared.builder.ArgAction.TheVariants.{Append, SetTrue}
 
 -- `--strict`
 abbrev pub strict_rule : Rule
-strict_rule = record (new_rule (codes "strict")) { long = Some (codes "strict"); action = Some SetTrue }
+strict_rule =
+    record (new_rule (codes "strict")) { long = Some (codes "strict"); action = Some SetTrue }
 
 -- `[FILE]...`
 abbrev pub file_rule : Rule
@@ -23,7 +24,9 @@ file_rule = record (new_rule (codes "FILE")) {
 
 -- the simple command `stindex [--strict] [FILE]...`, whose words don't begin with its own name
 abbrev pub program : App
-program = with_rule (with_rule (on_top (λ s. record s { no_binary_name = true }) (new_app (codes "stindex"))) strict_rule) file_rule
+program =
+    with_rule (with_rule (on_top (λ s. record s { no_binary_name = true })
+    (new_app (codes "stindex"))) strict_rule) file_rule
 
 -- the line that says how to call it
 abbrev pub usage_line : Bytes
@@ -86,4 +89,5 @@ files_in words = filter (λ word. not (is_strict_word word)) words
 -- for the other words as files.
 abbrev pub IsReadAsSaid : List Bytes → Type 0
 IsReadAsSaid words =
-    (takes program words ≡ true) × (asked_by words ≡ record { strict = has_strict words; files = files_in words })
+    (takes program words ≡ true)
+    × (asked_by words ≡ record { strict = has_strict words; files = files_in words })

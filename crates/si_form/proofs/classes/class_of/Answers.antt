@@ -1,6 +1,8 @@
 use Rattle.std.proofs.Common.{◌-◌, [], reverse, ◌∷◌, refl, ◌∙◌, ap, arith}
 use Rattle.std.proofs.lemmas.List.{reverse-append}
-use Rattle.si_form.proofs.CellNumbering.{numbering_begins, numbering_more, numbering_ends, some_cell, if_class}
+use Rattle.std.proofs.lemmas.Result.{IfOk-weaker}
+use Rattle.si_flat.proofs.Subterms.{some_cell}
+use Rattle.si_form.proofs.CellNumbering.{numbering_begins, numbering_more, numbering_ends}
 use Rattle.si_form.proofs.classes.class_of.Goals as goal
 
 pub loop-at-init : goal.loop-at-init
@@ -20,4 +22,4 @@ loop-at-preserved c = (
 
 pub returns : goal.returns
 returns c =
-    if_class c.number_of-2.result _ _ (λ n h. numbering_ends _ _ _ _ _ c.args.cells.now c.loop-at.at n _ _ _ (omega (arith, c.loop-at-test.false, c.loop-at.invariant.1)) (some_cell c.args.cells.now c.requires.whole) c.requires.range refl c.loop-at.invariant.2 h) c.number_of-2.ensures
+    IfOk-weaker c.number_of-2.result _ _ (λ n h. numbering_ends _ _ _ _ _ c.args.cells.now c.loop-at.at n _ _ _ (omega (arith, c.loop-at-test.false, c.loop-at.invariant.1)) (some_cell c.args.cells.now c.requires.whole) c.requires.range refl c.loop-at.invariant.2 h) c.number_of-2.ensures

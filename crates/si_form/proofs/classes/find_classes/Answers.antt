@@ -1,10 +1,11 @@
 use Rattle.std.proofs.Common.{length, sym, subst, arith}
+use Rattle.std.proofs.lemmas.List.{nil_from_length}
 use Rattle.si_unify.specs.Solving.{IsBinding}
 use Rattle.si_unify.proofs.Places.{all_at}
 use Rattle.si_form.specs.Ordering.{uses_at, HasNoCircle, AreOrdered}
 use Rattle.si_form.specs.Classes.{HasClass}
 use Rattle.si_form.proofs.UsesLaws.{no_circle}
-use Rattle.si_form.proofs.ClassLaws.{classing_begins, classing_skips, classing_more, classing_ends, slot_inside, no_items}
+use Rattle.si_form.proofs.ClassLaws.{classing_begins, classing_skips, classing_more, classing_ends, slot_inside}
 use Rattle.si_form.proofs.classes.find_classes.Goals as goal
 
 pub order-requires : goal.order-requires
@@ -43,4 +44,4 @@ loop-slot-preserved c =
 
 pub returns : goal.returns
 returns c =
-    classing_ends c.args.slots.now c.args.trail.now.pairs c.in_ok-lists.lists.items c.in_ok-lists.ensures.long c.in_ok-lists.ensures.lists c.requires.bindings _ _ _ (no_items c.loop-slot.left.items (omega (arith, c.in_default.ensures.cases.0, c.loop-slot.left.ok))) c.loop-slot.invariant
+    classing_ends c.args.slots.now c.args.trail.now.pairs c.in_ok-lists.lists.items c.in_ok-lists.ensures.long c.in_ok-lists.ensures.lists c.requires.bindings _ _ _ (nil_from_length c.loop-slot.left.items (omega (arith, c.in_default.ensures.cases.0, c.loop-slot.left.ok))) c.loop-slot.invariant

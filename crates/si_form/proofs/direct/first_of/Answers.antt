@@ -1,6 +1,6 @@
 use Rattle.std.proofs.Common.{◌≡◌, None, Some, sym, ◌∙◌, ap, arith}
+use Rattle.std.proofs.lemmas.Option.{same_Some}
 use Rattle.si_form.proofs.DirectLaws.{some_cells}
-use Rattle.si_form.proofs.NodeLaws.{same_some}
 use Rattle.si_form.proofs.PairLaws.{pair_at, slot_bound}
 use Rattle.si_form.proofs.RenamingLaws.{first_begins, first_stays, first_moves, first_ends}
 use Rattle.si_form.proofs.direct.first_of.Goals as goal
@@ -30,7 +30,7 @@ loop-n-preserved-then-next-slot c =
     first_stays c.args.slots.now c.args.trail.now.pairs c.args.slot c.loop-n.n c.loop-n.first c.slot-other.result c.in-Some.value.now
     (pair_at c.args.trail.now.pairs c.loop-n.n c.slot-other.result c.in-Some.value.now c.mark-n-end.ensures.distinct c.slot-other.ensures (sym c.in-Some.ensures))
     c.loop-n.invariant
-    (λ e. absurd (c.if-next-slot.true (same_some c.in-Some-slot_of.next c.args.slot (sym c.in-Some-slot_of.is ∙ c.slot_of.ensures ∙ e))))
+    (λ e. absurd (c.if-next-slot.true (same_Some c.in-Some-slot_of.next c.args.slot (sym c.in-Some-slot_of.is ∙ c.slot_of.ensures ∙ e))))
 
 pub loop-n-preserved : goal.loop-n-preserved
 loop-n-preserved c =

@@ -1,7 +1,8 @@
-use Rattle.std.proofs.Common.{◌≡◌, ◌<◌, length, replicate, None, ◌∙◌, ap, subst, arith}
+use Rattle.std.proofs.Common.{◌≡◌, ◌<◌, length, replicate, None, ◌∙◌, ap, subst, arith, refl}
 use Rattle.std.proofs.lemmas.List.{length-set, length-replicate}
+use Rattle.std.proofs.lemmas.Option.{slice_get_read}
 use Rattle.si_form.specs.Folding.{LeadClasses}
-use Rattle.si_form.proofs.FoldingLaws.{leads_begin, leads_more, read_at, all_fresh}
+use Rattle.si_form.proofs.FoldingLaws.{leads_begin, leads_more, all_fresh}
 use Rattle.si_form.proofs.leaders.leaders.Goals as goal
 
 pub loop-slot-init : goal.loop-slot-init
@@ -18,7 +19,7 @@ loop-slot-preserved c =
       ap (λ l. length l) c.lead.ensures ∙ length-set c.loop-slot.leaders.items _ _ ∙ c.loop-slot.invariant.0,
       λ slots.
           leads_more slots c.args.classes.now.nodes.keys c.args.classes.now.of_slots.items c.loop-slot.slot c.index.result.now c.loop-slot.leaders.items _ inside
-          (read_at c.args.classes.now.of_slots.items c.loop-slot.slot _ inside c.index.ensures)
+          (slice_get_read c.args.classes.now.of_slots.items _ c.loop-slot.slot _ refl inside c.index.ensures)
           c.lead.ensures (c.loop-slot.invariant.1 slots),
     )
 

@@ -1,9 +1,9 @@
 use Rattle.std.proofs.Common.{◌≡◌, ◌+◌, ◌≤◌, [], ◌∷◌, ◌++◌, map, refl, ap, ◌∙◌, arith}
+use Rattle.std.proofs.lemmas.Result.{on_ok_weaker}
 use Rattle.si_defs.specs.Terms.{row, size, sizes}
 use Rattle.si_term.specs.Terms.{term_of}
 use Rattle.si_term.proofs.Rows.{size-read, length-sizes, app-term}
 use Rattle.si_index.specs.Searching.{numbers_of, pattern_in}
-use Rattle.si_index.proofs.Results.{on_ok_then}
 use Rattle.si_index.proofs.EntryLaws.{known_argument, known_arguments, known_sub, alike_term}
 use Rattle.si_index.proofs.GatherLaws.{so_far_start, so_far_more, so_far_end, arguments_step, arguments_end, popped, variable_tried, application_tried}
 use Rattle.si_index.proofs.gather.+searching.Goals as goal
@@ -81,7 +81,7 @@ search_term-search_arguments-requires t c =
 
 pub search_term-returns-clause-adds : goal.search_term-returns-clause-adds
 search_term-returns-clause-adds t c =
-    on_ok_then c.search_arguments.result
+    on_ok_weaker c.search_arguments.result
     (application_tried c.args.search.now c.args.spot.position c.args.spot.literal c.args.gathered.now.path.items c.try_entry.new.gathered.path.items
     c.args.term.now c.in-App.field-0 c.in-App.arguments (map term_of c.as_slice.result.now) c.args.gathered.now.matches.found.items c.try_entry.new.gathered.matches c.search_arguments.new.gathered.matches
     c.in-App.is c.as_slice.ensures c.in_ok-try_entry.ensures.path c.in_ok-try_entry.ensures.adds)

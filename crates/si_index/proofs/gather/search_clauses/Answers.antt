@@ -1,8 +1,8 @@
 use Rattle.std.proofs.Common.{◌≡◌, ◌∷◌, ◌≤◌, length, drop, ◌∙◌, arith}
+use Rattle.si_defs.proofs.ListLaws.{all_got}
 use Rattle.si_term.specs.Meaning.{clause_of}
 use Rattle.si_index.specs.Kept.{clauses_of}
 use Rattle.si_index.specs.Searching.{numbers_of, IsKnownClause}
-use Rattle.si_index.proofs.EntryLaws.{at_position_of_all}
 use Rattle.si_index.proofs.KeptLaws.{kept_got, kept_rest, kept_some, kept_next, none_kept}
 use Rattle.si_index.proofs.GatherLaws.{so_far_more, so_far_end, gathered_all, clauses_step, clauses_end}
 use Rattle.si_index.proofs.gather.search_clauses.Goals as goal
@@ -20,8 +20,8 @@ search_clause-requires-clause-there c =
 pub search_clause-requires-clause-known : goal.search_clause-requires-clause-known
 search_clause-requires-clause-known c =
     let first = kept_next (λ b. b.now) c.loop-position.left c.next.new.self c.next.result c.next.ensures.steps _ c.in-Some.is ∙ c.loop-position.invariant.left in
-    at_position_of_all (IsKnownClause (numbers_of c.args.search.now)) c.args.search.now.index.now.clauses c.loop-position.position (clause_of c.in-Some.clause.now)
-    (kept_got c.args.search.now.index.now.clauses c.loop-position.position (clause_of c.in-Some.clause.now) (clauses_of c.next.new.self) first) c.requires.known
+    all_got (IsKnownClause (numbers_of c.args.search.now)) c.args.search.now.index.now.clauses c.loop-position.position (clause_of c.in-Some.clause.now) c.requires.known
+    (kept_got c.args.search.now.index.now.clauses c.loop-position.position (clause_of c.in-Some.clause.now) (clauses_of c.next.new.self) first)
 
 pub search_clause-requires-clause-each : goal.search_clause-requires-clause-each
 search_clause-requires-clause-each c = c.loop-position.invariant.so_far.adds.each

@@ -1,6 +1,7 @@
 use Rattle.std.proofs.Common.{◌≡◌, Some, is_some, sym, ◌∙◌, ap, arith}
+use Rattle.std.proofs.lemmas.Option.{same_Some}
 use Rattle.std.specs.Option.{option_copied}
-use Rattle.si_index.proofs.SlotLaws.{same_some, entry, stands_inside}
+use Rattle.si_index.proofs.SlotLaws.{entry, stands_inside}
 use Rattle.si_index.proofs.IndexedLaws.{total_kept, read_there, found_at}
 use Rattle.si_index.proofs.keyed.kept_at.Goals as goal
 
@@ -26,5 +27,5 @@ pub returns : goal.returns
 returns g c =
     let found = found_at c.args.slots.now c.args.ranks.now _ _ c.args.position c.requires.counted c.find-place.ensures.before c.find-place.ensures.there in
     let item : found.0 ≡ c.unwrap.result.now =
-    same_some (sym (read_there c.args.slots.now _ _ found.0 found.1 c.index-slots-place.is) ∙ sym c.as_ref.ensures.value ∙ ap option_copied c.unwrap.ensures) in
+    same_Some _ _ (sym (read_there c.args.slots.now _ _ found.0 found.1 c.index-slots-place.is) ∙ sym c.as_ref.ensures.value ∙ ap option_copied c.unwrap.ensures) in
     found.2 ∙ ap (λ i. Some (entry i)) item

@@ -3,8 +3,8 @@ use Rattle.si_index.specs.Halves.{halves, sum_of}
 use Rattle.si_index.proofs.SumLaws.{where_summed}
 use Rattle.si_index.proofs.HalfLaws.{sum_halves, fewer_halves, pushed_even, pushed_odd, half_of_odd}
 use Rattle.std.specs.Box.{with_value}
+use Rattle.std.proofs.lemmas.Result.{on_ok_weaker, on_err_weaker}
 use Rattle.si_index.specs.declared.ranks.Above.TheVariants.{Sums}
-use Rattle.si_index.proofs.Results.{on_ok_then, on_err_then}
 use Rattle.si_index.proofs.ranks.+push.Goals as goal
 
 pub grow-push-requires : goal.grow-push-requires
@@ -31,7 +31,7 @@ pub grow-returns-in-Sums-clause-ok : goal.grow-returns-in-Sums-clause-ok
 grow-returns-in-Sums-clause-ok t c =
     let h = where_summed _ c.requires.summed _ c.in-Sums.is in
     let sums : c.deref_mut.result.now ≡ halves c.args.counts.now = c.deref_mut.ensures.value ∙ h.1 in
-    on_ok_then
+    on_ok_weaker
     c.push.result
     (λ pushed. (
       omega (arith, h.0, length-append c.args.counts.now (1 ∷ [])),
@@ -41,7 +41,7 @@ grow-returns-in-Sums-clause-ok t c =
 
 pub grow-returns-in-Sums-clause-err : goal.grow-returns-in-Sums-clause-err
 grow-returns-in-Sums-clause-err t c =
-    on_err_then
+    on_err_weaker
     c.push.result
     (λ same. ap (λ v. Sums (with_value c.in-Sums.sums v)) (same ∙ c.deref_mut.ensures.value) ∙ sym c.in-Sums.is)
     c.push.ensures.err

@@ -1,13 +1,9 @@
 use Rattle.std.proofs.Common.{drop, length, ◌+◌}
-use Rattle.std.specs.Prelude.{Result, Ok, Err, OnErr}
+use Rattle.si_term.proofs.Results.{on_err}
 use Rattle.si_lex.specs.Lexemes.{token_of}
 use Rattle.si_lex.specs.Places.{TokenStands}
 use Rattle.si_lex.proofs.LexingLaws.{next_at}
 use Rattle.si_lex.proofs.token.next_token.Goals as goal
-
-on_err : {T E : Type 0} (r : Result T E) {P : Type 0} → P → OnErr r P
-on_err (Ok x) p = tt
-on_err (Err e) p = p
 
 pub returns-in_err-text-in-Some-clause-refused : goal.returns-in_err-text-in-Some-clause-refused
 returns-in_err-text-in-Some-clause-refused c =

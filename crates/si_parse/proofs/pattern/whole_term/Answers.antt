@@ -1,6 +1,6 @@
 use Rattle.std.proofs.Common.{sym, ◌∙◌}
 use Rattle.si_parse.proofs.PatternLaws.{term_left, term_whole}
-use Rattle.si_parse.proofs.ParseWhole.{not_empty, same_left, is_empty}
+use Rattle.si_parse.proofs.ParseWhole.{never_empty, same_left, is_empty}
 use Rattle.std.proofs.Common.{subst}
 use Rattle.si_parse.specs.Parsing.{IfFound}
 use Rattle.si_defs.specs.Clauses.{IsSoundPattern, term_pattern}
@@ -14,7 +14,7 @@ returns-in_default c = term_left c.args.tokens.now c.in_ok-term.field-0 c.in_ok-
 pub returns-then-not-is_empty : goal.returns-then-not-is_empty
 returns-then-not-is_empty c =
     term_left c.args.tokens.now c.in_ok-term.field-0 c.in_ok-term.ensures.read
-    (λ l r e n. not_empty c.in-Some.rest.now c.if-not-is_empty.ensures (same_left _ _ c.in-Some.rest r (sym c.in-Some.is ∙ e) n))
+    (λ l r e n. never_empty c.in-Some.rest.now c.if-not-is_empty.ensures (same_left _ _ c.in-Some.rest r (sym c.in-Some.is ∙ e) n))
 
 pub returns : goal.returns
 returns c =

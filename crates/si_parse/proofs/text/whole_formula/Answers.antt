@@ -1,5 +1,5 @@
 use Rattle.std.proofs.Common.{sym, ◌∙◌, subst}
-use Rattle.si_parse.proofs.ParseWhole.{whole_means, whole_only, whole_none, is_empty, not_empty, same_left}
+use Rattle.si_parse.proofs.ParseWhole.{whole_means, whole_only, whole_none, is_empty, never_empty, same_left}
 use Rattle.si_parse.proofs.ParseReads.{reads_some}
 use Rattle.si_defs.specs.Clauses.{AreSoundLiterals}
 use Rattle.si_parse.specs.Meaning.{literals_of}
@@ -12,7 +12,7 @@ returns-in_default-clause-read c = whole_none literals_of c.args.tokens.now tt c
 pub returns-then-not-is_empty-clause-read : goal.returns-then-not-is_empty-clause-read
 returns-then-not-is_empty-clause-read c =
     whole_none literals_of c.args.tokens.now tt c.in_ok-literals.field-0 c.in_ok-literals.ensures.read
-    (λ x r e n. not_empty c.in-Some.rest.now c.if-not-is_empty.ensures (same_left _ _ c.in-Some.rest r (sym c.in-Some.is ∙ e) n))
+    (λ x r e n. never_empty c.in-Some.rest.now c.if-not-is_empty.ensures (same_left _ _ c.in-Some.rest r (sym c.in-Some.is ∙ e) n))
 
 pub returns-clause-read : goal.returns-clause-read
 returns-clause-read c =

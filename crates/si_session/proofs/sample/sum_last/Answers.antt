@@ -4,7 +4,7 @@ use Rattle.si_defs.specs.Entries.{state_entries}
 use Rattle.si_defs.specs.declared.TheConstants.{MOST_OCCURRENCES}
 use Rattle.si_term.specs.Meaning.{clause_of}
 use Rattle.si_session.specs.Sums.{SumsTo}
-use Rattle.si_session.proofs.Sums.{clause_few, clause_more, clause_fits, sums_start, sums_end}
+use Rattle.si_session.proofs.Sums.{kept_few, clause_more, clause_fits, sums_start, sums_end}
 use Rattle.si_session.proofs.sample.sum_last.Goals as goal
 
 pub loop-at-init : goal.loop-at-init
@@ -15,7 +15,7 @@ loop-at-init c =
 
 pub sum_clause-requires-clause-few : goal.sum_clause-requires-clause-few
 sum_clause-requires-clause-few c =
-    clause_few c.args.index.now.clauses c.loop-at.at (clause_of c.clause.result.now) c.clause.ensures
+    kept_few c.args.index.now.clauses c.loop-at.at (clause_of c.clause.result.now) c.clause.ensures
     (omega (arith, c.stats-kept.ensures.stored.few, c.stats-kept.ensures.small))
 
 pub overflow_add-sum : goal.overflow_add-sum

@@ -3,7 +3,7 @@ use Rattle.std.proofs.lemmas.List.{length-map}
 use Rattle.si_term.specs.Terms.{symbol_of}
 use Rattle.si_term.specs.Meaning.{clause_of}
 use Rattle.si_term.proofs.EntryHeads.{length-symbols}
-use Rattle.si_sign.proofs.PlainLaws.{clause_few}
+use Rattle.si_term.proofs.Alone.{clause_few}
 use Rattle.si_sign.proofs.plain.clash_with.Goals as goal
 
 pub first_clash-requires : goal.first_clash-requires

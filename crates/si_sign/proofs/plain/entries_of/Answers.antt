@@ -1,6 +1,7 @@
 use Rattle.std.proofs.Common.{arith}
 use Rattle.si_term.specs.Meaning.{clause_of}
-use Rattle.si_sign.proofs.PlainLaws.{clause_few, sound_at, count_next, count_within}
+use Rattle.si_term.proofs.Alone.{clause_few}
+use Rattle.si_sign.proofs.PlainLaws.{sound_at, count_next, count_within}
 use Rattle.si_sign.proofs.plain.entries_of.Goals as goal
 
 pub entry_count-requires : goal.entry_count-requires

@@ -1,8 +1,8 @@
 use Rattle.std.proofs.Common.{◌∷◌, ◌++◌, [], take, sym, ap, subst, ◌∙◌}
+use Rattle.si_defs.proofs.ListLaws.{among_front, among_back}
 use Rattle.si_state.specs.Acceptance.{AllAgree}
 use Rattle.si_term.specs.Terms.{symbol_of}
 use Rattle.si_sign.specs.Plain.{lent_symbols}
-use Rattle.si_sign.proofs.UsesOf.{among_left, among_right}
 use Rattle.si_sign.proofs.TakeLaws.{agree_append}
 use Rattle.si_sign.proofs.PlainLaws.{agrees_both, shown_next, first_at}
 use Rattle.si_sign.proofs.plain.first_clash.Goals as goal
@@ -15,7 +15,7 @@ returns-in-Some-clause-clash c =
     let f = c.in-Some.ensures.clash in (
       symbol_of one.now,
       f.0,
-      first_at ks os c.loop-i.i one f.0 c.loop-i-test.true c.index-own-i.is c.loop-i.invariant (among_left ks (lent_symbols (take c.loop-i.i os)) f.0 f.1) f.2,
+      first_at ks os c.loop-i.i one f.0 c.loop-i-test.true c.index-own-i.is c.loop-i.invariant (among_front ks (lent_symbols (take c.loop-i.i os)) f.0 f.1) f.2,
       (c.shape-found.ensures, f.3),
     )
 
@@ -27,7 +27,7 @@ returns-in-Some-find_clash-clause-clash c =
     let f = c.in-Some-find_clash.ensures.clash in (
       symbol_of one.now,
       f.0,
-      first_at ks os c.loop-i.i one f.0 c.loop-i-test.true c.index-own-i.is c.loop-i.invariant (among_right ks (lent_symbols (take c.loop-i.i os)) f.0 f.1) f.2,
+      first_at ks os c.loop-i.i one f.0 c.loop-i-test.true c.index-own-i.is c.loop-i.invariant (among_back ks (lent_symbols (take c.loop-i.i os)) f.0 f.1) f.2,
       (c.shape-found.ensures, f.3),
     )
 

@@ -1,6 +1,7 @@
 use Rattle.std.proofs.Common.{sym, ◌∙◌}
 use Rattle.si_term.specs.Meaning.{clause_of, name_of}
-use Rattle.si_sign.proofs.PlainLaws.{clause_few, taken_if_some}
+use Rattle.si_term.proofs.Alone.{clause_few}
+use Rattle.si_sign.proofs.PlainLaws.{taken_if_some}
 use Rattle.si_sign.proofs.plain.try_clause.Goals as goal
 
 pub returns-then-is_some-clause-rejected : goal.returns-then-is_some-clause-rejected

@@ -1,5 +1,5 @@
 use Rattle.std.proofs.Common.{◌+◌, length, sym, subst, arith}
-use Rattle.si_subsume.proofs.Unequal.{some_cell}
+use Rattle.si_flat.proofs.Subterms.{some_cell}
 use Rattle.si_subsume.proofs.Arguments.{IsCutting, IsNextCut, cutting_start, next_cut, all_cut, length_told}
 use Rattle.si_subsume.proofs.cut.arguments.Goals as goal
 

@@ -1,5 +1,6 @@
 use Rattle.std.proofs.Common.{[], sym, ◌∙◌}
-use Rattle.si_subsume.proofs.Unequal.{some_cell, term_read}
+use Rattle.si_flat.proofs.Subterms.{some_cell}
+use Rattle.si_subsume.proofs.Unequal.{term_read}
 use Rattle.si_subsume.proofs.Seeking.{without_target}
 use Rattle.si_subsume.proofs.search.each_has_target.Goals as goal
 

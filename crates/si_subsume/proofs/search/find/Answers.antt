@@ -1,6 +1,6 @@
 use Rattle.std.proofs.Common.{◌≡◌, length, get_or, ap, ◌∙◌, subst, arith}
+use Rattle.si_flat.proofs.Subterms.{some_cell}
 use Rattle.si_subsume.specs.Heads.{nexts, TakesFrom}
-use Rattle.si_subsume.proofs.Unequal.{some_cell}
 use Rattle.si_subsume.proofs.HeadLaws.{length-nexts}
 use Rattle.si_subsume.proofs.Seeking.{seeking_start, seeking_on, sought, sought_all, next_above}
 use Rattle.si_subsume.proofs.search.find.Goals as goal

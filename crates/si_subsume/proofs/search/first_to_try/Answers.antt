@@ -1,6 +1,8 @@
 use Rattle.std.proofs.Common.{◌≡◌, ◌-◌, ◌<◌, suc, length, get_or, [], ap, sym, ◌∙◌, subst, arith}
+use Rattle.std.proofs.lemmas.Option.{slice_get-get_or}
+use Rattle.si_flat.proofs.Subterms.{some_cell}
 use Rattle.si_subsume.specs.Heads.{head_of, first_cell, IsFirstToTry}
-use Rattle.si_subsume.proofs.Unequal.{some_cell, term_read, got_read}
+use Rattle.si_subsume.proofs.Unequal.{term_read}
 use Rattle.si_subsume.proofs.HeadLaws.{length-nexts, heads_same}
 use Rattle.si_subsume.proofs.Seeking.{first_of_all, first_behind}
 use Rattle.si_subsume.proofs.search.first_to_try.Goals as goal
@@ -19,7 +21,7 @@ returns-then-eq c =
     let targets = c.args.task.now.targets.now in
     let head = head_of (first_cell c.args.literal.now) in
     let less : c.args.from - 1 < length targets = omega (arith, c.if-from-end.false, c.if-from-gt0.true) in
-    let got = got_read targets (c.args.from - 1) (record { ref_ptr = (0, 0); now = [] }) less in
+    let got = slice_get-get_or targets (c.args.from - 1) (record { ref_ptr = (0, 0); now = [] }) less in
     let same = heads_same c.head_of.result c.head_of-then-from-gt0.result (sym c.if-eq.ensures) in
     let behind : suc (c.args.from - 1) ≡ c.args.from = omega (arith, c.if-from-gt0.true) in
     subst (λ n. IsFirstToTry targets head n c.next.result) behind

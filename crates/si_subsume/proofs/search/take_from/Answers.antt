@@ -1,5 +1,6 @@
 use Rattle.std.proofs.Common.{[], get_or}
-use Rattle.si_subsume.proofs.Unequal.{term_read, got_read}
+use Rattle.std.proofs.lemmas.Option.{slice_get-get_or}
+use Rattle.si_subsume.proofs.Unequal.{term_read}
 use Rattle.si_subsume.proofs.Seeking.{takes_of}
 use Rattle.si_subsume.proofs.search.take_from.Goals as goal
 
@@ -8,4 +9,4 @@ solve_with-requires-clause-right c = (term_read c.args.task.now.slots c.args.tas
 
 pub returns-clause-takes : goal.returns-clause-takes
 returns-clause-takes c =
-    takes_of c.args.task.now.slots c.args.task.now.targets.now c.args.trail.now.pairs c.solve_with.new.trail.pairs c.args.literal.now c.args.from c.args.number (get_or c.args.task.now.targets.now c.args.number (record { ref_ptr = (0, 0); now = [] })) c.solve_with.result c.solve_with.ensures.solved c.solve_with.ensures.grows c.solve_with.ensures.no c.if-number-from.false (got_read c.args.task.now.targets.now c.args.number (record { ref_ptr = (0, 0); now = [] }) c.requires.inside)
+    takes_of c.args.task.now.slots c.args.task.now.targets.now c.args.trail.now.pairs c.solve_with.new.trail.pairs c.args.literal.now c.args.from c.args.number (get_or c.args.task.now.targets.now c.args.number (record { ref_ptr = (0, 0); now = [] })) c.solve_with.result c.solve_with.ensures.solved c.solve_with.ensures.grows c.solve_with.ensures.no c.if-number-from.false (slice_get-get_or c.args.task.now.targets.now c.args.number (record { ref_ptr = (0, 0); now = [] }) c.requires.inside)

@@ -1,11 +1,11 @@
-use Rattle.std.proofs.Common.{Some, IsSome, ap, sym, subst, refl, ◌∙◌, arith}
+use Rattle.std.proofs.Common.{Some, IsSome, ap, sym, subst, refl, ◌∙◌}
 use Rattle.si_term.specs.Meaning.{clause_of}
-use Rattle.si_term.proofs.Alone.{entries_few}
 use Rattle.si_term.proofs.EntryHeads.{head_found, head_placed}
 use Rattle.si_term.proofs.heads.head_at.Goals as goal
+use Rattle.si_term.proofs.Alone.{clause_few}
 
 pub entry_at-requires-clause-few : goal.entry_at-requires-clause-few
-entry_at-requires-clause-few c = omega (arith, entries_few 1 (clause_of c.args.clause.now).literals, c.requires.sound.sound.no_larger)
+entry_at-requires-clause-few c = clause_few (clause_of c.args.clause.now) c.requires.sound
 
 pub head_of-requires : goal.head_of-requires
 head_of-requires c = subst IsSome (sym (head_found (clause_of c.args.clause.now) c.requires.sound c.args.number _ c.in-Lit.ensures).1) refl

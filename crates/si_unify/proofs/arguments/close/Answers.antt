@@ -1,7 +1,7 @@
 use Rattle.std.proofs.Common.{◌∙◌, refl, subst, arith}
+use Rattle.si_defs.proofs.ListLaws.{all_got}
 use Rattle.si_unify.specs.Spots.{IsApart, HasCompared}
 use Rattle.si_unify.proofs.Closing.{closing_starts, closing_goes_on, closing_fails, closing_ends}
-use Rattle.si_unify.proofs.Meeting.{all_slice}
 use Rattle.si_unify.proofs.arguments.close.Goals as goal
 
 pub loop-next-init : goal.loop-next-init
@@ -12,17 +12,17 @@ loop-next-init c = record {
 
 pub cells_at-requires-clause-spot : goal.cells_at-requires-clause-spot
 cells_at-requires-clause-spot c =
-    let apart = all_slice (IsApart c.args.question.now c.loop-next.trail.pairs) c.loop-next.keys.keys c.loop-next.next c.index-pair.result.now c.loop-next.invariant.closing_on.going.keys c.index-pair.ensures in
+    let apart = all_got (IsApart c.args.question.now c.loop-next.trail.pairs) c.loop-next.keys.keys c.loop-next.next c.index-pair.result.now c.loop-next.invariant.closing_on.going.keys c.index-pair.ensures in
     (_, apart.left)
 
 pub cells_at-requires-in-loop-next-clause-spot : goal.cells_at-requires-in-loop-next-clause-spot
 cells_at-requires-in-loop-next-clause-spot c =
-    let apart = all_slice (IsApart c.args.question.now c.loop-next.trail.pairs) c.loop-next.keys.keys c.loop-next.next c.index-pair.result.now c.loop-next.invariant.closing_on.going.keys c.index-pair.ensures in
+    let apart = all_got (IsApart c.args.question.now c.loop-next.trail.pairs) c.loop-next.keys.keys c.loop-next.next c.index-pair.result.now c.loop-next.invariant.closing_on.going.keys c.index-pair.ensures in
     (_, apart.right)
 
 pub compare-requires-clause-apart : goal.compare-requires-clause-apart
 compare-requires-clause-apart c =
-    all_slice (IsApart c.args.question.now c.loop-next.trail.pairs) c.loop-next.keys.keys c.loop-next.next c.index-pair.result.now c.loop-next.invariant.closing_on.going.keys c.index-pair.ensures
+    all_got (IsApart c.args.question.now c.loop-next.trail.pairs) c.loop-next.keys.keys c.loop-next.next c.index-pair.result.now c.loop-next.invariant.closing_on.going.keys c.index-pair.ensures
 
 pub returns-then-not-branch-clause-closed : goal.returns-then-not-branch-clause-closed
 returns-then-not-branch-clause-closed c =

@@ -1,8 +1,9 @@
 use Rattle.std.proofs.Common.{arith, subst, sym}
+use Rattle.std.proofs.lemmas.Result.{IfOk-weaker}
 use Rattle.si_unify.specs.Spots.{ArePairs}
 use Rattle.si_unify.proofs.Chains.{head_inside, head_is}
 use Rattle.si_unify.proofs.Meeting.{apart_at, common_told}
-use Rattle.si_unify.proofs.Comparing.{if_ok, compared_met}
+use Rattle.si_unify.proofs.Comparing.{compared_met}
 use Rattle.si_unify.proofs.Answering.{left_subterm, right_subterm, met_at}
 use Rattle.si_unify.proofs.arguments.meet_terms.Goals as goal
 
@@ -36,7 +37,7 @@ compare-requires-clause-right_small c = omega (arith, c.requires.right_small)
 
 pub returns-in-Some-clause-met : goal.returns-in-Some-clause-met
 returns-in-Some-clause-met c =
-    if_ok c.compare.result _ _
+    IfOk-weaker c.compare.result _ _
     (λ b h. met_at _ _ _ _ _ _ b c.count-count.ensures.count (compared_met _ _ _ _ _ _ b c.requires.none h))
     c.compare.ensures.compared
 
@@ -50,4 +51,4 @@ pub meet-requires-clause-right : goal.meet-requires-clause-right
 meet-requires-clause-right c = right_subterm _ _ _ c.count-count.ensures.count c.requires.legal
 
 pub returns-in-None-clause-met : goal.returns-in-None-clause-met
-returns-in-None-clause-met c = if_ok c.meet.result _ _ (λ b h. met_at _ _ _ _ _ _ b c.count-count.ensures.count h) c.meet.ensures.met
+returns-in-None-clause-met c = IfOk-weaker c.meet.result _ _ (λ b h. met_at _ _ _ _ _ _ b c.count-count.ensures.count h) c.meet.ensures.met

@@ -1,4 +1,5 @@
-use Rattle.si_unify.proofs.Comparing.{end_of, met_through, if_ok}
+use Rattle.std.proofs.lemmas.Result.{IfOk-weaker}
+use Rattle.si_unify.proofs.Comparing.{end_of, met_through}
 use Rattle.si_unify.proofs.equations.meet.Goals as goal
 
 pub meet_ends-requires-clause-left_end : goal.meet_ends-requires-clause-left_end
@@ -9,6 +10,6 @@ meet_ends-requires-clause-right_end c = end_of _ _ _ _ (c.requires.right.term, c
 
 pub returns-clause-met : goal.returns-clause-met
 returns-clause-met c =
-    if_ok c.meet_ends.result _ _
+    IfOk-weaker c.meet_ends.result _ _
     (λ b h. met_through _ _ _ _ _ _ _ _ _ b c.follow-left_end.ensures.comes c.follow-right_end.ensures.comes h)
     c.meet_ends.ensures.met

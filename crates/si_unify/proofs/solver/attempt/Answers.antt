@@ -1,7 +1,8 @@
 use Rattle.std.proofs.Common.{take, sym, ap, ◌∙◌, subst, arith}
+use Rattle.std.proofs.lemmas.Result.{IfOk-weaker}
 use Rattle.si_unify.specs.Solving.{IsAcyclic}
 use Rattle.si_unify.specs.Spots.{left_spot, right_spot, HasMet, HasClosed, IsLegal}
-use Rattle.si_unify.proofs.Comparing.{if_ok, grows_on}
+use Rattle.si_unify.proofs.Comparing.{grows_on}
 use Rattle.si_unify.proofs.Answering.{legal_at_first, front_of, front_within, answered, answered_unclosed, answered_unmet}
 use Rattle.si_unify.proofs.solver.attempt.Goals as goal
 
@@ -95,7 +96,7 @@ pub returns-clause-answered : goal.returns-clause-answered
 returns-clause-answered c =
     let legal : IsLegal c.args.question.now c.args.trail.now.pairs =
     legal_at_first _ _ c.requires.bindings c.requires.triangular c.requires.left c.requires.right c.requires.left_range c.requires.right_range in
-    if_ok c.is_triangular.result _ _
+    IfOk-weaker c.is_triangular.result _ _
     (λ b told.
     answered c.args.question.now c.args.trail.now.pairs c.meet_terms.new.trail.pairs c.args.buffers.now.keys.keys c.meet_terms.new.keys.keys
     c.requires.clear.keys legal

@@ -1,4 +1,5 @@
--- Each turn goes to the next line feed, and what is left behind the last one belongs to a line that was begun.
+-- Each turn goes to the next line feed, and what is left behind the last one belongs to a line that
+-- was begun.
 use Rattle.std.proofs.Common.{◌+◌, ◌∙◌, refl, arith, take_all, length-drop}
 use Rattle.clap.proofs.TakesLemmas.{passed_up}
 use Rattle.stindex.proofs.Progress.{Feeds_line, Feeds_fail, Feeds_end}

@@ -1,4 +1,5 @@
--- The words are declined, or done as they ask; and a run over devices that can't fail ends in no fault.
+-- The words are declined, or done as they ask; and a run over devices that can't fail ends in no
+-- fault.
 use Rattle.std.proofs.Common.{refl, sym, ◌∙◌, true≢false, map, string_bytes}
 use Rattle.clap.specs.Words.{found_of, rows_of}
 use Rattle.stindex.proofs.Endings.{Serves_memory, serves_said, answers_asked, answers_usage, answers_memory}

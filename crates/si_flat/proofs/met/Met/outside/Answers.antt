@@ -7,8 +7,10 @@ use Rattle.si_flat.specs.declared.met.SymbolKey.{SymbolKey}
 use Rattle.si_flat.specs.contracts.met.SymbolKeyPartialEq.TheImpl as key_eq
 use Rattle.si_flat.specs.Numbered.{place_in}
 use Rattle.si_flat.specs.Flattening.{symbol_of_key, met_extra}
-use Rattle.si_flat.proofs.Inserted.{inserted-place, key-shown, place-shown}
-use Rattle.si_flat.proofs.Keys.{key_is, symbol-Decides}
+use Rattle.si_term.proofs.Inserted.{key-shown, place-shown}
+use Rattle.si_flat.proofs.InsertedPlaces.{inserted-place}
+use Rattle.si_defs.proofs.SymbolLaws.{symbol-Decides}
+use Rattle.si_flat.proofs.Keys.{key_is}
 use Rattle.si_flat.proofs.met.Met.outside.Goals as goal
 
 same_parts : (c : goal.In_ok-place) → symbol_of_key (record { kind = c.args.symbol.now.kind; side = c.args.symbol.now.side; arity = c.args.symbol.now.arity; text = c.as_bytes.result }) ≡ symbol_of c.args.symbol.now

@@ -3,7 +3,7 @@ use Rattle.std.specs.Prelude.{bytes_eq}
 use Rattle.std.proofs.lemmas.Slice.Eq.{bytes_eq-Decides}
 use Rattle.si_flat.specs.Numbered.{place_in}
 use Rattle.si_flat.specs.Flattening.{met_names}
-use Rattle.si_flat.proofs.Inserted.{inserted-place}
+use Rattle.si_flat.proofs.InsertedPlaces.{inserted-place}
 use Rattle.si_flat.proofs.met.Met.variable.Goals as goal
 
 pub returns-clause-number : goal.returns-clause-number

@@ -3,8 +3,8 @@ use Rattle.std.specs.Prelude.{bytes_eq}
 use Rattle.std.specs.List.{list_any, position_or_len}
 use Rattle.std.proofs.lemmas.List.Sums.{prefix_len-le-length}
 use Rattle.indexmap.specs.IndexSet.{insert_key}
-use Rattle.si_flat.proofs.Inserted.{lent_eq}
-use Rattle.si_flat.proofs.NameLaws.{shown, later_place, later_known, later_new}
+use Rattle.si_term.proofs.Inserted.{lent_eq, shown}
+use Rattle.si_flat.proofs.NameLaws.{later_place, later_known, later_new}
 use Rattle.si_flat.proofs.names.Names.insert.Goals as goal
 use Rattle.si_flat.proofs.names.Names.insert.Goals.{then-is_new, else-is_new}
 

@@ -1,10 +1,10 @@
 use Rattle.std.proofs.Common.{◌≡◌, ◌++◌, ◌∷◌, [], ℕ}
-use Rattle.std.proofs.lemmas.Result.{on_ok_weaker}
+use Rattle.std.proofs.lemmas.Result.{on_ok_weaker, IfErr-weaker}
 use Rattle.si_harvest.specs.declared.faults.HarvestFault.{HarvestFault}
 use Rattle.si_harvest.specs.declared.reading.Reading.{Reading}
 use Rattle.si_harvest.specs.Faults.{Explains, bounds_of}
 use Rattle.si_harvest.specs.Opened.{IsUnopened}
-use Rattle.si_harvest.proofs.Errors.{blames_weaker, err_weaker}
+use Rattle.si_harvest.proofs.Errors.{blames_weaker}
 use Rattle.si_harvest.proofs.reading.Reading.include.Goals as goal
 
 pub returns-clause-entered : goal.returns-clause-entered
@@ -20,6 +20,6 @@ returns-clause-unopened g c =
     let P : HarvestFault → Type 0 = λ e. (limit : ℕ) → Explains limit e (IsUnopened told bounds c.args.name.now c.push.new.self) in
     let Q : HarvestFault → Type 0 = λ e. (limit : ℕ) → Explains limit e (λ fault. (middle : Reading) × (middle.files.items ≡ c.args.self.now.files.items ++ c.args.file ∷ [])
     × (middle.fetches ≡ c.args.self.now.fetches) × IsUnopened told bounds c.args.name.now middle fault) in
-    err_weaker c.enter.result P Q
+    IfErr-weaker c.enter.result P Q
     (λ e h limit. blames_weaker limit e _ _ (λ fault k. (c.push.new.self, c.in_ok-push.ensures.files, c.push.ensures.fetches, k)) (h limit))
     c.enter.ensures.unopened

@@ -1,9 +1,10 @@
 use Rattle.std.proofs.Common.{ap, sym, ◌∙◌, subst, arith}
 use Rattle.std.proofs.lemmas.Option.{slice_get_within}
+use Rattle.si_defs.specs.Entries.{distinct_variables}
 use Rattle.si_term.specs.Meaning.{entry_of}
 use Rattle.si_index.specs.Finding.{Finding}
 use Rattle.si_index.specs.Showing.{ShowsHit}
-use Rattle.si_index.specs.Searching.{numbers_of, pattern_in, hit_of, names_in, SolvesEntry}
+use Rattle.si_index.specs.Searching.{numbers_of, pattern_in, hit_of, SolvesEntry}
 use Rattle.si_flat.specs.Flattened.{query_numbers}
 use Rattle.si_index.proofs.FoundLaws.{inside, hit_at, match_at, solves_at, shows_entry}
 use Rattle.si_index.proofs.found.Found.shown.Goals as goal
@@ -30,7 +31,7 @@ returns c =
       shows_entry s s.index.now.numbers (entry_of m.entry) c.in_ok-copy.field-0 c.in_ok-vars_of.field-0 c.in_ok-vars_of-2.field-0 c.in_ok-copy_symbols.field-0
           c.self.invariant.numbers c.self.invariant.ready
           (subst (SolvesEntry s.relation (query_numbers (numbers_of s) s.query.extra) (pattern_in s) (entry_of m.entry)) (sym c.in_ok-copy.ensures) solves.list)
-          (c.in_ok-vars_of.ensures ∙ ap names_in c.as_entry.ensures)
+          (c.in_ok-vars_of.ensures ∙ ap distinct_variables c.as_entry.ensures)
           c.in_ok-vars_of-2.ensures
           c.in_ok-copy_symbols.ensures,
     )

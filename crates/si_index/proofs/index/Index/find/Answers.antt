@@ -1,6 +1,6 @@
 use Rattle.std.proofs.Common.{refl, ap, sym, ◌∙◌, subst, arith}
+use Rattle.si_defs.specs.Entries.{distinct_variables}
 use Rattle.si_defs.specs.Symbols.{IsNumbering}
-use Rattle.si_index.specs.Searching.{names_in}
 use Rattle.si_index.proofs.EntryLaws.{all_clauses_known}
 use Rattle.si_index.proofs.GatherLaws.{matches_few, hits_solved}
 use Rattle.si_index.proofs.index.Index.find.Goals as goal
@@ -24,7 +24,7 @@ invariant_of-result c = record {
     sound = c.requires;
     flat = c.in_ok-flatten_pattern.ensures;
   };
-  names = c.in_ok-query_names.ensures ∙ ap names_in c.as_entry.ensures;
+  names = c.in_ok-query_names.ensures ∙ ap distinct_variables c.as_entry.ensures;
   few = omega (arith, matches_few _ c.args.self.now.clauses c.in_ok-matches.matches c.in_ok-matches.ensures, c.stats-stats.ensures.stored.few, c.stats-stats.ensures.small);
   each = c.in_ok-matches.ensures.each;
 }

@@ -1,9 +1,9 @@
 use Rattle.std.proofs.Common.{◌≡◌, ◌-◌, [], ◌∷◌, ◌++◌, length, subst}
+use Rattle.si_defs.proofs.ListLaws.{get_among}
 use Rattle.si_term.specs.Meaning.{clause_of}
 use Rattle.si_index.specs.Keyed.{item_keys}
 use Rattle.si_index.specs.Kept.{Kept, clauses_of}
 use Rattle.si_index.proofs.KnownLaws.{uses_few, as_many_entries, kept_less, last_taken}
-use Rattle.si_index.proofs.NamedLaws.{get_among}
 use Rattle.si_index.proofs.index.IndexClauseStore.remove_last.Goals as goal
 
 pub remove-clause-requires : goal.remove-clause-requires

@@ -1,9 +1,9 @@
 use Rattle.std.proofs.Common.{◌≡◌, ◌∷◌, ◌≤◌, length, drop, map, sym, ◌∙◌, subst, arith}
 use Rattle.si_defs.specs.Clauses.{IsSoundClause}
+use Rattle.si_defs.proofs.ListLaws.{all_got}
 use Rattle.si_term.specs.Meaning.{literal_of, clause_of}
 use Rattle.si_index.specs.Kept.{clauses_of}
 use Rattle.si_index.specs.Subsuming.{IsMapIn}
-use Rattle.si_index.proofs.EntryLaws.{at_position_of_all}
 use Rattle.si_index.proofs.KeptLaws.{kept_got, kept_rest, kept_some, kept_next, none_kept}
 use Rattle.si_index.proofs.SubsumingLaws.{AreMappedSoFar, mapped_next, mapped_end}
 use Rattle.si_index.proofs.subsuming.Comparison.mapped_clauses.Goals as goal
@@ -24,8 +24,8 @@ unreachable-requires c =
 pub try_clause-requires-clause-clause : goal.try_clause-requires-clause-clause
 try_clause-requires-clause-clause c =
     let first = kept_next (λ b. b.now) c.loop-position.left c.next.new.self c.next.result c.next.ensures.steps _ c.in-Some.is ∙ c.loop-position.invariant.left in
-    at_position_of_all IsSoundClause c.args.index.now.clauses c.loop-position.position (clause_of c.in-Some.clause.now)
-    (kept_got c.args.index.now.clauses c.loop-position.position (clause_of c.in-Some.clause.now) (clauses_of c.next.new.self) first) c.stats-position-end.ensures.stored.sound
+    all_got IsSoundClause c.args.index.now.clauses c.loop-position.position (clause_of c.in-Some.clause.now) c.stats-position-end.ensures.stored.sound
+    (kept_got c.args.index.now.clauses c.loop-position.position (clause_of c.in-Some.clause.now) (clauses_of c.next.new.self) first)
 
 pub loop-position-preserved : goal.loop-position-preserved
 loop-position-preserved c =

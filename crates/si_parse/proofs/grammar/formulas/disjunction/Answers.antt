@@ -1,9 +1,10 @@
 use Rattle.std.proofs.Common.{◌<◌, ◌∷◌, ◌++◌, [], length, ap, ◌∙◌, arith}
+use Rattle.std.proofs.lemmas.List.{map_push}
 use Rattle.si_defs.specs.Grammar.{IsLiteral}
 use Rattle.si_parse.specs.Meaning.{literals_of}
 use Rattle.si_term.specs.Meaning.{literal_of}
 use Rattle.si_parse.proofs.ParseReads.{reads_some, reads_none, mark_front, mark_none, mark_shorter, left_shorter}
-use Rattle.si_parse.proofs.ParseRows.{row_none, row_stop, row_some, along_at, along_first, along_more, map_push}
+use Rattle.si_parse.proofs.ParseRows.{row_none, row_stop, row_some, along_at, along_first, along_more}
 use Rattle.si_parse.proofs.GrammarFormulas.{literal_last, bar_no_sign, bar_stops}
 use Rattle.si_parse.proofs.grammar.formulas.disjunction.Goals as goal
 

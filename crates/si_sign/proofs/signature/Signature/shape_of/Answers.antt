@@ -1,10 +1,11 @@
 use Rattle.std.proofs.Common.{◌≡◌, sym, ap, subst, ◌∙◌}
+use Rattle.std.proofs.lemmas.Option.{same_Some}
 use Rattle.si_defs.specs.Symbols.{Symbol}
 use Rattle.si_defs.specs.Substitutions.{IsAmong}
 use Rattle.si_state.specs.Signatures.{IsSignature, known_symbols, keys}
 use Rattle.si_sign.specs.Uses.{used_at, seen}
 use Rattle.si_sign.proofs.UsesOf.{among_symbols}
-use Rattle.si_sign.proofs.KeptLaws.{is_signature, no_key, in_seen, some_is}
+use Rattle.si_sign.proofs.KeptLaws.{is_signature, no_key, in_seen}
 use Rattle.si_sign.proofs.signature.Signature.shape_of.Goals as goal
 
 pub returns-in_default-clause-none : goal.returns-in_default-clause-none
@@ -21,7 +22,7 @@ returns-clause-found c =
     let u = c.self.inside.uses in
     let w = c.index-counted.result.now in
     let r = c.self.invariant.found c.args.kind c.args.text.now c.in-Some.key (sym c.get.ensures ∙ c.in-Some.is) in
-    let same = some_is r.0 w (sym r.1 ∙ c.index-counted.ensures) in
+    let same = same_Some r.0 w (sym r.1 ∙ c.index-counted.ensures) in
     let s : Symbol = record { kind = c.args.kind; text = c.args.text.now; side = c.shape.result.side; arity = c.shape.result.arity } in
     let is : record { kind = w.sym.kind; text = w.sym.text; side = w.sym.side; arity = w.sym.arity } ≡ s = λ i. record {
       kind = (ap (λ d. d.sym.kind) (sym same) ∙ r.2) i;

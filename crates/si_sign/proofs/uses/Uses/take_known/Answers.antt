@@ -1,11 +1,12 @@
 use Rattle.std.proofs.Common.{◌≡◌, ◌+◌, ◌-◌, ◌&&◌, ◌==◌, Some, refl, sym, ap, ◌∙◌, arith}
-use Rattle.std.proofs.lemmas.Bool.{eqb-true}
+use Rattle.std.proofs.lemmas.Option.{same_Some}
+use Rattle.std.proofs.lemmas.Bool.{eqb-true, and_parts}
 use Rattle.si_defs.specs.Symbols.{Symbol, same_side}
 use Rattle.si_term.specs.Terms.{symbol_of}
 use Rattle.si_sign.specs.Uses.{seen}
 use Rattle.si_sign.specs.declared.uses.Counted.{Counted}
-use Rattle.si_sign.proofs.SymbolLaws.{both, side_is}
-use Rattle.si_sign.proofs.KeptLaws.{uses_at, some_is}
+use Rattle.si_defs.proofs.SymbolLaws.{side_is}
+use Rattle.si_sign.proofs.KeptLaws.{uses_at}
 use Rattle.si_sign.proofs.ChangeLaws.{changed}
 use Rattle.si_sign.proofs.StepLaws.{known_slot, recounted, recounted_there, another_use, takes_step, agrees_known, refuses_known, same_shape, uses_total}
 use Rattle.si_sign.proofs.uses.Uses.take_known.Goals as goal
@@ -40,8 +41,8 @@ returns-clause-ok c =
     let there = c.index_mut.ensures.value in
     let d : Counted = record { sym = w.sym; uses = w.uses + 1 } in
     let change = recounted t c.requires.uses s c.args.key w d (t.total + 1) c.requires.key there refl (omega arith) (omega arith) (omega (arith, c.requires.room)) in
-    let same : c.index.result.now ≡ w = some_is _ _ (sym c.index.ensures ∙ there) in
-    let shape = both (same_side s.side w.sym.side) (s.arity == w.sym.arity)
+    let same : c.index.result.now ≡ w = same_Some _ _ (sym c.index.ensures ∙ there) in
+    let shape = and_parts (same_side s.side w.sym.side) (s.arity == w.sym.arity)
     (ap (λ (x : Counted). same_side s.side x.sym.side && s.arity == x.sym.arity) (sym same) ∙ sym c.has_shape_of.ensures ∙ c.if-not-has_shape_of.false) in
     let is = same_shape s w (known_slot t c.requires.uses s c.args.key w c.requires.key there) (side_is s.side w.sym.side shape.0) (eqb-true s.arity w.sym.arity shape.1) in
     takes_step t _ s c.args.key (Some w) (Some d) c.requires.uses change there (recounted_there t c.args.key w d (t.total + 1) there)

@@ -1,25 +1,14 @@
 -- Where a text doesn't begin with a clause.
-use Rattle.std.proofs.Common.{◌≡◌, ℕ, List, [], ◌∷◌}
+use Rattle.std.proofs.Common.{◌≡◌}
 use Rattle.std.specs.Prelude.{None}
 use Rattle.si_defs.specs.Bytes.{Bytes}
-use Rattle.si_defs.specs.Tokens.{Token, AreBlanks, Begins}
-use Rattle.si_defs.specs.Grammar.{Item, clause_item, include_item}
-use Rattle.si_defs.specs.Texts.{BeginsWithItem}
-use Rattle.si_lex.specs.FullStops.{EndsAtStop}
-use Rattle.si_lex.proofs.TokenLaws.{blanks_none}
+use Rattle.si_defs.specs.Grammar.{clause_item, include_item}
 use Rattle.si_parse.specs.Meaning.{selection_of}
 use Rattle.si_parse.specs.Reading.{IsRead}
 use Rattle.si_parse.specs.declared.item.Read.{Read}
 use Rattle.si_parse.specs.declared.item.Read.TheVariants as read
-use Rattle.si_parse.proofs.GrammarStops.{item_stops}
+use Rattle.si_parse.proofs.GrammarStops.{no_item_in_blanks}
 use Rattle.si_guide.specs.Steps.{ReadsClause}
-
--- nothing but blanks is no item
-no_item_in_blanks : (text : Bytes) (item : Item) (rest : Bytes) → AreBlanks text → BeginsWithItem text item rest → ⊥
-no_item_in_blanks text item rest blanks h = by h.tokens h.begins (item_stops item h.tokens h.spelled) where
-  by : (ts : List Token) → Begins text ts rest → EndsAtStop 0 ts → ⊥
-  by [] begins ends = ends
-  by (t ∷ ts) begins ends = blanks_none text blanks t begins.0 begins.1
 
 -- something else than a clause was read
 abbrev pub IsOther : Read → Type 0

@@ -1,4 +1,4 @@
-mod ShownLists
+mod ShownEntries
 mod FirstClauses
 mod FirstHits
-mod NumberedPairs
+mod Refused

@@ -15,4 +15,4 @@ pub use finding::{first_shown, keep};
 pub use flattening::{FlatPair, flatten_both};
 pub use printing::print_shown;
 pub use reading::{read_clause, read_literal};
-pub use solving::{are_in_range, canonical_list, have_common};
+pub use solving::{canonical_list, have_common};

@@ -1,34 +1,16 @@
 // Whether flat terms can be made equal, and their canonical lists.
-ghost use Rattle.std.specs.Prelude.{◌≡◌, ◌↔◌, [], IfOk, IsTrue};
+ghost use Rattle.std.specs.Prelude.{◌↔◌, [], IfOk, IsTrue};
 ghost use Rattle.si_flat.specs.declared.Owner.TheVariants.{Query, Entry};
-ghost use Rattle.si_unify.specs.Solving.{CellIsInRange, AreInRange, HaveCommon};
+ghost use Rattle.si_unify.specs.Solving.{AreInRange, HaveCommon};
 ghost use Rattle.si_form.specs.Answers.{AreNumbered, Answers};
 
 use crate::flattening::FlatPair;
 use si_defs::Relation;
-use si_flat::{Cell, Flat};
+use si_flat::Flat;
 use si_form::{Solution, canonical};
 use si_trail::Trail;
 use si_unify::{Slots, solve};
 use std::alloc::{AllocError, Global};
-
-fn is_in_range(slots: &Slots, cell: Cell) -> bool
-    ensures { IsTrue result ↔ CellIsInRange slots.now cell }
-{
-    match cell {
-        Cell::App { .. } => true,
-        Cell::Query(number) => number < slots.query,
-        Cell::Entry(number) => number < slots.entry,
-        Cell::Ind(number) => number < slots.inds,
-    }
-}
-
-/// Whether each variable of a flat term has a slot.
-pub fn are_in_range(slots: &Slots, term: &Flat) -> bool
-    ensures { IsTrue result ↔ AreInRange slots.now term.now }
-{
-    term.cells().iter().all(|cell| is_in_range(slots, *cell))
-}
 
 /// Whether some substitution makes two flat terms equal. It leaves frozen variables as they are.
 pub fn have_common(

@@ -4,7 +4,7 @@ use Rattle.si_defs.specs.Entries.{pattern_entry}
 use Rattle.si_term.specs.Meaning.{pattern_of, entry_of}
 use Rattle.si_flat.specs.declared.Owner.TheVariants.{Query, Entry}
 use Rattle.si_flat.specs.Flattened.{FlattensEntry, query_numbers}
-use Rattle.si_guide.proofs.NumberedPairs.{flat_is_numbered}
+use Rattle.si_index.proofs.FlatLaws.{flat_is_numbered}
 use Rattle.si_guide.proofs.flattening.flatten_both.Goals as goal
 
 pub returns-clause-numbered : goal.returns-clause-numbered

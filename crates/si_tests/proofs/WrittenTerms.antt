@@ -3,10 +3,10 @@ use Rattle.std.proofs.Common.{List, refl, subst}
 use Rattle.si_defs.specs.Terms.{var, app, none, more}
 use Rattle.si_flat.specs.declared.Cell.{Cell}
 use Rattle.si_flat.specs.Cells as cells
-use Rattle.si_flat.specs.Cells.{query, entry, StandsFor, IsWhole}
+use Rattle.si_flat.specs.Cells.{query, entry, StandsFor}
 use Rattle.si_flat.specs.declared.Owner.{Owner}
+use Rattle.si_unify.proofs.Reading.{one_term}
 use Rattle.si_form.specs.Answers.{IsNumbered, AreNumbered}
-use Rattle.si_form.proofs.Agreeing.{same_value}
 
 abbrev pub a : cells.Term
 a = app (record { number = 4; arity = 0 }) none
@@ -19,7 +19,7 @@ f t u = app (record { number = 0; arity = 2 }) (more t (more u none))
 
 -- the cells of a term are numbered as the term is
 pub numbered_by : (owner : Owner) (list : List Cell) (t : cells.Term) → StandsFor list t → IsNumbered owner t → AreNumbered owner list
-numbered_by owner list t h numbered u k = subst (IsNumbered owner) (same_value list t u h k) numbered
+numbered_by owner list t h numbered u k = subst (IsNumbered owner) (one_term list t u h k) numbered
 
 pub query_stands : StandsFor (cells.cells_of (f (var (query 0)) (g (var (query 1))))) (f (var (query 0)) (g (var (query 1))))
 query_stands = record { cells_are = refl; sound = (refl, (tt, ((refl, (tt, tt)), tt))) }

@@ -1,7 +1,6 @@
 // Equations solved under each freezing, whose answers were worked out by Robinson's algorithm.
-ghost use Rattle.std.specs.Prelude.{IsTrue, ◌∷◌, []};
+ghost use Rattle.std.specs.Prelude.{◌∷◌, []};
 ghost use Rattle.si_flat.specs.Cells.{IsWhole};
-ghost use Rattle.si_unify.specs.Solving.{CellIsInRange, AreInRange};
 
 use si_flat::{Cell, Flat};
 use si_trail::Trail;
@@ -99,28 +98,6 @@ fn read(alloc: Global, signs: &[u8]) -> Result<Flat, AllocError> {
     taken(&mut terms)
 }
 
-fn is_in_range(slots: &Slots, cell: Cell) -> bool
-    ensures { IsTrue result → CellIsInRange slots.now cell }
-{
-    match cell {
-        Cell::App { .. } => true,
-        Cell::Query(number) => number < slots.query,
-        Cell::Entry(number) => number < slots.entry,
-        Cell::Ind(number) => number < slots.inds,
-    }
-}
-
-fn are_in_range(slots: &Slots, cells: &[Cell]) -> bool
-    ensures { IsTrue result → AreInRange slots.now cells.now }
-{
-    for &cell in cells {
-        if !is_in_range(slots, cell) {
-            return false;
-        }
-    }
-    true
-}
-
 fn sign_of(cell: Cell) -> u8 {
     let sign = match cell {
         Cell::App { sym, arity: 0, .. } if sym == b'g' as u32 => Some(&b'c'),
@@ -163,10 +140,10 @@ fn answer(
     t: &Flat,
 ) -> Result<Vec<u8>, AllocError> {
     let mut trail = Trail::with_slots(alloc, slots.count())?;
-    if !are_in_range(slots, s.cells()) {
+    if !slots.are_in_range(s.cells()) {
         return Err(AllocError);
     }
-    if !are_in_range(slots, t.cells()) {
+    if !slots.are_in_range(t.cells()) {
         return Err(AllocError);
     }
     let is_solved = match scratch {
@@ -370,94 +347,95 @@ fn circles(rt: HostRuntime) -> Result<(), Fail> {
     Ok(())
 }
 
+const TWICE: [Row; 17] = [
+    (b"fxx", b"fab", [b"false"; 4]),
+    (b"fxx", b"faa", [b"x=a ", b"false", b"x=a ", b"false"]),
+    (
+        b"fxy",
+        b"fya",
+        [b"x=y y=a ", b"false", b"x=y y=a ", b"false"],
+    ),
+    (
+        b"fxx",
+        b"fyY",
+        [b"x=y Y=y ", b"false", b"x=y y=Y ", b"false"],
+    ),
+    (
+        b"fxfyz",
+        b"fyfza",
+        [b"x=y z=y y=a ", b"false", b"x=y z=y y=a ", b"false"],
+    ),
+    (
+        b"fxfxy",
+        b"fgYfgaz",
+        [b"x=gY y=z Y=a ", b"false", b"false", b"false"],
+    ),
+    (
+        b"fxfxx",
+        b"fyfza",
+        [b"x=y z=y y=a ", b"false", b"x=y z=y y=a ", b"false"],
+    ),
+    (
+        b"fxfyz",
+        b"ffyyffzzfaa",
+        [
+            b"x=fyy y=fzz z=faa ",
+            b"false",
+            b"x=fyy y=fzz z=faa ",
+            b"false",
+        ],
+    ),
+    (
+        b"ffxfyzfXY",
+        b"fffyyffzzfaafffZZfZZffaafaa",
+        [
+            b"x=fyy y=fzz z=faa X=ffZZfZZ Y=ffaafaa ",
+            b"false",
+            b"false",
+            b"false",
+        ],
+    ),
+    (
+        b"ffxfyzx",
+        b"fffyyffzzfXXfffXXfXXffXXfXX",
+        [
+            b"x=fyy y=fzz z=fXX ",
+            b"false",
+            b"x=fyy y=fzz z=fXX ",
+            b"false",
+        ],
+    ),
+    (
+        b"fyfza",
+        b"fxfyz",
+        [b"y=x z=x x=a ", b"false", b"y=x z=x x=a ", b"false"],
+    ),
+    (
+        b"fxfXx",
+        b"fyfYX",
+        [b"x=y X=Y y=Y ", b"false", b"false", b"false"],
+    ),
+    (b"fXY", b"fYX", [b"X=Y ", b"X=Y ", b"false", b"false"]),
+    (
+        b"fXgX",
+        b"fgaY",
+        [b"X=ga Y=gX ", b"X=ga Y=gX ", b"false", b"false"],
+    ),
+    (
+        b"fXfYZ",
+        b"fYfZX",
+        [b"X=Y Z=Y ", b"X=Y Z=Y ", b"false", b"false"],
+    ),
+    (b"fgXfXx", b"fyfyy", [b"false"; 4]),
+    (
+        b"fxX",
+        b"fXgb",
+        [b"x=X X=gb ", b"false", b"false", b"false"],
+    ),
+];
+
 #[test]
 fn variables_that_stand_twice(rt: HostRuntime) -> Result<(), Fail> {
-    let rows: [Row; 17] = [
-        (b"fxx", b"fab", [b"false"; 4]),
-        (b"fxx", b"faa", [b"x=a ", b"false", b"x=a ", b"false"]),
-        (
-            b"fxy",
-            b"fya",
-            [b"x=y y=a ", b"false", b"x=y y=a ", b"false"],
-        ),
-        (
-            b"fxx",
-            b"fyY",
-            [b"x=y Y=y ", b"false", b"x=y y=Y ", b"false"],
-        ),
-        (
-            b"fxfyz",
-            b"fyfza",
-            [b"x=y z=y y=a ", b"false", b"x=y z=y y=a ", b"false"],
-        ),
-        (
-            b"fxfxy",
-            b"fgYfgaz",
-            [b"x=gY y=z Y=a ", b"false", b"false", b"false"],
-        ),
-        (
-            b"fxfxx",
-            b"fyfza",
-            [b"x=y z=y y=a ", b"false", b"x=y z=y y=a ", b"false"],
-        ),
-        (
-            b"fxfyz",
-            b"ffyyffzzfaa",
-            [
-                b"x=fyy y=fzz z=faa ",
-                b"false",
-                b"x=fyy y=fzz z=faa ",
-                b"false",
-            ],
-        ),
-        (
-            b"ffxfyzfXY",
-            b"fffyyffzzfaafffZZfZZffaafaa",
-            [
-                b"x=fyy y=fzz z=faa X=ffZZfZZ Y=ffaafaa ",
-                b"false",
-                b"false",
-                b"false",
-            ],
-        ),
-        (
-            b"ffxfyzx",
-            b"fffyyffzzfXXfffXXfXXffXXfXX",
-            [
-                b"x=fyy y=fzz z=fXX ",
-                b"false",
-                b"x=fyy y=fzz z=fXX ",
-                b"false",
-            ],
-        ),
-        (
-            b"fyfza",
-            b"fxfyz",
-            [b"y=x z=x x=a ", b"false", b"y=x z=x x=a ", b"false"],
-        ),
-        (
-            b"fxfXx",
-            b"fyfYX",
-            [b"x=y X=Y y=Y ", b"false", b"false", b"false"],
-        ),
-        (b"fXY", b"fYX", [b"X=Y ", b"X=Y ", b"false", b"false"]),
-        (
-            b"fXgX",
-            b"fgaY",
-            [b"X=ga Y=gX ", b"X=ga Y=gX ", b"false", b"false"],
-        ),
-        (
-            b"fXfYZ",
-            b"fYfZX",
-            [b"X=Y Z=Y ", b"X=Y Z=Y ", b"false", b"false"],
-        ),
-        (b"fgXfXx", b"fyfyy", [b"false"; 4]),
-        (
-            b"fxX",
-            b"fXgb",
-            [b"x=X X=gb ", b"false", b"false", b"false"],
-        ),
-    ];
-    assert_rows(&rt, rt.alloc(), &rows)?;
+    assert_rows(&rt, rt.alloc(), &TWICE)?;
     Ok(())
 }

@@ -108,7 +108,7 @@ fn items(rt: HostRuntime) -> Result<(), Fail> {
     Ok(())
 }
 
-/// The formula that a text is.
+/// The formula that a text is, if it is one.
 fn formula_in(alloc: Global, text: &[u8]) -> Result<Option<Literals>, AllocError> {
     if text.len() > MOST_BYTES {
         return Err(AllocError);

@@ -119,8 +119,6 @@ fn lists_of_unifiable_terms(rt: HostRuntime) -> Result<(), Fail> {
     let above = [F4, G2, left, right];
     let ground = [F4, A, G2, A];
     let circle = [F4, left, G2, left];
-    let same = [F3, left, left];
-    let below = [F4, A, G2, left];
     assert_lists(
         &rt,
         list_of(alloc, kind, &twice, &above)?,
@@ -134,7 +132,7 @@ fn lists_of_unifiable_terms(rt: HostRuntime) -> Result<(), Fail> {
     assert_none(&rt, list_of(alloc, kind, &twice, &circle)?);
     assert_lists(
         &rt,
-        list_of(alloc, kind, &pair, &same)?,
+        list_of(alloc, kind, &pair, &[F3, left, left])?,
         &[(Owner::Query, 1, &[x]), (Owner::Entry, 0, &[x])],
     );
     assert_lists(
@@ -144,7 +142,7 @@ fn lists_of_unifiable_terms(rt: HostRuntime) -> Result<(), Fail> {
     );
     assert_lists(
         &rt,
-        list_of(alloc, kind, &pair, &below)?,
+        list_of(alloc, kind, &pair, &[F4, A, G2, left])?,
         &[(Owner::Query, 0, &[A]), (Owner::Query, 1, &[G2, left])],
     );
     assert_lists(&rt, list_of(alloc, kind, &[A], &[A])?, &[]);

@@ -25,46 +25,38 @@ fn assert_rows(rt: &impl Abort, alloc: Global, rows: &[Row]) -> Result<(), Alloc
     Ok(())
 }
 
+const LEAST: [Row; 11] = [
+    (b"p(a)|p(b)", b"p(X)|p(Y)", &[]),
+    (b"p(a)|q(b)|~r(X)", b"~r(c)|q(b)|p(a)", &[3, 2, 1]),
+    (b"p(X)|~p(X)", b"p(a)|p(b)|~p(b)", &[2, 3]),
+    (
+        b"q(X)|r(Y)|t(Z)|s(X)|u(Y)",
+        b"q(a)|q(b)|r(c)|r(d)|t(e)|t(f)|s(b)|u(d)",
+        &[2, 4, 5, 7, 8],
+    ),
+    (
+        b"q(X)|r(Y)|t(Z)|s(X)|u(Y)",
+        b"q(a)|q(b)|r(c)|r(d)|t(e)|t(f)|s(b)|u(e)",
+        &[],
+    ),
+    (
+        b"r(Y)|q(X)|s(X)|u(Y)",
+        b"r(c)|r(d)|q(a)|q(b)|s(b)|s(a)|u(c)",
+        &[1, 3, 6, 7],
+    ),
+    (b"p(X)|q(X)", b"p(Y)|q(Z)", &[]),
+    (b"p(Y)|q(Z)", b"p(X)|q(X)", &[1, 2]),
+    (b"p(X)|q(X)", b"q(Y)|p(Y)", &[2, 1]),
+    (b"p(X)", b"p(a)|p(b)|p(c)", &[1]),
+    (
+        b"p(X)|p(Y)|q(X)|q(Y)",
+        b"p(a)|p(b)|p(c)|q(c)",
+        &[3, 3, 4, 4],
+    ),
+];
+
 #[test]
 fn maps_are_the_least(rt: HostRuntime) -> Result<(), Fail> {
-    let rows: [Row; 20] = [
-        (b"q(X)|r(X)", b"q(a)|q(b)|r(b)", &[2, 3]),
-        (b"q(X)|r(X)", b"q(a)|r(b)", &[]),
-        (b"p(X)|p(Y)", b"p(a)|p(b)", &[1, 1]),
-        (b"p(a)|p(b)", b"p(X)|p(Y)", &[]),
-        (b"p(X)|p(X)|p(X)", b"p(a)|p(b)", &[1, 1, 1]),
-        (b"p(b)|p(a)|p(b)", b"p(a)|p(b)|p(a)", &[2, 1, 2]),
-        (b"p(a)", b"p(a)|p(a)", &[1]),
-        (b"p(a)|q(b)|~r(X)", b"~r(c)|q(b)|p(a)", &[3, 2, 1]),
-        (b"p(X)|~p(X)", b"p(a)|~p(b)", &[]),
-        (b"p(X)|~p(X)", b"p(a)|p(b)|~p(b)", &[2, 3]),
-        (b"p(X)", b"~p(a)|~p(b)", &[]),
-        (b"q(X)|r(Y)|s(X)", b"q(a)|q(b)|r(c)|r(d)|s(b)", &[2, 3, 5]),
-        (
-            b"q(X)|r(Y)|t(Z)|s(X)|u(Y)",
-            b"q(a)|q(b)|r(c)|r(d)|t(e)|t(f)|s(b)|u(d)",
-            &[2, 4, 5, 7, 8],
-        ),
-        (
-            b"q(X)|r(Y)|t(Z)|s(X)|u(Y)",
-            b"q(a)|q(b)|r(c)|r(d)|t(e)|t(f)|s(b)|u(e)",
-            &[],
-        ),
-        (
-            b"r(Y)|q(X)|s(X)|u(Y)",
-            b"r(c)|r(d)|q(a)|q(b)|s(b)|s(a)|u(c)",
-            &[1, 3, 6, 7],
-        ),
-        (b"p(X)|q(X)", b"p(Y)|q(Z)", &[]),
-        (b"p(Y)|q(Z)", b"p(X)|q(X)", &[1, 2]),
-        (b"p(X)|q(X)", b"q(Y)|p(Y)", &[2, 1]),
-        (b"p(X)", b"p(a)|p(b)|p(c)", &[1]),
-        (
-            b"p(X)|p(Y)|q(X)|q(Y)",
-            b"p(a)|p(b)|p(c)|q(c)",
-            &[3, 3, 4, 4],
-        ),
-    ];
-    assert_rows(&rt, rt.alloc(), &rows)?;
+    assert_rows(&rt, rt.alloc(), &LEAST)?;
     Ok(())
 }

@@ -12,6 +12,7 @@ use crate::status::Status;
 use si_io::{MemoryLibrary, MemorySink, MemorySource};
 use si_session::Limits;
 use std::alloc::{AllocError, Global};
+use std::process::Abort;
 use std::test::Fail;
 
 /// How a device in memory cuts its bytes, and which of its calls fails, where 0 is none.
@@ -201,14 +202,23 @@ const ROWS: [(&[u8], &[u8]); 22] = [
     ),
 ];
 
-#[test]
-fn each_input_has_its_output(rt: HostRuntime) -> Result<(), Fail> {
-    let alloc = rt.alloc();
-    for (input, output) in ROWS {
+/// Looks at what is written where each of these is the input.
+fn assert_outputs(
+    rt: &impl Abort,
+    alloc: Global,
+    rows: &[(&[u8], &[u8])],
+) -> Result<(), AllocError> {
+    for &(input, output) in rows {
         let (status, bytes) = written(alloc, &Limits::standard(), input)?;
         assert_eq!(rt; status, Status::Ended);
         assert_eq!(rt; bytes.as_slice(), output, "at {input:?}");
     }
+    Ok(())
+}
+
+#[test]
+fn each_input_has_its_output(rt: HostRuntime) -> Result<(), Fail> {
+    assert_outputs(&rt, rt.alloc(), &ROWS)?;
     Ok(())
 }
 

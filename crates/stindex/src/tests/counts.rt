@@ -247,7 +247,7 @@ const FETCHES: [(&[&str], u32, u32, &[u8], u32); 10] = [
     (&[], 0, 0, b"load 'a'\nload 'none'\nload 'big'\n", 5),
     (&[], 0, 0, b"load 'm'\nload 'g'\nload 'b'\nstats\n", 5),
     (&["--strict", "m", "b"], 0, 0, b"load 'b'\n", 2),
-    // A file too many, and one that is open already, isn't asked for.
+    // A file too deep, one too many, and one that is open already aren't asked for.
     (&[], 0, 0, b"load 'd'\nload 'f'\nload 'o'\n", 6),
     // A fault of the library ends its load, and no other.
     (&["a", "b"], 2, 0, b"load 'c'\n", 4),

@@ -6,7 +6,7 @@ use std::alloc::{AllocError, Global};
 use std::test::Fail;
 
 /// Questions, each with the atom of the only clause, and the list that is answered, or nothing
-/// where the relation fails. The lists are those of `bench/oracle`, which follows the definitions,
+/// where the relation fails. The lists are those of `bench/model.py`, which follows the definitions,
 /// writes all terms out, and knows nothing of this program.
 const ROWS: [(&[u8], &[u8], &[u8]); 69] = [
     // Ground against ground.

@@ -1,7 +1,5 @@
 // Queries in each relation.
-use super::written;
-use crate::status::Status;
-use si_session::Limits;
+use super::assert_outputs;
 use std::test::Fail;
 
 /// Inputs with their outputs.
@@ -64,11 +62,6 @@ const ROWS: [(&[u8], &[u8]); 11] = [
 
 #[test]
 fn each_query_has_its_answer(rt: HostRuntime) -> Result<(), Fail> {
-    let alloc = rt.alloc();
-    for (input, output) in ROWS {
-        let (status, bytes) = written(alloc, &Limits::standard(), input)?;
-        assert_eq!(rt; status, Status::Ended);
-        assert_eq!(rt; bytes.as_slice(), output, "at {input:?}");
-    }
+    assert_outputs(&rt, rt.alloc(), &ROWS)?;
     Ok(())
 }

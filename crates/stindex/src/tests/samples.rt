@@ -1,7 +1,5 @@
 // Samples: clauses that are drawn, and how much of all that is kept unifies with them.
-use super::written;
-use crate::status::Status;
-use si_session::Limits;
+use super::assert_outputs;
 use std::test::Fail;
 
 /// Inputs with their outputs.
@@ -43,11 +41,6 @@ const ROWS: [(&[u8], &[u8]); 8] = [
 
 #[test]
 fn each_sample_has_its_sum(rt: HostRuntime) -> Result<(), Fail> {
-    let alloc = rt.alloc();
-    for (input, output) in ROWS {
-        let (status, bytes) = written(alloc, &Limits::standard(), input)?;
-        assert_eq!(rt; status, Status::Ended);
-        assert_eq!(rt; bytes.as_slice(), output, "at {input:?}");
-    }
+    assert_outputs(&rt, rt.alloc(), &ROWS)?;
     Ok(())
 }

@@ -1,7 +1,5 @@
 // Clauses that subsume a formula, and those that it subsumes.
-use super::written;
-use crate::status::Status;
-use si_session::Limits;
+use super::assert_outputs;
 use std::test::Fail;
 
 /// Inputs with their outputs.
@@ -67,11 +65,6 @@ const ROWS: [(&[u8], &[u8]); 12] = [
 
 #[test]
 fn each_formula_has_its_answer(rt: HostRuntime) -> Result<(), Fail> {
-    let alloc = rt.alloc();
-    for (input, output) in ROWS {
-        let (status, bytes) = written(alloc, &Limits::standard(), input)?;
-        assert_eq!(rt; status, Status::Ended);
-        assert_eq!(rt; bytes.as_slice(), output, "at {input:?}");
-    }
+    assert_outputs(&rt, rt.alloc(), &ROWS)?;
     Ok(())
 }

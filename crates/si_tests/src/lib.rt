@@ -1,6 +1,6 @@
 //! Tests of the libraries: one file a library, and two that several share. They stand in a crate of
-//! their own, over all of them: beside a library its own functions would be proved once more with its tests, and here
-//! clauses and patterns are read from texts.
+//! their own, over all of them: beside a library its own functions would be proved once more with
+//! its tests, and here clauses and patterns are read from texts.
 #![tactic(auto)]
 
 #[cfg(test)]

@@ -6,8 +6,8 @@ use std::alloc::{AllocError, Global};
 use std::test::Fail;
 
 /// Questions, each with the atom of the only clause, and the list that is answered, or nothing
-/// where the relation fails. The lists are those of `bench/model.py`, which follows the definitions,
-/// writes all terms out, and knows nothing of this program.
+/// where the relation fails. The lists are those of `bench/model.py`, which follows the
+/// definitions, writes all terms out, and knows nothing of this program.
 const ROWS: [(&[u8], &[u8], &[u8]); 69] = [
     // Ground against ground.
     (b"unifiable lit p(a)", b"p(a)", b"{}"),

@@ -188,7 +188,7 @@ class Where(Tools):
                          (1, ["f1.p: ! depth 'f33.p'", "f32.p:1:1: this include asks for the file"]))
 
     def test_long_clauses(self):
-        self.write(a="cnf(a,axiom,p(" + "b," * 600_000 + "b)).\ncnf(a,axiom,q).\n")
+        self.write(a="cnf(a,axiom,p('" + "b c" * 400_000 + "')).\ncnf(a,axiom,q).\n")
         self.assert_found(["a.p"], "a.p: ! taken a", "a.p:2:1: clause a, item 2 of the file",
                           "a.p:1:1: clause a, item 1 of the file, has its name")
 

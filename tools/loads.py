@@ -1,7 +1,6 @@
 """Loads, by docs/COMMANDS.md: the clauses that a file and its includes have, in order, up to the first fault."""
 import re
 from collections.abc import Iterator
-from pathlib import Path
 from typing import NamedTuple
 
 import tptp
@@ -70,7 +69,8 @@ class Load:
         else:
             self.fetches += 1
             try:
-                text = Path(file).read_bytes().decode("latin-1")
+                with open(file, "rb") as opened:
+                    text = opened.read(MOST_FILE_BYTES + 1).decode("latin-1")
                 word = "big" if len(text) > MOST_FILE_BYTES else ""
             except FileNotFoundError:
                 word = "missing"
@@ -82,7 +82,8 @@ class Load:
         return text
 
     def clauses(self, file: str, asked: Place | None = None, open_files: tuple[str, ...] = (),
-                selections: tuple[set[str], ...] = ()) -> Iterator[Met]:
+                selections: tuple[set[str], ...] = ()) -> Iterator[tuple[Met, tptp.Clause]]:
+        """The clauses of the file and its includes that a load keeps, in order."""
         text = self.fetched(file, open_files, asked)
         included = (asked, *asked.included) if asked else ()
         end = number = 0
@@ -99,7 +100,7 @@ class Load:
                 inner = selections if item.names is None else (*selections, set(item.names))
                 yield from self.clauses(item.file, place, (*open_files, file), inner)
             elif all(item.name in names for names in selections):
-                yield Met(place, item.name, number)
+                yield Met(place, item.name, number), item
 
 
 def unread(begin: Place, number: int, fault: int) -> Refusal:

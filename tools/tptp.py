@@ -16,14 +16,15 @@ MOST_OPEN_BRACKETS = 512
 LANGUAGES = ("fof", "tff", "thf", "tcf", "tpi")
 BLANKS = re.compile(r"(?:[\t\n\f\r ]+|%[^\n]*|/\*.*?\*/)*", re.DOTALL)
 TOKEN = re.compile(
-    r"""(?P<lower>[a-z][A-Za-z0-9_]*)
+    r"""(?:[\t\n\f\r ]+|%[^\n]*|/\*.*?\*/)*
+    (?:(?P<lower>[a-z][A-Za-z0-9_]*)
     |(?P<upper>[A-Z][A-Za-z0-9_]*)
     |(?P<dollar>\$\$?[a-z][A-Za-z0-9_]*)
     |(?P<integer>[+-]?(?:0|[1-9][0-9]*))
     |(?P<single>'(?:[\x20-\x26\x28-\x5b\x5d-\x7e]|\\['\\])+')
     |(?P<double>"(?:[\x20\x21\x23-\x5b\x5d-\x7e]|\\["\\])*")
-    |(?P<mark>!=|[][(),.=~|!?&<>@*+^;/:\#{}-])""",
-    re.VERBOSE,
+    |(?P<mark>!=|/(?!\*)|[][(),.=~|!?&<>@*+^;:\#{}-]))?""",
+    re.DOTALL | re.VERBOSE,
 )
 BARE = re.compile(r"[a-z][A-Za-z0-9_]*")
 BLANKS_OR_QUOTES = re.compile(
@@ -106,16 +107,18 @@ class Reader:
         self.first = self.start
 
     def look(self) -> None:
-        self.start = BLANKS.match(self.text, self.end).end()
-        found = TOKEN.match(self.text, self.start)
-        unclosed = self.text.startswith("/*", self.start)
-        self.kind, self.token = (found.lastgroup, found[0]) if found and not unclosed else ("", "")
+        """Finds the next token behind blanks; none at the end, or where no token stands."""
+        found = TOKEN.match(self.text, self.end)
+        self.kind = found.lastgroup or ""
+        self.token = found[self.kind] if self.kind else ""
+        self.start = found.end() - len(self.token)
 
     def pass_token(self) -> str:
         token = self.token
-        self.open += (token in ("(", "[")) - (token in (")", "]"))
-        if self.open > MOST_OPEN_BRACKETS:
-            raise Unread(self.start)
+        if token in ("(", "[", ")", "]"):
+            self.open += 1 if token in ("(", "[") else -1
+            if self.open > MOST_OPEN_BRACKETS:
+                raise Unread(self.start)
         self.end = self.start + len(token)
         self.look()
         return token

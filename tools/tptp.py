@@ -102,12 +102,12 @@ class Reader:
         self.end = start  # of the last token that was taken
         self.open = 0
         self.symbols: list[Symbol] = []
-        self.formula_end = 0  # once annotations begin behind the formula
+        self.formula_end = 0  # once annotations begin after the formula
         self.look()
         self.first = self.start
 
     def look(self) -> None:
-        """Finds the next token behind blanks; none at the end, or where no token stands."""
+        """Finds the next token after blanks; none at the end, or where no token stands."""
         found = TOKEN.match(self.text, self.end)
         self.kind = found.lastgroup or ""
         self.token = found[self.kind] if self.kind else ""

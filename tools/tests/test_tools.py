@@ -148,7 +148,8 @@ class Where(Tools):
     def test_syntax(self):
         self.write(a="include('b.p').\n", b="cnf(a,axiom,p).\ncnf(b,axiom,\n    q)\ncnf(c,axiom,r).\n",
                    n="cnf(a,axiom,p(X,1.5)).\n", f="cnf(a,axiom,p).\n\n fof(b,axiom,p).\n",
-                   o="cnf(a,axiom,p).\n\n /* x", q="cnf(a,axiom,\n  p('\u00e9')).\n", h="# x\n", e="cnf(a,axiom,\n  p)", r="cnf(a,axiom-local,p).\n")
+                   o="cnf(a,axiom,p).\n\n /* x", q="cnf(a,axiom,\n  p('\u00e9')).\n", h="# x\n",
+                   e="cnf(a,axiom,\n  p)", r="cnf(a,axiom-local,p).\n")
         self.assert_found(["a.p"], "a.p: ! syntax 'b.p' 2", "b.p:4:1: no item goes on with cnf",
                           "b.p:2:1: item 2 of the file begins here", "a.p:1:1: included from here")
         self.assert_found(["n.p"], "n.p: ! syntax 'n.p' 1",
@@ -191,6 +192,10 @@ class Where(Tools):
         self.write(a="cnf(a,axiom,p('" + "b c" * 400_000 + "')).\ncnf(a,axiom,q).\n")
         self.assert_found(["a.p"], "a.p: ! taken a", "a.p:2:1: clause a, item 2 of the file",
                           "a.p:1:1: clause a, item 1 of the file, has its name")
+
+    def test_names_of_files(self):
+        self.assertEqual(self.tool("where", "a\tb")[:2], (
+            1, "a\tb: ! syntax\nno file can have this name: it needs a byte, and none below 32 or above 126\n"))
 
     def test_what_loads(self):
         self.write(a="cnf(a1,axiom,p).\n% c\n")

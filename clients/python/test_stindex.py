@@ -12,6 +12,11 @@ import stindex  # noqa: E402
 PROGRAM = os.environ["STINDEX"]
 
 
+def written(answer):
+    place = [answer.clause, str(answer.literal), *([".".join(map(str, answer.path))] if answer.path else [])]
+    return f"{':'.join(place)} {{{'; '.join(f'{variable} -> {term}' for variable, term in answer.bindings.items())}}}"
+
+
 class Client(unittest.TestCase):
     def setUp(self):
         folder = tempfile.TemporaryDirectory()
@@ -56,6 +61,18 @@ class Client(unittest.TestCase):
             self.assertEqual(first.clause, "'a:1 {X -> b; c'")
             self.assertEqual(first.bindings, {"?A": "'x; Y -> z'", "?B": '"}; it\'s"', "?C": r"""f('\'',"\"")"""})
             self.assertEqual(second, ("end", 1, (), {"?A": "end", "?B": "1", "?C": "-2"}))
+
+    def test_answers_are_whole(self):
+        """Each answer, written down again, is the line that it was read from."""
+        with self.index() as index:
+            index.sample(1, 100)
+            index.add(r"""cnf('a: {',axiom,p(f('b; X -> c',g("\"}; ")),'d'('\'',1))).""")
+            for relation in stindex.RELATIONS:
+                for kind, ask, pattern in (("lit", index.literals, "p(X,Y)"), ("term", index.terms, "f(X,g(Y))")):
+                    answers = ask(relation, pattern)
+                    lines = index.ask(f"{relation} {kind} {pattern}")
+                    self.assertEqual([written(answer) for answer in answers], lines[:-1])
+                    self.assertEqual(lines[-1], f"end {len(answers)}")
 
     def test_refusals(self):
         with self.index() as index:

@@ -56,22 +56,21 @@ class FromProver(Tools):
 
     def test_styles(self):
         self.assert_made("eprover", "ok 3 8\n", [
-            "3 clause(s) written",
-            "left out: 11 line(s) with #, 2 formula(s) of fof, which aren't CNF",
+            "written: clauses: 3",
+            "left out: lines with #: 11; formulas of fof: 2",
         ])
         self.assert_made("vampire", "ok 2 6\n", [
-            "2 clause(s) written",
-            "left out: 1 formula(s) of fof, which aren't CNF, 1 formula(s) of tff, which aren't CNF, "
-            "1 other line(s), 1 item(s) cut off",
+            "written: clauses: 2",
+            "left out: formulas of fof: 1; formulas of tff: 1; other lines: 1; items cut off: 1",
         ])
         self.assert_made("dfg2tptp", "ok 3 8\n", [
-            "2 clause(s), 1 include(s) written",
-            "left out: 1 formula(s) of fof, which aren't CNF, 1 clause(s) without a literal",
+            "written: clauses: 2; includes: 1",
+            "left out: formulas of fof: 1; clauses without a literal: 1",
         ])
         self.assert_made("ladr_to_tptp", "ok 3 10\n", [
-            "3 clause(s) written",
-            "left out: 1 formula(s) of fof, which aren't CNF, 1 clause(s) that stood before, name and formula",
-            "changed: 2 clause(s) renamed, whose names stood before",
+            "written: clauses: 3",
+            "left out: formulas of fof: 1; clauses that stood before, name and formula: 1",
+            "changed: clauses renamed, whose names stood before: 2",
         ])
 
     def made(self, given, *words):
@@ -97,8 +96,8 @@ class FromProver(Tools):
                 "cnf(e,x,p('1.5',\"2/3\")|q(c_1,3),file('1.5',2.5)).\n"
         made = "cnf(a, x, p(X1,1)).\ncnf(e, x, p('1.5',\"2/3\")|q(c_1,3), file('1.5',2.5)).\n"
         self.assertEqual(self.tool("from-prover", "--skip-numbers", given=given), (0, made,
-                         "from-prover: 2 clause(s) written\n"
-                         "from-prover: left out: 3 clause(s) with rational or real numbers\n"))
+                         "from-prover: written: clauses: 2\n"
+                         "from-prover: left out: clauses with rational or real numbers: 3\n"))
         self.write(made=made)
         self.assertEqual(self.program("made.p"), "ok 2 8\n")
         status, made, told = self.tool("from-prover", given=given)
@@ -110,7 +109,7 @@ class FromProver(Tools):
         self.assertEqual(self.made("cnf(a,axiom-local,\n# no\n  p). /* c */ cnf(b,x,q,file('\u00e9',x))."),
                          "cnf(a, axiom, p).\ncnf(b, x, q).\n")
         self.assertEqual(self.made(""), "")
-        self.assertEqual(self.made("fof(a,axiom,\n p & 'f)' = 1.5). % (\nnothing\ncnf(a,x,p)."), "cnf(a, x, p).\n")
+        self.assertEqual(self.made("fof(a,axiom,\n %% (\n p & 'f)' = 1.5). % (\nnothing\ncnf(a,x,p)."), "cnf(a, x, p).\n")
         given = "cnf(a,x,p).\ncnf(b,x,\n (p)|q).\ncnf(c,x,p q).\ncnf(d,x,r)."
         status, made, told = self.tool("from-prover", given=given)
         self.assertEqual((status, made), (1, ""))

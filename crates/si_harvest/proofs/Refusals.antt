@@ -23,5 +23,5 @@ pub blames_rejected : (r : Rejected) (rules : Rules) (state : List clauses.Claus
     → Explains rules (harvest_fault.Rejected r) (IsRejected rules state (clause_of r.clause))
 blames_rejected r rules state sound n h =
     let w = reason rules state (clause_of r.clause) r.why n h in
-    let why : IsRejection rules r w.0 = record { sound = sound; state = state; refuses = w.2; reason = w.1 } in
+    let why : IsRejection rules r w.0 = record { sound = sound; kept = state; refuses = w.2; reason = w.1 } in
     inr (record { fault = rejected (clause_of r.clause) w.0; told = (w.0, refl, why); holds = (refl, w.2) })

@@ -16,7 +16,7 @@ use Rattle.stindex.specs.declared.status.Stop.{Stop}
 use Rattle.stindex.specs.declared.status.Stop.TheVariants as stop
 use Rattle.stindex.specs.Status.{status_of}
 use Rattle.clap.specs.Words.{Row, matches_of, takes}
-use Rattle.stindex.specs.Words.{Asked, IsReadAsSaid, program, asked_in, asked_by, has_strict, files_in}
+use Rattle.stindex.specs.Words.{Asked, IsReadAsSaid, program, asked_in, asked_by, HasNoFault, has_strict, files_in}
 use Rattle.stindex.specs.Serve.{DeclinesOrServes, WritesUsage, WritesTo, MetEnd, Ends, Serves, CountsFaults, BlamesSink}
 use Rattle.stindex.specs.Progress.{Advances, Fails, Closes, Cuts, HasProgressed}
 use Rattle.stindex.proofs.Splitting.{Splits_none}
@@ -179,9 +179,12 @@ Serves_cut halt setting told strict files given tell n bytes left now next befor
 
 -- ---- the words
 pub answers_asked : (limits : Limits) (told : Option Files) (words : List Bytes) (rows : List Row) (status : Status) (left now : Option Bytes) (before after : Around)
-    → rows ≡ matches_of program words → Serves (setting_of limits) told (asked_in rows).strict (asked_in rows).files status left now before after → DeclinesOrServes limits told words status left now before after
-answers_asked limits told words rows status left now before after same s =
-    inr (subst (λ (rs : List Row). Serves (setting_of limits) told (asked_in rs).strict (asked_in rs).files status left now before after) same s)
+    → rows ≡ matches_of program words → HasNoFault words → Serves (setting_of limits) told (asked_in rows).strict (asked_in rows).files status left now before after
+    → DeclinesOrServes limits told words status left now before after
+answers_asked limits told words rows status left now before after same faultless s = inr (record {
+  faultless = λ _. faultless;
+  serves = subst (λ (rs : List Row). Serves (setting_of limits) told (asked_in rs).strict (asked_in rs).files status left now before after) same s;
+})
 
 pub serves_said : (setting : Setting) (told : Option Files) (words : List Bytes) (rows : List Row) (status : Status) (left now : Option Bytes) (before after : Around)
     → rows ≡ matches_of program words → IsReadAsSaid words → Serves setting told (asked_in rows).strict (asked_in rows).files status left now before after
@@ -194,4 +197,7 @@ pub answers_usage : (limits : Limits) (told : Option Files) (words : List Bytes)
 answers_usage limits told words status left before after refused unfetched written = inl (record { refused = refused; unread = refl; unfetched = unfetched; written = written })
 
 pub answers_memory : (limits : Limits) (told : Option Files) (words : List Bytes) (left : Option Bytes) (before : Around) → DeclinesOrServes limits told words Memory left left before before
-answers_memory limits told words left before = inr (Serves_memory (setting_of limits) told (asked_by words).strict (asked_by words).files left before)
+answers_memory limits told words left before = inr (record {
+  faultless = λ other. absurd (other refl);
+  serves = Serves_memory (setting_of limits) told (asked_by words).strict (asked_by words).files left before;
+})

@@ -36,7 +36,7 @@ module _ (limits : Limits) (told : Option Files) (words : List Bytes) (left now 
   faultless_by Usage may_fail s sure never = tt
   faultless_by SourceFault may_fail s sure never = let fails : IsTrue may_fail = sure refl in cc
   faultless_by SinkFault may_fail (inl d) sure never = absurd (no_usage_fault d)
-  faultless_by SinkFault may_fail (inr s) sure never = absurd (no_sink_fault s)
+  faultless_by SinkFault may_fail (inr s) sure never = absurd (no_sink_fault s.serves)
   faultless_by Memory may_fail s sure never = tt
   faultless_by SessionLimit may_fail s sure never = tt
 

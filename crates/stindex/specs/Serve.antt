@@ -10,7 +10,7 @@ use Rattle.si_state.specs.Harvest.{Files}
 use Rattle.si_session.specs.Session.{Around}
 use Rattle.si_io.specs.Content.{Told, Receives, ReceivesPrefix, Takes}
 use Rattle.clap.specs.Words.{takes}
-use Rattle.stindex.specs.Words.{program, usage_line, asked_by}
+use Rattle.stindex.specs.Words.{program, usage_line, asked_by, HasNoFault}
 use Rattle.std.specs.Io.KnownBytes.{IsAtEnd}
 use Rattle.si_io.specs.Faults.{Rose}
 use Rattle.stindex.specs.declared.status.Status.{Status}
@@ -112,13 +112,19 @@ pub record Declines (words : List Bytes) (status : Status) (left now : Option By
   pub unfetched : after.counts ≡ before.counts
   pub written : WritesUsage status before.sink after.sink
 
--- The words were declined, or did what they ask for.
+-- The run did what the words ask for. They have no fault, or memory ran out before that was known.
+pub record ServesWords (limits : Limits) (told : Option Files) (words : List Bytes)
+    (status : Status) (left now : Option Bytes) (before after : Around) : Type 0 where
+  pub faultless : (status ≡ Memory → ⊥) → HasNoFault words
+  pub serves : Serves (setting_of limits) told (asked_by words).strict (asked_by words).files
+      status left now before after
+
+-- The words were declined, or served.
 abbrev pub DeclinesOrServes : Limits → Option Files → (words : List Bytes) → Status
     → (left now : Option Bytes) → (before after : Around) → Type 0
 DeclinesOrServes limits told words status left now before after =
     Declines words status left now before after
-    ⊎ Serves (setting_of limits) told (asked_by words).strict (asked_by words).files
-    status left now before after
+    ⊎ ServesWords limits told words status left now before after
 
 -- the statuses of a run in which no device fails
 abbrev pub IsFaultless : Status → Type 0

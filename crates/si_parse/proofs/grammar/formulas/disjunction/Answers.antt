@@ -1,8 +1,10 @@
-use Rattle.std.proofs.Common.{◌<◌, ◌∷◌, ◌++◌, [], length, ap, ◌∙◌, arith}
+use Rattle.std.proofs.Common.{◌<◌, ◌∷◌, ◌++◌, [], Some, length, refl, ap, ◌∙◌, arith}
 use Rattle.std.proofs.lemmas.List.{map_push}
 use Rattle.si_defs.specs.Grammar.{IsLiteral}
 use Rattle.si_parse.specs.Meaning.{literals_of}
 use Rattle.si_term.specs.Meaning.{literal_of}
+use Rattle.si_lex.specs.Lexemes.{tokens_of}
+use Rattle.si_parse.proofs.ParseSteps.{parses_at}
 use Rattle.si_parse.proofs.ParseReads.{reads_some, reads_none, mark_front, mark_none, mark_shorter, left_shorter}
 use Rattle.si_parse.proofs.ParseRows.{row_none, row_stop, row_some, along_at, along_first, along_more}
 use Rattle.si_parse.proofs.GrammarFormulas.{literal_last, bar_no_sign, bar_stops}
@@ -15,7 +17,7 @@ pub loop-rest-init : goal.loop-rest-init
 loop-rest-init c =
     let p = reads_some literal_of c.args.tokens.now c.in_ok-first.ensures c.in-Some.is in
     record {
-      along = along_at (ap literals_of (c.in_ok-push.ensures.ok ∙ ap (λ ls. ls ++ c.in-Some.first ∷ []) c.new-literals.ensures)) (along_first IsLiteral literal_last bar_no_sign bar_stops p);
+      along = along_at (ap literals_of (c.in_ok-push.ensures.ok ∙ ap (λ ls. ls ++ c.in-Some.first ∷ []) c.in_ok-literals.ensures)) (along_first IsLiteral literal_last bar_no_sign bar_stops p);
       shorter = left_shorter c.args.tokens.now c.in-Some.behind.now p;
     }
 
@@ -47,4 +49,6 @@ loop-rest-preserved c =
     }
 
 pub returns : goal.returns
-returns c = row_some IsLiteral literal_last bar_no_sign bar_stops c.loop-rest.invariant.along (mark_none c.in_default-mark_at.ensures)
+returns c =
+    parses_at refl (ap (λ ls. Some (literals_of ls, tokens_of c.loop-rest.left.now)) c.shrink.ensures)
+    (row_some IsLiteral literal_last bar_no_sign bar_stops c.loop-rest.invariant.along (mark_none c.in_default-mark_at.ensures))

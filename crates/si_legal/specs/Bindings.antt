@@ -1,7 +1,7 @@
 -- Bindings of indicator variables (Graf 1996): what stands in the place of each. An indicator is a
 -- variable that is known by its number alone.
 use Rattle.std.specs.Prelude.{◌≡◌, ℕ, not, ◌==◌, ◌↔◌, List, [], ◌∷◌, ◌++◌, map, filter}
-use Rattle.std.specs.List.{list_any}
+use Rattle.std.specs.List.{AllByRecursion, list_any}
 use Rattle.si_defs.specs.Terms as terms
 use Rattle.si_defs.specs.Substitutions.{Substitution, apply, IsAmong}
 use Rattle.si_flat.specs.Cells.{Symbol, Variable, query, entry, ind, same_variable, Term, StandsFor}
@@ -29,6 +29,17 @@ indicators t = indicators_among (terms.variables t)
 abbrev pub right_indicators : List Binding → List ℕ
 right_indicators [] = []
 right_indicators (b ∷ bs) = indicators b.1 ++ right_indicators bs
+
+abbrev pub indicator : ℕ → Term
+indicator n = terms.var (ind n)
+
+abbrev pub IsIndicator : Term → Type 0
+IsIndicator (terms.var (ind n)) = Unit {0}
+IsIndicator t = ⊥
+
+-- no right side is an indicator alone
+abbrev pub HasNoBareIndicator : List Binding → Type 0
+HasNoBareIndicator bs = AllByRecursion (λ b. IsIndicator b.1 → ⊥) bs
 
 -- ---- bindings applied
 abbrev pub substitution_of : List Binding → Substitution Symbol Variable

@@ -1,11 +1,12 @@
 -- What two lists of bindings with the same left sides have in common: the most specific linear
 -- generalization (after Plotkin 1970; linear, the order and the numbers are this project's
 -- profile).
-use Rattle.std.specs.Prelude.{◌≡◌, ℕ, zero, suc, ◌≤◌, ◌↔◌, ◌⊎◌, nat_le, Bool, true, false, not, ◌&&◌, ◌==◌, List, [], ◌∷◌, ◌++◌, map, filter, Option, None, Some}
+use Rattle.std.specs.Prelude.{◌≡◌, ℕ, zero, suc, ◌+◌, ◌<◌, ◌≤◌, ◌↔◌, ◌⊎◌, nat_le, Bool, true, false, not, ◌&&◌, ◌==◌, List, [], ◌∷◌, ◌++◌, map, filter, Option, None, Some}
+use Rattle.std.specs.List.{AllByRecursion}
 use Rattle.si_defs.specs.Terms as terms
 use Rattle.si_defs.specs.Substitutions.{IsAmong, AreDistinct}
 use Rattle.si_flat.specs.Cells.{ind, same_variable, Term, Terms}
-use Rattle.si_legal.specs.Bindings.{Binding, left_sides, right_indicators, composed, HaveSamePairs}
+use Rattle.si_legal.specs.Bindings.{Binding, left_sides, indicator, right_indicators, HasNoBareIndicator, composed, HaveSamePairs}
 
 -- ---- heads and positions
 -- The head of a term is its symbol, by number and arity, or the variable that it is.
@@ -43,12 +44,12 @@ AgreeAbove (n ∷ path) t u =
 -- ---- two right sides
 -- it is an indicator from this number on
 abbrev pub IsFresh : ℕ → Term → Type 0
-IsFresh next c = (n : ℕ) × (next ≤ n) × (c ≡ terms.var (ind n))
+IsFresh next c = (n : ℕ) × (next ≤ n) × (c ≡ indicator n)
 
 -- what stands where one has a and the other b: an indicator of the first stays, and so does a
 -- common head; elsewhere stands a fresh indicator
 abbrev pub IsCommonHead : ℕ → Term → Term → Term → Type 0
-IsCommonHead next (terms.var (ind n)) b c = c ≡ terms.var (ind n)
+IsCommonHead next (terms.var (ind n)) b c = c ≡ indicator n
 IsCommonHead next a b c =
     ((same_head a b ≡ true) × (same_head a c ≡ true))
     ⊎ ((same_head a b ≡ false) × IsFresh next c)
@@ -114,7 +115,23 @@ pub record IsRest (side : Sides → Term) (ss : List Sides) (common : List Bindi
   pub order : left_sides parts ≡ cut
   pub each : (s : Sides) (c : Term) → IsAmong (agreeing ss) s → IsAmong common (s.left, c)
       → (path : List ℕ) (n : ℕ) (a : Term) → IsAmong cut n
-      → StandsAt path c (terms.var (ind n)) → StandsAt path (side s) a → IsAmong parts (n, a)
+      → StandsAt path c (indicator n) → StandsAt path (side s) a → IsAmong parts (n, a)
+
+-- the occurrences of symbols and variables on all right sides
+abbrev pub right_sizes : List Binding → ℕ
+right_sizes [] = 0
+right_sizes (b ∷ bs) = terms.size b.1 + right_sizes bs
+
+-- A list of a node may be split against a new one, with fresh indicators from this number on.
+pub record MaySplit (next : ℕ) (node new : List Binding) : Type 0 where
+  pub same_lefts : left_sides node ≡ left_sides new
+  pub distinct : AreDistinct (left_sides node)
+  pub low : AllByRecursion (λ n. n < next) (left_sides node)
+  pub ground : right_indicators new ≡ []
+  pub opens_once : AreDistinct (right_indicators node)
+  pub opens_low : AllByRecursion (λ n. n < next) (right_indicators node)
+  pub opens_others : AllByRecursion (λ n. IsAmong (left_sides node) n → ⊥) (right_indicators node)
+  pub no_bare : HasNoBareIndicator node
 
 -- A list of a node is split against a new one. What the node has at its own indicators stays in the
 -- common part, and what it has at the fresh ones is left to its rest; the new list leaves to its

@@ -8,7 +8,7 @@ use Rattle.si_defs.specs.declared.TheConstants.{MOST_OCCURRENCES}
 use Rattle.si_flat.specs.Cells.{Variable, query, entry, ind, Term}
 use Rattle.si_flat.specs.Flattened.{IsNumberedBy}
 use Rattle.si_legal.specs.declared.Posting.{Posting}
-use Rattle.si_legal.specs.Bindings.{Binding, left_sides, indicators}
+use Rattle.si_legal.specs.Bindings.{Binding, left_sides, indicators, HasNoBareIndicator}
 use Rattle.si_legal.specs.Generalizations.{same_head}
 use Rattle.si_legal.specs.Trees.{Content, inner, leaf, Node, Tree, HasNode, Path, IsPath, path_term, opened}
 
@@ -22,9 +22,6 @@ abbrev pub OpensOnce : Path → Type 0
 OpensOnce path = AreDistinct (opened path)
 
 -- ---- bindings
-abbrev pub IsNoIndicator : Term → Type 0
-IsNoIndicator t = (n : ℕ) → t ≡ terms.var (ind n) → ⊥
-
 -- a tree has no variable of a query, and the others are below the bounds
 abbrev pub IsWithin : Tree Term → Variable → Type 0
 IsWithin tree (query n) = ⊥
@@ -35,7 +32,7 @@ IsWithin tree (ind n) = n < tree.next
 pub record BindsOpen (tree : Tree Term) (above : Path) (bindings : List Binding) : Type 0 where
   pub lefts : AllByRecursion (IsOpenBelow above) (left_sides bindings)
   pub distinct : AreDistinct (left_sides bindings)
-  pub rights : AllByRecursion (λ b. IsNoIndicator b.1) bindings
+  pub rights : HasNoBareIndicator bindings
   pub within : AllByRecursion (λ b. AllByRecursion (IsWithin tree) (terms.variables b.1)) bindings
 
 -- ---- inner nodes

@@ -1,10 +1,9 @@
 -- Substitution trees (Graf 1996) as plain data, and the paths in them. Each node has a key.
 use Rattle.std.specs.Prelude.{◌≡◌, ℕ, ◌⊎◌, List, [], ◌∷◌, ◌++◌, Option, None, Some, slice_index_or}
-use Rattle.si_defs.specs.Terms as terms
 use Rattle.si_flat.specs.declared.Cell.{Cell}
-use Rattle.si_flat.specs.Cells.{ind, Term}
+use Rattle.si_flat.specs.Cells.{Term}
 use Rattle.si_legal.specs.declared.Posting.{Posting}
-use Rattle.si_legal.specs.Bindings.{applied, right_indicators, StandForBindings}
+use Rattle.si_legal.specs.Bindings.{indicator, applied, right_indicators, StandForBindings}
 
 -- an inner node has an indicator on which it splits, and the keys of its children; a leaf has
 -- postings
@@ -49,7 +48,7 @@ PassesBy (step ∷ above) key = (step.0 ≡ key) ⊎ PassesBy above key
 
 -- the path's term: indicator 0 with the bindings of the path applied, from the root on
 abbrev pub path_term : Path → Term
-path_term [] = terms.var (ind 0)
+path_term [] = indicator 0
 path_term (step ∷ above) = applied step.1.bindings (path_term above)
 
 -- the indicators that the path opens: 0, and those that occur on its right sides

@@ -1,0 +1,4 @@
+pub mod CommonLaws
+pub mod PathLaws
+pub mod PartLaws
+pub mod Splitting

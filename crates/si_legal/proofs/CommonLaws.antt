@@ -1,5 +1,5 @@
 -- The most specific linear generalization of two terms, from those of their arguments.
-use Rattle.std.proofs.Common.{◌≡◌, ℕ, zero, suc, ◌≤◌, ◌⊎◌, ◌↔◌, inl, inr, Bool, true, false, List, [], ◌∷◌, Option, None, Some, refl, ap, sym, ◌∙◌, subst}
+use Rattle.std.proofs.Common.{◌≡◌, ℕ, zero, suc, ◌≤◌, ◌⊎◌, ◌↔◌, inl, inr, Bool, true, false, List, [], ◌∷◌, None, Some, refl, sym, ◌∙◌, subst}
 use Rattle.std.proofs.lemmas.Option.{same_Some}
 use Rattle.si_defs.specs.Terms as terms
 use Rattle.si_flat.specs.Cells.{Symbol, Variable, query, entry, ind, Term, Terms}
@@ -32,6 +32,7 @@ bare next t u x head ends = record { positions = places; heads = there } where
     (λ h. absurd (no_argument x n h.1.0 h.1.1)),
     (λ h. absurd (ends n h.0.1.0 h.1.1.0 h.0.1.1 h.1.1.1 h.2.0)),
   )
+
   there : (path : List ℕ) (a b d : Term) → StandsAt path t a → StandsAt path u b → StandsAt path (terms.var x) d → IsCommonHead next a b d
   there [] a b d p q r = at_root next t u (terms.var x) a b d head p q r
   there (n ∷ path) a b d p q r = absurd (no_argument x n r.0 r.1)
@@ -106,18 +107,21 @@ common_app next s r ts us cs same self all = record { positions = places; heads 
           (λ a b p q. subst (λ x. AgreeAbove path x b) (same_Some k.t a (sym k.t_is ∙ p)) (subst (λ y. AgreeAbove path k.t y) (same_Some k.u b (sym k.u_is ∙ q)) both.2)),
         ),
       )
+
   up : (n : ℕ) (path : List ℕ) → CommonArgument next n ts us cs → HasPosition (terms.app s ts) (n ∷ path) × HasPosition (terms.app r us) (n ∷ path) × AgreeAbove (n ∷ path) (terms.app s ts) (terms.app r us) → HasPosition (terms.app s cs) (n ∷ path)
   up n path k h =
       let one : StandsAt path k.t h.0.0 = subst (λ x. StandsAt path x h.0.0) (same_Some h.0.1.0 k.t (sym h.0.1.1 ∙ k.t_is)) h.0.1.2 in
       let two : StandsAt path k.u h.1.0 = subst (λ x. StandsAt path x h.1.0) (same_Some h.1.1.0 k.u (sym h.1.1.1 ∙ k.u_is)) h.1.1.2 in
       let c = (k.common.positions path).1 ((h.0.0, one), (h.1.0, two), h.2.1 k.t k.u k.t_is k.u_is) in
       (c.0, (k.c, k.c_is, c.1))
+
   places : (path : List ℕ) → HasPosition (terms.app s cs) path ↔ (HasPosition (terms.app s ts) path × HasPosition (terms.app r us) path × AgreeAbove path (terms.app s ts) (terms.app r us))
   places [] = ((λ h. ((terms.app s ts, refl), (terms.app r us, refl), tt)), (λ h. (terms.app s cs, refl)))
   places (n ∷ path) = (
     (λ h. down n path (common_argument next n ts us cs all (inr (h.1.0, h.1.1))) h),
     (λ h. up n path (common_argument next n ts us cs all (inl (h.0.1.0, h.0.1.1))) h),
   )
+
   there : (path : List ℕ) (a b d : Term) → StandsAt path (terms.app s ts) a → StandsAt path (terms.app r us) b → StandsAt path (terms.app s cs) d → IsCommonHead next a b d
   there [] a b d p q e = at_root next (terms.app s ts) (terms.app r us) (terms.app s cs) a b d (inl (same, self)) p q e
   there (n ∷ path) a b d p q e =

@@ -2,3 +2,4 @@ pub mod CommonLaws
 pub mod PathLaws
 pub mod PartLaws
 pub mod Splitting
+pub mod SplitLaws

@@ -1,5 +1,5 @@
 -- What a rest has at the indicators of a common part, and how it gives the term back.
-use Rattle.std.proofs.Common.{◌≡◌, ℕ, zero, suc, ◌+◌, ◌<◌, ◌≤◌, ◌⊎◌, inl, inr, Bool, true, false, List, [], ◌∷◌, ◌++◌, map, Option, None, Some, refl, ap, sym, ◌∙◌, subst, arith}
+use Rattle.std.proofs.Common.{◌≡◌, ℕ, zero, suc, inl, List, [], ◌∷◌, ◌++◌, None, Some, refl, ap, sym, subst}
 use Rattle.std.proofs.lemmas.Option.{same_Some}
 use Rattle.si_defs.specs.Terms as terms
 use Rattle.si_defs.specs.Substitutions.{IsAmong}
@@ -85,6 +85,7 @@ side_variable P olds x plain = record { has = there; gives = (λ f h. by x plain
   there : HasParts P (terms.var x) (terms.var x) []
   there [] m a p q r = no_indicator x m plain q
   there (k ∷ path) m a p q r = absurd (no_argument x k q.0 q.1)
+
   by : (y : Variable) → (IsIndicator (terms.var y) → ⊥) → (f : Variable → Term) → Fills P olds [] f → f y ≡ terms.var y
   by (query n) plain f h = h.queries n
   by (entry n) plain f h = h.entries n

@@ -1,7 +1,7 @@
 -- How two terms are split, from left to right: a plain function, and that it is right.
-use Rattle.std.proofs.Common.{◌≡◌, ℕ, zero, suc, ◌+◌, ◌<◌, ◌≤◌, ◌⊎◌, inl, inr, Bool, true, false, cond, ◌&&◌, ◌==◌, List, [], ◌∷◌, ◌++◌, map, filter, refl, ap, sym, ◌∙◌, subst, arith, append_assoc, append-nil}
+use Rattle.std.proofs.Common.{◌≡◌, ℕ, zero, suc, ◌+◌, ◌<◌, ◌≤◌, ◌⊎◌, inl, inr, Bool, true, false, cond, ◌&&◌, ◌==◌, List, [], ◌∷◌, ◌++◌, refl, ap, sym, ◌∙◌, subst, arith}
 use Rattle.std.specs.Prelude.{nat_le}
-use Rattle.std.proofs.lemmas.Bool.{and_parts, eqb-true, eq-eqb, leb-true, le-leb}
+use Rattle.std.proofs.lemmas.Bool.{and_parts, eqb-true, eq-eqb, le-leb}
 use Rattle.std.proofs.lemmas.Bool.Decides.{leb_tells}
 use Rattle.std.proofs.lemmas.List.{map-append}
 use Rattle.std.proofs.lemmas.List.Elements.{filter-append}
@@ -108,7 +108,7 @@ distinct_append (x ∷ xs) ys p q r = (
 
 -- ---- what holds of a piece
 -- each indicator of the common part is an old one of the node, or a fresh one
-abbrev IsFromNode : ℕ → List ℕ → ℕ → ℕ → ℕ → Type 0
+abbrev pub IsFromNode : ℕ → List ℕ → ℕ → ℕ → ℕ → Type 0
 IsFromNode base olds next after n = ((n < base) × IsAmong olds n) ⊎ ((next ≤ n) × (n < after))
 
 pub record AreNumbered (base next after : ℕ) (olds inds lefts_node lefts_new : List ℕ) : Type 0 where
@@ -220,8 +220,8 @@ numbered_then base next mid after olds olds' inds inds' node node' new new' high
     p.numbers.0 + q.numbers.0,
     omega (arith, p.numbers.1, q.numbers.1),
     (λ i. p.numbers.2 i ++ q.numbers.2 i)
-    ∙ ap (λ k. numbers_from next p.numbers.0 ++ numbers_from k q.numbers.0) p.numbers.1
-    ∙ sym (numbers-append next p.numbers.0 q.numbers.0),
+        ∙ ap (λ k. numbers_from next p.numbers.0 ++ numbers_from k q.numbers.0) p.numbers.1
+        ∙ sym (numbers-append next p.numbers.0 q.numbers.0),
   );
   from_node = λ n a. elim (among_parts inds inds' n a) [ inl b ↦ first n (p.from_node n b) | inr b ↦ second n (q.from_node n b) ];
   distinct = distinct_append inds inds' p.distinct q.distinct (λ n a b. meet n (p.from_node n a) (q.from_node n b));
@@ -229,9 +229,11 @@ numbered_then base next mid after olds olds' inds inds' node node' new new' high
   first : (n : ℕ) → IsFromNode base olds next mid n → IsFromNode base (olds ++ olds') next after n
   first n (inl h) = inl (h.0, among_front olds olds' n h.1)
   first n (inr h) = inr (h.0, omega (arith, h.1, q.grows))
+
   second : (n : ℕ) → IsFromNode base olds' mid after n → IsFromNode base (olds ++ olds') next after n
   second n (inl h) = inl (h.0, among_back olds olds' n h.1)
   second n (inr h) = inr (omega (arith, h.0, p.grows), h.1)
+
   meet : (n : ℕ) → IsFromNode base olds next mid n → IsFromNode base olds' mid after n → ⊥
   meet n (inl h) (inl k) = (distinct_parts olds olds' distinct).2 n h.1 k.1
   meet n (inl h) (inr k) = omega (arith, h.0, k.0, high, p.grows)

@@ -6,6 +6,7 @@ use Rattle.si_defs.specs.Symbols.{Symbol, times}
 use Rattle.si_defs.specs.Clauses.{Name, Clause, IsSoundClause}
 use Rattle.si_defs.specs.Entries.{entries, state_entries, clause_symbols, state_symbols}
 use Rattle.si_defs.specs.Substitutions.{IsAmong}
+use Rattle.si_state.specs.States.{Rules}
 use Rattle.si_state.specs.Acceptance.{IsTaken, Accepts}
 use Rattle.si_state.specs.Signatures.{Signature, IsSignature, IsSignatureOf, KeepsNumbers, numbering, uses_of, total}
 use Rattle.si_term.specs.Meaning.{clause_of, name_of}
@@ -35,14 +36,14 @@ some_is : {A : Type 0} (o : Option A) → IsSome o → (x : A) × (o ≡ Some x)
 some_is None h = absurd (false≢true h)
 some_is (Some x) h = (x, refl)
 
-module _ (limit : ℕ) (items : List (ℕ × term.Clause)) (known : Known) (c : Clause) (is : IsKnownOf items known) (good : IsSignature known.signature) where
+module _ (rules : Rules) (items : List (ℕ × term.Clause)) (known : Known) (c : Clause) (is : IsKnownOf items known) (good : IsSignature known.signature) where
   pub name_free : key_of known.names c.name ≡ None → IsTaken (clauses_of items) c.name → ⊥
   name_free e = unknown_free items known.names is.names c.name e
 
-  pub rejects : IsSoundClause c → (f : AddFault) → Bars limit known c f → Rejects limit (clauses_of items) c f
+  pub rejects : IsSoundClause c → (f : AddFault) → Bars rules.entries known c f → Rejects rules (clauses_of items) c f
   rejects sound add_fault.Taken why = let found = some_is (key_of known.names c.name) why in leads_taken items known.names is.names c.name found.0 found.1
   rejects sound (add_fault.Clash clash) (free, names) = by (clashes_in_state (clauses_of items) known.signature good is.signed (clause_symbols c) clash names) where
-    by : NamesFirstClash (state_symbols (clauses_of items)) (clause_symbols c) clash → Rejects limit (clauses_of items) c (add_fault.Clash clash)
+    by : NamesFirstClash (state_symbols (clauses_of items)) (clause_symbols c) clash → Rejects rules (clauses_of items) c (add_fault.Clash clash)
     by (found, kept, first, shapes) = (found, kept, (name_free free, first), shapes)
   rejects sound (add_fault.Full needed most) (free, agree, over, number, same) = (
     (
@@ -55,7 +56,7 @@ module _ (limit : ℕ) (items : List (ℕ × term.Clause)) (known : Known) (c : 
   )
   rejects sound add_fault.Memory why = tt
 
-  pub accepts : IsSoundClause c → Admits limit known c → Accepts limit (clauses_of items) c (clauses_of items ++ c ∷ [])
+  pub accepts : IsSoundClause c → Admits rules.entries known c → Accepts rules (clauses_of items) c (clauses_of items ++ c ∷ [])
   accepts sound admits = record {
     free = name_free admits.free;
     agree = agrees_in_state (clauses_of items) known.signature good is.signed (clause_symbols c) admits.agree;
@@ -64,12 +65,12 @@ module _ (limit : ℕ) (items : List (ℕ × term.Clause)) (known : Known) (c : 
   }
 
 -- ---- what is kept, before and behind a change
-pub room_for : (limit : ℕ) (items : List (ℕ × term.Clause)) (known : Known) (c : Clause) → IsKept limit items known → IsSoundClause c
+pub room_for : (rules : Rules) (items : List (ℕ × term.Clause)) (known : Known) (c : Clause) → IsKept rules items known → IsSoundClause c
     → total known.signature + length (clause_symbols c) ≤ MOST_USES
-room_for limit items known c kept sound = omega (arith, kept.is_known.counted, kept.stored.few, kept.small, symbols_few c sound)
+room_for rules items known c kept sound = omega (arith, kept.is_known.counted, kept.stored.few, kept.small, symbols_few c sound)
 
-pub kept_stays : (limit : ℕ) (old new : Known) (items : List (ℕ × term.Clause)) → IsKept limit items old → Stays old new → IsKept limit items new
-kept_stays limit old new items kept same = record {
+pub kept_stays : (rules : Rules) (old new : Known) (items : List (ℕ × term.Clause)) → IsKept rules items old → Stays old new → IsKept rules items new
+kept_stays rules old new items kept same = record {
   small = kept.small;
   stored = kept.stored;
   is_known = record {
@@ -80,14 +81,14 @@ kept_stays limit old new items kept same = record {
 }
 
 -- a clause that is put last
-module _ (limit : ℕ) (old between : Known) (items more : List (ℕ × term.Clause)) (c : term.Clause) (names : Names) (good : IsSignature old.signature)
-    (kept : IsKept limit items old) (sound : IsSoundClause (clause_of c)) (admits : Admits limit old (clause_of c)) (enters : Enters (clause_of c) old between)
+module _ (rules : Rules) (old between : Known) (items more : List (ℕ × term.Clause)) (c : term.Clause) (names : Names) (good : IsSignature old.signature)
+    (kept : IsKept rules items old) (sound : IsSoundClause (clause_of c)) (admits : Admits rules.entries old (clause_of c)) (enters : Enters (clause_of c) old between)
     (put : IsPut c items more between.names names) where
   clauses_more : clauses_of more ≡ clauses_of items ++ clause_of c ∷ []
   clauses_more = ap clauses_of put.pushed ∙ map-append (λ p. clause_of p.1) items ((put.key, c) ∷ [])
 
-  pub accepts_more : Accepts limit (clauses_of items) (clause_of c) (clauses_of more)
-  accepts_more = subst (Accepts limit (clauses_of items) (clause_of c)) (sym clauses_more) (accepts limit items old (clause_of c) kept.is_known good sound admits)
+  pub accepts_more : Accepts rules (clauses_of items) (clause_of c) (clauses_of more)
+  accepts_more = subst (Accepts rules (clauses_of items) (clause_of c)) (sym clauses_more) (accepts rules items old (clause_of c) kept.is_known good sound admits)
 
   names_more : AreNamed more names
   names_more =
@@ -95,14 +96,14 @@ module _ (limit : ℕ) (old between : Known) (items more : List (ℕ × term.Cla
       (named_more items put.key c between.names names (subst (AreNamed items) (sym enters.names) kept.is_known.names) put.fresh
       (ap (λ m. key_of m (name_of c.name)) enters.names ∙ admits.free) put.name)
 
-  pub kept_more : IsKept limit more (record { names = names; signature = between.signature })
+  pub kept_more : IsKept rules more (record { names = names; signature = between.signature })
   kept_more =
       let behind = append-nil (clauses_of items) in
       record {
         small = kept.small;
         stored =
-            subst (IsStored limit) (sym clauses_more)
-            (stored_more limit (clauses_of items) (clause_of c) kept.stored sound (accepts limit items old (clause_of c) kept.is_known good sound admits));
+            subst (IsStored rules) (sym clauses_more)
+            (stored_more rules (clauses_of items) (clause_of c) kept.stored sound (accepts rules items old (clause_of c) kept.is_known good sound admits));
         is_known = record {
           names = names_more;
           signed = λ s.
@@ -153,7 +154,7 @@ entered_back old between c names signature good enters same uses sum numbers = r
 }
 
 -- a clause that stands between others
-module _ (limit : ℕ) (old : Known) (items : List (ℕ × term.Clause)) (key : ℕ) (c : term.Clause) (rest : List (ℕ × term.Clause)) (kept : IsKept limit items old)
+module _ (rules : Rules) (old : Known) (items : List (ℕ × term.Clause)) (key : ℕ) (c : term.Clause) (rest : List (ℕ × term.Clause)) (kept : IsKept rules items old)
     (out : IsTakenOut items key c rest) where
   pub splits : clauses_of items ≡ clauses_of out.before ++ clause_of c ∷ clauses_of out.after
   splits = ap clauses_of out.whole ∙ map-append (λ p. clause_of p.1) out.before ((key, c) ∷ out.after)
@@ -161,8 +162,8 @@ module _ (limit : ℕ) (old : Known) (items : List (ℕ × term.Clause)) (key : 
   pub rest_is : clauses_of rest ≡ clauses_of out.before ++ clauses_of out.after
   rest_is = ap clauses_of out.rest ∙ map-append (λ p. clause_of p.1) out.before out.after
 
-  stored_there : IsStored limit (clauses_of out.before ++ clause_of c ∷ clauses_of out.after)
-  stored_there = subst (IsStored limit) splits kept.stored
+  stored_there : IsStored rules (clauses_of out.before ++ clause_of c ∷ clauses_of out.after)
+  stored_there = subst (IsStored rules) splits kept.stored
 
   signed_there : IsSignatureOf (clauses_of out.before ++ clause_of c ∷ clauses_of out.after) old.signature
   signed_there = subst (λ l. IsSignatureOf l old.signature) splits kept.is_known.signed
@@ -189,10 +190,10 @@ module _ (limit : ℕ) (old : Known) (items : List (ℕ × term.Clause)) (key : 
   names_less new change =
       subst (λ l. AreNamed l new) (sym out.rest) (named_less out.before key c out.after old.names new names_there free_without change)
 
-  pub kept_less : (new : Known) → Leaves (clause_of c) old new → IsKept limit rest new
+  pub kept_less : (new : Known) → Leaves (clause_of c) old new → IsKept rules rest new
   kept_less new leaves = record {
     small = kept.small;
-    stored = subst (IsStored limit) (sym rest_is) (stored_less limit (clauses_of out.before) (clause_of c) (clauses_of out.after) stored_there);
+    stored = subst (IsStored rules) (sym rest_is) (stored_less rules (clauses_of out.before) (clause_of c) (clauses_of out.after) stored_there);
     is_known = record {
       names = names_less new.names leaves.name;
       signed = λ s.

@@ -1,26 +1,27 @@
--- What an index is seen as: the clauses that are kept, in the order of acceptance, the limit on
--- their entries, and the numbers of their symbols.
+-- What an index is seen as: the clauses that are kept, in the order of acceptance, the rules by
+-- which they were accepted, and the numbers of their symbols.
 use Rattle.std.specs.Prelude.{◌≡◌, ℕ, List, refl, map}
 use Rattle.std.specs.Coded.{Coded, code_by, coded×, coded_ℕ, coded_list}
 use Rattle.si_defs.specs.Symbols.{Symbol, Numbering}
 use Rattle.si_defs.specs.Clauses.{Clause}
 use Rattle.si_defs.specs.Substitutions.{IsAmong}
 use Rattle.si_defs.specs.Codes.{symbol_code, clause_code}
+use Rattle.si_state.specs.States.{Rules, rules_code}
 use Rattle.si_term.specs.Meaning.{clause_of}
 use Rattle.si_term.specs.declared.clause.Clause as term
 
 pub record Kept : Type 0 where
   pub clauses : List Clause
-  pub limit : ℕ
+  pub rules : Rules
   pub numbers : Numbering
 
 abbrev pub kept_code : Coded Kept
 kept_code =
     code_by
-    (List Clause × (ℕ × List (Symbol × ℕ)))
-    (coded× (coded_list clause_code) (coded× coded_ℕ (coded_list (coded× symbol_code coded_ℕ))))
-    (λ k. (k.clauses, (k.limit, k.numbers)))
-    (λ p. record { clauses = p.0; limit = p.1.0; numbers = p.1.1 })
+    (List Clause × (Rules × List (Symbol × ℕ)))
+    (coded× (coded_list clause_code) (coded× rules_code (coded_list (coded× symbol_code coded_ℕ))))
+    (λ k. (k.clauses, (k.rules, k.numbers)))
+    (λ p. record { clauses = p.0; rules = p.1.0; numbers = p.1.1 })
     (λ _. refl)
 
 -- a symbol that has a number at both times has the same

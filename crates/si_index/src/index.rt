@@ -3,6 +3,7 @@ ghost use Rattle.std.specs.Prelude.{◌≡◌, ◌<◌, ◌≤◌, [], ◌∷◌
 ghost use Rattle.si_defs.specs.Clauses as defs;
 ghost use Rattle.si_defs.specs.Clauses.{IsSoundClause};
 ghost use Rattle.si_defs.specs.Entries.{entries, state_entries};
+ghost use Rattle.si_state.specs.States.{limited_to};
 ghost use Rattle.si_state.specs.Acceptance.{Accepts, IsTaken, Removes};
 ghost use Rattle.si_defs.specs.declared.TheConstants.{MOST_OCCURRENCES};
 ghost use Rattle.si_state.specs.Signatures.{CountsSymbols, IsSignatureOf, numbering};
@@ -43,6 +44,7 @@ pub struct Index {
 }
 
 impl Model for Index {
+    ghost use Rattle.si_state.specs.States.{limited_to};
     ghost use Rattle.si_state.specs.Signatures.{numbering};
     ghost use Rattle.si_index.specs.Kept.{Kept, kept_code, clauses_of};
 
@@ -52,20 +54,24 @@ impl Model for Index {
 
     ghost view = { λ i. record {
       clauses = clauses_of i.clauses;
-      limit = i.limit;
+      rules = limited_to i.limit;
       numbers = numbering i.known.signature;
     } };
 
     ghost use Rattle.si_index.specs.Stored.{IsKept};
 
-    ghost invariant = { λ i. IsKept i.limit i.clauses i.known };
+    ghost invariant = { λ i. IsKept (limited_to i.limit) i.clauses i.known };
 }
 
 impl Index {
     /// The empty index.
     pub fn new(alloc: Global, limit: u64) -> Result<Index, AllocError>
         requires { limit ≤ MOST_OCCURRENCES }
-        ensures { IfOk result (λ i. i ≡ record { clauses = []; limit = limit; numbers = [] }) }
+        ensures { IfOk result (λ i. i ≡ record {
+          clauses = [];
+          rules = limited_to limit;
+          numbers = [];
+        }) }
     {
         Ok(Index {
             alloc,
@@ -80,8 +86,8 @@ impl Index {
         ensures clauses { result.clauses ≡ length self.now.clauses }
         ensures entries { result.entries ≡ length (state_entries self.now.clauses) }
         ensures symbols { CountsSymbols self.now.clauses result.symbols }
-        ensures stored { IsStored self.now.limit self.now.clauses }
-        ensures small { self.now.limit ≤ MOST_OCCURRENCES }
+        ensures stored { IsStored self.now.rules self.now.clauses }
+        ensures small { self.now.rules.entries ≤ MOST_OCCURRENCES }
         ensures numbering { IsNumbering self.now.numbers }
     {
         Stats {
@@ -144,20 +150,20 @@ fn put(
 impl ClauseStore for Index {
     ghost clauses = { λ i. i.clauses };
 
-    ghost limit = { λ i. i.limit };
+    ghost rules = { λ i. i.rules };
 
     /// Beside what every store promises, a symbol keeps its number while it occurs.
     fn add(&mut self, clause: Clause) -> Result<u32, Rejected>
         requires sound { IsSoundClause (clause_of clause) }
-        ensures added { IfOk result (λ n. Accepts self.old.limit self.old.clauses
+        ensures added { IfOk result (λ n. Accepts self.old.rules self.old.clauses
             (clause_of clause) self.new.clauses) }
         ensures entries { IfOk result (λ n. n ≡ length (entries (clause_of clause))) }
-        ensures rejected { IfErr result (λ r. Rejects self.old.limit self.old.clauses
+        ensures rejected { IfErr result (λ r. Rejects self.old.rules self.old.clauses
             (clause_of clause) r.why) }
         ensures handed_back { IfErr result (λ r. r.clause ≡ clause) }
         ensures err { OnErr result (self.new.clauses ≡ self.old.clauses) }
-        ensures limit { self.new.limit ≡ self.old.limit }
-        ensures stored { IsStored self.new.limit self.new.clauses }
+        ensures rules { self.new.rules ≡ self.old.rules }
+        ensures stored { IsStored self.new.rules self.new.clauses }
         ensures numbers { NumbersStay self.old self.new }
     {
         let entries = match self.known.enter(&clause, self.limit) {
@@ -183,8 +189,8 @@ impl ClauseStore for Index {
             (name_of name.now) c self.new.clauses × (n ≡ length (entries c))) }
         ensures unknown { IfNone result (IsTaken self.old.clauses (name_of name.now) → ⊥) }
         ensures none { IfNone result (self.new.clauses ≡ self.old.clauses) }
-        ensures limit { self.new.limit ≡ self.old.limit }
-        ensures stored { IsStored self.new.limit self.new.clauses }
+        ensures rules { self.new.rules ≡ self.old.rules }
+        ensures stored { IsStored self.new.rules self.new.clauses }
         ensures numbers { IfSome result (λ n. NumbersStay self.old self.new) }
         ensures same { IfNone result (self.new ≡ self.old) }
     {
@@ -200,8 +206,8 @@ impl ClauseStore for Index {
             ≡ self.new.clauses ++ c ∷ []) × (n ≡ length (entries c))) }
         ensures empty { IfNone result (self.old.clauses ≡ []) }
         ensures none { IfNone result (self.new.clauses ≡ self.old.clauses) }
-        ensures limit { self.new.limit ≡ self.old.limit }
-        ensures stored { IsStored self.new.limit self.new.clauses }
+        ensures rules { self.new.rules ≡ self.old.rules }
+        ensures stored { IsStored self.new.rules self.new.clauses }
         ensures numbers { IfSome result (λ n. NumbersStay self.old self.new) }
         ensures same { IfNone result (self.new ≡ self.old) }
     {

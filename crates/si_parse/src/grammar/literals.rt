@@ -31,7 +31,8 @@ pub fn literal<'t, 'b>(
     ensures ends { IfOk result (IfLeft NoSign) }
     ensures sound { IfOk result (IfFound (λ l. IsSoundPattern (literal_pattern (literal_of l)))) }
 {
-    let Some((literal, rest)) = front_literal(alloc, tokens)? else {
+    let mut pile = Terms::new(alloc);
+    let Some((literal, rest)) = front_literal(alloc, &mut pile, tokens)? else {
         return Ok(None);
     };
     if sign_follows(rest) {
@@ -40,18 +41,19 @@ pub fn literal<'t, 'b>(
     Ok(Some((literal, rest)))
 }
 
-/// The same, whatever stands behind it.
+/// The same, whatever stands behind it. Arguments are gathered on the pile.
 pub(crate) fn front_literal<'t, 'b>(
     alloc: Global,
+    pile: &mut Terms,
     tokens: &'t [Lexeme<'b>],
 ) -> Result<Found<'t, 'b, Literal>, AllocError>
     requires { length tokens.now ≤ MOST_BYTES }
     ensures { IfOk result (Reads literal_of IsLiteral NoSign tokens.now) }
 {
     let Some(behind) = mark_at(tokens, b'~') else {
-        return statement(alloc, tokens);
+        return statement(alloc, pile, tokens);
     };
-    match negated(alloc, behind)? {
+    match negated(alloc, pile, behind)? {
         Some((atom, rest)) => Ok(Some((
             Literal {
                 positive: false,
@@ -66,15 +68,16 @@ pub(crate) fn front_literal<'t, 'b>(
 /// The atom behind a tilde, bare or in round brackets.
 fn negated<'t, 'b>(
     alloc: Global,
+    pile: &mut Terms,
     tokens: &'t [Lexeme<'b>],
 ) -> Result<Found<'t, 'b, Term>, AllocError>
     requires { length tokens.now ≤ MOST_BYTES }
     ensures { IfOk result (Reads term_of IsNegated NoSign tokens.now) }
 {
     let Some(inside) = mark_at(tokens, b'(') else {
-        return atom(alloc, tokens);
+        return atom(alloc, pile, tokens);
     };
-    let Some((atom, behind)) = atom(alloc, inside)? else {
+    let Some((atom, behind)) = atom(alloc, pile, inside)? else {
         return Ok(None);
     };
     match mark_at(behind, b')') {
@@ -84,11 +87,15 @@ fn negated<'t, 'b>(
 }
 
 /// The atom at the front: a predicate with its arguments, or two terms with `=` between them.
-fn atom<'t, 'b>(alloc: Global, tokens: &'t [Lexeme<'b>]) -> Result<Found<'t, 'b, Term>, AllocError>
+fn atom<'t, 'b>(
+    alloc: Global,
+    pile: &mut Terms,
+    tokens: &'t [Lexeme<'b>],
+) -> Result<Found<'t, 'b, Term>, AllocError>
     requires { length tokens.now ≤ MOST_BYTES }
     ensures { IfOk result (Reads term_of IsAtom NoSign tokens.now) }
 {
-    let Some((literal, rest)) = statement(alloc, tokens)? else {
+    let Some((literal, rest)) = statement(alloc, pile, tokens)? else {
         return Ok(None);
     };
     if literal.positive {
@@ -102,12 +109,13 @@ fn atom<'t, 'b>(alloc: Global, tokens: &'t [Lexeme<'b>]) -> Result<Found<'t, 'b,
 /// them. The first term is read once, and what stands behind it decides.
 fn statement<'t, 'b>(
     alloc: Global,
+    pile: &mut Terms,
     tokens: &'t [Lexeme<'b>],
 ) -> Result<Found<'t, 'b, Literal>, AllocError>
     requires { length tokens.now ≤ MOST_BYTES }
     ensures { IfOk result (Reads literal_of IsStatement NoSign tokens.now) }
 {
-    let Some((left, behind)) = front_term(alloc, tokens)? else {
+    let Some((left, behind)) = front_term(alloc, pile, tokens)? else {
         return Ok(None);
     };
     let Some((positive, next)) = sign(behind) else {
@@ -122,7 +130,7 @@ fn statement<'t, 'b>(
             None => Ok(None),
         };
     };
-    let Some((right, rest)) = front_term(alloc, next)? else {
+    let Some((right, rest)) = front_term(alloc, pile, next)? else {
         return Ok(None);
     };
     let atom = equality(alloc, left, right)?;
@@ -179,10 +187,10 @@ fn on_predicate_side(symbol: Sym) -> Sym
     ensures arity { result.arity ≡ symbol.arity }
 {
     Sym {
-        kind: symbol.kind,
         text: symbol.text,
-        side: Side::Predicate,
         arity: symbol.arity,
+        kind: symbol.kind,
+        side: Side::Predicate,
     }
 }
 
@@ -191,14 +199,14 @@ fn equality(alloc: Global, left: Term, right: Term) -> Result<Term, AllocError>
     ensures { IfOk result (λ t. term_of t ≡ equation (term_of left) (term_of right)) }
 {
     let text = Text::from_bytes(alloc, b"=".as_slice())?;
-    let mut sides = Terms::new(alloc);
+    let mut sides = Terms::with_capacity(alloc, 2)?;
     sides.push(left)?;
     sides.push(right)?;
     let symbol = Sym {
-        kind: SymKind::Equal,
         text,
-        side: Side::Predicate,
         arity: 2,
+        kind: SymKind::Equal,
+        side: Side::Predicate,
     };
     Ok(Term::App(symbol, sides))
 }

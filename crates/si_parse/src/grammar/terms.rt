@@ -29,7 +29,8 @@ pub fn term<'t, 'b>(
     ensures ends { IfOk result (IfLeft NoBracket) }
     ensures sound { IfOk result (IfFound (λ t. IsSoundPattern (term_pattern (term_of t)))) }
 {
-    let Some((term, rest)) = front_term(alloc, tokens)? else {
+    let mut pile = Terms::new(alloc);
+    let Some((term, rest)) = front_term(alloc, &mut pile, tokens)? else {
         return Ok(None);
     };
     if bracket_follows(rest) {
@@ -38,14 +39,17 @@ pub fn term<'t, 'b>(
     Ok(Some((term, rest)))
 }
 
-/// The same, whatever stands behind it.
+/// The same, whatever stands behind it. Arguments are gathered on the pile, so that each list of
+/// them takes one block, and no room that none stands in.
 #[cycle(reading)]
 pub(crate) fn front_term<'t, 'b>(
     alloc: Global,
+    pile: &mut Terms,
     tokens: &'t [Lexeme<'b>],
 ) -> Result<Found<'t, 'b, Term>, AllocError>
     requires { length tokens.now ≤ MOST_BYTES }
-    ensures { IfOk result (Reads term_of IsTerm NoBracket tokens.now) }
+    ensures read { IfOk result (Reads term_of IsTerm NoBracket tokens.now) }
+    ensures pile { IfOk result (IfFound (λ _. pile.new ≡ pile.old)) }
 {
     match tokens {
         [first, rest @ ..] => match first.kind {
@@ -58,9 +62,9 @@ pub(crate) fn front_term<'t, 'b>(
                 let text = first.text(alloc)?;
                 Ok(Some((constant(alloc, SymKind::Distinct, text), rest)))
             }
-            TokenKind::Lower => application(alloc, SymKind::Word, first, rest),
-            TokenKind::Single => application(alloc, SymKind::Word, first, rest),
-            TokenKind::Dollar => application(alloc, SymKind::Dollar, first, rest),
+            TokenKind::Lower => application(alloc, pile, SymKind::Word, first, rest),
+            TokenKind::Single => application(alloc, pile, SymKind::Word, first, rest),
+            TokenKind::Dollar => application(alloc, pile, SymKind::Dollar, first, rest),
             TokenKind::NotEqual => Ok(None),
             TokenKind::Mark => Ok(None),
         },
@@ -72,19 +76,21 @@ pub(crate) fn front_term<'t, 'b>(
 #[cycle(reading)]
 fn application<'t, 'b>(
     alloc: Global,
+    pile: &mut Terms,
     kind: SymKind,
     head: &Lexeme<'b>,
     tokens: &'t [Lexeme<'b>],
 ) -> Result<Found<'t, 'b, Term>, AllocError>
     requires { length tokens.now ≤ MOST_BYTES }
-    ensures { IfOk result (Reads term_of (IsApplied kind (token_of head.now).text) NoBracket
-        tokens.now) }
+    ensures read { IfOk result (Reads term_of (IsApplied kind (token_of head.now).text)
+        NoBracket tokens.now) }
+    ensures pile { IfOk result (IfFound (λ _. pile.new ≡ pile.old)) }
 {
     let text = head.text(alloc)?;
     let Some(inside) = mark_at(tokens, b'(') else {
         return Ok(Some((constant(alloc, kind, text), tokens)));
     };
-    let Some((args, behind)) = arguments(alloc, inside)? else {
+    let Some((args, behind)) = arguments(alloc, pile, inside)? else {
         return Ok(None);
     };
     match mark_at(behind, b')') {
@@ -100,24 +106,27 @@ fn application<'t, 'b>(
 #[cycle(reading)]
 fn arguments<'t, 'b>(
     alloc: Global,
+    pile: &mut Terms,
     tokens: &'t [Lexeme<'b>],
 ) -> Result<Found<'t, 'b, Terms>, AllocError>
     requires { length tokens.now ≤ MOST_BYTES }
-    ensures { IfOk result (Reads (λ ts. ts) AreTerms NoTerm tokens.now) }
+    ensures read { IfOk result (Reads (λ ts. ts) AreTerms NoTerm tokens.now) }
+    ensures pile { IfOk result (IfFound (λ _. pile.new ≡ pile.old)) }
 {
-    let Some((first, behind)) = front_term(alloc, tokens)? else {
+    let below = pile.len();
+    let Some((first, behind)) = front_term(alloc, pile, tokens)? else {
         return Ok(None);
     };
-    let mut args = Terms::new(alloc);
-    args.push(first)?;
+    pile.push(first)?;
     let mut left = behind;
     while let Some(rest) = mark_at(left, b',') {
-        let Some((next, behind)) = front_term(alloc, rest)? else {
+        let Some((next, behind)) = front_term(alloc, pile, rest)? else {
             return Ok(None);
         };
-        args.push(next)?;
+        pile.push(next)?;
         left = behind;
     }
+    let args = pile.split_off(below)?;
     Ok(Some((args, left)))
 }
 
@@ -133,9 +142,9 @@ fn function(kind: SymKind, text: Text, arity: u32) -> Sym
     ensures { symbol_of result ≡ function_symbol kind text arity }
 {
     Sym {
-        kind,
         text,
-        side: Side::Function,
         arity,
+        kind,
+        side: Side::Function,
     }
 }

@@ -1,4 +1,5 @@
 use Rattle.std.proofs.Common.{◌≡◌, ◌∷◌, ◌++◌, sym, subst}
+use Rattle.si_state.specs.States.{limited_to}
 use Rattle.si_state.specs.Acceptance.{IsTaken}
 use Rattle.si_term.specs.Meaning.{clause_of, name_of}
 use Rattle.si_index.specs.Kept.{Kept, clauses_of}
@@ -20,12 +21,12 @@ remove-clause-requires c = c.self.invariant.is_known.names.there (name_of c.args
 pub leave-requires : goal.leave-requires
 leave-requires c = record {
   used =
-      uses_few c.self.inside.limit c.self.inside.known c.self.inside.clauses c.in_ok-key.key c.remove-clause.result c.remove-clause.new.self c.self.invariant c.remove-clause.ensures;
+      uses_few (limited_to c.self.inside.limit) c.self.inside.known c.self.inside.clauses c.in_ok-key.key c.remove-clause.result c.remove-clause.new.self c.self.invariant c.remove-clause.ensures;
 }
 
 pub invariant_of-self : goal.invariant_of-self
 invariant_of-self c =
-    kept_less c.self.inside.limit c.self.inside.known c.self.inside.clauses c.in_ok-key.key c.remove-clause.result c.remove-clause.new.self c.self.invariant c.remove-clause.ensures
+    kept_less (limited_to c.self.inside.limit) c.self.inside.known c.self.inside.clauses c.in_ok-key.key c.remove-clause.result c.remove-clause.new.self c.self.invariant c.remove-clause.ensures
     c.leave.new.self c.leave.ensures.leaves
 
 pub returns-clause-removed : goal.returns-clause-removed
@@ -41,14 +42,14 @@ returns-clause-removed c =
         after = clauses_of out.after;
         splits =
             subst (λ (k : Kept). k.clauses ≡ clauses_of out.before ++ clause_of gone ∷ clauses_of out.after) c.self.view_is
-            (splits c.self.inside.limit known items c.in_ok-key.key gone rest c.self.invariant out);
-        named = named_so c.self.inside.limit known items c.in_ok-key.key gone rest c.self.invariant out (name_of c.args.name.now) (sym c.in_ok-key.ensures);
-        rest = rest_is c.self.inside.limit known items c.in_ok-key.key gone rest c.self.invariant out;
+            (splits (limited_to c.self.inside.limit) known items c.in_ok-key.key gone rest c.self.invariant out);
+        named = named_so (limited_to c.self.inside.limit) known items c.in_ok-key.key gone rest c.self.invariant out (name_of c.args.name.now) (sym c.in_ok-key.ensures);
+        rest = rest_is (limited_to c.self.inside.limit) known items c.in_ok-key.key gone rest c.self.invariant out;
       },
-      as_many_entries c.self.inside.limit known items c.in_ok-key.key gone rest c.self.invariant out c.leave.result c.leave.ensures.number,
+      as_many_entries (limited_to c.self.inside.limit) known items c.in_ok-key.key gone rest c.self.invariant out c.leave.result c.leave.ensures.number,
     )
 
 pub returns-clause-stored : goal.returns-clause-stored
 returns-clause-stored c =
-    (kept_less c.self.inside.limit c.self.inside.known c.self.inside.clauses c.in_ok-key.key c.remove-clause.result c.remove-clause.new.self c.self.invariant c.remove-clause.ensures
+    (kept_less (limited_to c.self.inside.limit) c.self.inside.known c.self.inside.clauses c.in_ok-key.key c.remove-clause.result c.remove-clause.new.self c.self.invariant c.remove-clause.ensures
     c.leave.new.self c.leave.ensures.leaves).stored

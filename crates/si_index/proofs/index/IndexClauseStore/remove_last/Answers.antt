@@ -1,5 +1,6 @@
 use Rattle.std.proofs.Common.{◌≡◌, ◌-◌, [], ◌∷◌, ◌++◌, length, subst}
 use Rattle.si_defs.proofs.ListLaws.{get_among}
+use Rattle.si_state.specs.States.{limited_to}
 use Rattle.si_term.specs.Meaning.{clause_of}
 use Rattle.si_index.specs.Keyed.{item_keys}
 use Rattle.si_index.specs.Kept.{Kept, clauses_of}
@@ -12,12 +13,12 @@ remove-clause-requires c = get_among (item_keys c.self.inside.clauses) (length c
 pub leave-requires : goal.leave-requires
 leave-requires c = record {
   used =
-      uses_few c.self.inside.limit c.self.inside.known c.self.inside.clauses c.in_ok-key.key c.remove-clause.result c.remove-clause.new.self c.self.invariant c.remove-clause.ensures;
+      uses_few (limited_to c.self.inside.limit) c.self.inside.known c.self.inside.clauses c.in_ok-key.key c.remove-clause.result c.remove-clause.new.self c.self.invariant c.remove-clause.ensures;
 }
 
 pub invariant_of-self : goal.invariant_of-self
 invariant_of-self c =
-    kept_less c.self.inside.limit c.self.inside.known c.self.inside.clauses c.in_ok-key.key c.remove-clause.result c.remove-clause.new.self c.self.invariant c.remove-clause.ensures
+    kept_less (limited_to c.self.inside.limit) c.self.inside.known c.self.inside.clauses c.in_ok-key.key c.remove-clause.result c.remove-clause.new.self c.self.invariant c.remove-clause.ensures
     c.leave.new.self c.leave.ensures.leaves
 
 pub returns-clause-removed : goal.returns-clause-removed
@@ -29,11 +30,11 @@ returns-clause-removed c =
     let out = c.remove-clause.ensures in (
       clause_of gone,
       subst (λ (k : Kept). k.clauses ≡ clauses_of rest ++ clause_of gone ∷ []) c.self.view_is
-          (last_taken c.self.inside.limit known items c.in_ok-key.key gone rest c.self.invariant out c.in_ok-key.ensures.some),
-      as_many_entries c.self.inside.limit known items c.in_ok-key.key gone rest c.self.invariant out c.leave.result c.leave.ensures.number,
+          (last_taken (limited_to c.self.inside.limit) known items c.in_ok-key.key gone rest c.self.invariant out c.in_ok-key.ensures.some),
+      as_many_entries (limited_to c.self.inside.limit) known items c.in_ok-key.key gone rest c.self.invariant out c.leave.result c.leave.ensures.number,
     )
 
 pub returns-clause-stored : goal.returns-clause-stored
 returns-clause-stored c =
-    (kept_less c.self.inside.limit c.self.inside.known c.self.inside.clauses c.in_ok-key.key c.remove-clause.result c.remove-clause.new.self c.self.invariant c.remove-clause.ensures
+    (kept_less (limited_to c.self.inside.limit) c.self.inside.known c.self.inside.clauses c.in_ok-key.key c.remove-clause.result c.remove-clause.new.self c.self.invariant c.remove-clause.ensures
     c.leave.new.self c.leave.ensures.leaves).stored

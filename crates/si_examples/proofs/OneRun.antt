@@ -69,7 +69,7 @@ added_and_found setting told strict w room = (
     codes "c:1 {}\nend 1\n",
     0,
     right (performed (decided setting.limits first_line (omega arith) first_built) (add clause) added_line
-        (inr (record { free = λ h. h; agree = (tt, tt); room = room; added = refl }, rw (decimal_digit 1 (omega arith)) refl)) refl),
+        (inr (record { free = λ h. h; agree = (tt, tt); room = room; added = refl }, rw (decimal_digit 1 (omega arith)) refl, refl)) refl),
     (λ s. refl),
     (
       codes "c:1 {}" ∷ codes "end 1" ∷ [],

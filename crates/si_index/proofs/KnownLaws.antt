@@ -1,5 +1,5 @@
 -- What is known of clauses, as one is added, refused or taken away.
-use Rattle.std.proofs.Common.{◌≡◌, inr, ℕ, ◌+◌, ◌-◌, ◌≤◌, List, [], ◌∷◌, ◌++◌, Option, None, Some, IsSome, length, refl, sym, ap, ◌∙◌, subst, arith, append-nil, length-append}
+use Rattle.std.proofs.Common.{◌≡◌, inl, inr, ℕ, ◌+◌, ◌-◌, ◌≤◌, List, [], ◌∷◌, ◌++◌, Option, None, Some, IsSome, length, refl, sym, ap, ◌∙◌, subst, arith, append-nil, length-append}
 use Rattle.std.proofs.lemmas.List.{map-append}
 use Rattle.std.proofs.lemmas.Bool.{false≢true}
 use Rattle.si_defs.specs.Symbols.{Symbol, times}
@@ -21,14 +21,16 @@ use Rattle.si_sign.specs.Shapes.{NamesFirstClash}
 use Rattle.si_sign.proofs.StateLaws.{agrees_in_state, clashes_in_state}
 use Rattle.si_sign.proofs.StoreLaws.{stored_more, stored_less}
 use Rattle.si_sign.proofs.UsesOf.{among_numbering, numbering_among, uses_positive, uses_among}
-use Rattle.si_index.specs.Keyed.{HasKey, HasKeyAt, IsTakenOut}
-use Rattle.si_index.specs.Kept.{clauses_of}
+use Rattle.si_keyed.specs.Keyed.{HasKey, HasKeyAt, IsTakenOut}
+use Rattle.si_index.specs.Kept.{KeysStay, clauses_of}
 use Rattle.si_index.specs.Names.{key_of, ChangesName}
 use Rattle.si_index.specs.Known.{AreNamed, IsKnownOf, IsPut, Admits, Enters, Leaves, Stays, Bars}
 use Rattle.si_index.specs.Stored.{IsKept}
 use Rattle.si_index.specs.declared.known.Known.{Known}
 use Rattle.si_index.specs.declared.names.Names.{Names}
-use Rattle.si_index.proofs.NamedLaws.{item_of, key_taken, last_behind, among_taken, leads_taken, unknown_free, named_more, named_less, named_stays}
+use Rattle.si_keyed.proofs.KeyLaws.{item_of, key_taken, last_behind}
+use Rattle.si_index.proofs.NamedLaws.{among_taken, leads_taken, unknown_free, named_more, named_less, named_stays}
+use Rattle.si_index.proofs.KeyStays.{kept_as, keys_stay, keys_through}
 use Rattle.si_index.proofs.StoreLaws.{symbols_few, entries_between, times_between, sound_between, distinct_between}
 
 -- ---- why a clause isn't added
@@ -128,6 +130,12 @@ module _ (rules : Rules) (old between : Known) (items more : List (ℕ × term.C
         };
       }
 
+  pub keys_more : KeysStay (kept_as items) (kept_as more)
+  keys_more =
+      let free = ap (λ m. key_of m (name_of c.name)) enters.names ∙ admits.free in
+      keys_stay items more between.names names (subst (AreNamed items) (sym enters.names) kept.is_known.names) names_more
+      (keys_through (name_of c.name) (Some put.key) (key_of between.names) (key_of names) put.name (inl free))
+
 -- a clause that couldn't be put is struck out again
 -- a number that stays from one signature to the next, and from there on, stays
 pub numbers_through : (old between new : Signature) → IsSignature old → ((s : Symbol) → uses_of old s ≤ uses_of between s) → KeepsNumbers old between → KeepsNumbers between new → KeepsNumbers old new
@@ -216,6 +224,11 @@ module _ (rules : Rules) (old : Known) (items : List (ℕ × term.Clause)) (key 
           );
     };
   }
+
+  pub keys_less : (new : Names) → ChangesName (name_of c.name) None (key_of old.names) (key_of new) → KeysStay (kept_as items) (kept_as rest)
+  keys_less new change =
+      keys_stay items rest old.names new kept.is_known.names (names_less new change)
+      (keys_through (name_of c.name) None (key_of old.names) (key_of new) change (inr refl))
 
   -- the clause that a name leads to has that name
   pub named_so : (n : Name) → key_of old.names n ≡ Some key → name_of c.name ≡ n

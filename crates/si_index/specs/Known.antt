@@ -11,7 +11,7 @@ use Rattle.si_term.specs.declared.clause.Clause as term
 use Rattle.si_sign.specs.Shapes.{NamesFirstClash}
 use Rattle.si_sign.specs.declared.faults.AddFault.{AddFault}
 use Rattle.si_sign.specs.declared.faults.AddFault.TheVariants as add_fault
-use Rattle.si_index.specs.Keyed.{HasKey}
+use Rattle.si_keyed.specs.Keyed.{HasKey}
 use Rattle.si_index.specs.Kept.{clauses_of}
 use Rattle.si_index.specs.Names.{key_of, ChangesName}
 use Rattle.si_index.specs.declared.known.Known.{Known}

@@ -1,4 +1,4 @@
--- The reading of a file is one, up to a failure of the library, and what it accepts stays
+-- There is at most one reading of a file, up to a failure of the library, and what it accepts stays
 -- consistent.
 use Rattle.std.proofs.Common.{◌≡◌, ℕ, ◌+◌, ◌≤◌, ◌<◌, List, [], ◌∷◌, ◌++◌, length, Option, Some, None, IsSomeAnd, refl, sym, ap, ◌∙◌, subst, append_assoc, append-nil, arith}
 use Rattle.std.proofs.lemmas.Option.{same_Some, none-some}

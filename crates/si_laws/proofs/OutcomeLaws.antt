@@ -1,4 +1,4 @@
--- A command has one right outcome in a consistent state.
+-- A command has at most one right outcome in a consistent state.
 use Rattle.std.proofs.Common.{inl, inr, List, [], ◌∷◌, length, Option, Some, None, sym, ap, ◌∙◌, subst}
 use Rattle.si_defs.specs.Bytes.{Bytes}
 use Rattle.si_defs.specs.Clauses.{Clause}

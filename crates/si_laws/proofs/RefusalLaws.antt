@@ -1,4 +1,4 @@
--- A clause is accepted or refused, and refused for one reason.
+-- A clause isn't both accepted and refused, and is refused for at most one reason.
 use Rattle.std.proofs.Common.{◌≡◌, ℕ, List, refl, sym, ap, ◌∙◌, arith}
 use Rattle.si_defs.specs.Clauses.{Clause}
 use Rattle.si_defs.specs.Entries.{clause_symbols, state_symbols}

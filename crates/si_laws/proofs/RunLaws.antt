@@ -1,4 +1,4 @@
--- Runs stay consistent, and of right replies to some requests there is one list.
+-- Runs stay consistent, and of right replies to some requests there is at most one list.
 use Rattle.std.proofs.Common.{◌≡◌, ℕ, Bool, List, [], ◌∷◌, Option, Some, sym, ◌∙◌, subst}
 use Rattle.si_defs.specs.Bytes.{Bytes}
 use Rattle.si_state.specs.States.{State}

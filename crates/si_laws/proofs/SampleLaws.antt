@@ -1,4 +1,4 @@
--- A sample has one right outcome: its clauses are those of one text, they are accepted or one is
+-- A sample has at most one right outcome: its clauses are those of one text, they are accepted or one is
 -- the first that is refused, and one sum belongs to them.
 use Rattle.std.proofs.Common.{◌≡◌, inl, inr, ℕ, ◌+◌, List, [], ◌∷◌, ◌++◌, length, refl, sym, ap, ◌∙◌, subst, append_assoc, append-nil}
 use Rattle.si_defs.specs.Bytes.{Bytes}

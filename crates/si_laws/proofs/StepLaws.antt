@@ -1,4 +1,4 @@
--- A line has one right step in a consistent state, where it means one command at most.
+-- A line has at most one right step in a consistent state, where it means one command at most.
 use Rattle.std.proofs.Common.{◌≡◌, List, [], ◌∷◌, Option, Some, sym, ◌∙◌, subst, arith, ◌≤◌, length}
 use Rattle.si_defs.specs.Bytes.{Bytes}
 use Rattle.si_defs.specs.Tokens.{Token, lower, AreBlanks, Begins}

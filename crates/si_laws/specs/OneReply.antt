@@ -1,4 +1,4 @@
--- That there is one right reply, and one right state behind it.
+-- That there is at most one right reply, and one right state after it.
 use Rattle.std.specs.Prelude.{◌≡◌, List, [], ◌∷◌, Option, Some}
 use Rattle.si_defs.specs.Bytes.{Bytes}
 use Rattle.si_defs.specs.Clauses.{Clause}

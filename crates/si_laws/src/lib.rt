@@ -10,15 +10,15 @@ ghost use Rattle.si_steps.specs.Settings.{Setting};
 ghost use Rattle.si_steps.specs.Commands.{Command};
 ghost use Rattle.si_steps.specs.Runs.{Request, Run};
 
-/// Where each symbol is used in one way and names are distinct, a command that is no load has one
-/// right reply and one right state behind it. They depend on the limits, the rules of
+/// Where each symbol is used in one way and names are distinct, a command that is no load has at
+/// most one right reply and one right state after it. They depend on the limits, the rules of
 /// acceptance, the command and the state alone.
 pub fn commands_have_one_outcome()
     ensures { (setting : Setting) (command : Command) (state : State)
         → IsConsistent state.clauses → HasOneOutcome setting command state }
 {}
 
-/// So has a load, but that the library may fail: the files decide too, where it tells them.
+/// So has a load, except that the library may fail: the files decide too, where it tells them.
 pub fn loads_have_one_outcome()
     ensures { (setting : Setting) (files : Files) (file : Bytes) (state : State)
         → IsConsistent state.clauses → LoadsToOneOutcome setting files file state }
@@ -29,8 +29,8 @@ pub fn lines_have_one_meaning()
     ensures { (line : Bytes) → HasOneMeaning line }
 {}
 
-/// A line has one right step in such a state, but that the library may fail. It depends on the
-/// limits, the rules of acceptance, the line, the state and the files alone: a clause that is gone
+/// A line has at most one right step in such a state, except that the library may fail. It depends
+/// on the limits, the rules of acceptance, the line, the state and the files alone: a clause that is gone
 /// leaves no trace. The files decide nothing where the line is no load, whether they are told or
 /// not.
 pub fn lines_have_one_right_step()
@@ -54,14 +54,15 @@ pub fn runs_stay_consistent()
         → IsConsistent new.clauses }
 {}
 
-/// A word that names a file has one right step in such a state, but that the library may fail.
+/// A word that names a file has at most one right step in such a state, except that the library may
+/// fail.
 pub fn words_have_one_right_step()
     ensures { (setting : Setting) (files : Files) (state : State) (word : Bytes)
         → IsConsistent state.clauses → OneRightWord setting files state word }
 {}
 
-/// The words and lines of a session have one list of right replies, and one right state behind
-/// them, where the library tells its files and doesn't fail.
+/// The words and lines of a session have at most one list of right replies, and one right state
+/// after them, where the library tells its files and doesn't fail.
 pub fn sessions_have_one_right_run()
     ensures { (setting : Setting) (files : Files) (requests : List Request)
         → OneRightRun setting files requests }

@@ -30,9 +30,9 @@ pub fn lines_have_one_meaning()
 {}
 
 /// A line has at most one right step in such a state, except that the library may fail. It depends
-/// on the limits, the rules of acceptance, the line, the state and the files alone: a clause that is gone
-/// leaves no trace. The files decide nothing where the line is no load, whether they are told or
-/// not.
+/// on the limits, the rules of acceptance, the line, the state and the files alone: a clause that
+/// is gone leaves no trace. The files decide nothing where the line is no load, whether they are
+/// told or not.
 pub fn lines_have_one_right_step()
     ensures step { (setting : Setting) (files : Files) (state : State) (line : Bytes)
         → IsConsistent state.clauses → OneRightStep setting files state line }

@@ -1,9 +1,13 @@
+ghost use Rattle.std.specs.Prelude.{◌<◌, length};
+
 use crate::{Row, subset_rows, superset_rows};
 use std::alloc::{AllocError, Global};
 use std::test::Fail;
 
 /// The positions that a kernel appends to a list that holds 9.
-fn kept(alloc: Global, is_subset: bool, mask: &Row, rows: &[Row]) -> Result<Vec<u32>, AllocError> {
+fn kept(alloc: Global, is_subset: bool, mask: &Row, rows: &[Row]) -> Result<Vec<u32>, AllocError>
+    requires { length rows.now < 100 }
+{
     let mut out = vec![in alloc; 9]?;
     if is_subset {
         subset_rows(mask, rows, &mut out)?;
@@ -41,30 +45,30 @@ fn is_within(row: &Row, other: &Row) -> bool {
         .all(|(word, outer)| word & !outer == 0)
 }
 
-/// A number of rows whose bits are drawn, each word with few of them.
-fn drawn(alloc: Global, count: u32) -> Result<Vec<Row>, AllocError> {
-    let mut rows = Vec::new(alloc);
+/// Rows whose bits are drawn, few in each word.
+fn drawn() -> [Row; 20] {
+    let mut rows = [[0; 4]; 20];
     let mut state: u64 = 1;
-    for _ in 0..count {
-        let mut row = [0; 4];
+    for row in rows.iter_mut() {
         for word in row.iter_mut() {
             state = state
                 .wrapping_mul(6364136223846793005)
                 .wrapping_add(1442695040888963407);
             *word = 1u64.rotate_left((state >> 61) as u32) | (1u64 << 63 & state);
         }
-        rows.push(row)?;
     }
-    Ok(rows)
+    rows
 }
 
-/// The positions of the rows that the plain filter keeps, behind a 9.
+/// The positions of the rows that the plain filter keeps, after a 9.
 fn filtered(
     alloc: Global,
     is_subset: bool,
     mask: &Row,
     rows: &[Row],
-) -> Result<Vec<u32>, AllocError> {
+) -> Result<Vec<u32>, AllocError>
+    requires { length rows.now < 100 }
+{
     let mut out = vec![in alloc; 9]?;
     for position in 0..rows.len() {
         let row = &rows[position];
@@ -83,7 +87,7 @@ fn filtered(
 #[test]
 fn up_to_twenty_rows_are_filtered(rt: HostRuntime) -> Result<(), Fail> {
     let alloc = rt.alloc();
-    let rows = drawn(alloc, 20)?;
+    let rows = drawn();
     let masks = [[0; 4], [7, 7, 7, 7], [1, 3, 0, 1 << 63], [u64::MAX; 4]];
     for count in 0..21 {
         for mask in &masks {

@@ -11,11 +11,13 @@ use Rattle.si_defs.specs.Terms as terms
 use Rattle.si_defs.specs.Substitutions.{image, IsAmong, AreDistinct}
 use Rattle.si_defs.proofs.ListLaws.{all_at, among_front, among_back, among_parts}
 use Rattle.si_flat.specs.Cells.{Variable, query, entry, ind, same_variable, Term, Terms, IsSound, AreSound}
-use Rattle.si_legal.specs.Bindings.{Binding, left_sides, indicator, indicators, right_indicators, substitution_of, composed, HaveSamePairs}
+use Rattle.si_flat.specs.Rows.{left_sides}
+use Rattle.si_legal.specs.Bindings.{Binding, indicator, indicators, right_indicators, substitution_of, composed, HaveSamePairs}
 use Rattle.si_legal.specs.Generalizations.{same_head, Sides, sides, agreeing, differing, AreCommon, fresh_among, IsRest, MaySplit, Splits}
+use Rattle.si_flat.proofs.RowLaws.{distinct_append, distinct_parts}
 use Rattle.si_legal.proofs.CommonLaws.{AreCommonTerms}
 use Rattle.si_legal.proofs.PartLaws.{HasParts, HaveParts, Fills, AreSides}
-use Rattle.si_legal.proofs.Splitting.{Pieces, pieces, indicators_all, indicators-more, distinct_append, distinct_parts, IsNew, IsFrom, MayCut, are_pieces}
+use Rattle.si_legal.proofs.Splitting.{Pieces, pieces, indicators_all, indicators-more, IsNew, IsFrom, MayCut, are_pieces}
 
 -- ---- the right sides as rows
 abbrev pub side_terms : (Sides → Term) → List Sides → Terms

@@ -9,8 +9,10 @@ use Rattle.si_defs.specs.Terms as terms
 use Rattle.si_defs.specs.Substitutions.{IsAmong, AreDistinct}
 use Rattle.si_defs.proofs.ListLaws.{among_front, among_back, among_parts}
 use Rattle.si_flat.specs.Cells.{Symbol, Variable, query, entry, ind, Term, Terms, IsSound, AreSound}
+use Rattle.si_flat.proofs.RowLaws.{distinct_append, distinct_parts}
 use Rattle.si_flat.proofs.VariableLaws.{variable_is, variable_self}
-use Rattle.si_legal.specs.Bindings.{Binding, left_sides, indicator, IsIndicator, indicators_among, indicators}
+use Rattle.si_flat.specs.Rows.{left_sides}
+use Rattle.si_legal.specs.Bindings.{Binding, indicator, IsIndicator, indicators_among, indicators}
 use Rattle.si_legal.specs.Generalizations.{same_head, IsCommonTerm, numbers_from, fresh_among}
 use Rattle.si_legal.proofs.CommonLaws.{common_kept, common_variable, common_fresh, common_app, AreCommonTerms}
 use Rattle.si_legal.proofs.PartLaws.{IsSide, AreSides, side_bound, side_kept, side_variable, side_app, sides_none, sides_more}
@@ -89,22 +91,6 @@ numbers-append first (suc m) n =
     let start : suc first + m ≡ first + suc m = omega arith in
     ap (λ k. numbers_from first k) count
     ∙ ap (λ l. first ∷ l) (numbers-append (suc first) m n ∙ ap (λ k. numbers_from (suc first) m ++ numbers_from k n) start)
-
-pub distinct_parts : (xs ys : List ℕ) → AreDistinct (xs ++ ys) → AreDistinct xs × AreDistinct ys × ((n : ℕ) → IsAmong xs n → IsAmong ys n → ⊥)
-distinct_parts [] ys h = (tt, h, (λ n a b. a))
-distinct_parts (x ∷ xs) ys h =
-    let rest = distinct_parts xs ys h.1 in (
-      ((λ a. h.0 (among_front xs ys x a)), rest.0),
-      rest.1,
-      (λ n a b. elim a [ inl e ↦ h.0 (among_back xs ys x (subst (IsAmong ys) (sym e) b)) | inr i ↦ rest.2 n i b ]),
-    )
-
-pub distinct_append : (xs ys : List ℕ) → AreDistinct xs → AreDistinct ys → ((n : ℕ) → IsAmong xs n → IsAmong ys n → ⊥) → AreDistinct (xs ++ ys)
-distinct_append [] ys p q r = q
-distinct_append (x ∷ xs) ys p q r = (
-  (λ a. elim (among_parts xs ys x a) [ inl b ↦ p.0 b | inr b ↦ r x (inl refl) b ]),
-  distinct_append xs ys p.1 q (λ n a b. r n (inr a) b),
-)
 
 -- ---- what holds of a piece
 -- each indicator of the common part is an old one of the node, or a fresh one

@@ -5,14 +5,11 @@ use Rattle.std.specs.List.{AllByRecursion, list_any}
 use Rattle.si_defs.specs.Terms as terms
 use Rattle.si_defs.specs.Substitutions.{Substitution, apply, IsAmong}
 use Rattle.si_flat.specs.Cells.{Symbol, Variable, query, entry, ind, same_variable, Term, StandsFor}
-use Rattle.si_flat.specs.declared.Cell.{Cell}
+use Rattle.si_flat.specs.Rows.{CellPair}
 
 -- an indicator's number, its left side, and its right side
 abbrev pub Binding : Type 0
 Binding = ℕ × Term
-
-abbrev pub left_sides : {R : Type 0} → List (ℕ × R) → List ℕ
-left_sides bs = map (λ b. b.0) bs
 
 -- ---- indicators
 abbrev pub indicators_among : List Variable → List ℕ
@@ -62,7 +59,7 @@ HaveSamePairs bs cs = (b : Binding) → IsAmong bs b ↔ IsAmong cs b
 
 -- ---- bindings in cells
 -- each right side is exactly the cells of that term
-abbrev pub StandForBindings : List (ℕ × List Cell) → List Binding → Type 0
+abbrev pub StandForBindings : List CellPair → List Binding → Type 0
 StandForBindings [] [] = Unit {0}
 StandForBindings [] (b ∷ bs) = ⊥
 StandForBindings (c ∷ cs) [] = ⊥

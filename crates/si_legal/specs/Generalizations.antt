@@ -6,7 +6,8 @@ use Rattle.std.specs.List.{AllByRecursion}
 use Rattle.si_defs.specs.Terms as terms
 use Rattle.si_defs.specs.Substitutions.{IsAmong, AreDistinct}
 use Rattle.si_flat.specs.Cells.{ind, same_variable, Term, Terms}
-use Rattle.si_legal.specs.Bindings.{Binding, left_sides, indicator, right_indicators, HasNoBareIndicator, composed, HaveSamePairs}
+use Rattle.si_flat.specs.Rows.{left_sides}
+use Rattle.si_legal.specs.Bindings.{Binding, indicator, right_indicators, HasNoBareIndicator, composed, HaveSamePairs}
 
 -- ---- heads and positions
 -- The head of a term is its symbol, by number and arity, or the variable that it is.

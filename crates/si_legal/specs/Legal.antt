@@ -8,7 +8,8 @@ use Rattle.si_defs.specs.declared.TheConstants.{MOST_OCCURRENCES}
 use Rattle.si_flat.specs.Cells.{Variable, query, entry, ind, Term}
 use Rattle.si_flat.specs.Flattened.{IsNumberedBy}
 use Rattle.si_legal.specs.declared.Posting.{Posting}
-use Rattle.si_legal.specs.Bindings.{Binding, left_sides, indicators, HasNoBareIndicator}
+use Rattle.si_flat.specs.Rows.{left_sides}
+use Rattle.si_legal.specs.Bindings.{Binding, indicators, HasNoBareIndicator}
 use Rattle.si_legal.specs.Generalizations.{same_head}
 use Rattle.si_legal.specs.Trees.{Content, inner, leaf, Node, Tree, HasNode, Path, IsPath, path_term, opened}
 

@@ -76,6 +76,15 @@ impl<T> Items<T> {
 }
 
 impl<T: Drop> Items<T> {
+    /// One item, without room for more.
+    pub fn one(alloc: Global, item: T) -> Result<Items<T>, AllocError>
+        ensures { IfOk result (λ items. items ≡ item ∷ []) }
+    {
+        let mut items = Items::with_capacity(alloc, 1)?;
+        items.push(item)?;
+        Ok(items)
+    }
+
     /// Gives back the room that no item stands in, as far as there is memory for that.
     pub fn shrink(&mut self)
         ensures { self.new ≡ self.old }

@@ -1,5 +1,5 @@
 // Symbols and terms.
-ghost use Rattle.std.specs.Prelude.{◌≡◌, ◌<◌, ◌≤◌, [], ◌∷◌, ◌++◌, IfOk, OnOk, OnErr, Some, length, take, drop, slice_get, map};
+ghost use Rattle.std.specs.Prelude.{◌≡◌, ◌<◌, [], ◌∷◌, ◌++◌, IfOk, OnOk, OnErr, Some, length, slice_get, map};
 ghost use Rattle.si_defs.specs.Symbols.{same_symbol};
 ghost use Rattle.si_term.specs.Terms.{symbol_of};
 
@@ -87,17 +87,30 @@ impl Terms {
         })
     }
 
-    /// Takes the terms from one on, into a list without room for more. At an error the list is as
-    /// before.
-    pub fn split_off(&mut self, at: usize) -> Result<Terms, AllocError>
-        requires { at ≤ length self.old }
-        ensures kept { OnOk result (self.new ≡ take at self.old) }
-        ensures tail { IfOk result (λ ts. ts ≡ drop at self.old) }
-        ensures err { OnErr result (self.new ≡ self.old) }
+    /// One term, without room for more.
+    pub fn one(alloc: Global, term: Term) -> Result<Terms, AllocError>
+        ensures { IfOk result (λ ts. ts ≡ term_of term ∷ []) }
     {
-        Ok(Terms {
-            items: self.items.split_off(at)?,
-        })
+        let mut terms = Terms::with_capacity(alloc, 1)?;
+        terms.push(term)?;
+        Ok(terms)
+    }
+
+    /// Two terms, without room for more.
+    pub fn pair(alloc: Global, left: Term, right: Term) -> Result<Terms, AllocError>
+        ensures { IfOk result (λ ts. ts ≡ term_of left ∷ term_of right ∷ []) }
+    {
+        let mut terms = Terms::with_capacity(alloc, 2)?;
+        terms.push(left)?;
+        terms.push(right)?;
+        Ok(terms)
+    }
+
+    /// Gives back the room that no term stands in, as far as there is memory for that.
+    pub fn shrink(&mut self)
+        ensures { self.new ≡ self.old }
+    {
+        self.items.shrink_to_fit();
     }
 
     /// Appends a term.

@@ -11,7 +11,7 @@ ghost use Rattle.si_defs.specs.declared.TheConstants.{MOST_BYTES};
 use crate::grammar::literals::front_literal;
 use crate::grammar::{Found, mark_at};
 use si_lex::Lexeme;
-use si_term::{Literals, Terms};
+use si_term::Literals;
 use std::alloc::{AllocError, Global};
 
 /// The formula at the front: literals with bars between them, in any number of round brackets.
@@ -44,15 +44,21 @@ fn disjunction<'t, 'b>(
     requires { length tokens.now ≤ MOST_BYTES }
     ensures { IfOk result (Reads literals_of AreLiterals NoLiteral tokens.now) }
 {
-    let mut pile = Terms::new(alloc);
-    let Some((first, behind)) = front_literal(alloc, &mut pile, tokens)? else {
+    let Some((first, behind)) = front_literal(alloc, tokens)? else {
         return Ok(None);
     };
-    let mut literals = Literals::with_capacity(alloc, 1)?;
+    let Some(rest) = mark_at(behind, b'|') else {
+        return Ok(Some((Literals::one(alloc, first)?, behind)));
+    };
+    let Some((second, behind)) = front_literal(alloc, rest)? else {
+        return Ok(None);
+    };
+    let mut literals = Literals::new(alloc);
     literals.push(first)?;
+    literals.push(second)?;
     let mut left = behind;
     while let Some(rest) = mark_at(left, b'|') {
-        let Some((next, behind)) = front_literal(alloc, &mut pile, rest)? else {
+        let Some((next, behind)) = front_literal(alloc, rest)? else {
             return Ok(None);
         };
         literals.push(next)?;

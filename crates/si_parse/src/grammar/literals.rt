@@ -31,8 +31,7 @@ pub fn literal<'t, 'b>(
     ensures ends { IfOk result (IfLeft NoSign) }
     ensures sound { IfOk result (IfFound (λ l. IsSoundPattern (literal_pattern (literal_of l)))) }
 {
-    let mut pile = Terms::new(alloc);
-    let Some((literal, rest)) = front_literal(alloc, &mut pile, tokens)? else {
+    let Some((literal, rest)) = front_literal(alloc, tokens)? else {
         return Ok(None);
     };
     if sign_follows(rest) {
@@ -41,19 +40,18 @@ pub fn literal<'t, 'b>(
     Ok(Some((literal, rest)))
 }
 
-/// The same, whatever stands behind it. Arguments are gathered on the pile.
+/// The same, whatever stands behind it.
 pub(crate) fn front_literal<'t, 'b>(
     alloc: Global,
-    pile: &mut Terms,
     tokens: &'t [Lexeme<'b>],
 ) -> Result<Found<'t, 'b, Literal>, AllocError>
     requires { length tokens.now ≤ MOST_BYTES }
     ensures { IfOk result (Reads literal_of IsLiteral NoSign tokens.now) }
 {
     let Some(behind) = mark_at(tokens, b'~') else {
-        return statement(alloc, pile, tokens);
+        return statement(alloc, tokens);
     };
-    match negated(alloc, pile, behind)? {
+    match negated(alloc, behind)? {
         Some((atom, rest)) => Ok(Some((
             Literal {
                 positive: false,
@@ -68,16 +66,15 @@ pub(crate) fn front_literal<'t, 'b>(
 /// The atom behind a tilde, bare or in round brackets.
 fn negated<'t, 'b>(
     alloc: Global,
-    pile: &mut Terms,
     tokens: &'t [Lexeme<'b>],
 ) -> Result<Found<'t, 'b, Term>, AllocError>
     requires { length tokens.now ≤ MOST_BYTES }
     ensures { IfOk result (Reads term_of IsNegated NoSign tokens.now) }
 {
     let Some(inside) = mark_at(tokens, b'(') else {
-        return atom(alloc, pile, tokens);
+        return atom(alloc, tokens);
     };
-    let Some((atom, behind)) = atom(alloc, pile, inside)? else {
+    let Some((atom, behind)) = atom(alloc, inside)? else {
         return Ok(None);
     };
     match mark_at(behind, b')') {
@@ -87,15 +84,11 @@ fn negated<'t, 'b>(
 }
 
 /// The atom at the front: a predicate with its arguments, or two terms with `=` between them.
-fn atom<'t, 'b>(
-    alloc: Global,
-    pile: &mut Terms,
-    tokens: &'t [Lexeme<'b>],
-) -> Result<Found<'t, 'b, Term>, AllocError>
+fn atom<'t, 'b>(alloc: Global, tokens: &'t [Lexeme<'b>]) -> Result<Found<'t, 'b, Term>, AllocError>
     requires { length tokens.now ≤ MOST_BYTES }
     ensures { IfOk result (Reads term_of IsAtom NoSign tokens.now) }
 {
-    let Some((literal, rest)) = statement(alloc, pile, tokens)? else {
+    let Some((literal, rest)) = statement(alloc, tokens)? else {
         return Ok(None);
     };
     if literal.positive {
@@ -109,13 +102,12 @@ fn atom<'t, 'b>(
 /// them. The first term is read once, and what stands behind it decides.
 fn statement<'t, 'b>(
     alloc: Global,
-    pile: &mut Terms,
     tokens: &'t [Lexeme<'b>],
 ) -> Result<Found<'t, 'b, Literal>, AllocError>
     requires { length tokens.now ≤ MOST_BYTES }
     ensures { IfOk result (Reads literal_of IsStatement NoSign tokens.now) }
 {
-    let Some((left, behind)) = front_term(alloc, pile, tokens)? else {
+    let Some((left, behind)) = front_term(alloc, tokens)? else {
         return Ok(None);
     };
     let Some((positive, next)) = sign(behind) else {
@@ -130,7 +122,7 @@ fn statement<'t, 'b>(
             None => Ok(None),
         };
     };
-    let Some((right, rest)) = front_term(alloc, pile, next)? else {
+    let Some((right, rest)) = front_term(alloc, next)? else {
         return Ok(None);
     };
     let atom = equality(alloc, left, right)?;
@@ -199,9 +191,7 @@ fn equality(alloc: Global, left: Term, right: Term) -> Result<Term, AllocError>
     ensures { IfOk result (λ t. term_of t ≡ equation (term_of left) (term_of right)) }
 {
     let text = Text::from_bytes(alloc, b"=".as_slice())?;
-    let mut sides = Terms::with_capacity(alloc, 2)?;
-    sides.push(left)?;
-    sides.push(right)?;
+    let sides = Terms::pair(alloc, left, right)?;
     let symbol = Sym {
         text,
         arity: 2,

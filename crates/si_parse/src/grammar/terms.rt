@@ -1,5 +1,5 @@
 // Terms. They are read by recursion, as deep as their brackets nest.
-ghost use Rattle.std.specs.Prelude.{◌≡◌, ◌≤◌, IfOk, length};
+ghost use Rattle.std.specs.Prelude.{◌≡◌, ◌≤◌, [], ◌∷◌, IfOk, length};
 ghost use Rattle.si_defs.specs.Clauses.{IsSoundPattern, term_pattern};
 ghost use Rattle.si_defs.specs.Grammar.{IsTerm};
 ghost use Rattle.si_defs.specs.Terms as terms;
@@ -29,8 +29,7 @@ pub fn term<'t, 'b>(
     ensures ends { IfOk result (IfLeft NoBracket) }
     ensures sound { IfOk result (IfFound (λ t. IsSoundPattern (term_pattern (term_of t)))) }
 {
-    let mut pile = Terms::new(alloc);
-    let Some((term, rest)) = front_term(alloc, &mut pile, tokens)? else {
+    let Some((term, rest)) = front_term(alloc, tokens)? else {
         return Ok(None);
     };
     if bracket_follows(rest) {
@@ -39,17 +38,14 @@ pub fn term<'t, 'b>(
     Ok(Some((term, rest)))
 }
 
-/// The same, whatever stands behind it. Arguments are gathered on the pile, so that each list of
-/// them takes one block, and no room that none stands in.
+/// The same, whatever stands behind it.
 #[cycle(reading)]
 pub(crate) fn front_term<'t, 'b>(
     alloc: Global,
-    pile: &mut Terms,
     tokens: &'t [Lexeme<'b>],
 ) -> Result<Found<'t, 'b, Term>, AllocError>
     requires { length tokens.now ≤ MOST_BYTES }
-    ensures read { IfOk result (Reads term_of IsTerm NoBracket tokens.now) }
-    ensures pile { IfOk result (IfFound (λ _. pile.new ≡ pile.old)) }
+    ensures { IfOk result (Reads term_of IsTerm NoBracket tokens.now) }
 {
     match tokens {
         [first, rest @ ..] => match first.kind {
@@ -62,9 +58,9 @@ pub(crate) fn front_term<'t, 'b>(
                 let text = first.text(alloc)?;
                 Ok(Some((constant(alloc, SymKind::Distinct, text), rest)))
             }
-            TokenKind::Lower => application(alloc, pile, SymKind::Word, first, rest),
-            TokenKind::Single => application(alloc, pile, SymKind::Word, first, rest),
-            TokenKind::Dollar => application(alloc, pile, SymKind::Dollar, first, rest),
+            TokenKind::Lower => application(alloc, SymKind::Word, first, rest),
+            TokenKind::Single => application(alloc, SymKind::Word, first, rest),
+            TokenKind::Dollar => application(alloc, SymKind::Dollar, first, rest),
             TokenKind::NotEqual => Ok(None),
             TokenKind::Mark => Ok(None),
         },
@@ -76,21 +72,19 @@ pub(crate) fn front_term<'t, 'b>(
 #[cycle(reading)]
 fn application<'t, 'b>(
     alloc: Global,
-    pile: &mut Terms,
     kind: SymKind,
     head: &Lexeme<'b>,
     tokens: &'t [Lexeme<'b>],
 ) -> Result<Found<'t, 'b, Term>, AllocError>
     requires { length tokens.now ≤ MOST_BYTES }
-    ensures read { IfOk result (Reads term_of (IsApplied kind (token_of head.now).text)
-        NoBracket tokens.now) }
-    ensures pile { IfOk result (IfFound (λ _. pile.new ≡ pile.old)) }
+    ensures { IfOk result (Reads term_of (IsApplied kind (token_of head.now).text) NoBracket
+        tokens.now) }
 {
     let text = head.text(alloc)?;
     let Some(inside) = mark_at(tokens, b'(') else {
         return Ok(Some((constant(alloc, kind, text), tokens)));
     };
-    let Some((args, behind)) = arguments(alloc, pile, inside)? else {
+    let Some((args, behind)) = arguments(alloc, inside)? else {
         return Ok(None);
     };
     match mark_at(behind, b')') {
@@ -102,32 +96,53 @@ fn application<'t, 'b>(
     }
 }
 
-/// Terms with commas between them.
+/// Terms with commas between them. One or two, as most functions have, are kept without a look at
+/// more, so that a list takes one block, and no room that no term stands in.
 #[cycle(reading)]
 fn arguments<'t, 'b>(
     alloc: Global,
-    pile: &mut Terms,
     tokens: &'t [Lexeme<'b>],
 ) -> Result<Found<'t, 'b, Terms>, AllocError>
     requires { length tokens.now ≤ MOST_BYTES }
-    ensures read { IfOk result (Reads (λ ts. ts) AreTerms NoTerm tokens.now) }
-    ensures pile { IfOk result (IfFound (λ _. pile.new ≡ pile.old)) }
+    ensures { IfOk result (Reads (λ ts. ts) AreTerms NoTerm tokens.now) }
 {
-    let below = pile.len();
-    let Some((first, behind)) = front_term(alloc, pile, tokens)? else {
+    let Some((first, behind)) = front_term(alloc, tokens)? else {
         return Ok(None);
     };
-    pile.push(first)?;
+    let Some(rest) = mark_at(behind, b',') else {
+        return Ok(Some((Terms::one(alloc, first)?, behind)));
+    };
+    let Some((second, behind)) = front_term(alloc, rest)? else {
+        return Ok(None);
+    };
+    let Some(rest) = mark_at(behind, b',') else {
+        return Ok(Some((Terms::pair(alloc, first, second)?, behind)));
+    };
+    let Some((third, behind)) = front_term(alloc, rest)? else {
+        return Ok(None);
+    };
+    let mut args = three(alloc, first, second, third)?;
     let mut left = behind;
     while let Some(rest) = mark_at(left, b',') {
-        let Some((next, behind)) = front_term(alloc, pile, rest)? else {
+        let Some((next, behind)) = front_term(alloc, rest)? else {
             return Ok(None);
         };
-        pile.push(next)?;
+        args.push(next)?;
         left = behind;
     }
-    let args = pile.split_off(below)?;
+    args.shrink();
     Ok(Some((args, left)))
+}
+
+/// Three terms, with room for more.
+fn three(alloc: Global, first: Term, second: Term, third: Term) -> Result<Terms, AllocError>
+    ensures { IfOk result (λ ts. ts ≡ term_of first ∷ term_of second ∷ term_of third ∷ []) }
+{
+    let mut args = Terms::new(alloc);
+    args.push(first)?;
+    args.push(second)?;
+    args.push(third)?;
+    Ok(args)
 }
 
 /// A function without arguments.

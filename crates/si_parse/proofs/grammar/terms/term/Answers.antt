@@ -8,14 +8,14 @@ use Rattle.si_parse.proofs.GrammarSound.{parsed_has, found_term}
 use Rattle.si_parse.proofs.grammar.terms.term.Goals as goal
 
 pub returns-in_default-clause-read : goal.returns-in_default-clause-read
-returns-in_default-clause-read c = reads_none term_of c.args.tokens.now c.in_ok-term.ensures.read c.in_default.is
+returns-in_default-clause-read c = reads_none term_of c.args.tokens.now c.in_ok-term.ensures c.in_default.is
 
 pub returns-then-bracket_follows-clause-read : goal.returns-then-bracket_follows-clause-read
 returns-then-bracket_follows-clause-read c =
-    parses_refused (reads_some term_of c.args.tokens.now c.in_ok-term.ensures.read c.in-Some.is) (λ none. false≢true (sym (c.bracket_follows.ensures.1 none) ∙ c.if-bracket_follows.true))
+    parses_refused (reads_some term_of c.args.tokens.now c.in_ok-term.ensures c.in-Some.is) (λ none. false≢true (sym (c.bracket_follows.ensures.1 none) ∙ c.if-bracket_follows.true))
 
 pub returns-clause-read : goal.returns-clause-read
-returns-clause-read c = reads_some term_of c.args.tokens.now c.in_ok-term.ensures.read c.in-Some.is
+returns-clause-read c = reads_some term_of c.args.tokens.now c.in_ok-term.ensures c.in-Some.is
 
 pub returns-clause-ends : goal.returns-clause-ends
 returns-clause-ends c = c.bracket_follows.ensures.0 c.if-bracket_follows.false

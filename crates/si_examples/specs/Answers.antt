@@ -1,7 +1,7 @@
 -- The answer to a pattern, over one clause.
-use Rattle.std.specs.Prelude.{List, [], ◌∷◌, codes}
+use Rattle.std.specs.Prelude.{[], ◌∷◌, codes}
 use Rattle.si_defs.specs.Terms as terms
-use Rattle.si_defs.specs.Clauses.{Clause, Pattern, term_pattern}
+use Rattle.si_defs.specs.Clauses.{Pattern, term_pattern}
 use Rattle.si_defs.specs.Entries.{term_entry, state_entries}
 use Rattle.si_defs.specs.declared.Relation.TheVariants.{Instances, Generalizations}
 use Rattle.si_defs.specs.Variables.{of_pattern, of_entry}

@@ -1,5 +1,5 @@
 -- Loads, their replies and the state behind them.
-use Rattle.std.specs.Prelude.{◌≡◌, ◌≤◌, List, [], ◌∷◌, Some, codes}
+use Rattle.std.specs.Prelude.{◌≡◌, ◌≤◌, [], ◌∷◌, Some, codes}
 use Rattle.si_state.specs.States.{State, empty_state, limited_to}
 use Rattle.si_steps.specs.Settings.{Setting}
 use Rattle.si_steps.specs.Loads.{Owed, nothing, load_bounds, PerformsLoad}

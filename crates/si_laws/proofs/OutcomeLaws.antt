@@ -1,5 +1,5 @@
 -- A command has at most one right outcome in a consistent state.
-use Rattle.std.proofs.Common.{inl, inr, List, [], ◌∷◌, length, Option, Some, None, sym, ap, ◌∙◌, subst}
+use Rattle.std.proofs.Common.{inl, inr, [], ◌∷◌, length, Option, Some, None, sym, ap, ◌∙◌, subst}
 use Rattle.si_defs.specs.Bytes.{Bytes}
 use Rattle.si_defs.specs.Clauses.{Clause}
 use Rattle.si_defs.specs.Entries.{entries, state_entries}

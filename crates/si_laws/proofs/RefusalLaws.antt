@@ -1,5 +1,5 @@
 -- A clause isn't both accepted and refused, and is refused for at most one reason.
-use Rattle.std.proofs.Common.{◌≡◌, ℕ, List, refl, sym, ap, ◌∙◌, arith}
+use Rattle.std.proofs.Common.{◌≡◌, List, refl, sym, ap, ◌∙◌, arith}
 use Rattle.si_defs.specs.Clauses.{Clause}
 use Rattle.si_defs.specs.Entries.{clause_symbols, state_symbols}
 use Rattle.si_state.specs.States.{Rules}

@@ -37,7 +37,7 @@ use Rattle.si_session.specs.declared.reply.ReplyLine as reply
 use Rattle.si_session.specs.Replies.{reply_line, misused_text}
 use Rattle.si_session.specs.Rejections.{HasHead, NamesEntry, TellsFault, TellsWhy}
 use Rattle.si_io.specs.Library.{Counts}
-use Rattle.si_session.specs.Session.{Around, around, Steps, Writes, HasPerformed, ActsOn, rightly, at_once, behind, HasLoaded, LoadsInto, rightly_loaded, ran_out, view_of, holding, ruled_by}
+use Rattle.si_session.specs.Session.{Around, around, Steps, Writes, HasPerformed, ActsOn, rightly, at_once, behind, HasLoaded, LoadsInto, rightly_loaded, ran_out, view_of, holding}
 use Rattle.si_session.specs.declared.stepped.Stepped.{Stepped}
 use Rattle.si_session.specs.declared.stepped.Stepped.TheVariants.{Answered, Refused, Silent, SinkFailed}
 

@@ -1,5 +1,5 @@
 -- A list of clauses that is stored stays so when a clause is accepted, and when one goes.
-use Rattle.std.proofs.Common.{◌≡◌, ◌⊎◌, inl, inr, ℕ, ◌+◌, List, [], ◌∷◌, ◌++◌, length, map, refl, sym, ap, ◌∙◌, subst, arith, append-nil, length-append}
+use Rattle.std.proofs.Common.{◌≡◌, ◌⊎◌, inl, inr, ◌+◌, List, [], ◌∷◌, ◌++◌, length, map, refl, sym, ap, ◌∙◌, subst, arith, append-nil, length-append}
 use Rattle.std.proofs.lemmas.List.{length-map}
 use Rattle.si_defs.specs.Clauses.{Clause, IsSoundClause}
 use Rattle.si_defs.specs.Entries.{entries, placed_in, state_entries, clause_symbols, state_symbols}

@@ -1,6 +1,6 @@
 -- A word of the program's call that names a file: its reply and the state behind it (this project's
 -- profile).
-use Rattle.std.specs.Prelude.{◌≡◌, ◌&&◌, ◌==◌, List, [], ◌∷◌, Bool, not, length, Option, IsTrue, IsFalse}
+use Rattle.std.specs.Prelude.{◌≡◌, ◌&&◌, ◌==◌, [], ◌∷◌, Bool, not, length, Option, IsTrue, IsFalse}
 use Rattle.std.specs.List.{list_all}
 use Rattle.si_defs.specs.Bytes.{Bytes, is_printable}
 use Rattle.si_state.specs.States.{State}

@@ -1,6 +1,6 @@
 -- The step at a line that is too long goes by its length alone, so that the front of it is enough
 -- to know.
-use Rattle.std.proofs.Common.{◌≡◌, ◌+◌, ◌<◌, ◌≤◌, Bool, true, false, ltb, List, Option, length, refl, subst, arith, take_all, length-take}
+use Rattle.std.proofs.Common.{◌≡◌, ◌+◌, ◌<◌, ◌≤◌, Bool, true, false, ltb, Option, length, refl, subst, arith, take_all, length-take}
 use Rattle.std.proofs.lemmas.Bool.Decides.{nat_tests}
 use Rattle.si_defs.specs.Bytes.{Bytes}
 use Rattle.si_steps.specs.Settings.{Setting}

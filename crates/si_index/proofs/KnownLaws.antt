@@ -231,11 +231,11 @@ module _ (limit : ℕ) (old : Known) (items : List (ℕ × term.Clause)) (key : 
     stored = subst (IsStored limit) (sym rest_is) (stored_less limit (clauses_of out.before) (clause_of c) (clauses_of out.after) stored_there);
     is_known = record {
       names = names_less new.names leaves.name;
-      signature = leaves.signature;
+      signature = leaves.counts.signature;
       signed = λ s.
           omega (
             arith,
-            leaves.uses s,
+            leaves.counts.uses s,
             signed_there s,
             times_between (clause_of c) (clauses_of out.after) (clauses_of out.before) s,
             ap (λ l. times s (state_symbols l)) rest_is,
@@ -243,7 +243,7 @@ module _ (limit : ℕ) (old : Known) (items : List (ℕ × term.Clause)) (key : 
       used =
           omega (
             arith,
-            leaves.sum,
+            leaves.counts.sum,
             kept.is_known.used,
             ap (λ l. length (state_symbols l)) splits,
             symbols_between (clause_of c) (clauses_of out.after) (clauses_of out.before),
@@ -252,7 +252,7 @@ module _ (limit : ℕ) (old : Known) (items : List (ℕ × term.Clause)) (key : 
       counted =
           omega (
             arith,
-            leaves.entered,
+            leaves.counts.entered,
             kept.is_known.counted,
             ap (λ l. length (state_entries l)) splits,
             entries_between (clause_of c) (clauses_of out.after) (clauses_of out.before),

@@ -60,7 +60,6 @@ pub record Enters (clause : Clause) (old new : Known) : Type 0 where
 
 -- they are counted no more
 pub record Uncounts (clause : Clause) (old new : Known) : Type 0 where
-  pub names : new.names ≡ old.names
   pub uses : (s : Symbol)
       → uses_of new.signature s + times s (clause_symbols clause) ≡ uses_of old.signature s
   pub sum : total new.signature + length (clause_symbols clause) ≡ total old.signature
@@ -71,12 +70,7 @@ pub record Uncounts (clause : Clause) (old new : Known) : Type 0 where
 -- the clause is struck out
 pub record Leaves (clause : Clause) (old new : Known) : Type 0 where
   pub name : ChangesName clause.name None (key_of old.names) (key_of new.names)
-  pub uses : (s : Symbol)
-      → uses_of new.signature s + times s (clause_symbols clause) ≡ uses_of old.signature s
-  pub sum : total new.signature + length (clause_symbols clause) ≡ total old.signature
-  pub entered : new.entries + length (entries clause) ≡ old.entries
-  pub signature : IsSignature new.signature
-  pub numbers : KeepsNumbers old.signature new.signature
+  pub counts : Uncounts clause old new
 
 -- the same is known
 pub record Stays (old new : Known) : Type 0 where

@@ -82,6 +82,7 @@ impl Known {
         requires counted { length (entries (clause_of gone.now)) ≤ self.old.entries }
         requires few { length (entries (clause_of gone.now)) ≤ MOST_OCCURRENCES }
         ensures uncounts { Uncounts (clause_of gone.now) self.old self.new }
+        ensures names { self.new.names ≡ self.old.names }
         ensures number { result ≡ length (entries (clause_of gone.now)) }
     {
         let entries = entry_count(gone);

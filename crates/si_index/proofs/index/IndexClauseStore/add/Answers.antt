@@ -66,7 +66,7 @@ invariant_of-self-in-Err-put c =
     subst (λ l. IsKept c.self.inside.limit l new) (sym c.in-Err-put.ensures.err)
     (kept_stays c.self.inside.limit c.self.inside.known new c.self.inside.clauses.items c.self.invariant
     (entered_back c.self.inside.known between new (clause_of c.args.clause) c.self.invariant.is_known.signature enters
-    (λ name. ap (λ m. key_of m name) undone.names ∙ c.in-Err-put.ensures.same_names name)
+    (λ name. ap (λ m. key_of m name) c.uncount.ensures.names ∙ c.in-Err-put.ensures.same_names name)
     undone.uses undone.sum (omega (arith, undone.entered, enters.entered)) undone.numbers undone.signature))
 
 pub returns-in-Ok-put-clause-added : goal.returns-in-Ok-put-clause-added

@@ -11,7 +11,7 @@ use Rattle.si_state.specs.Acceptance.{IsTaken, Accepts}
 use Rattle.si_state.specs.Signatures.{Signature, IsSignature, IsSignatureOf, KeepsNumbers, numbering, uses_of, total}
 use Rattle.si_term.specs.Meaning.{clause_of, name_of}
 use Rattle.si_term.specs.declared.clause.Clause as term
-use Rattle.si_term.proofs.EntryHeads.{length-symbols}
+use Rattle.si_defs.specs.declared.TheConstants.{MOST_OCCURRENCES}
 use Rattle.si_sign.specs.Stores.{IsStored, Rejects}
 use Rattle.si_sign.specs.declared.faults.AddFault.{AddFault}
 use Rattle.si_sign.specs.declared.faults.AddFault.TheVariants as add_fault
@@ -31,7 +31,7 @@ use Rattle.si_index.specs.declared.names.Names.{Names}
 use Rattle.si_keyed.proofs.KeyLaws.{item_of, key_taken, last_behind}
 use Rattle.si_index.proofs.NamedLaws.{among_taken, leads_taken, unknown_free, named_more, named_less, named_stays}
 use Rattle.si_index.proofs.KeyStays.{kept_as, keys_stay, keys_through}
-use Rattle.si_index.proofs.StoreLaws.{symbols_few, entries_between, times_between, sound_between, distinct_between}
+use Rattle.si_index.proofs.StoreLaws.{few_entries, symbols_few, as_many_symbols, entries_between, symbols_between, times_between, sound_between, distinct_between}
 
 -- ---- why a clause isn't added
 some_is : {A : Type 0} (o : Option A) → IsSome o → (x : A) × (o ≡ Some x)
@@ -51,8 +51,8 @@ module _ (rules : Rules) (items : List (ℕ × term.Clause)) (known : Known) (c 
     (
       name_free free,
       agrees_in_state (clauses_of items) known.signature good is.signed (clause_symbols c) agree,
-      omega (arith, over, number, is.counted, length-symbols c sound),
-      omega (arith, number, is.counted, length-symbols c sound),
+      omega (arith, over, number, is.counted),
+      omega (arith, number, is.counted),
     ),
     same,
   )
@@ -62,14 +62,18 @@ module _ (rules : Rules) (items : List (ℕ × term.Clause)) (known : Known) (c 
   accepts sound admits = record {
     free = name_free admits.free;
     agree = agrees_in_state (clauses_of items) known.signature good is.signed (clause_symbols c) admits.agree;
-    room = omega (arith, admits.room, is.counted, length-symbols c sound);
+    room = omega (arith, admits.room, is.counted);
     added = refl;
   }
 
 -- ---- what is kept, before and behind a change
 pub room_for : (rules : Rules) (items : List (ℕ × term.Clause)) (known : Known) (c : Clause) → IsKept rules items known → IsSoundClause c
     → total known.signature + length (clause_symbols c) ≤ MOST_USES
-room_for rules items known c kept sound = omega (arith, kept.is_known.counted, kept.stored.few, kept.small, symbols_few c sound)
+room_for rules items known c kept sound =
+    omega (arith, kept.is_known.used, as_many_symbols (clauses_of items) kept.stored.sound, kept.stored.few, kept.small, symbols_few c sound)
+
+pub counted_few : (rules : Rules) (items : List (ℕ × term.Clause)) (known : Known) → IsKept rules items known → known.entries ≤ MOST_OCCURRENCES
+counted_few rules items known kept = omega (arith, kept.is_known.counted, kept.stored.few, kept.small)
 
 pub kept_stays : (rules : Rules) (old new : Known) (items : List (ℕ × term.Clause)) → IsKept rules items old → Stays old new → IsKept rules items new
 kept_stays rules old new items kept same = record {
@@ -77,8 +81,10 @@ kept_stays rules old new items kept same = record {
   stored = kept.stored;
   is_known = record {
     names = named_stays items old.names new.names kept.is_known.names same.names;
+    signature = same.signature;
     signed = λ s. same.uses s ∙ kept.is_known.signed s;
-    counted = same.sum ∙ kept.is_known.counted;
+    used = same.sum ∙ kept.is_known.used;
+    counted = same.entered ∙ kept.is_known.counted;
   };
 }
 
@@ -98,7 +104,7 @@ module _ (rules : Rules) (old between : Known) (items more : List (ℕ × term.C
       (named_more items put.key c between.names names (subst (AreNamed items) (sym enters.names) kept.is_known.names) put.fresh
       (ap (λ m. key_of m (name_of c.name)) enters.names ∙ admits.free) put.name)
 
-  pub kept_more : IsKept rules more (record { names = names; signature = between.signature })
+  pub kept_more : IsKept rules more (record { names = names; signature = between.signature; entries = between.entries })
   kept_more =
       let behind = append-nil (clauses_of items) in
       record {
@@ -108,6 +114,7 @@ module _ (rules : Rules) (old between : Known) (items more : List (ℕ × term.C
             (stored_more rules (clauses_of items) (clause_of c) kept.stored sound (accepts rules items old (clause_of c) kept.is_known good sound admits));
         is_known = record {
           names = names_more;
+          signature = enters.signature;
           signed = λ s.
               omega (
                 arith,
@@ -117,15 +124,23 @@ module _ (rules : Rules) (old between : Known) (items more : List (ℕ × term.C
                 ap (λ l. times s (state_symbols l)) behind,
                 ap (λ l. times s (state_symbols l)) clauses_more,
               );
-          counted =
+          used =
               omega (
                 arith,
                 enters.sum,
+                kept.is_known.used,
+                symbols_between (clause_of c) [] (clauses_of items),
+                ap (λ l. length (state_symbols l)) behind,
+                ap (λ l. length (state_symbols l)) clauses_more,
+              );
+          counted =
+              omega (
+                arith,
+                enters.entered,
                 kept.is_known.counted,
                 entries_between (clause_of c) [] (clauses_of items),
                 ap (λ l. length (state_entries l)) behind,
                 ap (λ l. length (state_entries l)) clauses_more,
-                length-symbols (clause_of c) sound,
               );
         };
       }
@@ -150,15 +165,18 @@ numbers_through old between new good more first second s m n a b =
     subst (λ r. IsAmong (numbering between) (r, here.used.number)) here.is (among_numbering between here.used here.among) in
     first s m here.used.number a middle ∙ second s here.used.number n middle b
 
-pub entered_back : (old between : Known) (c : Clause) (names : Names) (signature : Signature) → IsSignature old.signature → Enters c old between
-    → ((name : Name) → key_of names name ≡ key_of between.names name)
-    → ((s : Symbol) → uses_of signature s + times s (clause_symbols c) ≡ uses_of between.signature s)
-    → total signature + length (clause_symbols c) ≡ total between.signature → KeepsNumbers between.signature signature → Stays old (record { names = names; signature = signature })
-entered_back old between c names signature good enters same uses sum numbers = record {
+pub entered_back : (old between new : Known) (c : Clause) → IsSignature old.signature → Enters c old between
+    → ((name : Name) → key_of new.names name ≡ key_of between.names name)
+    → ((s : Symbol) → uses_of new.signature s + times s (clause_symbols c) ≡ uses_of between.signature s)
+    → total new.signature + length (clause_symbols c) ≡ total between.signature → new.entries ≡ old.entries
+    → KeepsNumbers between.signature new.signature → IsSignature new.signature → Stays old new
+entered_back old between new c good enters same uses sum entered numbers signature = record {
   names = λ name. same name ∙ ap (λ m. key_of m name) enters.names;
   uses = λ s. omega (arith, enters.uses s, uses s);
   sum = omega (arith, enters.sum, sum);
-  numbers = numbers_through old.signature between.signature signature good (λ s. omega (arith, enters.uses s)) enters.numbers numbers;
+  entered = entered;
+  signature = signature;
+  numbers = numbers_through old.signature between.signature new.signature good (λ s. omega (arith, enters.uses s)) enters.numbers numbers;
 }
 
 -- a clause that stands between others
@@ -183,8 +201,18 @@ module _ (rules : Rules) (old : Known) (items : List (ℕ × term.Clause)) (key 
   sound_there : IsSoundClause (clause_of c)
   sound_there = (sound_between (clause_of c) (clauses_of out.after) (clauses_of out.before) stored_there.sound).0
 
-  pub as_many_entries : (n : ℕ) → n ≡ length (clause_symbols (clause_of c)) → n ≡ length (entries (clause_of c))
-  as_many_entries n e = e ∙ sym (length-symbols (clause_of c) sound_there)
+  -- its entries are among those that were counted
+  pub entries_counted : length (entries (clause_of c)) ≤ old.entries
+  entries_counted =
+      omega (
+        arith,
+        kept.is_known.counted,
+        ap (λ l. length (state_entries l)) splits,
+        entries_between (clause_of c) (clauses_of out.after) (clauses_of out.before),
+      )
+
+  pub entries_there : length (entries (clause_of c)) ≤ MOST_OCCURRENCES
+  entries_there = few_entries (clause_of c) sound_there
 
   free_without : IsTaken (clauses_of (out.before ++ out.after)) (name_of c.name) → ⊥
   free_without h =
@@ -204,23 +232,32 @@ module _ (rules : Rules) (old : Known) (items : List (ℕ × term.Clause)) (key 
     stored = subst (IsStored rules) (sym rest_is) (stored_less rules (clauses_of out.before) (clause_of c) (clauses_of out.after) stored_there);
     is_known = record {
       names = names_less new.names leaves.name;
+      signature = leaves.counts.signature;
       signed = λ s.
           omega (
             arith,
-            leaves.uses s,
+            leaves.counts.uses s,
             signed_there s,
             times_between (clause_of c) (clauses_of out.after) (clauses_of out.before) s,
             ap (λ l. times s (state_symbols l)) rest_is,
           );
+      used =
+          omega (
+            arith,
+            leaves.counts.sum,
+            kept.is_known.used,
+            ap (λ l. length (state_symbols l)) splits,
+            symbols_between (clause_of c) (clauses_of out.after) (clauses_of out.before),
+            ap (λ l. length (state_symbols l)) rest_is,
+          );
       counted =
           omega (
             arith,
-            leaves.sum,
+            leaves.counts.entered,
             kept.is_known.counted,
             ap (λ l. length (state_entries l)) splits,
             entries_between (clause_of c) (clauses_of out.after) (clauses_of out.before),
             ap (λ l. length (state_entries l)) rest_is,
-            length-symbols (clause_of c) sound_there,
           );
     };
   }

@@ -1,9 +1,9 @@
 -- Laws of names that lead to the keys of their clauses.
-use Rattle.std.proofs.Common.{◌≡◌, ◌⊎◌, inl, inr, ℕ, zero, suc, ◌+◌, ◌≤◌, List, [], ◌∷◌, ◌++◌, Some, None, length, slice_get, refl, sym, ap, ◌∙◌, subst, arith, length-append}
+use Rattle.std.proofs.Common.{◌≡◌, ◌⊎◌, inl, inr, ℕ, List, [], ◌∷◌, ◌++◌, Some, None, refl, sym, ap, ◌∙◌, subst}
 use Rattle.std.proofs.lemmas.Option.{same_Some, none-some}
 use Rattle.si_defs.specs.Clauses as defs
 use Rattle.si_defs.specs.Substitutions.{IsAmong}
-use Rattle.si_defs.proofs.ListLaws.{among_front, among_back, among_parts, get_among, same_head, same_tail, not_empty}
+use Rattle.si_defs.proofs.ListLaws.{among_front, among_back, among_parts}
 use Rattle.si_state.specs.Acceptance.{IsTaken}
 use Rattle.si_term.specs.Meaning.{name_of}
 use Rattle.si_term.specs.declared.clause.Clause.{Clause}

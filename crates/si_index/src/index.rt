@@ -97,7 +97,7 @@ impl Index {
     {
         Stats {
             clauses: self.clauses.len() as u32,
-            entries: self.known.signature.total(),
+            entries: self.known.entries,
             symbols: self.known.signature.len(),
         }
     }
@@ -182,7 +182,7 @@ impl ClauseStore for Index {
         match put(self.alloc, &mut self.clauses, &mut self.known.names, clause) {
             Ok(()) => Ok(entries),
             Err(clause) => {
-                self.known.signature.give_back(&clause);
+                self.known.uncount(&clause);
                 Err(Rejected {
                     clause,
                     why: AddFault::Memory,

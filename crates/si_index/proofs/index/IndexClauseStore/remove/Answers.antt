@@ -4,7 +4,7 @@ use Rattle.si_state.specs.Acceptance.{IsTaken}
 use Rattle.si_term.specs.Meaning.{clause_of, name_of}
 use Rattle.si_index.specs.Kept.{Kept, KeysStay, clauses_of}
 use Rattle.si_index.proofs.KeyStays.{kept_as}
-use Rattle.si_index.proofs.KnownLaws.{keys_less, splits, rest_is, uses_few, as_many_entries, kept_less, named_so}
+use Rattle.si_index.proofs.KnownLaws.{keys_less, splits, rest_is, uses_few, entries_counted, entries_there, kept_less, named_so}
 use Rattle.si_index.proofs.NamedLaws.{unknown_free}
 use Rattle.si_keyed.proofs.Results.{if_none}
 use Rattle.si_index.proofs.index.IndexClauseStore.remove.Goals as goal
@@ -23,6 +23,10 @@ pub leave-requires : goal.leave-requires
 leave-requires c = record {
   used =
       uses_few (limited_to c.self.inside.limit) c.self.inside.known c.self.inside.clauses.items c.in_ok-key.key c.remove-clause.result c.remove-clause.new.self.items c.self.invariant c.remove-clause.ensures.taken;
+  counted =
+      entries_counted (limited_to c.self.inside.limit) c.self.inside.known c.self.inside.clauses.items c.in_ok-key.key c.remove-clause.result c.remove-clause.new.self.items c.self.invariant c.remove-clause.ensures.taken;
+  few =
+      entries_there (limited_to c.self.inside.limit) c.self.inside.known c.self.inside.clauses.items c.in_ok-key.key c.remove-clause.result c.remove-clause.new.self.items c.self.invariant c.remove-clause.ensures.taken;
 }
 
 pub invariant_of-self : goal.invariant_of-self
@@ -47,7 +51,7 @@ returns-clause-removed c =
         named = named_so (limited_to c.self.inside.limit) known items c.in_ok-key.key gone rest c.self.invariant out (name_of c.args.name.now) (sym c.in_ok-key.ensures);
         rest = rest_is (limited_to c.self.inside.limit) known items c.in_ok-key.key gone rest c.self.invariant out;
       },
-      as_many_entries (limited_to c.self.inside.limit) known items c.in_ok-key.key gone rest c.self.invariant out c.leave.result c.leave.ensures.number,
+      c.leave.ensures.number,
     )
 
 pub returns-clause-stored : goal.returns-clause-stored

@@ -5,7 +5,7 @@ use Rattle.si_term.specs.Meaning.{clause_of}
 use Rattle.si_keyed.specs.Keyed.{item_keys}
 use Rattle.si_index.specs.Kept.{Kept, KeysStay, clauses_of}
 use Rattle.si_index.proofs.KeyStays.{kept_as}
-use Rattle.si_index.proofs.KnownLaws.{keys_less, uses_few, as_many_entries, kept_less, last_taken}
+use Rattle.si_index.proofs.KnownLaws.{keys_less, uses_few, entries_counted, entries_there, kept_less, last_taken}
 use Rattle.si_index.proofs.index.IndexClauseStore.remove_last.Goals as goal
 
 pub remove-clause-requires : goal.remove-clause-requires
@@ -15,6 +15,10 @@ pub leave-requires : goal.leave-requires
 leave-requires c = record {
   used =
       uses_few (limited_to c.self.inside.limit) c.self.inside.known c.self.inside.clauses.items c.in_ok-key.key c.remove-clause.result c.remove-clause.new.self.items c.self.invariant c.remove-clause.ensures.taken;
+  counted =
+      entries_counted (limited_to c.self.inside.limit) c.self.inside.known c.self.inside.clauses.items c.in_ok-key.key c.remove-clause.result c.remove-clause.new.self.items c.self.invariant c.remove-clause.ensures.taken;
+  few =
+      entries_there (limited_to c.self.inside.limit) c.self.inside.known c.self.inside.clauses.items c.in_ok-key.key c.remove-clause.result c.remove-clause.new.self.items c.self.invariant c.remove-clause.ensures.taken;
 }
 
 pub invariant_of-self : goal.invariant_of-self
@@ -32,7 +36,7 @@ returns-clause-removed c =
       clause_of gone,
       subst (λ (k : Kept). k.clauses ≡ clauses_of rest ++ clause_of gone ∷ []) c.self.view_is
           (last_taken (limited_to c.self.inside.limit) known items c.in_ok-key.key gone rest c.self.invariant out c.in_ok-key.ensures.some),
-      as_many_entries (limited_to c.self.inside.limit) known items c.in_ok-key.key gone rest c.self.invariant out c.leave.result c.leave.ensures.number,
+      c.leave.ensures.number,
     )
 
 pub returns-clause-stored : goal.returns-clause-stored

@@ -4,6 +4,7 @@ use Rattle.std.proofs.lemmas.Option.{same_Some, none-some}
 use Rattle.std.proofs.lemmas.List.{length-map}
 use Rattle.si_defs.specs.Clauses.{Name, Clause}
 use Rattle.si_defs.specs.Substitutions.{IsAmong, AreDistinct}
+use Rattle.si_state.specs.States.{limited_to}
 use Rattle.si_term.specs.Meaning.{clause_of}
 use Rattle.si_term.specs.declared.clause.Clause as term
 use Rattle.si_keyed.specs.Keyed.{item_keys}
@@ -15,7 +16,7 @@ use Rattle.si_index.proofs.NameLaws.{name_either}
 
 -- items as they are seen in an index
 abbrev pub kept_as : List (ℕ × term.Clause) → Kept
-kept_as items = record { clauses = clauses_of items; keys = item_keys items; limit = 0; numbers = [] }
+kept_as items = record { clauses = clauses_of items; keys = item_keys items; rules = limited_to 0; numbers = [] }
 
 pub are_keyed : (items : List (ℕ × term.Clause)) → AreDistinct (item_keys items) → AreKeyed (kept_as items)
 are_keyed items distinct = record {

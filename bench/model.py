@@ -75,7 +75,7 @@ def blanks_end(text: bytes, place: int) -> int:
 
 
 def token_at(text: bytes, place: int) -> Token | None:
-    """The longest token behind the longest blanks, or None where the text ends."""
+    """The longest token after the longest blanks, or None where the text ends."""
     place = blanks_end(text, place)
     if place == len(text):
         return None
@@ -299,7 +299,7 @@ def is_foreign(text: bytes, place: int) -> bool:
 
 
 def next_item(text: bytes, place: int) -> tuple[Clause | Include | None, int]:
-    """The item behind the blanks, or None where the text ends, and the place behind it."""
+    """The item after the blanks, or None where the text ends, and the place after it."""
     place = blanks_end(text, place)
     if place == len(text):
         return None, place
@@ -446,7 +446,7 @@ def leading_bindings(query: Term, entry: Term, found: Substitution) -> Bindings:
 
 
 def ordered(bindings: Bindings) -> Bindings:
-    """At each place the first variable that no right side behind that place has."""
+    """At each place the first variable that no right side after that place has."""
     result = []
     while bindings:
         inside = {x for _, term in bindings for x in variables(term)}

@@ -91,8 +91,8 @@ ADDED = {
     "symbols of n bytes that differ in the last": Shape(5_000, lambda n: lines(add("|".join("a" * n + x for x in LETTERS)))),
     "variables of n bytes that differ in the last":
         Shape(5_000, lambda n: lines(add(f"p({','.join('X' * n + x for x in LETTERS)})"))),
-    "names that differ behind 100 bytes": Shape(2_000, lambda n: lines(*each(add("p", "a" * 100 + "#"), n))),
-    "symbols that differ behind 100 bytes": Shape(2_000, lambda n: lines(add(listed("p" * 100 + "#", n, "|")))),
+    "names that differ after 100 bytes": Shape(2_000, lambda n: lines(*each(add("p", "a" * 100 + "#"), n))),
+    "symbols that differ after 100 bytes": Shape(2_000, lambda n: lines(add(listed("p" * 100 + "#", n, "|")))),
 }
 
 # Removed clauses, and lines without an answer
@@ -120,7 +120,7 @@ LINES = {
     "commands that aren't built": Shape(10_000, lambda n: lines(*["tree"] * n)),
     "names that are taken": Shape(5_000, lambda n: lines(*[add("q(a)")] * n, before=[add("p(a)")])),
     "symbols that are used otherwise": Shape(5_000, lambda n: lines(*[add("q|p", "d")] * n, before=[add("p(a)")])),
-    "a symbol that is used otherwise, behind many":
+    "a symbol that is used otherwise, after many":
         Shape(10_000, lambda n: lines(add(listed("q#", n, "|") + "|p", "d"), before=[add("p(a)")])),
     "names that are unknown": Shape(10_000, lambda n: lines(*each("remove d#", n))),
     "files that are missing": Shape(5_000, lambda n: lines(*each("load 'none#'", n))),
@@ -158,18 +158,18 @@ LOADED = {
     "a file whose last line is wrong": Shape(4_000, lambda n: file(provers_clauses(n) + "\nx")),
     "a file that opens a comment at the end of each line": Shape(20_000, lambda n: file("%/*\n" * n + "/*")),
     "a file whose last name is taken": Shape(4_000, lambda n: file(provers_clauses(n) + clause("p", "c_0_0"))),
-    "a refused load behind many clauses": Shape(4_000, lambda n: file(clause("r", "d") + clause("r", "c0"), before=own_clauses(n))),
+    "a refused load after many clauses": Shape(4_000, lambda n: file(clause("r", "d") + clause("r", "c0"), before=own_clauses(n))),
     "a selection of all names": Shape(4_000, lambda n: selection(n, "c#")),
     "a selection of other names": Shape(4_000, lambda n: selection(n, "d#")),
     "a selection of one name, many times": Shape(8_000, lambda n: selection(n, "c1")),
     "31 selections, one inside the other": Shape(1_000, lambda n: selection(n, "c#", 31)),
-    "a selection of names that differ behind 100 bytes": Shape(1_000, lambda n: file(
+    "a selection of names that differ after 100 bytes": Shape(1_000, lambda n: file(
         f"include('b.p',[{listed('a' * 100 + '#', n)}]).", {"b.p": "\n".join(each(clause("p", "a" * 100 + "#"), n))})),
     "included files": Shape(500, lambda n: file(
         listed("include('#.p').", n, "\n"), {f"{i}.p": clause("p", f"c{i}") for i in range(n)})),
     "included files, one inside the other": Shape(15, lambda n: file(
         "include('1.p').", {f"{i}.p": f"include('{i + 1}.p')." if i < n else clause("p") for i in range(1, n + 1)})),
-    "a file that includes itself behind many clauses": Shape(4_000, lambda n: file(provers_clauses(n) + "include('a.p').")),
+    "a file that includes itself after many clauses": Shape(4_000, lambda n: file(provers_clauses(n) + "include('a.p').")),
     "a file of 16 and of 32 mebibytes": Shape(16, lambda n: file(filled(n)), "microseconds"),
 }
 
@@ -186,7 +186,7 @@ def links(n: int, x: str, step: int) -> str:
 
 
 def asked_again(n: int, x: str) -> tuple[str, str]:
-    """Variables that meet in a chain, and behind them constants, which all meet one variable."""
+    """Variables that meet in a chain, and after them constants, which all meet one variable."""
     return "X," + listed("X#,X#", n) + ",X," + listed("a", n), listed("Y#,Y#", n + 1) + "," + listed(x, n)
 
 

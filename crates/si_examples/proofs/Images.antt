@@ -151,5 +151,5 @@ more_lines : (line next last : Bytes) → line ∷ next ∷ [] ≡ last ∷ [] �
 more_lines line next last e = cc
 
 pub no_subsumed_told : NoSubsumedTold
-no_subsumed_told limits line new (found, inl h, said, stays) = no_other_sign (h.0, h.2.is_one)
-no_subsumed_told limits line new (found, inr h, said, stays) = more_lines line _ _ (said ∙ ap mapped_reply h.1)
+no_subsumed_told setting line new (found, inl h, said, stays) = no_other_sign (h.0, h.2.is_one)
+no_subsumed_told setting line new (found, inr h, said, stays) = more_lines line _ _ (said ∙ ap mapped_reply h.1)

@@ -19,10 +19,10 @@ agree = (
 )
 
 pub added_clause : AddedClause
-added_clause limits room = inr (record { free = λ h. h; agree = agree; room = room; added = refl }, rw (decimal_digit 1 (omega arith), decimal_digit 3 (omega arith)) refl)
+added_clause setting room = inr (record { free = λ h. h; agree = agree; room = room; added = refl }, rw (decimal_digit 1 (omega arith), decimal_digit 3 (omega arith)) refl, refl)
 
 pub full_index : FullIndex
-full_index limits two = inl (full 3, (λ h. h, agree, omega (arith, two), refl), rw two (rw (decimal_digit 3 (omega arith), decimal_digit 2 (omega arith)) refl), refl)
+full_index setting two = inl (full 3, (λ h. h, agree, omega (arith, two), refl), rw two (rw (decimal_digit 3 (omega arith), decimal_digit 2 (omega arith)) refl), refl)
 
 pub clashing_symbol : ClashingSymbol
 clashing_symbol = (
@@ -51,10 +51,10 @@ pub no_agreement : NoAgreement
 no_agreement h = h.0.1.1.0 (record { kind = refl; text = refl; differ = λ side arity. cc })
 
 pub removed_clause : RemovedClause
-removed_clause limits = inr (kept_clause, record { before = []; after = []; splits = refl; named = refl; rest = refl }, rw (decimal_digit 1 (omega arith), decimal_digit 3 (omega arith)) refl)
+removed_clause setting = inr (kept_clause, record { before = []; after = []; splits = refl; named = refl; rest = refl }, rw (decimal_digit 1 (omega arith), decimal_digit 3 (omega arith)) refl, refl)
 
 pub nothing_counted : NothingCounted
-nothing_counted limits = (0, ([], tt, λ s. (λ h. h, λ h. h), refl), rw (decimal_digit 0 (omega arith)) refl, refl)
+nothing_counted setting = (0, ([], tt, λ s. (λ h. h, λ h. h), refl), rw (decimal_digit 0 (omega arith)) refl, refl)
 
 pub none_uncounted : NoneUncounted
 none_uncounted ([], distinct, same, count) = (same (front_symbol first_atom)).1 (inl refl)

@@ -8,6 +8,7 @@ use Rattle.si_defs.specs.Texts.{IsForeign, languages}
 use Rattle.si_defs.specs.Substitutions.{IsAmong}
 use Rattle.si_defs.specs.declared.TokenKind.TheVariants.{Lower, Mark}
 use Rattle.si_defs.specs.declared.NameKind.TheVariants.{Word}
+use Rattle.si_state.specs.States.{limited_to}
 use Rattle.si_state.specs.Acceptance.{Accepts, taken}
 use Rattle.si_state.specs.Harvest.{Bounds, ask, attempt, cycle, too_deep, too_many, missing, too_big, failed, foreign, malformed, rejected, MayAsk, IsSelected, Harvests, barred, withheld, fetched, ended, stuck, passed_over, accepted, refused, expanded, broken_off}
 use Rattle.si_lex.proofs.TokenLaws.{next_place}
@@ -23,7 +24,7 @@ may_begin : (limits : Bounds) (file : Bytes) → 0 < limits.depth → 0 < limits
 may_begin limits file d f = record { fresh = λ h. h; shallow = d; few = f }
 
 -- the first clause is accepted
-first : Accepts 2 [] c (c ∷ [])
+first : Accepts (limited_to 2) [] c (c ∷ [])
 first = record { free = λ h. h; agree = (tt, tt); room = omega arith; added = refl }
 
 pub plain_file : PlainFile
@@ -38,7 +39,7 @@ pub missing_file : MissingFile
 missing_file = withheld [] [] 0 [] (codes "b") (missing (codes "b")) (may_begin (bounds 15 1 1) (codes "b") (omega arith) (omega arith)) (refl, refl)
 
 pub no_missing_file : NoMissingFile
-no_missing_file limits entries kept events (fetched opened around made state file bytes may found size inside fault rest) = let e : None ≡ Some bytes = found in cc
+no_missing_file limits rules kept events (fetched opened around made state file bytes may found size inside fault rest) = let e : None ≡ Some bytes = found in cc
 
 pub failed_file : FailedFile
 failed_file = withheld [] [] 0 [] (codes "a") (failed (codes "a")) (may_begin (bounds 15 1 1) (codes "a") (omega arith) (omega arith)) refl
@@ -53,7 +54,7 @@ not_selected : IsSelected ((c.name ∷ []) ∷ []) (record { kind = Word; text =
 not_selected (inl e, u) = texts_differ (codes "c") (codes "d") refl (ap (λ n. n.text) e)
 not_selected (inr h, u) = h
 
-inside : Harvests selecting (bounds 30 2 2) 2 (codes "m" ∷ []) ((c.name ∷ []) ∷ []) 1 [] (codes "a") (ask (codes "a") ∷ attempt c ∷ []) None
+inside : Harvests selecting (bounds 30 2 2) (limited_to 2) (codes "m" ∷ []) ((c.name ∷ []) ∷ []) 1 [] (codes "a") (ask (codes "a") ∷ attempt c ∷ []) None
 inside =
     fetched (codes "m" ∷ []) ((c.name ∷ []) ∷ []) 1 [] (codes "a") (codes "cnf(c,axiom,p).cnf(d,axiom,q).")
     (record { fresh = elim [ inl e ↦ texts_differ (codes "m") (codes "a") refl e | inr h ↦ h ]; shallow = omega arith; few = omega arith })

@@ -4,6 +4,7 @@ use Rattle.std.proofs.lemmas.Fmt.{decimal_digit}
 use Rattle.si_defs.specs.Bytes.{Bytes}
 use Rattle.si_defs.specs.Tokens.{lower, Consists}
 use Rattle.si_defs.specs.declared.TokenKind.TheVariants.{Single}
+use Rattle.si_state.specs.States.{Rules}
 use Rattle.si_state.specs.Acceptance.{taken, misused, full}
 use Rattle.si_state.specs.Harvest.{Bounds, ask, attempt, Fault, cycle, too_deep, too_many, missing, too_big, failed, foreign, malformed, rejected, Loads}
 use Rattle.si_steps.specs.declared.word.Word.TheVariants.{Load}
@@ -37,13 +38,13 @@ loads = record {
 }
 
 pub loaded_line : LoadedLine
-loaded_line limits w within entries =
+loaded_line setting w within rules =
     loaded (record { short = w; built = built }) (codes "m") loads
     (ask (codes "m") ∷ ask (codes "a") ∷ attempt c ∷ [], None, read, rw (decimal_digit 1 (omega arith)) refl, refl, refl) where
-      read : Loads selecting (load_bounds limits) limits.entries [] (codes "m") (ask (codes "m") ∷ ask (codes "a") ∷ attempt c ∷ []) None
+      read : Loads selecting (load_bounds setting.limits) setting.rules [] (codes "m") (ask (codes "m") ∷ ask (codes "a") ∷ attempt c ∷ []) None
       read =
-          subst (λ (b : Bounds). Loads selecting b limits.entries [] (codes "m") (ask (codes "m") ∷ ask (codes "a") ∷ attempt c ∷ []) None) (sym within)
-          (subst (λ (n : ℕ). Loads selecting (bounds 30 2 2) n [] (codes "m") (ask (codes "m") ∷ ask (codes "a") ∷ attempt c ∷ []) None) (sym entries) selected_clause)
+          subst (λ (b : Bounds). Loads selecting b setting.rules [] (codes "m") (ask (codes "m") ∷ ask (codes "a") ∷ attempt c ∷ []) None) (sym within)
+          (subst (λ (r : Rules). Loads selecting (bounds 30 2 2) r [] (codes "m") (ask (codes "m") ∷ ask (codes "a") ∷ attempt c ∷ []) None) (sym rules) selected_clause)
 
 -- ---- the line of a fault
 first_line : Reply → Bytes
@@ -66,6 +67,6 @@ fault_begins limit (rejected clause (full n)) = refl
 
 pub no_gain_without_file : NoGainWithoutFile
 unfolding first_line
-no_gain_without_file limits kept new owed (events, None, reading, said, due, behind) = no_missing_file (load_bounds limits) limits.entries kept events reading
-no_gain_without_file limits kept new owed (events, Some fault, reading, said, due, behind) =
-    differ 111 33 refl (ap (λ r. first_byte (first_line r)) said ∙ fault_begins limits.entries fault)
+no_gain_without_file setting kept new owed (events, None, reading, said, due, behind) = no_missing_file (load_bounds setting.limits) setting.rules kept.clauses events reading
+no_gain_without_file setting kept new owed (events, Some fault, reading, said, due, behind) =
+    differ 111 33 refl (ap (λ r. first_byte (first_line r)) said ∙ fault_begins setting.rules.entries fault)

@@ -11,7 +11,7 @@ use Rattle.si_steps.specs.declared.word.Word.TheVariants.{Add, Ask}
 use Rattle.si_steps.specs.Commands.{IsUnbuilt, Means, add, query}
 use Rattle.si_steps.specs.Loads.{nothing}
 use Rattle.si_steps.specs.Steps.{performed, right}
-use Rattle.si_examples.specs.Entries.{predicate, placed}
+use Rattle.si_examples.specs.Entries.{predicate, placed, keeping}
 use Rattle.si_examples.specs.Runs.{AddedAndFound}
 use Rattle.si_examples.proofs.Pieces.{space, word, consists}
 use Rattle.si_examples.proofs.OneLine.{clause, added_line, add_tokens, not_unbuilt}
@@ -60,24 +60,24 @@ answered =
     )
 
 pub added_and_found : AddedAndFound
-added_and_found limits told strict w room = (
-  clause ∷ [],
+added_and_found setting told strict w room = (
+  keeping (clause ∷ []),
   (
     codes "ok 1 1" ∷ [],
     nothing,
-    clause ∷ [],
+    keeping (clause ∷ []),
     codes "c:1 {}\nend 1\n",
     0,
-    right (performed (decided limits first_line (omega arith) first_built) (add clause) added_line
-        (inr (record { free = λ h. h; agree = (tt, tt); room = room; added = refl }, rw (decimal_digit 1 (omega arith)) refl)) refl),
+    right (performed (decided setting.limits first_line (omega arith) first_built) (add clause) added_line
+        (inr (record { free = λ h. h; agree = (tt, tt); room = room; added = refl }, rw (decimal_digit 1 (omega arith)) refl, refl)) refl),
     (λ s. refl),
     (
       codes "c:1 {}" ∷ codes "end 1" ∷ [],
       nothing,
-      clause ∷ [],
+      keeping (clause ∷ []),
       [],
       0,
-      right (performed (decided limits second_line (omega arith) second_built) (query Instances (literal_pattern literal)) asked
+      right (performed (decided setting.limits second_line (omega arith) second_built) (query Instances (literal_pattern literal)) asked
           (hit ∷ [], answered, rw (decimal_digit 1 (omega arith)) refl, refl) refl),
       (λ s. refl),
       (refl, refl, refl),

@@ -1,16 +1,17 @@
 -- Which replies a line has.
 use Rattle.std.proofs.Common.{◌≡◌, ℕ, ◌<◌, ◌≤◌, ◌==◌, false, List, [], ◌∷◌, ◌++◌, length, codes, refl, ap, sym, ◌∙◌, subst, ◌⊎◌, inl, inr, arith, Option, Some, None}
 use Rattle.si_defs.specs.Bytes.{Bytes}
-use Rattle.si_defs.specs.Clauses.{Clause}
 use Rattle.si_defs.specs.Tokens.{Token, lower, NextToken, AreBlanks, Begins, Consists, white}
 use Rattle.si_defs.specs.Grammar.{left_bracket, full_stop}
 use Rattle.si_defs.specs.declared.TokenKind.TheVariants.{Lower, Single}
 use Rattle.si_defs.proofs.TokenLaws.{skips_nothing}
 use Rattle.si_steps.specs.declared.limits.Limits.{Limits}
+use Rattle.si_steps.specs.Settings.{Setting}
 use Rattle.si_steps.specs.declared.word.Word.{Word}
 use Rattle.si_steps.specs.declared.word.Word.TheVariants.{Add, Load, Remove, Ask, Subsumers, Subsumed, Stats, Tree, Sample}
 use Rattle.si_steps.specs.Words.{command_text}
 use Rattle.si_steps.specs.Replies.{Reply}
+use Rattle.si_state.specs.States.{State}
 use Rattle.si_state.specs.Harvest.{Files}
 use Rattle.si_steps.specs.Loads.{Owed}
 use Rattle.si_steps.specs.Steps.{RightStep, long, later, silent, foreign, wrong, performed, loaded, right, memory_at_once, memory_behind, IsNoCommand}
@@ -35,8 +36,8 @@ no_command : (line : Bytes) → HasNoWord line → IsNoCommand line
 no_command line h command m = let n = command_next command line m in h (command_word command) n.0 n.1
 
 silent_where : (line : Bytes) → AreBlanks line → HasOneReply line []
-silent_where line b limits told state w = (silent (w, b) refl refl refl, λ other owed new r. only other owed new r) where
-  only : (other : Reply) (owed : Owed) (new : List Clause) → RightStep limits told state line other owed new → (other ≡ []) × (new ≡ state)
+silent_where line b setting told state w = (silent (w, b) refl refl refl, λ other owed new r. only other owed new r) where
+  only : (other : Reply) (owed : Owed) (new : State) → RightStep setting told state line other owed new → (other ≡ []) × (new ≡ state)
   only other owed new (long l r d n) = absurd (omega arith)
   only other owed new (later l r d n) = absurd (blank_word line b l.1.word l.1.rest l.1.first)
   only other owed new (silent s r d n) = (r, n)
@@ -46,8 +47,8 @@ silent_where line b limits told state w = (silent (w, b) refl refl refl, λ othe
   only other owed new (loaded l file m p) = absurd (no_command line (blank_word line b) (load file) m)
 
 later_where : (line : Bytes) → IsUnbuilt line → HasOneReply line (codes "! later" ∷ [])
-later_where line u limits told state w = (later (w, u) refl refl refl, λ other owed new r. only other owed new r) where
-  only : (other : Reply) (owed : Owed) (new : List Clause) → RightStep limits told state line other owed new → (other ≡ codes "! later" ∷ []) × (new ≡ state)
+later_where line u setting told state w = (later (w, u) refl refl refl, λ other owed new r. only other owed new r) where
+  only : (other : Reply) (owed : Owed) (new : State) → RightStep setting told state line other owed new → (other ≡ codes "! later" ∷ []) × (new ≡ state)
   only other owed new (long l r d n) = absurd (omega arith)
   only other owed new (later l r d n) = (r, n)
   only other owed new (silent s r d n) = absurd (blank_word line s.1 u.word u.rest u.first)
@@ -61,8 +62,8 @@ pub decided : (limits : Limits) (line : Bytes) → length line ≤ limits.line �
 decided limits line w u = record { short = w; built = u }
 
 foreign_where : (line : Bytes) → (IsUnbuilt line → ⊥) → AddsForeign line → IsNoCommand line → HasOneReply line (codes "! language" ∷ [])
-foreign_where line u a m limits told state w = (foreign (decided limits line w u) a m refl refl refl, λ other owed new r. only other owed new r) where
-  only : (other : Reply) (owed : Owed) (new : List Clause) → RightStep limits told state line other owed new → (other ≡ codes "! language" ∷ []) × (new ≡ state)
+foreign_where line u a m setting told state w = (foreign (decided setting.limits line w u) a m refl refl refl, λ other owed new r. only other owed new r) where
+  only : (other : Reply) (owed : Owed) (new : State) → RightStep setting told state line other owed new → (other ≡ codes "! language" ∷ []) × (new ≡ state)
   only other owed new (long l r d n) = absurd (omega arith)
   only other owed new (later l r d n) = absurd (u l.1)
   only other owed new (silent s r d n) = absurd (blank_word line s.1 Add a.3.0 a.3.1)
@@ -72,8 +73,8 @@ foreign_where line u a m limits told state w = (foreign (decided limits line w u
   only other owed new (loaded l file n p) = absurd (m (load file) n)
 
 wrong_where : (line : Bytes) → (IsUnbuilt line → ⊥) → (AreBlanks line → ⊥) → (AddsForeign line → ⊥) → IsNoCommand line → HasOneReply line (codes "! syntax" ∷ [])
-wrong_where line u b a m limits told state w = (wrong (decided limits line w u) (λ s. b s.1) a m refl refl refl, λ other owed new r. only other owed new r) where
-  only : (other : Reply) (owed : Owed) (new : List Clause) → RightStep limits told state line other owed new → (other ≡ codes "! syntax" ∷ []) × (new ≡ state)
+wrong_where line u b a m setting told state w = (wrong (decided setting.limits line w u) (λ s. b s.1) a m refl refl refl, λ other owed new r. only other owed new r) where
+  only : (other : Reply) (owed : Owed) (new : State) → RightStep setting told state line other owed new → (other ≡ codes "! syntax" ∷ []) × (new ≡ state)
   only other owed new (long l r d n) = absurd (omega arith)
   only other owed new (later l r d n) = absurd (u l.1)
   only other owed new (silent s r d n) = absurd (b s.1)
@@ -117,10 +118,10 @@ append_empty [] ys e = sym e
 append_empty (x ∷ xs) ys e = cc
 
 pub silent_only : SilentOnly
-silent_only limits told state reply owed new w (right r) = (silent_where (codes " ") one_space limits told state w).1 reply owed new r
-silent_only limits told state reply owed new w (memory_at_once s within r d n) = absurd (s (w, one_space))
-silent_only limits told state reply owed new w (memory_behind whole due next r within written left e some reply_is d n) =
-    absurd (some (append_empty written left (sym ((silent_where (codes " ") one_space limits told state w).1 whole due next r).0 ∙ e)))
+silent_only setting told state reply owed new w (right r) = (silent_where (codes " ") one_space setting told state w).1 reply owed new r
+silent_only setting told state reply owed new w (memory_at_once s within r d n) = absurd (s (w, one_space))
+silent_only setting told state reply owed new w (memory_behind whole due next r within written left e some reply_is d n) =
+    absurd (some (append_empty written left (sym ((silent_where (codes " ") one_space setting told state w).1 whole due next r).0 ∙ e)))
 
 pub open_comment_line : OpenComment
 open_comment_line =
@@ -133,23 +134,23 @@ unbuilt_word = later_where (codes "tree") (record { word = Tree; unbuilt = refl;
 pub unread_operands : UnreadOperands
 unread_operands = later_where (codes "tree '") (record { word = Tree; unbuilt = refl; rest = codes " '"; first = next Lower (codes "tree") (codes " '") refl })
 
-right_too_long : (limits : Limits) (told : Option Files) (state : List Clause) (line : Bytes) (reply : Reply) (owed : Owed) (new : List Clause) → limits.line < length line
-    → RightStep limits told state line reply owed new → (reply ≡ codes "! long" ∷ []) × (new ≡ state)
-right_too_long limits told state line reply owed new more (long l r d n) = (r, n)
-right_too_long limits told state line reply owed new more (later l r d n) = absurd (omega (arith, l.0))
-right_too_long limits told state line reply owed new more (silent s r d n) = absurd (omega (arith, s.0))
-right_too_long limits told state line reply owed new more (foreign l a m r d n) = absurd (omega (arith, l.short))
-right_too_long limits told state line reply owed new more (wrong l s a m r d n) = absurd (omega (arith, l.short))
-right_too_long limits told state line reply owed new more (performed l command m p d) = absurd (omega (arith, l.short))
-right_too_long limits told state line reply owed new more (loaded l file m p) = absurd (omega (arith, l.short))
+right_too_long : (setting : Setting) (told : Option Files) (state : State) (line : Bytes) (reply : Reply) (owed : Owed) (new : State) → setting.limits.line < length line
+    → RightStep setting told state line reply owed new → (reply ≡ codes "! long" ∷ []) × (new ≡ state)
+right_too_long setting told state line reply owed new more (long l r d n) = (r, n)
+right_too_long setting told state line reply owed new more (later l r d n) = absurd (omega (arith, l.0))
+right_too_long setting told state line reply owed new more (silent s r d n) = absurd (omega (arith, s.0))
+right_too_long setting told state line reply owed new more (foreign l a m r d n) = absurd (omega (arith, l.short))
+right_too_long setting told state line reply owed new more (wrong l s a m r d n) = absurd (omega (arith, l.short))
+right_too_long setting told state line reply owed new more (performed l command m p d) = absurd (omega (arith, l.short))
+right_too_long setting told state line reply owed new more (loaded l file m p) = absurd (omega (arith, l.short))
 
 pub too_long : TooLong
-too_long limits told state line reply owed new more (right r) = right_too_long limits told state line reply owed new more r
-too_long limits told state line reply owed new more (memory_at_once s within r d n) = absurd (omega arith)
-too_long limits told state line reply owed new more (memory_behind whole due next r within written left e some reply_is d n) = absurd (omega arith)
+too_long setting told state line reply owed new more (right r) = right_too_long setting told state line reply owed new more r
+too_long setting told state line reply owed new more (memory_at_once s within r d n) = absurd (omega arith)
+too_long setting told state line reply owed new more (memory_behind whole due next r within written left e some reply_is d n) = absurd (omega arith)
 
 pub too_long_blank : TooLongBlank
-too_long_blank limits told state more = long more refl refl refl
+too_long_blank setting told state more = long more refl refl refl
 
 first_line : Reply → Bytes
 first_line [] = []
@@ -161,8 +162,8 @@ third_byte bs = 0
 
 pub no_memory : NoMemoryWhereTooLong
 unfolding first_line third_byte
-no_memory limits told state line owed new more s =
-    differ 109 108 refl (ap (λ r. third_byte (first_line r)) (too_long limits told state line (codes "! memory" ∷ []) owed new more s).0)
+no_memory setting told state line owed new more s =
+    differ 109 108 refl (ap (λ r. third_byte (first_line r)) (too_long setting told state line (codes "! memory" ∷ []) owed new more s).0)
 
 -- ---- wrong lines
 pub unknown_word : UnknownWord

@@ -1,20 +1,21 @@
 -- The answer to a pattern, over one clause.
-use Rattle.std.specs.Prelude.{List, [], ◌∷◌, codes}
+use Rattle.std.specs.Prelude.{[], ◌∷◌, codes}
 use Rattle.si_defs.specs.Terms as terms
-use Rattle.si_defs.specs.Clauses.{Clause, Pattern, term_pattern}
+use Rattle.si_defs.specs.Clauses.{Pattern, term_pattern}
 use Rattle.si_defs.specs.Entries.{term_entry, state_entries}
 use Rattle.si_defs.specs.declared.Relation.TheVariants.{Instances, Generalizations}
 use Rattle.si_defs.specs.Variables.{of_pattern, of_entry}
+use Rattle.si_state.specs.States.{State}
 use Rattle.si_state.specs.Answers.{Hit, IsAnswer, Stands}
-use Rattle.si_steps.specs.declared.limits.Limits.{Limits}
+use Rattle.si_steps.specs.Settings.{Setting}
 use Rattle.si_steps.specs.Commands.{query}
 use Rattle.si_steps.specs.Steps.{Performs}
-use Rattle.si_examples.specs.Entries.{first_atom, fact, f_of_x, a, placed, positive_literal}
+use Rattle.si_examples.specs.Entries.{first_atom, fact, f_of_x, a, placed, positive_literal, keeping}
 use Rattle.si_examples.specs.Relations.{x, f_of_y}
 
 -- the clause c1: p(f(X),a)
-abbrev pub state : List Clause
-state = fact (codes "c1") first_atom ∷ []
+abbrev pub state : State
+state = keeping (fact (codes "c1") first_atom ∷ [])
 
 -- the pattern f(Y)
 abbrev pub pattern : Pattern
@@ -30,21 +31,21 @@ hit = record {
 
 -- of the literal, f(X) and a the second alone is answered
 abbrev pub OneHit : Type 0
-OneHit = IsAnswer Instances pattern (state_entries state) (hit ∷ [])
+OneHit = IsAnswer Instances pattern (state_entries state.clauses) (hit ∷ [])
 
 -- so the reply has its line, and then the number of hits
 abbrev pub AnsweredPattern : Type 0
-AnsweredPattern = (limits : Limits)
-    → Performs limits (query Instances pattern) state
+AnsweredPattern = (setting : Setting)
+    → Performs setting (query Instances pattern) state
     (codes "c1:1:1 {?Y -> X}" ∷ codes "end 1" ∷ []) state
 
 -- it may not be left out
 abbrev pub NoHitLeftOut : Type 0
-NoHitLeftOut = IsAnswer Instances pattern (state_entries state) [] → ⊥
+NoHitLeftOut = IsAnswer Instances pattern (state_entries state.clauses) [] → ⊥
 
 -- nor answered twice
 abbrev pub NoHitTwice : Type 0
-NoHitTwice = IsAnswer Instances pattern (state_entries state) (hit ∷ hit ∷ []) → ⊥
+NoHitTwice = IsAnswer Instances pattern (state_entries state.clauses) (hit ∷ hit ∷ []) → ⊥
 
 -- the entry a is no generalization of f(Y)
 abbrev pub NoGeneralization : Type 0

@@ -9,6 +9,7 @@ use Rattle.si_defs.specs.Substitutions.{IsAmong}
 use Rattle.si_defs.specs.declared.SymKind.TheVariants.{Word}
 use Rattle.si_defs.specs.declared.Side.TheVariants.{Predicate, Function}
 use Rattle.si_defs.specs.declared.NameKind.TheVariants as named
+use Rattle.si_state.specs.States.{State, empty_state}
 
 -- ---- the terms of the examples
 -- a word inside a term, with as many arguments as it has here
@@ -95,3 +96,7 @@ NoVariableEntry = (e : Entry)
 abbrev pub NoAtomEntry : Type 0
 NoAtomEntry = (path : List ℕ)
     → IsAmong (entries (fact (codes "c1") first_atom)) (placed (term_entry first_atom) path) → ⊥
+
+-- these clauses are kept
+abbrev pub keeping : List Clause → State
+keeping clauses = record empty_state { clauses = clauses }

@@ -1,12 +1,13 @@
 -- Lines, their replies and the state behind them.
-use Rattle.std.specs.Prelude.{◌≡◌, ℕ, ◌≤◌, ◌<◌, length, true, List, [], ◌∷◌, codes, Option}
+use Rattle.std.specs.Prelude.{◌≡◌, ◌≤◌, ◌<◌, length, true, List, [], ◌∷◌, codes, Option}
 use Rattle.si_defs.specs.Bytes.{Bytes}
 use Rattle.si_defs.specs.Clauses.{Clause}
 use Rattle.si_defs.specs.Symbols.{Symbol}
+use Rattle.si_state.specs.States.{State, Rules, empty_state, limited_to}
 use Rattle.si_state.specs.Acceptance.{IsTaken, Accepts, Refuses, misused, AllAgree}
 use Rattle.si_defs.specs.Entries.{clause_symbols, state_symbols}
 use Rattle.si_state.specs.Signatures.{CountsSymbols}
-use Rattle.si_steps.specs.declared.limits.Limits.{Limits}
+use Rattle.si_steps.specs.Settings.{Setting}
 use Rattle.si_steps.specs.Replies.{Reply, is_refusal}
 use Rattle.si_steps.specs.Commands.{add, remove, stats}
 use Rattle.si_state.specs.Harvest.{Files}
@@ -17,7 +18,7 @@ use Rattle.si_defs.specs.Terms as terms
 use Rattle.si_defs.specs.Clauses.{Term}
 use Rattle.si_defs.specs.declared.SymKind.TheVariants.{Word}
 use Rattle.si_defs.specs.declared.Side.TheVariants.{Function}
-use Rattle.si_examples.specs.Entries.{first_atom, second_atom, fact, predicate, constant, a}
+use Rattle.si_examples.specs.Entries.{first_atom, second_atom, fact, predicate, constant, a, keeping}
 
 -- the clause c1, and another of that name
 abbrev pub kept_clause : Clause
@@ -38,11 +39,11 @@ front_symbol (terms.app s ts) = s
 -- ---- lines that change nothing
 -- where the line is not too long, this reply is right and no other, and the state stays
 abbrev pub HasOneReply : Bytes → Reply → Type 0
-HasOneReply line reply = (limits : Limits) (told : Option Files) (state : List Clause)
-    → length line ≤ limits.line
-    → RightStep limits told state line reply nothing state
-    × ((other : Reply) (owed : Owed) (new : List Clause)
-    → RightStep limits told state line other owed new → (other ≡ reply) × (new ≡ state))
+HasOneReply line reply = (setting : Setting) (told : Option Files) (state : State)
+    → length line ≤ setting.limits.line
+    → RightStep setting told state line reply nothing state
+    × ((other : Reply) (owed : Owed) (new : State)
+    → RightStep setting told state line other owed new → (other ≡ reply) × (new ≡ state))
 
 -- a line of white space alone has no reply
 abbrev pub SilentLine : Type 0
@@ -54,9 +55,9 @@ SilentComment = HasOneReply (codes "% a") []
 
 -- and white space has none even where memory runs out
 abbrev pub SilentOnly : Type 0
-SilentOnly = (limits : Limits) (told : Option Files) (state : List Clause) (reply : Reply)
-    (owed : Owed) (new : List Clause) → 1 ≤ limits.line
-    → Step limits told state (codes " ") reply owed new → (reply ≡ []) × (new ≡ state)
+SilentOnly = (setting : Setting) (told : Option Files) (state : State) (reply : Reply)
+    (owed : Owed) (new : State) → 1 ≤ setting.limits.line
+    → Step setting told state (codes " ") reply owed new → (reply ≡ []) × (new ≡ state)
 
 -- a comment that is not closed is wrong
 abbrev pub OpenComment : Type 0
@@ -97,56 +98,57 @@ LanguageAlone = HasOneReply (codes "add fof.") (codes "! syntax" ∷ [])
 -- ---- lines that are too long
 -- a line that is too long has one reply, whatever it says, and the state stays
 abbrev pub TooLong : Type 0
-TooLong = (limits : Limits) (told : Option Files) (state : List Clause) (line : Bytes)
-    (reply : Reply) (owed : Owed) (new : List Clause) → limits.line < length line
-    → Step limits told state line reply owed new → (reply ≡ codes "! long" ∷ []) × (new ≡ state)
+TooLong = (setting : Setting) (told : Option Files) (state : State) (line : Bytes)
+    (reply : Reply) (owed : Owed) (new : State) → setting.limits.line < length line
+    → Step setting told state line reply owed new → (reply ≡ codes "! long" ∷ []) × (new ≡ state)
 
 -- also where it is blank
 abbrev pub TooLongBlank : Type 0
-TooLongBlank = (limits : Limits) (told : Option Files) (state : List Clause) → limits.line < 2
-    → RightStep limits told state (codes "  ") (codes "! long" ∷ []) nothing state
+TooLongBlank = (setting : Setting) (told : Option Files) (state : State) → setting.limits.line < 2
+    → RightStep setting told state (codes "  ") (codes "! long" ∷ []) nothing state
 
 -- a line that is too long does not run out of memory
 abbrev pub NoMemoryWhereTooLong : Type 0
-NoMemoryWhereTooLong = (limits : Limits) (told : Option Files) (state : List Clause) (line : Bytes)
-    (owed : Owed) (new : List Clause) → limits.line < length line
-    → Step limits told state line (codes "! memory" ∷ []) owed new → ⊥
+NoMemoryWhereTooLong = (setting : Setting) (told : Option Files) (state : State) (line : Bytes)
+    (owed : Owed) (new : State) → setting.limits.line < length line
+    → Step setting told state line (codes "! memory" ∷ []) owed new → ⊥
 
 -- ---- clauses that are added
 -- a clause of a new name is counted, and its three entries
 abbrev pub AddedClause : Type 0
-AddedClause = (limits : Limits) → 3 ≤ limits.entries
-    → Performs limits (add kept_clause) [] (codes "ok 1 3" ∷ []) (kept_clause ∷ [])
+AddedClause = (setting : Setting) → 3 ≤ setting.rules.entries
+    → Performs setting (add kept_clause) empty_state (codes "ok 1 3" ∷ []) (keeping (kept_clause ∷ []))
 
 -- a clause of a taken name is refused, and the state stays
 abbrev pub TakenName : Type 0
-TakenName = (limits : Limits)
-    → Performs limits (add of_taken_name) (kept_clause ∷ []) (codes "! taken c1" ∷ [])
-    (kept_clause ∷ [])
+TakenName = (setting : Setting)
+    → Performs setting (add of_taken_name) (keeping (kept_clause ∷ []))
+    (codes "! taken c1" ∷ []) (keeping (kept_clause ∷ []))
 
 -- the reply of an added clause is wrong there
 abbrev pub NoOtherReply : Type 0
-NoOtherReply = (limits : Limits) (new : List Clause)
-    → Performs limits (add of_taken_name) (kept_clause ∷ []) (codes "ok 1 3" ∷ []) new → ⊥
+NoOtherReply = (setting : Setting) (new : State)
+    → Performs setting (add of_taken_name) (keeping (kept_clause ∷ []))
+    (codes "ok 1 3" ∷ []) new → ⊥
 
 -- it is never accepted, whatever the state behind it
 abbrev pub NoSecondClause : Type 0
-NoSecondClause = (limit : ℕ) (new : List Clause)
-    → Accepts limit (kept_clause ∷ []) of_taken_name new → ⊥
+NoSecondClause = (rules : Rules) (new : List Clause)
+    → Accepts rules (kept_clause ∷ []) of_taken_name new → ⊥
 
 -- where two entries may be, three are too many
 abbrev pub FullIndex : Type 0
-FullIndex = (limits : Limits) → limits.entries ≡ 2
-    → Performs limits (add kept_clause) [] (codes "! full 3 2" ∷ []) []
+FullIndex = (setting : Setting) → setting.rules.entries ≡ 2
+    → Performs setting (add kept_clause) empty_state (codes "! full 3 2" ∷ []) empty_state
 
 -- one entry more than may be is not accepted
 abbrev pub NoClauseTooMany : Type 0
-NoClauseTooMany = (new : List Clause) → Accepts 2 [] kept_clause new → ⊥
+NoClauseTooMany = (new : List Clause) → Accepts (limited_to 2) [] kept_clause new → ⊥
 
 -- `a` with an argument stands against the constant `a`
 abbrev pub ClashingSymbol : Type 0
 ClashingSymbol =
-    Refuses 9 (kept_clause ∷ []) (fact (codes "d") a_of_b)
+    Refuses (limited_to 9) (kept_clause ∷ []) (fact (codes "d") a_of_b)
     (misused 0 (front_symbol a_of_b) (front_symbol a))
 
 -- the same symbols in two clauses agree
@@ -161,26 +163,27 @@ NoAgreement =
 -- ---- clauses that go
 -- the clause of this name goes, with its three entries
 abbrev pub RemovedClause : Type 0
-RemovedClause = (limits : Limits)
-    → Performs limits (remove kept_clause.name) (kept_clause ∷ []) (codes "ok 1 3" ∷ []) []
+RemovedClause = (setting : Setting)
+    → Performs setting (remove kept_clause.name) (keeping (kept_clause ∷ []))
+    (codes "ok 1 3" ∷ []) empty_state
 
 -- none has this name
 abbrev pub UnknownName : Type 0
-UnknownName = (limits : Limits)
-    → Performs limits (remove (record { kind = named.Int; text = codes "1" })) (kept_clause ∷ [])
-    (codes "! unknown 1" ∷ []) (kept_clause ∷ [])
+UnknownName = (setting : Setting)
+    → Performs setting (remove (record { kind = named.Int; text = codes "1" }))
+    (keeping (kept_clause ∷ [])) (codes "! unknown 1" ∷ []) (keeping (kept_clause ∷ []))
 
 -- a clause that is kept is not unknown
 abbrev pub NoUnknownName : Type 0
-NoUnknownName = (limits : Limits) (new : List Clause)
-    → Performs limits (remove kept_clause.name) (kept_clause ∷ []) (codes "! unknown c1" ∷ []) new
-    → ⊥
+NoUnknownName = (setting : Setting) (new : State)
+    → Performs setting (remove kept_clause.name) (keeping (kept_clause ∷ []))
+    (codes "! unknown c1" ∷ []) new → ⊥
 
 -- ---- counts
 -- nothing is kept
 abbrev pub NothingCounted : Type 0
-NothingCounted = (limits : Limits)
-    → Performs limits stats [] (codes "clauses 0 entries 0 symbols 0" ∷ []) []
+NothingCounted = (setting : Setting)
+    → Performs setting stats empty_state (codes "clauses 0 entries 0 symbols 0" ∷ []) empty_state
 
 -- a symbol that occurs is counted
 abbrev pub NoneUncounted : Type 0

@@ -3,11 +3,12 @@ use Rattle.std.specs.Prelude.{true, false, List, [], ◌∷◌, codes}
 use Rattle.si_defs.specs.Bytes.{Bytes}
 use Rattle.si_defs.specs.Clauses.{Term, Literal, Clause}
 use Rattle.si_defs.specs.declared.NameKind.TheVariants as named
+use Rattle.si_state.specs.States.{State}
 use Rattle.si_state.specs.Subsumption.{IsLeastMap, Subsumes}
-use Rattle.si_steps.specs.declared.limits.Limits.{Limits}
+use Rattle.si_steps.specs.Settings.{Setting}
 use Rattle.si_steps.specs.Commands.{subsumers, subsumed}
 use Rattle.si_steps.specs.Steps.{Performs}
-use Rattle.si_examples.specs.Entries.{predicate, constant, a}
+use Rattle.si_examples.specs.Entries.{predicate, constant, a, keeping}
 use Rattle.si_examples.specs.Relations.{x, y}
 
 -- a literal of one argument
@@ -67,12 +68,12 @@ pair = clause_with (codes "s") (atom_of (codes "p") x ∷ atom_of (codes "p") y 
 
 -- `subsumers p(a)` names it, with its map
 abbrev pub ToldSubsumer : Type 0
-ToldSubsumer = (limits : Limits)
-    → Performs limits (subsumers (atom_of (codes "p") a ∷ [])) (pair ∷ [])
-    (codes "s [1,1]" ∷ codes "end 1" ∷ []) (pair ∷ [])
+ToldSubsumer = (setting : Setting)
+    → Performs setting (subsumers (atom_of (codes "p") a ∷ [])) (keeping (pair ∷ []))
+    (codes "s [1,1]" ∷ codes "end 1" ∷ []) (keeping (pair ∷ []))
 
 -- The clause n: ~p(a) is not named at `subsumed p(X)`.
 abbrev pub NoSubsumedTold : Type 0
-NoSubsumedTold = (limits : Limits) (line : Bytes) (new : List Clause)
-    → Performs limits (subsumed (atom_of (codes "p") x ∷ []))
-    (clause_with (codes "n") negative ∷ []) (line ∷ codes "end 1" ∷ []) new → ⊥
+NoSubsumedTold = (setting : Setting) (line : Bytes) (new : State)
+    → Performs setting (subsumed (atom_of (codes "p") x ∷ []))
+    (keeping (clause_with (codes "n") negative ∷ [])) (line ∷ codes "end 1" ∷ []) new → ⊥

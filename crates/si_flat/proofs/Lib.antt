@@ -10,3 +10,4 @@ pub mod FlattenLaws
 pub mod ClauseWalks
 pub mod ClauseLaws
 pub mod VariableLaws
+pub mod RowLaws

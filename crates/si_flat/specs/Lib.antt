@@ -3,3 +3,4 @@ pub mod Numbered
 pub mod Flattened
 pub mod Flattening
 pub mod FlatClauses
+pub mod Rows

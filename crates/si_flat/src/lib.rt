@@ -10,12 +10,14 @@
 ghost use Rattle.std.specs.Prelude.{◌≡◌, ◌<◌, IfOk, length, take, drop};
 ghost use Rattle.si_flat.specs.Cells.{IsWhole, span};
 
+mod bindings;
 mod clauses;
 mod flatten;
 mod met;
 mod names;
 mod walk;
 
+pub use bindings::{Bindings, Pair, Pairs, Split};
 pub use clauses::flatten_clauses;
 pub use flatten::{EntryBuffer, FlatQuery, flatten_entry, flatten_pattern};
 pub use met::FIRST_EXTRA;

@@ -118,7 +118,7 @@ module _ {S V : Type 0} (same : V → V → Bool) (tells : (x y : V) → same x 
         by x true e = e
         by x false e = refl
 
-  -- ---- there is one canonical match
+  -- ---- there is at most one canonical match
   same_lists : (bs cs : List (V × Term S V)) → lefts bs ≡ lefts cs → AreDistinct (lefts bs) → AllByRecursion (λ x. image same bs x ≡ image same cs x) (lefts bs) → bs ≡ cs
   same_lists [] [] e d h = refl
   same_lists [] (c ∷ cs) e d h = cc

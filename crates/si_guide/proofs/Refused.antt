@@ -1,14 +1,15 @@
 -- What an index refuses, and not for want of memory, is refused by the definition.
-use Rattle.std.proofs.Common.{◌≡◌, ℕ, List, refl}
+use Rattle.std.proofs.Common.{◌≡◌, List, refl}
 use Rattle.si_defs.specs.Clauses.{Clause}
+use Rattle.si_state.specs.States.{Rules}
 use Rattle.si_state.specs.Acceptance.{Refusal, taken, misused, full, Refuses}
 use Rattle.si_sign.specs.Stores.{Rejects}
 use Rattle.si_sign.specs.declared.faults.AddFault.{AddFault}
 use Rattle.si_sign.specs.declared.faults.AddFault.TheVariants.{Taken, Clash, Full, Memory}
 
-pub refused : (limit : ℕ) (state : List Clause) (clause : Clause) (why : AddFault) → Rejects limit state clause why → (why ≡ Memory → ⊥)
-    → (refusal : Refusal) × Refuses limit state clause refusal
-refused limit state clause Taken rejects other = (taken, rejects)
-refused limit state clause (Clash c) rejects other = (misused c.entry rejects.0 rejects.1, rejects.2)
-refused limit state clause (Full n most) rejects other = (full n, rejects.0)
-refused limit state clause Memory rejects other = absurd (other refl)
+pub refused : (rules : Rules) (state : List Clause) (clause : Clause) (why : AddFault) → Rejects rules state clause why → (why ≡ Memory → ⊥)
+    → (refusal : Refusal) × Refuses rules state clause refusal
+refused rules state clause Taken rejects other = (taken, rejects)
+refused rules state clause (Clash c) rejects other = (misused c.entry rejects.0 rejects.1, rejects.2)
+refused rules state clause (Full n most) rejects other = (full n, rejects.0)
+refused rules state clause Memory rejects other = absurd (other refl)

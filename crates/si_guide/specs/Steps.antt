@@ -8,6 +8,7 @@ use Rattle.si_defs.specs.Grammar.{clause_item}
 use Rattle.si_defs.specs.Symbols.{Numbering}
 use Rattle.si_defs.specs.Texts.{BeginsWithItem}
 use Rattle.si_defs.specs.declared.Relation.{Relation}
+use Rattle.si_state.specs.States.{limited_to}
 use Rattle.si_state.specs.Acceptance.{Refusal, Accepts, Refuses}
 use Rattle.si_term.specs.Meaning.{clause_of}
 use Rattle.si_term.specs.declared.clause.Clause.{Clause}
@@ -36,8 +37,9 @@ FlattensBoth pairs pattern e None = FlattensEntry pairs e None
 -- the index keeps this clause alone; or the clause is refused
 abbrev pub KeepsClause : ℕ → clauses.Clause → Option Kept → Type 0
 KeepsClause limit clause (Some index) =
-    Accepts limit [] clause index.clauses × (index.limit ≡ limit)
-KeepsClause limit clause None = (refusal : Refusal) × Refuses limit [] clause refusal
+    Accepts (limited_to limit) [] clause index.clauses × (index.rules ≡ limited_to limit)
+KeepsClause limit clause None =
+    (refusal : Refusal) × Refuses (limited_to limit) [] clause refusal
 
 -- the first of the kept entries that stand in the relation is shown; or none stands in it
 abbrev pub ShowsFirst : Kept → Relation → Pattern → Option Shown → Type 0

@@ -1,15 +1,16 @@
 -- Faults that are passed on.
-use Rattle.std.proofs.Common.{◌≡◌, ℕ, sym, subst, inl, inr}
+use Rattle.std.proofs.Common.{◌≡◌, sym, subst, inl, inr}
 use Rattle.std.specs.Prelude.{Bool, Result, Ok, Err, IfErr, IsErrAnd}
+use Rattle.si_state.specs.States.{Rules}
 use Rattle.si_state.specs.Harvest.{Fault}
 use Rattle.si_io.specs.Library.{Counts}
 use Rattle.si_harvest.specs.declared.faults.HarvestFault.{HarvestFault}
 use Rattle.si_harvest.specs.Faults.{Explains, HasFaultCause, HasLoadCause}
 
 -- the fault is told for another reason
-pub blames_weaker : (limit : ℕ) (e : HarvestFault) (P Q : Fault → Type 0) → ((f : Fault) → P f → Q f) → Explains limit e P → Explains limit e Q
-blames_weaker limit e P Q f (inl m) = inl m
-blames_weaker limit e P Q f (inr t) = inr (record { fault = t.fault; told = t.told; holds = f t.fault t.holds })
+pub blames_weaker : (rules : Rules) (e : HarvestFault) (P Q : Fault → Type 0) → ((f : Fault) → P f → Q f) → Explains rules e P → Explains rules e Q
+blames_weaker rules e P Q f (inl m) = inl m
+blames_weaker rules e P Q f (inr t) = inr (record { fault = t.fault; told = t.told; holds = f t.fault t.holds })
 
 -- the same fault
 pub err_again : {T E : Type 0} (r : Result T E) (e : E) (P : E → Type 0) → IsErrAnd r (λ x. x ≡ e) → P e → IfErr r P

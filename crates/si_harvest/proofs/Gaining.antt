@@ -4,6 +4,7 @@ use Rattle.std.proofs.lemmas.List.{length-map}
 use Rattle.std.proofs.Math.Seq.{take-append_seam}
 use Rattle.si_defs.specs.Clauses.{Literal, Clause, IsSoundClause}
 use Rattle.si_defs.specs.Entries.{entries, entries_from, literal_entries, placed_in, state_entries}
+use Rattle.si_state.specs.States.{Rules}
 use Rattle.si_state.specs.Acceptance.{Accepts}
 use Rattle.si_state.specs.Harvest.{AreAccepted}
 use Rattle.si_sign.proofs.StoreLaws.{count_append}
@@ -20,40 +21,40 @@ some_entries c s = by c.literals s.some where
   by [] h = absurd (h refl)
   by (l ∷ ls) h = omega (arith, length-append (literal_entries 1 l) (entries_from (1 + 1) ls))
 
-accepted-append : (limit : ℕ) (start gained : List Clause) (c : Clause) → AreAccepted limit start gained
-    → Accepts limit (start ++ gained) c ((start ++ gained) ++ c ∷ []) → AreAccepted limit start (gained ++ c ∷ [])
-accepted-append limit start [] c h a =
-    (subst (λ l. Accepts limit l c (l ++ c ∷ [])) (append-nil start) a, tt)
-accepted-append limit start (d ∷ ds) c h a =
-    (h.0, accepted-append limit (start ++ d ∷ []) ds c h.1 (subst (λ l. Accepts limit l c (l ++ c ∷ [])) (sym (append_assoc start (d ∷ []) ds)) a))
+accepted-append : (rules : Rules) (start gained : List Clause) (c : Clause) → AreAccepted rules start gained
+    → Accepts rules (start ++ gained) c ((start ++ gained) ++ c ∷ []) → AreAccepted rules start (gained ++ c ∷ [])
+accepted-append rules start [] c h a =
+    (subst (λ l. Accepts rules l c (l ++ c ∷ [])) (append-nil start) a, tt)
+accepted-append rules start (d ∷ ds) c h a =
+    (h.0, accepted-append rules (start ++ d ∷ []) ds c h.1 (subst (λ l. Accepts rules l c (l ++ c ∷ [])) (sym (append_assoc start (d ∷ []) ds)) a))
 
-pub counts_more : (loaded : Loaded) (limit : ℕ) (state state' : List Clause) (c : Clause) (n : ℕ) → IsSoundClause c → Accepts limit state c state' → n ≡ length (entries c)
+pub counts_more : (loaded : Loaded) (rules : Rules) (state state' : List Clause) (c : Clause) (n : ℕ) → IsSoundClause c → Accepts rules state c state' → n ≡ length (entries c)
     → CountsNoMore loaded state → CountsNoMore (record { clauses = loaded.clauses + 1; entries = loaded.entries + n }) state'
-counts_more loaded limit state state' c n s a e h = record {
+counts_more loaded rules state state' c n s a e h = record {
   clauses = omega (arith, h.clauses, some_entries c s, e);
   entries = omega (arith, h.entries, e, ap (λ l. length (state_entries l)) a.added, count_append state (c ∷ []), one_entries c);
 }
 
-pub gained_more : (loaded : Loaded) (limit : ℕ) (start state state' : List Clause) (c : Clause) (n : ℕ) → Accepts limit state c state' → n ≡ length (entries c)
-    → Gained limit start loaded state → Gained limit start (record { clauses = loaded.clauses + 1; entries = loaded.entries + n }) state'
-gained_more loaded limit start state state' c n a e h = record {
+pub gained_more : (loaded : Loaded) (rules : Rules) (start state state' : List Clause) (c : Clause) (n : ℕ) → Accepts rules state c state' → n ≡ length (entries c)
+    → Gained rules start loaded state → Gained rules start (record { clauses = loaded.clauses + 1; entries = loaded.entries + n }) state'
+gained_more loaded rules start state state' c n a e h = record {
   gained = h.gained ++ c ∷ [];
   whole = a.added ∙ ap (λ l. l ++ c ∷ []) h.whole ∙ append_assoc start h.gained (c ∷ []);
-  accepted = accepted-append limit start h.gained c h.accepted
-      (subst (λ l. Accepts limit l c (l ++ c ∷ [])) h.whole (subst (Accepts limit state c) a.added a));
+  accepted = accepted-append rules start h.gained c h.accepted
+      (subst (λ l. Accepts rules l c (l ++ c ∷ [])) h.whole (subst (Accepts rules state c) a.added a));
   clauses = omega (arith, h.clauses, length-append h.gained (c ∷ []));
   entries = omega (arith, h.entries, e, count_append h.gained (c ∷ []), one_entries c);
 }
 
-pub gained_nothing : (limit : ℕ) (state : List Clause) → Gained limit state (record { clauses = 0; entries = 0 }) state
-gained_nothing limit state = record { gained = []; whole = sym (append-nil state); accepted = tt; clauses = refl; entries = refl }
+pub gained_nothing : (rules : Rules) (state : List Clause) → Gained rules state (record { clauses = 0; entries = 0 }) state
+gained_nothing rules state = record { gained = []; whole = sym (append-nil state); accepted = tt; clauses = refl; entries = refl }
 
 pub counts_nothing : (state : List Clause) → CountsNoMore (record { clauses = 0; entries = 0 }) state
 counts_nothing state = record { clauses = omega arith; entries = omega arith }
 
 -- what was gained is taken away
-pub rolled_back : (limit : ℕ) (start state left : List Clause) (loaded : Loaded) → Gained limit start loaded state → left ≡ take (length state - loaded.clauses) state → left ≡ start
-rolled_back limit start state left loaded h e = e ∙ ap₂ take count h.whole ∙ take-append_seam start h.gained where
+pub rolled_back : (rules : Rules) (start state left : List Clause) (loaded : Loaded) → Gained rules start loaded state → left ≡ take (length state - loaded.clauses) state → left ≡ start
+rolled_back rules start state left loaded h e = e ∙ ap₂ take count h.whole ∙ take-append_seam start h.gained where
   count : length state - loaded.clauses ≡ length start
   count = omega (arith, ap (λ l. length l) h.whole, length-append start h.gained, h.clauses)
 

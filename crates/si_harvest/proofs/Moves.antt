@@ -6,6 +6,7 @@ use Rattle.si_defs.specs.Clauses.{Name, Clause}
 use Rattle.si_defs.specs.Tokens.{AreBlanks}
 use Rattle.si_defs.specs.Grammar.{Selection, all, only, clause_item, include_item}
 use Rattle.si_defs.specs.Texts.{BeginsWithItem}
+use Rattle.si_state.specs.States.{Rules}
 use Rattle.si_state.specs.Acceptance.{Accepts}
 use Rattle.si_state.specs.Harvest.{Files, Bounds, Event, ask, attempt, Fault, cycle, too_deep, too_many, missing, too_big, failed, foreign, malformed, rejected, tried, MayAsk, IsBarred, IsWithheld, narrowed, IsSelected, Spot, IsStuck, IsRejected, Loads, barred, withheld}
 use Rattle.si_state.proofs.HarvestLaws.{tried-append}
@@ -30,48 +31,48 @@ front : (f : OpenFile) (fs : List OpenFile) (ss : List Spot) → Stand (f ∷ fs
 front f fs [] h = absurd h
 front f fs (s ∷ ss) h = record { spot = s; outer = ss; first = refl; own = h.0; others = h.1 }
 
-module _ (told : Option Files) (bounds : Bounds) (limit : ℕ) (start : List Clause) (file : Bytes) where
+module _ (told : Option Files) (bounds : Bounds) (rules : Rules) (start : List Clause) (file : Bytes) where
   Now : Reading → List Clause → Type 0
-  Now reading state = IsUnderway told bounds limit start file reading state
+  Now reading state = IsUnderway told bounds rules start file reading state
 
   -- the innermost file of a load that is under way
   pub now_front : (old : Reading) (state : List Clause) (items : List OpenFile) (f : OpenFile) → old.files.items ≡ items ++ f ∷ []
-      → (u : IsUnderway told bounds limit start file old state) → Front f (reverse items) u.spots
+      → (u : IsUnderway told bounds rules start file old state) → Front f (reverse items) u.spots
   now_front old state items f e u =
       front f (reverse items) u.spots (subst (λ fs. Stand fs u.spots) (ap (λ l. reverse l) e ∙ innermost items f) u.stand)
 
   -- The load goes on behind these events.
-  pub goes_on : (old new : Reading) (state state' : List Clause) (gained : List Event) (spots : List Spot) (u : IsUnderway told bounds limit start file old state)
+  pub goes_on : (old new : Reading) (state state' : List Clause) (gained : List Event) (spots : List Spot) (u : IsUnderway told bounds rules start file old state)
       → Stand (reverse new.files.items) spots → state' ≡ state ++ tried gained
-      → ((files : Files) → told ≡ Some files → (es : List Event) (fault : Option Fault) → Finishes files bounds limit spots new.fetches state' es fault
-      → Finishes files bounds limit u.spots old.fetches state (gained ++ es) fault)
-      → IsUnderway told bounds limit start file new state'
+      → ((files : Files) → told ≡ Some files → (es : List Event) (fault : Option Fault) → Finishes files bounds rules spots new.fetches state' es fault
+      → Finishes files bounds rules u.spots old.fetches state (gained ++ es) fault)
+      → IsUnderway told bounds rules start file new state'
   goes_on old new state state' gained spots u stand whole finishes = record {
     spots = spots;
     stand = stand;
     events = u.events ++ gained;
     gained = whole ∙ ap (λ l. l ++ tried gained) u.gained ∙ append_assoc start (tried u.events) (tried gained) ∙ ap (λ l. start ++ l) (sym (tried-append u.events gained));
-    goes_on = λ files t es fault h. subst (λ l. Loads files bounds limit start file l fault) (sym (append_assoc u.events gained es)) (u.goes_on files t (gained ++ es) fault (finishes files t es fault h));
+    goes_on = λ files t es fault h. subst (λ l. Loads files bounds rules start file l fault) (sym (append_assoc u.events gained es)) (u.goes_on files t (gained ++ es) fault (finishes files t es fault h));
   }
 
   -- or it ends with a fault
-  pub has_fault : (old : Reading) (state : List Clause) (gained : List Event) (fault : Fault) (u : IsUnderway told bounds limit start file old state)
-      → ((files : Files) → told ≡ Some files → Finishes files bounds limit u.spots old.fetches state gained (Some fault))
-      → HasFault told bounds limit start file fault
+  pub has_fault : (old : Reading) (state : List Clause) (gained : List Event) (fault : Fault) (u : IsUnderway told bounds rules start file old state)
+      → ((files : Files) → told ≡ Some files → Finishes files bounds rules u.spots old.fetches state gained (Some fault))
+      → HasFault told bounds rules start file fault
   has_fault old state gained fault u finishes = by told refl where
-    by : (t : Option Files) → told ≡ t → IfSome t (λ files. (events : List Event) × Loads files bounds limit start file events (Some fault))
+    by : (t : Option Files) → told ≡ t → IfSome t (λ files. (events : List Event) × Loads files bounds rules start file events (Some fault))
     by None e = tt
     by (Some files) e = (u.events ++ gained, u.goes_on files e gained (Some fault) (finishes files e))
 
   -- the file is at its end
   pub at_end : (old new : Reading) (state : List Clause) (items : List OpenFile) (f : OpenFile) → old.files.items ≡ items ++ f ∷ [] → AreBlanks (drop f.at f.bytes.items)
-      → new.files.items ≡ items → new.fetches ≡ old.fetches → IsUnderway told bounds limit start file old state → IsUnderway told bounds limit start file new state
+      → new.files.items ≡ items → new.fetches ≡ old.fetches → IsUnderway told bounds rules start file old state → IsUnderway told bounds rules start file new state
   at_end old new state items f e b same made u =
       let w = now_front old state items f e u in
       goes_on old new state state [] w.outer u (subst (λ fs. Stand (reverse fs) w.outer) (sym same) w.others) (sym (append-nil state))
-      (λ files t es fault h. subst (λ ss. Finishes files bounds limit ss old.fetches state es fault) (sym w.first)
-      (finishes_end files bounds limit w.spot w.outer old.fetches state es fault (subst AreBlanks (sym w.own.left) b)
-      (subst (λ n. Finishes files bounds limit w.outer n state es fault) made h)))
+      (λ files t es fault h. subst (λ ss. Finishes files bounds rules ss old.fetches state es fault) (sym w.first)
+      (finishes_end files bounds rules w.spot w.outer old.fetches state es fault (subst AreBlanks (sym w.own.left) b)
+      (subst (λ n. Finishes files bounds rules w.outer n state es fault) made h)))
 
   -- the spot behind an item
   behind : (f : OpenFile) (outer : List Spot) (s : Spot) (end : ℕ) → IsAtSpot f outer s → IsAtSpot (record f { at = end }) outer (record s { rest = drop end f.bytes.items })
@@ -80,8 +81,8 @@ module _ (told : Option Files) (bounds : Bounds) (limit : ℕ) (start : List Cla
   -- a clause is passed over, or accepted
   pub takes : (old new : Reading) (state state' : List Clause) (items : List OpenFile) (f : OpenFile) (end : ℕ) (clause : Clause) → old.files.items ≡ items ++ f ∷ []
       → BeginsWithItem (drop f.at f.bytes.items) (clause_item clause) (drop end f.bytes.items)
-      → new.files.items ≡ items ++ record f { at = end } ∷ [] → new.fetches ≡ old.fetches → TriesClause limit new.files.items clause state state'
-      → IsUnderway told bounds limit start file old state → IsUnderway told bounds limit start file new state'
+      → new.files.items ≡ items ++ record f { at = end } ∷ [] → new.fetches ≡ old.fetches → TriesClause rules new.files.items clause state state'
+      → IsUnderway told bounds rules start file old state → IsUnderway told bounds rules start file new state'
   takes old new state state' items f end clause e b same made t u = by t where
     w : Front f (reverse items) u.spots
     w = now_front old state items f e u
@@ -95,27 +96,27 @@ module _ (told : Option Files) (bounds : Bounds) (limit : ℕ) (start : List Cla
     item : BeginsWithItem w.spot.rest (clause_item clause) (drop end f.bytes.items)
     item = subst (λ l. BeginsWithItem l (clause_item clause) (drop end f.bytes.items)) (sym w.own.left) b
 
-    by : ((is_selected new.files.items clause.name ≡ false) × (state' ≡ state)) ⊎ ((is_selected new.files.items clause.name ≡ true) × Accepts limit state clause state')
-        → IsUnderway told bounds limit start file new state'
+    by : ((is_selected new.files.items clause.name ≡ false) × (state' ≡ state)) ⊎ ((is_selected new.files.items clause.name ≡ true) × Accepts rules state clause state')
+        → IsUnderway told bounds rules start file new state'
     by (inl (no_one, stays)) =
         let unselected : IsSelected w.spot.around clause.name → ⊥ = stand_unselected (reverse new.files.items) (next ∷ w.outer) clause.name stands (selected-reverse new.files.items clause.name ∙ no_one) in
         goes_on old new state state' [] (next ∷ w.outer) u stands (stays ∙ sym (append-nil state))
-        (λ files t es fault h. subst (λ ss. Finishes files bounds limit ss old.fetches state es fault) (sym w.first)
-        (finishes_over files bounds limit w.spot w.outer old.fetches state clause (drop end f.bytes.items) es fault item unselected
-        (subst (λ n. Finishes files bounds limit (next ∷ w.outer) n state es fault) made (subst (λ l. Finishes files bounds limit (next ∷ w.outer) new.fetches l es fault) stays h))))
+        (λ files t es fault h. subst (λ ss. Finishes files bounds rules ss old.fetches state es fault) (sym w.first)
+        (finishes_over files bounds rules w.spot w.outer old.fetches state clause (drop end f.bytes.items) es fault item unselected
+        (subst (λ n. Finishes files bounds rules (next ∷ w.outer) n state es fault) made (subst (λ l. Finishes files bounds rules (next ∷ w.outer) new.fetches l es fault) stays h))))
     by (inr (each, accepts)) =
         let selected : IsSelected w.spot.around clause.name = stand_selected (reverse new.files.items) (next ∷ w.outer) clause.name stands (selected-reverse new.files.items clause.name ∙ each) in
-        let added : Accepts limit state clause (state ++ clause ∷ []) = subst (Accepts limit state clause) accepts.added accepts in
+        let added : Accepts rules state clause (state ++ clause ∷ []) = subst (Accepts rules state clause) accepts.added accepts in
         goes_on old new state state' (attempt clause ∷ []) (next ∷ w.outer) u stands accepts.added
-        (λ files t es fault h. subst (λ ss. Finishes files bounds limit ss old.fetches state (attempt clause ∷ es) fault) (sym w.first)
-        (finishes_accepted files bounds limit w.spot w.outer old.fetches state clause (drop end f.bytes.items) es fault item selected added
-        (subst (λ n. Finishes files bounds limit (next ∷ w.outer) n (state ++ clause ∷ []) es fault) made (subst (λ l. Finishes files bounds limit (next ∷ w.outer) new.fetches l es fault) accepts.added h))))
+        (λ files t es fault h. subst (λ ss. Finishes files bounds rules ss old.fetches state (attempt clause ∷ es) fault) (sym w.first)
+        (finishes_accepted files bounds rules w.spot w.outer old.fetches state clause (drop end f.bytes.items) es fault item selected added
+        (subst (λ n. Finishes files bounds rules (next ∷ w.outer) n (state ++ clause ∷ []) es fault) made (subst (λ l. Finishes files bounds rules (next ∷ w.outer) new.fetches l es fault) accepts.added h))))
 
   -- a clause is refused
   pub is_refused : (old : Reading) (state : List Clause) (items : List OpenFile) (f : OpenFile) (end : ℕ) (clause : Clause) (fault : Fault) → old.files.items ≡ items ++ f ∷ []
       → BeginsWithItem (drop f.at f.bytes.items) (clause_item clause) (drop end f.bytes.items)
-      → is_selected (items ++ record f { at = end } ∷ []) clause.name ≡ true → IsRejected limit state clause fault
-      → IsUnderway told bounds limit start file old state → HasFault told bounds limit start file fault
+      → is_selected (items ++ record f { at = end } ∷ []) clause.name ≡ true → IsRejected rules state clause fault
+      → IsUnderway told bounds rules start file old state → HasFault told bounds rules start file fault
   is_refused old state items f end clause fault e b each r u = by fault r where
     w : Front f (reverse items) u.spots
     w = now_front old state items f e u
@@ -135,12 +136,12 @@ module _ (told : Option Files) (bounds : Bounds) (limit : ℕ) (start : List Cla
     selected : IsSelected w.spot.around clause.name
     selected = stand_selected (reverse moved) (next ∷ w.outer) clause.name stands (selected-reverse moved clause.name ∙ each)
 
-    by : (x : Fault) → IsRejected limit state clause x → HasFault told bounds limit start file x
+    by : (x : Fault) → IsRejected rules state clause x → HasFault told bounds rules start file x
     by (rejected c refusal) (same, refuses) =
         has_fault old state (attempt clause ∷ []) (rejected c refusal) u
-        (λ files t. subst (λ ss. Finishes files bounds limit ss old.fetches state (attempt clause ∷ []) (Some (rejected c refusal))) (sym w.first)
-        (subst (λ d. Finishes files bounds limit (w.spot ∷ w.outer) old.fetches state (attempt clause ∷ []) (Some (rejected d refusal))) (sym same)
-        (finishes_refused files bounds limit w.spot w.outer old.fetches state clause (drop end f.bytes.items) refusal item selected refuses)))
+        (λ files t. subst (λ ss. Finishes files bounds rules ss old.fetches state (attempt clause ∷ []) (Some (rejected c refusal))) (sym w.first)
+        (subst (λ d. Finishes files bounds rules (w.spot ∷ w.outer) old.fetches state (attempt clause ∷ []) (Some (rejected d refusal))) (sym same)
+        (finishes_refused files bounds rules w.spot w.outer old.fetches state clause (drop end f.bytes.items) refusal item selected refuses)))
     by (cycle x) h = absurd h
     by (too_deep x) h = absurd h
     by too_many h = absurd h
@@ -152,12 +153,12 @@ module _ (told : Option Files) (bounds : Bounds) (limit : ℕ) (start : List Cla
 
   -- no item stands there
   pub is_stuck : (old : Reading) (state : List Clause) (items : List OpenFile) (f : OpenFile) (fault : Fault) → old.files.items ≡ items ++ f ∷ []
-      → ((s : Spot) (outer : List Spot) → IsAtSpot f outer s → IsStuck s fault) → IsUnderway told bounds limit start file old state → HasFault told bounds limit start file fault
+      → ((s : Spot) (outer : List Spot) → IsAtSpot f outer s → IsStuck s fault) → IsUnderway told bounds rules start file old state → HasFault told bounds rules start file fault
   is_stuck old state items f fault e h u =
       let w = now_front old state items f e u in
       has_fault old state [] fault u
-      (λ files t. subst (λ ss. Finishes files bounds limit ss old.fetches state [] (Some fault)) (sym w.first)
-      (finishes_stuck files bounds limit w.spot w.outer old.fetches state fault (h w.spot w.outer w.own)))
+      (λ files t. subst (λ ss. Finishes files bounds rules ss old.fetches state [] (Some fault)) (sym w.first)
+      (finishes_stuck files bounds rules w.spot w.outer old.fetches state fault (h w.spot w.outer w.own)))
 
   -- ---- includes
   narrows : (selection : Selection) (chosen : Option NameSet) (around : List (List Name)) → Lists selection chosen → Narrows chosen around (narrowed selection around)
@@ -170,7 +171,7 @@ module _ (told : Option Files) (bounds : Bounds) (limit : ℕ) (start : List Cla
   pub enters : (old middle new : Reading) (state : List Clause) (items : List OpenFile) (f : OpenFile) (end : ℕ) (name : Bytes) (selection : Selection) (chosen : Option NameSet)
       → old.files.items ≡ items ++ f ∷ [] → BeginsWithItem (drop f.at f.bytes.items) (include_item name selection) (drop end f.bytes.items)
       → Lists selection chosen → middle.files.items ≡ items ++ record f { at = end } ∷ [] → middle.fetches ≡ old.fetches → OpensInside told bounds name chosen middle new
-      → IsUnderway told bounds limit start file old state → IsUnderway told bounds limit start file new state
+      → IsUnderway told bounds rules start file old state → IsUnderway told bounds rules start file new state
   enters old middle new state items f end name selection chosen e b lists same made h u = by told refl where
     w : Front f (reverse items) u.spots
     w = now_front old state items f e u
@@ -208,13 +209,13 @@ module _ (told : Option Files) (bounds : Bounds) (limit : ℕ) (start : List Cla
     may : MayAsk bounds w.spot.opened old.fetches name
     may = subst (λ l. MayAsk bounds l old.fetches name) (sym names) (subst (λ n. MayAsk bounds (opened middle.files.items) n name) made h.may)
 
-    by : (t : Option Files) → told ≡ t → IsUnderway told bounds limit start file new state
+    by : (t : Option Files) → told ≡ t → IsUnderway told bounds rules start file new state
     by t same_told =
         goes_on old new state state (ask name ∷ []) (inner ∷ next ∷ w.outer) u all_stand (sym (append-nil state))
-        (λ files q es fault k. subst (λ ss. Finishes files bounds limit ss old.fetches state (ask name ∷ es) fault) (sym w.first)
-        (finishes_opened files bounds limit w.spot w.outer old.fetches state name h.file.bytes.items selection (drop end f.bytes.items) es fault item may
+        (λ files q es fault k. subst (λ ss. Finishes files bounds rules ss old.fetches state (ask name ∷ es) fault) (sym w.first)
+        (finishes_opened files bounds rules w.spot w.outer old.fetches state name h.file.bytes.items selection (drop end f.bytes.items) es fault item may
         (given files q) h.given.small
-        (subst (λ n. Finishes files bounds limit (inner ∷ next ∷ w.outer) n state es fault) count k))) where
+        (subst (λ n. Finishes files bounds rules (inner ∷ next ∷ w.outer) n state es fault) count k))) where
           given : (files : Files) → told ≡ Some files → files name ≡ Some h.file.bytes.items
           given files q = subst (λ x. IfSome x (λ fs. fs name ≡ Some h.file.bytes.items)) q h.given.given
 
@@ -222,10 +223,10 @@ module _ (told : Option Files) (bounds : Bounds) (limit : ℕ) (start : List Cla
   pub is_unopened : (old middle : Reading) (state : List Clause) (items : List OpenFile) (f : OpenFile) (end : ℕ) (name : Bytes) (selection : Selection) (fault : Fault)
       → old.files.items ≡ items ++ f ∷ [] → BeginsWithItem (drop f.at f.bytes.items) (include_item name selection) (drop end f.bytes.items)
       → middle.files.items ≡ items ++ record f { at = end } ∷ [] → middle.fetches ≡ old.fetches → IsUnopened told bounds name middle fault
-      → IsUnderway told bounds limit start file old state → HasFault told bounds limit start file fault
+      → IsUnderway told bounds rules start file old state → HasFault told bounds rules start file fault
   is_unopened old middle state items f end name selection fault e b same made h u =
       has_fault old state (ask name ∷ []) fault u
-      (λ files t. subst (λ ss. Finishes files bounds limit ss old.fetches state (ask name ∷ []) (Some fault)) (sym w.first) (by files t h)) where
+      (λ files t. subst (λ ss. Finishes files bounds rules ss old.fetches state (ask name ∷ []) (Some fault)) (sym w.first) (by files t h)) where
         w : Front f (reverse items) u.spots
         w = now_front old state items f e u
 
@@ -242,12 +243,12 @@ module _ (told : Option Files) (bounds : Bounds) (limit : ℕ) (start : List Cla
         item = subst (λ l. BeginsWithItem l (include_item name selection) (drop end f.bytes.items)) (sym w.own.left) b
 
         by : (files : Files) → told ≡ Some files → IsUnopened told bounds name middle fault
-            → Finishes files bounds limit (w.spot ∷ w.outer) old.fetches state (ask name ∷ []) (Some fault)
+            → Finishes files bounds rules (w.spot ∷ w.outer) old.fetches state (ask name ∷ []) (Some fault)
         by files t (inl no_one) =
-            finishes_barred files bounds limit w.spot w.outer old.fetches state name selection (drop end f.bytes.items) fault item
+            finishes_barred files bounds rules w.spot w.outer old.fetches state name selection (drop end f.bytes.items) fault item
             (subst (λ l. IsBarred bounds l old.fetches name fault) names (subst (λ n. IsBarred bounds (opened middle.files.items) n name fault) made no_one))
         by files t (inr (may, no_file)) =
-            finishes_withheld files bounds limit w.spot w.outer old.fetches state name selection (drop end f.bytes.items) fault item
+            finishes_withheld files bounds rules w.spot w.outer old.fetches state name selection (drop end f.bytes.items) fault item
             (subst (λ l. MayAsk bounds l old.fetches name) names (subst (λ n. MayAsk bounds (opened middle.files.items) n name) made may))
             (subst (λ x. IfSome x (λ fs. IsWithheld fs bounds name fault)) t no_file)
 
@@ -255,15 +256,15 @@ module _ (told : Option Files) (bounds : Bounds) (limit : ℕ) (start : List Cla
   pub may_begin : (old new : Reading) → old.files.items ≡ [] → old.fetches ≡ 0 → OpensInside told bounds file None old new → MayAsk bounds [] 0 file
   may_begin old new none zero h = subst (λ n. MayAsk bounds [] n file) zero (subst (λ l. MayAsk bounds (opened l) old.fetches file) none h.may)
 
-  pub begins : (old new : Reading) → old.files.items ≡ [] → old.fetches ≡ 0 → OpensInside told bounds file None old new → IsUnderway told bounds limit start file new start
+  pub begins : (old new : Reading) → old.files.items ≡ [] → old.fetches ≡ 0 → OpensInside told bounds file None old new → IsUnderway told bounds rules start file new start
   begins old new none zero h = record {
     spots = inner ∷ [];
     stand = subst (λ fs. Stand fs (inner ∷ [])) (sym (ap (λ l. reverse l) (h.inside ∙ ap (λ l. l ++ h.file ∷ []) none))) (own, tt);
     events = ask file ∷ [];
     gained = sym (append-nil start);
-    goes_on = λ files q es fault k. loads_opened files bounds limit start file h.file.bytes.items es fault (may_begin old new none zero h)
+    goes_on = λ files q es fault k. loads_opened files bounds rules start file h.file.bytes.items es fault (may_begin old new none zero h)
         (subst (λ x. IfSome x (λ fs. fs file ≡ Some h.file.bytes.items)) q h.given.given) h.given.small
-        (subst (λ n. Finishes files bounds limit (inner ∷ []) n start es fault) (h.counted ∙ ap (λ n. n + 1) zero) k);
+        (subst (λ n. Finishes files bounds rules (inner ∷ []) n start es fault) (h.counted ∙ ap (λ n. n + 1) zero) k);
   } where
     inner : Spot
     inner = record { file = file; bytes = h.file.bytes.items; opened = file ∷ []; around = []; rest = h.file.bytes.items }
@@ -277,9 +278,9 @@ module _ (told : Option Files) (bounds : Bounds) (limit : ℕ) (start : List Cla
       left = ap (λ n. drop n h.file.bytes.items) (sym h.given.front);
     }
 
-  pub never_begins : (old : Reading) (fault : Fault) → old.files.items ≡ [] → old.fetches ≡ 0 → IsUnopened told bounds file old fault → HasFault told bounds limit start file fault
+  pub never_begins : (old : Reading) (fault : Fault) → old.files.items ≡ [] → old.fetches ≡ 0 → IsUnopened told bounds file old fault → HasFault told bounds rules start file fault
   never_begins old fault none zero h = by told refl h where
-    by : (t : Option Files) → told ≡ t → IsUnopened told bounds file old fault → IfSome t (λ files. (events : List Event) × Loads files bounds limit start file events (Some fault))
+    by : (t : Option Files) → told ≡ t → IsUnopened told bounds file old fault → IfSome t (λ files. (events : List Event) × Loads files bounds rules start file events (Some fault))
     by None e k = tt
     by (Some files) e (inl no_one) =
         (ask file ∷ [], barred [] [] 0 start file fault (subst (λ n. IsBarred bounds [] n file fault) zero (subst (λ l. IsBarred bounds (opened l) old.fetches file fault) none no_one)))
@@ -297,19 +298,19 @@ module _ (told : Option Files) (bounds : Bounds) (limit : ℕ) (start : List Cla
     by (inr (may, no_file)) = absurd (never (subst (λ n. MayAsk bounds [] n file) zero (subst (λ l. MayAsk bounds (opened l) old.fetches file) none may)))
 
   -- no file is open any more
-  pub is_over : (old : Reading) (state : List Clause) → old.files.items ≡ [] → IsUnderway told bounds limit start file old state
-      → IfSome told (λ files. GainsByLoad files bounds limit start file state)
+  pub is_over : (old : Reading) (state : List Clause) → old.files.items ≡ [] → IsUnderway told bounds rules start file old state
+      → IfSome told (λ files. GainsByLoad files bounds rules start file state)
   is_over old state none u = by told refl where
     no_spots : (ss : List Spot) → Stand [] ss → ss ≡ []
     no_spots [] h = refl
     no_spots (s ∷ ss) h = absurd h
 
-    by : (t : Option Files) → told ≡ t → IfSome t (λ files. GainsByLoad files bounds limit start file state)
+    by : (t : Option Files) → told ≡ t → IfSome t (λ files. GainsByLoad files bounds rules start file state)
     by None e = tt
     by (Some files) e =
         let empty : u.spots ≡ [] = no_spots u.spots (subst (λ fs. Stand (reverse fs) u.spots) none u.stand) in (
           u.events,
-          subst (λ l. Loads files bounds limit start file l None) (append-nil u.events)
-              (u.goes_on files e [] None (subst (λ ss. Finishes files bounds limit ss old.fetches state [] None) (sym empty) (refl, refl))),
+          subst (λ l. Loads files bounds rules start file l None) (append-nil u.events)
+              (u.goes_on files e [] None (subst (λ ss. Finishes files bounds rules ss old.fetches state [] None) (sym empty) (refl, refl))),
           u.gained,
         )

@@ -8,6 +8,7 @@ use Rattle.si_defs.specs.Tokens.{AreBlanks}
 use Rattle.si_defs.specs.Grammar.{Selection, clause_item, include_item}
 use Rattle.si_defs.specs.Texts.{IsFaulty, IsForeign, IsPlace, line_of}
 use Rattle.si_defs.specs.declared.TheConstants.{MOST_OCCURRENCES}
+use Rattle.si_state.specs.States.{Rules}
 use Rattle.si_state.specs.Harvest.{Files, Bounds, foreign, malformed, Spot, IsStuck, IsRejected}
 use Rattle.si_parse.specs.Reading.{IsItemRead, IsFault, IsRead}
 use Rattle.si_parse.specs.declared.item.Read.{Read}
@@ -28,58 +29,58 @@ use Rattle.si_harvest.proofs.Safety.{within_others, within_moved, within_entered
 pub read_as : (bytes bytes' : Bytes) (at : ℕ) (r r' : Read) → bytes ≡ bytes' → r ≡ r' → IsRead bytes at r → IsRead bytes' at r'
 read_as bytes bytes' at r r' b e h = subst (IsRead bytes' at) e (subst (λ l. IsRead l at r) b h)
 
-module _ (told : Option Files) (bounds : Bounds) (limit : ℕ) where
+module _ (told : Option Files) (bounds : Bounds) (rules : Rules) where
   -- an error that is passed on
   pub steps_fault : (r : Result Bool HarvestFault) (e : HarvestFault) (old new : Reading) (before after : List Clause) → IsErrAnd r (λ x. x ≡ e)
-      → ((start : List Clause) (file : Bytes) → IsUnderway told bounds limit start file old before → Explains limit e (HasFault told bounds limit start file))
-      → StepsReading told bounds limit old new before after r
+      → ((start : List Clause) (file : Bytes) → IsUnderway told bounds rules start file old before → Explains rules e (HasFault told bounds rules start file))
+      → StepsReading told bounds rules old new before after r
   steps_fault (Ok x) e old new before after h f = absurd h
-  steps_fault (Err x) e old new before after h f = subst (λ y. StepsReading told bounds limit old new before after (Err y)) (sym h) f
+  steps_fault (Err x) e old new before after h f = subst (λ y. StepsReading told bounds rules old new before after (Err y)) (sym h) f
 
   pub steps_memory : (r : Result Bool HarvestFault) (old new : Reading) (before after : List Clause) → IsErrAnd r (λ x. x ≡ Memory)
-      → StepsReading told bounds limit old new before after r
+      → StepsReading told bounds rules old new before after r
   steps_memory r old new before after h = steps_fault r Memory old new before after h (λ start file u. inl refl)
 
   pub step_end : (old new : Reading) (state : List Clause) (items : List OpenFile) (f : OpenFile) → old.files.items ≡ items ++ f ∷ [] → AreBlanks (drop f.at f.bytes.items)
-      → new.files.items ≡ items → new.fetches ≡ old.fetches → AreWithin old.files.items → StepsOn told bounds limit old new state state
+      → new.files.items ≡ items → new.fetches ≡ old.fetches → AreWithin old.files.items → StepsOn told bounds rules old new state state
   step_end old new state items f e b n m w = record {
-    under_way = λ start file u. at_end told bounds limit start file old new state items f e b n m u;
+    under_way = λ start file u. at_end told bounds rules start file old new state items f e b n m u;
     within = subst AreWithin (sym n) (within_others items f (subst AreWithin e w));
     falls = falls_end bounds old new items f e n m;
   }
 
   pub step_clause : (old new : Reading) (state state' : List Clause) (items : List OpenFile) (f : OpenFile) (end : ℕ) (clause : Clause) → old.files.items ≡ items ++ f ∷ []
       → IsItemRead f.bytes.items f.at (clause_item clause) end → new.files.items ≡ items ++ record f { at = end } ∷ [] → new.fetches ≡ old.fetches
-      → TriesClause limit new.files.items clause state state' → AreWithin old.files.items → StepsOn told bounds limit old new state state'
+      → TriesClause rules new.files.items clause state state' → AreWithin old.files.items → StepsOn told bounds rules old new state state'
   step_clause old new state state' items f end clause e r n m t w = record {
-    under_way = λ start file u. takes told bounds limit start file old new state state' items f end clause e r.begins n m t u;
+    under_way = λ start file u. takes told bounds rules start file old new state state' items f end clause e r.begins n m t u;
     within = subst AreWithin (sym n) (within_moved items f end (subst AreWithin e w) r.within);
     falls = falls_item bounds old new items f (clause_item clause) end e r.begins n m;
   }
 
   pub step_refused : (old : Reading) (state : List Clause) (items : List OpenFile) (f : OpenFile) (end : ℕ) (clause : Clause) (x : HarvestFault) → old.files.items ≡ items ++ f ∷ []
       → IsItemRead f.bytes.items f.at (clause_item clause) end
-      → Explains limit x (λ fault. (is_selected (items ++ record f { at = end } ∷ []) clause.name ≡ true) × IsRejected limit state clause fault)
-      → (start : List Clause) (file : Bytes) → IsUnderway told bounds limit start file old state → Explains limit x (HasFault told bounds limit start file)
+      → Explains rules x (λ fault. (is_selected (items ++ record f { at = end } ∷ []) clause.name ≡ true) × IsRejected rules state clause fault)
+      → (start : List Clause) (file : Bytes) → IsUnderway told bounds rules start file old state → Explains rules x (HasFault told bounds rules start file)
   step_refused old state items f end clause x e r b start file u =
-      blames_weaker limit x _ _ (λ fault h. is_refused told bounds limit start file old state items f end clause fault e r.begins h.0 h.1 u) b
+      blames_weaker rules x _ _ (λ fault h. is_refused told bounds rules start file old state items f end clause fault e r.begins h.0 h.1 u) b
 
   pub step_include : (old middle new : Reading) (state : List Clause) (items : List OpenFile) (f : OpenFile) (end : ℕ) (name : Bytes) (selection : Selection) (chosen : Option NameSet)
       → old.files.items ≡ items ++ f ∷ [] → IsItemRead f.bytes.items f.at (include_item name selection) end → Lists selection chosen
       → middle.files.items ≡ items ++ record f { at = end } ∷ [] → middle.fetches ≡ old.fetches → OpensInside told bounds name chosen middle new
-      → bounds.file ≤ MOST_OCCURRENCES → AreWithin old.files.items → StepsOn told bounds limit old new state state
+      → bounds.file ≤ MOST_OCCURRENCES → AreWithin old.files.items → StepsOn told bounds rules old new state state
   step_include old middle new state items f end name selection chosen e r l n m h b w = record {
-    under_way = λ start file u. enters told bounds limit start file old middle new state items f end name selection chosen e r.begins l n m h u;
+    under_way = λ start file u. enters told bounds rules start file old middle new state items f end name selection chosen e r.begins l n m h u;
     within = within_entered told bounds name chosen middle new b h (subst AreWithin (sym n) (within_moved items f end (subst AreWithin e w) r.within));
     falls = falls_entered told bounds name chosen old middle new items f (include_item name selection) end e r.begins n m h;
   }
 
   pub step_unopened : (old : Reading) (state : List Clause) (items : List OpenFile) (f : OpenFile) (end : ℕ) (name : Bytes) (selection : Selection) (x : HarvestFault)
       → old.files.items ≡ items ++ f ∷ [] → IsItemRead f.bytes.items f.at (include_item name selection) end
-      → Explains limit x (λ fault. (middle : Reading) × (middle.files.items ≡ items ++ record f { at = end } ∷ []) × (middle.fetches ≡ old.fetches) × IsUnopened told bounds name middle fault)
-      → (start : List Clause) (file : Bytes) → IsUnderway told bounds limit start file old state → Explains limit x (HasFault told bounds limit start file)
+      → Explains rules x (λ fault. (middle : Reading) × (middle.files.items ≡ items ++ record f { at = end } ∷ []) × (middle.fetches ≡ old.fetches) × IsUnopened told bounds name middle fault)
+      → (start : List Clause) (file : Bytes) → IsUnderway told bounds rules start file old state → Explains rules x (HasFault told bounds rules start file)
   step_unopened old state items f end name selection x e r b start file u =
-      blames_weaker limit x _ _ (λ fault h. is_unopened told bounds limit start file old h.0 state items f end name selection fault e r.begins h.1 h.2 h.3 u) b
+      blames_weaker rules x _ _ (λ fault h. is_unopened told bounds rules start file old h.0 state items f end name selection fault e r.begins h.1 h.2 h.3 u) b
 
   -- ---- where no item stands
   spot_stuck : (f : OpenFile) (place : ℕ) (outer : List Spot) (s : Spot) → IsFault f.bytes.items f.at place → IsAtSpot f outer s
@@ -114,33 +115,33 @@ module _ (told : Option Files) (bounds : Bounds) (limit : ℕ) where
 
   pub step_foreign : (old : Reading) (state : List Clause) (items : List OpenFile) (f : OpenFile) (place line : ℕ) → old.files.items ≡ items ++ f ∷ []
       → IsFault f.bytes.items f.at place × IsForeign (drop f.at f.bytes.items) → line ≡ line_of (take place f.bytes.items)
-      → (start : List Clause) (file : Bytes) → IsUnderway told bounds limit start file old state → Explains limit (Language f.name line) (HasFault told bounds limit start file)
+      → (start : List Clause) (file : Bytes) → IsUnderway told bounds rules start file old state → Explains rules (Language f.name line) (HasFault told bounds rules start file)
   step_foreign old state items f place line e r l start file u = inr (record {
     fault = foreign f.name line;
     told = refl;
-    holds = is_stuck told bounds limit start file old state items f (foreign f.name line) e
+    holds = is_stuck told bounds rules start file old state items f (foreign f.name line) e
         (λ s outer h. subst (λ n. IsStuck s (foreign f.name n)) (sym l) (spot_stuck f place outer s r.0 h (subst IsForeign (sym h.left) r.1))) u;
   })
 
   pub step_malformed : (old : Reading) (state : List Clause) (items : List OpenFile) (f : OpenFile) (place line : ℕ) → old.files.items ≡ items ++ f ∷ []
       → IsFault f.bytes.items f.at place × (IsForeign (drop f.at f.bytes.items) → ⊥) → line ≡ line_of (take place f.bytes.items)
-      → (start : List Clause) (file : Bytes) → IsUnderway told bounds limit start file old state → Explains limit (Syntax f.name line) (HasFault told bounds limit start file)
+      → (start : List Clause) (file : Bytes) → IsUnderway told bounds rules start file old state → Explains rules (Syntax f.name line) (HasFault told bounds rules start file)
   step_malformed old state items f place line e r l start file u = inr (record {
     fault = malformed f.name line;
     told = refl;
-    holds = is_stuck told bounds limit start file old state items f (malformed f.name line) e
+    holds = is_stuck told bounds rules start file old state items f (malformed f.name line) e
         (λ s outer h. subst (λ n. IsStuck s (malformed f.name n)) (sym l) (spot_malformed f place outer s r.0 h (λ k. r.1 (subst IsForeign h.left k)))) u;
   })
 
 -- a step where a file was open, of a load with these files and this limit
-pub steps_true : (told told' : Option Files) (bounds : Bounds) (limit limit' : ℕ) (old new : Reading) (before after : List Clause) (more : Bool) → told ≡ told' → limit ≡ limit' → more ≡ true
-    → StepsReading told bounds limit old new before after (Ok more) → StepsOn told' bounds limit' old new before after
-steps_true told told' bounds limit limit' old new before after more t l m h =
-    subst (λ x. StepsOn x bounds limit' old new before after) t
+pub steps_true : (told told' : Option Files) (bounds : Bounds) (rules rules' : Rules) (old new : Reading) (before after : List Clause) (more : Bool) → told ≡ told' → rules ≡ rules' → more ≡ true
+    → StepsReading told bounds rules old new before after (Ok more) → StepsOn told' bounds rules' old new before after
+steps_true told told' bounds rules rules' old new before after more t l m h =
+    subst (λ x. StepsOn x bounds rules' old new before after) t
     (subst (λ n. StepsOn told bounds n old new before after) l
-    (subst (λ b. StepsReading told bounds limit old new before after (Ok b)) m h))
+    (subst (λ b. StepsReading told bounds rules old new before after (Ok b)) m h))
 
 -- and one where none was
-pub steps_false : (told : Option Files) (bounds : Bounds) (limit : ℕ) (old new : Reading) (before after : List Clause) (more : Bool) → more ≡ false
-    → StepsReading told bounds limit old new before after (Ok more) → (old.files.items ≡ []) × (after ≡ before)
-steps_false told bounds limit old new before after more m h = subst (λ b. StepsReading told bounds limit old new before after (Ok b)) m h
+pub steps_false : (told : Option Files) (bounds : Bounds) (rules : Rules) (old new : Reading) (before after : List Clause) (more : Bool) → more ≡ false
+    → StepsReading told bounds rules old new before after (Ok more) → (old.files.items ≡ []) × (after ≡ before)
+steps_false told bounds rules old new before after more m h = subst (λ b. StepsReading told bounds rules old new before after (Ok b)) m h

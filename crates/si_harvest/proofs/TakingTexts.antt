@@ -6,6 +6,7 @@ use Rattle.si_defs.specs.Bytes.{Bytes}
 use Rattle.si_defs.specs.Clauses.{Clause}
 use Rattle.si_defs.specs.Tokens.{AreBlanks}
 use Rattle.si_defs.specs.Grammar.{Selection, clause_item, include_item}
+use Rattle.si_state.specs.States.{Rules}
 use Rattle.si_state.specs.Acceptance.{Refuses}
 use Rattle.si_state.specs.Harvest.{Fault, cycle, too_deep, too_many, missing, too_big, failed, foreign, malformed, rejected, AreClauses, IsRejected}
 use Rattle.si_parse.specs.Reading.{IsItemRead, IsFault}
@@ -44,16 +45,16 @@ no_fault (d ∷ ds) bytes at place h f = f.faulty.no_item (clause_item d) h.0 h.
 
 -- ---- a text between two of its clauses
 -- the clauses of the text are those that were taken, and those that are left
-pub record IsTaking (limit : ℕ) (start : List Clause) (bytes : Bytes) (at : ℕ) (loaded : Loaded) (state : List Clause) : Type 0 where
+pub record IsTaking (rules : Rules) (start : List Clause) (bytes : Bytes) (at : ℕ) (loaded : Loaded) (state : List Clause) : Type 0 where
   pub within : at ≤ length bytes
   pub counted : CountsNoMore loaded state
-  pub gained : Gained limit start loaded state
+  pub gained : Gained rules start loaded state
   pub left : (clauses : List Clause) → AreClauses clauses bytes
       → (others : List Clause) × AreClauses others (drop at bytes) × (start ++ clauses ≡ state ++ others)
 
-pub taking_begins : (limit : ℕ) (start : List Clause) (bytes : Bytes) (loaded : Loaded) → CountsNoMore loaded start → Gained limit start loaded start
-    → IsTaking limit start bytes 0 loaded start
-taking_begins limit start bytes loaded c g = record {
+pub taking_begins : (rules : Rules) (start : List Clause) (bytes : Bytes) (loaded : Loaded) → CountsNoMore loaded start → Gained rules start loaded start
+    → IsTaking rules start bytes 0 loaded start
+taking_begins rules start bytes loaded c g = record {
   within = omega arith;
   counted = c;
   gained = g;
@@ -61,10 +62,10 @@ taking_begins limit start bytes loaded c g = record {
 }
 
 -- one more is taken
-pub taking_more : (limit : ℕ) (start : List Clause) (bytes : Bytes) (at end : ℕ) (loaded loaded' : Loaded) (state state' : List Clause) → TakesNext limit bytes at end state state'
-    → CountsNoMore loaded' state' → (Gained limit start loaded state → Gained limit start loaded' state') → IsTaking limit start bytes at loaded state
-    → IsTaking limit start bytes end loaded' state'
-taking_more limit start bytes at end loaded loaded' state state' t c g h = record {
+pub taking_more : (rules : Rules) (start : List Clause) (bytes : Bytes) (at end : ℕ) (loaded loaded' : Loaded) (state state' : List Clause) → TakesNext rules bytes at end state state'
+    → CountsNoMore loaded' state' → (Gained rules start loaded state → Gained rules start loaded' state') → IsTaking rules start bytes at loaded state
+    → IsTaking rules start bytes end loaded' state'
+taking_more rules start bytes at end loaded loaded' state state' t c g h = record {
   within = t.read.within;
   counted = c;
   gained = g h.gained;
@@ -77,15 +78,15 @@ taking_more limit start bytes at end loaded loaded' state state' t c g h = recor
       );
 }
 
-pub taking_falls : (limit : ℕ) (bytes : Bytes) (at end : ℕ) (state state' : List Clause) → TakesNext limit bytes at end state state' → length bytes - end < length bytes - at
-taking_falls limit bytes at end state state' t =
+pub taking_falls : (rules : Rules) (bytes : Bytes) (at end : ℕ) (state state' : List Clause) → TakesNext rules bytes at end state state' → length bytes - end < length bytes - at
+taking_falls rules bytes at end state state' t =
     omega (arith, item_shorter (drop at bytes) (clause_item t.clause) (drop end bytes) t.read.begins, length-drop at bytes, length-drop end bytes)
 
 -- all are taken
-pub taking_ends : (limit : ℕ) (start : List Clause) (bytes : Bytes) (at : ℕ) (loaded loaded' : Loaded) (state state' : List Clause) → AreBlanks (drop at bytes) → state' ≡ state
-    → (Gained limit start loaded state → Gained limit start loaded' state') → IsTaking limit start bytes at loaded state → GainsText limit start bytes loaded' state'
-taking_ends limit start bytes at loaded loaded' state state' b same g h = (all, exactly) where
-  all : Gained limit start loaded' state'
+pub taking_ends : (rules : Rules) (start : List Clause) (bytes : Bytes) (at : ℕ) (loaded loaded' : Loaded) (state state' : List Clause) → AreBlanks (drop at bytes) → state' ≡ state
+    → (Gained rules start loaded state → Gained rules start loaded' state') → IsTaking rules start bytes at loaded state → GainsText rules start bytes loaded' state'
+taking_ends rules start bytes at loaded loaded' state state' b same g h = (all, exactly) where
+  all : Gained rules start loaded' state'
   all = g h.gained
 
   none : (others : List Clause) → AreClauses others (drop at bytes) → others ≡ []
@@ -98,11 +99,11 @@ taking_ends limit start bytes at loaded loaded' state state' b same g h = (all, 
       append_cancel_left start clauses all.gained (l.2 ∙ ap (λ x. state ++ x) (none l.0 l.1) ∙ append-nil state ∙ sym same ∙ all.whole)
 
 -- the next is refused
-pub taking_refused : (limit : ℕ) (start : List Clause) (bytes : Bytes) (at : ℕ) (loaded : Loaded) (state : List Clause) (e : HarvestFault)
-    → Explains limit e (RefusesNext limit bytes at state) → IsTaking limit start bytes at loaded state → Explains limit e (RefusesText limit start bytes)
-taking_refused limit start bytes at loaded state e x h = blames_weaker limit e (RefusesNext limit bytes at state) (RefusesText limit start bytes) by x where
+pub taking_refused : (rules : Rules) (start : List Clause) (bytes : Bytes) (at : ℕ) (loaded : Loaded) (state : List Clause) (e : HarvestFault)
+    → Explains rules e (RefusesNext rules bytes at state) → IsTaking rules start bytes at loaded state → Explains rules e (RefusesText rules start bytes)
+taking_refused rules start bytes at loaded state e x h = blames_weaker rules e (RefusesNext rules bytes at state) (RefusesText rules start bytes) by x where
   first : (fault : Fault) (clause : Clause) (end : ℕ) (clauses : List Clause) → AreClauses clauses bytes → IsItemRead bytes at (clause_item clause) end
-      → IsRejected limit state clause fault → RefusesFirst limit start clauses fault
+      → IsRejected rules state clause fault → RefusesFirst rules start clauses fault
   first (rejected c refusal) clause end clauses a r (same, refuses) =
       let l = h.left clauses a in
       let b = behind l.0 bytes at end clause l.1 r in
@@ -113,7 +114,7 @@ taking_refused limit start bytes at loaded state e x h = blames_weaker limit e (
             (l.2 ∙ ap (λ x. state ++ x) b.split ∙ ap (λ x. x ++ clause ∷ b.others) h.gained.whole
             ∙ append_assoc start h.gained.gained (clause ∷ b.others) ∙ ap (λ x. start ++ (h.gained.gained ++ x ∷ b.others)) (sym same));
         earlier = h.gained.accepted;
-        refused = subst (λ d. Refuses limit (start ++ h.gained.gained) d refusal) (sym same) (subst (λ s. Refuses limit s clause refusal) h.gained.whole refuses);
+        refused = subst (λ d. Refuses rules (start ++ h.gained.gained) d refusal) (sym same) (subst (λ s. Refuses rules s clause refusal) h.gained.whole refuses);
       }
   first (cycle x) clause end clauses a r k = absurd k
   first (too_deep x) clause end clauses a r k = absurd k
@@ -124,19 +125,19 @@ taking_refused limit start bytes at loaded state e x h = blames_weaker limit e (
   first (foreign x n) clause end clauses a r k = absurd k
   first (malformed x n) clause end clauses a r k = absurd k
 
-  by : (fault : Fault) → RefusesNext limit bytes at state fault → RefusesText limit start bytes fault
+  by : (fault : Fault) → RefusesNext rules bytes at state fault → RefusesText rules start bytes fault
   by fault k clauses a = first fault k.0 k.1 clauses a k.2 k.3
 
 -- ---- what one call answers
-pub some_next : (limit limit' : ℕ) (bytes : Bytes) (at : ℕ) (r : Option ℕ) (end : ℕ) (state state' : List Clause) → limit ≡ limit' → r ≡ Some end
-    → IfSome r (λ n. TakesNext limit bytes at n state state') → TakesNext limit' bytes at end state state'
-some_next limit limit' bytes at r end state state' l e h =
-    subst (λ x. TakesNext x bytes at end state state') l (subst (λ o. IfSome o (λ n. TakesNext limit bytes at n state state')) e h)
+pub some_next : (rules rules' : Rules) (bytes : Bytes) (at : ℕ) (r : Option ℕ) (end : ℕ) (state state' : List Clause) → rules ≡ rules' → r ≡ Some end
+    → IfSome r (λ n. TakesNext rules bytes at n state state') → TakesNext rules' bytes at end state state'
+some_next rules rules' bytes at r end state state' l e h =
+    subst (λ x. TakesNext x bytes at end state state') l (subst (λ o. IfSome o (λ n. TakesNext rules bytes at n state state')) e h)
 
 pub none_next : (r : Option ℕ) (P : Type 0) → r ≡ None → IfNone r P → P
 none_next r P e h = subst (λ o. IfNone o P) e h
 
-pub gained_same : (limit limit' : ℕ) (start : List Clause) (loaded loaded' : Loaded) (state state' : List Clause) → limit ≡ limit'
-    → (Gained limit start loaded state → Gained limit start loaded' state') → Gained limit' start loaded state → Gained limit' start loaded' state'
-gained_same limit limit' start loaded loaded' state state' l f =
+pub gained_same : (rules rules' : Rules) (start : List Clause) (loaded loaded' : Loaded) (state state' : List Clause) → rules ≡ rules'
+    → (Gained rules start loaded state → Gained rules start loaded' state') → Gained rules' start loaded state → Gained rules' start loaded' state'
+gained_same rules rules' start loaded loaded' state state' l f =
     subst (λ n. Gained n start loaded state → Gained n start loaded' state') l f

@@ -1,8 +1,9 @@
 -- Why a load is refused, as the program tells it.
-use Rattle.std.specs.Prelude.{◌≡◌, ◌⊎◌, ℕ, Bool, List, [], Result, Ok, Err, IsErrAnd, IsTrue}
+use Rattle.std.specs.Prelude.{◌≡◌, ◌⊎◌, Bool, List, [], Result, Ok, Err, IsErrAnd, IsTrue}
 use Rattle.si_defs.specs.Bytes.{Bytes}
 use Rattle.si_defs.specs.Symbols.{Symbol}
 use Rattle.si_defs.specs.Clauses.{Clause, IsSoundClause}
+use Rattle.si_state.specs.States.{Rules}
 use Rattle.si_state.specs.Acceptance as state
 use Rattle.si_state.specs.Acceptance.{Refusal, Refuses}
 use Rattle.si_state.specs.Harvest.{Bounds, MayAsk, IsBarred, Fault, cycle, too_deep, too_many, missing, too_big, failed, foreign, malformed, rejected}
@@ -21,52 +22,52 @@ use Rattle.si_harvest.specs.declared.faults.HarvestFault.TheVariants as harvest_
 abbrev pub bounds_of : HarvestLimits → Bounds
 bounds_of limits = record { file = limits.file; fetches = limits.fetches; depth = limits.depth }
 
--- why a clause isn't added, with this limit on entries; never for want of memory
-abbrev pub IsReason : ℕ → AddFault → Refusal → Type 0
-IsReason limit add_fault.Taken refusal = refusal ≡ state.taken
-IsReason limit (add_fault.Clash c) refusal =
+-- why a clause isn't added, by these rules; never for want of memory
+abbrev pub IsReason : Rules → AddFault → Refusal → Type 0
+IsReason rules add_fault.Taken refusal = refusal ≡ state.taken
+IsReason rules (add_fault.Clash c) refusal =
     (found : Symbol) × (kept : Symbol) × (refusal ≡ state.misused c.entry found kept)
     × HasShapes c found kept
-IsReason limit (add_fault.Full n most) refusal = (refusal ≡ state.full n) × (most ≡ limit)
-IsReason limit add_fault.Memory refusal = ⊥
+IsReason rules (add_fault.Full n most) refusal = (refusal ≡ state.full n) × (most ≡ rules.entries)
+IsReason rules add_fault.Memory refusal = ⊥
 
 -- the clause is sound, and some list of clauses refuses it for this reason
-pub record IsRejection (limit : ℕ) (r : Rejected) (refusal : Refusal) : Type 0 where
+pub record IsRejection (rules : Rules) (r : Rejected) (refusal : Refusal) : Type 0 where
   pub sound : IsSoundClause (clause_of r.clause)
-  pub state : List Clause
-  pub refuses : Refuses limit state (clause_of r.clause) refusal
-  pub reason : IsReason limit r.why refusal
+  pub kept : List Clause
+  pub refuses : Refuses rules kept (clause_of r.clause) refusal
+  pub reason : IsReason rules r.why refusal
 
--- with this limit on entries, the program tells this fault
-abbrev pub NamesFault : ℕ → HarvestFault → Fault → Type 0
-NamesFault limit (Syntax file line) fault = fault ≡ malformed file line
-NamesFault limit (Language file line) fault = fault ≡ foreign file line
-NamesFault limit (harvest_fault.Rejected r) fault =
+-- by these rules the program tells this fault
+abbrev pub NamesFault : Rules → HarvestFault → Fault → Type 0
+NamesFault rules (Syntax file line) fault = fault ≡ malformed file line
+NamesFault rules (Language file line) fault = fault ≡ foreign file line
+NamesFault rules (harvest_fault.Rejected r) fault =
     (refusal : Refusal)
-    × (fault ≡ rejected (clause_of r.clause) refusal) × IsRejection limit r refusal
-NamesFault limit (Missing file) fault = fault ≡ missing file
-NamesFault limit (Big file) fault = fault ≡ too_big file
-NamesFault limit (LibraryFault file) fault = fault ≡ failed file
-NamesFault limit (Cycle file) fault = fault ≡ cycle file
-NamesFault limit (Depth file) fault = fault ≡ too_deep file
-NamesFault limit Fetches fault = fault ≡ too_many
-NamesFault limit Memory fault = ⊥
+    × (fault ≡ rejected (clause_of r.clause) refusal) × IsRejection rules r refusal
+NamesFault rules (Missing file) fault = fault ≡ missing file
+NamesFault rules (Big file) fault = fault ≡ too_big file
+NamesFault rules (LibraryFault file) fault = fault ≡ failed file
+NamesFault rules (Cycle file) fault = fault ≡ cycle file
+NamesFault rules (Depth file) fault = fault ≡ too_deep file
+NamesFault rules Fetches fault = fault ≡ too_many
+NamesFault rules Memory fault = ⊥
 
 -- memory ran out, or the fault that is told is one of which P holds
-pub record NamesOneOf (limit : ℕ) (e : HarvestFault) (P : Fault → Type 0) : Type 0 where
+pub record NamesOneOf (rules : Rules) (e : HarvestFault) (P : Fault → Type 0) : Type 0 where
   pub fault : Fault
-  pub told : NamesFault limit e fault
+  pub told : NamesFault rules e fault
   pub holds : P fault
 
-abbrev pub Explains : ℕ → HarvestFault → (Fault → Type 0) → Type 0
-Explains limit e P = (e ≡ Memory) ⊎ NamesOneOf limit e P
+abbrev pub Explains : Rules → HarvestFault → (Fault → Type 0) → Type 0
+Explains rules e P = (e ≡ Memory) ⊎ NamesOneOf rules e P
 
 -- A load of a file that may not be asked for at its start is refused for the first reason why not,
 -- or for want of memory, whatever the library tells.
-abbrev pub ChecksStart : {T : Type 0} → Bounds → ℕ → Bytes → Result T HarvestFault → Type 0
-ChecksStart bounds limit file result =
+abbrev pub ChecksStart : {T : Type 0} → Bounds → Rules → Bytes → Result T HarvestFault → Type 0
+ChecksStart bounds rules file result =
     (MayAsk bounds [] 0 file → ⊥) →
-    IsErrAnd result (λ e. Explains limit e (IsBarred bounds [] 0 file))
+    IsErrAnd result (λ e. Explains rules e (IsBarred bounds [] 0 file))
 
 -- A library's failures, missing files and files that are too big have a count each, which rose
 -- where a load is refused for it, and no other count moved. For a failure it is refused only where

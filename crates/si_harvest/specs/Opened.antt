@@ -1,8 +1,9 @@
 -- The files that are open, and where their reading stands.
-use Rattle.std.specs.Prelude.{◌≡◌, ℕ, ◌+◌, ◌≤◌, ◌⊎◌, Bool, true, false, List, [], ◌∷◌, ◌++◌, length, map, reverse, Option, None, Some, IfSome, bytes_eq}
+use Rattle.std.specs.Prelude.{◌≡◌, ◌+◌, ◌≤◌, ◌⊎◌, Bool, true, false, List, [], ◌∷◌, ◌++◌, length, map, reverse, Option, None, Some, IfSome, bytes_eq}
 use Rattle.std.specs.List.{list_any, list_all}
 use Rattle.si_defs.specs.Bytes.{Bytes}
 use Rattle.si_defs.specs.Clauses.{Name, Clause}
+use Rattle.si_state.specs.States.{Rules}
 use Rattle.si_state.specs.Harvest.{Files, Bounds, Event, Fault, MayAsk, IsBarred, IsWithheld, Loads}
 use Rattle.si_state.specs.Acceptance.{Accepts}
 use Rattle.si_harvest.specs.declared.files.OpenFile.{OpenFile}
@@ -55,13 +56,13 @@ IsUnopened told bounds name reading fault =
     × IfSome told (λ files. IsWithheld files bounds name fault))
 
 -- The clause was passed over where the selections don't all list it, and else it was accepted.
-abbrev pub TriesClause : ℕ → List OpenFile → Clause → List Clause → List Clause → Type 0
-TriesClause limit files clause before after =
+abbrev pub TriesClause : Rules → List OpenFile → Clause → List Clause → List Clause → Type 0
+TriesClause rules files clause before after =
     ((is_selected files clause.name ≡ false) × (after ≡ before))
-    ⊎ ((is_selected files clause.name ≡ true) × Accepts limit before clause after)
+    ⊎ ((is_selected files clause.name ≡ true) × Accepts rules before clause after)
 
 -- a load of the file has this fault
-abbrev pub HasFault : Option Files → Bounds → ℕ → List Clause → Bytes → Fault → Type 0
-HasFault told bounds limit start file fault =
+abbrev pub HasFault : Option Files → Bounds → Rules → List Clause → Bytes → Fault → Type 0
+HasFault told bounds rules start file fault =
     IfSome told (λ files. (events : List Event)
-    × Loads files bounds limit start file events (Some fault))
+    × Loads files bounds rules start file events (Some fault))

@@ -1,7 +1,8 @@
 -- One step of a load.
-use Rattle.std.specs.Prelude.{◌≡◌, ℕ, ◌<◌, Bool, true, false, List, [], Option, Result, Ok, Err}
+use Rattle.std.specs.Prelude.{◌≡◌, ◌<◌, Bool, true, false, List, [], Option, Result, Ok, Err}
 use Rattle.si_defs.specs.Bytes.{Bytes}
 use Rattle.si_defs.specs.Clauses.{Clause}
+use Rattle.si_state.specs.States.{Rules}
 use Rattle.si_state.specs.Harvest.{Files, Bounds}
 use Rattle.si_harvest.specs.declared.reading.Reading.{Reading}
 use Rattle.si_harvest.specs.declared.faults.HarvestFault.{HarvestFault}
@@ -10,21 +11,21 @@ use Rattle.si_harvest.specs.Opened.{HasFault}
 use Rattle.si_harvest.specs.Underway.{IsUnderway, AreWithin, steps_left}
 
 -- each load that is under way stays so, and less is left to read
-pub record StepsOn (told : Option Files) (bounds : Bounds) (limit : ℕ) (old new : Reading)
+pub record StepsOn (told : Option Files) (bounds : Bounds) (rules : Rules) (old new : Reading)
     (before after : List Clause) : Type 0 where
   pub under_way : (start : List Clause) (file : Bytes)
-      → IsUnderway told bounds limit start file old before
-      → IsUnderway told bounds limit start file new after
+      → IsUnderway told bounds rules start file old before
+      → IsUnderway told bounds rules start file new after
   pub within : AreWithin new.files.items
   pub falls : steps_left bounds new < steps_left bounds old
 
 -- what a step answers: whether a file was open, or the fault of each load that is under way
-abbrev pub StepsReading : Option Files → Bounds → ℕ → Reading → Reading → List Clause → List Clause
-    → Result Bool HarvestFault → Type 0
-StepsReading told bounds limit old new before after (Ok true) =
-    StepsOn told bounds limit old new before after
-StepsReading told bounds limit old new before after (Ok false) =
+abbrev pub StepsReading : Option Files → Bounds → Rules → Reading → Reading
+    → (before after : List Clause) → Result Bool HarvestFault → Type 0
+StepsReading told bounds rules old new before after (Ok true) =
+    StepsOn told bounds rules old new before after
+StepsReading told bounds rules old new before after (Ok false) =
     (old.files.items ≡ []) × (after ≡ before)
-StepsReading told bounds limit old new before after (Err e) =
-    (start : List Clause) (file : Bytes) → IsUnderway told bounds limit start file old before
-    → Explains limit e (HasFault told bounds limit start file)
+StepsReading told bounds rules old new before after (Err e) =
+    (start : List Clause) (file : Bytes) → IsUnderway told bounds rules start file old before
+    → Explains rules e (HasFault told bounds rules start file)

@@ -5,6 +5,7 @@ use Rattle.si_defs.specs.Bytes.{Bytes}
 use Rattle.si_defs.specs.Clauses.{Name, Clause}
 use Rattle.si_defs.specs.declared.TheConstants.{MOST_OCCURRENCES}
 use Rattle.si_defs.specs.Grammar.{Selection, all, only}
+use Rattle.si_state.specs.States.{Rules}
 use Rattle.si_state.specs.Harvest.{Files, Bounds, Event, Fault, fetches, tried, Spot, Continues, Loads}
 use Rattle.si_harvest.specs.declared.files.OpenFile.{OpenFile}
 use Rattle.si_harvest.specs.declared.names.NameSet.{NameSet}
@@ -48,30 +49,30 @@ Stand (f ∷ fs) [] = ⊥
 Stand (f ∷ fs) (s ∷ ss) = IsAtSpot f ss s × Stand fs ss
 
 -- ---- what is to come
-module _ (files : Files) (bounds : Bounds) (limit : ℕ) where
+module _ (files : Files) (bounds : Bounds) (rules : Rules) where
   -- From these spots on, the innermost first, the readings give these events, and a fault if they
   -- end early.
   abbrev pub Finishes : List Spot → ℕ → List Clause → List Event → Option Fault → Type 0
-  Finishes [] made state events fault = (events ≡ []) × (fault ≡ None)
-  Finishes (s ∷ ss) made state events fault =
+  Finishes [] made kept events fault = (events ≡ []) × (fault ≡ None)
+  Finishes (s ∷ ss) made kept events fault =
       ((own : List Event) × (others : List Event)
-      × Continues files bounds limit s made state own None
-      × Finishes ss (made + fetches own) (state ++ tried own) others fault
+      × Continues files bounds rules s made kept own None
+      × Finishes ss (made + fetches own) (kept ++ tried own) others fault
       × (events ≡ own ++ others))
-      ⊎ ((early : Fault) × Continues files bounds limit s made state events (Some early)
+      ⊎ ((early : Fault) × Continues files bounds rules s made kept events (Some early)
       × (fault ≡ Some early))
 
--- The load of a file began in the state at the start. Behind some events it is in this state, and
--- what the readings give from here on, the load gives behind those events.
-pub record IsUnderway (told : Option Files) (bounds : Bounds) (limit : ℕ) (start : List Clause)
-    (file : Bytes) (reading : Reading) (state : List Clause) : Type 0 where
+-- At the start of the load of a file the first of these clauses were kept, and behind some events
+-- the others are. What the readings give from here on, the load gives behind those events.
+pub record IsUnderway (told : Option Files) (bounds : Bounds) (rules : Rules) (start : List Clause)
+    (file : Bytes) (reading : Reading) (kept : List Clause) : Type 0 where
   pub spots : List Spot
   pub stand : Stand (reverse reading.files.items) spots
   pub events : List Event
-  pub gained : state ≡ start ++ tried events
+  pub gained : kept ≡ start ++ tried events
   pub goes_on : (files : Files) → told ≡ Some files → (others : List Event) (fault : Option Fault)
-      → Finishes files bounds limit spots reading.fetches state others fault
-      → Loads files bounds limit start file (events ++ others) fault
+      → Finishes files bounds rules spots reading.fetches kept others fault
+      → Loads files bounds rules start file (events ++ others) fault
 
 -- ---- safety
 -- no place is behind the end of its file, and no file is larger than may be read

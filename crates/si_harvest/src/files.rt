@@ -1,6 +1,7 @@
 // Files that are open, and the fetch of another.
-ghost use Rattle.std.specs.Prelude.{Bool, ◌≡◌, ◌≤◌, ℕ, Option, length, take, IfOk, IfErr, IfSome, OnOk};
+ghost use Rattle.std.specs.Prelude.{Bool, ◌≡◌, ◌≤◌, Option, length, take, IfOk, IfErr, IfSome, OnOk};
 ghost use Rattle.si_defs.specs.Texts.{line_of};
+ghost use Rattle.si_state.specs.States.{Rules};
 ghost use Rattle.si_state.specs.Harvest.{MayAsk, IsBarred, IsWithheld};
 ghost use Rattle.si_term.specs.Meaning.{name_of};
 ghost use Rattle.si_io.specs.Library.{Counts};
@@ -61,7 +62,7 @@ pub fn may_ask(
 ) -> Result<(), HarvestFault>
     ensures may { OnOk result (MayAsk (bounds_of limits.now) (opened files.now) fetches
         name.now) }
-    ensures barred { IfErr result (λ e. (limit : ℕ) → Explains limit e (IsBarred
+    ensures barred { IfErr result (λ e. (rules : Rules) → Explains rules e (IsBarred
         (bounds_of limits.now) (opened files.now) fetches name.now)) }
     ensures cause { (may_fail : Bool) (counts : Counts) → HasLoadCause may_fail counts counts
         result }
@@ -88,7 +89,7 @@ pub fn open<L: Library>(
 ) -> Result<OpenFile, HarvestFault>
     ensures opened { IfOk result (HasOpened (L.files library.old) (bounds_of limits.now) name.now
         chosen) }
-    ensures withheld { IfErr result (λ e. (limit : ℕ) → Explains limit e (λ fault. IfSome
+    ensures withheld { IfErr result (λ e. (rules : Rules) → Explains rules e (λ fault. IfSome
         (L.files library.old) (λ files. IsWithheld files (bounds_of limits.now) name.now fault))) }
     ensures told { L.files library.new ≡ L.files library.old }
     ensures same { L.may_fail library.new ≡ L.may_fail library.old }

@@ -23,18 +23,18 @@ pub fn expand<L: Library, T: ClauseStore>(
     store: &mut T,
 ) -> Result<Loaded, HarvestFault>
     requires file { limits.now.file ≤ MOST_OCCURRENCES }
-    requires limit { T.limit store.old ≤ MOST_OCCURRENCES }
-    ensures loaded { IfOk result (λ loaded. Gained (T.limit store.old) (T.clauses store.old) loaded
+    requires limit { (T.rules store.old).entries ≤ MOST_OCCURRENCES }
+    ensures loaded { IfOk result (λ loaded. Gained (T.rules store.old) (T.clauses store.old) loaded
         (T.clauses store.new)) }
     ensures right { IfOk result (λ loaded. IfSome (L.files library.old) (λ files.
-        GainsByLoad files (bounds_of limits.now) (T.limit store.old) (T.clauses store.old) name.now
+        GainsByLoad files (bounds_of limits.now) (T.rules store.old) (T.clauses store.old) name.now
         (T.clauses store.new))) }
-    ensures fault { IfErr result (λ e. Explains (T.limit store.old) e (HasFault
-        (L.files library.old) (bounds_of limits.now) (T.limit store.old) (T.clauses store.old)
+    ensures fault { IfErr result (λ e. Explains (T.rules store.old) e (HasFault
+        (L.files library.old) (bounds_of limits.now) (T.rules store.old) (T.clauses store.old)
         name.now)) }
-    ensures start { ChecksStart (bounds_of limits.now) (T.limit store.old) name.now result }
+    ensures start { ChecksStart (bounds_of limits.now) (T.rules store.old) name.now result }
     ensures err { OnErr result (T.clauses store.new ≡ T.clauses store.old) }
-    ensures limit { T.limit store.new ≡ T.limit store.old }
+    ensures rules { T.rules store.new ≡ T.rules store.old }
     ensures told { L.files library.new ≡ L.files library.old }
     ensures same { L.may_fail library.new ≡ L.may_fail library.old }
     ensures cause { HasLoadCause (L.may_fail library.old) (L.counts library.old)
@@ -63,20 +63,20 @@ fn read_all<L: Library, T: ClauseStore>(
     loaded: &mut Loaded,
 ) -> Result<(), HarvestFault>
     requires file { limits.now.file ≤ MOST_OCCURRENCES }
-    requires limit { T.limit store.old ≤ MOST_OCCURRENCES }
+    requires limit { (T.rules store.old).entries ≤ MOST_OCCURRENCES }
     requires counted { CountsNoMore loaded.old (T.clauses store.old) }
-    requires gained { Gained (T.limit store.old) (T.clauses store.old) loaded.old
+    requires gained { Gained (T.rules store.old) (T.clauses store.old) loaded.old
         (T.clauses store.old) }
     ensures right { OnOk result (IfSome (L.files library.old) (λ files. GainsByLoad files
-        (bounds_of limits.now) (T.limit store.old) (T.clauses store.old) name.now
+        (bounds_of limits.now) (T.rules store.old) (T.clauses store.old) name.now
         (T.clauses store.new))) }
-    ensures fault { IfErr result (λ e. Explains (T.limit store.old) e (HasFault
-        (L.files library.old) (bounds_of limits.now) (T.limit store.old) (T.clauses store.old)
+    ensures fault { IfErr result (λ e. Explains (T.rules store.old) e (HasFault
+        (L.files library.old) (bounds_of limits.now) (T.rules store.old) (T.clauses store.old)
         name.now)) }
-    ensures start { ChecksStart (bounds_of limits.now) (T.limit store.old) name.now result }
-    ensures gained { Gained (T.limit store.old) (T.clauses store.old) loaded.new
+    ensures start { ChecksStart (bounds_of limits.now) (T.rules store.old) name.now result }
+    ensures gained { Gained (T.rules store.old) (T.clauses store.old) loaded.new
         (T.clauses store.new) }
-    ensures limit { T.limit store.new ≡ T.limit store.old }
+    ensures rules { T.rules store.new ≡ T.rules store.old }
     ensures told { L.files library.new ≡ L.files library.old }
     ensures same { L.may_fail library.new ≡ L.may_fail library.old }
     ensures cause { HasLoadCause (L.may_fail library.old) (L.counts library.old)

@@ -1,8 +1,9 @@
 // The reading of files, item by item.
-ghost use Rattle.std.specs.Prelude.{◌≡◌, ◌≤◌, ℕ, true, List, [], ◌∷◌, ◌++◌, Option, IfOk, IfErr, OnOk};
+ghost use Rattle.std.specs.Prelude.{◌≡◌, ◌≤◌, true, List, [], ◌∷◌, ◌++◌, Option, IfOk, IfErr, OnOk};
 ghost use Rattle.si_defs.specs.Clauses as defs;
 ghost use Rattle.si_defs.specs.Clauses.{IsSoundClause};
 ghost use Rattle.si_defs.specs.declared.TheConstants.{MOST_OCCURRENCES};
+ghost use Rattle.si_state.specs.States.{Rules};
 ghost use Rattle.si_state.specs.Harvest.{IsRejected};
 ghost use Rattle.si_term.specs.Meaning.{clause_of};
 ghost use Rattle.si_harvest.specs.declared.names.NameSet.{NameSet};
@@ -55,7 +56,7 @@ impl Reading {
     ) -> Result<(), HarvestFault>
         ensures entered { OnOk result (OpensInside (L.files library.old) (bounds_of limits.now)
             name.now chosen self.old self.new) }
-        ensures unopened { IfErr result (λ e. (limit : ℕ) → Explains limit e (IsUnopened
+        ensures unopened { IfErr result (λ e. (rules : Rules) → Explains rules e (IsUnopened
             (L.files library.old) (bounds_of limits.now) name.now self.old)) }
         ensures told { L.files library.new ≡ L.files library.old }
         ensures same { L.may_fail library.new ≡ L.may_fail library.old }
@@ -86,20 +87,20 @@ impl Reading {
         loaded: &mut Loaded,
     ) -> Result<(), HarvestFault>
         requires sound { IsSoundClause (clause_of clause) }
-        requires limit { T.limit store.old ≤ MOST_OCCURRENCES }
+        requires limit { (T.rules store.old).entries ≤ MOST_OCCURRENCES }
         requires counted { CountsNoMore loaded.old (T.clauses store.old) }
         ensures files { OnOk result (self.new.files.items ≡ self.old.files.items ++ file ∷ []) }
         ensures fetches { self.new.fetches ≡ self.old.fetches }
-        ensures taken { OnOk result (TriesClause (T.limit store.old) self.new.files.items
+        ensures taken { OnOk result (TriesClause (T.rules store.old) self.new.files.items
             (clause_of clause) (T.clauses store.old) (T.clauses store.new)) }
-        ensures refused { IfErr result (λ e. Explains (T.limit store.old) e (λ fault.
+        ensures refused { IfErr result (λ e. Explains (T.rules store.old) e (λ fault.
             (is_selected (self.old.files.items ++ file ∷ []) (clause_of clause).name ≡ true)
-            × IsRejected (T.limit store.old) (T.clauses store.old) (clause_of clause) fault)) }
+            × IsRejected (T.rules store.old) (T.clauses store.old) (clause_of clause) fault)) }
         ensures counted { CountsNoMore loaded.new (T.clauses store.new) }
         ensures gained { (start : List defs.Clause)
-            → Gained (T.limit store.old) start loaded.old (T.clauses store.old)
-            → Gained (T.limit store.old) start loaded.new (T.clauses store.new) }
-        ensures limit { T.limit store.new ≡ T.limit store.old }
+            → Gained (T.rules store.old) start loaded.old (T.clauses store.old)
+            → Gained (T.rules store.old) start loaded.new (T.clauses store.new) }
+        ensures rules { T.rules store.new ≡ T.rules store.old }
     {
         self.push(file)?;
         if !select(self.files.as_slice(), &clause.name) {
@@ -124,7 +125,7 @@ impl Reading {
             × (middle.fetches ≡ self.old.fetches)
             × OpensInside (L.files library.old) (bounds_of limits.now) name.now chosen middle
             self.new) }
-        ensures unopened { IfErr result (λ e. (limit : ℕ) → Explains limit e (λ fault.
+        ensures unopened { IfErr result (λ e. (rules : Rules) → Explains rules e (λ fault.
             (middle : Reading) × (middle.files.items ≡ self.old.files.items ++ file ∷ [])
             × (middle.fetches ≡ self.old.fetches)
             × IsUnopened (L.files library.old) (bounds_of limits.now) name.now middle fault)) }
@@ -149,16 +150,16 @@ impl Reading {
     ) -> Result<bool, HarvestFault>
         requires within { AreWithin self.old.files.items }
         requires file { limits.now.file ≤ MOST_OCCURRENCES }
-        requires limit { T.limit store.old ≤ MOST_OCCURRENCES }
+        requires limit { (T.rules store.old).entries ≤ MOST_OCCURRENCES }
         requires counted { CountsNoMore loaded.old (T.clauses store.old) }
         ensures stepped { StepsReading (L.files library.old) (bounds_of limits.now)
-            (T.limit store.old) self.old self.new (T.clauses store.old) (T.clauses store.new)
+            (T.rules store.old) self.old self.new (T.clauses store.old) (T.clauses store.new)
             result }
         ensures counted { CountsNoMore loaded.new (T.clauses store.new) }
         ensures gained { (start : List defs.Clause)
-            → Gained (T.limit store.old) start loaded.old (T.clauses store.old)
-            → Gained (T.limit store.old) start loaded.new (T.clauses store.new) }
-        ensures limit { T.limit store.new ≡ T.limit store.old }
+            → Gained (T.rules store.old) start loaded.old (T.clauses store.old)
+            → Gained (T.rules store.old) start loaded.new (T.clauses store.new) }
+        ensures rules { T.rules store.new ≡ T.rules store.old }
         ensures told { L.files library.new ≡ L.files library.old }
         ensures same { L.may_fail library.new ≡ L.may_fail library.old }
         ensures cause { HasLoadCause (L.may_fail library.old) (L.counts library.old)

@@ -1,8 +1,9 @@
 // Adding the clauses of a load to a store, and taking them away.
-ghost use Rattle.std.specs.Prelude.{◌≡◌, ◌-◌, ◌≤◌, ◌++◌, ◌∷◌, [], ℕ, length, take, List, IfErr, OnOk, OnErr};
+ghost use Rattle.std.specs.Prelude.{◌≡◌, ◌-◌, ◌≤◌, ◌++◌, ◌∷◌, [], length, take, List, IfErr, OnOk, OnErr};
 ghost use Rattle.si_defs.specs.Clauses as defs;
 ghost use Rattle.si_defs.specs.Clauses.{IsSoundClause};
 ghost use Rattle.si_defs.specs.declared.TheConstants.{MOST_OCCURRENCES};
+ghost use Rattle.si_state.specs.States.{Rules};
 ghost use Rattle.si_state.specs.Acceptance.{Accepts};
 ghost use Rattle.si_state.specs.Harvest.{IsRejected};
 ghost use Rattle.si_term.specs.Meaning.{clause_of};
@@ -21,18 +22,18 @@ pub fn add<T: ClauseStore>(
     loaded: &mut Loaded,
 ) -> Result<(), HarvestFault>
     requires sound { IsSoundClause (clause_of clause) }
-    requires limit { T.limit store.old ≤ MOST_OCCURRENCES }
+    requires limit { (T.rules store.old).entries ≤ MOST_OCCURRENCES }
     requires counted { CountsNoMore loaded.old (T.clauses store.old) }
-    ensures accepted { OnOk result (Accepts (T.limit store.old) (T.clauses store.old)
+    ensures accepted { OnOk result (Accepts (T.rules store.old) (T.clauses store.old)
         (clause_of clause) (T.clauses store.new)) }
-    ensures refused { IfErr result (λ e. Explains (T.limit store.old) e
-        (IsRejected (T.limit store.old) (T.clauses store.old) (clause_of clause))) }
+    ensures refused { IfErr result (λ e. Explains (T.rules store.old) e
+        (IsRejected (T.rules store.old) (T.clauses store.old) (clause_of clause))) }
     ensures counted { CountsNoMore loaded.new (T.clauses store.new) }
     ensures gained { (start : List defs.Clause)
-        → Gained (T.limit store.old) start loaded.old (T.clauses store.old)
-        → Gained (T.limit store.old) start loaded.new (T.clauses store.new) }
+        → Gained (T.rules store.old) start loaded.old (T.clauses store.old)
+        → Gained (T.rules store.old) start loaded.new (T.clauses store.new) }
     ensures err { OnErr result (T.clauses store.new ≡ T.clauses store.old) }
-    ensures limit { T.limit store.new ≡ T.limit store.old }
+    ensures rules { T.rules store.new ≡ T.rules store.old }
 {
     match store.add(clause) {
         Ok(entries) => {
@@ -47,9 +48,9 @@ pub fn add<T: ClauseStore>(
 /// Why a load is refused whose clause is rejected.
 fn refusal(rejected: Rejected) -> HarvestFault
     requires { IsSoundClause (clause_of rejected.clause) }
-    ensures { (limit : ℕ) (state : List defs.Clause)
-        → Rejects limit state (clause_of rejected.clause) rejected.why
-        → Explains limit result (IsRejected limit state (clause_of rejected.clause)) }
+    ensures { (rules : Rules) (kept : List defs.Clause)
+        → Rejects rules kept (clause_of rejected.clause) rejected.why
+        → Explains rules result (IsRejected rules kept (clause_of rejected.clause)) }
 {
     if let AddFault::Memory = rejected.why {
         return HarvestFault::Memory;
@@ -61,7 +62,7 @@ fn refusal(rejected: Rejected) -> HarvestFault
 pub fn roll_back<T: ClauseStore>(store: &mut T, clauses: u32)
     ensures clauses { T.clauses store.new ≡ take (length (T.clauses store.old) - clauses)
         (T.clauses store.old) }
-    ensures limit { T.limit store.new ≡ T.limit store.old }
+    ensures rules { T.rules store.new ≡ T.rules store.old }
 {
     for _ in 0..clauses {
         store.remove_last();

@@ -27,13 +27,13 @@ pub fn take_text<T: ClauseStore>(
 ) -> Result<Loaded, HarvestFault>
     requires short { length bytes.now ≤ MOST_OCCURRENCES }
     requires clauses { (clauses : List defs.Clause) × AreClauses clauses bytes.now }
-    requires limit { T.limit store.old ≤ MOST_OCCURRENCES }
-    ensures loaded { IfOk result (λ loaded. GainsText (T.limit store.old) (T.clauses store.old)
+    requires limit { (T.rules store.old).entries ≤ MOST_OCCURRENCES }
+    ensures loaded { IfOk result (λ loaded. GainsText (T.rules store.old) (T.clauses store.old)
         bytes.now loaded (T.clauses store.new)) }
-    ensures fault { IfErr result (λ e. Explains (T.limit store.old) e (RefusesText
-        (T.limit store.old) (T.clauses store.old) bytes.now)) }
+    ensures fault { IfErr result (λ e. Explains (T.rules store.old) e (RefusesText
+        (T.rules store.old) (T.clauses store.old) bytes.now)) }
     ensures err { OnErr result (T.clauses store.new ≡ T.clauses store.old) }
-    ensures limit { T.limit store.new ≡ T.limit store.old }
+    ensures rules { T.rules store.new ≡ T.rules store.old }
 {
     let mut loaded = Loaded {
         clauses: 0,
@@ -57,17 +57,17 @@ fn take_all<T: ClauseStore>(
 ) -> Result<(), HarvestFault>
     requires short { length bytes.now ≤ MOST_OCCURRENCES }
     requires clauses { (clauses : List defs.Clause) × AreClauses clauses bytes.now }
-    requires limit { T.limit store.old ≤ MOST_OCCURRENCES }
+    requires limit { (T.rules store.old).entries ≤ MOST_OCCURRENCES }
     requires counted { CountsNoMore loaded.old (T.clauses store.old) }
-    requires gained { Gained (T.limit store.old) (T.clauses store.old) loaded.old
+    requires gained { Gained (T.rules store.old) (T.clauses store.old) loaded.old
         (T.clauses store.old) }
-    ensures taken { OnOk result (GainsText (T.limit store.old) (T.clauses store.old) bytes.now
+    ensures taken { OnOk result (GainsText (T.rules store.old) (T.clauses store.old) bytes.now
         loaded.new (T.clauses store.new)) }
-    ensures fault { IfErr result (λ e. Explains (T.limit store.old) e (RefusesText
-        (T.limit store.old) (T.clauses store.old) bytes.now)) }
-    ensures gained { Gained (T.limit store.old) (T.clauses store.old) loaded.new
+    ensures fault { IfErr result (λ e. Explains (T.rules store.old) e (RefusesText
+        (T.rules store.old) (T.clauses store.old) bytes.now)) }
+    ensures gained { Gained (T.rules store.old) (T.clauses store.old) loaded.new
         (T.clauses store.new) }
-    ensures limit { T.limit store.new ≡ T.limit store.old }
+    ensures rules { T.rules store.new ≡ T.rules store.old }
 {
     let mut at = 0;
     while let Some(end) = take_next(alloc, bytes, at, store, loaded)? {
@@ -88,21 +88,21 @@ fn take_next<T: ClauseStore>(
     requires short { length bytes.now ≤ MOST_OCCURRENCES }
     requires within { at ≤ length bytes.now }
     requires clauses { (clauses : List defs.Clause) × AreClauses clauses (drop at bytes.now) }
-    requires limit { T.limit store.old ≤ MOST_OCCURRENCES }
+    requires limit { (T.rules store.old).entries ≤ MOST_OCCURRENCES }
     requires counted { CountsNoMore loaded.old (T.clauses store.old) }
     ensures taken { IfOk result (λ next. IfSome next (λ end.
-        TakesNext (T.limit store.old) bytes.now
+        TakesNext (T.rules store.old) bytes.now
         at end (T.clauses store.old) (T.clauses store.new))) }
     ensures blanks { IfOk result (λ next. IfNone next (AreBlanks (drop at bytes.now))) }
     ensures ended { IfOk result (λ next.
         IfNone next (T.clauses store.new ≡ T.clauses store.old)) }
-    ensures fault { IfErr result (λ e. Explains (T.limit store.old) e (RefusesNext
-        (T.limit store.old) bytes.now at (T.clauses store.old))) }
+    ensures fault { IfErr result (λ e. Explains (T.rules store.old) e (RefusesNext
+        (T.rules store.old) bytes.now at (T.clauses store.old))) }
     ensures counted { CountsNoMore loaded.new (T.clauses store.new) }
     ensures gained { (start : List defs.Clause)
-        → Gained (T.limit store.old) start loaded.old (T.clauses store.old)
-        → Gained (T.limit store.old) start loaded.new (T.clauses store.new) }
-    ensures limit { T.limit store.new ≡ T.limit store.old }
+        → Gained (T.rules store.old) start loaded.old (T.clauses store.old)
+        → Gained (T.rules store.old) start loaded.new (T.clauses store.new) }
+    ensures rules { T.rules store.new ≡ T.rules store.old }
 {
     match next_item(alloc, bytes, at)? {
         Read::Cnf(clause, end) => {

@@ -1,16 +1,17 @@
 -- What is known of clauses, as one is added, refused or taken away.
-use Rattle.std.proofs.Common.{◌≡◌, inr, ℕ, ◌+◌, ◌-◌, ◌≤◌, List, [], ◌∷◌, ◌++◌, Option, None, Some, IsSome, length, refl, sym, ap, ◌∙◌, subst, arith, append-nil, length-append}
+use Rattle.std.proofs.Common.{◌≡◌, inl, inr, ℕ, ◌+◌, ◌-◌, ◌≤◌, List, [], ◌∷◌, ◌++◌, Option, None, Some, IsSome, length, refl, sym, ap, ◌∙◌, subst, arith, append-nil, length-append}
 use Rattle.std.proofs.lemmas.List.{map-append}
 use Rattle.std.proofs.lemmas.Bool.{false≢true}
 use Rattle.si_defs.specs.Symbols.{Symbol, times}
 use Rattle.si_defs.specs.Clauses.{Name, Clause, IsSoundClause}
 use Rattle.si_defs.specs.Entries.{entries, state_entries, clause_symbols, state_symbols}
 use Rattle.si_defs.specs.Substitutions.{IsAmong}
+use Rattle.si_state.specs.States.{Rules}
 use Rattle.si_state.specs.Acceptance.{IsTaken, Accepts}
 use Rattle.si_state.specs.Signatures.{Signature, IsSignature, IsSignatureOf, KeepsNumbers, numbering, uses_of, total}
 use Rattle.si_term.specs.Meaning.{clause_of, name_of}
 use Rattle.si_term.specs.declared.clause.Clause as term
-use Rattle.si_term.proofs.EntryHeads.{length-symbols}
+use Rattle.si_defs.specs.declared.TheConstants.{MOST_OCCURRENCES}
 use Rattle.si_sign.specs.Stores.{IsStored, Rejects}
 use Rattle.si_sign.specs.declared.faults.AddFault.{AddFault}
 use Rattle.si_sign.specs.declared.faults.AddFault.TheVariants as add_fault
@@ -20,74 +21,82 @@ use Rattle.si_sign.specs.Shapes.{NamesFirstClash}
 use Rattle.si_sign.proofs.StateLaws.{agrees_in_state, clashes_in_state}
 use Rattle.si_sign.proofs.StoreLaws.{stored_more, stored_less}
 use Rattle.si_sign.proofs.UsesOf.{among_numbering, numbering_among, uses_positive, uses_among}
-use Rattle.si_index.specs.Keyed.{HasKey, HasKeyAt, IsTakenOut}
-use Rattle.si_index.specs.Kept.{clauses_of}
+use Rattle.si_keyed.specs.Keyed.{HasKey, HasKeyAt, IsTakenOut}
+use Rattle.si_index.specs.Kept.{KeysStay, clauses_of}
 use Rattle.si_index.specs.Names.{key_of, ChangesName}
 use Rattle.si_index.specs.Known.{AreNamed, IsKnownOf, IsPut, Admits, Enters, Leaves, Stays, Bars}
 use Rattle.si_index.specs.Stored.{IsKept}
 use Rattle.si_index.specs.declared.known.Known.{Known}
 use Rattle.si_index.specs.declared.names.Names.{Names}
-use Rattle.si_index.proofs.NamedLaws.{item_of, key_taken, last_behind, among_taken, leads_taken, unknown_free, named_more, named_less, named_stays}
-use Rattle.si_index.proofs.StoreLaws.{symbols_few, entries_between, times_between, sound_between, distinct_between}
+use Rattle.si_keyed.proofs.KeyLaws.{item_of, key_taken, last_behind}
+use Rattle.si_index.proofs.NamedLaws.{among_taken, leads_taken, unknown_free, named_more, named_less, named_stays}
+use Rattle.si_index.proofs.KeyStays.{kept_as, keys_stay, keys_through}
+use Rattle.si_index.proofs.StoreLaws.{few_entries, symbols_few, as_many_symbols, entries_between, symbols_between, times_between, sound_between, distinct_between}
 
 -- ---- why a clause isn't added
 some_is : {A : Type 0} (o : Option A) → IsSome o → (x : A) × (o ≡ Some x)
 some_is None h = absurd (false≢true h)
 some_is (Some x) h = (x, refl)
 
-module _ (limit : ℕ) (items : List (ℕ × term.Clause)) (known : Known) (c : Clause) (is : IsKnownOf items known) (good : IsSignature known.signature) where
+module _ (rules : Rules) (items : List (ℕ × term.Clause)) (known : Known) (c : Clause) (is : IsKnownOf items known) (good : IsSignature known.signature) where
   pub name_free : key_of known.names c.name ≡ None → IsTaken (clauses_of items) c.name → ⊥
   name_free e = unknown_free items known.names is.names c.name e
 
-  pub rejects : IsSoundClause c → (f : AddFault) → Bars limit known c f → Rejects limit (clauses_of items) c f
+  pub rejects : IsSoundClause c → (f : AddFault) → Bars rules.entries known c f → Rejects rules (clauses_of items) c f
   rejects sound add_fault.Taken why = let found = some_is (key_of known.names c.name) why in leads_taken items known.names is.names c.name found.0 found.1
   rejects sound (add_fault.Clash clash) (free, names) = by (clashes_in_state (clauses_of items) known.signature good is.signed (clause_symbols c) clash names) where
-    by : NamesFirstClash (state_symbols (clauses_of items)) (clause_symbols c) clash → Rejects limit (clauses_of items) c (add_fault.Clash clash)
+    by : NamesFirstClash (state_symbols (clauses_of items)) (clause_symbols c) clash → Rejects rules (clauses_of items) c (add_fault.Clash clash)
     by (found, kept, first, shapes) = (found, kept, (name_free free, first), shapes)
   rejects sound (add_fault.Full needed most) (free, agree, over, number, same) = (
     (
       name_free free,
       agrees_in_state (clauses_of items) known.signature good is.signed (clause_symbols c) agree,
-      omega (arith, over, number, is.counted, length-symbols c sound),
-      omega (arith, number, is.counted, length-symbols c sound),
+      omega (arith, over, number, is.counted),
+      omega (arith, number, is.counted),
     ),
     same,
   )
   rejects sound add_fault.Memory why = tt
 
-  pub accepts : IsSoundClause c → Admits limit known c → Accepts limit (clauses_of items) c (clauses_of items ++ c ∷ [])
+  pub accepts : IsSoundClause c → Admits rules.entries known c → Accepts rules (clauses_of items) c (clauses_of items ++ c ∷ [])
   accepts sound admits = record {
     free = name_free admits.free;
     agree = agrees_in_state (clauses_of items) known.signature good is.signed (clause_symbols c) admits.agree;
-    room = omega (arith, admits.room, is.counted, length-symbols c sound);
+    room = omega (arith, admits.room, is.counted);
     added = refl;
   }
 
 -- ---- what is kept, before and behind a change
-pub room_for : (limit : ℕ) (items : List (ℕ × term.Clause)) (known : Known) (c : Clause) → IsKept limit items known → IsSoundClause c
+pub room_for : (rules : Rules) (items : List (ℕ × term.Clause)) (known : Known) (c : Clause) → IsKept rules items known → IsSoundClause c
     → total known.signature + length (clause_symbols c) ≤ MOST_USES
-room_for limit items known c kept sound = omega (arith, kept.is_known.counted, kept.stored.few, kept.small, symbols_few c sound)
+room_for rules items known c kept sound =
+    omega (arith, kept.is_known.used, as_many_symbols (clauses_of items) kept.stored.sound, kept.stored.few, kept.small, symbols_few c sound)
 
-pub kept_stays : (limit : ℕ) (old new : Known) (items : List (ℕ × term.Clause)) → IsKept limit items old → Stays old new → IsKept limit items new
-kept_stays limit old new items kept same = record {
+pub counted_few : (rules : Rules) (items : List (ℕ × term.Clause)) (known : Known) → IsKept rules items known → known.entries ≤ MOST_OCCURRENCES
+counted_few rules items known kept = omega (arith, kept.is_known.counted, kept.stored.few, kept.small)
+
+pub kept_stays : (rules : Rules) (old new : Known) (items : List (ℕ × term.Clause)) → IsKept rules items old → Stays old new → IsKept rules items new
+kept_stays rules old new items kept same = record {
   small = kept.small;
   stored = kept.stored;
   is_known = record {
     names = named_stays items old.names new.names kept.is_known.names same.names;
+    signature = same.signature;
     signed = λ s. same.uses s ∙ kept.is_known.signed s;
-    counted = same.sum ∙ kept.is_known.counted;
+    used = same.sum ∙ kept.is_known.used;
+    counted = same.entered ∙ kept.is_known.counted;
   };
 }
 
 -- a clause that is put last
-module _ (limit : ℕ) (old between : Known) (items more : List (ℕ × term.Clause)) (c : term.Clause) (names : Names) (good : IsSignature old.signature)
-    (kept : IsKept limit items old) (sound : IsSoundClause (clause_of c)) (admits : Admits limit old (clause_of c)) (enters : Enters (clause_of c) old between)
+module _ (rules : Rules) (old between : Known) (items more : List (ℕ × term.Clause)) (c : term.Clause) (names : Names) (good : IsSignature old.signature)
+    (kept : IsKept rules items old) (sound : IsSoundClause (clause_of c)) (admits : Admits rules.entries old (clause_of c)) (enters : Enters (clause_of c) old between)
     (put : IsPut c items more between.names names) where
   clauses_more : clauses_of more ≡ clauses_of items ++ clause_of c ∷ []
   clauses_more = ap clauses_of put.pushed ∙ map-append (λ p. clause_of p.1) items ((put.key, c) ∷ [])
 
-  pub accepts_more : Accepts limit (clauses_of items) (clause_of c) (clauses_of more)
-  accepts_more = subst (Accepts limit (clauses_of items) (clause_of c)) (sym clauses_more) (accepts limit items old (clause_of c) kept.is_known good sound admits)
+  pub accepts_more : Accepts rules (clauses_of items) (clause_of c) (clauses_of more)
+  accepts_more = subst (Accepts rules (clauses_of items) (clause_of c)) (sym clauses_more) (accepts rules items old (clause_of c) kept.is_known good sound admits)
 
   names_more : AreNamed more names
   names_more =
@@ -95,16 +104,17 @@ module _ (limit : ℕ) (old between : Known) (items more : List (ℕ × term.Cla
       (named_more items put.key c between.names names (subst (AreNamed items) (sym enters.names) kept.is_known.names) put.fresh
       (ap (λ m. key_of m (name_of c.name)) enters.names ∙ admits.free) put.name)
 
-  pub kept_more : IsKept limit more (record { names = names; signature = between.signature })
+  pub kept_more : IsKept rules more (record { names = names; signature = between.signature; entries = between.entries })
   kept_more =
       let behind = append-nil (clauses_of items) in
       record {
         small = kept.small;
         stored =
-            subst (IsStored limit) (sym clauses_more)
-            (stored_more limit (clauses_of items) (clause_of c) kept.stored sound (accepts limit items old (clause_of c) kept.is_known good sound admits));
+            subst (IsStored rules) (sym clauses_more)
+            (stored_more rules (clauses_of items) (clause_of c) kept.stored sound (accepts rules items old (clause_of c) kept.is_known good sound admits));
         is_known = record {
           names = names_more;
+          signature = enters.signature;
           signed = λ s.
               omega (
                 arith,
@@ -114,18 +124,32 @@ module _ (limit : ℕ) (old between : Known) (items more : List (ℕ × term.Cla
                 ap (λ l. times s (state_symbols l)) behind,
                 ap (λ l. times s (state_symbols l)) clauses_more,
               );
-          counted =
+          used =
               omega (
                 arith,
                 enters.sum,
+                kept.is_known.used,
+                symbols_between (clause_of c) [] (clauses_of items),
+                ap (λ l. length (state_symbols l)) behind,
+                ap (λ l. length (state_symbols l)) clauses_more,
+              );
+          counted =
+              omega (
+                arith,
+                enters.entered,
                 kept.is_known.counted,
                 entries_between (clause_of c) [] (clauses_of items),
                 ap (λ l. length (state_entries l)) behind,
                 ap (λ l. length (state_entries l)) clauses_more,
-                length-symbols (clause_of c) sound,
               );
         };
       }
+
+  pub keys_more : KeysStay (kept_as items) (kept_as more)
+  keys_more =
+      let free = ap (λ m. key_of m (name_of c.name)) enters.names ∙ admits.free in
+      keys_stay items more between.names names (subst (AreNamed items) (sym enters.names) kept.is_known.names) names_more
+      (keys_through (name_of c.name) (Some put.key) (key_of between.names) (key_of names) put.name (inl free))
 
 -- a clause that couldn't be put is struck out again
 -- a number that stays from one signature to the next, and from there on, stays
@@ -141,19 +165,22 @@ numbers_through old between new good more first second s m n a b =
     subst (λ r. IsAmong (numbering between) (r, here.used.number)) here.is (among_numbering between here.used here.among) in
     first s m here.used.number a middle ∙ second s here.used.number n middle b
 
-pub entered_back : (old between : Known) (c : Clause) (names : Names) (signature : Signature) → IsSignature old.signature → Enters c old between
-    → ((name : Name) → key_of names name ≡ key_of between.names name)
-    → ((s : Symbol) → uses_of signature s + times s (clause_symbols c) ≡ uses_of between.signature s)
-    → total signature + length (clause_symbols c) ≡ total between.signature → KeepsNumbers between.signature signature → Stays old (record { names = names; signature = signature })
-entered_back old between c names signature good enters same uses sum numbers = record {
+pub entered_back : (old between new : Known) (c : Clause) → IsSignature old.signature → Enters c old between
+    → ((name : Name) → key_of new.names name ≡ key_of between.names name)
+    → ((s : Symbol) → uses_of new.signature s + times s (clause_symbols c) ≡ uses_of between.signature s)
+    → total new.signature + length (clause_symbols c) ≡ total between.signature → new.entries ≡ old.entries
+    → KeepsNumbers between.signature new.signature → IsSignature new.signature → Stays old new
+entered_back old between new c good enters same uses sum entered numbers signature = record {
   names = λ name. same name ∙ ap (λ m. key_of m name) enters.names;
   uses = λ s. omega (arith, enters.uses s, uses s);
   sum = omega (arith, enters.sum, sum);
-  numbers = numbers_through old.signature between.signature signature good (λ s. omega (arith, enters.uses s)) enters.numbers numbers;
+  entered = entered;
+  signature = signature;
+  numbers = numbers_through old.signature between.signature new.signature good (λ s. omega (arith, enters.uses s)) enters.numbers numbers;
 }
 
 -- a clause that stands between others
-module _ (limit : ℕ) (old : Known) (items : List (ℕ × term.Clause)) (key : ℕ) (c : term.Clause) (rest : List (ℕ × term.Clause)) (kept : IsKept limit items old)
+module _ (rules : Rules) (old : Known) (items : List (ℕ × term.Clause)) (key : ℕ) (c : term.Clause) (rest : List (ℕ × term.Clause)) (kept : IsKept rules items old)
     (out : IsTakenOut items key c rest) where
   pub splits : clauses_of items ≡ clauses_of out.before ++ clause_of c ∷ clauses_of out.after
   splits = ap clauses_of out.whole ∙ map-append (λ p. clause_of p.1) out.before ((key, c) ∷ out.after)
@@ -161,8 +188,8 @@ module _ (limit : ℕ) (old : Known) (items : List (ℕ × term.Clause)) (key : 
   pub rest_is : clauses_of rest ≡ clauses_of out.before ++ clauses_of out.after
   rest_is = ap clauses_of out.rest ∙ map-append (λ p. clause_of p.1) out.before out.after
 
-  stored_there : IsStored limit (clauses_of out.before ++ clause_of c ∷ clauses_of out.after)
-  stored_there = subst (IsStored limit) splits kept.stored
+  stored_there : IsStored rules (clauses_of out.before ++ clause_of c ∷ clauses_of out.after)
+  stored_there = subst (IsStored rules) splits kept.stored
 
   signed_there : IsSignatureOf (clauses_of out.before ++ clause_of c ∷ clauses_of out.after) old.signature
   signed_there = subst (λ l. IsSignatureOf l old.signature) splits kept.is_known.signed
@@ -174,8 +201,18 @@ module _ (limit : ℕ) (old : Known) (items : List (ℕ × term.Clause)) (key : 
   sound_there : IsSoundClause (clause_of c)
   sound_there = (sound_between (clause_of c) (clauses_of out.after) (clauses_of out.before) stored_there.sound).0
 
-  pub as_many_entries : (n : ℕ) → n ≡ length (clause_symbols (clause_of c)) → n ≡ length (entries (clause_of c))
-  as_many_entries n e = e ∙ sym (length-symbols (clause_of c) sound_there)
+  -- its entries are among those that were counted
+  pub entries_counted : length (entries (clause_of c)) ≤ old.entries
+  entries_counted =
+      omega (
+        arith,
+        kept.is_known.counted,
+        ap (λ l. length (state_entries l)) splits,
+        entries_between (clause_of c) (clauses_of out.after) (clauses_of out.before),
+      )
+
+  pub entries_there : length (entries (clause_of c)) ≤ MOST_OCCURRENCES
+  entries_there = few_entries (clause_of c) sound_there
 
   free_without : IsTaken (clauses_of (out.before ++ out.after)) (name_of c.name) → ⊥
   free_without h =
@@ -189,32 +226,46 @@ module _ (limit : ℕ) (old : Known) (items : List (ℕ × term.Clause)) (key : 
   names_less new change =
       subst (λ l. AreNamed l new) (sym out.rest) (named_less out.before key c out.after old.names new names_there free_without change)
 
-  pub kept_less : (new : Known) → Leaves (clause_of c) old new → IsKept limit rest new
+  pub kept_less : (new : Known) → Leaves (clause_of c) old new → IsKept rules rest new
   kept_less new leaves = record {
     small = kept.small;
-    stored = subst (IsStored limit) (sym rest_is) (stored_less limit (clauses_of out.before) (clause_of c) (clauses_of out.after) stored_there);
+    stored = subst (IsStored rules) (sym rest_is) (stored_less rules (clauses_of out.before) (clause_of c) (clauses_of out.after) stored_there);
     is_known = record {
       names = names_less new.names leaves.name;
+      signature = leaves.counts.signature;
       signed = λ s.
           omega (
             arith,
-            leaves.uses s,
+            leaves.counts.uses s,
             signed_there s,
             times_between (clause_of c) (clauses_of out.after) (clauses_of out.before) s,
             ap (λ l. times s (state_symbols l)) rest_is,
           );
+      used =
+          omega (
+            arith,
+            leaves.counts.sum,
+            kept.is_known.used,
+            ap (λ l. length (state_symbols l)) splits,
+            symbols_between (clause_of c) (clauses_of out.after) (clauses_of out.before),
+            ap (λ l. length (state_symbols l)) rest_is,
+          );
       counted =
           omega (
             arith,
-            leaves.sum,
+            leaves.counts.entered,
             kept.is_known.counted,
             ap (λ l. length (state_entries l)) splits,
             entries_between (clause_of c) (clauses_of out.after) (clauses_of out.before),
             ap (λ l. length (state_entries l)) rest_is,
-            length-symbols (clause_of c) sound_there,
           );
     };
   }
+
+  pub keys_less : (new : Names) → ChangesName (name_of c.name) None (key_of old.names) (key_of new) → KeysStay (kept_as items) (kept_as rest)
+  keys_less new change =
+      keys_stay items rest old.names new kept.is_known.names (names_less new change)
+      (keys_through (name_of c.name) None (key_of old.names) (key_of new) change (inr refl))
 
   -- the clause that a name leads to has that name
   pub named_so : (n : Name) → key_of old.names n ≡ Some key → name_of c.name ≡ n

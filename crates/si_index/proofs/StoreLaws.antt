@@ -11,9 +11,12 @@ use Rattle.si_sign.proofs.UsesOf.{times_append}
 use Rattle.si_term.proofs.Alone.{entries_few}
 use Rattle.si_term.proofs.EntryHeads.{length-symbols}
 
--- a sound clause has no more symbols than may occur
+-- a sound clause has no more entries, and no more symbols, than may occur
+pub few_entries : (c : Clause) → IsSoundClause c → length (entries c) ≤ MOST_OCCURRENCES
+few_entries c s = omega (arith, entries_few 1 c.literals, s.sound.no_larger)
+
 pub symbols_few : (c : Clause) → IsSoundClause c → length (clause_symbols c) ≤ MOST_OCCURRENCES
-symbols_few c s = omega (arith, length-symbols c s, entries_few 1 c.literals, s.sound.no_larger)
+symbols_few c s = omega (arith, length-symbols c s, few_entries c s)
 
 module _ (c : Clause) (after : List Clause) where
   -- ---- a clause between others
@@ -25,6 +28,16 @@ module _ (c : Clause) (after : List Clause) where
         length-append (map (placed_in d) (entries d)) (state_entries (ds ++ c ∷ after)),
         length-append (map (placed_in d) (entries d)) (state_entries (ds ++ after)),
         entries_between ds,
+      )
+
+  pub symbols_between : (before : List Clause) → length (state_symbols (before ++ c ∷ after)) ≡ length (state_symbols (before ++ after)) + length (clause_symbols c)
+  symbols_between [] = omega (arith, length-append (clause_symbols c) (state_symbols after))
+  symbols_between (d ∷ ds) =
+      omega (
+        arith,
+        length-append (clause_symbols d) (state_symbols (ds ++ c ∷ after)),
+        length-append (clause_symbols d) (state_symbols (ds ++ after)),
+        symbols_between ds,
       )
 
   pub times_between : (before : List Clause) (s : Symbol) → times s (state_symbols (before ++ c ∷ after)) ≡ times s (state_symbols (before ++ after)) + times s (clause_symbols c)
@@ -56,6 +69,19 @@ module _ (c : Clause) (after : List Clause) where
     by : (IsTaken (bs ++ after) c.name → ⊥) → IsTaken ((b ∷ bs) ++ after) c.name → ⊥
     by free (inl e) = d.0 (subst (IsTaken (bs ++ c ∷ after)) (sym e) (taken_own bs))
     by free (inr h) = free h
+
+-- sound clauses have as many symbols as entries
+pub as_many_symbols : (cs : List Clause) → AllByRecursion IsSoundClause cs → length (state_symbols cs) ≡ length (state_entries cs)
+as_many_symbols [] all = refl
+as_many_symbols (c ∷ cs) all =
+    omega (
+      arith,
+      length-append (clause_symbols c) (state_symbols cs),
+      length-append (map (placed_in c) (entries c)) (state_entries cs),
+      length-map (entries c) (placed_in c),
+      length-symbols c all.0,
+      as_many_symbols cs all.1,
+    )
 
 -- there are no more clauses than entries
 pub clauses_few : (cs : List Clause) → AllByRecursion IsSoundClause cs → length cs ≤ length (state_entries cs)

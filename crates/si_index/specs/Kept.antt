@@ -1,27 +1,45 @@
--- What an index is seen as: the clauses that are kept, in the order of acceptance, the limit on
--- their entries, and the numbers of their symbols.
-use Rattle.std.specs.Prelude.{◌≡◌, ℕ, List, refl, map}
+-- What an index is seen as: the clauses that are kept, in the order of acceptance, each with its
+-- key, the rules by which they were accepted, and the numbers of their symbols.
+use Rattle.std.specs.Prelude.{◌≡◌, ℕ, List, Some, refl, length, map, slice_get}
 use Rattle.std.specs.Coded.{Coded, code_by, coded×, coded_ℕ, coded_list}
 use Rattle.si_defs.specs.Symbols.{Symbol, Numbering}
 use Rattle.si_defs.specs.Clauses.{Clause}
-use Rattle.si_defs.specs.Substitutions.{IsAmong}
+use Rattle.si_defs.specs.Substitutions.{IsAmong, AreDistinct}
 use Rattle.si_defs.specs.Codes.{symbol_code, clause_code}
+use Rattle.si_state.specs.States.{Rules, rules_code}
 use Rattle.si_term.specs.Meaning.{clause_of}
 use Rattle.si_term.specs.declared.clause.Clause as term
 
 pub record Kept : Type 0 where
   pub clauses : List Clause
-  pub limit : ℕ
+  pub keys : List ℕ
+  pub rules : Rules
   pub numbers : Numbering
 
 abbrev pub kept_code : Coded Kept
 kept_code =
     code_by
-    (List Clause × (ℕ × List (Symbol × ℕ)))
-    (coded× (coded_list clause_code) (coded× coded_ℕ (coded_list (coded× symbol_code coded_ℕ))))
-    (λ k. (k.clauses, (k.limit, k.numbers)))
-    (λ p. record { clauses = p.0; limit = p.1.0; numbers = p.1.1 })
+    (List Clause × (List ℕ × (Rules × List (Symbol × ℕ))))
+    (coded× (coded_list clause_code)
+    (coded× (coded_list coded_ℕ)
+    (coded× rules_code (coded_list (coded× symbol_code coded_ℕ)))))
+    (λ k. (k.clauses, (k.keys, (k.rules, k.numbers))))
+    (λ p. record { clauses = p.0; keys = p.1.0; rules = p.1.1.0; numbers = p.1.1.1 })
     (λ _. refl)
+
+-- each clause has a key, and no two have the same
+pub record AreKeyed (k : Kept) : Type 0 where
+  pub number : length k.keys ≡ length k.clauses
+  pub distinct : AreDistinct k.keys
+
+-- the clause is kept by this key
+abbrev pub IsKeptBy : Kept → ℕ → Clause → Type 0
+IsKeptBy k key c =
+    (n : ℕ) × (slice_get k.keys n ≡ Some key) × (slice_get k.clauses n ≡ Some c)
+
+-- a clause that is kept at both times has the same key
+abbrev pub KeysStay : Kept → Kept → Type 0
+KeysStay old new = (c : Clause) (m n : ℕ) → IsKeptBy old m c → IsKeptBy new n c → m ≡ n
 
 -- a symbol that has a number at both times has the same
 abbrev pub NumbersStay : Kept → Kept → Type 0

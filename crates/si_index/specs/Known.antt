@@ -1,17 +1,18 @@
--- What is known of some clauses besides their list: the keys of their names, and their symbols.
+-- What is known of some clauses besides their list: the keys of their names, their symbols, and how
+-- many entries they have.
 use Rattle.std.specs.Prelude.{◌≡◌, ℕ, ◌+◌, ◌<◌, ◌≤◌, List, [], ◌∷◌, ◌++◌, None, Some, IsSome, length}
 use Rattle.si_defs.specs.Clauses.{Name, Clause}
 use Rattle.si_defs.specs.Symbols.{Symbol, times}
-use Rattle.si_defs.specs.Entries.{clause_symbols, state_entries}
+use Rattle.si_defs.specs.Entries.{clause_symbols, state_symbols, entries, state_entries}
 use Rattle.si_defs.specs.Substitutions.{IsAmong}
 use Rattle.si_state.specs.Acceptance.{AllAgree}
-use Rattle.si_state.specs.Signatures.{IsSignatureOf, KeepsNumbers, known_symbols, uses_of, total}
+use Rattle.si_state.specs.Signatures.{IsSignature, IsSignatureOf, KeepsNumbers, known_symbols, uses_of, total}
 use Rattle.si_term.specs.Meaning.{name_of}
 use Rattle.si_term.specs.declared.clause.Clause as term
 use Rattle.si_sign.specs.Shapes.{NamesFirstClash}
 use Rattle.si_sign.specs.declared.faults.AddFault.{AddFault}
 use Rattle.si_sign.specs.declared.faults.AddFault.TheVariants as add_fault
-use Rattle.si_index.specs.Keyed.{HasKey}
+use Rattle.si_keyed.specs.Keyed.{HasKey}
 use Rattle.si_index.specs.Kept.{clauses_of}
 use Rattle.si_index.specs.Names.{key_of, ChangesName}
 use Rattle.si_index.specs.declared.known.Known.{Known}
@@ -25,11 +26,13 @@ pub record AreNamed (items : List (ℕ × term.Clause)) (names : Names) : Type 0
   pub listed : (key : ℕ) (c : term.Clause) → IsAmong items (key, c)
       → key_of names (name_of c.name) ≡ Some key
 
--- it is what is known of these clauses; a symbol heads each of their entries
+-- it is what is known of these clauses
 pub record IsKnownOf (items : List (ℕ × term.Clause)) (known : Known) : Type 0 where
   pub names : AreNamed items known.names
+  pub signature : IsSignature known.signature
   pub signed : IsSignatureOf (clauses_of items) known.signature
-  pub counted : total known.signature ≡ length (state_entries (clauses_of items))
+  pub used : total known.signature ≡ length (state_symbols (clauses_of items))
+  pub counted : known.entries ≡ length (state_entries (clauses_of items))
 
 -- the clause is put last, and its name leads to its key
 pub record IsPut (clause : term.Clause) (items new : List (ℕ × term.Clause))
@@ -39,33 +42,43 @@ pub record IsPut (clause : term.Clause) (items new : List (ℕ × term.Clause))
   pub pushed : new ≡ items ++ (key, clause) ∷ []
   pub name : ChangesName (name_of clause.name) (Some key) (key_of old) (key_of names)
 
--- the clause may be entered, with this limit on uses
+-- the clause may be entered, with this limit on entries
 pub record Admits (limit : ℕ) (known : Known) (clause : Clause) : Type 0 where
   pub free : key_of known.names clause.name ≡ None
   pub agree : AllAgree (known_symbols known.signature) (clause_symbols clause)
-  pub room : total known.signature + length (clause_symbols clause) ≤ limit
+  pub room : known.entries + length (entries clause) ≤ limit
 
--- the symbols of the clause are entered
+-- the symbols and the entries of the clause are counted
 pub record Enters (clause : Clause) (old new : Known) : Type 0 where
   pub names : new.names ≡ old.names
   pub uses : (s : Symbol)
       → uses_of new.signature s ≡ uses_of old.signature s + times s (clause_symbols clause)
   pub sum : total new.signature ≡ total old.signature + length (clause_symbols clause)
+  pub entered : new.entries ≡ old.entries + length (entries clause)
+  pub signature : IsSignature new.signature
+  pub numbers : KeepsNumbers old.signature new.signature
+
+-- they are counted no more
+pub record Uncounts (clause : Clause) (old new : Known) : Type 0 where
+  pub uses : (s : Symbol)
+      → uses_of new.signature s + times s (clause_symbols clause) ≡ uses_of old.signature s
+  pub sum : total new.signature + length (clause_symbols clause) ≡ total old.signature
+  pub entered : new.entries + length (entries clause) ≡ old.entries
+  pub signature : IsSignature new.signature
   pub numbers : KeepsNumbers old.signature new.signature
 
 -- the clause is struck out
 pub record Leaves (clause : Clause) (old new : Known) : Type 0 where
   pub name : ChangesName clause.name None (key_of old.names) (key_of new.names)
-  pub uses : (s : Symbol)
-      → uses_of new.signature s + times s (clause_symbols clause) ≡ uses_of old.signature s
-  pub sum : total new.signature + length (clause_symbols clause) ≡ total old.signature
-  pub numbers : KeepsNumbers old.signature new.signature
+  pub counts : Uncounts clause old new
 
 -- the same is known
 pub record Stays (old new : Known) : Type 0 where
   pub names : (name : Name) → key_of new.names name ≡ key_of old.names name
   pub uses : (s : Symbol) → uses_of new.signature s ≡ uses_of old.signature s
   pub sum : total new.signature ≡ total old.signature
+  pub entered : new.entries ≡ old.entries
+  pub signature : IsSignature new.signature
   pub numbers : KeepsNumbers old.signature new.signature
 
 -- why a clause isn't entered
@@ -77,6 +90,6 @@ Bars limit known clause (add_fault.Clash c) =
 Bars limit known clause (add_fault.Full needed most) =
     (key_of known.names clause.name ≡ None)
     × AllAgree (known_symbols known.signature) (clause_symbols clause)
-    × (limit < needed) × (needed ≡ total known.signature + length (clause_symbols clause))
+    × (limit < needed) × (needed ≡ known.entries + length (entries clause))
     × (most ≡ limit)
 Bars limit known clause add_fault.Memory = Unit {0}

@@ -1,13 +1,8 @@
 pub mod Finding
 pub mod Fitting
-pub mod Halves
 pub mod Kept
-pub mod Keyed
-pub mod KeyedSlots
 pub mod Known
 pub mod Names
-pub mod Ranks
-pub mod RanksFall
 pub mod Searching
 pub mod Showing
 pub mod Stored

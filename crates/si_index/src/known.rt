@@ -2,25 +2,27 @@
 ghost use Rattle.std.specs.Prelude.{◌≡◌, ◌+◌, ◌≤◌, [], None, IfOk, OnOk, OnErr, IfErr, length};
 ghost use Rattle.si_defs.specs.Symbols.{Symbol, times};
 ghost use Rattle.si_defs.specs.Clauses as defs;
-ghost use Rattle.si_defs.specs.Entries.{clause_symbols};
+ghost use Rattle.si_defs.specs.Entries.{clause_symbols, entries};
+ghost use Rattle.si_defs.specs.declared.TheConstants.{MOST_OCCURRENCES};
 ghost use Rattle.si_state.specs.Acceptance.{AllAgree};
 ghost use Rattle.si_state.specs.Signatures as signatures;
 ghost use Rattle.si_state.specs.Signatures.{IsSignature, uses_of, known_symbols};
 ghost use Rattle.si_term.specs.Meaning.{clause_of};
 ghost use Rattle.si_sign.specs.declared.uses.TheConstants.{MOST_USES};
 ghost use Rattle.si_index.specs.Names.{key_of};
-ghost use Rattle.si_index.specs.Known.{Admits, Enters, Leaves, Stays, Bars};
+ghost use Rattle.si_index.specs.Known.{Admits, Enters, Uncounts, Leaves, Stays, Bars};
 
 use crate::names::Names;
 use si_sign::{AddFault, Signature, TakeFault};
-use si_term::Clause;
+use si_term::{Clause, entry_count};
 use std::alloc::Global;
 
-/// The keys of some clauses by their names, and their signature.
+/// The keys of some clauses by their names, their signature, and the number of their entries.
 #[derive(Drop)]
 pub struct Known {
     pub names: Names,
     pub signature: Signature,
+    pub entries: u64,
 }
 
 impl Known {
@@ -28,30 +30,32 @@ impl Known {
     pub fn new(alloc: Global) -> Known
         ensures names { (name : defs.Name) → key_of result.names name ≡ None }
         ensures signature { result.signature ≡ [] }
+        ensures entries { result.entries ≡ 0 }
     {
         Known {
             names: Names::new(alloc),
             signature: Signature::new(alloc),
+            entries: 0,
         }
     }
 
-    /// Enters the symbols of a clause, and answers their number. The names stay as they are. At an
-    /// error the same is known as before.
+    /// Counts the symbols and the entries of a clause, and answers the number of its entries. The
+    /// names stay as they are. At an error the same is known as before.
     ///
     /// `Taken`: its name is known. `Clash`: else, a symbol of it has another shape than one that is
-    /// known or stands earlier in it. `Full`: else, there would be more uses of symbols than the
-    /// limit.
+    /// known or stands earlier in it. `Full`: else, there would be more entries than the limit.
     pub fn enter(&mut self, clause: &Clause, limit: u64) -> Result<u32, AddFault>
+        requires signature { IsSignature self.old.signature }
         requires room { signatures.total self.old.signature
             + length (clause_symbols (clause_of clause.now)) ≤ MOST_USES }
+        requires counted { self.old.entries ≤ MOST_OCCURRENCES }
+        requires few { length (entries (clause_of clause.now)) ≤ MOST_OCCURRENCES }
         ensures admits { OnOk result (Admits limit self.old (clause_of clause.now)) }
         ensures enters { OnOk result (Enters (clause_of clause.now) self.old self.new) }
-        ensures number { IfOk result (λ n. n ≡ length (clause_symbols (clause_of clause.now))) }
+        ensures number { IfOk result (λ n. n ≡ length (entries (clause_of clause.now))) }
         ensures why { IfErr result (Bars limit self.old (clause_of clause.now)) }
         ensures err { OnErr result (Stays self.old self.new) }
-        ensures signature { IsSignature self.old.signature }
     {
-        let before = self.signature.total();
         if self.names.get(&clause.name).is_some() {
             return Err(AddFault::Taken);
         }
@@ -60,24 +64,43 @@ impl Known {
             Err(TakeFault::Clash(clash)) => return Err(AddFault::Clash(clash)),
             Err(TakeFault::Memory) => return Err(AddFault::Memory),
         }
-        let needed = self.signature.total();
+        let entries = entry_count(clause);
+        let needed = self.entries + entries as u64;
         if needed > limit {
             self.signature.give_back(clause);
             return Err(AddFault::Full { needed, limit });
         }
-        Ok((needed - before) as u32)
+        self.entries = needed;
+        Ok(entries)
     }
 
-    /// Strikes a clause out, and answers the number of its symbols. It takes no memory.
+    /// Counts the symbols and the entries of a clause no more, and answers the number of its
+    /// entries. The names stay as they are. It takes no memory.
+    pub fn uncount(&mut self, gone: &Clause) -> u32
+        requires used { (s : Symbol) → times s (clause_symbols (clause_of gone.now))
+            ≤ uses_of self.old.signature s }
+        requires counted { length (entries (clause_of gone.now)) ≤ self.old.entries }
+        requires few { length (entries (clause_of gone.now)) ≤ MOST_OCCURRENCES }
+        ensures uncounts { Uncounts (clause_of gone.now) self.old self.new }
+        ensures names { self.new.names ≡ self.old.names }
+        ensures number { result ≡ length (entries (clause_of gone.now)) }
+    {
+        let entries = entry_count(gone);
+        self.signature.give_back(gone);
+        self.entries -= entries as u64;
+        entries
+    }
+
+    /// Strikes a clause out, and answers the number of its entries. It takes no memory.
     pub fn leave(&mut self, gone: &Clause) -> u32
         requires used { (s : Symbol) → times s (clause_symbols (clause_of gone.now))
             ≤ uses_of self.old.signature s }
+        requires counted { length (entries (clause_of gone.now)) ≤ self.old.entries }
+        requires few { length (entries (clause_of gone.now)) ≤ MOST_OCCURRENCES }
         ensures leaves { Leaves (clause_of gone.now) self.old self.new }
-        ensures number { result ≡ length (clause_symbols (clause_of gone.now)) }
+        ensures number { result ≡ length (entries (clause_of gone.now)) }
     {
-        let before = self.signature.total();
         self.names.remove(&gone.name);
-        self.signature.give_back(gone);
-        (before - self.signature.total()) as u32
+        self.uncount(gone)
     }
 }

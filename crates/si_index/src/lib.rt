@@ -5,16 +5,12 @@ mod fitting;
 mod found;
 mod gather;
 mod index;
-mod keyed;
 mod known;
 mod names;
-mod ranks;
 mod same;
 mod screen;
 mod search;
 mod subsuming;
-#[cfg(test)]
-mod tests;
 
 pub use found::{Found, Hit, Lent, Shown};
 pub use index::{Index, Stats};

@@ -1,4 +1,4 @@
--- An answer is one: each hit has one canonical list.
+-- There is at most one answer: each hit has at most one canonical list.
 use Rattle.std.proofs.Common.{◌≡◌, inl, inr, List, [], ◌∷◌, sym, ◌∙◌}
 use Rattle.si_defs.specs.Clauses.{Clause, Pattern, literal_pattern, term_pattern}
 use Rattle.si_defs.specs.Entries.{Entry, literal_entry, term_entry, Placed}

@@ -1,4 +1,4 @@
--- The reading of a file is one, up to a failure of the library, and what it accepts stays
+-- There is at most one reading of a file, up to a failure of the library, and what it accepts stays
 -- consistent.
 use Rattle.std.proofs.Common.{◌≡◌, ℕ, ◌+◌, ◌≤◌, ◌<◌, List, [], ◌∷◌, ◌++◌, length, Option, Some, None, IsSomeAnd, refl, sym, ap, ◌∙◌, subst, append_assoc, append-nil, arith}
 use Rattle.std.proofs.lemmas.Option.{same_Some, none-some}
@@ -8,6 +8,7 @@ use Rattle.si_defs.specs.Clauses.{Name, Clause}
 use Rattle.si_defs.specs.Tokens.{AreBlanks}
 use Rattle.si_defs.specs.Grammar.{Selection, Item, clause_item, include_item}
 use Rattle.si_defs.specs.Texts.{BeginsWithItem, line_of}
+use Rattle.si_state.specs.States.{Rules}
 use Rattle.si_state.specs.Acceptance.{Refuses}
 use Rattle.si_state.specs.Harvest.{Files, Bounds, Event, ask, attempt, tried, fetches, Fault, cycle, too_deep, too_many, missing, too_big, failed, foreign, malformed, rejected, MayAsk, IsBarred, IsWithheld, narrowed, IsSelected, Spot, IsOnLine, IsStuck, Harvests, barred, withheld, fetched, Continues, ended, stuck, passed_over, accepted, refused, expanded, broken_off, AreAccepted}
 use Rattle.si_state.proofs.HarvestLaws.{tried-append}
@@ -20,10 +21,10 @@ use Rattle.si_laws.proofs.RefusalLaws.{accepts_or_refuses, one_refusal}
 use Rattle.si_laws.proofs.StateLaws.{consistent_more}
 
 -- ---- clauses that were accepted in turn
-pub accepted_stay : (limit : ℕ) (state gained : List Clause) → IsConsistent state → AreAccepted limit state gained → IsConsistent (state ++ gained)
-accepted_stay limit state [] is h = subst IsConsistent (sym (append-nil state)) is
-accepted_stay limit state (c ∷ cs) is h =
-    subst IsConsistent (append_assoc state (c ∷ []) cs) (accepted_stay limit (state ++ c ∷ []) cs (consistent_more limit state c (state ++ c ∷ []) is h.0) h.1)
+pub accepted_stay : (rules : Rules) (state gained : List Clause) → IsConsistent state → AreAccepted rules state gained → IsConsistent (state ++ gained)
+accepted_stay rules state [] is h = subst IsConsistent (sym (append-nil state)) is
+accepted_stay rules state (c ∷ cs) is h =
+    subst IsConsistent (append_assoc state (c ∷ []) cs) (accepted_stay rules (state ++ c ∷ []) cs (consistent_more rules state c (state ++ c ∷ []) is h.0) h.1)
 
 -- ---- why a file isn't opened
 module _ (bounds : Bounds) (opened : List Bytes) (made : ℕ) (file : Bytes) where
@@ -196,22 +197,22 @@ module _ (spot : Spot) where
     selection_is f g s t e = cc
 
 -- ---- the reading of files
-module _ (files : Files) (bounds : Bounds) (limit : ℕ) where
+module _ (files : Files) (bounds : Bounds) (rules : Rules) where
   mutual
     -- what a reading without a fault accepted keeps the state consistent
     pub harvest_stays : (opened : List Bytes) (around : List (List Name)) (made : ℕ) (state : List Clause) (file : Bytes) (events : List Event) → IsConsistent state
-        → Harvests files bounds limit opened around made state file events None → IsConsistent (state ++ tried events)
+        → Harvests files bounds rules opened around made state file events None → IsConsistent (state ++ tried events)
     harvest_stays opened around made state file events is (fetched _ _ _ _ _ bytes may found small own fault rest) =
         continues_stays (record { file = file; bytes = bytes; opened = file ∷ opened; around = around; rest = bytes }) (made + 1) state own is rest
 
     continues_stays : (spot : Spot) (made : ℕ) (state : List Clause) (events : List Event) → IsConsistent state
-        → Continues files bounds limit spot made state events None → IsConsistent (state ++ tried events)
+        → Continues files bounds rules spot made state events None → IsConsistent (state ++ tried events)
     continues_stays spot made state events is (ended _ _ _ blanks) = subst IsConsistent (sym (append-nil state)) is
     continues_stays spot made state events is (passed_over _ _ _ c after begins passed own fault rest) =
         continues_stays (record spot { rest = after }) made state own is rest
     continues_stays spot made state events is (accepted _ _ _ c after begins selected accepts own fault rest) =
         subst IsConsistent (append_assoc state (c ∷ []) (tried own))
-        (continues_stays (record spot { rest = after }) made (state ++ c ∷ []) own (consistent_more limit state c (state ++ c ∷ []) is accepts) rest)
+        (continues_stays (record spot { rest = after }) made (state ++ c ∷ []) own (consistent_more rules state c (state ++ c ∷ []) is accepts) rest)
     continues_stays spot made state events is (expanded _ _ _ file selection after begins inside own whole fault harvest rest parts) =
         let behind = harvest_stays spot.opened (narrowed selection spot.around) made state file inside is harvest in
         let all = continues_stays (record spot { rest = after }) (made + fetches inside) (state ++ tried inside) own behind rest in
@@ -220,7 +221,7 @@ module _ (files : Files) (bounds : Bounds) (limit : ℕ) where
   mutual
     -- two readings of a file give the same events, and the same fault or none
     pub one_harvest : (opened : List Bytes) (around : List (List Name)) (made : ℕ) (state : List Clause) (file : Bytes) (events others : List Event) (f g : Option Fault) → IsConsistent state
-        → Harvests files bounds limit opened around made state file events f → Harvests files bounds limit opened around made state file others g → Ends f → Ends g → (events ≡ others) × (f ≡ g)
+        → Harvests files bounds rules opened around made state file events f → Harvests files bounds rules opened around made state file others g → Ends f → Ends g → (events ≡ others) × (f ≡ g)
     one_harvest opened around made state file events others f g is (barred _ _ _ _ _ why h) (barred _ _ _ _ _ because k) a b =
         (refl, ap Some (barred_one bounds opened made file why because h k))
     one_harvest opened around made state file events others f g is (barred _ _ _ _ _ why h) (withheld _ _ _ _ _ because may k) a b = absurd (barred_no_ask bounds opened made file why h may)
@@ -239,11 +240,11 @@ module _ (files : Files) (bounds : Bounds) (limit : ℕ) where
         let same : bytes ≡ content = same_Some _ _ (sym found ∙ found_too) in
         let rests =
         one_continues (record { file = file; bytes = bytes; opened = file ∷ opened; around = around; rest = bytes }) (made + 1) state own more f g is rest
-        (subst (λ x. Continues files bounds limit (record { file = file; bytes = x; opened = file ∷ opened; around = around; rest = x }) (made + 1) state more g) (sym same) rest_too) a b in
+        (subst (λ x. Continues files bounds rules (record { file = file; bytes = x; opened = file ∷ opened; around = around; rest = x }) (made + 1) state more g) (sym same) rest_too) a b in
         (ap (λ es. ask file ∷ es) rests.0, rests.1)
 
     one_continues : (spot : Spot) (made : ℕ) (state : List Clause) (events others : List Event) (f g : Option Fault) → IsConsistent state
-        → Continues files bounds limit spot made state events f → Continues files bounds limit spot made state others g → Ends f → Ends g → (events ≡ others) × (f ≡ g)
+        → Continues files bounds rules spot made state events f → Continues files bounds rules spot made state others g → Ends f → Ends g → (events ≡ others) × (f ≡ g)
     one_continues spot made state events others f g is (ended _ _ _ blanks) (ended _ _ _ blanks_too) a b = (refl, refl)
     one_continues spot made state events others f g is (ended _ _ _ blanks) (stuck _ _ _ because k) a b = absurd (stuck_no_blanks spot because k blanks)
     one_continues spot made state events others f g is (ended _ _ _ blanks) (passed_over _ _ _ d left starts passed_too more _ rest_too) a b = absurd (no_item_in_blanks spot.rest (clause_item d) left blanks starts)
@@ -263,7 +264,7 @@ module _ (files : Files) (bounds : Bounds) (limit : ℕ) where
     one_continues spot made state events others f g is (passed_over _ _ _ c after begins passed own _ rest) (passed_over _ _ _ d left starts passed_too more _ rest_too) a b =
         let same = same_clause spot c d after left begins starts in
         one_continues (record spot { rest = after }) made state own more f g is rest
-        (subst (λ x. Continues files bounds limit (record spot { rest = x }) made state more g) (sym same.1) rest_too) a b
+        (subst (λ x. Continues files bounds rules (record spot { rest = x }) made state more g) (sym same.1) rest_too) a b
     one_continues spot made state events others f g is (passed_over _ _ _ c after begins passed own _ rest) (accepted _ _ _ d left starts selected_too accepts_too more _ rest_too) a b = absurd (passed (subst (λ (x : Clause). IsSelected spot.around x.name) (sym (same_clause spot c d after left begins starts).0) selected_too))
     one_continues spot made state events others f g is (passed_over _ _ _ c after begins passed own _ rest) (refused _ _ _ d left starts selected_too cause refuses_too) a b = absurd (passed (subst (λ (x : Clause). IsSelected spot.around x.name) (sym (same_clause spot c d after left begins starts).0) selected_too))
     one_continues spot made state events others f g is (passed_over _ _ _ c after begins passed own _ rest) (expanded _ _ _ name choice left starts within more full _ harvest_too rest_too parts_too) a b = absurd (no_both spot c name choice after left begins starts)
@@ -274,23 +275,23 @@ module _ (files : Files) (bounds : Bounds) (limit : ℕ) where
     one_continues spot made state events others f g is (accepted _ _ _ c after begins selected accepts own _ rest) (accepted _ _ _ d left starts selected_too accepts_too more _ rest_too) a b =
         let same = same_clause spot c d after left begins starts in
         let rests =
-        one_continues (record spot { rest = after }) made (state ++ c ∷ []) own more f g (consistent_more limit state c (state ++ c ∷ []) is accepts) rest
-        (subst (λ (x : Clause × Bytes). Continues files bounds limit (record spot { rest = x.1 }) made (state ++ x.0 ∷ []) more g) (λ i. (sym same.0 i, sym same.1 i)) rest_too) a b in
+        one_continues (record spot { rest = after }) made (state ++ c ∷ []) own more f g (consistent_more rules state c (state ++ c ∷ []) is accepts) rest
+        (subst (λ (x : Clause × Bytes). Continues files bounds rules (record spot { rest = x.1 }) made (state ++ x.0 ∷ []) more g) (λ i. (sym same.0 i, sym same.1 i)) rest_too) a b in
         ((λ i. attempt (same.0 i) ∷ rests.0 i), rests.1)
     one_continues spot made state events others f g is (accepted _ _ _ c after begins selected accepts own _ rest) (refused _ _ _ d left starts selected_too cause refuses_too) a b =
-        absurd (accepts_or_refuses limit state c (state ++ c ∷ []) cause accepts
-        (subst (λ x. Refuses limit state x cause) (sym (same_clause spot c d after left begins starts).0) refuses_too))
+        absurd (accepts_or_refuses rules state c (state ++ c ∷ []) cause accepts
+        (subst (λ x. Refuses rules state x cause) (sym (same_clause spot c d after left begins starts).0) refuses_too))
     one_continues spot made state events others f g is (accepted _ _ _ c after begins selected accepts own _ rest) (expanded _ _ _ name choice left starts within more full _ harvest_too rest_too parts_too) a b = absurd (no_both spot c name choice after left begins starts)
     one_continues spot made state events others f g is (accepted _ _ _ c after begins selected accepts own _ rest) (broken_off _ _ _ name choice left starts more because harvest_too) a b = absurd (no_both spot c name choice after left begins starts)
     one_continues spot made state events others f g is (refused _ _ _ c after begins selected reason refuses) (ended _ _ _ blanks_too) a b = absurd (no_item_in_blanks spot.rest (clause_item c) after blanks_too begins)
     one_continues spot made state events others f g is (refused _ _ _ c after begins selected reason refuses) (stuck _ _ _ because k) a b = absurd (stuck_no_item spot because (clause_item c) after k begins)
     one_continues spot made state events others f g is (refused _ _ _ c after begins selected reason refuses) (passed_over _ _ _ d left starts passed_too more _ rest_too) a b = absurd (passed_too (subst (λ (x : Clause). IsSelected spot.around x.name) (same_clause spot c d after left begins starts).0 selected))
     one_continues spot made state events others f g is (refused _ _ _ c after begins selected reason refuses) (accepted _ _ _ d left starts selected_too accepts_too more _ rest_too) a b =
-        absurd (accepts_or_refuses limit state d (state ++ d ∷ []) reason accepts_too
-        (subst (λ x. Refuses limit state x reason) (same_clause spot c d after left begins starts).0 refuses))
+        absurd (accepts_or_refuses rules state d (state ++ d ∷ []) reason accepts_too
+        (subst (λ x. Refuses rules state x reason) (same_clause spot c d after left begins starts).0 refuses))
     one_continues spot made state events others f g is (refused _ _ _ c after begins selected reason refuses) (refused _ _ _ d left starts selected_too cause refuses_too) a b =
         let same = same_clause spot c d after left begins starts in
-        let reasons = one_refusal limit state c is reason cause refuses (subst (λ x. Refuses limit state x cause) (sym same.0) refuses_too) in
+        let reasons = one_refusal rules state c is reason cause refuses (subst (λ x. Refuses rules state x cause) (sym same.0) refuses_too) in
         ((λ i. attempt (same.0 i) ∷ []), (λ i. Some (rejected (same.0 i) (reasons i))))
     one_continues spot made state events others f g is (refused _ _ _ c after begins selected reason refuses) (expanded _ _ _ name choice left starts within more full _ harvest_too rest_too parts_too) a b = absurd (no_both spot c name choice after left begins starts)
     one_continues spot made state events others f g is (refused _ _ _ c after begins selected reason refuses) (broken_off _ _ _ name choice left starts more because harvest_too) a b = absurd (no_both spot c name choice after left begins starts)
@@ -303,17 +304,17 @@ module _ (files : Files) (bounds : Bounds) (limit : ℕ) where
         let same = same_include spot file name selection choice after left begins starts in
         let inner =
         one_harvest spot.opened (narrowed selection spot.around) made state file inside within None None is harvest
-        (subst (λ (x : Bytes × Selection). Harvests files bounds limit spot.opened (narrowed x.1 spot.around) made state x.0 within None) (λ i. (sym same.0 i, sym same.1 i)) harvest_too) ends_well ends_well in
+        (subst (λ (x : Bytes × Selection). Harvests files bounds rules spot.opened (narrowed x.1 spot.around) made state x.0 within None) (λ i. (sym same.0 i, sym same.1 i)) harvest_too) ends_well ends_well in
         let rests =
         one_continues (record spot { rest = after }) (made + fetches inside) (state ++ tried inside) own more f g
         (harvest_stays spot.opened (narrowed selection spot.around) made state file inside is harvest) rest
-        (subst (λ (x : Bytes × List Event). Continues files bounds limit (record spot { rest = x.0 }) (made + fetches x.1) (state ++ tried x.1) more g) (λ i. (sym same.2 i, sym inner.0 i)) rest_too) a b in
+        (subst (λ (x : Bytes × List Event). Continues files bounds rules (record spot { rest = x.0 }) (made + fetches x.1) (state ++ tried x.1) more g) (λ i. (sym same.2 i, sym inner.0 i)) rest_too) a b in
         (parts ∙ (λ i. inner.0 i ++ rests.0 i) ∙ sym parts_too, rests.1)
     one_continues spot made state events others f g is (expanded _ _ _ file selection after begins inside own whole _ harvest rest parts) (broken_off _ _ _ name choice left starts more because harvest_too) a b =
         let same = same_include spot file name selection choice after left begins starts in
         let inner =
         one_harvest spot.opened (narrowed selection spot.around) made state file inside more None (Some because) is harvest
-        (subst (λ (x : Bytes × Selection). Harvests files bounds limit spot.opened (narrowed x.1 spot.around) made state x.0 more (Some because)) (λ i. (sym same.0 i, sym same.1 i)) harvest_too) ends_well b in
+        (subst (λ (x : Bytes × Selection). Harvests files bounds rules spot.opened (narrowed x.1 spot.around) made state x.0 more (Some because)) (λ i. (sym same.0 i, sym same.1 i)) harvest_too) ends_well b in
         absurd (none-some _ inner.1)
     one_continues spot made state events others f g is (broken_off _ _ _ file selection after begins own why harvest) (ended _ _ _ blanks_too) a b = absurd (no_item_in_blanks spot.rest (include_item file selection) after blanks_too begins)
     one_continues spot made state events others f g is (broken_off _ _ _ file selection after begins own why harvest) (stuck _ _ _ because k) a b = absurd (stuck_no_item spot because (include_item file selection) after k begins)
@@ -324,11 +325,11 @@ module _ (files : Files) (bounds : Bounds) (limit : ℕ) where
         let same = same_include spot file name selection choice after left begins starts in
         let inner =
         one_harvest spot.opened (narrowed selection spot.around) made state file own within (Some why) None is harvest
-        (subst (λ (x : Bytes × Selection). Harvests files bounds limit spot.opened (narrowed x.1 spot.around) made state x.0 within None) (λ i. (sym same.0 i, sym same.1 i)) harvest_too) a ends_well in
+        (subst (λ (x : Bytes × Selection). Harvests files bounds rules spot.opened (narrowed x.1 spot.around) made state x.0 within None) (λ i. (sym same.0 i, sym same.1 i)) harvest_too) a ends_well in
         absurd (none-some _ (sym inner.1))
     one_continues spot made state events others f g is (broken_off _ _ _ file selection after begins own why harvest) (broken_off _ _ _ name choice left starts more because harvest_too) a b =
         let same = same_include spot file name selection choice after left begins starts in
         let inner =
         one_harvest spot.opened (narrowed selection spot.around) made state file own more (Some why) (Some because) is harvest
-        (subst (λ (x : Bytes × Selection). Harvests files bounds limit spot.opened (narrowed x.1 spot.around) made state x.0 more (Some because)) (λ i. (sym same.0 i, sym same.1 i)) harvest_too) a b in
+        (subst (λ (x : Bytes × Selection). Harvests files bounds rules spot.opened (narrowed x.1 spot.around) made state x.0 more (Some because)) (λ i. (sym same.0 i, sym same.1 i)) harvest_too) a b in
         inner

@@ -1,18 +1,19 @@
--- A clause is accepted or refused, and refused for one reason.
-use Rattle.std.proofs.Common.{◌≡◌, ℕ, List, refl, sym, ap, ◌∙◌, arith}
+-- A clause isn't both accepted and refused, and is refused for at most one reason.
+use Rattle.std.proofs.Common.{◌≡◌, List, refl, sym, ap, ◌∙◌, arith}
 use Rattle.si_defs.specs.Clauses.{Clause}
 use Rattle.si_defs.specs.Entries.{clause_symbols, state_symbols}
+use Rattle.si_state.specs.States.{Rules}
 use Rattle.si_state.specs.Acceptance.{Accepts, Refusal, taken, misused, full, Refuses}
 use Rattle.si_laws.specs.OneReply.{IsConsistent}
 use Rattle.si_laws.proofs.StateLaws.{same_clash, no_clash}
 
-module _ (limit : ℕ) (state : List Clause) (c : Clause) where
-  pub accepts_or_refuses : (new : List Clause) (why : Refusal) → Accepts limit state c new → Refuses limit state c why → ⊥
+module _ (rules : Rules) (state : List Clause) (c : Clause) where
+  pub accepts_or_refuses : (new : List Clause) (why : Refusal) → Accepts rules state c new → Refuses rules state c why → ⊥
   accepts_or_refuses new taken accepts refuses = accepts.free refuses
   accepts_or_refuses new (misused n f k) accepts refuses = no_clash (state_symbols state) (clause_symbols c) n f k refuses.1 accepts.agree
   accepts_or_refuses new (full n) accepts refuses = absurd (omega (arith, accepts.room, refuses.2))
 
-  pub one_refusal : IsConsistent state → (why other : Refusal) → Refuses limit state c why → Refuses limit state c other → why ≡ other
+  pub one_refusal : IsConsistent state → (why other : Refusal) → Refuses rules state c why → Refuses rules state c other → why ≡ other
   one_refusal is taken taken h k = refl
   one_refusal is taken (misused n g l) h k = absurd (k.0 h)
   one_refusal is taken (full n) h k = absurd (k.0 h)

@@ -1,9 +1,9 @@
--- Runs stay consistent, and of right replies to some requests there is one list.
+-- Runs stay consistent, and of right replies to some requests there is at most one list.
 use Rattle.std.proofs.Common.{◌≡◌, ℕ, Bool, List, [], ◌∷◌, Option, Some, sym, ◌∙◌, subst}
 use Rattle.si_defs.specs.Bytes.{Bytes}
-use Rattle.si_defs.specs.Clauses.{Clause}
+use Rattle.si_state.specs.States.{State}
 use Rattle.si_state.specs.Harvest.{Files}
-use Rattle.si_steps.specs.declared.limits.Limits.{Limits}
+use Rattle.si_steps.specs.Settings.{Setting}
 use Rattle.si_steps.specs.Loads.{Owed}
 use Rattle.si_steps.specs.Replies.{Reply}
 use Rattle.si_steps.specs.Steps.{Step, right, memory_at_once, memory_behind}
@@ -15,54 +15,54 @@ use Rattle.si_laws.proofs.OutcomeLaws.{step_stays, load_stays, one_load}
 use Rattle.si_laws.proofs.StepLaws.{one_step}
 
 -- ---- words
-right_word_stays : (limits : Limits) (told : Option Files) (state : List Clause) (word : Bytes) (reply : Reply) (owed : Owed) (new : List Clause) → IsConsistent state → RightWord limits told state word reply owed new → IsConsistent new
-right_word_stays limits told state word reply owed new is (nameless none said owes stays) = subst IsConsistent (sym stays) is
-right_word_stays limits told state word reply owed new is (named names performs) = load_stays limits told word state reply owed new is performs
+right_word_stays : (setting : Setting) (told : Option Files) (state : State) (word : Bytes) (reply : Reply) (owed : Owed) (new : State) → IsConsistent state.clauses → RightWord setting told state word reply owed new → IsConsistent new.clauses
+right_word_stays setting told state word reply owed new is (nameless none said owes stays) = subst (λ (s : State). IsConsistent s.clauses) (sym stays) is
+right_word_stays setting told state word reply owed new is (named names performs) = load_stays setting told word state reply owed new is performs
 
-word_stays : (limits : Limits) (told : Option Files) (state : List Clause) (word : Bytes) (reply : Reply) (owed : Owed) (new : List Clause) → IsConsistent state → WordStep limits told state word reply owed new → IsConsistent new
-word_stays limits told state word reply owed new is (right_word step) = right_word_stays limits told state word reply owed new is step
-word_stays limits told state word reply owed new is (no_memory names said owes stays) = subst IsConsistent (sym stays) is
+word_stays : (setting : Setting) (told : Option Files) (state : State) (word : Bytes) (reply : Reply) (owed : Owed) (new : State) → IsConsistent state.clauses → WordStep setting told state word reply owed new → IsConsistent new.clauses
+word_stays setting told state word reply owed new is (right_word step) = right_word_stays setting told state word reply owed new is step
+word_stays setting told state word reply owed new is (no_memory names said owes stays) = subst (λ (s : State). IsConsistent s.clauses) (sym stays) is
 
-pub one_word : (limits : Limits) (files : Files) (state : List Clause) (word : Bytes) → IsConsistent state → OneRightWord limits files state word
-one_word limits files state word is reply other owed due new behind (nameless none said owes stays) (nameless none_too said_too owes_too stays_too) a b =
+pub one_word : (setting : Setting) (files : Files) (state : State) (word : Bytes) → IsConsistent state.clauses → OneRightWord setting files state word
+one_word setting files state word is reply other owed due new behind (nameless none said owes stays) (nameless none_too said_too owes_too stays_too) a b =
     (said ∙ sym said_too, owes ∙ sym owes_too, stays ∙ sym stays_too)
-one_word limits files state word is reply other owed due new behind (nameless none said owes stays) (named names performs) a b = cc
-one_word limits files state word is reply other owed due new behind (named names performs) (nameless none said owes stays) a b = cc
-one_word limits files state word is reply other owed due new behind (named names performs) (named names_too performs_too) a b =
-    one_load limits files word state is reply other owed due new behind performs performs_too a b
+one_word setting files state word is reply other owed due new behind (nameless none said owes stays) (named names performs) a b = cc
+one_word setting files state word is reply other owed due new behind (named names performs) (nameless none said owes stays) a b = cc
+one_word setting files state word is reply other owed due new behind (named names performs) (named names_too performs_too) a b =
+    one_load setting files word state is reply other owed due new behind performs performs_too a b
 
 -- ---- lines
-any_step_stays : (limits : Limits) (told : Option Files) (state : List Clause) (line : Bytes) (reply : Reply) (owed : Owed) (new : List Clause) → IsConsistent state → Step limits told state line reply owed new → IsConsistent new
-any_step_stays limits told state line reply owed new is (right step) = step_stays limits told state line reply owed new is step
-any_step_stays limits told state line reply owed new is (memory_at_once noisy short said owes stays) = subst IsConsistent (sym stays) is
-any_step_stays limits told state line reply owed new is (memory_behind whole due next step short written left parts some said owes stays) = subst IsConsistent (sym stays) is
+any_step_stays : (setting : Setting) (told : Option Files) (state : State) (line : Bytes) (reply : Reply) (owed : Owed) (new : State) → IsConsistent state.clauses → Step setting told state line reply owed new → IsConsistent new.clauses
+any_step_stays setting told state line reply owed new is (right step) = step_stays setting told state line reply owed new is step
+any_step_stays setting told state line reply owed new is (memory_at_once noisy short said owes stays) = subst (λ (s : State). IsConsistent s.clauses) (sym stays) is
+any_step_stays setting told state line reply owed new is (memory_behind whole due next step short written left parts some said owes stays) = subst (λ (s : State). IsConsistent s.clauses) (sym stays) is
 
 -- ---- runs
-act_stays : (limits : Limits) (told : Option Files) (state : List Clause) (request : Request) (reply : Reply) (owed : Owed) (new : List Clause) → IsConsistent state → Acts limits told state request reply owed new → IsConsistent new
-act_stays limits told state (a_word word) reply owed new is acts = word_stays limits told state word reply owed new is acts
-act_stays limits told state (a_line line) reply owed new is acts = any_step_stays limits told state line reply owed new is acts
+act_stays : (setting : Setting) (told : Option Files) (state : State) (request : Request) (reply : Reply) (owed : Owed) (new : State) → IsConsistent state.clauses → Acts setting told state request reply owed new → IsConsistent new.clauses
+act_stays setting told state (a_word word) reply owed new is acts = word_stays setting told state word reply owed new is acts
+act_stays setting told state (a_line line) reply owed new is acts = any_step_stays setting told state line reply owed new is acts
 
-pub run_stays : (limits : Limits) (told : Option Files) (strict : Bool) (state : List Clause) (requests : List Request) (output : Bytes) (failures : ℕ) (new : List Clause) → IsConsistent state → Run limits told strict state requests output failures new → IsConsistent new
-run_stays limits told strict state [] output failures new is run = subst IsConsistent (sym run.2) is
-run_stays limits told strict state (request ∷ requests) output failures new is (reply, owed, next, others, further, acts, goes, run, whole, count) =
-    run_stays limits told strict next requests others further new (act_stays limits told state request reply owed next is acts) run
+pub run_stays : (setting : Setting) (told : Option Files) (strict : Bool) (state : State) (requests : List Request) (output : Bytes) (failures : ℕ) (new : State) → IsConsistent state.clauses → Run setting told strict state requests output failures new → IsConsistent new.clauses
+run_stays setting told strict state [] output failures new is run = subst (λ (s : State). IsConsistent s.clauses) (sym run.2) is
+run_stays setting told strict state (request ∷ requests) output failures new is (reply, owed, next, others, further, acts, goes, run, whole, count) =
+    run_stays setting told strict next requests others further new (act_stays setting told state request reply owed next is acts) run
 
-right_act_stays : (limits : Limits) (files : Files) (state : List Clause) (request : Request) (reply : Reply) (owed : Owed) (new : List Clause) → IsConsistent state → RightlyActs limits files state request reply owed new → IsConsistent new
-right_act_stays limits files state (a_word word) reply owed new is acts = right_word_stays limits (Some files) state word reply owed new is acts
-right_act_stays limits files state (a_line line) reply owed new is acts = step_stays limits (Some files) state line reply owed new is acts
+right_act_stays : (setting : Setting) (files : Files) (state : State) (request : Request) (reply : Reply) (owed : Owed) (new : State) → IsConsistent state.clauses → RightlyActs setting files state request reply owed new → IsConsistent new.clauses
+right_act_stays setting files state (a_word word) reply owed new is acts = right_word_stays setting (Some files) state word reply owed new is acts
+right_act_stays setting files state (a_line line) reply owed new is acts = step_stays setting (Some files) state line reply owed new is acts
 
-one_act : (limits : Limits) (files : Files) (state : List Clause) (request : Request) (reply other : Reply) (owed due : Owed) (new behind : List Clause) → IsConsistent state
-    → RightlyActs limits files state request reply owed new → RightlyActs limits files state request other due behind
+one_act : (setting : Setting) (files : Files) (state : State) (request : Request) (reply other : Reply) (owed due : Owed) (new behind : State) → IsConsistent state.clauses
+    → RightlyActs setting files state request reply owed new → RightlyActs setting files state request other due behind
     → TellsNoFailure owed → TellsNoFailure due → (reply ≡ other) × (owed ≡ due) × (new ≡ behind)
-one_act limits files state (a_word word) reply other owed due new behind is h k a b = one_word limits files state word is reply other owed due new behind h k a b
-one_act limits files state (a_line line) reply other owed due new behind is h k a b = one_step limits files state line is (one_meaning line) reply other owed due new behind h k a b
+one_act setting files state (a_word word) reply other owed due new behind is h k a b = one_word setting files state word is reply other owed due new behind h k a b
+one_act setting files state (a_line line) reply other owed due new behind is h k a b = one_step setting files state line is (one_meaning line) reply other owed due new behind h k a b
 
-pub one_run : (limits : Limits) (files : Files) (state : List Clause) (requests : List Request) (replies others : List Reply) (new behind : List Clause) → IsConsistent state
-    → RightRun limits files state requests replies new → RightRun limits files state requests others behind → (replies ≡ others) × (new ≡ behind)
-one_run limits files state [] replies others new behind is run again = (run.0 ∙ sym again.0, run.1 ∙ sym again.1)
-one_run limits files state (request ∷ requests) replies others new behind is (reply, owed, next, rest, acts, well, run, whole) (told, due, then, more, acts_too, well_too, again, whole_too) =
-    let same = one_act limits files state request reply told owed due next then is acts acts_too well well_too in
+pub one_run : (setting : Setting) (files : Files) (state : State) (requests : List Request) (replies others : List Reply) (new behind : State) → IsConsistent state.clauses
+    → RightRun setting files state requests replies new → RightRun setting files state requests others behind → (replies ≡ others) × (new ≡ behind)
+one_run setting files state [] replies others new behind is run again = (run.0 ∙ sym again.0, run.1 ∙ sym again.1)
+one_run setting files state (request ∷ requests) replies others new behind is (reply, owed, next, rest, acts, well, run, whole) (told, due, then, more, acts_too, well_too, again, whole_too) =
+    let same = one_act setting files state request reply told owed due next then is acts acts_too well well_too in
     let left =
-    one_run limits files next requests rest more new behind (right_act_stays limits files state request reply owed next is acts) run
-    (subst (λ s. RightRun limits files s requests more behind) (sym same.2) again) in
+    one_run setting files next requests rest more new behind (right_act_stays setting files state request reply owed next is acts) run
+    (subst (λ s. RightRun setting files s requests more behind) (sym same.2) again) in
     (whole ∙ (λ i. same.0 i ∷ left.0 i) ∙ sym whole_too, left.1)

@@ -5,6 +5,7 @@ use Rattle.std.proofs.lemmas.Bool.{eq-eqb, eqb-true, and_parts, false≢true}
 use Rattle.si_defs.specs.Symbols.{Symbol, same_side}
 use Rattle.si_defs.specs.Clauses.{Name, Clause}
 use Rattle.si_defs.specs.Substitutions.{IsAmong, AreDistinct}
+use Rattle.si_state.specs.States.{Rules}
 use Rattle.si_state.specs.Acceptance.{names, IsTaken, HasDistinctNames, Clashes, Agrees, AllAgree, IsFirstClash, Accepts, Removes}
 use Rattle.si_state.specs.Signatures.{CountsSymbols}
 use Rattle.si_defs.proofs.SymbolLaws.{side_is, side_self}
@@ -135,8 +136,8 @@ same_count state m n (xs, one, members, count) (ys, other, those, number) =
 pub consistent_none : IsConsistent []
 consistent_none = record { distinct = tt; agree = tt }
 
-pub consistent_more : (limit : ℕ) (state : List Clause) (c : Clause) (new : List Clause) → IsConsistent state → Accepts limit state c new → IsConsistent new
-consistent_more limit state c new is accepts =
+pub consistent_more : (rules : Rules) (state : List Clause) (c : Clause) (new : List Clause) → IsConsistent state → Accepts rules state c new → IsConsistent new
+consistent_more rules state c new is accepts =
     subst IsConsistent (sym accepts.added) (record { distinct = names_more state c is.distinct accepts.free; agree = symbols_more state c is.agree accepts.agree })
 
 pub consistent_less : (state : List Clause) (name : Name) (c : Clause) (new : List Clause) → IsConsistent state → Removes state name c new → IsConsistent new

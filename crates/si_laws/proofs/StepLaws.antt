@@ -1,14 +1,15 @@
--- A line has one right step in a consistent state, where it means one command at most.
+-- A line has at most one right step in a consistent state, where it means one command at most.
 use Rattle.std.proofs.Common.{◌≡◌, List, [], ◌∷◌, Option, Some, sym, ◌∙◌, subst, arith, ◌≤◌, length}
 use Rattle.si_defs.specs.Bytes.{Bytes}
-use Rattle.si_defs.specs.Clauses.{Clause}
 use Rattle.si_defs.specs.Tokens.{Token, lower, AreBlanks, Begins}
 use Rattle.si_defs.specs.Grammar.{left_bracket}
 use Rattle.si_steps.specs.Words.{command_text}
 use Rattle.si_steps.specs.declared.word.Word.TheVariants.{Add}
 use Rattle.si_lex.proofs.TokenLaws.{blanks_none}
+use Rattle.si_state.specs.States.{State}
 use Rattle.si_state.specs.Harvest.{Files}
 use Rattle.si_steps.specs.declared.limits.Limits.{Limits}
+use Rattle.si_steps.specs.Settings.{Setting}
 use Rattle.si_steps.specs.Commands.{Command, load, command_word, Means, IsLong, IsLater, IsDecided, IsSilent, AddsForeign}
 use Rattle.si_steps.specs.Replies.{Reply}
 use Rattle.si_steps.specs.Loads.{Owed, nothing, PerformsLoad}
@@ -41,78 +42,78 @@ load_is : (file name : Bytes) → load file ≡ load name → file ≡ name
 load_is file name e = cc
 
 -- they are the same where two loads are
-module _ (limits : Limits) (told tell : Option Files) (state : List Clause) (line : Bytes) (is : IsConsistent state) (one : HasOneMeaning line)
-    (reply other : Reply) (owed due : Owed) (new behind : List Clause)
-    (loads : (file : Bytes) → Means (load file) line → PerformsLoad limits told file state reply owed new → PerformsLoad limits tell file state other due behind → (reply ≡ other) × (owed ≡ due) × (new ≡ behind)) where
+module _ (setting : Setting) (told tell : Option Files) (state : State) (line : Bytes) (is : IsConsistent state.clauses) (one : HasOneMeaning line)
+    (reply other : Reply) (owed due : Owed) (new behind : State)
+    (loads : (file : Bytes) → Means (load file) line → PerformsLoad setting told file state reply owed new → PerformsLoad setting tell file state other due behind → (reply ≡ other) × (owed ≡ due) × (new ≡ behind)) where
   same : (r : Reply) → reply ≡ r → other ≡ r → owed ≡ nothing → due ≡ nothing → new ≡ state → behind ≡ state → (reply ≡ other) × (owed ≡ due) × (new ≡ behind)
   same r a b d e n m = (a ∙ sym b, d ∙ sym e, n ∙ sym m)
 
   -- a load is not performed as another command
-  no_load : (command : Command) (file : Bytes) (r : Reply) (n : List Clause) → Means command line → Means (load file) line → Performs limits command state r n → ⊥
-  no_load command file r n means load_means performs = subst (λ c. Performs limits c state r n) (one command (load file) means load_means) performs
+  no_load : (command : Command) (file : Bytes) (r : Reply) (n : State) → Means command line → Means (load file) line → Performs setting command state r n → ⊥
+  no_load command file r n means load_means performs = subst (λ c. Performs setting c state r n) (one command (load file) means load_means) performs
 
-  pub two_steps : RightStep limits told state line reply owed new → RightStep limits tell state line other due behind → (reply ≡ other) × (owed ≡ due) × (new ≡ behind)
+  pub two_steps : RightStep setting told state line reply owed new → RightStep setting tell state line other due behind → (reply ≡ other) × (owed ≡ due) × (new ≡ behind)
   two_steps (long h r d n) (long k s e m) = same _ r s d e n m
-  two_steps (long h r d n) (later k s e m) = absurd (not_both limits line h k.0)
-  two_steps (long h r d n) (silent k s e m) = absurd (not_both limits line h k.0)
-  two_steps (long h r d n) (foreign p k never s e m) = absurd (not_both limits line h p.short)
-  two_steps (long h r d n) (wrong p noisy home never s e m) = absurd (not_both limits line h p.short)
-  two_steps (long h r d n) (performed p again means_too performs_too e) = absurd (not_both limits line h p.short)
-  two_steps (long h r d n) (loaded p name means_too performs_too) = absurd (not_both limits line h p.short)
-  two_steps (later h r d n) (long k s e m) = absurd (not_both limits line k h.0)
+  two_steps (long h r d n) (later k s e m) = absurd (not_both setting.limits line h k.0)
+  two_steps (long h r d n) (silent k s e m) = absurd (not_both setting.limits line h k.0)
+  two_steps (long h r d n) (foreign p k never s e m) = absurd (not_both setting.limits line h p.short)
+  two_steps (long h r d n) (wrong p noisy home never s e m) = absurd (not_both setting.limits line h p.short)
+  two_steps (long h r d n) (performed p again means_too performs_too e) = absurd (not_both setting.limits line h p.short)
+  two_steps (long h r d n) (loaded p name means_too performs_too) = absurd (not_both setting.limits line h p.short)
+  two_steps (later h r d n) (long k s e m) = absurd (not_both setting.limits line k h.0)
   two_steps (later h r d n) (later k s e m) = same _ r s d e n m
-  two_steps (later h r d n) (silent k s e m) = absurd (silent_no_later limits line k h)
-  two_steps (later h r d n) (foreign p k never s e m) = absurd (not_decided limits line h p)
-  two_steps (later h r d n) (wrong p noisy home never s e m) = absurd (not_decided limits line h p)
-  two_steps (later h r d n) (performed p again means_too performs_too e) = absurd (not_decided limits line h p)
-  two_steps (later h r d n) (loaded p name means_too performs_too) = absurd (not_decided limits line h p)
-  two_steps (silent h r d n) (long k s e m) = absurd (not_both limits line k h.0)
-  two_steps (silent h r d n) (later k s e m) = absurd (silent_no_later limits line h k)
+  two_steps (later h r d n) (silent k s e m) = absurd (silent_no_later setting.limits line k h)
+  two_steps (later h r d n) (foreign p k never s e m) = absurd (not_decided setting.limits line h p)
+  two_steps (later h r d n) (wrong p noisy home never s e m) = absurd (not_decided setting.limits line h p)
+  two_steps (later h r d n) (performed p again means_too performs_too e) = absurd (not_decided setting.limits line h p)
+  two_steps (later h r d n) (loaded p name means_too performs_too) = absurd (not_decided setting.limits line h p)
+  two_steps (silent h r d n) (long k s e m) = absurd (not_both setting.limits line k h.0)
+  two_steps (silent h r d n) (later k s e m) = absurd (silent_no_later setting.limits line h k)
   two_steps (silent h r d n) (silent k s e m) = same _ r s d e n m
-  two_steps (silent h r d n) (foreign p k never s e m) = absurd (silent_no_foreign limits line h k)
+  two_steps (silent h r d n) (foreign p k never s e m) = absurd (silent_no_foreign setting.limits line h k)
   two_steps (silent h r d n) (wrong p noisy home never s e m) = absurd (noisy h)
-  two_steps (silent h r d n) (performed p again means_too performs_too e) = absurd (silent_no_command limits line h again means_too)
-  two_steps (silent h r d n) (loaded p name means_too performs_too) = absurd (silent_no_command limits line h (load name) means_too)
-  two_steps (foreign o h none r d n) (long k s e m) = absurd (not_both limits line k o.short)
-  two_steps (foreign o h none r d n) (later k s e m) = absurd (not_decided limits line k o)
-  two_steps (foreign o h none r d n) (silent k s e m) = absurd (silent_no_foreign limits line k h)
+  two_steps (silent h r d n) (performed p again means_too performs_too e) = absurd (silent_no_command setting.limits line h again means_too)
+  two_steps (silent h r d n) (loaded p name means_too performs_too) = absurd (silent_no_command setting.limits line h (load name) means_too)
+  two_steps (foreign o h none r d n) (long k s e m) = absurd (not_both setting.limits line k o.short)
+  two_steps (foreign o h none r d n) (later k s e m) = absurd (not_decided setting.limits line k o)
+  two_steps (foreign o h none r d n) (silent k s e m) = absurd (silent_no_foreign setting.limits line k h)
   two_steps (foreign o h none r d n) (foreign p k never s e m) = same _ r s d e n m
   two_steps (foreign o h none r d n) (wrong p noisy home never s e m) = absurd (home h)
   two_steps (foreign o h none r d n) (performed p again means_too performs_too e) = absurd (none again means_too)
   two_steps (foreign o h none r d n) (loaded p name means_too performs_too) = absurd (none (load name) means_too)
-  two_steps (wrong o loud own none r d n) (long k s e m) = absurd (not_both limits line k o.short)
-  two_steps (wrong o loud own none r d n) (later k s e m) = absurd (not_decided limits line k o)
+  two_steps (wrong o loud own none r d n) (long k s e m) = absurd (not_both setting.limits line k o.short)
+  two_steps (wrong o loud own none r d n) (later k s e m) = absurd (not_decided setting.limits line k o)
   two_steps (wrong o loud own none r d n) (silent k s e m) = absurd (loud k)
   two_steps (wrong o loud own none r d n) (foreign p k never s e m) = absurd (own k)
   two_steps (wrong o loud own none r d n) (wrong p noisy home never s e m) = same _ r s d e n m
   two_steps (wrong o loud own none r d n) (performed p again means_too performs_too e) = absurd (none again means_too)
   two_steps (wrong o loud own none r d n) (loaded p name means_too performs_too) = absurd (none (load name) means_too)
-  two_steps (performed o command means performs d) (long k s e m) = absurd (not_both limits line k o.short)
-  two_steps (performed o command means performs d) (later k s e m) = absurd (not_decided limits line k o)
-  two_steps (performed o command means performs d) (silent k s e m) = absurd (silent_no_command limits line k command means)
+  two_steps (performed o command means performs d) (long k s e m) = absurd (not_both setting.limits line k o.short)
+  two_steps (performed o command means performs d) (later k s e m) = absurd (not_decided setting.limits line k o)
+  two_steps (performed o command means performs d) (silent k s e m) = absurd (silent_no_command setting.limits line k command means)
   two_steps (performed o command means performs d) (foreign p k never s e m) = absurd (never command means)
   two_steps (performed o command means performs d) (wrong p noisy home never s e m) = absurd (never command means)
   two_steps (performed o command means performs d) (performed p again means_too performs_too e) =
       let outcome =
-      one_outcome limits command state is reply other new behind performs
-      (subst (λ c. Performs limits c state other behind) (one again command means_too means) performs_too) in
+      one_outcome setting command state is reply other new behind performs
+      (subst (λ c. Performs setting c state other behind) (one again command means_too means) performs_too) in
       (outcome.0, d ∙ sym e, outcome.1)
   two_steps (performed o command means performs d) (loaded p name means_too performs_too) = absurd (no_load command name reply new means means_too performs)
-  two_steps (loaded o file means performs) (long k s e m) = absurd (not_both limits line k o.short)
-  two_steps (loaded o file means performs) (later k s e m) = absurd (not_decided limits line k o)
-  two_steps (loaded o file means performs) (silent k s e m) = absurd (silent_no_command limits line k (load file) means)
+  two_steps (loaded o file means performs) (long k s e m) = absurd (not_both setting.limits line k o.short)
+  two_steps (loaded o file means performs) (later k s e m) = absurd (not_decided setting.limits line k o)
+  two_steps (loaded o file means performs) (silent k s e m) = absurd (silent_no_command setting.limits line k (load file) means)
   two_steps (loaded o file means performs) (foreign p k never s e m) = absurd (never (load file) means)
   two_steps (loaded o file means performs) (wrong p noisy home never s e m) = absurd (never (load file) means)
   two_steps (loaded o file means performs) (performed p again means_too performs_too e) = absurd (no_load again file other behind means_too means performs_too)
   two_steps (loaded o file means performs) (loaded p name means_too performs_too) =
       loads file means performs
-      (subst (λ f. PerformsLoad limits tell f state other due behind) (load_is name file (one (load name) (load file) means_too means)) performs_too)
+      (subst (λ f. PerformsLoad setting tell f state other due behind) (load_is name file (one (load name) (load file) means_too means)) performs_too)
 
-pub one_step : (limits : Limits) (files : Files) (state : List Clause) (line : Bytes) → IsConsistent state → HasOneMeaning line → OneRightStep limits files state line
-one_step limits files state line is one reply other owed due new behind step step_too a b =
-    two_steps limits (Some files) (Some files) state line is one reply other owed due new behind
-    (λ file means h k. one_load limits files file state is reply other owed due new behind h k a b) step step_too
+pub one_step : (setting : Setting) (files : Files) (state : State) (line : Bytes) → IsConsistent state.clauses → HasOneMeaning line → OneRightStep setting files state line
+one_step setting files state line is one reply other owed due new behind step step_too a b =
+    two_steps setting (Some files) (Some files) state line is one reply other owed due new behind
+    (λ file means h k. one_load setting files file state is reply other owed due new behind h k a b) step step_too
 
-pub one_step_without_load : (limits : Limits) (state : List Clause) (line : Bytes) → IsConsistent state → HasOneMeaning line → LoadsNothing line → OneStepOfAnyLibrary limits state line
-one_step_without_load limits state line is one none told tell reply other owed due new behind step step_too =
-    two_steps limits told tell state line is one reply other owed due new behind (λ file means h k. absurd (none file means)) step step_too
+pub one_step_without_load : (setting : Setting) (state : State) (line : Bytes) → IsConsistent state.clauses → HasOneMeaning line → LoadsNothing line → OneStepOfAnyLibrary setting state line
+one_step_without_load setting state line is one none told tell reply other owed due new behind step step_too =
+    two_steps setting told tell state line is one reply other owed due new behind (λ file means h k. absurd (none file means)) step step_too

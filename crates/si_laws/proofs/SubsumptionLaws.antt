@@ -1,4 +1,4 @@
--- There is one least map, and so one answer to a question of subsumption.
+-- There is at most one least map, and so at most one answer to a question of subsumption.
 use Rattle.std.proofs.Common.{◌≡◌, ℕ, inl, inr, List, [], ◌∷◌, refl, sym, ◌∙◌, arith}
 use Rattle.si_defs.specs.Clauses.{Literal, Clause}
 use Rattle.si_state.specs.Subsumption.{IsNoLater, IsLeast, MappedClause, AreMapped}

@@ -3,25 +3,25 @@
 
 ghost use Rattle.si_laws.specs.OneReply.{IsConsistent, HasOneOutcome, LoadsToOneOutcome, HasOneMeaning, OneRightStep, LoadsNothing, OneStepOfAnyLibrary, OneRightWord, OneRightRun, StaysConsistent};
 ghost use Rattle.si_defs.specs.Bytes.{Bytes};
-ghost use Rattle.si_defs.specs.Clauses.{Clause};
-ghost use Rattle.std.specs.Prelude.{ℕ, Bool, List, [], Option};
+ghost use Rattle.std.specs.Prelude.{ℕ, Bool, List, Option};
+ghost use Rattle.si_state.specs.States.{State, empty_state};
 ghost use Rattle.si_state.specs.Harvest.{Files};
-ghost use Rattle.si_steps.specs.declared.limits.Limits.{Limits};
+ghost use Rattle.si_steps.specs.Settings.{Setting};
 ghost use Rattle.si_steps.specs.Commands.{Command};
 ghost use Rattle.si_steps.specs.Runs.{Request, Run};
 
-/// Where each symbol is used in one way and names are distinct, a command that is no load has one
-/// right reply and one right state behind it. They depend on the limits, the command and the list
-/// of clauses alone.
+/// Where each symbol is used in one way and names are distinct, a command that is no load has at
+/// most one right reply and one right state after it. They depend on the limits, the rules of
+/// acceptance, the command and the state alone.
 pub fn commands_have_one_outcome()
-    ensures { (limits : Limits) (command : Command) (state : List Clause)
-        → IsConsistent state → HasOneOutcome limits command state }
+    ensures { (setting : Setting) (command : Command) (state : State)
+        → IsConsistent state.clauses → HasOneOutcome setting command state }
 {}
 
-/// So has a load, but that the library may fail: the files decide too, where it tells them.
+/// So has a load, except that the library may fail: the files decide too, where it tells them.
 pub fn loads_have_one_outcome()
-    ensures { (limits : Limits) (files : Files) (file : Bytes) (state : List Clause)
-        → IsConsistent state → LoadsToOneOutcome limits files file state }
+    ensures { (setting : Setting) (files : Files) (file : Bytes) (state : State)
+        → IsConsistent state.clauses → LoadsToOneOutcome setting files file state }
 {}
 
 /// A line means one command at most.
@@ -29,38 +29,41 @@ pub fn lines_have_one_meaning()
     ensures { (line : Bytes) → HasOneMeaning line }
 {}
 
-/// A line has one right step in such a state, but that the library may fail. It depends on the
-/// limits, the line, the list of clauses and the files alone: a clause that is gone leaves no
-/// trace. The files decide nothing where the line is no load, whether they are told or not.
+/// A line has at most one right step in such a state, except that the library may fail. It depends
+/// on the limits, the rules of acceptance, the line, the state and the files alone: a clause that
+/// is gone leaves no trace. The files decide nothing where the line is no load, whether they are
+/// told or not.
 pub fn lines_have_one_right_step()
-    ensures step { (limits : Limits) (files : Files) (state : List Clause) (line : Bytes)
-        → IsConsistent state → OneRightStep limits files state line }
-    ensures without_load { (limits : Limits) (state : List Clause) (line : Bytes)
-        → IsConsistent state → LoadsNothing line → OneStepOfAnyLibrary limits state line }
+    ensures step { (setting : Setting) (files : Files) (state : State) (line : Bytes)
+        → IsConsistent state.clauses → OneRightStep setting files state line }
+    ensures without_load { (setting : Setting) (state : State) (line : Bytes)
+        → IsConsistent state.clauses → LoadsNothing line → OneStepOfAnyLibrary setting state line }
 {}
 
 /// A right step keeps names distinct, and symbols used in one way, whatever the library tells.
 pub fn right_steps_stay_consistent()
-    ensures { (limits : Limits) (told : Option Files) (state : List Clause) (line : Bytes)
-        → StaysConsistent limits told state line }
+    ensures { (setting : Setting) (told : Option Files) (state : State) (line : Bytes)
+        → StaysConsistent setting told state line }
 {}
 
 /// Each state of a session is such, also where memory runs out or the library fails.
 pub fn runs_stay_consistent()
-    ensures { (limits : Limits) (told : Option Files) (strict : Bool) (requests : List Request)
-        (output : Bytes) (failures : ℕ) (new : List Clause)
-        → Run limits told strict [] requests output failures new → IsConsistent new }
+    ensures { (setting : Setting) (told : Option Files) (strict : Bool) (requests : List Request)
+        (output : Bytes) (failures : ℕ) (new : State)
+        → Run setting told strict empty_state requests output failures new
+        → IsConsistent new.clauses }
 {}
 
-/// A word that names a file has one right step in such a state, but that the library may fail.
+/// A word that names a file has at most one right step in such a state, except that the library may
+/// fail.
 pub fn words_have_one_right_step()
-    ensures { (limits : Limits) (files : Files) (state : List Clause) (word : Bytes)
-        → IsConsistent state → OneRightWord limits files state word }
+    ensures { (setting : Setting) (files : Files) (state : State) (word : Bytes)
+        → IsConsistent state.clauses → OneRightWord setting files state word }
 {}
 
-/// The words and lines of a session have one list of right replies, and one right state behind
-/// them, where the library tells its files and doesn't fail.
+/// The words and lines of a session have at most one list of right replies, and one right state
+/// after them, where the library tells its files and doesn't fail.
 pub fn sessions_have_one_right_run()
-    ensures { (limits : Limits) (files : Files) (requests : List Request)
-        → OneRightRun limits files requests }
+    ensures { (setting : Setting) (files : Files) (requests : List Request)
+        → OneRightRun setting files requests }
 {}

@@ -203,6 +203,22 @@ over_whole tokens bytes rest stop d b o ts c n = by d (over_every tokens bytes r
       let r : rest ≡ c.rest = begins_unique ts bytes rest c.rest (subst (λ x. Begins bytes x rest) same b) c.begins in
       absurd (o.more e (subst (λ x. AreBlanks x) (sym r) c.blanks))
 
+-- the reasons to stop differ
+bad_no_end : Bad ≡ End → ⊥
+bad_no_end e = cc
+
+bad_no_full : Bad ≡ FullStop → ⊥
+bad_no_full e = cc
+
+end_no_full : End ≡ FullStop → ⊥
+end_no_full e = cc
+
+full_no_end : FullStop ≡ End → ⊥
+full_no_end e = cc
+
+full_no_bad : FullStop ≡ Bad → ⊥
+full_no_bad e = cc
+
 -- what was read so far, and no more
 over_read : (item : Bool) (bytes : Bytes) (at : ℕ) (l : Lexing) (depth : ℕ) (s : IsSoFar item bytes at l.start l.tokens.items depth l.end) → (l.stop ≡ End → l.end ≡ length bytes)
     → IsOver s.rest depth l.stop → IsLexed bytes at l s.rest
@@ -216,6 +232,7 @@ over_read item bytes at l depth s w o = record {
   begins = s.begins;
   nested = s.nested;
   blanks = o.blanks;
+  bad = λ e. o.more (λ f. bad_no_end (sym e ∙ f));
   faulty = λ e. faulty (tokens_of l.tokens.items) s.begins e;
 } where
   faulty : (ts : List Token) → Begins (drop at bytes) ts s.rest → (l.stop ≡ End → ⊥) → AreBlanks (drop at bytes) → ⊥
@@ -239,19 +256,6 @@ over_lexing false bytes at l depth s d w o = record {
   every = over_every (tokens_of l.tokens.items) (drop at bytes) s.rest l.stop s.begins (subst (λ k. IsOver s.rest k l.stop) s.opened o);
   whole = over_whole (tokens_of l.tokens.items) (drop at bytes) s.rest l.stop d s.begins (subst (λ k. IsOver s.rest k l.stop) s.opened o);
 }
-
--- the reasons to stop differ
-bad_no_end : Bad ≡ End → ⊥
-bad_no_end e = cc
-
-bad_no_full : Bad ≡ FullStop → ⊥
-bad_no_full e = cc
-
-end_no_full : End ≡ FullStop → ⊥
-end_no_full e = cc
-
-full_no_end : FullStop ≡ End → ⊥
-full_no_end e = cc
 
 -- at the end of the bytes
 pub lexing_end : (item : Bool) (bytes : Bytes) (at : ℕ) (l : Lexing) (depth : ℕ) → IsSoFar item bytes at l.start l.tokens.items depth l.end → length bytes ≤ l.end → l.stop ≡ End
@@ -305,6 +309,7 @@ lexing_stop bytes at l tokens depth place t s w k d f items end stop =
         begins = begins;
         nested = subst (λ ts. nesting (tokens_of ts) ≤ DEEPEST_NESTING) (sym items) (push_nested tokens t depth s.nested s.opened s.shallow d);
         blanks = λ e. absurd (full_no_end (sym stop ∙ e));
+        bad = λ e. absurd (full_no_bad (sym stop ∙ e));
         faulty = λ e. first_no_blanks (drop at bytes) (drop l.end bytes) (tokens_of l.tokens.items) begins (some ends);
       };
       stop = λ e. (ends, refl);

@@ -5,7 +5,7 @@ use Rattle.si_defs.specs.Tokens.{Token, Begins, Consists, AreBlanks}
 use Rattle.si_defs.specs.Grammar.{nesting}
 use Rattle.si_defs.specs.declared.TheConstants.{DEEPEST_NESTING}
 use Rattle.si_lex.specs.declared.lexing.Lexing.{Lexing}
-use Rattle.si_lex.specs.declared.lexing.Stop.TheVariants.{End, FullStop}
+use Rattle.si_lex.specs.declared.lexing.Stop.TheVariants.{End, Bad, FullStop}
 use Rattle.si_lex.specs.Lexemes.{tokens_of}
 use Rattle.si_lex.specs.Places.{IsBehindBlanks}
 use Rattle.si_lex.specs.FullStops.{HasNoStop, GoesToStop, EndsAtStop}
@@ -23,6 +23,8 @@ pub record IsLexed (bytes : Bytes) (at : ℕ) (l : Lexing) (rest : Bytes) : Type
   -- at the end nothing but blanks was left
   pub ended : l.stop ≡ End → l.end ≡ length bytes
   pub blanks : l.stop ≡ End → AreBlanks rest
+  -- at a bad place more than blanks is left
+  pub bad : l.stop ≡ Bad → AreBlanks rest → ⊥
   -- without tokens, the stop says whether anything but blanks stands there
   pub faulty : (l.stop ≡ End → ⊥) → AreBlanks (drop at bytes) → ⊥
 

@@ -5,6 +5,7 @@ use Rattle.std.specs.List.{AllByRecursion}
 use Rattle.si_defs.specs.Bytes.{Bytes}
 use Rattle.si_defs.specs.Clauses.{Name, Literal, Clause}
 use Rattle.si_defs.specs.Printing.{name_text, map_text}
+use Rattle.si_state.specs.States.{State}
 use Rattle.si_state.specs.Subsumption.{MappedClause, AreMapped, mapped_text}
 use Rattle.si_steps.specs.Replies.{mapped_reply}
 use Rattle.si_steps.specs.Runs.{ended}
@@ -45,8 +46,8 @@ module _ (P : List Literal → List ℕ → Type 0) (clauses : List Clause) wher
 
   -- what an answer does
   pub mapped : (found : List Mapped) → AreMappedFrom P 0 clauses found → (o : Stepped) (a b : Told) → Writes o (mapped_reply (all_mapped clauses found)) a b
-      → HasPerformed (λ reply new. (ms : List MappedClause) × AreMapped P clauses ms × (reply ≡ mapped_reply ms) × (new ≡ clauses)) clauses clauses o a b
-  mapped found h o a b w = rightly (mapped_reply (all_mapped clauses found)) (all_mapped clauses found, mapped_from [] clauses refl found h, refl, refl) w
+      → (state : State) → HasPerformed (λ reply new. (ms : List MappedClause) × AreMapped P clauses ms × (reply ≡ mapped_reply ms) × (new ≡ state)) state state o a b
+  mapped found h o a b w state = rightly (mapped_reply (all_mapped clauses found)) (all_mapped clauses found, mapped_from [] clauses refl found h, refl, refl) w
 
 -- ---- lines
 pub line_parts : (name : Name) (ns : List ℕ) → mapped_line name ns ≡ name_text name ++ (sign_text Space ++ (map_text ns ++ sign_text LineFeed))

@@ -10,9 +10,10 @@ use Rattle.si_defs.specs.Clauses.{Term, Terms, Literal, Clause, IsSoundTerm, Are
 use Rattle.si_defs.specs.Entries.{Entry, Placed, proper_occurrences, placed_term, placed_in, literal_entries, entries_from, entries, state_entries}
 use Rattle.si_defs.specs.Generator.{IsSample}
 use Rattle.si_defs.specs.declared.TheConstants.{MOST_OCCURRENCES}
-use Rattle.si_state.specs.Harvest.{Fault, AreClauses, AreAccepted, cycle, too_deep, too_many, missing, too_big, failed, foreign, malformed, rejected}
+use Rattle.si_state.specs.States.{State, Rules}
+use Rattle.si_state.specs.Harvest.{Fault, AreClauses, cycle, too_deep, too_many, missing, too_big, failed, foreign, malformed, rejected}
 use Rattle.si_state.specs.Samples.{SumsAnswers}
-use Rattle.si_steps.specs.declared.limits.Limits.{Limits}
+use Rattle.si_steps.specs.Settings.{Setting}
 use Rattle.si_steps.specs.Commands.{sample}
 use Rattle.si_steps.specs.Replies.{sample_line, memory_line, fault_line}
 use Rattle.si_steps.specs.Steps.{Performs}
@@ -28,8 +29,9 @@ use Rattle.si_session.specs.declared.reply.ReplyLine as program
 use Rattle.si_session.specs.declared.stepped.Stepped.{Stepped}
 use Rattle.si_session.specs.Replies.{reply_line}
 use Rattle.si_session.specs.Rejections.{TellsFaultOfLoad}
-use Rattle.si_session.specs.Session.{Writes, HasPerformed, ActsOn, rightly, at_once}
+use Rattle.si_session.specs.Session.{Writes, ActsOn, rightly, at_once, holding, ruled_by}
 use Rattle.si_session.specs.Sums.{GainsSample, RefusesSample, CountsAnswers, SumsTo, TellsSum}
+use Rattle.si_session.proofs.Acting.{holds_same}
 use Rattle.si_session.proofs.Loading.{fault_told}
 
 abbrev All : Type 0
@@ -177,19 +179,19 @@ first_of : (xs ys whole : List Clause) (n : ℕ) → whole ≡ xs ++ ys → n �
 first_of xs ys whole n e same =
     ap (λ l. take (length l - n) l) e ∙ take_at xs ys (length (xs ++ ys) - n) (omega (arith, same, length-append xs ys))
 
-pub no_more : (limit start count : ℕ) (state new : List Clause) (gained : Loaded) → GainsSample limit start count state gained new → gained.clauses ≤ length new
-no_more limit start count state new gained g = omega (arith, g.0.clauses, ap length g.0.whole, length-append state g.0.gained)
+pub no_more : (rules : Rules) (start count : ℕ) (state new : List Clause) (gained : Loaded) → GainsSample rules start count state gained new → gained.clauses ≤ length new
+no_more rules start count state new gained g = omega (arith, g.0.clauses, ap length g.0.whole, length-append state g.0.gained)
 
 -- exactly the clauses of a sample's text were gained
-pub sample_gained : (limit start count : ℕ) (state new drawn : List Clause) (text : Bytes) (gained : Loaded) → IsSample start count text → AreClauses drawn text
-    → GainsText limit state text gained new → GainsSample limit start count state gained new
-sample_gained limit start count state new drawn text gained h are g = (g.0, (text, h, subst (λ cs. AreClauses cs text) (g.1 drawn are) are))
+pub sample_gained : (rules : Rules) (start count : ℕ) (state new drawn : List Clause) (text : Bytes) (gained : Loaded) → IsSample start count text → AreClauses drawn text
+    → GainsText rules state text gained new → GainsSample rules start count state gained new
+sample_gained rules start count state new drawn text gained h are g = (g.0, (text, h, subst (λ cs. AreClauses cs text) (g.1 drawn are) are))
 
 -- ---- the command
 module _ (start count : ℕ) (old new : Kept) (o : Stepped) (a b : Told) where
-  pub sample_told : (between : List Clause) (gained : Loaded) → GainsSample old.limit start count old.clauses gained between → TellsSum gained between new.clauses o a b
-      → ActsOn (λ limits. Performs limits (sample start count)) old new o a b
-  sample_told between gained g (inl t) limits same =
+  pub sample_told : (between : List Clause) (gained : Loaded) → GainsSample old.rules start count old.clauses gained between → TellsSum gained between new.clauses o a b
+      → ActsOn (sample start count) old new o a b
+  sample_told between gained g (inl t) setting state =
       let all = g.0 in
       let last = last_of old.clauses all.gained between gained.clauses all.whole all.clauses in
       rightly (sample_line gained.clauses gained.entries t.0 ∷ []) (
@@ -197,38 +199,33 @@ module _ (start count : ℕ) (old new : Kept) (o : Stepped) (a b : Told) where
         g.1,
         inr (
           t.0,
-          subst (λ l. AreAccepted l old.clauses all.gained) (sym same) all.accepted,
+          all.accepted,
           subst (λ l. SumsAnswers (state_entries l) (state_entries all.gained) t.0) (sym t.2) (subst (λ l. SumsAnswers (state_entries between) (state_entries l) t.0) last t.1),
           ap₂ (λ m n. sample_line m n t.0 ∷ []) all.clauses all.entries,
-          t.2 ∙ all.whole,
+          ap (λ cs. record state { clauses = cs }) (t.2 ∙ all.whole),
         ),
       )
       t.3
-  sample_told between gained g (inr t) limits same =
-      at_once (t.0 ∙ first_of old.clauses g.0.gained between gained.clauses g.0.whole g.0.clauses) t.1
+  sample_told between gained g (inr t) setting state =
+      at_once (holds_same old new state (t.0 ∙ first_of old.clauses g.0.gained between gained.clauses g.0.whole g.0.clauses)) t.1
 
-  first_refused : (limits : Limits) (fault : Fault) → RefusesSample limits.entries start count old.clauses fault → new.clauses ≡ old.clauses
-      → Performs limits (sample start count) old.clauses (fault_line limits.entries fault ∷ []) new.clauses
-  first_refused limits (rejected c why) h same = (h.0, h.1, inl (c, why, h.2, refl, same))
-  first_refused limits (cycle file) h same = absurd h.2
-  first_refused limits (too_deep file) h same = absurd h.2
-  first_refused limits too_many h same = absurd h.2
-  first_refused limits (missing file) h same = absurd h.2
-  first_refused limits (too_big file) h same = absurd h.2
-  first_refused limits (failed file) h same = absurd h.2
-  first_refused limits (foreign file line) h same = absurd h.2
-  first_refused limits (malformed file line) h same = absurd h.2
+  first_refused : (setting : Setting) (state : State) (fault : Fault) → RefusesSample old.rules start count old.clauses fault → new.clauses ≡ old.clauses
+      → Performs (ruled_by setting old) (sample start count) (holding state old) (fault_line old.rules.entries fault ∷ []) (holding state new)
+  first_refused setting state (rejected c why) h same = (h.0, h.1, inl (c, why, h.2, refl, holds_same old new state same))
+  first_refused setting state (cycle file) h same = absurd h.2
+  first_refused setting state (too_deep file) h same = absurd h.2
+  first_refused setting state too_many h same = absurd h.2
+  first_refused setting state (missing file) h same = absurd h.2
+  first_refused setting state (too_big file) h same = absurd h.2
+  first_refused setting state (failed file) h same = absurd h.2
+  first_refused setting state (foreign file line) h same = absurd h.2
+  first_refused setting state (malformed file line) h same = absurd h.2
 
-  refused_by : (e : HarvestFault) (line : program.ReplyLine) (limits : Limits) → Explains limits.entries e (RefusesSample limits.entries start count old.clauses) → TellsFaultOfLoad e line
-      → new.clauses ≡ old.clauses → Writes o (reply_line line ∷ []) a b → HasPerformed (Performs limits (sample start count) old.clauses) old.clauses new.clauses o a b
-  refused_by e line limits (inl m) t same w =
+  pub sample_refused : (e : HarvestFault) (line : program.ReplyLine) → Explains old.rules e (RefusesSample old.rules start count old.clauses) → TellsFaultOfLoad e line
+      → new.clauses ≡ old.clauses → Writes o (reply_line line ∷ []) a b → ActsOn (sample start count) old new o a b
+  sample_refused e line (inl m) t same w setting state =
       let out : reply_line line ≡ memory_line = subst (λ f. TellsFaultOfLoad f line) m t in
-      at_once same (subst (λ l. Writes o (l ∷ []) a b) out w)
-  refused_by e line limits (inr r) t same w =
-      rightly (fault_line limits.entries r.fault ∷ []) (first_refused limits r.fault r.holds same)
-      (subst (λ l. Writes o (l ∷ []) a b) (fault_told limits.entries e r.fault line r.told t) w)
-
-  pub sample_refused : (e : HarvestFault) (line : program.ReplyLine) → Explains old.limit e (RefusesSample old.limit start count old.clauses) → TellsFaultOfLoad e line
-      → new.clauses ≡ old.clauses → Writes o (reply_line line ∷ []) a b → ActsOn (λ limits. Performs limits (sample start count)) old new o a b
-  sample_refused e line h t same w limits fits =
-      refused_by e line limits (subst (λ l. Explains l e (RefusesSample l start count old.clauses)) (sym fits) h) t same w
+      at_once (holds_same old new state same) (subst (λ l. Writes o (l ∷ []) a b) out w)
+  sample_refused e line (inr r) t same w setting state =
+      rightly (fault_line old.rules.entries r.fault ∷ []) (first_refused setting state r.fault r.holds same)
+      (subst (λ l. Writes o (l ∷ []) a b) (fault_told old.rules e r.fault line r.told t) w)

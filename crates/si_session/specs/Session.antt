@@ -1,15 +1,17 @@
 -- What a session is seen as, and what one step does.
-use Rattle.std.specs.Prelude.{◌≡◌, Bool, List, [], ◌∷◌, ◌++◌, Option, IsTrue, IsFalse, refl}
-use Rattle.std.specs.Coded.{Coded, code_by, coded×, coded_list}
+use Rattle.std.specs.Prelude.{◌≡◌, Bool, [], ◌∷◌, ◌++◌, Option, IsTrue, IsFalse, refl}
+use Rattle.std.specs.Coded.{Coded, code_by, coded×}
 use Rattle.si_defs.specs.Bytes.{Bytes}
-use Rattle.si_defs.specs.Clauses.{Clause}
+use Rattle.si_state.specs.States.{State, Rules, state_code, rules_code, empty_state}
 use Rattle.si_steps.specs.declared.limits.Limits.{Limits}
 use Rattle.si_steps.specs.contracts.limits.Limits as limits_contracts
+use Rattle.si_steps.specs.Settings.{Setting}
+use Rattle.si_steps.specs.Commands.{Command}
 use Rattle.si_steps.specs.Replies.{Reply, is_refusal, memory_line}
 use Rattle.si_state.specs.Harvest.{Files}
 use Rattle.si_steps.specs.Loads.{Owed, nothing, a_miss, a_big, a_failure, PerformsLoad}
+use Rattle.si_steps.specs.Steps.{Performs}
 use Rattle.si_steps.specs.Runs.{Request, Acts, ended}
-use Rattle.si_defs.specs.Codes.{clause_code}
 use Rattle.si_io.specs.Content.{Told, Receives, ReceivesPrefix}
 use Rattle.si_io.specs.Faults.{Rose}
 use Rattle.si_io.specs.Library.{Counts}
@@ -17,15 +19,31 @@ use Rattle.si_index.specs.Kept.{Kept}
 use Rattle.si_session.specs.declared.stepped.Stepped.{Stepped}
 use Rattle.si_session.specs.declared.stepped.Stepped.TheVariants.{Answered, Refused, Silent, SinkFailed}
 
--- the kept clauses, in the order of acceptance, and the limits
-pub record State : Type 0 where
-  pub clauses : List Clause
-  pub limits : Limits
+-- its state, and what it goes by
+pub record View : Type 0 where
+  pub state : State
+  pub setting : Setting
 
-abbrev pub state_code : Coded State
-state_code =
-    code_by (List Clause × Limits) (coded× (coded_list clause_code) limits_contracts.the_row.coded)
-    (λ s. (s.clauses, s.limits)) (λ p. record { clauses = p.0; limits = p.1 }) (λ _. refl)
+abbrev pub setting_code : Coded Setting
+setting_code =
+    code_by (Limits × Rules) (coded× limits_contracts.the_row.coded rules_code)
+    (λ s. (s.limits, s.rules)) (λ p. record { limits = p.0; rules = p.1 }) (λ _. refl)
+
+abbrev pub view_code : Coded View
+view_code =
+    code_by (State × Setting) (coded× state_code setting_code) (λ v. (v.state, v.setting))
+    (λ p. record { state = p.0; setting = p.1 }) (λ _. refl)
+
+-- what a session with these limits and this index is seen as
+abbrev pub view_of : Limits → Kept → View
+view_of limits index = record {
+  state = record { clauses = index.clauses };
+  setting = record { limits = limits; rules = index.rules };
+}
+
+-- a session that is new, in this setting
+abbrev pub IsFresh : Setting → View → Type 0
+IsFresh setting session = session ≡ record { state = empty_state; setting = setting }
 
 -- what stands in the sink behind a step with this reply
 abbrev pub Writes : Stepped → Reply → Told → Told → Type 0
@@ -57,45 +75,62 @@ abbrev pub around : Told → Counts → Bool → Around
 around sink counts may_fail = record { sink = sink; counts = counts; may_fail = may_fail }
 
 -- The call went one step over a library: the state is the one behind it, its reply was written, or
--- at a sink's fault a prefix of it, and what the reply owes to the library was counted.
-pub record Steps (told : Option Files) (old new : State) (request : Request) (outcome : Stepped)
+-- at a sink's fault a prefix of it, and what the reply owes to the library was counted. The setting
+-- stays.
+pub record Steps (told : Option Files) (old new : View) (request : Request) (outcome : Stepped)
     (before after : Around) : Type 0 where
   pub reply : Reply
   pub owed : Owed
-  pub step : Acts old.limits told old.clauses request reply owed new.clauses
-  pub limits : new.limits ≡ old.limits
+  pub step : Acts old.setting told old.state request reply owed new.state
+  pub setting : new.setting ≡ old.setting
   pub written : Writes outcome reply before.sink after.sink
   pub counted : IsCounted before.may_fail owed before.counts after.counts
 
 -- ---- parts of a step
 -- What a command did: its reply P was right, and so is the state behind it; or memory ran out, at
 -- once or behind some of the lines of the right reply, and the state stayed.
-pub data HasPerformed (P : Reply → List Clause → Type 0) (old new : List Clause) (outcome : Stepped)
+pub data HasPerformed (P : Reply → State → Type 0) (old new : State) (outcome : Stepped)
     (before after : Told) : Type 0 where
   rightly : (reply : Reply) → P reply new → Writes outcome reply before after
       → HasPerformed P old new outcome before after
   at_once : new ≡ old → Writes outcome (memory_line ∷ []) before after
       → HasPerformed P old new outcome before after
-  behind : (whole : Reply) (next : List Clause) → P whole next → (written left : Reply)
+  behind : (whole : Reply) (next : State) → P whole next → (written left : Reply)
       → whole ≡ written ++ left → (left ≡ [] → ⊥)
       → new ≡ old → Writes outcome (written ++ memory_line ∷ []) before after
       → HasPerformed P old new outcome before after
 
--- the same of an index, under limits that allow as many entries as it does
-abbrev pub ActsOn : (Limits → List Clause → Reply → List Clause → Type 0) → Kept → Kept → Stepped
-    → Told → Told → Type 0
-ActsOn P old new outcome before after =
-    (limits : Limits) → limits.entries ≡ old.limit
-    → HasPerformed (P limits old.clauses) old.clauses new.clauses outcome before after
+-- the state and the setting of a session, with what the index has of them
+abbrev pub holding : State → Kept → State
+holding state index = record state { clauses = index.clauses }
+
+abbrev pub ruled_by : Setting → Kept → Setting
+ruled_by setting index = record setting { rules = index.rules }
+
+-- An index did what a command asks of it: so the command was performed, whatever else there is of a
+-- state and a setting.
+abbrev pub ActsOn : Command → Kept → Kept → Stepped → Told → Told → Type 0
+ActsOn command old new outcome before after =
+    (setting : Setting) (state : State)
+    → HasPerformed (Performs (ruled_by setting old) command (holding state old))
+    (holding state old) (holding state new) outcome before after
 
 -- What a load did: its reply was right, what it owes was counted, and the state is the one behind
 -- it; or memory ran out, and the state stayed.
-pub data HasLoaded (limits : Limits) (told : Option Files) (file : Bytes) (old new : List Clause)
+pub data HasLoaded (setting : Setting) (told : Option Files) (file : Bytes) (old new : State)
     (outcome : Stepped) (before after : Around) : Type 0 where
-  rightly_loaded : (reply : Reply) (owed : Owed) → PerformsLoad limits told file old reply owed new
+  rightly_loaded : (reply : Reply) (owed : Owed) → PerformsLoad setting told file old reply owed new
       → Writes outcome reply before.sink after.sink
       → IsCounted before.may_fail owed before.counts after.counts
-      → HasLoaded limits told file old new outcome before after
+      → HasLoaded setting told file old new outcome before after
   ran_out : new ≡ old → Writes outcome (memory_line ∷ []) before.sink after.sink
       → after.counts ≡ before.counts
-      → HasLoaded limits told file old new outcome before after
+      → HasLoaded setting told file old new outcome before after
+
+-- the same of an index, under these limits
+abbrev pub LoadsInto : Limits → Option Files → (file : Bytes) → Kept → Kept → Stepped
+    → Around → Around → Type 0
+LoadsInto limits told file old new outcome before after =
+    (state : State)
+    → HasLoaded (view_of limits old).setting told file (holding state old) (holding state new)
+    outcome before after

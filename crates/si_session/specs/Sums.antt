@@ -3,6 +3,7 @@ use Rattle.std.specs.Prelude.{◌≡◌, ℕ, ◌-◌, ◌*◌, ◌≤◌, ◌�
 use Rattle.si_defs.specs.Clauses.{Clause, Pattern}
 use Rattle.si_defs.specs.Entries.{Entry, Placed, pattern_entry, state_entries}
 use Rattle.si_defs.specs.declared.Relation.TheVariants.{Unifiable}
+use Rattle.si_state.specs.States.{Rules}
 use Rattle.si_state.specs.Answers.{Hit, IsAnswer}
 use Rattle.si_state.specs.Harvest.{Fault}
 use Rattle.si_state.specs.Samples.{AreDrawn, SumsAnswers}
@@ -16,14 +17,14 @@ use Rattle.si_session.specs.Session.{Writes}
 
 -- ---- the clauses
 -- so many clauses that are drawn from this start were gained
-abbrev pub GainsSample : ℕ → ℕ → ℕ → List Clause → Loaded → List Clause → Type 0
-GainsSample limit start count state loaded new =
-    (all : Gained limit state loaded new) × AreDrawn start count all.gained
+abbrev pub GainsSample : Rules → ℕ → ℕ → List Clause → Loaded → List Clause → Type 0
+GainsSample rules start count kept loaded new =
+    (all : Gained rules kept loaded new) × AreDrawn start count all.gained
 
 -- the fault is the first of them that is refused, and why
-abbrev pub RefusesSample : ℕ → ℕ → ℕ → List Clause → Fault → Type 0
-RefusesSample limit start count state fault =
-    (drawn : List Clause) × AreDrawn start count drawn × RefusesFirst limit state drawn fault
+abbrev pub RefusesSample : Rules → ℕ → ℕ → List Clause → Fault → Type 0
+RefusesSample rules start count kept fault =
+    (drawn : List Clause) × AreDrawn start count drawn × RefusesFirst rules kept drawn fault
 
 -- ---- the sum
 -- so many of the entries unify with the pattern

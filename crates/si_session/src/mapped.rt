@@ -6,7 +6,6 @@ ghost use Rattle.si_state.specs.Subsumption.{mapped_text};
 ghost use Rattle.si_steps.specs.Commands as command;
 ghost use Rattle.si_steps.specs.Replies.{mapped_reply};
 ghost use Rattle.si_steps.specs.Runs.{ended};
-ghost use Rattle.si_steps.specs.Steps.{Performs};
 ghost use Rattle.si_io.specs.Puts.{Puts};
 ghost use Rattle.si_io.specs.Faults.{Rose, HasCause};
 ghost use Rattle.si_term.specs.Meaning.{name_of, literal_of};
@@ -109,9 +108,8 @@ fn tell_mapped<K: Sink>(index: &Index, found: &Mappeds, sink: &mut K) -> Stepped
 /// Answers which clauses subsume a formula.
 pub fn subsumers<K: Sink>(index: &Index, formula: &Literals, sink: &mut K) -> Stepped
     requires { AreSoundLiterals (map literal_of formula.now) }
-    ensures acts { ActsOn (λ limits. Performs limits
-        (command.subsumers (map literal_of formula.now))) index.now index.now result
-        (K.written sink.old) (K.written sink.new) }
+    ensures acts { ActsOn (command.subsumers (map literal_of formula.now)) index.now index.now
+        result (K.written sink.old) (K.written sink.new) }
     ensures later { K.faults sink.old ≤ K.faults sink.new }
     ensures kept { (result ≡ SinkFailed → ⊥) → K.faults sink.new ≡ K.faults sink.old }
     ensures failed { result ≡ SinkFailed → Rose (K.faults sink.old) (K.faults sink.new) }
@@ -125,8 +123,7 @@ pub fn subsumers<K: Sink>(index: &Index, formula: &Literals, sink: &mut K) -> St
 /// Answers which clauses a formula subsumes.
 pub fn subsumed<K: Sink>(index: &Index, formula: &Literals, sink: &mut K) -> Stepped
     requires { AreSoundLiterals (map literal_of formula.now) }
-    ensures acts { ActsOn (λ limits. Performs limits
-        (command.subsumed (map literal_of formula.now))) index.now index.now result
+    ensures acts { ActsOn (command.subsumed (map literal_of formula.now)) index.now index.now result
         (K.written sink.old) (K.written sink.new) }
     ensures later { K.faults sink.old ≤ K.faults sink.new }
     ensures kept { (result ≡ SinkFailed → ⊥) → K.faults sink.new ≡ K.faults sink.old }

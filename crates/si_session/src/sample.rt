@@ -5,7 +5,6 @@ ghost use Rattle.si_defs.specs.Entries.{entries, placed_in, state_entries};
 ghost use Rattle.si_defs.specs.declared.TheConstants.{MOST_OCCURRENCES};
 ghost use Rattle.si_state.specs.Samples.{AllowsSample, SumsAnswers};
 ghost use Rattle.si_steps.specs.Commands.{sample};
-ghost use Rattle.si_steps.specs.Steps.{Performs};
 ghost use Rattle.si_io.specs.Faults.{Rose};
 ghost use Rattle.si_term.specs.Meaning.{clause_of, entry_of, pattern_of};
 ghost use Rattle.si_flat.specs.Flattened.{IsSoundEntry};
@@ -33,10 +32,10 @@ pub fn sample<K: Sink>(
     sink: &mut K,
 ) -> Stepped
     requires drawable { AllowsSample start count }
-    requires limit { index.old.limit ≤ MOST_OCCURRENCES }
-    ensures acts { ActsOn (λ limits. Performs limits (sample start count)) index.old index.new
-        result (K.written sink.old) (K.written sink.new) }
-    ensures limit { index.new.limit ≡ index.old.limit }
+    requires limit { index.old.rules.entries ≤ MOST_OCCURRENCES }
+    ensures acts { ActsOn (sample start count) index.old index.new result
+        (K.written sink.old) (K.written sink.new) }
+    ensures rules { index.new.rules ≡ index.old.rules }
     ensures later { K.faults sink.old ≤ K.faults sink.new }
     ensures kept { (result ≡ SinkFailed → ⊥) → K.faults sink.new ≡ K.faults sink.old }
     ensures failed { result ≡ SinkFailed → Rose (K.faults sink.old) (K.faults sink.new) }
@@ -55,13 +54,13 @@ fn take_sample(
     count: u32,
 ) -> Result<Loaded, HarvestFault>
     requires drawable { AllowsSample start count }
-    requires limit { index.old.limit ≤ MOST_OCCURRENCES }
-    ensures gained { IfOk result (λ gained. GainsSample index.old.limit start count
+    requires limit { index.old.rules.entries ≤ MOST_OCCURRENCES }
+    ensures gained { IfOk result (λ gained. GainsSample index.old.rules start count
         index.old.clauses gained index.new.clauses) }
-    ensures fault { IfErr result (λ e. Explains index.old.limit e
-        (RefusesSample index.old.limit start count index.old.clauses)) }
+    ensures fault { IfErr result (λ e. Explains index.old.rules e
+        (RefusesSample index.old.rules start count index.old.clauses)) }
     ensures err { OnErr result (index.new.clauses ≡ index.old.clauses) }
-    ensures limit { index.new.limit ≡ index.old.limit }
+    ensures rules { index.new.rules ≡ index.old.rules }
 {
     let text = si_sample::sample(alloc, start, count)?;
     take_text(alloc, text.as_slice(), index)
@@ -73,7 +72,7 @@ fn tell_sum<K: Sink>(alloc: Global, index: &mut Index, gained: Loaded, sink: &mu
     requires { gained.clauses ≤ length index.old.clauses }
     ensures told { TellsSum gained index.old.clauses index.new.clauses result
         (K.written sink.old) (K.written sink.new) }
-    ensures limit { index.new.limit ≡ index.old.limit }
+    ensures rules { index.new.rules ≡ index.old.rules }
     ensures later { K.faults sink.old ≤ K.faults sink.new }
     ensures kept { (result ≡ SinkFailed → ⊥) → K.faults sink.new ≡ K.faults sink.old }
     ensures failed { result ≡ SinkFailed → Rose (K.faults sink.old) (K.faults sink.new) }

@@ -1,13 +1,14 @@
 // A session: the clauses that are kept, and one step for each line.
-ghost use Rattle.std.specs.Prelude.{◌≡◌, ◌↔◌, ◌≤◌, [], IfOk};
+ghost use Rattle.std.specs.Prelude.{◌≡◌, ◌↔◌, ◌≤◌, IfOk};
 ghost use Rattle.std.specs.List.{list_all};
 ghost use Rattle.si_defs.specs.Bytes.{is_printable};
+ghost use Rattle.si_defs.specs.declared.TheConstants.{MOST_OCCURRENCES};
 ghost use Rattle.si_steps.specs.Limits.{AllowsLimits};
-ghost use Rattle.si_steps.specs.Commands.{IsSilent, add, remove, query, stats};
-ghost use Rattle.si_steps.specs.Steps.{Performs};
+ghost use Rattle.si_steps.specs.Settings.{setting_of};
+ghost use Rattle.si_steps.specs.Commands.{IsSilent, add, remove, query};
 ghost use Rattle.si_steps.specs.FileWords.{names_file};
 ghost use Rattle.si_steps.specs.Runs.{a_word, a_line};
-ghost use Rattle.si_session.specs.Session.{Steps, ActsOn, HasLoaded, around};
+ghost use Rattle.si_session.specs.Session.{IsFresh, Steps, ActsOn, LoadsInto, around};
 ghost use Rattle.si_session.specs.declared.stepped.Stepped.TheVariants.{Silent, Refused, SinkFailed};
 ghost use Rattle.si_io.specs.Faults.{Rose};
 ghost use Rattle.si_defs.specs.Clauses.{IsSoundClause, IsSoundPattern};
@@ -41,22 +42,22 @@ pub struct Session {
 impl Model for Session {
     ghost use Rattle.std.specs.Prelude.{◌≡◌};
     ghost use Rattle.si_steps.specs.Limits.{AllowsLimits};
-    ghost use Rattle.si_session.specs.Session.{State, state_code};
+    ghost use Rattle.si_session.specs.Session.{View, view_code, view_of};
 
-    ghost Value = { State };
+    ghost Value = { View };
 
-    ghost coded = { state_code };
+    ghost coded = { view_code };
 
-    ghost view = { λ s. record { clauses = s.index.clauses; limits = s.limits } };
+    ghost view = { λ s. view_of s.limits s.index };
 
-    ghost invariant = { λ s. (s.index.limit ≡ s.limits.entries) × AllowsLimits s.limits };
+    ghost invariant = { λ s. (s.index.rules.entries ≡ s.limits.entries) × AllowsLimits s.limits };
 }
 
 impl Session {
     /// A session without clauses.
     pub fn new(alloc: Global, limits: &Limits) -> Result<Session, AllocError>
         requires { AllowsLimits limits.now }
-        ensures { IfOk result (λ s. s ≡ record { clauses = []; limits = limits.now }) }
+        ensures { IfOk result (IsFresh (setting_of limits.now)) }
     {
         Ok(Session {
             alloc,
@@ -78,8 +79,8 @@ impl Session {
             (around (K.written sink.new) (L.counts library.new) (L.may_fail library.new)) }
         ensures told { L.files library.new ≡ L.files library.old }
         ensures same { L.may_fail library.new ≡ L.may_fail library.old }
-        ensures silent { (result ≡ Silent) ↔ IsSilent self.old.limits line.now }
-        ensures refused { result ≡ Refused → self.new.clauses ≡ self.old.clauses }
+        ensures silent { (result ≡ Silent) ↔ IsSilent self.old.setting.limits line.now }
+        ensures refused { result ≡ Refused → self.new.state ≡ self.old.state }
         ensures later { K.faults sink.old ≤ K.faults sink.new }
         ensures kept { (result ≡ SinkFailed → ⊥) → K.faults sink.new ≡ K.faults sink.old }
         ensures failed { result ≡ SinkFailed → Rose (K.faults sink.old) (K.faults sink.new) }
@@ -129,7 +130,7 @@ impl Session {
         ensures told { L.files library.new ≡ L.files library.old }
         ensures same { L.may_fail library.new ≡ L.may_fail library.old }
         ensures loud { result ≡ Silent → ⊥ }
-        ensures refused { result ≡ Refused → self.new.clauses ≡ self.old.clauses }
+        ensures refused { result ≡ Refused → self.new.state ≡ self.old.state }
         ensures later { K.faults sink.old ≤ K.faults sink.new }
         ensures kept { (result ≡ SinkFailed → ⊥) → K.faults sink.new ≡ K.faults sink.old }
         ensures failed { result ≡ SinkFailed → Rose (K.faults sink.old) (K.faults sink.new) }
@@ -165,9 +166,9 @@ fn are_printable(bytes: &[u8]) -> bool
 /// Keeps a clause if nothing stands against it, and writes the reply.
 fn add<K: Sink>(index: &mut Index, clause: Clause, sink: &mut K) -> Stepped
     requires { IsSoundClause (clause_of clause) }
-    ensures acts { ActsOn (λ limits. Performs limits (add (clause_of clause))) index.old index.new
-        result (K.written sink.old) (K.written sink.new) }
-    ensures limit { index.new.limit ≡ index.old.limit }
+    ensures acts { ActsOn (add (clause_of clause)) index.old index.new result
+        (K.written sink.old) (K.written sink.new) }
+    ensures rules { index.new.rules ≡ index.old.rules }
     ensures later { K.faults sink.old ≤ K.faults sink.new }
     ensures kept { (result ≡ SinkFailed → ⊥) → K.faults sink.new ≡ K.faults sink.old }
     ensures failed { result ≡ SinkFailed → Rose (K.faults sink.old) (K.faults sink.new) }
@@ -194,12 +195,11 @@ fn load_named<L: Library, K: Sink>(
     sink: &mut K,
 ) -> Stepped
     requires allows { AllowsLimits limits.now }
-    requires limit { index.old.limit ≡ limits.now.entries }
-    ensures loads { HasLoaded limits.now (L.files library.old) name index.old.clauses
-        index.new.clauses result
+    requires limit { index.old.rules.entries ≤ MOST_OCCURRENCES }
+    ensures loads { LoadsInto limits.now (L.files library.old) name index.old index.new result
         (around (K.written sink.old) (L.counts library.old) (L.may_fail library.old))
         (around (K.written sink.new) (L.counts library.new) (L.may_fail library.new)) }
-    ensures limit { index.new.limit ≡ index.old.limit }
+    ensures rules { index.new.rules ≡ index.old.rules }
     ensures told { L.files library.new ≡ L.files library.old }
     ensures same { L.may_fail library.new ≡ L.may_fail library.old }
     ensures later { K.faults sink.old ≤ K.faults sink.new }
@@ -219,12 +219,11 @@ fn load<L: Library, K: Sink>(
     sink: &mut K,
 ) -> Stepped
     requires allows { AllowsLimits limits.now }
-    requires limit { index.old.limit ≡ limits.now.entries }
-    ensures loads { HasLoaded limits.now (L.files library.old) name.now index.old.clauses
-        index.new.clauses result
+    requires limit { index.old.rules.entries ≤ MOST_OCCURRENCES }
+    ensures loads { LoadsInto limits.now (L.files library.old) name.now index.old index.new result
         (around (K.written sink.old) (L.counts library.old) (L.may_fail library.old))
         (around (K.written sink.new) (L.counts library.new) (L.may_fail library.new)) }
-    ensures limit { index.new.limit ≡ index.old.limit }
+    ensures rules { index.new.rules ≡ index.old.rules }
     ensures told { L.files library.new ≡ L.files library.old }
     ensures same { L.may_fail library.new ≡ L.may_fail library.old }
     ensures later { K.faults sink.old ≤ K.faults sink.new }
@@ -250,9 +249,9 @@ fn load<L: Library, K: Sink>(
 
 /// Lets the clause with this name go, and writes the reply.
 fn remove<K: Sink>(index: &mut Index, name: Name, sink: &mut K) -> Stepped
-    ensures acts { ActsOn (λ limits. Performs limits (remove (name_of name))) index.old
-        index.new result (K.written sink.old) (K.written sink.new) }
-    ensures limit { index.new.limit ≡ index.old.limit }
+    ensures acts { ActsOn (remove (name_of name)) index.old index.new result
+        (K.written sink.old) (K.written sink.new) }
+    ensures rules { index.new.rules ≡ index.old.rules }
     ensures later { K.faults sink.old ≤ K.faults sink.new }
     ensures kept { (result ≡ SinkFailed → ⊥) → K.faults sink.new ≡ K.faults sink.old }
     ensures failed { result ≡ SinkFailed → Rose (K.faults sink.old) (K.faults sink.new) }
@@ -272,8 +271,8 @@ fn remove<K: Sink>(index: &mut Index, name: Name, sink: &mut K) -> Stepped
 /// Answers which entries stand in a relation to a pattern.
 fn answer<K: Sink>(index: &Index, relation: Relation, pattern: &Pattern, sink: &mut K) -> Stepped
     requires { IsSoundPattern (pattern_of pattern.now) }
-    ensures acts { ActsOn (λ limits. Performs limits (query relation (pattern_of pattern.now)))
-        index.now index.now result (K.written sink.old) (K.written sink.new) }
+    ensures acts { ActsOn (query relation (pattern_of pattern.now)) index.now index.now result
+        (K.written sink.old) (K.written sink.new) }
     ensures later { K.faults sink.old ≤ K.faults sink.new }
     ensures kept { (result ≡ SinkFailed → ⊥) → K.faults sink.new ≡ K.faults sink.old }
     ensures failed { result ≡ SinkFailed → Rose (K.faults sink.old) (K.faults sink.new) }

@@ -11,6 +11,7 @@ use Rattle.si_defs.specs.Clauses.{Name, IsSoundClause}
 use Rattle.si_defs.specs.Entries.{entries, state_entries, clause_symbols, state_symbols}
 use Rattle.si_defs.specs.Symbols.{Symbol, same_kind, same_side}
 use Rattle.si_defs.specs.Substitutions.{IsAmong}
+use Rattle.si_state.specs.States.{Rules}
 use Rattle.si_state.specs.Acceptance.{names, IsTaken, Accepts, Removes, Clashes, Agrees, AllAgree, IsFirstClash}
 use Rattle.si_term.specs.Terms.{symbol_of}
 use Rattle.si_term.specs.declared.term.Sym.{Sym}
@@ -163,10 +164,10 @@ module _ (cs : List term.Clause) (i : ℕ) (one : term.Clause) (within : i < len
     rest = less;
   }
 
-  pub stored_without : (limit : ℕ) → IsStored limit (map clause_of cs) → IsStored limit (map clause_of (remove cs i))
-  stored_without limit stored =
-      subst (IsStored limit) (sym less)
-      (stored_less limit (map clause_of (take i cs)) (clause_of one) (map clause_of (drop (i + 1) cs)) (subst (IsStored limit) clauses_split stored))
+  pub stored_without : (rules : Rules) → IsStored rules (map clause_of cs) → IsStored rules (map clause_of (remove cs i))
+  stored_without rules stored =
+      subst (IsStored rules) (sym less)
+      (stored_less rules (map clause_of (take i cs)) (clause_of one) (map clause_of (drop (i + 1) cs)) (subst (IsStored rules) clauses_split stored))
 
 -- ---- the position of a clause
 pub taken_if_some : (cs : List term.Clause) (n : Name) (at : Option ℕ) → IfSome at (λ i. (c : term.Clause) × (slice_get cs i ≡ Some c) × (name_of c.name ≡ n)) → is_some at ≡ true
@@ -175,21 +176,21 @@ taken_if_some cs n None found some = absurd (false≢true some)
 taken_if_some cs n (Some i) (c, read, named) some = taken_at cs i c (slice_get_within cs i c read) (sym (get_or_from_slice_get cs i c c read)) n named
 
 -- ---- a clause is pushed
-pub stored_pushed : (limit : ℕ) (cs new : List term.Clause) (c : term.Clause) (pushed : Bool) → new ≡ (if pushed then cs ++ c ∷ [] else cs)
-    → IsStored limit (map clause_of cs) → IsSoundClause (clause_of c)
-    → Accepts limit (map clause_of cs) (clause_of c) (map clause_of cs ++ clause_of c ∷ []) → IsStored limit (map clause_of new)
-stored_pushed limit cs new c true is stored sound accepts =
-    subst (IsStored limit) (sym (ap (map clause_of) is ∙ map-append clause_of cs (c ∷ []))) (stored_more limit (map clause_of cs) (clause_of c) stored sound accepts)
-stored_pushed limit cs new c false is stored sound accepts = subst (λ l. IsStored limit (map clause_of l)) (sym is) stored
+pub stored_pushed : (rules : Rules) (cs new : List term.Clause) (c : term.Clause) (pushed : Bool) → new ≡ (if pushed then cs ++ c ∷ [] else cs)
+    → IsStored rules (map clause_of cs) → IsSoundClause (clause_of c)
+    → Accepts rules (map clause_of cs) (clause_of c) (map clause_of cs ++ clause_of c ∷ []) → IsStored rules (map clause_of new)
+stored_pushed rules cs new c true is stored sound accepts =
+    subst (IsStored rules) (sym (ap (map clause_of) is ∙ map-append clause_of cs (c ∷ []))) (stored_more rules (map clause_of cs) (clause_of c) stored sound accepts)
+stored_pushed rules cs new c false is stored sound accepts = subst (λ l. IsStored rules (map clause_of l)) (sym is) stored
 
 -- ---- the last clause goes, if there is one
 pub last_gone : (cs rest : List term.Clause) (last : Option term.Clause) (c : term.Clause) → cs ≡ rest ++ option_to_list last → last ≡ Some c
     → map clause_of cs ≡ map clause_of rest ++ clause_of c ∷ []
 last_gone cs rest last c whole is = ap (map clause_of) (whole ∙ ap (λ l. rest ++ option_to_list l) is) ∙ map-append clause_of rest (c ∷ [])
 
-pub stored_but_last : (limit : ℕ) (cs rest : List term.Clause) (last : Option term.Clause) → cs ≡ rest ++ option_to_list last → IsStored limit (map clause_of cs)
-    → IsStored limit (map clause_of rest)
-stored_but_last limit cs rest None whole stored = subst (λ l. IsStored limit (map clause_of l)) (whole ∙ append-nil rest) stored
-stored_but_last limit cs rest (Some c) whole stored =
-    subst (IsStored limit) (append-nil (map clause_of rest))
-    (stored_less limit (map clause_of rest) (clause_of c) [] (subst (IsStored limit) (last_gone cs rest (Some c) c whole refl) stored))
+pub stored_but_last : (rules : Rules) (cs rest : List term.Clause) (last : Option term.Clause) → cs ≡ rest ++ option_to_list last → IsStored rules (map clause_of cs)
+    → IsStored rules (map clause_of rest)
+stored_but_last rules cs rest None whole stored = subst (λ l. IsStored rules (map clause_of l)) (whole ∙ append-nil rest) stored
+stored_but_last rules cs rest (Some c) whole stored =
+    subst (IsStored rules) (append-nil (map clause_of rest))
+    (stored_less rules (map clause_of rest) (clause_of c) [] (subst (IsStored rules) (last_gone cs rest (Some c) c whole refl) stored))

@@ -1,10 +1,11 @@
 -- A list of clauses that is stored stays so when a clause is accepted, and when one goes.
-use Rattle.std.proofs.Common.{◌≡◌, ◌⊎◌, inl, inr, ℕ, ◌+◌, List, [], ◌∷◌, ◌++◌, length, map, refl, sym, ap, ◌∙◌, subst, arith, append-nil, length-append}
+use Rattle.std.proofs.Common.{◌≡◌, ◌⊎◌, inl, inr, ◌+◌, List, [], ◌∷◌, ◌++◌, length, map, refl, sym, ap, ◌∙◌, subst, arith, append-nil, length-append}
 use Rattle.std.proofs.lemmas.List.{length-map}
 use Rattle.si_defs.specs.Clauses.{Clause, IsSoundClause}
 use Rattle.si_defs.specs.Entries.{entries, placed_in, state_entries, clause_symbols, state_symbols}
 use Rattle.si_defs.specs.Substitutions.{IsAmong, AreDistinct}
 use Rattle.si_defs.proofs.ListLaws.{among_front, among_back, among_parts, all_append, all_front, all_back}
+use Rattle.si_state.specs.States.{Rules}
 use Rattle.si_state.specs.Acceptance.{names, IsTaken, HasDistinctNames, AllAgree, Accepts}
 use Rattle.si_sign.specs.Stores.{IsStored}
 use Rattle.si_sign.proofs.TakeLaws.{agree_append, agree_between}
@@ -59,19 +60,19 @@ symbols_less before c after agree =
     (agree_between (state_symbols before) (clause_symbols c) (state_symbols after) (subst (AllAgree []) (state_append before (c ∷ after)) agree))
 
 -- ---- a list of clauses that is stored
-pub stored_none : (limit : ℕ) → IsStored limit []
-stored_none limit = record { distinct = tt; agree = tt; sound = tt; few = omega arith }
+pub stored_none : (rules : Rules) → IsStored rules []
+stored_none rules = record { distinct = tt; agree = tt; sound = tt; few = omega arith }
 
-pub stored_more : (limit : ℕ) (state : List Clause) (c : Clause) → IsStored limit state → IsSoundClause c → Accepts limit state c (state ++ c ∷ []) → IsStored limit (state ++ c ∷ [])
-stored_more limit state c is sound accepts = record {
+pub stored_more : (rules : Rules) (state : List Clause) (c : Clause) → IsStored rules state → IsSoundClause c → Accepts rules state c (state ++ c ∷ []) → IsStored rules (state ++ c ∷ [])
+stored_more rules state c is sound accepts = record {
   distinct = names_more state c is.distinct accepts.free;
   agree = symbols_more state c is.agree accepts.agree;
   sound = all_append IsSoundClause state (c ∷ []) is.sound (sound, tt);
   few = omega (arith, accepts.room, count_append state (c ∷ []), count_front c []);
 }
 
-pub stored_less : (limit : ℕ) (before : List Clause) (c : Clause) (after : List Clause) → IsStored limit (before ++ c ∷ after) → IsStored limit (before ++ after)
-stored_less limit before c after is = record {
+pub stored_less : (rules : Rules) (before : List Clause) (c : Clause) (after : List Clause) → IsStored rules (before ++ c ∷ after) → IsStored rules (before ++ after)
+stored_less rules before c after is = record {
   distinct = names_less before c after is.distinct;
   agree = symbols_less before c after is.agree;
   sound = all_append IsSoundClause before after (all_front IsSoundClause before (c ∷ after) is.sound) (all_back IsSoundClause before (c ∷ after) is.sound).1;

@@ -17,7 +17,7 @@ of_kind word dollar number distinct equal Equal = equal
 
 -- the key of a text
 abbrev pub text_key : TextKeys → Bytes → Option ℕ
-text_key m text = lookup (λ k. bytes_eq text k.items) m.keys.entries
+text_key m text = lookup (bytes_eq text) m.keys.entries
 
 -- the key of a kind and text
 abbrev pub symbol_key : SymbolKeys → SymKind → Bytes → Option ℕ

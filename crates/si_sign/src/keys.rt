@@ -5,6 +5,7 @@ ghost use Rattle.si_sign.specs.Keys.{symbol_key, HasAtKind};
 
 use crate::texts::TextKeys;
 use si_defs::SymKind;
+use si_term::Text;
 use std::alloc::{AllocError, Global};
 
 /// A finite map from kinds and texts to keys: one map from texts for each kind, so that a look-up
@@ -46,8 +47,8 @@ impl SymbolKeys {
     }
 
     /// Gives the kind and text this key. At an error the map is as before.
-    pub fn insert(&mut self, kind: SymKind, text: Vec<u8>, key: usize) -> Result<(), AllocError>
-        ensures ok { OnOk result (HasAtKind kind text.items (Some key)
+    pub fn insert(&mut self, kind: SymKind, text: Text, key: usize) -> Result<(), AllocError>
+        ensures ok { OnOk result (HasAtKind kind text (Some key)
             (symbol_key self.old) (symbol_key self.new)) }
         ensures err { OnErr result ((k : Kind) (t : List ℕ) → symbol_key self.new k t
             ≡ symbol_key self.old k t) }

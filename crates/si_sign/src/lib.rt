@@ -1,7 +1,7 @@
 //! Symbols that are in use, each with one side and arity, and the trait by which clauses are kept.
 //!
 //! Contracts see a [`Signature`] as a finite map from kind and text to what is known of the symbol,
-//! and a [`ClauseStore`] as its list of clauses and its limit on entries.
+//! and a [`ClauseStore`] as its list of clauses and its rules of acceptance.
 #![tactic(auto)]
 
 pub mod faults;

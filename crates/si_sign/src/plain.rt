@@ -8,6 +8,7 @@ ghost use Rattle.si_defs.specs.Symbols.{Symbol};
 ghost use Rattle.si_defs.specs.Symbols as symbols;
 ghost use Rattle.si_defs.specs.Substitutions.{IsAmong};
 ghost use Rattle.si_defs.specs.declared.TheConstants.{MOST_OCCURRENCES};
+ghost use Rattle.si_state.specs.States.{limited_to};
 ghost use Rattle.si_state.specs.Acceptance.{IsTaken, Agrees, AllAgree, Clashes, Accepts};
 ghost use Rattle.si_term.specs.Terms.{symbol_of};
 ghost use Rattle.si_term.specs.Meaning.{clause_of, name_of};
@@ -33,21 +34,22 @@ pub struct PlainStore {
 }
 
 impl Model for PlainStore {
-    ghost use Rattle.std.specs.Prelude.{◌≤◌, ℕ, List, map};
-    ghost use Rattle.std.specs.Coded.{coded×, coded_ℕ, coded_list};
+    ghost use Rattle.std.specs.Prelude.{◌≤◌, List, map};
+    ghost use Rattle.std.specs.Coded.{coded×, coded_list};
     ghost use Rattle.si_defs.specs.Clauses as defs;
     ghost use Rattle.si_defs.specs.Codes.{clause_code};
     ghost use Rattle.si_defs.specs.declared.TheConstants.{MOST_OCCURRENCES};
+    ghost use Rattle.si_state.specs.States.{Rules, rules_code, limited_to};
     ghost use Rattle.si_term.specs.Meaning.{clause_of};
     ghost use Rattle.si_sign.specs.Stores.{IsStored};
 
-    ghost Value = { ℕ × List defs.Clause };
+    ghost Value = { Rules × List defs.Clause };
 
-    ghost coded = { coded× coded_ℕ (coded_list clause_code) };
+    ghost coded = { coded× rules_code (coded_list clause_code) };
 
-    ghost view = { λ s. (s.limit, map clause_of s.clauses.items) };
+    ghost view = { λ s. (limited_to s.limit, map clause_of s.clauses.items) };
 
-    ghost invariant = { λ s. IsStored s.limit (map clause_of s.clauses.items)
+    ghost invariant = { λ s. IsStored (limited_to s.limit) (map clause_of s.clauses.items)
         × (s.limit ≤ MOST_OCCURRENCES) };
 }
 
@@ -55,7 +57,7 @@ impl PlainStore {
     /// The empty list, with this limit on entries.
     pub fn new(alloc: Global, limit: u64) -> PlainStore
         requires { limit ≤ MOST_OCCURRENCES }
-        ensures { result ≡ (limit, []) }
+        ensures { result ≡ (limited_to limit, []) }
     {
         PlainStore {
             alloc,
@@ -68,7 +70,7 @@ impl PlainStore {
 impl ClauseStore for PlainStore {
     ghost clauses = { λ s. s.1 };
 
-    ghost limit = { λ s. s.0 };
+    ghost rules = { λ s. s.0 };
 
     fn add(&mut self, clause: Clause) -> Result<u32, Rejected> {
         let gained = match try_clause(self.alloc, self.clauses.as_slice(), self.limit, &clause) {
@@ -108,12 +110,12 @@ fn try_clause(
     clause: &Clause,
 ) -> Result<u32, AddFault>
     requires small { limit ≤ MOST_OCCURRENCES }
-    requires stored { IsStored limit (map clause_of clauses.now) }
+    requires stored { IsStored (limited_to limit) (map clause_of clauses.now) }
     requires sound { IsSoundClause (clause_of clause.now) }
-    ensures accepted { OnOk result (Accepts limit (map clause_of clauses.now)
+    ensures accepted { OnOk result (Accepts (limited_to limit) (map clause_of clauses.now)
         (clause_of clause.now) (map clause_of clauses.now ++ clause_of clause.now ∷ [])) }
     ensures entries { IfOk result (λ n. n ≡ length (entries (clause_of clause.now))) }
-    ensures rejected { IfErr result (Rejects limit (map clause_of clauses.now)
+    ensures rejected { IfErr result (Rejects (limited_to limit) (map clause_of clauses.now)
         (clause_of clause.now)) }
 {
     if position(clauses, &clause.name).is_some() {

@@ -3,12 +3,13 @@ ghost use Rattle.std.specs.Prelude.{◌≡◌, List, ℕ, Some, None, OnOk, OnEr
 ghost use Rattle.si_sign.specs.Keys.{text_key, HasAt};
 
 use indexmap::IndexMap;
+use si_term::Text;
 use std::alloc::{AllocError, Global};
 
 /// A finite map from texts to keys.
 #[derive(Drop)]
 pub struct TextKeys {
-    keys: IndexMap<Vec<u8>, usize>,
+    keys: IndexMap<Text, usize>,
 }
 
 impl TextKeys {
@@ -29,9 +30,8 @@ impl TextKeys {
     }
 
     /// Gives the text this key. At an error the map is as before.
-    pub fn insert(&mut self, text: Vec<u8>, key: usize) -> Result<(), AllocError>
-        ensures ok { OnOk result (HasAt text.items (Some key) (text_key self.old)
-            (text_key self.new)) }
+    pub fn insert(&mut self, text: Text, key: usize) -> Result<(), AllocError>
+        ensures ok { OnOk result (HasAt text (Some key) (text_key self.old) (text_key self.new)) }
         ensures err { OnErr result ((other : List ℕ) → text_key self.new other
             ≡ text_key self.old other) }
     {

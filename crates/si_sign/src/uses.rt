@@ -109,8 +109,7 @@ impl Uses {
             return Err(AllocError);
         }
         let sym = symbol.copy(alloc)?;
-        let mut text = Vec::new(alloc);
-        text.extend_from_slice(symbol.text.as_bytes())?;
+        let text = symbol.text.copy(alloc)?;
         self.slots.reserve(1)?;
         self.keys.insert(symbol.kind, text, key)?;
         self.slots.insert_reserved(Counted { sym, uses: 1 });

@@ -1,11 +1,11 @@
--- Which clauses are kept (this project's profile). A state is a list of clauses with distinct
--- names.
+-- Which clauses are kept (this project's profile): those of a state have distinct names.
 use Rattle.std.specs.Prelude.{◌≡◌, ℕ, ◌+◌, ◌≤◌, ◌<◌, List, [], ◌∷◌, ◌++◌, length}
 use Rattle.std.specs.List.{AllByRecursion}
 use Rattle.si_defs.specs.Symbols.{Symbol}
 use Rattle.si_defs.specs.Clauses.{Name, Clause}
 use Rattle.si_defs.specs.Entries.{entries, state_entries, clause_symbols, state_symbols}
 use Rattle.si_defs.specs.Substitutions.{IsAmong, AreDistinct}
+use Rattle.si_state.specs.States.{Rules}
 
 abbrev pub names : List Clause → List Name
 names [] = []
@@ -13,10 +13,10 @@ names (c ∷ cs) = c.name ∷ names cs
 
 -- a kept clause has the name
 abbrev pub IsTaken : List Clause → Name → Type 0
-IsTaken state name = IsAmong (names state) name
+IsTaken clauses name = IsAmong (names clauses) name
 
 abbrev pub HasDistinctNames : List Clause → Type 0
-HasDistinctNames state = AreDistinct (names state)
+HasDistinctNames clauses = AreDistinct (names clauses)
 
 -- ---- one side and one arity for each kind and text
 -- two symbols of one kind and text that differ in side or arity
@@ -47,15 +47,15 @@ pub record IsFirstClash (known own : List Symbol) (number : ℕ) (found kept : S
 -- ---- a clause is tried
 -- the number of entries that there would be
 abbrev pub needed : List Clause → Clause → ℕ
-needed state clause = length (state_entries state) + length (entries clause)
+needed clauses clause = length (state_entries clauses) + length (entries clause)
 
 -- the clause is accepted, and stands last
-pub record Accepts (limit : ℕ) (state : List Clause) (clause : Clause)
+pub record Accepts (rules : Rules) (clauses : List Clause) (clause : Clause)
     (new : List Clause) : Type 0 where
-  pub free : IsTaken state clause.name → ⊥
-  pub agree : AllAgree (state_symbols state) (clause_symbols clause)
-  pub room : needed state clause ≤ limit
-  pub added : new ≡ state ++ clause ∷ []
+  pub free : IsTaken clauses clause.name → ⊥
+  pub agree : AllAgree (state_symbols clauses) (clause_symbols clause)
+  pub room : needed clauses clause ≤ rules.entries
+  pub added : new ≡ clauses ++ clause ∷ []
 
 -- why a clause is refused: its name is taken; the head of the entry with this number from 0 is one
 -- symbol, and another one of its kind and text stands against it; or so many entries would be too
@@ -66,21 +66,21 @@ pub data Refusal : Type 0 where
   full : ℕ → Refusal
 
 -- the first reason that there is
-abbrev pub Refuses : ℕ → List Clause → Clause → Refusal → Type 0
-Refuses limit state clause taken = IsTaken state clause.name
-Refuses limit state clause (misused number found kept) =
-    (IsTaken state clause.name → ⊥)
-    × IsFirstClash (state_symbols state) (clause_symbols clause) number found kept
-Refuses limit state clause (full n) =
-    (IsTaken state clause.name → ⊥) × AllAgree (state_symbols state) (clause_symbols clause)
-    × (limit < needed state clause) × (n ≡ needed state clause)
+abbrev pub Refuses : Rules → List Clause → Clause → Refusal → Type 0
+Refuses rules clauses clause taken = IsTaken clauses clause.name
+Refuses rules clauses clause (misused number found kept) =
+    (IsTaken clauses clause.name → ⊥)
+    × IsFirstClash (state_symbols clauses) (clause_symbols clause) number found kept
+Refuses rules clauses clause (full n) =
+    (IsTaken clauses clause.name → ⊥) × AllAgree (state_symbols clauses) (clause_symbols clause)
+    × (rules.entries < needed clauses clause) × (n ≡ needed clauses clause)
 
 -- ---- a clause goes
 -- the clause with this name is gone, and the others stay in order
-pub record Removes (state : List Clause) (name : Name) (removed : Clause)
+pub record Removes (clauses : List Clause) (name : Name) (removed : Clause)
     (new : List Clause) : Type 0 where
   pub before : List Clause
   pub after : List Clause
-  pub splits : state ≡ before ++ removed ∷ after
+  pub splits : clauses ≡ before ++ removed ∷ after
   pub named : removed.name ≡ name
   pub rest : new ≡ before ++ after

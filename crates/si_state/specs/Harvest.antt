@@ -8,6 +8,7 @@ use Rattle.si_defs.specs.Substitutions.{IsAmong}
 use Rattle.si_defs.specs.Tokens.{AreBlanks}
 use Rattle.si_defs.specs.Grammar.{Selection, all, only, clause_item, include_item}
 use Rattle.si_defs.specs.Texts.{BeginsWithItem, IsFaulty, IsForeign, IsPlace, line_of}
+use Rattle.si_state.specs.States.{Rules}
 use Rattle.si_state.specs.Acceptance.{Refusal, Accepts, Refuses}
 
 -- files by name: the bytes of each, and None where no file has the name
@@ -112,28 +113,29 @@ IsStuck spot (malformed file line) =
 IsStuck spot fault = ⊥
 
 -- ---- a clause that is refused
--- the fault is that the clause is refused in this state
-abbrev pub IsRejected : ℕ → List Clause → Clause → Fault → Type 0
-IsRejected limit state clause (rejected c refusal) = (c ≡ clause)
-    × Refuses limit state clause refusal
-IsRejected limit state clause fault = ⊥
+-- the fault is that the clause is refused where these are kept
+abbrev pub IsRejected : Rules → List Clause → Clause → Fault → Type 0
+IsRejected rules clauses clause (rejected c refusal) = (c ≡ clause)
+    × Refuses rules clauses clause refusal
+IsRejected rules clauses clause fault = ⊥
 
 -- ---- the reading of files
-module _ (files : Files) (bounds : Bounds) (limit : ℕ) where
+module _ (files : Files) (bounds : Bounds) (rules : Rules) where
   mutual
-    -- While these files are open, with these selections round it, behind so many fetches and in
-    -- this state, the reading of a file gives these events, and a fault if it ends early.
+    -- While these files are open, with these selections round it, behind so many fetches and where
+    -- these clauses are kept, the reading of a file gives these events, and a fault if it ends
+    -- early.
     pub data Harvests : List Bytes → List (List Name) → ℕ → List Clause → Bytes → List Event
         → Option Fault → Type 0 where
-      barred : (opened : List Bytes) (around : List (List Name)) (made : ℕ) (state : List Clause)
+      barred : (opened : List Bytes) (around : List (List Name)) (made : ℕ) (clauses : List Clause)
           (file : Bytes) (fault : Fault)
           → IsBarred bounds opened made file fault
-          → Harvests opened around made state file (ask file ∷ []) (Some fault)
-      withheld : (opened : List Bytes) (around : List (List Name)) (made : ℕ) (state : List Clause)
-          (file : Bytes) (fault : Fault)
+          → Harvests opened around made clauses file (ask file ∷ []) (Some fault)
+      withheld : (opened : List Bytes) (around : List (List Name)) (made : ℕ)
+          (clauses : List Clause) (file : Bytes) (fault : Fault)
           → MayAsk bounds opened made file → IsWithheld files bounds file fault
-          → Harvests opened around made state file (ask file ∷ []) (Some fault)
-      fetched : (opened : List Bytes) (around : List (List Name)) (made : ℕ) (state : List Clause)
+          → Harvests opened around made clauses file (ask file ∷ []) (Some fault)
+      fetched : (opened : List Bytes) (around : List (List Name)) (made : ℕ) (clauses : List Clause)
           (file bytes : Bytes)
           → MayAsk bounds opened made file → files file ≡ Some bytes → length bytes ≤ bounds.file
           → (events : List Event) (fault : Option Fault)
@@ -144,58 +146,60 @@ module _ (files : Files) (bounds : Bounds) (limit : ℕ) where
             opened = file ∷ opened;
             around = around;
             rest = bytes;
-          }) (made + 1) state
+          }) (made + 1) clauses
           events fault
-          → Harvests opened around made state file (ask file ∷ events) fault
+          → Harvests opened around made clauses file (ask file ∷ events) fault
 
-    -- From here to the end of the file, behind so many fetches and in this state, the reading gives
-    -- these events, and a fault if it ends early.
+    -- From here to the end of the file, behind so many fetches and where these clauses are kept,
+    -- the reading gives these events, and a fault if it ends early.
     pub data Continues : Spot → ℕ → List Clause → List Event → Option Fault → Type 0 where
-      ended : (spot : Spot) (made : ℕ) (state : List Clause) → AreBlanks spot.rest
-          → Continues spot made state [] None
-      stuck : (spot : Spot) (made : ℕ) (state : List Clause) (fault : Fault) → IsStuck spot fault
-          → Continues spot made state [] (Some fault)
-      passed_over : (spot : Spot) (made : ℕ) (state : List Clause) (clause : Clause) (after : Bytes)
+      ended : (spot : Spot) (made : ℕ) (clauses : List Clause) → AreBlanks spot.rest
+          → Continues spot made clauses [] None
+      stuck : (spot : Spot) (made : ℕ) (clauses : List Clause) (fault : Fault) → IsStuck spot fault
+          → Continues spot made clauses [] (Some fault)
+      passed_over : (spot : Spot) (made : ℕ) (clauses : List Clause) (clause : Clause)
+          (after : Bytes)
           → BeginsWithItem spot.rest (clause_item clause) after
           → (IsSelected spot.around clause.name → ⊥)
           → (events : List Event) (fault : Option Fault)
-          → Continues (record spot { rest = after }) made state events fault
-          → Continues spot made state events fault
-      accepted : (spot : Spot) (made : ℕ) (state : List Clause) (clause : Clause) (after : Bytes)
+          → Continues (record spot { rest = after }) made clauses events fault
+          → Continues spot made clauses events fault
+      accepted : (spot : Spot) (made : ℕ) (clauses : List Clause) (clause : Clause) (after : Bytes)
           → BeginsWithItem spot.rest (clause_item clause) after → IsSelected spot.around clause.name
-          → Accepts limit state clause (state ++ clause ∷ [])
+          → Accepts rules clauses clause (clauses ++ clause ∷ [])
           → (events : List Event) (fault : Option Fault)
-          → Continues (record spot { rest = after }) made (state ++ clause ∷ []) events fault
-          → Continues spot made state (attempt clause ∷ events) fault
-      refused : (spot : Spot) (made : ℕ) (state : List Clause) (clause : Clause) (after : Bytes)
+          → Continues (record spot { rest = after }) made (clauses ++ clause ∷ []) events fault
+          → Continues spot made clauses (attempt clause ∷ events) fault
+      refused : (spot : Spot) (made : ℕ) (clauses : List Clause) (clause : Clause) (after : Bytes)
           → BeginsWithItem spot.rest (clause_item clause) after → IsSelected spot.around clause.name
-          → (refusal : Refusal) → Refuses limit state clause refusal
-          → Continues spot made state (attempt clause ∷ []) (Some (rejected clause refusal))
-      expanded : (spot : Spot) (made : ℕ) (state : List Clause) (file : Bytes)
+          → (refusal : Refusal) → Refuses rules clauses clause refusal
+          → Continues spot made clauses (attempt clause ∷ []) (Some (rejected clause refusal))
+      expanded : (spot : Spot) (made : ℕ) (clauses : List Clause) (file : Bytes)
           (selection : Selection) (after : Bytes)
           → BeginsWithItem spot.rest (include_item file selection) after
           → (inside events whole : List Event) (fault : Option Fault)
-          → Harvests spot.opened (narrowed selection spot.around) made state file inside None
+          → Harvests spot.opened (narrowed selection spot.around) made clauses file inside None
           → Continues (record spot { rest = after }) (made + fetches inside)
-          (state ++ tried inside) events fault
-          → whole ≡ inside ++ events → Continues spot made state whole fault
-      broken_off : (spot : Spot) (made : ℕ) (state : List Clause) (file : Bytes)
+          (clauses ++ tried inside) events fault
+          → whole ≡ inside ++ events → Continues spot made clauses whole fault
+      broken_off : (spot : Spot) (made : ℕ) (clauses : List Clause) (file : Bytes)
           (selection : Selection) (after : Bytes)
           → BeginsWithItem spot.rest (include_item file selection) after
           → (events : List Event) (fault : Fault)
-          → Harvests spot.opened (narrowed selection spot.around) made state file events
+          → Harvests spot.opened (narrowed selection spot.around) made clauses file events
           (Some fault)
-          → Continues spot made state events (Some fault)
+          → Continues spot made clauses events (Some fault)
 
--- with this limit on entries a load of the file gives these events, and a fault if it is refused
-abbrev pub Loads : Files → Bounds → ℕ → List Clause → Bytes → List Event → Option Fault → Type 0
-Loads files bounds limit state file events fault =
-    Harvests files bounds limit [] [] 0 state file events fault
+-- by these rules a load of the file gives these events, and a fault if it is refused
+abbrev pub Loads : Files → Bounds → Rules → List Clause → Bytes → List Event → Option Fault
+    → Type 0
+Loads files bounds rules clauses file events fault =
+    Harvests files bounds rules [] [] 0 clauses file events fault
 
--- the state behind a load: with the clauses that were tried last, in order, or as it was
-abbrev pub state_behind : List Clause → List Event → Option Fault → List Clause
-state_behind state events None = state ++ tried events
-state_behind state events (Some fault) = state
+-- the clauses behind a load: those that were tried stand last, in order, or all is as it was
+abbrev pub clauses_behind : List Clause → List Event → Option Fault → List Clause
+clauses_behind clauses events None = clauses ++ tried events
+clauses_behind clauses events (Some fault) = clauses
 
 -- ---- clauses by themselves
 -- the bytes are these clauses, each as an item, and blanks
@@ -205,16 +209,16 @@ AreClauses (c ∷ cs) bytes =
     (after : Bytes) × BeginsWithItem bytes (clause_item c) after × AreClauses cs after
 
 -- tried in order, each is accepted
-abbrev pub AreAccepted : ℕ → List Clause → List Clause → Type 0
-AreAccepted limit state [] = Unit {0}
-AreAccepted limit state (c ∷ cs) =
-    Accepts limit state c (state ++ c ∷ []) × AreAccepted limit (state ++ c ∷ []) cs
+abbrev pub AreAccepted : Rules → List Clause → List Clause → Type 0
+AreAccepted rules clauses [] = Unit {0}
+AreAccepted rules clauses (c ∷ cs) =
+    Accepts rules clauses c (clauses ++ c ∷ []) × AreAccepted rules (clauses ++ c ∷ []) cs
 
 -- tried in order, this is the first that is refused
-pub record IsFirstRefused (limit : ℕ) (state clauses : List Clause) (clause : Clause)
+pub record IsFirstRefused (rules : Rules) (kept clauses : List Clause) (clause : Clause)
     (refusal : Refusal) : Type 0 where
   pub before : List Clause
   pub after : List Clause
   pub splits : clauses ≡ before ++ clause ∷ after
-  pub earlier : AreAccepted limit state before
-  pub refused : Refuses limit (state ++ before) clause refusal
+  pub earlier : AreAccepted rules kept before
+  pub refused : Refuses rules (kept ++ before) clause refusal

@@ -1,3 +1,4 @@
+pub mod States
 pub mod Acceptance
 pub mod Answers
 pub mod Signatures

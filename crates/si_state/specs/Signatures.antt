@@ -48,7 +48,7 @@ total (u ∷ us) = u.uses + total us
 
 -- it is the signature of these clauses: each symbol occurs in them as often as it says
 abbrev pub IsSignatureOf : List Clause → Signature → Type 0
-IsSignatureOf state known = (s : Symbol) → uses_of known s ≡ times s (state_symbols state)
+IsSignatureOf clauses known = (s : Symbol) → uses_of known s ≡ times s (state_symbols clauses)
 
 -- a symbol in both has the same number in both
 abbrev pub KeepsNumbers : Signature → Signature → Type 0
@@ -58,7 +58,7 @@ KeepsNumbers old new =
 -- ---- counting
 -- the number of different symbols that occur
 abbrev pub CountsSymbols : List Clause → ℕ → Type 0
-CountsSymbols state count =
+CountsSymbols clauses count =
     (each : List Symbol) × AreDistinct each
-    × ((s : Symbol) → IsAmong each s ↔ IsAmong (state_symbols state) s)
+    × ((s : Symbol) → IsAmong each s ↔ IsAmong (state_symbols clauses) s)
     × (count ≡ length each)

@@ -1,4 +1,5 @@
 pub mod Limits
+pub mod Settings
 pub mod Words
 pub mod Commands
 pub mod Replies

@@ -4,8 +4,10 @@ use Rattle.std.specs.Prelude.{◌≡◌, ℕ, ◌⊎◌, List, [], ◌∷◌, �
 use Rattle.si_defs.specs.Bytes.{Bytes}
 use Rattle.si_defs.specs.Clauses.{Clause}
 use Rattle.si_defs.specs.Entries.{state_entries}
-use Rattle.si_state.specs.Harvest.{Files, Bounds, Event, tried, Fault, missing, too_big, failed, Loads, state_behind, AreAccepted}
+use Rattle.si_state.specs.States.{State}
+use Rattle.si_state.specs.Harvest.{Files, Bounds, Event, tried, Fault, missing, too_big, failed, Loads, clauses_behind, AreAccepted}
 use Rattle.si_steps.specs.declared.limits.Limits.{Limits}
+use Rattle.si_steps.specs.Settings.{Setting}
 use Rattle.si_steps.specs.Replies.{Reply, ok_line, fault_line}
 
 abbrev pub load_bounds : Limits → Bounds
@@ -36,16 +38,15 @@ load_line limit events (Some fault) = fault_line limit fault
 
 -- Where the library tells its files, the reading of them decides. Where it doesn't, some clauses
 -- are accepted one after the other, or the load is refused and the state stays.
-abbrev pub PerformsLoad : Limits → Option Files → Bytes → List Clause → Reply → Owed
-    → List Clause → Type 0
-PerformsLoad limits (Some files) file state reply owed new =
+abbrev pub PerformsLoad : Setting → Option Files → Bytes → State → Reply → Owed → State → Type 0
+PerformsLoad setting (Some files) file state reply owed new =
     (events : List Event) × (fault : Option Fault)
-    × Loads files (load_bounds limits) limits.entries state file events fault
-    × (reply ≡ load_line limits.entries events fault ∷ []) × (owed ≡ owed_by fault)
-    × (new ≡ state_behind state events fault)
-PerformsLoad limits None file state reply owed new =
-    ((gained : List Clause) × AreAccepted limits.entries state gained
+    × Loads files (load_bounds setting.limits) setting.rules state.clauses file events fault
+    × (reply ≡ load_line setting.rules.entries events fault ∷ []) × (owed ≡ owed_by fault)
+    × (new ≡ record state { clauses = clauses_behind state.clauses events fault })
+PerformsLoad setting None file state reply owed new =
+    ((gained : List Clause) × AreAccepted setting.rules state.clauses gained
     × (reply ≡ gained_line gained ∷ []) × (owed ≡ nothing)
-    × (new ≡ state ++ gained))
-    ⊎ ((fault : Fault) × (reply ≡ fault_line limits.entries fault ∷ [])
+    × (new ≡ record state { clauses = state.clauses ++ gained }))
+    ⊎ ((fault : Fault) × (reply ≡ fault_line setting.rules.entries fault ∷ [])
     × (owed ≡ owed_by_fault fault) × (new ≡ state))

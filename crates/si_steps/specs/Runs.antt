@@ -3,8 +3,8 @@
 use Rattle.std.specs.Prelude.{◌≡◌, ℕ, ◌+◌, ◌==◌, Bool, Option, List, [], ◌∷◌, ◌++◌, map, IsTrue, IsFalse}
 use Rattle.std.specs.List.{list_any, AllByRecursion}
 use Rattle.si_defs.specs.Bytes.{Bytes}
-use Rattle.si_defs.specs.Clauses.{Clause}
-use Rattle.si_steps.specs.declared.limits.Limits.{Limits}
+use Rattle.si_state.specs.States.{State, empty_state}
+use Rattle.si_steps.specs.Settings.{Setting}
 use Rattle.si_steps.specs.Replies.{Reply, is_refusal}
 use Rattle.si_state.specs.Harvest.{Files}
 use Rattle.si_steps.specs.Loads.{Owed, a_failure}
@@ -46,10 +46,10 @@ abbrev pub requests : (words lines : List Bytes) → List Request
 requests words lines = map a_word words ++ map a_line lines
 
 -- what is done at a request
-abbrev pub Acts : Limits → Option Files → List Clause → Request → Reply → Owed
-    → List Clause → Type 0
-Acts limits told state (a_word word) reply owed new = WordStep limits told state word reply owed new
-Acts limits told state (a_line line) reply owed new = Step limits told state line reply owed new
+abbrev pub Acts : Setting → Option Files → State → Request → Reply → Owed → State → Type 0
+Acts setting told state (a_word word) reply owed new =
+    WordStep setting told state word reply owed new
+Acts setting told state (a_line line) reply owed new = Step setting told state line reply owed new
 
 -- a strict run goes on behind no refusal
 abbrev pub GoesOn : (strict : Bool) → Reply → Type 0
@@ -57,24 +57,25 @@ GoesOn strict reply = IsTrue strict → IsFalse (is_refusal reply)
 
 -- From this state on the requests have this output, which tells so many failures of the library,
 -- and the new state stands behind them. The run goes on behind each.
-abbrev pub Run : Limits → Option Files → (strict : Bool) → List Clause → List Request → Bytes → ℕ
-    → List Clause → Type 0
-Run limits told strict state [] output failures new = (output ≡ []) × (failures ≡ 0) × (new ≡ state)
-Run limits told strict state (request ∷ requests) output failures new =
-    (reply : Reply) × (owed : Owed) × (next : List Clause) × (others : Bytes) × (further : ℕ)
-    × Acts limits told state request reply owed next × GoesOn strict reply
-    × Run limits told strict next requests others further new
+abbrev pub Run : Setting → Option Files → (strict : Bool) → State → List Request → Bytes → ℕ → State
+    → Type 0
+Run setting told strict state [] output failures new =
+    (output ≡ []) × (failures ≡ 0) × (new ≡ state)
+Run setting told strict state (request ∷ requests) output failures new =
+    (reply : Reply) × (owed : Owed) × (next : State) × (others : Bytes) × (further : ℕ)
+    × Acts setting told state request reply owed next × GoesOn strict reply
+    × Run setting told strict next requests others further new
     × (output ≡ ended reply ++ others) × (failures ≡ failures_in owed + further)
 
--- the output of a session over all these requests, which begins with no clause, and how many
--- failures it tells
-abbrev pub IsOutput : Limits → Option Files → (strict : Bool) → List Request → Bytes → ℕ → Type 0
-IsOutput limits told strict requests output failures =
-    (new : List Clause) × Run limits told strict [] requests output failures new
+-- the output of a session over all these requests, which begins with the empty state, and how
+-- many failures it tells
+abbrev pub IsOutput : Setting → Option Files → (strict : Bool) → List Request → Bytes → ℕ → Type 0
+IsOutput setting told strict requests output failures =
+    (new : State) × Run setting told strict empty_state requests output failures new
 
 -- The output of such a session over the first of these requests. It ends with this reply, behind
 -- which the run need not go on.
-pub record IsOutputTo (limits : Limits) (told : Option Files) (strict : Bool)
+pub record IsOutputTo (setting : Setting) (told : Option Files) (strict : Bool)
     (requests : List Request) (reply : Reply) (output : Bytes) (failures : ℕ) : Type 0 where
   pub done : List Request
   pub last : Request
@@ -82,10 +83,10 @@ pub record IsOutputTo (limits : Limits) (told : Option Files) (strict : Bool)
   pub front : done ++ last ∷ others ≡ requests
   pub before : Bytes
   pub fewer : ℕ
-  pub state : List Clause
-  pub run : Run limits told strict [] done before fewer state
+  pub state : State
+  pub run : Run setting told strict empty_state done before fewer state
   pub owed : Owed
-  pub new : List Clause
-  pub acts : Acts limits told state last reply owed new
+  pub new : State
+  pub acts : Acts setting told state last reply owed new
   pub whole : output ≡ before ++ ended reply
   pub counted : failures ≡ fewer + failures_in owed

@@ -1,7 +1,8 @@
 -- The heads of the entries of a sound clause are its symbols.
-use Rattle.std.proofs.Common.{◌≡◌, ℕ, zero, suc, List, [], ◌∷◌, ◌++◌, Some, length, slice_get, map, refl, sym, ap, ◌∙◌, Option}
+use Rattle.std.proofs.Common.{◌≡◌, ℕ, List, [], ◌∷◌, ◌++◌, Some, IsSome, length, slice_get, map, refl, sym, ap, subst, ◌∙◌}
 use Rattle.std.specs.List.{AllByRecursion}
 use Rattle.std.proofs.lemmas.List.{length-map, map-append}
+use Rattle.si_defs.proofs.ListLaws.{all_append, all_got}
 use Rattle.si_defs.specs.Terms as terms
 use Rattle.si_defs.specs.Symbols.{Symbol}
 use Rattle.si_defs.specs.Clauses.{Term, Terms, Literal, Clause, IsSoundAtom, IsSoundLiteral, IsSoundClause}
@@ -49,20 +50,44 @@ length-symbols c sound =
     ∙ length-map (clause_symbols c) Some
 
 -- ---- the head of one of them
-get_map_some : {A : Type 0} (xs : List A) (n : ℕ) (o : Option A) → slice_get (map Some xs) n ≡ Some o → (x : A) × (o ≡ Some x) × (slice_get xs n ≡ Some x)
-get_map_some [] n o h = cc
-get_map_some (x ∷ xs) zero o h = let e : o ≡ Some x = cc in (x, e, refl)
-get_map_some (x ∷ xs) (suc n) o h = get_map_some xs n o h
-
-pub head_found : (c : Clause) → IsSoundClause c → (n : ℕ) (e : Entry) → slice_get (map (λ p. p.entry) (entries c)) n ≡ Some e
-    → (s : Symbol) × (entry_head e ≡ Some s) × (slice_get (clause_symbols c) n ≡ Some s)
-head_found c sound n e h =
-    get_map_some (clause_symbols c) n (entry_head e)
-    (ap (λ os. slice_get os n) (sym (heads c sound)) ∙ get-map entry_head (map (λ p. p.entry) (entries c)) n e h)
-
 twice : (ps : List Placed) → map (λ p. entry_head p.entry) ps ≡ map entry_head (map (λ p. p.entry) ps)
 twice [] = refl
 twice (p ∷ ps) = ap (λ l. entry_head p.entry ∷ l) (twice ps)
 
 pub head_placed : (c : Clause) (n : ℕ) (e : Entry) → slice_get (map (λ p. p.entry) (entries c)) n ≡ Some e → slice_get (map (λ p. entry_head p.entry) (entries c)) n ≡ Some (entry_head e)
 head_placed c n e h = ap (λ os. slice_get os n) (twice (entries c)) ∙ get-map entry_head (map (λ p. p.entry) (entries c)) n e h
+
+-- of the entry where a symbol occurs, that symbol
+pub symbol_placed : (c : Clause) → IsSoundClause c → (n : ℕ) (s : Symbol) → slice_get (clause_symbols c) n ≡ Some s
+    → slice_get (map (λ p. entry_head p.entry) (entries c)) n ≡ Some (Some s)
+symbol_placed c sound n s h =
+    ap (λ os. slice_get os n) (twice (entries c) ∙ heads c sound) ∙ get-map Some (clause_symbols c) n s h
+
+-- ---- each of them has a head
+abbrev HasHead : Entry → Type 0
+HasHead e = IsSome (entry_head e)
+
+mutual
+  subterms_have : (t : Term) → AllByRecursion HasHead (map term_entry (subterms t))
+  subterms_have (terms.var x) = tt
+  subterms_have (terms.app s ts) = (refl, all_have ts)
+
+  all_have : (ts : Terms) → AllByRecursion HasHead (map term_entry (subterms_of_all ts))
+  all_have terms.none = tt
+  all_have (terms.more t ts) =
+      subst (AllByRecursion HasHead) (sym (map-append term_entry (subterms t) (subterms_of_all ts)))
+      (all_append HasHead (map term_entry (subterms t)) (map term_entry (subterms_of_all ts)) (subterms_have t) (all_have ts))
+
+atom_has : (t : Term) → IsSoundAtom t → IsSome (terms.head t)
+atom_has (terms.var x) sound = absurd sound
+atom_has (terms.app s ts) sound = refl
+
+alone_have : (ls : List Literal) → AllByRecursion IsSoundLiteral ls → AllByRecursion HasHead (entries_alone ls)
+alone_have [] sound = tt
+alone_have (l ∷ ls) sound =
+    (atom_has l.atom sound.0, all_append HasHead (map term_entry (subterms_of_all (arguments l.atom))) (entries_alone ls) (all_have (arguments l.atom)) (alone_have ls sound.1))
+
+pub has_head : (c : Clause) → IsSoundClause c → (n : ℕ) (e : Entry) → slice_get (map (λ p. p.entry) (entries c)) n ≡ Some e → IsSome (entry_head e)
+has_head c sound n e h =
+    all_got HasHead (entries_alone c.literals) n e (alone_have c.literals sound.sound.each)
+    (ap (λ es. slice_get es n) (sym (entries-alone 1 c.literals)) ∙ h)

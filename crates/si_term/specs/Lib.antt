@@ -1,3 +1,4 @@
+pub mod Texts
 pub mod Terms
 pub mod Meaning
 pub mod Walks

@@ -24,7 +24,7 @@ pub fn to_pattern(alloc: Global, entry: Entry<'_>) -> Result<Pattern, AllocError
 pub(crate) fn copy_texts(alloc: Global, texts: &[&[u8]]) -> Result<Texts, AllocError>
     ensures { IfOk result (λ copies. copies ≡ map (λ t. t.now) texts.now) }
 {
-    let mut copies = Texts::new(alloc);
+    let mut copies = Texts::with_capacity(alloc, texts.len())?;
     for text in texts {
         copies.push(Text::from_bytes(alloc, *text)?)?;
     }
@@ -58,10 +58,10 @@ impl Sym {
         ensures { IfOk result (λ s. s ≡ self.now) }
     {
         Ok(Sym {
-            kind: self.kind,
             text: self.text.copy(alloc)?,
-            side: self.side,
             arity: self.arity,
+            kind: self.kind,
+            side: self.side,
         })
     }
 }
@@ -94,7 +94,7 @@ impl Clause {
 fn copy_literals(alloc: Global, literals: &[Literal]) -> Result<Literals, AllocError>
     ensures { IfOk result (λ ls. map literal_of ls ≡ map literal_of literals.now) }
 {
-    let mut copies = Literals::new(alloc);
+    let mut copies = Literals::with_capacity(alloc, literals.len())?;
     for i in 0..literals.len() {
         copies.push(literals[i].copy(alloc)?)?;
     }
@@ -119,7 +119,7 @@ fn copy_term(alloc: Global, term: &Term) -> Result<Term, AllocError>
 fn copy_terms(alloc: Global, terms: &[Term]) -> Result<Terms, AllocError>
     ensures { IfOk result (λ ts. ts ≡ map term_of terms.now) }
 {
-    let mut copies = Terms::new(alloc);
+    let mut copies = Terms::with_capacity(alloc, terms.len())?;
     for i in 0..terms.len() {
         copies.push(copy_term(alloc, &terms[i])?)?;
     }

@@ -4,9 +4,9 @@ ghost use Rattle.indexmap.specs.IndexSet.{insert_all};
 ghost use Rattle.si_defs.specs.Terms.{row, size, sizes, variables, variables_of_all};
 ghost use Rattle.si_defs.specs.Clauses.{literals_size};
 ghost use Rattle.si_defs.specs.declared.TheConstants.{MOST_OCCURRENCES};
-ghost use Rattle.si_defs.specs.Entries.{entries, entry_variables, distinct_variables, pattern_entry};
+ghost use Rattle.si_defs.specs.Entries.{entries, distinct_variables, pattern_entry};
 ghost use Rattle.si_term.specs.Terms.{term_of};
-ghost use Rattle.si_term.specs.Meaning.{clause_of, place_of, pattern_of, entry_of};
+ghost use Rattle.si_term.specs.Meaning.{clause_of, place_of, pattern_of, entry_of, whole_of};
 ghost use Rattle.si_term.specs.Walks.{subterms, subterms_of_all, arguments, paths, paths_from, Finds, FindsPath};
 
 use crate::clause::{Clause, Entry, Pattern, Place};
@@ -108,8 +108,20 @@ pub fn vars_of(alloc: Global, entry: Entry<'_>) -> Result<Texts, AllocError>
     ensures { IfOk result (λ names. names ≡ distinct_variables (entry_of entry.entry)) }
 {
     let mut seen = IndexSet::new(alloc);
-    gather_term(whole_term(entry), &mut seen)?;
+    gather_term(entry.whole(), &mut seen)?;
     copy_texts(alloc, seen.as_slice())
+}
+
+impl<'a> Entry<'a> {
+    /// The atom of a literal, or the term.
+    pub fn whole(self) -> &'a Term
+        ensures { term_of result.now ≡ whole_of (entry_of self.entry) }
+    {
+        match self {
+            Entry::Lit(literal) => &literal.atom,
+            Entry::Sub(term) => term,
+        }
+    }
 }
 
 impl Pattern {
@@ -121,16 +133,6 @@ impl Pattern {
             Pattern::Lit(literal) => Entry::Lit(literal),
             Pattern::Term(term) => Entry::Sub(term),
         }
-    }
-}
-
-/// The atom of a literal, or the term.
-fn whole_term(entry: Entry<'_>) -> &Term
-    ensures { variables (term_of result.now) ≡ entry_variables (entry_of entry.entry) }
-{
-    match entry {
-        Entry::Lit(literal) => &literal.atom,
-        Entry::Sub(term) => term,
     }
 }
 

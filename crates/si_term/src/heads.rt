@@ -6,7 +6,7 @@ ghost use Rattle.si_defs.specs.Entries.{entries, entry_head, clause_symbols};
 ghost use Rattle.si_term.specs.Terms.{symbol_of, term_of};
 ghost use Rattle.si_term.specs.Meaning.{clause_of};
 
-use crate::clause::{Clause, Entry};
+use crate::clause::Clause;
 use crate::entries::entry_at;
 use crate::term::{Sym, Term};
 use std::alloc::{AllocError, Global};
@@ -15,15 +15,10 @@ use std::alloc::{AllocError, Global};
 pub fn head_at(clause: &Clause, number: u32) -> &Sym
     requires sound { IsSoundClause (clause_of clause.now) }
     requires within { number < length (entries (clause_of clause.now)) }
-    ensures symbol { slice_get (clause_symbols (clause_of clause.now)) number ≡ Some
-        (symbol_of result.now) }
-    ensures head { slice_get (map (λ p. entry_head p.entry) (entries (clause_of clause.now)))
-        number ≡ Some (Some (symbol_of result.now)) }
+    ensures { slice_get (map (λ p. entry_head p.entry) (entries (clause_of clause.now))) number
+        ≡ Some (Some (symbol_of result.now)) }
 {
-    match entry_at(clause, number) {
-        Entry::Lit(literal) => head_of(&literal.atom),
-        Entry::Sub(term) => head_of(term),
-    }
+    head_of(entry_at(clause, number).whole())
 }
 
 /// The symbol at the front of a term that is no variable.

@@ -1,5 +1,5 @@
 // Lists that contracts see as lists of their items.
-ghost use Rattle.std.specs.Prelude.{◌≡◌, ◌<◌, [], ◌∷◌, ◌++◌, OnOk, OnErr, Some, length, slice_get};
+ghost use Rattle.std.specs.Prelude.{◌≡◌, ◌<◌, [], ◌∷◌, ◌++◌, IfOk, OnOk, OnErr, Some, length, slice_get};
 
 use crate::clause::{Literal, Name};
 use crate::term::Sym;
@@ -43,6 +43,15 @@ impl<T> Items<T> {
         }
     }
 
+    /// The empty list, with room for as many items and no more.
+    pub fn with_capacity(alloc: Global, capacity: usize) -> Result<Items<T>, AllocError>
+        ensures { IfOk result (λ items. items ≡ []) }
+    {
+        Ok(Items {
+            items: Vec::with_capacity(alloc, capacity)?,
+        })
+    }
+
     /// The number of items.
     pub fn len(&self) -> usize
         ensures { result ≡ length self.now }
@@ -67,6 +76,22 @@ impl<T> Items<T> {
 }
 
 impl<T: Drop> Items<T> {
+    /// One item, without room for more.
+    pub fn one(alloc: Global, item: T) -> Result<Items<T>, AllocError>
+        ensures { IfOk result (λ items. items ≡ item ∷ []) }
+    {
+        let mut items = Items::with_capacity(alloc, 1)?;
+        items.push(item)?;
+        Ok(items)
+    }
+
+    /// Gives back the room that no item stands in, as far as there is memory for that.
+    pub fn shrink(&mut self)
+        ensures { self.new ≡ self.old }
+    {
+        self.items.shrink_to_fit();
+    }
+
     /// Appends an item. At an error the list is as before, and the item is dropped.
     pub fn push(&mut self, item: T) -> Result<(), AllocError>
         ensures ok { OnOk result (self.new ≡ self.old ++ item ∷ []) }

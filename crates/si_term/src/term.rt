@@ -1,18 +1,21 @@
 // Symbols and terms.
-ghost use Rattle.std.specs.Prelude.{◌≡◌, ◌<◌, [], ◌∷◌, ◌++◌, OnOk, OnErr, Some, length, slice_get, map};
+ghost use Rattle.std.specs.Prelude.{◌≡◌, ◌<◌, [], ◌∷◌, ◌++◌, IfOk, OnOk, OnErr, Some, length, slice_get, map};
+ghost use Rattle.si_defs.specs.Symbols.{same_symbol};
+ghost use Rattle.si_term.specs.Terms.{symbol_of};
 
 use crate::text::Text;
 use si_defs::{Side, SymKind};
 use std::alloc::{AllocError, Global};
 use std::marker::Model;
 
-/// A symbol: a function, a predicate or a constant. Two are the same where all four parts are.
+/// A symbol: a function, a predicate or a constant. Two are the same where all four parts are. The
+/// fields lie in this order, so that small ones share the room behind a large one.
 #[derive(Drop)]
 pub struct Sym {
-    pub kind: SymKind,
     pub text: Text,
-    pub side: Side,
     pub arity: u32,
+    pub kind: SymKind,
+    pub side: Side,
 }
 
 /// A first-order term: a variable by its name, or a symbol with its arguments.
@@ -28,6 +31,19 @@ pub enum Term {
 #[cycle(term)]
 pub struct Terms {
     items: Vec<Term>,
+}
+
+impl Sym {
+    /// Whether two symbols are equal. It is inlined into the walks over terms.
+    #[inline(always)]
+    pub fn is(&self, other: &Sym) -> bool
+        ensures { result ≡ same_symbol (symbol_of self.now) (symbol_of other.now) }
+    {
+        self.kind == other.kind
+            && self.side == other.side
+            && self.arity == other.arity
+            && self.text.as_bytes() == other.text.as_bytes()
+    }
 }
 
 impl Model for Terms {
@@ -60,6 +76,41 @@ impl Terms {
         Terms {
             items: Vec::new(alloc),
         }
+    }
+
+    /// The empty list, with room for as many terms and no more.
+    pub fn with_capacity(alloc: Global, capacity: usize) -> Result<Terms, AllocError>
+        ensures { IfOk result (λ ts. ts ≡ []) }
+    {
+        Ok(Terms {
+            items: Vec::with_capacity(alloc, capacity)?,
+        })
+    }
+
+    /// One term, without room for more.
+    pub fn one(alloc: Global, term: Term) -> Result<Terms, AllocError>
+        ensures { IfOk result (λ ts. ts ≡ term_of term ∷ []) }
+    {
+        let mut terms = Terms::with_capacity(alloc, 1)?;
+        terms.push(term)?;
+        Ok(terms)
+    }
+
+    /// Two terms, without room for more.
+    pub fn pair(alloc: Global, left: Term, right: Term) -> Result<Terms, AllocError>
+        ensures { IfOk result (λ ts. ts ≡ term_of left ∷ term_of right ∷ []) }
+    {
+        let mut terms = Terms::with_capacity(alloc, 2)?;
+        terms.push(left)?;
+        terms.push(right)?;
+        Ok(terms)
+    }
+
+    /// Gives back the room that no term stands in, as far as there is memory for that.
+    pub fn shrink(&mut self)
+        ensures { self.new ≡ self.old }
+    {
+        self.items.shrink_to_fit();
     }
 
     /// Appends a term.

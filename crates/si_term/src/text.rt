@@ -1,20 +1,79 @@
 // Texts.
-ghost use Rattle.std.specs.Prelude.{◌≡◌, List, ℕ, IfOk};
+ghost use Rattle.std.specs.Prelude.{◌≡◌, ◌≤◌, IfOk, bytes_eq, length};
+ghost use Rattle.std.proofs.Common.{ap};
+ghost use Rattle.std.specs.Cmp.{partial_equiv_from_equiv};
+ghost use Rattle.std.specs.Cmp.Lexicographic.{bytes_decides, nat_list_eq_equiv};
+ghost use Rattle.std.specs.Hash as fed;
 
+use indexmap::Equivalent;
 use smallvec::SmallVec;
 use std::alloc::{AllocError, Global};
+use std::hash::{Hash, Hasher};
 use std::marker::Model;
 
-/// A text of bytes. A short one takes no memory of its own.
+/// A text of bytes. A short one takes no memory of its own, and most others take one block.
 #[derive(Drop)]
 pub struct Text {
-    bytes: SmallVec<u8, 16>,
+    bytes: Bytes,
+}
+
+/// Where the bytes of a text are.
+#[derive(Drop)]
+enum Bytes {
+    Short(Short),
+    Long(Box<SmallVec<u8, 24>>),
+}
+
+/// At most 14 bytes, so that a text takes 16.
+#[derive(Drop)]
+struct Short {
+    len: u8,
+    room: [u8; 14],
+}
+
+impl Model for Short {
+    ghost use Rattle.std.specs.Prelude.{◌≤◌, List, ℕ, take};
+
+    ghost Value = { List ℕ };
+
+    ghost view = { λ s. take s.len s.room };
+
+    ghost invariant = { λ s. s.len ≤ 14 };
+}
+
+impl Short {
+    /// The most bytes.
+    const MOST: usize = 14;
+
+    /// A copy of the bytes.
+    fn from_bytes(bytes: &[u8]) -> Short
+        requires { length bytes.now ≤ 14 }
+        ensures { result ≡ bytes.now }
+    {
+        let mut room = [0; Short::MOST];
+        room[..bytes.len()].copy_from_slice(bytes);
+        Short {
+            len: bytes.len() as u8,
+            room,
+        }
+    }
+
+    /// The bytes.
+    fn as_bytes(&self) -> &[u8]
+        ensures { result.now ≡ self.now }
+    {
+        &self.room[..self.len as usize]
+    }
 }
 
 impl Model for Text {
+    ghost use Rattle.std.specs.Prelude.{List, ℕ};
+
     ghost Value = { List ℕ };
 
-    ghost view = { λ t. t.bytes.items };
+    ghost use Rattle.si_term.specs.Texts.{bytes_of};
+
+    ghost view = { λ t. bytes_of t.bytes };
 }
 
 impl Text {
@@ -22,8 +81,14 @@ impl Text {
     pub fn from_bytes(alloc: Global, bytes: &[u8]) -> Result<Text, AllocError>
         ensures { IfOk result (λ t. t ≡ bytes.now) }
     {
+        if bytes.len() <= Short::MOST {
+            return Ok(Text {
+                bytes: Bytes::Short(Short::from_bytes(bytes)),
+            });
+        }
+        let long = SmallVec::from_slice(alloc, bytes)?;
         Ok(Text {
-            bytes: SmallVec::from_slice(alloc, bytes)?,
+            bytes: Bytes::Long(Box::new(alloc, long)?),
         })
     }
 
@@ -31,6 +96,46 @@ impl Text {
     pub fn as_bytes(&self) -> &[u8]
         ensures { result.now ≡ self.now }
     {
-        self.bytes.as_slice()
+        match &self.bytes {
+            Bytes::Short(short) => short.as_bytes(),
+            Bytes::Long(long) => long.as_slice(),
+        }
+    }
+}
+
+impl PartialEq for Text {
+    ghost eq = { bytes_eq };
+
+    ghost laws = { partial_equiv_from_equiv nat_list_eq_equiv };
+
+    fn eq(&self, other: &Text) -> bool {
+        self.as_bytes() == other.as_bytes()
+    }
+}
+
+impl Eq for Text {
+    ghost laws = { nat_list_eq_equiv };
+}
+
+impl Hash for Text {
+    ghost hash_input = { fed.slice fed.u8 };
+
+    ghost respects_eq = { λ x y h. ap (fed.slice fed.u8) ((bytes_decides x y).0 h) };
+
+    fn hash<H: Hasher>(&self, state: &mut H) {
+        self.as_bytes().hash(state);
+    }
+}
+
+/// A map from texts is asked by bytes, without a copy of them.
+impl Equivalent<Text> for &[u8] {
+    ghost equivalent = { λ q k. bytes_eq q.now k };
+
+    ghost respects_hash = { λ q k h. ap (fed.slice fed.u8) ((bytes_decides q.now k).0 h) };
+
+    ghost respects_eq = { λ q x y. nat_list_eq_equiv.congr q.now x y };
+
+    fn equivalent(&self, key: &Text) -> bool {
+        *self == key.as_bytes()
     }
 }

@@ -589,7 +589,7 @@ fn load(
     bound: Bound,
     store: &mut PlainStore,
 ) -> Result<Result<Loaded, HarvestFault>, AllocError>
-    requires { store.old.0 ≤ MOST_OCCURRENCES }
+    requires { store.old.0.entries ≤ MOST_OCCURRENCES }
     ensures { store.new.0 ≡ store.old.0 }
 {
     let limits = bound.limits();
@@ -602,7 +602,7 @@ fn load(
 
 /// Loads the clause `k`.
 fn assert_kept(rt: &impl Abort, alloc: Global, store: &mut PlainStore) -> Result<(), AllocError>
-    requires { store.old.0 ≤ MOST_OCCURRENCES }
+    requires { store.old.0.entries ≤ MOST_OCCURRENCES }
     ensures { store.new.0 ≡ store.old.0 }
 {
     let first = load(alloc, KEPT, b"k", Bound::Wide, store)?;
@@ -617,7 +617,7 @@ fn assert_told(
     row: &Row,
     store: &mut PlainStore,
 ) -> Result<(), AllocError>
-    requires { store.old.0 ≤ MOST_OCCURRENCES }
+    requires { store.old.0.entries ≤ MOST_OCCURRENCES }
 {
     let (files, bound, answer, named, _) = *row;
     let result = load(alloc, files, b"m", bound, store)?;
@@ -631,7 +631,7 @@ fn assert_loads(
     row: &Row,
     store: &mut PlainStore,
 ) -> Result<(), AllocError>
-    requires { store.old.0 ≤ MOST_OCCURRENCES }
+    requires { store.old.0.entries ≤ MOST_OCCURRENCES }
 {
     assert_kept(rt, alloc, store)?;
     assert_told(rt, alloc, row, store)?;
@@ -656,7 +656,7 @@ fn take_one(
     store: &mut PlainStore,
 ) -> Result<Result<Loaded, HarvestFault>, AllocError>
     requires short { length bytes.now ≤ MOST_OCCURRENCES }
-    requires limit { store.old.0 ≤ MOST_OCCURRENCES }
+    requires limit { store.old.0.entries ≤ MOST_OCCURRENCES }
     ensures { store.new.0 ≡ store.old.0 }
 {
     let Read::Cnf(_clause, end) = next_item(alloc, bytes, 0)? else {
@@ -677,7 +677,7 @@ fn assert_answer(
     answer: Answer,
 ) -> Result<(), AllocError>
     requires short { length bytes.now ≤ MOST_OCCURRENCES }
-    requires limit { store.old.0 ≤ MOST_OCCURRENCES }
+    requires limit { store.old.0.entries ≤ MOST_OCCURRENCES }
     ensures { store.new.0 ≡ store.old.0 }
 {
     let taken = take_one(alloc, bytes, store)?;
@@ -686,7 +686,7 @@ fn assert_answer(
 }
 
 fn assert_takes(rt: &impl Abort, alloc: Global, store: &mut PlainStore) -> Result<(), AllocError>
-    requires { store.old.0 ≤ MOST_OCCURRENCES }
+    requires { store.old.0.entries ≤ MOST_OCCURRENCES }
 {
     let first = Answer::Gained(1, 2);
     assert_answer(rt, alloc, b"cnf(a,axiom,p(b)). % a\n", store, first)?;

@@ -4,6 +4,7 @@ use Rattle.std.proofs.Common.{◌≡◌, ◌≤◌, ℕ, Bool, List, Option, inl
 use Rattle.std.specs.Prelude.{IsTrue, IsFalse}
 use Rattle.si_defs.specs.Bytes.{Bytes}
 use Rattle.si_steps.specs.declared.limits.Limits.{Limits}
+use Rattle.si_steps.specs.Settings.{setting_of}
 use Rattle.si_state.specs.Harvest.{Files}
 use Rattle.si_session.specs.Session.{Around}
 use Rattle.stindex.specs.declared.status.Status.{Status}
@@ -14,7 +15,7 @@ use Rattle.stindex.specs.Serve.{Serves, Declines, DeclinesOrServes, IsFaultless,
 
 module _ (limits : Limits) (told : Option Files) (words : List Bytes) (left now : Option Bytes) (before after : Around)
     (room : HasRoomForOutputs limits told words before.may_fail left before.sink.room) where
-  no_sink_fault : Serves limits told (asked_by words).strict (asked_by words).files SinkFault left now before after → ⊥
+  no_sink_fault : Serves (setting_of limits) told (asked_by words).strict (asked_by words).files SinkFault left now before after → ⊥
   no_sink_fault s = elim s.ends [
     | inl part ↦
         let fits : length part.output ≤ before.sink.room = room.outputs s.taken now s.lines s.rest part.reply part.output part.failures s.takes s.within s.splits (inl part.right) part.counted.sure in
@@ -35,7 +36,7 @@ module _ (limits : Limits) (told : Option Files) (words : List Bytes) (left now 
   faultless_by Usage may_fail s sure never = tt
   faultless_by SourceFault may_fail s sure never = let fails : IsTrue may_fail = sure refl in cc
   faultless_by SinkFault may_fail (inl d) sure never = absurd (no_usage_fault d)
-  faultless_by SinkFault may_fail (inr s) sure never = absurd (no_sink_fault s)
+  faultless_by SinkFault may_fail (inr s) sure never = absurd (no_sink_fault s.serves)
   faultless_by Memory may_fail s sure never = tt
   faultless_by SessionLimit may_fail s sure never = tt
 

@@ -5,9 +5,9 @@ use Rattle.std.specs.Prelude.{option_map, unwrap_or}
 use Rattle.std.specs.Borrow.{Bor}
 use Rattle.std.proofs.lemmas.List.{map-append}
 use Rattle.si_defs.specs.Bytes.{Bytes}
-use Rattle.si_defs.specs.Clauses.{Clause}
+use Rattle.si_state.specs.States.{State, empty_state}
 use Rattle.si_state.specs.Harvest.{Files}
-use Rattle.si_steps.specs.declared.limits.Limits.{Limits}
+use Rattle.si_steps.specs.Settings.{Setting}
 use Rattle.si_steps.specs.Runs.{ended, failures_in, Request, a_word, Run}
 use Rattle.si_session.specs.Session.{Around}
 use Rattle.si_io.proofs.Content.{Receives_then, Takes_none, append_told-nil}
@@ -21,8 +21,8 @@ use Rattle.stindex.proofs.Splitting.{Run_more, Splits_none}
 use Rattle.stindex.proofs.Rows.{all_is}
 use Rattle.stindex.proofs.Progress.{tells_none, tells_then, stops_then, shown-nil}
 
-pub words_none : (limits : Limits) (told : Option Files) (strict : Bool) (clauses : List Clause) (before : Around) → clauses ≡ [] → LoadsWords limits told strict [] before clauses before
-words_none limits told strict clauses before none = record {
+pub words_none : (setting : Setting) (told : Option Files) (strict : Bool) (state : State) (before : Around) → state ≡ [] → LoadsWords setting told strict [] before state before
+words_none setting told strict state before none = record {
   output = [];
   failures = 0;
   run = (refl, refl, none);
@@ -31,22 +31,22 @@ words_none limits told strict clauses before none = record {
 }
 
 -- one word more
-pub words_more : (limits : Limits) (told : Option Files) (strict : Bool) (words : List Bytes) (word : Bytes) (old new : List Clause) (before now after : Around)
-    → LoadsWords limits told strict words before old now → ActsOnRequest limits told strict old new (a_word word) now after → LoadsWords limits told strict (words ++ word ∷ []) before new after
-words_more limits told strict words word old new before now after l acts = record {
+pub words_more : (setting : Setting) (told : Option Files) (strict : Bool) (words : List Bytes) (word : Bytes) (old new : State) (before now after : Around)
+    → LoadsWords setting told strict words before old now → ActsOnRequest setting told strict old new (a_word word) now after → LoadsWords setting told strict (words ++ word ∷ []) before new after
+words_more setting told strict words word old new before now after l acts = record {
   output = l.output ++ ended acts.reply;
   failures = l.failures + failures_in acts.owed;
-  run = subst (λ (rs : List Request). Run limits told strict [] rs (l.output ++ ended acts.reply) (l.failures + failures_in acts.owed) new) (sym (map-append a_word words (word ∷ [])))
-      (Run_more limits told strict [] old new (map a_word words) (a_word word) l.output l.failures acts.reply acts.owed l.run acts.step acts.goes);
+  run = subst (λ (rs : List Request). Run setting told strict empty_state rs (l.output ++ ended acts.reply) (l.failures + failures_in acts.owed) new) (sym (map-append a_word words (word ∷ [])))
+      (Run_more setting told strict empty_state old new (map a_word words) (a_word word) l.output l.failures acts.reply acts.owed l.run acts.step acts.goes);
   written = Receives_then before.sink now.sink after.sink l.output (ended acts.reply) l.written acts.written;
   counted = tells_then before now after l.failures (failures_in acts.owed) l.counted acts.counted;
 }
 
 -- the run stops at one
-pub words_stop : (halt : Stop) (limits : Limits) (told : Option Files) (strict : Bool) (words others files : List Bytes) (word : Bytes) (old new : List Clause) (before now after : Around)
-    → LoadsWords limits told strict words before old now → Breaks halt limits told strict old new (a_word word) now after → words ++ word ∷ others ≡ files
-    → WritesTo halt limits told strict files [] before after
-words_stop halt limits told strict words others files word old new before now after l breaks whole = record {
+pub words_stop : (halt : Stop) (setting : Setting) (told : Option Files) (strict : Bool) (words others files : List Bytes) (word : Bytes) (old new : State) (before now after : Around)
+    → LoadsWords setting told strict words before old now → Breaks halt setting told strict old new (a_word word) now after → words ++ word ∷ others ≡ files
+    → WritesTo halt setting told strict files [] before after
+words_stop halt setting told strict words others files word old new before now after l breaks whole = record {
   reply = breaks.reply;
   output = l.output ++ ended breaks.reply;
   failures = l.failures + failures_in breaks.owed;
@@ -70,9 +70,9 @@ words_stop halt limits told strict words others files word old new before now af
 }
 
 -- behind the words nothing is taken yet
-pub Stands_start : (limits : Limits) (told : Option Files) (strict : Bool) (files : List Bytes) (left : Option Bytes) (before now : Around) (clauses : List Clause) (held : Bytes)
-    → LoadsWords limits told strict files before clauses now → held ≡ [] → HasProgressed limits told strict files 0 left left before clauses held now
-Stands_start limits told strict files left before now clauses held l empty = record {
+pub Stands_start : (setting : Setting) (told : Option Files) (strict : Bool) (files : List Bytes) (left : Option Bytes) (before now : Around) (state : State) (held : Bytes)
+    → LoadsWords setting told strict files before state now → held ≡ [] → HasProgressed setting told strict files 0 left left before state held now
+Stands_start setting told strict files left before now state held l empty = record {
   taken = [];
   size = refl;
   takes = Takes_none left left refl;
@@ -82,17 +82,17 @@ Stands_start limits told strict files left before now clauses held l empty = rec
     output = l.output;
     failures = l.failures;
     splits = Splits_none;
-    holds = empty ∙ sym (shown-nil limits);
-    run = subst (λ (rs : List Request). Run limits told strict [] rs l.output l.failures clauses) (sym (append-nil (map a_word files))) l.run;
+    holds = empty ∙ sym (shown-nil setting.limits);
+    run = subst (λ (rs : List Request). Run setting told strict empty_state rs l.output l.failures state) (sym (append-nil (map a_word files))) l.run;
     written = l.written;
     counted = l.counted;
   };
 }
 
-pub Stands_under : (lims limits : Limits) (told : Option Files) (strict : Bool) (files : List Bytes) (left : Option Bytes) (before now : Around) (clauses : List Clause) (held : Bytes)
-    → LoadsWords lims told strict files before clauses now → lims ≡ limits → held ≡ [] → HasProgressed limits told strict files 0 left left before clauses held now
-Stands_under lims limits told strict files left before now clauses held l same empty =
-    Stands_start limits told strict files left before now clauses held (subst (λ (m : Limits). LoadsWords m told strict files before clauses now) same l) empty
+pub Stands_under : (given setting : Setting) (told : Option Files) (strict : Bool) (files : List Bytes) (left : Option Bytes) (before now : Around) (state : State) (held : Bytes)
+    → LoadsWords given told strict files before state now → given ≡ setting → held ≡ [] → HasProgressed setting told strict files 0 left left before state held now
+Stands_under given setting told strict files left before now state held l same empty =
+    Stands_start setting told strict files left before now state held (subst (λ (m : Setting). LoadsWords m told strict files before state now) same l) empty
 
 -- ---- the words, as `clap` lends them
 abbrev pub texts : List (Bor Bytes) → List Bytes
@@ -105,28 +105,28 @@ files_are f words e = ap (λ (o : Option (List Bytes)). unwrap_or o []) (e ∙ a
 pub files_none : (f : Found) → None ≡ option_map raw_values (matched_of f (codes "FILE")) → [] ≡ (asked_in (rows_of f)).files
 files_none f e = ap (λ (o : Option (List Bytes)). unwrap_or o []) (e ∙ all_is f (codes "FILE"))
 
-module _ (limits : Limits) (told : Option Files) (strict : Bool) (files : List (Bor Bytes)) (i : ℕ) (before : Around) where
-  pub words_all : (whole : List Bytes) (clauses : List Clause) (after : Around) → length files ≤ i → texts files ≡ whole
-      → LoadsWords limits told strict (texts (take i files)) before clauses after → LoadsWords limits told strict whole before clauses after
-  words_all whole clauses after past same l = subst (λ (ws : List Bytes). LoadsWords limits told strict ws before clauses after) (ap texts (take_all i files past) ∙ same) l
+module _ (setting : Setting) (told : Option Files) (strict : Bool) (files : List (Bor Bytes)) (i : ℕ) (before : Around) where
+  pub words_all : (whole : List Bytes) (state : State) (after : Around) → length files ≤ i → texts files ≡ whole
+      → LoadsWords setting told strict (texts (take i files)) before state after → LoadsWords setting told strict whole before state after
+  words_all whole state after past same l = subst (λ (ws : List Bytes). LoadsWords setting told strict ws before state after) (ap texts (take_all i files past) ∙ same) l
 
-  pub words_next : (lims : Limits) (tell : Option Files) (d : Bor Bytes) (word : Bytes) (old new : List Clause) (now after : Around)
-      → LoadsWords limits told strict (texts (take i files)) before old now → lims ≡ limits → tell ≡ told → i < length files → word ≡ (get_or files i d).now
-      → ActsOnRequest lims tell strict old new (a_word word) now after → LoadsWords limits told strict (texts (take (i + 1) files)) before new after
-  words_next lims tell d word old new now after l same known here is acts =
+  pub words_next : (given : Setting) (tell : Option Files) (d : Bor Bytes) (word : Bytes) (old new : State) (now after : Around)
+      → LoadsWords setting told strict (texts (take i files)) before old now → given ≡ setting → tell ≡ told → i < length files → word ≡ (get_or files i d).now
+      → ActsOnRequest given tell strict old new (a_word word) now after → LoadsWords setting told strict (texts (take (i + 1) files)) before new after
+  words_next given tell d word old new now after l same known here is acts =
       let next : texts (take (i + 1) files) ≡ texts (take i files) ++ word ∷ [] =
       ap (λ (n : ℕ). texts (take n files)) (add-one i) ∙ ap texts (take-suc files i d here) ∙ map-append (λ (f : Bor Bytes). f.now) (take i files) (get_or files i d ∷ [])
       ∙ ap (λ (w : Bytes). texts (take i files) ++ w ∷ []) (sym is) in
-      subst (λ (ws : List Bytes). LoadsWords limits told strict ws before new after) (sym next)
-      (words_more limits told strict (texts (take i files)) word old new before now after l
-      (subst (λ (m : Limits). ActsOnRequest m told strict old new (a_word word) now after) same (subst (λ (o : Option Files). ActsOnRequest lims o strict old new (a_word word) now after) known acts)))
+      subst (λ (ws : List Bytes). LoadsWords setting told strict ws before new after) (sym next)
+      (words_more setting told strict (texts (take i files)) word old new before now after l
+      (subst (λ (m : Setting). ActsOnRequest m told strict old new (a_word word) now after) same (subst (λ (o : Option Files). ActsOnRequest given o strict old new (a_word word) now after) known acts)))
 
-  pub words_break : (halt : Stop) (whole : List Bytes) (lims : Limits) (tell : Option Files) (d : Bor Bytes) (word : Bytes) (old new : List Clause) (now after : Around)
-      → LoadsWords limits told strict (texts (take i files)) before old now → lims ≡ limits → tell ≡ told → i < length files → word ≡ (get_or files i d).now → texts files ≡ whole
-      → Breaks halt lims tell strict old new (a_word word) now after → WritesTo halt limits told strict whole [] before after
-  words_break halt whole lims tell d word old new now after l same known here is all breaks =
+  pub words_break : (halt : Stop) (whole : List Bytes) (given : Setting) (tell : Option Files) (d : Bor Bytes) (word : Bytes) (old new : State) (now after : Around)
+      → LoadsWords setting told strict (texts (take i files)) before old now → given ≡ setting → tell ≡ told → i < length files → word ≡ (get_or files i d).now → texts files ≡ whole
+      → Breaks halt given tell strict old new (a_word word) now after → WritesTo halt setting told strict whole [] before after
+  words_break halt whole given tell d word old new now after l same known here is all breaks =
       let parts : texts (take i files) ++ word ∷ texts (drop (suc i) files) ≡ whole =
       ap (λ (w : Bytes). texts (take i files) ++ w ∷ texts (drop (suc i) files)) is ∙ sym (map-append (λ (f : Bor Bytes). f.now) (take i files) (get_or files i d ∷ drop (suc i) files))
       ∙ ap texts (sym (split_at files i d here)) ∙ all in
-      words_stop halt limits told strict (texts (take i files)) (texts (drop (suc i) files)) whole word old new before now after l
-      (subst (λ (m : Limits). Breaks halt m told strict old new (a_word word) now after) same (subst (λ (o : Option Files). Breaks halt lims o strict old new (a_word word) now after) known breaks)) parts
+      words_stop halt setting told strict (texts (take i files)) (texts (drop (suc i) files)) whole word old new before now after l
+      (subst (λ (m : Setting). Breaks halt m told strict old new (a_word word) now after) same (subst (λ (o : Option Files). Breaks halt given o strict old new (a_word word) now after) known breaks)) parts

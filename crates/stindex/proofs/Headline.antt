@@ -3,7 +3,7 @@
 use Rattle.std.proofs.Common.{◌≡◌, ℕ, Bool, List, ◌++◌, Option, Some, length, refl, sym, ap, subst, ◌∙◌, arith}
 use Rattle.std.specs.Prelude.{◌↔◌}
 use Rattle.si_defs.specs.Bytes.{Bytes}
-use Rattle.si_steps.specs.declared.limits.Limits.{Limits}
+use Rattle.si_steps.specs.Settings.{Setting}
 use Rattle.si_steps.specs.Runs.{Splits, lines_at_end, requests, IsOutput}
 use Rattle.si_state.specs.Harvest.{Files}
 use Rattle.si_session.specs.Session.{Around}
@@ -15,19 +15,19 @@ use Rattle.stindex.specs.Serve.{Ends, Serves, TellsFailures}
 
 -- A run that ended wrote an output of all its words and of all the lines of its input, behind what
 -- the sink had, and the failures that it tells were counted.
-pub record WritesOutput (limits : Limits) (told : Option Files) (strict : Bool) (files : List Bytes) (input had : Bytes) (before after : Around) : Type 0 where
+pub record WritesOutput (setting : Setting) (told : Option Files) (strict : Bool) (files : List Bytes) (input had : Bytes) (before after : Around) : Type 0 where
   pub lines : List Bytes
   pub rest : Bytes
   pub splits : Splits input lines rest
   pub output : Bytes
   pub failures : ℕ
-  pub right : IsOutput limits told strict (requests files (lines_at_end lines rest)) output failures
+  pub right : IsOutput setting told strict (requests files (lines_at_end lines rest)) output failures
   pub written : after.sink.bytes ≡ Some (had ++ output)
   pub counted : TellsFailures failures before after
 
-pub whole_run : (limits : Limits) (told : Option Files) (strict : Bool) (files : List Bytes) (input had : Bytes) (now : Option Bytes) (before after : Around)
-    → before.sink.bytes ≡ Some had → Serves limits told strict files Ended (Some input) now before after → WritesOutput limits told strict files input had before after
-whole_run limits told strict files input had now before after known s = record {
+pub whole_run : (setting : Setting) (told : Option Files) (strict : Bool) (files : List Bytes) (input had : Bytes) (now : Option Bytes) (before after : Around)
+    → before.sink.bytes ≡ Some had → Serves setting told strict files Ended (Some input) now before after → WritesOutput setting told strict files input had before after
+whole_run setting told strict files input had now before after known s = record {
   lines = s.lines;
   rest = s.rest;
   splits = subst (λ (b : Bytes). Splits b s.lines s.rest) (sym (Takes_all (Some input) now s.taken s.takes s.ends.0.at_end)) s.splits;
@@ -40,13 +40,13 @@ whole_run limits told strict files input had now before after known s = record {
 
 -- Beside a refusal, a fault of the sink and want of memory, the limit is met exactly where as many
 -- bytes were taken.
-pub limit_is_met : (limits : Limits) (told : Option Files) (strict : Bool) (files : List Bytes) (status : Status) (taken : Bytes) (lines : List Bytes) (rest : Bytes) (left now : Option Bytes) (before after : Around)
-    → (status ≡ Refused → ⊥) → (status ≡ SinkFault → ⊥) → (status ≡ Memory → ⊥) → Ends status limits told strict files taken lines rest left now before after
-    → (length taken ≡ limits.session) ↔ (status ≡ SessionLimit)
-limit_is_met limits told strict files Ended taken lines rest left now before after refused sink memory e = (λ full. absurd (omega (arith, e.0.below)), λ is. cc)
-limit_is_met limits told strict files Refused taken lines rest left now before after refused sink memory e = absurd (refused refl)
-limit_is_met limits told strict files Usage taken lines rest left now before after refused sink memory e = absurd e
-limit_is_met limits told strict files SourceFault taken lines rest left now before after refused sink memory e = (λ full. absurd (omega (arith, e.0)), λ is. cc)
-limit_is_met limits told strict files SinkFault taken lines rest left now before after refused sink memory e = absurd (sink refl)
-limit_is_met limits told strict files Memory taken lines rest left now before after refused sink memory e = absurd (memory refl)
-limit_is_met limits told strict files SessionLimit taken lines rest left now before after refused sink memory e = (λ full. refl, λ is. e.0)
+pub limit_is_met : (setting : Setting) (told : Option Files) (strict : Bool) (files : List Bytes) (status : Status) (taken : Bytes) (lines : List Bytes) (rest : Bytes) (left now : Option Bytes) (before after : Around)
+    → (status ≡ Refused → ⊥) → (status ≡ SinkFault → ⊥) → (status ≡ Memory → ⊥) → Ends status setting told strict files taken lines rest left now before after
+    → (length taken ≡ setting.limits.session) ↔ (status ≡ SessionLimit)
+limit_is_met setting told strict files Ended taken lines rest left now before after refused sink memory e = (λ full. absurd (omega (arith, e.0.below)), λ is. cc)
+limit_is_met setting told strict files Refused taken lines rest left now before after refused sink memory e = absurd (refused refl)
+limit_is_met setting told strict files Usage taken lines rest left now before after refused sink memory e = absurd e
+limit_is_met setting told strict files SourceFault taken lines rest left now before after refused sink memory e = (λ full. absurd (omega (arith, e.0)), λ is. cc)
+limit_is_met setting told strict files SinkFault taken lines rest left now before after refused sink memory e = absurd (sink refl)
+limit_is_met setting told strict files Memory taken lines rest left now before after refused sink memory e = absurd (memory refl)
+limit_is_met setting told strict files SessionLimit taken lines rest left now before after refused sink memory e = (λ full. refl, λ is. e.0)

@@ -3,17 +3,18 @@
 use Rattle.std.proofs.Common.{◌≡◌, ℕ, ◌+◌, List, [], ◌∷◌, ◌++◌, Option, map, take, refl, sym, ap, subst, ◌∙◌, append_assoc, append-nil, zero, suc, drop, arith}
 use Rattle.std.proofs.Math.Seq.{take-nil}
 use Rattle.si_defs.specs.Bytes.{Bytes}
-use Rattle.si_defs.specs.Clauses.{Clause}
 use Rattle.si_steps.specs.declared.limits.Limits.{Limits}
+use Rattle.si_steps.specs.Settings.{Setting}
 use Rattle.si_steps.specs.Replies.{Reply, is_refusal}
 use Rattle.si_steps.specs.Steps.{Step}
 use Rattle.si_steps.specs.Runs.{ended, failures_in, IsOneLine, Splits, lines_at_end, Request, a_line, requests, GoesOn, Run}
+use Rattle.si_state.specs.States.{State, empty_state}
 use Rattle.si_state.specs.Harvest.{Files}
 use Rattle.si_steps.specs.Loads.{Owed, nothing, a_miss, a_big, a_failure}
 use Rattle.si_io.specs.Library.{Counts}
 use Rattle.si_io.specs.Content.{Told, Receives}
 use Rattle.si_io.proofs.Content.{Receives_then, ReceivesPrefix_then}
-use Rattle.si_session.specs.Session.{State, Around, Writes, Steps, IsCounted}
+use Rattle.si_session.specs.Session.{View, Around, Writes, Steps, IsCounted}
 use Rattle.si_session.specs.declared.stepped.Stepped.{Stepped}
 use Rattle.si_session.specs.declared.stepped.Stepped.TheVariants.{Answered, Refused, Silent, SinkFailed}
 use Rattle.stindex.specs.Progress.{shown, Judges, ActsOnRequest, Breaks, Progress, Advances, Feeds, BrokenOff, Fails, Closes, Cuts}
@@ -53,42 +54,42 @@ take-take-append (suc n) [] ys = refl
 take-take-append (suc n) (x ∷ xs) ys = ap (λ (l : Bytes). x ∷ l) (take-take-append n xs ys)
 
 -- ---- progress
-pub Advances_none : (limits : Limits) (told : Option Files) (strict : Bool) (clauses : List Clause) (held : Bytes) (now : Around) → Advances limits told strict [] clauses held now clauses held now
-Advances_none limits told strict clauses held now files before taken p = subst (λ (b : Bytes). Progress limits told strict files before b clauses held now) (sym (append-nil taken)) p
+pub Advances_none : (setting : Setting) (told : Option Files) (strict : Bool) (state : State) (held : Bytes) (now : Around) → Advances setting told strict [] state held now state held now
+Advances_none setting told strict state held now files before taken p = subst (λ (b : Bytes). Progress setting told strict files before b state held now) (sym (append-nil taken)) p
 
-pub Advances_then : (limits : Limits) (told : Option Files) (strict : Bool) (bs cs : Bytes) (s t u : List Clause) (f g h : Bytes) (x y z : Around)
-    → Advances limits told strict bs s f x t g y → Advances limits told strict cs t g y u h z → Advances limits told strict (bs ++ cs) s f x u h z
-Advances_then limits told strict bs cs s t u f g h x y z first second files before taken p =
-    subst (λ (b : Bytes). Progress limits told strict files before b u h z) (append_assoc taken bs cs) (second files before (taken ++ bs) (first files before taken p))
+pub Advances_then : (setting : Setting) (told : Option Files) (strict : Bool) (bs cs : Bytes) (s t u : State) (f g h : Bytes) (x y z : Around)
+    → Advances setting told strict bs s f x t g y → Advances setting told strict cs t g y u h z → Advances setting told strict (bs ++ cs) s f x u h z
+Advances_then setting told strict bs cs s t u f g h x y z first second files before taken p =
+    subst (λ (b : Bytes). Progress setting told strict files before b u h z) (append_assoc taken bs cs) (second files before (taken ++ bs) (first files before taken p))
 
 -- bytes without a line feed go to the line that was begun
-pub Advances_more : (limits : Limits) (told : Option Files) (strict : Bool) (bytes held holds : Bytes) (clauses : List Clause) (now : Around)
-    → IsOneLine bytes → holds ≡ take (limits.line + 1) (held ++ bytes) → Advances limits told strict bytes clauses held now clauses holds now
-Advances_more limits told strict bytes held holds clauses now one filled files before taken p = record {
+pub Advances_more : (setting : Setting) (told : Option Files) (strict : Bool) (bytes held holds : Bytes) (state : State) (now : Around)
+    → IsOneLine bytes → holds ≡ take (setting.limits.line + 1) (held ++ bytes) → Advances setting told strict bytes state held now state holds now
+Advances_more setting told strict bytes held holds state now one filled files before taken p = record {
   lines = p.lines;
   rest = p.rest ++ bytes;
   output = p.output;
   failures = p.failures;
   splits = Splits_more taken p.lines p.rest bytes p.splits one;
-  holds = filled ∙ ap (λ (b : Bytes). take (limits.line + 1) (b ++ bytes)) p.holds ∙ take-take-append (limits.line + 1) p.rest bytes;
+  holds = filled ∙ ap (λ (b : Bytes). take (setting.limits.line + 1) (b ++ bytes)) p.holds ∙ take-take-append (setting.limits.line + 1) p.rest bytes;
   run = p.run;
   written = p.written;
   counted = p.counted;
 }
 
 -- a line feed ends that line, which is acted on
-pub Advances_line : (limits : Limits) (told : Option Files) (strict : Bool) (old new : List Clause) (held : Bytes) (now after : Around)
-    → ActsOnRequest limits told strict old new (a_line held) now after → Advances limits told strict (10 ∷ []) old held now new [] after
-Advances_line limits told strict old new held now after acts files before taken p =
-    let step = shown_step limits told old new p.rest acts.reply acts.owed (subst (λ (l : Bytes). Step limits told old l acts.reply acts.owed new) p.holds acts.step) in
+pub Advances_line : (setting : Setting) (told : Option Files) (strict : Bool) (old new : State) (held : Bytes) (now after : Around)
+    → ActsOnRequest setting told strict old new (a_line held) now after → Advances setting told strict (10 ∷ []) old held now new [] after
+Advances_line setting told strict old new held now after acts files before taken p =
+    let step = shown_step setting told old new p.rest acts.reply acts.owed (subst (λ (l : Bytes). Step setting told old l acts.reply acts.owed new) p.holds acts.step) in
     record {
       lines = p.lines ++ p.rest ∷ [];
       rest = [];
       output = p.output ++ ended acts.reply;
       failures = p.failures + failures_in acts.owed;
       splits = Splits_line taken p.lines p.rest p.splits;
-      holds = sym (shown-nil limits);
-      run = Run_line limits told strict old new files p.lines p.rest p.output p.failures acts.reply acts.owed p.run step acts.goes;
+      holds = sym (shown-nil setting.limits);
+      run = Run_line setting told strict old new files p.lines p.rest p.output p.failures acts.reply acts.owed p.run step acts.goes;
       written = Receives_then before.sink now.sink after.sink p.output (ended acts.reply) p.written acts.written;
       counted = tells_then before now after p.failures (failures_in acts.owed) p.counted acts.counted;
     }
@@ -99,13 +100,13 @@ stops_then stop.Refused strict reply a b c xs ys h k = (Receives_then a b c xs y
 stops_then stop.SinkFault strict reply a b c xs ys h k = ReceivesPrefix_then a b c xs ys h k
 
 -- a run stops at a line, behind which others stand
-stops_at : (halt : Stop) (limits : Limits) (told : Option Files) (strict : Bool) (old new : List Clause) (files lines whole : List Bytes) (line : Bytes) (others : List Request) (output : Bytes) (failures : ℕ)
-    (held : Bytes) (before now after : Around) (breaks : Breaks halt limits told strict old new (a_line held) now after)
-    → Run limits told strict [] (requests files lines) output failures old → Step limits told old line breaks.reply breaks.owed new
+stops_at : (halt : Stop) (setting : Setting) (told : Option Files) (strict : Bool) (old new : State) (files lines whole : List Bytes) (line : Bytes) (others : List Request) (output : Bytes) (failures : ℕ)
+    (held : Bytes) (before now after : Around) (breaks : Breaks halt setting told strict old new (a_line held) now after)
+    → Run setting told strict empty_state (requests files lines) output failures old → Step setting told old line breaks.reply breaks.owed new
     → Receives before.sink output now.sink → TellsFailures failures before now
     → requests files lines ++ a_line line ∷ others ≡ requests files whole
-    → WritesTo halt limits told strict files whole before after
-stops_at halt limits told strict old new files lines whole line others output failures held before now after breaks run step written counted front = record {
+    → WritesTo halt setting told strict files whole before after
+stops_at halt setting told strict old new files lines whole line others output failures held before now after breaks run step written counted front = record {
   reply = breaks.reply;
   output = output ++ ended breaks.reply;
   failures = failures + failures_in breaks.owed;
@@ -128,78 +129,78 @@ stops_at halt limits told strict old new files lines whole line others output fa
   counted = tells_then before now after failures (failures_in breaks.owed) counted breaks.counted;
 }
 
-pub Fails_line : (halt : Stop) (limits : Limits) (told : Option Files) (strict : Bool) (bytes : Bytes) (old new : List Clause) (held : Bytes) (now after : Around)
-    → Breaks halt limits told strict old new (a_line held) now after → Fails halt limits told strict (10 ∷ bytes) old held now after
-Fails_line halt limits told strict bytes old new held now after breaks files before taken p =
-    let step = shown_step limits told old new p.rest breaks.reply breaks.owed (subst (λ (l : Bytes). Step limits told old l breaks.reply breaks.owed new) p.holds breaks.step) in
+pub Fails_line : (halt : Stop) (setting : Setting) (told : Option Files) (strict : Bool) (bytes : Bytes) (old new : State) (held : Bytes) (now after : Around)
+    → Breaks halt setting told strict old new (a_line held) now after → Fails halt setting told strict (10 ∷ bytes) old held now after
+Fails_line halt setting told strict bytes old new held now after breaks files before taken p =
+    let step = shown_step setting told old new p.rest breaks.reply breaks.owed (subst (λ (l : Bytes). Step setting told old l breaks.reply breaks.owed new) p.holds breaks.step) in
     let more = Splits_any bytes (taken ++ 10 ∷ []) (p.lines ++ p.rest ∷ []) [] (Splits_line taken p.lines p.rest p.splits) in
     record {
       lines = (p.lines ++ p.rest ∷ []) ++ more.0;
       rest = more.1;
       splits = subst (λ (b : Bytes). Splits b ((p.lines ++ p.rest ∷ []) ++ more.0) more.1) (append_assoc taken (10 ∷ []) bytes) more.2;
-      part = stops_at halt limits told strict old new files p.lines ((p.lines ++ p.rest ∷ []) ++ more.0) p.rest (map a_line more.0) p.output p.failures held before now after breaks p.run step p.written p.counted (requests-split files p.lines more.0 p.rest);
+      part = stops_at halt setting told strict old new files p.lines ((p.lines ++ p.rest ∷ []) ++ more.0) p.rest (map a_line more.0) p.output p.failures held before now after breaks p.run step p.written p.counted (requests-split files p.lines more.0 p.rest);
     }
 
-pub Fails_then : (halt : Stop) (limits : Limits) (told : Option Files) (strict : Bool) (bs cs : Bytes) (s t : List Clause) (f g : Bytes) (x y z : Around)
-    → Advances limits told strict bs s f x t g y → Fails halt limits told strict cs t g y z → Fails halt limits told strict (bs ++ cs) s f x z
-Fails_then halt limits told strict bs cs s t f g x y z first second files before taken p =
-    subst (λ (b : Bytes). BrokenOff halt limits told strict files before b z) (append_assoc taken bs cs) (second files before (taken ++ bs) (first files before taken p))
+pub Fails_then : (halt : Stop) (setting : Setting) (told : Option Files) (strict : Bool) (bs cs : Bytes) (s t : State) (f g : Bytes) (x y z : Around)
+    → Advances setting told strict bs s f x t g y → Fails halt setting told strict cs t g y z → Fails halt setting told strict (bs ++ cs) s f x z
+Fails_then halt setting told strict bs cs s t f g x y z first second files before taken p =
+    subst (λ (b : Bytes). BrokenOff halt setting told strict files before b z) (append_assoc taken bs cs) (second files before (taken ++ bs) (first files before taken p))
 
 -- ---- bytes from line feed to line feed
 -- a line was acted on that ends in the rest
-pub Feeds_line : (limits : Limits) (told : Option Files) (strict : Bool) (lims : Limits) (tell : Option Files) (bytes rest front left : Bytes) (at n : ℕ) (old mid new : List Clause) (held holds filled none : Bytes) (now x after : Around)
-    → Feeds limits told strict bytes old held now rest mid holds x → lims ≡ limits → tell ≡ told → n ≡ limits.line
+pub Feeds_line : (setting : Setting) (told : Option Files) (strict : Bool) (given : Setting) (tell : Option Files) (bytes rest front left : Bytes) (at n : ℕ) (old mid new : State) (held holds filled none : Bytes) (now x after : Around)
+    → Feeds setting told strict bytes old held now rest mid holds x → given ≡ setting → tell ≡ told → n ≡ setting.limits.line
     → Some at ≡ position (λ c. c == 10) rest → front ≡ take at rest → filled ≡ take (n + 1) (holds ++ front)
-    → ActsOnRequest lims tell strict mid new (a_line filled) x after → none ≡ [] → left ≡ drop (at + 1) rest
-    → Feeds limits told strict bytes old held now left new none after
-Feeds_line limits told strict lims tell bytes rest front left at n old mid new held holds filled none now x after f same known line some cut full acts cleared behind =
+    → ActsOnRequest given tell strict mid new (a_line filled) x after → none ≡ [] → left ≡ drop (at + 1) rest
+    → Feeds setting told strict bytes old held now left new none after
+Feeds_line setting told strict given tell bytes rest front left at n old mid new held holds filled none now x after f same known line some cut full acts cleared behind =
     let end = line_end rest at some in
-    let fill : filled ≡ take (limits.line + 1) (holds ++ take at rest) = full ∙ ap (λ (m : ℕ). take (m + 1) (holds ++ front)) line ∙ ap (λ (b : Bytes). take (limits.line + 1) (holds ++ b)) cut in
-    let more = Advances_more limits told strict (take at rest) holds filled mid x end.line fill in
-    let acted = Advances_line limits told strict mid new filled x after (subst (λ (l : Limits). ActsOnRequest l told strict mid new (a_line filled) x after) same (subst (λ (o : Option Files). ActsOnRequest lims o strict mid new (a_line filled) x after) known acts)) in
-    let both = Advances_then limits told strict (take at rest) (10 ∷ []) mid mid new holds filled [] x x after more acted in
-    let all = Advances_then limits told strict f.done (take at rest ++ 10 ∷ []) old mid new held holds [] now x after f.advances both in
+    let fill : filled ≡ take (setting.limits.line + 1) (holds ++ take at rest) = full ∙ ap (λ (m : ℕ). take (m + 1) (holds ++ front)) line ∙ ap (λ (b : Bytes). take (setting.limits.line + 1) (holds ++ b)) cut in
+    let more = Advances_more setting told strict (take at rest) holds filled mid x end.line fill in
+    let acted = Advances_line setting told strict mid new filled x after (subst (λ (l : Setting). ActsOnRequest l told strict mid new (a_line filled) x after) same (subst (λ (o : Option Files). ActsOnRequest given o strict mid new (a_line filled) x after) known acts)) in
+    let both = Advances_then setting told strict (take at rest) (10 ∷ []) mid mid new holds filled [] x x after more acted in
+    let all = Advances_then setting told strict f.done (take at rest ++ 10 ∷ []) old mid new held holds [] now x after f.advances both in
     record {
       done = f.done ++ (take at rest ++ 10 ∷ []);
       whole = f.whole ∙ ap (λ (b : Bytes). f.done ++ b) (end.parts ∙ sym (append_assoc (take at rest) (10 ∷ []) (drop (at + 1) rest)))
           ∙ sym (append_assoc f.done (take at rest ++ 10 ∷ []) (drop (at + 1) rest)) ∙ ap (λ (b : Bytes). (f.done ++ (take at rest ++ 10 ∷ [])) ++ b) (sym behind);
-      advances = subst (λ (h : Bytes). Advances limits told strict (f.done ++ (take at rest ++ 10 ∷ [])) old held now new h after) (sym cleared) all;
+      advances = subst (λ (h : Bytes). Advances setting told strict (f.done ++ (take at rest ++ 10 ∷ [])) old held now new h after) (sym cleared) all;
     }
 
 -- the sink failed at that line
-pub Feeds_fail : (halt : Stop) (limits : Limits) (told : Option Files) (strict : Bool) (lims : Limits) (tell : Option Files) (bytes rest front : Bytes) (at n : ℕ) (old mid new : List Clause) (held holds filled : Bytes) (now x after : Around)
-    → Feeds limits told strict bytes old held now rest mid holds x → lims ≡ limits → tell ≡ told → n ≡ limits.line
+pub Feeds_fail : (halt : Stop) (setting : Setting) (told : Option Files) (strict : Bool) (given : Setting) (tell : Option Files) (bytes rest front : Bytes) (at n : ℕ) (old mid new : State) (held holds filled : Bytes) (now x after : Around)
+    → Feeds setting told strict bytes old held now rest mid holds x → given ≡ setting → tell ≡ told → n ≡ setting.limits.line
     → Some at ≡ position (λ c. c == 10) rest → front ≡ take at rest → filled ≡ take (n + 1) (holds ++ front)
-    → Breaks halt lims tell strict mid new (a_line filled) x after → Fails halt limits told strict bytes old held now after
-Feeds_fail halt limits told strict lims tell bytes rest front at n old mid new held holds filled now x after f same known line some cut full breaks =
+    → Breaks halt given tell strict mid new (a_line filled) x after → Fails halt setting told strict bytes old held now after
+Feeds_fail halt setting told strict given tell bytes rest front at n old mid new held holds filled now x after f same known line some cut full breaks =
     let end = line_end rest at some in
-    let fill : filled ≡ take (limits.line + 1) (holds ++ take at rest) = full ∙ ap (λ (m : ℕ). take (m + 1) (holds ++ front)) line ∙ ap (λ (b : Bytes). take (limits.line + 1) (holds ++ b)) cut in
-    let more = Advances_more limits told strict (take at rest) holds filled mid x end.line fill in
-    let failed = Fails_line halt limits told strict (drop (at + 1) rest) mid new filled x after (subst (λ (l : Limits). Breaks halt l told strict mid new (a_line filled) x after) same (subst (λ (o : Option Files). Breaks halt lims o strict mid new (a_line filled) x after) known breaks)) in
-    let both = Fails_then halt limits told strict (take at rest) (10 ∷ drop (at + 1) rest) mid mid holds filled x x after more failed in
-    let all = Fails_then halt limits told strict f.done (take at rest ++ 10 ∷ drop (at + 1) rest) old mid held holds now x after f.advances both in
-    subst (λ (b : Bytes). Fails halt limits told strict b old held now after) (sym (f.whole ∙ ap (λ (b : Bytes). f.done ++ b) end.parts)) all
+    let fill : filled ≡ take (setting.limits.line + 1) (holds ++ take at rest) = full ∙ ap (λ (m : ℕ). take (m + 1) (holds ++ front)) line ∙ ap (λ (b : Bytes). take (setting.limits.line + 1) (holds ++ b)) cut in
+    let more = Advances_more setting told strict (take at rest) holds filled mid x end.line fill in
+    let failed = Fails_line halt setting told strict (drop (at + 1) rest) mid new filled x after (subst (λ (l : Setting). Breaks halt l told strict mid new (a_line filled) x after) same (subst (λ (o : Option Files). Breaks halt given o strict mid new (a_line filled) x after) known breaks)) in
+    let both = Fails_then halt setting told strict (take at rest) (10 ∷ drop (at + 1) rest) mid mid holds filled x x after more failed in
+    let all = Fails_then halt setting told strict f.done (take at rest ++ 10 ∷ drop (at + 1) rest) old mid held holds now x after f.advances both in
+    subst (λ (b : Bytes). Fails halt setting told strict b old held now after) (sym (f.whole ∙ ap (λ (b : Bytes). f.done ++ b) end.parts)) all
 
 -- no line feed is left in the rest
-pub Feeds_end : (limits : Limits) (told : Option Files) (strict : Bool) (bytes rest : Bytes) (n : ℕ) (old mid : List Clause) (held holds filled : Bytes) (now x : Around)
-    → Feeds limits told strict bytes old held now rest mid holds x → n ≡ limits.line
+pub Feeds_end : (setting : Setting) (told : Option Files) (strict : Bool) (bytes rest : Bytes) (n : ℕ) (old mid : State) (held holds filled : Bytes) (now x : Around)
+    → Feeds setting told strict bytes old held now rest mid holds x → n ≡ setting.limits.line
     → None ≡ position (λ c. c == 10) rest → filled ≡ take (n + 1) (holds ++ rest)
-    → Advances limits told strict bytes old held now mid filled x
-Feeds_end limits told strict bytes rest n old mid held holds filled now x f line none full =
-    let fill : filled ≡ take (limits.line + 1) (holds ++ rest) = full ∙ ap (λ (m : ℕ). take (m + 1) (holds ++ rest)) line in
-    let more = Advances_more limits told strict rest holds filled mid x (line_without_end rest none) fill in
-    subst (λ (b : Bytes). Advances limits told strict b old held now mid filled x) (sym f.whole) (Advances_then limits told strict f.done rest old mid mid held holds filled now x x f.advances more)
+    → Advances setting told strict bytes old held now mid filled x
+Feeds_end setting told strict bytes rest n old mid held holds filled now x f line none full =
+    let fill : filled ≡ take (setting.limits.line + 1) (holds ++ rest) = full ∙ ap (λ (m : ℕ). take (m + 1) (holds ++ rest)) line in
+    let more = Advances_more setting told strict rest holds filled mid x (line_without_end rest none) fill in
+    subst (λ (b : Bytes). Advances setting told strict b old held now mid filled x) (sym f.whole) (Advances_then setting told strict f.done rest old mid mid held holds filled now x x f.advances more)
 
 -- ---- the end of the input
 rest_some : (limits : Limits) (held rest : Bytes) → (held ≡ [] → ⊥) → held ≡ shown limits rest → rest ≡ [] → ⊥
 rest_some limits held rest some holds none = some (holds ∙ ap (shown limits) none ∙ shown-nil limits)
 
 -- the line that was begun is the last one
-pub Closes_line : (limits : Limits) (told : Option Files) (strict : Bool) (old new : List Clause) (held : Bytes) (now after : Around)
-    → (held ≡ [] → ⊥) → ActsOnRequest limits told strict old new (a_line held) now after → Closes limits told strict old held now after
-Closes_line limits told strict old new held now after some acts files before taken p =
-    let step = shown_step limits told old new p.rest acts.reply acts.owed (subst (λ (l : Bytes). Step limits told old l acts.reply acts.owed new) p.holds acts.step) in
-    let same : lines_at_end p.lines p.rest ≡ p.lines ++ p.rest ∷ [] = lines_at_end-some p.lines p.rest (rest_some limits held p.rest some p.holds) in
+pub Closes_line : (setting : Setting) (told : Option Files) (strict : Bool) (old new : State) (held : Bytes) (now after : Around)
+    → (held ≡ [] → ⊥) → ActsOnRequest setting told strict old new (a_line held) now after → Closes setting told strict old held now after
+Closes_line setting told strict old new held now after some acts files before taken p =
+    let step = shown_step setting told old new p.rest acts.reply acts.owed (subst (λ (l : Bytes). Step setting told old l acts.reply acts.owed new) p.holds acts.step) in
+    let same : lines_at_end p.lines p.rest ≡ p.lines ++ p.rest ∷ [] = lines_at_end-some p.lines p.rest (rest_some setting.limits held p.rest some p.holds) in
     let output : Bytes = p.output ++ ended acts.reply in
     record {
       lines = p.lines;
@@ -210,24 +211,24 @@ Closes_line limits told strict old new held now after some acts files before tak
         failures = p.failures + failures_in acts.owed;
         right = (
           new,
-          subst (λ (ls : List Bytes). Run limits told strict [] (requests files ls) output (p.failures + failures_in acts.owed) new) (sym same)
-              (Run_line limits told strict old new files p.lines p.rest p.output p.failures acts.reply acts.owed p.run step acts.goes),
+          subst (λ (ls : List Bytes). Run setting told strict empty_state (requests files ls) output (p.failures + failures_in acts.owed) new) (sym same)
+              (Run_line setting told strict old new files p.lines p.rest p.output p.failures acts.reply acts.owed p.run step acts.goes),
         );
         written = Receives_then before.sink now.sink after.sink p.output (ended acts.reply) p.written acts.written;
         counted = tells_then before now after p.failures (failures_in acts.owed) p.counted acts.counted;
       };
     }
 
-pub Cuts_line : (halt : Stop) (limits : Limits) (told : Option Files) (strict : Bool) (old new : List Clause) (held : Bytes) (now after : Around)
-    → (held ≡ [] → ⊥) → Breaks halt limits told strict old new (a_line held) now after → Cuts halt limits told strict old held now after
-Cuts_line halt limits told strict old new held now after some breaks files before taken p =
-    let step = shown_step limits told old new p.rest breaks.reply breaks.owed (subst (λ (l : Bytes). Step limits told old l breaks.reply breaks.owed new) p.holds breaks.step) in
-    let same : lines_at_end p.lines p.rest ≡ p.lines ++ p.rest ∷ [] = lines_at_end-some p.lines p.rest (rest_some limits held p.rest some p.holds) in
+pub Cuts_line : (halt : Stop) (setting : Setting) (told : Option Files) (strict : Bool) (old new : State) (held : Bytes) (now after : Around)
+    → (held ≡ [] → ⊥) → Breaks halt setting told strict old new (a_line held) now after → Cuts halt setting told strict old held now after
+Cuts_line halt setting told strict old new held now after some breaks files before taken p =
+    let step = shown_step setting told old new p.rest breaks.reply breaks.owed (subst (λ (l : Bytes). Step setting told old l breaks.reply breaks.owed new) p.holds breaks.step) in
+    let same : lines_at_end p.lines p.rest ≡ p.lines ++ p.rest ∷ [] = lines_at_end-some p.lines p.rest (rest_some setting.limits held p.rest some p.holds) in
     record {
       lines = p.lines;
       rest = p.rest;
       splits = p.splits;
-      part = stops_at halt limits told strict old new files p.lines (lines_at_end p.lines p.rest) p.rest [] p.output p.failures held before now after breaks p.run step p.written p.counted
+      part = stops_at halt setting told strict old new files p.lines (lines_at_end p.lines p.rest) p.rest [] p.output p.failures held before now after breaks p.run step p.written p.counted
           (sym (requests-more files p.lines p.rest) ∙ ap (requests files) (sym same));
     }
 
@@ -268,13 +269,13 @@ stopped : (halt : Stop) (strict : Bool) (outcome : Stepped) (reply : Reply) (now
 stopped stop.Refused strict outcome reply now after h w = let v : Writes Refused reply now after = subst (λ (o : Stepped). Writes o reply now after) h.0 w in (v.0, h.1, v.1)
 stopped stop.SinkFault strict outcome reply now after h w = subst (λ (o : Stepped). Writes o reply now after) h w
 
-pub steps_at : (told : Option Files) (old new : State) (line held : Bytes) (outcome : Stepped) (now after : Around) → line ≡ held
+pub steps_at : (told : Option Files) (old new : View) (line held : Bytes) (outcome : Stepped) (now after : Around) → line ≡ held
     → Steps told old new (a_line line) outcome now after → Steps told old new (a_line held) outcome now after
 steps_at told old new line held outcome now after same s = subst (λ (l : Bytes). Steps told old new (a_line l) outcome now after) same s
 
-module _ (told : Option Files) (strict : Bool) (old new : State) (request : Request) (outcome : Stepped) (now after : Around)
+module _ (told : Option Files) (strict : Bool) (old new : View) (request : Request) (outcome : Stepped) (now after : Around)
     (kept : after.may_fail ≡ now.may_fail) (s : Steps told old new request outcome now after) where
-  pub acted : (r : Result (Unit {0}) Stop) → Judges strict outcome r → OnOk r (ActsOnRequest old.limits told strict old.clauses new.clauses request now after)
+  pub acted : (r : Result (Unit {0}) Stop) → Judges strict outcome r → OnOk r (ActsOnRequest old.setting told strict old.state new.state request now after)
   acted (Ok done) h = record {
     reply = s.reply;
     owed = s.owed;
@@ -285,7 +286,7 @@ module _ (told : Option Files) (strict : Bool) (old new : State) (request : Requ
   }
   acted (Err halt) h = tt
 
-  pub broken : (r : Result (Unit {0}) Stop) → Judges strict outcome r → IfErr r (λ halt. Breaks halt old.limits told strict old.clauses new.clauses request now after)
+  pub broken : (r : Result (Unit {0}) Stop) → Judges strict outcome r → IfErr r (λ halt. Breaks halt old.setting told strict old.state new.state request now after)
   broken (Ok done) h = tt
   broken (Err halt) h = record {
     reply = s.reply;

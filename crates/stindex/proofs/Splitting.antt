@@ -8,9 +8,9 @@ use Rattle.std.proofs.lemmas.List.{map-append}
 use Rattle.std.proofs.lemmas.List.Folds.{list_any-append}
 use Rattle.std.proofs.lemmas.Bool.Decides.{nat_tests}
 use Rattle.si_defs.specs.Bytes.{Bytes}
-use Rattle.si_defs.specs.Clauses.{Clause}
-use Rattle.si_steps.specs.declared.limits.Limits.{Limits}
+use Rattle.si_steps.specs.Settings.{Setting}
 use Rattle.si_steps.specs.Replies.{Reply}
+use Rattle.si_state.specs.States.{State, empty_state}
 use Rattle.si_state.specs.Harvest.{Files}
 use Rattle.si_steps.specs.Loads.{Owed}
 use Rattle.si_steps.specs.Steps.{Step}
@@ -126,22 +126,22 @@ requests-split files lines others line =
     ∙ ap (λ (rs : List Request). map a_word files ++ rs) (sym (map-append a_line lines (line ∷ others)) ∙ ap (map a_line) (sym (append_assoc lines (line ∷ []) others)))
 
 -- a run goes on by one request
-pub Run_more : (limits : Limits) (told : Option Files) (strict : Bool) (old mid new : List Clause) (done : List Request) (request : Request) (output : Bytes) (failures : ℕ) (reply : Reply) (owed : Owed)
-    → Run limits told strict old done output failures mid → Acts limits told mid request reply owed new → GoesOn strict reply
-    → Run limits told strict old (done ++ request ∷ []) (output ++ ended reply) (failures + failures_in owed) new
-Run_more limits told strict old mid new [] request output failures reply owed run acts goes = (
+pub Run_more : (setting : Setting) (told : Option Files) (strict : Bool) (old mid new : State) (done : List Request) (request : Request) (output : Bytes) (failures : ℕ) (reply : Reply) (owed : Owed)
+    → Run setting told strict old done output failures mid → Acts setting told mid request reply owed new → GoesOn strict reply
+    → Run setting told strict old (done ++ request ∷ []) (output ++ ended reply) (failures + failures_in owed) new
+Run_more setting told strict old mid new [] request output failures reply owed run acts goes = (
   reply,
   owed,
   new,
   [],
   0,
-  subst (λ (s : List Clause). Acts limits told s request reply owed new) run.2 acts,
+  subst (λ (s : State). Acts setting told s request reply owed new) run.2 acts,
   goes,
   (refl, refl, refl),
   ap (λ (b : Bytes). b ++ ended reply) run.0 ∙ sym (append-nil (ended reply)),
   omega (arith, run.1),
 )
-Run_more limits told strict old mid new (r ∷ rs) request output failures reply owed run acts goes = (
+Run_more setting told strict old mid new (r ∷ rs) request output failures reply owed run acts goes = (
   run.0,
   run.1,
   run.2,
@@ -149,15 +149,15 @@ Run_more limits told strict old mid new (r ∷ rs) request output failures reply
   run.4 + failures_in owed,
   run.5,
   run.6,
-  Run_more limits told strict run.2 mid new rs request run.3 run.4 reply owed run.7 acts goes,
+  Run_more setting told strict run.2 mid new rs request run.3 run.4 reply owed run.7 acts goes,
   ap (λ (b : Bytes). b ++ ended reply) run.8 ∙ append_assoc (ended run.0) run.3 (ended reply),
   omega (arith, run.9),
 )
 
 -- by one line
-pub Run_line : (limits : Limits) (told : Option Files) (strict : Bool) (mid new : List Clause) (files lines : List Bytes) (line output : Bytes) (failures : ℕ) (reply : Reply) (owed : Owed)
-    → Run limits told strict [] (requests files lines) output failures mid → Step limits told mid line reply owed new → GoesOn strict reply
-    → Run limits told strict [] (requests files (lines ++ line ∷ [])) (output ++ ended reply) (failures + failures_in owed) new
-Run_line limits told strict mid new files lines line output failures reply owed run step goes =
-    subst (λ (rs : List Request). Run limits told strict [] rs (output ++ ended reply) (failures + failures_in owed) new) (sym (requests-more files lines line))
-    (Run_more limits told strict [] mid new (requests files lines) (a_line line) output failures reply owed run step goes)
+pub Run_line : (setting : Setting) (told : Option Files) (strict : Bool) (mid new : State) (files lines : List Bytes) (line output : Bytes) (failures : ℕ) (reply : Reply) (owed : Owed)
+    → Run setting told strict empty_state (requests files lines) output failures mid → Step setting told mid line reply owed new → GoesOn strict reply
+    → Run setting told strict empty_state (requests files (lines ++ line ∷ [])) (output ++ ended reply) (failures + failures_in owed) new
+Run_line setting told strict mid new files lines line output failures reply owed run step goes =
+    subst (λ (rs : List Request). Run setting told strict empty_state rs (output ++ ended reply) (failures + failures_in owed) new) (sym (requests-more files lines line))
+    (Run_more setting told strict empty_state mid new (requests files lines) (a_line line) output failures reply owed run step goes)

@@ -1,9 +1,10 @@
 -- How far a run has come: the bytes that were acted on, and what stands behind them.
-use Rattle.std.specs.Prelude.{◌≡◌, ℕ, ◌+◌, Bool, List, [], ◌++◌, Option, length, map, take, IsTrue, Result, Ok, Err}
+use Rattle.std.specs.Prelude.{◌≡◌, ℕ, ◌+◌, Bool, List, ◌++◌, Option, length, map, take, IsTrue, Result, Ok, Err}
 use Rattle.si_defs.specs.Bytes.{Bytes}
-use Rattle.si_defs.specs.Clauses.{Clause}
 use Rattle.si_steps.specs.declared.limits.Limits.{Limits}
+use Rattle.si_steps.specs.Settings.{Setting}
 use Rattle.si_steps.specs.Replies.{Reply}
+use Rattle.si_state.specs.States.{State, empty_state}
 use Rattle.si_state.specs.Harvest.{Files}
 use Rattle.si_steps.specs.Loads.{Owed}
 use Rattle.si_session.specs.Session.{Around}
@@ -27,120 +28,120 @@ Judges strict outcome (Err stop.Refused) = (outcome ≡ Refused) × IsTrue stric
 Judges strict outcome (Err stop.SinkFault) = outcome ≡ SinkFailed
 
 -- A request was acted on and its reply written, and the run goes on.
-pub record ActsOnRequest (limits : Limits) (told : Option Files) (strict : Bool)
-    (old new : List Clause) (request : Request) (before after : Around) : Type 0 where
+pub record ActsOnRequest (setting : Setting) (told : Option Files) (strict : Bool)
+    (old new : State) (request : Request) (before after : Around) : Type 0 where
   pub reply : Reply
   pub owed : Owed
-  pub step : Acts limits told old request reply owed new
+  pub step : Acts setting told old request reply owed new
   pub goes : GoesOn strict reply
   pub written : Receives before.sink (ended reply) after.sink
   pub counted : TellsFailures (failures_in owed) before after
 
 -- A request was acted on, and the run stopped at its reply.
-pub record Breaks (halt : Stop) (limits : Limits) (told : Option Files) (strict : Bool)
-    (old new : List Clause) (request : Request) (before after : Around) : Type 0 where
+pub record Breaks (halt : Stop) (setting : Setting) (told : Option Files) (strict : Bool)
+    (old new : State) (request : Request) (before after : Around) : Type 0 where
   pub reply : Reply
   pub owed : Owed
-  pub step : Acts limits told old request reply owed new
+  pub step : Acts setting told old request reply owed new
   pub written : StopsAt halt strict reply (ended reply) before.sink after.sink
   pub counted : TellsFailures (failures_in owed) before after
 
 -- From the start on, where `before` was written, these words were acted on: they gave their output
--- and the kept clauses.
-pub record LoadsWords (limits : Limits) (told : Option Files) (strict : Bool) (words : List Bytes)
-    (before : Around) (clauses : List Clause) (after : Around) : Type 0 where
+-- and the state.
+pub record LoadsWords (setting : Setting) (told : Option Files) (strict : Bool) (words : List Bytes)
+    (before : Around) (state : State) (after : Around) : Type 0 where
   pub output : Bytes
   pub failures : ℕ
-  pub run : Run limits told strict [] (map a_word words) output failures clauses
+  pub run : Run setting told strict empty_state (map a_word words) output failures state
   pub written : Receives before.sink output after.sink
   pub counted : TellsFailures failures before after
 
 -- From the start on, where `before` was written, the words and these bytes were acted on: the words
--- and the lines that are whole in the bytes gave their output and the kept clauses, and of the
+-- and the lines that are whole in the bytes gave their output and the state, and of the
 -- rest, a line that was begun, the front is held.
-pub record Progress (limits : Limits) (told : Option Files) (strict : Bool) (files : List Bytes)
-    (before : Around) (taken : Bytes) (clauses : List Clause) (held : Bytes)
+pub record Progress (setting : Setting) (told : Option Files) (strict : Bool) (files : List Bytes)
+    (before : Around) (taken : Bytes) (state : State) (held : Bytes)
     (after : Around) : Type 0 where
   pub lines : List Bytes
   pub rest : Bytes
   pub output : Bytes
   pub failures : ℕ
   pub splits : Splits taken lines rest
-  pub holds : held ≡ shown limits rest
-  pub run : Run limits told strict [] (requests files lines) output failures clauses
+  pub holds : held ≡ shown setting.limits rest
+  pub run : Run setting told strict empty_state (requests files lines) output failures state
   pub written : Receives before.sink output after.sink
   pub counted : TellsFailures failures before after
 
 -- These bytes carry every progress on.
-abbrev pub Advances : Limits → Option Files → (strict : Bool)
-    → (bytes : Bytes) (old : List Clause) (held : Bytes) (now : Around) (new : List Clause)
+abbrev pub Advances : Setting → Option Files → (strict : Bool)
+    → (bytes : Bytes) (old : State) (held : Bytes) (now : Around) (new : State)
     (holds : Bytes) (after : Around) → Type 0
-Advances limits told strict bytes old held now new holds after =
+Advances setting told strict bytes old held now new holds after =
     (files : List Bytes) (before : Around) (taken : Bytes)
-    → Progress limits told strict files before taken old held now
-    → Progress limits told strict files before (taken ++ bytes) new holds after
+    → Progress setting told strict files before taken old held now
+    → Progress setting told strict files before (taken ++ bytes) new holds after
 
 -- Of these bytes all but the rest carry every progress on.
-pub record Feeds (limits : Limits) (told : Option Files) (strict : Bool) (bytes : Bytes)
-    (old : List Clause) (held : Bytes) (now : Around) (rest : Bytes) (new : List Clause)
+pub record Feeds (setting : Setting) (told : Option Files) (strict : Bool) (bytes : Bytes)
+    (old : State) (held : Bytes) (now : Around) (rest : Bytes) (new : State)
     (holds : Bytes) (after : Around) : Type 0 where
   pub done : Bytes
   pub whole : bytes ≡ done ++ rest
-  pub advances : Advances limits told strict done old held now new holds after
+  pub advances : Advances setting told strict done old held now new holds after
 
 -- The run stopped at a word, or at one of the lines that are whole in the bytes taken.
-pub record BrokenOff (halt : Stop) (limits : Limits) (told : Option Files) (strict : Bool)
+pub record BrokenOff (halt : Stop) (setting : Setting) (told : Option Files) (strict : Bool)
     (files : List Bytes) (before : Around) (taken : Bytes) (after : Around) : Type 0 where
   pub lines : List Bytes
   pub rest : Bytes
   pub splits : Splits taken lines rest
-  pub part : WritesTo halt limits told strict files lines before after
+  pub part : WritesTo halt setting told strict files lines before after
 
 -- These bytes end every progress at a reply.
-abbrev pub Fails : Stop → Limits → Option Files → (strict : Bool)
-    → (bytes : Bytes) (old : List Clause) (held : Bytes) (now after : Around) → Type 0
-Fails halt limits told strict bytes old held now after =
+abbrev pub Fails : Stop → Setting → Option Files → (strict : Bool)
+    → (bytes : Bytes) (old : State) (held : Bytes) (now after : Around) → Type 0
+Fails halt setting told strict bytes old held now after =
     (files : List Bytes) (before : Around) (taken : Bytes)
-    → Progress limits told strict files before taken old held now
-    → BrokenOff halt limits told strict files before (taken ++ bytes) after
+    → Progress setting told strict files before taken old held now
+    → BrokenOff halt setting told strict files before (taken ++ bytes) after
 
 -- The input ended behind the bytes taken, and every line was acted on.
-pub record Closed (limits : Limits) (told : Option Files) (strict : Bool) (files : List Bytes)
+pub record Closed (setting : Setting) (told : Option Files) (strict : Bool) (files : List Bytes)
     (before : Around) (taken : Bytes) (after : Around) : Type 0 where
   pub lines : List Bytes
   pub rest : Bytes
   pub splits : Splits taken lines rest
-  pub all : WritesAll limits told strict files (lines_at_end lines rest) before after
+  pub all : WritesAll setting told strict files (lines_at_end lines rest) before after
 
 -- The input ended behind the bytes taken, and the run stopped at the last line.
-pub record Cut (halt : Stop) (limits : Limits) (told : Option Files) (strict : Bool)
+pub record Cut (halt : Stop) (setting : Setting) (told : Option Files) (strict : Bool)
     (files : List Bytes) (before : Around) (taken : Bytes) (after : Around) : Type 0 where
   pub lines : List Bytes
   pub rest : Bytes
   pub splits : Splits taken lines rest
-  pub part : WritesTo halt limits told strict files (lines_at_end lines rest) before after
+  pub part : WritesTo halt setting told strict files (lines_at_end lines rest) before after
 
 -- The end of the input closes every progress.
-abbrev pub Closes : Limits → Option Files → (strict : Bool)
-    → (clauses : List Clause) (held : Bytes) (now after : Around) → Type 0
-Closes limits told strict clauses held now after =
+abbrev pub Closes : Setting → Option Files → (strict : Bool)
+    → (state : State) (held : Bytes) (now after : Around) → Type 0
+Closes setting told strict state held now after =
     (files : List Bytes) (before : Around) (taken : Bytes)
-    → Progress limits told strict files before taken clauses held now
-    → Closed limits told strict files before taken after
+    → Progress setting told strict files before taken state held now
+    → Closed setting told strict files before taken after
 
 -- The run stops at the last line of the input.
-abbrev pub Cuts : Stop → Limits → Option Files → (strict : Bool)
-    → (clauses : List Clause) (held : Bytes) (now after : Around) → Type 0
-Cuts halt limits told strict clauses held now after =
+abbrev pub Cuts : Stop → Setting → Option Files → (strict : Bool)
+    → (state : State) (held : Bytes) (now after : Around) → Type 0
+Cuts halt setting told strict state held now after =
     (files : List Bytes) (before : Around) (taken : Bytes)
-    → Progress limits told strict files before taken clauses held now
-    → Cut halt limits told strict files before taken after
+    → Progress setting told strict files before taken state held now
+    → Cut halt setting told strict files before taken after
 
 -- So many bytes were taken from the source so far, and this is the progress over them.
-pub record HasProgressed (limits : Limits) (told : Option Files) (strict : Bool)
+pub record HasProgressed (setting : Setting) (told : Option Files) (strict : Bool)
     (files : List Bytes) (count : ℕ) (left now : Option Bytes) (before : Around)
-    (clauses : List Clause) (held : Bytes) (after : Around) : Type 0 where
+    (state : State) (held : Bytes) (after : Around) : Type 0 where
   pub taken : Bytes
   pub size : length taken ≡ count
   pub takes : Takes left taken now
-  pub progress : Progress limits told strict files before taken clauses held after
+  pub progress : Progress setting told strict files before taken state held after

@@ -3,13 +3,14 @@
 use Rattle.std.specs.Prelude.{◌≡◌, ℕ, ◌+◌, ◌-◌, ◌^◌, min, ◌<◌, ◌≤◌, ◌⊎◌, List, [], Option, length, Bool, false, IsTrue, IsFalse}
 use Rattle.si_defs.specs.Bytes.{Bytes}
 use Rattle.si_steps.specs.declared.limits.Limits.{Limits}
+use Rattle.si_steps.specs.Settings.{Setting, setting_of}
 use Rattle.si_steps.specs.Replies.{Reply, is_refusal}
 use Rattle.si_steps.specs.Runs.{Splits, lines_at_end, requests, IsOutput, IsOutputTo}
 use Rattle.si_state.specs.Harvest.{Files}
 use Rattle.si_session.specs.Session.{Around}
 use Rattle.si_io.specs.Content.{Told, Receives, ReceivesPrefix, Takes}
 use Rattle.clap.specs.Words.{takes}
-use Rattle.stindex.specs.Words.{program, usage_line, asked_by}
+use Rattle.stindex.specs.Words.{program, usage_line, asked_by, HasNoFault}
 use Rattle.std.specs.Io.KnownBytes.{IsAtEnd}
 use Rattle.si_io.specs.Faults.{Rose}
 use Rattle.stindex.specs.declared.status.Status.{Status}
@@ -30,11 +31,11 @@ pub record TellsFailures (failures : ℕ) (before after : Around) : Type 0 where
 
 -- An output of these words and lines was written whole, and the failures that it tells were
 -- counted.
-pub record WritesAll (limits : Limits) (told : Option Files) (strict : Bool)
+pub record WritesAll (setting : Setting) (told : Option Files) (strict : Bool)
     (files lines : List Bytes) (before after : Around) : Type 0 where
   pub output : Bytes
   pub failures : ℕ
-  pub right : IsOutput limits told strict (requests files lines) output failures
+  pub right : IsOutput setting told strict (requests files lines) output failures
   pub written : Receives before.sink output after.sink
   pub counted : TellsFailures failures before after
 
@@ -47,12 +48,12 @@ StopsAt stop.SinkFault strict reply output before after = ReceivesPrefix before 
 -- The run stopped at the reply to one of these words and lines. The output up to and with it was
 -- written, or at a fault of the sink a prefix of it, and nothing else; and the failures that the
 -- output tells were counted.
-pub record WritesTo (stop : Stop) (limits : Limits) (told : Option Files) (strict : Bool)
+pub record WritesTo (stop : Stop) (setting : Setting) (told : Option Files) (strict : Bool)
     (files lines : List Bytes) (before after : Around) : Type 0 where
   pub reply : Reply
   pub output : Bytes
   pub failures : ℕ
-  pub right : IsOutputTo limits told strict (requests files lines) reply output failures
+  pub right : IsOutputTo setting told strict (requests files lines) reply output failures
   pub written : StopsAt stop strict reply output before.sink after.sink
   pub counted : TellsFailures failures before after
 
@@ -64,38 +65,38 @@ pub record MetEnd (limits : Limits) (taken : Bytes) (left : Option Bytes) : Type
 -- Of a run that ends so: how far it took the input, of which words and lines it wrote the replies,
 -- and how many bytes of them. The bytes that it took are these lines, and then the rest of a line
 -- that was begun.
-abbrev pub Ends : Status → Limits → Option Files → (strict : Bool)
+abbrev pub Ends : Status → Setting → Option Files → (strict : Bool)
     → (files : List Bytes) (taken : Bytes) (lines : List Bytes) (rest : Bytes)
     (left now : Option Bytes) (before after : Around) → Type 0
-Ends Ended limits told strict files taken lines rest left now before after =
-    MetEnd limits taken now
-    × WritesAll limits told strict files (lines_at_end lines rest) before after
-Ends Refused limits told strict files taken lines rest left now before after =
-    WritesTo stop.Refused limits told strict files lines before after
-    ⊎ (MetEnd limits taken now
-    × WritesTo stop.Refused limits told strict files (lines_at_end lines rest) before after)
-Ends Usage limits told strict files taken lines rest left now before after = ⊥
-Ends SourceFault limits told strict files taken lines rest left now before after =
-    (length taken < limits.session) × WritesAll limits told strict files lines before after
-Ends SinkFault limits told strict files taken lines rest left now before after =
-    WritesTo stop.SinkFault limits told strict files lines before after
-    ⊎ (MetEnd limits taken now
-    × WritesTo stop.SinkFault limits told strict files (lines_at_end lines rest) before after)
-Ends Memory limits told strict files taken lines rest left now before after =
+Ends Ended setting told strict files taken lines rest left now before after =
+    MetEnd setting.limits taken now
+    × WritesAll setting told strict files (lines_at_end lines rest) before after
+Ends Refused setting told strict files taken lines rest left now before after =
+    WritesTo stop.Refused setting told strict files lines before after
+    ⊎ (MetEnd setting.limits taken now
+    × WritesTo stop.Refused setting told strict files (lines_at_end lines rest) before after)
+Ends Usage setting told strict files taken lines rest left now before after = ⊥
+Ends SourceFault setting told strict files taken lines rest left now before after =
+    (length taken < setting.limits.session) × WritesAll setting told strict files lines before after
+Ends SinkFault setting told strict files taken lines rest left now before after =
+    WritesTo stop.SinkFault setting told strict files lines before after
+    ⊎ (MetEnd setting.limits taken now
+    × WritesTo stop.SinkFault setting told strict files (lines_at_end lines rest) before after)
+Ends Memory setting told strict files taken lines rest left now before after =
     (taken ≡ []) × (now ≡ left) × (after ≡ before)
-Ends SessionLimit limits told strict files taken lines rest left now before after =
-    (length taken ≡ limits.session) × WritesAll limits told strict files lines before after
+Ends SessionLimit setting told strict files taken lines rest left now before after =
+    (length taken ≡ setting.limits.session) × WritesAll setting told strict files lines before after
 
 -- A run took these bytes from its source, no more than a session may have, and ended so.
-pub record Serves (limits : Limits) (told : Option Files) (strict : Bool) (files : List Bytes)
+pub record Serves (setting : Setting) (told : Option Files) (strict : Bool) (files : List Bytes)
     (status : Status) (left now : Option Bytes) (before after : Around) : Type 0 where
   pub taken : Bytes
   pub lines : List Bytes
   pub rest : Bytes
   pub takes : Takes left taken now
-  pub within : length taken ≤ limits.session
+  pub within : length taken ≤ setting.limits.session
   pub splits : Splits taken lines rest
-  pub ends : Ends status limits told strict files taken lines rest left now before after
+  pub ends : Ends status setting told strict files taken lines rest left now before after
 
 -- what was written of the line that says how to call the program
 abbrev pub WritesUsage : Status → Told → Told → Type 0
@@ -111,12 +112,19 @@ pub record Declines (words : List Bytes) (status : Status) (left now : Option By
   pub unfetched : after.counts ≡ before.counts
   pub written : WritesUsage status before.sink after.sink
 
--- The words were declined, or did what they ask for.
+-- The run did what the words ask for. They have no fault, or memory ran out before that was known.
+pub record ServesWords (limits : Limits) (told : Option Files) (words : List Bytes)
+    (status : Status) (left now : Option Bytes) (before after : Around) : Type 0 where
+  pub faultless : (status ≡ Memory → ⊥) → HasNoFault words
+  pub serves : Serves (setting_of limits) told (asked_by words).strict (asked_by words).files
+      status left now before after
+
+-- The words were declined, or served.
 abbrev pub DeclinesOrServes : Limits → Option Files → (words : List Bytes) → Status
     → (left now : Option Bytes) → (before after : Around) → Type 0
 DeclinesOrServes limits told words status left now before after =
     Declines words status left now before after
-    ⊎ Serves limits told (asked_by words).strict (asked_by words).files status left now before after
+    ⊎ ServesWords limits told words status left now before after
 
 -- the statuses of a run in which no device fails
 abbrev pub IsFaultless : Status → Type 0
@@ -149,12 +157,12 @@ BlamesSink stop.SinkFault sink sink_now = Rose sink sink_now
 
 -- what a run may write up to a reply: of these words and whole lines, or of the last line too,
 -- where the end of the input was met
-abbrev pub MayWrite : Limits → Option Files → (strict : Bool)
+abbrev pub MayWrite : Setting → Option Files → (strict : Bool)
     → (files : List Bytes) (taken : Bytes) (lines : List Bytes) (rest : Bytes) (now : Option Bytes)
     → Reply → Bytes → ℕ → Type 0
-MayWrite limits told strict files taken lines rest now reply output failures =
-    IsOutputTo limits told strict (requests files lines) reply output failures
-    ⊎ (MetEnd limits taken now × IsOutputTo limits told strict
+MayWrite setting told strict files taken lines rest now reply output failures =
+    IsOutputTo setting told strict (requests files lines) reply output failures
+    ⊎ (MetEnd setting.limits taken now × IsOutputTo setting told strict
     (requests files (lines_at_end lines rest)) reply output failures)
 
 -- What the run may write fits the room, whatever it takes of what the source has left, and where
@@ -166,6 +174,6 @@ pub record HasRoomForOutputs (limits : Limits) (told : Option Files) (words : Li
   pub outputs : (taken : Bytes) (now : Option Bytes) (lines : List Bytes) (rest : Bytes)
       (reply : Reply) (output : Bytes) (failures : ℕ)
       → Takes left taken now → length taken ≤ limits.session → Splits taken lines rest
-      → MayWrite limits told (asked_by words).strict
+      → MayWrite (setting_of limits) told (asked_by words).strict
       (asked_by words).files taken lines rest now reply output failures
       → (IsFalse may_fail → failures ≡ 0) → length output ≤ room

@@ -4,7 +4,7 @@ use Rattle.std.specs.List.{filter, list_any}
 use Rattle.std.specs.Option.{option_map_or}
 use Rattle.std.specs.Str.{bytes_eq}
 use Rattle.si_defs.specs.Bytes.{Bytes}
-use Rattle.clap.specs.Words.{App, Row, Rule, all_of, first_of, found_of, matches_of, new_app, new_rule, rows_of, takes, with_rule}
+use Rattle.clap.specs.Words.{App, Row, Rule, all_of, fault_of, first_of, found_of, matches_of, new_app, new_rule, rows_of, takes, with_rule}
 use Rattle.clap.specs.declared.parser.matches.ArgMatches.{ArgMatches}
 use Rattle.clap.specs.Simple.{on_top}
 use Rattle.clap.specs.Lexer.{usize_max}
@@ -27,6 +27,10 @@ abbrev pub program : App
 program =
     with_rule (with_rule (on_top (λ s. record s { no_binary_name = true })
     (new_app (codes "stindex"))) strict_rule) file_rule
+
+-- `clap` finds no fault in the words, and they ask for no help
+abbrev pub HasNoFault : List Bytes → Type 0
+HasNoFault words = fault_of program words ≡ []
 
 -- the line that says how to call it
 abbrev pub usage_line : Bytes

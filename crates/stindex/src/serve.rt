@@ -3,9 +3,11 @@ ghost use Rattle.std.specs.Prelude.{◌≡◌, ◌+◌, ◌<◌, ◌≤◌, ℕ,
 ghost use Rattle.std.specs.IoError.{error_kind};
 ghost use Rattle.std.specs.declared.io.ErrorKind.TheVariants.{OutOfMemory};
 ghost use Rattle.si_steps.specs.Runs.{a_word, a_line};
+ghost use Rattle.si_state.specs.States.{empty_state};
 ghost use Rattle.si_steps.specs.Limits.{AllowsLimits};
+ghost use Rattle.si_steps.specs.Settings.{setting_of};
 ghost use Rattle.si_io.specs.Faults.{Rose};
-ghost use Rattle.si_session.specs.Session.{around};
+ghost use Rattle.si_session.specs.Session.{IsFresh, around};
 ghost use Rattle.stindex.specs.Lines.{held_of, limit_of};
 ghost use Rattle.stindex.specs.Serve.{DeclinesOrServes, Serves, WritesTo, WritesUsage, BlamesSink, IsFaultless, CountsFaults, HasRoomForOutputs};
 ghost use Rattle.stindex.specs.Words.{asked_of, IsPlain, has_strict, files_in};
@@ -44,7 +46,8 @@ pub fn serve<S: Source, K: Sink, L: Library>(
         (around (K.written sink.old) (L.counts library.old) (L.may_fail library.old))
         (around (K.written sink.new) (L.counts library.new) (L.may_fail library.new)) }
     ensures plain { IsPlain (map string_bytes words.entry.now)
-        → Serves limits.now (L.files library.old) (has_strict (map string_bytes words.entry.now))
+        → Serves (setting_of limits.now) (L.files library.old)
+        (has_strict (map string_bytes words.entry.now))
         (files_in (map string_bytes words.entry.now)) result
         (S.left source.old) (S.left source.new)
         (around (K.written sink.old) (L.counts library.old) (L.may_fail library.old))
@@ -110,8 +113,9 @@ fn start<S: Source, K: Sink, L: Library>(
     library: &mut L,
 ) -> Status
     requires { AllowsLimits limits.now }
-    ensures serves { Serves limits.now (L.files library.old) (asked_of matches.now).strict
-        (asked_of matches.now).files result (S.left source.old) (S.left source.new)
+    ensures serves { Serves (setting_of limits.now) (L.files library.old)
+        (asked_of matches.now).strict (asked_of matches.now).files result
+        (S.left source.old) (S.left source.new)
         (around (K.written sink.old) (L.counts library.old) (L.may_fail library.old))
         (around (K.written sink.new) (L.counts library.new) (L.may_fail library.new)) }
     ensures told { L.files library.new ≡ L.files library.old }
@@ -139,7 +143,7 @@ fn start<S: Source, K: Sink, L: Library>(
     )
 }
 
-/// Loads the files and reads the input, from a session without clauses on.
+/// Loads the files and reads the input, from a new session on.
 fn run<S: Source, K: Sink, L: Library>(
     matches: &ArgMatches<'_>,
     limits: &Limits,
@@ -149,11 +153,12 @@ fn run<S: Source, K: Sink, L: Library>(
     sink: &mut K,
     library: &mut L,
 ) -> Status
-    requires start { session.old ≡ record { clauses = []; limits = limits.now } }
+    requires start { IsFresh (setting_of limits.now) session.old }
     requires held { held_of pending.old ≡ [] }
     requires limit { limit_of pending.old ≡ limits.now.line }
-    ensures serves { Serves limits.now (L.files library.old) (asked_of matches.now).strict
-        (asked_of matches.now).files result (S.left source.old) (S.left source.new)
+    ensures serves { Serves (setting_of limits.now) (L.files library.old)
+        (asked_of matches.now).strict (asked_of matches.now).files result
+        (S.left source.old) (S.left source.new)
         (around (K.written sink.old) (L.counts library.old) (L.may_fail library.old))
         (around (K.written sink.new) (L.counts library.new) (L.may_fail library.new)) }
     ensures told { L.files library.new ≡ L.files library.old }
@@ -200,19 +205,19 @@ fn load_files<K: Sink, L: Library>(
     sink: &mut K,
     library: &mut L,
 ) -> Result<(), Stop>
-    requires { session.old.clauses ≡ [] }
-    ensures loaded { OnOk result (LoadsWords session.old.limits (L.files library.old) strict
+    requires { session.old.state ≡ empty_state }
+    ensures loaded { OnOk result (LoadsWords session.old.setting (L.files library.old) strict
         (asked_of matches.now).files
         (around (K.written sink.old) (L.counts library.old) (L.may_fail library.old))
-        session.new.clauses
+        session.new.state
         (around (K.written sink.new) (L.counts library.new) (L.may_fail library.new))) }
-    ensures broken { IfErr result (λ halt. WritesTo halt session.old.limits (L.files library.old)
+    ensures broken { IfErr result (λ halt. WritesTo halt session.old.setting (L.files library.old)
         strict (asked_of matches.now).files []
         (around (K.written sink.old) (L.counts library.old) (L.may_fail library.old))
         (around (K.written sink.new) (L.counts library.new) (L.may_fail library.new))) }
     ensures told { L.files library.new ≡ L.files library.old }
     ensures same { L.may_fail library.new ≡ L.may_fail library.old }
-    ensures limits { session.new.limits ≡ session.old.limits }
+    ensures setting { session.new.setting ≡ session.old.setting }
     ensures later { K.faults sink.old ≤ K.faults sink.new }
     ensures kept { OnOk result (K.faults sink.new ≡ K.faults sink.old) }
     ensures blames { IfErr result (λ halt. BlamesSink halt (K.faults sink.old)
@@ -235,17 +240,17 @@ fn load<K: Sink, L: Library>(
     sink: &mut K,
     library: &mut L,
 ) -> Result<(), Stop>
-    ensures acted { OnOk result (ActsOnRequest session.old.limits (L.files library.old) strict
-        session.old.clauses session.new.clauses (a_word word.now)
+    ensures acted { OnOk result (ActsOnRequest session.old.setting (L.files library.old) strict
+        session.old.state session.new.state (a_word word.now)
         (around (K.written sink.old) (L.counts library.old) (L.may_fail library.old))
         (around (K.written sink.new) (L.counts library.new) (L.may_fail library.new))) }
-    ensures broken { IfErr result (λ halt. Breaks halt session.old.limits (L.files library.old)
-        strict session.old.clauses session.new.clauses (a_word word.now)
+    ensures broken { IfErr result (λ halt. Breaks halt session.old.setting (L.files library.old)
+        strict session.old.state session.new.state (a_word word.now)
         (around (K.written sink.old) (L.counts library.old) (L.may_fail library.old))
         (around (K.written sink.new) (L.counts library.new) (L.may_fail library.new))) }
     ensures told { L.files library.new ≡ L.files library.old }
     ensures same { L.may_fail library.new ≡ L.may_fail library.old }
-    ensures limits { session.new.limits ≡ session.old.limits }
+    ensures setting { session.new.setting ≡ session.old.setting }
     ensures later { K.faults sink.old ≤ K.faults sink.new }
     ensures kept { OnOk result (K.faults sink.new ≡ K.faults sink.old) }
     ensures blames { IfErr result (λ halt. BlamesSink halt (K.faults sink.old)
@@ -263,17 +268,17 @@ fn act<K: Sink, L: Library>(
     sink: &mut K,
     library: &mut L,
 ) -> Result<(), Stop>
-    ensures acted { OnOk result (ActsOnRequest session.old.limits (L.files library.old) strict
-        session.old.clauses session.new.clauses (a_line (held_of pending.old))
+    ensures acted { OnOk result (ActsOnRequest session.old.setting (L.files library.old) strict
+        session.old.state session.new.state (a_line (held_of pending.old))
         (around (K.written sink.old) (L.counts library.old) (L.may_fail library.old))
         (around (K.written sink.new) (L.counts library.new) (L.may_fail library.new))) }
-    ensures broken { IfErr result (λ halt. Breaks halt session.old.limits (L.files library.old)
-        strict session.old.clauses session.new.clauses (a_line (held_of pending.old))
+    ensures broken { IfErr result (λ halt. Breaks halt session.old.setting (L.files library.old)
+        strict session.old.state session.new.state (a_line (held_of pending.old))
         (around (K.written sink.old) (L.counts library.old) (L.may_fail library.old))
         (around (K.written sink.new) (L.counts library.new) (L.may_fail library.new))) }
     ensures told { L.files library.new ≡ L.files library.old }
     ensures same { L.may_fail library.new ≡ L.may_fail library.old }
-    ensures limits { session.new.limits ≡ session.old.limits }
+    ensures setting { session.new.setting ≡ session.old.setting }
     ensures held { held_of pending.new ≡ [] }
     ensures limit { limit_of pending.new ≡ limit_of pending.old }
     ensures later { K.faults sink.old ≤ K.faults sink.new }
@@ -306,20 +311,20 @@ fn feed<K: Sink, L: Library>(
     sink: &mut K,
     library: &mut L,
 ) -> Result<(), Stop>
-    requires { limit_of pending.old ≡ session.old.limits.line }
-    ensures fed { OnOk result (Advances session.old.limits (L.files library.old) strict bytes.now
-        session.old.clauses (held_of pending.old)
+    requires { limit_of pending.old ≡ session.old.setting.limits.line }
+    ensures fed { OnOk result (Advances session.old.setting (L.files library.old) strict bytes.now
+        session.old.state (held_of pending.old)
         (around (K.written sink.old) (L.counts library.old) (L.may_fail library.old))
-        session.new.clauses
+        session.new.state
         (held_of pending.new)
         (around (K.written sink.new) (L.counts library.new) (L.may_fail library.new))) }
-    ensures broken { IfErr result (λ halt. Fails halt session.old.limits (L.files library.old)
-        strict bytes.now session.old.clauses (held_of pending.old)
+    ensures broken { IfErr result (λ halt. Fails halt session.old.setting (L.files library.old)
+        strict bytes.now session.old.state (held_of pending.old)
         (around (K.written sink.old) (L.counts library.old) (L.may_fail library.old))
         (around (K.written sink.new) (L.counts library.new) (L.may_fail library.new))) }
     ensures told { L.files library.new ≡ L.files library.old }
     ensures same { L.may_fail library.new ≡ L.may_fail library.old }
-    ensures limits { session.new.limits ≡ session.old.limits }
+    ensures setting { session.new.setting ≡ session.old.setting }
     ensures limit { limit_of pending.new ≡ limit_of pending.old }
     ensures later { K.faults sink.old ≤ K.faults sink.new }
     ensures kept { OnOk result (K.faults sink.new ≡ K.faults sink.old) }
@@ -344,12 +349,12 @@ fn close<K: Sink, L: Library>(
     sink: &mut K,
     library: &mut L,
 ) -> Result<(), Stop>
-    ensures closed { OnOk result (Closes session.old.limits (L.files library.old) strict
-        session.old.clauses (held_of pending.old)
+    ensures closed { OnOk result (Closes session.old.setting (L.files library.old) strict
+        session.old.state (held_of pending.old)
         (around (K.written sink.old) (L.counts library.old) (L.may_fail library.old))
         (around (K.written sink.new) (L.counts library.new) (L.may_fail library.new))) }
-    ensures cut { IfErr result (λ halt. Cuts halt session.old.limits (L.files library.old) strict
-        session.old.clauses (held_of pending.old)
+    ensures cut { IfErr result (λ halt. Cuts halt session.old.setting (L.files library.old) strict
+        session.old.state (held_of pending.old)
         (around (K.written sink.old) (L.counts library.old) (L.may_fail library.old))
         (around (K.written sink.new) (L.counts library.new) (L.may_fail library.new))) }
     ensures told { L.files library.new ≡ L.files library.old }

@@ -1,7 +1,7 @@
 // The words of the program's call.
-ghost use Rattle.std.specs.Prelude.{◌≡◌, IfOk, IfErr, true, false, map, string_bytes};
+ghost use Rattle.std.specs.Prelude.{◌≡◌, IfOk, IfErr, OnOk, true, false, map, string_bytes};
 ghost use Rattle.clap.specs.Words.{found_of, kind_of, matches_of, rows_of, takes};
-ghost use Rattle.stindex.specs.Words.{asked_of, program, IsPlain, IsReadAsSaid};
+ghost use Rattle.stindex.specs.Words.{asked_of, program, HasNoFault, IsPlain, IsReadAsSaid};
 ghost use Rattle.stindex.specs.declared.words.WordFault.TheVariants.{Usage};
 
 use clap::error::ErrorKind;
@@ -21,6 +21,7 @@ pub enum WordFault {
 pub fn read_words<'a>(alloc: Global, words: &'a [String]) -> Result<ArgMatches<'a>, WordFault>
     ensures taken { IfOk result (λ m. rows_of (found_of m)
         ≡ matches_of program (map string_bytes words.entry.now)) }
+    ensures faultless { OnOk result (HasNoFault (map string_bytes words.entry.now)) }
     ensures refused { IfErr result (λ fault. fault ≡ Usage
         → takes program (map string_bytes words.entry.now) ≡ false) }
     ensures plain { IsPlain (map string_bytes words.entry.now)
@@ -46,6 +47,7 @@ fn fault_of(error: &Error) -> WordFault
 fn matches_in<'a>(alloc: Global, words: &'a [String]) -> Result<ArgMatches<'a>, Error>
     ensures ok { IfOk result (λ m. rows_of (found_of m)
         ≡ matches_of program (map string_bytes words.entry.now)) }
+    ensures faultless { OnOk result (HasNoFault (map string_bytes words.entry.now)) }
     ensures err { IfErr result (λ e. takes program (map string_bytes words.entry.now) ≡ true
         → kind_of e ≡ ErrorKind.OutOfMemory) }
 {

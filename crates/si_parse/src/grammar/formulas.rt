@@ -47,8 +47,15 @@ fn disjunction<'t, 'b>(
     let Some((first, behind)) = front_literal(alloc, tokens)? else {
         return Ok(None);
     };
+    let Some(rest) = mark_at(behind, b'|') else {
+        return Ok(Some((Literals::one(alloc, first)?, behind)));
+    };
+    let Some((second, behind)) = front_literal(alloc, rest)? else {
+        return Ok(None);
+    };
     let mut literals = Literals::new(alloc);
     literals.push(first)?;
+    literals.push(second)?;
     let mut left = behind;
     while let Some(rest) = mark_at(left, b'|') {
         let Some((next, behind)) = front_literal(alloc, rest)? else {
@@ -57,6 +64,7 @@ fn disjunction<'t, 'b>(
         literals.push(next)?;
         left = behind;
     }
+    literals.shrink();
     Ok(Some((literals, left)))
 }
 

@@ -179,10 +179,10 @@ fn on_predicate_side(symbol: Sym) -> Sym
     ensures arity { result.arity ≡ symbol.arity }
 {
     Sym {
-        kind: symbol.kind,
         text: symbol.text,
-        side: Side::Predicate,
         arity: symbol.arity,
+        kind: symbol.kind,
+        side: Side::Predicate,
     }
 }
 
@@ -191,14 +191,12 @@ fn equality(alloc: Global, left: Term, right: Term) -> Result<Term, AllocError>
     ensures { IfOk result (λ t. term_of t ≡ equation (term_of left) (term_of right)) }
 {
     let text = Text::from_bytes(alloc, b"=".as_slice())?;
-    let mut sides = Terms::new(alloc);
-    sides.push(left)?;
-    sides.push(right)?;
+    let sides = Terms::pair(alloc, left, right)?;
     let symbol = Sym {
-        kind: SymKind::Equal,
         text,
-        side: Side::Predicate,
         arity: 2,
+        kind: SymKind::Equal,
+        side: Side::Predicate,
     };
     Ok(Term::App(symbol, sides))
 }

@@ -56,6 +56,7 @@ pub(crate) fn names<'t, 'b>(
         names.push(next)?;
         left = behind;
     }
+    names.shrink();
     Ok(Some((names, left)))
 }
 

@@ -1,5 +1,5 @@
 // Terms. They are read by recursion, as deep as their brackets nest.
-ghost use Rattle.std.specs.Prelude.{◌≡◌, ◌≤◌, IfOk, length};
+ghost use Rattle.std.specs.Prelude.{◌≡◌, ◌≤◌, [], ◌∷◌, IfOk, length};
 ghost use Rattle.si_defs.specs.Clauses.{IsSoundPattern, term_pattern};
 ghost use Rattle.si_defs.specs.Grammar.{IsTerm};
 ghost use Rattle.si_defs.specs.Terms as terms;
@@ -96,7 +96,8 @@ fn application<'t, 'b>(
     }
 }
 
-/// Terms with commas between them.
+/// Terms with commas between them. One or two, as most functions have, are kept without a look at
+/// more, so that a list takes one block, and no room that no term stands in.
 #[cycle(reading)]
 fn arguments<'t, 'b>(
     alloc: Global,
@@ -108,8 +109,19 @@ fn arguments<'t, 'b>(
     let Some((first, behind)) = front_term(alloc, tokens)? else {
         return Ok(None);
     };
-    let mut args = Terms::new(alloc);
-    args.push(first)?;
+    let Some(rest) = mark_at(behind, b',') else {
+        return Ok(Some((Terms::one(alloc, first)?, behind)));
+    };
+    let Some((second, behind)) = front_term(alloc, rest)? else {
+        return Ok(None);
+    };
+    let Some(rest) = mark_at(behind, b',') else {
+        return Ok(Some((Terms::pair(alloc, first, second)?, behind)));
+    };
+    let Some((third, behind)) = front_term(alloc, rest)? else {
+        return Ok(None);
+    };
+    let mut args = three(alloc, first, second, third)?;
     let mut left = behind;
     while let Some(rest) = mark_at(left, b',') {
         let Some((next, behind)) = front_term(alloc, rest)? else {
@@ -118,7 +130,19 @@ fn arguments<'t, 'b>(
         args.push(next)?;
         left = behind;
     }
+    args.shrink();
     Ok(Some((args, left)))
+}
+
+/// Three terms, with room for more.
+fn three(alloc: Global, first: Term, second: Term, third: Term) -> Result<Terms, AllocError>
+    ensures { IfOk result (λ ts. ts ≡ term_of first ∷ term_of second ∷ term_of third ∷ []) }
+{
+    let mut args = Terms::new(alloc);
+    args.push(first)?;
+    args.push(second)?;
+    args.push(third)?;
+    Ok(args)
 }
 
 /// A function without arguments.
@@ -133,9 +157,9 @@ fn function(kind: SymKind, text: Text, arity: u32) -> Sym
     ensures { symbol_of result ≡ function_symbol kind text arity }
 {
     Sym {
-        kind,
         text,
-        side: Side::Function,
         arity,
+        kind,
+        side: Side::Function,
     }
 }

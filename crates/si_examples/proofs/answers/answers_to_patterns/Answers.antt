@@ -8,7 +8,7 @@ pub returns-clause-one_hit : goal.returns-clause-one_hit
 returns-clause-one_hit c = one_hit
 
 pub returns-clause-answered_pattern : goal.returns-clause-answered_pattern
-returns-clause-answered_pattern c limits = (hit ∷ [], one_hit, rw (decimal_digit 1 (omega arith)) refl, refl)
+returns-clause-answered_pattern c setting = (hit ∷ [], one_hit, rw (decimal_digit 1 (omega arith)) refl, refl)
 
 pub returns-clause-no_hit_left_out : goal.returns-clause-no_hit_left_out
 returns-clause-no_hit_left_out c = none_left_out

@@ -18,7 +18,7 @@ pub returns-clause-no_other_sign : goal.returns-clause-no_other_sign
 returns-clause-no_other_sign c = no_other_sign
 
 pub returns-clause-told_subsumer : goal.returns-clause-told_subsumer
-returns-clause-told_subsumer c limits =
+returns-clause-told_subsumer c setting =
     let mapping : MappedClause = record { clause = pair; numbers = 1 ∷ 1 ∷ [] } in
     (mapping ∷ [], inl (1 ∷ 1 ∷ [], [], two_to_one, refl, refl), rw (decimal_digit 1 (omega arith)) refl, refl)
 

@@ -1,4 +1,5 @@
 use Rattle.std.proofs.Common.{[], ap, subst}
+use Rattle.si_state.specs.States.{limited_to}
 use Rattle.si_term.specs.Meaning.{clause_of}
 use Rattle.si_sign.specs.Stores.{Rejects}
 use Rattle.si_guide.proofs.Refused.{refused}
@@ -7,9 +8,9 @@ use Rattle.si_guide.proofs.finding.keep.Goals as goal
 pub returns-in_default : goal.returns-in_default
 returns-in_default c =
     let none = ap (λ k. k.clauses) c.in_ok-index.ensures in
-    let most = ap (λ k. k.limit) c.in_ok-index.ensures in
-    refused c.args.limit [] (clause_of c.args.clause) c.in-Err.rejected.why
-    (subst (λ l. Rejects l [] (clause_of c.args.clause) c.in-Err.rejected.why) most
-    (subst (λ s. Rejects c.in_ok-index.index.limit s (clause_of c.args.clause) c.in-Err.rejected.why) none
+    let rules = ap (λ k. k.rules) c.in_ok-index.ensures in
+    refused (limited_to c.args.limit) [] (clause_of c.args.clause) c.in-Err.rejected.why
+    (subst (λ l. Rejects l [] (clause_of c.args.clause) c.in-Err.rejected.why) rules
+    (subst (λ s. Rejects c.in_ok-index.index.rules s (clause_of c.args.clause) c.in-Err.rejected.why) none
     c.in-Err.ensures.rejected))
     c.in_default.not-Memory

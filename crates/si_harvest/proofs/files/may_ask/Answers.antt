@@ -4,14 +4,14 @@ use Rattle.si_harvest.proofs.Stands.{is_open, is_closed, opened_count}
 use Rattle.si_harvest.proofs.files.may_ask.Goals as goal
 
 pub returns-then-has_name-clause-barred : goal.returns-then-has_name-clause-barred
-returns-then-has_name-clause-barred c = λ limit. inr (record {
+returns-then-has_name-clause-barred c = λ rules. inr (record {
   fault = cycle c.in_ok-from_bytes.field-0;
   told = refl;
   holds = (c.in_ok-from_bytes.ensures, is_open c.args.files.now c.args.name.now (sym c.if-has_name.ensures));
 })
 
 pub returns-then-files-limits-clause-barred : goal.returns-then-files-limits-clause-barred
-returns-then-files-limits-clause-barred c = λ limit. inr (record {
+returns-then-files-limits-clause-barred c = λ rules. inr (record {
   fault = too_deep c.in_ok-from_bytes-2.field-0;
   told = refl;
   holds = (
@@ -22,7 +22,7 @@ returns-then-files-limits-clause-barred c = λ limit. inr (record {
 })
 
 pub returns-then-fetches-limits-clause-barred : goal.returns-then-fetches-limits-clause-barred
-returns-then-fetches-limits-clause-barred c = λ limit. inr (record {
+returns-then-fetches-limits-clause-barred c = λ rules. inr (record {
   fault = too_many;
   told = refl;
   holds = (

@@ -16,24 +16,24 @@ pub returns-in_err-enter-clause-fault : goal.returns-in_err-enter-clause-fault
 returns-in_err-enter-clause-fault g c =
     let told = g.L.Library.files c.args.library.now in
     let bounds = bounds_of c.args.limits.now in
-    let limit = g.T.ClauseStore.limit c.args.store.now in
+    let rules = g.T.ClauseStore.rules c.args.store.now in
     let start = g.T.ClauseStore.clauses c.args.store.now in
-    let P : HarvestFault → Type 0 = λ e. Explains limit e (HasFault told bounds limit start c.args.name.now) in
+    let P : HarvestFault → Type 0 = λ e. Explains rules e (HasFault told bounds rules start c.args.name.now) in
     err_again c.from_residual.result c.in_err-enter.field-0.0 P c.from_residual.ensures.1
-    (blames_weaker limit c.in_err-enter.field-0.0 _ _
-    (λ fault h. never_begins told bounds limit start c.args.name.now c.new-reading.result fault c.new-reading.ensures.files c.new-reading.ensures.fetches h)
-    (c.in_err-enter.ensures.unopened limit))
+    (blames_weaker rules c.in_err-enter.field-0.0 _ _
+    (λ fault h. never_begins told bounds rules start c.args.name.now c.new-reading.result fault c.new-reading.ensures.files c.new-reading.ensures.fetches h)
+    (c.in_err-enter.ensures.unopened rules))
 
 pub returns-in_err-enter-clause-start : goal.returns-in_err-enter-clause-start
 returns-in_err-enter-clause-start g c = λ never.
     let told = g.L.Library.files c.args.library.now in
     let bounds = bounds_of c.args.limits.now in
-    let limit = g.T.ClauseStore.limit c.args.store.now in
+    let rules = g.T.ClauseStore.rules c.args.store.now in
     let start = g.T.ClauseStore.clauses c.args.store.now in
-    err_has c.from_residual.result c.in_err-enter.field-0.0 (λ e. Explains limit e (IsBarred bounds [] 0 c.args.name.now)) c.from_residual.ensures.1
-    (blames_weaker limit c.in_err-enter.field-0.0 _ _
-    (λ fault h. may_not_begin told bounds limit start c.args.name.now c.new-reading.result fault c.new-reading.ensures.files c.new-reading.ensures.fetches never h)
-    (c.in_err-enter.ensures.unopened limit))
+    err_has c.from_residual.result c.in_err-enter.field-0.0 (λ e. Explains rules e (IsBarred bounds [] 0 c.args.name.now)) c.from_residual.ensures.1
+    (blames_weaker rules c.in_err-enter.field-0.0 _ _
+    (λ fault h. may_not_begin told bounds rules start c.args.name.now c.new-reading.result fault c.new-reading.ensures.files c.new-reading.ensures.fetches never h)
+    (c.in_err-enter.ensures.unopened rules))
 
 pub loop-reading-init : goal.loop-reading-init
 loop-reading-init g c =
@@ -41,31 +41,31 @@ loop-reading-init g c =
     let bounds = bounds_of c.args.limits.now in
     record {
       loading = record {
-        under_way = begins told bounds (g.T.ClauseStore.limit c.args.store.now) (g.T.ClauseStore.clauses c.args.store.now) c.args.name.now c.new-reading.result c.enter.new.self
+        under_way = begins told bounds (g.T.ClauseStore.rules c.args.store.now) (g.T.ClauseStore.clauses c.args.store.now) c.args.name.now c.new-reading.result c.enter.new.self
             c.new-reading.ensures.files c.new-reading.ensures.fetches c.in_ok-enter.ensures.entered;
         within = within_entered told bounds c.args.name.now None c.new-reading.result c.enter.new.self c.requires.file c.in_ok-enter.ensures.entered
             (subst AreWithin (sym c.new-reading.ensures.files) tt);
         counted = c.requires.counted;
         gained = c.requires.gained;
       };
-      may = may_begin told bounds (g.T.ClauseStore.limit c.args.store.now) (g.T.ClauseStore.clauses c.args.store.now) c.args.name.now c.new-reading.result c.enter.new.self
+      may = may_begin told bounds (g.T.ClauseStore.rules c.args.store.now) (g.T.ClauseStore.clauses c.args.store.now) c.args.name.now c.new-reading.result c.enter.new.self
           c.new-reading.ensures.files c.new-reading.ensures.fetches c.in_ok-enter.ensures.entered;
       told = c.enter.ensures.told;
       same = c.enter.ensures.same;
       counts = c.in_ok-enter.ensures.cause;
-      limit = refl;
+      rules = refl;
     }
 
 pub returns-clause-right : goal.returns-clause-right
 returns-clause-right g c =
     let told = g.L.Library.files c.args.library.now in
     let bounds = bounds_of c.args.limits.now in
-    let limit = g.T.ClauseStore.limit c.args.store.now in
+    let rules = g.T.ClauseStore.rules c.args.store.now in
     let start = g.T.ClauseStore.clauses c.args.store.now in
-    let over = steps_false (g.L.Library.files c.loop-reading.library) bounds (g.T.ClauseStore.limit c.loop-reading.store) c.loop-reading.reading c.step.new.self
+    let over = steps_false (g.L.Library.files c.loop-reading.library) bounds (g.T.ClauseStore.rules c.loop-reading.store) c.loop-reading.reading c.step.new.self
     (g.T.ClauseStore.clauses c.loop-reading.store) (g.T.ClauseStore.clauses c.step.new.store) c.in_ok-step.field-0 c.if-branch.false c.in_ok-step.ensures.stepped in
-    subst (λ s. IfSome told (λ files. GainsByLoad files bounds limit start c.args.name.now s)) (sym over.1)
-    (is_over told bounds limit start c.args.name.now c.loop-reading.reading (g.T.ClauseStore.clauses c.loop-reading.store) over.0 c.loop-reading.invariant.loading.under_way)
+    subst (λ s. IfSome told (λ files. GainsByLoad files bounds rules start c.args.name.now s)) (sym over.1)
+    (is_over told bounds rules start c.args.name.now c.loop-reading.reading (g.T.ClauseStore.clauses c.loop-reading.store) over.0 c.loop-reading.invariant.loading.under_way)
 
 pub returns-in_err-step-clause-start : goal.returns-in_err-step-clause-start
 returns-in_err-step-clause-start g c = λ never. absurd (never c.loop-reading.invariant.may)

@@ -15,8 +15,8 @@ returns-in-Ok-clause-gained g c = λ start h. gained_more c.args.loaded.now _ st
 
 pub returns-in-Err-clause-refused : goal.returns-in-Err-clause-refused
 returns-in-Err-clause-refused g c =
-    let limit = g.T.ClauseStore.limit c.args.store.now in
+    let rules = g.T.ClauseStore.rules c.args.store.now in
     let state = g.T.ClauseStore.clauses c.args.store.now in
-    subst (λ k. Explains limit c.refusal.result (IsRejected limit state (clause_of k))) c.in-Err.ensures.handed_back
-    (c.refusal.ensures limit state
-    (subst (λ k. Rejects limit state (clause_of k) c.in-Err.rejected.why) (sym c.in-Err.ensures.handed_back) c.in-Err.ensures.rejected))
+    subst (λ k. Explains rules c.refusal.result (IsRejected rules state (clause_of k))) c.in-Err.ensures.handed_back
+    (c.refusal.ensures rules state
+    (subst (λ k. Rejects rules state (clause_of k) c.in-Err.rejected.why) (sym c.in-Err.ensures.handed_back) c.in-Err.ensures.rejected))

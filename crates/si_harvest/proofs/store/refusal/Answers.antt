@@ -2,4 +2,4 @@ use Rattle.si_harvest.proofs.Refusals.{blames_rejected}
 use Rattle.si_harvest.proofs.store.refusal.Goals as goal
 
 pub returns : goal.returns
-returns c = λ limit state r. blames_rejected c.args.rejected limit state c.requires c.in_default.not-Memory r
+returns c = λ rules state r. blames_rejected c.args.rejected rules state c.requires c.in_default.not-Memory r

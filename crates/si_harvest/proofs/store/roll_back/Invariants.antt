@@ -5,4 +5,4 @@ use Rattle.si_harvest.proofs.store.roll_back.Given as goal
 abbrev pub invariant-loop : goal.invariant-loop
 invariant-loop g l =
     IsShortened (g.T.ClauseStore.clauses l.initial.store) l.counter (g.T.ClauseStore.clauses l.store)
-    × (g.T.ClauseStore.limit l.store ≡ g.T.ClauseStore.limit l.initial.store)
+    × (g.T.ClauseStore.rules l.store ≡ g.T.ClauseStore.rules l.initial.store)

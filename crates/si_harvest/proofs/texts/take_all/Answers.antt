@@ -8,12 +8,12 @@ use Rattle.si_harvest.proofs.texts.take_all.Goals as goal
 
 pub returns-in_err-end-clause-fault : goal.returns-in_err-end-clause-fault
 returns-in_err-end-clause-fault g c =
-    let limit = g.T.ClauseStore.limit c.args.store.now in
+    let rules = g.T.ClauseStore.rules c.args.store.now in
     let start = g.T.ClauseStore.clauses c.args.store.now in
     let state = g.T.ClauseStore.clauses c.loop-end.store in
-    let P : HarvestFault → Type 0 = λ e. Explains limit e (RefusesText limit start c.args.bytes.now) in
+    let P : HarvestFault → Type 0 = λ e. Explains rules e (RefusesText rules start c.args.bytes.now) in
     err_again c.from_residual.result c.in_err-end.field-0.0 P c.from_residual.ensures.1
-    (taking_refused limit start c.args.bytes.now c.loop-end.at c.loop-end.loaded state c.in_err-end.field-0.0
+    (taking_refused rules start c.args.bytes.now c.loop-end.at c.loop-end.loaded state c.in_err-end.field-0.0
     (subst (λ n. Explains n c.in_err-end.field-0.0 (RefusesNext n c.args.bytes.now c.loop-end.at state)) c.loop-end.invariant.1 c.in_err-end.ensures.fault)
     c.loop-end.invariant.0)
 
@@ -24,19 +24,19 @@ loop-end-smaller g c =
 
 pub loop-end-preserved : goal.loop-end-preserved
 loop-end-preserved g c =
-    let limit = g.T.ClauseStore.limit c.args.store.now in
+    let rules = g.T.ClauseStore.rules c.args.store.now in
     let start = g.T.ClauseStore.clauses c.args.store.now in (
-      taking_more limit start c.args.bytes.now c.loop-end.at c.in-Some.end c.loop-end.loaded c.take_next.new.loaded _ _
-          (some_next _ limit c.args.bytes.now c.loop-end.at c.in_ok-end.field-0 c.in-Some.end _ _ c.loop-end.invariant.1 c.in-Some.is c.in_ok-end.ensures.taken)
-          c.take_next.ensures.counted (gained_same _ limit start c.loop-end.loaded c.take_next.new.loaded _ _ c.loop-end.invariant.1 (c.take_next.ensures.gained start)) c.loop-end.invariant.0,
-      c.take_next.ensures.limit ∙ c.loop-end.invariant.1,
+      taking_more rules start c.args.bytes.now c.loop-end.at c.in-Some.end c.loop-end.loaded c.take_next.new.loaded _ _
+          (some_next _ rules c.args.bytes.now c.loop-end.at c.in_ok-end.field-0 c.in-Some.end _ _ c.loop-end.invariant.1 c.in-Some.is c.in_ok-end.ensures.taken)
+          c.take_next.ensures.counted (gained_same _ rules start c.loop-end.loaded c.take_next.new.loaded _ _ c.loop-end.invariant.1 (c.take_next.ensures.gained start)) c.loop-end.invariant.0,
+      c.take_next.ensures.rules ∙ c.loop-end.invariant.1,
     )
 
 pub returns-clause-taken : goal.returns-clause-taken
 returns-clause-taken g c =
-    let limit = g.T.ClauseStore.limit c.args.store.now in
+    let rules = g.T.ClauseStore.rules c.args.store.now in
     let start = g.T.ClauseStore.clauses c.args.store.now in
-    taking_ends limit start c.args.bytes.now c.loop-end.at c.loop-end.loaded c.take_next.new.loaded _ _
+    taking_ends rules start c.args.bytes.now c.loop-end.at c.loop-end.loaded c.take_next.new.loaded _ _
     (none_next c.in_ok-end.field-0 _ c.in_default.is c.in_ok-end.ensures.blanks)
     (none_next c.in_ok-end.field-0 _ c.in_default.is c.in_ok-end.ensures.ended)
-    (gained_same _ limit start c.loop-end.loaded c.take_next.new.loaded _ _ c.loop-end.invariant.1 (c.take_next.ensures.gained start)) c.loop-end.invariant.0
+    (gained_same _ rules start c.loop-end.loaded c.take_next.new.loaded _ _ c.loop-end.invariant.1 (c.take_next.ensures.gained start)) c.loop-end.invariant.0

@@ -2,28 +2,28 @@ use Rattle.std.proofs.Common.{◌≡◌, ℕ, Some, IfSome, sym, subst}
 use Rattle.si_defs.specs.Substitutions.{IsAmong}
 use Rattle.si_term.specs.Meaning.{name_of}
 use Rattle.si_term.specs.declared.clause.Clause.{Clause}
-use Rattle.si_index.specs.Keyed.{HasKey, IsTakenOut}
+use Rattle.si_keyed.specs.Keyed.{HasKey, IsTakenOut}
 use Rattle.si_index.specs.Names.{key_of, ChangesName}
-use Rattle.si_index.proofs.NamedLaws.{key_taken, pushed_item, pushed_key, taken_back}
-use Rattle.si_index.proofs.Results.{some_unless}
+use Rattle.si_keyed.proofs.KeyLaws.{key_taken, pushed_item, pushed_key, taken_back}
+use Rattle.si_keyed.proofs.Results.{some_unless}
 use Rattle.si_index.proofs.index.put.Goals as goal
 
 pub unwrap-kept-requires : goal.unwrap-kept-requires
 unwrap-kept-requires c =
     let pushed = c.in_ok-key.ensures.pushed in
-    some_unless c.get.result c.get.ensures.none (subst (λ l. HasKey l c.in_ok-key.key) (sym pushed) (pushed_key c.args.clauses.now c.in_ok-key.key c.args.clause))
+    some_unless c.get.result c.get.ensures.none (subst (λ l. HasKey l c.in_ok-key.key) (sym pushed) (pushed_key c.args.clauses.now.items c.in_ok-key.key c.args.clause))
 
 pub remove-requires : goal.remove-requires
-remove-requires c = subst (λ l. HasKey l c.in_ok-key.key) (sym c.in_ok-key.ensures.pushed) (pushed_key c.args.clauses.now c.in_ok-key.key c.args.clause)
+remove-requires c = subst (λ l. HasKey l c.in_ok-key.key) (sym c.in_ok-key.ensures.pushed) (pushed_key c.args.clauses.now.items c.in_ok-key.key c.args.clause)
 
 pub returns-in-Ok-clause-put : goal.returns-in-Ok-clause-put
 returns-in-Ok-clause-put c =
     let key = c.in_ok-key.key in
     let kept = c.unwrap-kept.result.now in
-    let among : IsAmong {V = ℕ × Clause} c.push.new.self (key, kept) =
-    subst (λ r. IfSome r (λ item. IsAmong {V = ℕ × Clause} c.push.new.self (key, item.now))) c.unwrap-kept.ensures c.get.ensures.some in
+    let among : IsAmong {V = ℕ × Clause} c.push.new.self.items (key, kept) =
+    subst (λ r. IfSome r (λ item. IsAmong {V = ℕ × Clause} c.push.new.self.items (key, item.now))) c.unwrap-kept.ensures c.get.ensures.some in
     let same : kept ≡ c.args.clause =
-    pushed_item c.args.clauses.now key c.args.clause kept c.in_ok-key.ensures.fresh
+    pushed_item c.args.clauses.now.items key c.args.clause kept c.in_ok-key.ensures.fresh
     (subst (λ l. IsAmong {V = ℕ × Clause} l (key, kept)) c.in_ok-key.ensures.pushed among) in
     record {
       key = key;
@@ -35,11 +35,11 @@ returns-in-Ok-clause-put c =
 pub returns-in-Err-clause-handed_back : goal.returns-in-Err-clause-handed_back
 returns-in-Err-clause-handed_back c =
     let key = c.in_ok-key.key in
-    let among = key_taken c.push.new.self key c.remove.result c.remove.new.self c.remove.ensures in
-    pushed_item c.args.clauses.now key c.args.clause c.remove.result c.in_ok-key.ensures.fresh
+    let among = key_taken c.push.new.self.items key c.remove.result c.remove.new.self.items c.remove.ensures.taken in
+    pushed_item c.args.clauses.now.items key c.args.clause c.remove.result c.in_ok-key.ensures.fresh
     (subst (λ l. IsAmong {V = ℕ × Clause} l (key, c.remove.result)) c.in_ok-key.ensures.pushed among)
 
 pub returns-in-Err-clause-err : goal.returns-in-Err-clause-err
 returns-in-Err-clause-err c =
-    taken_back c.args.clauses.now c.in_ok-key.key c.args.clause c.remove.result c.remove.new.self c.in_ok-key.ensures.fresh
-    (subst (λ l. IsTakenOut l c.in_ok-key.key c.remove.result c.remove.new.self) c.in_ok-key.ensures.pushed c.remove.ensures)
+    taken_back c.args.clauses.now.items c.in_ok-key.key c.args.clause c.remove.result c.remove.new.self.items c.in_ok-key.ensures.fresh
+    (subst (λ l. IsTakenOut l c.in_ok-key.key c.remove.result c.remove.new.self.items) c.in_ok-key.ensures.pushed c.remove.ensures.taken)

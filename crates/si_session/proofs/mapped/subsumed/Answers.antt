@@ -1,6 +1,7 @@
 use Rattle.std.proofs.Common.{map}
 use Rattle.si_state.specs.Subsumption.{IsMap}
 use Rattle.si_term.specs.Meaning.{literal_of}
+use Rattle.si_session.specs.Session.{holding}
 use Rattle.si_session.proofs.MappedLaws.{are_kept, mapped}
 use Rattle.si_session.proofs.mapped.subsumed.Goals as goal
 
@@ -8,6 +9,6 @@ pub tell_mapped-requires : goal.tell_mapped-requires
 tell_mapped-requires g c = are_kept (IsMap (map literal_of c.args.formula.now)) c.args.index.now.clauses c.in-Ok.found c.in-Ok.ensures
 
 pub returns-in-Ok-clause-acts : goal.returns-in-Ok-clause-acts
-returns-in-Ok-clause-acts g c limits same =
+returns-in-Ok-clause-acts g c setting state =
     mapped (IsMap (map literal_of c.args.formula.now)) c.args.index.now.clauses c.in-Ok.found c.in-Ok.ensures c.tell_mapped.result
-    (g.K.Sink.written c.args.sink.now) (g.K.Sink.written c.tell_mapped.new.sink) c.tell_mapped.ensures.written
+    (g.K.Sink.written c.args.sink.now) (g.K.Sink.written c.tell_mapped.new.sink) c.tell_mapped.ensures.written (holding state c.args.index.now)

@@ -12,7 +12,7 @@ returns-clause-gained c =
     let drawn = c.in_ok-text.ensures.clauses in
     IfOk-weaker c.take_text.result _ _
     (λ gained h.
-    sample_gained old.limit c.args.start c.args.count old.clauses c.take_text.new.store.clauses drawn.0 text gained
+    sample_gained old.rules c.args.start c.args.count old.clauses c.take_text.new.store.clauses drawn.0 text gained
     (subst (IsSample c.args.start c.args.count) (sym c.as_slice.ensures.value) c.in_ok-text.ensures.drawn)
     (subst (AreClauses drawn.0) (sym c.as_slice.ensures.value) drawn.1) h)
     c.take_text.ensures.loaded

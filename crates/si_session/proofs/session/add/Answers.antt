@@ -2,7 +2,6 @@ use Rattle.std.proofs.Common.{◌∙◌, sym, subst}
 use Rattle.si_defs.specs.Clauses.{IsSoundClause}
 use Rattle.si_sign.specs.Stores.{Rejects}
 use Rattle.si_steps.specs.Commands.{add}
-use Rattle.si_steps.specs.Steps.{Performs}
 use Rattle.si_term.specs.Meaning.{clause_of}
 use Rattle.si_session.specs.Session.{ActsOn}
 use Rattle.si_session.proofs.Acting.{added, refused, has_head}
@@ -15,15 +14,15 @@ returns-in-Ok-clause-acts g c =
 
 pub refusal-requires : goal.refusal-requires
 refusal-requires g c =
-    has_head c.args.index.now.limit c.args.index.now.clauses c.in-Err.rejected
+    has_head c.args.index.now.rules c.args.index.now.clauses c.in-Err.rejected
     (subst (λ x. IsSoundClause (clause_of x)) (sym c.in-Err.ensures.handed_back) c.requires)
-    (subst (λ x. Rejects c.args.index.now.limit c.args.index.now.clauses (clause_of x) c.in-Err.rejected.why) (sym c.in-Err.ensures.handed_back) c.in-Err.ensures.rejected)
+    (subst (λ x. Rejects c.args.index.now.rules c.args.index.now.clauses (clause_of x) c.in-Err.rejected.why) (sym c.in-Err.ensures.handed_back) c.in-Err.ensures.rejected)
 
 pub returns-in-Err-clause-acts : goal.returns-in-Err-clause-acts
 returns-in-Err-clause-acts g c =
     let a = g.K.Sink.written c.args.sink.now in
     let b = g.K.Sink.written c.tell-in-Err.new.sink in
-    subst (λ x. ActsOn (λ limits. Performs limits (add (clause_of x))) c.args.index.now c.add.new.self c.tell-in-Err.result a b) c.in-Err.ensures.handed_back
+    subst (λ x. ActsOn (add (clause_of x)) c.args.index.now c.add.new.self c.tell-in-Err.result a b) c.in-Err.ensures.handed_back
     (refused c.args.index.now c.add.new.self c.in-Err.rejected c.refusal.result c.tell-in-Err.result a b
-    (subst (λ x. Rejects c.args.index.now.limit c.args.index.now.clauses (clause_of x) c.in-Err.rejected.why) (sym c.in-Err.ensures.handed_back) c.in-Err.ensures.rejected)
+    (subst (λ x. Rejects c.args.index.now.rules c.args.index.now.clauses (clause_of x) c.in-Err.rejected.why) (sym c.in-Err.ensures.handed_back) c.in-Err.ensures.rejected)
     c.refusal.ensures c.in-Err.ensures.err c.tell-in-Err.ensures.written)

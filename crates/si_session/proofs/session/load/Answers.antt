@@ -1,9 +1,3 @@
-use Rattle.std.proofs.Common.{subst}
-use Rattle.std.specs.Prelude.{IfSome}
-use Rattle.si_harvest.specs.Faults.{Explains}
-use Rattle.si_harvest.specs.Gains.{Gained, GainsByLoad}
-use Rattle.si_harvest.specs.Opened.{HasFault}
-use Rattle.si_steps.specs.Loads.{load_bounds}
 use Rattle.si_session.proofs.Loading.{tellable, load_refused, load_gained}
 use Rattle.si_session.proofs.session.load.Goals as goal
 
@@ -14,24 +8,21 @@ pub returns-in-Ok-clause-loads : goal.returns-in-Ok-clause-loads
 returns-in-Ok-clause-loads g c =
     let limits = c.args.limits.now in
     let told = g.L.Library.files c.args.library.now in
-    let old = c.args.index.now.clauses in
-    let new = c.expand.new.store.clauses in
+    let old = c.args.index.now in
+    let new = c.expand.new.store in
     load_gained limits told c.args.name.now old new c.tell.result (g.K.Sink.written c.args.sink.now) (g.K.Sink.written c.tell.new.sink)
     (g.L.Library.counts c.args.library.now) (g.L.Library.counts c.expand.new.library)
     (g.L.Library.may_fail c.args.library.now) (g.L.Library.may_fail c.expand.new.library) c.in-Ok.gained
     c.from.result c.from-in-Ok.result c.from.ensures c.from-in-Ok.ensures
-    (subst (λ l. Gained l old c.in-Ok.gained new) c.requires.limit c.in-Ok.ensures.loaded)
-    (subst (λ l. IfSome told (λ files. GainsByLoad files (load_bounds limits) l old c.args.name.now new)) c.requires.limit c.in-Ok.ensures.right)
-    c.in-Ok.ensures.cause c.tell.ensures.written
+    c.in-Ok.ensures.loaded c.in-Ok.ensures.right c.in-Ok.ensures.cause c.tell.ensures.written
 
 pub returns-in-Err-clause-loads : goal.returns-in-Err-clause-loads
 returns-in-Err-clause-loads g c =
     let limits = c.args.limits.now in
     let told = g.L.Library.files c.args.library.now in
-    let old = c.args.index.now.clauses in
-    let new = c.expand.new.store.clauses in
+    let old = c.args.index.now in
+    let new = c.expand.new.store in
     load_refused limits told c.args.name.now old new c.tell-in-Err.result (g.K.Sink.written c.args.sink.now) (g.K.Sink.written c.tell-in-Err.new.sink)
     (g.L.Library.counts c.args.library.now) (g.L.Library.counts c.expand.new.library)
     (g.L.Library.may_fail c.args.library.now) (g.L.Library.may_fail c.expand.new.library) c.in-Err.fault c.load_refusal.result
-    (subst (λ l. Explains l c.in-Err.fault (HasFault told (load_bounds limits) l old c.args.name.now)) c.requires.limit c.in-Err.ensures.fault)
-    c.load_refusal.ensures c.in-Err.ensures.cause c.in-Err.ensures.err c.tell-in-Err.ensures.written
+    c.in-Err.ensures.fault c.load_refusal.ensures c.in-Err.ensures.cause c.in-Err.ensures.err c.tell-in-Err.ensures.written

@@ -1,9 +1,9 @@
 use Rattle.std.proofs.Common.{subst}
-use Rattle.si_session.specs.Session.{HasLoaded, around}
+use Rattle.si_session.specs.Session.{LoadsInto, around}
 use Rattle.si_session.proofs.session.load_named.Goals as goal
 
 pub returns-clause-loads : goal.returns-clause-loads
 returns-clause-loads g c =
-    subst (λ n. HasLoaded c.args.limits.now (g.L.Library.files c.args.library.now) n c.args.index.now.clauses c.load.new.index.clauses c.load.result
+    subst (λ n. LoadsInto c.args.limits.now (g.L.Library.files c.args.library.now) n c.args.index.now c.load.new.index c.load.result
     (around (g.K.Sink.written c.args.sink.now) (g.L.Library.counts c.args.library.now) (g.L.Library.may_fail c.args.library.now))
     (around (g.K.Sink.written c.load.new.sink) (g.L.Library.counts c.load.new.library) (g.L.Library.may_fail c.load.new.library))) c.as_bytes.ensures c.load.ensures.loads

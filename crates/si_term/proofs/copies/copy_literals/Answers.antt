@@ -5,7 +5,7 @@ use Rattle.si_term.proofs.Literals.{later, later-read, later-end}
 use Rattle.si_term.proofs.copies.copy_literals.Goals as goal
 
 pub loop-i-init : goal.loop-i-init
-loop-i-init c = ap (λ ks. map literal_of ks ++ map literal_of c.args.literals.now) c.new-copies.ensures
+loop-i-init c = ap (λ ks. map literal_of ks ++ map literal_of c.args.literals.now) c.in_ok-copies.ensures
 
 pub loop-i-preserved : goal.loop-i-preserved
 loop-i-preserved c =

@@ -1,4 +1,4 @@
-use Rattle.std.proofs.Common.{◌+◌, [], ◌∷◌, ap, sym, ◌∙◌, refl, arith}
+use Rattle.std.proofs.Common.{◌+◌, ap, sym, ◌∙◌, refl, arith}
 use Rattle.std.specs.Prelude.{bytes_eq}
 use Rattle.indexmap.specs.IndexSet.{insert_key, insert_all}
 use Rattle.si_defs.specs.Terms.{size, variables, variables_of_all}

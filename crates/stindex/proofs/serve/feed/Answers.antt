@@ -11,7 +11,7 @@ returns-in_err-act-clause-broken g c =
     let at = c.in-Some.end in
     let fill = c.push.ensures.held in
     passed_up c.from_residual.result c.in_err-act.field-0.0 _ c.from_residual.ensures.1
-    (Feeds_fail c.in_err-act.field-0.0 _ _ _ _ _ _ rest _ at _ _ _ _ _ _ _ _ _ _ c.loop-end.invariant.fed c.loop-end.invariant.limits c.loop-end.invariant.told (c.loop-end.invariant.limit ∙ c.requires)
+    (Feeds_fail c.in_err-act.field-0.0 _ _ _ _ _ _ rest _ at _ _ _ _ _ _ _ _ _ _ c.loop-end.invariant.fed c.loop-end.invariant.setting c.loop-end.invariant.told (c.loop-end.invariant.limit ∙ c.requires)
     c.in-Some.ensures refl fill c.in_err-act.ensures.broken)
 
 pub loop-end-preserved : goal.loop-end-preserved
@@ -19,9 +19,9 @@ loop-end-preserved g c =
     let rest = c.loop-end.rest.now in
     let at = c.in-Some.end in
     record {
-      fed = Feeds_line _ _ _ _ _ _ rest _ _ at _ _ _ _ _ _ _ _ _ _ _ c.loop-end.invariant.fed c.loop-end.invariant.limits c.loop-end.invariant.told (c.loop-end.invariant.limit ∙ c.requires)
+      fed = Feeds_line _ _ _ _ _ _ rest _ _ at _ _ _ _ _ _ _ _ _ _ _ c.loop-end.invariant.fed c.loop-end.invariant.setting c.loop-end.invariant.told (c.loop-end.invariant.limit ∙ c.requires)
           c.in-Some.ensures refl c.push.ensures.held c.in_ok-act.ensures.acted c.in_ok-act.ensures.held (take_all _ _ (omega (arith, length-drop (at + 1) rest)));
-      limits = c.in_ok-act.ensures.limits ∙ c.loop-end.invariant.limits;
+      setting = c.in_ok-act.ensures.setting ∙ c.loop-end.invariant.setting;
       limit = c.in_ok-act.ensures.limit ∙ c.push.ensures.limit ∙ c.loop-end.invariant.limit;
       kept = c.in_ok-act.ensures.kept ∙ c.loop-end.invariant.kept;
       told = c.in_ok-act.ensures.told ∙ c.loop-end.invariant.told;

@@ -1,7 +1,7 @@
 -- What was read last is the front of the chunk, and nothing at the end of the input.
 use Rattle.std.proofs.Common.{ℕ, ◌≤◌, ◌∙◌, length, take, ap, arith, refl, length-take}
 use Rattle.std.proofs.lemmas.List.{take-append-le, length-take-le}
-use Rattle.si_session.specs.Session.{State}
+use Rattle.si_session.specs.Session.{View}
 use Rattle.stindex.specs.Status.{status_of}
 use Rattle.stindex.proofs.FileWords.{Stands_under}
 use Rattle.stindex.proofs.Endings.{Stands_more, Serves_under, Serves_as, Serves_ended, Serves_cut, Serves_sink}
@@ -10,15 +10,15 @@ use Rattle.stindex.proofs.serve.run.Goals as goal
 pub returns-in-Err-clause-serves : goal.returns-in-Err-clause-serves
 returns-in-Err-clause-serves g c =
     Serves_as _ _ _ _ _ c.status.result (status_of c.in-Err.stop) _ _ _ _ c.is_strict-strict.ensures c.status.ensures
-    (Serves_under c.in-Err.stop _ _ _ _ _ _ _ _ c.in-Err.ensures.broken (ap (λ (s : State). s.limits) c.requires.start))
+    (Serves_under c.in-Err.stop _ _ _ _ _ _ _ _ c.in-Err.ensures.broken (ap (λ (s : View). s.setting) c.requires.start))
 
 pub loop-taken-init : goal.loop-taken-init
 loop-taken-init g c =
-    let under = ap (λ (s : State). s.limits) c.requires.start in
+    let under = ap (λ (s : View). s.setting) c.requires.start in
     record {
       stands = Stands_under _ _ _ _ _ _ _ _ _ _ c.in-Ok.ensures.loaded under c.requires.held;
       within = omega arith;
-      limits = c.in-Ok.ensures.limits ∙ under;
+      setting = c.in-Ok.ensures.setting ∙ under;
       limit = c.requires.limit;
       sure = refl;
       source_kept = refl;
@@ -30,14 +30,14 @@ loop-taken-init g c =
 pub returns-in-Ok-close-clause-serves : goal.returns-in-Ok-close-clause-serves
 returns-in-Ok-close-clause-serves g c =
     Serves_as _ _ _ _ _ _ _ _ _ _ _ c.is_strict-strict.ensures refl
-    (Serves_ended _ _ _ _ _ _ _ (take c.in-Ok-read.count c.read.new.into) _ _ _ _ _ _ _ _ c.loop-taken.invariant.stands c.loop-taken.invariant.limits c.loop-taken.invariant.told c.loop-taken-test.true
+    (Serves_ended _ _ _ _ _ _ _ (take c.in-Ok-read.count c.read.new.into) _ _ _ _ _ _ _ _ c.loop-taken.invariant.stands c.loop-taken.invariant.setting c.loop-taken.invariant.told c.loop-taken-test.true
     c.in-Ok-read.ensures.taken (ap (λ (n : ℕ). take n c.read.new.into) c.if-count-eq0.true)
     (c.in-Ok-read.ensures.ended c.if-count-eq0.true (omega (arith, length-take c.min-room.result c.loop-taken.chunk))) c.in-Ok-close.ensures.closed)
 
 pub returns-in-Err-close-clause-serves : goal.returns-in-Err-close-clause-serves
 returns-in-Err-close-clause-serves g c =
     Serves_as _ _ _ _ _ _ (status_of c.in-Err-close.stop) _ _ _ _ c.is_strict-strict.ensures c.status-in-Err-close.ensures
-    (Serves_cut c.in-Err-close.stop _ _ _ _ _ _ _ (take c.in-Ok-read.count c.read.new.into) _ _ _ _ _ _ _ _ c.loop-taken.invariant.stands c.loop-taken.invariant.limits c.loop-taken.invariant.told c.loop-taken-test.true
+    (Serves_cut c.in-Err-close.stop _ _ _ _ _ _ _ (take c.in-Ok-read.count c.read.new.into) _ _ _ _ _ _ _ _ c.loop-taken.invariant.stands c.loop-taken.invariant.setting c.loop-taken.invariant.told c.loop-taken-test.true
     c.in-Ok-read.ensures.taken (ap (λ (n : ℕ). take n c.read.new.into) c.if-count-eq0.true)
     (c.in-Ok-read.ensures.ended c.if-count-eq0.true (omega (arith, length-take c.min-room.result c.loop-taken.chunk))) c.in-Err-close.ensures.cut)
 
@@ -47,7 +47,7 @@ returns-in-Err-feed-clause-serves g c =
     let count = c.in-Ok-read.count in
     let within : count ≤ length into = omega (arith, c.in-Ok-read.ensures.bound, c.read.auto.into, length-take c.min-room.result c.loop-taken.chunk) in
     Serves_as _ _ _ _ _ _ (status_of c.in-Err-feed.stop) _ _ _ _ c.is_strict-strict.ensures c.status-in-Err-feed.ensures
-    (Serves_sink c.in-Err-feed.stop _ _ _ _ _ _ _ count (take count into) _ _ _ (g.S.Source.left c.read.new.self) _ _ _ _ _ c.loop-taken.invariant.stands c.loop-taken.invariant.limits c.loop-taken.invariant.told c.in-Ok-read.ensures.taken
+    (Serves_sink c.in-Err-feed.stop _ _ _ _ _ _ _ count (take count into) _ _ _ (g.S.Source.left c.read.new.self) _ _ _ _ _ c.loop-taken.invariant.stands c.loop-taken.invariant.setting c.loop-taken.invariant.told c.in-Ok-read.ensures.taken
     (length-take-le count into within) (omega (arith, length-take c.min-room.result c.loop-taken.chunk)) (take-append-le count into _ within) c.in-Err-feed.ensures.broken)
 
 pub loop-taken-preserved : goal.loop-taken-preserved
@@ -56,10 +56,10 @@ loop-taken-preserved g c =
     let count = c.in-Ok-read.count in
     let within : count ≤ length into = omega (arith, c.in-Ok-read.ensures.bound, c.read.auto.into, length-take c.min-room.result c.loop-taken.chunk) in
     record {
-      stands = Stands_more _ _ _ _ _ _ _ count (take count into) _ _ _ _ _ _ _ _ _ _ _ c.loop-taken.invariant.stands c.loop-taken.invariant.limits c.loop-taken.invariant.told c.in-Ok-read.ensures.taken
+      stands = Stands_more _ _ _ _ _ _ _ count (take count into) _ _ _ _ _ _ _ _ _ _ _ c.loop-taken.invariant.stands c.loop-taken.invariant.setting c.loop-taken.invariant.told c.in-Ok-read.ensures.taken
           (length-take-le count into within) (take-append-le count into _ within) c.in-Ok-feed.ensures.fed;
       within = omega (arith, length-take c.min-room.result c.loop-taken.chunk);
-      limits = c.in-Ok-feed.ensures.limits ∙ c.loop-taken.invariant.limits;
+      setting = c.in-Ok-feed.ensures.setting ∙ c.loop-taken.invariant.setting;
       limit = c.in-Ok-feed.ensures.limit ∙ c.loop-taken.invariant.limit;
       sure = c.in-Ok-read.ensures.same ∙ c.loop-taken.invariant.sure;
       source_kept = omega (arith, c.in-Ok-read.ensures.cause.kept);

@@ -1,4 +1,5 @@
 use Rattle.std.proofs.Common.{◌≡◌, ◌≤◌, ◌-◌}
+use Rattle.si_steps.specs.Settings.{setting_of}
 use Rattle.si_session.specs.Session.{around}
 use Rattle.stindex.specs.Lines.{held_of, limit_of}
 use Rattle.stindex.specs.Words.{asked_of}
@@ -7,11 +8,11 @@ use Rattle.stindex.proofs.serve.run.Given as goal
 
 abbrev pub invariant-loop-taken : goal.invariant-loop-taken
 invariant-loop-taken g l = record {
-  stands : HasProgressed l.limits (g.L.Library.files l.fn.library) l.strict (asked_of l.matches).files l.taken (g.S.Source.left l.fn.source) (g.S.Source.left l.source)
+  stands : HasProgressed (setting_of l.limits) (g.L.Library.files l.fn.library) l.strict (asked_of l.matches).files l.taken (g.S.Source.left l.fn.source) (g.S.Source.left l.source)
       (around (g.K.Sink.written l.fn.sink) (g.L.Library.counts l.fn.library) (g.L.Library.may_fail l.fn.library))
-      l.session.clauses (held_of l.pending) (around (g.K.Sink.written l.sink) (g.L.Library.counts l.library) (g.L.Library.may_fail l.library));
+      l.session.state (held_of l.pending) (around (g.K.Sink.written l.sink) (g.L.Library.counts l.library) (g.L.Library.may_fail l.library));
   within : l.taken ≤ l.limits.session;
-  limits : l.session.limits ≡ l.limits;
+  setting : l.session.setting ≡ setting_of l.limits;
   limit : limit_of l.pending ≡ l.limits.line;
   sure : g.S.Source.may_fail l.source ≡ g.S.Source.may_fail l.fn.source;
   source_kept : g.S.Source.faults l.source ≡ g.S.Source.faults l.fn.source;

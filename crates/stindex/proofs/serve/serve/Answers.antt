@@ -7,7 +7,7 @@ use Rattle.stindex.proofs.Faultless.{faultless_by, faultless_where_none_rose}
 use Rattle.stindex.proofs.serve.serve.Goals as goal
 
 pub returns-in-Ok-clause-answers : goal.returns-in-Ok-clause-answers
-returns-in-Ok-clause-answers g c = answers_asked _ _ _ (rows_of (found_of c.in-Ok.matches)) c.start.result _ _ _ _ c.in-Ok.ensures.taken c.start.ensures.serves
+returns-in-Ok-clause-answers g c = answers_asked _ _ _ (rows_of (found_of c.in-Ok.matches)) c.start.result _ _ _ _ c.in-Ok.ensures.taken c.in-Ok.ensures.faultless c.start.ensures.serves
 
 pub returns-in-Ok-clause-plain : goal.returns-in-Ok-clause-plain
 returns-in-Ok-clause-plain g c = λ plain. serves_said _ _ (map string_bytes c.args.words.now) (rows_of (found_of c.in-Ok.matches)) c.start.result _ _ _ _ c.in-Ok.ensures.taken (c.read_words.ensures.plain plain) c.start.ensures.serves

@@ -1,8 +1,11 @@
 -- The command is the one that the definitions speak of.
-use Rattle.std.proofs.Common.{rules, ap, ap₂, refl, true, ◌≡◌, ◌∙◌, Option, Some, None, map, string_bytes}
+use Rattle.std.proofs.Common.{rules, ap, ap₂, refl, subst, true, ◌≡◌, ◌∙◌, Option, Some, None, map, string_bytes}
 use Rattle.std.specs.Prelude.{IsSomeAnd}
+use Rattle.std.specs.Prelude.{OnOk, Result, Ok, Err, [], List}
+use Rattle.clap.specs.Words.{FailsBy, Kinds, fault_of, is_simple_and_free}
+use Rattle.clap.specs.declared.error.Error.{Error}
 use Rattle.std.proofs.lemmas.Result.{IfErr-weaker, IfOk-weaker}
-use Rattle.clap.specs.Words.{Rule, app_of, is_simple, matches_of, rule_of, takes, with_rule}
+use Rattle.clap.specs.Words.{App, Rule, app_of, is_simple, matches_of, rule_of, takes, with_rule}
 use Rattle.clap.specs.Simple.{app_of_fields, on_top}
 use Rattle.clap.specs.Lexer.{usize_max}
 use Rattle.clap.specs.declared.builder.arg.Arg.{Arg}
@@ -15,6 +18,15 @@ use Rattle.stindex.proofs.words.matches_in.Goals as goal
 is_program : is_simple program ≡ true
 unfolding clap_on_literals
 is_program = refl
+
+is_free : is_simple_and_free program ≡ true
+unfolding clap_on_literals
+is_free = refl
+
+-- what succeeds has no kind of fault
+no_kind : {T : Type 0} (kinds : Kinds) (result : Result T Error) → FailsBy kinds result → OnOk result (kinds ≡ [])
+no_kind kinds (Ok value) none = none
+no_kind kinds (Err error) some = tt
 
 abbrev any_number : ValueRange
 any_number = record { start_inclusive = 0; end_inclusive = usize_max }
@@ -39,5 +51,6 @@ returns c =
     ∙ ap₂ with_rule (c.in_ok-arg.ensures.shape (search rules) ∙ ap₂ with_rule (bare_is ∙ ap (on_top (λ s. record s { no_binary_name = true })) c.new-3.ensures.app) strict_is) file_is in
     record {
       ok = IfOk-weaker c.try_get_matches_from.result _ _ (λ m h. (h (ap is_simple command_is ∙ is_program)).0 ∙ ap (λ a. matches_of a (map string_bytes c.args.words.now)) command_is) c.try_get_matches_from.ensures.matches;
+      faultless = no_kind _ c.try_get_matches_from.result (subst (λ (a : App). FailsBy (fault_of a (map string_bytes c.args.words.now)) c.try_get_matches_from.result) command_is (c.try_get_matches_from.ensures.kinds (ap is_simple_and_free command_is ∙ is_free)));
       err = IfErr-weaker c.try_get_matches_from.result _ _ (λ e h t. h (ap (λ a. takes a (map string_bytes c.args.words.now)) command_is ∙ t)) c.try_get_matches_from.ensures.passes;
     }

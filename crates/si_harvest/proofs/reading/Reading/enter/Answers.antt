@@ -1,4 +1,5 @@
-use Rattle.std.proofs.Common.{ℕ, subst, inl, inr}
+use Rattle.std.proofs.Common.{subst, inl, inr}
+use Rattle.si_state.specs.States.{Rules}
 use Rattle.si_state.specs.Harvest.{MayAsk, IsBarred}
 use Rattle.si_harvest.specs.declared.faults.HarvestFault.{HarvestFault}
 use Rattle.si_harvest.specs.Faults.{Explains, bounds_of}
@@ -10,9 +11,9 @@ pub returns-in_err-may_ask-clause-unopened : goal.returns-in_err-may_ask-clause-
 returns-in_err-may_ask-clause-unopened g c =
     let told = g.L.Library.files c.args.library.now in
     let bounds = bounds_of c.args.limits.now in
-    let P : HarvestFault → Type 0 = λ e. (limit : ℕ) → Explains limit e (IsUnopened told bounds c.args.name.now c.args.self.now) in
+    let P : HarvestFault → Type 0 = λ e. (rules : Rules) → Explains rules e (IsUnopened told bounds c.args.name.now c.args.self.now) in
     err_again c.from_residual.result c.in_err-may_ask.field-0.0 P c.from_residual.ensures.1
-    (λ limit. blames_weaker limit c.in_err-may_ask.field-0.0 _ _ (λ fault h. inl (subst (λ fs. IsBarred bounds (opened fs) c.args.self.now.fetches c.args.name.now fault) c.as_slice.ensures.value h)) (c.in_err-may_ask.ensures.barred limit))
+    (λ rules. blames_weaker rules c.in_err-may_ask.field-0.0 _ _ (λ fault h. inl (subst (λ fs. IsBarred bounds (opened fs) c.args.self.now.fetches c.args.name.now fault) c.as_slice.ensures.value h)) (c.in_err-may_ask.ensures.barred rules))
 
 pub returns-in_err-may_ask-clause-cause : goal.returns-in_err-may_ask-clause-cause
 returns-in_err-may_ask-clause-cause g c =
@@ -22,9 +23,9 @@ pub returns-in_err-file-clause-unopened : goal.returns-in_err-file-clause-unopen
 returns-in_err-file-clause-unopened g c =
     let told = g.L.Library.files c.args.library.now in
     let bounds = bounds_of c.args.limits.now in
-    let P : HarvestFault → Type 0 = λ e. (limit : ℕ) → Explains limit e (IsUnopened told bounds c.args.name.now c.args.self.now) in
+    let P : HarvestFault → Type 0 = λ e. (rules : Rules) → Explains rules e (IsUnopened told bounds c.args.name.now c.args.self.now) in
     err_again c.from_residual-in_err-file.result c.in_err-file.field-0.0 P c.from_residual-in_err-file.ensures.1
-    (λ limit. blames_weaker limit c.in_err-file.field-0.0 _ _ (λ fault h. inr (subst (λ fs. MayAsk bounds (opened fs) c.args.self.now.fetches c.args.name.now) c.as_slice.ensures.value c.in_ok-may_ask.ensures.may, h)) (c.in_err-file.ensures.withheld limit))
+    (λ rules. blames_weaker rules c.in_err-file.field-0.0 _ _ (λ fault h. inr (subst (λ fs. MayAsk bounds (opened fs) c.args.self.now.fetches c.args.name.now) c.as_slice.ensures.value c.in_ok-may_ask.ensures.may, h)) (c.in_err-file.ensures.withheld rules))
 
 pub returns-clause-entered : goal.returns-clause-entered
 returns-clause-entered g c = record {

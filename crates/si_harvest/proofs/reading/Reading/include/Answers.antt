@@ -1,5 +1,6 @@
-use Rattle.std.proofs.Common.{◌≡◌, ◌++◌, ◌∷◌, [], ℕ}
+use Rattle.std.proofs.Common.{◌≡◌, ◌++◌, ◌∷◌, []}
 use Rattle.std.proofs.lemmas.Result.{on_ok_weaker, IfErr-weaker}
+use Rattle.si_state.specs.States.{Rules}
 use Rattle.si_harvest.specs.declared.faults.HarvestFault.{HarvestFault}
 use Rattle.si_harvest.specs.declared.reading.Reading.{Reading}
 use Rattle.si_harvest.specs.Faults.{Explains, bounds_of}
@@ -17,9 +18,9 @@ pub returns-clause-unopened : goal.returns-clause-unopened
 returns-clause-unopened g c =
     let told = g.L.Library.files c.args.library.now in
     let bounds = bounds_of c.args.limits.now in
-    let P : HarvestFault → Type 0 = λ e. (limit : ℕ) → Explains limit e (IsUnopened told bounds c.args.name.now c.push.new.self) in
-    let Q : HarvestFault → Type 0 = λ e. (limit : ℕ) → Explains limit e (λ fault. (middle : Reading) × (middle.files.items ≡ c.args.self.now.files.items ++ c.args.file ∷ [])
+    let P : HarvestFault → Type 0 = λ e. (rules : Rules) → Explains rules e (IsUnopened told bounds c.args.name.now c.push.new.self) in
+    let Q : HarvestFault → Type 0 = λ e. (rules : Rules) → Explains rules e (λ fault. (middle : Reading) × (middle.files.items ≡ c.args.self.now.files.items ++ c.args.file ∷ [])
     × (middle.fetches ≡ c.args.self.now.fetches) × IsUnopened told bounds c.args.name.now middle fault) in
     IfErr-weaker c.enter.result P Q
-    (λ e h limit. blames_weaker limit e _ _ (λ fault k. (c.push.new.self, c.in_ok-push.ensures.files, c.push.ensures.fetches, k)) (h limit))
+    (λ e h rules. blames_weaker rules e _ _ (λ fault k. (c.push.new.self, c.in_ok-push.ensures.files, c.push.ensures.fetches, k)) (h rules))
     c.enter.ensures.unopened

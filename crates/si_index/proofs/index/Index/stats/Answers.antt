@@ -2,7 +2,8 @@ use Rattle.std.proofs.Common.{arith, sym, subst}
 use Rattle.std.proofs.lemmas.List.{length-map}
 use Rattle.si_state.specs.Signatures.{CountsSymbols}
 use Rattle.si_term.specs.Meaning.{clause_of}
-use Rattle.si_index.specs.Kept.{Kept, clauses_of}
+use Rattle.si_index.specs.Kept.{Kept, AreKeyed, clauses_of}
+use Rattle.si_index.proofs.KeyStays.{are_keyed}
 use Rattle.si_index.proofs.StoreLaws.{clauses_few}
 use Rattle.si_sign.proofs.StateLaws.{counts_symbols}
 use Rattle.si_index.proofs.index.Index.stats.Goals as goal
@@ -12,8 +13,8 @@ overflow_cast-result c =
     omega (
       arith,
       c.len.ensures.number,
-      length-map c.self.inside.clauses (λ p. clause_of p.1),
-      clauses_few (clauses_of c.self.inside.clauses) c.self.invariant.stored.sound,
+      length-map c.self.inside.clauses.items (λ p. clause_of p.1),
+      clauses_few (clauses_of c.self.inside.clauses.items) c.self.invariant.stored.sound,
       c.self.invariant.stored.few,
       c.self.invariant.small,
     )
@@ -21,5 +22,10 @@ overflow_cast-result c =
 pub returns-clause-symbols : goal.returns-clause-symbols
 returns-clause-symbols c =
     subst (λ (k : Kept). CountsSymbols k.clauses c.len-2.result) c.self.view_is
-    (subst (CountsSymbols (clauses_of c.self.inside.clauses)) (sym c.len-2.ensures.number)
-    (counts_symbols (clauses_of c.self.inside.clauses) c.self.inside.known.signature c.len-2.ensures.signature c.self.invariant.is_known.signed))
+    (subst (CountsSymbols (clauses_of c.self.inside.clauses.items)) (sym c.len-2.ensures.number)
+    (counts_symbols (clauses_of c.self.inside.clauses.items) c.self.inside.known.signature c.len-2.ensures.signature c.self.invariant.is_known.signed))
+
+pub returns-clause-keyed : goal.returns-clause-keyed
+returns-clause-keyed c =
+    subst (λ (k : Kept). AreKeyed k) c.self.view_is
+    (let keyed = are_keyed c.self.inside.clauses.items c.len.ensures.distinct in record { number = keyed.number; distinct = keyed.distinct })

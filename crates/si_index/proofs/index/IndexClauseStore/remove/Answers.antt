@@ -1,17 +1,19 @@
 use Rattle.std.proofs.Common.{◌≡◌, ◌∷◌, ◌++◌, sym, subst}
+use Rattle.si_state.specs.States.{limited_to}
 use Rattle.si_state.specs.Acceptance.{IsTaken}
 use Rattle.si_term.specs.Meaning.{clause_of, name_of}
-use Rattle.si_index.specs.Kept.{Kept, clauses_of}
-use Rattle.si_index.proofs.KnownLaws.{splits, rest_is, uses_few, as_many_entries, kept_less, named_so}
+use Rattle.si_index.specs.Kept.{Kept, KeysStay, clauses_of}
+use Rattle.si_index.proofs.KeyStays.{kept_as}
+use Rattle.si_index.proofs.KnownLaws.{keys_less, splits, rest_is, uses_few, entries_counted, entries_there, kept_less, named_so}
 use Rattle.si_index.proofs.NamedLaws.{unknown_free}
-use Rattle.si_index.proofs.Results.{if_none}
+use Rattle.si_keyed.proofs.Results.{if_none}
 use Rattle.si_index.proofs.index.IndexClauseStore.remove.Goals as goal
 
 pub returns-in_err-key-clause-unknown : goal.returns-in_err-key-clause-unknown
 returns-in_err-key-clause-unknown c =
     let name = name_of c.args.name.now in
     if_none c.from_residual.result (λ taken.
-    unknown_free c.self.inside.clauses c.self.inside.known.names c.self.invariant.is_known.names name (sym c.in_err-key.ensures)
+    unknown_free c.self.inside.clauses.items c.self.inside.known.names c.self.invariant.is_known.names name (sym c.in_err-key.ensures)
     (subst (λ (k : Kept). IsTaken k.clauses name) (sym c.self.view_is) taken))
 
 pub remove-clause-requires : goal.remove-clause-requires
@@ -20,35 +22,45 @@ remove-clause-requires c = c.self.invariant.is_known.names.there (name_of c.args
 pub leave-requires : goal.leave-requires
 leave-requires c = record {
   used =
-      uses_few c.self.inside.limit c.self.inside.known c.self.inside.clauses c.in_ok-key.key c.remove-clause.result c.remove-clause.new.self c.self.invariant c.remove-clause.ensures;
+      uses_few (limited_to c.self.inside.limit) c.self.inside.known c.self.inside.clauses.items c.in_ok-key.key c.remove-clause.result c.remove-clause.new.self.items c.self.invariant c.remove-clause.ensures.taken;
+  counted =
+      entries_counted (limited_to c.self.inside.limit) c.self.inside.known c.self.inside.clauses.items c.in_ok-key.key c.remove-clause.result c.remove-clause.new.self.items c.self.invariant c.remove-clause.ensures.taken;
+  few =
+      entries_there (limited_to c.self.inside.limit) c.self.inside.known c.self.inside.clauses.items c.in_ok-key.key c.remove-clause.result c.remove-clause.new.self.items c.self.invariant c.remove-clause.ensures.taken;
 }
 
 pub invariant_of-self : goal.invariant_of-self
 invariant_of-self c =
-    kept_less c.self.inside.limit c.self.inside.known c.self.inside.clauses c.in_ok-key.key c.remove-clause.result c.remove-clause.new.self c.self.invariant c.remove-clause.ensures
+    kept_less (limited_to c.self.inside.limit) c.self.inside.known c.self.inside.clauses.items c.in_ok-key.key c.remove-clause.result c.remove-clause.new.self.items c.self.invariant c.remove-clause.ensures.taken
     c.leave.new.self c.leave.ensures.leaves
 
 pub returns-clause-removed : goal.returns-clause-removed
 returns-clause-removed c =
-    let items = c.self.inside.clauses in
+    let items = c.self.inside.clauses.items in
     let known = c.self.inside.known in
     let gone = c.remove-clause.result in
-    let rest = c.remove-clause.new.self in
-    let out = c.remove-clause.ensures in (
+    let rest = c.remove-clause.new.self.items in
+    let out = c.remove-clause.ensures.taken in (
       clause_of gone,
       record {
         before = clauses_of out.before;
         after = clauses_of out.after;
         splits =
             subst (λ (k : Kept). k.clauses ≡ clauses_of out.before ++ clause_of gone ∷ clauses_of out.after) c.self.view_is
-            (splits c.self.inside.limit known items c.in_ok-key.key gone rest c.self.invariant out);
-        named = named_so c.self.inside.limit known items c.in_ok-key.key gone rest c.self.invariant out (name_of c.args.name.now) (sym c.in_ok-key.ensures);
-        rest = rest_is c.self.inside.limit known items c.in_ok-key.key gone rest c.self.invariant out;
+            (splits (limited_to c.self.inside.limit) known items c.in_ok-key.key gone rest c.self.invariant out);
+        named = named_so (limited_to c.self.inside.limit) known items c.in_ok-key.key gone rest c.self.invariant out (name_of c.args.name.now) (sym c.in_ok-key.ensures);
+        rest = rest_is (limited_to c.self.inside.limit) known items c.in_ok-key.key gone rest c.self.invariant out;
       },
-      as_many_entries c.self.inside.limit known items c.in_ok-key.key gone rest c.self.invariant out c.leave.result c.leave.ensures.number,
+      c.leave.ensures.number,
     )
 
 pub returns-clause-stored : goal.returns-clause-stored
 returns-clause-stored c =
-    (kept_less c.self.inside.limit c.self.inside.known c.self.inside.clauses c.in_ok-key.key c.remove-clause.result c.remove-clause.new.self c.self.invariant c.remove-clause.ensures
+    (kept_less (limited_to c.self.inside.limit) c.self.inside.known c.self.inside.clauses.items c.in_ok-key.key c.remove-clause.result c.remove-clause.new.self.items c.self.invariant c.remove-clause.ensures.taken
     c.leave.new.self c.leave.ensures.leaves).stored
+
+pub returns-clause-keys : goal.returns-clause-keys
+returns-clause-keys c =
+    subst (λ (k : Kept). KeysStay k (kept_as c.remove-clause.new.self.items)) c.self.view_is
+    (keys_less (limited_to c.self.inside.limit) c.self.inside.known c.self.inside.clauses.items c.in_ok-key.key c.remove-clause.result c.remove-clause.new.self.items c.self.invariant c.remove-clause.ensures.taken
+    c.leave.new.self.names c.leave.ensures.leaves.name)

@@ -1,39 +1,51 @@
 use Rattle.std.proofs.Common.{◌≡◌, ◌-◌, [], ◌∷◌, ◌++◌, length, subst}
 use Rattle.si_defs.proofs.ListLaws.{get_among}
+use Rattle.si_state.specs.States.{limited_to}
 use Rattle.si_term.specs.Meaning.{clause_of}
-use Rattle.si_index.specs.Keyed.{item_keys}
-use Rattle.si_index.specs.Kept.{Kept, clauses_of}
-use Rattle.si_index.proofs.KnownLaws.{uses_few, as_many_entries, kept_less, last_taken}
+use Rattle.si_keyed.specs.Keyed.{item_keys}
+use Rattle.si_index.specs.Kept.{Kept, KeysStay, clauses_of}
+use Rattle.si_index.proofs.KeyStays.{kept_as}
+use Rattle.si_index.proofs.KnownLaws.{keys_less, uses_few, entries_counted, entries_there, kept_less, last_taken}
 use Rattle.si_index.proofs.index.IndexClauseStore.remove_last.Goals as goal
 
 pub remove-clause-requires : goal.remove-clause-requires
-remove-clause-requires c = get_among (item_keys c.self.inside.clauses) (length c.self.inside.clauses - 1) c.in_ok-key.key c.in_ok-key.ensures.some
+remove-clause-requires c = get_among (item_keys c.self.inside.clauses.items) (length c.self.inside.clauses.items - 1) c.in_ok-key.key c.in_ok-key.ensures.some
 
 pub leave-requires : goal.leave-requires
 leave-requires c = record {
   used =
-      uses_few c.self.inside.limit c.self.inside.known c.self.inside.clauses c.in_ok-key.key c.remove-clause.result c.remove-clause.new.self c.self.invariant c.remove-clause.ensures;
+      uses_few (limited_to c.self.inside.limit) c.self.inside.known c.self.inside.clauses.items c.in_ok-key.key c.remove-clause.result c.remove-clause.new.self.items c.self.invariant c.remove-clause.ensures.taken;
+  counted =
+      entries_counted (limited_to c.self.inside.limit) c.self.inside.known c.self.inside.clauses.items c.in_ok-key.key c.remove-clause.result c.remove-clause.new.self.items c.self.invariant c.remove-clause.ensures.taken;
+  few =
+      entries_there (limited_to c.self.inside.limit) c.self.inside.known c.self.inside.clauses.items c.in_ok-key.key c.remove-clause.result c.remove-clause.new.self.items c.self.invariant c.remove-clause.ensures.taken;
 }
 
 pub invariant_of-self : goal.invariant_of-self
 invariant_of-self c =
-    kept_less c.self.inside.limit c.self.inside.known c.self.inside.clauses c.in_ok-key.key c.remove-clause.result c.remove-clause.new.self c.self.invariant c.remove-clause.ensures
+    kept_less (limited_to c.self.inside.limit) c.self.inside.known c.self.inside.clauses.items c.in_ok-key.key c.remove-clause.result c.remove-clause.new.self.items c.self.invariant c.remove-clause.ensures.taken
     c.leave.new.self c.leave.ensures.leaves
 
 pub returns-clause-removed : goal.returns-clause-removed
 returns-clause-removed c =
-    let items = c.self.inside.clauses in
+    let items = c.self.inside.clauses.items in
     let known = c.self.inside.known in
     let gone = c.remove-clause.result in
-    let rest = c.remove-clause.new.self in
-    let out = c.remove-clause.ensures in (
+    let rest = c.remove-clause.new.self.items in
+    let out = c.remove-clause.ensures.taken in (
       clause_of gone,
       subst (λ (k : Kept). k.clauses ≡ clauses_of rest ++ clause_of gone ∷ []) c.self.view_is
-          (last_taken c.self.inside.limit known items c.in_ok-key.key gone rest c.self.invariant out c.in_ok-key.ensures.some),
-      as_many_entries c.self.inside.limit known items c.in_ok-key.key gone rest c.self.invariant out c.leave.result c.leave.ensures.number,
+          (last_taken (limited_to c.self.inside.limit) known items c.in_ok-key.key gone rest c.self.invariant out c.in_ok-key.ensures.some),
+      c.leave.ensures.number,
     )
 
 pub returns-clause-stored : goal.returns-clause-stored
 returns-clause-stored c =
-    (kept_less c.self.inside.limit c.self.inside.known c.self.inside.clauses c.in_ok-key.key c.remove-clause.result c.remove-clause.new.self c.self.invariant c.remove-clause.ensures
+    (kept_less (limited_to c.self.inside.limit) c.self.inside.known c.self.inside.clauses.items c.in_ok-key.key c.remove-clause.result c.remove-clause.new.self.items c.self.invariant c.remove-clause.ensures.taken
     c.leave.new.self c.leave.ensures.leaves).stored
+
+pub returns-clause-keys : goal.returns-clause-keys
+returns-clause-keys c =
+    subst (λ (k : Kept). KeysStay k (kept_as c.remove-clause.new.self.items)) c.self.view_is
+    (keys_less (limited_to c.self.inside.limit) c.self.inside.known c.self.inside.clauses.items c.in_ok-key.key c.remove-clause.result c.remove-clause.new.self.items c.self.invariant c.remove-clause.ensures.taken
+    c.leave.new.self.names c.leave.ensures.leaves.name)

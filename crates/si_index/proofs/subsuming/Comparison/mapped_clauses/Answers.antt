@@ -13,7 +13,7 @@ loop-position-init c =
     let maps = IsMapIn c.args.self.now.direction (map literal_of c.args.self.now.formula.now) in
     record {
       so_far = subst (AreMappedSoFar maps 0 c.args.index.now.clauses c.args.index.now.clauses) (sym c.new-mappeds.ensures) (λ others h. h);
-      left = c.kept-left.ensures;
+      left = c.kept-left.ensures.clauses;
     }
 
 pub unreachable-requires : goal.unreachable-requires

@@ -1,8 +1,10 @@
-use Rattle.std.proofs.Common.{◌<◌, ◌∷◌, ◌++◌, [], length, ap, ◌∙◌, arith}
+use Rattle.std.proofs.Common.{◌<◌, ◌∷◌, ◌++◌, [], Some, length, refl, ap, ◌∙◌, arith}
 use Rattle.std.proofs.lemmas.List.{map_push}
 use Rattle.si_parse.specs.Meaning.{names_of}
 use Rattle.si_parse.specs.GrammarRules.{IsNameToken}
 use Rattle.si_term.specs.Meaning.{name_of}
+use Rattle.si_lex.specs.Lexemes.{tokens_of}
+use Rattle.si_parse.proofs.ParseSteps.{parses_at}
 use Rattle.si_parse.proofs.ParseReads.{reads_some, reads_none, mark_front, mark_none, mark_shorter, left_shorter}
 use Rattle.si_parse.proofs.ParseRows.{row_none, row_stop, row_some, along_at, along_first, along_more}
 use Rattle.si_parse.proofs.GrammarNames.{name_last, name_goes_on, name_stops}
@@ -35,4 +37,6 @@ loop-rest-preserved c =
     (reads_some name_of c.in-Some-mark_at.rest.now c.in_ok-next.ensures c.in-Some-2.is))
 
 pub returns : goal.returns
-returns c = row_some IsNameToken name_last name_goes_on name_stops c.loop-rest.invariant (mark_none c.in_default-mark_at.ensures)
+returns c =
+    parses_at refl (ap (λ ns. Some (names_of ns, tokens_of c.loop-rest.left.now)) c.shrink.ensures)
+    (row_some IsNameToken name_last name_goes_on name_stops c.loop-rest.invariant (mark_none c.in_default-mark_at.ensures))

@@ -1,4 +1,4 @@
-use Rattle.std.proofs.Common.{List, Option, Result, Bor, ◌≡◌, ◌<◌, ◌≤◌, ◌∷◌, ◌++◌, [], Some, length, refl, sym, ap, ◌∙◌, arith, inl, inr, IfOk}
+use Rattle.std.proofs.Common.{List, Option, Result, Bor, ◌≡◌, ◌<◌, ◌≤◌, Some, length, refl, sym, ap, ◌∙◌, arith, inl, inr, IfOk}
 use Rattle.std.proofs.lemmas.Result.{IfOk-weaker}
 use Rattle.std.proofs.lemmas.List.{length-map}
 use Rattle.si_lex.specs.declared.lexeme.Lexeme.{Lexeme}
@@ -54,37 +54,91 @@ application-returns t c =
 pub arguments-returns-in_default : goal.arguments-returns-in_default
 arguments-returns-in_default t c = row_none IsTerm term_last term_goes_on term_stops (reads_none term_of c.args.tokens.now c.in_ok-first.ensures c.in_default.is)
 
-pub arguments-loop-rest-init : goal.arguments-loop-rest-init
-arguments-loop-rest-init t c =
+pub arguments-returns-in_default-mark_at : goal.arguments-returns-in_default-mark_at
+arguments-returns-in_default-mark_at t c =
     let p = reads_some term_of c.args.tokens.now c.in_ok-first.ensures c.in-Some.is in
-    record {
-      along = along_at (c.in_ok-push.ensures.ok ∙ ap (λ ts. ts ++ term_of c.in-Some.first ∷ []) c.new-args.ensures) (along_first IsTerm term_last term_goes_on term_stops p);
-      shorter = left_shorter c.args.tokens.now c.in-Some.behind.now p;
-    }
+    parses_at refl (ap (λ ts. Some (ts, tokens_of c.in-Some.behind.now)) c.in_ok-one.ensures)
+    (row_some IsTerm term_last term_goes_on term_stops (along_first IsTerm term_last term_goes_on term_stops p) (mark_none c.in_default-mark_at.ensures))
+
+pub arguments-front_term-requires-2 : goal.arguments-front_term-requires-2
+arguments-front_term-requires-2 t c =
+    let one = left_shorter c.args.tokens.now c.in-Some.behind.now (reads_some term_of c.args.tokens.now c.in_ok-first.ensures c.in-Some.is) in
+    let two = mark_shorter c.in-Some.behind.now c.in-Some-mark_at.rest.now c.in-Some-mark_at.ensures in
+    (omega (arith, one, two), omega (arith, one, two, c.requires))
 
 pub arguments-returns-in_default-2 : goal.arguments-returns-in_default-2
 arguments-returns-in_default-2 t c =
-    row_stop IsTerm term_last term_goes_on term_stops c.loop-rest.invariant.along (mark_front c.in-Some-mark_at.ensures)
-    (reads_none term_of c.in-Some-mark_at.rest.now c.in_ok-next.ensures c.in_default-2.is)
+    let p = reads_some term_of c.args.tokens.now c.in_ok-first.ensures c.in-Some.is in
+    row_stop IsTerm term_last term_goes_on term_stops (along_first IsTerm term_last term_goes_on term_stops p) (mark_front c.in-Some-mark_at.ensures)
+    (reads_none term_of c.in-Some-mark_at.rest.now c.in_ok-second.ensures c.in_default-2.is)
+
+pub arguments-returns-in_default-mark_at-2 : goal.arguments-returns-in_default-mark_at-2
+arguments-returns-in_default-mark_at-2 t c =
+    let p = reads_some term_of c.args.tokens.now c.in_ok-first.ensures c.in-Some.is in
+    let q = reads_some term_of c.in-Some-mark_at.rest.now c.in_ok-second.ensures c.in-Some-2.is in
+    parses_at refl (ap (λ ts. Some (ts, tokens_of c.in-Some-2.behind.now)) c.in_ok-pair.ensures)
+    (row_some IsTerm term_last term_goes_on term_stops
+    (along_more IsTerm term_last term_goes_on term_stops (along_first IsTerm term_last term_goes_on term_stops p) (mark_front c.in-Some-mark_at.ensures) q) (mark_none c.in_default-mark_at-2.ensures))
+
+pub arguments-front_term-requires-3 : goal.arguments-front_term-requires-3
+arguments-front_term-requires-3 t c =
+    let one = left_shorter c.args.tokens.now c.in-Some.behind.now (reads_some term_of c.args.tokens.now c.in_ok-first.ensures c.in-Some.is) in
+    let two = mark_shorter c.in-Some.behind.now c.in-Some-mark_at.rest.now c.in-Some-mark_at.ensures in
+    let three = left_shorter c.in-Some-mark_at.rest.now c.in-Some-2.behind.now (reads_some term_of c.in-Some-mark_at.rest.now c.in_ok-second.ensures c.in-Some-2.is) in
+    let four = mark_shorter c.in-Some-2.behind.now c.in-Some-mark_at-2.rest.now c.in-Some-mark_at-2.ensures in
+    (omega (arith, one, two, three, four), omega (arith, one, two, three, four, c.requires))
+
+pub arguments-returns-in_default-3 : goal.arguments-returns-in_default-3
+arguments-returns-in_default-3 t c =
+    let p = reads_some term_of c.args.tokens.now c.in_ok-first.ensures c.in-Some.is in
+    let q = reads_some term_of c.in-Some-mark_at.rest.now c.in_ok-second.ensures c.in-Some-2.is in
+    row_stop IsTerm term_last term_goes_on term_stops
+    (along_more IsTerm term_last term_goes_on term_stops (along_first IsTerm term_last term_goes_on term_stops p) (mark_front c.in-Some-mark_at.ensures) q) (mark_front c.in-Some-mark_at-2.ensures)
+    (reads_none term_of c.in-Some-mark_at-2.rest.now c.in_ok-third.ensures c.in_default-3.is)
+
+pub arguments-loop-rest-init : goal.arguments-loop-rest-init
+arguments-loop-rest-init t c =
+    let p = reads_some term_of c.args.tokens.now c.in_ok-first.ensures c.in-Some.is in
+    let q = reads_some term_of c.in-Some-mark_at.rest.now c.in_ok-second.ensures c.in-Some-2.is in
+    let r = reads_some term_of c.in-Some-mark_at-2.rest.now c.in_ok-third.ensures c.in-Some-3.is in
+    let two = along_more IsTerm term_last term_goes_on term_stops (along_first IsTerm term_last term_goes_on term_stops p) (mark_front c.in-Some-mark_at.ensures) q in
+    record {
+      along = along_at c.in_ok-args.ensures (along_more IsTerm term_last term_goes_on term_stops two (mark_front c.in-Some-mark_at-2.ensures) r);
+      shorter = omega (
+        arith,
+        left_shorter c.args.tokens.now c.in-Some.behind.now p,
+        mark_shorter c.in-Some.behind.now c.in-Some-mark_at.rest.now c.in-Some-mark_at.ensures,
+        left_shorter c.in-Some-mark_at.rest.now c.in-Some-2.behind.now q,
+        mark_shorter c.in-Some-2.behind.now c.in-Some-mark_at-2.rest.now c.in-Some-mark_at-2.ensures,
+        left_shorter c.in-Some-mark_at-2.rest.now c.in-Some-3.behind.now r,
+      );
+    }
+
+pub arguments-returns-in_default-4 : goal.arguments-returns-in_default-4
+arguments-returns-in_default-4 t c =
+    row_stop IsTerm term_last term_goes_on term_stops c.loop-rest.invariant.along (mark_front c.in-Some-mark_at-3.ensures)
+    (reads_none term_of c.in-Some-mark_at-3.rest.now c.in_ok-next.ensures c.in_default-4.is)
 
 pub arguments-loop-rest-smaller : goal.arguments-loop-rest-smaller
 arguments-loop-rest-smaller t c =
-    let one : length c.in-Some-mark_at.rest.now < length c.loop-rest.left.now = mark_shorter c.loop-rest.left.now c.in-Some-mark_at.rest.now c.in-Some-mark_at.ensures in
-    let shorter : length c.in-Some-2.behind.now < length c.loop-rest.left.now =
-    omega (arith, one, left_shorter c.in-Some-mark_at.rest.now c.in-Some-2.behind.now (reads_some term_of c.in-Some-mark_at.rest.now c.in_ok-next.ensures c.in-Some-2.is)) in
+    let one : length c.in-Some-mark_at-3.rest.now < length c.loop-rest.left.now = mark_shorter c.loop-rest.left.now c.in-Some-mark_at-3.rest.now c.in-Some-mark_at-3.ensures in
+    let shorter : length c.in-Some-4.behind.now < length c.loop-rest.left.now =
+    omega (arith, one, left_shorter c.in-Some-mark_at-3.rest.now c.in-Some-4.behind.now (reads_some term_of c.in-Some-mark_at-3.rest.now c.in_ok-next.ensures c.in-Some-4.is)) in
     shorter
 
 pub arguments-loop-rest-preserved : goal.arguments-loop-rest-preserved
 arguments-loop-rest-preserved t c =
-    let p = reads_some term_of c.in-Some-mark_at.rest.now c.in_ok-next.ensures c.in-Some-2.is in
-    let one : length c.in-Some-mark_at.rest.now < length c.loop-rest.left.now = mark_shorter c.loop-rest.left.now c.in-Some-mark_at.rest.now c.in-Some-mark_at.ensures in
+    let p = reads_some term_of c.in-Some-mark_at-3.rest.now c.in_ok-next.ensures c.in-Some-4.is in
+    let one : length c.in-Some-mark_at-3.rest.now < length c.loop-rest.left.now = mark_shorter c.loop-rest.left.now c.in-Some-mark_at-3.rest.now c.in-Some-mark_at-3.ensures in
     record {
-      along = along_at c.in_ok-push-2.ensures.ok (along_more IsTerm term_last term_goes_on term_stops c.loop-rest.invariant.along (mark_front c.in-Some-mark_at.ensures) p);
-      shorter = omega (arith, one, left_shorter c.in-Some-mark_at.rest.now c.in-Some-2.behind.now p, c.loop-rest.invariant.shorter);
+      along = along_at c.in_ok-push.ensures.ok (along_more IsTerm term_last term_goes_on term_stops c.loop-rest.invariant.along (mark_front c.in-Some-mark_at-3.ensures) p);
+      shorter = omega (arith, one, left_shorter c.in-Some-mark_at-3.rest.now c.in-Some-4.behind.now p, c.loop-rest.invariant.shorter);
     }
 
 pub arguments-returns : goal.arguments-returns
-arguments-returns t c = row_some IsTerm term_last term_goes_on term_stops c.loop-rest.invariant.along (mark_none c.in_default-mark_at.ensures)
+arguments-returns t c =
+    parses_at refl (ap (λ ts. Some (ts, tokens_of c.loop-rest.left.now)) c.shrink.ensures)
+    (row_some IsTerm term_last term_goes_on term_stops c.loop-rest.invariant.along (mark_none c.in_default-mark_at-3.ensures))
 
 -- ---- terms
 pub front_term-returns-in_ok-text-in-Upper : goal.front_term-returns-in_ok-text-in-Upper

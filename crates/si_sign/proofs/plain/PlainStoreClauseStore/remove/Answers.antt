@@ -1,5 +1,6 @@
 use Rattle.std.proofs.Common.{◌≡◌, slice_get, Some, map, sym, ap, ◌∙◌, subst}
 use Rattle.std.proofs.lemmas.Option.{get_or_from_slice_get, slice_get_within}
+use Rattle.si_state.specs.States.{limited_to}
 use Rattle.si_state.specs.Acceptance.{Removes}
 use Rattle.si_sign.specs.Stores.{IsStored}
 use Rattle.si_term.specs.Meaning.{clause_of, name_of}
@@ -23,8 +24,8 @@ returns-clause-stored c =
     let at = c.in-Some.at in
     let found = c.in-Some.ensures.found in
     let read = subst (λ l. slice_get l at ≡ Some found.0) c.as_slice.ensures.value found.1 in
-    subst (λ l. IsStored c.self.inside.limit (map clause_of l)) (sym c.remove-clause.ensures.items)
-    (stored_without cs at c.remove-clause.result (slice_get_within cs at found.0 read) c.remove-clause.ensures.value c.self.inside.limit c.self.invariant.0)
+    subst (λ l. IsStored (limited_to c.self.inside.limit) (map clause_of l)) (sym c.remove-clause.ensures.items)
+    (stored_without cs at c.remove-clause.result (slice_get_within cs at found.0 read) c.remove-clause.ensures.value (limited_to c.self.inside.limit) c.self.invariant.0)
 
 pub invariant_of-self : goal.invariant_of-self
 invariant_of-self c = (returns-clause-stored c, c.self.invariant.1)

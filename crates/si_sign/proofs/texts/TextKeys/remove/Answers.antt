@@ -3,4 +3,4 @@ use Rattle.si_sign.proofs.texts.TextKeys.remove.Goals as goal
 
 pub returns : goal.returns
 returns c =
-    has_at (λ k. k.items) c.args.text.now _ c.args.self.now.keys.entries c.swap_remove.new.self.entries c.swap_remove.ensures.updates.1 c.swap_remove.ensures.updates.3
+    has_at (λ k. k) c.args.text.now _ c.args.self.now.keys.entries c.swap_remove.new.self.entries c.swap_remove.ensures.updates.1 c.swap_remove.ensures.updates.3

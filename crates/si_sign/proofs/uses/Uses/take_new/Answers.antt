@@ -1,4 +1,4 @@
-use Rattle.std.proofs.Common.{◌≡◌, ◌+◌, ◌++◌, Some, None, refl, sym, ap, subst, ◌∙◌}
+use Rattle.std.proofs.Common.{◌≡◌, ◌+◌, Some, None, refl, sym, ap, subst, ◌∙◌}
 use Rattle.slab.specs.Slab.{get}
 use Rattle.si_defs.specs.Symbols.{Symbol}
 use Rattle.si_term.specs.Terms.{symbol_of}
@@ -18,7 +18,7 @@ returns-clause-uses c =
     let v : Uses = record { keys = c.insert.new.self; slots = c.insert_reserved.new.self; total = t.total + 1 } in
     let rest = c.in_ok-reserve.ensures.rest_kept in
     let key_is : c.insert_reserved.result ≡ key = c.insert_reserved.ensures.key ∙ ap (λ r. r.vacant_key) rest ∙ sym c.vacant_key-key.ensures.value in
-    let text = c.in_ok-extend_from_slice.ensures.items ∙ (λ i. c.new-text.ensures.items i ++ c.as_bytes.ensures i) in
+    let text = c.in_ok-text.ensures in
     let keyed = subst (λ x. HasAtKind s.kind x (Some key) (symbol_key t.keys) (symbol_key v.keys)) text c.in_ok-insert.ensures.ok in
     let is = ap symbol_of c.in_ok-sym.ensures in
     let here = ap (get v.slots) (sym key_is) ∙ c.insert_reserved.ensures.updates.changed in
@@ -35,7 +35,7 @@ returns-clause-ok c =
     let v : Uses = record { keys = c.insert.new.self; slots = c.insert_reserved.new.self; total = t.total + 1 } in
     let rest = c.in_ok-reserve.ensures.rest_kept in
     let key_is : c.insert_reserved.result ≡ key = c.insert_reserved.ensures.key ∙ ap (λ r. r.vacant_key) rest ∙ sym c.vacant_key-key.ensures.value in
-    let text = c.in_ok-extend_from_slice.ensures.items ∙ (λ i. c.new-text.ensures.items i ++ c.as_bytes.ensures i) in
+    let text = c.in_ok-text.ensures in
     let keyed = subst (λ x. HasAtKind s.kind x (Some key) (symbol_key t.keys) (symbol_key v.keys)) text c.in_ok-insert.ensures.ok in
     let is = ap symbol_of c.in_ok-sym.ensures in
     let here = ap (get v.slots) (sym key_is) ∙ c.insert_reserved.ensures.updates.changed in

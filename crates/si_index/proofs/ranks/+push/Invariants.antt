@@ -1,8 +1,0 @@
-use Rattle.std.proofs.Common.{◌+◌, ◌*◌, length}
-use Rattle.si_index.proofs.ranks.+push.Given as goal
-
-abbrev pub decreases-Ranks::push : goal.decreases-Ranks::push
-decreases-Ranks::push l = 2 * length l.self.now + 1
-
-abbrev pub decreases-grow : goal.decreases-grow
-decreases-grow l = 2 * length l.counts.now

@@ -1,4 +1,0 @@
-use Rattle.si_index.proofs.ranks.Ranks.+find.Given as goal
-
-abbrev pub decreases-find : goal.decreases-find
-decreases-find l = goal.size-find l

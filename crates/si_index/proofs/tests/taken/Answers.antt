@@ -1,5 +1,0 @@
-use Rattle.si_index.proofs.SlotLaws.{key_among}
-use Rattle.si_index.proofs.tests.taken.Goals as goal
-
-pub remove-requires : goal.remove-requires
-remove-requires c = key_among _ _ c.in_ok-get.ensures.some

@@ -1,0 +1,5 @@
+pub mod Halves
+pub mod Keyed
+pub mod KeyedSlots
+pub mod Ranks
+pub mod RanksFall

@@ -1,0 +1,9 @@
+//! A list whose items go by keys and by positions, and from which any item can be taken.
+#![tactic(auto)]
+
+mod keyed;
+mod ranks;
+#[cfg(test)]
+mod tests;
+
+pub use keyed::{Items, KeyedList};

@@ -1,0 +1,20 @@
+use Rattle.std.proofs.Common.{inl, inr, sym, ◌∙◌, arith}
+use Rattle.std.proofs.lemmas.Bool.{false≢true}
+use Rattle.std.proofs.lemmas.List.{drop_all}
+use Rattle.si_lanes.specs.Rows.{IsSubset}
+use Rattle.si_lanes.proofs.Filtering.{filtered_more, filtered_all}
+use Rattle.si_lanes.proofs.superset_rows.Goals as goal
+use Rattle.si_lanes.proofs.superset_rows.Goals.{then-is_subset+in_ok-append, else-is_subset}
+
+pub loop-position-preserved : goal.loop-position-preserved
+loop-position-preserved c = (
+  filtered_more (λ row. IsSubset c.args.mask.now row) c.args.rows.now c.loop-position.position c.args.out.now.items c.loop-position.out.items c.if-is_subset.out.items c.loop-position-test.true
+      c.loop-position.invariant.0 (elim c.if-is_subset.branch [
+        | then-is_subset+in_ok-append w ↦ inl (c.is_subset.ensures.0 w.if-is_subset.true, (λ i. (w.out-is i).items) ∙ w.in_ok-append.ensures.ok)
+        | else-is_subset w ↦ inr (λ h. false≢true (sym w.if-is_subset.false ∙ c.is_subset.ensures.1 h), (λ i. (w.out-is i).items))
+      ]),
+  c.loop-position.invariant.1,
+)
+
+pub returns-clause-ok : goal.returns-clause-ok
+returns-clause-ok c = filtered_all (λ row. IsSubset c.args.mask.now row) c.args.rows.now c.loop-position.position c.args.out.now.items c.loop-position.out.items (drop_all c.loop-position.position c.args.rows.now (omega (arith, c.loop-position-test.false))) c.loop-position.invariant.0

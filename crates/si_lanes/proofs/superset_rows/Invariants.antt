@@ -1,0 +1,8 @@
+use Rattle.std.proofs.Common.{◌≡◌, length}
+use Rattle.si_lanes.specs.Rows.{IsSubset}
+use Rattle.si_lanes.proofs.Filtering.{IsFiltered}
+use Rattle.si_lanes.proofs.superset_rows.Given as goal
+
+abbrev pub invariant-loop-position : goal.invariant-loop-position
+invariant-loop-position l =
+    IsFiltered (λ row. IsSubset l.mask-2 row) l.rows l.position l.fn.out.items l.out.items × (l.mark ≡ length l.fn.out.items)

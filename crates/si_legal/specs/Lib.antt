@@ -1,0 +1,7 @@
+pub mod Bindings
+pub mod Generalizations
+pub mod Trees
+pub mod Legal
+pub mod StoredSets
+pub mod OpenNodes
+pub mod KeptTrees

@@ -1,0 +1,3 @@
+pub mod SplitsProved
+pub mod TreesProved
+pub mod FiveNodesProved

@@ -1,0 +1,3 @@
+pub mod SomeTerms
+pub mod SomeSplits
+pub mod SomeTrees

@@ -1,0 +1,219 @@
+-- Legal trees, and trees that break one rule each.
+use Rattle.std.specs.Prelude.{◌≡◌, ℕ, List, [], ◌∷◌, map, None, Some}
+use Rattle.si_flat.specs.Cells.{Term}
+use Rattle.si_legal.specs.declared.Posting.{Posting}
+use Rattle.si_legal.specs.Bindings.{Binding, indicator}
+use Rattle.si_legal.specs.Trees.{inner, leaf, Node, Tree}
+use Rattle.si_legal.specs.Legal.{IsLegal}
+use Rattle.si_legal.specs.StoredSets.{AreUnder, node_count, leaf_count, unmerged_count}
+use Rattle.si_tree_examples.specs.SomeTerms.{f, g, a, b, c, x}
+
+-- ---- nodes and trees
+-- the first entry of the clause with this key
+abbrev pub posting : ℕ → Posting
+posting key = record { clause = key; entry = 0 }
+
+abbrev pub root : List ℕ → Node Term
+root children = record { parent = None; bindings = []; content = inner 0 children }
+
+abbrev pub fork : ℕ → List Binding → ℕ → List ℕ → Node Term
+fork parent bindings split children = record {
+  parent = Some parent;
+  bindings = bindings;
+  content = inner split children;
+}
+
+-- a leaf that holds a posting of the clause with its own number
+abbrev pub leaf_of : ℕ → List Binding → ℕ → Node Term
+leaf_of parent bindings key = record {
+  parent = Some parent;
+  bindings = bindings;
+  content = leaf (posting key ∷ []);
+}
+
+-- the nodes have the keys from 0, the root the first
+abbrev pub tree_of : List (Node Term) → ℕ → ℕ → Tree Term
+tree_of nodes next vars = record { nodes = map Some nodes; root = 0; next = next; vars = vars }
+
+-- ---- legal trees
+abbrev pub new_tree : Tree Term
+new_tree = tree_of (root [] ∷ []) 1 0
+
+-- f(a), f(b) and c
+abbrev pub five_nodes : Tree Term
+five_nodes =
+    tree_of (
+    root (2 ∷ 4 ∷ [])
+    ∷ leaf_of 2 ((1, a) ∷ []) 0
+    ∷ fork 0 ((0, f (indicator 1 ∷ [])) ∷ []) 1 (1 ∷ 3 ∷ [])
+    ∷ leaf_of 2 ((1, b) ∷ []) 1
+    ∷ leaf_of 0 ((0, c) ∷ []) 2
+    ∷ []
+    ) 2 0
+
+abbrev pub NewTree : Type 0
+NewTree = IsLegal new_tree
+
+abbrev pub FiveNodes : Type 0
+FiveNodes =
+    IsLegal five_nodes × (node_count five_nodes ≡ 5) × (leaf_count five_nodes ≡ 3)
+    × (unmerged_count five_nodes ≡ 0)
+
+-- under f(b) stands the posting of its clause, and under g(a) none
+abbrev pub StoredPostings : Type 0
+StoredPostings =
+    AreUnder five_nodes (f (b ∷ [])) (posting 1 ∷ []) × AreUnder five_nodes (g a) []
+
+-- ---- one rule broken
+abbrev pub NoBindingRoot : Type 0
+NoBindingRoot =
+    IsLegal (
+    tree_of
+    (record { parent = None; bindings = (0, f (indicator 1 ∷ [])) ∷ []; content = inner 1 [] } ∷ [])
+    2 0
+    )
+    → ⊥
+
+abbrev pub NoOtherRootSplit : Type 0
+NoOtherRootSplit =
+    IsLegal (
+    tree_of (record { parent = None; bindings = []; content = inner 1 [] } ∷ []) 2 0
+    )
+    → ⊥
+
+abbrev pub NoSingleChild : Type 0
+NoSingleChild =
+    IsLegal (
+    tree_of (
+    root (1 ∷ [])
+    ∷ fork 0 ((0, f (indicator 1 ∷ [])) ∷ []) 1 (2 ∷ [])
+    ∷ leaf_of 1 ((1, a) ∷ []) 0
+    ∷ []
+    ) 2 0
+    )
+    → ⊥
+
+abbrev pub NoBareIndicator : Type 0
+NoBareIndicator =
+    IsLegal (
+    tree_of (
+    root (1 ∷ [])
+    ∷ fork 0 ((0, indicator 1) ∷ []) 1 (2 ∷ 3 ∷ [])
+    ∷ leaf_of 1 ((1, a) ∷ []) 0
+    ∷ leaf_of 1 ((1, b) ∷ []) 1
+    ∷ []
+    ) 2 0
+    )
+    → ⊥
+
+abbrev pub NoIndicatorTwice : Type 0
+NoIndicatorTwice =
+    IsLegal (
+    tree_of (
+    root (1 ∷ [])
+    ∷ fork 0 ((0, f (indicator 1 ∷ indicator 1 ∷ [])) ∷ []) 1 (2 ∷ 3 ∷ [])
+    ∷ leaf_of 1 ((1, a) ∷ []) 0
+    ∷ leaf_of 1 ((1, b) ∷ []) 1
+    ∷ []
+    ) 2 0
+    )
+    → ⊥
+
+-- an indicator that was bound isn't opened again further down
+abbrev pub NoIndicatorAgain : Type 0
+NoIndicatorAgain =
+    IsLegal (
+    tree_of (
+    root (1 ∷ [])
+    ∷ fork 0 ((0, f (indicator 1 ∷ [])) ∷ []) 1 (2 ∷ 3 ∷ [])
+    ∷ fork 1 ((1, g (indicator 1)) ∷ []) 1 (4 ∷ 5 ∷ [])
+    ∷ leaf_of 1 ((1, c) ∷ []) 0
+    ∷ leaf_of 2 ((1, a) ∷ []) 1
+    ∷ leaf_of 2 ((1, b) ∷ []) 2
+    ∷ []
+    ) 2 0
+    )
+    → ⊥
+
+abbrev pub NoForeignBinding : Type 0
+NoForeignBinding =
+    IsLegal (tree_of (root (1 ∷ []) ∷ leaf_of 0 ((0, a) ∷ (1, b) ∷ []) 0 ∷ []) 2 0) → ⊥
+
+abbrev pub NoBoundSplit : Type 0
+NoBoundSplit =
+    IsLegal (
+    tree_of (
+    root (1 ∷ [])
+    ∷ fork 0 ((0, f (indicator 1 ∷ [])) ∷ []) 0 (2 ∷ 3 ∷ [])
+    ∷ leaf_of 1 ((1, a) ∷ []) 0
+    ∷ leaf_of 1 ((1, b) ∷ []) 1
+    ∷ []
+    ) 2 0
+    )
+    → ⊥
+
+-- both children bind the second indicator, and the node splits on the first
+abbrev pub NoSplitUnbound : Type 0
+NoSplitUnbound =
+    IsLegal (
+    tree_of (
+    root (1 ∷ [])
+    ∷ fork 0 ((0, f (indicator 1 ∷ indicator 2 ∷ [])) ∷ []) 1 (2 ∷ 3 ∷ [])
+    ∷ leaf_of 1 ((2, a) ∷ []) 0
+    ∷ leaf_of 1 ((2, b) ∷ []) 1
+    ∷ []
+    ) 3 0
+    )
+    → ⊥
+
+abbrev pub NoEqualHeads : Type 0
+NoEqualHeads =
+    IsLegal (
+    tree_of (
+    root (1 ∷ 2 ∷ [])
+    ∷ leaf_of 0 ((0, f (a ∷ [])) ∷ []) 0
+    ∷ leaf_of 0 ((0, f (b ∷ [])) ∷ []) 1
+    ∷ []
+    ) 1 0
+    )
+    → ⊥
+
+abbrev pub NoOpenLeaf : Type 0
+NoOpenLeaf =
+    IsLegal (tree_of (root (1 ∷ []) ∷ leaf_of 0 ((0, f (indicator 1 ∷ [])) ∷ []) 0 ∷ []) 2 0) → ⊥
+
+-- the first variable that occurs has the number 0
+abbrev pub NoLaterVariable : Type 0
+NoLaterVariable =
+    IsLegal (tree_of (root (1 ∷ []) ∷ leaf_of 0 ((0, f (x 1 ∷ [])) ∷ []) 0 ∷ []) 1 2) → ⊥
+
+abbrev pub NoLargeIndicator : Type 0
+NoLargeIndicator =
+    IsLegal (
+    tree_of (
+    root (1 ∷ [])
+    ∷ fork 0 ((0, f (indicator 1 ∷ [])) ∷ []) 1 (2 ∷ 3 ∷ [])
+    ∷ leaf_of 1 ((1, a) ∷ []) 0
+    ∷ leaf_of 1 ((1, b) ∷ []) 1
+    ∷ []
+    ) 1 0
+    )
+    → ⊥
+
+abbrev pub NoLargeVariable : Type 0
+NoLargeVariable =
+    IsLegal (tree_of (root (1 ∷ []) ∷ leaf_of 0 ((0, f (x 0 ∷ [])) ∷ []) 0 ∷ []) 1 0) → ⊥
+
+abbrev pub NoPostingTwice : Type 0
+NoPostingTwice =
+    IsLegal (
+    tree_of (
+    root (1 ∷ 2 ∷ []) ∷ leaf_of 0 ((0, a) ∷ []) 0 ∷ leaf_of 0 ((0, b) ∷ []) 0 ∷ []
+    ) 1 0
+    )
+    → ⊥
+
+-- the leaf has a parent that doesn't name it among its children
+abbrev pub NoForgottenChild : Type 0
+NoForgottenChild =
+    IsLegal (tree_of (root [] ∷ leaf_of 0 ((0, a) ∷ []) 0 ∷ []) 1 0) → ⊥

@@ -1,0 +1,10 @@
+//! Worked examples of the definitions of substitution trees: what holds by them, and what does not.
+//! Each is a clause of a function with no code, so that a check proves it. The statements stand in
+//! `specs/`, one file a subject.
+#![tactic(auto)]
+
+mod splits;
+mod trees;
+
+pub use splits::{split_bindings, wrong_splits};
+pub use trees::{illegal_trees, legal_trees};

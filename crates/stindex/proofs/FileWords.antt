@@ -21,7 +21,7 @@ use Rattle.stindex.proofs.Splitting.{Run_more, Splits_none}
 use Rattle.stindex.proofs.Rows.{all_is}
 use Rattle.stindex.proofs.Progress.{tells_none, tells_then, stops_then, shown-nil}
 
-pub words_none : (setting : Setting) (told : Option Files) (strict : Bool) (state : State) (before : Around) → state ≡ [] → LoadsWords setting told strict [] before state before
+pub words_none : (setting : Setting) (told : Option Files) (strict : Bool) (state : State) (before : Around) → state ≡ empty_state → LoadsWords setting told strict [] before state before
 words_none setting told strict state before none = record {
   output = [];
   failures = 0;

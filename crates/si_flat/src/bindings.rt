@@ -1,5 +1,5 @@
 // Bindings of indicators.
-ghost use Rattle.std.specs.Prelude.{◌≡◌, ◌+◌, ◌<◌, ◌≤◌, [], ◌∷◌, ◌++◌, IfOk, OnErr, OnOk, Some, length, slice_get};
+ghost use Rattle.std.specs.Prelude.{◌≡◌, ◌<◌, [], ◌∷◌, ◌++◌, OnErr, OnOk, Some, length, slice_get};
 ghost use Rattle.std.specs.Iterator.{YieldsFirstBy, item_count};
 ghost use Rattle.si_defs.specs.Substitutions.{IsAmong};
 ghost use Rattle.si_flat.specs.declared.Cell.TheVariants.{Ind};
@@ -94,8 +94,8 @@ impl Bindings {
         ensures ok { OnOk result (self.new ≡ self.old ++ (left, right.now) ∷ []) }
         ensures err { OnErr result (self.new ≡ self.old) }
     {
-        let count = append_pair(&mut self.cells, self.count, left, right)?;
-        self.count = count;
+        append_pair(&mut self.cells, left, right)?;
+        self.count += 1;
         Ok(())
     }
 
@@ -163,18 +163,10 @@ impl Bindings {
     }
 }
 
-// Appends the cells of a binding to those of so many, and answers how many there are then. At an
-// error the cells are as before.
-fn append_pair(
-    cells: &mut Vec<Cell>,
-    count: usize,
-    left: u32,
-    right: &[Cell],
-) -> Result<usize, AllocError>
-    requires { count ≤ length cells.old.items }
+// Appends the cells of a binding. At an error the cells are as before.
+fn append_pair(cells: &mut Vec<Cell>, left: u32, right: &[Cell]) -> Result<(), AllocError>
     ensures ok { OnOk result (cells.new.items ≡ cells.old.items ++ pair_cells (left, right.now)) }
     ensures err { OnErr result (cells.new.items ≡ cells.old.items) }
-    ensures count { IfOk result (λ n. n ≡ count + 1) }
 {
     let before = cells.len();
     cells.push(Cell::Ind(left))?;
@@ -182,7 +174,7 @@ fn append_pair(
         cells.truncate(before);
         return Err(error);
     }
-    Ok(cells.len() - right.len() - (before - count))
+    Ok(())
 }
 
 impl<'a> Pair<'a> {

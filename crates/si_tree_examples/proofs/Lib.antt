@@ -1,3 +1,4 @@
 pub mod SplitsProved
 pub mod TreesProved
 pub mod FiveNodesProved
+pub mod OpenNodesProved

@@ -1,3 +1,4 @@
 pub mod SomeTerms
 pub mod SomeSplits
 pub mod SomeTrees
+pub mod SomeOpenNodes

@@ -3,8 +3,10 @@
 //! `specs/`, one file a subject.
 #![tactic(auto)]
 
+mod open_nodes;
 mod splits;
 mod trees;
 
+pub use open_nodes::open_paths;
 pub use splits::{split_bindings, wrong_splits};
 pub use trees::{illegal_trees, legal_trees};

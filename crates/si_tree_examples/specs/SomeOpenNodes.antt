@@ -1,0 +1,40 @@
+-- Which terms of paths are open for a query.
+use Rattle.std.specs.Prelude.{[], ◌∷◌}
+use Rattle.si_defs.specs.declared.Relation.TheVariants.{Variants, Instances, Generalizations, Unifiable}
+use Rattle.si_defs.specs.Terms as terms
+use Rattle.si_flat.specs.Cells.{query, Term}
+use Rattle.si_legal.specs.Bindings.{indicator}
+use Rattle.si_legal.specs.OpenNodes.{IsOpen}
+use Rattle.si_tree_examples.specs.SomeTerms.{f, g, a, x}
+
+-- a query's variable
+abbrev pub y : Term
+y = terms.var (query 0)
+
+-- f(*1) is open for the instances of f(Y)
+abbrev pub OpenForInstances : Type 0
+OpenForInstances = IsOpen Instances (f (y ∷ [])) (f (indicator 1 ∷ []))
+
+-- the variable of an entry is none of f(a)'s instances, but it may be unified with a
+abbrev pub ConstantVariable : Type 0
+ConstantVariable =
+    IsOpen Unifiable (f (a ∷ [])) (f (x 0 ∷ []))
+    × (IsOpen Instances (f (a ∷ [])) (f (x 0 ∷ [])) → ⊥)
+
+-- f(X) is a generalization of f(a), and no variant
+abbrev pub OnlyGeneralization : Type 0
+OnlyGeneralization =
+    IsOpen Generalizations (f (a ∷ [])) (f (x 0 ∷ []))
+    × (IsOpen Variants (f (a ∷ [])) (f (x 0 ∷ [])) → ⊥)
+
+-- where an indicator stands, a variant may follow
+abbrev pub OpenForVariants : Type 0
+OpenForVariants = IsOpen Variants (f (a ∷ [])) (f (indicator 1 ∷ []))
+
+-- two variables of an entry are no variants of one of the query
+abbrev pub NoTwoForOne : Type 0
+NoTwoForOne = IsOpen Variants (f (y ∷ y ∷ [])) (f (x 0 ∷ x 1 ∷ [])) → ⊥
+
+-- g(*1) is closed for f(Y), whatever the relation is
+abbrev pub ClosedByHead : Type 0
+ClosedByHead = IsOpen Unifiable (f (y ∷ [])) (g (indicator 1)) → ⊥

@@ -1,0 +1,12 @@
+// Open and closed nodes.
+ghost use Rattle.si_tree_examples.specs.SomeOpenNodes.{OpenForInstances, ConstantVariable, OnlyGeneralization, OpenForVariants, NoTwoForOne, ClosedByHead};
+
+/// Which terms of paths are open for a query.
+pub fn open_paths()
+    ensures open_for_instances { OpenForInstances }
+    ensures constant_variable { ConstantVariable }
+    ensures only_generalization { OnlyGeneralization }
+    ensures open_for_variants { OpenForVariants }
+    ensures no_two_for_one { NoTwoForOne }
+    ensures closed_by_head { ClosedByHead }
+{}

@@ -14,7 +14,8 @@ use Rattle.si_legal.specs.Generalizations.{same_head}
 use Rattle.si_legal.specs.Trees.{Content, inner, leaf, Node, Tree, HasNode, Path, IsPath, path_term, opened}
 
 -- ---- indicators
--- An indicator is open below a path that opens it and doesn't bind it: it stands in the path's term.
+-- An indicator is open below a path that opens it and doesn't bind it. So it stands in the path's
+-- term.
 abbrev pub IsOpenBelow : Path → ℕ → Type 0
 IsOpenBelow path n = IsAmong (indicators (path_term path)) n
 

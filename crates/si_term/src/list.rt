@@ -80,9 +80,30 @@ impl<T: Drop> Items<T> {
     pub fn one(alloc: Global, item: T) -> Result<Items<T>, AllocError>
         ensures { IfOk result (λ items. items ≡ item ∷ []) }
     {
-        let mut items = Items::with_capacity(alloc, 1)?;
-        items.push(item)?;
-        Ok(items)
+        let mut items = Vec::with_capacity(alloc, 1)?;
+        items.push_reserved(item);
+        Ok(Items { items })
+    }
+
+    /// Two items, without room for more.
+    pub fn pair(alloc: Global, left: T, right: T) -> Result<Items<T>, AllocError>
+        ensures { IfOk result (λ items. items ≡ left ∷ right ∷ []) }
+    {
+        let mut items = Vec::with_capacity(alloc, 2)?;
+        items.push_reserved(left);
+        items.push_reserved(right);
+        Ok(Items { items })
+    }
+
+    /// Three items, without room for more.
+    pub fn three(alloc: Global, first: T, second: T, third: T) -> Result<Items<T>, AllocError>
+        ensures { IfOk result (λ items. items ≡ first ∷ second ∷ third ∷ []) }
+    {
+        let mut items = Vec::with_capacity(alloc, 3)?;
+        items.push_reserved(first);
+        items.push_reserved(second);
+        items.push_reserved(third);
+        Ok(Items { items })
     }
 
     /// Gives back the room that no item stands in, as far as there is memory for that.

@@ -91,19 +91,30 @@ impl Terms {
     pub fn one(alloc: Global, term: Term) -> Result<Terms, AllocError>
         ensures { IfOk result (λ ts. ts ≡ term_of term ∷ []) }
     {
-        let mut terms = Terms::with_capacity(alloc, 1)?;
-        terms.push(term)?;
-        Ok(terms)
+        let mut items = Vec::with_capacity(alloc, 1)?;
+        items.push_reserved(term);
+        Ok(Terms { items })
     }
 
     /// Two terms, without room for more.
     pub fn pair(alloc: Global, left: Term, right: Term) -> Result<Terms, AllocError>
         ensures { IfOk result (λ ts. ts ≡ term_of left ∷ term_of right ∷ []) }
     {
-        let mut terms = Terms::with_capacity(alloc, 2)?;
-        terms.push(left)?;
-        terms.push(right)?;
-        Ok(terms)
+        let mut items = Vec::with_capacity(alloc, 2)?;
+        items.push_reserved(left);
+        items.push_reserved(right);
+        Ok(Terms { items })
+    }
+
+    /// Three terms, without room for more.
+    pub fn three(alloc: Global, first: Term, second: Term, third: Term) -> Result<Terms, AllocError>
+        ensures { IfOk result (λ ts. ts ≡ term_of first ∷ term_of second ∷ term_of third ∷ []) }
+    {
+        let mut items = Vec::with_capacity(alloc, 3)?;
+        items.push_reserved(first);
+        items.push_reserved(second);
+        items.push_reserved(third);
+        Ok(Terms { items })
     }
 
     /// Gives back the room that no term stands in, as far as there is memory for that.

@@ -1,5 +1,5 @@
 // Formulas: disjunctions of literals, in any number of round brackets.
-ghost use Rattle.std.specs.Prelude.{◌≡◌, ◌≤◌, ◌++◌, IfOk, length, replicate};
+ghost use Rattle.std.specs.Prelude.{◌≡◌, ◌≤◌, [], ◌∷◌, ◌++◌, IfOk, length, replicate};
 ghost use Rattle.si_defs.specs.Clauses.{AreSoundLiterals};
 ghost use Rattle.si_defs.specs.Grammar.{IsFormula, left_bracket};
 ghost use Rattle.si_lex.specs.Lexemes.{tokens_of};
@@ -11,7 +11,7 @@ ghost use Rattle.si_defs.specs.declared.TheConstants.{MOST_BYTES};
 use crate::grammar::literals::front_literal;
 use crate::grammar::{Found, mark_at};
 use si_lex::Lexeme;
-use si_term::Literals;
+use si_term::{Literal, Literals};
 use std::alloc::{AllocError, Global};
 
 /// The formula at the front: literals with bars between them, in any number of round brackets.
@@ -36,7 +36,8 @@ pub fn formula<'t, 'b>(
     }
 }
 
-/// Literals with bars between them.
+/// Literals with bars between them. Up to three are kept without a list that grows, so that they
+/// take one block, and no room that no literal stands in.
 fn disjunction<'t, 'b>(
     alloc: Global,
     tokens: &'t [Lexeme<'b>],
@@ -53,9 +54,16 @@ fn disjunction<'t, 'b>(
     let Some((second, behind)) = front_literal(alloc, rest)? else {
         return Ok(None);
     };
-    let mut literals = Literals::new(alloc);
-    literals.push(first)?;
-    literals.push(second)?;
+    let Some(rest) = mark_at(behind, b'|') else {
+        return Ok(Some((Literals::pair(alloc, first, second)?, behind)));
+    };
+    let Some((third, behind)) = front_literal(alloc, rest)? else {
+        return Ok(None);
+    };
+    let Some(_) = mark_at(behind, b'|') else {
+        return Ok(Some((Literals::three(alloc, first, second, third)?, behind)));
+    };
+    let mut literals = growing(alloc, first, second, third)?;
     let mut left = behind;
     while let Some(rest) = mark_at(left, b'|') {
         let Some((next, behind)) = front_literal(alloc, rest)? else {
@@ -66,6 +74,22 @@ fn disjunction<'t, 'b>(
     }
     literals.shrink();
     Ok(Some((literals, left)))
+}
+
+/// Three literals, with room for more.
+fn growing(
+    alloc: Global,
+    first: Literal,
+    second: Literal,
+    third: Literal,
+) -> Result<Literals, AllocError>
+    ensures { IfOk result (λ ls. ls ≡ first ∷ second ∷ third ∷ []) }
+{
+    let mut literals = Literals::new(alloc);
+    literals.push(first)?;
+    literals.push(second)?;
+    literals.push(third)?;
+    Ok(literals)
 }
 
 /// The number of opening round brackets at the front, and the tokens behind them.

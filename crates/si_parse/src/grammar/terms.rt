@@ -96,8 +96,8 @@ fn application<'t, 'b>(
     }
 }
 
-/// Terms with commas between them. One or two, as most functions have, are kept without a look at
-/// more, so that a list takes one block, and no room that no term stands in.
+/// Terms with commas between them. Up to three, as most functions have, are kept without a list
+/// that grows, so that they take one block, and no room that no term stands in.
 #[cycle(reading)]
 fn arguments<'t, 'b>(
     alloc: Global,
@@ -121,7 +121,10 @@ fn arguments<'t, 'b>(
     let Some((third, behind)) = front_term(alloc, rest)? else {
         return Ok(None);
     };
-    let mut args = three(alloc, first, second, third)?;
+    let Some(_) = mark_at(behind, b',') else {
+        return Ok(Some((Terms::three(alloc, first, second, third)?, behind)));
+    };
+    let mut args = growing(alloc, first, second, third)?;
     let mut left = behind;
     while let Some(rest) = mark_at(left, b',') {
         let Some((next, behind)) = front_term(alloc, rest)? else {
@@ -135,7 +138,7 @@ fn arguments<'t, 'b>(
 }
 
 /// Three terms, with room for more.
-fn three(alloc: Global, first: Term, second: Term, third: Term) -> Result<Terms, AllocError>
+fn growing(alloc: Global, first: Term, second: Term, third: Term) -> Result<Terms, AllocError>
     ensures { IfOk result (λ ts. ts ≡ term_of first ∷ term_of second ∷ term_of third ∷ []) }
 {
     let mut args = Terms::new(alloc);

@@ -96,6 +96,15 @@ arguments-returns-in_default-3 t c =
     (along_more IsTerm term_last term_goes_on term_stops (along_first IsTerm term_last term_goes_on term_stops p) (mark_front c.in-Some-mark_at.ensures) q) (mark_front c.in-Some-mark_at-2.ensures)
     (reads_none term_of c.in-Some-mark_at-2.rest.now c.in_ok-third.ensures c.in_default-3.is)
 
+pub arguments-returns-in_default-mark_at-3 : goal.arguments-returns-in_default-mark_at-3
+arguments-returns-in_default-mark_at-3 t c =
+    let p = reads_some term_of c.args.tokens.now c.in_ok-first.ensures c.in-Some.is in
+    let q = reads_some term_of c.in-Some-mark_at.rest.now c.in_ok-second.ensures c.in-Some-2.is in
+    let r = reads_some term_of c.in-Some-mark_at-2.rest.now c.in_ok-third.ensures c.in-Some-3.is in
+    let two = along_more IsTerm term_last term_goes_on term_stops (along_first IsTerm term_last term_goes_on term_stops p) (mark_front c.in-Some-mark_at.ensures) q in
+    parses_at refl (ap (λ ts. Some (ts, tokens_of c.in-Some-3.behind.now)) c.in_ok-three.ensures)
+    (row_some IsTerm term_last term_goes_on term_stops (along_more IsTerm term_last term_goes_on term_stops two (mark_front c.in-Some-mark_at-2.ensures) r) (mark_none c.in_default-mark_at-3.ensures))
+
 pub arguments-loop-rest-init : goal.arguments-loop-rest-init
 arguments-loop-rest-init t c =
     let p = reads_some term_of c.args.tokens.now c.in_ok-first.ensures c.in-Some.is in
@@ -116,29 +125,29 @@ arguments-loop-rest-init t c =
 
 pub arguments-returns-in_default-4 : goal.arguments-returns-in_default-4
 arguments-returns-in_default-4 t c =
-    row_stop IsTerm term_last term_goes_on term_stops c.loop-rest.invariant.along (mark_front c.in-Some-mark_at-3.ensures)
-    (reads_none term_of c.in-Some-mark_at-3.rest.now c.in_ok-next.ensures c.in_default-4.is)
+    row_stop IsTerm term_last term_goes_on term_stops c.loop-rest.invariant.along (mark_front c.in-Some-mark_at-4.ensures)
+    (reads_none term_of c.in-Some-mark_at-4.rest.now c.in_ok-next.ensures c.in_default-4.is)
 
 pub arguments-loop-rest-smaller : goal.arguments-loop-rest-smaller
 arguments-loop-rest-smaller t c =
-    let one : length c.in-Some-mark_at-3.rest.now < length c.loop-rest.left.now = mark_shorter c.loop-rest.left.now c.in-Some-mark_at-3.rest.now c.in-Some-mark_at-3.ensures in
+    let one : length c.in-Some-mark_at-4.rest.now < length c.loop-rest.left.now = mark_shorter c.loop-rest.left.now c.in-Some-mark_at-4.rest.now c.in-Some-mark_at-4.ensures in
     let shorter : length c.in-Some-4.behind.now < length c.loop-rest.left.now =
-    omega (arith, one, left_shorter c.in-Some-mark_at-3.rest.now c.in-Some-4.behind.now (reads_some term_of c.in-Some-mark_at-3.rest.now c.in_ok-next.ensures c.in-Some-4.is)) in
+    omega (arith, one, left_shorter c.in-Some-mark_at-4.rest.now c.in-Some-4.behind.now (reads_some term_of c.in-Some-mark_at-4.rest.now c.in_ok-next.ensures c.in-Some-4.is)) in
     shorter
 
 pub arguments-loop-rest-preserved : goal.arguments-loop-rest-preserved
 arguments-loop-rest-preserved t c =
-    let p = reads_some term_of c.in-Some-mark_at-3.rest.now c.in_ok-next.ensures c.in-Some-4.is in
-    let one : length c.in-Some-mark_at-3.rest.now < length c.loop-rest.left.now = mark_shorter c.loop-rest.left.now c.in-Some-mark_at-3.rest.now c.in-Some-mark_at-3.ensures in
+    let p = reads_some term_of c.in-Some-mark_at-4.rest.now c.in_ok-next.ensures c.in-Some-4.is in
+    let one : length c.in-Some-mark_at-4.rest.now < length c.loop-rest.left.now = mark_shorter c.loop-rest.left.now c.in-Some-mark_at-4.rest.now c.in-Some-mark_at-4.ensures in
     record {
-      along = along_at c.in_ok-push.ensures.ok (along_more IsTerm term_last term_goes_on term_stops c.loop-rest.invariant.along (mark_front c.in-Some-mark_at-3.ensures) p);
-      shorter = omega (arith, one, left_shorter c.in-Some-mark_at-3.rest.now c.in-Some-4.behind.now p, c.loop-rest.invariant.shorter);
+      along = along_at c.in_ok-push.ensures.ok (along_more IsTerm term_last term_goes_on term_stops c.loop-rest.invariant.along (mark_front c.in-Some-mark_at-4.ensures) p);
+      shorter = omega (arith, one, left_shorter c.in-Some-mark_at-4.rest.now c.in-Some-4.behind.now p, c.loop-rest.invariant.shorter);
     }
 
 pub arguments-returns : goal.arguments-returns
 arguments-returns t c =
     parses_at refl (ap (λ ts. Some (ts, tokens_of c.loop-rest.left.now)) c.shrink.ensures)
-    (row_some IsTerm term_last term_goes_on term_stops c.loop-rest.invariant.along (mark_none c.in_default-mark_at-3.ensures))
+    (row_some IsTerm term_last term_goes_on term_stops c.loop-rest.invariant.along (mark_none c.in_default-mark_at-4.ensures))
 
 -- ---- terms
 pub front_term-returns-in_ok-text-in-Upper : goal.front_term-returns-in_ok-text-in-Upper

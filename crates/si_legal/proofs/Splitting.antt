@@ -13,7 +13,7 @@ use Rattle.si_flat.proofs.RowLaws.{distinct_append, distinct_parts}
 use Rattle.si_flat.proofs.VariableLaws.{variable_is, variable_self}
 use Rattle.si_flat.specs.Rows.{left_sides}
 use Rattle.si_legal.specs.Bindings.{Binding, indicator, IsIndicator, indicators_among, indicators}
-use Rattle.si_legal.specs.Generalizations.{same_head, IsCommonTerm, numbers_from, fresh_among}
+use Rattle.si_legal.specs.Generalizations.{same_head, IsCommonTerm, consecutive, fresh_among}
 use Rattle.si_legal.proofs.CommonLaws.{common_kept, common_variable, common_fresh, common_app, AreCommonTerms}
 use Rattle.si_legal.proofs.PartLaws.{IsSide, AreSides, side_bound, side_kept, side_variable, side_app, sides_none, sides_more}
 
@@ -81,16 +81,16 @@ pub indicators-more : (t : Term) (ts : Terms) → indicators_all (terms.more t t
 indicators-more t ts = indicators-append (terms.variables t) (terms.variables_of_all ts)
 
 -- ---- lists of numbers
-pub numbers-append : (first m n : ℕ) → numbers_from first (m + n) ≡ numbers_from first m ++ numbers_from (first + m) n
+pub numbers-append : (first m n : ℕ) → consecutive first (m + n) ≡ consecutive first m ++ consecutive (first + m) n
 numbers-append first zero n =
     let count : 0 + n ≡ n = omega arith in
     let start : first ≡ first + 0 = omega arith in
-    λ i. numbers_from (start i) (count i)
+    λ i. consecutive (start i) (count i)
 numbers-append first (suc m) n =
     let count : suc m + n ≡ suc (m + n) = omega arith in
     let start : suc first + m ≡ first + suc m = omega arith in
-    ap (λ k. numbers_from first k) count
-    ∙ ap (λ l. first ∷ l) (numbers-append (suc first) m n ∙ ap (λ k. numbers_from (suc first) m ++ numbers_from k n) start)
+    ap (λ k. consecutive first k) count
+    ∙ ap (λ l. first ∷ l) (numbers-append (suc first) m n ∙ ap (λ k. consecutive (suc first) m ++ consecutive k n) start)
 
 -- ---- what holds of a piece
 -- each indicator of the common part is an old one of the node, or a fresh one
@@ -101,7 +101,7 @@ pub record AreNumbered (base next after : ℕ) (olds inds lefts_node lefts_new :
   pub grows : next ≤ after
   pub new_lefts : lefts_new ≡ inds
   pub node_lefts : lefts_node ≡ fresh_among base inds
-  pub numbers : (k : ℕ) × (after ≡ next + k) × (lefts_node ≡ numbers_from next k)
+  pub numbers : (k : ℕ) × (after ≡ next + k) × (lefts_node ≡ consecutive next k)
   pub from_node : (n : ℕ) → IsAmong inds n → IsFromNode base olds next after n
   pub distinct : AreDistinct inds
 
@@ -206,7 +206,7 @@ numbered_then base next mid after olds olds' inds inds' node node' new new' high
     p.numbers.0 + q.numbers.0,
     omega (arith, p.numbers.1, q.numbers.1),
     (λ i. p.numbers.2 i ++ q.numbers.2 i)
-        ∙ ap (λ k. numbers_from next p.numbers.0 ++ numbers_from k q.numbers.0) p.numbers.1
+        ∙ ap (λ k. consecutive next p.numbers.0 ++ consecutive k q.numbers.0) p.numbers.1
         ∙ sym (numbers-append next p.numbers.0 q.numbers.0),
   );
   from_node = λ n a. elim (among_parts inds inds' n a) [ inl b ↦ first n (p.from_node n b) | inr b ↦ second n (q.from_node n b) ];

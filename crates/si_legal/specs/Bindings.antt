@@ -1,11 +1,11 @@
 -- Bindings of indicator variables (Graf 1996): what stands in the place of each. An indicator is a
 -- variable that is known by its number alone.
-use Rattle.std.specs.Prelude.{◌≡◌, ℕ, not, ◌==◌, ◌↔◌, List, [], ◌∷◌, ◌++◌, map, filter}
+use Rattle.std.specs.Prelude.{◌≡◌, ℕ, ◌+◌, not, ◌==◌, ◌↔◌, List, [], ◌∷◌, ◌++◌, map, filter}
 use Rattle.std.specs.List.{AllByRecursion, list_any}
 use Rattle.si_defs.specs.Terms as terms
-use Rattle.si_defs.specs.Substitutions.{Substitution, apply, IsAmong}
+use Rattle.si_defs.specs.Substitutions.{Substitution, apply, IsAmong, AreDistinct}
 use Rattle.si_flat.specs.Cells.{Symbol, Variable, query, entry, ind, same_variable, Term, StandsFor}
-use Rattle.si_flat.specs.Rows.{CellPair}
+use Rattle.si_flat.specs.Rows.{CellPair, left_sides}
 
 -- an indicator's number, its left side, and its right side
 abbrev pub Binding : Type 0
@@ -27,6 +27,11 @@ abbrev pub right_indicators : List Binding → List ℕ
 right_indicators [] = []
 right_indicators (b ∷ bs) = indicators b.1 ++ right_indicators bs
 
+-- the occurrences of symbols and variables on all right sides
+abbrev pub right_sizes : List Binding → ℕ
+right_sizes [] = 0
+right_sizes (b ∷ bs) = terms.size b.1 + right_sizes bs
+
 abbrev pub indicator : ℕ → Term
 indicator n = terms.var (ind n)
 
@@ -37,6 +42,14 @@ IsIndicator t = ⊥
 -- no right side is an indicator alone
 abbrev pub HasNoBareIndicator : List Binding → Type 0
 HasNoBareIndicator bs = AllByRecursion (λ b. IsIndicator b.1 → ⊥) bs
+
+abbrev pub OpensNone : List Binding → Type 0
+OpensNone bs = right_indicators bs ≡ []
+
+-- the left sides are exactly the numbers of which P holds, each once
+abbrev pub BindsExactly : (ℕ → Type 0) → List Binding → Type 0
+BindsExactly P bs =
+    AreDistinct (left_sides bs) × ((n : ℕ) → IsAmong (left_sides bs) n ↔ P n)
 
 -- ---- bindings applied
 abbrev pub substitution_of : List Binding → Substitution Symbol Variable
@@ -53,7 +66,7 @@ composed first second =
     map (λ b. (b.0, applied second b.1)) first
     ++ filter (λ b. not (list_any (λ n. n == b.0) (right_indicators first))) second
 
--- one list has the pairs of the other, in any order
+-- where left sides are distinct, one list is the other in another order
 abbrev pub HaveSamePairs : List Binding → List Binding → Type 0
 HaveSamePairs bs cs = (b : Binding) → IsAmong bs b ↔ IsAmong cs b
 

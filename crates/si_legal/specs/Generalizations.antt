@@ -1,13 +1,13 @@
 -- What two lists of bindings with the same left sides have in common: the most specific linear
 -- generalization (after Plotkin 1970; linear, the order and the numbers are this project's
 -- profile).
-use Rattle.std.specs.Prelude.{◌≡◌, ℕ, zero, suc, ◌+◌, ◌<◌, ◌≤◌, ◌↔◌, ◌⊎◌, nat_le, Bool, true, false, not, ◌&&◌, ◌==◌, List, [], ◌∷◌, ◌++◌, map, filter, Option, None, Some}
+use Rattle.std.specs.Prelude.{◌≡◌, ℕ, zero, suc, ◌+◌, ◌^◌, ◌<◌, ◌≤◌, ◌↔◌, ◌⊎◌, nat_le, Bool, true, false, not, ◌&&◌, ◌==◌, List, [], ◌∷◌, ◌++◌, map, filter, Option, None, Some}
 use Rattle.std.specs.List.{AllByRecursion}
 use Rattle.si_defs.specs.Terms as terms
 use Rattle.si_defs.specs.Substitutions.{IsAmong, AreDistinct}
 use Rattle.si_flat.specs.Cells.{ind, same_variable, Term, Terms}
 use Rattle.si_flat.specs.Rows.{left_sides}
-use Rattle.si_legal.specs.Bindings.{Binding, indicator, right_indicators, HasNoBareIndicator, composed, HaveSamePairs}
+use Rattle.si_legal.specs.Bindings.{Binding, indicator, right_indicators, right_sizes, HasNoBareIndicator, OpensNone, composed, HaveSamePairs}
 
 -- ---- heads and positions
 -- The head of a term is its symbol, by number and arity, or the variable that it is.
@@ -89,10 +89,10 @@ AreCommon next (s ∷ ss) [] = ⊥
 AreCommon next (s ∷ ss) (c ∷ cs) =
     (c.0 ≡ s.left) × IsCommonTerm next s.node s.new c.1 × AreCommon next ss cs
 
--- so many numbers from this one on
-abbrev pub numbers_from : ℕ → ℕ → List ℕ
-numbers_from first zero = []
-numbers_from first (suc count) = first ∷ numbers_from (suc first) count
+-- so many numbers, one after the other, from this one on
+abbrev pub consecutive : ℕ → ℕ → List ℕ
+consecutive first zero = []
+consecutive first (suc count) = first ∷ consecutive (suc first) count
 
 abbrev pub fresh_among : ℕ → List ℕ → List ℕ
 fresh_among next ns = filter (λ n. nat_le next n) ns
@@ -102,7 +102,7 @@ fresh_among next ns = filter (λ n. nat_le next n) ns
 pub record IsCommonPart (next : ℕ) (node new common : List Binding) : Type 0 where
   pub terms : AreCommon next (agreeing (sides node new)) common
   pub fresh : (count : ℕ)
-      × (fresh_among next (right_indicators common) ≡ numbers_from next count)
+      × (fresh_among next (right_indicators common) ≡ consecutive next count)
   pub once : AreDistinct (right_indicators common)
 
 -- ---- what is left of each list
@@ -118,21 +118,17 @@ pub record IsRest (side : Sides → Term) (ss : List Sides) (common : List Bindi
       → (path : List ℕ) (n : ℕ) (a : Term) → IsAmong cut n
       → StandsAt path c (indicator n) → StandsAt path (side s) a → IsAmong parts (n, a)
 
--- the occurrences of symbols and variables on all right sides
-abbrev pub right_sizes : List Binding → ℕ
-right_sizes [] = 0
-right_sizes (b ∷ bs) = terms.size b.1 + right_sizes bs
-
 -- A list of a node may be split against a new one, with fresh indicators from this number on.
 pub record MaySplit (next : ℕ) (node new : List Binding) : Type 0 where
   pub same_lefts : left_sides node ≡ left_sides new
   pub distinct : AreDistinct (left_sides node)
   pub low : AllByRecursion (λ n. n < next) (left_sides node)
-  pub ground : right_indicators new ≡ []
+  pub ground : OpensNone new
   pub opens_once : AreDistinct (right_indicators node)
   pub opens_low : AllByRecursion (λ n. n < next) (right_indicators node)
   pub opens_others : AllByRecursion (λ n. IsAmong (left_sides node) n → ⊥) (right_indicators node)
   pub no_bare : HasNoBareIndicator node
+  pub room : next + right_sizes node < 2 ^ 31
 
 -- A list of a node is split against a new one. What the node has at its own indicators stays in the
 -- common part, and what it has at the fresh ones is left to its rest; the new list leaves to its

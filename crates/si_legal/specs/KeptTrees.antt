@@ -1,14 +1,16 @@
 -- What two trees hold of some clauses that are kept: the one their literals, and the other their
 -- subterms (this project's profile).
-use Rattle.std.specs.Prelude.{◌≡◌, ℕ, ◌↔◌, Bool, true, false, List, Some, slice_get}
-use Rattle.si_defs.specs.Symbols.{Numbering}
-use Rattle.si_defs.specs.Substitutions.{IsAmong}
+use Rattle.std.specs.Prelude.{◌≡◌, ℕ, ◌↔◌, Bool, true, false, List, map, Some, slice_get}
+use Rattle.std.specs.List.{AllByRecursion}
+use Rattle.si_defs.specs.Symbols.{Numbering, IsNumbering}
+use Rattle.si_defs.specs.Substitutions.{IsAmong, AreDistinct}
 use Rattle.si_defs.specs.Clauses.{Clause}
-use Rattle.si_defs.specs.Entries.{Entry, literal_entry, term_entry, Placed, entries}
+use Rattle.si_defs.specs.Entries.{Entry, literal_entry, term_entry, Placed, entries, state_symbols}
 use Rattle.si_flat.specs.Cells.{entry, Term}
-use Rattle.si_flat.specs.Flattened.{numbered_entry}
+use Rattle.si_flat.specs.Flattened.{numbered_entry, has_number}
 use Rattle.si_legal.specs.declared.Posting.{Posting}
 use Rattle.si_legal.specs.Trees.{Tree}
+use Rattle.si_legal.specs.Legal.{IsLegal}
 use Rattle.si_legal.specs.StoredSets.{IsUnder}
 
 abbrev pub is_literal : Entry → Bool
@@ -32,8 +34,19 @@ HoldsEntries numbers kept literals tree =
     ↔ ((e : Entry) × IsPostingOf kept p e × (is_literal e ≡ literals)
     × (t ≡ numbered_entry numbers entry e))
 
--- the two trees hold the postings of exactly the kept entries
+-- each symbol of the clauses has a number
+abbrev pub NumbersAll : Numbering → List Clause → Type 0
+NumbersAll numbers clauses =
+    AllByRecursion (λ s. has_number numbers s ≡ true) (state_symbols clauses)
+
+-- Two legal trees hold the postings of exactly the kept entries, by these numbers of their symbols
+-- and these keys of their clauses.
 pub record HoldKept (numbers : Numbering) (kept : List (ℕ × Clause))
     (literals subterms : Tree Term) : Type 0 where
+  pub keys : AreDistinct (map (λ k. k.0) kept)
+  pub numbering : IsNumbering numbers
+  pub numbered : NumbersAll numbers (map (λ k. k.1) kept)
+  pub literals_legal : IsLegal literals
+  pub subterms_legal : IsLegal subterms
   pub literals_held : HoldsEntries numbers kept true literals
   pub subterms_held : HoldsEntries numbers kept false subterms

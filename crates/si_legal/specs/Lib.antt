@@ -1,7 +1,10 @@
 pub mod Bindings
 pub mod Generalizations
 pub mod Trees
+pub mod Counts
 pub mod Legal
 pub mod StoredSets
 pub mod OpenNodes
+pub mod Descents
+pub mod Renumbering
 pub mod KeptTrees

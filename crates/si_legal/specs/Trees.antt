@@ -1,5 +1,6 @@
 -- Substitution trees (Graf 1996) as plain data, and the paths in them. Each node has a key.
 use Rattle.std.specs.Prelude.{◌≡◌, ℕ, ◌⊎◌, List, [], ◌∷◌, ◌++◌, Option, None, Some, slice_index_or}
+use Rattle.si_defs.specs.Substitutions.{IsAmong}
 use Rattle.si_flat.specs.declared.Cell.{Cell}
 use Rattle.si_flat.specs.Cells.{Term}
 use Rattle.si_legal.specs.declared.Posting.{Posting}
@@ -55,6 +56,20 @@ path_term (step ∷ above) = applied step.1.bindings (path_term above)
 abbrev pub opened : Path → List ℕ
 opened [] = 0 ∷ []
 opened (step ∷ above) = opened above ++ right_indicators step.1.bindings
+
+-- ---- leaves
+-- the node with this key is a leaf with this term and these postings
+pub record IsLeaf (tree : Tree Term) (key : ℕ) (t : Term) (postings : List Posting) : Type 0 where
+  pub node : Node Term
+  pub above : Path
+  pub reached : IsPath tree (Some key) ((key, node) ∷ above)
+  pub content : node.content ≡ leaf postings
+  pub term : t ≡ path_term ((key, node) ∷ above)
+
+-- the leaf with this key has this term and, among others, this posting
+abbrev pub StandsIn : Tree Term → ℕ → Term → Posting → Type 0
+StandsIn tree key t p =
+    (postings : List Posting) × IsLeaf tree key t postings × IsAmong postings p
 
 -- ---- trees in cells
 -- the same nodes, whose right sides are the cells of those terms

@@ -8,8 +8,8 @@ use Rattle.si_flat.specs.Cells.{Term}
 use Rattle.si_legal.specs.declared.Posting.{Posting}
 use Rattle.si_legal.specs.Bindings.{indicator}
 use Rattle.si_legal.specs.Generalizations.{same_head}
-use Rattle.si_legal.specs.Trees.{Content, inner, leaf, Node, HasNode, Path, IsPath, path_term}
-use Rattle.si_legal.specs.Legal.{IsLegal, IsLegalNode, IsLeaf, AreChildren, ChildBinds}
+use Rattle.si_legal.specs.Trees.{Content, inner, leaf, Node, HasNode, Path, IsPath, path_term, IsLeaf, StandsIn}
+use Rattle.si_legal.specs.Legal.{IsLegal, IsLegalNode, AreChildren, ChildBinds}
 use Rattle.si_legal.proofs.PathLaws.{one_path}
 use Rattle.si_tree_examples.specs.SomeTerms.{f, g, a, b, c}
 use Rattle.si_tree_examples.specs.SomeTrees.{posting, root, fork, leaf_of, five_nodes, FiveNodes, StoredPostings}
@@ -78,6 +78,9 @@ children_of_middle child = (by, (λ h. each_node (λ k n. n.parent ≡ Some 2 �
   by (inr (inl e)) = subst (Child 2) e (leaf_b, refl, refl)
   by (inr (inr h)) = absurd h
 
+no_child_of_leaf : (key : ℕ) → (0 ≡ key → ⊥) → (2 ≡ key → ⊥) → AreChildren five_nodes key []
+no_child_of_leaf key root_differs middle_differs child = (absurd, (λ h. each_node (λ k n. n.parent ≡ Some key → ⊥) five_nodes.nodes (not_none key, (other 2 key middle_differs, (other 0 key root_differs, (other 2 key middle_differs, (other 0 key root_differs, tt))))) child h.0 h.1 h.2))
+
 c_differs : (u : Term) → ChildBinds five_nodes 4 0 u → same_head (f (indicator 1 ∷ [])) u ≡ false
 c_differs u binds = subst (λ t. same_head (f (indicator 1 ∷ [])) t ≡ false) (one_binding five_nodes 4 0 0 c u leaf_c refl refl binds).1 refl
 
@@ -118,7 +121,7 @@ legal_a = record {
   only_root = λ e. absurd (not_none 2 (sym e));
   binds = record { lefts = (inl refl, tt); distinct = ((λ h. h), tt); rights = ((λ h. h), tt); within = (tt, tt) };
   opens = ((λ h. not_among 1 0 one_zero h), ((λ h. h), tt));
-  content = (record { numbered = (0, refl); size = omega arith }, ((λ h. h), tt));
+  content = (no_child_of_leaf 1 (λ e. omega (arith, e)) (λ e. omega (arith, e)), record { sound = (refl, ((refl, tt), tt)); numbered = (0, refl); size = omega arith }, ((λ h. h), tt));
 }
 
 legal_b : IsLegalNode five_nodes 3 leaf_b
@@ -128,7 +131,7 @@ legal_b = record {
   only_root = λ e. absurd (not_none 2 (sym e));
   binds = record { lefts = (inl refl, tt); distinct = ((λ h. h), tt); rights = ((λ h. h), tt); within = (tt, tt) };
   opens = ((λ h. not_among 1 0 one_zero h), ((λ h. h), tt));
-  content = (record { numbered = (0, refl); size = omega arith }, ((λ h. h), tt));
+  content = (no_child_of_leaf 3 (λ e. omega (arith, e)) (λ e. omega (arith, e)), record { sound = (refl, ((refl, tt), tt)); numbered = (0, refl); size = omega arith }, ((λ h. h), tt));
 }
 
 legal_c : IsLegalNode five_nodes 4 leaf_c
@@ -138,7 +141,7 @@ legal_c = record {
   only_root = λ e. absurd (not_none 0 (sym e));
   binds = record { lefts = (inl refl, tt); distinct = ((λ h. h), tt); rights = ((λ h. h), tt); within = (tt, tt) };
   opens = ((λ h. h), tt);
-  content = (record { numbered = (0, refl); size = omega arith }, ((λ h. h), tt));
+  content = (no_child_of_leaf 4 (λ e. omega (arith, e)) (λ e. omega (arith, e)), record { sound = (refl, tt); numbered = (0, refl); size = omega arith }, ((λ h. h), tt));
 }
 
 -- ---- leaves
@@ -201,12 +204,15 @@ tells =
 leaf_known : (key : ℕ) (t : Term) (postings : List Posting) (h : IsLeaf five_nodes key t postings) → Known key h.node h.above t postings
 leaf_known key t postings h = subst (λ u. Known key h.node h.above u postings) (sym h.term) (tells key h.node h.reached.1 h.above h.reached.2 postings h.content)
 
+holds : (key : ℕ) (t : Term) (p : Posting) → StandsIn five_nodes key t p → key ≡ holder_of p.clause
+holds key t p h = (leaf_known key t h.0 h.1).by_posting p h.2
+
 five_legal : IsLegal five_nodes
 five_legal = record {
   root = (base, refl, record { parent = refl; bindings = refl; splits = (2 ∷ 4 ∷ [], refl) });
   nodes = each_node (IsLegalNode five_nodes) five_nodes.nodes (legal_base, (legal_a, (legal_middle, (legal_b, (legal_c, tt)))));
   terms_differ = λ j k t ps qs p q. (leaf_known j t ps p).by_term ∙ sym (leaf_known k t qs q).by_term;
-  postings_differ = λ j k t u ps qs r p q m n. (leaf_known j t ps p).by_posting r m ∙ sym ((leaf_known k u qs q).by_posting r n);
+  postings_differ = λ j k t u p in_j in_k. holds j t p in_j ∙ sym (holds k u p in_k);
   zero_known = omega arith;
   few_variables = omega arith;
 }

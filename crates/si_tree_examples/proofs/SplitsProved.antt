@@ -21,6 +21,7 @@ fresh_indicator =
       opens_low = tt;
       opens_others = tt;
       no_bare = ((λ h. h), tt);
+      room = omega arith;
     }) ((refl, ((refl, tt), ((refl, ((refl, tt), tt)), tt))), tt) ((refl, ((refl, tt), ((refl, ((refl, tt), tt)), tt))), tt)
 
 pub kept_indicator : KeptIndicator
@@ -34,6 +35,7 @@ kept_indicator =
       opens_low = (omega arith, tt);
       opens_others = ((λ h. no_other h), tt);
       no_bare = ((λ h. h), tt);
+      room = omega arith;
     }) ((refl, (tt, ((refl, tt), tt))), tt) ((refl, ((refl, tt), ((refl, tt), tt))), tt) where
       no_other : IsAmong {V = ℕ} (0 ∷ []) 1 → ⊥
       no_other (inl e) = omega (arith, e)
@@ -50,6 +52,7 @@ whole_right_side =
       opens_low = tt;
       opens_others = tt;
       no_bare = ((λ h. h), ((λ h. h), tt));
+      room = omega arith;
     }) ((refl, tt), ((refl, tt), tt)) ((refl, tt), ((refl, tt), tt)) where
       no_other : IsAmong {V = ℕ} (2 ∷ []) 1 → ⊥
       no_other (inl e) = omega (arith, e)

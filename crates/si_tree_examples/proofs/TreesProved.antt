@@ -88,7 +88,7 @@ pub no_open_leaf : NoOpenLeaf
 no_open_leaf l =
     let one = leaf_of 0 ((0, f (indicator 1 ∷ [])) ∷ []) 0 in
     let n = l.nodes 1 one refl in
-    let numbered = subst (λ p. IsNumberedBy entry (path_term ((1, one) ∷ p))) (known_path _ 1 one n ((0, root (1 ∷ [])) ∷ []) (refl, refl, refl)) n.content.0.numbered in
+    let numbered = subst (λ p. IsNumberedBy entry (path_term ((1, one) ∷ p))) (known_path _ 1 one n ((0, root (1 ∷ [])) ∷ []) (refl, refl, refl)) n.content.1.numbered in
     by (numbered_first (ind 1) numbered.0 numbered.1) where
       by : ind 1 ≡ entry 0 → ⊥
       by e = cc
@@ -101,7 +101,7 @@ pub no_later_variable : NoLaterVariable
 no_later_variable l =
     let one = leaf_of 0 ((0, f (x 1 ∷ [])) ∷ []) 0 in
     let n = l.nodes 1 one refl in
-    let numbered = subst (λ p. IsNumberedBy entry (path_term ((1, one) ∷ p))) (known_path _ 1 one n ((0, root (1 ∷ [])) ∷ []) (refl, refl, refl)) n.content.0.numbered in
+    let numbered = subst (λ p. IsNumberedBy entry (path_term ((1, one) ∷ p))) (known_path _ 1 one n ((0, root (1 ∷ [])) ∷ []) (refl, refl, refl)) n.content.1.numbered in
     omega (arith, ap number (numbered_first (entry 1) numbered.0 numbered.1))
 
 pub no_large_indicator : NoLargeIndicator
@@ -120,9 +120,7 @@ no_posting_twice l =
     let two = leaf_of 0 ((0, b) ∷ []) 0 in
     omega (
       arith,
-      l.postings_differ 1 2 a b (posting 0 ∷ []) (posting 0 ∷ []) (posting 0)
-          (record { node = one; above = (0, base) ∷ []; reached = (refl, refl, (refl, refl, refl)); content = refl; term = refl })
-          (record { node = two; above = (0, base) ∷ []; reached = (refl, refl, (refl, refl, refl)); content = refl; term = refl })
-          (inl refl)
-          (inl refl),
+      l.postings_differ 1 2 a b (posting 0)
+          (posting 0 ∷ [], record { node = one; above = (0, base) ∷ []; reached = (refl, refl, (refl, refl, refl)); content = refl; term = refl }, inl refl)
+          (posting 0 ∷ [], record { node = two; above = (0, base) ∷ []; reached = (refl, refl, (refl, refl, refl)); content = refl; term = refl }, inl refl),
     )

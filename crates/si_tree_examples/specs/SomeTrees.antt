@@ -5,7 +5,8 @@ use Rattle.si_legal.specs.declared.Posting.{Posting}
 use Rattle.si_legal.specs.Bindings.{Binding, indicator}
 use Rattle.si_legal.specs.Trees.{inner, leaf, Node, Tree}
 use Rattle.si_legal.specs.Legal.{IsLegal}
-use Rattle.si_legal.specs.StoredSets.{AreUnder, node_count, leaf_count, unmerged_count}
+use Rattle.si_legal.specs.Counts.{node_count, leaf_count, unmerged_count}
+use Rattle.si_legal.specs.StoredSets.{AreUnder}
 use Rattle.si_tree_examples.specs.SomeTerms.{f, g, a, b, c, x}
 
 -- ---- nodes and trees

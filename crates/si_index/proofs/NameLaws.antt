@@ -7,7 +7,8 @@ use Rattle.si_defs.specs.declared.NameKind.TheVariants.{Word, Int}
 use Rattle.si_sign.specs.Keys.{HasAt}
 use Rattle.si_defs.proofs.SymbolLaws.{text_either}
 use Rattle.si_defs.proofs.NameLaws.{name_is}
-use Rattle.si_index.specs.Names.{key_of_text, of_name_kind, key_of, ChangesName}
+use Rattle.si_sign.specs.Keys.{text_key}
+use Rattle.si_index.specs.Names.{of_name_kind, key_of, ChangesName}
 use Rattle.si_index.specs.declared.names.Names.{Names}
 
 -- ---- names are one or not
@@ -26,31 +27,31 @@ name_either m n = by (same_kind_either m.kind n.kind) (text_either m.text n.text
 
 -- ---- a map changes
 module _ (old new : Names) (name : Name) (is : Option ℕ) where
-  pub words_change : name.kind ≡ Word → HasAt name.text is (key_of_text old.words) (key_of_text new.words) → new.integers ≡ old.integers
+  pub words_change : name.kind ≡ Word → HasAt name.text is (text_key old.words) (text_key new.words) → new.integers ≡ old.integers
       → ChangesName name is (key_of old) (key_of new)
   words_change kind change stays = record {
-    here = ap (of_name_kind (key_of_text new.words name.text) (key_of_text new.integers name.text)) kind ∙ change.0;
-    others = λ other apart. by other.kind (λ k. change.1 other.text (λ t. apart (name_is other name (k ∙ sym kind) t))) (ap (λ s. key_of_text s other.text) stays);
+    here = ap (of_name_kind (text_key new.words name.text) (text_key new.integers name.text)) kind ∙ change.0;
+    others = λ other apart. by other.kind (λ k. change.1 other.text (λ t. apart (name_is other name (k ∙ sym kind) t))) (ap (λ s. text_key s other.text) stays);
   } where
     by : {a b c d : Option ℕ} (k : NameKind) → (k ≡ Word → a ≡ b) → c ≡ d → of_name_kind a c k ≡ of_name_kind b d k
     by Word f e = f refl
     by Int f e = e
 
-  pub integers_change : name.kind ≡ Int → HasAt name.text is (key_of_text old.integers) (key_of_text new.integers) → new.words ≡ old.words
+  pub integers_change : name.kind ≡ Int → HasAt name.text is (text_key old.integers) (text_key new.integers) → new.words ≡ old.words
       → ChangesName name is (key_of old) (key_of new)
   integers_change kind change stays = record {
-    here = ap (of_name_kind (key_of_text new.words name.text) (key_of_text new.integers name.text)) kind ∙ change.0;
-    others = λ other apart. by other.kind (λ k. change.1 other.text (λ t. apart (name_is other name (k ∙ sym kind) t))) (ap (λ s. key_of_text s other.text) stays);
+    here = ap (of_name_kind (text_key new.words name.text) (text_key new.integers name.text)) kind ∙ change.0;
+    others = λ other apart. by other.kind (λ k. change.1 other.text (λ t. apart (name_is other name (k ∙ sym kind) t))) (ap (λ s. text_key s other.text) stays);
   } where
     by : {a b c d : Option ℕ} (k : NameKind) → (k ≡ Int → c ≡ d) → a ≡ b → of_name_kind a c k ≡ of_name_kind b d k
     by Word f e = e
     by Int f e = f refl
 
 -- the map stays as it was, kind by kind
-pub words_stay : (old new : Names) → ((text : Bytes) → key_of_text new.words text ≡ key_of_text old.words text) → new.integers ≡ old.integers
+pub words_stay : (old new : Names) → ((text : Bytes) → text_key new.words text ≡ text_key old.words text) → new.integers ≡ old.integers
     → (name : Name) → key_of new name ≡ key_of old name
-words_stay old new e f name = λ i. of_name_kind (e name.text i) (key_of_text (f i) name.text) name.kind
+words_stay old new e f name = λ i. of_name_kind (e name.text i) (text_key (f i) name.text) name.kind
 
-pub integers_stay : (old new : Names) → ((text : Bytes) → key_of_text new.integers text ≡ key_of_text old.integers text) → new.words ≡ old.words
+pub integers_stay : (old new : Names) → ((text : Bytes) → text_key new.integers text ≡ text_key old.integers text) → new.words ≡ old.words
     → (name : Name) → key_of new name ≡ key_of old name
-integers_stay old new e f name = λ i. of_name_kind (key_of_text (f i) name.text) (e name.text i) name.kind
+integers_stay old new e f name = λ i. of_name_kind (text_key (f i) name.text) (e name.text i) name.kind

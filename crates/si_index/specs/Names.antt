@@ -1,16 +1,10 @@
--- Maps from texts, and from names, to keys, as functions, and how they change.
-use Rattle.std.specs.Prelude.{◌≡◌, ℕ, Option, bytes_eq}
-use Rattle.std.specs.Map.{lookup}
-use Rattle.si_defs.specs.Bytes.{Bytes}
+-- Maps from names to keys, as functions, and how they change.
+use Rattle.std.specs.Prelude.{◌≡◌, ℕ, Option}
 use Rattle.si_defs.specs.Clauses.{Name}
 use Rattle.si_defs.specs.declared.NameKind.{NameKind}
 use Rattle.si_defs.specs.declared.NameKind.TheVariants.{Word, Int}
-use Rattle.si_index.specs.declared.names.Texts.{Texts}
+use Rattle.si_sign.specs.Keys.{text_key}
 use Rattle.si_index.specs.declared.names.Names.{Names}
-
--- the key of a text
-abbrev pub key_of_text : Texts → Bytes → Option ℕ
-key_of_text m text = lookup (λ k. bytes_eq text k.items) m.keys.entries
 
 -- the one for the kind
 abbrev pub of_name_kind : Option ℕ → Option ℕ → NameKind → Option ℕ
@@ -20,8 +14,7 @@ of_name_kind word integer Int = integer
 -- the key of a name
 abbrev pub key_of : Names → Name → Option ℕ
 key_of names name =
-    of_name_kind (key_of_text names.words name.text)
-    (key_of_text names.integers name.text) name.kind
+    of_name_kind (text_key names.words name.text) (text_key names.integers name.text) name.kind
 
 -- the name has this now, and each other one has what it had
 pub record ChangesName (name : Name) (is : Option ℕ) (old new : Name → Option ℕ) : Type 0 where

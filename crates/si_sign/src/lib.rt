@@ -9,7 +9,7 @@ mod keys;
 mod plain;
 pub mod signature;
 pub mod store;
-mod texts;
+pub mod texts;
 mod uses;
 mod walk;
 
@@ -17,3 +17,4 @@ pub use faults::{AddFault, Clash, Rejected, Shape, TakeFault};
 pub use plain::PlainStore;
 pub use signature::Signature;
 pub use store::ClauseStore;
+pub use texts::TextKeys;

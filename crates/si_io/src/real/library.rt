@@ -88,7 +88,8 @@ impl<D: Disk> Library for RealLibrary<D> {
 /// Reads a file to its end, or to one byte more than the limit. Of a reader whose bytes are known
 /// it takes all of them.
 ///
-/// It is meant to reserve no more than twice as many bytes; no clause says so.
+/// It is meant to fill room for an eighth more bytes than the file has, and a few; no clause says
+/// so.
 fn read_file<S, F: Read>(
     folder: &mut Folder<S>,
     file: &mut F,
@@ -138,8 +139,8 @@ fn read_behind<S, F: Read>(
     folder.read(file, &mut into[filled..])
 }
 
-/// Makes room behind the bytes that are filled: twice as many, but some at first, and no more than
-/// `most`.
+/// Makes room behind the bytes that are filled: an eighth as many, but some at first, and no more
+/// than `most` in all. Room is filled before it is read into, so all of it is resident.
 fn make_room(into: &mut Vec<u8>, filled: usize, most: usize) -> Result<(), AllocError>
     requires below { filled < most }
     requires within { filled ≤ vec_len into.old }
@@ -151,5 +152,6 @@ fn make_room(into: &mut Vec<u8>, filled: usize, most: usize) -> Result<(), Alloc
     if filled < into.len() {
         return Ok(());
     }
-    into.resize(filled.saturating_mul(2).max(FIRST).min(most), 0)
+    let more = (filled / 8).max(FIRST);
+    into.resize(filled.saturating_add(more).min(most), 0)
 }

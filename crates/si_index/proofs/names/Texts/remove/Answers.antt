@@ -1,6 +1,0 @@
-use Rattle.si_sign.proofs.KeyLaws.{has_at}
-use Rattle.si_index.proofs.names.Texts.remove.Goals as goal
-
-pub returns : goal.returns
-returns c =
-    has_at (λ k. k.items) c.args.text.now _ c.args.self.now.keys.entries c.swap_remove.new.self.entries c.swap_remove.ensures.updates.1 c.swap_remove.ensures.updates.3

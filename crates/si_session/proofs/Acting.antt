@@ -25,7 +25,7 @@ use Rattle.si_steps.specs.Runs.{a_line, a_word, ended}
 use Rattle.si_io.specs.Content.{Told, Receives, ReceivesPrefix}
 use Rattle.si_session.specs.Commands.{IsPerformed}
 use Rattle.si_term.specs.Meaning.{clause_of}
-use Rattle.si_term.proofs.EntryHeads.{length-symbols}
+use Rattle.si_term.proofs.EntryHeads.{length-symbols, symbol_placed}
 use Rattle.si_sign.specs.Shapes.{shape_of}
 use Rattle.si_sign.specs.Stores.{Rejects}
 use Rattle.si_sign.specs.declared.faults.Rejected.{Rejected}
@@ -80,24 +80,25 @@ at_seam before after own s n e h =
 
 -- it isn't kept
 fault_acts : (old new : Kept) (r : Rejected) (told : reply.ReplyLine) (o : Stepped) (a b : Told) (why : AddFault)
-    → Rejects old.rules old.clauses (clause_of r.clause) why → TellsFault r told why → new.clauses ≡ old.clauses → Writes o (reply_line told ∷ []) a b
+    → IsSoundClause (clause_of r.clause) → Rejects old.rules old.clauses (clause_of r.clause) why → TellsFault r told why → new.clauses ≡ old.clauses → Writes o (reply_line told ∷ []) a b
     → ActsOn (add (clause_of r.clause)) old new o a b
-fault_acts old new r told o a b add_fault.Taken h t e w setting state =
+fault_acts old new r told o a b add_fault.Taken sound h t e w setting state =
     rightly (reply_line told ∷ []) (inl (taken, h, ap (λ l. l ∷ []) t, holds_same old new state e)) w
-fault_acts old new r told o a b (add_fault.Clash c) h t e w setting state =
+fault_acts old new r told o a b (add_fault.Clash c) sound h t e w setting state =
     let clash = h.2.1 in
     let there : slice_get (clause_symbols (clause_of r.clause)) c.entry ≡ Some h.0 = at_seam clash.before clash.after _ h.0 c.entry clash.splits clash.position in
+    let placed = symbol_placed (clause_of r.clause) sound c.entry h.0 there in
     let same : misused_text h.0 c.found c.kept ≡ misused_line h.0 h.1 =
     ap (λ shape. misused_text h.0 shape c.kept) h.3.0 ∙ ap (λ shape. misused_text h.0 (shape_of h.0) shape) h.3.1 in
-    rightly (reply_line told ∷ []) (inl (misused c.entry h.0 h.1, h.2, ap (λ l. l ∷ []) (t h.0 there ∙ same), holds_same old new state e)) w
-fault_acts old new r told o a b (add_fault.Full needed most) h t e w setting state =
+    rightly (reply_line told ∷ []) (inl (misused c.entry h.0 h.1, h.2, ap (λ l. l ∷ []) (t h.0 placed ∙ same), holds_same old new state e)) w
+fault_acts old new r told o a b (add_fault.Full needed most) sound h t e w setting state =
     rightly (reply_line told ∷ []) (inl (full needed, h.0, ap (λ l. l ∷ []) (t ∙ ap (full_line needed) h.1), holds_same old new state e)) w
-fault_acts old new r told o a b add_fault.Memory h t e w setting state = at_once (holds_same old new state e) (subst (λ l. Writes o (l ∷ []) a b) t w)
+fault_acts old new r told o a b add_fault.Memory sound h t e w setting state = at_once (holds_same old new state e) (subst (λ l. Writes o (l ∷ []) a b) t w)
 
 pub refused : (old new : Kept) (r : Rejected) (told : reply.ReplyLine) (o : Stepped) (a b : Told)
-    → Rejects old.rules old.clauses (clause_of r.clause) r.why → TellsWhy r told → new.clauses ≡ old.clauses → Writes o (reply_line told ∷ []) a b
+    → IsSoundClause (clause_of r.clause) → Rejects old.rules old.clauses (clause_of r.clause) r.why → TellsWhy r told → new.clauses ≡ old.clauses → Writes o (reply_line told ∷ []) a b
     → ActsOn (add (clause_of r.clause)) old new o a b
-refused old new r told o a b h t e w = fault_acts old new r told o a b r.why h t e w
+refused old new r told o a b sound h t e w = fault_acts old new r told o a b r.why sound h t e w
 
 -- the clash is named at an entry
 pub has_head : (rules : Rules) (clauses : List Clause) (r : Rejected) → IsSoundClause (clause_of r.clause) → Rejects rules clauses (clause_of r.clause) r.why → HasHead r

@@ -2,7 +2,7 @@
 use Rattle.std.proofs.Common.{◌≡◌, ℕ, Bool, List, [], ◌∷◌, ◌++◌, refl, sym, ap, ap₂, ◌∙◌, subst, inl, inr, Option, None, Some}
 use Rattle.std.specs.Prelude.{IfSome, slice_get}
 use Rattle.si_defs.specs.Bytes.{Bytes}
-use Rattle.si_defs.specs.Clauses.{Clause}
+use Rattle.si_defs.specs.Clauses.{IsSoundClause, Clause}
 use Rattle.si_defs.specs.Entries.{clause_symbols}
 use Rattle.si_state.specs.States.{State, Rules}
 use Rattle.si_state.specs.Acceptance.{Refusal, Refuses}
@@ -10,6 +10,7 @@ use Rattle.si_state.specs.Harvest.{Files, Fault, tried}
 use Rattle.si_steps.specs.declared.limits.Limits.{Limits}
 use Rattle.si_steps.specs.Replies.{refusal_line, misused_line, full_line, fault_line, ok_line, memory_line}
 use Rattle.si_steps.specs.Loads.{nothing, owed_by_fault, load_bounds, gained_line, PerformsLoad}
+use Rattle.si_term.proofs.EntryHeads.{symbol_placed}
 use Rattle.si_term.specs.Meaning.{name_of, clause_of}
 use Rattle.si_io.specs.Content.{Told}
 use Rattle.si_io.specs.Library.{Counts}
@@ -41,18 +42,19 @@ rejects rules state clause refusal (add_fault.Full n most) reason h = (subst (Re
 rejects rules state clause refusal add_fault.Memory reason h = absurd reason
 
 -- the line that tells it
-rejection_line : (rules : Rules) (state : List Clause) (r : Rejected) (told : program.ReplyLine) (refusal : Refusal) (why : AddFault) → IsReason rules why refusal
+rejection_line : (rules : Rules) (state : List Clause) (r : Rejected) (told : program.ReplyLine) (refusal : Refusal) (why : AddFault) → IsSoundClause (clause_of r.clause) → IsReason rules why refusal
     → Refuses rules state (clause_of r.clause) refusal → TellsFault r told why → reply_line told ≡ refusal_line rules.entries (name_of r.clause.name) refusal
-rejection_line rules state r told refusal add_fault.Taken reason h t = t ∙ ap (refusal_line rules.entries (name_of r.clause.name)) (sym reason)
-rejection_line rules state r told refusal (add_fault.Clash c) reason h t =
+rejection_line rules state r told refusal add_fault.Taken sound reason h t = t ∙ ap (refusal_line rules.entries (name_of r.clause.name)) (sym reason)
+rejection_line rules state r told refusal (add_fault.Clash c) sound reason h t =
     let clash = (subst (Refuses rules state (clause_of r.clause)) reason.2 h).1 in
     let there : slice_get (clause_symbols (clause_of r.clause)) c.entry ≡ Some reason.0 = at_seam clash.before clash.after _ reason.0 c.entry clash.splits clash.position in
+    let placed = symbol_placed (clause_of r.clause) sound c.entry reason.0 there in
     let same : misused_text reason.0 c.found c.kept ≡ misused_line reason.0 reason.1 =
     ap (λ shape. misused_text reason.0 shape c.kept) reason.3.0 ∙ ap (λ shape. misused_text reason.0 (shape_of reason.0) shape) reason.3.1 in
-    t reason.0 there ∙ same ∙ ap (refusal_line rules.entries (name_of r.clause.name)) (sym reason.2)
-rejection_line rules state r told refusal (add_fault.Full n most) reason h t =
+    t reason.0 placed ∙ same ∙ ap (refusal_line rules.entries (name_of r.clause.name)) (sym reason.2)
+rejection_line rules state r told refusal (add_fault.Full n most) sound reason h t =
     t ∙ ap (full_line n) reason.1 ∙ ap (refusal_line rules.entries (name_of r.clause.name)) (sym reason.0)
-rejection_line rules state r told refusal add_fault.Memory reason h t = absurd reason
+rejection_line rules state r told refusal add_fault.Memory sound reason h t = absurd reason
 
 -- ---- any fault of a load
 tellable_where : (rules : Rules) (e : HarvestFault) (fault : Fault) → NamesFault rules e fault → IsTellable e
@@ -76,7 +78,7 @@ pub fault_told : (rules : Rules) (e : HarvestFault) (fault : Fault) (told : prog
 fault_told rules (harvest_fault.Syntax file line) fault told n t = t ∙ ap (fault_line rules.entries) (sym n)
 fault_told rules (harvest_fault.Language file line) fault told n t = t ∙ ap (fault_line rules.entries) (sym n)
 fault_told rules (harvest_fault.Rejected r) fault told n t =
-    rejection_line rules n.2.kept r told n.0 r.why n.2.reason n.2.refuses t ∙ ap (fault_line rules.entries) (sym n.1)
+    rejection_line rules n.2.kept r told n.0 r.why n.2.sound n.2.reason n.2.refuses t ∙ ap (fault_line rules.entries) (sym n.1)
 fault_told rules (harvest_fault.Missing file) fault told n t = t ∙ ap (fault_line rules.entries) (sym n)
 fault_told rules (harvest_fault.Big file) fault told n t = t ∙ ap (fault_line rules.entries) (sym n)
 fault_told rules (harvest_fault.Fault file) fault told n t = t ∙ ap (fault_line rules.entries) (sym n)

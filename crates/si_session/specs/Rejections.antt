@@ -1,8 +1,8 @@
 -- Why a clause isn't kept, as it is told.
-use Rattle.std.specs.Prelude.{◌≡◌, ◌<◌, Some, codes, length, slice_get}
+use Rattle.std.specs.Prelude.{◌≡◌, ◌<◌, Some, codes, length, map, slice_get}
 use Rattle.si_defs.specs.Symbols.{Symbol}
 use Rattle.si_defs.specs.Clauses.{IsSoundClause}
-use Rattle.si_defs.specs.Entries.{entries, clause_symbols}
+use Rattle.si_defs.specs.Entries.{entries, entry_head}
 use Rattle.si_steps.specs.Replies.{taken_line, full_line, file_line, spot_line, fetches_line, memory_line}
 use Rattle.si_term.specs.Meaning.{name_of, clause_of}
 use Rattle.si_sign.specs.declared.faults.Rejected.{Rejected}
@@ -27,7 +27,8 @@ abbrev pub TellsFault : Rejected → ReplyLine → AddFault → Type 0
 TellsFault rejected reply add_fault.Taken =
     reply_line reply ≡ taken_line (name_of rejected.clause.name)
 TellsFault rejected reply (add_fault.Clash c) =
-    (s : Symbol) → slice_get (clause_symbols (clause_of rejected.clause)) c.entry ≡ Some s
+    (s : Symbol) → slice_get (map (λ p. entry_head p.entry) (entries (clause_of rejected.clause)))
+    c.entry ≡ Some (Some s)
     → reply_line reply ≡ misused_text s c.found c.kept
 TellsFault rejected reply (add_fault.Full needed limit) = reply_line reply ≡ full_line needed limit
 TellsFault rejected reply add_fault.Memory = reply_line reply ≡ memory_line

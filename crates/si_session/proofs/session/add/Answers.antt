@@ -24,5 +24,6 @@ returns-in-Err-clause-acts g c =
     let b = g.K.Sink.written c.tell-in-Err.new.sink in
     subst (λ x. ActsOn (add (clause_of x)) c.args.index.now c.add.new.self c.tell-in-Err.result a b) c.in-Err.ensures.handed_back
     (refused c.args.index.now c.add.new.self c.in-Err.rejected c.refusal.result c.tell-in-Err.result a b
+    (subst (λ x. IsSoundClause (clause_of x)) (sym c.in-Err.ensures.handed_back) c.requires)
     (subst (λ x. Rejects c.args.index.now.rules c.args.index.now.clauses (clause_of x) c.in-Err.rejected.why) (sym c.in-Err.ensures.handed_back) c.in-Err.ensures.rejected)
     c.refusal.ensures c.in-Err.ensures.err c.tell-in-Err.ensures.written)

@@ -31,7 +31,8 @@ IsWithin tree (entry n) = n < tree.vars
 IsWithin tree (ind n) = n < tree.next
 
 -- the node binds none but indicators that are open below these, each once
-pub record AreLegalBindings (tree : Tree Term) (above : Path) (bindings : List Binding) : Type 0 where
+pub record AreLegalBindings (tree : Tree Term) (above : Path)
+    (bindings : List Binding) : Type 0 where
   pub lefts : AllByRecursion (IsOpenBelow above) (left_sides bindings)
   pub distinct : AreDistinct (left_sides bindings)
   pub rights : HasNoBareIndicator bindings

@@ -16,12 +16,12 @@ use Rattle.si_tree_examples.specs.SomeTrees.{posting, root, fork, leaf_of, five_
 use Rattle.si_tree_examples.proofs.TreesProved.{one_binding}
 
 -- ---- all nodes
-abbrev EachNode : (ℕ → Node Term → Type 0) → List (Option (Node Term)) → Type 0
+abbrev pub EachNode : (ℕ → Node Term → Type 0) → List (Option (Node Term)) → Type 0
 EachNode P [] = Unit {0}
 EachNode P (None ∷ nodes) = EachNode (λ k. P (suc k)) nodes
 EachNode P (Some node ∷ nodes) = P 0 node × EachNode (λ k. P (suc k)) nodes
 
-each_node : (P : ℕ → Node Term → Type 0) (nodes : List (Option (Node Term))) → EachNode P nodes → (k : ℕ) (node : Node Term) → slice_index_or nodes k None ≡ Some node → P k node
+pub each_node : (P : ℕ → Node Term → Type 0) (nodes : List (Option (Node Term))) → EachNode P nodes → (k : ℕ) (node : Node Term) → slice_index_or nodes k None ≡ Some node → P k node
 each_node P [] h zero node e = absurd cc
 each_node P [] h (suc k) node e = absurd cc
 each_node P (None ∷ nodes) h zero node e = absurd cc
@@ -29,28 +29,28 @@ each_node P (None ∷ nodes) h (suc k) node e = each_node (λ k. P (suc k)) node
 each_node P (Some n ∷ nodes) h zero node e = subst (P 0) (same_Some n node e) h.0
 each_node P (Some n ∷ nodes) h (suc k) node e = each_node (λ k. P (suc k)) nodes h.1 k node e
 
-abbrev base : Node Term
+abbrev pub base : Node Term
 base = root (2 ∷ 4 ∷ [])
 
-abbrev leaf_a : Node Term
+abbrev pub leaf_a : Node Term
 leaf_a = leaf_of 2 ((1, a) ∷ []) 0
 
-abbrev middle : Node Term
+abbrev pub middle : Node Term
 middle = fork 0 ((0, f (indicator 1 ∷ [])) ∷ []) 1 (1 ∷ 3 ∷ [])
 
-abbrev leaf_b : Node Term
+abbrev pub leaf_b : Node Term
 leaf_b = leaf_of 2 ((1, b) ∷ []) 1
 
-abbrev leaf_c : Node Term
+abbrev pub leaf_c : Node Term
 leaf_c = leaf_of 0 ((0, c) ∷ []) 2
 
-abbrev above_middle : Path
+abbrev pub above_middle : Path
 above_middle = (0, base) ∷ []
 
-abbrev above_leaf : Path
+abbrev pub above_leaf : Path
 above_leaf = (2, middle) ∷ (0, base) ∷ []
 
-not_none : (n : ℕ) → ◌≡◌ {A = Option ℕ} None (Some n) → ⊥
+pub not_none : (n : ℕ) → ◌≡◌ {A = Option ℕ} None (Some n) → ⊥
 not_none n e = cc
 
 other : (m n : ℕ) → (m ≡ n → ⊥) → ◌≡◌ {A = Option ℕ} (Some m) (Some n) → ⊥
@@ -146,7 +146,7 @@ legal_c = record {
 
 -- ---- leaves
 -- the key of the leaf with this term, and of the one with the posting of this clause
-abbrev key_of : Term → ℕ
+abbrev pub key_of : Term → ℕ
 key_of (terms.var y) = 0
 key_of (terms.app s terms.none) = 4
 key_of (terms.app s (terms.more (terms.var y) ts)) = 0
@@ -166,10 +166,10 @@ Tells key node =
     (above : Path) → IsPath five_nodes node.parent above → (postings : List Posting)
     → node.content ≡ leaf postings → Known key node above (path_term ((key, node) ∷ above)) postings
 
-no_leaf : (split : ℕ) (children : List ℕ) (postings : List Posting) → inner split children ≡ leaf postings → ⊥
+pub no_leaf : (split : ℕ) (children : List ℕ) (postings : List Posting) → inner split children ≡ leaf postings → ⊥
 no_leaf split children postings e = cc
 
-abbrev postings_in : Content → List Posting
+abbrev pub postings_in : Content → List Posting
 postings_in (inner split children) = []
 postings_in (leaf postings) = postings
 
@@ -207,7 +207,7 @@ leaf_known key t postings h = subst (λ u. Known key h.node h.above u postings) 
 holds : (key : ℕ) (t : Term) (p : Posting) → StandsIn five_nodes key t p → key ≡ holder_of p.clause
 holds key t p h = (leaf_known key t h.0 h.1).by_posting p h.2
 
-five_legal : IsLegal five_nodes
+pub five_legal : IsLegal five_nodes
 five_legal = record {
   root = (base, refl, record { parent = refl; bindings = refl; splits = (2 ∷ 4 ∷ [], refl) });
   nodes = each_node (IsLegalNode five_nodes) five_nodes.nodes (legal_base, (legal_a, (legal_middle, (legal_b, (legal_c, tt)))));
@@ -221,7 +221,7 @@ pub five_nodes_legal : FiveNodes
 five_nodes_legal = (five_legal, refl, refl, refl)
 
 -- ---- what it stores
-abbrev symbol_in : Term → ℕ
+abbrev pub symbol_in : Term → ℕ
 symbol_in (terms.var y) = 0
 symbol_in (terms.app s ts) = s.number
 

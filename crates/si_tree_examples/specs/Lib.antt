@@ -1,4 +1,5 @@
 pub mod SomeTerms
 pub mod SomeSplits
 pub mod SomeTrees
+pub mod SomeChanges
 pub mod SomeOpenNodes

@@ -4,8 +4,9 @@ use Rattle.si_defs.specs.declared.Relation.TheVariants.{Variants, Instances, Gen
 use Rattle.si_defs.specs.Terms as terms
 use Rattle.si_flat.specs.Cells.{query, Term}
 use Rattle.si_legal.specs.Bindings.{indicator}
-use Rattle.si_legal.specs.OpenNodes.{IsOpen}
+use Rattle.si_legal.specs.OpenNodes.{IsOpen, CountsOpen}
 use Rattle.si_tree_examples.specs.SomeTerms.{f, g, a, x}
+use Rattle.si_tree_examples.specs.SomeTrees.{five_nodes}
 
 -- a query's variable
 abbrev pub y : Term
@@ -38,3 +39,7 @@ NoTwoForOne = IsOpen Variants (f (y ∷ y ∷ [])) (f (x 0 ∷ x 1 ∷ [])) → 
 -- g(*1) is closed for f(Y), whatever the relation is
 abbrev pub ClosedByHead : Type 0
 ClosedByHead = IsOpen Unifiable (f (y ∷ [])) (g (indicator 1)) → ⊥
+
+-- of the five nodes all but the leaf of c are open for f(Y)
+abbrev pub FourOpen : Type 0
+FourOpen = CountsOpen five_nodes 0 Unifiable (f (y ∷ [])) 4

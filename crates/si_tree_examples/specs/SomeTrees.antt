@@ -24,13 +24,16 @@ fork parent bindings split children = record {
   content = inner split children;
 }
 
--- a leaf that holds a posting of the clause with its own number
-abbrev pub leaf_of : ℕ → List Binding → ℕ → Node Term
-leaf_of parent bindings key = record {
+abbrev pub leaf_holding : ℕ → List Binding → List Posting → Node Term
+leaf_holding parent bindings postings = record {
   parent = Some parent;
   bindings = bindings;
-  content = leaf (posting key ∷ []);
+  content = leaf postings;
 }
+
+-- a leaf that holds one posting, of the clause with this key
+abbrev pub leaf_of : ℕ → List Binding → ℕ → Node Term
+leaf_of parent bindings key = leaf_holding parent bindings (posting key ∷ [])
 
 -- the nodes have the keys from 0, the root the first
 abbrev pub tree_of : List (Node Term) → ℕ → ℕ → Tree Term
@@ -40,17 +43,20 @@ tree_of nodes next vars = record { nodes = map Some nodes; root = 0; next = next
 abbrev pub new_tree : Tree Term
 new_tree = tree_of (root [] ∷ []) 1 0
 
--- f(a), f(b) and c
-abbrev pub five_nodes : Tree Term
-five_nodes =
+-- f(a), f(b) and c, whose leaf holds these postings
+abbrev pub five_holding : List Posting → Tree Term
+five_holding postings =
     tree_of (
     root (2 ∷ 4 ∷ [])
     ∷ leaf_of 2 ((1, a) ∷ []) 0
     ∷ fork 0 ((0, f (indicator 1 ∷ [])) ∷ []) 1 (1 ∷ 3 ∷ [])
     ∷ leaf_of 2 ((1, b) ∷ []) 1
-    ∷ leaf_of 0 ((0, c) ∷ []) 2
+    ∷ leaf_holding 0 ((0, c) ∷ []) postings
     ∷ []
     ) 2 0
+
+abbrev pub five_nodes : Tree Term
+five_nodes = five_holding (posting 2 ∷ [])
 
 abbrev pub NewTree : Type 0
 NewTree = IsLegal new_tree

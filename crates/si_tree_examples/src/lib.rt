@@ -3,10 +3,12 @@
 //! `specs/`, one file a subject.
 #![tactic(auto)]
 
+mod changes;
 mod open_nodes;
 mod splits;
 mod trees;
 
-pub use open_nodes::open_paths;
+pub use changes::changed_trees;
+pub use open_nodes::{counted_nodes, open_paths};
 pub use splits::{split_bindings, wrong_splits};
 pub use trees::{illegal_trees, legal_trees};

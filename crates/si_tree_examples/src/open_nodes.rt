@@ -1,5 +1,5 @@
 // Open and closed nodes.
-ghost use Rattle.si_tree_examples.specs.SomeOpenNodes.{OpenForInstances, ConstantVariable, OnlyGeneralization, OpenForVariants, NoTwoForOne, ClosedByHead};
+ghost use Rattle.si_tree_examples.specs.SomeOpenNodes.{OpenForInstances, ConstantVariable, OnlyGeneralization, OpenForVariants, NoTwoForOne, ClosedByHead, FourOpen};
 
 /// Which terms of paths are open for a query.
 pub fn open_paths()
@@ -9,4 +9,9 @@ pub fn open_paths()
     ensures open_for_variants { OpenForVariants }
     ensures no_two_for_one { NoTwoForOne }
     ensures closed_by_head { ClosedByHead }
+{}
+
+/// How many nodes are open.
+pub fn counted_nodes()
+    ensures { FourOpen }
 {}

@@ -4,3 +4,4 @@ pub mod FiveNodesProved
 pub mod ChangesProved
 pub mod OpenNodesProved
 pub mod CountsProved
+pub mod KeptProved

@@ -3,3 +3,4 @@ pub mod SomeSplits
 pub mod SomeTrees
 pub mod SomeChanges
 pub mod SomeOpenNodes
+pub mod SomeKept

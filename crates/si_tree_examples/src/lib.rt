@@ -4,11 +4,13 @@
 #![tactic(auto)]
 
 mod changes;
+mod kept;
 mod open_nodes;
 mod splits;
 mod trees;
 
 pub use changes::changed_trees;
+pub use kept::kept_clause;
 pub use open_nodes::{counted_nodes, open_paths};
 pub use splits::{split_bindings, wrong_splits};
 pub use trees::{illegal_trees, legal_trees};

@@ -5,3 +5,5 @@ pub mod ChangesProved
 pub mod OpenNodesProved
 pub mod CountsProved
 pub mod KeptProved
+pub mod DescentsProved
+pub mod NumbersProved

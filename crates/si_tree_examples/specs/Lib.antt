@@ -4,3 +4,5 @@ pub mod SomeTrees
 pub mod SomeChanges
 pub mod SomeOpenNodes
 pub mod SomeKept
+pub mod SomeDescents
+pub mod SomeNumbers

@@ -53,7 +53,7 @@ above_leaf = (2, middle) ∷ (0, base) ∷ []
 pub not_none : (n : ℕ) → ◌≡◌ {A = Option ℕ} None (Some n) → ⊥
 not_none n e = cc
 
-other : (m n : ℕ) → (m ≡ n → ⊥) → ◌≡◌ {A = Option ℕ} (Some m) (Some n) → ⊥
+pub other : (m n : ℕ) → (m ≡ n → ⊥) → ◌≡◌ {A = Option ℕ} (Some m) (Some n) → ⊥
 other m n differ e = differ (same_Some m n e)
 
 not_among : (m n : ℕ) → (m ≡ n → ⊥) → IsAmong (m ∷ []) n → ⊥

@@ -4,3 +4,6 @@ pub mod FiveNodesProved
 pub mod ChangesProved
 pub mod OpenNodesProved
 pub mod CountsProved
+pub mod KeptProved
+pub mod DescentsProved
+pub mod NumbersProved

@@ -3,3 +3,6 @@ pub mod SomeSplits
 pub mod SomeTrees
 pub mod SomeChanges
 pub mod SomeOpenNodes
+pub mod SomeKept
+pub mod SomeDescents
+pub mod SomeNumbers

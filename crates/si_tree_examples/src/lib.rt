@@ -4,11 +4,17 @@
 #![tactic(auto)]
 
 mod changes;
+mod descents;
+mod kept;
+mod numbers;
 mod open_nodes;
 mod splits;
 mod trees;
 
 pub use changes::changed_trees;
+pub use descents::answered_postings;
+pub use kept::kept_clause;
+pub use numbers::renumbered_trees;
 pub use open_nodes::{counted_nodes, open_paths};
 pub use splits::{split_bindings, wrong_splits};
 pub use trees::{illegal_trees, legal_trees};

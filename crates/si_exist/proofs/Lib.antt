@@ -1,0 +1,2 @@
+mod MatchLists
+mod OneSolution

@@ -1,2 +1,3 @@
 mod MatchLists
 mod OneSolution
+mod MostGeneral

@@ -3,7 +3,9 @@
 #![tactic(auto)]
 
 ghost use Rattle.si_defs.specs.declared.Relation.TheVariants.{Variants, Instances, Generalizations};
-ghost use Rattle.si_exist.specs.OneList.{HasExactlyOneList, HasExactlyOneSolution, HasAnAnswer};
+ghost use Rattle.si_exist.specs.OneList.{HasExactlyOneList, HasExactlyOneSolution};
+ghost use Rattle.si_exist.specs.OneList.{HasAnAnswer, HasAMostGeneralList};
+ghost use Rattle.si_defs.specs.Clauses.{Term};
 
 /// A pattern's term and an entry's, one of which matches the other, have exactly one canonical list
 /// of this relation.
@@ -25,4 +27,10 @@ pub fn matches_have_an_answer()
     ensures variants { HasAnAnswer Variants }
     ensures instances { HasAnAnswer Instances }
     ensures generalizations { HasAnAnswer Generalizations }
+{}
+
+/// A pattern's term and an entry's that can be unified have a most general unifier, as a triangular
+/// list.
+pub fn unifiable_terms_have_a_most_general_list()
+    ensures { (p u : Term) → HasAMostGeneralList p u }
 {}

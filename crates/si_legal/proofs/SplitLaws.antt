@@ -17,43 +17,8 @@ use Rattle.si_legal.specs.Generalizations.{same_head, Sides, sides, agreeing, di
 use Rattle.si_flat.proofs.RowLaws.{distinct_append, distinct_parts}
 use Rattle.si_legal.proofs.CommonLaws.{AreCommonTerms}
 use Rattle.si_legal.proofs.PartLaws.{HasParts, HaveParts, Fills, AreSides}
-use Rattle.si_legal.proofs.Splitting.{Pieces, pieces, indicators_all, indicators-more, IsNew, IsFrom, MayCut, are_pieces}
-
--- ---- the right sides as rows
-abbrev pub side_terms : (Sides → Term) → List Sides → Terms
-side_terms side [] = terms.none
-side_terms side (s ∷ ss) = terms.more (side s) (side_terms side ss)
-
-abbrev pub node_terms : List Sides → Terms
-node_terms ss = side_terms (λ s. s.node) ss
-
-abbrev pub new_terms : List Sides → Terms
-new_terms ss = side_terms (λ s. s.new) ss
-
-abbrev pub lefts_of : List Sides → List ℕ
-lefts_of ss = map (λ s. s.left) ss
-
--- each term with its left side
-abbrev pub with_lefts : List Sides → Terms → List Binding
-with_lefts [] cs = []
-with_lefts (s ∷ ss) terms.none = []
-with_lefts (s ∷ ss) (terms.more c cs) = (s.left, c) ∷ with_lefts ss cs
-
--- one side of each
-abbrev pub side_pairs : (Sides → Term) → List Sides → List Binding
-side_pairs side ss = map (λ s. (s.left, side s)) ss
-
-abbrev pub cut : ℕ → List Sides → Pieces
-cut next ss = pieces next (node_terms (agreeing ss)) (new_terms (agreeing ss))
-
-abbrev pub common_of : ℕ → List Sides → List Binding
-common_of next ss = with_lefts (agreeing ss) (cut next ss).common
-
-abbrev pub node_rest : ℕ → List Sides → List Binding
-node_rest next ss = side_pairs (λ s. s.node) (differing ss) ++ (cut next ss).node
-
-abbrev pub new_rest : ℕ → List Sides → List Binding
-new_rest next ss = side_pairs (λ s. s.new) (differing ss) ++ (cut next ss).new
+use Rattle.si_legal.specs.Pieces.{side_terms, node_terms, new_terms, lefts_of, with_lefts, side_pairs, cut, common_of, node_rest, new_rest}
+use Rattle.si_legal.proofs.Splitting.{indicators_all, indicators-more, IsNew, IsFrom, MayCut, are_pieces}
 
 -- ---- what sides have of their lists
 record AreOf (ss : List Sides) (node new : List Binding) : Type 0 where
@@ -125,7 +90,7 @@ distinct_lefts : (test : Sides → Bool) (ss : List Sides) → AreDistinct (left
 distinct_lefts test [] h = h
 distinct_lefts test (s ∷ ss) h = chosen (λ l. AreDistinct (lefts_of l)) test s ss ((λ a. h.0 (fewer_lefts test ss s.left a)), distinct_lefts test ss h.1) (distinct_lefts test ss h.1)
 
-fewer : (P : Sides → Type 0) (test : Sides → Bool) (ss : List Sides) → AllByRecursion P ss → AllByRecursion P (filter test ss)
+pub fewer : (P : Sides → Type 0) (test : Sides → Bool) (ss : List Sides) → AllByRecursion P ss → AllByRecursion P (filter test ss)
 fewer P test [] h = tt
 fewer P test (s ∷ ss) h = chosen (AllByRecursion P) test s ss (h.0, fewer P test ss h.1) (fewer P test ss h.1)
 
@@ -171,6 +136,12 @@ common_inds next [] terms.none h = refl
 common_inds next [] (terms.more c cs) h = absurd h
 common_inds next (s ∷ ss) terms.none h = absurd h
 common_inds next (s ∷ ss) (terms.more c cs) h = ap (λ l. indicators c ++ l) (common_inds next ss cs h.1) ∙ sym (indicators-more c cs)
+
+-- its left sides are those of the terms
+pair_lefts : (next : ℕ) (ss : List Sides) (cs : Terms) → AreCommonTerms next (node_terms ss) (new_terms ss) cs → left_sides (with_lefts ss cs) ≡ lefts_of ss
+pair_lefts next [] cs h = refl
+pair_lefts next (s ∷ ss) terms.none h = absurd h
+pair_lefts next (s ∷ ss) (terms.more c cs) h = ap (λ l. s.left ∷ l) (pair_lefts next ss cs h.1)
 
 -- ---- the rests
 pair_left : (ss : List Sides) (cs : Terms) (n : ℕ) (c : Term) → IsAmong (with_lefts ss cs) (n, c) → IsAmong (lefts_of ss) n
@@ -294,7 +265,7 @@ record Known (P : ℕ → Type 0) (side : Sides → Term) (ss : List Sides) (cs 
   cut_is : (n : ℕ) → IsAmong cut n → P n × IsAmong inds n
   distinct : AreDistinct cut
 
-abbrev test : Sides → Bool
+abbrev pub test : Sides → Bool
 test s = same_head s.node s.new
 
 abbrev rest_of : (Sides → Term) → List Sides → List Binding → List Binding
@@ -355,22 +326,29 @@ module _ (P : ℕ → Type 0) (side : Sides → Term) (ss : List Sides) (cs : Te
   }
 
 -- ---- the whole
-sound_sides : (node new : List Binding) → AllByRecursion (λ b. IsSound b.1) node → AllByRecursion (λ b. IsSound b.1) new → AllByRecursion (λ s. IsSound s.node × IsSound s.new) (sides node new)
+pub sound_sides : (node new : List Binding) → AllByRecursion (λ b. IsSound b.1) node → AllByRecursion (λ b. IsSound b.1) new → AllByRecursion (λ s. IsSound s.node × IsSound s.new) (sides node new)
 sound_sides [] new p q = tt
 sound_sides (b ∷ node) [] p q = tt
 sound_sides (b ∷ node) (c ∷ new) p q = ((p.0, q.0), sound_sides node new p.1 q.1)
 
-sound_rows : (ss : List Sides) → AllByRecursion (λ s. IsSound s.node × IsSound s.new) ss → AreSound (node_terms ss) × AreSound (new_terms ss)
+pub sound_rows : (ss : List Sides) → AllByRecursion (λ s. IsSound s.node × IsSound s.new) ss → AreSound (node_terms ss) × AreSound (new_terms ss)
 sound_rows [] h = (tt, tt)
 sound_rows (s ∷ ss) h = let rest = sound_rows ss h.1 in ((h.0.0, rest.0), (h.0.1, rest.1))
 
-same_count : (ss : List Sides) → terms.count (node_terms ss) ≡ terms.count (new_terms ss)
+pub same_count : (ss : List Sides) → terms.count (node_terms ss) ≡ terms.count (new_terms ss)
 same_count [] = refl
 same_count (s ∷ ss) = ap (λ n. 1 + n) (same_count ss)
 
--- the common part and both rests of two lists, from the pieces of their right sides
-pub split_is : (next : ℕ) (node new : List Binding) → MaySplit next node new → AllByRecursion (λ b. IsSound b.1) node → AllByRecursion (λ b. IsSound b.1) new → Splits next node new (common_of next (sides node new)) (node_rest next (sides node new)) (new_rest next (sides node new))
-split_is next node new may sound sound' =
+-- the common part and both rests of two lists are the pieces of their right sides, and none of them
+-- has a left side twice
+pub record IsCut (next : ℕ) (node new : List Binding) : Type 0 where
+  pub splits : Splits next node new (common_of next (sides node new)) (node_rest next (sides node new)) (new_rest next (sides node new))
+  pub common_distinct : AreDistinct (left_sides (common_of next (sides node new)))
+  pub node_distinct : AreDistinct (left_sides (node_rest next (sides node new)))
+  pub new_distinct : AreDistinct (left_sides (new_rest next (sides node new)))
+
+pub is_cut : (next : ℕ) (node new : List Binding) → MaySplit next node new → AllByRecursion (λ b. IsSound b.1) node → AllByRecursion (λ b. IsSound b.1) new → IsCut next node new
+is_cut next node new may sound sound' =
     let ss = sides node new in
     let of = are_of node new may.same_lefts in
     let rows = sound_rows (agreeing ss) (fewer (λ s. IsSound s.node × IsSound s.new) test ss (sound_sides node new sound sound')) in
@@ -412,17 +390,25 @@ split_is next node new may sound sound' =
       distinct = ps.numbered.distinct;
     } in
     record {
-      common_part = record {
-        terms = common_terms next (agreeing ss) (cut next ss).common ps.common;
-        fresh = (ps.numbered.numbers.0, ap (fresh_among next) inds ∙ sym ps.numbered.node_lefts ∙ ps.numbered.numbers.2);
-        once = subst AreDistinct (sym inds) ps.numbered.distinct;
+      splits = record {
+        common_part = record {
+          terms = common_terms next (agreeing ss) (cut next ss).common ps.common;
+          fresh = (ps.numbered.numbers.0, ap (fresh_among next) inds ∙ sym ps.numbered.node_lefts ∙ ps.numbered.numbers.2);
+          once = subst AreDistinct (sym inds) ps.numbered.distinct;
+        };
+        node_part =
+            subst (λ l. IsRest (λ s. s.node) ss (common_of next ss) (fresh_among next l) (node_rest next ss)) (sym inds)
+            (rest_is (IsFrom next) (λ s. s.node) ss (cut next ss).common (indicators_all (node_terms (agreeing ss))) (indicators_all (cut next ss).common) (fresh_among next (indicators_all (cut next ss).common)) (cut next ss).node node_known);
+        new_part =
+            subst (λ l. IsRest (λ s. s.new) ss (common_of next ss) l (new_rest next ss)) (sym inds)
+            (rest_is IsNew (λ s. s.new) ss (cut next ss).common (indicators_all (node_terms (agreeing ss))) (indicators_all (cut next ss).common) (indicators_all (cut next ss).common) (cut next ss).new new_known);
+        gives_node = rest_pairs (IsFrom next) (λ s. s.node) ss (cut next ss).common (indicators_all (node_terms (agreeing ss))) (indicators_all (cut next ss).common) (fresh_among next (indicators_all (cut next ss).common)) (cut next ss).node node_known node of.nodes;
+        gives_new = rest_pairs IsNew (λ s. s.new) ss (cut next ss).common (indicators_all (node_terms (agreeing ss))) (indicators_all (cut next ss).common) (indicators_all (cut next ss).common) (cut next ss).new new_known new of.news;
       };
-      node_part =
-          subst (λ l. IsRest (λ s. s.node) ss (common_of next ss) (fresh_among next l) (node_rest next ss)) (sym inds)
-          (rest_is (IsFrom next) (λ s. s.node) ss (cut next ss).common (indicators_all (node_terms (agreeing ss))) (indicators_all (cut next ss).common) (fresh_among next (indicators_all (cut next ss).common)) (cut next ss).node node_known);
-      new_part =
-          subst (λ l. IsRest (λ s. s.new) ss (common_of next ss) l (new_rest next ss)) (sym inds)
-          (rest_is IsNew (λ s. s.new) ss (cut next ss).common (indicators_all (node_terms (agreeing ss))) (indicators_all (cut next ss).common) (indicators_all (cut next ss).common) (cut next ss).new new_known);
-      gives_node = rest_pairs (IsFrom next) (λ s. s.node) ss (cut next ss).common (indicators_all (node_terms (agreeing ss))) (indicators_all (cut next ss).common) (fresh_among next (indicators_all (cut next ss).common)) (cut next ss).node node_known node of.nodes;
-      gives_new = rest_pairs IsNew (λ s. s.new) ss (cut next ss).common (indicators_all (node_terms (agreeing ss))) (indicators_all (cut next ss).common) (indicators_all (cut next ss).common) (cut next ss).new new_known new of.news;
+      common_distinct = subst AreDistinct (sym (pair_lefts next (agreeing ss) (cut next ss).common ps.common)) (distinct_lefts test ss distinct);
+      node_distinct = rest_distinct (IsFrom next) (λ s. s.node) ss (cut next ss).common (indicators_all (node_terms (agreeing ss))) (indicators_all (cut next ss).common) (fresh_among next (indicators_all (cut next ss).common)) (cut next ss).node node_known;
+      new_distinct = rest_distinct IsNew (λ s. s.new) ss (cut next ss).common (indicators_all (node_terms (agreeing ss))) (indicators_all (cut next ss).common) (indicators_all (cut next ss).common) (cut next ss).new new_known;
     }
+
+pub split_is : (next : ℕ) (node new : List Binding) → MaySplit next node new → AllByRecursion (λ b. IsSound b.1) node → AllByRecursion (λ b. IsSound b.1) new → Splits next node new (common_of next (sides node new)) (node_rest next (sides node new)) (new_rest next (sides node new))
+split_is next node new may sound sound' = (is_cut next node new may sound sound').splits

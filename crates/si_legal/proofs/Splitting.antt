@@ -1,4 +1,4 @@
--- How two terms are split, from left to right: a plain function, and that it is right.
+-- The pieces of two terms are right.
 use Rattle.std.proofs.Common.{◌≡◌, ℕ, zero, suc, ◌+◌, ◌<◌, ◌≤◌, ◌⊎◌, inl, inr, Bool, true, false, cond, ◌&&◌, ◌==◌, List, [], ◌∷◌, ◌++◌, refl, ap, sym, ◌∙◌, subst, arith}
 use Rattle.std.specs.Prelude.{nat_le}
 use Rattle.std.proofs.lemmas.Bool.{and_parts, eqb-true, eq-eqb, le-leb}
@@ -12,60 +12,11 @@ use Rattle.si_flat.specs.Cells.{Symbol, Variable, query, entry, ind, Term, Terms
 use Rattle.si_flat.proofs.RowLaws.{distinct_append, distinct_parts}
 use Rattle.si_flat.proofs.VariableLaws.{variable_is, variable_self}
 use Rattle.si_flat.specs.Rows.{left_sides}
-use Rattle.si_legal.specs.Bindings.{Binding, indicator, IsIndicator, indicators_among, indicators}
+use Rattle.si_legal.specs.Bindings.{indicator, IsIndicator, indicators_among, indicators}
 use Rattle.si_legal.specs.Generalizations.{same_head, IsCommonTerm, consecutive, fresh_among}
+use Rattle.si_legal.specs.Pieces.{Piece, Pieces, kept, alike, apart, over, then, piece, pieces}
 use Rattle.si_legal.proofs.CommonLaws.{common_kept, common_variable, common_fresh, common_app, AreCommonTerms}
 use Rattle.si_legal.proofs.PartLaws.{IsSide, AreSides, side_bound, side_kept, side_variable, side_app, sides_none, sides_more}
-
--- ---- what two terms are split into: their common part, what is left of each, and the number of
--- the next fresh indicator
-pub record Piece : Type 0 where
-  pub common : Term
-  pub node : List Binding
-  pub new : List Binding
-  pub next : ℕ
-
-pub record Pieces : Type 0 where
-  pub common : Terms
-  pub node : List Binding
-  pub new : List Binding
-  pub next : ℕ
-
-abbrev pub kept : ℕ → ℕ → Term → Piece
-kept next n u = record { common = indicator n; node = []; new = (n, u) ∷ []; next = next }
-
-abbrev pub alike : ℕ → Term → Piece
-alike next t = record { common = t; node = []; new = []; next = next }
-
-abbrev pub apart : ℕ → Term → Term → Piece
-apart next t u = record { common = indicator next; node = (next, t) ∷ []; new = (next, u) ∷ []; next = 1 + next }
-
-abbrev pub over : Symbol → Pieces → Piece
-over s ps = record { common = terms.app s ps.common; node = ps.node; new = ps.new; next = ps.next }
-
-abbrev pub nothing : ℕ → Pieces
-nothing next = record { common = terms.none; node = []; new = []; next = next }
-
-abbrev pub then : Piece → Pieces → Pieces
-then p ps = record {
-  common = terms.more p.common ps.common;
-  node = p.node ++ ps.node;
-  new = p.new ++ ps.new;
-  next = ps.next;
-}
-
-abbrev mutual
-  pub piece : ℕ → Term → Term → Piece
-  piece next (terms.var (ind n)) u = kept next n u
-  piece next (terms.var (query n)) u = cond (same_head (terms.var (query n)) u) (alike next (terms.var (query n))) (apart next (terms.var (query n)) u)
-  piece next (terms.var (entry n)) u = cond (same_head (terms.var (entry n)) u) (alike next (terms.var (entry n))) (apart next (terms.var (entry n)) u)
-  piece next (terms.app s ts) (terms.var x) = apart next (terms.app s ts) (terms.var x)
-  piece next (terms.app s ts) (terms.app r us) = cond ((s.number == r.number) && (s.arity == r.arity)) (over s (pieces next ts us)) (apart next (terms.app s ts) (terms.app r us))
-
-  pub pieces : ℕ → Terms → Terms → Pieces
-  pieces next terms.none us = nothing next
-  pieces next (terms.more t ts) terms.none = nothing next
-  pieces next (terms.more t ts) (terms.more u us) = then (piece next t u) (pieces (piece next t u).next ts us)
 
 -- ---- indicators
 pub indicators-append : (xs ys : List Variable) → indicators_among (xs ++ ys) ≡ indicators_among xs ++ indicators_among ys
@@ -267,7 +218,8 @@ cut_first base xs ys h = record { low = (λ n a. h.low n (among_front xs ys n a)
 cut_rest : (base : ℕ) (xs ys : List ℕ) → MayCut base (xs ++ ys) → MayCut base ys
 cut_rest base xs ys h = record { low = (λ n a. h.low n (among_back xs ys n a)); distinct = (distinct_parts xs ys h.distinct).1 }
 
-either : {X : Type 0} (P : X → Type 0) (b : Bool) (x y : X) → (b ≡ true → P x) → (b ≡ false → P y) → P (cond b x y)
+-- what holds of both holds of the one that is chosen
+pub either : {X : Type 0} (P : X → Type 0) (b : Bool) (x y : X) → (b ≡ true → P x) → (b ≡ false → P y) → P (cond b x y)
 either P true x y f g = f refl
 either P false x y f g = g refl
 

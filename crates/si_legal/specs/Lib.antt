@@ -1,5 +1,6 @@
 pub mod Bindings
 pub mod Generalizations
+pub mod Pieces
 pub mod Trees
 pub mod Counts
 pub mod Legal

@@ -1,0 +1,6 @@
+pub mod SpanLaws
+pub mod PieceLaws
+pub mod WalkLaws
+pub mod PairLaws
+pub mod PairTurns
+pub mod SplitParts

@@ -1,0 +1,2 @@
+pub mod Generalising
+pub mod Walking

@@ -1,5 +1,6 @@
 -- Laws of what is left of a walk.
-use Rattle.std.proofs.Common.{◌≡◌, ◌==◌, true, ℕ, ◌+◌, ◌<◌, ◌≤◌, List, [], ◌∷◌, ◌++◌, length, map, refl, sym, ◌∙◌, ap, arith, append_assoc, append-nil}
+use Rattle.std.proofs.Common.{◌≡◌, ◌==◌, true, ℕ, ◌+◌, ◌<◌, ◌≤◌, List, [], ◌∷◌, ◌++◌, length, map, refl, sym, ◌∙◌, ap, arith, append_assoc, append-nil, length-append}
+use Rattle.std.specs.Prelude.{Option, None, Some}
 use Rattle.std.proofs.lemmas.List.{map-append}
 use Rattle.std.proofs.lemmas.Bool.{eqb-true}
 use Rattle.std.specs.List.{AllByRecursion}
@@ -10,11 +11,13 @@ use Rattle.si_defs.proofs.ListLaws.{all_front, all_back}
 use Rattle.si_defs.specs.declared.TheConstants.{MOST_OCCURRENCES}
 use Rattle.si_term.specs.Terms.{term_of}
 use Rattle.si_term.specs.Walks.{arguments}
-use Rattle.si_term.specs.Meaning.{literal_of}
+use Rattle.si_term.specs.Meaning.{literal_of, entry_of}
 use Rattle.si_term.specs.declared.term.Term as program
 use Rattle.si_term.specs.declared.clause.Literal as program_literal
+use Rattle.si_term.specs.declared.clause.Entry as program_entry
 use Rattle.si_entries.specs.declared.Row.{Row}
-use Rattle.si_entries.specs.Walks.{terms_left, numbers, at, row_left, rows_left, weight_of, IsSmallRow}
+use Rattle.si_entries.specs.declared.Entries.{Entries}
+use Rattle.si_entries.specs.Walks.{terms_left, numbers, at, row_left, rows_left, left_of, place_in, weight_of, IsSmallRow, Gives, GivesAfter}
 
 -- ---- subterms by their paths
 pub at_append : (n : ℕ) (p : List ℕ) (xs ys : List (List ℕ × Term)) → at n p (xs ++ ys) ≡ at n p xs ++ at n p ys
@@ -127,3 +130,28 @@ descended n rows more outer r inner ts items same start terms =
 pub none_there : {A : Type 0} (xs : List A) → true ≡ (length xs == 0) → xs ≡ []
 none_there [] none = refl
 none_there (x ∷ xs) none = absurd (omega (arith, eqb-true (length (x ∷ xs)) 0 (sym none)))
+
+-- ---- entries that were passed
+pub record HasPassed (n : ℕ) (all now : List Placed) : Type 0 where
+  pub passed : List Placed
+  pub long : length passed ≡ n
+  pub whole : all ≡ passed ++ now
+
+pub passed_none : (all : List Placed) → HasPassed 0 all all
+passed_none all = record { passed = []; long = refl; whole = refl }
+
+pub passed_more : (n : ℕ) (old mid new : Entries) (e : program_entry.Entry) → HasPassed n (left_of old) (left_of mid) → Gives mid new (Some e) → HasPassed (n + 1) (left_of old) (left_of new)
+passed_more n old mid new e h given =
+    let one : Placed = record { entry = entry_of e; place = place_in new } in
+    record {
+      passed = h.passed ++ one ∷ [];
+      long = omega (arith, h.long, length-append h.passed (one ∷ []));
+      whole = h.whole ∙ ap (λ l. h.passed ++ l) given ∙ sym (append_assoc h.passed (one ∷ []) (left_of new));
+    }
+
+pub passed_all : (n m : ℕ) (old mid new : Entries) → n ≤ m → HasPassed n (left_of old) (left_of mid) → Gives mid new None → length (left_of old) ≤ m
+passed_all n m old mid new few h none = omega (arith, few, h.long, ap length h.whole, length-append h.passed (left_of mid), ap length none)
+
+pub given_after : (n : ℕ) (old mid new : Entries) (o : Option program_entry.Entry) → HasPassed n (left_of old) (left_of mid) → Gives mid new o → GivesAfter n old new o
+given_after n old mid new None h none = passed_all n n old mid new (omega arith) h none
+given_after n old mid new (Some e) h given = (h.passed, h.long, h.whole ∙ ap (λ l. h.passed ++ l) given)

@@ -1,5 +1,5 @@
 -- Where a walk through the entries of a clause stands: what is left of it, and its place.
-use Rattle.std.specs.Prelude.{◌≡◌, ℕ, suc, ◌+◌, ◌<◌, ◌≤◌, List, [], ◌∷◌, ◌++◌, Option, None, Some, map}
+use Rattle.std.specs.Prelude.{◌≡◌, ℕ, suc, ◌+◌, ◌<◌, ◌≤◌, List, [], ◌∷◌, ◌++◌, Option, None, Some, length, map}
 use Rattle.std.specs.Borrow.{Bor}
 use Rattle.std.specs.List.{AllByRecursion}
 use Rattle.si_defs.specs.Terms.{row, size, sizes, occurrences, occurrences_from}
@@ -95,3 +95,11 @@ abbrev pub Gives : Entries → Entries → Option program_entry.Entry → Type 0
 Gives old new None = left_of old ≡ []
 Gives old new (Some e) =
     left_of old ≡ record { entry = entry_of e; place = place_in new } ∷ left_of new
+
+-- the same after so many others
+abbrev pub GivesAfter : ℕ → Entries → Entries → Option program_entry.Entry → Type 0
+GivesAfter n old new None = length (left_of old) ≤ n
+GivesAfter n old new (Some e) =
+    (passed : List Placed) × (length passed ≡ n)
+    × (left_of old
+    ≡ passed ++ record { entry = entry_of e; place = place_in new } ∷ left_of new)

@@ -9,7 +9,7 @@ ghost use Rattle.si_defs.specs.declared.TheConstants.{MOST_OCCURRENCES};
 ghost use Rattle.si_term.specs.Terms.{term_of};
 ghost use Rattle.si_term.specs.Meaning.{clause_of, literal_of, place_of};
 ghost use Rattle.si_term.specs.Walks.{arguments};
-ghost use Rattle.si_entries.specs.Walks.{IsSmall, HasSameLiterals, Passes, Descends, Gives, GivesTerm, inside, left_of, place_in, weight};
+ghost use Rattle.si_entries.specs.Walks.{IsSmall, HasSameLiterals, Passes, Descends, Gives, GivesAfter, GivesTerm, inside, left_of, place_in, weight};
 
 use si_term::{Clause, Entry, Literal, Path, Place, Term};
 use std::alloc::{AllocError, Global};
@@ -64,6 +64,21 @@ impl<'a> Entries<'a> {
             Some(term) => Ok(Some(Entry::Sub(term))),
             None => Ok(self.next_literal()),
         }
+    }
+
+    /// Passes so many entries, and gives the one after them; `None` where there is none. After an
+    /// error the walk is of no use.
+    pub fn nth(&mut self, count: u32) -> Result<Option<Entry<'a>>, AllocError>
+        requires { IsSmall self.old }
+        ensures small { OnOk result (IsSmall self.new) }
+        ensures nth { IfOk result (GivesAfter count self.old self.new) }
+    {
+        for _ in 0..count {
+            let Some(_) = self.next()? else {
+                return Ok(None);
+            };
+        }
+        self.next()
     }
 
     /// The place of the entry that was given last.

@@ -1,0 +1,3 @@
+mod MatchLists
+mod OneSolution
+mod MostGeneral

@@ -1,0 +1,41 @@
+-- That where a relation holds there is a canonical list, and one alone.
+use Rattle.std.specs.Prelude.{◌≡◌, List}
+use Rattle.si_defs.specs.Clauses.{Clause, Term, Pattern}
+use Rattle.si_defs.specs.Entries.{Entry, Placed}
+use Rattle.si_defs.specs.Variables.{same_variable, pattern_term, entry_term, Solution}
+use Rattle.si_defs.specs.declared.Relation.{Relation}
+use Rattle.si_defs.specs.declared.Relation.TheVariants.{Unifiable}
+use Rattle.si_defs.specs.Relations.{Relates}
+use Rattle.si_defs.specs.Solutions.{IsTriangular, Achieves, IsMostGeneral, IsCanonical}
+use Rattle.si_state.specs.Answers.{Stands, Solves, Hit, IsAnswer}
+
+-- exactly one list is so
+abbrev pub IsOfOne : (Solution → Type 0) → Type 0
+IsOfOne P = (list : Solution) × P list × ((other : Solution) → P other → other ≡ list)
+
+-- a pattern's term and an entry's that stand in the relation have exactly one canonical list
+abbrev pub HasExactlyOneList : Relation → Type 0
+HasExactlyOneList kind =
+    (p u : Term) → Relates same_variable kind (pattern_term p) (entry_term u)
+    → IsOfOne (IsCanonical same_variable kind (pattern_term p) (entry_term u))
+
+-- so have a pattern and an entry
+abbrev pub HasExactlyOneSolution : Relation → Type 0
+HasExactlyOneSolution kind =
+    (pattern : Pattern) (entry : Entry) → Stands kind pattern entry
+    → IsOfOne (Solves kind pattern entry)
+
+-- It isn't so that a pattern has no answer among some entries. (Which of them stand in the relation
+-- isn't decided here.)
+abbrev pub HasAnAnswer : Relation → Type 0
+HasAnAnswer kind =
+    (pattern : Pattern) (entries : List (Clause × Placed))
+    → ((hits : List Hit) → IsAnswer kind pattern entries hits → ⊥) → ⊥
+
+-- Terms that can be unified have a most general unifier as a triangular list (Robinson 1965).
+abbrev pub HasAMostGeneralList : Term → Term → Type 0
+HasAMostGeneralList p u =
+    Relates same_variable Unifiable (pattern_term p) (entry_term u)
+    → (list : Solution) × IsTriangular same_variable list
+    × Achieves same_variable Unifiable (pattern_term p) (entry_term u) list
+    × IsMostGeneral same_variable (pattern_term p) (entry_term u) list

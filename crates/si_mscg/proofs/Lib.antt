@@ -4,3 +4,4 @@ pub mod WalkLaws
 pub mod PairLaws
 pub mod PairTurns
 pub mod SplitParts
+pub mod Vectors

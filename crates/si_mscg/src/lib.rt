@@ -6,6 +6,8 @@
 #![tactic(auto)]
 
 mod spans;
+#[cfg(test)]
+mod tests;
 mod walk;
 
 ghost use Rattle.std.specs.Prelude.{◌≡◌, IfOk};

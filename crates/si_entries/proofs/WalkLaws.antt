@@ -149,8 +149,9 @@ passed_more n old mid new e h given =
       whole = h.whole ∙ ap (λ l. h.passed ++ l) given ∙ sym (append_assoc h.passed (one ∷ []) (left_of new));
     }
 
-pub passed_all : (n m : ℕ) (old mid new : Entries) → n ≤ m → HasPassed n (left_of old) (left_of mid) → Gives mid new None → length (left_of old) ≤ m
-passed_all n m old mid new few h none = omega (arith, few, h.long, ap length h.whole, length-append h.passed (left_of mid), ap length none)
+pub passed_all : (n m : ℕ) (old mid new : Entries) → n ≤ m → HasPassed n (left_of old) (left_of mid) → Gives mid new None
+    → (length (left_of old) ≤ m) × (left_of new ≡ [])
+passed_all n m old mid new few h none = (omega (arith, few, h.long, ap length h.whole, length-append h.passed (left_of mid), ap length none.0), none.1)
 
 pub given_after : (n : ℕ) (old mid new : Entries) (o : Option program_entry.Entry) → HasPassed n (left_of old) (left_of mid) → Gives mid new o → GivesAfter n old new o
 given_after n old mid new None h none = passed_all n n old mid new (omega arith) h none

@@ -92,13 +92,13 @@ GivesTerm old new (Some t) =
     inside old ≡ record { entry = term_entry (term_of t.now); place = place_in new } ∷ inside new
 
 abbrev pub Gives : Entries → Entries → Option program_entry.Entry → Type 0
-Gives old new None = left_of old ≡ []
+Gives old new None = (left_of old ≡ []) × (left_of new ≡ [])
 Gives old new (Some e) =
     left_of old ≡ record { entry = entry_of e; place = place_in new } ∷ left_of new
 
 -- the same after so many others
 abbrev pub GivesAfter : ℕ → Entries → Entries → Option program_entry.Entry → Type 0
-GivesAfter n old new None = length (left_of old) ≤ n
+GivesAfter n old new None = (length (left_of old) ≤ n) × (left_of new ≡ [])
 GivesAfter n old new (Some e) =
     (passed : List Placed) × (length passed ≡ n)
     × (left_of old

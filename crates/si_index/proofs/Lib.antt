@@ -1,5 +1,5 @@
-mod EntryLaws
-mod KeptLaws
+pub mod EntryLaws
+pub mod KeptLaws
 mod SolvedLaws
 mod FittingLaws
 pub mod FlatLaws
@@ -11,5 +11,5 @@ mod NameLaws
 mod NamedLaws
 mod ScreenLaws
 pub mod ShownNames
-mod StoreLaws
+pub mod StoreLaws
 mod SubsumingLaws

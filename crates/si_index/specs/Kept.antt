@@ -1,6 +1,6 @@
 -- What an index is seen as: the clauses that are kept, in the order of acceptance, each with its
 -- key, the rules by which they were accepted, and the numbers of their symbols.
-use Rattle.std.specs.Prelude.{◌≡◌, ℕ, List, Some, refl, length, map, slice_get}
+use Rattle.std.specs.Prelude.{◌≡◌, ℕ, List, [], ◌∷◌, Some, refl, length, map, slice_get}
 use Rattle.std.specs.Coded.{Coded, code_by, coded×, coded_ℕ, coded_list}
 use Rattle.si_defs.specs.Symbols.{Symbol, Numbering}
 use Rattle.si_defs.specs.Clauses.{Clause}
@@ -31,6 +31,15 @@ kept_code =
 pub record AreKeyed (k : Kept) : Type 0 where
   pub number : length k.keys ≡ length k.clauses
   pub distinct : AreDistinct k.keys
+
+-- the clauses, each with its key
+abbrev pub paired : List ℕ → List Clause → List (ℕ × Clause)
+paired [] cs = []
+paired (k ∷ ks) [] = []
+paired (k ∷ ks) (c ∷ cs) = (k, c) ∷ paired ks cs
+
+abbrev pub kept_clauses : Kept → List (ℕ × Clause)
+kept_clauses k = paired k.keys k.clauses
 
 -- the clause is kept by this key
 abbrev pub IsKeptBy : Kept → ℕ → Clause → Type 0

@@ -3,6 +3,7 @@ ghost use Rattle.std.specs.Prelude.{◌≡◌, ◌<◌, ◌≤◌, [], ◌∷◌
 ghost use Rattle.si_defs.specs.Clauses as defs;
 ghost use Rattle.si_defs.specs.Clauses.{IsSoundClause};
 ghost use Rattle.si_defs.specs.Entries.{entries, state_entries};
+ghost use Rattle.si_defs.specs.Substitutions.{IsAmong};
 ghost use Rattle.si_state.specs.States.{limited_to};
 ghost use Rattle.si_state.specs.Acceptance.{Accepts, IsTaken, Removes};
 ghost use Rattle.si_defs.specs.declared.TheConstants.{MOST_OCCURRENCES};
@@ -110,6 +111,14 @@ impl Index {
         self.clauses.at(at as usize).1
     }
 
+    /// The position, from 0, of the clause with this key.
+    pub fn position(&self, key: usize) -> u32
+        requires { IsAmong self.now.keys key }
+        ensures { slice_get self.now.keys result ≡ Some key }
+    {
+        self.clauses.position(key) as u32
+    }
+
     /// The symbols of the clauses.
     pub fn signature(&self) -> &Signature
         ensures signature { IsSignatureOf self.now.clauses result.now }
@@ -119,7 +128,7 @@ impl Index {
     }
 
     /// The clauses in order, each with its key.
-    pub(crate) fn kept(&self) -> Items<'_, Clause>
+    pub fn kept(&self) -> Items<'_, Clause>
         ensures clauses { clauses_of result ≡ self.now.clauses }
         ensures keys { item_keys result ≡ self.now.keys }
     {

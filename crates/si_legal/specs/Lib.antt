@@ -9,3 +9,4 @@ pub mod OpenNodes
 pub mod Descents
 pub mod Renumbering
 pub mod KeptTrees
+pub mod Engines

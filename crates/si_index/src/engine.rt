@@ -1,0 +1,40 @@
+// What answers a question about the kept entries.
+ghost use Rattle.std.specs.Prelude.{◌≡◌, ℕ, List, Bool, IfOk, OnOk, OnErr};
+ghost use Rattle.si_defs.specs.declared.Relation as relation;
+ghost use Rattle.si_flat.specs.declared.Cell as cell;
+ghost use Rattle.si_flat.specs.declared.Owner.TheVariants.{Query};
+ghost use Rattle.si_form.specs.Answers.{AreNumbered};
+ghost use Rattle.si_legal.specs.Engines.{AppendsAnswers};
+ghost use Rattle.si_legal.specs.declared.Posting as posting;
+
+use si_defs::Relation;
+use si_flat::Flat;
+use si_legal::Posting;
+use std::alloc::AllocError;
+
+/// What finds the entries that stand in a relation to a query: by a look at each of them, or by
+/// trees.
+///
+/// A question is whether literals are asked for, or terms, a relation, and a query. To each an
+/// engine has its answers, a finite set of postings, and a number, its count.
+pub trait Engine {
+    /// Whether the posting is one of the answers.
+    ghost answers: { Self → Bool → relation.Relation → List cell.Cell → posting.Posting → Type 0 };
+
+    /// What the engine counts at a question.
+    ghost count: { Self → Bool → relation.Relation → List cell.Cell → ℕ };
+
+    /// Appends the answers, each once, and answers the count. At an error `out` is as before.
+    fn ask(
+        &self,
+        literal: bool,
+        kind: Relation,
+        query: &Flat,
+        out: &mut Vec<Posting>,
+    ) -> Result<u64, AllocError>
+        requires { AreNumbered Query query.now }
+        ensures answers { OnOk result (AppendsAnswers (answers self.now literal kind query.now)
+            out.old.items out.new.items) }
+        ensures count { IfOk result (λ n. n ≡ count self.now literal kind query.now) }
+        ensures err { OnErr result (out.new.items ≡ out.old.items) };
+}

@@ -1,0 +1,3 @@
+pub mod PostedLaws
+pub mod ScanLaws
+pub mod QuestionLaws

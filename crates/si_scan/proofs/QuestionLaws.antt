@@ -1,0 +1,43 @@
+-- What is answered to the cells of a query and of an entry, and what it says of the entry.
+use Rattle.std.proofs.Common.{◌≡◌, Bool, true, false, not, List, refl, sym, ◌∙◌}
+use Rattle.std.specs.Prelude.{◌↔◌, IsTrue, None, Some}
+use Rattle.std.proofs.Math.Bool.{beq}
+use Rattle.si_defs.specs.Entries.{Entry}
+use Rattle.si_legal.specs.KeptTrees.{is_literal}
+use Rattle.si_flat.specs.declared.Cell.{Cell}
+use Rattle.si_flat.specs.Cells.{entry, StandsFor}
+use Rattle.si_flat.specs.Flattened.{numbered_entry}
+use Rattle.si_form.specs.declared.solution.Binding.{Binding}
+use Rattle.si_form.specs.Answers.{Answers}
+use Rattle.si_form.proofs.SignLaws.{relates_of_canonical}
+use Rattle.si_form.proofs.Vocabularies.{with_numbers}
+use Rattle.si_index.proofs.GatherLaws.{signs_differ}
+use Rattle.si_scan.specs.Scans.{Wants, IsReady, numbers_of}
+use Rattle.si_scan.specs.declared.question.Question.{Question}
+
+pub says_yes : (P : Type 0) → P → IsTrue true ↔ P
+says_yes P p = ((λ _. p), (λ _. refl))
+
+pub says_no : (P : Type 0) → (P → ⊥) → IsTrue false ↔ P
+says_no P fails = ((λ h. absurd (let wrong : false ≡ true = h in cc)), (λ p. absurd (fails p)))
+
+module _ (q : Question) (e : Entry) (held : List Cell) (flat : StandsFor held (numbered_entry (numbers_of q) entry e)) where
+  pub none_wanted : Answers q.kind q.query.now held None → Wants q e → ⊥
+  none_wanted told w = told w.term (numbered_entry (numbers_of q) entry e) w.stands flat w.relates
+
+  pub some_wanted : (list : List Binding) → IsReady q → is_literal e ≡ q.literal → Answers q.kind q.query.now held (Some list) → Wants q e
+  some_wanted list ready kind told =
+      let answer = told ready.whole.0 (numbered_entry (numbers_of q) entry e) ready.whole.1 flat in
+      record {
+        kind = kind;
+        term = ready.whole.0;
+        stands = ready.whole.1;
+        relates = relates_of_canonical with_numbers q.kind ready.whole.0 (numbered_entry (numbers_of q) entry e) answer.0 answer.2.canonical;
+      }
+
+-- entries of the other kind aren't wanted
+pub other_kind : (q : Question) (e : Entry) (b : Bool) → b ≡ is_literal e → not (beq b q.literal) ≡ true → Wants q e → ⊥
+other_kind q e b is differ w = signs_differ b q.literal differ (is ∙ w.kind)
+
+pub not_wanted : (P : Type 0) (b : Bool) → IsTrue b ↔ P → b ≡ false → P → ⊥
+not_wanted P b told none p = let wrong : true ≡ false = sym (told.1 p) ∙ none in cc

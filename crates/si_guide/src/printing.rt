@@ -5,8 +5,7 @@ ghost use Rattle.si_defs.specs.Entries as entries;
 ghost use Rattle.si_defs.specs.Printing.{solution_text};
 ghost use Rattle.si_defs.specs.Variables.{variable_text};
 ghost use Rattle.si_defs.specs.declared.Relation as relations;
-ghost use Rattle.si_io.specs.Puts.{Puts};
-ghost use Rattle.si_io.specs.Faults.{HasCause};
+ghost use Rattle.si_io.specs.Sends.{Sends};
 ghost use Rattle.si_index.specs.Showing.{ShowsEntry};
 
 use si_index::{Index, Shown};
@@ -17,11 +16,10 @@ use si_reply::put_solution;
 pub fn print_shown<K: Sink>(sink: &mut K, index: &Index, shown: &Shown) -> Result<(), Failed>
     requires shown { (relation : relations.Relation) × (p : defs.Pattern) × (e : entries.Entry)
         × ShowsEntry index.now.numbers relation p e shown.now }
-    ensures text { (relation : relations.Relation) (p : defs.Pattern) (e : entries.Entry)
+    ensures { (relation : relations.Relation) (p : defs.Pattern) (e : entries.Entry)
         (shows : ShowsEntry index.now.numbers relation p e shown.now)
-        → Puts result (solution_text variable_text shows.solution)
-        (K.written sink.old) (K.written sink.new) }
-    ensures cause { HasCause (K.faults sink.old) (K.faults sink.new) result }
+        → Sends result (solution_text variable_text shows.solution)
+        (K.shown sink.old) (K.shown sink.new) }
 {
     put_solution(
         sink,

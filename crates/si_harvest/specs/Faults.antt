@@ -8,7 +8,7 @@ use Rattle.si_state.specs.Acceptance as state
 use Rattle.si_state.specs.Acceptance.{Refusal, Refuses}
 use Rattle.si_state.specs.Harvest.{Bounds, MayAsk, IsBarred, Fault, cycle, too_deep, too_many, missing, too_big, failed, foreign, malformed, rejected}
 use Rattle.si_term.specs.Meaning.{clause_of}
-use Rattle.si_io.specs.Faults.{Rose}
+use Rattle.si_io.specs.Counts.{raised}
 use Rattle.si_io.specs.Library.{Counts}
 use Rattle.si_sign.specs.Shapes.{HasShapes}
 use Rattle.si_sign.specs.declared.faults.Rejected.{Rejected}
@@ -69,16 +69,16 @@ ChecksStart bounds rules file result =
     (MayAsk bounds [] 0 file → ⊥) →
     IsErrAnd result (λ e. Explains rules e (IsBarred bounds [] 0 file))
 
--- A library's failures, missing files and files that are too big have a count each, which rose
+-- A library's failures, missing files and files that are too big have a count each, which is one more
 -- where a load is refused for it, and no other count moved. For a failure it is refused only where
 -- the library may fail.
 abbrev pub HasFaultCause : Bool → Counts → Counts → HarvestFault → Type 0
 HasFaultCause may_fail before now (Missing file) =
-    Rose before.misses now.misses × (now ≡ record before { misses = now.misses })
+    now ≡ record before { misses = raised before.misses }
 HasFaultCause may_fail before now (Big file) =
-    Rose before.bigs now.bigs × (now ≡ record before { bigs = now.bigs })
+    now ≡ record before { bigs = raised before.bigs }
 HasFaultCause may_fail before now (LibraryFault file) =
-    Rose before.faults now.faults × (now ≡ record before { faults = now.faults }) × IsTrue may_fail
+    (now ≡ record before { faults = raised before.faults }) × IsTrue may_fail
 HasFaultCause may_fail before now fault = now ≡ before
 
 abbrev pub HasLoadCause : {T : Type 0} → Bool → Counts → Counts → Result T HarvestFault → Type 0

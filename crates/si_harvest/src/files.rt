@@ -4,7 +4,7 @@ ghost use Rattle.si_defs.specs.Texts.{line_of};
 ghost use Rattle.si_state.specs.States.{Rules};
 ghost use Rattle.si_state.specs.Harvest.{MayAsk, IsBarred, IsWithheld};
 ghost use Rattle.si_term.specs.Meaning.{name_of};
-ghost use Rattle.si_io.specs.Library.{Counts};
+ghost use Rattle.si_io.specs.Library.{Counts, faults_in};
 ghost use Rattle.si_harvest.specs.Faults.{Explains, HasLoadCause, bounds_of};
 ghost use Rattle.si_harvest.specs.Opened.{HasOpened, opened, has_open, lists, is_selected};
 
@@ -80,6 +80,7 @@ pub fn may_ask(
 }
 
 /// Fetches a file, which is then open at its front.
+#[tactic(auto, using(si_io::proofs::Fetching::HasFetchCause_once))]
 pub fn open<L: Library>(
     alloc: Global,
     library: &mut L,
@@ -87,14 +88,17 @@ pub fn open<L: Library>(
     name: &[u8],
     chosen: Option<NameSet>,
 ) -> Result<OpenFile, HarvestFault>
-    ensures opened { IfOk result (HasOpened (L.files library.old) (bounds_of limits.now) name.now
+    ensures opened { IfOk result
+        (HasOpened (L.shown library.old).files (bounds_of limits.now) name.now
         chosen) }
     ensures withheld { IfErr result (λ e. (rules : Rules) → Explains rules e (λ fault. IfSome
-        (L.files library.old) (λ files. IsWithheld files (bounds_of limits.now) name.now fault))) }
-    ensures told { L.files library.new ≡ L.files library.old }
-    ensures same { L.may_fail library.new ≡ L.may_fail library.old }
-    ensures cause { HasLoadCause (L.may_fail library.old) (L.counts library.old)
-        (L.counts library.new) result }
+        (L.shown library.old).files
+        (λ files. IsWithheld files (bounds_of limits.now) name.now fault))) }
+    ensures told { (L.shown library.new).files ≡ (L.shown library.old).files }
+    ensures same { (L.shown library.new).may_fail ≡ (L.shown library.old).may_fail }
+    ensures cause { HasLoadCause (L.shown library.old).may_fail
+        (faults_in (L.shown library.old).counts)
+        (faults_in (L.shown library.new).counts) result }
 {
     let name_text = Text::from_bytes(alloc, name)?;
     let mut bytes = Vec::new(alloc);

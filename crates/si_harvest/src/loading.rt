@@ -1,6 +1,7 @@
 // Loads: all clauses of a file, or none.
 ghost use Rattle.std.specs.Prelude.{◌≡◌, ◌≤◌, IfOk, IfErr, IfSome, OnOk, OnErr};
 ghost use Rattle.si_defs.specs.declared.TheConstants.{MOST_OCCURRENCES};
+ghost use Rattle.si_io.specs.Library.{faults_in};
 ghost use Rattle.si_harvest.specs.Faults.{Explains, ChecksStart, HasLoadCause, bounds_of};
 ghost use Rattle.si_harvest.specs.Opened.{HasFault};
 ghost use Rattle.si_harvest.specs.Gains.{CountsNoMore, Gained, GainsByLoad};
@@ -26,19 +27,20 @@ pub fn expand<L: Library, T: ClauseStore>(
     requires limit { (T.rules store.old).entries ≤ MOST_OCCURRENCES }
     ensures loaded { IfOk result (λ loaded. Gained (T.rules store.old) (T.clauses store.old) loaded
         (T.clauses store.new)) }
-    ensures right { IfOk result (λ loaded. IfSome (L.files library.old) (λ files.
+    ensures right { IfOk result (λ loaded. IfSome (L.shown library.old).files (λ files.
         GainsByLoad files (bounds_of limits.now) (T.rules store.old) (T.clauses store.old) name.now
         (T.clauses store.new))) }
     ensures fault { IfErr result (λ e. Explains (T.rules store.old) e (HasFault
-        (L.files library.old) (bounds_of limits.now) (T.rules store.old) (T.clauses store.old)
+        (L.shown library.old).files (bounds_of limits.now) (T.rules store.old) (T.clauses store.old)
         name.now)) }
     ensures start { ChecksStart (bounds_of limits.now) (T.rules store.old) name.now result }
     ensures err { OnErr result (T.clauses store.new ≡ T.clauses store.old) }
     ensures rules { T.rules store.new ≡ T.rules store.old }
-    ensures told { L.files library.new ≡ L.files library.old }
-    ensures same { L.may_fail library.new ≡ L.may_fail library.old }
-    ensures cause { HasLoadCause (L.may_fail library.old) (L.counts library.old)
-        (L.counts library.new) result }
+    ensures told { (L.shown library.new).files ≡ (L.shown library.old).files }
+    ensures same { (L.shown library.new).may_fail ≡ (L.shown library.old).may_fail }
+    ensures cause { HasLoadCause (L.shown library.old).may_fail
+        (faults_in (L.shown library.old).counts)
+        (faults_in (L.shown library.new).counts) result }
 {
     let mut loaded = Loaded {
         clauses: 0,
@@ -67,20 +69,21 @@ fn read_all<L: Library, T: ClauseStore>(
     requires counted { CountsNoMore loaded.old (T.clauses store.old) }
     requires gained { Gained (T.rules store.old) (T.clauses store.old) loaded.old
         (T.clauses store.old) }
-    ensures right { OnOk result (IfSome (L.files library.old) (λ files. GainsByLoad files
+    ensures right { OnOk result (IfSome (L.shown library.old).files (λ files. GainsByLoad files
         (bounds_of limits.now) (T.rules store.old) (T.clauses store.old) name.now
         (T.clauses store.new))) }
     ensures fault { IfErr result (λ e. Explains (T.rules store.old) e (HasFault
-        (L.files library.old) (bounds_of limits.now) (T.rules store.old) (T.clauses store.old)
+        (L.shown library.old).files (bounds_of limits.now) (T.rules store.old) (T.clauses store.old)
         name.now)) }
     ensures start { ChecksStart (bounds_of limits.now) (T.rules store.old) name.now result }
     ensures gained { Gained (T.rules store.old) (T.clauses store.old) loaded.new
         (T.clauses store.new) }
     ensures rules { T.rules store.new ≡ T.rules store.old }
-    ensures told { L.files library.new ≡ L.files library.old }
-    ensures same { L.may_fail library.new ≡ L.may_fail library.old }
-    ensures cause { HasLoadCause (L.may_fail library.old) (L.counts library.old)
-        (L.counts library.new) result }
+    ensures told { (L.shown library.new).files ≡ (L.shown library.old).files }
+    ensures same { (L.shown library.new).may_fail ≡ (L.shown library.old).may_fail }
+    ensures cause { HasLoadCause (L.shown library.old).may_fail
+        (faults_in (L.shown library.old).counts)
+        (faults_in (L.shown library.new).counts) result }
 {
     let mut reading = Reading::new(alloc);
     reading.enter(alloc, library, limits, name, None)?;

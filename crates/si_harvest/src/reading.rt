@@ -5,6 +5,7 @@ ghost use Rattle.si_defs.specs.Clauses.{IsSoundClause};
 ghost use Rattle.si_defs.specs.declared.TheConstants.{MOST_OCCURRENCES};
 ghost use Rattle.si_state.specs.States.{Rules};
 ghost use Rattle.si_state.specs.Harvest.{IsRejected};
+ghost use Rattle.si_io.specs.Library.{faults_in};
 ghost use Rattle.si_term.specs.Meaning.{clause_of};
 ghost use Rattle.si_harvest.specs.declared.names.NameSet.{NameSet};
 ghost use Rattle.si_harvest.specs.declared.reading.Reading.{Reading};
@@ -54,14 +55,15 @@ impl Reading {
         name: &[u8],
         chosen: Option<NameSet>,
     ) -> Result<(), HarvestFault>
-        ensures entered { OnOk result (OpensInside (L.files library.old) (bounds_of limits.now)
-            name.now chosen self.old self.new) }
+        ensures entered { OnOk result (OpensInside (L.shown library.old).files
+            (bounds_of limits.now) name.now chosen self.old self.new) }
         ensures unopened { IfErr result (λ e. (rules : Rules) → Explains rules e (IsUnopened
-            (L.files library.old) (bounds_of limits.now) name.now self.old)) }
-        ensures told { L.files library.new ≡ L.files library.old }
-        ensures same { L.may_fail library.new ≡ L.may_fail library.old }
-        ensures cause { HasLoadCause (L.may_fail library.old) (L.counts library.old)
-            (L.counts library.new) result }
+            (L.shown library.old).files (bounds_of limits.now) name.now self.old)) }
+        ensures told { (L.shown library.new).files ≡ (L.shown library.old).files }
+        ensures same { (L.shown library.new).may_fail ≡ (L.shown library.old).may_fail }
+        ensures cause { HasLoadCause (L.shown library.old).may_fail
+            (faults_in (L.shown library.old).counts) (faults_in (L.shown library.new).counts)
+            result }
     {
         may_ask(alloc, self.files.as_slice(), self.fetches, limits, name)?;
         let file = open(alloc, library, limits, name, chosen)?;
@@ -123,16 +125,18 @@ impl Reading {
             × Lists (selection_of selection.now) chosen
             × (middle.files.items ≡ self.old.files.items ++ file ∷ [])
             × (middle.fetches ≡ self.old.fetches)
-            × OpensInside (L.files library.old) (bounds_of limits.now) name.now chosen middle
+            × OpensInside (L.shown library.old).files (bounds_of limits.now) name.now chosen middle
             self.new) }
         ensures unopened { IfErr result (λ e. (rules : Rules) → Explains rules e (λ fault.
             (middle : Reading) × (middle.files.items ≡ self.old.files.items ++ file ∷ [])
             × (middle.fetches ≡ self.old.fetches)
-            × IsUnopened (L.files library.old) (bounds_of limits.now) name.now middle fault)) }
-        ensures told { L.files library.new ≡ L.files library.old }
-        ensures same { L.may_fail library.new ≡ L.may_fail library.old }
-        ensures cause { HasLoadCause (L.may_fail library.old) (L.counts library.old)
-            (L.counts library.new) result }
+            × IsUnopened (L.shown library.old).files (bounds_of limits.now) name.now middle
+            fault)) }
+        ensures told { (L.shown library.new).files ≡ (L.shown library.old).files }
+        ensures same { (L.shown library.new).may_fail ≡ (L.shown library.old).may_fail }
+        ensures cause { HasLoadCause (L.shown library.old).may_fail
+            (faults_in (L.shown library.old).counts) (faults_in (L.shown library.new).counts)
+            result }
     {
         self.push(file)?;
         let chosen = chosen(alloc, selection)?;
@@ -152,7 +156,7 @@ impl Reading {
         requires file { limits.now.file ≤ MOST_OCCURRENCES }
         requires limit { (T.rules store.old).entries ≤ MOST_OCCURRENCES }
         requires counted { CountsNoMore loaded.old (T.clauses store.old) }
-        ensures stepped { StepsReading (L.files library.old) (bounds_of limits.now)
+        ensures stepped { StepsReading (L.shown library.old).files (bounds_of limits.now)
             (T.rules store.old) self.old self.new (T.clauses store.old) (T.clauses store.new)
             result }
         ensures counted { CountsNoMore loaded.new (T.clauses store.new) }
@@ -160,10 +164,11 @@ impl Reading {
             → Gained (T.rules store.old) start loaded.old (T.clauses store.old)
             → Gained (T.rules store.old) start loaded.new (T.clauses store.new) }
         ensures rules { T.rules store.new ≡ T.rules store.old }
-        ensures told { L.files library.new ≡ L.files library.old }
-        ensures same { L.may_fail library.new ≡ L.may_fail library.old }
-        ensures cause { HasLoadCause (L.may_fail library.old) (L.counts library.old)
-            (L.counts library.new) result }
+        ensures told { (L.shown library.new).files ≡ (L.shown library.old).files }
+        ensures same { (L.shown library.new).may_fail ≡ (L.shown library.old).may_fail }
+        ensures cause { HasLoadCause (L.shown library.old).may_fail
+            (faults_in (L.shown library.old).counts) (faults_in (L.shown library.new).counts)
+            result }
     {
         let Some(mut file) = self.files.pop() else {
             return Ok(false);

@@ -3,8 +3,6 @@
 use Rattle.std.proofs.Common.{◌≡◌, ℕ, ◌+◌, ◌-◌, ◌≤◌, List, [], ◌++◌, Option, None, Some, IfSome, length, take, drop, refl, sym, ap, ◌∙◌, append_assoc, append-nil, arith, take-add, length-append, drop-drop, take-append-drop}
 use Rattle.std.proofs.Math.Seq.{take-append-add, take-append_seam, drop-append_seam}
 use Rattle.std.proofs.lemmas.List.{take-append-le}
-use Rattle.std.specs.Prelude.{Result, Ok, Err}
-use Rattle.si_io.specs.Puts.{Puts}
 use Rattle.si_io.specs.Content.{Told, bytes_then, append_told, prepend_told, Receives, ReceivesPrefix, Takes}
 use Rattle.std.specs.Io.KnownBytes.{IsAtEnd}
 
@@ -54,14 +52,6 @@ ReceivesPrefix_then a b c bs cs first part = record {
   given = Receives_then a b c bs (take part.count cs) first part.given ∙ ap (λ (l : List ℕ). append_told a l) (sym (take-append-add bs cs part.count));
   past_room = omega (arith, length-append bs cs, ap (λ (t : Told). t.room) first, part.past_room);
 }
-
--- all of a text, and then what a call writes of the next
-pub Puts_then : {T E : Type 0} (r : Result T E) (a b c : Told) (bs cs : List ℕ) → Receives a bs b → Puts r cs b c → Puts r (bs ++ cs) a c
-Puts_then (Ok x) a b c bs cs first then = record { all = Receives_then a b c bs cs first then.all; part = tt }
-Puts_then (Err e) a b c bs cs first then = record { all = tt; part = ReceivesPrefix_then a b c bs cs first then.part }
-
--- what a function owes that writes one text after the other: name it in the function's `using`
-pub ruleset writes = (Receives_then, ReceivesPrefix_then, ReceivesPrefix_more, Puts_then)
 
 -- Sources
 

@@ -1,11 +1,11 @@
--- What a rise of a count of faults says of a longer stretch of calls.
-use Rattle.std.proofs.Common.{ℕ, ◌≤◌, arith}
-use Rattle.si_io.specs.Faults.{Rose}
+-- What reads, and what calls that follow one another, make of a count of faults.
+use Rattle.std.proofs.Common.{◌≡◌, ℕ, Result, Ok, Err, ap, arith}
+use Rattle.si_io.specs.declared.failed.Failed.{Failed}
+use Rattle.si_io.specs.declared.counts.SourceCounts.{SourceCounts}
+use Rattle.si_io.specs.Counts.{read_counted}
+use Rattle.si_io.specs.Faults.{HasCause}
 
--- calls that follow keep the rise
-pub Rose_before : (a b c : ℕ) → Rose a b → b ≤ c → Rose a c
-Rose_before a b c rose later = omega arith
-
--- calls that came earlier keep it too
-pub Rose_after : (a b c : ℕ) → a ≤ b → Rose b c → Rose a c
-Rose_after a b c earlier rose = omega arith
+-- what a read counted has its cause
+pub HasCause_counted : (r : Result ℕ Failed) (room : ℕ) (before now : SourceCounts) → now ≡ read_counted room r before → HasCause before.faults now.faults r
+HasCause_counted (Ok n) room before now counted = let faults = ap (λ (k : SourceCounts). k.faults) counted in record { later = omega (arith, faults); kept = faults; failed = tt }
+HasCause_counted (Err e) room before now counted = let faults = ap (λ (k : SourceCounts). k.faults) counted in record { later = omega (arith, faults); kept = tt; failed = faults }

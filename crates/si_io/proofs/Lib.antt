@@ -2,4 +2,6 @@ pub mod Content
 pub mod Faults
 pub mod Fetching
 pub mod Files
-pub mod Written
+pub mod Gives
+pub mod Sends
+pub mod Tries

@@ -6,22 +6,29 @@ use Rattle.std.specs.declared.io.Error.{Error}
 use Rattle.std.specs.declared.io.ErrorKind.{ErrorKind}
 use Rattle.std.specs.declared.io.ErrorKind.TheVariants.{NotFound}
 use Rattle.si_io.specs.declared.library.Fetched.{Fetched}
-use Rattle.si_io.specs.declared.library.Fetched.TheVariants.{Missing, Failed}
+use Rattle.si_io.specs.declared.library.Fetched.TheVariants.{Found, Missing, Failed}
 use Rattle.si_io.specs.Library.{IsFileRead}
+use Rattle.si_io.specs.Tries.{TriesWith}
 
--- Where the name is text, the disk was asked once to open it, and Then says what comes of its
--- answer. Any other name is refused without a call, and Else says what comes of that.
-abbrev pub AsksOnce : {D F : Type 0} → (opens : D → List ℕ → Result F Error → D → Type 0)
+-- Where the name is text, the disk was asked to open it, once but for signals, and Then says what
+-- comes of its answer. Any other name is refused without a call, and Else says what comes of that.
+abbrev pub AsksFor : {D F : Type 0} → (opens : D → List ℕ → Result F Error → D → Type 0)
     → (before : D) → (name : List ℕ) → (after : D) → (Then : Result F Error → Type 0)
     → (Else : Type 0) → Type 0
-AsksOnce opens before name after Then Else =
-    (IsUtf8 name × ((answer : _) × opens before name answer after × Then answer))
+AsksFor opens before name after Then Else =
+    (IsUtf8 name × ((answer : _)
+    × TriesWith opens before name answer after × Then answer))
     ⊎ (¬ IsUtf8 name × (after ≡ before) × Else)
 
 -- the one kind of error that says that there is no such file
 abbrev pub is_not_found : ErrorKind → Bool
 is_not_found NotFound = true
 is_not_found _ = false
+
+-- whether the file's bytes are there
+abbrev pub is_found : Fetched → Bool
+is_found Found = true
+is_found answer = false
 
 -- what a fetch answers where the file wasn't opened
 abbrev pub unfetched : Error → Fetched

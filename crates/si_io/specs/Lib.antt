@@ -1,10 +1,12 @@
 pub mod Content
-pub mod Counted
+pub mod Counts
 pub mod Disk
 pub mod Faults
-pub mod Folder
+pub mod Gives
 pub mod Library
 pub mod Memory
 pub mod Plan
-pub mod Puts
 pub mod Real
+pub mod Sends
+pub mod Shown
+pub mod Tries

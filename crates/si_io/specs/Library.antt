@@ -1,6 +1,7 @@
 -- What a library tells of its files and counts, and what a fetch makes of them.
 use Rattle.std.specs.Prelude.{◌≡◌, ◌<◌, ◌≤◌, ℕ, List, [], Option, None, Some, IsSomeAnd, IfSome, length, ⊤}
-use Rattle.si_io.specs.Faults.{Rose, raised}
+use Rattle.si_io.specs.Counts.{raised}
+use Rattle.si_io.specs.declared.counts.LibraryCounts.{LibraryCounts}
 use Rattle.si_io.specs.declared.library.Fetched.{Fetched}
 use Rattle.si_io.specs.declared.library.Fetched.TheVariants.{Found, Missing, TooBig, Failed, Memory}
 
@@ -36,27 +37,20 @@ IsFileRead known limit Failed into = ⊤
 IsFileRead known limit Memory into = ⊤
 
 -- How often a library has failed, how often it had no such file, and how often a file was too big.
--- Each count never falls and stands still at the largest `u64`.
 pub record Counts : Type 0 where
   pub faults : ℕ
   pub misses : ℕ
   pub bigs : ℕ
 
--- Each answer but Found and Memory has a count of its own. It rose, and no other count moved.
+-- what a library counted, but for the number of its calls
+abbrev pub faults_in : LibraryCounts → Counts
+faults_in counts =
+    record { faults = counts.faults; misses = counts.misses; bigs = counts.bigs }
+
+-- Each answer but Found and Memory has a count of its own, which is one more. No other count moved.
 abbrev pub HasFetchCause : Counts → Counts → Fetched → Type 0
 HasFetchCause before now Found = now ≡ before
-HasFetchCause before now Missing =
-    Rose before.misses now.misses × (now ≡ record before { misses = now.misses })
-HasFetchCause before now TooBig =
-    Rose before.bigs now.bigs × (now ≡ record before { bigs = now.bigs })
-HasFetchCause before now Failed =
-    Rose before.faults now.faults × (now ≡ record before { faults = now.faults })
+HasFetchCause before now Missing = now ≡ record before { misses = raised before.misses }
+HasFetchCause before now TooBig = now ≡ record before { bigs = raised before.bigs }
+HasFetchCause before now Failed = now ≡ record before { faults = raised before.faults }
 HasFetchCause before now Memory = now ≡ before
-
--- the counts after such an answer, where each is counted once
-abbrev pub counted : Fetched → Counts → Counts
-counted Found counts = counts
-counted Missing counts = record counts { misses = raised counts.misses }
-counted TooBig counts = record counts { bigs = raised counts.bigs }
-counted Failed counts = record counts { faults = raised counts.faults }
-counted Memory counts = counts

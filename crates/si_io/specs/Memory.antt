@@ -6,8 +6,12 @@ use Rattle.indexmap.specs.IndexMap.{get_by}
 use Rattle.si_io.specs.declared.memory.source.MemorySource.{MemorySource}
 use Rattle.si_io.specs.declared.memory.sink.MemorySink.{MemorySink}
 use Rattle.si_io.specs.declared.memory.library.MemoryLibrary.{MemoryLibrary}
+use Rattle.si_io.specs.declared.counts.SourceCounts.{SourceCounts}
+use Rattle.si_io.specs.declared.counts.SinkCounts.{SinkCounts}
+use Rattle.si_io.specs.declared.counts.LibraryCounts.{LibraryCounts}
 use Rattle.si_io.specs.Content.{Told}
-use Rattle.si_io.specs.Library.{Files, Counts}
+use Rattle.si_io.specs.Shown.{SourceShown, SinkShown, LibraryShown}
+use Rattle.si_io.specs.Library.{Files}
 use Rattle.si_io.specs.Plan.{lists_any}
 
 -- the bytes still to come
@@ -20,19 +24,23 @@ source_chunk source = source.chunk
 
 -- the numbers of the calls that fail
 abbrev pub source_failing : MemorySource → List ℕ
-source_failing source = source.plan.failing.items
+source_failing source = source.failing.items
 
--- how many calls were made, up to the largest `u64`
-abbrev pub source_calls : MemorySource → ℕ
-source_calls source = source.plan.calls
-
--- how often it has failed
-abbrev pub source_faults : MemorySource → ℕ
-source_faults source = source.plan.faults
+-- what it has counted so far
+abbrev pub source_counts : MemorySource → SourceCounts
+source_counts source = source.counts
 
 -- whether any of its calls is to fail
 abbrev pub source_may_fail : MemorySource → Bool
 source_may_fail source = lists_any (source_failing source)
+
+-- what it shows of itself
+abbrev pub source_shown : MemorySource → SourceShown
+source_shown source = record {
+  left = Some (source_left source);
+  may_fail = source_may_fail source;
+  counts = source_counts source;
+}
 
 -- no call changes how the source was made
 pub record SameSource (old new : MemorySource) : Type 0 where
@@ -53,24 +61,24 @@ sink_chunk sink = sink.chunk
 
 -- the numbers of the calls that fail
 abbrev pub sink_failing : MemorySink → List ℕ
-sink_failing sink = sink.plan.failing.items
+sink_failing sink = sink.failing.items
 
--- how many calls were made, up to the largest `u64`
-abbrev pub sink_calls : MemorySink → ℕ
-sink_calls sink = sink.plan.calls
-
--- how often it has failed
-abbrev pub sink_faults : MemorySink → ℕ
-sink_faults sink = sink.plan.faults
+-- what it has counted so far
+abbrev pub sink_counts : MemorySink → SinkCounts
+sink_counts sink = sink.counts
 
 -- how many more bytes it is sure to take: those that there is room for, if no call is to fail
 abbrev pub sink_sure : MemorySink → ℕ
 sink_sure sink =
     if lists_any (sink_failing sink) then 0 else sink_room sink - length (sink_bytes sink)
 
--- what it tells of itself
+-- what it tells of its bytes and its room
 abbrev pub sink_told : MemorySink → Told
 sink_told sink = record { bytes = Some (sink_bytes sink); room = sink_sure sink }
+
+-- what it shows of itself
+abbrev pub sink_shown : MemorySink → SinkShown
+sink_shown sink = record { told = sink_told sink; counts = sink_counts sink }
 
 -- no call changes how the sink was made
 pub record SameSink (old new : MemorySink) : Type 0 where
@@ -85,20 +93,23 @@ library_files library name =
 
 -- the numbers of the fetches that fail
 abbrev pub library_failing : MemoryLibrary → List ℕ
-library_failing library = library.plan.failing.items
+library_failing library = library.failing.items
 
 -- whether any of its fetches is to fail
 abbrev pub library_may_fail : MemoryLibrary → Bool
 library_may_fail library = lists_any (library_failing library)
 
--- how many fetches were made, up to the largest `u64`
-abbrev pub library_calls : MemoryLibrary → ℕ
-library_calls library = library.plan.calls
+-- what it has counted so far
+abbrev pub library_counts : MemoryLibrary → LibraryCounts
+library_counts library = library.counts
 
--- how often it has failed, had no such file, and had one that was too big
-abbrev pub library_counts : MemoryLibrary → Counts
-library_counts library =
-    record { faults = library.plan.faults; misses = library.misses; bigs = library.bigs }
+-- what it shows of itself
+abbrev pub library_shown : MemoryLibrary → LibraryShown
+library_shown library = record {
+  files = Some (library_files library);
+  may_fail = library_may_fail library;
+  counts = library_counts library;
+}
 
 -- no name has a file
 abbrev pub has_no_file : Files
@@ -112,5 +123,4 @@ pub record PutsFile (name bytes : List ℕ) (old new : Files) : Type 0 where
 -- a put changes nothing but the files
 pub record SameLibrary (old new : MemoryLibrary) : Type 0 where
   pub failing : library_failing new ≡ library_failing old
-  pub calls : library_calls new ≡ library_calls old
   pub counts : library_counts new ≡ library_counts old

@@ -1,41 +1,76 @@
--- What a real source, a real sink and a real library show of themselves.
-use Rattle.std.specs.Prelude.{ℕ, Bool, List, [], ◌∷◌, nat_eq, IsTrue}
+-- What a real source, a real sink and a real library show of themselves, and what their calls make
+-- of what std answered.
+use Rattle.std.specs.Prelude.{◌≡◌, ◌⊎◌, ℕ, true, List, [], ◌∷◌, None, Result, Ok, Err, IsErr, nat_eq, length, ⊤, IsTrue, IsFalse}
 use Rattle.std.specs.List.{ends_with}
+use Rattle.std.specs.declared.io.Error.{Error}
+use Rattle.si_io.specs.declared.failed.Failed.{Failed}
 use Rattle.si_io.specs.declared.real.source.RealSource.{RealSource}
 use Rattle.si_io.specs.declared.real.sink.RealSink.{RealSink}
 use Rattle.si_io.specs.declared.real.library.RealLibrary.{RealLibrary}
-use Rattle.si_io.specs.Folder.{disk_of, counts_of}
-use Rattle.si_io.specs.Library.{Counts}
-use Rattle.si_io.specs.Counted.{device_of, faults_of, is_flushed}
+use Rattle.si_io.specs.declared.counts.SourceCounts.{SourceCounts}
+use Rattle.si_io.specs.declared.counts.SinkCounts.{SinkCounts}
+use Rattle.si_io.specs.declared.counts.LibraryCounts.{LibraryCounts}
+use Rattle.si_io.specs.Content.{untold}
+use Rattle.si_io.specs.Counts.{none_of_some}
+use Rattle.si_io.specs.Shown.{SourceShown, SinkShown, LibraryShown}
+use Rattle.si_io.specs.Tries.{Tries}
 
--- the reader behind a source
+-- the reader of a source, what it counted, and what it shows
 abbrev pub reader_of : {R : Type 0} → RealSource R → R
-reader_of source = device_of source.reader
+reader_of source = source.reader
 
--- the errors of a source so far
-abbrev pub reader_faults : {R : Type 0} → RealSource R → ℕ
-reader_faults source = faults_of source.reader
+abbrev pub reads_of : {R : Type 0} → RealSource R → SourceCounts
+reads_of source = source.counts
 
--- the writer behind a sink
+abbrev pub source_shown : {R : Type 0} → RealSource R → SourceShown
+source_shown source = record { left = None; may_fail = true; counts = source.counts }
+
+-- the writer of a sink, what it counted, and what it shows
 abbrev pub writer_of : {W : Type 0} → RealSink W → W
-writer_of sink = device_of sink.writer
+writer_of sink = sink.writer
 
--- the errors of a sink so far
-abbrev pub writer_faults : {W : Type 0} → RealSink W → ℕ
-writer_faults sink = faults_of sink.writer
+abbrev pub writes_of : {W : Type 0} → RealSink W → SinkCounts
+writes_of sink = sink.counts
 
--- whether no write has come since the last flush that succeeded
-abbrev pub is_writer_flushed : {W : Type 0} → RealSink W → Bool
-is_writer_flushed sink = is_flushed sink.writer
+abbrev pub sink_shown : {W : Type 0} → RealSink W → SinkShown
+sink_shown sink = record { told = untold; counts = sink.counts }
+
+-- the disk of a library, what it counted, and what it shows
+abbrev pub disk_of : {D : Type 0} → RealLibrary D → D
+disk_of library = library.disk
+
+abbrev pub fetches_of : {D : Type 0} → RealLibrary D → LibraryCounts
+fetches_of library = library.counts
+
+abbrev pub library_shown : {D : Type 0} → RealLibrary D → LibraryShown
+library_shown library = record { files = None; may_fail = true; counts = library.counts }
+
+-- A call answers what std answered: the same number, or that it failed.
+abbrev pub Hears : {T : Type 0} → Result T Error → Result T Failed → Type 0
+Hears (Ok value) result = result ≡ Ok value
+Hears (Err error) result = IsErr result
 
 -- The last of the bytes is a line feed.
 abbrev pub EndsLine : List ℕ → Type 0
 EndsLine bytes = IsTrue (ends_with nat_eq bytes (10 ∷ []))
 
--- the disk behind a library
-abbrev pub library_disk : {D : Type 0} → RealLibrary D → D
-library_disk library = disk_of library.folder
+-- All of the bytes were taken, and they end a line.
+abbrev pub Completes : (count : ℕ) → (bytes : List ℕ) → Type 0
+Completes count bytes = (count ≡ length bytes) × EndsLine bytes
 
--- what a library counted so far
-abbrev pub library_counts : {D : Type 0} → RealLibrary D → Counts
-library_counts library = counts_of library.folder
+-- What a sink makes of the answer to its flush after so many bytes were written.
+abbrev pub HearsFlush : (count : ℕ) → Result ⊤ Error → Result ℕ Failed → Type 0
+HearsFlush count (Ok done) result = result ≡ Ok count
+HearsFlush count (Err error) result = IsErr result
+
+-- What a sink makes of the answer to its write. Where a line is complete, one flush follows, and
+-- the write succeeds only if the flush does. Nothing taken of some bytes is a failure.
+abbrev pub FlushesLine : {W : Type 0} → (Flush : W → Result ⊤ Error → W → Type 0)
+    → (bytes : List ℕ) → Result ℕ Error → (middle after : W) → Result ℕ Failed → Type 0
+FlushesLine Flush bytes (Err error) middle after result = (after ≡ middle) × IsErr result
+FlushesLine Flush bytes (Ok n) middle after result =
+    (Completes n bytes × ((flushed : Result ⊤ Error) × Tries Flush middle flushed after
+    × HearsFlush n flushed result))
+    ⊎ (¬ Completes n bytes × (after ≡ middle)
+    × (IsTrue (none_of_some n (length bytes)) → IsErr result)
+    × (IsFalse (none_of_some n (length bytes)) → result ≡ Ok n))

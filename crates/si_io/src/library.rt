@@ -1,5 +1,7 @@
-ghost use Rattle.std.specs.Prelude.{◌≡◌, Bool, Option, IfSome, IsTrue};
-ghost use Rattle.si_io.specs.Library.{Files, Counts, Fetches, Holds, HasFetchCause};
+ghost use Rattle.std.specs.Prelude.{◌≡◌, IfSome, IsTrue};
+ghost use Rattle.si_io.specs.Counts.{fetch_counted};
+ghost use Rattle.si_io.specs.Library.{Fetches, Holds};
+ghost use Rattle.si_io.specs.Shown.{LibraryShown};
 
 /// What became of a fetch.
 #[derive(Clone, Copy, Debug, PartialEq, Eq)]
@@ -18,27 +20,22 @@ pub enum Fetched {
 
 /// What files are fetched from, by their names.
 pub trait Library {
-    /// The files, where the library tells them. No fetch changes them.
-    ghost files: { Self → Option Files };
-
-    /// How often it has failed, had no such file, and had a file that was too big, each up to the
-    /// largest `u64`.
-    ghost counts: { Self → Counts };
-
-    /// Whether it may fail at all.
-    ghost may_fail: { Self → Bool };
+    /// The files, where the library tells them, which no fetch changes; whether it may fail at all;
+    /// and what it has counted so far.
+    ghost shown: { Self → LibraryShown };
 
     /// Puts the bytes of a file into `into`, in place of what it held, if there are at most
     /// `limit`.
     ///
-    /// After any answer but `Found`, `into` is empty. `Missing`, `TooBig` and `Failed` come only
-    /// where they were counted, each by its own count; `Found` and `Memory` move none.
+    /// After any answer but `Found`, `into` is empty. Each call is counted, and `Missing`, `TooBig`
+    /// and `Failed` each by a count of its own too.
     fn fetch(&mut self, name: &[u8], into: &mut Vec<u8>, limit: usize) -> Fetched
-        ensures right { IfSome (files self.old)
+        ensures right { IfSome (shown self.old).files
             (λ told. Fetches told name.now limit result into.new.items) }
         ensures holds { Holds result limit into.new.items }
-        ensures sure { result ≡ Fetched.Failed → IsTrue (may_fail self.old) }
-        ensures told { files self.new ≡ files self.old }
-        ensures same { may_fail self.new ≡ may_fail self.old }
-        ensures cause { HasFetchCause (counts self.old) (counts self.new) result };
+        ensures sure { result ≡ Fetched.Failed → IsTrue (shown self.old).may_fail }
+        ensures told { (shown self.new).files ≡ (shown self.old).files }
+        ensures same { (shown self.new).may_fail ≡ (shown self.old).may_fail }
+        ensures counts { (shown self.new).counts
+            ≡ fetch_counted result (shown self.old).counts };
 }

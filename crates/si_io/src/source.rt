@@ -1,37 +1,33 @@
-ghost use Rattle.std.specs.Prelude.{◌≡◌, ◌<◌, ◌≤◌, ℕ, Bool, List, Option, length, take, IfOk, OnErr, IsTrue};
+ghost use Rattle.std.specs.Prelude.{◌≡◌, ◌<◌, ◌≤◌, length, take, IfOk, OnErr, IsTrue};
 ghost use Rattle.std.specs.Io.KnownBytes.{IsAtEnd};
 ghost use Rattle.si_io.specs.Content.{Takes};
-ghost use Rattle.si_io.specs.Faults.{HasCause};
+ghost use Rattle.si_io.specs.Counts.{read_counted};
+ghost use Rattle.si_io.specs.Shown.{SourceShown};
 
 use crate::Failed;
 
 /// What bytes are read from.
 pub trait Source {
-    /// The bytes still to come, where the source tells them.
-    ghost left: { Self → Option (List ℕ) };
-
-    /// How often the source has failed, up to the largest `u64`.
-    ghost faults: { Self → ℕ };
-
-    /// Whether it may fail at all.
-    ghost may_fail: { Self → Bool };
+    /// The bytes still to come, where the source tells them; whether it may fail at all; and what
+    /// it has counted so far.
+    ghost shown: { Self → SourceShown };
 
     /// Reads some bytes into the front of `into`, and answers their number.
     ///
     /// It may give fewer than fit. `Ok(0)` on a slice that isn't empty is the end. `Failed` took
-    /// nothing, and comes only where the source has failed. At every other answer it has not
-    /// failed.
+    /// nothing. Each call is counted, with what it answered.
     ///
-    /// What stands in `into` behind the bytes that were read, and after `Failed` anywhere, isn't
+    /// What stands in `into` after the bytes that were read, and after `Failed` anywhere, isn't
     /// promised: a reader of std may write there.
     fn read(&mut self, into: &mut [u8]) -> Result<usize, Failed>
         ensures bound { IfOk result (λ n. n ≤ length into.old) }
-        ensures taken { IfOk result (λ n. Takes (left self.old) (take n into.new)
-            (left self.new)) }
+        ensures taken { IfOk result (λ n. Takes (shown self.old).left (take n into.new)
+            (shown self.new).left) }
         ensures ended { IfOk result (λ n. n ≡ 0 → 0 < length into.old
-            → IsAtEnd (left self.old)) }
-        ensures kept { OnErr result (left self.new ≡ left self.old) }
-        ensures sure { OnErr result (IsTrue (may_fail self.old)) }
-        ensures same { may_fail self.new ≡ may_fail self.old }
-        ensures cause { HasCause (faults self.old) (faults self.new) result };
+            → IsAtEnd (shown self.old).left) }
+        ensures kept { OnErr result ((shown self.new).left ≡ (shown self.old).left) }
+        ensures sure { OnErr result (IsTrue (shown self.old).may_fail) }
+        ensures same { (shown self.new).may_fail ≡ (shown self.old).may_fail }
+        ensures counts { (shown self.new).counts
+            ≡ read_counted (length into.old) result (shown self.old).counts };
 }

@@ -7,11 +7,12 @@ use std::io::{Read, Write};
 use std::test::Fail;
 use std::{fs, io};
 
-/// Gives one letter a call, and fails at one of the calls.
+/// Gives one letter a call, and fails at one of the calls. A signal interrupts another.
 #[derive(Drop)]
 struct Letters {
     calls: u8,
     fails_at: u8,
+    interrupted_at: u8,
 }
 
 impl Read for Letters {
@@ -20,7 +21,10 @@ impl Read for Letters {
         if self.calls == self.fails_at {
             return Err(io::Error::from(io::ErrorKind::BrokenPipe));
         }
-        if into.is_empty() || self.calls > 4 {
+        if self.calls == self.interrupted_at {
+            return Err(io::Error::from(io::ErrorKind::Interrupted));
+        }
+        if into.is_empty() || self.calls > 5 {
             return Ok(0);
         }
         into[0] = b'a' + self.calls;
@@ -34,10 +38,11 @@ fn read_from<S: Source>(source: &mut S, into: &mut [u8]) -> Result<usize, Failed
 }
 
 #[test]
-fn a_real_source_fails_once_and_goes_on(rt: HostRuntime) {
+fn a_real_source_fails_once_is_interrupted_and_goes_on(rt: HostRuntime) {
     let mut letters = Letters {
         calls: 0,
         fails_at: 2,
+        interrupted_at: 3,
     };
     let mut source = RealSource::new(&mut letters);
     let mut into = [b'-'; 2];
@@ -45,10 +50,10 @@ fn a_real_source_fails_once_and_goes_on(rt: HostRuntime) {
     assert_eq!(rt; read_from(&mut source, &mut into), Err(Failed));
     assert_eq!(rt; into.as_slice(), b"b-".as_slice());
     assert_eq!(rt; source.read(&mut into[1..]), Ok(1));
-    assert_eq!(rt; into.as_slice(), b"bd".as_slice());
+    assert_eq!(rt; into.as_slice(), b"be".as_slice());
     assert_eq!(rt; source.read(&mut into), Ok(1));
     assert_eq!(rt; source.read(&mut into), Ok(0));
-    assert_eq!(rt; letters.calls, 5);
+    assert_eq!(rt; letters.calls, 6);
 }
 
 /// Takes up to three bytes a call, nothing at all once it is full, and fails at one of the calls.

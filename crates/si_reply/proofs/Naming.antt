@@ -19,7 +19,7 @@ use Rattle.si_flat.specs.Numbered.{numbered, all_numbered, place_in}
 use Rattle.si_flat.specs.Flattened.{numbers_from, extra_numbers}
 use Rattle.si_flat.proofs.Numbers.{has-among, among-number}
 use Rattle.si_flat.proofs.Subterms.{length-cells_of, span-first}
-use Rattle.si_io.specs.Content.{Told}
+use Rattle.si_io.specs.Shown.{SinkShown}
 use Rattle.si_defs.specs.Printing.{separated, term_text, more_texts, bindings_texts, solution_text}
 use Rattle.si_defs.proofs.ListLaws.{among_parts}
 use Rattle.si_reply.specs.PrintedParts.{arguments_text, binding_text, more_bindings_text, bindings_text}
@@ -214,7 +214,7 @@ none_left n cs (terms.more t ts) h none =
     absurd (omega (arith, none, ap length h.cells_are, length-append (cells_of (numbered (symbol_number n) (numbered_variable n) t)) (cells_of_all (all_numbered (symbol_number n) (numbered_variable n) ts)), length-cells_of (numbered (symbol_number n) (numbered_variable n) t), positive n t))
 
 -- ---- terms of which some are written, each behind a comma
-pub record LeftToPut (n : Naming) (rest : List Cell) (old now : Told) (ts : terms.Terms Symbol Variable) : Type 0 where
+pub record LeftToPut (n : Naming) (rest : List Cell) (old now : SinkShown) (ts : terms.Terms Symbol Variable) : Type 0 where
   pub left : terms.Terms Symbol Variable
   pub shows : ShowAll n rest left
   pub wrote : Wrote old now (more_texts variable_text ts) (more_texts variable_text left)

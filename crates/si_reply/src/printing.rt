@@ -5,8 +5,7 @@ ghost use Rattle.si_defs.specs.Bytes.{is_lower_word, is_word_byte};
 ghost use Rattle.si_defs.specs.Tokens.{escaped, quoted};
 ghost use Rattle.si_defs.specs.Terms.{row};
 ghost use Rattle.si_defs.specs.Printing.{word_text, file_text, name_text, symbol_text, term_text, more_texts, path_text, place_text, map_text};
-ghost use Rattle.si_io.specs.Puts.{Puts};
-ghost use Rattle.si_io.specs.Faults.{HasCause};
+ghost use Rattle.si_io.specs.Sends.{Sends};
 ghost use Rattle.si_term.specs.Terms.{symbol_of, term_of};
 ghost use Rattle.si_term.specs.Meaning.{name_of, place_of};
 ghost use Rattle.si_reply.specs.PrintedParts.{arguments_text, numbers_behind, number_list};
@@ -19,8 +18,7 @@ use si_term::{Name, NameKind, Place, Sym, SymKind, Term};
 /// Writes the bytes.
 #[inline(always)]
 pub fn put_bytes<K: Sink>(sink: &mut K, bytes: &[u8]) -> Result<(), Failed>
-    ensures text { Puts result bytes.now (K.written sink.old) (K.written sink.new) }
-    ensures cause { HasCause (K.faults sink.old) (K.faults sink.new) result }
+    ensures { Sends result bytes.now (K.shown sink.old) (K.shown sink.new) }
 {
     if bytes.is_empty() {
         return Ok(());
@@ -36,11 +34,10 @@ pub fn put_bytes<K: Sink>(sink: &mut K, bytes: &[u8]) -> Result<(), Failed>
 }
 
 /// Writes a word, and then a number.
-#[tactic(auto, using(si_io::proofs::Content::writes))]
+#[tactic(auto, using(si_io::proofs::Sends::sends))]
 pub fn put_number<K: Sink>(sink: &mut K, word: &[u8], number: u64) -> Result<(), Failed>
-    ensures text { Puts result (word.now ++ decimal number) (K.written sink.old)
-        (K.written sink.new) }
-    ensures cause { HasCause (K.faults sink.old) (K.faults sink.new) result }
+    ensures { Sends result (word.now ++ decimal number) (K.shown sink.old)
+        (K.shown sink.new) }
 {
     put_bytes(sink, word)?;
     let mut buffer = Buffer::new();
@@ -48,10 +45,10 @@ pub fn put_number<K: Sink>(sink: &mut K, word: &[u8], number: u64) -> Result<(),
 }
 
 /// Writes a text between quotes, with a backslash before each quote and each backslash.
-#[tactic(auto, using(si_io::proofs::Content::writes))]
+#[tactic(auto, using(si_io::proofs::Sends::sends))]
 pub fn put_quoted<K: Sink>(sink: &mut K, quote: u8, text: &[u8]) -> Result<(), Failed>
-    ensures text { Puts result (quoted quote text.now) (K.written sink.old) (K.written sink.new) }
-    ensures cause { HasCause (K.faults sink.old) (K.faults sink.new) result }
+    ensures { Sends result (quoted quote text.now) (K.shown sink.old)
+        (K.shown sink.new) }
 {
     put_bytes(sink, &[quote])?;
     put_escaped(sink, quote, text)?;
@@ -60,17 +57,15 @@ pub fn put_quoted<K: Sink>(sink: &mut K, quote: u8, text: &[u8]) -> Result<(), F
 
 /// Writes the name of a file.
 pub fn put_file<K: Sink>(sink: &mut K, file: &[u8]) -> Result<(), Failed>
-    ensures text { Puts result (file_text file.now) (K.written sink.old) (K.written sink.new) }
-    ensures cause { HasCause (K.faults sink.old) (K.faults sink.new) result }
+    ensures { Sends result (file_text file.now) (K.shown sink.old) (K.shown sink.new) }
 {
     put_quoted(sink, b'\'', file)
 }
 
 /// Writes a name.
 pub fn put_name<K: Sink>(sink: &mut K, name: &Name) -> Result<(), Failed>
-    ensures text { Puts result (name_text (name_of name.now)) (K.written sink.old)
-        (K.written sink.new) }
-    ensures cause { HasCause (K.faults sink.old) (K.faults sink.new) result }
+    ensures { Sends result (name_text (name_of name.now)) (K.shown sink.old)
+        (K.shown sink.new) }
 {
     match name.kind {
         NameKind::Word => put_word(sink, name.text.as_bytes()),
@@ -80,9 +75,8 @@ pub fn put_name<K: Sink>(sink: &mut K, name: &Name) -> Result<(), Failed>
 
 /// Writes a symbol.
 pub fn put_symbol<K: Sink>(sink: &mut K, sym: &Sym) -> Result<(), Failed>
-    ensures text { Puts result (symbol_text (symbol_of sym.now)) (K.written sink.old)
-        (K.written sink.new) }
-    ensures cause { HasCause (K.faults sink.old) (K.faults sink.new) result }
+    ensures { Sends result (symbol_text (symbol_of sym.now)) (K.shown sink.old)
+        (K.shown sink.new) }
 {
     let text = sym.text.as_bytes();
     match sym.kind {
@@ -95,12 +89,11 @@ pub fn put_symbol<K: Sink>(sink: &mut K, sym: &Sym) -> Result<(), Failed>
 }
 
 /// Writes a term, with `mark` before each variable.
-#[tactic(auto, using(si_io::proofs::Content::writes))]
+#[tactic(auto, using(si_io::proofs::Sends::sends))]
 #[cycle(put)]
 pub fn put_term<K: Sink>(sink: &mut K, term: &Term, mark: &[u8]) -> Result<(), Failed>
-    ensures text { Puts result (term_text (λ x. mark.now ++ x) (term_of term.now))
-        (K.written sink.old) (K.written sink.new) }
-    ensures cause { HasCause (K.faults sink.old) (K.faults sink.new) result }
+    ensures { Sends result (term_text (λ x. mark.now ++ x) (term_of term.now))
+        (K.shown sink.old) (K.shown sink.new) }
 {
     match term {
         Term::Var(name) => {
@@ -115,11 +108,10 @@ pub fn put_term<K: Sink>(sink: &mut K, term: &Term, mark: &[u8]) -> Result<(), F
 }
 
 /// Writes where an entry stands: its clause, its literal's number and its path.
-#[tactic(auto, using(si_io::proofs::Content::writes))]
+#[tactic(auto, using(si_io::proofs::Sends::sends))]
 pub fn put_place<K: Sink>(sink: &mut K, name: &Name, place: &Place) -> Result<(), Failed>
-    ensures text { Puts result (place_text (name_of name.now) (place_of place.now))
-        (K.written sink.old) (K.written sink.new) }
-    ensures cause { HasCause (K.faults sink.old) (K.faults sink.new) result }
+    ensures { Sends result (place_text (name_of name.now) (place_of place.now))
+        (K.shown sink.old) (K.shown sink.new) }
 {
     put_name(sink, name)?;
     put_number(sink, b":", u64::from(place.literal))?;
@@ -127,10 +119,9 @@ pub fn put_place<K: Sink>(sink: &mut K, name: &Name, place: &Place) -> Result<()
 }
 
 /// Writes a map of literals.
-#[tactic(auto, using(si_io::proofs::Content::writes))]
+#[tactic(auto, using(si_io::proofs::Sends::sends))]
 pub fn put_map<K: Sink>(sink: &mut K, map: &LitMap) -> Result<(), Failed>
-    ensures text { Puts result (map_text map.now) (K.written sink.old) (K.written sink.new) }
-    ensures cause { HasCause (K.faults sink.old) (K.faults sink.new) result }
+    ensures { Sends result (map_text map.now) (K.shown sink.old) (K.shown sink.new) }
 {
     put_bytes(sink, b"[")?;
     put_list(sink, map.as_slice())?;
@@ -139,9 +130,8 @@ pub fn put_map<K: Sink>(sink: &mut K, map: &LitMap) -> Result<(), Failed>
 
 /// Writes numbers with commas between them.
 fn put_list<K: Sink>(sink: &mut K, numbers: &[u32]) -> Result<(), Failed>
-    ensures text { Puts result (number_list numbers.now) (K.written sink.old)
-        (K.written sink.new) }
-    ensures cause { HasCause (K.faults sink.old) (K.faults sink.new) result }
+    ensures { Sends result (number_list numbers.now) (K.shown sink.old)
+        (K.shown sink.new) }
 {
     if numbers.is_empty() {
         return Ok(());
@@ -173,8 +163,7 @@ fn are_word_bytes(bytes: &[u8]) -> bool
 
 /// Writes a word, in quotes where it needs them.
 fn put_word<K: Sink>(sink: &mut K, text: &[u8]) -> Result<(), Failed>
-    ensures text { Puts result (word_text text.now) (K.written sink.old) (K.written sink.new) }
-    ensures cause { HasCause (K.faults sink.old) (K.faults sink.new) result }
+    ensures { Sends result (word_text text.now) (K.shown sink.old) (K.shown sink.new) }
 {
     if is_lower_word(text) {
         put_bytes(sink, text)
@@ -185,9 +174,8 @@ fn put_word<K: Sink>(sink: &mut K, text: &[u8]) -> Result<(), Failed>
 
 /// Writes the bytes of a quoted text, each run without a quote or a backslash in one piece.
 fn put_escaped<K: Sink>(sink: &mut K, quote: u8, text: &[u8]) -> Result<(), Failed>
-    ensures text { Puts result (flat_map (escaped quote) text.now) (K.written sink.old)
-        (K.written sink.new) }
-    ensures cause { HasCause (K.faults sink.old) (K.faults sink.new) result }
+    ensures { Sends result (flat_map (escaped quote) text.now) (K.shown sink.old)
+        (K.shown sink.new) }
 {
     let mut rest = text;
     while let Some(run) = run_before_escape(rest, quote) {
@@ -198,11 +186,10 @@ fn put_escaped<K: Sink>(sink: &mut K, quote: u8, text: &[u8]) -> Result<(), Fail
 }
 
 /// Writes a run, and then a byte with a backslash before it.
-#[tactic(auto, using(si_io::proofs::Content::writes))]
+#[tactic(auto, using(si_io::proofs::Sends::sends))]
 fn put_run<K: Sink>(sink: &mut K, run: &[u8], byte: u8) -> Result<(), Failed>
-    ensures text { Puts result (run.now ++ 92 ∷ byte ∷ []) (K.written sink.old)
-        (K.written sink.new) }
-    ensures cause { HasCause (K.faults sink.old) (K.faults sink.new) result }
+    ensures { Sends result (run.now ++ 92 ∷ byte ∷ []) (K.shown sink.old)
+        (K.shown sink.new) }
 {
     put_bytes(sink, run)?;
     put_bytes(sink, &[b'\\', byte])
@@ -218,12 +205,11 @@ fn run_before_escape(text: &[u8], quote: u8) -> Option<usize>
 }
 
 /// Writes the arguments of a symbol, in parentheses where there are any.
-#[tactic(auto, using(si_io::proofs::Content::writes))]
+#[tactic(auto, using(si_io::proofs::Sends::sends))]
 #[cycle(put)]
 fn put_arguments<K: Sink>(sink: &mut K, terms: &[Term], mark: &[u8]) -> Result<(), Failed>
-    ensures text { Puts result (arguments_text (λ x. mark.now ++ x) (row (map term_of terms.now)))
-        (K.written sink.old) (K.written sink.new) }
-    ensures cause { HasCause (K.faults sink.old) (K.faults sink.new) result }
+    ensures { Sends result (arguments_text (λ x. mark.now ++ x) (row (map term_of terms.now)))
+        (K.shown sink.old) (K.shown sink.new) }
 {
     if terms.is_empty() {
         return Ok(());
@@ -237,9 +223,8 @@ fn put_arguments<K: Sink>(sink: &mut K, terms: &[Term], mark: &[u8]) -> Result<(
 /// Writes terms, each behind a comma.
 #[cycle(put)]
 fn put_others<K: Sink>(sink: &mut K, terms: &[Term], mark: &[u8]) -> Result<(), Failed>
-    ensures text { Puts result (more_texts (λ x. mark.now ++ x) (row (map term_of terms.now)))
-        (K.written sink.old) (K.written sink.new) }
-    ensures cause { HasCause (K.faults sink.old) (K.faults sink.new) result }
+    ensures { Sends result (more_texts (λ x. mark.now ++ x) (row (map term_of terms.now)))
+        (K.shown sink.old) (K.shown sink.new) }
 {
     for i in 0..terms.len() {
         put_bytes(sink, b",")?;
@@ -249,10 +234,9 @@ fn put_others<K: Sink>(sink: &mut K, terms: &[Term], mark: &[u8]) -> Result<(), 
 }
 
 /// Writes a path behind a colon, where there is one.
-#[tactic(auto, using(si_io::proofs::Content::writes))]
+#[tactic(auto, using(si_io::proofs::Sends::sends))]
 fn put_path<K: Sink>(sink: &mut K, path: &[u32]) -> Result<(), Failed>
-    ensures text { Puts result (path_text path.now) (K.written sink.old) (K.written sink.new) }
-    ensures cause { HasCause (K.faults sink.old) (K.faults sink.new) result }
+    ensures { Sends result (path_text path.now) (K.shown sink.old) (K.shown sink.new) }
 {
     if path.is_empty() {
         return Ok(());
@@ -263,9 +247,8 @@ fn put_path<K: Sink>(sink: &mut K, path: &[u32]) -> Result<(), Failed>
 
 /// Writes numbers, each behind a mark.
 fn put_numbers<K: Sink>(sink: &mut K, mark: &[u8], numbers: &[u32]) -> Result<(), Failed>
-    ensures text { Puts result (numbers_behind mark.now numbers.now) (K.written sink.old)
-        (K.written sink.new) }
-    ensures cause { HasCause (K.faults sink.old) (K.faults sink.new) result }
+    ensures { Sends result (numbers_behind mark.now numbers.now) (K.shown sink.old)
+        (K.shown sink.new) }
 {
     for i in 0..numbers.len() {
         put_number(sink, mark, u64::from(numbers[i]))?;

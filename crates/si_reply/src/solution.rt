@@ -6,8 +6,7 @@ ghost use Rattle.si_defs.specs.Symbols as symbols;
 ghost use Rattle.si_defs.specs.Printing.{symbol_text, term_text, more_texts, solution_text};
 ghost use Rattle.si_defs.specs.Variables as variables;
 ghost use Rattle.si_defs.specs.Variables.{Apart, variable_text};
-ghost use Rattle.si_io.specs.Puts.{Puts};
-ghost use Rattle.si_io.specs.Faults.{HasCause};
+ghost use Rattle.si_io.specs.Sends.{Sends};
 ghost use Rattle.si_term.specs.Terms.{symbol_of};
 ghost use Rattle.si_flat.specs.Cells.{IsWhole};
 ghost use Rattle.si_reply.specs.PrintedParts.{arguments_text, binding_text, bindings_text};
@@ -54,12 +53,11 @@ pub fn put_solution<K: Sink, T: SymTable, N: NameList>(
     requires known { (list : variables.Solution) × ShowsList
         (naming (T.pairs table.now) extra.now query_names.now (N.names entry_names.now))
         solution.now list }
-    ensures text { (list : variables.Solution)
+    ensures { (list : variables.Solution)
         → ShowsList (naming (T.pairs table.now) extra.now query_names.now (N.names entry_names.now))
         solution.now list
-        → Puts result (solution_text variable_text list) (K.written sink.old)
-        (K.written sink.new) }
-    ensures cause { HasCause (K.faults sink.old) (K.faults sink.new) result }
+        → Sends result (solution_text variable_text list) (K.shown sink.old)
+        (K.shown sink.new) }
 {
     let words = Words {
         table,
@@ -79,9 +77,8 @@ fn put_bindings<K: Sink, T: SymTable, N: NameList>(
     solution: &Solution,
 ) -> Result<(), Failed>
     requires known { (list : variables.Solution) × ShowsList words.now solution.now list }
-    ensures text { (list : variables.Solution) → ShowsList words.now solution.now list
-        → Puts result (bindings_text list) (K.written sink.old) (K.written sink.new) }
-    ensures cause { HasCause (K.faults sink.old) (K.faults sink.new) result }
+    ensures { (list : variables.Solution) → ShowsList words.now solution.now list
+        → Sends result (bindings_text list) (K.shown sink.old) (K.shown sink.new) }
 {
     if solution.len() == 0 {
         return Ok(());
@@ -101,9 +98,8 @@ fn put_binding<K: Sink, T: SymTable, N: NameList>(
     binding: &Binding,
 ) -> Result<(), Failed>
     requires known { (b : variables.Variable × Apart) × ShowsBinding words.now binding.now b }
-    ensures text { (b : variables.Variable × Apart) → ShowsBinding words.now binding.now b
-        → Puts result (binding_text b) (K.written sink.old) (K.written sink.new) }
-    ensures cause { HasCause (K.faults sink.old) (K.faults sink.new) result }
+    ensures { (b : variables.Variable × Apart) → ShowsBinding words.now binding.now b
+        → Sends result (binding_text b) (K.shown sink.old) (K.shown sink.new) }
 {
     put_variable(sink, words, binding.owner, binding.slot)?;
     put_bytes(sink, b" -> ")?;
@@ -118,9 +114,8 @@ fn put_variable<K: Sink, T: SymTable, N: NameList>(
     slot: u32,
 ) -> Result<(), Failed>
     requires known { (x : variables.Variable) × ShowsVariable words.now owner slot x }
-    ensures text { (x : variables.Variable) → ShowsVariable words.now owner slot x
-        → Puts result (variable_text x) (K.written sink.old) (K.written sink.new) }
-    ensures cause { HasCause (K.faults sink.old) (K.faults sink.new) result }
+    ensures { (x : variables.Variable) → ShowsVariable words.now owner slot x
+        → Sends result (variable_text x) (K.shown sink.old) (K.shown sink.new) }
 {
     match owner {
         Owner::Query => {
@@ -151,9 +146,8 @@ fn put_flat<K: Sink, T: SymTable, N: NameList>(
     cells: &[Cell],
 ) -> Result<(), Failed>
     requires known { (t : Apart) × ShowsTerm words.now cells.now t }
-    ensures text { (t : Apart) → ShowsTerm words.now cells.now t
-        → Puts result (term_text variable_text t) (K.written sink.old) (K.written sink.new) }
-    ensures cause { HasCause (K.faults sink.old) (K.faults sink.new) result }
+    ensures { (t : Apart) → ShowsTerm words.now cells.now t
+        → Sends result (term_text variable_text t) (K.shown sink.old) (K.shown sink.new) }
 {
     match cells[0] {
         Cell::App { sym, .. } => {
@@ -175,11 +169,10 @@ fn put_flat_arguments<K: Sink, T: SymTable, N: NameList>(
 ) -> Result<(), Failed>
     requires known { (ts : terms.Terms symbols.Symbol variables.Variable)
         × ShowAll words.now cells.now ts }
-    ensures text { (ts : terms.Terms symbols.Symbol variables.Variable)
+    ensures { (ts : terms.Terms symbols.Symbol variables.Variable)
         → ShowAll words.now cells.now ts
-        → Puts result (arguments_text variable_text ts) (K.written sink.old)
-        (K.written sink.new) }
-    ensures cause { HasCause (K.faults sink.old) (K.faults sink.new) result }
+        → Sends result (arguments_text variable_text ts) (K.shown sink.old)
+        (K.shown sink.new) }
 {
     if cells.is_empty() {
         return Ok(());
@@ -200,10 +193,9 @@ fn put_flat_others<'a, K: Sink, T: SymTable, N: NameList>(
 ) -> Result<(), Failed>
     requires known { (ts : terms.Terms symbols.Symbol variables.Variable)
         × ShowAll words.now cells.now ts }
-    ensures text { (ts : terms.Terms symbols.Symbol variables.Variable)
+    ensures { (ts : terms.Terms symbols.Symbol variables.Variable)
         → ShowAll words.now cells.now ts
-        → Puts result (more_texts variable_text ts) (K.written sink.old) (K.written sink.new) }
-    ensures cause { HasCause (K.faults sink.old) (K.faults sink.new) result }
+        → Sends result (more_texts variable_text ts) (K.shown sink.old) (K.shown sink.new) }
 {
     let mut rest = cells;
     while !rest.is_empty() {

@@ -22,7 +22,8 @@ use Rattle.si_steps.specs.Loads.{Owed, nothing, PerformsLoad, gained_line, load_
 use Rattle.si_steps.specs.Steps.{Performs, RightStep, right, memory_at_once, memory_behind, performed, loaded}
 use Rattle.si_steps.specs.FileWords.{names_file, named, right_word, no_memory}
 use Rattle.si_steps.specs.Runs.{a_line, a_word, ended}
-use Rattle.si_io.specs.Content.{Told, Receives, ReceivesPrefix}
+use Rattle.si_io.specs.Shown.{SinkShown}
+use Rattle.si_io.specs.Sends.{SendsAll, SendsPart}
 use Rattle.si_session.specs.Commands.{IsPerformed}
 use Rattle.si_term.specs.Meaning.{clause_of}
 use Rattle.si_term.proofs.EntryHeads.{length-symbols, symbol_placed}
@@ -37,9 +38,13 @@ use Rattle.si_session.specs.declared.reply.ReplyLine as reply
 use Rattle.si_session.specs.Replies.{reply_line, misused_text}
 use Rattle.si_session.specs.Rejections.{HasHead, NamesEntry, TellsFault, TellsWhy}
 use Rattle.si_io.specs.Library.{Counts}
-use Rattle.si_session.specs.Session.{Around, around, Steps, Writes, HasPerformed, ActsOn, rightly, at_once, behind, HasLoaded, LoadsInto, rightly_loaded, ran_out, view_of, holding}
+use Rattle.si_session.specs.Session.{Around, Steps, Writes, HasPerformed, ActsOn, rightly, at_once, behind, HasLoaded, LoadsInto, rightly_loaded, ran_out, view_of, holding}
 use Rattle.si_session.specs.declared.stepped.Stepped.{Stepped}
 use Rattle.si_session.specs.declared.stepped.Stepped.TheVariants.{Answered, Refused, Silent, SinkFailed}
+
+-- what is known of a sink, and of a library beside it
+abbrev pub beside : SinkShown → Counts → Bool → Around
+beside sink counts may_fail = record { sink = sink; counts = counts; may_fail = may_fail }
 
 -- ---- the last line of a reply
 refusal-last : (lines : List Bytes) (line : Bytes) → is_refusal (lines ++ line ∷ []) ≡ begins_with 33 line
@@ -52,7 +57,7 @@ some_line [] line e = cc
 some_line (x ∷ lines) line e = cc
 
 -- an answer was written
-pub answered : (lines : List Bytes) (n : ℕ) (a b : Told) → Receives a (ended (lines ++ end_line n ∷ [])) b → Writes Answered (lines ++ end_line n ∷ []) a b
+pub answered : (lines : List Bytes) (n : ℕ) (a b : SinkShown) → SendsAll a (ended (lines ++ end_line n ∷ [])) b → Writes Answered (lines ++ end_line n ∷ []) a b
 answered lines n a b h = (h, some_line lines (end_line n), refusal-last lines (end_line n))
 
 -- what is kept stays
@@ -61,15 +66,15 @@ holds_same old new state e = ap (λ cs. record state { clauses = cs }) e
 
 -- ---- an answer
 module _ (relation : Relation) (p : Pattern) (index : Kept) (hits : List Hit) (answer : IsAnswer relation p (state_entries index.clauses) hits) where
-  pub answers : (a b : Told) → Receives a (ended (answer_reply hits)) b → ActsOn (query relation p) index index Answered a b
+  pub answers : (a b : SinkShown) → SendsAll a (ended (answer_reply hits)) b → ActsOn (query relation p) index index Answered a b
   answers a b h setting state = rightly (answer_reply hits) (hits, answer, refl, refl) (answered (hit_texts hits) (length hits) a b h)
 
-  pub fails : (a b : Told) → ReceivesPrefix a (ended (answer_reply hits)) b → ActsOn (query relation p) index index SinkFailed a b
+  pub fails : (a b : SinkShown) → SendsPart a (ended (answer_reply hits)) b → ActsOn (query relation p) index index SinkFailed a b
   fails a b h setting state = rightly (answer_reply hits) (hits, answer, refl, refl) h
 
 -- ---- a clause
 -- it is kept
-pub added : (old new : Kept) (clause : Clause) (o : Stepped) (n : ℕ) (a b : Told) → Accepts old.rules old.clauses clause new.clauses → n ≡ length (entries clause)
+pub added : (old new : Kept) (clause : Clause) (o : Stepped) (n : ℕ) (a b : SinkShown) → Accepts old.rules old.clauses clause new.clauses → n ≡ length (entries clause)
     → Writes o (ok_line 1 n ∷ []) a b → ActsOn (add clause) old new o a b
 added old new clause o n a b k e w setting state = rightly (ok_line 1 n ∷ []) (inr (k, ap (λ m. ok_line 1 m ∷ []) e, refl)) w
 
@@ -79,7 +84,7 @@ at_seam before after own s n e h =
     subst (λ l. slice_get l n ≡ Some s) (sym e) (subst (λ k. slice_get (before ++ s ∷ after) k ≡ Some s) (sym h) (get_here before s after))
 
 -- it isn't kept
-fault_acts : (old new : Kept) (r : Rejected) (told : reply.ReplyLine) (o : Stepped) (a b : Told) (why : AddFault)
+fault_acts : (old new : Kept) (r : Rejected) (told : reply.ReplyLine) (o : Stepped) (a b : SinkShown) (why : AddFault)
     → IsSoundClause (clause_of r.clause) → Rejects old.rules old.clauses (clause_of r.clause) why → TellsFault r told why → new.clauses ≡ old.clauses → Writes o (reply_line told ∷ []) a b
     → ActsOn (add (clause_of r.clause)) old new o a b
 fault_acts old new r told o a b add_fault.Taken sound h t e w setting state =
@@ -95,7 +100,7 @@ fault_acts old new r told o a b (add_fault.Full needed most) sound h t e w setti
     rightly (reply_line told ∷ []) (inl (full needed, h.0, ap (λ l. l ∷ []) (t ∙ ap (full_line needed) h.1), holds_same old new state e)) w
 fault_acts old new r told o a b add_fault.Memory sound h t e w setting state = at_once (holds_same old new state e) (subst (λ l. Writes o (l ∷ []) a b) t w)
 
-pub refused : (old new : Kept) (r : Rejected) (told : reply.ReplyLine) (o : Stepped) (a b : Told)
+pub refused : (old new : Kept) (r : Rejected) (told : reply.ReplyLine) (o : Stepped) (a b : SinkShown)
     → IsSoundClause (clause_of r.clause) → Rejects old.rules old.clauses (clause_of r.clause) r.why → TellsWhy r told → new.clauses ≡ old.clauses → Writes o (reply_line told ∷ []) a b
     → ActsOn (add (clause_of r.clause)) old new o a b
 refused old new r told o a b sound h t e w = fault_acts old new r told o a b r.why sound h t e w
@@ -112,16 +117,16 @@ has_head rules clauses r sound h = (sound, by r.why h) where
   by add_fault.Memory h = tt
 
 -- ---- a clause that goes
-pub removed : (old new : Kept) (name : Name) (o : Stepped) (n : ℕ) (a b : Told) (c : Clause) → Removes old.clauses name c new.clauses → n ≡ length (entries c)
+pub removed : (old new : Kept) (name : Name) (o : Stepped) (n : ℕ) (a b : SinkShown) (c : Clause) → Removes old.clauses name c new.clauses → n ≡ length (entries c)
     → Writes o (ok_line 1 n ∷ []) a b → ActsOn (remove name) old new o a b
 removed old new name o n a b c h e w setting state = rightly (ok_line 1 n ∷ []) (inr (c, h, ap (λ m. ok_line 1 m ∷ []) e, refl)) w
 
-pub unknown : (old new : Kept) (name : Name) (o : Stepped) (a b : Told) → (IsTaken old.clauses name → ⊥) → new.clauses ≡ old.clauses
+pub unknown : (old new : Kept) (name : Name) (o : Stepped) (a b : SinkShown) → (IsTaken old.clauses name → ⊥) → new.clauses ≡ old.clauses
     → Writes o (unknown_line name ∷ []) a b → ActsOn (remove name) old new o a b
 unknown old new name o a b h e w setting state = rightly (unknown_line name ∷ []) (inl (h, refl, holds_same old new state e)) w
 
 -- ---- counts
-pub counts : (index : Kept) (told : Stats) (o : Stepped) (a b : Told) → told.clauses ≡ length index.clauses → told.entries ≡ length (state_entries index.clauses)
+pub counts : (index : Kept) (told : Stats) (o : Stepped) (a b : SinkShown) → told.clauses ≡ length index.clauses → told.entries ≡ length (state_entries index.clauses)
     → CountsSymbols index.clauses told.symbols → Writes o (stats_line told.clauses told.entries told.symbols ∷ []) a b → ActsOn stats index index o a b
 counts index told o a b clauses entries symbols w setting state =
     rightly (stats_line told.clauses told.entries told.symbols ∷ [])
@@ -142,7 +147,7 @@ some_reply setting stats state new reply h e = some_line [] _ (sym h.2 ∙ e)
 some_reply setting (sample start count) state new reply (drawn, are, inl h) e = some_line [] _ (sym h.3 ∙ e)
 some_reply setting (sample start count) state new reply (drawn, are, inr h) e = some_line [] _ (sym h.3 ∙ e)
 
-pub not_silent : (limits : Limits) (command : Command) (old new : Kept) (o : Stepped) (a b : Told) → ActsOn command old new o a b → o ≡ Silent → ⊥
+pub not_silent : (limits : Limits) (command : Command) (old new : Kept) (o : Stepped) (a b : SinkShown) → ActsOn command old new o a b → o ≡ Silent → ⊥
 not_silent limits command old new o a b acts = by (acts (view_of limits old).setting (view_of limits old).state) where
   by : HasPerformed (Performs (view_of limits old).setting command (view_of limits old).state) (view_of limits old).state (view_of limits new).state o a b → o ≡ Silent → ⊥
   by (rightly reply p w) e =
@@ -167,7 +172,7 @@ performs_refused setting (sample start count) state new reply (drawn, are, inl h
 performs_refused setting (sample start count) state new reply (drawn, are, inr h) t =
     let wrong : IsTrue (is_refusal (sample_line (length drawn) (length (state_entries drawn)) h.0 ∷ [])) = subst (λ r. IsTrue (is_refusal r)) h.3 t in cc
 
-pub keeps_state : (limits : Limits) (command : Command) (old new : Kept) (o : Stepped) (a b : Told) → ActsOn command old new o a b → o ≡ Refused
+pub keeps_state : (limits : Limits) (command : Command) (old new : Kept) (o : Stepped) (a b : SinkShown) → ActsOn command old new o a b → o ≡ Refused
     → (view_of limits new).state ≡ (view_of limits old).state
 keeps_state limits command old new o a b acts = by (acts (view_of limits old).setting (view_of limits old).state) where
   by : HasPerformed (Performs (view_of limits old).setting command (view_of limits old).state) (view_of limits old).state (view_of limits new).state o a b → o ≡ Refused
@@ -179,16 +184,16 @@ keeps_state limits command old new o a b acts = by (acts (view_of limits old).se
   by (behind reply next p written left split some same w) e = same
 
 -- a line of a reply is some reply
-pub line_not_silent : (o : Stepped) (line : Bytes) (a b : Told) → Writes o (line ∷ []) a b → o ≡ Silent → ⊥
+pub line_not_silent : (o : Stepped) (line : Bytes) (a b : SinkShown) → Writes o (line ∷ []) a b → o ≡ Silent → ⊥
 line_not_silent o line a b w e = let v : Writes Silent (line ∷ []) a b = subst (λ x. Writes x (line ∷ []) a b) e w in some_line [] line v.1
 
 -- what a session goes by stays where an index keeps its rules
 setting_stays : (limits : Limits) (old new : Kept) → new.rules ≡ old.rules → (view_of limits new).setting ≡ (view_of limits old).setting
 setting_stays limits old new same = λ i. record { limits = limits; rules = same i }
 
-pub stepped : (limits : Limits) (told : Option Files) (old new : Kept) (line : Bytes) (command : Command) (o : Stepped) (a b : Told) (counts : Counts) (may_fail : Bool)
+pub stepped : (limits : Limits) (told : Option Files) (old new : Kept) (line : Bytes) (command : Command) (o : Stepped) (a b : SinkShown) (counts : Counts) (may_fail : Bool)
     → new.rules ≡ old.rules → length line ≤ limits.line → IsPerformed command line → ActsOn command old new o a b
-    → Steps told (view_of limits old) (view_of limits new) (a_line line) o (around a counts may_fail) (around b counts may_fail)
+    → Steps told (view_of limits old) (view_of limits new) (a_line line) o (beside a counts may_fail) (beside b counts may_fail)
 stepped limits told old new line command o a b counts may_fail rules short performs acts = by (acts (view_of limits old).setting (view_of limits old).state) where
   now : IsDecided limits line
   now = record { short = short; built = performs.0 }
@@ -200,7 +205,7 @@ stepped limits told old new line command o a b counts may_fail rules short perfo
   same_setting = setting_stays limits old new rules
 
   by : HasPerformed (Performs (view_of limits old).setting command (view_of limits old).state) (view_of limits old).state (view_of limits new).state o a b
-      → Steps told (view_of limits old) (view_of limits new) (a_line line) o (around a counts may_fail) (around b counts may_fail)
+      → Steps told (view_of limits old) (view_of limits new) (a_line line) o (beside a counts may_fail) (beside b counts may_fail)
   by (rightly reply p w) = record { reply = reply; owed = nothing; step = right (performed now command performs.2 p refl); setting = same_setting; written = w; counted = refl }
   by (at_once same w) = record { reply = memory_line ∷ []; owed = nothing; step = memory_at_once loud short refl refl same; setting = same_setting; written = w; counted = refl }
   by (behind whole next p written left split rest same w) = record {

@@ -13,10 +13,10 @@ use Rattle.si_defs.specs.declared.Relation.{Relation}
 use Rattle.si_state.specs.Answers.{Hit, IsAnswer, hit_text, hit_texts}
 use Rattle.si_steps.specs.Replies.{end_line}
 use Rattle.si_steps.specs.Runs.{ended}
-use Rattle.si_io.specs.Content.{Told, Receives, ReceivesPrefix}
-use Rattle.si_io.specs.Puts.{Puts}
+use Rattle.si_io.specs.Shown.{SinkShown}
+use Rattle.si_io.specs.Sends.{SendsAll, SendsPart, Sends}
 use Rattle.si_io.specs.declared.failed.Failed.{Failed}
-use Rattle.si_io.proofs.Content.{append_told-nil, Receives_then, ReceivesPrefix_then, ReceivesPrefix_more, Puts_then}
+use Rattle.si_io.proofs.Sends.{SendsAll-nil, SendsAll_then, SendsPart_then, SendsPart_more, Sends_then}
 use Rattle.si_defs.proofs.ListLaws.{all_drop, get_some, get_here}
 use Rattle.si_index.specs.Kept.{Kept}
 use Rattle.si_index.specs.Searching.{HasSolution}
@@ -110,12 +110,12 @@ take_next (x ∷ fs) (suc n) f is =
     ap (λ k. take k (x ∷ fs)) next ∙ ap (λ l. x ∷ l) (take_next fs n f is)
 
 -- The lines of the first hits were written.
-pub record ToldTo (f : Finding) (n : ℕ) (before now : Told) : Type 0 where
+pub record ToldTo (f : Finding) (n : ℕ) (before now : SinkShown) : Type 0 where
   pub hits : List Hit
   pub are : AreHitsOf f.relation f.pattern f.index.clauses (take n f.hits) hits
-  pub given : Receives before (ended (hit_texts hits)) now
+  pub given : SendsAll before (ended (hit_texts hits)) now
 
-module _ (f : Finding) (before : Told) where
+module _ (f : Finding) (before : SinkShown) where
   -- with the hit behind them
   with_this : (n : ℕ) (hits : List Hit) (g : ℕ × Placed) (x : Hit) → AreHitsOf f.relation f.pattern f.index.clauses (take n f.hits) hits → slice_get f.hits n ≡ Some g
       → IsHitOf f.relation f.pattern f.index.clauses g x → AreHitsOf f.relation f.pattern f.index.clauses (take (n + 1) f.hits) (hits ++ x ∷ [])
@@ -124,17 +124,17 @@ module _ (f : Finding) (before : Told) where
       (hits-append f.relation f.pattern f.index.clauses (take n f.hits) (g ∷ []) hits (x ∷ []) are (x, [], of, refl, refl))
 
   pub told_none : ToldTo f 0 before before
-  told_none = record { hits = []; are = refl; given = sym (append_told-nil before) }
+  told_none = record { hits = []; are = refl; given = SendsAll-nil before }
 
-  pub told_more : (n : ℕ) (now after : Told) → ToldTo f n before now → TellsHit f n (Ok (tt {0})) now after → ToldTo f (n + 1) before after
+  pub told_more : (n : ℕ) (now after : SinkShown) → ToldTo f n before now → TellsHit f n (Ok (tt {0})) now after → ToldTo f (n + 1) before after
   told_more n now after t h = record {
     hits = t.hits ++ h.1 ∷ [];
     are = with_this n t.hits h.0 h.1 t.are h.2 h.3;
-    given = subst (λ l. Receives before l after) (sym (lines-append t.hits (h.1 ∷ [])))
-        (Receives_then before now after (ended (hit_texts t.hits)) (ended (hit_text h.1 ∷ [])) t.given h.4.all);
+    given = subst (λ l. SendsAll before l after) (sym (lines-append t.hits (h.1 ∷ [])))
+        (SendsAll_then before now after (ended (hit_texts t.hits)) (ended (hit_text h.1 ∷ [])) t.given h.4.all);
   }
 
-  pub told_all : (n : ℕ) (now : Told) → length f.hits ≤ n → ToldTo f n before now → TellsHits f (Ok (tt {0})) before now
+  pub told_all : (n : ℕ) (now : SinkShown) → length f.hits ≤ n → ToldTo f n before now → TellsHits f (Ok (tt {0})) before now
   told_all n now less t = (t.hits, subst (λ l. AreHitsOf f.relation f.pattern f.index.clauses l t.hits) (take_all n f.hits less) t.are, record { all = t.given; part = tt })
 
   module _ (inside : AllByRecursion (IsInside f.index.clauses) f.hits) (solved : AllByRecursion (λ h. HasSolution f.relation f.pattern h.1.entry) f.hits) where
@@ -143,7 +143,7 @@ module _ (f : Finding) (before : Told) where
     behind_these n = hits_of f.relation f.pattern f.index.clauses (drop n f.hits) (all_drop _ n f.hits inside) (all_drop _ n f.hits solved)
 
     -- broken off at this one
-    pub told_broken : (e : Failed) (n : ℕ) (now after : Told) → ToldTo f n before now → TellsHit f n (Err e) now after → TellsHits f (Err e) before after
+    pub told_broken : (e : Failed) (n : ℕ) (now after : SinkShown) → ToldTo f n before now → TellsHit f n (Err e) now after → TellsHits f (Err e) before after
     told_broken e n now after t h =
         let these = t.hits ++ h.1 ∷ [] in
         let others = (behind_these (n + 1)).0 in
@@ -154,9 +154,9 @@ module _ (f : Finding) (before : Told) where
               (hits-append f.relation f.pattern f.index.clauses (take (n + 1) f.hits) (drop (n + 1) f.hits) these others (with_this n t.hits h.0 h.1 t.are h.2 h.3) (behind_these (n + 1)).1),
           record {
             all = tt;
-            part = subst (λ l. ReceivesPrefix before l after) (sym lines)
-                (ReceivesPrefix_more before after (ended (hit_texts t.hits) ++ ended (hit_text h.1 ∷ [])) (ended (hit_texts others))
-                (ReceivesPrefix_then before now after (ended (hit_texts t.hits)) (ended (hit_text h.1 ∷ [])) t.given h.4.part));
+            part = subst (λ l. SendsPart before l after) (sym lines)
+                (SendsPart_more before after (ended (hit_texts t.hits) ++ ended (hit_text h.1 ∷ [])) (ended (hit_texts others))
+                (SendsPart_then before now after (ended (hit_texts t.hits)) (ended (hit_text h.1 ∷ [])) t.given h.4.part));
           },
         )
 
@@ -182,20 +182,20 @@ at_number (x ∷ fs) zero f k place is at =
 at_number (x ∷ fs) (suc n) f k place is at = at_number fs n f k place is at
 
 -- the error is passed on
-pub hits_again : (f : Finding) (r : Result (Unit {0}) Failed) (e : Failed) (a b : Told) → IsErrAnd r (λ x. x ≡ e) → TellsHits f (Err e) a b → TellsHits f r a b
+pub hits_again : (f : Finding) (r : Result (Unit {0}) Failed) (e : Failed) (a b : SinkShown) → IsErrAnd r (λ x. x ≡ e) → TellsHits f (Err e) a b → TellsHits f r a b
 hits_again f (Ok done) e a b is h = absurd is
 hits_again f (Err x) e a b is h = (h.0, h.1, record { all = tt; part = h.2.part })
 
 -- the number was written behind them, or the sink failed before
-pub unended_told : (f : Finding) (r : Result (Unit {0}) Failed) (n : ℕ) (a b c : Told) → n ≡ length f.hits → TellsHits f (Ok (tt {0})) a b → Puts r (end_line n) b c → TellsUnended f r a c
+pub unended_told : (f : Finding) (r : Result (Unit {0}) Failed) (n : ℕ) (a b c : SinkShown) → n ≡ length f.hits → TellsHits f (Ok (tt {0})) a b → Sends r (end_line n) b c → TellsUnended f r a c
 unended_told f r n a b c is h p =
     let count : n ≡ length h.0 = is ∙ length-hits f.relation f.pattern f.index.clauses f.hits h.0 h.1 in
-    (h.0, h.1, Puts_then r a b c (ended (hit_texts h.0)) (end_line (length h.0)) h.2.all (subst (λ m. Puts r (end_line m) b c) count p))
+    (h.0, h.1, Sends_then r a b c (ended (hit_texts h.0)) (end_line (length h.0)) h.2.all (subst (λ m. Sends r (end_line m) b c) count p))
 
-pub unended_broken : (f : Finding) (r : Result (Unit {0}) Failed) (e : Failed) (a b : Told) → IsErrAnd r (λ x. x ≡ e) → TellsHits f (Err e) a b → TellsUnended f r a b
+pub unended_broken : (f : Finding) (r : Result (Unit {0}) Failed) (e : Failed) (a b : SinkShown) → IsErrAnd r (λ x. x ≡ e) → TellsHits f (Err e) a b → TellsUnended f r a b
 unended_broken f (Ok done) e a b is h = absurd is
 unended_broken f (Err x) e a b is h =
-    (h.0, h.1, record { all = tt; part = ReceivesPrefix_more a b (ended (hit_texts h.0)) (end_line (length h.0)) h.2.part })
+    (h.0, h.1, record { all = tt; part = SendsPart_more a b (ended (hit_texts h.0)) (end_line (length h.0)) h.2.part })
 
 -- ---- the whole answer
 module _ (f : Finding) (index : Kept) (relation : Relation) (p : Pattern)

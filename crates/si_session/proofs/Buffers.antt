@@ -1,15 +1,19 @@
 -- What a sink that holds bytes tells, at its start, further on, and where it was broken off.
-use Rattle.std.proofs.Common.{◌≡◌, ℕ, zero, suc, ◌+◌, ◌-◌, ◌<◌, ◌≤◌, List, [], ◌∷◌, ◌++◌, Option, None, Some, length, take, drop, refl, sym, ap, ◌∙◌, subst, append_assoc, arith, length-append, take-append-drop, drop-drop, take_all}
+use Rattle.std.proofs.Common.{◌≡◌, ℕ, zero, suc, ◌+◌, ◌-◌, ◌<◌, ◌≤◌, List, [], ◌∷◌, ◌++◌, Option, None, Some, length, take, drop, refl, sym, ap, ◌∙◌, subst, append_assoc, lt_of_not-le, arith, length-append, length-drop, take-append-drop, drop-drop, take_all}
 use lib.Seq.{take-take}
-use Rattle.si_io.specs.Puts.{Puts}
 use Rattle.std.proofs.Math.Seq.{take-append_seam, drop-append_seam}
 use Rattle.std.proofs.lemmas.Slice.{take-put_mid}
 use borrow.Rule.Slice.PartMut.{put_mid}
 use Rattle.std.proofs.lemmas.List.{append_cancel_left, drop-append-le, length-take-le, length-replicate}
 use Rattle.std.specs.Prelude.{IsTrue, IsFalse, is_err, slice_set, Result, Ok, Err}
 use Rattle.si_io.specs.Content.{Told, bytes_then, append_told, Receives, ReceivesPrefix}
-use Rattle.si_io.proofs.Content.{Receives_more, append_told-append, Receives_then, ReceivesPrefix_more}
-use Rattle.si_session.specs.Buffering.{held, told_with, given_since, since, HasBytesSince, HasRoomSince}
+use Rattle.si_io.specs.Counts.{raised, raised_by, write_counted}
+use Rattle.si_io.specs.Sends.{WritesFew, SendsAll, SendsPart, Sends}
+use Rattle.si_io.specs.Shown.{SinkShown}
+use Rattle.si_io.specs.declared.failed.Failed.{Failed}
+use Rattle.si_io.proofs.Content.{append_told-nil, append_told-append, Receives_then, ReceivesPrefix_more}
+use Rattle.si_io.proofs.Sends.{WritesFew_then, SendsAll_more}
+use Rattle.si_session.specs.Buffering.{held, told_with, gathered, begun, given_since, since, HasBytesSince, HasRoomSince}
 
 -- what is left of some bytes, once the first of them were taken
 left_of : (now after : Told) (all : List ℕ) (n : ℕ) → Receives now (take n all) after → append_told after (drop n all) ≡ append_told now all
@@ -79,13 +83,32 @@ left_behind now after bytes from at on h =
     ap (append_told after) rest ∙ left_of now after (drop from bytes) (at - from) h
 
 -- the bytes up to a place were taken, and then some
-pub passed_more : (a b c : Told) (bytes : List ℕ) (from at count : ℕ) → from ≤ at → Receives a (take (at - from) (drop from bytes)) b
-    → Receives b (take count (drop at bytes)) c → Receives a (take (at + count - from) (drop from bytes)) c
-passed_more a b c bytes from at count on first second =
-    let rest : drop at bytes ≡ drop (at - from) (drop from bytes) = ap (λ (n : ℕ). drop n bytes) (omega (arith, on)) ∙ sym (drop-drop (at - from) from bytes) in
+pub sends_more : (a b c : SinkShown) (bytes rest : List ℕ) (from at count : ℕ) → rest ≡ drop at bytes → from ≤ at → at ≤ length bytes → count ≤ length rest → (count ≡ 0 → ⊥)
+    → SendsAll a (take (at - from) (drop from bytes)) b → Receives b.told (take count rest) c.told
+    → c.counts ≡ write_counted {E = Failed} (length rest) (Ok count) b.counts → SendsAll a (take (at + count - from) (drop from bytes)) c
+sends_more a b c bytes rest from at count same on within fits some sent given counted =
+    let left : rest ≡ drop (at - from) (drop from bytes) = same ∙ ap (λ (n : ℕ). drop n bytes) (omega (arith, on)) ∙ sym (drop-drop (at - from) from bytes) in
     let size : at - from + count ≡ at + count - from = omega (arith, on) in
-    subst (λ (n : ℕ). Receives a (take n (drop from bytes)) c) size
-    (Receives_more a b c (drop from bytes) (at - from) count first (subst (λ (l : List ℕ). Receives b (take count l) c) rest second))
+    subst (λ (n : ℕ). SendsAll a (take n (drop from bytes)) c) size
+    (SendsAll_more a b c (drop from bytes) rest (at - from) count (length rest) left (omega (arith, within, length-drop from bytes)) fits some sent given counted)
+
+-- the bytes up to a place were taken, and a write of the others failed
+pub sends_broken : (a b c : SinkShown) (bytes rest : List ℕ) (from at : ℕ) → rest ≡ drop at bytes → from ≤ at → at ≤ length bytes → (length rest ≤ b.told.room → ⊥)
+    → SendsAll a (take (at - from) (drop from bytes)) b → c.told ≡ b.told → c.counts.bytes ≡ b.counts.bytes → c.counts.faults ≡ raised b.counts.faults → WritesFew b.counts c.counts
+    → SendsPart a (drop from bytes) c
+sends_broken a b c bytes rest from at same on within past sent told count faults few =
+    let size : length (take (at - from) (drop from bytes)) ≡ at - from = length-take-le _ _ (omega (arith, within, length-drop from bytes)) in
+    record {
+      told = record {
+        count = at - from;
+        within = omega (arith, within, length-drop from bytes);
+        given = told ∙ sent.told;
+        past_room = omega (arith, on, within, size, lt_of_not-le past, ap length same, ap (λ (t : Told). t.room) sent.told, length-drop at bytes, length-drop from bytes);
+      };
+      bytes = omega (arith, on, within, size, count, sent.bytes, length-drop from bytes);
+      faults = faults ∙ ap raised sent.faults;
+      few = WritesFew_then _ _ _ sent.few few;
+    }
 
 -- some bytes from the front of those that are held were handed on, up to a place
 front_held : (bytes : List ℕ) (at place end : ℕ) → at ≤ place → place ≤ end → end ≤ length bytes
@@ -136,31 +159,66 @@ broken start now text rest c bytes room same within past =
             past_room = past;
           }
 
--- it was broken off before
-pub told_part : {T E : Type 0} (r : Result T E) (start now : Told) (kept text : List ℕ) → IsTrue (is_err r) → HasBytesSince start now → HasRoomSince start now
-    → Puts r text start (append_told now kept) → Puts r (text ++ 10 ∷ []) start now
-told_part (Ok x) start now kept text h bytes room put = absurd cc
-told_part (Err e) start now kept text h bytes room put = record {
-  all = tt;
-  part = ReceivesPrefix_more start now text (10 ∷ []) (broken start now text kept put.part.count bytes room (ap (λ (t : Told). t.bytes) put.part.given) put.part.within put.part.past_room);
+-- ---- what is shown at the start, and at the end
+-- nothing is held yet
+pub nothing_held : (below : SinkShown) (bytes : List ℕ) (start end calls : ℕ) → held bytes start end ≡ [] → calls ≡ 0 → gathered below bytes start end calls ≡ begun below
+nothing_held below bytes start end calls none first =
+    let told : told_with below.told bytes start end ≡ below.told = ap (append_told below.told) none ∙ append_told-nil below.told in
+    let count : raised_by (length (held bytes start end)) below.counts.bytes ≡ below.counts.bytes = omega (arith, ap length none) in
+    ap (λ t. record { told = t; counts = record { calls = calls; bytes = raised_by (length (held bytes start end)) below.counts.bytes; faults = below.counts.faults } }) told
+    ∙ ap (λ n. record { told = below.told; counts = record { calls = calls; bytes = n; faults = below.counts.faults } }) count
+    ∙ ap (λ n. record { told = below.told; counts = record { calls = n; bytes = below.counts.bytes; faults = below.counts.faults } }) first
+
+-- what is shown over a sink, where these bytes are held
+abbrev pub shows_kept : SinkShown → List ℕ → ℕ → SinkShown
+shows_kept below kept calls = record {
+  told = append_told below.told kept;
+  counts = record { calls = calls; bytes = raised_by (length kept) below.counts.bytes; faults = below.counts.faults };
 }
 
+-- it was broken off before
+pub told_part : {T E : Type 0} (r : Result T E) (start now : SinkShown) (kept text : List ℕ) (calls : ℕ) → IsTrue (is_err r) → HasBytesSince start.told now.told → HasRoomSince start.told now.told
+    → WritesFew start.counts now.counts → Sends r text (begun start) (shows_kept now kept calls) → Sends r (text ++ 10 ∷ []) start now
+told_part (Ok x) start now kept text calls h bytes room few sent = absurd cc
+told_part (Err e) start now kept text calls h bytes room few sent =
+    let part = sent.part.told in
+    record {
+      all = tt;
+      part = record {
+        told = ReceivesPrefix_more start.told now.told text (10 ∷ []) (broken start.told now.told text kept part.count bytes room (ap (λ (t : Told). t.bytes) part.given) part.within part.past_room);
+        bytes = omega (arith, sent.part.bytes, length-append text (10 ∷ []));
+        faults = sent.part.faults;
+        few = few;
+      };
+    }
+
 -- all was told, and what was held and the last line feed were handed on, or some of it
-pub told_all : {T F E : Type 0} (r : Result T F) (h : Result (Unit {0}) E) (start now after : Told) (kept text : List ℕ) → IsFalse (is_err r) → HasBytesSince start now → HasRoomSince start now
-    → Puts r text start (append_told now kept) → Puts h (kept ++ 10 ∷ []) now after → Puts h (text ++ 10 ∷ []) start after
-told_all (Err e) h start now after kept text fine bytes room put handed = absurd cc
-told_all (Ok x) (Ok y) start now after kept text fine bytes room put handed = record {
-  all = handed.all ∙ behind now start kept text put.all;
+pub told_all : {T F E : Type 0} (r : Result T F) (h : Result (Unit {0}) E) (start now after : SinkShown) (kept text : List ℕ) (calls : ℕ) → IsFalse (is_err r) → HasBytesSince start.told now.told
+    → HasRoomSince start.told now.told → WritesFew start.counts now.counts → Sends r text (begun start) (shows_kept now kept calls) → Sends h (kept ++ 10 ∷ []) now after → Sends h (text ++ 10 ∷ []) start after
+told_all (Err e) h start now after kept text calls fine bytes room few sent handed = absurd cc
+told_all (Ok x) (Ok y) start now after kept text calls fine bytes room few sent handed = record {
+  all = record {
+    told = handed.all.told ∙ behind now.told start.told kept text sent.all.told;
+    bytes = omega (arith, handed.all.bytes, sent.all.bytes, length-append kept (10 ∷ []), length-append text (10 ∷ []));
+    faults = handed.all.faults ∙ sent.all.faults;
+    few = WritesFew_then _ _ _ few handed.all.few;
+  };
   part = tt;
 }
-told_all (Ok x) (Err e) start now after kept text fine bytes room put handed =
-    let since_it = told_apart start after (since_more start now after _ bytes room handed.part.given) in
+told_all (Ok x) (Err e) start now after kept text calls fine bytes room few sent handed =
+    let part = handed.part.told in
+    let since_it = told_apart start.told after.told (since_more start.told now.told after.told _ bytes room part.given) in
     let all = kept ++ 10 ∷ [] in
     let size : take (length (text ++ 10 ∷ [])) (text ++ 10 ∷ []) ≡ text ++ 10 ∷ [] = take_all _ _ (omega arith) in
     record {
       all = tt;
-      part = broken start after (text ++ 10 ∷ []) (drop handed.part.count all) (length (text ++ 10 ∷ [])) since_it.0 since_it.1
-          (ap (λ (t : Told). t.bytes) (left_of now after all handed.part.count handed.part.given ∙ behind now start kept text put.all ∙ ap (append_told start) (sym size)))
-          (omega arith)
-          (omega (arith, ap (λ (t : Told). t.room) put.all, handed.part.past_room, length-append kept (10 ∷ []), length-append text (10 ∷ [])));
+      part = record {
+        told = broken start.told after.told (text ++ 10 ∷ []) (drop part.count all) (length (text ++ 10 ∷ [])) since_it.0 since_it.1
+            (ap (λ (t : Told). t.bytes) (left_of now.told after.told all part.count part.given ∙ behind now.told start.told kept text sent.all.told ∙ ap (append_told start.told) (sym size)))
+            (omega arith)
+            (omega (arith, ap (λ (t : Told). t.room) sent.all.told, part.past_room, length-append kept (10 ∷ []), length-append text (10 ∷ [])));
+        bytes = omega (arith, handed.part.bytes, sent.all.bytes, length-append kept (10 ∷ []), length-append text (10 ∷ []));
+        faults = handed.part.faults ∙ ap raised sent.all.faults;
+        few = WritesFew_then _ _ _ few handed.part.few;
+      };
     }

@@ -12,7 +12,7 @@ use Rattle.si_steps.specs.Replies.{refusal_line, misused_line, full_line, fault_
 use Rattle.si_steps.specs.Loads.{nothing, owed_by_fault, load_bounds, gained_line, PerformsLoad}
 use Rattle.si_term.proofs.EntryHeads.{symbol_placed}
 use Rattle.si_term.specs.Meaning.{name_of, clause_of}
-use Rattle.si_io.specs.Content.{Told}
+use Rattle.si_io.specs.Shown.{SinkShown}
 use Rattle.si_io.specs.Library.{Counts}
 use Rattle.si_sign.specs.Shapes.{shape_of}
 use Rattle.si_sign.specs.Stores.{Rejects}
@@ -30,8 +30,8 @@ use Rattle.si_session.specs.declared.reply.ReplyLine as program
 use Rattle.si_session.specs.declared.stepped.Stepped.{Stepped}
 use Rattle.si_session.specs.Replies.{reply_line, misused_text}
 use Rattle.si_session.specs.Rejections.{TellsFault, IsTellable, TellsFaultOfLoad}
-use Rattle.si_session.specs.Session.{Writes, IsCounted, LoadsInto, around, rightly_loaded, ran_out, view_of, holding}
-use Rattle.si_session.proofs.Acting.{holds_same, at_seam, has_head}
+use Rattle.si_session.specs.Session.{Writes, IsCounted, LoadsInto, rightly_loaded, ran_out, view_of, holding}
+use Rattle.si_session.proofs.Acting.{beside, holds_same, at_seam, has_head}
 
 -- ---- a clause that is refused
 rejects : (rules : Rules) (state : List Clause) (clause : Clause) (refusal : Refusal) (why : AddFault) → IsReason rules why refusal
@@ -101,7 +101,7 @@ owed_counted rules harvest_fault.Fetches fault may_fail before now n h = subst (
 owed_counted rules harvest_fault.Memory fault may_fail before now n h = absurd n
 
 -- ---- the load
-module _ (limits : Limits) (told : Option Files) (file : Bytes) (old new : Kept) (o : Stepped) (a b : Told) (x y : Counts) (may_fail now : Bool) where
+module _ (limits : Limits) (told : Option Files) (file : Bytes) (old new : Kept) (o : Stepped) (a b : SinkShown) (x y : Counts) (may_fail now : Bool) where
   refused_where : (told : Option Files) (fault : Fault) (state : State) → HasFault told (load_bounds limits) old.rules old.clauses file fault → new.clauses ≡ old.clauses
       → PerformsLoad (view_of limits old).setting told file (holding state old) (fault_line old.rules.entries fault ∷ []) (owed_by_fault fault) (holding state new)
   refused_where None fault state h e = inr (fault, refl, refl, holds_same old new state e)
@@ -109,7 +109,7 @@ module _ (limits : Limits) (told : Option Files) (file : Bytes) (old new : Kept)
 
   pub load_refused : (e : HarvestFault) (line : program.ReplyLine) → Explains old.rules e (HasFault told (load_bounds limits) old.rules old.clauses file)
       → TellsFaultOfLoad e line → HasFaultCause may_fail x y e → new.clauses ≡ old.clauses → Writes o (reply_line line ∷ []) a b
-      → LoadsInto limits told file old new o (around a x may_fail) (around b y now)
+      → LoadsInto limits told file old new o (beside a x may_fail) (beside b y now)
   load_refused e line (inl m) t h same w state =
       let out : reply_line line ≡ memory_line = subst (λ f. TellsFaultOfLoad f line) m t in
       ran_out (holds_same old new state same) (subst (λ l. Writes o (l ∷ []) a b) out w) (subst (HasFaultCause may_fail x y) m h)
@@ -137,7 +137,7 @@ module _ (limits : Limits) (told : Option Files) (file : Bytes) (old new : Kept)
 
   pub load_gained : (loaded : Loaded) (clauses entries : ℕ) → clauses ≡ loaded.clauses → entries ≡ loaded.entries → Gained old.rules old.clauses loaded new.clauses
       → IfSome told (λ files. GainsByLoad files (load_bounds limits) old.rules old.clauses file new.clauses)
-      → y ≡ x → Writes o (ok_line clauses entries ∷ []) a b → LoadsInto limits told file old new o (around a x may_fail) (around b y now)
+      → y ≡ x → Writes o (ok_line clauses entries ∷ []) a b → LoadsInto limits told file old new o (beside a x may_fail) (beside b y now)
   load_gained loaded clauses entries many more g h same w state =
       rightly_loaded (ok_line loaded.clauses loaded.entries ∷ []) nothing (gained_where told loaded state g h)
       (subst (λ r. Writes o r a b) (ap₂ (λ m n. ok_line m n ∷ []) many more) w) same

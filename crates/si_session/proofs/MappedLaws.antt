@@ -9,7 +9,7 @@ use Rattle.si_state.specs.States.{State}
 use Rattle.si_state.specs.Subsumption.{MappedClause, AreMapped, mapped_text}
 use Rattle.si_steps.specs.Replies.{mapped_reply}
 use Rattle.si_steps.specs.Runs.{ended}
-use Rattle.si_io.specs.Content.{Told}
+use Rattle.si_io.specs.Shown.{SinkShown}
 use Rattle.si_defs.proofs.ListLaws.{get_some, get_here}
 use Rattle.si_index.specs.declared.subsuming.Mapped.{Mapped}
 use Rattle.si_index.specs.Subsuming.{AreMappedFrom}
@@ -45,7 +45,7 @@ module _ (P : List Literal → List ℕ → Type 0) (clauses : List Clause) wher
   are_kept found h = kept_from 0 clauses (omega arith) found h
 
   -- what an answer does
-  pub mapped : (found : List Mapped) → AreMappedFrom P 0 clauses found → (o : Stepped) (a b : Told) → Writes o (mapped_reply (all_mapped clauses found)) a b
+  pub mapped : (found : List Mapped) → AreMappedFrom P 0 clauses found → (o : Stepped) (a b : SinkShown) → Writes o (mapped_reply (all_mapped clauses found)) a b
       → (state : State) → HasPerformed (λ reply new. (ms : List MappedClause) × AreMapped P clauses ms × (reply ≡ mapped_reply ms) × (new ≡ state)) state state o a b
   mapped found h o a b w state = rightly (mapped_reply (all_mapped clauses found)) (all_mapped clauses found, mapped_from [] clauses refl found h, refl, refl) w
 

@@ -17,7 +17,7 @@ use Rattle.si_steps.specs.Settings.{Setting}
 use Rattle.si_steps.specs.Commands.{sample}
 use Rattle.si_steps.specs.Replies.{sample_line, memory_line, fault_line}
 use Rattle.si_steps.specs.Steps.{Performs}
-use Rattle.si_io.specs.Content.{Told}
+use Rattle.si_io.specs.Shown.{SinkShown}
 use Rattle.si_defs.proofs.ListLaws.{all_append}
 use Rattle.si_flat.specs.Flattened.{IsSoundEntry}
 use Rattle.si_index.specs.Kept.{Kept}
@@ -188,7 +188,7 @@ pub sample_gained : (rules : Rules) (start count : ℕ) (state new drawn : List 
 sample_gained rules start count state new drawn text gained h are g = (g.0, (text, h, subst (λ cs. AreClauses cs text) (g.1 drawn are) are))
 
 -- ---- the command
-module _ (start count : ℕ) (old new : Kept) (o : Stepped) (a b : Told) where
+module _ (start count : ℕ) (old new : Kept) (o : Stepped) (a b : SinkShown) where
   pub sample_told : (between : List Clause) (gained : Loaded) → GainsSample old.rules start count old.clauses gained between → TellsSum gained between new.clauses o a b
       → ActsOn (sample start count) old new o a b
   sample_told between gained g (inl t) setting state =

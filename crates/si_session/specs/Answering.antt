@@ -9,8 +9,8 @@ use Rattle.si_defs.specs.declared.Relation.{Relation}
 use Rattle.si_state.specs.Answers.{Hit, Solves, hit_text, hit_texts}
 use Rattle.si_steps.specs.Replies.{end_line, answer_reply}
 use Rattle.si_steps.specs.Runs.{ended}
-use Rattle.si_io.specs.Content.{Told}
-use Rattle.si_io.specs.Puts.{Puts}
+use Rattle.si_io.specs.Shown.{SinkShown}
+use Rattle.si_io.specs.Sends.{Sends}
 use Rattle.si_io.specs.declared.failed.Failed.{Failed}
 use Rattle.si_index.specs.Finding.{Finding}
 use Rattle.si_session.specs.Replies.{unended}
@@ -35,30 +35,30 @@ abbrev pub IsInside : List Clause → ℕ × Placed → Type 0
 IsInside clauses found = found.0 < length clauses
 
 -- the line of a hit was written, or the sink failed at it
-abbrev pub TellsHit : Finding → ℕ → Result (Unit {0}) Failed → Told → Told → Type 0
+abbrev pub TellsHit : Finding → ℕ → Result (Unit {0}) Failed → SinkShown → SinkShown → Type 0
 TellsHit f n result before after =
     (found : ℕ × Placed) × (hit : Hit) × (slice_get f.hits n ≡ Some found)
     × IsHitOf f.relation f.pattern f.index.clauses found hit
-    × Puts result (ended (hit_text hit ∷ [])) before after
+    × Sends result (ended (hit_text hit ∷ [])) before after
 
 -- the lines of the hits were written, or the sink failed at one of them
-abbrev pub TellsHits : Finding → Result (Unit {0}) Failed → Told → Told → Type 0
+abbrev pub TellsHits : Finding → Result (Unit {0}) Failed → SinkShown → SinkShown → Type 0
 TellsHits f result before after =
     (hits : List Hit) × AreHitsOf f.relation f.pattern f.index.clauses f.hits hits
-    × Puts result (ended (hit_texts hits)) before after
+    × Sends result (ended (hit_texts hits)) before after
 
 -- The lines of the hits were written and the one of their number, without its line feed; or the
 -- sink failed at them.
-abbrev pub TellsUnended : Finding → Result (Unit {0}) Failed → Told → Told → Type 0
+abbrev pub TellsUnended : Finding → Result (Unit {0}) Failed → SinkShown → SinkShown → Type 0
 TellsUnended f result before after =
     (hits : List Hit) × AreHitsOf f.relation f.pattern f.index.clauses f.hits hits
-    × Puts result (unended (hit_texts hits) (end_line (length hits))) before after
+    × Sends result (unended (hit_texts hits) (end_line (length hits))) before after
 
 -- the answer was written, or the sink failed at it
-abbrev pub TellsAnswer : Finding → Result (Unit {0}) Failed → Told → Told → Type 0
+abbrev pub TellsAnswer : Finding → Result (Unit {0}) Failed → SinkShown → SinkShown → Type 0
 TellsAnswer f result before after =
     (hits : List Hit) × AreHitsOf f.relation f.pattern f.index.clauses f.hits hits
-    × Puts result (ended (answer_reply hits)) before after
+    × Sends result (ended (answer_reply hits)) before after
 
 -- a line of a place and a list, with its end
 unfoldable pub hit_line : Name → Place → Solution → Bytes

@@ -1,6 +1,8 @@
 -- What a sink tells that holds bytes, and what the sink below was given since a start.
 use Rattle.std.specs.Prelude.{◌≡◌, ℕ, ◌-◌, List, Option, None, Some, length, drop, replicate, take}
 use Rattle.si_io.specs.Content.{Told, bytes_then, append_told}
+use Rattle.si_io.specs.Counts.{raised_by}
+use Rattle.si_io.specs.Shown.{SinkShown}
 
 -- the bytes from one place up to another
 abbrev pub held : List ℕ → ℕ → ℕ → List ℕ
@@ -9,6 +11,22 @@ held bytes start end = drop start (take end bytes)
 -- what is told of them, behind what the sink below was given
 abbrev pub told_with : Told → List ℕ → ℕ → ℕ → Told
 told_with below bytes start end = append_told below (held bytes start end)
+
+-- What is shown of a sink that holds these bytes, after so many writes of its own: those that are
+-- held count as taken.
+abbrev pub gathered : SinkShown → List ℕ → (start end calls : ℕ) → SinkShown
+gathered below bytes start end calls = record {
+  told = told_with below.told bytes start end;
+  counts = record {
+    calls = calls;
+    bytes = raised_by (length (held bytes start end)) below.counts.bytes;
+    faults = below.counts.faults;
+  };
+}
+
+-- what is shown at the start, over a sink that shows this
+abbrev pub begun : SinkShown → SinkShown
+begun below = record below { counts = record below.counts { calls = 0 } }
 
 -- the bytes that were given between these two times, or as many zeros as the room fell by where
 -- they aren't told

@@ -12,9 +12,10 @@ use Rattle.si_state.specs.Harvest.{Files}
 use Rattle.si_steps.specs.Loads.{Owed, nothing, a_miss, a_big, a_failure, PerformsLoad}
 use Rattle.si_steps.specs.Steps.{Performs}
 use Rattle.si_steps.specs.Runs.{Request, Acts, ended}
-use Rattle.si_io.specs.Content.{Told, Receives, ReceivesPrefix}
-use Rattle.si_io.specs.Faults.{Rose}
-use Rattle.si_io.specs.Library.{Counts}
+use Rattle.si_io.specs.Shown.{SinkShown, LibraryShown}
+use Rattle.si_io.specs.Sends.{SendsAll, SendsPart}
+use Rattle.si_io.specs.Counts.{raised}
+use Rattle.si_io.specs.Library.{Counts, faults_in}
 use Rattle.si_index.specs.Kept.{Kept}
 use Rattle.si_session.specs.declared.stepped.Stepped.{Stepped}
 use Rattle.si_session.specs.declared.stepped.Stepped.TheVariants.{Answered, Refused, Silent, SinkFailed}
@@ -45,34 +46,36 @@ view_of limits index = record {
 abbrev pub IsFresh : Setting → View → Type 0
 IsFresh setting session = session ≡ record { state = empty_state; setting = setting }
 
--- what stands in the sink behind a step with this reply
-abbrev pub Writes : Stepped → Reply → Told → Told → Type 0
+-- what became of the sink in a step with this reply
+abbrev pub Writes : Stepped → Reply → SinkShown → SinkShown → Type 0
 Writes Answered reply before after =
-    Receives before (ended reply) after × (reply ≡ [] → ⊥) × IsFalse (is_refusal reply)
-Writes Refused reply before after = Receives before (ended reply) after × IsTrue (is_refusal reply)
-Writes Silent reply before after = Receives before (ended reply) after × (reply ≡ [])
-Writes SinkFailed reply before after = ReceivesPrefix before (ended reply) after
+    SendsAll before (ended reply) after × (reply ≡ [] → ⊥) × IsFalse (is_refusal reply)
+Writes Refused reply before after = SendsAll before (ended reply) after × IsTrue (is_refusal reply)
+Writes Silent reply before after = SendsAll before (ended reply) after × (reply ≡ [])
+Writes SinkFailed reply before after = SendsPart before (ended reply) after
 
 -- What a reply owes to the library was counted there, and no other count moved. It owes a failure
 -- only where the library may fail.
 abbrev pub IsCounted : Bool → Owed → Counts → Counts → Type 0
 IsCounted may_fail nothing before now = now ≡ before
 IsCounted may_fail a_miss before now =
-    Rose before.misses now.misses × (now ≡ record before { misses = now.misses })
+    now ≡ record before { misses = raised before.misses }
 IsCounted may_fail a_big before now =
-    Rose before.bigs now.bigs × (now ≡ record before { bigs = now.bigs })
+    now ≡ record before { bigs = raised before.bigs }
 IsCounted may_fail a_failure before now =
-    Rose before.faults now.faults × (now ≡ record before { faults = now.faults }) × IsTrue may_fail
+    (now ≡ record before { faults = raised before.faults }) × IsTrue may_fail
 
 -- what is known of the sink, of the library's counts and of whether the library may fail, before a
 -- step or behind it
 pub record Around : Type 0 where
-  pub sink : Told
+  pub sink : SinkShown
   pub counts : Counts
   pub may_fail : Bool
 
-abbrev pub around : Told → Counts → Bool → Around
-around sink counts may_fail = record { sink = sink; counts = counts; may_fail = may_fail }
+-- the same of a sink and a library that show this
+abbrev pub around : SinkShown → LibraryShown → Around
+around sink library =
+    record { sink = sink; counts = faults_in library.counts; may_fail = library.may_fail }
 
 -- The call went one step over a library: the state is the one behind it, its reply was written, or
 -- at a sink's fault a prefix of it, and what the reply owes to the library was counted. The setting
@@ -90,7 +93,7 @@ pub record Steps (told : Option Files) (old new : View) (request : Request) (out
 -- What a command did: its reply P was right, and so is the state behind it; or memory ran out, at
 -- once or behind some of the lines of the right reply, and the state stayed.
 pub data HasPerformed (P : Reply → State → Type 0) (old new : State) (outcome : Stepped)
-    (before after : Told) : Type 0 where
+    (before after : SinkShown) : Type 0 where
   rightly : (reply : Reply) → P reply new → Writes outcome reply before after
       → HasPerformed P old new outcome before after
   at_once : new ≡ old → Writes outcome (memory_line ∷ []) before after
@@ -109,7 +112,7 @@ ruled_by setting index = record setting { rules = index.rules }
 
 -- An index did what a command asks of it: so the command was performed, whatever else there is of a
 -- state and a setting.
-abbrev pub ActsOn : Command → Kept → Kept → Stepped → Told → Told → Type 0
+abbrev pub ActsOn : Command → Kept → Kept → Stepped → SinkShown → SinkShown → Type 0
 ActsOn command old new outcome before after =
     (setting : Setting) (state : State)
     → HasPerformed (Performs (ruled_by setting old) command (holding state old))

@@ -8,7 +8,7 @@ use Rattle.si_state.specs.Answers.{Hit, IsAnswer}
 use Rattle.si_state.specs.Harvest.{Fault}
 use Rattle.si_state.specs.Samples.{AreDrawn, SumsAnswers}
 use Rattle.si_steps.specs.Replies.{sample_line, memory_line}
-use Rattle.si_io.specs.Content.{Told}
+use Rattle.si_io.specs.Shown.{SinkShown}
 use Rattle.si_harvest.specs.declared.faults.Loaded.{Loaded}
 use Rattle.si_harvest.specs.Gains.{Gained}
 use Rattle.si_harvest.specs.Texts.{RefusesFirst}
@@ -51,7 +51,7 @@ pub record SumsTo (all whole left : List (Clause × Placed)) (sum : ℕ) : Type 
   pub few : sum ≤ 4294967296 * length asked
 
 -- The sum for what was gained was told; or memory ran out, and it is gone again.
-abbrev pub TellsSum : Loaded → List Clause → List Clause → Stepped → Told → Told → Type 0
+abbrev pub TellsSum : Loaded → List Clause → List Clause → Stepped → SinkShown → SinkShown → Type 0
 TellsSum gained old new outcome before after =
     ((sum : ℕ) × SumsLast old gained.clauses sum × (new ≡ old)
     × Writes outcome (sample_line gained.clauses gained.entries sum ∷ []) before after)

@@ -3,8 +3,7 @@ ghost use Rattle.std.specs.Prelude.{◌≡◌, ◌<◌, length, map};
 ghost use Rattle.std.specs.List.{AllByRecursion};
 ghost use Rattle.si_defs.specs.Variables as variables;
 ghost use Rattle.si_state.specs.Signatures.{numbering};
-ghost use Rattle.si_io.specs.Puts.{Puts};
-ghost use Rattle.si_io.specs.Faults.{HasCause};
+ghost use Rattle.si_io.specs.Sends.{Sends};
 ghost use Rattle.si_term.specs.Meaning.{name_of, place_of};
 ghost use Rattle.si_index.specs.Searching.{HasSolution};
 ghost use Rattle.si_reply.specs.NamedLists.{naming, ShowsList};
@@ -31,12 +30,11 @@ fn put_hit<K: Sink>(
     requires known { (list : variables.Solution) × ShowsList (naming (numbering signature.now)
         lent.now.extra.now lent.now.query_names.now
         (map (λ name. name.now) lent.now.entry_names.now)) lent.now.solution.now list }
-    ensures text { (list : variables.Solution) → ShowsList (naming (numbering signature.now)
+    ensures { (list : variables.Solution) → ShowsList (naming (numbering signature.now)
         lent.now.extra.now lent.now.query_names.now
         (map (λ name. name.now) lent.now.entry_names.now)) lent.now.solution.now list
-        → Puts result (hit_line (name_of name.now) (place_of place.now) list)
-        (K.written sink.old) (K.written sink.new) }
-    ensures cause { HasCause (K.faults sink.old) (K.faults sink.new) result }
+        → Sends result (hit_line (name_of name.now) (place_of place.now) list)
+        (K.shown sink.old) (K.shown sink.new) }
 {
     put_place(sink, name, place)?;
     put_sign(sink, Sign::Space)?;
@@ -55,8 +53,7 @@ fn put_hit<K: Sink>(
 fn tell_hit<K: Sink>(index: &Index, found: &Found<'_>, n: u32, sink: &mut K) -> Result<(), Failed>
     requires index { found.now.index ≡ index.now }
     requires there { n < length found.now.hits }
-    ensures told { TellsHit found.now n result (K.written sink.old) (K.written sink.new) }
-    ensures cause { HasCause (K.faults sink.old) (K.faults sink.new) result }
+    ensures { TellsHit found.now n result (K.shown sink.old) (K.shown sink.new) }
 {
     let clause = found.clause(n);
     let hit = found.hit(n);
@@ -70,8 +67,7 @@ fn tell_hits<K: Sink>(index: &Index, found: &Found<'_>, sink: &mut K) -> Result<
     requires inside { AllByRecursion (IsInside index.now.clauses) found.now.hits }
     requires solved { AllByRecursion (λ hit. HasSolution found.now.relation found.now.pattern
         hit.1.entry) found.now.hits }
-    ensures told { TellsHits found.now result (K.written sink.old) (K.written sink.new) }
-    ensures cause { HasCause (K.faults sink.old) (K.faults sink.new) result }
+    ensures { TellsHits found.now result (K.shown sink.old) (K.shown sink.new) }
 {
     for n in 0..found.len() {
         tell_hit(index, found, n, sink)?;
@@ -85,8 +81,7 @@ fn tell_unended<K: Sink>(index: &Index, found: &Found<'_>, sink: &mut K) -> Resu
     requires inside { AllByRecursion (IsInside index.now.clauses) found.now.hits }
     requires solved { AllByRecursion (λ hit. HasSolution found.now.relation found.now.pattern
         hit.1.entry) found.now.hits }
-    ensures told { TellsUnended found.now result (K.written sink.old) (K.written sink.new) }
-    ensures cause { HasCause (K.faults sink.old) (K.faults sink.new) result }
+    ensures { TellsUnended found.now result (K.shown sink.old) (K.shown sink.new) }
 {
     tell_hits(index, found, sink)?;
     put_end(sink, u64::from(found.len()))
@@ -103,9 +98,8 @@ fn tell_over<S: Borrowed, B: Origin>(
     requires solved { AllByRecursion (λ hit. HasSolution found.now.relation found.now.pattern
         hit.1.entry) found.now.hits }
     requires same { S.name sink ≡ B.name }
-    requires start { S.given sink ≡ B.told }
-    ensures told { TellsAnswer found.now result.0 (S.given sink) (S.given result.1) }
-    ensures cause { HasCause (S.failures sink) (S.failures result.1) result.0 }
+    requires start { S.shown sink ≡ B.shown }
+    ensures told { TellsAnswer found.now result.0 (S.shown sink) (S.shown result.1) }
     ensures same { S.name result.1 ≡ S.name sink }
 {
     let mut buffered = Buffered::<S, B>::over(sink);
@@ -119,8 +113,7 @@ pub fn tell_answer<K: Sink>(index: &Index, found: &Found<'_>, sink: &mut K) -> R
     requires inside { AllByRecursion (IsInside index.now.clauses) found.now.hits }
     requires solved { AllByRecursion (λ hit. HasSolution found.now.relation found.now.pattern
         hit.1.entry) found.now.hits }
-    ensures told { TellsAnswer found.now result (K.written sink.old) (K.written sink.new) }
-    ensures cause { HasCause (K.faults sink.old) (K.faults sink.new) result }
+    ensures { TellsAnswer found.now result (K.shown sink.old) (K.shown sink.new) }
 {
     let (told, _) = tell_over::<&mut K, Brand>(index, found, sink);
     told

@@ -2,10 +2,12 @@
 ghost use Rattle.std.specs.Prelude.{◌≡◌, ◌+◌, ◌-◌, ◌<◌, ◌≤◌, ℕ, List, [], ◌∷◌, ◌++◌, length, take, drop, min, IfOk, OnOk, OnErr};
 ghost use Rattle.std.specs.Borrow.{GName};
 ghost use Rattle.std.proofs.Props.{props};
-ghost use Rattle.si_io.specs.Content.{Told, untold, append_told, Receives, TakesFitting};
-ghost use Rattle.si_io.specs.Faults.{HasCause, HasWriteCause};
-ghost use Rattle.si_io.specs.Puts.{Puts};
-ghost use Rattle.si_session.specs.Buffering.{held, told_with, HasBytesSince, HasRoomSince};
+ghost use Rattle.si_io.specs.Content.{untold, append_told, Receives, TakesFitting};
+ghost use Rattle.si_io.specs.Counts.{raised_by, write_counted};
+ghost use Rattle.si_io.specs.Faults.{HasCause};
+ghost use Rattle.si_io.specs.Sends.{WritesFew, Sends};
+ghost use Rattle.si_io.specs.Shown.{SinkShown};
+ghost use Rattle.si_session.specs.Buffering.{held, told_with, gathered, begun, HasBytesSince, HasRoomSince};
 
 use si_io::{Failed, Sink};
 use std::marker::{Brand, PhantomData};
@@ -18,24 +20,25 @@ const SIZE: usize = HELD + 1;
 
 const LINE_FEED: u8 = b'\n';
 
-/// Which sink is written to, and what it told at the start: for proofs alone.
+/// Which sink is written to, and what it showed at the start: for proofs alone.
 pub trait Origin {
     ghost name: { GName };
 
-    ghost told: { Told };
+    ghost shown: { SinkShown };
 }
 
 impl Origin for Brand {
     ghost name = { 0 };
 
-    ghost told = { untold };
+    ghost shown = { record {
+      told = untold;
+      counts = record { calls = 0; bytes = 0; faults = 0 };
+    } };
 }
 
 /// A sink that is borrowed. Beside what a sink promises, it stays the same one.
 pub trait Borrowed {
-    ghost given: { Self → Told };
-
-    ghost failures: { Self → ℕ };
+    ghost shown: { Self → SinkShown };
 
     ghost name: { Self → GName };
 
@@ -43,18 +46,17 @@ pub trait Borrowed {
     fn pass(&mut self, bytes: &[u8]) -> Result<usize, Failed>
         requires { 0 < length bytes.now }
         ensures bound { IfOk result (λ n. n ≤ length bytes.now) }
-        ensures taken { IfOk result (λ n. Receives (given self.old) (take n bytes.now)
-            (given self.new)) }
-        ensures kept { OnErr result (given self.new ≡ given self.old) }
-        ensures fits { TakesFitting (given self.old).room bytes.now result }
-        ensures cause { HasWriteCause (failures self.old) (failures self.new) bytes.now result }
+        ensures taken { IfOk result (λ n. Receives (shown self.old).told (take n bytes.now)
+            (shown self.new).told) }
+        ensures kept { OnErr result ((shown self.new).told ≡ (shown self.old).told) }
+        ensures fits { TakesFitting (shown self.old).told.room bytes.now result }
+        ensures counts { (shown self.new).counts
+            ≡ write_counted (length bytes.now) result (shown self.old).counts }
         ensures same { name self.new ≡ name self.old };
 }
 
 impl<K: Sink> Borrowed for &mut K {
-    ghost given = { λ sink. K.written sink.now };
-
-    ghost failures = { λ sink. K.faults sink.now };
+    ghost shown = { λ sink. K.shown sink.now };
 
     ghost name = { λ sink. sink.ghost_name };
 
@@ -67,13 +69,14 @@ impl<K: Sink> Borrowed for &mut K {
 /// behind those that were taken.
 fn hand_on<S: Borrowed>(sink: &mut S, bytes: &[u8], from: &mut usize) -> Result<(), Failed>
     requires { from.old ≤ length bytes.now }
-    ensures text { Puts result (drop from.old bytes.now) (S.given sink.old) (S.given sink.new) }
-    ensures left { append_told (S.given sink.new) (drop from.new bytes.now)
-        ≡ append_told (S.given sink.old) (drop from.old bytes.now) }
+    ensures sends { Sends result (drop from.old bytes.now) (S.shown sink.old) (S.shown sink.new) }
+    ensures left { append_told (S.shown sink.new).told (drop from.new bytes.now)
+        ≡ append_told (S.shown sink.old).told (drop from.old bytes.now) }
+    ensures count { raised_by (length bytes.now - from.new) (S.shown sink.new).counts.bytes
+        ≡ raised_by (length bytes.now - from.old) (S.shown sink.old).counts.bytes }
     ensures on { from.old ≤ from.new }
     ensures within { from.new ≤ length bytes.now }
     ensures all { OnOk result (from.new ≡ length bytes.now) }
-    ensures cause { HasCause (S.failures sink.old) (S.failures sink.new) result }
     ensures same { S.name sink.new ≡ S.name sink.old }
 {
     while *from < bytes.len() {
@@ -96,20 +99,24 @@ pub struct Buffered<S: Borrowed, B: Origin> {
     start: usize,
     // up to here.
     end: usize,
+    // So many writes were made to it.
+    calls: u64,
     origin: PhantomData<B>,
     ghost same: { S.name sink ≡ B.name },
     ghost order: { start ≤ end },
     ghost within: { end ≤ 1023 },
-    ghost given: { HasBytesSince B.told (S.given sink) } by { Prim.hlevel props },
-    ghost fallen: { HasRoomSince B.told (S.given sink) },
+    ghost given: { HasBytesSince B.shown.told (S.shown sink).told } by { Prim.hlevel props },
+    ghost fallen: { HasRoomSince B.shown.told (S.shown sink).told },
+    ghost few: { WritesFew B.shown.counts (S.shown sink).counts } by { Prim.hlevel props },
 }
 
 impl<S: Borrowed, B: Origin> Buffered<S, B> {
     /// Over this sink, with nothing held yet.
     pub fn over(sink: S) -> Buffered<S, B>
         requires same { S.name sink ≡ B.name }
-        requires start { S.given sink ≡ B.told }
+        requires start { S.shown sink ≡ B.shown }
         ensures sink { result.sink ≡ sink }
+        ensures calls { result.calls ≡ 0 }
         ensures none { held result.bytes result.start result.end ≡ [] }
     {
         Buffered {
@@ -117,6 +124,7 @@ impl<S: Borrowed, B: Origin> Buffered<S, B> {
             bytes: [0; SIZE],
             start: 0,
             end: 0,
+            calls: 0,
             origin: PhantomData,
         }
     }
@@ -125,14 +133,21 @@ impl<S: Borrowed, B: Origin> Buffered<S, B> {
     fn hand_on_to(&mut self, place: usize) -> Result<(), Failed>
         requires from { self.old.start ≤ place }
         requires within { place ≤ self.old.end }
-        ensures same { told_with (S.given self.new.sink) self.new.bytes self.new.start self.new.end
-            ≡ told_with (S.given self.old.sink) self.old.bytes self.old.start self.old.end }
+        ensures same { told_with (S.shown self.new.sink).told self.new.bytes self.new.start
+            self.new.end ≡ told_with (S.shown self.old.sink).told self.old.bytes self.old.start
+            self.old.end }
+        ensures count { raised_by (length (held self.new.bytes self.new.start self.new.end))
+            (S.shown self.new.sink).counts.bytes
+            ≡ raised_by (length (held self.old.bytes self.old.start self.old.end))
+            (S.shown self.old.sink).counts.bytes }
+        ensures calls { self.new.calls ≡ self.old.calls }
         ensures start { OnOk result (self.new.start ≡ place) }
         ensures bytes { self.new.bytes ≡ self.old.bytes }
         ensures end { self.new.end ≡ self.old.end }
-        ensures full { OnErr result ((S.given self.old.sink).room
+        ensures full { OnErr result ((S.shown self.old.sink).told.room
             < length (held self.old.bytes self.old.start self.old.end)) }
-        ensures cause { HasCause (S.failures self.old.sink) (S.failures self.new.sink) result }
+        ensures cause { HasCause (S.shown self.old.sink).counts.faults
+            (S.shown self.new.sink).counts.faults result }
     {
         hand_on(&mut self.sink, &self.bytes[..place], &mut self.start)
     }
@@ -153,12 +168,19 @@ impl<S: Borrowed, B: Origin> Buffered<S, B> {
     /// of a line would do so within a reply.
     #[inline(never)]
     fn hand_on_held(&mut self) -> Result<(), Failed>
-        ensures same { told_with (S.given self.new.sink) self.new.bytes self.new.start self.new.end
-            ≡ told_with (S.given self.old.sink) self.old.bytes self.old.start self.old.end }
+        ensures same { told_with (S.shown self.new.sink).told self.new.bytes self.new.start
+            self.new.end ≡ told_with (S.shown self.old.sink).told self.old.bytes self.old.start
+            self.old.end }
+        ensures count { raised_by (length (held self.new.bytes self.new.start self.new.end))
+            (S.shown self.new.sink).counts.bytes
+            ≡ raised_by (length (held self.old.bytes self.old.start self.old.end))
+            (S.shown self.old.sink).counts.bytes }
+        ensures calls { self.new.calls ≡ self.old.calls }
         ensures few { OnOk result (self.new.end ≤ 1) }
-        ensures full { OnErr result ((S.given self.old.sink).room
+        ensures full { OnErr result ((S.shown self.old.sink).told.room
             < length (held self.old.bytes self.old.start self.old.end)) }
-        ensures cause { HasCause (S.failures self.old.sink) (S.failures self.new.sink) result }
+        ensures cause { HasCause (S.shown self.old.sink).counts.faults
+            (S.shown self.new.sink).counts.faults result }
     {
         let place = self.before_line_feed();
         self.hand_on_to(place)?;
@@ -175,6 +197,7 @@ impl<S: Borrowed, B: Origin> Buffered<S, B> {
         ensures held { held self.new.bytes self.new.start self.new.end
             ≡ held self.old.bytes self.old.start self.old.end ++ bytes.now }
         ensures sink { self.new.sink ≡ self.old.sink }
+        ensures calls { self.new.calls ≡ self.old.calls }
     {
         let start = self.end;
         // One byte is stored without a call.
@@ -191,11 +214,9 @@ impl<S: Borrowed, B: Origin> Buffered<S, B> {
     /// Ends a reply of which all was told but its last line feed: hands on what is held, and that.
     /// After a failure the sink is given back without another call.
     pub fn finish(self, told: Result<(), Failed>) -> (Result<(), Failed>, S)
-        ensures told { (text : List ℕ) → Puts told text B.told
-            (told_with (S.given self.sink) self.bytes self.start self.end)
-            → Puts result.0 (text ++ 10 ∷ []) B.told (S.given result.1) }
-        ensures cause { (before : ℕ) → HasCause before (S.failures self.sink) told
-            → HasCause before (S.failures result.1) result.0 }
+        ensures told { (text : List ℕ) → Sends told text (begun B.shown)
+            (gathered (S.shown self.sink) self.bytes self.start self.end self.calls)
+            → Sends result.0 (text ++ 10 ∷ []) B.shown (S.shown result.1) }
         ensures uncalled { OnErr told (result.1 ≡ self.sink) }
         ensures same { S.name result.1 ≡ B.name }
     {
@@ -216,12 +237,11 @@ impl<S: Borrowed, B: Origin> Buffered<S, B> {
 }
 
 impl<S: Borrowed, B: Origin> Sink for Buffered<S, B> {
-    ghost written = { λ b. told_with (S.given b.sink) b.bytes b.start b.end };
-
-    ghost faults = { λ b. S.failures b.sink };
+    ghost shown = { λ b. gathered (S.shown b.sink) b.bytes b.start b.end b.calls };
 
     #[inline(always)]
     fn write(&mut self, bytes: &[u8]) -> Result<usize, Failed> {
+        self.calls = self.calls.saturating_add(1);
         if bytes.len() <= HELD - self.end {
             self.hold(bytes);
             return Ok(bytes.len());

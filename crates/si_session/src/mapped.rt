@@ -6,8 +6,8 @@ ghost use Rattle.si_state.specs.Subsumption.{mapped_text};
 ghost use Rattle.si_steps.specs.Commands as command;
 ghost use Rattle.si_steps.specs.Replies.{mapped_reply};
 ghost use Rattle.si_steps.specs.Runs.{ended};
-ghost use Rattle.si_io.specs.Puts.{Puts};
-ghost use Rattle.si_io.specs.Faults.{Rose, HasCause};
+ghost use Rattle.si_io.specs.Sends.{Sends};
+ghost use Rattle.si_io.specs.Counts.{raised};
 ghost use Rattle.si_term.specs.Meaning.{name_of, literal_of};
 ghost use Rattle.si_session.specs.MappedClauses.{IsKeptAt, all_mapped, mapped_line, unended_mapped};
 ghost use Rattle.si_session.specs.Session.{Writes, ActsOn};
@@ -26,9 +26,8 @@ use std::marker::Brand;
 
 /// Writes the line of a clause: its name and its map.
 fn put_mapped<K: Sink>(sink: &mut K, name: &Name, map: &LitMap) -> Result<(), Failed>
-    ensures text { Puts result (mapped_line (name_of name.now) map.now) (K.written sink.old)
-        (K.written sink.new) }
-    ensures cause { HasCause (K.faults sink.old) (K.faults sink.new) result }
+    ensures { Sends result (mapped_line (name_of name.now) map.now) (K.shown sink.old)
+        (K.shown sink.new) }
 {
     put_name(sink, name)?;
     put_sign(sink, Sign::Space)?;
@@ -39,9 +38,8 @@ fn put_mapped<K: Sink>(sink: &mut K, name: &Name, map: &LitMap) -> Result<(), Fa
 /// Writes the lines of the clauses.
 fn put_all_mapped<K: Sink>(index: &Index, found: &Mappeds, sink: &mut K) -> Result<(), Failed>
     requires { AllByRecursion (IsKeptAt index.now.clauses) found.now }
-    ensures text { Puts result (ended (map mapped_text (all_mapped index.now.clauses found.now)))
-        (K.written sink.old) (K.written sink.new) }
-    ensures cause { HasCause (K.faults sink.old) (K.faults sink.new) result }
+    ensures { Sends result (ended (map mapped_text (all_mapped index.now.clauses found.now)))
+        (K.shown sink.old) (K.shown sink.new) }
 {
     for mapped in found.as_slice() {
         put_mapped(sink, &index.clause(mapped.clause).name, &mapped.map)?;
@@ -52,9 +50,8 @@ fn put_all_mapped<K: Sink>(index: &Index, found: &Mappeds, sink: &mut K) -> Resu
 /// Writes the lines of the clauses and the one of their number, without its line feed.
 fn put_unended<K: Sink>(index: &Index, found: &Mappeds, sink: &mut K) -> Result<(), Failed>
     requires { AllByRecursion (IsKeptAt index.now.clauses) found.now }
-    ensures text { Puts result (unended_mapped (all_mapped index.now.clauses found.now))
-        (K.written sink.old) (K.written sink.new) }
-    ensures cause { HasCause (K.faults sink.old) (K.faults sink.new) result }
+    ensures { Sends result (unended_mapped (all_mapped index.now.clauses found.now))
+        (K.shown sink.old) (K.shown sink.new) }
 {
     put_all_mapped(index, found, sink)?;
     put_end(sink, found.len() as u64)
@@ -68,10 +65,9 @@ fn put_over<S: Borrowed, B: Origin>(
 ) -> (Result<(), Failed>, S)
     requires kept { AllByRecursion (IsKeptAt index.now.clauses) found.now }
     requires same { S.name sink ≡ B.name }
-    requires start { S.given sink ≡ B.told }
-    ensures text { Puts result.0 (ended (mapped_reply (all_mapped index.now.clauses found.now)))
-        (S.given sink) (S.given result.1) }
-    ensures cause { HasCause (S.failures sink) (S.failures result.1) result.0 }
+    requires start { S.shown sink ≡ B.shown }
+    ensures text { Sends result.0 (ended (mapped_reply (all_mapped index.now.clauses found.now)))
+        (S.shown sink) (S.shown result.1) }
     ensures same { S.name result.1 ≡ S.name sink }
 {
     let mut buffered = Buffered::<S, B>::over(sink);
@@ -82,9 +78,8 @@ fn put_over<S: Borrowed, B: Origin>(
 /// Writes the answer, in large pieces.
 fn put_answer<K: Sink>(index: &Index, found: &Mappeds, sink: &mut K) -> Result<(), Failed>
     requires { AllByRecursion (IsKeptAt index.now.clauses) found.now }
-    ensures text { Puts result (ended (mapped_reply (all_mapped index.now.clauses found.now)))
-        (K.written sink.old) (K.written sink.new) }
-    ensures cause { HasCause (K.faults sink.old) (K.faults sink.new) result }
+    ensures { Sends result (ended (mapped_reply (all_mapped index.now.clauses found.now)))
+        (K.shown sink.old) (K.shown sink.new) }
 {
     let (told, _) = put_over::<&mut K, Brand>(index, found, sink);
     told
@@ -94,10 +89,12 @@ fn put_answer<K: Sink>(index: &Index, found: &Mappeds, sink: &mut K) -> Result<(
 fn tell_mapped<K: Sink>(index: &Index, found: &Mappeds, sink: &mut K) -> Stepped
     requires { AllByRecursion (IsKeptAt index.now.clauses) found.now }
     ensures written { Writes result (mapped_reply (all_mapped index.now.clauses found.now))
-        (K.written sink.old) (K.written sink.new) }
-    ensures later { K.faults sink.old ≤ K.faults sink.new }
-    ensures kept { (result ≡ SinkFailed → ⊥) → K.faults sink.new ≡ K.faults sink.old }
-    ensures failed { result ≡ SinkFailed → Rose (K.faults sink.old) (K.faults sink.new) }
+        (K.shown sink.old) (K.shown sink.new) }
+    ensures later { (K.shown sink.old).counts.faults ≤ (K.shown sink.new).counts.faults }
+    ensures kept { (result ≡ SinkFailed → ⊥) → (K.shown sink.new).counts.faults ≡
+        (K.shown sink.old).counts.faults }
+    ensures failed { result ≡ SinkFailed → (K.shown sink.new).counts.faults
+        ≡ raised (K.shown sink.old).counts.faults }
 {
     match put_answer(index, found, sink) {
         Ok(()) => Stepped::Answered,
@@ -109,10 +106,12 @@ fn tell_mapped<K: Sink>(index: &Index, found: &Mappeds, sink: &mut K) -> Stepped
 pub fn subsumers<K: Sink>(index: &Index, formula: &Literals, sink: &mut K) -> Stepped
     requires { AreSoundLiterals (map literal_of formula.now) }
     ensures acts { ActsOn (command.subsumers (map literal_of formula.now)) index.now index.now
-        result (K.written sink.old) (K.written sink.new) }
-    ensures later { K.faults sink.old ≤ K.faults sink.new }
-    ensures kept { (result ≡ SinkFailed → ⊥) → K.faults sink.new ≡ K.faults sink.old }
-    ensures failed { result ≡ SinkFailed → Rose (K.faults sink.old) (K.faults sink.new) }
+        result (K.shown sink.old) (K.shown sink.new) }
+    ensures later { (K.shown sink.old).counts.faults ≤ (K.shown sink.new).counts.faults }
+    ensures kept { (result ≡ SinkFailed → ⊥) → (K.shown sink.new).counts.faults ≡
+        (K.shown sink.old).counts.faults }
+    ensures failed { result ≡ SinkFailed → (K.shown sink.new).counts.faults
+        ≡ raised (K.shown sink.old).counts.faults }
 {
     match index.subsumers(formula) {
         Ok(found) => tell_mapped(index, &found, sink),
@@ -124,10 +123,12 @@ pub fn subsumers<K: Sink>(index: &Index, formula: &Literals, sink: &mut K) -> St
 pub fn subsumed<K: Sink>(index: &Index, formula: &Literals, sink: &mut K) -> Stepped
     requires { AreSoundLiterals (map literal_of formula.now) }
     ensures acts { ActsOn (command.subsumed (map literal_of formula.now)) index.now index.now result
-        (K.written sink.old) (K.written sink.new) }
-    ensures later { K.faults sink.old ≤ K.faults sink.new }
-    ensures kept { (result ≡ SinkFailed → ⊥) → K.faults sink.new ≡ K.faults sink.old }
-    ensures failed { result ≡ SinkFailed → Rose (K.faults sink.old) (K.faults sink.new) }
+        (K.shown sink.old) (K.shown sink.new) }
+    ensures later { (K.shown sink.old).counts.faults ≤ (K.shown sink.new).counts.faults }
+    ensures kept { (result ≡ SinkFailed → ⊥) → (K.shown sink.new).counts.faults ≡
+        (K.shown sink.old).counts.faults }
+    ensures failed { result ≡ SinkFailed → (K.shown sink.new).counts.faults
+        ≡ raised (K.shown sink.old).counts.faults }
 {
     match index.subsumed(formula) {
         Ok(found) => tell_mapped(index, &found, sink),

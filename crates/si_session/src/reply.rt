@@ -2,8 +2,8 @@
 ghost use Rattle.std.specs.Prelude.{◌≡◌, ◌≤◌, ◌++◌, [], ◌∷◌, decimal};
 ghost use Rattle.si_defs.specs.Printing.{name_text, file_text, symbol_text};
 ghost use Rattle.si_steps.specs.Replies.{is_refusal, end_line};
-ghost use Rattle.si_io.specs.Faults.{Rose, HasCause};
-ghost use Rattle.si_io.specs.Puts.{Puts};
+ghost use Rattle.si_io.specs.Counts.{raised};
+ghost use Rattle.si_io.specs.Sends.{Sends};
 ghost use Rattle.si_term.specs.Terms.{symbol_of};
 ghost use Rattle.si_term.specs.Meaning.{name_of};
 ghost use Rattle.si_session.specs.Signs.{sign_text};
@@ -94,22 +94,20 @@ pub enum ReplyLine<'a> {
 }
 
 /// Writes a line of a word and a number.
-#[tactic(auto, using(si_io::proofs::Content::writes))]
+#[tactic(auto, using(si_io::proofs::Sends::sends))]
 fn put_count<K: Sink>(sink: &mut K, word: &[u8], number: u64) -> Result<(), Failed>
-    ensures text { Puts result ((word.now ++ decimal number) ++ sign_text LineFeed)
-        (K.written sink.old) (K.written sink.new) }
-    ensures cause { HasCause (K.faults sink.old) (K.faults sink.new) result }
+    ensures { Sends result ((word.now ++ decimal number) ++ sign_text LineFeed)
+        (K.shown sink.old) (K.shown sink.new) }
 {
     put_number(sink, word, number)?;
     put_sign(sink, Sign::LineFeed)
 }
 
 /// Writes a line of a word and the name of a clause.
-#[tactic(auto, using(si_io::proofs::Content::writes))]
+#[tactic(auto, using(si_io::proofs::Sends::sends))]
 fn put_named<K: Sink>(sink: &mut K, word: &[u8], name: &Name) -> Result<(), Failed>
-    ensures text { Puts result (word.now ++ name_text (name_of name.now) ++ sign_text LineFeed)
-        (K.written sink.old) (K.written sink.new) }
-    ensures cause { HasCause (K.faults sink.old) (K.faults sink.new) result }
+    ensures { Sends result (word.now ++ name_text (name_of name.now) ++ sign_text LineFeed)
+        (K.shown sink.old) (K.shown sink.new) }
 {
     put_bytes(sink, word)?;
     put_name(sink, name)?;
@@ -142,11 +140,10 @@ fn line_word(fault: LineFault) -> &'static [u8]
 }
 
 /// Writes a line of a word and the name of a file.
-#[tactic(auto, using(si_io::proofs::Content::writes))]
+#[tactic(auto, using(si_io::proofs::Sends::sends))]
 fn put_filed<K: Sink>(sink: &mut K, word: &[u8], file: &[u8]) -> Result<(), Failed>
-    ensures text { Puts result (word.now ++ file_text file.now ++ sign_text LineFeed)
-        (K.written sink.old) (K.written sink.new) }
-    ensures cause { HasCause (K.faults sink.old) (K.faults sink.new) result }
+    ensures { Sends result (word.now ++ file_text file.now ++ sign_text LineFeed)
+        (K.shown sink.old) (K.shown sink.new) }
 {
     put_bytes(sink, word)?;
     put_file(sink, file)?;
@@ -154,7 +151,7 @@ fn put_filed<K: Sink>(sink: &mut K, word: &[u8], file: &[u8]) -> Result<(), Fail
 }
 
 /// Writes a line of a word, the name of a file, and the number of a line of it.
-#[tactic(auto, using(si_io::proofs::Content::writes))]
+#[tactic(auto, using(si_io::proofs::Sends::sends))]
 fn put_lined<K: Sink>(
     sink: &mut K,
     word: &[u8],
@@ -162,9 +159,8 @@ fn put_lined<K: Sink>(
     space: &[u8],
     line: u64,
 ) -> Result<(), Failed>
-    ensures text { Puts result (word.now ++ (file_text file.now ++ ((space.now ++ decimal line)
-        ++ sign_text LineFeed))) (K.written sink.old) (K.written sink.new) }
-    ensures cause { HasCause (K.faults sink.old) (K.faults sink.new) result }
+    ensures { Sends result (word.now ++ (file_text file.now ++ ((space.now ++ decimal line)
+        ++ sign_text LineFeed))) (K.shown sink.old) (K.shown sink.new) }
 {
     put_bytes(sink, word)?;
     put_file(sink, file)?;
@@ -172,7 +168,7 @@ fn put_lined<K: Sink>(
 }
 
 /// Writes a line of two words, each with a number.
-#[tactic(auto, using(si_io::proofs::Content::writes))]
+#[tactic(auto, using(si_io::proofs::Sends::sends))]
 fn put_counts<K: Sink>(
     sink: &mut K,
     word: &[u8],
@@ -180,10 +176,9 @@ fn put_counts<K: Sink>(
     next: &[u8],
     count: u64,
 ) -> Result<(), Failed>
-    ensures text { Puts result ((word.now ++ decimal number) ++
-        ((next.now ++ decimal count) ++ sign_text LineFeed)) (K.written sink.old)
-        (K.written sink.new) }
-    ensures cause { HasCause (K.faults sink.old) (K.faults sink.new) result }
+    ensures { Sends result ((word.now ++ decimal number) ++
+        ((next.now ++ decimal count) ++ sign_text LineFeed)) (K.shown sink.old)
+        (K.shown sink.new) }
 {
     put_number(sink, word, number)?;
     put_count(sink, next, count)
@@ -191,8 +186,7 @@ fn put_counts<K: Sink>(
 
 /// Writes how much is kept.
 fn put_stats<K: Sink>(sink: &mut K, stats: Stats) -> Result<(), Failed>
-    ensures text { Puts result (stats_text stats) (K.written sink.old) (K.written sink.new) }
-    ensures cause { HasCause (K.faults sink.old) (K.faults sink.new) result }
+    ensures { Sends result (stats_text stats) (K.shown sink.old) (K.shown sink.new) }
 {
     put_number(sink, b"clauses ", u64::from(stats.clauses))?;
     put_counts(
@@ -206,9 +200,8 @@ fn put_stats<K: Sink>(sink: &mut K, stats: Stats) -> Result<(), Failed>
 
 /// Writes how much was drawn, and how many answers were summed.
 fn put_sample<K: Sink>(sink: &mut K, clauses: u64, entries: u64, sum: u64) -> Result<(), Failed>
-    ensures text { Puts result (sample_text clauses entries sum) (K.written sink.old)
-        (K.written sink.new) }
-    ensures cause { HasCause (K.faults sink.old) (K.faults sink.new) result }
+    ensures { Sends result (sample_text clauses entries sum) (K.shown sink.old)
+        (K.shown sink.new) }
 {
     put_number(sink, b"sample ", clauses)?;
     put_counts(sink, b" ", entries, b" ", sum)
@@ -216,8 +209,7 @@ fn put_sample<K: Sink>(sink: &mut K, clauses: u64, entries: u64, sum: u64) -> Re
 
 /// Writes a side and an arity.
 fn put_shape<K: Sink>(sink: &mut K, shape: Shape) -> Result<(), Failed>
-    ensures text { Puts result (closed_shape shape) (K.written sink.old) (K.written sink.new) }
-    ensures cause { HasCause (K.faults sink.old) (K.faults sink.new) result }
+    ensures { Sends result (closed_shape shape) (K.shown sink.old) (K.shown sink.new) }
 {
     match shape.side {
         Side::Predicate => put_number(sink, b"predicate/", u64::from(shape.arity)),
@@ -226,12 +218,11 @@ fn put_shape<K: Sink>(sink: &mut K, shape: Shape) -> Result<(), Failed>
 }
 
 /// Writes two shapes, and ends the line.
-#[tactic(auto, using(si_io::proofs::Content::writes))]
+#[tactic(auto, using(si_io::proofs::Sends::sends))]
 fn put_shapes<K: Sink>(sink: &mut K, found: Shape, kept: Shape) -> Result<(), Failed>
-    ensures text { Puts result (sign_text Space ++ (closed_shape found ++ (sign_text Space
-        ++ (closed_shape kept ++ sign_text LineFeed)))) (K.written sink.old)
-        (K.written sink.new) }
-    ensures cause { HasCause (K.faults sink.old) (K.faults sink.new) result }
+    ensures { Sends result (sign_text Space ++ (closed_shape found ++ (sign_text Space
+        ++ (closed_shape kept ++ sign_text LineFeed)))) (K.shown sink.old)
+        (K.shown sink.new) }
 {
     put_sign(sink, Sign::Space)?;
     put_shape(sink, found)?;
@@ -241,7 +232,7 @@ fn put_shapes<K: Sink>(sink: &mut K, found: Shape, kept: Shape) -> Result<(), Fa
 }
 
 /// Writes a word, a symbol and two shapes, and ends the line.
-#[tactic(auto, using(si_io::proofs::Content::writes))]
+#[tactic(auto, using(si_io::proofs::Sends::sends))]
 fn put_misused<K: Sink>(
     sink: &mut K,
     word: &[u8],
@@ -249,10 +240,9 @@ fn put_misused<K: Sink>(
     found: Shape,
     kept: Shape,
 ) -> Result<(), Failed>
-    ensures text { Puts result (word.now ++ (symbol_text (symbol_of symbol.now) ++ (sign_text Space
+    ensures { Sends result (word.now ++ (symbol_text (symbol_of symbol.now) ++ (sign_text Space
         ++ (closed_shape found ++ (sign_text Space ++ (closed_shape kept
-        ++ sign_text LineFeed)))))) (K.written sink.old) (K.written sink.new) }
-    ensures cause { HasCause (K.faults sink.old) (K.faults sink.new) result }
+        ++ sign_text LineFeed)))))) (K.shown sink.old) (K.shown sink.new) }
 {
     put_bytes(sink, word)?;
     put_symbol(sink, symbol)?;
@@ -261,16 +251,15 @@ fn put_misused<K: Sink>(
 
 /// Writes the last line of an answer without its line feed: how many lines stand before it.
 pub fn put_end<K: Sink>(sink: &mut K, lines: u64) -> Result<(), Failed>
-    ensures text { Puts result (end_line lines) (K.written sink.old) (K.written sink.new) }
-    ensures cause { HasCause (K.faults sink.old) (K.faults sink.new) result }
+    ensures { Sends result (end_line lines) (K.shown sink.old) (K.shown sink.new) }
 {
     put_number(sink, b"end ", lines)
 }
 
 /// Writes a reply of one line.
 fn put_reply<K: Sink>(sink: &mut K, reply: ReplyLine<'_>) -> Result<(), Failed>
-    ensures text { Puts result (ended_line reply.entry) (K.written sink.old) (K.written sink.new) }
-    ensures cause { HasCause (K.faults sink.old) (K.faults sink.new) result }
+    ensures { Sends result (ended_line reply.entry) (K.shown sink.old)
+        (K.shown sink.new) }
 {
     match reply {
         ReplyLine::Ok { clauses, entries } => put_counts(sink, b"ok ", clauses, b" ", entries),
@@ -319,11 +308,13 @@ fn refuses(reply: ReplyLine<'_>) -> bool
 
 /// Writes a line of a reply, and says what became of the command line.
 pub fn tell<K: Sink>(sink: &mut K, reply: ReplyLine<'_>) -> Stepped
-    ensures written { Writes result (reply_line reply.entry ∷ []) (K.written sink.old)
-        (K.written sink.new) }
-    ensures later { K.faults sink.old ≤ K.faults sink.new }
-    ensures kept { (result ≡ SinkFailed → ⊥) → K.faults sink.new ≡ K.faults sink.old }
-    ensures failed { result ≡ SinkFailed → Rose (K.faults sink.old) (K.faults sink.new) }
+    ensures written { Writes result (reply_line reply.entry ∷ []) (K.shown sink.old)
+        (K.shown sink.new) }
+    ensures later { (K.shown sink.old).counts.faults ≤ (K.shown sink.new).counts.faults }
+    ensures kept { (result ≡ SinkFailed → ⊥) → (K.shown sink.new).counts.faults ≡
+        (K.shown sink.old).counts.faults }
+    ensures failed { result ≡ SinkFailed → (K.shown sink.new).counts.faults
+        ≡ raised (K.shown sink.old).counts.faults }
 {
     match put_reply(sink, reply) {
         Ok(()) if refuses(reply) => Stepped::Refused,

@@ -5,7 +5,7 @@ ghost use Rattle.si_defs.specs.Entries.{entries, placed_in, state_entries};
 ghost use Rattle.si_defs.specs.declared.TheConstants.{MOST_OCCURRENCES};
 ghost use Rattle.si_state.specs.Samples.{AllowsSample, SumsAnswers};
 ghost use Rattle.si_steps.specs.Commands.{sample};
-ghost use Rattle.si_io.specs.Faults.{Rose};
+ghost use Rattle.si_io.specs.Counts.{raised};
 ghost use Rattle.si_term.specs.Meaning.{clause_of, entry_of, pattern_of};
 ghost use Rattle.si_flat.specs.Flattened.{IsSoundEntry};
 ghost use Rattle.si_harvest.specs.Faults.{Explains};
@@ -34,11 +34,13 @@ pub fn sample<K: Sink>(
     requires drawable { AllowsSample start count }
     requires limit { index.old.rules.entries ≤ MOST_OCCURRENCES }
     ensures acts { ActsOn (sample start count) index.old index.new result
-        (K.written sink.old) (K.written sink.new) }
+        (K.shown sink.old) (K.shown sink.new) }
     ensures rules { index.new.rules ≡ index.old.rules }
-    ensures later { K.faults sink.old ≤ K.faults sink.new }
-    ensures kept { (result ≡ SinkFailed → ⊥) → K.faults sink.new ≡ K.faults sink.old }
-    ensures failed { result ≡ SinkFailed → Rose (K.faults sink.old) (K.faults sink.new) }
+    ensures later { (K.shown sink.old).counts.faults ≤ (K.shown sink.new).counts.faults }
+    ensures kept { (result ≡ SinkFailed → ⊥) → (K.shown sink.new).counts.faults ≡
+        (K.shown sink.old).counts.faults }
+    ensures failed { result ≡ SinkFailed → (K.shown sink.new).counts.faults
+        ≡ raised (K.shown sink.old).counts.faults }
 {
     match take_sample(alloc, index, start, count) {
         Ok(gained) => tell_sum(alloc, index, gained, sink),
@@ -71,11 +73,13 @@ fn take_sample(
 fn tell_sum<K: Sink>(alloc: Global, index: &mut Index, gained: Loaded, sink: &mut K) -> Stepped
     requires { gained.clauses ≤ length index.old.clauses }
     ensures told { TellsSum gained index.old.clauses index.new.clauses result
-        (K.written sink.old) (K.written sink.new) }
+        (K.shown sink.old) (K.shown sink.new) }
     ensures rules { index.new.rules ≡ index.old.rules }
-    ensures later { K.faults sink.old ≤ K.faults sink.new }
-    ensures kept { (result ≡ SinkFailed → ⊥) → K.faults sink.new ≡ K.faults sink.old }
-    ensures failed { result ≡ SinkFailed → Rose (K.faults sink.old) (K.faults sink.new) }
+    ensures later { (K.shown sink.old).counts.faults ≤ (K.shown sink.new).counts.faults }
+    ensures kept { (result ≡ SinkFailed → ⊥) → (K.shown sink.new).counts.faults ≡
+        (K.shown sink.old).counts.faults }
+    ensures failed { result ≡ SinkFailed → (K.shown sink.new).counts.faults
+        ≡ raised (K.shown sink.old).counts.faults }
 {
     match sum_last(alloc, index, gained.clauses) {
         Ok(sum) => tell(

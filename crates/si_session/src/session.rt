@@ -10,7 +10,7 @@ ghost use Rattle.si_steps.specs.FileWords.{names_file};
 ghost use Rattle.si_steps.specs.Runs.{a_word, a_line};
 ghost use Rattle.si_session.specs.Session.{IsFresh, Steps, ActsOn, LoadsInto, around};
 ghost use Rattle.si_session.specs.declared.stepped.Stepped.TheVariants.{Silent, Refused, SinkFailed};
-ghost use Rattle.si_io.specs.Faults.{Rose};
+ghost use Rattle.si_io.specs.Counts.{raised};
 ghost use Rattle.si_defs.specs.Clauses.{IsSoundClause, IsSoundPattern};
 ghost use Rattle.si_term.specs.Meaning.{name_of, clause_of, pattern_of};
 
@@ -74,16 +74,18 @@ impl Session {
         library: &mut L,
         sink: &mut K,
     ) -> Stepped
-        ensures step { Steps (L.files library.old) self.old self.new (a_line line.now) result
-            (around (K.written sink.old) (L.counts library.old) (L.may_fail library.old))
-            (around (K.written sink.new) (L.counts library.new) (L.may_fail library.new)) }
-        ensures told { L.files library.new ≡ L.files library.old }
-        ensures same { L.may_fail library.new ≡ L.may_fail library.old }
+        ensures step { Steps (L.shown library.old).files self.old self.new (a_line line.now) result
+            (around (K.shown sink.old) (L.shown library.old))
+            (around (K.shown sink.new) (L.shown library.new)) }
+        ensures told { (L.shown library.new).files ≡ (L.shown library.old).files }
+        ensures same { (L.shown library.new).may_fail ≡ (L.shown library.old).may_fail }
         ensures silent { (result ≡ Silent) ↔ IsSilent self.old.setting.limits line.now }
         ensures refused { result ≡ Refused → self.new.state ≡ self.old.state }
-        ensures later { K.faults sink.old ≤ K.faults sink.new }
-        ensures kept { (result ≡ SinkFailed → ⊥) → K.faults sink.new ≡ K.faults sink.old }
-        ensures failed { result ≡ SinkFailed → Rose (K.faults sink.old) (K.faults sink.new) }
+        ensures later { (K.shown sink.old).counts.faults ≤ (K.shown sink.new).counts.faults }
+        ensures kept { (result ≡ SinkFailed → ⊥) → (K.shown sink.new).counts.faults ≡
+            (K.shown sink.old).counts.faults }
+        ensures failed { result ≡ SinkFailed → (K.shown sink.new).counts.faults
+            ≡ raised (K.shown sink.old).counts.faults }
     {
         if line.len() > self.limits.line {
             return tell(sink, ReplyLine::Long);
@@ -124,16 +126,18 @@ impl Session {
         library: &mut L,
         sink: &mut K,
     ) -> Stepped
-        ensures step { Steps (L.files library.old) self.old self.new (a_word word.now) result
-            (around (K.written sink.old) (L.counts library.old) (L.may_fail library.old))
-            (around (K.written sink.new) (L.counts library.new) (L.may_fail library.new)) }
-        ensures told { L.files library.new ≡ L.files library.old }
-        ensures same { L.may_fail library.new ≡ L.may_fail library.old }
+        ensures step { Steps (L.shown library.old).files self.old self.new (a_word word.now) result
+            (around (K.shown sink.old) (L.shown library.old))
+            (around (K.shown sink.new) (L.shown library.new)) }
+        ensures told { (L.shown library.new).files ≡ (L.shown library.old).files }
+        ensures same { (L.shown library.new).may_fail ≡ (L.shown library.old).may_fail }
         ensures loud { result ≡ Silent → ⊥ }
         ensures refused { result ≡ Refused → self.new.state ≡ self.old.state }
-        ensures later { K.faults sink.old ≤ K.faults sink.new }
-        ensures kept { (result ≡ SinkFailed → ⊥) → K.faults sink.new ≡ K.faults sink.old }
-        ensures failed { result ≡ SinkFailed → Rose (K.faults sink.old) (K.faults sink.new) }
+        ensures later { (K.shown sink.old).counts.faults ≤ (K.shown sink.new).counts.faults }
+        ensures kept { (result ≡ SinkFailed → ⊥) → (K.shown sink.new).counts.faults ≡
+            (K.shown sink.old).counts.faults }
+        ensures failed { result ≡ SinkFailed → (K.shown sink.new).counts.faults
+            ≡ raised (K.shown sink.old).counts.faults }
     {
         if !names_file(word) {
             return tell(sink, ReplyLine::Syntax);
@@ -167,11 +171,13 @@ fn are_printable(bytes: &[u8]) -> bool
 fn add<K: Sink>(index: &mut Index, clause: Clause, sink: &mut K) -> Stepped
     requires { IsSoundClause (clause_of clause) }
     ensures acts { ActsOn (add (clause_of clause)) index.old index.new result
-        (K.written sink.old) (K.written sink.new) }
+        (K.shown sink.old) (K.shown sink.new) }
     ensures rules { index.new.rules ≡ index.old.rules }
-    ensures later { K.faults sink.old ≤ K.faults sink.new }
-    ensures kept { (result ≡ SinkFailed → ⊥) → K.faults sink.new ≡ K.faults sink.old }
-    ensures failed { result ≡ SinkFailed → Rose (K.faults sink.old) (K.faults sink.new) }
+    ensures later { (K.shown sink.old).counts.faults ≤ (K.shown sink.new).counts.faults }
+    ensures kept { (result ≡ SinkFailed → ⊥) → (K.shown sink.new).counts.faults ≡
+        (K.shown sink.old).counts.faults }
+    ensures failed { result ≡ SinkFailed → (K.shown sink.new).counts.faults
+        ≡ raised (K.shown sink.old).counts.faults }
 {
     match index.add(clause) {
         Ok(gained) => tell(
@@ -196,15 +202,17 @@ fn load_named<L: Library, K: Sink>(
 ) -> Stepped
     requires allows { AllowsLimits limits.now }
     requires limit { index.old.rules.entries ≤ MOST_OCCURRENCES }
-    ensures loads { LoadsInto limits.now (L.files library.old) name index.old index.new result
-        (around (K.written sink.old) (L.counts library.old) (L.may_fail library.old))
-        (around (K.written sink.new) (L.counts library.new) (L.may_fail library.new)) }
+    ensures loads { LoadsInto limits.now (L.shown library.old).files name index.old index.new result
+        (around (K.shown sink.old) (L.shown library.old))
+        (around (K.shown sink.new) (L.shown library.new)) }
     ensures rules { index.new.rules ≡ index.old.rules }
-    ensures told { L.files library.new ≡ L.files library.old }
-    ensures same { L.may_fail library.new ≡ L.may_fail library.old }
-    ensures later { K.faults sink.old ≤ K.faults sink.new }
-    ensures kept { (result ≡ SinkFailed → ⊥) → K.faults sink.new ≡ K.faults sink.old }
-    ensures failed { result ≡ SinkFailed → Rose (K.faults sink.old) (K.faults sink.new) }
+    ensures told { (L.shown library.new).files ≡ (L.shown library.old).files }
+    ensures same { (L.shown library.new).may_fail ≡ (L.shown library.old).may_fail }
+    ensures later { (K.shown sink.old).counts.faults ≤ (K.shown sink.new).counts.faults }
+    ensures kept { (result ≡ SinkFailed → ⊥) → (K.shown sink.new).counts.faults ≡
+        (K.shown sink.old).counts.faults }
+    ensures failed { result ≡ SinkFailed → (K.shown sink.new).counts.faults
+        ≡ raised (K.shown sink.old).counts.faults }
 {
     load(alloc, limits, index, name.as_bytes(), library, sink)
 }
@@ -220,15 +228,18 @@ fn load<L: Library, K: Sink>(
 ) -> Stepped
     requires allows { AllowsLimits limits.now }
     requires limit { index.old.rules.entries ≤ MOST_OCCURRENCES }
-    ensures loads { LoadsInto limits.now (L.files library.old) name.now index.old index.new result
-        (around (K.written sink.old) (L.counts library.old) (L.may_fail library.old))
-        (around (K.written sink.new) (L.counts library.new) (L.may_fail library.new)) }
+    ensures loads { LoadsInto limits.now (L.shown library.old).files name.now index.old index.new
+        result
+        (around (K.shown sink.old) (L.shown library.old))
+        (around (K.shown sink.new) (L.shown library.new)) }
     ensures rules { index.new.rules ≡ index.old.rules }
-    ensures told { L.files library.new ≡ L.files library.old }
-    ensures same { L.may_fail library.new ≡ L.may_fail library.old }
-    ensures later { K.faults sink.old ≤ K.faults sink.new }
-    ensures kept { (result ≡ SinkFailed → ⊥) → K.faults sink.new ≡ K.faults sink.old }
-    ensures failed { result ≡ SinkFailed → Rose (K.faults sink.old) (K.faults sink.new) }
+    ensures told { (L.shown library.new).files ≡ (L.shown library.old).files }
+    ensures same { (L.shown library.new).may_fail ≡ (L.shown library.old).may_fail }
+    ensures later { (K.shown sink.old).counts.faults ≤ (K.shown sink.new).counts.faults }
+    ensures kept { (result ≡ SinkFailed → ⊥) → (K.shown sink.new).counts.faults ≡
+        (K.shown sink.old).counts.faults }
+    ensures failed { result ≡ SinkFailed → (K.shown sink.new).counts.faults
+        ≡ raised (K.shown sink.old).counts.faults }
 {
     let bounds = HarvestLimits {
         file: limits.file,
@@ -250,11 +261,13 @@ fn load<L: Library, K: Sink>(
 /// Lets the clause with this name go, and writes the reply.
 fn remove<K: Sink>(index: &mut Index, name: Name, sink: &mut K) -> Stepped
     ensures acts { ActsOn (remove (name_of name)) index.old index.new result
-        (K.written sink.old) (K.written sink.new) }
+        (K.shown sink.old) (K.shown sink.new) }
     ensures rules { index.new.rules ≡ index.old.rules }
-    ensures later { K.faults sink.old ≤ K.faults sink.new }
-    ensures kept { (result ≡ SinkFailed → ⊥) → K.faults sink.new ≡ K.faults sink.old }
-    ensures failed { result ≡ SinkFailed → Rose (K.faults sink.old) (K.faults sink.new) }
+    ensures later { (K.shown sink.old).counts.faults ≤ (K.shown sink.new).counts.faults }
+    ensures kept { (result ≡ SinkFailed → ⊥) → (K.shown sink.new).counts.faults ≡
+        (K.shown sink.old).counts.faults }
+    ensures failed { result ≡ SinkFailed → (K.shown sink.new).counts.faults
+        ≡ raised (K.shown sink.old).counts.faults }
 {
     match index.remove(&name) {
         Some(gone) => tell(
@@ -272,10 +285,12 @@ fn remove<K: Sink>(index: &mut Index, name: Name, sink: &mut K) -> Stepped
 fn answer<K: Sink>(index: &Index, relation: Relation, pattern: &Pattern, sink: &mut K) -> Stepped
     requires { IsSoundPattern (pattern_of pattern.now) }
     ensures acts { ActsOn (query relation (pattern_of pattern.now)) index.now index.now result
-        (K.written sink.old) (K.written sink.new) }
-    ensures later { K.faults sink.old ≤ K.faults sink.new }
-    ensures kept { (result ≡ SinkFailed → ⊥) → K.faults sink.new ≡ K.faults sink.old }
-    ensures failed { result ≡ SinkFailed → Rose (K.faults sink.old) (K.faults sink.new) }
+        (K.shown sink.old) (K.shown sink.new) }
+    ensures later { (K.shown sink.old).counts.faults ≤ (K.shown sink.new).counts.faults }
+    ensures kept { (result ≡ SinkFailed → ⊥) → (K.shown sink.new).counts.faults ≡
+        (K.shown sink.old).counts.faults }
+    ensures failed { result ≡ SinkFailed → (K.shown sink.new).counts.faults
+        ≡ raised (K.shown sink.old).counts.faults }
 {
     let found = match index.find(relation, pattern) {
         Ok(found) => found,

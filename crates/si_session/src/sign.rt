@@ -1,7 +1,6 @@
 // The fixed signs of printed texts.
 ghost use Rattle.std.specs.Prelude.{OnOk, OnErr};
-ghost use Rattle.si_io.specs.Puts.{Puts};
-ghost use Rattle.si_io.specs.Faults.{HasCause};
+ghost use Rattle.si_io.specs.Sends.{Sends};
 ghost use Rattle.si_session.specs.Signs.{sign_text};
 
 use si_io::{Failed, Sink};
@@ -19,8 +18,7 @@ pub enum Sign {
 /// Writes a sign.
 #[tactic(auto, unfolding(crate::specs::Signs::sign_text))]
 pub fn put_sign<K: Sink>(sink: &mut K, sign: Sign) -> Result<(), Failed>
-    ensures text { Puts result (sign_text sign) (K.written sink.old) (K.written sink.new) }
-    ensures cause { HasCause (K.faults sink.old) (K.faults sink.new) result }
+    ensures { Sends result (sign_text sign) (K.shown sink.old) (K.shown sink.new) }
 {
     match sign {
         Sign::Space => put_bytes(sink, b" "),

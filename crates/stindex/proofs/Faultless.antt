@@ -10,26 +10,28 @@ use Rattle.si_session.specs.Session.{Around}
 use Rattle.stindex.specs.declared.status.Status.{Status}
 use Rattle.stindex.specs.declared.status.Status.TheVariants.{Ended, Refused, Usage, SourceFault, SinkFault, Memory, SessionLimit}
 use Rattle.si_io.specs.Faults.{Rose}
+use Rattle.si_io.specs.Shown.{SourceShown}
 use Rattle.stindex.specs.Words.{usage_line, asked_by}
 use Rattle.stindex.specs.Serve.{Serves, Declines, DeclinesOrServes, IsFaultless, CountsFaults, HasRoomForOutputs}
 
-module _ (limits : Limits) (told : Option Files) (words : List Bytes) (left now : Option Bytes) (before after : Around)
-    (room : HasRoomForOutputs limits told words before.may_fail left before.sink.room) where
-  no_sink_fault : Serves (setting_of limits) told (asked_by words).strict (asked_by words).files SinkFault left now before after → ⊥
+module _ (limits : Limits) (told : Option Files) (words : List Bytes) (source now : SourceShown) (before after : Around)
+    (room : HasRoomForOutputs limits told words before.may_fail source.left before.sink.told.room) where
+  no_sink_fault : Serves (setting_of limits) told (asked_by words).strict (asked_by words).files SinkFault source now before after → ⊥
   no_sink_fault s = elim s.ends [
-    | inl part ↦
-        let fits : length part.output ≤ before.sink.room = room.outputs s.taken now s.lines s.rest part.reply part.output part.failures s.takes s.within s.splits (inl part.right) part.counted.sure in
-        omega (arith, fits, part.written.past_room)
+    | inl stop ↦
+        let part = stop.1 in
+        let fits : length part.output ≤ before.sink.told.room = room.outputs s.taken now.left s.lines s.rest part.reply part.output part.failures s.gives.left s.within s.splits (inl part.right) part.counted.sure in
+        omega (arith, fits, part.written.told.past_room)
     | inr end ↦
-        let part = end.1 in
-        let fits : length part.output ≤ before.sink.room = room.outputs s.taken now s.lines s.rest part.reply part.output part.failures s.takes s.within s.splits (inr (end.0, part.right)) part.counted.sure in
-        omega (arith, fits, part.written.past_room)
+        let part = end.2 in
+        let fits : length part.output ≤ before.sink.told.room = room.outputs s.taken now.left s.lines s.rest part.reply part.output part.failures s.gives.left s.within s.splits (inr (end.1, part.right)) part.counted.sure in
+        omega (arith, fits, part.written.told.past_room)
   ]
 
-  no_usage_fault : Declines words SinkFault left now before after → ⊥
-  no_usage_fault d = let fits : length usage_line ≤ before.sink.room = room.usage d.refused in omega (arith, fits, d.written.past_room)
+  no_usage_fault : Declines words SinkFault source now before after → ⊥
+  no_usage_fault d = let fits : length usage_line ≤ before.sink.told.room = room.usage d.refused in omega (arith, fits, d.written.told.past_room)
 
-  pub faultless_by : (status : Status) (may_fail : Bool) → DeclinesOrServes limits told words status left now before after
+  pub faultless_by : (status : Status) (may_fail : Bool) → DeclinesOrServes limits told words status source now before after
       → (status ≡ SourceFault → IsTrue may_fail) → IsFalse may_fail → IsFaultless status
   faultless_by Ended may_fail s sure never = tt
   faultless_by Refused may_fail s sure never = tt
@@ -45,7 +47,7 @@ pub faultless_where_none_rose : (status : Status) (source source_now sink sink_n
 faultless_where_none_rose Ended source source_now sink sink_now c a b = tt
 faultless_where_none_rose Refused source source_now sink sink_now c a b = tt
 faultless_where_none_rose Usage source source_now sink sink_now c a b = tt
-faultless_where_none_rose SourceFault source source_now sink sink_now c a b = absurd (a c.0)
-faultless_where_none_rose SinkFault source source_now sink sink_now c a b = absurd (b c.1)
+faultless_where_none_rose SourceFault source source_now sink sink_now c a b = absurd (a (omega (arith, c.0)))
+faultless_where_none_rose SinkFault source source_now sink sink_now c a b = absurd (b (omega (arith, c.1)))
 faultless_where_none_rose Memory source source_now sink sink_now c a b = tt
 faultless_where_none_rose SessionLimit source source_now sink sink_now c a b = tt

@@ -10,7 +10,9 @@ use Rattle.si_state.specs.Harvest.{Files}
 use Rattle.si_steps.specs.Settings.{Setting}
 use Rattle.si_steps.specs.Runs.{ended, failures_in, Request, a_word, Run}
 use Rattle.si_session.specs.Session.{Around}
-use Rattle.si_io.proofs.Content.{Receives_then, Takes_none, append_told-nil}
+use Rattle.si_io.proofs.Sends.{SendsAll_then, SendsAll-nil}
+use Rattle.si_io.specs.Shown.{SourceShown}
+use Rattle.si_io.proofs.Gives.{Gives-nil}
 use Rattle.clap.specs.Words.{matched_of, raw_values, rows_of}
 use Rattle.clap.specs.declared.parser.matches.Found.{Found}
 use Rattle.stindex.specs.Words.{asked_in}
@@ -26,7 +28,7 @@ words_none setting told strict state before none = record {
   output = [];
   failures = 0;
   run = (refl, refl, none);
-  written = sym (append_told-nil before.sink);
+  written = SendsAll-nil before.sink;
   counted = tells_none before;
 }
 
@@ -38,7 +40,7 @@ words_more setting told strict words word old new before now after l acts = reco
   failures = l.failures + failures_in acts.owed;
   run = subst (λ (rs : List Request). Run setting told strict empty_state rs (l.output ++ ended acts.reply) (l.failures + failures_in acts.owed) new) (sym (map-append a_word words (word ∷ [])))
       (Run_more setting told strict empty_state old new (map a_word words) (a_word word) l.output l.failures acts.reply acts.owed l.run acts.step acts.goes);
-  written = Receives_then before.sink now.sink after.sink l.output (ended acts.reply) l.written acts.written;
+  written = SendsAll_then before.sink now.sink after.sink l.output (ended acts.reply) l.written acts.written;
   counted = tells_then before now after l.failures (failures_in acts.owed) l.counted acts.counted;
 }
 
@@ -70,12 +72,13 @@ words_stop halt setting told strict words others files word old new before now a
 }
 
 -- behind the words nothing is taken yet
-pub Stands_start : (setting : Setting) (told : Option Files) (strict : Bool) (files : List Bytes) (left : Option Bytes) (before now : Around) (state : State) (held : Bytes)
-    → LoadsWords setting told strict files before state now → held ≡ [] → HasProgressed setting told strict files 0 left left before state held now
-Stands_start setting told strict files left before now state held l empty = record {
+pub Stands_start : (setting : Setting) (told : Option Files) (strict : Bool) (files : List Bytes) (source : SourceShown) (before now : Around) (state : State) (held : Bytes)
+    → LoadsWords setting told strict files before state now → held ≡ [] → HasProgressed setting told strict files 0 source source before state held now
+Stands_start setting told strict files source before now state held l empty = record {
   taken = [];
   size = refl;
-  takes = Takes_none left left refl;
+  gives = Gives-nil source;
+  unended = refl;
   progress = record {
     lines = [];
     rest = [];
@@ -89,10 +92,10 @@ Stands_start setting told strict files left before now state held l empty = reco
   };
 }
 
-pub Stands_under : (given setting : Setting) (told : Option Files) (strict : Bool) (files : List Bytes) (left : Option Bytes) (before now : Around) (state : State) (held : Bytes)
-    → LoadsWords given told strict files before state now → given ≡ setting → held ≡ [] → HasProgressed setting told strict files 0 left left before state held now
-Stands_under given setting told strict files left before now state held l same empty =
-    Stands_start setting told strict files left before now state held (subst (λ (m : Setting). LoadsWords m told strict files before state now) same l) empty
+pub Stands_under : (given setting : Setting) (told : Option Files) (strict : Bool) (files : List Bytes) (source : SourceShown) (before now : Around) (state : State) (held : Bytes)
+    → LoadsWords given told strict files before state now → given ≡ setting → held ≡ [] → HasProgressed setting told strict files 0 source source before state held now
+Stands_under given setting told strict files source before now state held l same empty =
+    Stands_start setting told strict files source before now state held (subst (λ (m : Setting). LoadsWords m told strict files before state now) same l) empty
 
 -- ---- the words, as `clap` lends them
 abbrev pub texts : List (Bor Bytes) → List Bytes

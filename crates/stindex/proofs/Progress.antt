@@ -11,34 +11,30 @@ use Rattle.si_steps.specs.Runs.{ended, failures_in, IsOneLine, Splits, lines_at_
 use Rattle.si_state.specs.States.{State, empty_state}
 use Rattle.si_state.specs.Harvest.{Files}
 use Rattle.si_steps.specs.Loads.{Owed, nothing, a_miss, a_big, a_failure}
+use Rattle.si_io.specs.Counts.{raised_by}
 use Rattle.si_io.specs.Library.{Counts}
-use Rattle.si_io.specs.Content.{Told, Receives}
-use Rattle.si_io.proofs.Content.{Receives_then, ReceivesPrefix_then}
+use Rattle.si_io.specs.Shown.{SinkShown}
+use Rattle.si_io.specs.Sends.{SendsAll}
+use Rattle.si_io.proofs.Sends.{SendsAll_then, SendsPart_then}
 use Rattle.si_session.specs.Session.{View, Around, Writes, Steps, IsCounted}
 use Rattle.si_session.specs.declared.stepped.Stepped.{Stepped}
 use Rattle.si_session.specs.declared.stepped.Stepped.TheVariants.{Answered, Refused, Silent, SinkFailed}
 use Rattle.stindex.specs.Progress.{shown, Judges, ActsOnRequest, Breaks, Progress, Advances, Feeds, BrokenOff, Fails, Closes, Cuts}
 use Rattle.stindex.specs.declared.status.Stop.{Stop}
 use Rattle.stindex.specs.declared.status.Stop.TheVariants as stop
-use Rattle.stindex.specs.Serve.{RoseBy, TellsFailures, StopsAt, WritesTo}
+use Rattle.stindex.specs.Serve.{TellsFailures, StopsAt, WritesTo}
 use Rattle.stindex.proofs.Steps.{shown_step}
 use Rattle.std.specs.Prelude.{◌==◌, Bool, Some, None, IsTrue, IsFalse, Result, Ok, Err, OnOk, IfErr}
 use Rattle.std.specs.List.{position}
 use Rattle.stindex.proofs.Splitting.{line_end, line_without_end, Splits_more, Splits_line, Splits_any, lines_at_end-some, requests-more, requests-split, Run_line}
 
 -- ---- failures of the library
-rose_none : (n : ℕ) → RoseBy 0 n n
-rose_none n = omega arith
-
-rose_then : (a b c m n : ℕ) → RoseBy m a b → RoseBy n b c → RoseBy (m + n) a c
-rose_then a b c m n h k = omega (arith, h, k)
-
 pub tells_none : (now : Around) → TellsFailures 0 now now
-tells_none now = record { rose = rose_none now.counts.faults; sure = λ never. refl; same = refl }
+tells_none now = record { rose = omega arith; sure = λ never. refl; same = refl }
 
 pub tells_then : (x y z : Around) (m n : ℕ) → TellsFailures m x y → TellsFailures n y z → TellsFailures (m + n) x z
 tells_then x y z m n h k = record {
-  rose = rose_then x.counts.faults y.counts.faults z.counts.faults m n h.rose k.rose;
+  rose = omega (arith, h.rose, k.rose);
   sure = λ never. omega (arith, h.sure never, k.sure (subst (λ b. IsFalse b) (sym h.same) never));
   same = k.same ∙ h.same;
 }
@@ -90,20 +86,20 @@ Advances_line setting told strict old new held now after acts files before taken
       splits = Splits_line taken p.lines p.rest p.splits;
       holds = sym (shown-nil setting.limits);
       run = Run_line setting told strict old new files p.lines p.rest p.output p.failures acts.reply acts.owed p.run step acts.goes;
-      written = Receives_then before.sink now.sink after.sink p.output (ended acts.reply) p.written acts.written;
+      written = SendsAll_then before.sink now.sink after.sink p.output (ended acts.reply) p.written acts.written;
       counted = tells_then before now after p.failures (failures_in acts.owed) p.counted acts.counted;
     }
 
 -- ---- stops
-pub stops_then : (halt : Stop) (strict : Bool) (reply : Reply) (a b c : Told) (xs ys : Bytes) → Receives a xs b → StopsAt halt strict reply ys b c → StopsAt halt strict reply (xs ++ ys) a c
-stops_then stop.Refused strict reply a b c xs ys h k = (Receives_then a b c xs ys h k.0, k.1, k.2)
-stops_then stop.SinkFault strict reply a b c xs ys h k = ReceivesPrefix_then a b c xs ys h k
+pub stops_then : (halt : Stop) (strict : Bool) (reply : Reply) (a b c : SinkShown) (xs ys : Bytes) → SendsAll a xs b → StopsAt halt strict reply ys b c → StopsAt halt strict reply (xs ++ ys) a c
+stops_then stop.Refused strict reply a b c xs ys h k = (SendsAll_then a b c xs ys h k.0, k.1, k.2)
+stops_then stop.SinkFault strict reply a b c xs ys h k = SendsPart_then a b c xs ys h k
 
 -- a run stops at a line, behind which others stand
 stops_at : (halt : Stop) (setting : Setting) (told : Option Files) (strict : Bool) (old new : State) (files lines whole : List Bytes) (line : Bytes) (others : List Request) (output : Bytes) (failures : ℕ)
     (held : Bytes) (before now after : Around) (breaks : Breaks halt setting told strict old new (a_line held) now after)
     → Run setting told strict empty_state (requests files lines) output failures old → Step setting told old line breaks.reply breaks.owed new
-    → Receives before.sink output now.sink → TellsFailures failures before now
+    → SendsAll before.sink output now.sink → TellsFailures failures before now
     → requests files lines ++ a_line line ∷ others ≡ requests files whole
     → WritesTo halt setting told strict files whole before after
 stops_at halt setting told strict old new files lines whole line others output failures held before now after breaks run step written counted front = record {
@@ -214,7 +210,7 @@ Closes_line setting told strict old new held now after some acts files before ta
           subst (λ (ls : List Bytes). Run setting told strict empty_state (requests files ls) output (p.failures + failures_in acts.owed) new) (sym same)
               (Run_line setting told strict old new files p.lines p.rest p.output p.failures acts.reply acts.owed p.run step acts.goes),
         );
-        written = Receives_then before.sink now.sink after.sink p.output (ended acts.reply) p.written acts.written;
+        written = SendsAll_then before.sink now.sink after.sink p.output (ended acts.reply) p.written acts.written;
         counted = tells_then before now after p.failures (failures_in acts.owed) p.counted acts.counted;
       };
     }
@@ -233,23 +229,23 @@ Cuts_line halt setting told strict old new held now after some breaks files befo
     }
 
 -- ---- what one step wrote
-written_whole : (outcome : Stepped) (reply : Reply) (now after : Told) → (outcome ≡ SinkFailed → ⊥) → Writes outcome reply now after → Receives now (ended reply) after
+written_whole : (outcome : Stepped) (reply : Reply) (now after : SinkShown) → (outcome ≡ SinkFailed → ⊥) → Writes outcome reply now after → SendsAll now (ended reply) after
 written_whole Answered reply now after whole w = w.0
 written_whole Refused reply now after whole w = w.0
 written_whole Silent reply now after whole w = w.0
 written_whole SinkFailed reply now after whole w = absurd (whole refl)
 
-owed_rose : (owed : Owed) (may_fail : Bool) (before now : Counts) → IsCounted may_fail owed before now → RoseBy (failures_in owed) before.faults now.faults
-owed_rose nothing may_fail before now h = subst (λ c. RoseBy 0 before.faults c.faults) (sym h) (rose_none before.faults)
-owed_rose a_miss may_fail before now h = subst (λ c. RoseBy 0 before.faults c.faults) (sym h.1) (rose_none before.faults)
-owed_rose a_big may_fail before now h = subst (λ c. RoseBy 0 before.faults c.faults) (sym h.1) (rose_none before.faults)
-owed_rose a_failure may_fail before now h = h.0
+owed_rose : (owed : Owed) (may_fail : Bool) (before now : Counts) → IsCounted may_fail owed before now → now.faults ≡ raised_by (failures_in owed) before.faults
+owed_rose nothing may_fail before now h = omega (arith, ap (λ (k : Counts). k.faults) h)
+owed_rose a_miss may_fail before now h = omega (arith, ap (λ (k : Counts). k.faults) h)
+owed_rose a_big may_fail before now h = omega (arith, ap (λ (k : Counts). k.faults) h)
+owed_rose a_failure may_fail before now h = ap (λ (k : Counts). k.faults) h.0
 
 owed_sure : (owed : Owed) (may_fail : Bool) (before now : Counts) → IsCounted may_fail owed before now → IsFalse may_fail → failures_in owed ≡ 0
 owed_sure nothing may_fail before now h never = refl
 owed_sure a_miss may_fail before now h never = refl
 owed_sure a_big may_fail before now h never = refl
-owed_sure a_failure may_fail before now h never = let fails : IsTrue may_fail = h.2 in cc
+owed_sure a_failure may_fail before now h never = let fails : IsTrue may_fail = h.1 in cc
 
 tells_owed : (owed : Owed) (now after : Around) → IsCounted now.may_fail owed now.counts after.counts → after.may_fail ≡ now.may_fail → TellsFailures (failures_in owed) now after
 tells_owed owed now after h kept = record {
@@ -259,13 +255,13 @@ tells_owed owed now after h kept = record {
 }
 
 -- ---- what became of a request
-goes_on : (strict : Bool) (outcome : Stepped) (reply : Reply) (now after : Told) → (outcome ≡ SinkFailed → ⊥) → (IsTrue strict → outcome ≡ Refused → ⊥) → Writes outcome reply now after → GoesOn strict reply
+goes_on : (strict : Bool) (outcome : Stepped) (reply : Reply) (now after : SinkShown) → (outcome ≡ SinkFailed → ⊥) → (IsTrue strict → outcome ≡ Refused → ⊥) → Writes outcome reply now after → GoesOn strict reply
 goes_on strict Answered reply now after whole none w s = w.2
 goes_on strict Refused reply now after whole none w s = absurd (none s refl)
 goes_on strict Silent reply now after whole none w s = subst (λ (r : Reply). IsFalse (is_refusal r)) (sym w.1) refl
 goes_on strict SinkFailed reply now after whole none w s = absurd (whole refl)
 
-stopped : (halt : Stop) (strict : Bool) (outcome : Stepped) (reply : Reply) (now after : Told) → Judges strict outcome (Err halt) → Writes outcome reply now after → StopsAt halt strict reply (ended reply) now after
+stopped : (halt : Stop) (strict : Bool) (outcome : Stepped) (reply : Reply) (now after : SinkShown) → Judges strict outcome (Err halt) → Writes outcome reply now after → StopsAt halt strict reply (ended reply) now after
 stopped stop.Refused strict outcome reply now after h w = let v : Writes Refused reply now after = subst (λ (o : Stepped). Writes o reply now after) h.0 w in (v.0, h.1, v.1)
 stopped stop.SinkFault strict outcome reply now after h w = subst (λ (o : Stepped). Writes o reply now after) h w
 

@@ -11,10 +11,12 @@ use Rattle.si_session.specs.Session.{Around}
 use Rattle.si_steps.specs.Runs.{ended, failures_in, Splits, lines_at_end, Request, a_word, requests, Acts, GoesOn, Run}
 use Rattle.si_session.specs.declared.stepped.Stepped.{Stepped}
 use Rattle.si_session.specs.declared.stepped.Stepped.TheVariants.{Refused, SinkFailed}
-use Rattle.si_io.specs.Content.{Receives, Takes}
+use Rattle.si_io.specs.Sends.{SendsAll}
+use Rattle.si_io.specs.Gives.{Gives}
+use Rattle.si_io.specs.Shown.{SourceShown}
 use Rattle.stindex.specs.declared.status.Stop.{Stop}
 use Rattle.stindex.specs.declared.status.Stop.TheVariants as stop
-use Rattle.stindex.specs.Serve.{WritesAll, WritesTo, StopsAt, TellsFailures}
+use Rattle.stindex.specs.Serve.{WritesAll, WritesTo, StopsAt, TellsFailures, TellsNoEnd}
 
 -- What is held of a line that was begun: its bytes up to one more than a line may have.
 abbrev pub shown : Limits → Bytes → Bytes
@@ -34,7 +36,7 @@ pub record ActsOnRequest (setting : Setting) (told : Option Files) (strict : Boo
   pub owed : Owed
   pub step : Acts setting told old request reply owed new
   pub goes : GoesOn strict reply
-  pub written : Receives before.sink (ended reply) after.sink
+  pub written : SendsAll before.sink (ended reply) after.sink
   pub counted : TellsFailures (failures_in owed) before after
 
 -- A request was acted on, and the run stopped at its reply.
@@ -53,7 +55,7 @@ pub record LoadsWords (setting : Setting) (told : Option Files) (strict : Bool) 
   pub output : Bytes
   pub failures : ℕ
   pub run : Run setting told strict empty_state (map a_word words) output failures state
-  pub written : Receives before.sink output after.sink
+  pub written : SendsAll before.sink output after.sink
   pub counted : TellsFailures failures before after
 
 -- From the start on, where `before` was written, the words and these bytes were acted on: the words
@@ -69,7 +71,7 @@ pub record Progress (setting : Setting) (told : Option Files) (strict : Bool) (f
   pub splits : Splits taken lines rest
   pub holds : held ≡ shown setting.limits rest
   pub run : Run setting told strict empty_state (requests files lines) output failures state
-  pub written : Receives before.sink output after.sink
+  pub written : SendsAll before.sink output after.sink
   pub counted : TellsFailures failures before after
 
 -- These bytes carry every progress on.
@@ -137,11 +139,13 @@ Cuts halt setting told strict state held now after =
     → Progress setting told strict files before taken state held now
     → Cut halt setting told strict files before taken after
 
--- So many bytes were taken from the source so far, and this is the progress over them.
+-- So many bytes were taken from the source so far, before it told its end, and this is the progress
+-- over them.
 pub record HasProgressed (setting : Setting) (told : Option Files) (strict : Bool)
-    (files : List Bytes) (count : ℕ) (left now : Option Bytes) (before : Around)
+    (files : List Bytes) (count : ℕ) (source now : SourceShown) (before : Around)
     (state : State) (held : Bytes) (after : Around) : Type 0 where
   pub taken : Bytes
   pub size : length taken ≡ count
-  pub takes : Takes left taken now
+  pub gives : Gives source taken now
+  pub unended : TellsNoEnd source now
   pub progress : Progress setting told strict files before taken state held after

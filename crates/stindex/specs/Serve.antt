@@ -1,6 +1,6 @@
 -- What a whole run of the program does: the input that it takes, the output that it writes, and how
 -- it ends.
-use Rattle.std.specs.Prelude.{◌≡◌, ℕ, ◌+◌, ◌-◌, ◌^◌, min, ◌<◌, ◌≤◌, ◌⊎◌, List, [], Option, length, Bool, false, IsTrue, IsFalse}
+use Rattle.std.specs.Prelude.{◌≡◌, ℕ, ◌<◌, ◌≤◌, ◌⊎◌, List, [], Option, length, Bool, false, IsTrue, IsFalse}
 use Rattle.si_defs.specs.Bytes.{Bytes}
 use Rattle.si_steps.specs.declared.limits.Limits.{Limits}
 use Rattle.si_steps.specs.Settings.{Setting, setting_of}
@@ -8,24 +8,23 @@ use Rattle.si_steps.specs.Replies.{Reply, is_refusal}
 use Rattle.si_steps.specs.Runs.{Splits, lines_at_end, requests, IsOutput, IsOutputTo}
 use Rattle.si_state.specs.Harvest.{Files}
 use Rattle.si_session.specs.Session.{Around}
-use Rattle.si_io.specs.Content.{Told, Receives, ReceivesPrefix, Takes}
+use Rattle.si_io.specs.Counts.{raised, raised_by}
+use Rattle.si_io.specs.Gives.{Gives}
+use Rattle.si_io.specs.Shown.{SourceShown, SinkShown}
+use Rattle.si_io.specs.Sends.{SendsAll, SendsPart}
+use Rattle.si_io.specs.Content.{Takes}
 use Rattle.clap.specs.Words.{takes}
 use Rattle.stindex.specs.Words.{program, usage_line, asked_by, HasNoFault}
 use Rattle.std.specs.Io.KnownBytes.{IsAtEnd}
-use Rattle.si_io.specs.Faults.{Rose}
 use Rattle.stindex.specs.declared.status.Status.{Status}
 use Rattle.stindex.specs.declared.status.Stop.{Stop}
 use Rattle.stindex.specs.declared.status.Stop.TheVariants as stop
 use Rattle.stindex.specs.declared.status.Status.TheVariants.{Ended, Refused, Usage, SourceFault, SinkFault, Memory, SessionLimit}
 
--- The count rose by so many at least, or stands at its greatest value.
-abbrev pub RoseBy : ℕ → ℕ → ℕ → Type 0
-RoseBy n before now = min (before + n) (2 ^ 64 - 1) ≤ now
-
--- So many failures of the library were told. Its count of faults rose by as many at least, and none
--- was told of a library that can't fail.
+-- So many failures of the library were told. Its count of faults rose by as many, up to the largest
+-- `u64`, and none was told of a library that can't fail.
 pub record TellsFailures (failures : ℕ) (before after : Around) : Type 0 where
-  pub rose : RoseBy failures before.counts.faults after.counts.faults
+  pub rose : after.counts.faults ≡ raised_by failures before.counts.faults
   pub sure : IsFalse before.may_fail → failures ≡ 0
   pub same : after.may_fail ≡ before.may_fail
 
@@ -36,14 +35,14 @@ pub record WritesAll (setting : Setting) (told : Option Files) (strict : Bool)
   pub output : Bytes
   pub failures : ℕ
   pub right : IsOutput setting told strict (requests files lines) output failures
-  pub written : Receives before.sink output after.sink
+  pub written : SendsAll before.sink output after.sink
   pub counted : TellsFailures failures before after
 
 -- what was written of an output that ends with this reply, at which the run stops
-abbrev pub StopsAt : Stop → (strict : Bool) → Reply → Bytes → Told → Told → Type 0
+abbrev pub StopsAt : Stop → (strict : Bool) → Reply → Bytes → SinkShown → SinkShown → Type 0
 StopsAt stop.Refused strict reply output before after =
-    Receives before output after × IsTrue strict × IsTrue (is_refusal reply)
-StopsAt stop.SinkFault strict reply output before after = ReceivesPrefix before output after
+    SendsAll before output after × IsTrue strict × IsTrue (is_refusal reply)
+StopsAt stop.SinkFault strict reply output before after = SendsPart before output after
 
 -- The run stopped at the reply to one of these words and lines. The output up to and with it was
 -- written, or at a fault of the sink a prefix of it, and nothing else; and the failures that the
@@ -57,74 +56,90 @@ pub record WritesTo (stop : Stop) (setting : Setting) (told : Option Files) (str
   pub written : StopsAt stop strict reply output before.sink after.sink
   pub counted : TellsFailures failures before after
 
--- The end of the input was met, before as many bytes were taken as a session may have.
+-- The input ended, before as many bytes were taken as a session may have.
 pub record MetEnd (limits : Limits) (taken : Bytes) (left : Option Bytes) : Type 0 where
   pub below : length taken < limits.session
   pub at_end : IsAtEnd left
+
+-- The source told its end in between, once or not at all.
+abbrev pub TellsEnd : SourceShown → SourceShown → Type 0
+TellsEnd source now = now.counts.ends ≡ raised source.counts.ends
+
+abbrev pub TellsNoEnd : SourceShown → SourceShown → Type 0
+TellsNoEnd source now = now.counts.ends ≡ source.counts.ends
+
+-- The run stopped at the reply to a word or a whole line, before the source told its end, or to the
+-- last line, after it.
+abbrev pub StopsIn : Stop → Setting → Option Files → (strict : Bool)
+    → (files : List Bytes) (taken : Bytes) (lines : List Bytes) (rest : Bytes)
+    (source now : SourceShown) (before after : Around) → Type 0
+StopsIn halt setting told strict files taken lines rest source now before after =
+    (TellsNoEnd source now × WritesTo halt setting told strict files lines before after)
+    ⊎ (TellsEnd source now × MetEnd setting.limits taken now.left
+    × WritesTo halt setting told strict files (lines_at_end lines rest) before after)
 
 -- Of a run that ends so: how far it took the input, of which words and lines it wrote the replies,
 -- and how many bytes of them. The bytes that it took are these lines, and then the rest of a line
 -- that was begun.
 abbrev pub Ends : Status → Setting → Option Files → (strict : Bool)
     → (files : List Bytes) (taken : Bytes) (lines : List Bytes) (rest : Bytes)
-    (left now : Option Bytes) (before after : Around) → Type 0
-Ends Ended setting told strict files taken lines rest left now before after =
-    MetEnd setting.limits taken now
+    (source now : SourceShown) (before after : Around) → Type 0
+Ends Ended setting told strict files taken lines rest source now before after =
+    TellsEnd source now × MetEnd setting.limits taken now.left
     × WritesAll setting told strict files (lines_at_end lines rest) before after
-Ends Refused setting told strict files taken lines rest left now before after =
-    WritesTo stop.Refused setting told strict files lines before after
-    ⊎ (MetEnd setting.limits taken now
-    × WritesTo stop.Refused setting told strict files (lines_at_end lines rest) before after)
-Ends Usage setting told strict files taken lines rest left now before after = ⊥
-Ends SourceFault setting told strict files taken lines rest left now before after =
-    (length taken < setting.limits.session) × WritesAll setting told strict files lines before after
-Ends SinkFault setting told strict files taken lines rest left now before after =
-    WritesTo stop.SinkFault setting told strict files lines before after
-    ⊎ (MetEnd setting.limits taken now
-    × WritesTo stop.SinkFault setting told strict files (lines_at_end lines rest) before after)
-Ends Memory setting told strict files taken lines rest left now before after =
-    (taken ≡ []) × (now ≡ left) × (after ≡ before)
-Ends SessionLimit setting told strict files taken lines rest left now before after =
-    (length taken ≡ setting.limits.session) × WritesAll setting told strict files lines before after
+Ends Refused setting told strict files taken lines rest source now before after =
+    StopsIn stop.Refused setting told strict files taken lines rest source now before after
+Ends Usage setting told strict files taken lines rest source now before after = ⊥
+Ends SourceFault setting told strict files taken lines rest source now before after =
+    TellsNoEnd source now × (length taken < setting.limits.session)
+    × WritesAll setting told strict files lines before after
+Ends SinkFault setting told strict files taken lines rest source now before after =
+    StopsIn stop.SinkFault setting told strict files taken lines rest source now before after
+Ends Memory setting told strict files taken lines rest source now before after =
+    (taken ≡ []) × (now ≡ source) × (after ≡ before)
+Ends SessionLimit setting told strict files taken lines rest source now before after =
+    TellsNoEnd source now × (length taken ≡ setting.limits.session)
+    × WritesAll setting told strict files lines before after
 
--- A run took these bytes from its source, no more than a session may have, and ended so.
+-- A run took these bytes from its source, in few reads and no more than a session may have, and
+-- ended so.
 pub record Serves (setting : Setting) (told : Option Files) (strict : Bool) (files : List Bytes)
-    (status : Status) (left now : Option Bytes) (before after : Around) : Type 0 where
+    (status : Status) (source now : SourceShown) (before after : Around) : Type 0 where
   pub taken : Bytes
   pub lines : List Bytes
   pub rest : Bytes
-  pub takes : Takes left taken now
+  pub gives : Gives source taken now
   pub within : length taken ≤ setting.limits.session
   pub splits : Splits taken lines rest
-  pub ends : Ends status setting told strict files taken lines rest left now before after
+  pub ends : Ends status setting told strict files taken lines rest source now before after
 
 -- what was written of the line that says how to call the program
-abbrev pub WritesUsage : Status → Told → Told → Type 0
-WritesUsage Usage before after = Receives before usage_line after
-WritesUsage SinkFault before after = ReceivesPrefix before usage_line after
+abbrev pub WritesUsage : Status → SinkShown → SinkShown → Type 0
+WritesUsage Usage before after = SendsAll before usage_line after
+WritesUsage SinkFault before after = SendsPart before usage_line after
 WritesUsage status before after = ⊥
 
 -- The words are no call of the program. That was said, and nothing was read or fetched.
-pub record Declines (words : List Bytes) (status : Status) (left now : Option Bytes)
+pub record Declines (words : List Bytes) (status : Status) (source now : SourceShown)
     (before after : Around) : Type 0 where
   pub refused : takes program words ≡ false
-  pub unread : now ≡ left
+  pub unread : now ≡ source
   pub unfetched : after.counts ≡ before.counts
   pub written : WritesUsage status before.sink after.sink
 
 -- The run did what the words ask for. They have no fault, or memory ran out before that was known.
 pub record ServesWords (limits : Limits) (told : Option Files) (words : List Bytes)
-    (status : Status) (left now : Option Bytes) (before after : Around) : Type 0 where
+    (status : Status) (source now : SourceShown) (before after : Around) : Type 0 where
   pub faultless : (status ≡ Memory → ⊥) → HasNoFault words
   pub serves : Serves (setting_of limits) told (asked_by words).strict (asked_by words).files
-      status left now before after
+      status source now before after
 
 -- The words were declined, or served.
 abbrev pub DeclinesOrServes : Limits → Option Files → (words : List Bytes) → Status
-    → (left now : Option Bytes) → (before after : Around) → Type 0
-DeclinesOrServes limits told words status left now before after =
-    Declines words status left now before after
-    ⊎ ServesWords limits told words status left now before after
+    → (source now : SourceShown) → (before after : Around) → Type 0
+DeclinesOrServes limits told words status source now before after =
+    Declines words status source now before after
+    ⊎ ServesWords limits told words status source now before after
 
 -- the statuses of a run in which no device fails
 abbrev pub IsFaultless : Status → Type 0
@@ -136,24 +151,25 @@ IsFaultless SinkFault = ⊥
 IsFaultless Memory = Unit {0}
 IsFaultless SessionLimit = Unit {0}
 
--- The source's count of faults rose where the run ended by its fault, and the sink's where it ended
--- by the sink's; no other end moved a count, nor did the other device's fault.
+-- The source's count of faults is one more where the run ended by its fault, and the sink's where it
+-- ended by the sink's; no other end moved a count, nor did the other device's fault.
 abbrev pub CountsFaults : Status → (source source_now sink sink_now : ℕ) → Type 0
 CountsFaults Ended source source_now sink sink_now = (source_now ≡ source) × (sink_now ≡ sink)
 CountsFaults Refused source source_now sink sink_now = (source_now ≡ source) × (sink_now ≡ sink)
 CountsFaults Usage source source_now sink sink_now = (source_now ≡ source) × (sink_now ≡ sink)
 CountsFaults SourceFault source source_now sink sink_now =
-    Rose source source_now × (sink_now ≡ sink)
-CountsFaults SinkFault source source_now sink sink_now = (source_now ≡ source) × Rose sink sink_now
+    (source_now ≡ raised source) × (sink_now ≡ sink)
+CountsFaults SinkFault source source_now sink sink_now =
+    (source_now ≡ source) × (sink_now ≡ raised sink)
 CountsFaults Memory source source_now sink sink_now = (source_now ≡ source) × (sink_now ≡ sink)
 CountsFaults SessionLimit source source_now sink sink_now =
     (source_now ≡ source) × (sink_now ≡ sink)
 
--- the sink's count of faults rose where the run stops by its fault, and is as before where it stops
--- at a refusal
+-- the sink's count of faults is one more where the run stops by its fault, and as before where it
+-- stops at a refusal
 abbrev pub BlamesSink : Stop → (sink sink_now : ℕ) → Type 0
 BlamesSink stop.Refused sink sink_now = sink_now ≡ sink
-BlamesSink stop.SinkFault sink sink_now = Rose sink sink_now
+BlamesSink stop.SinkFault sink sink_now = sink_now ≡ raised sink
 
 -- what a run may write up to a reply: of these words and whole lines, or of the last line too,
 -- where the end of the input was met

@@ -40,31 +40,34 @@ pub fn serve<S: Source, K: Sink, L: Library>(
     library: &mut L,
 ) -> Status
     requires { AllowsLimits limits.now }
-    ensures answers { DeclinesOrServes limits.now (L.files library.old)
+    ensures answers { DeclinesOrServes limits.now (L.shown library.old).files
         (map string_bytes words.entry.now)
-        result (S.left source.old) (S.left source.new)
-        (around (K.written sink.old) (L.counts library.old) (L.may_fail library.old))
-        (around (K.written sink.new) (L.counts library.new) (L.may_fail library.new)) }
+        result (S.shown source.old) (S.shown source.new)
+        (around (K.shown sink.old) (L.shown library.old))
+        (around (K.shown sink.new) (L.shown library.new)) }
     ensures plain { IsPlain (map string_bytes words.entry.now)
-        → Serves (setting_of limits.now) (L.files library.old)
+        → Serves (setting_of limits.now) (L.shown library.old).files
         (has_strict (map string_bytes words.entry.now))
         (files_in (map string_bytes words.entry.now)) result
-        (S.left source.old) (S.left source.new)
-        (around (K.written sink.old) (L.counts library.old) (L.may_fail library.old))
-        (around (K.written sink.new) (L.counts library.new) (L.may_fail library.new)) }
-    ensures told { L.files library.new ≡ L.files library.old }
-    ensures same { L.may_fail library.new ≡ L.may_fail library.old }
-    ensures source_later { S.faults source.old ≤ S.faults source.new }
-    ensures sink_later { K.faults sink.old ≤ K.faults sink.new }
-    ensures counts { CountsFaults result (S.faults source.old) (S.faults source.new)
-        (K.faults sink.old) (K.faults sink.new) }
-    ensures source_sure { result ≡ SourceFault → IsTrue (S.may_fail source.old) }
-    ensures sure { IsFalse (S.may_fail source.old)
-        → HasRoomForOutputs limits.now (L.files library.old) (map string_bytes words.entry.now)
-        (L.may_fail library.old) (S.left source.old) (K.written sink.old).room
+        (S.shown source.old) (S.shown source.new)
+        (around (K.shown sink.old) (L.shown library.old))
+        (around (K.shown sink.new) (L.shown library.new)) }
+    ensures told { (L.shown library.new).files ≡ (L.shown library.old).files }
+    ensures same { (L.shown library.new).may_fail ≡ (L.shown library.old).may_fail }
+    ensures source_later { (S.shown source.old).counts.faults ≤ (S.shown source.new).counts.faults }
+    ensures sink_later { (K.shown sink.old).counts.faults ≤ (K.shown sink.new).counts.faults }
+    ensures counts { CountsFaults result (S.shown source.old).counts.faults
+        (S.shown source.new).counts.faults
+        (K.shown sink.old).counts.faults (K.shown sink.new).counts.faults }
+    ensures source_sure { result ≡ SourceFault → IsTrue (S.shown source.old).may_fail }
+    ensures sure { IsFalse (S.shown source.old).may_fail
+        → HasRoomForOutputs limits.now (L.shown library.old).files
+        (map string_bytes words.entry.now)
+        (L.shown library.old).may_fail (S.shown source.old).left (K.shown sink.old).told.room
         → IsFaultless result }
-    ensures faultless { (Rose (S.faults source.old) (S.faults source.new) → ⊥) →
-        (Rose (K.faults sink.old) (K.faults sink.new) → ⊥) → IsFaultless result }
+    ensures faultless { (Rose (S.shown source.old).counts.faults (S.shown source.new).counts.faults → ⊥)
+        → (Rose (K.shown sink.old).counts.faults (K.shown sink.new).counts.faults → ⊥)
+        → IsFaultless result }
 {
     match read_words(alloc, words) {
         Ok(matches) => start(alloc, &matches, limits, source, sink, library),
@@ -77,11 +80,12 @@ pub fn serve<S: Source, K: Sink, L: Library>(
 pub fn decline<K: Sink>(error: &Error, sink: &mut K) -> Status
     ensures memory { error_kind error.now ≡ OutOfMemory → result ≡ Memory }
     ensures usage { (error_kind error.now ≡ OutOfMemory → ⊥)
-        → WritesUsage result (K.written sink.old) (K.written sink.new) }
-    ensures unwritten { result ≡ Memory → K.written sink.new ≡ K.written sink.old }
-    ensures later { K.faults sink.old ≤ K.faults sink.new }
-    ensures counts { (source : ℕ) → CountsFaults result source source (K.faults sink.old)
-        (K.faults sink.new) }
+        → WritesUsage result (K.shown sink.old) (K.shown sink.new) }
+    ensures unwritten { result ≡ Memory → K.shown sink.new ≡ K.shown sink.old }
+    ensures later { (K.shown sink.old).counts.faults ≤ (K.shown sink.new).counts.faults }
+    ensures counts { (source : ℕ) → CountsFaults result source source
+        (K.shown sink.old).counts.faults
+        (K.shown sink.new).counts.faults }
 {
     match error.kind() {
         ErrorKind::OutOfMemory => Status::Memory,
@@ -90,11 +94,13 @@ pub fn decline<K: Sink>(error: &Error, sink: &mut K) -> Status
 }
 
 /// Says how to call the program.
+#[tactic(auto, using(si_io::proofs::Sends::Sends_cause))]
 fn tell_usage<K: Sink>(sink: &mut K) -> Status
-    ensures written { WritesUsage result (K.written sink.old) (K.written sink.new) }
-    ensures later { K.faults sink.old ≤ K.faults sink.new }
-    ensures counts { (source : ℕ) → CountsFaults result source source (K.faults sink.old)
-        (K.faults sink.new) }
+    ensures written { WritesUsage result (K.shown sink.old) (K.shown sink.new) }
+    ensures later { (K.shown sink.old).counts.faults ≤ (K.shown sink.new).counts.faults }
+    ensures counts { (source : ℕ) → CountsFaults result source source
+        (K.shown sink.old).counts.faults
+        (K.shown sink.new).counts.faults }
     ensures source_sure { result ≡ SourceFault → ⊥ }
 {
     match write_all(sink, b"usage: stindex [--strict] [FILE]...\n") {
@@ -113,18 +119,19 @@ fn start<S: Source, K: Sink, L: Library>(
     library: &mut L,
 ) -> Status
     requires { AllowsLimits limits.now }
-    ensures serves { Serves (setting_of limits.now) (L.files library.old)
+    ensures serves { Serves (setting_of limits.now) (L.shown library.old).files
         (asked_of matches.now).strict (asked_of matches.now).files result
-        (S.left source.old) (S.left source.new)
-        (around (K.written sink.old) (L.counts library.old) (L.may_fail library.old))
-        (around (K.written sink.new) (L.counts library.new) (L.may_fail library.new)) }
-    ensures told { L.files library.new ≡ L.files library.old }
-    ensures same { L.may_fail library.new ≡ L.may_fail library.old }
-    ensures source_later { S.faults source.old ≤ S.faults source.new }
-    ensures sink_later { K.faults sink.old ≤ K.faults sink.new }
-    ensures counts { CountsFaults result (S.faults source.old) (S.faults source.new)
-        (K.faults sink.old) (K.faults sink.new) }
-    ensures source_sure { result ≡ SourceFault → IsTrue (S.may_fail source.old) }
+        (S.shown source.old) (S.shown source.new)
+        (around (K.shown sink.old) (L.shown library.old))
+        (around (K.shown sink.new) (L.shown library.new)) }
+    ensures told { (L.shown library.new).files ≡ (L.shown library.old).files }
+    ensures same { (L.shown library.new).may_fail ≡ (L.shown library.old).may_fail }
+    ensures source_later { (S.shown source.old).counts.faults ≤ (S.shown source.new).counts.faults }
+    ensures sink_later { (K.shown sink.old).counts.faults ≤ (K.shown sink.new).counts.faults }
+    ensures counts { CountsFaults result (S.shown source.old).counts.faults
+        (S.shown source.new).counts.faults
+        (K.shown sink.old).counts.faults (K.shown sink.new).counts.faults }
+    ensures source_sure { result ≡ SourceFault → IsTrue (S.shown source.old).may_fail }
 {
     let Ok(mut session) = Session::new(alloc, limits) else {
         return Status::Memory;
@@ -144,6 +151,7 @@ fn start<S: Source, K: Sink, L: Library>(
 }
 
 /// Loads the files and reads the input, from a new session on.
+#[tactic(auto, using(si_io::proofs::Faults::HasCause_counted))]
 fn run<S: Source, K: Sink, L: Library>(
     matches: &ArgMatches<'_>,
     limits: &Limits,
@@ -156,18 +164,19 @@ fn run<S: Source, K: Sink, L: Library>(
     requires start { IsFresh (setting_of limits.now) session.old }
     requires held { held_of pending.old ≡ [] }
     requires limit { limit_of pending.old ≡ limits.now.line }
-    ensures serves { Serves (setting_of limits.now) (L.files library.old)
+    ensures serves { Serves (setting_of limits.now) (L.shown library.old).files
         (asked_of matches.now).strict (asked_of matches.now).files result
-        (S.left source.old) (S.left source.new)
-        (around (K.written sink.old) (L.counts library.old) (L.may_fail library.old))
-        (around (K.written sink.new) (L.counts library.new) (L.may_fail library.new)) }
-    ensures told { L.files library.new ≡ L.files library.old }
-    ensures same { L.may_fail library.new ≡ L.may_fail library.old }
-    ensures source_later { S.faults source.old ≤ S.faults source.new }
-    ensures sink_later { K.faults sink.old ≤ K.faults sink.new }
-    ensures counts { CountsFaults result (S.faults source.old) (S.faults source.new)
-        (K.faults sink.old) (K.faults sink.new) }
-    ensures source_sure { result ≡ SourceFault → IsTrue (S.may_fail source.old) }
+        (S.shown source.old) (S.shown source.new)
+        (around (K.shown sink.old) (L.shown library.old))
+        (around (K.shown sink.new) (L.shown library.new)) }
+    ensures told { (L.shown library.new).files ≡ (L.shown library.old).files }
+    ensures same { (L.shown library.new).may_fail ≡ (L.shown library.old).may_fail }
+    ensures source_later { (S.shown source.old).counts.faults ≤ (S.shown source.new).counts.faults }
+    ensures sink_later { (K.shown sink.old).counts.faults ≤ (K.shown sink.new).counts.faults }
+    ensures counts { CountsFaults result (S.shown source.old).counts.faults
+        (S.shown source.new).counts.faults
+        (K.shown sink.old).counts.faults (K.shown sink.new).counts.faults }
+    ensures source_sure { result ≡ SourceFault → IsTrue (S.shown source.old).may_fail }
     ensures begun { result ≡ Memory → ⊥ }
 {
     let strict = is_strict(matches);
@@ -206,22 +215,24 @@ fn load_files<K: Sink, L: Library>(
     library: &mut L,
 ) -> Result<(), Stop>
     requires { session.old.state ≡ empty_state }
-    ensures loaded { OnOk result (LoadsWords session.old.setting (L.files library.old) strict
+    ensures loaded { OnOk result (LoadsWords session.old.setting (L.shown library.old).files strict
         (asked_of matches.now).files
-        (around (K.written sink.old) (L.counts library.old) (L.may_fail library.old))
+        (around (K.shown sink.old) (L.shown library.old))
         session.new.state
-        (around (K.written sink.new) (L.counts library.new) (L.may_fail library.new))) }
-    ensures broken { IfErr result (λ halt. WritesTo halt session.old.setting (L.files library.old)
+        (around (K.shown sink.new) (L.shown library.new))) }
+    ensures broken { IfErr result
+        (λ halt. WritesTo halt session.old.setting (L.shown library.old).files
         strict (asked_of matches.now).files []
-        (around (K.written sink.old) (L.counts library.old) (L.may_fail library.old))
-        (around (K.written sink.new) (L.counts library.new) (L.may_fail library.new))) }
-    ensures told { L.files library.new ≡ L.files library.old }
-    ensures same { L.may_fail library.new ≡ L.may_fail library.old }
+        (around (K.shown sink.old) (L.shown library.old))
+        (around (K.shown sink.new) (L.shown library.new))) }
+    ensures told { (L.shown library.new).files ≡ (L.shown library.old).files }
+    ensures same { (L.shown library.new).may_fail ≡ (L.shown library.old).may_fail }
     ensures setting { session.new.setting ≡ session.old.setting }
-    ensures later { K.faults sink.old ≤ K.faults sink.new }
-    ensures kept { OnOk result (K.faults sink.new ≡ K.faults sink.old) }
-    ensures blames { IfErr result (λ halt. BlamesSink halt (K.faults sink.old)
-        (K.faults sink.new)) }
+    ensures later { (K.shown sink.old).counts.faults ≤ (K.shown sink.new).counts.faults }
+    ensures kept { OnOk result ((K.shown sink.new).counts.faults
+        ≡ (K.shown sink.old).counts.faults) }
+    ensures blames { IfErr result (λ halt. BlamesSink halt (K.shown sink.old).counts.faults
+        (K.shown sink.new).counts.faults) }
 {
     let Some(files) = matches.get_strs("FILE") else {
         return Ok(());
@@ -240,21 +251,24 @@ fn load<K: Sink, L: Library>(
     sink: &mut K,
     library: &mut L,
 ) -> Result<(), Stop>
-    ensures acted { OnOk result (ActsOnRequest session.old.setting (L.files library.old) strict
+    ensures acted { OnOk result
+        (ActsOnRequest session.old.setting (L.shown library.old).files strict
         session.old.state session.new.state (a_word word.now)
-        (around (K.written sink.old) (L.counts library.old) (L.may_fail library.old))
-        (around (K.written sink.new) (L.counts library.new) (L.may_fail library.new))) }
-    ensures broken { IfErr result (λ halt. Breaks halt session.old.setting (L.files library.old)
+        (around (K.shown sink.old) (L.shown library.old))
+        (around (K.shown sink.new) (L.shown library.new))) }
+    ensures broken { IfErr result
+        (λ halt. Breaks halt session.old.setting (L.shown library.old).files
         strict session.old.state session.new.state (a_word word.now)
-        (around (K.written sink.old) (L.counts library.old) (L.may_fail library.old))
-        (around (K.written sink.new) (L.counts library.new) (L.may_fail library.new))) }
-    ensures told { L.files library.new ≡ L.files library.old }
-    ensures same { L.may_fail library.new ≡ L.may_fail library.old }
+        (around (K.shown sink.old) (L.shown library.old))
+        (around (K.shown sink.new) (L.shown library.new))) }
+    ensures told { (L.shown library.new).files ≡ (L.shown library.old).files }
+    ensures same { (L.shown library.new).may_fail ≡ (L.shown library.old).may_fail }
     ensures setting { session.new.setting ≡ session.old.setting }
-    ensures later { K.faults sink.old ≤ K.faults sink.new }
-    ensures kept { OnOk result (K.faults sink.new ≡ K.faults sink.old) }
-    ensures blames { IfErr result (λ halt. BlamesSink halt (K.faults sink.old)
-        (K.faults sink.new)) }
+    ensures later { (K.shown sink.old).counts.faults ≤ (K.shown sink.new).counts.faults }
+    ensures kept { OnOk result ((K.shown sink.new).counts.faults
+        ≡ (K.shown sink.old).counts.faults) }
+    ensures blames { IfErr result (λ halt. BlamesSink halt (K.shown sink.old).counts.faults
+        (K.shown sink.new).counts.faults) }
 {
     let outcome = session.load(word, library, sink);
     judge(strict, outcome)
@@ -268,23 +282,26 @@ fn act<K: Sink, L: Library>(
     sink: &mut K,
     library: &mut L,
 ) -> Result<(), Stop>
-    ensures acted { OnOk result (ActsOnRequest session.old.setting (L.files library.old) strict
+    ensures acted { OnOk result
+        (ActsOnRequest session.old.setting (L.shown library.old).files strict
         session.old.state session.new.state (a_line (held_of pending.old))
-        (around (K.written sink.old) (L.counts library.old) (L.may_fail library.old))
-        (around (K.written sink.new) (L.counts library.new) (L.may_fail library.new))) }
-    ensures broken { IfErr result (λ halt. Breaks halt session.old.setting (L.files library.old)
+        (around (K.shown sink.old) (L.shown library.old))
+        (around (K.shown sink.new) (L.shown library.new))) }
+    ensures broken { IfErr result
+        (λ halt. Breaks halt session.old.setting (L.shown library.old).files
         strict session.old.state session.new.state (a_line (held_of pending.old))
-        (around (K.written sink.old) (L.counts library.old) (L.may_fail library.old))
-        (around (K.written sink.new) (L.counts library.new) (L.may_fail library.new))) }
-    ensures told { L.files library.new ≡ L.files library.old }
-    ensures same { L.may_fail library.new ≡ L.may_fail library.old }
+        (around (K.shown sink.old) (L.shown library.old))
+        (around (K.shown sink.new) (L.shown library.new))) }
+    ensures told { (L.shown library.new).files ≡ (L.shown library.old).files }
+    ensures same { (L.shown library.new).may_fail ≡ (L.shown library.old).may_fail }
     ensures setting { session.new.setting ≡ session.old.setting }
     ensures held { held_of pending.new ≡ [] }
     ensures limit { limit_of pending.new ≡ limit_of pending.old }
-    ensures later { K.faults sink.old ≤ K.faults sink.new }
-    ensures kept { OnOk result (K.faults sink.new ≡ K.faults sink.old) }
-    ensures blames { IfErr result (λ halt. BlamesSink halt (K.faults sink.old)
-        (K.faults sink.new)) }
+    ensures later { (K.shown sink.old).counts.faults ≤ (K.shown sink.new).counts.faults }
+    ensures kept { OnOk result ((K.shown sink.new).counts.faults
+        ≡ (K.shown sink.old).counts.faults) }
+    ensures blames { IfErr result (λ halt. BlamesSink halt (K.shown sink.old).counts.faults
+        (K.shown sink.new).counts.faults) }
 {
     let outcome = session.step(pending.bytes(), library, sink);
     pending.clear();
@@ -312,24 +329,27 @@ fn feed<K: Sink, L: Library>(
     library: &mut L,
 ) -> Result<(), Stop>
     requires { limit_of pending.old ≡ session.old.setting.limits.line }
-    ensures fed { OnOk result (Advances session.old.setting (L.files library.old) strict bytes.now
+    ensures fed { OnOk result
+        (Advances session.old.setting (L.shown library.old).files strict bytes.now
         session.old.state (held_of pending.old)
-        (around (K.written sink.old) (L.counts library.old) (L.may_fail library.old))
+        (around (K.shown sink.old) (L.shown library.old))
         session.new.state
         (held_of pending.new)
-        (around (K.written sink.new) (L.counts library.new) (L.may_fail library.new))) }
-    ensures broken { IfErr result (λ halt. Fails halt session.old.setting (L.files library.old)
+        (around (K.shown sink.new) (L.shown library.new))) }
+    ensures broken { IfErr result
+        (λ halt. Fails halt session.old.setting (L.shown library.old).files
         strict bytes.now session.old.state (held_of pending.old)
-        (around (K.written sink.old) (L.counts library.old) (L.may_fail library.old))
-        (around (K.written sink.new) (L.counts library.new) (L.may_fail library.new))) }
-    ensures told { L.files library.new ≡ L.files library.old }
-    ensures same { L.may_fail library.new ≡ L.may_fail library.old }
+        (around (K.shown sink.old) (L.shown library.old))
+        (around (K.shown sink.new) (L.shown library.new))) }
+    ensures told { (L.shown library.new).files ≡ (L.shown library.old).files }
+    ensures same { (L.shown library.new).may_fail ≡ (L.shown library.old).may_fail }
     ensures setting { session.new.setting ≡ session.old.setting }
     ensures limit { limit_of pending.new ≡ limit_of pending.old }
-    ensures later { K.faults sink.old ≤ K.faults sink.new }
-    ensures kept { OnOk result (K.faults sink.new ≡ K.faults sink.old) }
-    ensures blames { IfErr result (λ halt. BlamesSink halt (K.faults sink.old)
-        (K.faults sink.new)) }
+    ensures later { (K.shown sink.old).counts.faults ≤ (K.shown sink.new).counts.faults }
+    ensures kept { OnOk result ((K.shown sink.new).counts.faults
+        ≡ (K.shown sink.old).counts.faults) }
+    ensures blames { IfErr result (λ halt. BlamesSink halt (K.shown sink.old).counts.faults
+        (K.shown sink.new).counts.faults) }
 {
     let mut rest = bytes;
     while let Some(end) = line_feed(rest) {
@@ -349,20 +369,22 @@ fn close<K: Sink, L: Library>(
     sink: &mut K,
     library: &mut L,
 ) -> Result<(), Stop>
-    ensures closed { OnOk result (Closes session.old.setting (L.files library.old) strict
+    ensures closed { OnOk result (Closes session.old.setting (L.shown library.old).files strict
         session.old.state (held_of pending.old)
-        (around (K.written sink.old) (L.counts library.old) (L.may_fail library.old))
-        (around (K.written sink.new) (L.counts library.new) (L.may_fail library.new))) }
-    ensures cut { IfErr result (λ halt. Cuts halt session.old.setting (L.files library.old) strict
+        (around (K.shown sink.old) (L.shown library.old))
+        (around (K.shown sink.new) (L.shown library.new))) }
+    ensures cut { IfErr result
+        (λ halt. Cuts halt session.old.setting (L.shown library.old).files strict
         session.old.state (held_of pending.old)
-        (around (K.written sink.old) (L.counts library.old) (L.may_fail library.old))
-        (around (K.written sink.new) (L.counts library.new) (L.may_fail library.new))) }
-    ensures told { L.files library.new ≡ L.files library.old }
-    ensures same { L.may_fail library.new ≡ L.may_fail library.old }
-    ensures later { K.faults sink.old ≤ K.faults sink.new }
-    ensures kept { OnOk result (K.faults sink.new ≡ K.faults sink.old) }
-    ensures blames { IfErr result (λ halt. BlamesSink halt (K.faults sink.old)
-        (K.faults sink.new)) }
+        (around (K.shown sink.old) (L.shown library.old))
+        (around (K.shown sink.new) (L.shown library.new))) }
+    ensures told { (L.shown library.new).files ≡ (L.shown library.old).files }
+    ensures same { (L.shown library.new).may_fail ≡ (L.shown library.old).may_fail }
+    ensures later { (K.shown sink.old).counts.faults ≤ (K.shown sink.new).counts.faults }
+    ensures kept { OnOk result ((K.shown sink.new).counts.faults
+        ≡ (K.shown sink.old).counts.faults) }
+    ensures blames { IfErr result (λ halt. BlamesSink halt (K.shown sink.old).counts.faults
+        (K.shown sink.new).counts.faults) }
 {
     if pending.bytes().is_empty() {
         return Ok(());

@@ -1,7 +1,7 @@
 ghost use Rattle.std.specs.Prelude.{◌≡◌, IsTrue, OnOk, OnErr};
 
-use super::plan::Plan;
-use crate::{Fetched, Library};
+use super::plan::is_next_listed;
+use crate::{Fetched, Library, LibraryCounts};
 use indexmap::IndexMap;
 use std::alloc::{AllocError, Global};
 
@@ -11,27 +11,24 @@ use std::alloc::{AllocError, Global};
 #[derive(Drop)]
 pub struct MemoryLibrary {
     files: IndexMap<Vec<u8>, Vec<u8>>,
-    plan: Plan,
-    misses: u64,
-    bigs: u64,
+    failing: Vec<u32>,
+    counts: LibraryCounts,
 }
 
 impl MemoryLibrary {
-    ghost use Rattle.si_io.specs.Library.{Counts};
-    ghost use Rattle.si_io.specs.Memory.{library_files, library_counts, library_failing, library_calls, has_no_file, PutsFile, SameLibrary};
+    ghost use Rattle.si_io.specs.Memory.{library_files, library_counts, library_failing, has_no_file, PutsFile, SameLibrary};
 
     /// A library without files. `failing` lists the fetches that fail, by their numbers from 1.
     pub fn new(alloc: Global, failing: Vec<u32>) -> MemoryLibrary
         ensures files { library_files result ≡ has_no_file }
-        ensures counts { library_counts result ≡ record { faults = 0; misses = 0; bigs = 0 } }
+        ensures counts { library_counts result
+            ≡ record { calls = 0; faults = 0; misses = 0; bigs = 0 } }
         ensures failing { library_failing result ≡ failing.items }
-        ensures calls { library_calls result ≡ 0 }
     {
         MemoryLibrary {
             files: IndexMap::new(alloc),
-            plan: Plan::new(failing),
-            misses: 0,
-            bigs: 0,
+            failing,
+            counts: LibraryCounts::new(),
         }
     }
 
@@ -52,17 +49,13 @@ impl MemoryLibrary {
 }
 
 impl Library for MemoryLibrary {
-    ghost use Rattle.std.specs.Prelude.{◌↔◌, Some};
-    ghost use Rattle.si_io.specs.Faults.{raised};
+    ghost use Rattle.std.specs.Prelude.{◌↔◌};
+    ghost use Rattle.si_io.specs.Counts.{raised, fetch_counted};
     ghost use Rattle.si_io.specs.Plan.{is_listed};
-    ghost use Rattle.si_io.specs.Library.{Fetches, Holds, HasFetchCause, counted};
-    ghost use Rattle.si_io.specs.Memory.{library_files, library_counts, library_failing, library_calls, library_may_fail};
+    ghost use Rattle.si_io.specs.Library.{Fetches, Holds};
+    ghost use Rattle.si_io.specs.Memory.{library_files, library_counts, library_failing, library_may_fail, library_shown};
 
-    ghost files = { λ library. Some (library_files library) };
-
-    ghost counts = { library_counts };
-
-    ghost may_fail = { library_may_fail };
+    ghost shown = { library_shown };
 
     /// Looks the file up. Fails exactly where the fetch is listed.
     fn fetch(&mut self, name: &[u8], into: &mut Vec<u8>, limit: usize) -> Fetched
@@ -71,27 +64,24 @@ impl Library for MemoryLibrary {
         ensures sure { result ≡ Fetched.Failed → IsTrue (library_may_fail self.old) }
         ensures told { library_files self.new ≡ library_files self.old }
         ensures failing { library_failing self.new ≡ library_failing self.old }
-        ensures calls { library_calls self.new ≡ raised (library_calls self.old) }
         ensures listed { (result ≡ Fetched.Failed) ↔ IsTrue
-            (is_listed (library_failing self.old) (library_calls self.new)) }
-        ensures cause { HasFetchCause (library_counts self.old) (library_counts self.new) result }
-        ensures once { library_counts self.new ≡ counted result (library_counts self.old) }
+            (is_listed (library_failing self.old) (raised (library_counts self.old).calls)) }
+        ensures counts { library_counts self.new
+            ≡ fetch_counted result (library_counts self.old) }
     {
         into.clear();
-        if self.plan.next().is_err() {
-            return Fetched::Failed;
+        if is_next_listed(&self.failing, self.counts.calls) {
+            return self.counts.count(Fetched::Failed);
         }
         let Some(bytes) = self.files.get(name) else {
-            self.misses = self.misses.saturating_add(1);
-            return Fetched::Missing;
+            return self.counts.count(Fetched::Missing);
         };
         if bytes.len() > limit {
-            self.bigs = self.bigs.saturating_add(1);
-            return Fetched::TooBig;
+            return self.counts.count(Fetched::TooBig);
         }
         match into.extend_from_slice(bytes) {
-            Ok(()) => Fetched::Found,
-            Err(_) => Fetched::Memory,
+            Ok(()) => self.counts.count(Fetched::Found),
+            Err(_) => self.counts.count(Fetched::Memory),
         }
     }
 }

@@ -2,17 +2,17 @@
 ghost use Rattle.std.specs.Prelude.{ℕ, List, Result, ⊤};
 ghost use Rattle.std.specs.declared.io.Error.{Error};
 
+use super::device::Input;
 use std::fs::File;
 use std::io;
-use std::io::Read;
 use std::rt::Files;
 
 /// What opens files by their paths.
 pub trait Disk {
-    type File: Read + Drop;
+    type File: Input + Drop;
 
     /// What one call of `open` did, where the disk tells it: the disk before the call, the path,
-    /// the answer, and the disk behind it.
+    /// the answer, and the disk after it.
     ghost opens: { Self → List ℕ → Result Self.File Error → Self → Type 0 };
 
     fn open(&mut self, path: &str) -> io::Result<Self::File>

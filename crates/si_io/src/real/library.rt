@@ -1,13 +1,15 @@
 ghost use Rattle.std.specs.Prelude.{◌≡◌, ◌-◌, ◌<◌, ◌≤◌, [], length, take, drop, vec_len, IfOk, OnOk};
 ghost use Rattle.std.specs.Io.KnownBytes.{Consumes, IsAtEnd};
-ghost use Rattle.si_io.specs.Folder.{disk_of, counts_of, CountsRead};
-ghost use Rattle.si_io.specs.Library.{counted, IsFileRead};
+ghost use Rattle.si_io.specs.Disk.{AsksFor, FetchesAnswer, is_found, unfetched};
+ghost use Rattle.si_io.specs.Library.{IsFileRead};
 
+use super::again::{open_again, read_again};
+use super::device::Input;
 use super::disk::{Disk, System};
-use super::folder::{Folder, Unopened};
-use crate::{Failed, Fetched, Library};
+use crate::{Fetched, Library, LibraryCounts};
 use std::alloc::AllocError;
-use std::io::Read;
+use std::io;
+use std::io::{Error, ErrorKind};
 use std::rt::Files;
 
 /// Bytes that are asked of a file at first: room for them is filled and cut again, so few.
@@ -15,73 +17,99 @@ const FIRST: usize = 1 << 12;
 
 /// A library over the files of a disk, such as those of the system. A name is a path.
 ///
-/// A file that isn't found is missing. Any other error is a fault, and so is a folder, or a name
-/// that isn't UTF-8. It tells no files, but of each fetch what the disk answered.
+/// A file that isn't found is missing. Any other error is a fault, but for a signal's: such a call
+/// is made again. So is a folder, or a name that isn't UTF-8. It tells no files, but of each fetch
+/// what the disk answered.
 #[derive(Drop)]
 pub struct RealLibrary<D> {
-    folder: Folder<D>,
+    disk: D,
+    counts: LibraryCounts,
 }
 
 impl<R: Files> RealLibrary<System<R>> {
-    ghost use Rattle.si_io.specs.Real.{library_counts};
+    ghost use Rattle.si_io.specs.Real.{fetches_of};
 
     /// A library over the files of this runtime, which has counted nothing yet.
     pub fn new(rt: R) -> RealLibrary<System<R>>
-        ensures { library_counts result ≡ record { faults = 0; misses = 0; bigs = 0 } }
+        ensures { fetches_of result ≡ record { calls = 0; faults = 0; misses = 0; bigs = 0 } }
     {
         RealLibrary::over(System(rt))
     }
 }
 
-impl<D: Disk> RealLibrary<D> {
-    ghost use Rattle.si_io.specs.Real.{library_disk, library_counts};
+impl<D> RealLibrary<D> {
+    ghost use Rattle.si_io.specs.Real.{disk_of, fetches_of};
 
     /// A library over this disk, which has counted nothing yet.
     pub fn over(disk: D) -> RealLibrary<D>
-        ensures disk { library_disk result ≡ disk }
-        ensures counts { library_counts result ≡ record { faults = 0; misses = 0; bigs = 0 } }
+        ensures disk { disk_of result ≡ disk }
+        ensures counts { fetches_of result
+            ≡ record { calls = 0; faults = 0; misses = 0; bigs = 0 } }
     {
         RealLibrary {
-            folder: Folder::new(disk),
+            disk,
+            counts: LibraryCounts::new(),
         }
     }
 }
 
 impl<D: Disk> Library for RealLibrary<D> {
-    ghost use Rattle.std.specs.Prelude.{None, true};
-    ghost use Rattle.si_io.specs.Disk.{AsksOnce, FetchesAnswer};
-    ghost use Rattle.si_io.specs.Library.{Holds, HasFetchCause};
-    ghost use Rattle.si_io.specs.Real.{library_disk, library_counts};
+    ghost use Rattle.si_io.specs.Counts.{fetch_counted};
+    ghost use Rattle.si_io.specs.Library.{Holds};
+    ghost use Rattle.si_io.specs.Real.{disk_of, fetches_of, library_shown};
 
-    ghost files = { λ library. None };
-
-    ghost counts = { library_counts };
-
-    ghost may_fail = { λ library. true };
+    ghost shown = { library_shown };
 
     /// Opens the file of this name, once, and reads it to its end, or to one byte more than the
-    /// limit. Beside what every library promises, each answer is counted once.
+    /// limit.
     fn fetch(&mut self, name: &[u8], into: &mut Vec<u8>, limit: usize) -> Fetched
         ensures holds { Holds result limit into.new.items }
-        ensures cause { HasFetchCause (library_counts self.old) (library_counts self.new) result }
-        ensures asks { AsksOnce D.opens (library_disk self.old) name.now (library_disk self.new)
-            (λ answer. FetchesAnswer D.File.remaining limit answer result into.new.items)
+        ensures counts { fetches_of self.new ≡ fetch_counted result (fetches_of self.old) }
+        ensures asks { AsksFor D.opens (disk_of self.old) name.now (disk_of self.new)
+            (λ answer. FetchesAnswer D.File.rest limit answer result into.new.items)
             (result ≡ Fetched.Failed) }
-        ensures once { library_counts self.new ≡ counted result (library_counts self.old) }
     {
         into.clear();
-        let mut file = match self.folder.open(name) {
-            Ok(file) => file,
-            Err(Unopened::NotFound) => return Fetched::Missing,
-            Err(Unopened::Refused) => return Fetched::Failed,
-        };
-        match read_file(&mut self.folder, &mut file, into, limit) {
-            Fetched::Found => Fetched::Found,
-            other => {
-                into.clear();
-                other
-            }
+        let answer = fetch_file(&mut self.disk, name, into, limit);
+        if !is_found(answer) {
+            into.clear();
         }
+        self.counts.count(answer)
+    }
+}
+
+fn is_found(answer: Fetched) -> bool
+    ensures { result ≡ is_found answer }
+{
+    match answer {
+        Fetched::Found => true,
+        _ => false,
+    }
+}
+
+/// Opens a file, and reads it as `read_file` does.
+fn fetch_file<D: Disk>(disk: &mut D, name: &[u8], into: &mut Vec<u8>, limit: usize) -> Fetched
+    requires { into.old.items ≡ [] }
+    ensures { AsksFor D.opens disk.old name.now disk.new
+        (λ answer. FetchesAnswer D.File.rest limit answer result into.new.items)
+        (result ≡ Fetched.Failed) }
+{
+    let Ok(path) = str::from_utf8(name) else {
+        return Fetched::Failed;
+    };
+    match open_again(disk, path) {
+        Ok(mut file) => read_file(&mut file, into, limit),
+        Err(error) => unfetched(&error),
+    }
+}
+
+/// What a fetch answers whose file wasn't opened.
+fn unfetched(error: &Error) -> Fetched
+    ensures { result ≡ unfetched error.now }
+{
+    match error.kind() {
+        ErrorKind::NotFound => Fetched::Missing,
+        _ => Fetched::Failed,
     }
 }
 
@@ -90,16 +118,9 @@ impl<D: Disk> Library for RealLibrary<D> {
 ///
 /// It is meant to fill room for an eighth more bytes than the file has, and a few; no clause says
 /// so.
-fn read_file<S, F: Read>(
-    folder: &mut Folder<S>,
-    file: &mut F,
-    into: &mut Vec<u8>,
-    limit: usize,
-) -> Fetched
+fn read_file<F: Input>(file: &mut F, into: &mut Vec<u8>, limit: usize) -> Fetched
     requires { into.old.items ≡ [] }
-    ensures read { IsFileRead (F.remaining file.old) limit result into.new.items }
-    ensures counts { counts_of folder.new ≡ counted result (counts_of folder.old) }
-    ensures disk { disk_of folder.new ≡ disk_of folder.old }
+    ensures { IsFileRead (F.rest file.old) limit result into.new.items }
 {
     let most = limit.saturating_add(1);
     let mut filled = 0;
@@ -107,7 +128,7 @@ fn read_file<S, F: Read>(
         if make_room(into, filled, most).is_err() {
             return Fetched::Memory;
         }
-        match read_behind(folder, file, into, filled) {
+        match read_after(file, into, filled) {
             Ok(0) => {
                 into.truncate(filled);
                 return Fetched::Found;
@@ -116,27 +137,19 @@ fn read_file<S, F: Read>(
             Err(_) => return Fetched::Failed,
         }
     }
-    folder.count_too_big();
     Fetched::TooBig
 }
 
-/// Reads into a slice behind the bytes that are filled.
-fn read_behind<S, F: Read>(
-    folder: &mut Folder<S>,
-    file: &mut F,
-    into: &mut [u8],
-    filled: usize,
-) -> Result<usize, Failed>
+/// Reads into a slice after the bytes that are filled.
+fn read_after<F: Input>(file: &mut F, into: &mut [u8], filled: usize) -> io::Result<usize>
     requires { filled < length into.old }
     ensures bound { IfOk result (λ n. n ≤ length into.old - filled) }
     ensures front { take filled into.new ≡ take filled into.old }
-    ensures given { IfOk result (λ n. Consumes (F.remaining file.old) (F.remaining file.new)
+    ensures given { IfOk result (λ n. Consumes (F.rest file.old) (F.rest file.new)
         (take n (drop filled into.new))) }
-    ensures ended { IfOk result (λ n. n ≡ 0 → IsAtEnd (F.remaining file.new)) }
-    ensures counts { CountsRead (counts_of folder.old) (counts_of folder.new) result }
-    ensures disk { disk_of folder.new ≡ disk_of folder.old }
+    ensures ended { IfOk result (λ n. n ≡ 0 → IsAtEnd (F.rest file.new)) }
 {
-    folder.read(file, &mut into[filled..])
+    read_again(file, &mut into[filled..])
 }
 
 /// Makes room behind the bytes that are filled: an eighth as many, but some at first, and no more

@@ -1,52 +1,67 @@
-ghost use Rattle.std.specs.Prelude.{◌≡◌, ◌≤◌, None, true, length, IfOk};
+ghost use Rattle.std.specs.Prelude.{◌≡◌, ◌≤◌, ℕ, Result, length, IfOk};
 ghost use Rattle.std.specs.Io.KnownBytes.{ReadConsumes};
-ghost use Rattle.si_io.specs.Faults.{CountsErrors, HasCause};
+ghost use Rattle.std.specs.declared.io.Error.{Error};
+ghost use Rattle.si_io.specs.Real.{Hears};
 
-use super::counted::Counted;
-use crate::{Failed, Source};
-use std::io::Read;
+use super::again::read_again;
+use super::device::Input;
+use crate::{Failed, Source, SourceCounts};
+use std::io;
 
 /// A source over a reader of std.
 ///
-/// Each error of the reader is answered as `Failed` and counted. What the reader has left isn't
-/// told.
+/// Each error of the reader is answered as `Failed`, but for a signal's: such a call is made again.
+/// What the reader has left isn't told.
 #[derive(Drop)]
 pub struct RealSource<R> {
-    reader: Counted<R>,
+    reader: R,
+    counts: SourceCounts,
 }
 
-impl<R: Read> RealSource<R> {
-    ghost use Rattle.si_io.specs.Real.{reader_of, reader_faults};
+impl<R> RealSource<R> {
+    ghost use Rattle.si_io.specs.Real.{reader_of, reads_of};
 
-    /// A source over this reader, which has not failed yet.
+    /// A source over this reader, which has counted nothing yet.
     pub fn new(reader: R) -> RealSource<R>
         ensures reader { reader_of result ≡ reader }
-        ensures faults { reader_faults result ≡ 0 }
+        ensures counts { reads_of result ≡ record { calls = 0; bytes = 0; ends = 0; faults = 0 } }
     {
         RealSource {
-            reader: Counted::new(reader),
+            reader,
+            counts: SourceCounts::new(),
         }
     }
 }
 
-impl<R: Read> Source for RealSource<R> {
-    ghost use Rattle.si_io.specs.Real.{reader_of, reader_faults};
+impl<R: Input> Source for RealSource<R> {
+    ghost use Rattle.si_io.specs.Counts.{read_counted};
+    ghost use Rattle.si_io.specs.Real.{reader_of, reads_of, source_shown};
+    ghost use Rattle.si_io.specs.Tries.{TriesToRead};
 
-    ghost left = { λ source. None };
-
-    ghost faults = { reader_faults };
-
-    ghost may_fail = { λ source. true };
+    ghost shown = { source_shown };
 
     /// Reads once. Beside what every source promises, it gives what the reader gave, where that is
-    /// known, and counts errors alone.
+    /// known.
     fn read(&mut self, into: &mut [u8]) -> Result<usize, Failed>
         ensures bound { IfOk result (λ n. n ≤ length into.old) }
-        ensures cause { HasCause (reader_faults self.old) (reader_faults self.new) result }
-        ensures passed { ReadConsumes (R.remaining (reader_of self.old))
-            (R.remaining (reader_of self.new)) result into.new }
-        ensures errors { CountsErrors (reader_faults self.old) (reader_faults self.new) result }
+        ensures counts { reads_of self.new
+            ≡ read_counted (length into.old) result (reads_of self.old) }
+        ensures passed { ReadConsumes (R.rest (reader_of self.old)) (R.rest (reader_of self.new))
+            result into.new }
+        ensures once { (answer : Result ℕ Error)
+            × TriesToRead R.reads (reader_of self.old) into.old answer (reader_of self.new)
+            into.new × Hears answer result }
     {
-        self.reader.read(into)
+        let answer = heard(read_again(&mut self.reader, into));
+        self.counts.count(into.len(), answer)
+    }
+}
+
+fn heard(answer: io::Result<usize>) -> Result<usize, Failed>
+    ensures { Hears answer result }
+{
+    match answer {
+        Ok(count) => Ok(count),
+        Err(_) => Err(Failed),
     }
 }

@@ -70,11 +70,7 @@ struct Watched<'a, D> {
 }
 
 impl<S: Source> Source for Watched<'_, S> {
-    ghost left = { λ watched. S.left watched.device };
-
-    ghost faults = { λ watched. S.faults watched.device };
-
-    ghost may_fail = { λ watched. S.may_fail watched.device };
+    ghost shown = { λ watched. S.shown watched.device };
 
     fn read(&mut self, into: &mut [u8]) -> Result<usize, Failed> {
         let empty = into.is_empty();
@@ -88,9 +84,7 @@ impl<S: Source> Source for Watched<'_, S> {
 }
 
 impl<K: Sink> Sink for Watched<'_, K> {
-    ghost written = { λ watched. K.written watched.device };
-
-    ghost faults = { λ watched. K.faults watched.device };
+    ghost shown = { λ watched. K.shown watched.device };
 
     fn write(&mut self, bytes: &[u8]) -> Result<usize, Failed> {
         let empty = bytes.is_empty();
@@ -104,11 +98,7 @@ impl<K: Sink> Sink for Watched<'_, K> {
 }
 
 impl<L: Library> Library for Watched<'_, L> {
-    ghost files = { λ watched. L.files watched.device };
-
-    ghost counts = { λ watched. L.counts watched.device };
-
-    ghost may_fail = { λ watched. L.may_fail watched.device };
+    ghost shown = { λ watched. L.shown watched.device };
 
     fn fetch(&mut self, name: &[u8], into: &mut Vec<u8>, limit: usize) -> Fetched {
         count(&self.calls.fetches);

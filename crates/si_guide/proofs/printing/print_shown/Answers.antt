@@ -12,7 +12,7 @@ put_solution-requires g c =
       );
     }
 
-pub returns-clause-text : goal.returns-clause-text
-returns-clause-text g c = λ relation p e shows.
-    c.put_solution.ensures.text shows.solution
+pub returns : goal.returns
+returns g c = λ relation p e shows.
+    c.put_solution.ensures shows.solution
     (shows_entry c.args.index.now.numbers relation p e c.args.shown.now shows _ (sym c.signature.ensures.numbers))

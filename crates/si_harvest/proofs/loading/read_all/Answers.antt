@@ -14,7 +14,7 @@ use Rattle.si_harvest.proofs.loading.read_all.Goals as goal
 
 pub returns-in_err-enter-clause-fault : goal.returns-in_err-enter-clause-fault
 returns-in_err-enter-clause-fault g c =
-    let told = g.L.Library.files c.args.library.now in
+    let told = (g.L.Library.shown c.args.library.now).files in
     let bounds = bounds_of c.args.limits.now in
     let rules = g.T.ClauseStore.rules c.args.store.now in
     let start = g.T.ClauseStore.clauses c.args.store.now in
@@ -26,7 +26,7 @@ returns-in_err-enter-clause-fault g c =
 
 pub returns-in_err-enter-clause-start : goal.returns-in_err-enter-clause-start
 returns-in_err-enter-clause-start g c = λ never.
-    let told = g.L.Library.files c.args.library.now in
+    let told = (g.L.Library.shown c.args.library.now).files in
     let bounds = bounds_of c.args.limits.now in
     let rules = g.T.ClauseStore.rules c.args.store.now in
     let start = g.T.ClauseStore.clauses c.args.store.now in
@@ -37,7 +37,7 @@ returns-in_err-enter-clause-start g c = λ never.
 
 pub loop-reading-init : goal.loop-reading-init
 loop-reading-init g c =
-    let told = g.L.Library.files c.args.library.now in
+    let told = (g.L.Library.shown c.args.library.now).files in
     let bounds = bounds_of c.args.limits.now in
     record {
       loading = record {
@@ -58,11 +58,11 @@ loop-reading-init g c =
 
 pub returns-clause-right : goal.returns-clause-right
 returns-clause-right g c =
-    let told = g.L.Library.files c.args.library.now in
+    let told = (g.L.Library.shown c.args.library.now).files in
     let bounds = bounds_of c.args.limits.now in
     let rules = g.T.ClauseStore.rules c.args.store.now in
     let start = g.T.ClauseStore.clauses c.args.store.now in
-    let over = steps_false (g.L.Library.files c.loop-reading.library) bounds (g.T.ClauseStore.rules c.loop-reading.store) c.loop-reading.reading c.step.new.self
+    let over = steps_false ((g.L.Library.shown c.loop-reading.library).files) bounds (g.T.ClauseStore.rules c.loop-reading.store) c.loop-reading.reading c.step.new.self
     (g.T.ClauseStore.clauses c.loop-reading.store) (g.T.ClauseStore.clauses c.step.new.store) c.in_ok-step.field-0 c.if-branch.false c.in_ok-step.ensures.stepped in
     subst (λ s. IfSome told (λ files. GainsByLoad files bounds rules start c.args.name.now s)) (sym over.1)
     (is_over told bounds rules start c.args.name.now c.loop-reading.reading (g.T.ClauseStore.clauses c.loop-reading.store) over.0 c.loop-reading.invariant.loading.under_way)

@@ -1,3 +1,4 @@
+use Rattle.si_io.specs.Library.{faults_in}
 use Rattle.std.proofs.Common.{◌≡◌, []}
 use Rattle.si_state.specs.Harvest.{MayAsk}
 use Rattle.si_harvest.specs.Faults.{bounds_of}
@@ -7,11 +8,11 @@ use Rattle.si_harvest.proofs.loading.read_all.Given as goal
 
 abbrev pub invariant-loop-reading : goal.invariant-loop-reading
 invariant-loop-reading g l = record {
-  loading : IsLoading (g.L.Library.files l.fn.library) (bounds_of l.limits) (g.T.ClauseStore.rules l.fn.store) (g.T.ClauseStore.clauses l.fn.store) l.name l.reading (g.T.ClauseStore.clauses l.store) l.loaded;
+  loading : IsLoading (g.L.Library.shown l.fn.library).files (bounds_of l.limits) (g.T.ClauseStore.rules l.fn.store) (g.T.ClauseStore.clauses l.fn.store) l.name l.reading (g.T.ClauseStore.clauses l.store) l.loaded;
   may : MayAsk (bounds_of l.limits) [] 0 l.name;
-  told : g.L.Library.files l.library ≡ g.L.Library.files l.fn.library;
-  same : g.L.Library.may_fail l.library ≡ g.L.Library.may_fail l.fn.library;
-  counts : g.L.Library.counts l.library ≡ g.L.Library.counts l.fn.library;
+  told : (g.L.Library.shown l.library).files ≡ (g.L.Library.shown l.fn.library).files;
+  same : (g.L.Library.shown l.library).may_fail ≡ (g.L.Library.shown l.fn.library).may_fail;
+  counts : faults_in (g.L.Library.shown l.library).counts ≡ faults_in (g.L.Library.shown l.fn.library).counts;
   rules : g.T.ClauseStore.rules l.store ≡ g.T.ClauseStore.rules l.fn.store;
 }
 

@@ -1,4 +1,4 @@
-use Rattle.std.proofs.Common.{◌+◌, ◌*◌, ◌++◌, ◌≡◌, drop, map}
+use Rattle.std.proofs.Common.{◌+◌, ◌*◌, ◌++◌, drop, map}
 use Rattle.si_defs.specs.Terms.{row, size, sizes}
 use Rattle.si_defs.specs.Printing.{more_texts}
 use Rattle.si_term.specs.Terms.{term_of}
@@ -7,10 +7,9 @@ use Rattle.si_reply.proofs.printing.+put.Given as goal
 
 abbrev pub invariant-put_others-loop-i : goal.invariant-put_others-loop-i
 invariant-put_others-loop-i g l = record {
-  wrote : Wrote (g.K.Sink.written l.fn.sink) (g.K.Sink.written l.sink)
+  wrote : Wrote (g.K.Sink.shown l.fn.sink) (g.K.Sink.shown l.sink)
       (more_texts (λ x. l.mark ++ x) (row (map term_of l.terms)))
       (more_texts (λ x. l.mark ++ x) (row (map term_of (drop l.i l.terms))));
-  kept : g.K.Sink.faults l.sink ≡ g.K.Sink.faults l.fn.sink;
 }
 
 abbrev pub decreases-put_term : goal.decreases-put_term

@@ -6,8 +6,8 @@ use Rattle.si_reply.proofs.Writing.{wrote_piece, wrote_part, wrote_as, puts_rest
 use Rattle.si_reply.proofs.Escapes.{first_run, last_run}
 use Rattle.si_reply.proofs.printing.put_escaped.Goals as goal
 
-pub returns-in_err-put_run-clause-text : goal.returns-in_err-put_run-clause-text
-returns-in_err-put_run-clause-text g c =
+pub returns-in_err-put_run : goal.returns-in_err-put_run
+returns-in_err-put_run g c =
     let rest = c.loop-run.rest.now in
     let at = c.in-Some.run' in
     let each = escaped c.args.quote in
@@ -16,7 +16,7 @@ returns-in_err-put_run-clause-text g c =
     first_run c.args.quote rest at (get_or rest at 0) c.in-Some.ensures.first refl in
     record {
       all = search rules;
-      part = on_err c.from_residual.result (wrote_part _ _ (g.K.Sink.written c.put_run.new.sink) (flat_map each c.args.text.now) (flat_map each rest) _ left split c.loop-run.invariant.wrote c.in_err-put_run.ensures.text.part);
+      part = on_err c.from_residual.result (wrote_part _ _ (g.K.Sink.shown c.put_run.new.sink) (flat_map each c.args.text.now) (flat_map each rest) _ left split c.loop-run.invariant.wrote c.in_err-put_run.ensures.part);
     }
 
 pub overflow_add-rest : goal.overflow_add-rest
@@ -33,14 +33,13 @@ loop-run-preserved g c =
     first_run c.args.quote rest at (get_or rest at 0) c.in-Some.ensures.first refl
     ∙ ap (λ l. (take at rest ++ 92 ∷ get_or rest at 0 ∷ []) ++ flat_map each l) (sym same) in
     record {
-      wrote = wrote_piece _ _ (g.K.Sink.written c.put_run.new.sink) (flat_map each c.args.text.now) (flat_map each rest) _ left split c.loop-run.invariant.wrote c.in_ok-put_run.ensures.text.all;
+      wrote = wrote_piece _ _ (g.K.Sink.shown c.put_run.new.sink) (flat_map each c.args.text.now) (flat_map each rest) _ left split c.loop-run.invariant.wrote c.in_ok-put_run.ensures.all;
       shorter = omega (arith, c.loop-run.invariant.shorter, ap length same, length-drop (at + 1) rest);
-      kept = omega (arith, c.loop-run.invariant.kept, c.in_ok-put_run.ensures.cause.kept);
     }
 
-pub returns-clause-text : goal.returns-clause-text
-returns-clause-text g c =
+pub returns : goal.returns
+returns g c =
     let rest = c.loop-run.rest.now in
     let each = escaped c.args.quote in
     let same = last_run c.args.quote rest c.in_default.ensures.first in
-    puts_rest c.put_bytes.result _ _ (g.K.Sink.written c.put_bytes.new.sink) (flat_map each c.args.text.now) rest (wrote_as _ _ _ (flat_map each rest) rest same c.loop-run.invariant.wrote) c.put_bytes.ensures.text
+    puts_rest c.put_bytes.result _ _ (g.K.Sink.shown c.put_bytes.new.sink) (flat_map each c.args.text.now) rest (wrote_as _ _ _ (flat_map each rest) rest same c.loop-run.invariant.wrote) c.put_bytes.ensures

@@ -1,4 +1,4 @@
-use Rattle.std.proofs.Common.{◌≡◌, ◌≤◌, length}
+use Rattle.std.proofs.Common.{◌≤◌, length}
 use Rattle.std.specs.Prelude.{flat_map}
 use Rattle.si_defs.specs.Tokens.{escaped}
 use Rattle.si_reply.proofs.Writing.{Wrote}
@@ -6,9 +6,8 @@ use Rattle.si_reply.proofs.printing.put_escaped.Given as goal
 
 abbrev pub invariant-loop-run : goal.invariant-loop-run
 invariant-loop-run g l = record {
-  wrote : Wrote (g.K.Sink.written l.fn.sink) (g.K.Sink.written l.sink) (flat_map (escaped l.quote) l.text) (flat_map (escaped l.quote) l.rest);
+  wrote : Wrote (g.K.Sink.shown l.fn.sink) (g.K.Sink.shown l.sink) (flat_map (escaped l.quote) l.text) (flat_map (escaped l.quote) l.rest);
   shorter : length l.rest ≤ length l.text;
-  kept : g.K.Sink.faults l.sink ≡ g.K.Sink.faults l.fn.sink;
 }
 
 abbrev pub decreases-loop-run : goal.decreases-loop-run

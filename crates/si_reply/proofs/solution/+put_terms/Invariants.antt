@@ -1,4 +1,4 @@
-use Rattle.std.proofs.Common.{◌≡◌, ◌+◌, ◌*◌, ◌≤◌, length}
+use Rattle.std.proofs.Common.{◌+◌, ◌*◌, ◌≤◌, length}
 use Rattle.si_defs.specs.Terms as terms
 use Rattle.si_defs.specs.Symbols as symbols
 use Rattle.si_defs.specs.Variables as variables
@@ -18,8 +18,7 @@ decreases-put_flat_others g l = 3 * length l.cells.now + 1
 abbrev pub invariant-put_flat_others-loop-rest : goal.invariant-put_flat_others-loop-rest
 invariant-put_flat_others-loop-rest g l = record {
   left : (ts : terms.Terms symbols.Symbol variables.Variable) → ShowAll l.words l.cells ts
-      → LeftToPut l.words l.rest (g.K.Sink.written l.fn.sink) (g.K.Sink.written l.sink) ts;
-  kept : g.K.Sink.faults l.sink ≡ g.K.Sink.faults l.fn.sink;
+      → LeftToPut l.words l.rest (g.K.Sink.shown l.fn.sink) (g.K.Sink.shown l.sink) ts;
   shorter : length l.rest ≤ length l.cells;
 }
 

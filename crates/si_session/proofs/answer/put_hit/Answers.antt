@@ -10,58 +10,58 @@ use Rattle.si_session.specs.declared.sign.Sign.TheVariants.{Space, LineFeed}
 use Rattle.si_session.proofs.Answering.{line_parts}
 use Rattle.si_session.proofs.answer.put_hit.Goals as goal
 
-pub returns-in_err-put_place-clause-text : goal.returns-in_err-put_place-clause-text
-returns-in_err-put_place-clause-text g c = λ list h.
-    let old = g.K.Sink.written c.args.sink.now in
-    let placed = g.K.Sink.written c.put_place.new.sink in
+pub returns-in_err-put_place : goal.returns-in_err-put_place
+returns-in_err-put_place g c = λ list h.
+    let old = (g.K.Sink.shown c.args.sink.now) in
+    let placed = (g.K.Sink.shown c.put_place.new.sink) in
     let name = name_of c.args.name.now in
     let place = place_of c.args.place.now in
     let whole = hit_line name place list in
     let parts = line_parts name place list in
     let text = solution_text variable_text list in
-    record { all = search rules; part = on_err c.from_residual.result (wrote_part old old placed whole whole (place_text name place) (sign_text Space ++ (text ++ sign_text LineFeed)) parts (wrote_none old whole) c.in_err-put_place.ensures.text.part) }
+    record { all = search rules; part = on_err c.from_residual.result (wrote_part old old placed whole whole (place_text name place) (sign_text Space ++ (text ++ sign_text LineFeed)) parts (wrote_none old whole) c.in_err-put_place.ensures.part) }
 
-pub returns-in_err-put_sign-clause-text : goal.returns-in_err-put_sign-clause-text
-returns-in_err-put_sign-clause-text g c = λ list h.
-    let old = g.K.Sink.written c.args.sink.now in
-    let placed = g.K.Sink.written c.put_place.new.sink in
-    let spaced = g.K.Sink.written c.put_sign.new.sink in
+pub returns-in_err-put_sign : goal.returns-in_err-put_sign
+returns-in_err-put_sign g c = λ list h.
+    let old = (g.K.Sink.shown c.args.sink.now) in
+    let placed = (g.K.Sink.shown c.put_place.new.sink) in
+    let spaced = (g.K.Sink.shown c.put_sign.new.sink) in
     let name = name_of c.args.name.now in
     let place = place_of c.args.place.now in
     let whole = hit_line name place list in
     let parts = line_parts name place list in
     let text = solution_text variable_text list in
-    let first = wrote_piece old old placed whole whole (place_text name place) (sign_text Space ++ (text ++ sign_text LineFeed)) parts (wrote_none old whole) c.in_ok-put_place.ensures.text.all in
-    record { all = search rules; part = on_err c.from_residual-in_err-put_sign.result (wrote_part old placed spaced whole (sign_text Space ++ (text ++ sign_text LineFeed)) (sign_text Space) (text ++ sign_text LineFeed) refl first c.in_err-put_sign.ensures.text.part) }
+    let first = wrote_piece old old placed whole whole (place_text name place) (sign_text Space ++ (text ++ sign_text LineFeed)) parts (wrote_none old whole) c.in_ok-put_place.ensures.all in
+    record { all = search rules; part = on_err c.from_residual-in_err-put_sign.result (wrote_part old placed spaced whole (sign_text Space ++ (text ++ sign_text LineFeed)) (sign_text Space) (text ++ sign_text LineFeed) refl first c.in_err-put_sign.ensures.part) }
 
-pub returns-in_err-put_solution-clause-text : goal.returns-in_err-put_solution-clause-text
-returns-in_err-put_solution-clause-text g c = λ list h.
-    let old = g.K.Sink.written c.args.sink.now in
-    let placed = g.K.Sink.written c.put_place.new.sink in
-    let spaced = g.K.Sink.written c.put_sign.new.sink in
-    let listed = g.K.Sink.written c.put_solution.new.sink in
+pub returns-in_err-put_solution : goal.returns-in_err-put_solution
+returns-in_err-put_solution g c = λ list h.
+    let old = (g.K.Sink.shown c.args.sink.now) in
+    let placed = (g.K.Sink.shown c.put_place.new.sink) in
+    let spaced = (g.K.Sink.shown c.put_sign.new.sink) in
+    let listed = (g.K.Sink.shown c.put_solution.new.sink) in
     let name = name_of c.args.name.now in
     let place = place_of c.args.place.now in
     let whole = hit_line name place list in
     let parts = line_parts name place list in
     let text = solution_text variable_text list in
-    let first = wrote_piece old old placed whole whole (place_text name place) (sign_text Space ++ (text ++ sign_text LineFeed)) parts (wrote_none old whole) c.in_ok-put_place.ensures.text.all in
-    let second = wrote_piece old placed spaced whole (sign_text Space ++ (text ++ sign_text LineFeed)) (sign_text Space) (text ++ sign_text LineFeed) refl first c.in_ok-put_sign.ensures.text.all in
-    record { all = search rules; part = on_err c.from_residual-in_err-put_solution.result (wrote_part old spaced listed whole (text ++ sign_text LineFeed) text (sign_text LineFeed) refl second (c.in_err-put_solution.ensures.text list h).part) }
+    let first = wrote_piece old old placed whole whole (place_text name place) (sign_text Space ++ (text ++ sign_text LineFeed)) parts (wrote_none old whole) c.in_ok-put_place.ensures.all in
+    let second = wrote_piece old placed spaced whole (sign_text Space ++ (text ++ sign_text LineFeed)) (sign_text Space) (text ++ sign_text LineFeed) refl first c.in_ok-put_sign.ensures.all in
+    record { all = search rules; part = on_err c.from_residual-in_err-put_solution.result (wrote_part old spaced listed whole (text ++ sign_text LineFeed) text (sign_text LineFeed) refl second (c.in_err-put_solution.ensures list h).part) }
 
-pub returns-clause-text : goal.returns-clause-text
-returns-clause-text g c = λ list h.
-    let old = g.K.Sink.written c.args.sink.now in
-    let placed = g.K.Sink.written c.put_place.new.sink in
-    let spaced = g.K.Sink.written c.put_sign.new.sink in
-    let listed = g.K.Sink.written c.put_solution.new.sink in
-    let last = g.K.Sink.written c.put_sign-2.new.sink in
+pub returns : goal.returns
+returns g c = λ list h.
+    let old = (g.K.Sink.shown c.args.sink.now) in
+    let placed = (g.K.Sink.shown c.put_place.new.sink) in
+    let spaced = (g.K.Sink.shown c.put_sign.new.sink) in
+    let listed = (g.K.Sink.shown c.put_solution.new.sink) in
+    let last = (g.K.Sink.shown c.put_sign-2.new.sink) in
     let name = name_of c.args.name.now in
     let place = place_of c.args.place.now in
     let whole = hit_line name place list in
     let parts = line_parts name place list in
     let text = solution_text variable_text list in
-    let first = wrote_piece old old placed whole whole (place_text name place) (sign_text Space ++ (text ++ sign_text LineFeed)) parts (wrote_none old whole) c.in_ok-put_place.ensures.text.all in
-    let second = wrote_piece old placed spaced whole (sign_text Space ++ (text ++ sign_text LineFeed)) (sign_text Space) (text ++ sign_text LineFeed) refl first c.in_ok-put_sign.ensures.text.all in
-    let third = wrote_piece old spaced listed whole (text ++ sign_text LineFeed) text (sign_text LineFeed) refl second (c.in_ok-put_solution.ensures.text list h).all in
-    puts_rest c.put_sign-2.result old listed last whole (sign_text LineFeed) third c.put_sign-2.ensures.text
+    let first = wrote_piece old old placed whole whole (place_text name place) (sign_text Space ++ (text ++ sign_text LineFeed)) parts (wrote_none old whole) c.in_ok-put_place.ensures.all in
+    let second = wrote_piece old placed spaced whole (sign_text Space ++ (text ++ sign_text LineFeed)) (sign_text Space) (text ++ sign_text LineFeed) refl first c.in_ok-put_sign.ensures.all in
+    let third = wrote_piece old spaced listed whole (text ++ sign_text LineFeed) text (sign_text LineFeed) refl second (c.in_ok-put_solution.ensures list h).all in
+    puts_rest c.put_sign-2.result old listed last whole (sign_text LineFeed) third c.put_sign-2.ensures

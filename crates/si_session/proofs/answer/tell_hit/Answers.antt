@@ -3,7 +3,7 @@ use Rattle.std.specs.Prelude.{slice_get}
 use Rattle.si_defs.specs.Entries.{Placed}
 use Rattle.si_state.specs.Answers.{Hit, hit_text}
 use Rattle.si_steps.specs.Runs.{ended}
-use Rattle.si_io.specs.Puts.{Puts}
+use Rattle.si_io.specs.Sends.{Sends}
 use Rattle.si_term.specs.Meaning.{clause_of, place_of}
 use Rattle.si_index.specs.Showing.{shown_of}
 use Rattle.si_session.specs.Answering.{hit_line}
@@ -16,8 +16,8 @@ put_hit-requires g c =
     let numbers = ap (λ k. k.numbers) c.requires.index ∙ sym c.signature.ensures.numbers in
     record { known = (c.lent-lent.ensures.2.solution, shows_hit c.args.found.now c.args.n _ (shown_of c.lent-lent.result) numbers c.lent-lent.ensures) }
 
-pub returns-clause-told : goal.returns-clause-told
-returns-clause-told g c =
+pub returns : goal.returns
+returns g c =
     let shows = c.lent-lent.ensures in
     let f = shows.0 in
     let e = shows.2 in
@@ -35,5 +35,5 @@ returns-clause-told g c =
       hit,
       shows.1,
       record { clause = there; placed = λ i. f.1; solves = e.solves },
-      subst (λ l. Puts c.put_hit.result l (g.K.Sink.written c.args.sink.now) (g.K.Sink.written c.put_hit.new.sink)) line (c.put_hit.ensures.text e.solution known),
+      subst (λ l. Sends c.put_hit.result l (g.K.Sink.shown c.args.sink.now) (g.K.Sink.shown c.put_hit.new.sink)) line (c.put_hit.ensures e.solution known),
     )

@@ -1,15 +1,13 @@
 -- The bytes from the place at the start up to the one that was come to were taken.
 use Rattle.std.proofs.Common.{◌≡◌, ◌-◌, ◌≤◌, length, take, drop}
-use Rattle.si_io.specs.Content.{Receives}
+use Rattle.si_io.specs.Sends.{SendsAll}
 use Rattle.si_session.proofs.buffered.hand_on.Given as goal
 
 abbrev pub invariant-loop-from : goal.invariant-loop-from
 invariant-loop-from g l = record {
   on : l.fn.from ≤ l.from;
   within : l.from ≤ length l.bytes;
-  given : Receives (g.S.Borrowed.given l.fn.sink) (take (l.from - l.fn.from) (drop l.fn.from l.bytes)) (g.S.Borrowed.given l.sink);
-  room : (g.S.Borrowed.given l.sink).room ≡ (g.S.Borrowed.given l.fn.sink).room - (l.from - l.fn.from);
-  kept : g.S.Borrowed.failures l.sink ≡ g.S.Borrowed.failures l.fn.sink;
+  sent : SendsAll (g.S.Borrowed.shown l.fn.sink) (take (l.from - l.fn.from) (drop l.fn.from l.bytes)) (g.S.Borrowed.shown l.sink);
   same : g.S.Borrowed.name l.sink ≡ g.S.Borrowed.name l.fn.sink;
 }
 

@@ -9,50 +9,50 @@ use Rattle.si_session.specs.declared.sign.Sign.TheVariants.{Space, LineFeed}
 use Rattle.si_session.proofs.MappedLaws.{line_parts}
 use Rattle.si_session.proofs.mapped.put_mapped.Goals as goal
 
-pub returns-in_err-put_name-clause-text : goal.returns-in_err-put_name-clause-text
-returns-in_err-put_name-clause-text g c =
-    let old = g.K.Sink.written c.args.sink.now in
-    let named = g.K.Sink.written c.put_name.new.sink in
+pub returns-in_err-put_name : goal.returns-in_err-put_name
+returns-in_err-put_name g c =
+    let old = (g.K.Sink.shown c.args.sink.now) in
+    let named = (g.K.Sink.shown c.put_name.new.sink) in
     let name = name_of c.args.name.now in
     let whole = mapped_line name c.args.map.now in
     let left = sign_text Space ++ (map_text c.args.map.now ++ sign_text LineFeed) in
-    record { all = search rules; part = on_err c.from_residual.result (wrote_part old old named whole whole (name_text name) left (line_parts name c.args.map.now) (wrote_none old whole) c.in_err-put_name.ensures.text.part) }
+    record { all = search rules; part = on_err c.from_residual.result (wrote_part old old named whole whole (name_text name) left (line_parts name c.args.map.now) (wrote_none old whole) c.in_err-put_name.ensures.part) }
 
-pub returns-in_err-put_sign-clause-text : goal.returns-in_err-put_sign-clause-text
-returns-in_err-put_sign-clause-text g c =
-    let old = g.K.Sink.written c.args.sink.now in
-    let named = g.K.Sink.written c.put_name.new.sink in
-    let spaced = g.K.Sink.written c.put_sign.new.sink in
+pub returns-in_err-put_sign : goal.returns-in_err-put_sign
+returns-in_err-put_sign g c =
+    let old = (g.K.Sink.shown c.args.sink.now) in
+    let named = (g.K.Sink.shown c.put_name.new.sink) in
+    let spaced = (g.K.Sink.shown c.put_sign.new.sink) in
     let name = name_of c.args.name.now in
     let whole = mapped_line name c.args.map.now in
     let text = map_text c.args.map.now ++ sign_text LineFeed in
-    let first = wrote_piece old old named whole whole (name_text name) (sign_text Space ++ text) (line_parts name c.args.map.now) (wrote_none old whole) c.in_ok-put_name.ensures.text.all in
-    record { all = search rules; part = on_err c.from_residual-in_err-put_sign.result (wrote_part old named spaced whole (sign_text Space ++ text) (sign_text Space) text refl first c.in_err-put_sign.ensures.text.part) }
+    let first = wrote_piece old old named whole whole (name_text name) (sign_text Space ++ text) (line_parts name c.args.map.now) (wrote_none old whole) c.in_ok-put_name.ensures.all in
+    record { all = search rules; part = on_err c.from_residual-in_err-put_sign.result (wrote_part old named spaced whole (sign_text Space ++ text) (sign_text Space) text refl first c.in_err-put_sign.ensures.part) }
 
-pub returns-in_err-put_map-clause-text : goal.returns-in_err-put_map-clause-text
-returns-in_err-put_map-clause-text g c =
-    let old = g.K.Sink.written c.args.sink.now in
-    let named = g.K.Sink.written c.put_name.new.sink in
-    let spaced = g.K.Sink.written c.put_sign.new.sink in
-    let mapped = g.K.Sink.written c.put_map.new.sink in
+pub returns-in_err-put_map : goal.returns-in_err-put_map
+returns-in_err-put_map g c =
+    let old = (g.K.Sink.shown c.args.sink.now) in
+    let named = (g.K.Sink.shown c.put_name.new.sink) in
+    let spaced = (g.K.Sink.shown c.put_sign.new.sink) in
+    let mapped = (g.K.Sink.shown c.put_map.new.sink) in
     let name = name_of c.args.name.now in
     let whole = mapped_line name c.args.map.now in
     let text = map_text c.args.map.now ++ sign_text LineFeed in
-    let first = wrote_piece old old named whole whole (name_text name) (sign_text Space ++ text) (line_parts name c.args.map.now) (wrote_none old whole) c.in_ok-put_name.ensures.text.all in
-    let second = wrote_piece old named spaced whole (sign_text Space ++ text) (sign_text Space) text refl first c.in_ok-put_sign.ensures.text.all in
-    record { all = search rules; part = on_err c.from_residual-in_err-put_map.result (wrote_part old spaced mapped whole text (map_text c.args.map.now) (sign_text LineFeed) refl second c.in_err-put_map.ensures.text.part) }
+    let first = wrote_piece old old named whole whole (name_text name) (sign_text Space ++ text) (line_parts name c.args.map.now) (wrote_none old whole) c.in_ok-put_name.ensures.all in
+    let second = wrote_piece old named spaced whole (sign_text Space ++ text) (sign_text Space) text refl first c.in_ok-put_sign.ensures.all in
+    record { all = search rules; part = on_err c.from_residual-in_err-put_map.result (wrote_part old spaced mapped whole text (map_text c.args.map.now) (sign_text LineFeed) refl second c.in_err-put_map.ensures.part) }
 
-pub returns-clause-text : goal.returns-clause-text
-returns-clause-text g c =
-    let old = g.K.Sink.written c.args.sink.now in
-    let named = g.K.Sink.written c.put_name.new.sink in
-    let spaced = g.K.Sink.written c.put_sign.new.sink in
-    let mapped = g.K.Sink.written c.put_map.new.sink in
-    let last = g.K.Sink.written c.put_sign-2.new.sink in
+pub returns : goal.returns
+returns g c =
+    let old = (g.K.Sink.shown c.args.sink.now) in
+    let named = (g.K.Sink.shown c.put_name.new.sink) in
+    let spaced = (g.K.Sink.shown c.put_sign.new.sink) in
+    let mapped = (g.K.Sink.shown c.put_map.new.sink) in
+    let last = (g.K.Sink.shown c.put_sign-2.new.sink) in
     let name = name_of c.args.name.now in
     let whole = mapped_line name c.args.map.now in
     let text = map_text c.args.map.now ++ sign_text LineFeed in
-    let first = wrote_piece old old named whole whole (name_text name) (sign_text Space ++ text) (line_parts name c.args.map.now) (wrote_none old whole) c.in_ok-put_name.ensures.text.all in
-    let second = wrote_piece old named spaced whole (sign_text Space ++ text) (sign_text Space) text refl first c.in_ok-put_sign.ensures.text.all in
-    let third = wrote_piece old spaced mapped whole text (map_text c.args.map.now) (sign_text LineFeed) refl second c.in_ok-put_map.ensures.text.all in
-    puts_rest c.put_sign-2.result old mapped last whole (sign_text LineFeed) third c.put_sign-2.ensures.text
+    let first = wrote_piece old old named whole whole (name_text name) (sign_text Space ++ text) (line_parts name c.args.map.now) (wrote_none old whole) c.in_ok-put_name.ensures.all in
+    let second = wrote_piece old named spaced whole (sign_text Space ++ text) (sign_text Space) text refl first c.in_ok-put_sign.ensures.all in
+    let third = wrote_piece old spaced mapped whole text (map_text c.args.map.now) (sign_text LineFeed) refl second c.in_ok-put_map.ensures.all in
+    puts_rest c.put_sign-2.result old mapped last whole (sign_text LineFeed) third c.put_sign-2.ensures

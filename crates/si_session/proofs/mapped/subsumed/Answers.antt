@@ -11,4 +11,4 @@ tell_mapped-requires g c = are_kept (IsMap (map literal_of c.args.formula.now)) 
 pub returns-in-Ok-clause-acts : goal.returns-in-Ok-clause-acts
 returns-in-Ok-clause-acts g c setting state =
     mapped (IsMap (map literal_of c.args.formula.now)) c.args.index.now.clauses c.in-Ok.found c.in-Ok.ensures c.tell_mapped.result
-    (g.K.Sink.written c.args.sink.now) (g.K.Sink.written c.tell_mapped.new.sink) c.tell_mapped.ensures.written (holding state c.args.index.now)
+    (g.K.Sink.shown c.args.sink.now) (g.K.Sink.shown c.tell_mapped.new.sink) c.tell_mapped.ensures.written (holding state c.args.index.now)

@@ -7,4 +7,4 @@ use Rattle.si_session.proofs.mapped.tell_mapped.Goals as goal
 pub returns-in-Ok-clause-written : goal.returns-in-Ok-clause-written
 returns-in-Ok-clause-written g c =
     let ms = all_mapped c.args.index.now.clauses c.args.found.now in
-    answered (map mapped_text ms) (length ms) (g.K.Sink.written c.args.sink.now) (g.K.Sink.written c.put_answer.new.sink) c.in-Ok.ensures.text.all
+    answered (map mapped_text ms) (length ms) (g.K.Sink.shown c.args.sink.now) (g.K.Sink.shown c.put_answer.new.sink) c.in-Ok.ensures.all

@@ -1,21 +1,21 @@
 use Rattle.std.proofs.Common.{sym, ◌∙◌, subst}
-use Rattle.si_io.specs.Content.{Receives, ReceivesPrefix}
+use Rattle.si_io.specs.Sends.{SendsAll, SendsPart}
 use Rattle.si_session.proofs.ReplyTexts.{ended_is}
 use Rattle.si_session.proofs.reply.tell.Goals as goal
 
 pub returns-in-Ok-clause-written : goal.returns-in-Ok-clause-written
 returns-in-Ok-clause-written g c = (
-  subst (λ t. Receives (g.K.Sink.written c.args.sink.now) t (g.K.Sink.written c.put_reply.new.sink)) (ended_is c.args.reply) c.in-Ok.ensures.text.all,
+  subst (λ t. SendsAll (g.K.Sink.shown c.args.sink.now) t (g.K.Sink.shown c.put_reply.new.sink)) (ended_is c.args.reply) c.in-Ok.ensures.all,
   sym c.refuses.ensures ∙ c.if-refuses.true,
 )
 
 pub returns-in-Ok-2-clause-written : goal.returns-in-Ok-2-clause-written
 returns-in-Ok-2-clause-written g c = (
-  subst (λ t. Receives (g.K.Sink.written c.args.sink.now) t (g.K.Sink.written c.put_reply.new.sink)) (ended_is c.args.reply) c.in-Ok-2.ensures.text.all,
+  subst (λ t. SendsAll (g.K.Sink.shown c.args.sink.now) t (g.K.Sink.shown c.put_reply.new.sink)) (ended_is c.args.reply) c.in-Ok-2.ensures.all,
   λ e. cc,
   sym c.refuses.ensures ∙ c.if-refuses.false,
 )
 
 pub returns-in-Err-clause-written : goal.returns-in-Err-clause-written
 returns-in-Err-clause-written g c =
-    subst (λ t. ReceivesPrefix (g.K.Sink.written c.args.sink.now) t (g.K.Sink.written c.put_reply.new.sink)) (ended_is c.args.reply) c.in-Err.ensures.text.part
+    subst (λ t. SendsPart (g.K.Sink.shown c.args.sink.now) t (g.K.Sink.shown c.put_reply.new.sink)) (ended_is c.args.reply) c.in-Err.ensures.part

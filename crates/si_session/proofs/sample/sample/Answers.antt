@@ -7,10 +7,10 @@ load_refusal-requires g c = tellable _ c.in-Err.fault _ c.in-Err.ensures.fault
 
 pub returns-in-Ok-clause-acts : goal.returns-in-Ok-clause-acts
 returns-in-Ok-clause-acts g c =
-    sample_told c.args.start c.args.count c.args.index.now c.tell_sum.new.index c.tell_sum.result (g.K.Sink.written c.args.sink.now) (g.K.Sink.written c.tell_sum.new.sink)
+    sample_told c.args.start c.args.count c.args.index.now c.tell_sum.new.index c.tell_sum.result (g.K.Sink.shown c.args.sink.now) (g.K.Sink.shown c.tell_sum.new.sink)
     c.take_sample.new.index.clauses c.in-Ok.gained c.in-Ok.ensures.gained c.tell_sum.ensures.told
 
 pub returns-in-Err-clause-acts : goal.returns-in-Err-clause-acts
 returns-in-Err-clause-acts g c =
-    sample_refused c.args.start c.args.count c.args.index.now c.take_sample.new.index c.tell.result (g.K.Sink.written c.args.sink.now) (g.K.Sink.written c.tell.new.sink)
+    sample_refused c.args.start c.args.count c.args.index.now c.take_sample.new.index c.tell.result (g.K.Sink.shown c.args.sink.now) (g.K.Sink.shown c.tell.new.sink)
     c.in-Err.fault c.load_refusal.result c.in-Err.ensures.fault c.load_refusal.ensures c.in-Err.ensures.err c.tell.ensures.written

@@ -9,7 +9,7 @@ use Rattle.si_session.proofs.session.add.Goals as goal
 
 pub returns-in-Ok-clause-acts : goal.returns-in-Ok-clause-acts
 returns-in-Ok-clause-acts g c =
-    added c.args.index.now c.add.new.self (clause_of c.args.clause) c.tell.result c.from.result (g.K.Sink.written c.args.sink.now) (g.K.Sink.written c.tell.new.sink)
+    added c.args.index.now c.add.new.self (clause_of c.args.clause) c.tell.result c.from.result (g.K.Sink.shown c.args.sink.now) (g.K.Sink.shown c.tell.new.sink)
     c.in-Ok.ensures.added (c.from.ensures ∙ c.in-Ok.ensures.entries) c.tell.ensures.written
 
 pub refusal-requires : goal.refusal-requires
@@ -20,8 +20,8 @@ refusal-requires g c =
 
 pub returns-in-Err-clause-acts : goal.returns-in-Err-clause-acts
 returns-in-Err-clause-acts g c =
-    let a = g.K.Sink.written c.args.sink.now in
-    let b = g.K.Sink.written c.tell-in-Err.new.sink in
+    let a = (g.K.Sink.shown c.args.sink.now) in
+    let b = (g.K.Sink.shown c.tell-in-Err.new.sink) in
     subst (λ x. ActsOn (add (clause_of x)) c.args.index.now c.add.new.self c.tell-in-Err.result a b) c.in-Err.ensures.handed_back
     (refused c.args.index.now c.add.new.self c.in-Err.rejected c.refusal.result c.tell-in-Err.result a b
     (subst (λ x. IsSoundClause (clause_of x)) (sym c.in-Err.ensures.handed_back) c.requires)

@@ -19,13 +19,13 @@ tell_answer-requires-clause-solved g c =
 pub returns-in-Ok-tell_answer-clause-acts : goal.returns-in-Ok-tell_answer-clause-acts
 returns-in-Ok-tell_answer-clause-acts g c =
     let f = c.in-Ok.found in
-    let told = c.in-Ok-tell_answer.ensures.told in
+    let told = c.in-Ok-tell_answer.ensures in
     let answer = whole_answer f c.args.index.now c.args.relation (pattern_of c.args.pattern.now) c.in-Ok.ensures.index c.in-Ok.ensures.relation c.in-Ok.ensures.pattern c.in-Ok.ensures.hits told.0 told.1 in
-    answers c.args.relation (pattern_of c.args.pattern.now) c.args.index.now told.0 answer (g.K.Sink.written c.args.sink.now) (g.K.Sink.written c.tell_answer.new.sink) told.2.all
+    answers c.args.relation (pattern_of c.args.pattern.now) c.args.index.now told.0 answer (g.K.Sink.shown c.args.sink.now) (g.K.Sink.shown c.tell_answer.new.sink) told.2.all
 
 pub returns-clause-acts : goal.returns-clause-acts
 returns-clause-acts g c =
     let f = c.in-Ok.found in
-    let told = c.in-Err-tell_answer.ensures.told in
+    let told = c.in-Err-tell_answer.ensures in
     let answer = whole_answer f c.args.index.now c.args.relation (pattern_of c.args.pattern.now) c.in-Ok.ensures.index c.in-Ok.ensures.relation c.in-Ok.ensures.pattern c.in-Ok.ensures.hits told.0 told.1 in
-    fails c.args.relation (pattern_of c.args.pattern.now) c.args.index.now told.0 answer (g.K.Sink.written c.args.sink.now) (g.K.Sink.written c.tell_answer.new.sink) told.2.part
+    fails c.args.relation (pattern_of c.args.pattern.now) c.args.index.now told.0 answer (g.K.Sink.shown c.args.sink.now) (g.K.Sink.shown c.tell_answer.new.sink) told.2.part

@@ -9,8 +9,8 @@ use Rattle.stindex.proofs.serve.load_files.Goals as goal
 
 pub returns-in_default-clause-loaded : goal.returns-in_default-clause-loaded
 returns-in_default-clause-loaded g c =
-    let now = around (g.K.Sink.written c.args.sink.now) (g.L.Library.counts c.args.library.now) (g.L.Library.may_fail c.args.library.now) in
-    subst (λ ws. LoadsWords c.args.session.now.setting (g.L.Library.files c.args.library.now) c.args.strict ws now c.args.session.now.state now)
+    let now = around (g.K.Sink.shown c.args.sink.now) (g.L.Library.shown c.args.library.now) in
+    subst (λ ws. LoadsWords c.args.session.now.setting (g.L.Library.shown c.args.library.now).files c.args.strict ws now c.args.session.now.state now)
     (files_none (found_of c.args.matches.now) c.in_default.ensures) (words_none _ _ _ _ now c.requires)
 
 pub returns-in_err-load-clause-broken : goal.returns-in_err-load-clause-broken

@@ -5,11 +5,11 @@ use Rattle.stindex.proofs.serve.load_files.Given as goal
 
 abbrev pub invariant-loop-file : goal.invariant-loop-file
 invariant-loop-file g l = record {
-  loaded : LoadsWords l.fn.session.setting (g.L.Library.files l.fn.library) l.strict (map (λ f. f.now) (take l.file-index l.files))
-      (around (g.K.Sink.written l.fn.sink) (g.L.Library.counts l.fn.library) (g.L.Library.may_fail l.fn.library))
-      l.session.state (around (g.K.Sink.written l.sink) (g.L.Library.counts l.library) (g.L.Library.may_fail l.library));
+  loaded : LoadsWords l.fn.session.setting (g.L.Library.shown l.fn.library).files l.strict (map (λ f. f.now) (take l.file-index l.files))
+      (around (g.K.Sink.shown l.fn.sink) (g.L.Library.shown l.fn.library))
+      l.session.state (around (g.K.Sink.shown l.sink) (g.L.Library.shown l.library));
   setting : l.session.setting ≡ l.fn.session.setting;
-  kept : g.K.Sink.faults l.sink ≡ g.K.Sink.faults l.fn.sink;
-  told : g.L.Library.files l.library ≡ g.L.Library.files l.fn.library;
-  same : g.L.Library.may_fail l.library ≡ g.L.Library.may_fail l.fn.library;
+  kept : (g.K.Sink.shown l.sink).counts.faults ≡ (g.K.Sink.shown l.fn.sink).counts.faults;
+  told : (g.L.Library.shown l.library).files ≡ (g.L.Library.shown l.fn.library).files;
+  same : (g.L.Library.shown l.library).may_fail ≡ (g.L.Library.shown l.fn.library).may_fail;
 }

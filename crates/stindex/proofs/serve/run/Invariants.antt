@@ -8,17 +8,17 @@ use Rattle.stindex.proofs.serve.run.Given as goal
 
 abbrev pub invariant-loop-taken : goal.invariant-loop-taken
 invariant-loop-taken g l = record {
-  stands : HasProgressed (setting_of l.limits) (g.L.Library.files l.fn.library) l.strict (asked_of l.matches).files l.taken (g.S.Source.left l.fn.source) (g.S.Source.left l.source)
-      (around (g.K.Sink.written l.fn.sink) (g.L.Library.counts l.fn.library) (g.L.Library.may_fail l.fn.library))
-      l.session.state (held_of l.pending) (around (g.K.Sink.written l.sink) (g.L.Library.counts l.library) (g.L.Library.may_fail l.library));
+  stands : HasProgressed (setting_of l.limits) (g.L.Library.shown l.fn.library).files l.strict (asked_of l.matches).files l.taken (g.S.Source.shown l.fn.source) (g.S.Source.shown l.source)
+      (around (g.K.Sink.shown l.fn.sink) (g.L.Library.shown l.fn.library))
+      l.session.state (held_of l.pending) (around (g.K.Sink.shown l.sink) (g.L.Library.shown l.library));
   within : l.taken ≤ l.limits.session;
   setting : l.session.setting ≡ setting_of l.limits;
   limit : limit_of l.pending ≡ l.limits.line;
-  sure : g.S.Source.may_fail l.source ≡ g.S.Source.may_fail l.fn.source;
-  source_kept : g.S.Source.faults l.source ≡ g.S.Source.faults l.fn.source;
-  sink_kept : g.K.Sink.faults l.sink ≡ g.K.Sink.faults l.fn.sink;
-  told : g.L.Library.files l.library ≡ g.L.Library.files l.fn.library;
-  same : g.L.Library.may_fail l.library ≡ g.L.Library.may_fail l.fn.library;
+  sure : (g.S.Source.shown l.source).may_fail ≡ (g.S.Source.shown l.fn.source).may_fail;
+  source_kept : (g.S.Source.shown l.source).counts.faults ≡ (g.S.Source.shown l.fn.source).counts.faults;
+  sink_kept : (g.K.Sink.shown l.sink).counts.faults ≡ (g.K.Sink.shown l.fn.sink).counts.faults;
+  told : (g.L.Library.shown l.library).files ≡ (g.L.Library.shown l.fn.library).files;
+  same : (g.L.Library.shown l.library).may_fail ≡ (g.L.Library.shown l.fn.library).may_fail;
 }
 
 abbrev pub decreases-loop-taken : goal.decreases-loop-taken

@@ -1,3 +1,4 @@
+use Rattle.si_io.specs.Library.{faults_in}
 use Rattle.std.proofs.Common.{subst, inl, inr}
 use Rattle.si_state.specs.States.{Rules}
 use Rattle.si_state.specs.Harvest.{MayAsk, IsBarred}
@@ -9,7 +10,7 @@ use Rattle.si_harvest.proofs.reading.Reading.enter.Goals as goal
 
 pub returns-in_err-may_ask-clause-unopened : goal.returns-in_err-may_ask-clause-unopened
 returns-in_err-may_ask-clause-unopened g c =
-    let told = g.L.Library.files c.args.library.now in
+    let told = (g.L.Library.shown c.args.library.now).files in
     let bounds = bounds_of c.args.limits.now in
     let P : HarvestFault → Type 0 = λ e. (rules : Rules) → Explains rules e (IsUnopened told bounds c.args.name.now c.args.self.now) in
     err_again c.from_residual.result c.in_err-may_ask.field-0.0 P c.from_residual.ensures.1
@@ -17,11 +18,11 @@ returns-in_err-may_ask-clause-unopened g c =
 
 pub returns-in_err-may_ask-clause-cause : goal.returns-in_err-may_ask-clause-cause
 returns-in_err-may_ask-clause-cause g c =
-    cause_again c.from_residual.result c.in_err-may_ask.field-0.0 _ _ _ c.from_residual.ensures.1 (c.in_err-may_ask.ensures.cause (g.L.Library.may_fail c.args.library.now) (g.L.Library.counts c.args.library.now))
+    cause_again c.from_residual.result c.in_err-may_ask.field-0.0 _ _ _ c.from_residual.ensures.1 (c.in_err-may_ask.ensures.cause (g.L.Library.shown c.args.library.now).may_fail (faults_in (g.L.Library.shown c.args.library.now).counts))
 
 pub returns-in_err-file-clause-unopened : goal.returns-in_err-file-clause-unopened
 returns-in_err-file-clause-unopened g c =
-    let told = g.L.Library.files c.args.library.now in
+    let told = (g.L.Library.shown c.args.library.now).files in
     let bounds = bounds_of c.args.limits.now in
     let P : HarvestFault → Type 0 = λ e. (rules : Rules) → Explains rules e (IsUnopened told bounds c.args.name.now c.args.self.now) in
     err_again c.from_residual-in_err-file.result c.in_err-file.field-0.0 P c.from_residual-in_err-file.ensures.1

@@ -16,7 +16,7 @@ returns-clause-entered g c =
 
 pub returns-clause-unopened : goal.returns-clause-unopened
 returns-clause-unopened g c =
-    let told = g.L.Library.files c.args.library.now in
+    let told = (g.L.Library.shown c.args.library.now).files in
     let bounds = bounds_of c.args.limits.now in
     let P : HarvestFault → Type 0 = λ e. (rules : Rules) → Explains rules e (IsUnopened told bounds c.args.name.now c.push.new.self) in
     let Q : HarvestFault → Type 0 = λ e. (rules : Rules) → Explains rules e (λ fault. (middle : Reading) × (middle.files.items ≡ c.args.self.now.files.items ++ c.args.file ∷ [])

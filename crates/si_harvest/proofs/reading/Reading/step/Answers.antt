@@ -9,19 +9,19 @@ use Rattle.si_harvest.proofs.reading.Reading.step.Goals as goal
 
 pub returns-in-End-clause-stepped : goal.returns-in-End-clause-stepped
 returns-in-End-clause-stepped g c =
-    step_end (g.L.Library.files c.args.library.now) (bounds_of c.args.limits.now) (g.T.ClauseStore.rules c.args.store.now) c.args.self.now _ _
+    step_end (g.L.Library.shown c.args.library.now).files (bounds_of c.args.limits.now) (g.T.ClauseStore.rules c.args.store.now) c.args.self.now _ _
     c.pop.new.self.items c.in-Some.file c.in-Some.ensures.items (read_as _ _ c.in-Some.file.at _ _ c.as_slice.ensures.value c.in-End.is c.in_ok-next_item.ensures) refl refl c.requires.within
 
 pub returns-in_ok-take-in-Cnf-clause-stepped : goal.returns-in_ok-take-in-Cnf-clause-stepped
 returns-in_ok-take-in-Cnf-clause-stepped g c =
-    step_clause (g.L.Library.files c.args.library.now) (bounds_of c.args.limits.now) (g.T.ClauseStore.rules c.args.store.now) c.args.self.now _ _ _
+    step_clause (g.L.Library.shown c.args.library.now).files (bounds_of c.args.limits.now) (g.T.ClauseStore.rules c.args.store.now) c.args.self.now _ _ _
     c.pop.new.self.items c.in-Some.file c.in-Cnf.end (clause_of c.in-Cnf.clause) c.in-Some.ensures.items
     ((read_as _ _ c.in-Some.file.at _ _ c.as_slice.ensures.value c.in-Cnf.is c.in_ok-next_item.ensures).0)
     c.in_ok-take-in-Cnf.ensures.files c.take.ensures.fetches c.in_ok-take-in-Cnf.ensures.taken c.requires.within
 
 pub returns-in_err-take-in-Cnf-clause-stepped : goal.returns-in_err-take-in-Cnf-clause-stepped
 returns-in_err-take-in-Cnf-clause-stepped g c =
-    let told = g.L.Library.files c.args.library.now in
+    let told = (g.L.Library.shown c.args.library.now).files in
     let rules = g.T.ClauseStore.rules c.args.store.now in
     steps_fault told (bounds_of c.args.limits.now) rules c.from_residual-in_err-take-in-Cnf.result c.in_err-take-in-Cnf.field-0.0 c.args.self.now _ _ _ c.from_residual-in_err-take-in-Cnf.ensures.1
     (step_refused told (bounds_of c.args.limits.now) rules c.args.self.now _ c.pop.new.self.items c.in-Some.file c.in-Cnf.end (clause_of c.in-Cnf.clause) c.in_err-take-in-Cnf.field-0.0
@@ -32,15 +32,15 @@ returns-in_err-take-in-Cnf-clause-stepped g c =
 pub returns-in_ok-include-in-Include-clause-stepped : goal.returns-in_ok-include-in-Include-clause-stepped
 returns-in_ok-include-in-Include-clause-stepped g c =
     let h = c.in_ok-include-in-Include.ensures.entered in
-    step_include (g.L.Library.files c.args.library.now) (bounds_of c.args.limits.now) (g.T.ClauseStore.rules c.args.store.now) c.args.self.now h.1 _ _
+    step_include (g.L.Library.shown c.args.library.now).files (bounds_of c.args.limits.now) (g.T.ClauseStore.rules c.args.store.now) c.args.self.now h.1 _ _
     c.pop.new.self.items c.in-Some.file c.in-Include.end c.in-Include.name (selection_of c.in-Include.selection) h.0 c.in-Some.ensures.items
     (read_as _ _ c.in-Some.file.at _ _ c.as_slice.ensures.value c.in-Include.is c.in_ok-next_item.ensures)
     h.2 h.3 h.4
-    (subst (λ n. OpensInside (g.L.Library.files c.args.library.now) (bounds_of c.args.limits.now) n h.0 h.1 c.include.new.self) c.as_bytes.ensures h.5) c.requires.file c.requires.within
+    (subst (λ n. OpensInside (g.L.Library.shown c.args.library.now).files (bounds_of c.args.limits.now) n h.0 h.1 c.include.new.self) c.as_bytes.ensures h.5) c.requires.file c.requires.within
 
 pub returns-in_err-include-in-Include-clause-stepped : goal.returns-in_err-include-in-Include-clause-stepped
 returns-in_err-include-in-Include-clause-stepped g c =
-    let told = g.L.Library.files c.args.library.now in
+    let told = (g.L.Library.shown c.args.library.now).files in
     let rules = g.T.ClauseStore.rules c.args.store.now in
     steps_fault told (bounds_of c.args.limits.now) rules c.from_residual-in_err-include-in-Include.result c.in_err-include-in-Include.field-0.0 c.args.self.now _ _ _
     c.from_residual-in_err-include-in-Include.ensures.1
@@ -53,12 +53,12 @@ returns-in_err-include-in-Include-clause-stepped g c =
 
 pub returns-in-Syntax-clause-stepped : goal.returns-in-Syntax-clause-stepped
 returns-in-Syntax-clause-stepped g c =
-    step_malformed (g.L.Library.files c.args.library.now) (bounds_of c.args.limits.now) (g.T.ClauseStore.rules c.args.store.now) c.args.self.now _
+    step_malformed (g.L.Library.shown c.args.library.now).files (bounds_of c.args.limits.now) (g.T.ClauseStore.rules c.args.store.now) c.args.self.now _
     c.pop.new.self.items c.in-Some.file c.in-Syntax.place _ c.in-Some.ensures.items
     (read_as _ _ c.in-Some.file.at _ _ c.as_slice.ensures.value c.in-Syntax.is c.in_ok-next_item.ensures) c.line_of-line.ensures
 
 pub returns-in-Language-clause-stepped : goal.returns-in-Language-clause-stepped
 returns-in-Language-clause-stepped g c =
-    step_foreign (g.L.Library.files c.args.library.now) (bounds_of c.args.limits.now) (g.T.ClauseStore.rules c.args.store.now) c.args.self.now _
+    step_foreign (g.L.Library.shown c.args.library.now).files (bounds_of c.args.limits.now) (g.T.ClauseStore.rules c.args.store.now) c.args.self.now _
     c.pop.new.self.items c.in-Some.file c.in-Language.place _ c.in-Some.ensures.items
     (read_as _ _ c.in-Some.file.at _ _ c.as_slice.ensures.value c.in-Language.is c.in_ok-next_item.ensures) c.line_of-line-in-Language.ensures

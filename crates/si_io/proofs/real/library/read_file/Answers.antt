@@ -18,20 +18,18 @@ pub loop-filled-preserved : goal.loop-filled-preserved
 loop-filled-preserved g c =
     let filled = c.loop-filled.filled in
     let count = c.in-Ok.count in
-    let new = c.read_behind.new.into in
+    let new = c.read_after.new.into in
     let len = c.make_room.new.into.len in
     let behind = drop (length new) c.make_room.new.into.items in
     let ok : is_err c.make_room.result ≡ false = cc (c.is_err.ensures.value, c.if-is_err.false) in
-    let size : length new ≡ len = omega (arith, c.read_behind.auto.into, c.deref_mut.ensures.len) in
+    let size : length new ≡ len = omega (arith, c.read_after.auto.into, c.deref_mut.ensures.len) in
     let front : take filled new ≡ take filled c.loop-filled.into.items =
     c.in-Ok.ensures.front ∙ ap (take filled) c.deref_mut.ensures.value ∙ ok_so c.make_room.result ok c.make_room.ensures.front in
     let all : take (filled + count) new ≡ take filled c.loop-filled.into.items ++ take count (drop filled new) =
     take-add filled count new ∙ ap (λ (l : List ℕ). l ++ take count (drop filled new)) front in
-    let P : List ℕ → Type 0 = λ l. Consumes (g.F.Read.remaining c.args.file.now) (g.F.Read.remaining c.read_behind.new.file) l in
+    let P : List ℕ → Type 0 = λ l. Consumes (g.F.Input.rest c.args.file.now) (g.F.Input.rest c.read_after.new.file) l in
     record {
       within = omega (arith, c.in-Ok.ensures.bound, size);
       room = ok_so c.make_room.result ok c.make_room.ensures.bound;
       taken = subst P (sym (written new behind len (filled + count) size ∙ all)) (Consumes-trans _ _ _ _ _ c.loop-filled.invariant.taken c.in-Ok.ensures.given);
-      counts = c.in-Ok.ensures.counts ∙ c.loop-filled.invariant.counts;
-      disk = c.in-Ok.ensures.disk ∙ c.loop-filled.invariant.disk;
     }

@@ -9,5 +9,5 @@ returns-clause-same g c =
     let b = c.args.self.now in
     let all : length b.bytes ≡ 1024 = search rules in
     let inside : c.args.place ≤ length b.bytes = omega (arith, all, b.within, c.requires.within) in
-    front_handed_on (g.S.Borrowed.given b.sink) (g.S.Borrowed.given c.hand_on.new.sink) b.bytes b.start c.hand_on.new.from c.args.place b.end
+    front_handed_on (g.S.Borrowed.shown b.sink).told (g.S.Borrowed.shown c.hand_on.new.sink).told b.bytes b.start c.hand_on.new.from c.args.place b.end
     c.requires.from (omega (arith, c.hand_on.ensures.within, length-take-le c.args.place b.bytes inside)) c.requires.within (omega (arith, all, b.within)) c.hand_on.ensures.left

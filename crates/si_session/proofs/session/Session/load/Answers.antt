@@ -10,18 +10,18 @@ load-requires-clause-limit g c = omega (arith, c.self.invariant.0, c.self.invari
 
 pub returns-clause-step : goal.returns-clause-step
 returns-clause-step g c =
-    let told = g.L.Library.files c.args.library.now in
-    let before = around (g.K.Sink.written c.args.sink.now) (g.L.Library.counts c.args.library.now) (g.L.Library.may_fail c.args.library.now) in
-    let after = around (g.K.Sink.written c.load.new.sink) (g.L.Library.counts c.load.new.library) (g.L.Library.may_fail c.load.new.library) in
+    let told = (g.L.Library.shown c.args.library.now).files in
+    let before = around (g.K.Sink.shown c.args.sink.now) (g.L.Library.shown c.args.library.now) in
+    let after = around (g.K.Sink.shown c.load.new.sink) (g.L.Library.shown c.load.new.library) in
     let limits = c.self.inside.limits in
     subst (λ s. Steps told s (view_of limits c.load.new.index) (a_word c.args.word.now) c.load.result before after) c.self.view_is
     (word_stepped limits told c.args.word.now c.self.inside.index c.load.new.index c.load.result before after c.load.ensures.loads c.load.ensures.rules
     (sym c.names_file.ensures ∙ c.if-not-names_file.false))
 
 pub returns-clause-loud : goal.returns-clause-loud
-returns-clause-loud g c = λ e. load_not_silent c.self.inside.limits (g.L.Library.files c.args.library.now) c.args.word.now c.self.inside.index c.load.new.index c.load.result _ _ c.load.ensures.loads e
+returns-clause-loud g c = λ e. load_not_silent c.self.inside.limits (g.L.Library.shown c.args.library.now).files c.args.word.now c.self.inside.index c.load.new.index c.load.result _ _ c.load.ensures.loads e
 
 pub returns-clause-refused : goal.returns-clause-refused
 returns-clause-refused g c =
-    λ e. load_keeps c.self.inside.limits (g.L.Library.files c.args.library.now) c.args.word.now c.self.inside.index c.load.new.index c.load.result _ _ c.load.ensures.loads e
+    λ e. load_keeps c.self.inside.limits (g.L.Library.shown c.args.library.now).files c.args.word.now c.self.inside.index c.load.new.index c.load.result _ _ c.load.ensures.loads e
     ∙ ap (λ s. s.state) c.self.view_is

@@ -5,53 +5,54 @@ use Rattle.si_steps.specs.Runs.{a_line}
 use Rattle.si_session.specs.Session.{Steps, around, view_of}
 use Rattle.si_session.specs.Commands.{ReadsCommand}
 use Rattle.si_session.specs.declared.command.Command.TheVariants as command
-use Rattle.si_session.proofs.Acting.{stepped, not_silent, keeps_state, counts, load_stepped, load_not_silent, load_keeps}
+use Rattle.si_io.specs.Library.{faults_in}
+use Rattle.si_session.proofs.Acting.{beside, stepped, not_silent, keeps_state, counts, load_stepped, load_not_silent, load_keeps}
 use Rattle.si_session.proofs.session.Session.step.Goals as goal
 
 pub returns-in-Ok-Add-clause-step : goal.returns-in-Ok-Add-clause-step
 returns-in-Ok-Add-clause-step g c =
-    let a = g.K.Sink.written c.args.sink.now in
-    let b = g.K.Sink.written c.add.new.sink in
+    let a = (g.K.Sink.shown c.args.sink.now) in
+    let b = (g.K.Sink.shown c.add.new.sink) in
     let limits = c.self.inside.limits in
-    let told = g.L.Library.files c.args.library.now in
-    let tally = g.L.Library.counts c.args.library.now in
-    let may_fail = g.L.Library.may_fail c.args.library.now in
+    let told = (g.L.Library.shown c.args.library.now).files in
+    let tally = faults_in (g.L.Library.shown c.args.library.now).counts in
+    let may_fail = (g.L.Library.shown c.args.library.now).may_fail in
     let read : ReadsCommand c.args.line.now (command.Add c.in-Ok-Add.clause) = subst (ReadsCommand c.args.line.now) c.in-Ok-Add.field-0-is c.in-Ok-Add.ensures.read in
     let short : length c.args.line.now ≤ limits.line = omega (arith, c.if-line-self.false) in
-    subst (λ s. Steps told s (view_of limits c.add.new.index) (a_line c.args.line.now) c.add.result (around a tally may_fail) (around b tally may_fail)) c.self.view_is
+    subst (λ s. Steps told s (view_of limits c.add.new.index) (a_line c.args.line.now) c.add.result (beside a tally may_fail) (beside b tally may_fail)) c.self.view_is
     (stepped limits told c.self.inside.index c.add.new.index c.args.line.now (add (clause_of c.in-Ok-Add.clause)) c.add.result a b tally may_fail c.add.ensures.rules short read.0 c.add.ensures.acts)
 
 pub returns-in-Ok-Query-clause-step : goal.returns-in-Ok-Query-clause-step
 returns-in-Ok-Query-clause-step g c =
-    let a = g.K.Sink.written c.args.sink.now in
-    let b = g.K.Sink.written c.answer.new.sink in
+    let a = (g.K.Sink.shown c.args.sink.now) in
+    let b = (g.K.Sink.shown c.answer.new.sink) in
     let limits = c.self.inside.limits in
-    let told = g.L.Library.files c.args.library.now in
-    let tally = g.L.Library.counts c.args.library.now in
-    let may_fail = g.L.Library.may_fail c.args.library.now in
+    let told = (g.L.Library.shown c.args.library.now).files in
+    let tally = faults_in (g.L.Library.shown c.args.library.now).counts in
+    let may_fail = (g.L.Library.shown c.args.library.now).may_fail in
     let read : ReadsCommand c.args.line.now (command.Query c.in-Ok-Query.relation c.in-Ok-Query.pattern) = subst (ReadsCommand c.args.line.now) c.in-Ok-Query.field-0-is c.in-Ok-Query.ensures.read in
     let short : length c.args.line.now ≤ limits.line = omega (arith, c.if-line-self.false) in
-    subst (λ s. Steps told s s (a_line c.args.line.now) c.answer.result (around a tally may_fail) (around b tally may_fail)) c.self.view_is
+    subst (λ s. Steps told s s (a_line c.args.line.now) c.answer.result (beside a tally may_fail) (beside b tally may_fail)) c.self.view_is
     (stepped limits told c.self.inside.index c.self.inside.index c.args.line.now (query c.in-Ok-Query.relation (pattern_of c.in-Ok-Query.pattern)) c.answer.result a b tally may_fail refl short read.0 c.answer.ensures.acts)
 
 pub returns-in-Ok-Remove-clause-step : goal.returns-in-Ok-Remove-clause-step
 returns-in-Ok-Remove-clause-step g c =
-    let a = g.K.Sink.written c.args.sink.now in
-    let b = g.K.Sink.written c.remove.new.sink in
+    let a = (g.K.Sink.shown c.args.sink.now) in
+    let b = (g.K.Sink.shown c.remove.new.sink) in
     let limits = c.self.inside.limits in
-    let told = g.L.Library.files c.args.library.now in
-    let tally = g.L.Library.counts c.args.library.now in
-    let may_fail = g.L.Library.may_fail c.args.library.now in
+    let told = (g.L.Library.shown c.args.library.now).files in
+    let tally = faults_in (g.L.Library.shown c.args.library.now).counts in
+    let may_fail = (g.L.Library.shown c.args.library.now).may_fail in
     let read : ReadsCommand c.args.line.now (command.Remove c.in-Ok-Remove.name) = subst (ReadsCommand c.args.line.now) c.in-Ok-Remove.field-0-is c.in-Ok-Remove.ensures.read in
     let short : length c.args.line.now ≤ limits.line = omega (arith, c.if-line-self.false) in
-    subst (λ s. Steps told s (view_of limits c.remove.new.index) (a_line c.args.line.now) c.remove.result (around a tally may_fail) (around b tally may_fail)) c.self.view_is
+    subst (λ s. Steps told s (view_of limits c.remove.new.index) (a_line c.args.line.now) c.remove.result (beside a tally may_fail) (beside b tally may_fail)) c.self.view_is
     (stepped limits told c.self.inside.index c.remove.new.index c.args.line.now (remove (name_of c.in-Ok-Remove.name)) c.remove.result a b tally may_fail c.remove.ensures.rules short read
     c.remove.ensures.acts)
 
 pub returns-in-Ok-Add-clause-silent : goal.returns-in-Ok-Add-clause-silent
 returns-in-Ok-Add-clause-silent g c =
-    let a = g.K.Sink.written c.args.sink.now in
-    let b = g.K.Sink.written c.add.new.sink in
+    let a = (g.K.Sink.shown c.args.sink.now) in
+    let b = (g.K.Sink.shown c.add.new.sink) in
     let limits = c.self.inside.limits in
     let read : ReadsCommand c.args.line.now (command.Add c.in-Ok-Add.clause) = subst (ReadsCommand c.args.line.now) c.in-Ok-Add.field-0-is c.in-Ok-Add.ensures.read in (
       λ e. absurd (not_silent limits (add (clause_of c.in-Ok-Add.clause)) c.self.inside.index c.add.new.index c.add.result a b c.add.ensures.acts e),
@@ -60,15 +61,15 @@ returns-in-Ok-Add-clause-silent g c =
 
 pub returns-in-Ok-Add-clause-refused : goal.returns-in-Ok-Add-clause-refused
 returns-in-Ok-Add-clause-refused g c =
-    let a = g.K.Sink.written c.args.sink.now in
-    let b = g.K.Sink.written c.add.new.sink in
+    let a = (g.K.Sink.shown c.args.sink.now) in
+    let b = (g.K.Sink.shown c.add.new.sink) in
     let limits = c.self.inside.limits in
     λ e. keeps_state limits (add (clause_of c.in-Ok-Add.clause)) c.self.inside.index c.add.new.index c.add.result a b c.add.ensures.acts e ∙ ap (λ s. s.state) c.self.view_is
 
 pub returns-in-Ok-Remove-clause-silent : goal.returns-in-Ok-Remove-clause-silent
 returns-in-Ok-Remove-clause-silent g c =
-    let a = g.K.Sink.written c.args.sink.now in
-    let b = g.K.Sink.written c.remove.new.sink in
+    let a = (g.K.Sink.shown c.args.sink.now) in
+    let b = (g.K.Sink.shown c.remove.new.sink) in
     let limits = c.self.inside.limits in
     let read : ReadsCommand c.args.line.now (command.Remove c.in-Ok-Remove.name) = subst (ReadsCommand c.args.line.now) c.in-Ok-Remove.field-0-is c.in-Ok-Remove.ensures.read in (
       λ e. absurd (not_silent limits (remove (name_of c.in-Ok-Remove.name)) c.self.inside.index c.remove.new.index c.remove.result a b c.remove.ensures.acts e),
@@ -77,15 +78,15 @@ returns-in-Ok-Remove-clause-silent g c =
 
 pub returns-in-Ok-Remove-clause-refused : goal.returns-in-Ok-Remove-clause-refused
 returns-in-Ok-Remove-clause-refused g c =
-    let a = g.K.Sink.written c.args.sink.now in
-    let b = g.K.Sink.written c.remove.new.sink in
+    let a = (g.K.Sink.shown c.args.sink.now) in
+    let b = (g.K.Sink.shown c.remove.new.sink) in
     let limits = c.self.inside.limits in
     λ e. keeps_state limits (remove (name_of c.in-Ok-Remove.name)) c.self.inside.index c.remove.new.index c.remove.result a b c.remove.ensures.acts e ∙ ap (λ s. s.state) c.self.view_is
 
 pub returns-in-Ok-Query-clause-silent : goal.returns-in-Ok-Query-clause-silent
 returns-in-Ok-Query-clause-silent g c =
-    let a = g.K.Sink.written c.args.sink.now in
-    let b = g.K.Sink.written c.answer.new.sink in
+    let a = (g.K.Sink.shown c.args.sink.now) in
+    let b = (g.K.Sink.shown c.answer.new.sink) in
     let limits = c.self.inside.limits in
     let read : ReadsCommand c.args.line.now (command.Query c.in-Ok-Query.relation c.in-Ok-Query.pattern) = subst (ReadsCommand c.args.line.now) c.in-Ok-Query.field-0-is c.in-Ok-Query.ensures.read in (
       λ e. absurd (not_silent limits (query c.in-Ok-Query.relation (pattern_of c.in-Ok-Query.pattern)) c.self.inside.index c.self.inside.index c.answer.result a b c.answer.ensures.acts e),
@@ -94,15 +95,15 @@ returns-in-Ok-Query-clause-silent g c =
 
 pub returns-in-Ok-Stats-clause-step : goal.returns-in-Ok-Stats-clause-step
 returns-in-Ok-Stats-clause-step g c =
-    let a = g.K.Sink.written c.args.sink.now in
-    let b = g.K.Sink.written c.tell-in-Ok-Stats.new.sink in
+    let a = (g.K.Sink.shown c.args.sink.now) in
+    let b = (g.K.Sink.shown c.tell-in-Ok-Stats.new.sink) in
     let limits = c.self.inside.limits in
-    let told = g.L.Library.files c.args.library.now in
-    let tally = g.L.Library.counts c.args.library.now in
-    let may_fail = g.L.Library.may_fail c.args.library.now in
+    let told = (g.L.Library.shown c.args.library.now).files in
+    let tally = faults_in (g.L.Library.shown c.args.library.now).counts in
+    let may_fail = (g.L.Library.shown c.args.library.now).may_fail in
     let read : ReadsCommand c.args.line.now command.Stats = subst (ReadsCommand c.args.line.now) c.in-Ok-Stats.field-0-is c.in-Ok-Stats.ensures.read in
     let short : length c.args.line.now ≤ limits.line = omega (arith, c.if-line-self.false) in
-    subst (λ s. Steps told s s (a_line c.args.line.now) c.tell-in-Ok-Stats.result (around a tally may_fail) (around b tally may_fail)) c.self.view_is
+    subst (λ s. Steps told s s (a_line c.args.line.now) c.tell-in-Ok-Stats.result (beside a tally may_fail) (beside b tally may_fail)) c.self.view_is
     (stepped limits told c.self.inside.index c.self.inside.index c.args.line.now stats c.tell-in-Ok-Stats.result a b tally may_fail refl short read
     (counts c.self.inside.index c.stats.result c.tell-in-Ok-Stats.result a b c.stats.ensures.clauses c.stats.ensures.entries c.stats.ensures.symbols
     c.tell-in-Ok-Stats.ensures.written))
@@ -113,9 +114,9 @@ load_named-requires-clause-limit g c = omega (arith, c.self.invariant.0, c.self.
 
 pub returns-in-Ok-Load-clause-step : goal.returns-in-Ok-Load-clause-step
 returns-in-Ok-Load-clause-step g c =
-    let told = g.L.Library.files c.args.library.now in
-    let before = around (g.K.Sink.written c.args.sink.now) (g.L.Library.counts c.args.library.now) (g.L.Library.may_fail c.args.library.now) in
-    let after = around (g.K.Sink.written c.load_named.new.sink) (g.L.Library.counts c.load_named.new.library) (g.L.Library.may_fail c.load_named.new.library) in
+    let told = (g.L.Library.shown c.args.library.now).files in
+    let before = around (g.K.Sink.shown c.args.sink.now) (g.L.Library.shown c.args.library.now) in
+    let after = around (g.K.Sink.shown c.load_named.new.sink) (g.L.Library.shown c.load_named.new.library) in
     let limits = c.self.inside.limits in
     let read : ReadsCommand c.args.line.now (command.Load c.in-Ok-Load.name) = subst (ReadsCommand c.args.line.now) c.in-Ok-Load.field-0-is c.in-Ok-Load.ensures.read in
     let short : length c.args.line.now ≤ limits.line = omega (arith, c.if-line-self.false) in
@@ -125,33 +126,33 @@ returns-in-Ok-Load-clause-step g c =
 pub returns-in-Ok-Load-clause-silent : goal.returns-in-Ok-Load-clause-silent
 returns-in-Ok-Load-clause-silent g c =
     let read : ReadsCommand c.args.line.now (command.Load c.in-Ok-Load.name) = subst (ReadsCommand c.args.line.now) c.in-Ok-Load.field-0-is c.in-Ok-Load.ensures.read in (
-      λ e. absurd (load_not_silent c.self.inside.limits (g.L.Library.files c.args.library.now) c.in-Ok-Load.name c.self.inside.index c.load_named.new.index c.load_named.result _ _ c.load_named.ensures.loads e),
+      λ e. absurd (load_not_silent c.self.inside.limits (g.L.Library.shown c.args.library.now).files c.in-Ok-Load.name c.self.inside.index c.load_named.new.index c.load_named.result _ _ c.load_named.ensures.loads e),
       λ h. absurd (read.1 h.1),
     )
 
 pub returns-in-Ok-Load-clause-refused : goal.returns-in-Ok-Load-clause-refused
 returns-in-Ok-Load-clause-refused g c =
-    λ e. load_keeps c.self.inside.limits (g.L.Library.files c.args.library.now) c.in-Ok-Load.name c.self.inside.index c.load_named.new.index c.load_named.result _ _ c.load_named.ensures.loads e
+    λ e. load_keeps c.self.inside.limits (g.L.Library.shown c.args.library.now).files c.in-Ok-Load.name c.self.inside.index c.load_named.new.index c.load_named.result _ _ c.load_named.ensures.loads e
     ∙ ap (λ s. s.state) c.self.view_is
 
 -- ---- subsumption
 pub returns-in-Ok-Subsumers-clause-step : goal.returns-in-Ok-Subsumers-clause-step
 returns-in-Ok-Subsumers-clause-step g c =
-    let a = g.K.Sink.written c.args.sink.now in
-    let b = g.K.Sink.written c.subsumers.new.sink in
+    let a = (g.K.Sink.shown c.args.sink.now) in
+    let b = (g.K.Sink.shown c.subsumers.new.sink) in
     let limits = c.self.inside.limits in
-    let told = g.L.Library.files c.args.library.now in
-    let tally = g.L.Library.counts c.args.library.now in
-    let may_fail = g.L.Library.may_fail c.args.library.now in
+    let told = (g.L.Library.shown c.args.library.now).files in
+    let tally = faults_in (g.L.Library.shown c.args.library.now).counts in
+    let may_fail = (g.L.Library.shown c.args.library.now).may_fail in
     let read : ReadsCommand c.args.line.now (command.Subsumers c.in-Ok-Subsumers.formula) = subst (ReadsCommand c.args.line.now) c.in-Ok-Subsumers.field-0-is c.in-Ok-Subsumers.ensures.read in
     let short : length c.args.line.now ≤ limits.line = omega (arith, c.if-line-self.false) in
-    subst (λ s. Steps told s s (a_line c.args.line.now) c.subsumers.result (around a tally may_fail) (around b tally may_fail)) c.self.view_is
+    subst (λ s. Steps told s s (a_line c.args.line.now) c.subsumers.result (beside a tally may_fail) (beside b tally may_fail)) c.self.view_is
     (stepped limits told c.self.inside.index c.self.inside.index c.args.line.now (subsumers (map literal_of c.in-Ok-Subsumers.formula)) c.subsumers.result a b tally may_fail refl short read.0 c.subsumers.ensures.acts)
 
 pub returns-in-Ok-Subsumers-clause-silent : goal.returns-in-Ok-Subsumers-clause-silent
 returns-in-Ok-Subsumers-clause-silent g c =
-    let a = g.K.Sink.written c.args.sink.now in
-    let b = g.K.Sink.written c.subsumers.new.sink in
+    let a = (g.K.Sink.shown c.args.sink.now) in
+    let b = (g.K.Sink.shown c.subsumers.new.sink) in
     let limits = c.self.inside.limits in
     let read : ReadsCommand c.args.line.now (command.Subsumers c.in-Ok-Subsumers.formula) = subst (ReadsCommand c.args.line.now) c.in-Ok-Subsumers.field-0-is c.in-Ok-Subsumers.ensures.read in (
       λ e. absurd (not_silent limits (subsumers (map literal_of c.in-Ok-Subsumers.formula)) c.self.inside.index c.self.inside.index c.subsumers.result a b c.subsumers.ensures.acts e),
@@ -160,21 +161,21 @@ returns-in-Ok-Subsumers-clause-silent g c =
 
 pub returns-in-Ok-Subsumed-clause-step : goal.returns-in-Ok-Subsumed-clause-step
 returns-in-Ok-Subsumed-clause-step g c =
-    let a = g.K.Sink.written c.args.sink.now in
-    let b = g.K.Sink.written c.subsumed.new.sink in
+    let a = (g.K.Sink.shown c.args.sink.now) in
+    let b = (g.K.Sink.shown c.subsumed.new.sink) in
     let limits = c.self.inside.limits in
-    let told = g.L.Library.files c.args.library.now in
-    let tally = g.L.Library.counts c.args.library.now in
-    let may_fail = g.L.Library.may_fail c.args.library.now in
+    let told = (g.L.Library.shown c.args.library.now).files in
+    let tally = faults_in (g.L.Library.shown c.args.library.now).counts in
+    let may_fail = (g.L.Library.shown c.args.library.now).may_fail in
     let read : ReadsCommand c.args.line.now (command.Subsumed c.in-Ok-Subsumed.formula) = subst (ReadsCommand c.args.line.now) c.in-Ok-Subsumed.field-0-is c.in-Ok-Subsumed.ensures.read in
     let short : length c.args.line.now ≤ limits.line = omega (arith, c.if-line-self.false) in
-    subst (λ s. Steps told s s (a_line c.args.line.now) c.subsumed.result (around a tally may_fail) (around b tally may_fail)) c.self.view_is
+    subst (λ s. Steps told s s (a_line c.args.line.now) c.subsumed.result (beside a tally may_fail) (beside b tally may_fail)) c.self.view_is
     (stepped limits told c.self.inside.index c.self.inside.index c.args.line.now (subsumed (map literal_of c.in-Ok-Subsumed.formula)) c.subsumed.result a b tally may_fail refl short read.0 c.subsumed.ensures.acts)
 
 pub returns-in-Ok-Subsumed-clause-silent : goal.returns-in-Ok-Subsumed-clause-silent
 returns-in-Ok-Subsumed-clause-silent g c =
-    let a = g.K.Sink.written c.args.sink.now in
-    let b = g.K.Sink.written c.subsumed.new.sink in
+    let a = (g.K.Sink.shown c.args.sink.now) in
+    let b = (g.K.Sink.shown c.subsumed.new.sink) in
     let limits = c.self.inside.limits in
     let read : ReadsCommand c.args.line.now (command.Subsumed c.in-Ok-Subsumed.formula) = subst (ReadsCommand c.args.line.now) c.in-Ok-Subsumed.field-0-is c.in-Ok-Subsumed.ensures.read in (
       λ e. absurd (not_silent limits (subsumed (map literal_of c.in-Ok-Subsumed.formula)) c.self.inside.index c.self.inside.index c.subsumed.result a b c.subsumed.ensures.acts e),
@@ -187,23 +188,23 @@ sample-requires-clause-limit g c = omega (arith, c.self.invariant.0, c.self.inva
 
 pub returns-in-Ok-Sample-clause-step : goal.returns-in-Ok-Sample-clause-step
 returns-in-Ok-Sample-clause-step g c =
-    let a = g.K.Sink.written c.args.sink.now in
-    let b = g.K.Sink.written c.sample.new.sink in
+    let a = (g.K.Sink.shown c.args.sink.now) in
+    let b = (g.K.Sink.shown c.sample.new.sink) in
     let limits = c.self.inside.limits in
-    let told = g.L.Library.files c.args.library.now in
-    let tally = g.L.Library.counts c.args.library.now in
-    let may_fail = g.L.Library.may_fail c.args.library.now in
+    let told = (g.L.Library.shown c.args.library.now).files in
+    let tally = faults_in (g.L.Library.shown c.args.library.now).counts in
+    let may_fail = (g.L.Library.shown c.args.library.now).may_fail in
     let start = c.in-Ok-Sample.start in
     let count = c.in-Ok-Sample.count in
     let read : ReadsCommand c.args.line.now (command.Sample start count) = subst (ReadsCommand c.args.line.now) c.in-Ok-Sample.field-0-is c.in-Ok-Sample.ensures.read in
     let short : length c.args.line.now ≤ limits.line = omega (arith, c.if-line-self.false) in
-    subst (λ s. Steps told s (view_of limits c.sample.new.index) (a_line c.args.line.now) c.sample.result (around a tally may_fail) (around b tally may_fail)) c.self.view_is
+    subst (λ s. Steps told s (view_of limits c.sample.new.index) (a_line c.args.line.now) c.sample.result (beside a tally may_fail) (beside b tally may_fail)) c.self.view_is
     (stepped limits told c.self.inside.index c.sample.new.index c.args.line.now (sample start count) c.sample.result a b tally may_fail c.sample.ensures.rules short read.0 c.sample.ensures.acts)
 
 pub returns-in-Ok-Sample-clause-silent : goal.returns-in-Ok-Sample-clause-silent
 returns-in-Ok-Sample-clause-silent g c =
-    let a = g.K.Sink.written c.args.sink.now in
-    let b = g.K.Sink.written c.sample.new.sink in
+    let a = (g.K.Sink.shown c.args.sink.now) in
+    let b = (g.K.Sink.shown c.sample.new.sink) in
     let limits = c.self.inside.limits in
     let start = c.in-Ok-Sample.start in
     let count = c.in-Ok-Sample.count in
@@ -214,7 +215,7 @@ returns-in-Ok-Sample-clause-silent g c =
 
 pub returns-in-Ok-Sample-clause-refused : goal.returns-in-Ok-Sample-clause-refused
 returns-in-Ok-Sample-clause-refused g c =
-    let a = g.K.Sink.written c.args.sink.now in
-    let b = g.K.Sink.written c.sample.new.sink in
+    let a = (g.K.Sink.shown c.args.sink.now) in
+    let b = (g.K.Sink.shown c.sample.new.sink) in
     let limits = c.self.inside.limits in
     λ e. keeps_state limits (sample c.in-Ok-Sample.start c.in-Ok-Sample.count) c.self.inside.index c.sample.new.index c.sample.result a b c.sample.ensures.acts e ∙ ap (λ s. s.state) c.self.view_is

@@ -8,6 +8,6 @@ returns-clause-taken c =
     let bytes = c.args.self.now.bytes.items in
     let at = c.args.self.now.at in
     let rest : take (length bytes - at) (drop at bytes) ≡ drop at bytes = take_all _ _ (omega (arith, length-drop at bytes)) in
-    let copied = rw (c.deref.ensures.value, rest) at c.copy_from_slice.ensures.after in
+    let copied = rw (c.deref-2.ensures.value, rest) at c.copy_from_slice.ensures.after in
     let fits : c.min-count.result ≤ length c.args.into.now = omega (arith, c.min-count.ensures, c.min.ensures) in
-    Takes_copy bytes _ _ at c.min-count.result copied (c.copy_from_slice.ensures.len ∙ length-take-le c.min-count.result c.args.into.now fits)
+    rw c.count-2.ensures.same (Takes_copy bytes _ _ at c.min-count.result copied (c.copy_from_slice.ensures.len ∙ length-take-le c.min-count.result c.args.into.now fits))

@@ -69,9 +69,9 @@ ChecksStart bounds rules file result =
     (MayAsk bounds [] 0 file → ⊥) →
     IsErrAnd result (λ e. Explains rules e (IsBarred bounds [] 0 file))
 
--- A library's failures, missing files and files that are too big have a count each, which is one more
--- where a load is refused for it, and no other count moved. For a failure it is refused only where
--- the library may fail.
+-- A library's failures, missing files and files that are too big have a count each, which is one
+-- more where a load is refused for it, and no other count moved. For a failure it is refused only
+-- where the library may fail.
 abbrev pub HasFaultCause : Bool → Counts → Counts → HarvestFault → Type 0
 HasFaultCause may_fail before now (Missing file) =
     now ≡ record before { misses = raised before.misses }

@@ -16,7 +16,8 @@ is_interrupted (Ok value) = false
 is_interrupted (Err error) = is_interruption (error_kind error)
 
 -- so many calls, one after the other, each of which a signal interrupted
-pub data Interrupts {X T : Type 0} (Call : X → Result T Error → X → Type 0) : ℕ → X → X → Type 0 where
+pub data Interrupts {X T : Type 0} (Call : X → Result T Error → X → Type 0)
+    : ℕ → X → X → Type 0 where
   none : (x : X) → Interrupts Call 0 x x
   another : (n : ℕ) (x y z : X) (answer : Result T Error) → Interrupts Call n x y
       → Call y answer z → IsTrue (is_interrupted answer) → Interrupts Call (n + 1) x z

@@ -151,8 +151,8 @@ IsFaultless SinkFault = ⊥
 IsFaultless Memory = Unit {0}
 IsFaultless SessionLimit = Unit {0}
 
--- The source's count of faults is one more where the run ended by its fault, and the sink's where it
--- ended by the sink's; no other end moved a count, nor did the other device's fault.
+-- The source's count of faults is one more where the run ended by its fault, and the sink's where
+-- it ended by the sink's; no other end moved a count, nor did the other device's fault.
 abbrev pub CountsFaults : Status → (source source_now sink sink_now : ℕ) → Type 0
 CountsFaults Ended source source_now sink sink_now = (source_now ≡ source) × (sink_now ≡ sink)
 CountsFaults Refused source source_now sink sink_now = (source_now ≡ source) × (sink_now ≡ sink)

@@ -65,7 +65,8 @@ pub fn serve<S: Source, K: Sink, L: Library>(
         (map string_bytes words.entry.now)
         (L.shown library.old).may_fail (S.shown source.old).left (K.shown sink.old).told.room
         → IsFaultless result }
-    ensures faultless { (Rose (S.shown source.old).counts.faults (S.shown source.new).counts.faults → ⊥)
+    ensures faultless { (Rose (S.shown source.old).counts.faults
+        (S.shown source.new).counts.faults → ⊥)
         → (Rose (K.shown sink.old).counts.faults (K.shown sink.new).counts.faults → ⊥)
         → IsFaultless result }
 {

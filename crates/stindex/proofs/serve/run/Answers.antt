@@ -2,11 +2,11 @@
 use Rattle.std.proofs.Common.{ℕ, ◌≤◌, ◌∙◌, ◌<◌, length, take, ap, arith, refl, length-take}
 use Rattle.std.proofs.lemmas.List.{take-append-le, length-take-le}
 use Rattle.si_io.specs.declared.counts.SourceCounts.{SourceCounts}
-use Rattle.si_io.proofs.Gives.{Gives_some, Gives_end, ends_kept, ends_raised}
+use Rattle.si_io.proofs.Gives.{Gives_some, Gives_end, Gives_failed, ends_kept, ends_raised}
 use Rattle.si_session.specs.Session.{View}
 use Rattle.stindex.specs.Status.{status_of}
 use Rattle.stindex.proofs.FileWords.{Stands_under}
-use Rattle.stindex.proofs.Endings.{Stands_more, Serves_under, Serves_as, Serves_ended, Serves_cut, Serves_sink}
+use Rattle.stindex.proofs.Endings.{Stands_more, Serves_under, Serves_as, Serves_ended, Serves_cut, Serves_sink, Serves_source}
 use Rattle.stindex.proofs.serve.run.Goals as goal
 
 pub returns-in-Err-clause-serves : goal.returns-in-Err-clause-serves
@@ -31,38 +31,46 @@ loop-taken-init g c =
 
 pub returns-in-Ok-close-clause-serves : goal.returns-in-Ok-close-clause-serves
 returns-in-Ok-close-clause-serves g c =
+    let a = g.S.Source.shown c.loop-taken.source in
+    let b = g.S.Source.shown c.read.new.self in
     let some : 0 < length (take c.min-room.result c.loop-taken.chunk) = omega (arith, length-take c.min-room.result c.loop-taken.chunk) in
     Serves_as _ _ _ _ _ _ _ _ _ _ _ c.is_strict-strict.ensures refl
     (Serves_ended _ _ _ _ _ _ _ _ _ _ _ _ _ _ _ c.loop-taken.invariant.stands c.loop-taken.invariant.setting c.loop-taken.invariant.told c.loop-taken-test.true
-    (Gives_end _ _ _ _ c.in-Ok-read.ensures.counts c.if-count-eq0.true some _ (ap (λ (n : ℕ). take n c.read.new.into) c.if-count-eq0.true) c.in-Ok-read.ensures.taken)
-    (ends_raised _ _ _ _ c.in-Ok-read.ensures.counts c.if-count-eq0.true some) (c.in-Ok-read.ensures.ended c.if-count-eq0.true some) c.in-Ok-close.ensures.closed)
+    (Gives_end a b _ _ c.in-Ok-read.ensures.counts c.if-count-eq0.true some _ (ap (λ (n : ℕ). take n c.read.new.into) c.if-count-eq0.true) c.in-Ok-read.ensures.taken)
+    (ends_raised a b _ _ c.in-Ok-read.ensures.counts c.if-count-eq0.true some) (c.in-Ok-read.ensures.ended c.if-count-eq0.true some) c.in-Ok-close.ensures.closed)
 
 pub returns-in-Err-close-clause-serves : goal.returns-in-Err-close-clause-serves
 returns-in-Err-close-clause-serves g c =
+    let a = g.S.Source.shown c.loop-taken.source in
+    let b = g.S.Source.shown c.read.new.self in
     let some : 0 < length (take c.min-room.result c.loop-taken.chunk) = omega (arith, length-take c.min-room.result c.loop-taken.chunk) in
     Serves_as _ _ _ _ _ _ (status_of c.in-Err-close.stop) _ _ _ _ c.is_strict-strict.ensures c.status-in-Err-close.ensures
     (Serves_cut c.in-Err-close.stop _ _ _ _ _ _ _ _ _ _ _ _ _ _ _ c.loop-taken.invariant.stands c.loop-taken.invariant.setting c.loop-taken.invariant.told c.loop-taken-test.true
-    (Gives_end _ _ _ _ c.in-Ok-read.ensures.counts c.if-count-eq0.true some _ (ap (λ (n : ℕ). take n c.read.new.into) c.if-count-eq0.true) c.in-Ok-read.ensures.taken)
-    (ends_raised _ _ _ _ c.in-Ok-read.ensures.counts c.if-count-eq0.true some) (c.in-Ok-read.ensures.ended c.if-count-eq0.true some) c.in-Err-close.ensures.cut)
+    (Gives_end a b _ _ c.in-Ok-read.ensures.counts c.if-count-eq0.true some _ (ap (λ (n : ℕ). take n c.read.new.into) c.if-count-eq0.true) c.in-Ok-read.ensures.taken)
+    (ends_raised a b _ _ c.in-Ok-read.ensures.counts c.if-count-eq0.true some) (c.in-Ok-read.ensures.ended c.if-count-eq0.true some) c.in-Err-close.ensures.cut)
 
 pub returns-in-Err-feed-clause-serves : goal.returns-in-Err-feed-clause-serves
 returns-in-Err-feed-clause-serves g c =
+    let a = g.S.Source.shown c.loop-taken.source in
+    let b = g.S.Source.shown c.read.new.self in
     let into = c.read.new.into in
     let count = c.in-Ok-read.count in
     let within : count ≤ length into = omega (arith, c.in-Ok-read.ensures.bound, c.read.auto.into, length-take c.min-room.result c.loop-taken.chunk) in
     Serves_as _ _ _ _ _ _ (status_of c.in-Err-feed.stop) _ _ _ _ c.is_strict-strict.ensures c.status-in-Err-feed.ensures
-    (Serves_sink c.in-Err-feed.stop _ _ _ _ _ _ _ count (take count into) _ _ _ (g.S.Source.shown c.read.new.self) _ _ _ _ _ c.loop-taken.invariant.stands c.loop-taken.invariant.setting c.loop-taken.invariant.told (Gives_some _ _ _ _ c.in-Ok-read.ensures.counts c.if-count-eq0.false _ (length-take-le count into within) c.in-Ok-read.ensures.taken)
-    (ends_kept _ _ _ _ c.in-Ok-read.ensures.counts c.if-count-eq0.false)
+    (Serves_sink c.in-Err-feed.stop _ _ _ _ _ _ _ count (take count into) _ _ _ (g.S.Source.shown c.read.new.self) _ _ _ _ _ c.loop-taken.invariant.stands c.loop-taken.invariant.setting c.loop-taken.invariant.told (Gives_some a b _ _ c.in-Ok-read.ensures.counts c.if-count-eq0.false _ (length-take-le count into within) c.in-Ok-read.ensures.taken)
+    (ends_kept a b _ _ c.in-Ok-read.ensures.counts c.if-count-eq0.false)
     (length-take-le count into within) (omega (arith, length-take c.min-room.result c.loop-taken.chunk)) (take-append-le count into _ within) c.in-Err-feed.ensures.broken)
 
 pub loop-taken-preserved : goal.loop-taken-preserved
 loop-taken-preserved g c =
+    let a = g.S.Source.shown c.loop-taken.source in
+    let b = g.S.Source.shown c.read.new.self in
     let into = c.read.new.into in
     let count = c.in-Ok-read.count in
     let within : count ≤ length into = omega (arith, c.in-Ok-read.ensures.bound, c.read.auto.into, length-take c.min-room.result c.loop-taken.chunk) in
     record {
-      stands = Stands_more _ _ _ _ _ _ _ count (take count into) _ _ _ _ _ _ _ _ _ _ _ c.loop-taken.invariant.stands c.loop-taken.invariant.setting c.loop-taken.invariant.told (Gives_some _ _ _ _ c.in-Ok-read.ensures.counts c.if-count-eq0.false _ (length-take-le count into within) c.in-Ok-read.ensures.taken)
-          (ends_kept _ _ _ _ c.in-Ok-read.ensures.counts c.if-count-eq0.false)
+      stands = Stands_more _ _ _ _ _ _ _ count (take count into) _ _ _ _ _ _ _ _ _ _ _ c.loop-taken.invariant.stands c.loop-taken.invariant.setting c.loop-taken.invariant.told (Gives_some a b _ _ c.in-Ok-read.ensures.counts c.if-count-eq0.false _ (length-take-le count into within) c.in-Ok-read.ensures.taken)
+          (ends_kept a b _ _ c.in-Ok-read.ensures.counts c.if-count-eq0.false)
           (length-take-le count into within) (take-append-le count into _ within) c.in-Ok-feed.ensures.fed;
       within = omega (arith, length-take c.min-room.result c.loop-taken.chunk);
       setting = c.in-Ok-feed.ensures.setting ∙ c.loop-taken.invariant.setting;
@@ -75,4 +83,9 @@ loop-taken-preserved g c =
     }
 
 pub returns-in-Err-read-clause-serves : goal.returns-in-Err-read-clause-serves
-returns-in-Err-read-clause-serves g c = ?
+returns-in-Err-read-clause-serves g c =
+    let a = g.S.Source.shown c.loop-taken.source in
+    let b = g.S.Source.shown c.read.new.self in
+    Serves_as _ _ _ _ _ _ _ _ _ _ _ c.is_strict-strict.ensures refl
+    (Serves_source _ _ _ _ _ _ a b _ _ _ _ c.loop-taken.invariant.stands c.loop-taken-test.true (Gives_failed a b 0 _ c.in-Err-read.ensures.counts c.in-Err-read.ensures.kept)
+    (ap (λ (k : SourceCounts). k.ends) c.in-Err-read.ensures.counts))

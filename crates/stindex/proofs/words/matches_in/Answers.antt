@@ -1,7 +1,7 @@
 -- The command is the one that the definitions speak of.
 use Rattle.std.proofs.Common.{rules, ap, ap₂, refl, subst, true, ◌≡◌, ◌∙◌, Option, Some, None, map, string_bytes}
 use Rattle.std.specs.Prelude.{IsSomeAnd}
-use Rattle.std.specs.Prelude.{OnOk, Result, Ok, Err, [], List}
+use Rattle.std.specs.Prelude.{OnOk, Result, Ok, Err, []}
 use Rattle.clap.specs.Words.{FailsBy, Kinds, fault_of, is_simple_and_free}
 use Rattle.clap.specs.declared.error.Error.{Error}
 use Rattle.std.proofs.lemmas.Result.{IfErr-weaker, IfOk-weaker}

@@ -8,7 +8,7 @@ use Rattle.si_flat.specs.Rows.{left_sides}
 use Rattle.si_legal.specs.declared.Posting.{Posting}
 use Rattle.si_legal.specs.Bindings.{Binding, OpensNone, BindsExactly, applied}
 use Rattle.si_legal.specs.Generalizations.{fresh_among, MaySplit, Splits}
-use Rattle.si_legal.specs.Trees.{inner, leaf, Node, Tree, HasNode, Path, IsPath, path_term}
+use Rattle.si_legal.specs.Trees.{inner, Node, Tree, HasNode, Path, IsPath, path_term}
 use Rattle.si_legal.specs.Legal.{IsOpenBelow}
 use Rattle.si_changes.specs.Nodes.{IsVacant, OtherNodesStay, leaf_below, ChangesChildren, MayComeIn, RoomFor}
 use Rattle.si_changes.specs.Leaves.{IsTermAt}

@@ -1,0 +1,26 @@
+pub mod DecodingLaws
+pub mod SlotLaws
+pub mod CountLaws
+pub mod HeadLaws
+pub mod ChildLaws
+pub mod RootLaws
+pub mod NewLaws
+pub mod Postings
+pub mod KeptLaws
+pub mod PostingSteps
+pub mod RightLaws
+pub mod VariableLaws
+pub mod RoomLaws
+pub mod LeafSteps
+pub mod BetweenLaws
+pub mod NumberLaws
+pub mod ExchangeLaws
+pub mod FreshLaws
+pub mod SplitSteps
+pub mod SplitConditions
+pub mod SplitParts
+mod FirstLeaf
+pub mod NotedPlaces
+pub mod WalkLaws
+pub mod WalkSteps
+pub mod RenumberSteps

@@ -1,0 +1,10 @@
+pub mod Decoding
+pub mod Codes
+pub mod Heads
+pub mod NewTrees
+pub mod Reading
+pub mod Changes
+pub mod Rights
+pub mod KeptNodes
+pub mod Numbers
+pub mod Renumbers

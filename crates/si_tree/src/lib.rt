@@ -1,0 +1,15 @@
+//! Substitution trees (Graf 1996) that are always legal: `Legal.antt` of si_legal says which are.
+#![tactic(auto)]
+
+mod node;
+mod numbers;
+mod renumber;
+mod rights;
+#[cfg(test)]
+mod tests;
+mod tree;
+
+pub use node::{Counts, Head, NodeId};
+pub use rights::head_of;
+pub use si_legal::Posting;
+pub use tree::Tree;

@@ -1,0 +1,325 @@
+// The nodes of a tree.
+ghost use Rattle.std.specs.Prelude.{◌≡◌, IfOk, ◌++◌, ◌∷◌, OnOk, OnErr, slice_get, [], IfSome, IfNone, Some, length};
+ghost use Rattle.si_defs.specs.Substitutions.{AreDistinct, IsAmong};
+ghost use Rattle.si_flat.specs.Rows.{left_sides};
+ghost use Rattle.si_legal.specs.Trees.{leaf};
+ghost use Rattle.si_legal.specs.Counts.{unmerged_of};
+ghost use Rattle.si_tree.specs.declared.node.Content.TheVariants.{Inner};
+ghost use Rattle.si_tree.specs.KeptNodes.{content_of, moved_below, GainsChild, HasChild, IsReplaced, RelinksChild, HasRoomForChild, HasRoomIn, IsFork, IsInnerNode, IsLeafWith, IsLeafNode, IsSameBut, IsSameNode, postings_in};
+ghost use Rattle.si_tree.specs.Changes.{IsWithout};
+ghost use Rattle.si_tree.specs.Heads.{StandTogether, are_equal};
+
+use crate::rights::joined;
+use si_flat::Bindings;
+use si_legal::Posting;
+use std::alloc::{AllocError, Global};
+use std::marker::Model;
+
+/// Names a node of a tree. Contracts see its key.
+#[derive(Clone, Copy, Debug, PartialEq, Eq)]
+pub struct NodeId {
+    pub(crate) key: usize,
+}
+
+impl Model for NodeId {
+    ghost use Rattle.std.specs.Prelude.{ℕ};
+
+    ghost Value = { ℕ };
+
+    ghost view = { λ n. n.key };
+
+    ghost inverse = { λ key. record { key = key } };
+}
+
+/// How many nodes a tree has.
+#[derive(Clone, Copy, Debug, PartialEq, Eq)]
+pub struct Counts {
+    /// All nodes.
+    pub nodes: u64,
+    /// The leaves among them.
+    pub leaves: u64,
+    /// The leaves without a posting.
+    pub unmerged: u64,
+}
+
+/// What a child gives the split of its parent: a symbol, or a variable of an entry.
+#[derive(Clone, Copy, Debug, PartialEq, Eq)]
+pub enum Head {
+    /// The symbol with this number and so many arguments.
+    Sym {
+        /// Its number.
+        sym: u32,
+        /// The number of its arguments.
+        arity: u32,
+    },
+    /// The variable of an entry with this number.
+    Var(u32),
+}
+
+/// A node, and the way to its parent.
+#[derive(Drop)]
+pub(crate) struct TreeNode {
+    pub(crate) parent: Option<NodeId>,
+    pub(crate) bindings: Bindings,
+    pub(crate) content: Content,
+}
+
+/// What stands below a node.
+#[derive(Drop)]
+pub(crate) enum Content {
+    Inner(Branches),
+    Leaf(Vec<Posting>),
+}
+
+/// The children of a node. They are told apart by their heads, which stand in the same order.
+#[derive(Drop)]
+pub(crate) struct Branches {
+    pub(crate) split: u32,
+    pub(crate) heads: Vec<Head>,
+    pub(crate) children: Vec<NodeId>,
+}
+
+impl Content {
+    /// A leaf with one posting.
+    pub(crate) fn leaf(alloc: Global, posting: Posting) -> Result<Content, AllocError>
+        ensures { IfOk result (λ content. content_of content ≡ leaf (posting ∷ [])) }
+    {
+        let mut postings = Vec::with_capacity(alloc, 1)?;
+        postings.push_reserved(posting);
+        Ok(Content::Leaf(postings))
+    }
+}
+
+impl Branches {
+    /// No children.
+    pub(crate) fn new(alloc: Global, split: u32) -> Branches
+        ensures split { result.split ≡ split }
+        ensures heads { result.heads.items ≡ [] }
+        ensures children { result.children.items ≡ [] }
+    {
+        Branches {
+            split,
+            heads: Vec::new(alloc),
+            children: Vec::new(alloc),
+        }
+    }
+
+    /// Makes room for one more child.
+    fn reserve(&mut self) -> Result<(), AllocError>
+        ensures split { self.new.split ≡ self.old.split }
+        ensures heads { self.new.heads.items ≡ self.old.heads.items }
+        ensures children { self.new.children.items ≡ self.old.children.items }
+        ensures room { OnOk result (HasRoomIn (Inner self.new)) }
+    {
+        self.heads.reserve(1)?;
+        self.children.reserve(1)
+    }
+
+    /// The child that has this head.
+    pub(crate) fn child(&self, head: Head) -> Option<NodeId>
+        requires { length self.now.heads.items ≡ length self.now.children.items }
+        ensures some { IfSome result (StandTogether self.now.heads.items self.now.children.items
+            head) }
+        ensures none { IfNone result (IsAmong self.now.heads.items head → ⊥) }
+    {
+        for place in 0..self.heads.len() {
+            if self.heads[place].is(head) {
+                return Some(self.children[place]);
+            }
+        }
+        None
+    }
+}
+
+impl Head {
+    // Whether the two are the same.
+    fn is(self, other: Head) -> bool
+        ensures { result ≡ are_equal self other }
+    {
+        match self {
+            Head::Sym { sym, arity } => match other {
+                Head::Sym { sym: s, arity: a } => sym == s && arity == a,
+                Head::Var(_) => false,
+            },
+            Head::Var(number) => match other {
+                Head::Sym { .. } => false,
+                Head::Var(n) => number == n,
+            },
+        }
+    }
+}
+
+impl TreeNode {
+    /// An inner node with one child, and room for another.
+    pub(crate) fn fork(
+        alloc: Global,
+        parent: NodeId,
+        bindings: Bindings,
+        split: u32,
+        head: Head,
+        child: NodeId,
+    ) -> Result<TreeNode, AllocError>
+        ensures { IfOk result (IsFork parent bindings split head child) }
+    {
+        let mut heads = Vec::with_capacity(alloc, 2)?;
+        let mut children = Vec::with_capacity(alloc, 2)?;
+        heads.push_reserved(head);
+        children.push_reserved(child);
+        Ok(TreeNode {
+            parent: Some(parent),
+            bindings,
+            content: Content::Inner(Branches {
+                split,
+                heads,
+                children,
+            }),
+        })
+    }
+
+    /// A leaf that binds these and those, with one posting, below nothing yet.
+    pub(crate) fn leaf(
+        alloc: Global,
+        first: Bindings,
+        others: &Bindings,
+        posting: Posting,
+    ) -> Result<TreeNode, AllocError>
+        requires { AreDistinct (left_sides (first ++ others.now)) }
+        ensures { IfOk result (IsLeafWith (first ++ others.now) posting) }
+    {
+        let content = Content::leaf(alloc, posting)?;
+        let bindings = joined(first, others)?;
+        Ok(TreeNode {
+            parent: None,
+            bindings,
+            content,
+        })
+    }
+
+    /// 1 where this is a leaf without a posting, else 0.
+    pub(crate) fn unmerged(&self) -> u64
+        ensures { result ≡ unmerged_of (content_of self.now.content) }
+    {
+        match &self.content {
+            Content::Leaf(postings) => u64::from(postings.is_empty()),
+            Content::Inner(_) => 0,
+        }
+    }
+
+    /// Makes room for one more child.
+    pub(crate) fn reserve_child(&mut self) -> Result<(), AllocError>
+        requires { IsInnerNode self.old }
+        ensures same { IsSameNode self.old self.new }
+        ensures room { OnOk result (HasRoomForChild self.new) }
+    {
+        match &mut self.content {
+            Content::Inner(branches) => branches.reserve(),
+            Content::Leaf(_) => unreachable!(),
+        }
+    }
+
+    /// Appends a child, for which there is room.
+    pub(crate) fn push_child(&mut self, head: Head, child: NodeId)
+        requires { HasRoomForChild self.old }
+        ensures { GainsChild self.old self.new head child }
+    {
+        match &mut self.content {
+            Content::Inner(branches) => {
+                branches.heads.push_reserved(head);
+                branches.children.push_reserved(child);
+            }
+            Content::Leaf(_) => unreachable!(),
+        }
+    }
+
+    /// Puts the node below another, with other bindings.
+    pub(crate) fn move_below(&mut self, parent: NodeId, bindings: Bindings)
+        ensures { self.new ≡ moved_below self.old parent bindings }
+    {
+        self.parent = Some(parent);
+        self.bindings = bindings;
+    }
+
+    /// Puts another child in the place of one.
+    pub(crate) fn relink(&mut self, child: NodeId, other: NodeId)
+        requires { HasChild self.old child }
+        ensures { RelinksChild self.old self.new child other }
+    {
+        match &mut self.content {
+            Content::Inner(branches) => replace(&mut branches.children, child, other),
+            Content::Leaf(_) => unreachable!(),
+        }
+    }
+
+    /// Appends a posting to those of a leaf.
+    pub(crate) fn add_posting(&mut self, posting: Posting) -> Result<(), AllocError>
+        requires { IsLeafNode self.old }
+        ensures stays { IsSameBut self.old self.new }
+        ensures ok { OnOk result (postings_in self.new ≡ postings_in self.old ++ posting ∷ []) }
+        ensures err { OnErr result (postings_in self.new ≡ postings_in self.old) }
+    {
+        match &mut self.content {
+            Content::Leaf(postings) => {
+                postings.push(posting)?;
+                Ok(())
+            }
+            Content::Inner(_) => unreachable!(),
+        }
+    }
+
+    /// Takes a posting from those of a leaf.
+    pub(crate) fn drop_posting(&mut self, posting: Posting)
+        requires leaf { IsLeafNode self.old }
+        requires there { IsAmong (postings_in self.old) posting }
+        ensures stays { IsSameBut self.old self.new }
+        ensures dropped { IsWithout (postings_in self.old) posting (postings_in self.new) }
+    {
+        match &mut self.content {
+            Content::Leaf(postings) => remove(postings, posting),
+            Content::Inner(_) => unreachable!(),
+        }
+    }
+}
+
+// Takes a posting out of a list.
+fn remove(postings: &mut Vec<Posting>, posting: Posting)
+    requires { IsAmong postings.old.items posting }
+    ensures { IsWithout postings.old.items posting postings.new.items }
+{
+    let place = place_of(postings.as_slice(), posting);
+    postings.remove(place);
+}
+
+// The first place of a posting.
+fn place_of(postings: &[Posting], posting: Posting) -> usize
+    requires { IsAmong postings.now posting }
+    ensures { slice_get postings.now result ≡ Some posting }
+{
+    for place in 0..postings.len() {
+        if postings[place] == posting {
+            return place;
+        }
+    }
+    unreachable!()
+}
+
+// Puts another child in the place of one.
+fn replace(children: &mut Vec<NodeId>, child: NodeId, other: NodeId)
+    requires { IsAmong children.old.items child }
+    ensures { IsReplaced children.old.items child other children.new.items }
+{
+    let place = place_of_child(children.as_slice(), child);
+    children[place] = other;
+}
+
+// The first place of a child.
+fn place_of_child(children: &[NodeId], child: NodeId) -> usize
+    requires { IsAmong children.now child }
+    ensures { slice_get children.now result ≡ Some child }
+{
+    for place in 0..children.len() {
+        if children[place] == child {
+            return place;
+        }
+    }
+    unreachable!()
+}

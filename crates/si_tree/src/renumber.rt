@@ -1,0 +1,137 @@
+// Indicators numbered anew, along each path in the order in which they are opened.
+ghost use Rattle.std.specs.Prelude.{◌≡◌, ◌++◌, IfOk, OnErr, OnOk};
+ghost use Rattle.si_tree.specs.KeptNodes.{content_of};
+ghost use Rattle.si_tree.specs.Reading.{children_of};
+ghost use Rattle.si_tree.specs.Renumbers.{HasNotedSplit, split_in, with_numbers, visits, AreKeysOf, exchanged, IsRenumbering, Renumbers};
+
+use crate::node::{Content, NodeId, TreeNode};
+use crate::numbers::{note_rights, renumbered};
+use crate::tree::Tree;
+use si_flat::Bindings;
+use slab::Slab;
+use std::alloc::{AllocError, Global};
+
+// A node that is to be numbered, and how many indicators are opened above it.
+#[derive(Clone, Copy)]
+struct Visit {
+    node: NodeId,
+    opened: u32,
+}
+
+// What a node is to have.
+#[derive(Drop)]
+struct Renumbered {
+    node: NodeId,
+    bindings: Bindings,
+    split: u32,
+}
+
+// What all nodes are to have, and the number above all indicators then.
+#[derive(Drop)]
+struct Renumbering {
+    nodes: Vec<Renumbered>,
+    next: u32,
+}
+
+impl TreeNode {
+    // Gives the node other bindings, and another split where it has one.
+    fn renumber(&mut self, bindings: Bindings, split: u32)
+        ensures { self.new ≡ with_numbers bindings split self.old }
+    {
+        self.bindings = bindings;
+        match &mut self.content {
+            Content::Inner(branches) => branches.split = split,
+            Content::Leaf(_) => (),
+        }
+    }
+}
+
+impl Tree {
+    /// Numbers the indicators anew: those that a node opens get the next numbers in order, from
+    /// the number of those that are opened above it. At an error the tree is as before.
+    pub fn renumber(&mut self, alloc: Global) -> Result<(), AllocError>
+        ensures ok { OnOk result (Renumbers self.old self.new) }
+        ensures err { OnErr result (self.new ≡ self.old) }
+    {
+        let Renumbering { nodes, next } = self.renumbering(alloc)?;
+        exchange(&mut self.nodes, nodes);
+        self.next = next;
+        Ok(())
+    }
+
+    // What all nodes are to have.
+    fn renumbering(&self, alloc: Global) -> Result<Renumbering, AllocError>
+        ensures { IfOk result (IsRenumbering self.now) }
+    {
+        let mut numbers = vec![in alloc; 0u32; self.next as usize]?;
+        let mut left = Vec::new(alloc);
+        left.push(Visit {
+            node: self.root,
+            opened: 1,
+        })?;
+        let mut nodes = Vec::with_capacity(alloc, self.nodes.len())?;
+        let mut next: u32 = 1;
+        while let Some(visit) = left.pop() {
+            let node = &self.nodes[visit.node.key];
+            let opened = note_rights(&mut numbers, &node.bindings, visit.opened);
+            nodes.push(Renumbered {
+                node: visit.node,
+                bindings: renumbered(alloc, numbers.as_slice(), &node.bindings)?,
+                split: split_in(&node.content, numbers.as_slice()),
+            })?;
+            stack_children(&mut left, &node.content, opened)?;
+            next = next.max(opened);
+        }
+        Ok(Renumbering { nodes, next })
+    }
+}
+
+// The number that is noted for the split, and any at a leaf.
+fn split_in(content: &Content, numbers: &[u32]) -> u32
+    requires { HasNotedSplit content.now numbers.now }
+    ensures { result ≡ split_in content.now numbers.now }
+{
+    match content {
+        Content::Inner(branches) => numbers[branches.split as usize],
+        Content::Leaf(_) => 0,
+    }
+}
+
+// Has the children wait. So many indicators are opened above them.
+fn stack_children(left: &mut Vec<Visit>, content: &Content, opened: u32) -> Result<(), AllocError>
+    ensures { OnOk result (left.new.items ≡ left.old.items ++ visits opened
+        (children_of (content_of content.now))) }
+{
+    match content {
+        Content::Inner(branches) => stack(left, branches.children.as_slice(), opened),
+        Content::Leaf(_) => Ok(()),
+    }
+}
+
+fn stack(left: &mut Vec<Visit>, children: &[NodeId], opened: u32) -> Result<(), AllocError>
+    ensures { OnOk result (left.new.items ≡ left.old.items ++ visits opened children.now) }
+{
+    for child in children {
+        left.push(Visit {
+            node: *child,
+            opened,
+        })?;
+    }
+    Ok(())
+}
+
+// Gives all these nodes what they are to have.
+fn exchange(nodes: &mut Slab<TreeNode>, all: Vec<Renumbered>)
+    requires { AreKeysOf nodes.old all.items }
+    ensures { nodes.new ≡ exchanged nodes.old all.items }
+{
+    for one in all {
+        let Renumbered {
+            node,
+            bindings,
+            split,
+        } = one;
+        let there = &mut nodes[node.key];
+        there.renumber(bindings, split);
+    }
+}

@@ -44,8 +44,8 @@ fn have_same_heads(pair: &Pair<'_>, other: &Pair<'_>) -> bool
     have_same_head(right[0], other_right[0])
 }
 
-// Whether terms that begin with these cells have the same symbol or the same variable at the head.
-fn have_same_head(one: Cell, other: Cell) -> bool
+/// Whether terms that begin with these cells have the same symbol or the same variable at the head.
+pub fn have_same_head(one: Cell, other: Cell) -> bool
     ensures { result ≡ same_head_cell one other }
 {
     match one {

@@ -1,0 +1,15 @@
+pub mod OpenedLaws
+pub mod OpenPairs
+pub mod FitLaws
+pub mod FitTurns
+pub mod PassLaws
+pub mod BindLaws
+pub mod StepLaws
+pub mod UnderwayLaws
+pub mod EndLaws
+pub mod HeadThere
+pub mod WalkLaws
+pub mod InsertLaws
+pub mod PartLaws
+pub mod PartingLaws
+pub mod AnewLaws

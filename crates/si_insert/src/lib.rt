@@ -1,0 +1,11 @@
+//! Puts postings into a substitution tree.
+#![tactic(auto)]
+
+mod fit;
+mod inserting;
+mod open;
+mod parting;
+mod pass;
+
+pub use inserting::insert;
+pub use open::Openings;

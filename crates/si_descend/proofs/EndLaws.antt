@@ -1,0 +1,116 @@
+-- Down a chain of bound variables.
+use Rattle.std.proofs.Common.{◌≡◌, ℕ, ◌+◌, ◌<◌, ◌≤◌, List, [], ◌∷◌, length, get_or, refl, sym, ◌∙◌, ap, subst, arith, Option, None, Some}
+use Rattle.std.proofs.lemmas.Option.{same_Some}
+use Rattle.std.specs.Borrow.{Bor}
+use Rattle.si_defs.specs.Terms as terms
+use Rattle.si_flat.specs.declared.Cell.{Cell}
+use Rattle.si_flat.specs.declared.Cell.TheVariants as cell
+use Rattle.si_flat.specs.Cells.{Variable, Term, variable_cell, StandsFor, IsWhole}
+use Rattle.si_trail.specs.Trails.{value_at}
+use Rattle.si_unify.specs.declared.slots.Slots.{Slots}
+use Rattle.si_unify.specs.Solving.{Pairs, variable_of, slot_of, CellIsInRange, AreInRange, Equalizes, IsSolvedBy, IsBinding, IsAcyclic}
+use Rattle.si_unify.specs.Spots.{cell_slot, IsBelow, ComesDown, IsChained, IsUnbound}
+use Rattle.si_unify.proofs.Places.{all_at, whole_at, first_cell, cell-at, inside, in_range-at, in_range-variable, variable_of-slot_of, slot_variable}
+use Rattle.si_unify.proofs.Answering.{legal_at_first}
+use Rattle.si_descend.specs.Ends.{EndsAt}
+use Rattle.si_descend.specs.Fitting.{AllowsSolving}
+
+abbrev pub no_cell : Cell
+no_cell = cell.App 0 0 0
+
+abbrev pub lent : List Cell → Bor (List Cell)
+lent cells = record { ref_ptr = (0, 0); now = cells }
+
+-- ---- one variable
+-- what a solution makes of a bound variable is what it makes of its value
+pub value_same : (slots : Slots) (pairs : Pairs) (x : Variable) (v : Bor (List Cell)) (u : Term) → CellIsInRange slots (variable_cell x) → value_at pairs (slot_of slots x) ≡ Some v → StandsFor v.now u → (f : Variable → Term) → IsSolvedBy slots pairs f → f x ≡ terms.substitute f u
+value_same slots pairs x v u range bound stands f is =
+    let here = all_at (λ pair. Equalizes f (variable_cell (variable_of slots pair.0) ∷ []) pair.1.now) pairs (slot_of slots x) v is.equal bound in
+    let name = variable_of-slot_of slots x (in_range-variable slots x range) in
+    subst (λ y. Equalizes f (variable_cell y ∷ []) v.now) name here (terms.var x) u (record { cells_are = refl; sound = tt }) stands
+
+-- where the next variable is, it ranks below
+next_below : (slots : Slots) (rank : ℕ → ℕ) (slot next : ℕ) (cells : List Cell) → ComesDown slots rank slot cells → cell_slot slots (get_or cells 0 no_cell) ≡ Some next → rank next < rank slot
+next_below slots rank slot next [] down e = absurd (by e) where
+  by : None ≡ Some next → ⊥
+  by p = cc
+next_below slots rank slot next (c ∷ cells) down e = subst (IsBelow rank slot) e down
+
+module _ (slots : Slots) (pairs : Pairs) (start : List Cell) where
+  pub record IsDown (reached : List Cell) (steps : ℕ) : Type 0 where
+    pub chained : IsChained slots pairs
+    pub bindings : (slot : ℕ) (v : Bor (List Cell)) → value_at pairs slot ≡ Some v → IsBinding slots (slot, v)
+    pub first : Term
+    pub first_stands : StandsFor start first
+    pub last : Term
+    pub last_stands : StandsFor reached last
+    pub same : (f : Variable → Term) → IsSolvedBy slots pairs f → terms.substitute f first ≡ terms.substitute f last
+    pub range : AreInRange slots reached
+    pub short : steps ≤ length pairs
+    pub low : (slot : ℕ) → cell_slot slots (get_or reached 0 no_cell) ≡ Some slot → chained.rank slot + steps ≤ length pairs
+
+  pub down_starts : (count : ℕ) → AllowsSolving slots pairs count → IsWhole start → AreInRange slots start → IsDown start 0
+  down_starts count solving whole range =
+      let chained = (legal_at_first (record { slots = slots; left = lent start; right = lent start }) pairs solving.bindings solving.triangular whole whole range range).chained in
+      record {
+        chained = chained;
+        bindings = λ slot v e. all_at (IsBinding slots) pairs slot v solving.bindings e;
+        first = whole.0;
+        first_stands = whole.1;
+        last = whole.0;
+        last_stands = whole.1;
+        same = λ f is. refl;
+        range = range;
+        short = omega arith;
+        low = λ slot e. omega (arith, chained.few slot);
+      }
+
+  pub some_reached : (reached : List Cell) (steps : ℕ) → IsDown reached steps → 0 < length reached
+  some_reached reached steps h = inside reached 0 h.last (whole_at reached h.last h.last_stands)
+
+  head_of : (reached : List Cell) (steps : ℕ) (h : IsDown reached steps) → get_or reached 0 no_cell ≡ first_cell h.last
+  head_of reached steps h = cell-at reached 0 h.last no_cell (whole_at reached h.last h.last_stands)
+
+  pub down_further : (reached : List Cell) (steps slot : ℕ) (v : Bor (List Cell)) → IsDown reached steps → Some slot ≡ cell_slot slots (get_or reached 0 no_cell) → Some v ≡ value_at pairs slot → IsDown v.now (steps + 1)
+  down_further reached steps slot v h here bound =
+      let binding = h.bindings slot v (sym bound) in
+      let x = slot_variable slots h.last slot (sym (here ∙ ap (cell_slot slots) (head_of reached steps h))) in
+      let range : CellIsInRange slots (variable_cell x.0) = subst (CellIsInRange slots) (head_of reached steps h ∙ ap first_cell x.1) (in_range-at slots reached 0 no_cell h.range (some_reached reached steps h)) in
+      let positive = all_at (λ pair. 0 < h.chained.rank pair.0) pairs slot v h.chained.positive (sym bound) in
+      let down = all_at (λ pair. ComesDown slots h.chained.rank pair.0 pair.1.now) pairs slot v h.chained.down (sym bound) in
+      let low = h.low slot (sym here) in
+      record {
+        chained = h.chained;
+        bindings = h.bindings;
+        first = h.first;
+        first_stands = h.first_stands;
+        last = binding.whole.0;
+        last_stands = binding.whole.1;
+        same = λ f is. h.same f is ∙ ap (terms.substitute f) x.1 ∙ value_same slots pairs x.0 v binding.whole.0 range (ap (value_at pairs) x.2 ∙ sym bound) binding.whole.1 f is;
+        range = binding.in_range;
+        short = omega (arith, low, positive);
+        low = λ next e. omega (arith, low, next_below slots h.chained.rank slot next v.now down e);
+      }
+
+  ended : (reached : List Cell) (steps : ℕ) → IsDown reached steps → IsUnbound pairs (cell_slot slots (get_or reached 0 no_cell)) → EndsAt slots pairs start reached
+  ended reached steps h unbound = record {
+    first = h.first;
+    first_stands = h.first_stands;
+    last = h.last;
+    last_stands = h.last_stands;
+    same = h.same;
+    unbound = unbound;
+  }
+
+  pub ends_unbound : (reached : List Cell) (steps : ℕ) (h : IsDown reached steps) (o : Option ℕ) → o ≡ cell_slot slots (get_or reached 0 no_cell) → IsUnbound pairs o → EndsAt slots pairs start reached
+  ends_unbound reached steps h o e unbound = ended reached steps h (subst (IsUnbound pairs) e unbound)
+
+  pub ends_full : (reached : List Cell) (steps : ℕ) (h : IsDown reached steps) → length pairs ≤ steps → EndsAt slots pairs start reached
+  ends_full reached steps h full = ended reached steps h (by (cell_slot slots (get_or reached 0 no_cell)) refl) where
+    bound : (slot : ℕ) → cell_slot slots (get_or reached 0 no_cell) ≡ Some slot → (o : Option (Bor (List Cell))) → value_at pairs slot ≡ o → value_at pairs slot ≡ None
+    bound slot here None e = e
+    bound slot here (Some v) e = absurd (omega (arith, full, h.low slot here, all_at (λ pair. 0 < h.chained.rank pair.0) pairs slot v h.chained.positive e))
+
+    by : (o : Option ℕ) → cell_slot slots (get_or reached 0 no_cell) ≡ o → IsUnbound pairs o
+    by None e = tt
+    by (Some slot) e = bound slot e (value_at pairs slot) refl

@@ -1,0 +1,102 @@
+-- What is known once a node's bindings fit, for each relation.
+use Rattle.std.proofs.Common.{◌≡◌, ◌↔◌, ◌≤◌, ℕ, Bool, true, false, IsTrue, List, length, take, Option, Some, refl, ap, sym, ◌∙◌, subst}
+use Rattle.si_defs.specs.Substitutions.{Substitution, Grows}
+use Rattle.si_defs.specs.declared.Relation.{Relation}
+use Rattle.si_defs.specs.declared.Relation.TheVariants.{Variants, Instances, Generalizations, Unifiable}
+use Rattle.si_flat.specs.Cells.{Symbol, Variable, query, Term, StandsFor}
+use Rattle.si_flat.specs.Rows.{CellPair}
+use Rattle.si_trail.specs.Trails.{HasDistinctSlots}
+use Rattle.si_unify.specs.declared.slots.Slots.{Slots}
+use Rattle.si_unify.specs.Solving.{Pairs, IsSolution}
+use Rattle.si_unify.proofs.Reading.{one_term}
+use Rattle.si_unify.proofs.Answering.{front_of}
+use Rattle.si_legal.specs.Bindings.{StandForBindings}
+use Rattle.si_legal.specs.Trees.{Node, Tree, HasNode, Path, IsPath, path_term}
+use Rattle.si_legal.specs.OpenNodes.{RenamesEntry}
+use Rattle.si_changes.proofs.Frames.{legal_nodes}
+use Rattle.si_descend.specs.declared.search.Search.{Search}
+use Rattle.si_descend.specs.Descending.{Freezes, HasRoom, Renames}
+use Rattle.si_descend.specs.Fitting.{AllowsSolving, HasFitted}
+use Rattle.si_descend.specs.Renaming.{FreezesQuery, bound_variables, IsRenaming, IsRenamingFirst}
+use Rattle.si_descend.specs.Searching.{IsReady, KeepsApart, HasComeTo, HasEntered, IsOpenAt, IsClosedAt}
+use Rattle.si_descend.proofs.Entering.{numbered, entered_shows, entered_open, open_entered}
+use Rattle.si_descend.proofs.VariantLaws.{renaming_open, open_renaming}
+
+untold : false ≡ true → ⊥
+untold e = cc
+
+plain_apart : (kind : Relation) (slots : Slots) (pairs : Pairs) → (kind ≡ Variants → ⊥) → KeepsApart kind slots pairs
+plain_apart Variants slots pairs other = absurd (other refl)
+plain_apart Instances slots pairs other = tt
+plain_apart Generalizations slots pairs other = tt
+plain_apart Unifiable slots pairs other = tt
+
+plain_renames : (kind : Relation) (t : Term) (s : Substitution Symbol Variable) → (kind ≡ Variants → ⊥) → Renames kind t s
+plain_renames Variants t s other = absurd (other refl)
+plain_renames Instances t s other = tt
+plain_renames Generalizations t s other = tt
+plain_renames Unifiable t s other = tt
+
+pub instances_differ : (kind : Relation) → kind ≡ Instances → kind ≡ Variants → ⊥
+instances_differ kind e f = by (sym e ∙ f) where
+  by : Instances ≡ Variants → ⊥
+  by p = cc
+
+pub generalizations_differ : (kind : Relation) → kind ≡ Generalizations → kind ≡ Variants → ⊥
+generalizations_differ kind e f = by (sym e ∙ f) where
+  by : Generalizations ≡ Variants → ⊥
+  by p = cc
+
+pub unifiable_differ : (kind : Relation) → kind ≡ Unifiable → kind ≡ Variants → ⊥
+unifiable_differ kind e f = by (sym e ∙ f) where
+  by : Unifiable ≡ Variants → ⊥
+  by p = cc
+
+pub variants_freeze : (search : Search) → IsReady search → search.kind ≡ Variants → FreezesQuery search.slots
+variants_freeze search ready is = subst (λ k. Freezes k search.slots) is ready.freezes
+
+module _ (search : Search) (ready : IsReady search) (key : ℕ) (node : Node Term) (has : HasNode search.tree.now key node) (rows : List CellPair) (stand : StandForBindings rows node.bindings) (old : Pairs) (above : HasComeTo search node.parent old) (new : Pairs) where
+  pub entered_plain : (b : Bool) → HasFitted search.slots old new rows b → b ≡ true → (search.kind ≡ Variants → ⊥) → HasEntered search key new true
+  entered_plain b fits is other =
+      let fitted : HasFitted search.slots old new rows true = subst (HasFitted search.slots old new rows) is fits in (
+        record {
+          shows = entered_shows search ready key node has rows stand old above new fitted;
+          solution = fitted.0;
+          apart = plain_apart search.kind search.slots new other;
+        },
+        entered_open search ready key node has rows stand old above new fitted fitted.0.0 fitted.0.1 (λ path reached. plain_renames search.kind (path_term path) fitted.0.0 other),
+      )
+
+  -- what was known of the bindings above
+  pub known_first : (known : ℕ) (b : Bool) → HasFitted search.slots old new rows b → b ≡ true → search.kind ≡ Variants → known ≡ length old → Grows old new → IsRenamingFirst search.slots new known
+  known_first known b fits is variants e grows s h =
+      let fitted : HasFitted search.slots old new rows true = subst (HasFitted search.slots old new rows) is fits in
+      let apart : IsRenaming search.slots old = subst (λ k. KeepsApart k search.slots old) variants above.apart in
+      subst (λ l. RenamesEntry (bound_variables search.slots l) s) (sym (front_of old new grows) ∙ ap (λ n. take n new) (sym e)) (apart s ((fitted.1 s).0 h).0)
+
+  module _ (variants : search.kind ≡ Variants) (count : ℕ) (solving : AllowsSolving search.slots new count) (distinct : HasDistinctSlots new) where
+    room : (q : Term) → StandsFor search.query.now q → HasRoom search.slots search.tree.now q
+    room q h = subst (HasRoom search.slots search.tree.now) (one_term search.query.now ready.term q ready.query.stands h) ready.room
+
+    pub entered_variants : (b c : Bool) → HasFitted search.slots old new rows b → b ≡ true → IsTrue c ↔ IsRenaming search.slots new → HasEntered search key new c
+    entered_variants b true fits is tells =
+        let fitted : HasFitted search.slots old new rows true = subst (HasFitted search.slots old new rows) is fits in
+        let renaming : IsRenaming search.slots new = tells.0 refl in (
+          record {
+            shows = entered_shows search ready key node has rows stand old above new fitted;
+            solution = fitted.0;
+            apart = subst (λ k. KeepsApart k search.slots new) (sym variants) renaming;
+          },
+          λ q path h reached.
+              entered_open search ready key node has rows stand old above new fitted fitted.0.0 fitted.0.1
+              (λ p r.
+              subst (λ k. Renames k (path_term p) fitted.0.0) (sym variants)
+              (renaming_open search.tree.now (legal_nodes search.tree.now ready.legal) search.slots (variants_freeze search ready variants) q (numbered search ready key node has rows stand old above q h) (room q h) (Some key) p r new count
+              (entered_shows search ready key node has rows stand old above new fitted q p h r) solving distinct fitted.0.0 fitted.0.1 renaming))
+              q path h reached,
+        )
+    entered_variants b false fits is tells = λ q path h reached is_open.
+        let fitted : HasFitted search.slots old new rows true = subst (HasFitted search.slots old new rows) is fits in
+        let s = open_entered search ready key node has rows stand old above new fitted q path h reached is_open in
+        untold (tells.1 (open_renaming search.tree.now (legal_nodes search.tree.now ready.legal) search.slots (variants_freeze search ready variants) q (numbered search ready key node has rows stand old above q h) (room q h) (Some key) path reached new count
+        (entered_shows search ready key node has rows stand old above new fitted q path h reached) solving distinct s.0 s.1 (subst (λ k. Renames k (path_term path) s.0) variants s.2)))

@@ -1,0 +1,76 @@
+-- The turns of a loop that makes bindings fit.
+use Rattle.std.proofs.Common.{◌≡◌, ◌↔◌, ℕ, Bool, true, false, List, [], ◌∷◌, refl, sym, ◌∙◌, ap, subst, append-nil}
+use Rattle.std.specs.List.{AllByRecursion}
+use Rattle.si_defs.specs.Substitutions.{Substitution, image, Grows}
+use Rattle.si_flat.specs.declared.Cell.{Cell}
+use Rattle.si_flat.specs.declared.Cell.TheVariants as cell
+use Rattle.si_flat.specs.Cells.{Symbol, Variable, same_variable, Term, IsWhole, StandsFor, ind}
+use Rattle.si_flat.specs.Rows.{CellPair}
+use Rattle.si_defs.specs.Terms as terms
+use Rattle.si_unify.specs.declared.slots.Slots.{Slots}
+use Rattle.si_unify.specs.Solving.{Pairs, CellIsInRange, AreInRange, Equalizes, IsSolution, HasSolved}
+use Rattle.si_unify.proofs.Comparing.{grows_on}
+use Rattle.si_descend.specs.Fitting.{AllowsSolving, AreRowsInRange, EqualizesRows, HasSolution, HasFitted}
+
+pub no_more : {X : Type 0} (xs : List X) → Grows xs xs
+no_more xs = ([], sym (append-nil xs))
+
+-- an indicator by itself
+pub indicator_whole : (cells : List Cell) (n : ℕ) → cells ≡ cell.Ind n ∷ [] → IsWhole cells
+indicator_whole cells n e = (terms.var (ind n), record { cells_are = e; sound = tt })
+
+pub indicator_range : (slots : Slots) (cells : List Cell) (n : ℕ) → cells ≡ cell.Ind n ∷ [] → CellIsInRange slots (cell.Ind n) → AreInRange slots cells
+indicator_range slots cells n e h = subst (AreInRange slots) (sym e) (h, tt)
+
+module _ (slots : Slots) (old : Pairs) (rows : List CellPair) (count : ℕ) where
+  -- with the bindings that are left, the solutions are those of the old list with all of them
+  pub record FitsSoFar (pairs : Pairs) (left : List CellPair) : Type 0 where
+    pub so_far : (s : Substitution Symbol Variable) → (IsSolution slots pairs s × EqualizesRows (image same_variable s) left) ↔ (IsSolution slots old s × EqualizesRows (image same_variable s) rows)
+    pub some : HasSolution slots pairs
+    pub grows : Grows old pairs
+    pub ready : AllowsSolving slots pairs count
+    pub range : AreRowsInRange slots left
+
+  pub fits_start : (left : List CellPair) → left ≡ rows → HasSolution slots old → AllowsSolving slots old count → AreRowsInRange slots rows → FitsSoFar old left
+  fits_start left e some ready range = record {
+    so_far = subst (λ l. (s : Substitution Symbol Variable) → (IsSolution slots old s × EqualizesRows (image same_variable s) l) ↔ (IsSolution slots old s × EqualizesRows (image same_variable s) rows)) (sym e) (λ s. (λ h. h, λ h. h));
+    some = some;
+    grows = no_more old;
+    ready = ready;
+    range = subst (AreRowsInRange slots) (sym e) range;
+  }
+
+  module _ (pairs : Pairs) (left rest : List CellPair) (row : CellPair) (first : left ≡ row ∷ rest) (h : FitsSoFar pairs left) where
+    pub row_range : CellIsInRange slots (cell.Ind row.0) × AreInRange slots row.1
+    row_range = (subst (AreRowsInRange slots) first h.range).0
+
+    so_far : (s : Substitution Symbol Variable) → (IsSolution slots pairs s × EqualizesRows (image same_variable s) (row ∷ rest)) ↔ (IsSolution slots old s × EqualizesRows (image same_variable s) rows)
+    so_far = subst (λ l. (s : Substitution Symbol Variable) → (IsSolution slots pairs s × EqualizesRows (image same_variable s) l) ↔ (IsSolution slots old s × EqualizesRows (image same_variable s) rows)) first h.so_far
+
+    pub fits_more : (new : Pairs) (s t : List Cell) (b : Bool) → s ≡ cell.Ind row.0 ∷ [] → t ≡ row.1 → HasSolved slots pairs new s t b → b ≡ true → Grows pairs new → AllowsSolving slots new count → FitsSoFar new rest
+    fits_more new s t b e f solved is grows ready = record {
+      so_far = λ m. (
+        λ g. (so_far m).0 (let c = (both.1 m).0 g.0 in (c.0, (c.1, g.1))),
+        λ g. (let c = (so_far m).1 g in ((both.1 m).1 (c.0, c.1.0), c.1.1)),
+      );
+      some = (both.0.0, (both.1 both.0.0).1 both.0.1);
+      grows = grows_on old pairs new h.grows grows;
+      ready = ready;
+      range = (subst (AreRowsInRange slots) first h.range).1;
+    } where
+      both : HasSolved slots pairs new (cell.Ind row.0 ∷ []) row.1 true
+      both = subst (λ l. HasSolved slots pairs new l row.1 true) e (subst (λ l. HasSolved slots pairs new s l true) f (subst (HasSolved slots pairs new s t) is solved))
+
+    pub fits_not : (new : Pairs) (s t : List Cell) (b : Bool) → s ≡ cell.Ind row.0 ∷ [] → t ≡ row.1 → HasSolved slots pairs new s t b → b ≡ false → HasFitted slots old new rows false
+    fits_not new s t b e f solved is =
+        let none : HasSolved slots pairs new (cell.Ind row.0 ∷ []) row.1 false = subst (λ l. HasSolved slots pairs new l row.1 false) e (subst (λ l. HasSolved slots pairs new s l false) f (subst (HasSolved slots pairs new s t) is solved)) in
+        λ m g k. let c = (so_far m).1 (g, k) in none (m, (c.0, c.1.0))
+
+  pub fits_end : (pairs : Pairs) (left : List CellPair) → left ≡ [] → FitsSoFar pairs left → HasFitted slots old pairs rows true
+  fits_end pairs left e h = (
+    h.some,
+    λ s. (
+      λ g. (h.so_far s).0 (g, subst (EqualizesRows (image same_variable s)) (sym e) tt),
+      λ g. ((h.so_far s).1 g).0,
+    ),
+  )

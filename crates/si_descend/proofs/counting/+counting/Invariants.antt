@@ -1,0 +1,23 @@
+use Rattle.std.proofs.Common.{◌≡◌, ◌+◌, ◌-◌, ◌*◌, take}
+use Rattle.si_legal.specs.Counts.{node_count}
+use Rattle.si_descend.specs.Counting.{HasCountedBelow}
+use Rattle.si_descend.specs.Searching.{depth}
+use Rattle.si_descend.proofs.counting.+counting.Given as goal
+
+abbrev pub decreases-count_at : goal.decreases-count_at
+decreases-count_at l = 2 * (node_count l.search.now.tree.now - depth l.search.now.tree.now l.node) + 1
+
+abbrev pub decreases-count_children : goal.decreases-count_children
+decreases-count_children l = 2 * (node_count l.search.now.tree.now - depth l.search.now.tree.now l.node)
+
+pub record Invariant (counted pairs slots : Type 0) : Type 0 where
+  pub counted_so_far : counted
+  pub same_pairs : pairs
+  pub same_slots : slots
+
+abbrev pub invariant-count_children-loop-i : goal.invariant-count_children-loop-i
+invariant-count_children-loop-i l =
+    Invariant
+    (HasCountedBelow l.search (take l.i l.children) (record { passed = l.passed; answers = l.answers }))
+    (l.trail.pairs ≡ l.fn.trail.pairs)
+    (l.trail.slots ≡ l.fn.trail.slots)

@@ -1,0 +1,12 @@
+use Rattle.std.proofs.Common.{◌≡◌}
+use Rattle.si_descend.proofs.FitTurns.{FitsSoFar}
+use Rattle.si_descend.proofs.fit.fit.Given as goal
+
+pub record Invariant (fits slots : Type 0) : Type 0 where
+  pub fits_so_far : fits
+  pub same_slots : slots
+
+abbrev pub invariant-loop-pair : goal.invariant-loop-pair
+invariant-loop-pair l =
+    Invariant (FitsSoFar l.slots l.fn.trail.pairs l.bindings l.fn.trail.slots l.trail.pairs l.pair-iterator)
+    (l.trail.slots ≡ l.fn.trail.slots)

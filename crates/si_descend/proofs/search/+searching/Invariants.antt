@@ -1,0 +1,22 @@
+use Rattle.std.proofs.Common.{◌≡◌, ◌+◌, ◌-◌, ◌*◌, take}
+use Rattle.si_legal.specs.Counts.{node_count}
+use Rattle.si_descend.specs.Searching.{HasFoundBelow, depth}
+use Rattle.si_descend.proofs.search.+searching.Given as goal
+
+abbrev pub decreases-visit : goal.decreases-visit
+decreases-visit l = 2 * (node_count l.search.now.tree.now - depth l.search.now.tree.now l.node) + 1
+
+abbrev pub decreases-visit_children : goal.decreases-visit_children
+decreases-visit_children l = 2 * (node_count l.search.now.tree.now - depth l.search.now.tree.now l.node)
+
+pub record Invariant (found pairs slots : Type 0) : Type 0 where
+  pub found_so_far : found
+  pub same_pairs : pairs
+  pub same_slots : slots
+
+abbrev pub invariant-visit_children-loop-i : goal.invariant-visit_children-loop-i
+invariant-visit_children-loop-i l =
+    Invariant
+    (HasFoundBelow l.search (take l.i l.children) l.fn.out.items l.out.items l.count)
+    (l.trail.pairs ≡ l.fn.trail.pairs)
+    (l.trail.slots ≡ l.fn.trail.slots)

@@ -1,0 +1,39 @@
+use Rattle.std.proofs.Common.{length, ap, sym, subst, arith}
+use Rattle.si_descend.specs.Fitting.{HasFitted}
+use Rattle.si_descend.proofs.Entering.{entered_range, never_entered}
+use Rattle.si_descend.proofs.Entered.{entered_plain, entered_variants, known_first, variants_freeze, instances_differ, generalizations_differ, unifiable_differ}
+use Rattle.si_descend.proofs.search.enter.Goals as goal
+
+pub fit-requires-clause-range : goal.fit-requires-clause-range
+fit-requires-clause-range c =
+    let node = c.requires.node in
+    entered_range c.args.search.now c.requires.ready c.args.node node.0 node.1 c.bindings.result.now (c.bindings.ensures node.0 node.1) c.args.trail.now.pairs (c.requires.above node.0 node.1)
+
+pub fit-requires-clause-solution : goal.fit-requires-clause-solution
+fit-requires-clause-solution c = (c.requires.above c.requires.node.0 c.requires.node.1).solution
+
+pub returns-then-not-branch-clause-enters : goal.returns-then-not-branch-clause-enters
+returns-then-not-branch-clause-enters c =
+    let node = c.requires.node in
+    never_entered c.args.search.now c.requires.ready c.args.node node.0 node.1 c.bindings.result.now (c.bindings.ensures node.0 node.1) c.args.trail.now.pairs (c.requires.above node.0 node.1) c.fit.new.trail.pairs
+    (subst (HasFitted c.args.search.now.slots c.args.trail.now.pairs c.fit.new.trail.pairs c.bindings.result.now) c.if-not-branch.true c.in_ok-fit.ensures.fits)
+
+pub returns-in-Instances-clause-enters : goal.returns-in-Instances-clause-enters
+returns-in-Instances-clause-enters c =
+    let node = c.requires.node in
+    entered_plain c.args.search.now c.requires.ready c.args.node node.0 node.1 c.bindings.result.now (c.bindings.ensures node.0 node.1) c.args.trail.now.pairs (c.requires.above node.0 node.1) c.fit.new.trail.pairs c.in_ok-fit.field-0 c.in_ok-fit.ensures.fits c.if-not-branch.false (instances_differ c.args.search.now.kind c.in-Instances.is)
+
+pub returns-in-Generalizations-clause-enters : goal.returns-in-Generalizations-clause-enters
+returns-in-Generalizations-clause-enters c =
+    let node = c.requires.node in
+    entered_plain c.args.search.now c.requires.ready c.args.node node.0 node.1 c.bindings.result.now (c.bindings.ensures node.0 node.1) c.args.trail.now.pairs (c.requires.above node.0 node.1) c.fit.new.trail.pairs c.in_ok-fit.field-0 c.in_ok-fit.ensures.fits c.if-not-branch.false (generalizations_differ c.args.search.now.kind c.in-Generalizations.is)
+
+pub returns-in-Unifiable-clause-enters : goal.returns-in-Unifiable-clause-enters
+returns-in-Unifiable-clause-enters c =
+    let node = c.requires.node in
+    entered_plain c.args.search.now c.requires.ready c.args.node node.0 node.1 c.bindings.result.now (c.bindings.ensures node.0 node.1) c.args.trail.now.pairs (c.requires.above node.0 node.1) c.fit.new.trail.pairs c.in_ok-fit.field-0 c.in_ok-fit.ensures.fits c.if-not-branch.false (unifiable_differ c.args.search.now.kind c.in-Unifiable.is)
+
+pub returns-in-Variants-clause-enters : goal.returns-in-Variants-clause-enters
+returns-in-Variants-clause-enters c =
+    let node = c.requires.node in
+    entered_variants c.args.search.now c.requires.ready c.args.node node.0 node.1 c.bindings.result.now (c.bindings.ensures node.0 node.1) c.args.trail.now.pairs (c.requires.above node.0 node.1) c.fit.new.trail.pairs c.in-Variants.is c.fit.new.trail.slots c.in_ok-fit.ensures.ready c.is_renaming.ensures.distinct c.in_ok-fit.field-0 c.is_renaming.result c.in_ok-fit.ensures.fits c.if-not-branch.false c.is_renaming.ensures.renaming

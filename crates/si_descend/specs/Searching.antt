@@ -1,0 +1,83 @@
+-- What the search of a tree knows at a node, and what it finds below it.
+use Rattle.std.specs.Prelude.{ℕ, zero, suc, ◌<◌, ◌^◌, Bool, true, false, List, Option, None, Some, slice_index_or}
+use Rattle.si_defs.specs.declared.Relation.{Relation}
+use Rattle.si_defs.specs.declared.Relation.TheVariants.{Variants, Instances, Generalizations, Unifiable}
+use Rattle.si_flat.specs.Cells.{Term, StandsFor}
+use Rattle.si_unify.specs.declared.slots.Slots.{Slots}
+use Rattle.si_unify.specs.Solving.{Pairs}
+use Rattle.si_legal.specs.declared.Posting.{Posting}
+use Rattle.si_legal.specs.Counts.{node_count}
+use Rattle.si_legal.specs.Engines.{AppendsAnswers}
+use Rattle.si_legal.specs.Trees.{Node, Tree, Path, IsPath, path_term}
+use Rattle.si_legal.specs.Legal.{IsLegal}
+use Rattle.si_legal.specs.OpenNodes.{IsOpen}
+use Rattle.si_descend.specs.declared.search.Search.{Search}
+use Rattle.si_descend.specs.Descending.{Freezes, HasRoom, ShowsPath, IsQueryTerm}
+use Rattle.si_descend.specs.Answers.{Finds, CountsBelow, IsAnswerBelow}
+use Rattle.si_descend.specs.Fitting.{HasSolution}
+use Rattle.si_descend.specs.Renaming.{IsRenaming}
+
+-- what a search is for
+pub record IsReady (search : Search) : Type 0 where
+  pub legal : IsLegal search.tree.now
+  pub small : node_count search.tree.now < 2 ^ 64
+  pub term : Term
+  pub query : IsQueryTerm search.query.now term
+  pub freezes : Freezes search.kind search.slots
+  pub room : HasRoom search.slots search.tree.now term
+
+-- ---- at a node
+abbrev pub KeepsApart : Relation → Slots → Pairs → Type 0
+KeepsApart Variants slots pairs = IsRenaming slots pairs
+KeepsApart relation slots pairs = Unit {0}
+
+-- The bindings of the node with this key and of those above it are solved. No key stands for what
+-- is above the root.
+pub record HasComeTo (search : Search) (key : Option ℕ) (pairs : Pairs) : Type 0 where
+  pub shows : (q : Term) (path : Path)
+      → StandsFor search.query.now q → IsPath search.tree.now key path
+      → ShowsPath search.slots pairs q path
+  pub solution : HasSolution search.slots pairs
+  pub apart : KeepsApart search.kind search.slots pairs
+
+abbrev pub IsOpenAt : Search → ℕ → Type 0
+IsOpenAt search key =
+    (q : Term) (path : Path)
+    → StandsFor search.query.now q → IsPath search.tree.now (Some key) path
+    → IsOpen search.kind q (path_term path)
+
+abbrev pub IsClosedAt : Search → ℕ → Type 0
+IsClosedAt search key =
+    (q : Term) (path : Path)
+    → StandsFor search.query.now q → IsPath search.tree.now (Some key) path
+    → IsOpen search.kind q (path_term path) → ⊥
+
+abbrev pub HasEntered : Search → ℕ → Pairs → Bool → Type 0
+HasEntered search key pairs true = HasComeTo search (Some key) pairs × IsOpenAt search key
+HasEntered search key pairs false = IsClosedAt search key
+
+-- ---- what is found
+abbrev pub HasFound : Search → ℕ → List Posting → List Posting → ℕ → Type 0
+HasFound search top = Finds search.tree.now top search.kind search.query.now
+
+pub record HasFoundBelow (search : Search) (tops : List ℕ) (old new : List Posting) (n : ℕ)
+    : Type 0 where
+  pub counts : (q : Term) → StandsFor search.query.now q
+      → CountsBelow search.tree.now tops search.kind q n
+  pub appends : (q : Term) → StandsFor search.query.now q
+      → AppendsAnswers (IsAnswerBelow search.tree.now tops search.kind q) old new
+
+-- ---- how far down a node stands
+abbrev pub one_deeper : (Option ℕ → ℕ) → Option (Node Term) → ℕ
+one_deeper above None = 0
+one_deeper above (Some node) = suc (above node.parent)
+
+-- the number of nodes on its path, where that is no more than this
+abbrev pub depth_within : ℕ → Tree Term → Option ℕ → ℕ
+depth_within most tree None = 0
+depth_within zero tree (Some key) = 0
+depth_within (suc most) tree (Some key) =
+    one_deeper (depth_within most tree) (slice_index_or tree.nodes key None)
+
+abbrev pub depth : Tree Term → ℕ → ℕ
+depth tree key = depth_within (node_count tree) tree (Some key)

@@ -1,0 +1,199 @@
+// The calls: a descent from a node, and one of the whole tree.
+ghost use Rattle.std.specs.Prelude.{◌≡◌, ◌↔◌, ◌^◌, IsTrue, IfOk, OnOk, OnErr, length};
+ghost use Rattle.si_defs.specs.Substitutions.{Grows};
+ghost use Rattle.si_trail.specs.Trails.{HasDistinctSlots};
+ghost use Rattle.si_flat.specs.Cells.{IsWhole};
+ghost use Rattle.si_tree.specs.Reading.{IsNode};
+ghost use Rattle.si_descend.specs.Answers.{Finds, Retrieves};
+ghost use Rattle.si_descend.specs.Counting.{CountsAnswers, HasCounted};
+ghost use Rattle.si_descend.specs.Descending.{Freezes, HasRoomFor, IsQuery, ShowsAbove};
+ghost use Rattle.si_descend.specs.Fitting.{AllowsSolving};
+ghost use Rattle.si_descend.specs.Searching.{IsReady, KeepsApart, HasFound};
+
+use crate::counting::{Counted, count_at};
+use crate::search::{Search, visit};
+use crate::variants::is_renaming;
+use si_flat::{Cell, Flat, Kind};
+use si_legal::Posting;
+use si_trail::Trail;
+use si_tree::{NodeId, Tree};
+use si_unify::{Scratch, Slots};
+use std::alloc::{AllocError, Global};
+
+/// Appends the postings of the terms that are stored below a node or at it and stand in the
+/// relation to the query. It answers how many nodes are open there.
+///
+/// On the trail the bindings of the nodes above are solved, with indicator 0 for the query. It is
+/// as before in the end. At an error the postings are as before too.
+pub fn descend<'a>(
+    alloc: Global,
+    tree: &'a Tree,
+    node: NodeId,
+    kind: Kind,
+    query: &'a Flat,
+    slots: &Slots,
+    trail: &mut Trail<&'a [Cell]>,
+    out: &mut Vec<Posting>,
+) -> Result<u64, AllocError>
+    requires node { IsNode tree.now node }
+    requires query { IsQuery query.now }
+    requires freezes { Freezes kind slots.now }
+    requires room { HasRoomFor slots.now tree.now query.now }
+    requires solving { AllowsSolving slots.now trail.old.pairs trail.old.slots }
+    requires above { ShowsAbove slots.now trail.old.pairs tree.now node query.now }
+    ensures finds { IfOk result (Finds tree.now node kind query.now out.old.items out.new.items) }
+    ensures err { OnErr result (out.new.items ≡ out.old.items) }
+    ensures pairs { trail.new.pairs ≡ trail.old.pairs }
+    ensures slots { trail.new.slots ≡ trail.old.slots }
+{
+    let search = Search::new(tree, kind, query, *slots);
+    let mark = trail.mark();
+    let before = out.len();
+    let mut scratch = Scratch::new(alloc);
+    match search_below(&search, node, &mut scratch, trail, out) {
+        Ok(count) => Ok(count),
+        Err(error) => {
+            trail.undo(mark);
+            out.truncate(before);
+            Err(error)
+        }
+    }
+}
+
+/// Appends the postings of the stored terms that stand in the relation to the query. It answers how
+/// many nodes of the tree are open. At an error the postings are as before.
+pub fn retrieve(
+    alloc: Global,
+    tree: &Tree,
+    kind: Kind,
+    query: &Flat,
+    out: &mut Vec<Posting>,
+) -> Result<u64, AllocError>
+    requires { IsQuery query.now }
+    ensures retrieves { IfOk result (Retrieves tree.now kind query.now
+        out.old.items out.new.items) }
+    ensures err { OnErr result (out.new.items ≡ out.old.items) }
+{
+    let root = tree.root();
+    let cells = query.cells();
+    let slots = slots_for(tree, kind, cells);
+    let mut trail = Trail::with_slots(alloc, slots.count())?;
+    trail.bind(slots.query as usize + slots.entry as usize, cells);
+    descend(alloc, tree, root, kind, query, &slots, &mut trail, out)
+}
+
+/// Counts the postings that [`retrieve`] would append, and the open nodes. It copies no posting.
+pub fn count(alloc: Global, tree: &Tree, kind: Kind, query: &Flat) -> Result<Counted, AllocError>
+    requires { IsQuery query.now }
+    ensures { IfOk result (CountsAnswers tree.now kind query.now) }
+{
+    let root = tree.root();
+    let cells = query.cells();
+    let slots = slots_for(tree, kind, cells);
+    let mut trail = Trail::with_slots(alloc, slots.count())?;
+    trail.bind(slots.query as usize + slots.entry as usize, cells);
+    let search = Search::new(tree, kind, query, slots);
+    let mut scratch = Scratch::new(alloc);
+    count_below(&search, root, &mut scratch, &mut trail)
+}
+
+// Counts below a node or at it.
+fn count_below<'a>(
+    search: &Search<'a>,
+    node: NodeId,
+    scratch: &mut Scratch,
+    trail: &mut Trail<&'a [Cell]>,
+) -> Result<Counted, AllocError>
+    requires node { IsNode search.now.tree.now node }
+    requires ready { IsReady search.now }
+    requires solving { AllowsSolving search.now.slots trail.old.pairs trail.old.slots }
+    requires above { ShowsAbove search.now.slots trail.old.pairs search.now.tree.now node
+        search.now.query.now }
+    ensures { IfOk result (HasCounted search.now node) }
+{
+    // So no slot of the trail is known to be bound twice.
+    trail.mark();
+    if !keeps_apart(search, trail) {
+        return Ok(Counted {
+            passed: 0,
+            answers: 0,
+        });
+    }
+    count_at(search, node, scratch, trail)
+}
+
+// Slots for the query, and for all numbers of the tree. A query has no more variables than cells.
+fn slots_for(tree: &Tree, kind: Kind, query: &[Cell]) -> Slots
+    requires { IsWhole query.now }
+    ensures query { result.query ≡ length query.now }
+    ensures entry { result.entry ≡ tree.now.vars }
+    ensures inds { result.inds ≡ tree.now.next }
+    ensures freezes { Freezes kind result }
+{
+    let (freeze_query, freeze_entry) = match kind {
+        Kind::Variants => (true, false),
+        Kind::Instances => (false, true),
+        Kind::Generalizations => (true, false),
+        Kind::Unifiable => (false, false),
+    };
+    Slots {
+        query: length_of(query),
+        entry: tree.vars(),
+        inds: tree.next(),
+        freeze_query,
+        freeze_entry,
+    }
+}
+
+// The number of cells of a term, which its first cell has.
+fn length_of(cells: &[Cell]) -> u32
+    requires { IsWhole cells.now }
+    ensures { result ≡ length cells.now }
+{
+    match cells[0] {
+        Cell::App { len, .. } => len,
+        Cell::Query(_) => 1,
+        Cell::Entry(_) => 1,
+        Cell::Ind(_) => 1,
+    }
+}
+
+// The same, but that where memory runs out, bindings and postings may be left.
+fn search_below<'a>(
+    search: &Search<'a>,
+    node: NodeId,
+    scratch: &mut Scratch,
+    trail: &mut Trail<&'a [Cell]>,
+    out: &mut Vec<Posting>,
+) -> Result<u64, AllocError>
+    requires node { IsNode search.now.tree.now node }
+    requires ready { IsReady search.now }
+    requires solving { AllowsSolving search.now.slots trail.old.pairs trail.old.slots }
+    requires distinct { HasDistinctSlots trail.old.pairs }
+    requires above { ShowsAbove search.now.slots trail.old.pairs search.now.tree.now node
+        search.now.query.now }
+    ensures found { IfOk result (HasFound search.now node out.old.items out.new.items) }
+    ensures same { OnOk result (trail.new.pairs ≡ trail.old.pairs) }
+    ensures grows { Grows trail.old.pairs trail.new.pairs }
+    ensures out_grows { Grows out.old.items out.new.items }
+    ensures slots { trail.new.slots ≡ trail.old.slots }
+{
+    if !keeps_apart(search, trail) {
+        return Ok(0);
+    }
+    visit(search, node, scratch, trail, out)
+}
+
+// Whether the bindings of the nodes above leave them open, where these are solved.
+fn keeps_apart(search: &Search<'_>, trail: &Trail<&[Cell]>) -> bool
+    requires ready { IsReady search.now }
+    requires solving { AllowsSolving search.now.slots trail.now.pairs trail.now.slots }
+    ensures { IsTrue result ↔ KeepsApart search.now.kind search.now.slots trail.now.pairs }
+{
+    match search.kind {
+        Kind::Variants => is_renaming(trail, &search.slots, 0),
+        Kind::Instances => true,
+        Kind::Generalizations => true,
+        Kind::Unifiable => true,
+    }
+}

@@ -1,0 +1,18 @@
+//! The descent of a substitution tree (Graf 1996): which of its terms stand in a relation to a
+//! query.
+//!
+//! It goes from a node to its children and makes their bindings fit, over a trail on which the
+//! bindings of all nodes above are solved. Below a node whose bindings don't fit nothing is looked
+//! at.
+#![tactic(auto)]
+
+mod counting;
+mod descent;
+mod ends;
+mod fit;
+mod heads;
+mod search;
+mod variants;
+
+pub use counting::Counted;
+pub use descent::{count, descend, retrieve};

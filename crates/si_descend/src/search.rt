@@ -1,0 +1,146 @@
+// The search of a tree from a node downwards.
+ghost use Rattle.std.specs.Prelude.{◌≡◌, Some, IfOk, OnOk};
+ghost use Rattle.si_defs.specs.Substitutions.{Grows};
+ghost use Rattle.si_tree.specs.Reading.{IsNode, AtNode, children_of};
+ghost use Rattle.si_descend.specs.Descending.{Freezes, HasRoomFor, IsQuery};
+ghost use Rattle.si_descend.specs.Fitting.{AllowsSolving};
+ghost use Rattle.si_descend.specs.Searching.{IsReady, HasComeTo, HasEntered, HasFound, HasFoundBelow};
+
+use crate::fit::fit;
+use crate::heads::{asked_of, is_unwanted};
+use crate::variants::is_renaming;
+use si_flat::{Cell, Flat, Kind};
+use si_legal::Posting;
+use si_trail::Trail;
+use si_tree::{NodeId, Tree};
+use si_unify::{Scratch, Slots};
+use std::alloc::AllocError;
+
+/// What is searched, and for what.
+#[derive(Clone, Copy)]
+pub(crate) struct Search<'a> {
+    pub(crate) tree: &'a Tree,
+    pub(crate) kind: Kind,
+    pub(crate) query: &'a Flat,
+    pub(crate) slots: Slots,
+}
+
+impl<'a> Search<'a> {
+    /// A search by slots that are right for it.
+    pub(crate) fn new(tree: &'a Tree, kind: Kind, query: &'a Flat, slots: Slots) -> Search<'a>
+        requires query { IsQuery query.now }
+        requires freezes { Freezes kind slots }
+        requires room { HasRoomFor slots tree.now query.now }
+        ensures ready { IsReady result }
+        ensures tree { result.tree ≡ tree.entry }
+        ensures kind { result.kind ≡ kind }
+        ensures query { result.query ≡ query.entry }
+        ensures slots { result.slots ≡ slots }
+    {
+        // So the tree is known to be legal, and its nodes can be counted.
+        tree.root();
+        tree.counts();
+        Search {
+            tree,
+            kind,
+            query,
+            slots,
+        }
+    }
+}
+
+/// Makes the bindings of a node fit, and tells whether it is open.
+pub(crate) fn enter<'a>(
+    search: &Search<'a>,
+    node: NodeId,
+    scratch: &mut Scratch,
+    trail: &mut Trail<&'a [Cell]>,
+) -> Result<bool, AllocError>
+    requires node { IsNode search.now.tree.now node }
+    requires ready { IsReady search.now }
+    requires solving { AllowsSolving search.now.slots trail.old.pairs trail.old.slots }
+    requires above { AtNode search.now.tree.now node
+        (λ n. HasComeTo search.now n.parent trail.old.pairs) }
+    ensures enters { IfOk result (HasEntered search.now node trail.new.pairs) }
+    ensures grows { Grows trail.old.pairs trail.new.pairs }
+    ensures solving { AllowsSolving search.now.slots trail.new.pairs trail.new.slots }
+    ensures slots { trail.new.slots ≡ trail.old.slots }
+{
+    let known = trail.mark();
+    if !fit(scratch, trail, &search.slots, search.tree.bindings(node))? {
+        return Ok(false);
+    }
+    match search.kind {
+        Kind::Variants => Ok(is_renaming(trail, &search.slots, known)),
+        Kind::Instances => Ok(true),
+        Kind::Generalizations => Ok(true),
+        Kind::Unifiable => Ok(true),
+    }
+}
+
+/// Appends what is stored below a node or at it and stands in the relation, and counts the open
+/// nodes there.
+///
+/// Where memory runs out, bindings and postings may be left behind the old ones.
+#[cycle(searching)]
+pub(crate) fn visit<'a>(
+    search: &Search<'a>,
+    node: NodeId,
+    scratch: &mut Scratch,
+    trail: &mut Trail<&'a [Cell]>,
+    out: &mut Vec<Posting>,
+) -> Result<u64, AllocError>
+    requires node { IsNode search.now.tree.now node }
+    requires ready { IsReady search.now }
+    requires solving { AllowsSolving search.now.slots trail.old.pairs trail.old.slots }
+    requires above { AtNode search.now.tree.now node
+        (λ n. HasComeTo search.now n.parent trail.old.pairs) }
+    ensures found { IfOk result (HasFound search.now node out.old.items out.new.items) }
+    ensures same { OnOk result (trail.new.pairs ≡ trail.old.pairs) }
+    ensures grows { Grows trail.old.pairs trail.new.pairs }
+    ensures out_grows { Grows out.old.items out.new.items }
+    ensures slots { trail.new.slots ≡ trail.old.slots }
+{
+    let mark = trail.mark();
+    if !enter(search, node, scratch, trail)? {
+        trail.undo(mark);
+        return Ok(0);
+    }
+    out.extend_from_slice(search.tree.postings(node))?;
+    let below = visit_children(search, node, scratch, trail, out)?;
+    trail.undo(mark);
+    Ok(1 + below)
+}
+
+/// Does the same for all children of a node.
+#[cycle(searching)]
+fn visit_children<'a>(
+    search: &Search<'a>,
+    node: NodeId,
+    scratch: &mut Scratch,
+    trail: &mut Trail<&'a [Cell]>,
+    out: &mut Vec<Posting>,
+) -> Result<u64, AllocError>
+    requires node { IsNode search.now.tree.now node }
+    requires ready { IsReady search.now }
+    requires solving { AllowsSolving search.now.slots trail.old.pairs trail.old.slots }
+    requires there { HasComeTo search.now (Some node) trail.old.pairs }
+    ensures found { IfOk result (λ n. AtNode search.now.tree.now node (λ parent.
+        HasFoundBelow search.now (children_of parent.content) out.old.items out.new.items n)) }
+    ensures same { OnOk result (trail.new.pairs ≡ trail.old.pairs) }
+    ensures grows { Grows trail.old.pairs trail.new.pairs }
+    ensures out_grows { Grows out.old.items out.new.items }
+    ensures slots { trail.new.slots ≡ trail.old.slots }
+{
+    let wanted = asked_of(search, node, trail);
+    let children = search.tree.children(node);
+    let mut count = 0;
+    for i in 0..children.len() {
+        let child = children[i];
+        if is_unwanted(search, wanted, child) {
+            continue;
+        }
+        count += visit(search, child, scratch, trail, out)?;
+    }
+    Ok(count)
+}

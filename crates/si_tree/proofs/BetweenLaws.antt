@@ -16,7 +16,7 @@ keys_apart s j k n some none e = differ (sym none ∙ ap (get s) (sym e) ∙ som
   differ : None ≡ Some n → ⊥
   differ f = cc
 
-apart_back : (j k : ℕ) → j ≢ k → k ≢ j
+pub apart_back : (j k : ℕ) → j ≢ k → k ≢ j
 apart_back j k apart e = apart (sym e)
 
 -- the five steps

@@ -74,3 +74,9 @@ whole_read (c ∷ cells) whole =
     (refl, read c.1 whole.0, whole_read cells whole.1) where
       read : (right : List Cell) → IsWhole right → StandsFor right (term_of right)
       read right w = subst (λ t. StandsFor right t) (sym (term_read right w.0 w.1)) w.1
+
+pub stand_whole : (cs : List CellPair) (bs : List Binding) → StandForBindings cs bs → AreWhole cs
+stand_whole [] [] h = tt
+stand_whole [] (b ∷ bs) h = absurd h
+stand_whole (c ∷ cs) [] h = absurd h
+stand_whole (c ∷ cs) (b ∷ bs) h = ((b.1, h.1), stand_whole cs bs h.2)

@@ -24,3 +24,7 @@ pub mod NotedPlaces
 pub mod WalkLaws
 pub mod WalkSteps
 pub mod RenumberSteps
+pub mod BesidesLaws
+pub mod VacantLaws
+pub mod DropSteps
+pub mod JoinSteps

@@ -71,7 +71,7 @@ whole_append [] cs p q = q
 whole_append (b ∷ bs) cs p q = (p.0, whole_append bs cs p.1 q)
 
 -- ---- heads
-head_carries : (t c : Term) (h : Head) → same_head t c ≡ true → HasHead t h → HasHead c h
+pub head_carries : (t c : Term) (h : Head) → same_head t c ≡ true → HasHead t h → HasHead c h
 head_carries (terms.app s ts) (terms.app r us) (Sym n a) same has =
     let is : s ≡ r = symbol_is s r same in
     (sym (ap (λ q. q.number) is) ∙ has.0, sym (ap (λ q. q.arity) is) ∙ has.1)

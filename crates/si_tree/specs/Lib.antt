@@ -8,3 +8,4 @@ pub mod Rights
 pub mod KeptNodes
 pub mod Numbers
 pub mod Renumbers
+pub mod Dropping

@@ -1,6 +1,7 @@
 //! Substitution trees (Graf 1996) that are always legal: `Legal.antt` of si_legal says which are.
 #![tactic(auto)]
 
+mod dropping;
 mod node;
 mod numbers;
 mod renumber;

@@ -1,5 +1,5 @@
 // The nodes of a tree.
-ghost use Rattle.std.specs.Prelude.{◌≡◌, IfOk, ◌++◌, ◌∷◌, OnOk, OnErr, slice_get, [], IfSome, IfNone, Some, length};
+ghost use Rattle.std.specs.Prelude.{◌≡◌, IfOk, ◌++◌, ◌∷◌, OnOk, OnErr, slice_get, [], IfSome, IfNone, Some, length, ℕ, IsPermutation};
 ghost use Rattle.si_defs.specs.Substitutions.{AreDistinct, IsAmong};
 ghost use Rattle.si_flat.specs.Rows.{left_sides};
 ghost use Rattle.si_legal.specs.Trees.{leaf};
@@ -7,6 +7,7 @@ ghost use Rattle.si_legal.specs.Counts.{unmerged_of};
 ghost use Rattle.si_tree.specs.declared.node.Content.TheVariants.{Inner};
 ghost use Rattle.si_tree.specs.KeptNodes.{content_of, moved_below, GainsChild, HasChild, IsReplaced, RelinksChild, HasRoomForChild, HasRoomIn, IsFork, IsInnerNode, IsLeafWith, IsLeafNode, IsSameBut, IsSameNode, postings_in};
 ghost use Rattle.si_tree.specs.Changes.{IsWithout};
+ghost use Rattle.si_tree.specs.Dropping.{HasBesides, HasHeadedChild, LosesChild};
 ghost use Rattle.si_tree.specs.Heads.{StandTogether, are_equal};
 
 use crate::rights::joined;
@@ -250,6 +251,32 @@ impl TreeNode {
         }
     }
 
+    /// Takes out a child, and its head.
+    pub(crate) fn drop_child(&mut self, child: NodeId)
+        requires { HasHeadedChild self.old child }
+        ensures { LosesChild self.old self.new child }
+    {
+        match &mut self.content {
+            Content::Inner(branches) => {
+                let place = place_of_child(branches.children.as_slice(), child);
+                branches.children.remove(place);
+                branches.heads.remove(place);
+            }
+            Content::Leaf(_) => unreachable!(),
+        }
+    }
+
+    /// The child that stands beside this one alone.
+    pub(crate) fn child_besides(&self, child: NodeId) -> NodeId
+        requires { (other : ℕ) × HasBesides self.now child other }
+        ensures { (other : ℕ) → HasBesides self.now child other → result ≡ other }
+    {
+        match &self.content {
+            Content::Inner(branches) => besides(branches.children.as_slice(), child),
+            Content::Leaf(_) => unreachable!(),
+        }
+    }
+
     /// Appends a posting to those of a leaf.
     pub(crate) fn add_posting(&mut self, posting: Posting) -> Result<(), AllocError>
         requires { IsLeafNode self.old }
@@ -309,6 +336,18 @@ fn replace(children: &mut Vec<NodeId>, child: NodeId, other: NodeId)
 {
     let place = place_of_child(children.as_slice(), child);
     children[place] = other;
+}
+
+// The other one of two children.
+fn besides(children: &[NodeId], child: NodeId) -> NodeId
+    requires { length children.now ≡ 2 }
+    ensures { (other : ℕ) → IsPermutation (child ∷ other ∷ []) children.now → result ≡ other }
+{
+    if children[0] == child {
+        children[1]
+    } else {
+        children[0]
+    }
 }
 
 // The first place of a child.

@@ -1,0 +1,242 @@
+-- A leaf goes from a kept tree, and its parent stays.
+use Rattle.std.proofs.Common.{◌≡◌, ◌≢◌, ℕ, zero, suc, ◌+◌, ◌-◌, List, [], ◌∷◌, ◌++◌, length, None, Some, map, get_or, inl, inr, refl, sym, ◌∙◌, ap, subst, arith}
+use Rattle.std.specs.Prelude.{IsPermutation}
+use Rattle.std.specs.List.{remove}
+use Rattle.std.proofs.lemmas.Bool.{cases_eq}
+use Rattle.std.proofs.lemmas.Option.{same_Some}
+use Rattle.std.proofs.lemmas.List.Sorted.{IsPermutation-refl, IsPermutation-sym, IsPermutation-middle}
+use Rattle.slab.specs.Slab.{Slab, get}
+use Rattle.si_defs.specs.Substitutions.{IsAmong, AreDistinct}
+use Rattle.si_flat.specs.Cells.{Term}
+use Rattle.si_flat.specs.Rows.{AreWhole}
+use Rattle.si_legal.specs.Trees.{inner, leaf, Node, Tree, HasNode}
+use Rattle.si_legal.specs.Trees as trees
+use Rattle.si_legal.specs.Legal.{IsLegal, IsLegalContent}
+use Rattle.si_legal.specs.Counts.{counted, leaves_of, unmerged_of}
+use Rattle.si_legal.specs.StoredSets.{StaysStored, KeepsLeaves}
+use Rattle.si_legal.proofs.PathLaws.{one_node}
+use Rattle.si_changes.specs.Nodes.{with_content}
+use Rattle.si_changes.specs.Leaves.{MayDropLeaf, DropsLeaf}
+use Rattle.si_changes.proofs.Frames.{legal_nodes, differ_told}
+use Rattle.si_changes.proofs.Permuted.{permuted_distinct}
+use Rattle.si_changes.proofs.LeafLaws.{drops_leaf}
+use Rattle.si_tree.specs.declared.node.Head.{Head}
+use Rattle.si_tree.specs.declared.node.TreeNode.{TreeNode}
+use Rattle.si_tree.specs.declared.tree.Tree.TheInside.{Inside}
+use Rattle.si_tree.specs.Decoding.{bindings_of}
+use Rattle.si_tree.specs.Dropping.{Drops, MayTakeOut, IsTakenOut}
+use Rattle.si_tree.specs.Heads.{HeadsAt, AreHeadsOf}
+use Rattle.si_tree.specs.KeptNodes.{node_of, slot_of, tree_of, content_of, heads_of, KnowsHeads, IsKept}
+use Rattle.si_tree.specs.Reading.{children_of}
+use Rattle.si_tree.proofs.SlotLaws.{slot_read, node_read, vacant_read, stood}
+use Rattle.si_tree.proofs.ChildLaws.{inner_no_leaf}
+use Rattle.si_tree.proofs.HeadLaws.{as_many}
+use Rattle.si_tree.proofs.KeptLaws.{leaf_known}
+use Rattle.si_tree.proofs.Postings.{removed}
+use Rattle.si_tree.proofs.RoomLaws.{known_told, known_from}
+
+-- ---- heads
+pub heads_each : (old new : Tree Term) (split : ℕ) (heads : List Head) (children : List ℕ) → ((c : ℕ) (h : Head) → IsAmong children c → HeadsAt old split c h → HeadsAt new split c h) → AreHeadsOf old split heads children → AreHeadsOf new split heads children
+heads_each old new split [] [] keeps are = tt
+heads_each old new split [] (c ∷ cs) keeps are = absurd are
+heads_each old new split (h ∷ hs) [] keeps are = absurd are
+heads_each old new split (h ∷ hs) (c ∷ cs) keeps are = (keeps c h (inl refl) are.0, heads_each old new split hs cs (λ d k a. keeps d k (inr a)) are.1)
+
+heads_removed : (tree : Tree Term) (split : ℕ) (heads : List Head) (children : List ℕ) (place : ℕ) → AreHeadsOf tree split heads children → AreHeadsOf tree split (remove heads place) (remove children place)
+heads_removed tree split [] [] zero are = tt
+heads_removed tree split [] [] (suc place) are = tt
+heads_removed tree split [] (c ∷ cs) place are = absurd are
+heads_removed tree split (h ∷ hs) [] place are = absurd are
+heads_removed tree split (h ∷ hs) (c ∷ cs) zero are = are.1
+heads_removed tree split (h ∷ hs) (c ∷ cs) (suc place) are = (are.0, heads_removed tree split hs cs place are.1)
+
+-- ---- what is written
+abbrev pub without_leaf : Inside → Slab TreeNode → Inside
+without_leaf old nodes = record {
+  nodes = nodes;
+  root = old.root;
+  next = old.next;
+  vars = old.vars;
+  leaves = old.leaves - 1;
+  unmerged = old.unmerged - 1;
+}
+
+-- the parent, and the node that is its child
+pub parent_content : (tree : Tree Term) (key parent : ℕ) (node above : Node Term) (split : ℕ) (children : List ℕ) → IsLegal tree → HasNode tree key node → node.parent ≡ Some parent → HasNode tree parent above → above.content ≡ inner split children → IsAmong children key
+parent_content tree key parent node above split children legal has below there content =
+    let h = legal.nodes parent above there in
+    ((subst (IsLegalContent tree parent ((parent, above) ∷ h.above)) content h.content).1 key).1 (node, has, below)
+
+-- only the parent has it as a child
+pub only_parent : (tree : Tree Term) (key parent k : ℕ) (node n : Node Term) (split : ℕ) (children : List ℕ) → IsLegal tree → HasNode tree key node → node.parent ≡ Some parent → HasNode tree k n → n.content ≡ inner split children → IsAmong children key → k ≡ parent
+only_parent tree key parent k node n split children legal has below there content a =
+    let h = legal.nodes k n there in
+    let found = ((subst (IsLegalContent tree k ((k, n) ∷ h.above)) content h.content).1 key).0 a in
+    same_Some k parent (sym found.2 ∙ ap (λ x. x.parent) (one_node tree key found.0 node found.1 has) ∙ below)
+
+pub children_distinct : (tree : Tree Term) (k : ℕ) (n : Node Term) (split : ℕ) (children : List ℕ) → IsLegal tree → HasNode tree k n → n.content ≡ inner split children → AreDistinct children
+children_distinct tree k n split children legal there content =
+    let h = legal.nodes k n there in
+    (differ_told tree split children (legal_nodes tree legal) (subst (IsLegalContent tree k ((k, n) ∷ h.above)) content h.content).2).distinct
+
+pub apart_from_leaf : (tree : Tree Term) (k key : ℕ) (n node : Node Term) (split : ℕ) (children : List ℕ) → HasNode tree k n → n.content ≡ inner split children → HasNode tree key node → node.content ≡ leaf [] → k ≢ key
+apart_from_leaf tree k key n node split children there content has is e =
+    inner_no_leaf split children [] (sym content ∙ ap (λ m. m.content) (one_node tree key n node (subst (λ j. HasNode tree j n) e there) has) ∙ is)
+
+-- ---- what the code asks for
+pub may_take_out : (old : Inside) (key : ℕ) → IsKept old → MayDropLeaf (tree_of old) key → MayTakeOut old.nodes key
+may_take_out old key kept may =
+    let here = stood old.nodes.slots key may.node may.is_leaf in
+    let above = stood old.nodes.slots may.parent may.parent_node may.is_parent in
+    let content : content_of above.kept.content ≡ inner may.split may.children = ap (λ n. n.content) above.read ∙ may.inner_node in
+    let known = known_told (tree_of old) above.kept.content may.split may.children content (kept.heads may.parent above.kept above.got) in
+    record {
+      node = here.kept;
+      parent = may.parent;
+      above = above.kept;
+      has = here.got;
+      below = ap (λ n. n.parent) here.read ∙ may.below;
+      has_above = above.got;
+      child = (
+        (may.split, may.children, content, parent_content (tree_of old) key may.parent may.node may.parent_node may.split may.children kept.legal may.is_leaf may.below may.is_parent may.inner_node),
+        as_many (tree_of old) may.split (heads_of above.kept.content) may.children known ∙ ap (λ x. length (children_of x)) (sym content),
+      );
+      apart = apart_from_leaf (tree_of old) may.parent key may.parent_node may.node may.split may.children may.is_parent may.inner_node may.is_leaf may.empty;
+    }
+
+-- ---- the step
+module _ (old : Inside) (nodes : Slab TreeNode) (key : ℕ) (kept : IsKept old) (may : MayDropLeaf (tree_of old) key) (taken : IsTakenOut old.nodes nodes key) where
+  abbrev new : Inside
+  new = without_leaf old nodes
+
+  had : HasNode (tree_of old) key (node_of taken.node)
+  had = node_read old.nodes.slots key taken.node taken.had
+
+  node_is : node_of taken.node ≡ may.node
+  node_is = one_node (tree_of old) key (node_of taken.node) may.node had may.is_leaf
+
+  was_leaf : content_of taken.node.content ≡ leaf []
+  was_leaf = ap (λ n. n.content) node_is ∙ may.empty
+
+  above_had : HasNode (tree_of old) taken.parent (node_of taken.above)
+  above_had = node_read old.nodes.slots taken.parent taken.above taken.had_above
+
+  abbrev stay : List ℕ
+  stay = remove taken.loses.children taken.loses.place
+
+  stay_are : IsPermutation (key ∷ stay) taken.loses.children
+  stay_are =
+      let w = removed taken.loses.children taken.loses.place key taken.loses.there in
+      subst (λ xs. IsPermutation (key ∷ stay) xs) (sym w.old_is)
+      (subst (λ ys. IsPermutation (key ∷ ys) (w.before ++ key ∷ w.after)) (sym w.new_is) (IsPermutation-sym _ _ (IsPermutation-middle w.before key w.after)))
+
+  after_is : node_of taken.after ≡ with_content (node_of taken.above) (inner taken.loses.split stay)
+  after_is = λ i. record { parent = taken.loses.parent i; bindings = bindings_of (taken.loses.bindings i); content = taken.loses.is i }
+
+  other_slot : (k : ℕ) → k ≢ key → k ≢ taken.parent → get_or (map slot_of nodes.slots) k None ≡ get_or (map slot_of old.nodes.slots) k None
+  other_slot k a b = slot_read nodes.slots k ∙ ap slot_of (taken.others k a b) ∙ sym (slot_read old.nodes.slots k)
+
+  drops : DropsLeaf (tree_of old) (tree_of new) key
+  drops = record {
+    node = node_of taken.node;
+    parent = taken.parent;
+    had = had;
+    below = taken.below;
+    gone = vacant_read nodes.slots key taken.gone;
+    linked = record {
+      node = node_of taken.above;
+      split = taken.loses.split;
+      stay = stay;
+      before = taken.loses.children;
+      after = stay;
+      had = above_had;
+      content = taken.loses.was;
+      before_are = stay_are;
+      has = node_read nodes.slots taken.parent taken.after taken.above_at ∙ ap Some after_is;
+      after_are = IsPermutation-refl stay;
+    };
+    others = λ k none. other_slot k (λ e. none (inl (sym e))) (λ e. none (inr (inl (sym e))));
+    root = refl;
+    next = refl;
+    vars = refl;
+  }
+
+  dropped : IsLegal (tree_of new) × StaysStored (tree_of old) (tree_of new) × KeepsLeaves (tree_of old) (tree_of new)
+  dropped = drops_leaf (tree_of old) (tree_of new) key kept.legal may drops
+
+  -- ---- heads
+  keeps_heads : (n c : ℕ) (h : Head) → c ≢ key → HeadsAt (tree_of old) n c h → HeadsAt (tree_of new) n c h
+  keeps_heads n c h apart (t, (node, has, binds), head) = elim (cases_eq c taken.parent) as (λ _. HeadsAt (tree_of new) n c h) [
+    | inl e ↦
+        (let is : node_of taken.above ≡ node = one_node (tree_of old) c (node_of taken.above) node (subst (λ j. HasNode (tree_of old) j (node_of taken.above)) (sym e) above_had) has in
+        let same : bindings_of taken.after.bindings ≡ node.bindings = ap bindings_of taken.loses.bindings ∙ ap (λ x. x.bindings) is in
+        (t, (node_of taken.after, subst (λ j. HasNode (tree_of new) j (node_of taken.after)) (sym e) (node_read nodes.slots taken.parent taken.after taken.above_at), subst (λ bs. IsAmong bs (n, t)) (sym same) binds), head))
+    | inr other ↦ (t, (node, other_slot c apart other ∙ has, binds), head)
+  ]
+
+  parent_heads : KnowsHeads (tree_of new) taken.after.content
+  parent_heads =
+      let distinct = permuted_distinct taken.loses.children (key ∷ stay) (IsPermutation-sym (key ∷ stay) taken.loses.children stay_are) (children_distinct (tree_of old) taken.parent (node_of taken.above) taken.loses.split taken.loses.children kept.legal above_had taken.loses.was) in
+      known_from (tree_of new) taken.after.content taken.loses.split stay taken.loses.is
+      (subst (λ hs. AreHeadsOf (tree_of new) taken.loses.split hs stay) (sym taken.loses.heads)
+      (heads_each (tree_of old) (tree_of new) taken.loses.split (remove (heads_of taken.above.content) taken.loses.place) stay
+      (λ c h a. keeps_heads taken.loses.split c h (λ e. distinct.0 (subst (IsAmong stay) e a)))
+      (heads_removed (tree_of old) taken.loses.split (heads_of taken.above.content) taken.loses.children taken.loses.place
+      (known_told (tree_of old) taken.above.content taken.loses.split taken.loses.children taken.loses.was (kept.heads taken.parent taken.above taken.had_above)))))
+
+  other_heads : (k : ℕ) (x : TreeNode) → k ≢ taken.parent → get old.nodes k ≡ Some x → KnowsHeads (tree_of new) x.content
+  other_heads k x apart got = by (content_of x.content) refl where
+    by : (c : trees.Content) → content_of x.content ≡ c → KnowsHeads (tree_of new) x.content
+    by (leaf ps) e = leaf_known (tree_of new) x.content ps e
+    by (inner m cs) e =
+        known_from (tree_of new) x.content m cs e
+        (heads_each (tree_of old) (tree_of new) m (heads_of x.content) cs
+        (λ c h a. keeps_heads m c h (λ f. apart (only_parent (tree_of old) key taken.parent k (node_of taken.node) (node_of x) m cs kept.legal had taken.below (node_read old.nodes.slots k x got) e (subst (IsAmong cs) f a))))
+        (known_told (tree_of old) x.content m cs e (kept.heads k x got)))
+
+  -- ---- which node it is
+  data Which (k : ℕ) (x : TreeNode) : Type 0 where
+    is_parent : taken.after ≡ x → Which k x
+    is_other : k ≢ taken.parent → get old.nodes k ≡ Some x → Which k x
+
+  which : (k : ℕ) (x : TreeNode) → get nodes k ≡ Some x → Which k x
+  which k x got = elim (cases_eq k taken.parent) as (λ _. Which k x) [
+    | inl e ↦ is_parent (same_Some taken.after x (sym taken.above_at ∙ ap (get nodes) (sym e) ∙ got))
+    | inr a ↦ is_other a (sym (taken.others k (λ e. differ (sym taken.gone ∙ ap (get nodes) (sym e) ∙ got)) a) ∙ got)
+  ] where
+    differ : None ≡ Some x → ⊥
+    differ f = cc
+
+  whole_at : (k : ℕ) (x : TreeNode) → Which k x → AreWhole x.bindings
+  whole_at k x (is_parent e) = subst (λ n. AreWhole n.bindings) e (subst AreWhole (sym taken.loses.bindings) (kept.whole taken.parent taken.above taken.had_above))
+  whole_at k x (is_other a got) = kept.whole k x got
+
+  heads_at : (k : ℕ) (x : TreeNode) → Which k x → KnowsHeads (tree_of new) x.content
+  heads_at k x (is_parent e) = subst (λ n. KnowsHeads (tree_of new) n.content) e parent_heads
+  heads_at k x (is_other a got) = other_heads k x a got
+
+  -- ---- the whole
+  leaves_fewer : counted leaves_of (tree_of new).nodes + 1 ≡ counted leaves_of (tree_of old).nodes
+  leaves_fewer = omega (arith, taken.counts leaves_of, ap leaves_of was_leaf, ap leaves_of taken.loses.was, ap leaves_of taken.loses.is)
+
+  unmerged_fewer : counted unmerged_of (tree_of new).nodes + 1 ≡ counted unmerged_of (tree_of old).nodes
+  unmerged_fewer = omega (arith, taken.counts unmerged_of, ap unmerged_of was_leaf, ap unmerged_of taken.loses.was, ap unmerged_of taken.loses.is)
+
+  pub drop_kept : IsKept (without_leaf old nodes)
+  drop_kept = record {
+    legal = dropped.0;
+    whole = λ k x got. whole_at k x (which k x got);
+    heads = λ k x got. heads_at k x (which k x got);
+    leaves = omega (arith, kept.leaves, leaves_fewer);
+    unmerged = omega (arith, kept.unmerged, unmerged_fewer);
+  }
+
+  pub drop_done : Drops (tree_of old) (tree_of (without_leaf old nodes)) key None
+  drop_done = record {
+    goes = drops;
+    stays = dropped.1;
+    keeps = dropped.2;
+    nodes = omega (arith, taken.counts (λ content. 1));
+    leaves = leaves_fewer;
+    unmerged = unmerged_fewer;
+  }

@@ -1,0 +1,21 @@
+use Rattle.std.proofs.Common.{◌≡◌, None, Some, ap, subst}
+use Rattle.std.specs.Prelude.{is_some}
+use Rattle.slab.specs.Slab.{get, Updates, with_value}
+use Rattle.slab.proofs.SlabLemmas.{Updates-with_value}
+use Rattle.si_tree.proofs.VacantLaws.{taken_out}
+use Rattle.si_tree.proofs.dropping.take_out.Goals as goal
+
+pub returns : goal.returns
+returns c =
+    let s0 = c.args.nodes.now in
+    let s1 = c.vacate.new.nodes in
+    let at = c.parent.inside.key in
+    let s2 = with_value s1 at c.drop_child.new.self in
+    let got = c.index_mut-above.ensures.value in
+    taken_out s0 s1 s2 c.args.leaf c.in-Some.parent c.index.result.now c.index_mut-above.result.now c.drop_child.new.self c.requires
+    (subst (λ k. get s0 k ≡ Some c.index.result.now) c.leaf.view_is c.index.ensures)
+    c.in-Some.is
+    (subst (λ k. Updates s0 s1 k None) c.leaf.view_is c.vacate.ensures)
+    (subst (λ k. get s1 k ≡ Some c.index_mut-above.result.now) c.parent.view_is got)
+    (subst (λ k. Updates s1 s2 k (Some c.drop_child.new.self)) c.parent.view_is (Updates-with_value s1 at c.drop_child.new.self (ap is_some got)))
+    c.drop_child.ensures

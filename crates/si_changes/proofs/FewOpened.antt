@@ -1,4 +1,5 @@
--- No path of a legal tree opens more indicators than a leaf's term may have occurrences.
+-- No path of a legal tree opens more indicators than a leaf's term may have occurrences, and none
+-- has a larger term.
 use Rattle.std.proofs.Common.{◌≡◌, ◌⊎◌, inl, inr, ℕ, zero, suc, ◌+◌, ◌<◌, ◌≤◌, List, [], ◌∷◌, ◌++◌, length, Option, None, Some, map, slice_index_or, refl, ap, sym, ◌∙◌, subst, arith, length-append}
 use Rattle.std.proofs.lemmas.Bool.Decides.{eqb_tells}
 use Rattle.std.proofs.lemmas.List.{length-map}
@@ -6,10 +7,11 @@ use Rattle.si_defs.specs.Terms as terms
 use Rattle.si_defs.specs.Substitutions.{image, IsAmong, AreDistinct}
 use Rattle.si_defs.specs.declared.TheConstants.{MOST_OCCURRENCES}
 use Rattle.si_defs.proofs.ListLaws.{all_at, among_front, among_back, among_parts}
+use Rattle.si_defs.proofs.TermLaws.{size_some}
 use Rattle.si_flat.specs.Cells.{query, entry, ind, same_variable, Term, Terms}
 use Rattle.si_flat.specs.Rows.{left_sides}
 use Rattle.si_legal.specs.declared.Posting.{Posting}
-use Rattle.si_legal.specs.Bindings.{Binding, IsIndicator, indicators, right_indicators, substitution_of, applied}
+use Rattle.si_legal.specs.Bindings.{Binding, indicator, IsIndicator, indicators, right_indicators, substitution_of, applied}
 use Rattle.si_legal.specs.Generalizations.{consecutive}
 use Rattle.si_legal.specs.Renumbering.{IsRenumbered}
 use Rattle.si_legal.specs.Trees.{Content, inner, leaf, Node, Tree, HasNode, Path, IsPath, PassesBy, path_term, opened}
@@ -32,7 +34,7 @@ one_gone (y ∷ ys) x (inl e) = ([], ys, ap (λ z. z ∷ ys) e)
 one_gone (y ∷ ys) x (inr h) = let rest = one_gone ys x h in (y ∷ rest.0, rest.1, ap (λ l. y ∷ l) rest.2)
 
 -- the others are among the rest
-others_left : (xs ys : List ℕ) (x : ℕ) (before after : List ℕ) → ys ≡ before ++ x ∷ after → (IsAmong xs x → ⊥) → ((z : ℕ) → IsAmong xs z → IsAmong ys z) → (z : ℕ) → IsAmong xs z → IsAmong (before ++ after) z
+pub others_left : (xs ys : List ℕ) (x : ℕ) (before after : List ℕ) → ys ≡ before ++ x ∷ after → (IsAmong xs x → ⊥) → ((z : ℕ) → IsAmong xs z → IsAmong ys z) → (z : ℕ) → IsAmong xs z → IsAmong (before ++ after) z
 others_left xs ys x before after e apart within z h = by (among_parts before (x ∷ after) z (subst (λ l. IsAmong l z) e (within z h))) where
   by : IsAmong before z ⊎ IsAmong (x ∷ after) z → IsAmong (before ++ after) z
   by (inl k) = among_front before after z k
@@ -68,11 +70,11 @@ has_within (y ∷ xs) zero x e = omega arith
 has_within (y ∷ xs) (suc k) x e = omega (arith, has_within xs k x e)
 
 -- ---- sums
-abbrev total : (ℕ → ℕ) → List ℕ → ℕ
+abbrev pub total : (ℕ → ℕ) → List ℕ → ℕ
 total f [] = 0
 total f (n ∷ ns) = f n + total f ns
 
-total-append : (f : ℕ → ℕ) (xs ys : List ℕ) → total f (xs ++ ys) ≡ total f xs + total f ys
+pub total-append : (f : ℕ → ℕ) (xs ys : List ℕ) → total f (xs ++ ys) ≡ total f xs + total f ys
 total-append f [] ys = omega arith
 total-append f (x ∷ xs) ys = omega (arith, total-append f xs ys)
 
@@ -125,6 +127,16 @@ mutual
       let f : ℕ → ℕ = λ n. firm (bound bs n) in
       omega (arith, firm_applied bs t, all_firm_applied bs ts, ap (total f) (indicators-more t ts), total-append f (indicators t) (indicators_all ts))
 
+-- ---- sizes
+mutual
+  no_smaller : (bs : List Binding) (t : Term) → terms.size t ≤ terms.size (applied bs t)
+  no_smaller bs (terms.var x) = omega (arith, size_some (image same_variable (substitution_of bs) x))
+  no_smaller bs (terms.app s ts) = omega (arith, none_smaller bs ts)
+
+  none_smaller : (bs : List Binding) (ts : Terms) → terms.sizes ts ≤ terms.sizes (terms.substitute_all (image same_variable (substitution_of bs)) ts)
+  none_smaller bs terms.none = omega arith
+  none_smaller bs (terms.more t ts) = omega (arith, no_smaller bs t, none_smaller bs ts)
+
 -- ---- paths
 module _ (tree : Tree Term) (legal : IsLegal tree) where
   -- each binding of a path leaves an occurrence of its own
@@ -174,40 +186,69 @@ module _ (tree : Tree Term) (legal : IsLegal tree) where
       let few = few_below (length tree.nodes) (keys_on p) (keys_distinct from p reached) (keys_low from p reached) in
       omega (arith, few, length-map p (λ step. step.0))
 
-  -- the root opens one, where it has no child
-  few_at_root : (node : Node Term) (p : Path) → IsPath tree (Some tree.root) ((tree.root, node) ∷ p) → length (opened ((tree.root, node) ∷ p)) ≤ MOST_OCCURRENCES
-  few_at_root node p reached =
-      let root = legal.root in
-      let same : root.0 ≡ node = one_node tree tree.root root.0 node root.1 reached.1 in
-      let parent : node.parent ≡ None = ap (λ n. n.parent) (sym same) ∙ root.2.parent in
-      let above : p ≡ [] = one_path tree None p [] (subst (λ k. IsPath tree k p) parent reached.2) refl in
-      let bindings : node.bindings ≡ [] = ap (λ n. n.bindings) (sym same) ∙ root.2.bindings in
-      let one : length (opened ((tree.root, node) ∷ p)) ≡ 1 = (λ i. length (opened (above i) ++ right_indicators (bindings i))) in
+  -- What holds of the paths of leaves and of that of the root, and then of those above, holds of
+  -- all paths.
+  module _ (P : Path → Type 0)
+      (at_leaf : (key : ℕ) (node : Node Term) (p : Path) (postings : List Posting) → IsPath tree (Some key) ((key, node) ∷ p) → IsLegalContent tree key ((key, node) ∷ p) (leaf postings) → P ((key, node) ∷ p))
+      (at_root : P ((tree.root, legal.root.0) ∷ []))
+      (above : (step : ℕ × Node Term) (p : Path) → IsPath tree (Some step.0) (step ∷ p) → P (step ∷ p) → P p) where
+    root_path : (node : Node Term) (p : Path) → IsPath tree (Some tree.root) ((tree.root, node) ∷ p) → P ((tree.root, node) ∷ p)
+    root_path node p reached =
+        let same : legal.root.0 ≡ node = one_node tree tree.root legal.root.0 node legal.root.1 reached.1 in
+        let parent : node.parent ≡ None = ap (λ n. n.parent) (sym same) ∙ legal.root.2.parent in
+        let top : [] ≡ p = one_path tree None [] p refl (subst (λ k. IsPath tree k p) parent reached.2) in
+        subst P (λ i. (tree.root, same i) ∷ top i) at_root
+
+    from_leaves : (fuel : ℕ) (key : ℕ) (node : Node Term) (p : Path) → IsPath tree (Some key) ((key, node) ∷ p) → length tree.nodes ≤ fuel + length p → P ((key, node) ∷ p)
+    from_leaves zero key node p reached enough = absurd (omega (arith, enough, short (Some key) ((key, node) ∷ p) reached))
+    from_leaves (suc fuel) key node p reached enough =
+        let was = legal.nodes key node reached.1 in
+        let up : was.above ≡ p = one_path tree node.parent was.above p was.reached reached.2 in
+        by node.content (subst (λ a. IsLegalContent tree key ((key, node) ∷ a) node.content) up was.content)
+        (λ child below there. from_leaves fuel child below ((key, node) ∷ p) there (omega (arith, enough))) where
+          by : (c : Content) → IsLegalContent tree key ((key, node) ∷ p) c → ((child : ℕ) (below : Node Term) → IsPath tree (Some child) ((child, below) ∷ (key, node) ∷ p) → P ((child, below) ∷ (key, node) ∷ p)) → P ((key, node) ∷ p)
+          by (leaf postings) content rest = at_leaf key node p postings reached content
+          by (inner split []) content rest = elim (eqb_tells key tree.root) as (λ _. P ((key, node) ∷ p)) [
+            | inl e ↦
+                subst (λ k. P ((k, node) ∷ p)) (sym e.1)
+                (root_path node p (refl, subst (λ k. HasNode tree k node) e.1 reached.1, reached.2))
+            | inr e ↦ absurd (omega (arith, content.3 e.1))
+          ]
+          by (inner split (child ∷ children)) content rest =
+              let below = (content.1 child).0 (inl refl) in
+              let there : IsPath tree (Some child) ((child, below.0) ∷ (key, node) ∷ p) = (refl, below.1, subst (λ k. IsPath tree k ((key, node) ∷ p)) (sym below.2) (refl, reached.1, reached.2)) in
+              above (child, below.0) ((key, node) ∷ p) there (rest child below.0 there)
+
+    each_path : (step : ℕ × Node Term) (p : Path) → IsPath tree (Some step.0) (step ∷ p) → P (step ∷ p)
+    each_path step p reached = from_leaves (length tree.nodes) step.0 step.1 p reached (omega arith)
+
+  -- the root opens one
+  few_at_root : length (opened ((tree.root, legal.root.0) ∷ [])) ≤ MOST_OCCURRENCES
+  few_at_root =
+      let one : length (opened ((tree.root, legal.root.0) ∷ [])) ≡ 1 = ap (λ bs. length (0 ∷ right_indicators bs)) legal.root.2.bindings in
       omega (arith, one)
 
-  few_from : (fuel : ℕ) (key : ℕ) (node : Node Term) (p : Path) → IsPath tree (Some key) ((key, node) ∷ p) → length tree.nodes ≤ fuel + length p → length (opened ((key, node) ∷ p)) ≤ MOST_OCCURRENCES
-  few_from zero key node p reached enough = absurd (omega (arith, enough, short (Some key) ((key, node) ∷ p) reached))
-  few_from (suc fuel) key node p reached enough =
-      let was = legal.nodes key node reached.1 in
-      let up : was.above ≡ p = one_path tree node.parent was.above p was.reached reached.2 in
-      by node.content (subst (λ a. IsLegalContent tree key ((key, node) ∷ a) node.content) up was.content)
-      (λ child below there. few_from fuel child below ((key, node) ∷ p) there (omega (arith, enough))) where
-        by : (c : Content) → IsLegalContent tree key ((key, node) ∷ p) c → ((child : ℕ) (below : Node Term) → IsPath tree (Some child) ((child, below) ∷ (key, node) ∷ p) → length (opened ((child, below) ∷ (key, node) ∷ p)) ≤ MOST_OCCURRENCES) → length (opened ((key, node) ∷ p)) ≤ MOST_OCCURRENCES
-        by (leaf postings) content rest = few_at_leaf key node p postings reached content
-        by (inner split []) content rest = elim (eqb_tells key tree.root) as (λ _. length (opened ((key, node) ∷ p)) ≤ MOST_OCCURRENCES) [
-          | inl e ↦
-              subst (λ k. length (opened ((k, node) ∷ p)) ≤ MOST_OCCURRENCES) (sym e.1)
-              (few_at_root node p (refl, subst (λ k. HasNode tree k node) e.1 reached.1, reached.2))
-          | inr e ↦ absurd (omega (arith, content.3 e.1))
-        ]
-        by (inner split (child ∷ children)) content rest =
-            let below = (content.1 child).0 (inl refl) in
-            let more = rest child below.0 (refl, below.1, subst (λ k. IsPath tree k ((key, node) ∷ p)) (sym below.2) (refl, reached.1, reached.2)) in
-            omega (arith, more, length-append (opened ((key, node) ∷ p)) (right_indicators below.0.bindings))
+  few_above : (step : ℕ × Node Term) (p : Path) → IsPath tree (Some step.0) (step ∷ p) → length (opened (step ∷ p)) ≤ MOST_OCCURRENCES → length (opened p) ≤ MOST_OCCURRENCES
+  few_above step p reached few = omega (arith, few, length-append (opened p) (right_indicators step.1.bindings))
 
   pub few_opened : (key : ℕ) (p : Path) → IsPath tree (Some key) p → length (opened p) ≤ MOST_OCCURRENCES
   few_opened key [] reached = omega arith
-  few_opened key (step ∷ p) reached = few_from (length tree.nodes) step.0 step.1 p (refl, reached.1, reached.2) (omega arith)
+  few_opened key (step ∷ p) reached = each_path (λ q. length (opened q) ≤ MOST_OCCURRENCES) few_at_leaf few_at_root few_above step p (refl, reached.1, reached.2)
+
+  -- its term is an indicator
+  small_at_root : terms.size (path_term ((tree.root, legal.root.0) ∷ [])) ≤ MOST_OCCURRENCES
+  small_at_root =
+      let one : terms.size (path_term ((tree.root, legal.root.0) ∷ [])) ≡ 1 = ap (λ bs. terms.size (applied bs (indicator 0))) legal.root.2.bindings in
+      omega (arith, one)
+
+  -- a path's term is no larger than that of a leaf below
+  pub small_term : (key : ℕ) (p : Path) → IsPath tree (Some key) p → terms.size (path_term p) ≤ MOST_OCCURRENCES
+  small_term key [] reached = omega arith
+  small_term key (step ∷ p) reached =
+      each_path (λ q. terms.size (path_term q) ≤ MOST_OCCURRENCES)
+      (λ k node q postings there content. content.1.size) small_at_root
+      (λ below q there small. omega (arith, small, no_smaller below.1.bindings (path_term q)))
+      step p (refl, reached.1, reached.2)
 
 -- After numbering anew `next` is no more than that.
 pub few_next : (old new : Tree Term) → IsLegal old → IsRenumbered old new → new.next ≤ MOST_OCCURRENCES

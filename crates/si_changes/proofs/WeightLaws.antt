@@ -21,7 +21,7 @@ abbrev mutual
   weights terms.none = 0
   weights (terms.more t ts) = weight t + weights ts
 
-abbrev applied_all : List Binding → Terms → Terms
+abbrev pub applied_all : List Binding → Terms → Terms
 applied_all bs ts = terms.substitute_all (image same_variable (substitution_of bs)) ts
 
 mutual

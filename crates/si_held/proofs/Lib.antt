@@ -1,0 +1,10 @@
+pub mod EntrySymbols
+pub mod EntryNumbers
+pub mod KeyLaws
+pub mod Holding
+pub mod ClauseEntries
+pub mod AddedLaws
+pub mod RemovedLaws
+pub mod RenumberedLaws
+pub mod AnswerLaws
+pub mod PlaceLaws

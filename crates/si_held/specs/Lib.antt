@@ -1,0 +1,3 @@
+pub mod TwoTrees
+pub mod KeptEntries
+pub mod Queries

@@ -1,6 +1,7 @@
 -- A child by its head.
 use Rattle.std.proofs.Common.{◌≡◌, ℕ, List, Some, sym, ◌∙◌, ap, subst, Option, None, IfNone}
 use Rattle.si_defs.specs.Substitutions.{IsAmong}
+use Rattle.si_defs.proofs.ListLaws.{get_among}
 use Rattle.si_flat.specs.Cells.{Term}
 use Rattle.si_legal.specs.declared.Posting.{Posting}
 use Rattle.si_legal.specs.Trees.{Content, inner, leaf, Node, Tree, HasNode}
@@ -57,7 +58,7 @@ none_by_head tree key node split heads children head legal has content are none 
     let among : IsAmong children child = subst (λ cs. IsAmong cs child) (sym (same_children split by.split children by.children contents)) by.among in
     let found = head_of_child tree split heads children child are among in
     let there = subst (λ n. HeadsAt tree n child head) (sym (same_split split by.split children by.children contents)) by.by in
-    none (subst (λ h. IsAmong heads h) (same_head_at tree split child found.0 head legal found.2 there) found.1)
+    none (subst (λ h. IsAmong heads h) (same_head_at tree split child found.0 head legal found.2 there) (get_among heads found.1.0 found.0 found.1.1))
 
 -- a leaf has no child
 pub none_at_leaf : (tree : Tree Term) (key : ℕ) (node : Node Term) (postings : List Posting) (head : Head) → HasNode tree key node → node.content ≡ leaf postings → (child : ℕ) → IsChildBy tree key head child → ⊥

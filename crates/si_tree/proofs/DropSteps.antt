@@ -1,10 +1,10 @@
 -- A leaf goes from a kept tree, and its parent stays.
-use Rattle.std.proofs.Common.{◌≡◌, ◌≢◌, ℕ, zero, suc, ◌+◌, ◌-◌, List, [], ◌∷◌, ◌++◌, length, None, Some, map, get_or, inl, inr, refl, sym, ◌∙◌, ap, subst, arith}
+use Rattle.std.proofs.Common.{◌≡◌, ◌≢◌, ℕ, zero, suc, ◌+◌, ◌-◌, ◌<◌, List, [], ◌∷◌, length, take, set, None, Some, map, get_or, inl, inr, refl, sym, ◌∙◌, ap, subst, arith}
 use Rattle.std.specs.Prelude.{IsPermutation}
-use Rattle.std.specs.List.{remove}
+use Rattle.std.specs.List.{swap_remove}
 use Rattle.std.proofs.lemmas.Bool.{cases_eq}
-use Rattle.std.proofs.lemmas.Option.{same_Some}
-use Rattle.std.proofs.lemmas.List.Sorted.{IsPermutation-refl, IsPermutation-sym, IsPermutation-middle}
+use Rattle.std.proofs.lemmas.Option.{same_Some, slice_get_within, get_or_from_slice_get}
+use Rattle.std.proofs.lemmas.List.Sorted.{IsPermutation-refl, IsPermutation-sym, IsPermutation-swap_remove}
 use Rattle.slab.specs.Slab.{Slab, get}
 use Rattle.si_defs.specs.Substitutions.{IsAmong, AreDistinct}
 use Rattle.si_flat.specs.Cells.{Term}
@@ -27,12 +27,11 @@ use Rattle.si_tree.specs.Decoding.{bindings_of}
 use Rattle.si_tree.specs.Dropping.{Drops, MayTakeOut, IsTakenOut}
 use Rattle.si_tree.specs.Heads.{HeadsAt, AreHeadsOf}
 use Rattle.si_tree.specs.KeptNodes.{node_of, slot_of, tree_of, content_of, heads_of, KnowsHeads, IsKept}
-use Rattle.si_tree.specs.Reading.{children_of}
 use Rattle.si_tree.proofs.SlotLaws.{slot_read, node_read, vacant_read, stood}
 use Rattle.si_tree.proofs.ChildLaws.{inner_no_leaf}
 use Rattle.si_tree.proofs.HeadLaws.{as_many}
 use Rattle.si_tree.proofs.KeptLaws.{leaf_known}
-use Rattle.si_tree.proofs.Postings.{removed}
+use Rattle.si_tree.proofs.BelowLaws.{is_below}
 use Rattle.si_tree.proofs.RoomLaws.{known_told, known_from}
 
 -- ---- heads
@@ -42,13 +41,36 @@ heads_each old new split [] (c ∷ cs) keeps are = absurd are
 heads_each old new split (h ∷ hs) [] keeps are = absurd are
 heads_each old new split (h ∷ hs) (c ∷ cs) keeps are = (keeps c h (inl refl) are.0, heads_each old new split hs cs (λ d k a. keeps d k (inr a)) are.1)
 
-heads_removed : (tree : Tree Term) (split : ℕ) (heads : List Head) (children : List ℕ) (place : ℕ) → AreHeadsOf tree split heads children → AreHeadsOf tree split (remove heads place) (remove children place)
-heads_removed tree split [] [] zero are = tt
-heads_removed tree split [] [] (suc place) are = tt
-heads_removed tree split [] (c ∷ cs) place are = absurd are
-heads_removed tree split (h ∷ hs) [] place are = absurd are
-heads_removed tree split (h ∷ hs) (c ∷ cs) zero are = are.1
-heads_removed tree split (h ∷ hs) (c ∷ cs) (suc place) are = (are.0, heads_removed tree split hs cs place are.1)
+heads_taken : (tree : Tree Term) (split n : ℕ) (heads : List Head) (children : List ℕ) → AreHeadsOf tree split heads children → AreHeadsOf tree split (take n heads) (take n children)
+heads_taken tree split zero heads children are = tt
+heads_taken tree split (suc n) [] [] are = tt
+heads_taken tree split (suc n) [] (c ∷ cs) are = absurd are
+heads_taken tree split (suc n) (h ∷ hs) [] are = absurd are
+heads_taken tree split (suc n) (h ∷ hs) (c ∷ cs) are = (are.0, heads_taken tree split n hs cs are.1)
+
+heads_set : (tree : Tree Term) (split n : ℕ) (heads : List Head) (children : List ℕ) (h : Head) (c : ℕ) → HeadsAt tree split c h → AreHeadsOf tree split heads children → AreHeadsOf tree split (set heads n h) (set children n c)
+heads_set tree split n [] [] h c at are = tt
+heads_set tree split n [] (d ∷ cs) h c at are = absurd are
+heads_set tree split n (k ∷ hs) [] h c at are = absurd are
+heads_set tree split zero (k ∷ hs) (d ∷ cs) h c at are = (at, are.1)
+heads_set tree split (suc n) (k ∷ hs) (d ∷ cs) h c at are = (are.0, heads_set tree split n hs cs h c at are.1)
+
+heads_got : (tree : Tree Term) (split n : ℕ) (heads : List Head) (children : List ℕ) (h : Head) (c : ℕ) → n < length heads → AreHeadsOf tree split heads children → HeadsAt tree split (get_or children n c) (get_or heads n h)
+heads_got tree split n [] children h c inside are = absurd (omega (arith, inside))
+heads_got tree split n (k ∷ hs) [] h c inside are = absurd are
+heads_got tree split zero (k ∷ hs) (d ∷ cs) h c inside are = are.0
+heads_got tree split (suc n) (k ∷ hs) (d ∷ cs) h c inside are = heads_got tree split n hs cs h c (omega (arith, inside)) are.1
+
+-- a child goes with its head, and the last one takes its place
+heads_swapped : (tree : Tree Term) (split place : ℕ) (heads : List Head) (children : List ℕ) (h : Head) (c : ℕ) → AreHeadsOf tree split heads children → AreHeadsOf tree split (swap_remove heads place h) (swap_remove children place c)
+heads_swapped tree split place [] [] h c are = tt
+heads_swapped tree split place [] (d ∷ cs) h c are = absurd are
+heads_swapped tree split place (k ∷ hs) [] h c are = absurd are
+heads_swapped tree split place (k ∷ hs) (d ∷ cs) h c are =
+    let last = length (k ∷ hs) - 1 in
+    let moved = heads_set tree split place (k ∷ hs) (d ∷ cs) (get_or (k ∷ hs) last h) (get_or (d ∷ cs) last c) (heads_got tree split last (k ∷ hs) (d ∷ cs) h c (omega arith) are) are in
+    subst (λ n. AreHeadsOf tree split (swap_remove (k ∷ hs) place h) (take (n - 1) (set (d ∷ cs) place (get_or (d ∷ cs) (n - 1) c)))) (as_many tree split (k ∷ hs) (d ∷ cs) are)
+    (heads_taken tree split last (set (k ∷ hs) place (get_or (k ∷ hs) last h)) (set (d ∷ cs) place (get_or (d ∷ cs) last c)) moved)
 
 -- ---- what is written
 abbrev pub without_leaf : Inside → Slab TreeNode → Inside
@@ -89,18 +111,12 @@ may_take_out old key kept may =
     let here = stood old.nodes.slots key may.node may.is_leaf in
     let above = stood old.nodes.slots may.parent may.parent_node may.is_parent in
     let content : content_of above.kept.content ≡ inner may.split may.children = ap (λ n. n.content) above.read ∙ may.inner_node in
-    let known = known_told (tree_of old) above.kept.content may.split may.children content (kept.heads may.parent above.kept above.got) in
     record {
       node = here.kept;
       parent = may.parent;
-      above = above.kept;
       has = here.got;
       below = ap (λ n. n.parent) here.read ∙ may.below;
-      has_above = above.got;
-      child = (
-        (may.split, may.children, content, parent_content (tree_of old) key may.parent may.node may.parent_node may.split may.children kept.legal may.is_leaf may.below may.is_parent may.inner_node),
-        as_many (tree_of old) may.split (heads_of above.kept.content) may.children known ∙ ap (λ x. length (children_of x)) (sym content),
-      );
+      child = is_below old kept may.parent above.kept may.split may.children above.got content key here.kept here.got (parent_content (tree_of old) key may.parent may.node may.parent_node may.split may.children kept.legal may.is_leaf may.below may.is_parent may.inner_node);
       apart = apart_from_leaf (tree_of old) may.parent key may.parent_node may.node may.split may.children may.is_parent may.inner_node may.is_leaf may.empty;
     }
 
@@ -122,13 +138,13 @@ module _ (old : Inside) (nodes : Slab TreeNode) (key : ℕ) (kept : IsKept old) 
   above_had = node_read old.nodes.slots taken.parent taken.above taken.had_above
 
   abbrev stay : List ℕ
-  stay = remove taken.loses.children taken.loses.place
+  stay = swap_remove taken.loses.children taken.loses.place key
 
   stay_are : IsPermutation (key ∷ stay) taken.loses.children
   stay_are =
-      let w = removed taken.loses.children taken.loses.place key taken.loses.there in
-      subst (λ xs. IsPermutation (key ∷ stay) xs) (sym w.old_is)
-      (subst (λ ys. IsPermutation (key ∷ ys) (w.before ++ key ∷ w.after)) (sym w.new_is) (IsPermutation-sym _ _ (IsPermutation-middle w.before key w.after)))
+      IsPermutation-sym taken.loses.children (key ∷ stay)
+      (IsPermutation-swap_remove taken.loses.children taken.loses.place key (slice_get_within taken.loses.children taken.loses.place key taken.loses.there)
+      (sym (get_or_from_slice_get taken.loses.children taken.loses.place key key taken.loses.there)))
 
   after_is : node_of taken.after ≡ with_content (node_of taken.above) (inner taken.loses.split stay)
   after_is = λ i. record { parent = taken.loses.parent i; bindings = bindings_of (taken.loses.bindings i); content = taken.loses.is i }
@@ -179,9 +195,9 @@ module _ (old : Inside) (nodes : Slab TreeNode) (key : ℕ) (kept : IsKept old) 
       let distinct = permuted_distinct taken.loses.children (key ∷ stay) (IsPermutation-sym (key ∷ stay) taken.loses.children stay_are) (children_distinct (tree_of old) taken.parent (node_of taken.above) taken.loses.split taken.loses.children kept.legal above_had taken.loses.was) in
       known_from (tree_of new) taken.after.content taken.loses.split stay taken.loses.is
       (subst (λ hs. AreHeadsOf (tree_of new) taken.loses.split hs stay) (sym taken.loses.heads)
-      (heads_each (tree_of old) (tree_of new) taken.loses.split (remove (heads_of taken.above.content) taken.loses.place) stay
+      (heads_each (tree_of old) (tree_of new) taken.loses.split (swap_remove (heads_of taken.above.content) taken.loses.place taken.loses.head) stay
       (λ c h a. keeps_heads taken.loses.split c h (λ e. distinct.0 (subst (IsAmong stay) e a)))
-      (heads_removed (tree_of old) taken.loses.split (heads_of taken.above.content) taken.loses.children taken.loses.place
+      (heads_swapped (tree_of old) taken.loses.split taken.loses.place (heads_of taken.above.content) taken.loses.children taken.loses.head key
       (known_told (tree_of old) taken.above.content taken.loses.split taken.loses.children taken.loses.was (kept.heads taken.parent taken.above taken.had_above)))))
 
   other_heads : (k : ℕ) (x : TreeNode) → k ≢ taken.parent → get old.nodes k ≡ Some x → KnowsHeads (tree_of new) x.content

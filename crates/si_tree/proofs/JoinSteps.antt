@@ -36,6 +36,7 @@ use Rattle.si_tree.proofs.SlotLaws.{slot_read, node_read, vacant_read, Stood, st
 use Rattle.si_tree.proofs.CountLaws.{weight, counted_least}
 use Rattle.si_tree.proofs.DecodingLaws.{bindings_read, stand_whole}
 use Rattle.si_tree.proofs.KeptLaws.{leaf_known}
+use Rattle.si_tree.proofs.BelowLaws.{is_below}
 use Rattle.si_tree.proofs.RoomLaws.{known_told, known_from}
 use Rattle.si_tree.proofs.SplitSteps.{head_carries}
 use Rattle.si_tree.proofs.DropSteps.{heads_each, without_leaf, parent_content, only_parent, children_distinct, apart_from_leaf}
@@ -173,7 +174,7 @@ module _ (old : Inside) (key : ℕ) (cells : List CellPair) (kept : IsKept old) 
     below = ap (λ n. n.parent) here.read ∙ may.may.below;
     below_upper = ap (λ n. n.parent) parent_stood.read ∙ up.below;
     besides = (may.may.split, may.may.children, ap (λ n. n.content) parent_stood.read ∙ may.may.inner_node, may.may.two);
-    child = (up.split, up.children, ap (λ n. n.content) upper_stood.read ∙ up.content, up.among);
+    child = is_below old kept up.upper upper_stood.kept up.split up.children upper_stood.got (ap (λ n. n.content) upper_stood.read ∙ up.content) parent parent_stood.kept parent_stood.got up.among;
     apart = (
       (λ a. elim a as (λ _. ⊥) [ inl e ↦ parent_apart e | inr (inl e) ↦ other_apart e | inr (inr (inl e)) ↦ upper_apart e | inr (inr (inr h)) ↦ absurd h ]),
       (

@@ -19,6 +19,7 @@ use Rattle.si_tree.specs.declared.node.Content.{Content}
 use Rattle.si_tree.specs.declared.node.Content.TheVariants.{Inner, Leaf}
 use Rattle.si_tree.specs.declared.tree.Tree.TheInside.{Inside}
 use Rattle.si_tree.specs.Decoding.{bindings_of}
+use Rattle.si_tree.specs.KeptHeads.{heads_in}
 use Rattle.si_tree.specs.KeptNodes.{node_of, slot_of, tree_of, content_of, KnowsHeads, IsKept, IsLeafNode, IsSameBut, postings_in}
 use Rattle.si_tree.specs.Heads.{HeadsAt, AreHeadsOf}
 use Rattle.si_tree.specs.Reading.{postings_of}
@@ -43,7 +44,7 @@ heads_over old new split (h ∷ hs) [] keeps are = absurd are
 heads_over old new split (h ∷ hs) (c ∷ cs) keeps are = (head_over old new split c h keeps are.0, heads_over old new split hs cs keeps are.1)
 
 pub known_over : (old new : Tree Term) (content : Content) → KeepsBindings old new → KnowsHeads old content → KnowsHeads new content
-known_over old new (Inner b) keeps known = heads_over old new b.split b.heads.items b.children.items keeps known
+known_over old new (Inner b) keeps known = heads_over old new b.split (heads_in b.heads) b.children.items keeps known
 known_over old new (Leaf postings) keeps known = tt
 
 -- a leaf has no heads

@@ -1,5 +1,5 @@
 -- A kept tree gets a leaf.
-use Rattle.std.proofs.Common.{◌≡◌, ◌≢◌, ℕ, ◌+◌, ◌<◌, ◌≤◌, max, List, [], ◌∷◌, ◌++◌, Option, None, Some, map, get_or, inl, inr, refl, sym, ◌∙◌, ap, subst, arith, ◌⊎◌}
+use Rattle.std.proofs.Common.{◌≡◌, ◌≢◌, ℕ, ◌+◌, ◌<◌, ◌≤◌, max, List, [], ◌∷◌, ◌++◌, Option, None, Some, map, get_or, inl, inr, refl, sym, ◌∙◌, ap, subst, arith, ◌⊎◌, true, false}
 use Rattle.std.specs.Prelude.{is_some}
 use Rattle.std.proofs.lemmas.Bool.{cases_eq}
 use Rattle.std.proofs.lemmas.Option.{same_Some}
@@ -9,7 +9,7 @@ use Rattle.slab.proofs.SlabLemmas.{Updates-with_value}
 use Rattle.si_defs.specs.Substitutions.{IsAmong}
 use Rattle.si_defs.specs.Terms as terms
 use Rattle.si_flat.specs.Cells.{Variable, entry, Term}
-use Rattle.si_flat.specs.Rows.{left_sides, AreWhole}
+use Rattle.si_flat.specs.Rows.{CellPair, left_sides, AreWhole}
 use Rattle.si_legal.specs.declared.Posting.{Posting}
 use Rattle.si_legal.specs.Bindings.{Binding, applied}
 use Rattle.si_legal.specs.Trees.{inner, leaf, Node, Tree, HasNode, Path, IsPath, path_term}
@@ -30,14 +30,15 @@ use Rattle.si_tree.specs.Changes.{HasNewLeaf}
 use Rattle.si_tree.specs.Decoding.{bindings_of}
 use Rattle.si_tree.specs.Heads.{HasHead, HeadsAt, AreHeadsOf}
 use Rattle.si_tree.specs.KeptNodes.{node_of, slot_of, tree_of, content_of, heads_of, KnowsHeads, IsKept, GainsChild}
-use Rattle.si_tree.specs.Rights.{beyond_rights}
+use Rattle.si_tree.specs.Rights.{beyond_rights, head_in}
 use Rattle.si_tree.proofs.SlotLaws.{slot_read, node_read, vacant_read, stood}
 use Rattle.si_tree.proofs.CountLaws.{weight, counted_changed, counted_below, nodes_counted}
 use Rattle.si_tree.proofs.ChildLaws.{same_split}
 use Rattle.si_tree.proofs.KeptLaws.{KeepsBindings, heads_over, known_over, leaf_known}
 use Rattle.si_tree.proofs.RoomLaws.{known_told, known_from, with_nodes}
 use Rattle.si_tree.proofs.VariableLaws.{leaf_variable, room_for}
-use Rattle.si_tree.proofs.RightLaws.{IsHeaded}
+use Rattle.si_tree.proofs.RightLaws.{IsHeaded, head_told}
+use Rattle.si_tree.proofs.HeadLaws.{heads_same, child_with_head}
 use Rattle.si_tree.specs.Reading.{AtNode, split_of}
 
 -- ---- paths
@@ -256,6 +257,16 @@ headed tree parent bs p legal may (terms.var x) among = by x (leaf_variable (app
 
 pub split_bound : (tree : Tree Term) (parent : ℕ) (bs : List Binding) (p : Posting) → IsLegal tree → (may : MayAddLeaf tree parent bs p) → IsAmong (left_sides bs) may.split
 split_bound tree parent bs p legal may = (may.binds.1 may.split).1 (split_open tree parent bs p legal may)
+
+-- no child has the head that the bindings give the split
+pub fresh_head : (t : Inside) (parent : ℕ) (n : TreeNode) (cells : List CellPair) (p : Posting) (head : Head) → IsKept t → (may : MayAddLeaf (tree_of t) parent (bindings_of cells) p) → get t.nodes parent ≡ Some n → AreWhole cells → head_in cells may.split ≡ Some head → IsAmong (heads_of n.content) head → ⊥
+fresh_head t parent n cells p head kept may got whole is among =
+    let content = ap (λ x. x.content) (one_node (tree_of t) parent (node_of n) may.node (node_read t.nodes.slots parent n got) may.reached.1) ∙ may.inner_node in
+    let other = child_with_head (tree_of t) may.split (heads_of n.content) may.children head (known_told (tree_of t) n.content may.split may.children content (kept.heads parent n got)) among in
+    let told = head_told cells may.split head whole is in
+    differ (sym (heads_same told.0 other.2.0 head told.2 other.2.2) ∙ may.new_head told.0 other.2.0 other.0 told.1 other.1 other.2.1) where
+      differ : true ≡ false → ⊥
+      differ e = cc
 
 -- ---- what is written
 abbrev pub written_leaf : Inside → Slab TreeNode → ℕ → TreeNode → ℕ → ℕ → Inside

@@ -11,6 +11,7 @@ use Rattle.si_tree.specs.declared.node.TreeNode.{TreeNode}
 use Rattle.si_tree.specs.declared.node.Branches.{Branches}
 use Rattle.si_tree.specs.declared.node.Content.TheVariants.{Inner}
 use Rattle.si_tree.specs.declared.tree.Tree.TheInside.{Inside}
+use Rattle.si_tree.specs.KeptHeads.{heads_in}
 use Rattle.si_tree.specs.KeptNodes.{node_of, slot_of, tree_of, content_of, KnowsHeads, IsKept}
 use Rattle.si_tree.specs.Decoding.{bindings_of}
 use Rattle.si_tree.specs.Heads.{AreHeadsOf}
@@ -28,7 +29,7 @@ pub record IsFirst (t : Inside) (n : TreeNode) (b : Branches) : Type 0 where
   pub bindings : n.bindings ≡ []
   pub content : n.content ≡ Inner b
   pub split : b.split ≡ 0
-  pub heads : b.heads.items ≡ []
+  pub heads : heads_in b.heads ≡ []
   pub children : b.children.items ≡ []
   pub next : t.next ≡ 1
   pub vars : t.vars ≡ 0

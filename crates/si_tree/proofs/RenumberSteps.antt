@@ -28,6 +28,7 @@ use Rattle.si_tree.specs.declared.renumber.Renumbered.{Renumbered}
 use Rattle.si_tree.specs.declared.renumber.Renumbering.{Renumbering}
 use Rattle.si_tree.specs.declared.tree.Tree.TheInside.{Inside}
 use Rattle.si_tree.specs.Heads.{HasHead, AreHeadsOf}
+use Rattle.si_tree.specs.KeptHeads.{heads_in}
 use Rattle.si_tree.specs.KeptNodes.{node_of, tree_of, content_of, KnowsHeads, IsKept}
 use Rattle.si_tree.specs.Renumbers.{with_split, with_numbers, keys_of, with_new_split, IsToHave, IsRenumbering, AreKeysOf, exchanged, Renumbers}
 use Rattle.si_tree.proofs.CountLaws.{weight}
@@ -201,7 +202,7 @@ module _ (old : Inside) (kept : IsKept old) (r : Renumbering) (h : IsRenumbering
   heads_at : (key : ℕ) (n : TreeNode) (x : Node Term) (split : ℕ) (c : Content) → get old.nodes key ≡ Some n → n.content ≡ c → HasNode (tree_of (renumbered_inside old r)) key x → x.content ≡ content_of (with_split split c) → KnowsHeads (tree_of old) c → KnowsHeads (tree_of (renumbered_inside old r)) (with_split split c)
   heads_at key n x split (Leaf ps) got e there is known = tt
   heads_at key n x split (Inner b) got e there is known =
-      heads_renamed (tree_of old) (tree_of (renumbered_inside old r)) b.split split b.heads.items b.children.items
+      heads_renamed (tree_of old) (tree_of (renumbered_inside old r)) b.split split (heads_in b.heads) b.children.items
       (λ child t a. binds_still (tree_of old) (tree_of (renumbered_inside old r)) kept.legal is_renumbered key child b.split split (node_of n) x b.children.items b.children.items t (node_read old.nodes.slots key n got) there (ap content_of e) is a)
       known
 

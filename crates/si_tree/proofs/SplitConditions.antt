@@ -1,5 +1,5 @@
 -- What the conditions of a split give to the code.
-use Rattle.std.proofs.Common.{◌≡◌, ℕ, ◌<◌, List, ◌∷◌, ◌++◌, Some, inl, inr, refl, sym, subst, arith}
+use Rattle.std.proofs.Common.{◌≡◌, ℕ, ◌<◌, true, false, List, [], ◌∷◌, ◌++◌, Some, inl, inr, refl, sym, ◌∙◌, subst, arith}
 use Rattle.std.specs.List.{AllByRecursion}
 use Rattle.std.proofs.lemmas.List.{map-append}
 use Rattle.si_defs.specs.Terms as terms
@@ -15,11 +15,14 @@ use Rattle.si_legal.specs.Legal.{IsLegal, IsOpenBelow, IsWithin}
 use Rattle.si_legal.proofs.SplitLaws.{binding_left}
 use Rattle.si_legal.proofs.PathLaws.{one_path}
 use Rattle.si_changes.specs.Splits.{Parts, MaySplitNode}
-use Rattle.si_changes.proofs.Frames.{legal_nodes}
+use Rattle.si_changes.proofs.Frames.{legal_nodes, one_right}
 use Rattle.si_changes.proofs.OpenLaws.{open_opened, opened_low, path_opens_once}
 use Rattle.si_changes.proofs.ComposeLaws.{is_open, right_applied}
 use Rattle.si_changes.proofs.DivideLaws.{Divides, divides}
+use Rattle.si_tree.specs.declared.node.Head.{Head}
 use Rattle.si_tree.specs.declared.node.Head.TheVariants.{Sym, Var}
+use Rattle.si_tree.specs.Heads.{HasHead}
+use Rattle.si_tree.proofs.HeadLaws.{heads_same}
 use Rattle.si_tree.proofs.RightLaws.{IsHeaded}
 use Rattle.si_tree.proofs.VariableLaws.{leaf_variable}
 
@@ -96,3 +99,13 @@ module _ (old : Tree Term) (key : ℕ) (parts : Parts) (others : List Binding) (
 
   pub new_bound : (n : ℕ) (a : Term) → IsAmong parts.rest_node (n, a) → IsAmong (left_sides parts.rest_new) n
   new_bound n a among = (let found = given.rests_differ n a among in binding_left parts.rest_new n found.0 found.1)
+
+  -- what stands at one left side in both rests has two heads
+  pub heads_apart : (n : ℕ) (h k : Head) (t u : Term) → IsAmong parts.rest_node (n, t) → HasHead t h → IsAmong parts.rest_new (n, u) → HasHead u k → IsAmong (h ∷ []) k → ⊥
+  heads_apart n h k t u a p b q (inr none) = none
+  heads_apart n h k t u a p b q (inl e) =
+      let found = given.rests_differ n t a in
+      let same : u ≡ found.0 = one_right parts.rest_new n u found.0 given.new_distinct b found.1 in
+      differ (sym (heads_same t found.0 k (subst (HasHead t) e p) (subst (λ v. HasHead v k) same q)) ∙ found.2) where
+        differ : true ≡ false → ⊥
+        differ f = cc

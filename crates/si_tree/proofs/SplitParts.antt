@@ -2,21 +2,24 @@
 use Rattle.std.proofs.Common.{◌≡◌, ℕ, ◌+◌, List, [], ◌∷◌, None, Some, Option, inl, sym, ◌∙◌, ap, subst}
 use Rattle.std.specs.Prelude.{slice_get}
 use Rattle.std.proofs.lemmas.Option.{same_Some}
-use Rattle.slab.specs.Slab.{Slab, get, HasRoomFor}
+use Rattle.slab.specs.Slab.{Slab, HasRoomFor}
+use Rattle.si_defs.specs.Substitutions.{IsAmong}
 use Rattle.si_flat.specs.Cells.{Term}
 use Rattle.si_flat.specs.Rows.{CellPair, left_sides}
 use Rattle.si_legal.specs.declared.Posting.{Posting}
 use Rattle.si_legal.specs.Bindings.{Binding}
 use Rattle.si_legal.specs.Trees.{Tree}
-use Rattle.si_legal.specs.Legal.{IsLegal, IsLegalContent}
+use Rattle.si_legal.specs.Legal.{IsLegalContent}
 use Rattle.si_changes.specs.Splits.{Parts, MaySplitNode}
 use Rattle.si_changes.proofs.OpenLaws.{no_return}
+use Rattle.si_tree.specs.declared.node.Head.{Head}
 use Rattle.si_tree.specs.declared.node.TreeNode.{TreeNode}
 use Rattle.si_tree.specs.declared.tree.Tree.TheInside.{Inside}
 use Rattle.si_tree.specs.Decoding.{term_of, bindings_of}
-use Rattle.si_tree.specs.KeptNodes.{tree_of, IsKept, MayPutBetween, HasRoomForChild}
+use Rattle.si_tree.specs.KeptNodes.{tree_of, heads_of, IsKept, IsBelow, MayPutBetween, HasRoomForChild}
 use Rattle.si_tree.specs.Reading.{AtNode}
 use Rattle.si_tree.proofs.SlotLaws.{stood}
+use Rattle.si_tree.proofs.BelowLaws.{is_below}
 use Rattle.si_tree.proofs.RoomLaws.{with_nodes}
 
 -- ---- more room
@@ -37,20 +40,18 @@ pub parent_known : (tree : Tree Term) (key : ℕ) (parts : Parts) (others : List
 parent_known tree key parts others p may r parent told is =
     same_Some may.parent parent (sym may.reached.2.0 ∙ sym (told may.node may.reached.1) ∙ is)
 
-pub may_put : (old : Inside) (key parent : ℕ) (parts : Parts) (others : List Binding) (p : Posting) (fork : TreeNode) → IsLegal (tree_of old) → (may : MaySplitNode (tree_of old) key parts others p) → may.parent ≡ parent → HasRoomFor old.nodes 2 → HasRoomForChild fork → MayPutBetween old.nodes key parent fork
-may_put old key parent parts others p fork legal may is room below =
+pub may_put : (old : Inside) (key parent : ℕ) (parts : Parts) (others : List Binding) (p : Posting) (fork : TreeNode) (head : Head) → IsKept old → (may : MaySplitNode (tree_of old) key parts others p) → may.parent ≡ parent → HasRoomFor old.nodes 2 → HasRoomForChild fork → (IsAmong (heads_of fork.content) head → ⊥) → MayPutBetween old.nodes key parent fork head
+may_put old key parent parts others p fork head kept may is room below new =
     let at_key = stood old.nodes.slots key may.node may.reached.1 in
     let at_parent = stood old.nodes.slots may.parent may.parent_node may.reached.2.1 in
-    let h = legal.nodes may.parent may.parent_node may.reached.2.1 in
+    let h = kept.legal.nodes may.parent may.parent_node may.reached.2.1 in
     let children = (subst (IsLegalContent (tree_of old) may.parent ((may.parent, may.parent_node) ∷ h.above)) may.inner_node h.content).1 in
+    let content = ap (λ n. n.content) at_parent.read ∙ may.inner_node in
     record {
       room = room;
       room_below = below;
-      node = at_key.kept;
-      has = at_key.got;
-      above = at_parent.kept;
-      has_above = subst (λ k. get old.nodes k ≡ Some at_parent.kept) is at_parent.got;
-      child = (may.split, may.children, ap (λ n. n.content) at_parent.read ∙ may.inner_node, (children key).1 (may.node, may.reached.1, may.reached.2.0));
+      new_head = new;
+      below = subst (IsBelow old.nodes key) is (is_below old kept may.parent at_parent.kept may.split may.children at_parent.got content key at_key.kept at_key.got ((children key).1 (may.node, may.reached.1, may.reached.2.0)));
       apart = λ e. no_return (tree_of old) key may.node ((may.parent, may.parent_node) ∷ may.above) may.reached (inl (is ∙ sym e));
     }
 

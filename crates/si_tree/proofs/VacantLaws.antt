@@ -5,16 +5,26 @@ use Rattle.slab.specs.Slab.{Slab, get, Updates}
 use Rattle.si_legal.specs.Trees as trees
 use Rattle.si_legal.specs.Counts.{counted}
 use Rattle.si_flat.specs.Rows.{CellPair}
+use Rattle.si_tree.specs.declared.node.Head.{Head}
 use Rattle.si_tree.specs.declared.node.TreeNode.{TreeNode}
-use Rattle.si_tree.specs.KeptNodes.{slot_of, content_of, moved_below, RelinksChild}
+use Rattle.si_tree.specs.KeptNodes.{slot_of, content_of, moved_below, HasChildBy, IsBelowBy, RelinksChild}
 use Rattle.si_tree.specs.Dropping.{LosesChild, HasBesides, MayTakeOut, IsTakenOut, MayTakeBoth, AreTakenOut}
 use Rattle.si_tree.proofs.CountLaws.{weight}
 use Rattle.si_tree.proofs.LeafSteps.{slab_counts}
 use Rattle.si_tree.proofs.BetweenLaws.{apart_back}
 
 -- ---- a leaf alone
-pub taken_out : (s0 s1 s2 : Slab TreeNode) (key parent : ℕ) (n a b : TreeNode) → MayTakeOut s0 key → get s0 key ≡ Some n → n.parent ≡ Some parent → Updates s0 s1 key None → get s1 parent ≡ Some a → Updates s1 s2 parent (Some b) → LosesChild a b key → IsTakenOut s0 s2 key
-taken_out s0 s1 s2 key parent n a b may had below one got two loses = record {
+-- what the leaf's parent has it as, when the leaf is gone
+pub above_child : (s0 s1 : Slab TreeNode) (key parent : ℕ) (a : TreeNode) (head : Head) → parent ≢ key → Updates s0 s1 key None → get s1 parent ≡ Some a → IsBelowBy s0 key parent head → HasChildBy a head key
+above_child s0 s1 key parent a head apart one got below =
+    subst (λ n. HasChildBy n head key) (same_Some below.above a (sym below.has_above ∙ sym (one.others parent apart) ∙ got)) below.child
+
+pub parent_at : (s0 : Slab TreeNode) (key parent : ℕ) (n : TreeNode) (may : MayTakeOut s0 key) → get s0 key ≡ Some n → n.parent ≡ Some parent → may.parent ≡ parent
+parent_at s0 key parent n may had below =
+    same_Some may.parent parent (sym may.below ∙ ap (λ x. x.parent) (same_Some may.node n (sym may.has ∙ had)) ∙ below)
+
+pub taken_out : (s0 s1 s2 : Slab TreeNode) (key parent : ℕ) (n a b : TreeNode) → MayTakeOut s0 key → get s0 key ≡ Some n → n.parent ≡ Some parent → Updates s0 s1 key None → get s1 parent ≡ Some a → Updates s1 s2 parent (Some b) → (head : Head) → IsBelowBy s0 key parent head → ((child : ℕ) → HasChildBy a head child → LosesChild a b child) → IsTakenOut s0 s2 key
+taken_out s0 s1 s2 key parent n a b may had below one got two head stood loses = record {
   node = n;
   parent = parent;
   above = a;
@@ -24,12 +34,12 @@ taken_out s0 s1 s2 key parent n a b may had below one got two loses = record {
   had_above = sym (one.others parent apart) ∙ got;
   gone = two.others key (apart_back parent key apart) ∙ one.changed;
   above_at = two.changed;
-  loses = loses;
+  loses = loses key (above_child s0 s1 key parent a head apart one got stood);
   others = λ k x y. two.others k y ∙ one.others k x;
   counts = counts;
 } where
   same : may.parent ≡ parent
-  same = same_Some may.parent parent (sym may.below ∙ ap (λ x. x.parent) (same_Some may.node n (sym may.has ∙ had)) ∙ below)
+  same = parent_at s0 key parent n may had below
 
   apart : parent ≢ key
   apart = subst (λ k. k ≢ key) same may.apart
@@ -54,6 +64,11 @@ module _ (s0 : Slab TreeNode) (key : ℕ) (may : MayTakeBoth s0 key) where
 
   pub besides_at : (n : TreeNode) (at : ℕ) → at ≡ may.parent → get s0 at ≡ Some n → HasBesides n key may.other
   besides_at n at e got = subst (λ x. HasBesides x key may.other) (same_Some may.parent_node n (sym may.has_parent ∙ ap (get s0) (sym e) ∙ got)) may.besides
+
+  pub upper_child : (at at_upper : ℕ) (head : Head) → at ≡ may.parent → at_upper ≡ may.upper → IsBelowBy s0 at at_upper head → HasChildBy may.upper_node head may.parent
+  upper_child at at_upper head e f below =
+      subst (λ n. HasChildBy n head may.parent) (same_Some below.above may.upper_node (sym below.has_above ∙ ap (get s0) f ∙ may.has_upper))
+      (subst (HasChildBy below.above head) e below.child)
 
   key_parent : key ≢ may.parent
   key_parent e = may.apart.0 (inl (sym e))

@@ -1,6 +1,6 @@
 -- How a leaf without a posting goes from a tree.
-use Rattle.std.specs.Prelude.{◌≡◌, ◌≢◌, ℕ, ◌+◌, List, [], ◌∷◌, Option, None, Some, map, length, slice_get, IsPermutation}
-use Rattle.std.specs.List.{remove}
+use Rattle.std.specs.Prelude.{◌≡◌, ◌≢◌, ℕ, ◌+◌, List, [], ◌∷◌, Option, None, Some, map, slice_get, IsPermutation}
+use Rattle.std.specs.List.{swap_remove}
 use Rattle.slab.specs.Slab.{Slab, get}
 use Rattle.si_defs.specs.Substitutions.{AreDistinct}
 use Rattle.si_flat.specs.Cells.{Term}
@@ -12,9 +12,9 @@ use Rattle.si_legal.specs.Trees as trees
 use Rattle.si_legal.specs.StoredSets.{StaysStored, KeepsLeaves}
 use Rattle.si_changes.specs.Leaves.{MayDropLeaf, DropsLeaf}
 use Rattle.si_changes.specs.Joins.{MayJoin, Joins}
+use Rattle.si_tree.specs.declared.node.Head.{Head}
 use Rattle.si_tree.specs.declared.node.TreeNode.{TreeNode}
-use Rattle.si_tree.specs.KeptNodes.{slot_of, content_of, heads_of, moved_below, HasChild, RelinksChild}
-use Rattle.si_tree.specs.Reading.{children_of}
+use Rattle.si_tree.specs.KeptNodes.{slot_of, content_of, heads_of, moved_below, IsBelow, RelinksChild}
 
 -- ---- the tree
 -- the bindings of the leaf's parent composed with those of its other child
@@ -50,22 +50,18 @@ pub record Drops (old new : Tree Term) (key : ℕ) (joined : Option (List CellPa
   pub unmerged : unmerged_count new + 1 ≡ unmerged_count old
 
 -- ---- one node
--- an inner node with this child, and a head beside each child
-abbrev pub HasHeadedChild : TreeNode → ℕ → Type 0
-HasHeadedChild n child =
-    HasChild n child × (length (heads_of n.content) ≡ length (children_of (content_of n.content)))
-
--- the child goes, and so does the head at its place
+-- the child goes, and so does the head at its place; the last ones come there
 pub record LosesChild (old new : TreeNode) (child : ℕ) : Type 0 where
   pub split : ℕ
   pub children : List ℕ
   pub place : ℕ
+  pub head : Head
   pub parent : new.parent ≡ old.parent
   pub bindings : new.bindings ≡ old.bindings
   pub was : content_of old.content ≡ inner split children
   pub there : slice_get children place ≡ Some child
-  pub is : content_of new.content ≡ inner split (remove children place)
-  pub heads : heads_of new.content ≡ remove (heads_of old.content) place
+  pub is : content_of new.content ≡ inner split (swap_remove children place child)
+  pub heads : heads_of new.content ≡ swap_remove (heads_of old.content) place head
 
 abbrev pub HasBesides : TreeNode → ℕ → ℕ → Type 0
 HasBesides n child other =
@@ -76,11 +72,9 @@ HasBesides n child other =
 pub record MayTakeOut (nodes : Slab TreeNode) (key : ℕ) : Type 0 where
   pub node : TreeNode
   pub parent : ℕ
-  pub above : TreeNode
   pub has : get nodes key ≡ Some node
   pub below : node.parent ≡ Some parent
-  pub has_above : get nodes parent ≡ Some above
-  pub child : HasHeadedChild above key
+  pub child : IsBelow nodes key parent
   pub apart : parent ≢ key
 
 pub record IsTakenOut (old new : Slab TreeNode) (key : ℕ) : Type 0 where
@@ -116,7 +110,7 @@ pub record MayTakeBoth (nodes : Slab TreeNode) (key : ℕ) : Type 0 where
   pub below : node.parent ≡ Some parent
   pub below_upper : parent_node.parent ≡ Some upper
   pub besides : HasBesides parent_node key other
-  pub child : HasChild upper_node parent
+  pub child : IsBelow nodes parent upper
   pub apart : AreDistinct (key ∷ parent ∷ other ∷ upper ∷ [])
 
 pub record AreTakenOut (old new : Slab TreeNode) (key : ℕ) (bindings : List CellPair)

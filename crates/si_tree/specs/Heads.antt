@@ -1,5 +1,5 @@
 -- Heads of terms as the code tells them, and children by their heads.
-use Rattle.std.specs.Prelude.{◌≡◌, ℕ, Bool, false, ◌&&◌, ◌==◌, List, [], ◌∷◌, Some, slice_get}
+use Rattle.std.specs.Prelude.{◌≡◌, ℕ, List, [], ◌∷◌, Some, slice_get}
 use Rattle.si_defs.specs.Terms as terms
 use Rattle.si_defs.specs.Substitutions.{IsAmong}
 use Rattle.si_flat.specs.Cells.{entry, Term}
@@ -37,11 +37,6 @@ pub record IsChildBy (tree : Tree Term) (key : ℕ) (head : Head) (child : ℕ) 
   pub by : HeadsAt tree split child head
 
 -- ---- heads in lists
-abbrev pub are_equal : Head → Head → Bool
-are_equal (Sym s arity) (Sym r arity') = (s == r) && (arity == arity')
-are_equal (Var m) (Var n) = m == n
-are_equal _ _ = false
-
 -- the head stands at one place, and the child at the same place
 abbrev pub StandTogether : List Head → List ℕ → Head → ℕ → Type 0
 StandTogether heads children head child =

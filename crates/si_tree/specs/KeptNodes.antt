@@ -1,7 +1,7 @@
 -- How a tree is kept, and which tree that is.
 use Rattle.std.specs.Prelude.{◌≡◌, ◌≢◌, ℕ, ◌+◌, ◌<◌, List, [], ◌∷◌, ◌++◌, Option, None, Some, map, length, slice_set, vec_capacity}
 use Rattle.slab.specs.Slab.{Slab, get, slab_len, HasRoomFor}
-use Rattle.si_defs.specs.Substitutions.{IsAmong}
+use Rattle.si_defs.specs.Substitutions.{IsAmong, AreDistinct}
 use Rattle.si_flat.specs.Cells.{Term}
 use Rattle.si_flat.specs.Rows.{CellPair, AreWhole}
 use Rattle.si_legal.specs.declared.Posting.{Posting}
@@ -16,11 +16,13 @@ use Rattle.si_tree.specs.declared.node.TreeNode.{TreeNode}
 use Rattle.si_tree.specs.declared.tree.Tree.TheInside.{Inside}
 use Rattle.si_tree.specs.Decoding.{bindings_of}
 use Rattle.si_tree.specs.Reading.{postings_of}
-use Rattle.si_tree.specs.Heads.{AreHeadsOf}
+use Rattle.si_tree.specs.Heads.{AreHeadsOf, StandTogether}
+use Rattle.si_tree.specs.KeptHeads.{heads_in, HasRoomForHead}
+use Rattle.si_tree.specs.Rights.{head_in}
 
 abbrev pub content_of : Content → trees.Content
 content_of (Inner branches) = inner branches.split branches.children.items
-content_of (Leaf postings) = leaf postings.items
+content_of (Leaf postings) = leaf postings
 
 abbrev pub node_of : TreeNode → Node Term
 node_of n = record {
@@ -44,7 +46,7 @@ tree_of t = record {
 -- the heads beside the children are theirs
 abbrev pub KnowsHeads : Tree Term → Content → Type 0
 KnowsHeads tree (Inner branches) =
-    AreHeadsOf tree branches.split branches.heads.items branches.children.items
+    AreHeadsOf tree branches.split (heads_in branches.heads) branches.children.items
 KnowsHeads tree (Leaf postings) = Unit {0}
 
 pub record IsKept (t : Inside) : Type 0 where
@@ -73,7 +75,7 @@ pub record IsSameBut (old new : TreeNode) : Type 0 where
 
 -- the heads beside the children
 abbrev pub heads_of : Content → List Head
-heads_of (Inner branches) = branches.heads.items
+heads_of (Inner branches) = heads_in branches.heads
 heads_of (Leaf postings) = []
 
 -- the same node, with other memory
@@ -86,8 +88,7 @@ pub record IsSameNode (old new : TreeNode) : Type 0 where
 -- an inner node whose lists have room for a child
 abbrev pub HasRoomIn : Content → Type 0
 HasRoomIn (Inner b) =
-    (length b.heads.items < vec_capacity b.heads)
-    × (length b.children.items < vec_capacity b.children)
+    HasRoomForHead b.heads × (length b.children.items < vec_capacity b.children)
 HasRoomIn (Leaf postings) = ⊥
 
 abbrev pub HasRoomForChild : TreeNode → Type 0
@@ -110,10 +111,13 @@ pub record IsReplaced {X : Type 0} (old : List X) (x y : X) (new : List X) : Typ
   pub old_is : old ≡ front ++ x ∷ back
   pub new_is : new ≡ front ++ y ∷ back
 
-abbrev pub HasChild : TreeNode → ℕ → Type 0
-HasChild n child =
-    (split : ℕ) × (children : List ℕ)
-    × (content_of n.content ≡ inner split children) × IsAmong children child
+-- an inner node whose child with this head this is; no two of its children have the same head
+pub record HasChildBy (n : TreeNode) (head : Head) (child : ℕ) : Type 0 where
+  pub split : ℕ
+  pub children : List ℕ
+  pub content : content_of n.content ≡ inner split children
+  pub together : StandTogether (heads_of n.content) children head child
+  pub distinct : AreDistinct (heads_of n.content)
 
 pub record RelinksChild (old new : TreeNode) (child other : ℕ) : Type 0 where
   pub split : ℕ
@@ -144,8 +148,26 @@ pub record IsLeafWith (bindings : List CellPair) (p : Posting) (n : TreeNode) : 
   pub content : content_of n.content ≡ leaf (p ∷ [])
 
 -- ---- many nodes
-abbrev pub IsInnerAt : Slab TreeNode → ℕ → Type 0
-IsInnerAt nodes key = (n : TreeNode) × (get nodes key ≡ Some n) × IsInnerNode n
+-- an inner node, whose children have different heads
+pub record IsInnerAt (nodes : Slab TreeNode) (key : ℕ) : Type 0 where
+  pub node : TreeNode
+  pub has : get nodes key ≡ Some node
+  pub inner_node : IsInnerNode node
+  pub distinct : AreDistinct (heads_of node.content)
+
+-- a node and the one above it, whose child by this head it is; it gives that one's split a term of
+-- this head
+pub record IsBelowBy (nodes : Slab TreeNode) (key parent : ℕ) (head : Head) : Type 0 where
+  pub node : TreeNode
+  pub above : TreeNode
+  pub has : get nodes key ≡ Some node
+  pub has_above : get nodes parent ≡ Some above
+  pub child : HasChildBy above head key
+  pub binds : head_in node.bindings child.split ≡ Some head
+
+-- the node stands below the other one, by some head
+abbrev pub IsBelow : Slab TreeNode → ℕ → ℕ → Type 0
+IsBelow nodes key parent = (head : Head) × IsBelowBy nodes key parent head
 
 -- the nodes stay, but for memory in the one with this key
 pub record StaySame (old new : Slab TreeNode) (key : ℕ) : Type 0 where
@@ -160,16 +182,13 @@ pub record HasRoomBelow (nodes : Slab TreeNode) (key : ℕ) : Type 0 where
   pub node : HasRoomFor nodes 1
   pub child : (n : TreeNode) → get nodes key ≡ Some n → HasRoomForChild n
 
--- what an inner node between a node and its parent needs
-pub record MayPutBetween (nodes : Slab TreeNode) (key parent : ℕ) (fork : TreeNode)
+-- what an inner node between a node and its parent needs, with another child by this head
+pub record MayPutBetween (nodes : Slab TreeNode) (key parent : ℕ) (fork : TreeNode) (head : Head)
     : Type 0 where
   pub room : HasRoomFor nodes 2
   pub room_below : HasRoomForChild fork
-  pub node : TreeNode
-  pub has : get nodes key ≡ Some node
-  pub above : TreeNode
-  pub has_above : get nodes parent ≡ Some above
-  pub child : HasChild above key
+  pub new_head : IsAmong (heads_of fork.content) head → ⊥
+  pub below : IsBelow nodes key parent
   pub apart : key ≢ parent
 
 -- The new inner node and the new leaf have these keys. The first has one child already, the node.

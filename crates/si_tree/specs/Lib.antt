@@ -1,6 +1,7 @@
 pub mod Decoding
 pub mod Codes
 pub mod Heads
+pub mod KeptHeads
 pub mod NewTrees
 pub mod Reading
 pub mod Changes

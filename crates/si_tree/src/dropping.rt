@@ -4,6 +4,7 @@ ghost use Rattle.slab.specs.Slab.{ContainsKey, Updates};
 ghost use Rattle.si_tree.specs.Dropping.{AreTakenOut, Drops, IsTakenOut, MayDrop, MayTakeBoth, MayTakeOut};
 
 use crate::node::{NodeId, TreeNode};
+use crate::rights::head_below;
 use crate::tree::Tree;
 use si_flat::Bindings;
 use slab::Slab;
@@ -51,9 +52,10 @@ fn take_out(nodes: &mut Slab<TreeNode>, leaf: NodeId)
     let Some(parent) = nodes[leaf.key].parent else {
         unreachable!()
     };
+    let head = head_below(nodes, leaf, parent);
     vacate(nodes, leaf.key);
     let above = &mut nodes[parent.key];
-    above.drop_child(leaf);
+    above.drop_child(head);
 }
 
 // Takes out a leaf and its parent, and puts the other child in the parent's place.
@@ -69,12 +71,13 @@ fn take_both(nodes: &mut Slab<TreeNode>, leaf: NodeId, bindings: Bindings)
         unreachable!()
     };
     let other = nodes[parent.key].child_besides(leaf);
+    let head = head_below(nodes, parent, upper);
     vacate(nodes, leaf.key);
     vacate(nodes, parent.key);
     let below = &mut nodes[other.key];
     below.move_below(upper, bindings);
     let above = &mut nodes[upper.key];
-    above.relink(parent, other);
+    above.relink(head, other);
 }
 
 // Takes out a node.

@@ -2,8 +2,10 @@
 #![tactic(auto)]
 
 mod dropping;
+mod heads;
 mod node;
 mod numbers;
+mod postings;
 mod renumber;
 mod rights;
 #[cfg(test)]

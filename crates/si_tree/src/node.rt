@@ -1,15 +1,18 @@
 // The nodes of a tree.
-ghost use Rattle.std.specs.Prelude.{◌≡◌, IfOk, ◌++◌, ◌∷◌, OnOk, OnErr, slice_get, [], IfSome, IfNone, Some, length, ℕ, IsPermutation};
+ghost use Rattle.std.specs.Prelude.{◌≡◌, IfOk, ◌++◌, ◌∷◌, OnOk, OnErr, [], IfSome, IfNone, length, ℕ, IsPermutation};
 ghost use Rattle.si_defs.specs.Substitutions.{AreDistinct, IsAmong};
 ghost use Rattle.si_flat.specs.Rows.{left_sides};
 ghost use Rattle.si_legal.specs.Trees.{leaf};
 ghost use Rattle.si_legal.specs.Counts.{unmerged_of};
 ghost use Rattle.si_tree.specs.declared.node.Content.TheVariants.{Inner};
-ghost use Rattle.si_tree.specs.KeptNodes.{content_of, moved_below, GainsChild, HasChild, IsReplaced, RelinksChild, HasRoomForChild, HasRoomIn, IsFork, IsInnerNode, IsLeafWith, IsLeafNode, IsSameBut, IsSameNode, postings_in};
+ghost use Rattle.si_tree.specs.KeptHeads.{heads_in};
+ghost use Rattle.si_tree.specs.KeptNodes.{content_of, heads_of, moved_below, GainsChild, HasChildBy, RelinksChild, HasRoomForChild, HasRoomIn, IsFork, IsInnerNode, IsLeafWith, IsLeafNode, IsSameBut, IsSameNode, postings_in};
 ghost use Rattle.si_tree.specs.Changes.{IsWithout};
-ghost use Rattle.si_tree.specs.Dropping.{HasBesides, HasHeadedChild, LosesChild};
-ghost use Rattle.si_tree.specs.Heads.{StandTogether, are_equal};
+ghost use Rattle.si_tree.specs.Dropping.{HasBesides, LosesChild};
+ghost use Rattle.si_tree.specs.Heads.{StandTogether};
 
+use crate::heads::Heads;
+use crate::postings::Postings;
 use crate::rights::joined;
 use si_flat::Bindings;
 use si_legal::Posting;
@@ -44,7 +47,7 @@ pub struct Counts {
 }
 
 /// What a child gives the split of its parent: a symbol, or a variable of an entry.
-#[derive(Clone, Copy, Debug, PartialEq, Eq)]
+#[derive(Clone, Copy, Debug, PartialEq, Eq, Hash)]
 pub enum Head {
     /// The symbol with this number and so many arguments.
     Sym {
@@ -69,14 +72,14 @@ pub(crate) struct TreeNode {
 #[derive(Drop)]
 pub(crate) enum Content {
     Inner(Branches),
-    Leaf(Vec<Posting>),
+    Leaf(Postings),
 }
 
 /// The children of a node. They are told apart by their heads, which stand in the same order.
 #[derive(Drop)]
 pub(crate) struct Branches {
     pub(crate) split: u32,
-    pub(crate) heads: Vec<Head>,
+    pub(crate) heads: Heads,
     pub(crate) children: Vec<NodeId>,
 }
 
@@ -85,8 +88,7 @@ impl Content {
     pub(crate) fn leaf(alloc: Global, posting: Posting) -> Result<Content, AllocError>
         ensures { IfOk result (λ content. content_of content ≡ leaf (posting ∷ [])) }
     {
-        let mut postings = Vec::with_capacity(alloc, 1)?;
-        postings.push_reserved(posting);
+        let postings = Postings::one(alloc, posting)?;
         Ok(Content::Leaf(postings))
     }
 }
@@ -95,58 +97,37 @@ impl Branches {
     /// No children.
     pub(crate) fn new(alloc: Global, split: u32) -> Branches
         ensures split { result.split ≡ split }
-        ensures heads { result.heads.items ≡ [] }
+        ensures heads { heads_in result.heads ≡ [] }
         ensures children { result.children.items ≡ [] }
     {
         Branches {
             split,
-            heads: Vec::new(alloc),
+            heads: Heads::new(alloc),
             children: Vec::new(alloc),
         }
     }
 
     /// Makes room for one more child.
-    fn reserve(&mut self) -> Result<(), AllocError>
+    fn reserve(&mut self, alloc: Global) -> Result<(), AllocError>
+        requires { AreDistinct (heads_in self.old.heads) }
         ensures split { self.new.split ≡ self.old.split }
-        ensures heads { self.new.heads.items ≡ self.old.heads.items }
+        ensures heads { heads_in self.new.heads ≡ heads_in self.old.heads }
         ensures children { self.new.children.items ≡ self.old.children.items }
         ensures room { OnOk result (HasRoomIn (Inner self.new)) }
     {
-        self.heads.reserve(1)?;
+        self.heads.reserve(alloc)?;
         self.children.reserve(1)
     }
 
     /// The child that has this head.
     pub(crate) fn child(&self, head: Head) -> Option<NodeId>
-        requires { length self.now.heads.items ≡ length self.now.children.items }
-        ensures some { IfSome result (StandTogether self.now.heads.items self.now.children.items
-            head) }
-        ensures none { IfNone result (IsAmong self.now.heads.items head → ⊥) }
+        requires { length (heads_in self.now.heads) ≡ length self.now.children.items }
+        ensures some { IfSome result (StandTogether (heads_in self.now.heads)
+            self.now.children.items head) }
+        ensures none { IfNone result (IsAmong (heads_in self.now.heads) head → ⊥) }
     {
-        for place in 0..self.heads.len() {
-            if self.heads[place].is(head) {
-                return Some(self.children[place]);
-            }
-        }
-        None
-    }
-}
-
-impl Head {
-    // Whether the two are the same.
-    fn is(self, other: Head) -> bool
-        ensures { result ≡ are_equal self other }
-    {
-        match self {
-            Head::Sym { sym, arity } => match other {
-                Head::Sym { sym: s, arity: a } => sym == s && arity == a,
-                Head::Var(_) => false,
-            },
-            Head::Var(number) => match other {
-                Head::Sym { .. } => false,
-                Head::Var(n) => number == n,
-            },
-        }
+        let place = self.heads.place(head)?;
+        Some(self.children[place])
     }
 }
 
@@ -162,9 +143,8 @@ impl TreeNode {
     ) -> Result<TreeNode, AllocError>
         ensures { IfOk result (IsFork parent bindings split head child) }
     {
-        let mut heads = Vec::with_capacity(alloc, 2)?;
+        let heads = Heads::one(alloc, head)?;
         let mut children = Vec::with_capacity(alloc, 2)?;
-        heads.push_reserved(head);
         children.push_reserved(child);
         Ok(TreeNode {
             parent: Some(parent),
@@ -201,31 +181,33 @@ impl TreeNode {
         ensures { result ≡ unmerged_of (content_of self.now.content) }
     {
         match &self.content {
-            Content::Leaf(postings) => u64::from(postings.is_empty()),
+            Content::Leaf(postings) => u64::from(postings.as_slice().is_empty()),
             Content::Inner(_) => 0,
         }
     }
 
     /// Makes room for one more child.
-    pub(crate) fn reserve_child(&mut self) -> Result<(), AllocError>
-        requires { IsInnerNode self.old }
+    pub(crate) fn reserve_child(&mut self, alloc: Global) -> Result<(), AllocError>
+        requires inner { IsInnerNode self.old }
+        requires distinct { AreDistinct (heads_of self.old.content) }
         ensures same { IsSameNode self.old self.new }
         ensures room { OnOk result (HasRoomForChild self.new) }
     {
         match &mut self.content {
-            Content::Inner(branches) => branches.reserve(),
+            Content::Inner(branches) => branches.reserve(alloc),
             Content::Leaf(_) => unreachable!(),
         }
     }
 
     /// Appends a child, for which there is room.
     pub(crate) fn push_child(&mut self, head: Head, child: NodeId)
-        requires { HasRoomForChild self.old }
+        requires room { HasRoomForChild self.old }
+        requires new { IsAmong (heads_of self.old.content) head → ⊥ }
         ensures { GainsChild self.old self.new head child }
     {
         match &mut self.content {
             Content::Inner(branches) => {
-                branches.heads.push_reserved(head);
+                branches.heads.push(head);
                 branches.children.push_reserved(child);
             }
             Content::Leaf(_) => unreachable!(),
@@ -240,27 +222,33 @@ impl TreeNode {
         self.bindings = bindings;
     }
 
-    /// Puts another child in the place of one.
-    pub(crate) fn relink(&mut self, child: NodeId, other: NodeId)
-        requires { HasChild self.old child }
-        ensures { RelinksChild self.old self.new child other }
+    /// Puts another child in the place of the one that has this head.
+    pub(crate) fn relink(&mut self, head: Head, other: NodeId)
+        requires { (child : ℕ) × HasChildBy self.old head child }
+        ensures { (child : ℕ) → HasChildBy self.old head child
+            → RelinksChild self.old self.new child other }
     {
         match &mut self.content {
-            Content::Inner(branches) => replace(&mut branches.children, child, other),
+            Content::Inner(branches) => {
+                let Some(place) = branches.heads.place(head) else {
+                    unreachable!()
+                };
+                branches.children[place] = other;
+            }
             Content::Leaf(_) => unreachable!(),
         }
     }
 
-    /// Takes out a child, and its head.
-    pub(crate) fn drop_child(&mut self, child: NodeId)
-        requires { HasHeadedChild self.old child }
-        ensures { LosesChild self.old self.new child }
+    /// Takes out the child that has this head. The last child takes its place.
+    pub(crate) fn drop_child(&mut self, head: Head)
+        requires { (child : ℕ) × HasChildBy self.old head child }
+        ensures { (child : ℕ) → HasChildBy self.old head child
+            → LosesChild self.old self.new child }
     {
         match &mut self.content {
             Content::Inner(branches) => {
-                let place = place_of_child(branches.children.as_slice(), child);
-                branches.children.remove(place);
-                branches.heads.remove(place);
+                let place = branches.heads.remove(head);
+                branches.children.swap_remove(place);
             }
             Content::Leaf(_) => unreachable!(),
         }
@@ -285,10 +273,7 @@ impl TreeNode {
         ensures err { OnErr result (postings_in self.new ≡ postings_in self.old) }
     {
         match &mut self.content {
-            Content::Leaf(postings) => {
-                postings.push(posting)?;
-                Ok(())
-            }
+            Content::Leaf(postings) => postings.push(posting),
             Content::Inner(_) => unreachable!(),
         }
     }
@@ -301,41 +286,10 @@ impl TreeNode {
         ensures dropped { IsWithout (postings_in self.old) posting (postings_in self.new) }
     {
         match &mut self.content {
-            Content::Leaf(postings) => remove(postings, posting),
+            Content::Leaf(postings) => postings.remove(posting),
             Content::Inner(_) => unreachable!(),
         }
     }
-}
-
-// Takes a posting out of a list.
-fn remove(postings: &mut Vec<Posting>, posting: Posting)
-    requires { IsAmong postings.old.items posting }
-    ensures { IsWithout postings.old.items posting postings.new.items }
-{
-    let place = place_of(postings.as_slice(), posting);
-    postings.remove(place);
-}
-
-// The first place of a posting.
-fn place_of(postings: &[Posting], posting: Posting) -> usize
-    requires { IsAmong postings.now posting }
-    ensures { slice_get postings.now result ≡ Some posting }
-{
-    for place in 0..postings.len() {
-        if postings[place] == posting {
-            return place;
-        }
-    }
-    unreachable!()
-}
-
-// Puts another child in the place of one.
-fn replace(children: &mut Vec<NodeId>, child: NodeId, other: NodeId)
-    requires { IsAmong children.old.items child }
-    ensures { IsReplaced children.old.items child other children.new.items }
-{
-    let place = place_of_child(children.as_slice(), child);
-    children[place] = other;
 }
 
 // The other one of two children.
@@ -348,17 +302,4 @@ fn besides(children: &[NodeId], child: NodeId) -> NodeId
     } else {
         children[0]
     }
-}
-
-// The first place of a child.
-fn place_of_child(children: &[NodeId], child: NodeId) -> usize
-    requires { IsAmong children.now child }
-    ensures { slice_get children.now result ≡ Some child }
-{
-    for place in 0..children.len() {
-        if children[place] == child {
-            return place;
-        }
-    }
-    unreachable!()
 }

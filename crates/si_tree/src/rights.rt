@@ -3,10 +3,12 @@ ghost use Rattle.std.specs.Prelude.{◌≡◌, ◌+◌, ◌++◌, ◌<◌, ◌^�
 ghost use Rattle.si_defs.specs.Substitutions.{AreDistinct};
 ghost use Rattle.si_flat.specs.Rows.{left_sides};
 ghost use Rattle.si_legal.specs.Generalizations.{fresh_among};
+ghost use Rattle.si_tree.specs.KeptNodes.{IsBelow, IsBelowBy};
 ghost use Rattle.si_tree.specs.Rights.{beyond, beyond_all, beyond_rights, cell_head, head_in};
 
-use crate::node::Head;
+use crate::node::{Content, Head, NodeId, TreeNode};
 use si_flat::{Bindings, Cell};
+use slab::Slab;
 use std::alloc::AllocError;
 
 /// The head of what the bindings give an indicator.
@@ -20,6 +22,20 @@ pub(crate) fn head_at(bindings: &Bindings, indicator: u32) -> Option<Head>
         }
     }
     None
+}
+
+/// The head by which a node stands among the children of its parent.
+pub(crate) fn head_below(nodes: &Slab<TreeNode>, node: NodeId, parent: NodeId) -> Head
+    requires { IsBelow nodes.now node parent }
+    ensures { IsBelowBy nodes.now node parent result }
+{
+    let Content::Inner(branches) = &nodes[parent.key].content else {
+        unreachable!()
+    };
+    let Some(head) = head_at(&nodes[node.key].bindings, branches.split) else {
+        unreachable!()
+    };
+    head
 }
 
 /// The head of a term that begins with this cell. A variable of a query and an indicator are none.

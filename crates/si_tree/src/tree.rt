@@ -13,7 +13,7 @@ ghost use Rattle.si_tree.specs.Reading.{IsNode, AtNode, split_of, children_of, p
 ghost use Rattle.si_tree.specs.Heads.{IsChildBy};
 
 use crate::node::{Branches, Content, Counts, Head, NodeId, TreeNode};
-use crate::rights::{beyond_entries, head_at, next_after};
+use crate::rights::{beyond_entries, head_at, head_below, next_after};
 use si_flat::{Bindings, Split};
 use si_legal::Posting;
 use slab::Slab;
@@ -208,7 +208,7 @@ impl Tree {
         };
         let vars = self.vars.max(beyond_entries(&bindings));
         let content = Content::leaf(alloc, posting)?;
-        make_room(&mut self.nodes, parent.key)?;
+        make_room(alloc, &mut self.nodes, parent.key)?;
         let key = self.nodes.insert_reserved(TreeNode {
             parent: Some(parent),
             bindings,
@@ -279,13 +279,13 @@ impl Tree {
 }
 
 // Makes room for one more node, and for one more child of this one.
-fn make_room(nodes: &mut Slab<TreeNode>, parent: usize) -> Result<(), AllocError>
+fn make_room(alloc: Global, nodes: &mut Slab<TreeNode>, parent: usize) -> Result<(), AllocError>
     requires { IsInnerAt nodes.old parent }
     ensures same { StaySame nodes.old nodes.new parent }
     ensures room { OnOk result (HasRoomBelow nodes.new parent) }
 {
     let node = &mut nodes[parent];
-    node.reserve_child()?;
+    node.reserve_child(alloc)?;
     nodes.reserve(1)
 }
 
@@ -300,10 +300,11 @@ fn put_between(
     leaf: TreeNode,
     head: Head,
 ) -> (NodeId, NodeId)
-    requires { MayPutBetween nodes.old node parent fork }
+    requires { MayPutBetween nodes.old node parent fork head }
     ensures { IsPutBetween nodes.old nodes.new node parent fork rest leaf head result.0
         result.1 }
 {
+    let node_head = head_below(nodes, node, parent);
     let fork_key = nodes.insert_reserved(fork);
     let fork_id = NodeId { key: fork_key };
     let TreeNode {
@@ -322,6 +323,6 @@ fn put_between(
     let below = &mut nodes[node.key];
     below.move_below(fork_id, rest);
     let above = &mut nodes[parent.key];
-    above.relink(node, fork_id);
+    above.relink(node_head, fork_id);
     (fork_id, leaf_id)
 }

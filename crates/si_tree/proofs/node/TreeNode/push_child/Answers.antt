@@ -10,6 +10,6 @@ returns c = record {
   parent = refl;
   bindings = refl;
   was = ap content_of c.in-Inner.is;
-  is = ap (inner c.in-Inner.branches.split) c.push_reserved-in-Inner.ensures.items;
-  heads = c.push_reserved.ensures.items ∙ ap (λ hs. hs ++ c.args.head ∷ []) (sym (ap heads_of c.in-Inner.is));
+  is = ap (inner c.in-Inner.branches.split) c.push_reserved.ensures.items;
+  heads = c.push.ensures ∙ ap (λ hs. hs ++ c.args.head ∷ []) (sym (ap heads_of c.in-Inner.is));
 }

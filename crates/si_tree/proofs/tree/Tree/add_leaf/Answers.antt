@@ -12,8 +12,9 @@ use Rattle.si_tree.specs.Changes.{HasNewLeaf}
 use Rattle.si_tree.specs.Rights.{head_in}
 use Rattle.si_tree.specs.Reading.{AtNode, split_of}
 use Rattle.si_tree.proofs.RightLaws.{head_found, head_told, lefts_read}
+use Rattle.si_tree.proofs.BelowLaws.{distinct_heads}
 use Rattle.si_tree.proofs.RoomLaws.{with_nodes, room_tree, room_kept, same_slots}
-use Rattle.si_tree.proofs.LeafSteps.{split_known, headed, split_bound, links_written, written_leaf, leaf_added, leaf_head, has_new_leaf, fewer_leaves, parent_made, parent_between, splits}
+use Rattle.si_tree.proofs.LeafSteps.{split_known, headed, split_bound, links_written, written_leaf, leaf_added, leaf_head, has_new_leaf, fewer_leaves, parent_made, parent_between, splits, fresh_head}
 use Rattle.si_tree.proofs.tree.Tree.add_leaf.Goals as goal
 
 pub unreachable-requires : goal.unreachable-requires
@@ -33,7 +34,13 @@ pub make_room-requires : goal.make_room-requires
 make_room-requires c =
     let has = subst (λ t. HasNode t c.args.parent c.requires.may.node) (sym c.self.view_is) c.requires.may.reached.1 in
     let found = parent_made c.self.inside c.self.inside.nodes c.args.parent c.requires.may.node refl has in
-    (found.0, subst (λ k. get c.self.inside.nodes k ≡ Some found.0) (sym c.parent.view_is) found.1, (c.requires.may.split, c.requires.may.children, ap (λ n. n.content) found.2 ∙ c.requires.may.inner_node))
+    let content = ap (λ n. n.content) found.2 ∙ c.requires.may.inner_node in
+    record {
+      node = found.0;
+      has = subst (λ k. get c.self.inside.nodes k ≡ Some found.0) (sym c.parent.view_is) found.1;
+      inner_node = (c.requires.may.split, c.requires.may.children, content);
+      distinct = distinct_heads c.self.inside c.self.invariant c.args.parent found.0 c.requires.may.split c.requires.may.children found.1 content;
+    }
 
 pub invariant_of-self : goal.invariant_of-self
 invariant_of-self c = room_kept c.self.inside c.make_room.new.nodes _ c.self.invariant c.make_room.ensures.same
@@ -54,8 +61,8 @@ index_mut-node-requires c =
     subst (ContainsKey c.insert_reserved-key.new.self) (sym c.parent-2.view_is)
     (ap is_some (parent_between made c.insert_reserved-key.new.self c.args.parent c.insert_reserved-key.result _ found.0 c.insert_reserved-key.ensures.was_vacant c.insert_reserved-key.ensures.updates found.1))
 
-pub push_child-requires : goal.push_child-requires
-push_child-requires c =
+pub push_child-requires-clause-room : goal.push_child-requires-clause-room
+push_child-requires-clause-room c =
     let made = c.make_room.new.nodes in
     let between = c.insert_reserved-key.new.self in
     let n = c.index_mut-node.result.now in
@@ -64,6 +71,21 @@ push_child-requires c =
     let there = parent_between made between c.args.parent c.insert_reserved-key.result _ found.0 c.insert_reserved-key.ensures.was_vacant c.insert_reserved-key.ensures.updates found.1 in
     let same : found.0 ≡ n = same_Some found.0 n (sym there ∙ subst (λ k. get between k ≡ Some n) c.parent-2.view_is c.index_mut-node.ensures.value) in
     c.in_ok-make_room.ensures.room.child n (subst (λ k. get made k ≡ Some n) (sym c.parent.view_is) (found.1 ∙ ap Some same))
+
+pub push_child-requires-clause-new : goal.push_child-requires-clause-new
+push_child-requires-clause-new c =
+    let old = c.self.inside in
+    let made = c.make_room.new.nodes in
+    let between = c.insert_reserved-key.new.self in
+    let n = c.index_mut-node.result.now in
+    let same = room_tree old made _ c.make_room.ensures.same ∙ c.self.view_is in
+    let may = subst (λ t. MayAddLeaf t c.args.parent (bindings_of c.args.bindings) c.args.posting) (sym same) c.requires.may in
+    let found = parent_made (with_nodes old made) made c.args.parent may.node refl may.reached.1 in
+    let there = parent_between made between c.args.parent c.insert_reserved-key.result _ found.0 c.insert_reserved-key.ensures.was_vacant c.insert_reserved-key.ensures.updates found.1 in
+    let is : found.0 ≡ n = same_Some found.0 n (sym there ∙ subst (λ k. get between k ≡ Some n) c.parent-2.view_is c.index_mut-node.ensures.value) in
+    let split : c.in-Some.split ≡ may.split = same_Some _ _ (sym c.in-Some.is ∙ split_known _ _ _ _ may _ (subst (λ t. AtNode t c.args.parent (λ m. c.split.result ≡ split_of m.content)) (sym same) c.split.ensures)) in
+    fresh_head (with_nodes old made) c.args.parent n c.args.bindings c.args.posting c.in-Some-head_at.head (room_kept old made _ c.self.invariant c.make_room.ensures.same) may (found.1 ∙ ap Some is) c.requires.whole
+    (sym (ap (head_in c.args.bindings) split) ∙ sym c.head_at.ensures ∙ c.in-Some-head_at.is)
 
 pub overflow_add-self : goal.overflow_add-self
 overflow_add-self c =

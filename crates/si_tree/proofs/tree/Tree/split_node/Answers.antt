@@ -11,7 +11,7 @@ use Rattle.si_tree.specs.KeptNodes.{tree_of, slot_of}
 use Rattle.si_legal.specs.Generalizations.{fresh_among}
 use Rattle.si_tree.proofs.RightLaws.{head_found, head_told, lefts_read}
 use Rattle.si_tree.proofs.FreshLaws.{next_fits}
-use Rattle.si_tree.proofs.SplitConditions.{leaf_distinct, new_headed, node_headed, new_bound}
+use Rattle.si_tree.proofs.SplitConditions.{leaf_distinct, new_headed, node_headed, new_bound, heads_apart}
 use Rattle.si_tree.specs.Reading.{AtNode}
 use Rattle.si_tree.proofs.SplitParts.{reserved_kept, reserved_tree, parent_known, may_put, first_left, made_split}
 use Rattle.si_tree.proofs.SplitSteps.{IsSplit, has_split_leaf, split_kept, at_key, at_leaf}
@@ -62,9 +62,15 @@ put_between-added-requires c =
     let same = reserved_tree c.self.inside nodes _ c.reserve.ensures.rest_kept ∙ c.self.view_is in
     let kept = reserved_kept c.self.inside nodes _ c.self.invariant c.reserve.ensures.rest_kept in
     let may = subst (λ t. MaySplitNode t c.args.node (parts_of c.args.split) (bindings_of c.args.others) c.args.posting) (sym same) c.requires.may in
-    may_put old c.args.node c.in-Some.parent _ _ _ c.in_ok-fork.fork kept.legal may
+    let first = c.left-first.result in
+    let head = c.in-Some-head_at.head in
+    let new_head = c.in-Some-head_at-2.new_head in
+    let one = head_told c.args.split.rest_node first head c.requires.whole.rest_node (sym c.head_at.ensures ∙ c.in-Some-head_at.is) in
+    let two = head_told c.args.split.rest_new first new_head c.requires.whole.rest_new (sym c.head_at-2.ensures ∙ c.in-Some-head_at-2.is) in
+    may_put old c.args.node c.in-Some.parent _ _ _ c.in_ok-fork.fork new_head kept may
     (parent_known _ _ _ _ _ may c.parent.result c.in-Some.parent (subst (λ t. AtNode t c.args.node (λ n. c.parent.result ≡ n.parent)) (sym same) c.parent.ensures) c.in-Some.is)
     c.in_ok-reserve.ensures.room c.in_ok-fork.ensures.room
+    (λ a. heads_apart _ _ _ _ _ kept.legal may first head new_head one.0 two.0 one.1 one.2 two.1 two.2 (subst (λ hs. IsAmong hs new_head) c.in_ok-fork.ensures.heads a))
 
 pub prove-unreachable-requires : goal.prove-unreachable-requires
 prove-unreachable-requires c =

@@ -1,0 +1,130 @@
+// The heads of a node's children.
+ghost use Rattle.std.specs.Prelude.{◌≡◌, ◌<◌, [], ◌∷◌, ◌++◌, IfOk, IfSome, IfNone, OnOk, Some, slice_get};
+ghost use Rattle.std.specs.List.{swap_remove};
+ghost use Rattle.indexmap.specs.IndexSet.{spare};
+ghost use Rattle.si_defs.specs.Substitutions.{AreDistinct, IsAmong};
+ghost use Rattle.si_tree.specs.KeptHeads.{heads_in, HasRoomForHead};
+
+use crate::node::Head;
+use indexmap::IndexSet;
+use std::alloc::{AllocError, Global};
+
+// So many heads are compared one by one.
+const MOST_COMPARED: usize = 16;
+
+/// The heads of a node's children, in order. No two are the same. Many are hashed.
+#[derive(Drop)]
+pub(crate) enum Heads {
+    Few(Vec<Head>),
+    Many(Box<IndexSet<Head>>),
+}
+
+impl Heads {
+    /// No heads.
+    pub(crate) fn new(alloc: Global) -> Heads
+        ensures { heads_in result ≡ [] }
+    {
+        Heads::Few(Vec::new(alloc))
+    }
+
+    /// One head, and room for another.
+    pub(crate) fn one(alloc: Global, head: Head) -> Result<Heads, AllocError>
+        ensures heads { IfOk result (λ heads. heads_in heads ≡ head ∷ []) }
+        ensures room { OnOk result (IfOk result HasRoomForHead) }
+    {
+        let mut heads = Vec::with_capacity(alloc, 2)?;
+        heads.push_reserved(head);
+        Ok(Heads::Few(heads))
+    }
+
+    /// Makes room for one more.
+    pub(crate) fn reserve(&mut self, alloc: Global) -> Result<(), AllocError>
+        requires { AreDistinct (heads_in self.old) }
+        ensures same { heads_in self.new ≡ heads_in self.old }
+        ensures room { OnOk result (HasRoomForHead self.new) }
+    {
+        let hashed = match self {
+            Heads::Few(heads) => {
+                if heads.len() < MOST_COMPARED {
+                    return heads.reserve(1);
+                }
+                hashed(alloc, heads.as_slice())?
+            }
+            Heads::Many(heads) => return heads.reserve(1),
+        };
+        *self = Heads::Many(Box::new(alloc, hashed)?);
+        Ok(())
+    }
+
+    /// Appends a head, for which there is room.
+    pub(crate) fn push(&mut self, head: Head)
+        requires room { HasRoomForHead self.old }
+        requires new { IsAmong (heads_in self.old) head → ⊥ }
+        ensures { heads_in self.new ≡ heads_in self.old ++ head ∷ [] }
+    {
+        match self {
+            Heads::Few(heads) => heads.push_reserved(head),
+            Heads::Many(heads) => {
+                heads.insert(head).unwrap();
+            }
+        }
+    }
+
+    /// The place of a head.
+    pub(crate) fn place(&self, head: Head) -> Option<usize>
+        ensures some { IfSome result (λ place. slice_get (heads_in self.now) place ≡ Some head) }
+        ensures none { IfNone result (IsAmong (heads_in self.now) head → ⊥) }
+    {
+        match self {
+            Heads::Few(heads) => place_in(heads.as_slice(), head),
+            Heads::Many(heads) => heads.get_index_of(&head),
+        }
+    }
+
+    /// Takes out a head, and answers its place, which the last one takes.
+    pub(crate) fn remove(&mut self, head: Head) -> usize
+        requires { IsAmong (heads_in self.old) head }
+        ensures place { slice_get (heads_in self.old) result ≡ Some head }
+        ensures removed { heads_in self.new ≡ swap_remove (heads_in self.old) result head }
+    {
+        let Some(place) = self.place(head) else {
+            unreachable!()
+        };
+        match self {
+            Heads::Few(heads) => {
+                heads.swap_remove(place);
+            }
+            Heads::Many(heads) => {
+                heads.swap_remove_index(place);
+            }
+        }
+        place
+    }
+}
+
+// These heads, hashed, and room for another.
+fn hashed(alloc: Global, heads: &[Head]) -> Result<IndexSet<Head>, AllocError>
+    requires { AreDistinct heads.now }
+    ensures same { IfOk result (λ set. set.keys ≡ heads.now) }
+    ensures room { IfOk result (λ set. 0 < spare set) }
+{
+    let mut set = IndexSet::with_capacity(alloc, heads.len() + 1)?;
+    for head in heads {
+        set.insert(*head)?;
+    }
+    set.reserve(1)?;
+    Ok(set)
+}
+
+// The first place of a head.
+fn place_in(heads: &[Head], head: Head) -> Option<usize>
+    ensures some { IfSome result (λ place. slice_get heads.now place ≡ Some head) }
+    ensures none { IfNone result (IsAmong heads.now head → ⊥) }
+{
+    for place in 0..heads.len() {
+        if heads[place] == head {
+            return Some(place);
+        }
+    }
+    None
+}

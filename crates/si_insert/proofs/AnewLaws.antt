@@ -15,7 +15,7 @@ pub stays_equal : (old new : Tree Term) → new ≡ old → KeepsAll old new
 stays_equal old new e = subst (KeepsAll old) (sym e) (stays_same old)
 
 -- a posting that is stored
-stored_there : (one other : Tree Term) (t : Term) (p : Posting) → ((postings : List Posting) → AreUnder one t postings → AreUnder other t postings) → IsUnder one t p → IsUnder other t p
+pub stored_there : (one other : Tree Term) (t : Term) (p : Posting) → ((postings : List Posting) → AreUnder one t postings → AreUnder other t postings) → IsUnder one t p → IsUnder other t p
 stored_there one other t p goes under = by (goes under.1.0 (inl (under.0, under.1.1))) where
   by : AreUnder other t under.1.0 → IsUnder other t p
   by (inl leaf) = (leaf.0, (under.1.0, leaf.1, under.1.2))

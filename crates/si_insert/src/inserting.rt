@@ -23,12 +23,27 @@ pub fn insert(
     ensures ok { IfOk result (λ leaf. Inserts tree.old tree.new term.now posting leaf) }
     ensures err { OnErr result (KeepsAll tree.old tree.new) }
 {
-    let placed = place(alloc, openings, tree, term, posting)?;
+    insert_cells(alloc, openings, tree, term.cells(), posting)
+}
+
+/// As [`insert`], for a term whose cells are lent.
+pub fn insert_cells(
+    alloc: Global,
+    openings: &mut Openings,
+    tree: &mut Tree,
+    cells: &[Cell],
+    posting: Posting,
+) -> Result<NodeId, AllocError>
+    requires { MayInsert tree.old cells.now posting }
+    ensures ok { IfOk result (λ leaf. Inserts tree.old tree.new cells.now posting leaf) }
+    ensures err { OnErr result (KeepsAll tree.old tree.new) }
+{
+    let placed = place(alloc, openings, tree, cells, posting)?;
     if let Some(leaf) = placed {
         return Ok(leaf);
     }
     tree.renumber(alloc)?;
-    let placed = place(alloc, openings, tree, term, posting)?;
+    let placed = place(alloc, openings, tree, cells, posting)?;
     let Some(leaf) = placed else {
         return Err(AllocError);
     };
@@ -41,14 +56,13 @@ fn place(
     alloc: Global,
     openings: &mut Openings,
     tree: &mut Tree,
-    term: &Flat,
+    cells: &[Cell],
     posting: Posting,
 ) -> Result<Option<NodeId>, AllocError>
-    requires { MayInsert tree.old term.now posting }
-    ensures ok { IfOk result (Places tree.old tree.new term.now posting) }
+    requires { MayInsert tree.old cells.now posting }
+    ensures ok { IfOk result (Places tree.old tree.new cells.now posting) }
     ensures err { OnErr result (tree.new ≡ tree.old) }
 {
-    let cells = term.cells();
     openings.start()?;
     let mut node = tree.root();
     while let Some(split) = tree.split(node) {

@@ -7,5 +7,5 @@ mod open;
 mod parting;
 mod pass;
 
-pub use inserting::insert;
+pub use inserting::{insert, insert_cells};
 pub use open::Openings;

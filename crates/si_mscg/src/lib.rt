@@ -16,6 +16,7 @@ ghost use Rattle.si_mscg.specs.Walking.{TellsHeads};
 
 use crate::walk::Walk;
 use si_flat::{Bindings, Cell, Pair, Split};
+pub use spans::{set_spans, without_span};
 use std::alloc::{AllocError, Global};
 
 /// Splits the bindings of a node against new ones with the same left sides. Fresh indicators are

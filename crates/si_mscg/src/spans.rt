@@ -1,13 +1,25 @@
 // The numbers of cells at symbols, set where all cells of a term are known.
 ghost use Rattle.std.specs.Prelude.{◌≡◌, ◌+◌, ◌<◌, ◌≤◌, ◌^◌, drop, length, slice_index_or, slice_set};
 ghost use Rattle.si_flat.specs.declared.Cell.TheVariants.{App};
-ghost use Rattle.si_mscg.specs.Generalising.{HasArguments, HasTerms, IsDraft, respanned, spans, with_span};
+ghost use Rattle.si_mscg.specs.Generalising.{HasArguments, HasTerms, IsDraft, respanned, spanless, spans, with_span};
 
 use si_flat::Cell;
 
-// Sets the number of cells at each symbol of a draft. They go from the last to the first, so those
-// of the arguments are known.
-pub(crate) fn set_spans(cells: &mut Vec<Cell>)
+/// The cell, of which it isn't known how many others belong to it. Such are the cells of a draft.
+pub fn without_span(cell: Cell) -> Cell
+    ensures { result ≡ spanless cell }
+{
+    match cell {
+        Cell::App { sym, arity, .. } => Cell::App { sym, arity, len: 1 },
+        Cell::Query(number) => Cell::Query(number),
+        Cell::Entry(number) => Cell::Entry(number),
+        Cell::Ind(number) => Cell::Ind(number),
+    }
+}
+
+/// Sets the number of cells at each symbol of a draft. They go from the last to the first, so those
+/// of the arguments are known.
+pub fn set_spans(cells: &mut Vec<Cell>)
     requires draft { IsDraft cells.old.items }
     requires short { length cells.old.items < 2 ^ 32 }
     ensures { cells.new.items ≡ respanned cells.old.items }

@@ -3,10 +3,9 @@ ghost use Rattle.std.specs.Prelude.{◌≡◌, ◌+◌, ◌++◌, ◌<◌, ◌^�
 ghost use Rattle.si_defs.specs.Substitutions.{IsAmong};
 ghost use Rattle.si_flat.specs.Cells.{IsWhole};
 ghost use Rattle.si_flat.specs.Rows.{left_sides};
-ghost use Rattle.si_mscg.specs.Generalising.{spanless};
 ghost use Rattle.si_mscg.specs.Walking.{BeginsWithTerm, Cuts, HaveSides, Keeps, MayAgree, MayLeave, MayShare, MaySharePair, OfSides, Shares, SharesPair, start, state_of, with_agreeing, with_differing, with_whole};
 
-use crate::spans::set_spans;
+use crate::spans::{set_spans, without_span};
 use crate::{have_same_head, have_same_heads};
 use si_flat::{Bindings, Cell, Pair, Split};
 use std::alloc::{AllocError, Global};
@@ -183,16 +182,4 @@ fn first_term(cells: &[Cell]) -> (&[Cell], &[Cell])
     ensures parts { cells.now ≡ result.0.now ++ result.1.now }
 {
     cells.split_at(cells[0].span())
-}
-
-// The cell, of which it isn't known how many others belong to it.
-fn without_span(cell: Cell) -> Cell
-    ensures { result ≡ spanless cell }
-{
-    match cell {
-        Cell::App { sym, arity, .. } => Cell::App { sym, arity, len: 1 },
-        Cell::Query(number) => Cell::Query(number),
-        Cell::Entry(number) => Cell::Entry(number),
-        Cell::Ind(number) => Cell::Ind(number),
-    }
 }

@@ -6,7 +6,7 @@ use Rattle.si_insert.proofs.inserting.place.Given as goal
 
 abbrev pub invariant-loop-split : goal.invariant-loop-split
 invariant-loop-split l =
-    (l.tree ≡ l.fn.tree) × (l.cells ≡ l.fn.term) × IsLegal l.tree
+    (l.tree ≡ l.fn.tree) × IsLegal l.tree
     × ((t : Term) → StandsFor l.cells t → Walk l.tree l.cells t l.node l.openings)
 
 abbrev pub decreases-loop-split : goal.decreases-loop-split

@@ -1,0 +1,6 @@
+use Rattle.si_prune.proofs.CarryLaws.{IsCarrying}
+use Rattle.si_prune.proofs.composing.carried.Given as goal
+
+abbrev pub invariant-loop-pair : goal.invariant-loop-pair
+invariant-loop-pair l =
+    IsCarrying l.node l.child l.both l.pair-iterator l.draft.items

@@ -1,1 +1,4 @@
 mod WalkLaws
+mod NumberLaws
+mod AnewLaws
+mod FlatLaws

@@ -15,8 +15,8 @@ use Rattle.si_term.specs.Meaning.{literal_of, entry_of}
 use Rattle.si_term.specs.declared.term.Term as program
 use Rattle.si_term.specs.declared.clause.Literal as program_literal
 use Rattle.si_term.specs.declared.clause.Entry as program_entry
-use Rattle.si_entries.specs.declared.Row.{Row}
-use Rattle.si_entries.specs.declared.Entries.{Entries}
+use Rattle.si_entries.specs.declared.walk.Row.{Row}
+use Rattle.si_entries.specs.declared.walk.Entries.{Entries}
 use Rattle.si_entries.specs.Walks.{terms_left, numbers, at, row_left, rows_left, left_of, place_in, weight_of, IsSmallRow, Gives, GivesAfter}
 
 -- ---- subterms by their paths

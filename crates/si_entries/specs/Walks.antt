@@ -10,8 +10,8 @@ use Rattle.si_term.specs.Terms.{term_of}
 use Rattle.si_term.specs.Meaning.{literal_of, entry_of}
 use Rattle.si_term.specs.declared.term.Term as program
 use Rattle.si_term.specs.declared.clause.Entry as program_entry
-use Rattle.si_entries.specs.declared.Row.{Row}
-use Rattle.si_entries.specs.declared.Entries.{Entries}
+use Rattle.si_entries.specs.declared.walk.Row.{Row}
+use Rattle.si_entries.specs.declared.walk.Entries.{Entries}
 
 -- ---- the arguments that the walk is in
 abbrev pub terms_left : Row → Terms

@@ -1,6 +1,6 @@
 use Rattle.std.proofs.Common.{◌≡◌, ◌≤◌, length}
 use Rattle.si_entries.specs.Walks.{IsSmall, HasSameLiterals, inside, weight}
-use Rattle.si_entries.proofs.Entries.climb.Given as goal
+use Rattle.si_entries.proofs.walk.Entries.climb.Given as goal
 
 -- nothing that is left was lost
 abbrev pub invariant-loop-self : goal.invariant-loop-self

@@ -1,6 +1,6 @@
 use Rattle.std.proofs.Common.{◌≡◌}
 use Rattle.si_entries.specs.Walks.{IsSmall, HasSameLiterals, inside, weight}
-use Rattle.si_entries.proofs.Entries.next_term.Given as goal
+use Rattle.si_entries.proofs.walk.Entries.next_term.Given as goal
 
 -- only variables were passed
 abbrev pub invariant-loop-term : goal.invariant-loop-term

@@ -1,9 +1,9 @@
 use Rattle.std.proofs.Common.{◌+◌, refl, sym, ◌∙◌, arith}
 use Rattle.si_term.specs.Terms.{term_of}
 use Rattle.si_term.proofs.Rows.{positive}
-use Rattle.si_entries.specs.declared.Row.{Row}
+use Rattle.si_entries.specs.declared.walk.Row.{Row}
 use Rattle.si_entries.proofs.WalkLaws.{rows_passed, weight_passed, few_passed}
-use Rattle.si_entries.proofs.Entries.pass.Goals as goal
+use Rattle.si_entries.proofs.walk.Entries.pass.Goals as goal
 
 pub returns-clause-some : goal.returns-clause-some
 returns-clause-some c =

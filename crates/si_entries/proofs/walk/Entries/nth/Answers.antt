@@ -2,7 +2,7 @@ use Rattle.std.proofs.Common.{◌≡◌, subst, arith}
 use Rattle.std.proofs.lemmas.Result.{IfOk-weaker}
 use Rattle.si_entries.specs.Walks.{Gives, left_of}
 use Rattle.si_entries.proofs.WalkLaws.{HasPassed, passed_none, passed_more, passed_all, given_after}
-use Rattle.si_entries.proofs.Entries.nth.Goals as goal
+use Rattle.si_entries.proofs.walk.Entries.nth.Goals as goal
 
 pub loop-init : goal.loop-init
 loop-init c = (c.requires, passed_none (left_of c.args.self.now), omega arith)

@@ -1,6 +1,6 @@
 use Rattle.std.proofs.Common.{refl}
 use Rattle.si_entries.proofs.WalkLaws.{literal_begun}
-use Rattle.si_entries.proofs.Entries.next_literal.Goals as goal
+use Rattle.si_entries.proofs.walk.Entries.next_literal.Goals as goal
 
 pub returns-clause-next : goal.returns-clause-next
 returns-clause-next c =

@@ -1,7 +1,7 @@
 use Rattle.std.proofs.Common.{◌≤◌}
 use Rattle.si_entries.specs.Walks.{IsSmall, left_of}
 use Rattle.si_entries.proofs.WalkLaws.{HasPassed}
-use Rattle.si_entries.proofs.Entries.nth.Given as goal
+use Rattle.si_entries.proofs.walk.Entries.nth.Given as goal
 
 -- so many were passed
 abbrev pub invariant-loop : goal.invariant-loop

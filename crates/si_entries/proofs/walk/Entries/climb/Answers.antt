@@ -2,7 +2,7 @@ use Rattle.std.proofs.Common.{◌≡◌, [], ◌∷◌, ◌++◌, sym, ◌∙◌
 use Rattle.std.specs.List.{AllByRecursion}
 use Rattle.si_entries.specs.Walks.{IsSmallRow, rows_left, weight_of}
 use Rattle.si_entries.proofs.WalkLaws.{rows_climb, climbs_small, weight_more, none_there}
-use Rattle.si_entries.proofs.Entries.climb.Goals as goal
+use Rattle.si_entries.proofs.walk.Entries.climb.Goals as goal
 
 pub loop-self-preserved : goal.loop-self-preserved
 loop-self-preserved c =

@@ -1,8 +1,8 @@
 use Rattle.std.proofs.Common.{◌≡◌, [], ◌∷◌, ◌++◌, refl, ◌∙◌, ap}
-use Rattle.si_entries.specs.declared.Row.{Row}
+use Rattle.si_entries.specs.declared.walk.Row.{Row}
 use Rattle.si_entries.specs.Walks.{numbers}
 use Rattle.si_entries.proofs.WalkLaws.{descended}
-use Rattle.si_entries.proofs.Entries.descend.Goals as goal
+use Rattle.si_entries.proofs.walk.Entries.descend.Goals as goal
 
 pub returns-clause-descends : goal.returns-clause-descends
 returns-clause-descends c =

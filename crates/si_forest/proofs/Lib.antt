@@ -1,0 +1,6 @@
+pub mod OneLaws
+pub mod TreeLaws
+pub mod ChangeLaws
+pub mod LoseLaws
+pub mod GainLaws
+pub mod UnderwayLaws

@@ -1,0 +1,8 @@
+use Rattle.si_forest.proofs.OneLaws.{has_posting, removed}
+use Rattle.si_forest.proofs.pair.take.Goals as goal
+
+pub remove-requires : goal.remove-requires
+remove-requires c = has_posting c.args.tree.now c.args.leaf c.requires.stands.0 c.args.posting c.requires.stands.1
+
+pub returns : goal.returns
+returns c = removed c.args.tree.now c.remove.new.tree c.args.leaf c.requires.stands.0 c.args.posting c.requires.legal c.root.ensures.legal c.requires.stands.1 c.remove.ensures

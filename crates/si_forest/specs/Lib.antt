@@ -1,0 +1,5 @@
+pub mod OnePosting
+pub mod Pairs
+pub mod Locations
+pub mod Kept
+pub mod Codes

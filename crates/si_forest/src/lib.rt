@@ -1,0 +1,8 @@
+//! The two substitution trees of an index: one of the literals of clauses, and one of their
+//! subterms.
+#![tactic(auto)]
+
+mod pair;
+mod trees;
+
+pub use trees::Trees;

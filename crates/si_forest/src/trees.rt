@@ -1,0 +1,157 @@
+// The trees of an index.
+ghost use Rattle.std.specs.Prelude.{◌≡◌, ◌<◌, IfOk, OnErr, OnOk, length};
+ghost use Rattle.si_term.specs.Meaning.{clause_of};
+ghost use Rattle.si_legal.specs.Legal.{IsLegal};
+ghost use Rattle.si_descend.specs.Answers.{Retrieves};
+ghost use Rattle.si_descend.specs.Counting.{CountsAnswers};
+ghost use Rattle.si_descend.specs.Descending.{IsQuery};
+ghost use Rattle.si_held.specs.TwoTrees.{TwoTrees, AddsClause, AreLegal, HoldSame, MayAddClause, RemovesClause, tree_for};
+ghost use Rattle.si_forest.specs.Pairs.{AreAlone};
+ghost use Rattle.si_forest.specs.Kept.{AreNoted};
+
+use crate::pair::{Location, Pair};
+use si_descend::Counted;
+use si_flat::{Flat, Kind};
+use si_legal::Posting;
+use si_term::{Clause, SymTable};
+use si_tree::Tree;
+use std::alloc::{AllocError, Global};
+use std::marker::Model;
+
+/// Two substitution trees of the entries of clauses, one of literals and one of subterms. Contracts
+/// see both trees, which are legal.
+#[derive(Drop)]
+pub struct Trees {
+    alloc: Global,
+    pair: Pair,
+    // Where the posting of each entry stands, by the key of its clause and its number.
+    locations: Vec<Vec<Location>>,
+}
+
+impl Model for Trees {
+    ghost use Rattle.si_held.specs.TwoTrees.{TwoTrees};
+    ghost use Rattle.si_forest.specs.Codes.{two_trees_code};
+
+    ghost Value = { TwoTrees };
+
+    ghost coded = { two_trees_code };
+
+    ghost use Rattle.si_forest.specs.Kept.{trees_of, AreKept};
+
+    ghost view = { trees_of };
+
+    ghost invariant = { AreKept };
+}
+
+impl Trees {
+    /// Two trees that store nothing.
+    pub fn new(alloc: Global) -> Result<Trees, AllocError>
+        ensures { IfOk result AreAlone }
+    {
+        Ok(Trees {
+            alloc,
+            pair: Pair::new(alloc)?,
+            locations: Vec::new(alloc),
+        })
+    }
+
+    /// The tree of literals.
+    pub fn literals(&self) -> &Tree
+        ensures tree { result.now ≡ self.now.literals }
+        ensures legal { IsLegal result.now }
+    {
+        &self.pair.literals
+    }
+
+    /// The tree of subterms.
+    pub fn subterms(&self) -> &Tree
+        ensures tree { result.now ≡ self.now.subterms }
+        ensures legal { IsLegal result.now }
+    {
+        &self.pair.subterms
+    }
+
+    /// The tree of entries of this kind.
+    pub fn tree(&self, literal: bool) -> &Tree
+        ensures tree { result.now ≡ tree_for literal self.now }
+        ensures legal { IsLegal result.now }
+    {
+        self.pair.tree(literal)
+    }
+
+    /// Puts a posting for each entry of a clause into its tree. At an error the trees store what
+    /// they stored before.
+    pub fn add_clause<T: SymTable>(
+        &mut self,
+        alloc: Global,
+        table: &T,
+        key: usize,
+        clause: &Clause,
+    ) -> Result<(), AllocError>
+        requires { MayAddClause (T.pairs table.now) key (clause_of clause.now) self.old }
+        ensures ok { OnOk result (AddsClause (T.pairs table.now) key (clause_of clause.now)
+            self.old self.new) }
+        ensures err { OnErr result (HoldSame self.old self.new) }
+        ensures legal { AreLegal self.new }
+    {
+        make_place(alloc, &mut self.locations, key)?;
+        let locations = self.pair.add_clause(alloc, table, key, clause)?;
+        self.locations[key] = locations;
+        Ok(())
+    }
+
+    /// Takes out the postings of the clause with this key. It takes no memory, but for joins of
+    /// nodes, which are left out where there is none.
+    pub fn remove_clause(&mut self, alloc: Global, key: usize)
+        ensures removes { RemovesClause key self.old self.new }
+        ensures legal { AreLegal self.new }
+    {
+        if key < self.locations.len() {
+            let locations = std::mem::replace(&mut self.locations[key], Vec::new(alloc));
+            self.pair.remove_clause(alloc, key, locations.as_slice());
+        }
+    }
+
+    /// Appends the postings of the stored terms of this kind that stand in the relation to the
+    /// query. It answers how many nodes of the tree are open. At an error the postings are as
+    /// before.
+    pub fn retrieve(
+        &self,
+        literal: bool,
+        kind: Kind,
+        query: &Flat,
+        out: &mut Vec<Posting>,
+    ) -> Result<u64, AllocError>
+        requires { IsQuery query.now }
+        ensures retrieves { IfOk result (Retrieves (tree_for literal self.now) kind query.now
+            out.old.items out.new.items) }
+        ensures err { OnErr result (out.new.items ≡ out.old.items) }
+    {
+        si_descend::retrieve(self.alloc, self.pair.tree(literal), kind, query, out)
+    }
+
+    /// Counts the postings that [`Trees::retrieve`] would append, and the open nodes. It copies no
+    /// posting.
+    pub fn count(&self, literal: bool, kind: Kind, query: &Flat) -> Result<Counted, AllocError>
+        requires { IsQuery query.now }
+        ensures { IfOk result (CountsAnswers (tree_for literal self.now) kind query.now) }
+    {
+        si_descend::count(self.alloc, self.pair.tree(literal), kind, query)
+    }
+}
+
+// Makes a place for the locations of the clause with this key.
+fn make_place(
+    alloc: Global,
+    locations: &mut Vec<Vec<Location>>,
+    key: usize,
+) -> Result<(), AllocError>
+    ensures noted { (trees : TwoTrees) → AreNoted locations.old.items trees
+        → AreNoted locations.new.items trees }
+    ensures place { OnOk result (key < length locations.new.items) }
+{
+    while locations.len() <= key {
+        locations.push(Vec::new(alloc))?;
+    }
+    Ok(())
+}

@@ -1,13 +1,20 @@
 -- The answer over one clause.
-use Rattle.std.proofs.Common.{◌≡◌, Bool, true, false, List, [], ◌∷◌, refl, ap, sym, inl, inr}
+use Rattle.std.proofs.Common.{◌≡◌, ℕ, ◌+◌, Bool, true, false, List, [], ◌∷◌, ◌++◌, codes, refl, ap, sym, ◌∙◌, inl, inr, arith}
+use Rattle.std.specs.Prelude.{decimal}
+use Rattle.std.proofs.lemmas.Fmt.{decimal_digit}
+use Rattle.std.proofs.lemmas.List.{same_from_push}
 use Rattle.std.proofs.lemmas.Bool.{false≢true}
 use Rattle.si_defs.specs.Terms as terms
-use Rattle.si_defs.specs.Entries.{term_entry}
+use Rattle.si_defs.specs.Entries.{term_entry, state_entries}
+use Rattle.si_defs.proofs.ListLaws.{same_head}
 use Rattle.si_defs.specs.declared.Relation.TheVariants.{Instances}
 use Rattle.si_state.specs.Answers.{Hit, Stands, Solves}
 use Rattle.si_defs.specs.Variables.{Apart}
 use Rattle.si_examples.specs.Entries.{f_of_x, a}
-use Rattle.si_examples.specs.Answers.{pattern, hit, OneHit, NoHitLeftOut, NoHitTwice, NoGeneralization}
+use Rattle.si_steps.specs.Replies.{explain_line}
+use Rattle.si_steps.specs.Steps.{CountsStanding}
+use Rattle.si_examples.proofs.Differ.{differ}
+use Rattle.si_examples.specs.Answers.{state, pattern, hit, OneHit, NoAnswerUntold, NoHitLeftOut, NoHitTwice, NoGeneralization}
 
 -- Has the term arguments?
 abbrev has_arguments : Apart → Bool
@@ -35,6 +42,22 @@ f_stands = (hit.solution, f_solves.matches)
 
 pub one_hit : OneHit
 one_hit = inr (λ h. h, inl (f_stands, (hit.solution, [], f_solves, inr (not_a, refl), refl)))
+
+pub counts_one : CountsStanding Instances pattern (state_entries state.clauses) 1
+counts_one = inr (λ h. h, inl (f_stands, (0, inr (not_a, refl), refl)))
+
+one_alone : (n : ℕ) → CountsStanding Instances pattern (state_entries state.clauses) n → n ≡ 1
+one_alone n (inl k) = absurd k.0
+one_alone n (inr k) = elim k.1 [
+  | inl m ↦ elim m.1.1 [ inl o ↦ absurd (not_a o.0) | inr o ↦ m.1.2 ∙ ap (λ others. 1 + others) o.1 ]
+  | inr m ↦ absurd (m.0 f_stands)
+]
+
+pub no_answer_untold : NoAnswerUntold
+no_answer_untold setting new (passed, nodes, answers, counts, said, stays) =
+    let line = same_head (said ∙ ap (λ n. explain_line passed nodes n ∷ []) (one_alone answers counts)) in
+    let front = codes "passed " ++ decimal passed ++ codes " nodes " ++ decimal nodes ++ codes " answers " in
+    differ 48 49 refl (same_from_push (codes "passed 2 nodes 3 answers ") front 48 49 (line ∙ ap (λ ds. front ++ ds) (decimal_digit 1 (omega arith)))).1
 
 none_one : (h : Hit) (hs : List Hit) → [] ≡ h ∷ hs → ⊥
 none_one h hs e = cc

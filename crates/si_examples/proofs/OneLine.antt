@@ -1,21 +1,23 @@
 -- Whole lines, from their bytes to their meaning.
-use Rattle.std.proofs.Common.{◌≡◌, ℕ, List, [], ◌∷◌, codes, refl, ap, sym, ◌∙◌, subst, inl, arith}
+use Rattle.std.proofs.Common.{◌≡◌, ◌==◌, true, false, ℕ, List, [], ◌∷◌, codes, refl, ap, sym, subst, inl, arith}
 use Rattle.std.proofs.lemmas.Fmt.{decimal_injective}
-use Rattle.std.specs.Prelude.{IsTrue}
 use Rattle.si_defs.specs.Bytes.{Bytes}
-use Rattle.si_defs.specs.Tokens.{Token, lower, NextToken, Consists}
-use Rattle.si_defs.specs.Grammar.{IsClause}
+use Rattle.si_defs.specs.Tokens.{Token, lower, upper, NextToken, Consists}
+use Rattle.si_defs.specs.Grammar.{IsClause, IsLiteral, left_bracket, right_bracket, comma}
 use Rattle.si_defs.specs.Clauses.{Clause, literal_pattern, term_pattern}
-use Rattle.si_steps.specs.declared.word.Word.{Word}
-use Rattle.si_steps.specs.declared.word.Word.TheVariants.{Add, Load, Remove, Ask, Subsumers, Subsumed, Stats, Tree, Sample}
-use Rattle.si_steps.specs.Words.{command_text, is_built}
-use Rattle.si_steps.specs.Commands.{Command, add, load, remove, query, subsumers, subsumed, stats, sample, command_word, Means, IsUnbuilt}
-use Rattle.si_steps.proofs.WordLaws.{same_word, built_apart}
+use Rattle.si_defs.specs.declared.Relation.{Relation}
+use Rattle.si_defs.specs.declared.Relation.TheVariants.{Variants, Instances, Generalizations, Unifiable}
+use Rattle.si_defs.specs.declared.TokenKind.TheVariants.{Upper}
+use Rattle.si_steps.specs.declared.word.Word.TheVariants.{Ask, Tree, Explain, Sample}
+use Rattle.si_steps.specs.Words.{command_text, relation_text}
+use Rattle.si_steps.specs.Commands.{Command, add, command_word, numeral, Means}
+use Rattle.si_steps.proofs.CommandLaws.{IsOf, of_word}
 use Rattle.si_lex.proofs.TokenLaws.{next_unique}
 use Rattle.si_examples.specs.Entries.{fact, predicate}
-use Rattle.si_examples.specs.Lines.{AddedLine, CommentBehindWord, NoKindOfPattern, NoUnbuiltCommand, NoEmptySample, OwnLanguageAdded}
+use Rattle.si_examples.specs.Relations.{y, z, p_of}
+use Rattle.si_examples.specs.Lines.{AddedLine, CommentBehindWord, NoKindOfPattern, TreeLine, ExplainedQuery, NoTreeOfTerm, NoRelationToExplain, NoEmptySample, OwnLanguageAdded}
 use Rattle.si_examples.proofs.Differ.{differ, first_byte}
-use Rattle.si_examples.proofs.Pieces.{Piece, space, comment, word, sign, tokens_of, consists}
+use Rattle.si_examples.proofs.Pieces.{Piece, space, comment, token, word, sign, tokens_of, consists}
 use Rattle.si_examples.proofs.FirstWords.{word_differs, first_next, no_language}
 
 abbrev pub clause : Clause
@@ -39,7 +41,7 @@ adds : (line : Bytes) → Consists line (lower (codes "add") ∷ tokens_of claus
 adds line c = record {
   tokens = lower (codes "add") ∷ tokens_of clause_pieces;
   consists = c;
-  spelled = record { built = refl; operands = tokens_of clause_pieces; spelled = is_clause; whole = refl };
+  spelled = record { operands = tokens_of clause_pieces; spelled = is_clause; whole = refl };
   nested = omega arith;
 }
 
@@ -49,36 +51,67 @@ added_line = adds (codes "add cnf(c,axiom,p).") add_tokens
 pub comment_behind_word : CommentBehindWord
 comment_behind_word = adds (codes "add/**/cnf(c,axiom,p).") (consists (word (codes "add") ∷ comment [] ∷ clause_pieces) refl)
 
--- the first byte of the first token's text, and of the second's
+-- the first byte of the first token's text
 first_of : List Token → ℕ
 first_of [] = 0
 first_of (t ∷ ts) = first_byte t.text
 
-second_of : List Token → ℕ
-second_of [] = 0
-second_of (t ∷ ts) = first_of ts
-
 pub no_kind_of_pattern : NoKindOfPattern
-unfolding first_of second_of
-no_kind_of_pattern (add c) h = differ 105 97 refl (ap first_of h.whole)
-no_kind_of_pattern (load f) h = differ 105 108 refl (ap first_of h.whole)
-no_kind_of_pattern (remove n) h = differ 105 114 refl (ap first_of h.whole)
-no_kind_of_pattern (query relation (literal_pattern l)) h = differ 102 108 refl (ap second_of h.whole ∙ ap first_of h.spelled.2)
-no_kind_of_pattern (query relation (term_pattern t)) h = differ 102 116 refl (ap second_of h.whole ∙ ap first_of h.spelled.2)
-no_kind_of_pattern (subsumers formula) h = differ 105 115 refl (ap first_of h.whole)
-no_kind_of_pattern (subsumed formula) h = differ 105 115 refl (ap first_of h.whole)
-no_kind_of_pattern (sample start count) h = differ 105 115 refl (ap first_of h.whole)
-no_kind_of_pattern stats h = differ 105 115 refl (ap first_of h.whole)
+unfolding first_of
+no_kind_of_pattern command h = by (of_word (Ask Instances) command _ h) where
+  by : IsOf (Ask Instances) command (lower (codes "f") ∷ left_bracket ∷ upper (codes "Y") ∷ right_bracket ∷ []) → ⊥
+  by (literal_pattern l, is, (us, spelled, e)) = differ 102 108 refl (ap first_of e)
+  by (term_pattern t, is, (us, spelled, e)) = differ 102 116 refl (ap first_of e)
 
--- the first token's text
-text_of : List Token → Bytes
-text_of [] = []
-text_of (t ∷ ts) = t.text
+-- ---- lines about trees
+pub tree_line : TreeLine
+tree_line = record {
+  tokens = lower (codes "tree") ∷ [];
+  consists = consists (word (codes "tree") ∷ []) refl;
+  spelled = record { operands = []; spelled = refl; whole = refl };
+  nested = omega arith;
+}
 
-pub no_unbuilt_command : NoUnbuiltCommand
-unfolding text_of
-no_unbuilt_command command h = built_apart (command_word command) Tree (sym (ap text_of h.whole)) h.built refl
+-- `p(Y,Z)`
+abbrev atom_pieces : List Piece
+atom_pieces = word (codes "p") ∷ sign 40 ∷ token Upper (codes "Y") ∷ sign 44 ∷ token Upper (codes "Z") ∷ sign 41 ∷ []
 
+is_atom : IsLiteral (record { positive = true; atom = p_of y z }) (tokens_of atom_pieces)
+is_atom =
+    inl (
+      refl,
+      refl,
+      (lower (codes "p"), upper (codes "Y") ∷ [], comma ∷ upper (codes "Z") ∷ [], inl refl, refl, (upper (codes "Z") ∷ [], [], refl, refl, refl), refl),
+    )
+
+pub explained_query : ExplainedQuery
+explained_query = record {
+  tokens = lower (codes "explain") ∷ lower (codes "unifiable") ∷ lower (codes "lit") ∷ tokens_of atom_pieces;
+  consists = consists (word (codes "explain") ∷ space 32 ∷ word (codes "unifiable") ∷ space 32 ∷ word (codes "lit") ∷ space 32 ∷ atom_pieces) refl;
+  spelled = record {
+    operands = lower (codes "unifiable") ∷ lower (codes "lit") ∷ tokens_of atom_pieces;
+    spelled = (lower (codes "lit") ∷ tokens_of atom_pieces, (tokens_of atom_pieces, is_atom, refl), refl);
+    whole = refl;
+  };
+  nested = omega arith;
+}
+
+pub no_tree_of_term : NoTreeOfTerm
+no_tree_of_term command h = let k = (of_word Tree command _ h).1 in cc
+
+pub no_relation_to_explain : NoRelationToExplain
+unfolding first_of
+no_relation_to_explain command h = by (of_word Explain command _ h) where
+  begins_otherwise : (relation : Relation) → first_byte (relation_text relation) == 108 ≡ false
+  begins_otherwise Variants = refl
+  begins_otherwise Instances = refl
+  begins_otherwise Generalizations = refl
+  begins_otherwise Unifiable = refl
+
+  by : IsOf Explain command (lower (codes "lit") ∷ lower (codes "p") ∷ []) → ⊥
+  by (relation, p, us, is, spelled, e) = differ (first_byte (relation_text relation)) 108 (begins_otherwise relation) (sym (ap first_of e))
+
+-- ---- a sample
 -- the last token's text
 last_text : List Token → Bytes
 last_text [] = []
@@ -86,29 +119,17 @@ last_text (t ∷ []) = t.text
 last_text (t ∷ u ∷ ts) = last_text (u ∷ ts)
 
 pub no_empty_sample : NoEmptySample
-unfolding text_of last_text
-no_empty_sample (add c) h = let k = same_word Sample Add (ap text_of h.whole) in cc
-no_empty_sample (load file) h = let k = same_word Sample Load (ap text_of h.whole) in cc
-no_empty_sample (remove name) h = let k = same_word Sample Remove (ap text_of h.whole) in cc
-no_empty_sample (query relation pattern) h = let k = same_word Sample (Ask relation) (ap text_of h.whole) in cc
-no_empty_sample (subsumers formula) h = let k = same_word Sample Subsumers (ap text_of h.whole) in cc
-no_empty_sample (subsumed formula) h = let k = same_word Sample Subsumed (ap text_of h.whole) in cc
-no_empty_sample stats h = let k = same_word Sample Stats (ap text_of h.whole) in cc
-no_empty_sample (sample start count) h =
-    let drawable = h.spelled.0 in
-    let none : 0 ≡ count =
-    decimal_injective 0 count (omega arith) (omega (arith, drawable.count_fits)) (ap last_text (h.whole ∙ ap (λ ts. lower (codes "sample") ∷ ts) h.spelled.1)) in
-    absurd (omega (arith, none, drawable.some))
+unfolding last_text
+no_empty_sample command h = by (of_word Sample command _ h) where
+  by : IsOf Sample command (numeral 1 ∷ numeral 0 ∷ []) → ⊥
+  by (start, count, is, drawable, e) =
+      let none : 0 ≡ count = decimal_injective 0 count (omega arith) (omega (arith, drawable.count_fits)) (ap last_text e) in
+      absurd (omega (arith, none, drawable.some))
 
 -- the word that a command begins with
 pub command_next : (command : Command) (line : Bytes) → Means command line → (rest : Bytes) × NextToken line (lower (command_text (command_word command))) rest
 command_next command line m =
     first_next line (lower (command_text (command_word command))) m.spelled.operands m.tokens m.consists.rest m.spelled.whole m.consists.begins
-
--- a line that begins with a word that is built is not for later
-pub not_unbuilt : (line : Bytes) (w : Word) (rest : Bytes) → IsTrue (is_built w) → NextToken line (lower (command_text w)) rest → IsUnbuilt line → ⊥
-not_unbuilt line w rest h n u =
-    built_apart w u.word (ap (λ t. t.text) (next_unique line (lower (command_text w)) (lower (command_text u.word)) rest u.rest n u.first).0) h u.unbuilt
 
 pub own_language_added : OwnLanguageAdded
 own_language_added f =

@@ -7,8 +7,7 @@ use Rattle.si_defs.specs.declared.TokenKind.TheVariants.{Single}
 use Rattle.si_state.specs.States.{Rules}
 use Rattle.si_state.specs.Acceptance.{taken, misused, full}
 use Rattle.si_state.specs.Harvest.{Bounds, ask, attempt, Fault, cycle, too_deep, too_many, missing, too_big, failed, foreign, malformed, rejected, Loads}
-use Rattle.si_steps.specs.declared.word.Word.TheVariants.{Load}
-use Rattle.si_steps.specs.Commands.{IsUnbuilt, Means, load}
+use Rattle.si_steps.specs.Commands.{Means, load}
 use Rattle.si_steps.specs.Loads.{load_bounds}
 use Rattle.si_steps.specs.Replies.{Reply, fault_line}
 use Rattle.si_steps.specs.Steps.{loaded}
@@ -16,7 +15,6 @@ use Rattle.si_examples.specs.Harvests.{bounds, c, selecting}
 use Rattle.si_examples.specs.Loads.{LoadedLine, NoGainWithoutFile}
 use Rattle.si_examples.proofs.Differ.{first_byte, differ}
 use Rattle.si_examples.proofs.Pieces.{space, word, token, consists, token_of}
-use Rattle.si_examples.proofs.OneLine.{not_unbuilt}
 use Rattle.si_examples.proofs.OneHarvest.{selected_clause, no_missing_file}
 
 -- ---- a load of a file
@@ -26,20 +24,17 @@ line = codes "load 'm'"
 tokens : Consists line (lower (codes "load") ∷ token_of Single (codes "m") ∷ [])
 tokens = consists (word (codes "load") ∷ space 32 ∷ token Single (codes "m") ∷ []) refl
 
-built : IsUnbuilt line → ⊥
-built u = let b = tokens.begins in not_unbuilt line Load b.0 refl b.1 u
-
 loads : Means (load (codes "m")) line
 loads = record {
   tokens = lower (codes "load") ∷ token_of Single (codes "m") ∷ [];
   consists = tokens;
-  spelled = record { built = refl; operands = token_of Single (codes "m") ∷ []; spelled = refl; whole = refl };
+  spelled = record { operands = token_of Single (codes "m") ∷ []; spelled = refl; whole = refl };
   nested = omega arith;
 }
 
 pub loaded_line : LoadedLine
 loaded_line setting w within rules =
-    loaded (record { short = w; built = built }) (codes "m") loads
+    loaded w (codes "m") loads
     (ask (codes "m") ∷ ask (codes "a") ∷ attempt c ∷ [], None, read, rw (decimal_digit 1 (omega arith)) refl, refl, refl) where
       read : Loads selecting (load_bounds setting.limits) setting.rules [] (codes "m") (ask (codes "m") ∷ ask (codes "a") ∷ attempt c ∷ []) None
       read =

@@ -7,15 +7,13 @@ use Rattle.si_defs.specs.Entries.{literal_entry}
 use Rattle.si_defs.specs.declared.Relation.TheVariants.{Instances}
 use Rattle.si_defs.specs.Tokens.{lower, Consists}
 use Rattle.si_state.specs.Answers.{Hit, IsAnswer}
-use Rattle.si_steps.specs.declared.word.Word.TheVariants.{Add, Ask}
-use Rattle.si_steps.specs.Commands.{IsUnbuilt, Means, add, query}
+use Rattle.si_steps.specs.Commands.{Means, add, query}
 use Rattle.si_steps.specs.Loads.{nothing}
 use Rattle.si_steps.specs.Steps.{performed, right}
 use Rattle.si_examples.specs.Entries.{predicate, placed, keeping}
 use Rattle.si_examples.specs.Runs.{AddedAndFound}
 use Rattle.si_examples.proofs.Pieces.{space, word, consists}
-use Rattle.si_examples.proofs.OneLine.{clause, added_line, add_tokens, not_unbuilt}
-use Rattle.si_examples.proofs.OneStep.{decided}
+use Rattle.si_examples.proofs.OneLine.{clause, added_line}
 
 abbrev first_line : Bytes
 first_line = codes "add cnf(c,axiom,p)."
@@ -23,15 +21,9 @@ first_line = codes "add cnf(c,axiom,p)."
 abbrev second_line : Bytes
 second_line = codes "instances lit p"
 
-first_built : IsUnbuilt first_line → ⊥
-first_built u = let b = add_tokens.begins in not_unbuilt first_line Add b.0 refl b.1 u
-
 -- ---- the second line
 second_tokens : Consists second_line (lower (codes "instances") ∷ lower (codes "lit") ∷ lower (codes "p") ∷ [])
 second_tokens = consists (word (codes "instances") ∷ space 32 ∷ word (codes "lit") ∷ space 32 ∷ word (codes "p") ∷ []) refl
-
-second_built : IsUnbuilt second_line → ⊥
-second_built u = let b = second_tokens.begins in not_unbuilt second_line (Ask Instances) b.0 refl b.1 u
 
 abbrev literal : Literal
 literal = record { positive = true; atom = predicate (codes "p") [] }
@@ -41,7 +33,6 @@ asked = record {
   tokens = lower (codes "instances") ∷ lower (codes "lit") ∷ lower (codes "p") ∷ [];
   consists = second_tokens;
   spelled = record {
-    built = refl;
     operands = lower (codes "lit") ∷ lower (codes "p") ∷ [];
     spelled = (lower (codes "p") ∷ [], (refl, refl, (lower (codes "p"), inl refl, refl)), refl);
     whole = refl;
@@ -68,7 +59,7 @@ added_and_found setting told strict w room = (
     keeping (clause ∷ []),
     codes "c:1 {}\nend 1\n",
     0,
-    right (performed (decided setting.limits first_line (omega arith) first_built) (add clause) added_line
+    right (performed (omega arith) (add clause) added_line
         (inr (record { free = λ h. h; agree = (tt, tt); room = room; added = refl }, rw (decimal_digit 1 (omega arith)) refl, refl)) refl),
     (λ s. refl),
     (
@@ -77,7 +68,7 @@ added_and_found setting told strict w room = (
       keeping (clause ∷ []),
       [],
       0,
-      right (performed (decided setting.limits second_line (omega arith) second_built) (query Instances (literal_pattern literal)) asked
+      right (performed (omega arith) (query Instances (literal_pattern literal)) asked
           (hit ∷ [], answered, rw (decimal_digit 1 (omega arith)) refl, refl) refl),
       (λ s. refl),
       (refl, refl, refl),

@@ -1,28 +1,28 @@
 -- Which replies a line has.
-use Rattle.std.proofs.Common.{◌≡◌, ℕ, ◌<◌, ◌≤◌, ◌==◌, false, List, [], ◌∷◌, ◌++◌, length, codes, refl, ap, sym, ◌∙◌, subst, ◌⊎◌, inl, inr, arith, Option, Some, None}
+use Rattle.std.proofs.Common.{◌≡◌, ℕ, ◌<◌, ◌==◌, false, List, [], ◌∷◌, ◌++◌, length, codes, refl, ap, sym, ◌∙◌, subst, ◌⊎◌, inl, inr, arith, Option, Some, None}
 use Rattle.si_defs.specs.Bytes.{Bytes}
 use Rattle.si_defs.specs.Tokens.{Token, lower, NextToken, AreBlanks, Begins, Consists, white}
 use Rattle.si_defs.specs.Grammar.{left_bracket, full_stop}
 use Rattle.si_defs.specs.declared.TokenKind.TheVariants.{Lower, Single}
 use Rattle.si_defs.proofs.TokenLaws.{skips_nothing}
-use Rattle.si_steps.specs.declared.limits.Limits.{Limits}
 use Rattle.si_steps.specs.Settings.{Setting}
 use Rattle.si_steps.specs.declared.word.Word.{Word}
-use Rattle.si_steps.specs.declared.word.Word.TheVariants.{Add, Load, Remove, Ask, Subsumers, Subsumed, Stats, Tree, Sample}
+use Rattle.si_steps.specs.declared.word.Word.TheVariants.{Add}
 use Rattle.si_steps.specs.Words.{command_text}
 use Rattle.si_steps.specs.Replies.{Reply}
 use Rattle.si_state.specs.States.{State}
 use Rattle.si_state.specs.Harvest.{Files}
 use Rattle.si_steps.specs.Loads.{Owed}
-use Rattle.si_steps.specs.Steps.{RightStep, long, later, silent, foreign, wrong, performed, loaded, right, memory_at_once, memory_behind, IsNoCommand}
-use Rattle.si_steps.specs.Commands.{IsDecided, IsUnbuilt, AddsForeign, Command, add, load, remove, query, subsumers, subsumed, stats, sample, command_word, AreOperands}
-use Rattle.si_steps.proofs.WordLaws.{word_with, word_back, same_word}
+use Rattle.si_steps.specs.Steps.{RightStep, long, silent, foreign, wrong, performed, loaded, right, memory_at_once, memory_behind, IsNoCommand}
+use Rattle.si_steps.specs.Commands.{AddsForeign, load, command_word, IsCommand}
+use Rattle.si_steps.proofs.WordLaws.{word_with, word_back}
+use Rattle.si_steps.proofs.CommandLaws.{IsOf, of_word}
 use Rattle.si_lex.proofs.TokenLaws.{next_unique, blanks_none, begins_prefix, consists_unique}
-use Rattle.si_examples.specs.Steps.{HasOneReply, SilentLine, SilentComment, SilentOnly, OpenComment, UnbuiltWord, UnreadOperands, UnknownWord, WordInQuotes, JoinedWord, WordAlone, OtherLanguageAdded, LanguageAlone, TooLong, TooLongBlank, NoMemoryWhereTooLong}
+use Rattle.si_examples.specs.Steps.{HasOneReply, SilentLine, SilentComment, SilentOnly, OpenComment, UnknownWord, WordInQuotes, JoinedWord, WordAlone, OtherLanguageAdded, LanguageAlone, TooLong, TooLongBlank, NoMemoryWhereTooLong}
 use Rattle.si_examples.proofs.Differ.{differ, first_byte, texts_differ}
 use Rattle.si_examples.proofs.Pieces.{Piece, space, word, sign, tokens_of, consists, next, nothing}
 use Rattle.si_examples.proofs.OpenComments.{open_comment, no_token_there}
-use Rattle.si_examples.proofs.OneLine.{command_next, not_unbuilt}
+use Rattle.si_examples.proofs.OneLine.{command_next}
 
 -- ---- what a line is, and what it is not
 -- no word of a command begins the line
@@ -39,44 +39,26 @@ silent_where : (line : Bytes) → AreBlanks line → HasOneReply line []
 silent_where line b setting told state w = (silent (w, b) refl refl refl, λ other owed new r. only other owed new r) where
   only : (other : Reply) (owed : Owed) (new : State) → RightStep setting told state line other owed new → (other ≡ []) × (new ≡ state)
   only other owed new (long l r d n) = absurd (omega arith)
-  only other owed new (later l r d n) = absurd (blank_word line b l.1.word l.1.rest l.1.first)
   only other owed new (silent s r d n) = (r, n)
   only other owed new (foreign l a m r d n) = absurd (blank_word line b Add a.3.0 a.3.1)
   only other owed new (wrong l s a m r d n) = absurd (s (w, b))
   only other owed new (performed l command m p d) = absurd (no_command line (blank_word line b) command m)
   only other owed new (loaded l file m p) = absurd (no_command line (blank_word line b) (load file) m)
 
-later_where : (line : Bytes) → IsUnbuilt line → HasOneReply line (codes "! later" ∷ [])
-later_where line u setting told state w = (later (w, u) refl refl refl, λ other owed new r. only other owed new r) where
-  only : (other : Reply) (owed : Owed) (new : State) → RightStep setting told state line other owed new → (other ≡ codes "! later" ∷ []) × (new ≡ state)
-  only other owed new (long l r d n) = absurd (omega arith)
-  only other owed new (later l r d n) = (r, n)
-  only other owed new (silent s r d n) = absurd (blank_word line s.1 u.word u.rest u.first)
-  only other owed new (foreign l a m r d n) = absurd (l.built u)
-  only other owed new (wrong l s a m r d n) = absurd (l.built u)
-  only other owed new (performed l command m p d) = absurd (l.built u)
-  only other owed new (loaded l file m p) = absurd (l.built u)
-
--- a line that is not too long, and begins with no word for later
-pub decided : (limits : Limits) (line : Bytes) → length line ≤ limits.line → (IsUnbuilt line → ⊥) → IsDecided limits line
-decided limits line w u = record { short = w; built = u }
-
-foreign_where : (line : Bytes) → (IsUnbuilt line → ⊥) → AddsForeign line → IsNoCommand line → HasOneReply line (codes "! language" ∷ [])
-foreign_where line u a m setting told state w = (foreign (decided setting.limits line w u) a m refl refl refl, λ other owed new r. only other owed new r) where
+foreign_where : (line : Bytes) → AddsForeign line → IsNoCommand line → HasOneReply line (codes "! language" ∷ [])
+foreign_where line a m setting told state w = (foreign w a m refl refl refl, λ other owed new r. only other owed new r) where
   only : (other : Reply) (owed : Owed) (new : State) → RightStep setting told state line other owed new → (other ≡ codes "! language" ∷ []) × (new ≡ state)
   only other owed new (long l r d n) = absurd (omega arith)
-  only other owed new (later l r d n) = absurd (u l.1)
   only other owed new (silent s r d n) = absurd (blank_word line s.1 Add a.3.0 a.3.1)
   only other owed new (foreign l b n r d e) = (r, e)
   only other owed new (wrong l s b n r d e) = absurd (b a)
   only other owed new (performed l command n p d) = absurd (m command n)
   only other owed new (loaded l file n p) = absurd (m (load file) n)
 
-wrong_where : (line : Bytes) → (IsUnbuilt line → ⊥) → (AreBlanks line → ⊥) → (AddsForeign line → ⊥) → IsNoCommand line → HasOneReply line (codes "! syntax" ∷ [])
-wrong_where line u b a m setting told state w = (wrong (decided setting.limits line w u) (λ s. b s.1) a m refl refl refl, λ other owed new r. only other owed new r) where
+wrong_where : (line : Bytes) → (AreBlanks line → ⊥) → (AddsForeign line → ⊥) → IsNoCommand line → HasOneReply line (codes "! syntax" ∷ [])
+wrong_where line b a m setting told state w = (wrong w (λ s. b s.1) a m refl refl refl, λ other owed new r. only other owed new r) where
   only : (other : Reply) (owed : Owed) (new : State) → RightStep setting told state line other owed new → (other ≡ codes "! syntax" ∷ []) × (new ≡ state)
   only other owed new (long l r d n) = absurd (omega arith)
-  only other owed new (later l r d n) = absurd (u l.1)
   only other owed new (silent s r d n) = absurd (b s.1)
   only other owed new (foreign l c n r d e) = absurd (a c)
   only other owed new (wrong l s c n r d e) = (r, e)
@@ -85,7 +67,7 @@ wrong_where line u b a m setting told state w = (wrong (decided setting.limits l
 
 -- a line that no word of a command begins, and that is not blank
 no_word_where : (line : Bytes) → HasNoWord line → (AreBlanks line → ⊥) → HasOneReply line (codes "! syntax" ∷ [])
-no_word_where line h b = wrong_where line (λ u. h u.word u.rest u.first) b (λ a. h Add a.3.0 a.3.1) (no_command line h)
+no_word_where line h b = wrong_where line b (λ a. h Add a.3.0 a.3.1) (no_command line h)
 
 -- a line that begins with another token
 other_where : (line : Bytes) (t : Token) (rest : Bytes) → NextToken line t rest → ((w : Word) → t ≡ lower (command_text w) → ⊥) → HasOneReply line (codes "! syntax" ∷ [])
@@ -127,22 +109,15 @@ pub open_comment_line : OpenComment
 open_comment_line =
     no_word_where (codes "/* a") (λ w rest n. no_token_there (codes " a") refl (lower (command_text w)) rest n) (open_comment (codes " a") refl)
 
--- ---- lines for later
-pub unbuilt_word : UnbuiltWord
-unbuilt_word = later_where (codes "tree") (record { word = Tree; unbuilt = refl; rest = []; first = next Lower (codes "tree") [] refl })
-
-pub unread_operands : UnreadOperands
-unread_operands = later_where (codes "tree '") (record { word = Tree; unbuilt = refl; rest = codes " '"; first = next Lower (codes "tree") (codes " '") refl })
-
+-- ---- lines that are too long
 right_too_long : (setting : Setting) (told : Option Files) (state : State) (line : Bytes) (reply : Reply) (owed : Owed) (new : State) → setting.limits.line < length line
     → RightStep setting told state line reply owed new → (reply ≡ codes "! long" ∷ []) × (new ≡ state)
 right_too_long setting told state line reply owed new more (long l r d n) = (r, n)
-right_too_long setting told state line reply owed new more (later l r d n) = absurd (omega (arith, l.0))
 right_too_long setting told state line reply owed new more (silent s r d n) = absurd (omega (arith, s.0))
-right_too_long setting told state line reply owed new more (foreign l a m r d n) = absurd (omega (arith, l.short))
-right_too_long setting told state line reply owed new more (wrong l s a m r d n) = absurd (omega (arith, l.short))
-right_too_long setting told state line reply owed new more (performed l command m p d) = absurd (omega (arith, l.short))
-right_too_long setting told state line reply owed new more (loaded l file m p) = absurd (omega (arith, l.short))
+right_too_long setting told state line reply owed new more (foreign l a m r d n) = absurd (omega (arith, l))
+right_too_long setting told state line reply owed new more (wrong l s a m r d n) = absurd (omega (arith, l))
+right_too_long setting told state line reply owed new more (performed l command m p d) = absurd (omega (arith, l))
+right_too_long setting told state line reply owed new more (loaded l file m p) = absurd (omega (arith, l))
 
 pub too_long : TooLong
 too_long setting told state line reply owed new more (right r) = right_too_long setting told state line reply owed new more r
@@ -188,21 +163,10 @@ first_text (t ∷ ts) = t.text
 
 -- only a clause is added, and it begins with `cnf`
 no_clause : (line : Bytes) (ts : List Token) → Consists line (lower (codes "add") ∷ ts) → first_byte (first_text ts) == 99 ≡ false → IsNoCommand line
-unfolding operands_of first_text
-no_clause line ts c h command m = by command m.spelled.operands m.spelled.spelled (consists_unique (lower (codes "add") ∷ ts) m.tokens line c m.consists ∙ m.spelled.whole) where
-  by : (command : Command) (us : List Token) → AreOperands command us → lower (codes "add") ∷ ts ≡ lower (command_text (command_word command)) ∷ us → ⊥
-  by (add clause) us s e = texts_differ (first_text ts) (codes "cnf") h (ap (λ vs. first_text (operands_of vs)) e ∙ ap first_text s.6)
-  by (load file) us s e = let k = same_word Add Load (ap first_text e) in cc
-  by (remove name) us s e = let k = same_word Add Remove (ap first_text e) in cc
-  by (query relation pattern) us s e = let k = same_word Add (Ask relation) (ap first_text e) in cc
-  by (subsumers formula) us s e = let k = same_word Add Subsumers (ap first_text e) in cc
-  by (subsumed formula) us s e = let k = same_word Add Subsumed (ap first_text e) in cc
-  by (sample start count) us s e = let k = same_word Add Sample (ap first_text e) in cc
-  by stats us s e = let k = same_word Add Stats (ap first_text e) in cc
-
--- they are not for later
-add_built : (line rest : Bytes) → NextToken line (lower (codes "add")) rest → IsUnbuilt line → ⊥
-add_built line rest n u = not_unbuilt line Add rest refl n u
+unfolding first_text
+no_clause line ts c h command m = by (of_word Add command ts (subst (IsCommand command) (sym (consists_unique (lower (codes "add") ∷ ts) m.tokens line c m.consists)) m.spelled)) where
+  by : IsOf Add command ts → ⊥
+  by (clause, is, spelled) = texts_differ (first_text ts) (codes "cnf") h (ap first_text spelled.6)
 
 pub other_language_added : OtherLanguageAdded
 unfolding first_text
@@ -216,12 +180,12 @@ other_language_added = by (consists (word (codes "add") ∷ space 32 ∷ word (c
   by : Consists line (lower (codes "add") ∷ lower (codes "fof") ∷ left_bracket ∷ tokens_of others) → HasOneReply line (codes "! language" ∷ [])
   by c =
       let b = c.begins in
-      foreign_where line (add_built line b.0 b.1) (codes "fof", b.2.2.0, inl refl, (b.0, b.1, (b.2.0, b.2.1, (b.2.2.0, b.2.2.1, refl))))
+      foreign_where line (codes "fof", b.2.2.0, inl refl, (b.0, b.1, (b.2.0, b.2.1, (b.2.2.0, b.2.2.1, refl))))
       (no_clause line (lower (codes "fof") ∷ left_bracket ∷ tokens_of others) c refl)
 
 pub word_alone : WordAlone
 unfolding first_text
-word_alone = wrong_where (codes "add") (add_built (codes "add") [] n) (λ b. blanks_none (codes "add") b (lower (codes "add")) [] n) own (no_clause (codes "add") [] (consists (word (codes "add") ∷ []) refl) refl) where
+word_alone = wrong_where (codes "add") (λ b. blanks_none (codes "add") b (lower (codes "add")) [] n) own (no_clause (codes "add") [] (consists (word (codes "add") ∷ []) refl) refl) where
   n : NextToken (codes "add") (lower (codes "add")) []
   n = next Lower (codes "add") [] refl
 
@@ -236,7 +200,7 @@ third_text ts = first_text (operands_of (operands_of ts))
 
 pub language_alone : LanguageAlone
 unfolding first_text operands_of third_text
-language_alone = wrong_where line (add_built line b.0 b.1) (λ k. blanks_none line k (lower (codes "add")) b.0 b.1) own (no_clause line (lower (codes "fof") ∷ full_stop ∷ []) c refl) where
+language_alone = wrong_where line (λ k. blanks_none line k (lower (codes "add")) b.0 b.1) own (no_clause line (lower (codes "fof") ∷ full_stop ∷ []) c refl) where
   line : Bytes
   line = codes "add fof."
 

@@ -8,7 +8,7 @@ use Rattle.si_defs.specs.Variables.{of_pattern, of_entry}
 use Rattle.si_state.specs.States.{State}
 use Rattle.si_state.specs.Answers.{Hit, IsAnswer, Stands}
 use Rattle.si_steps.specs.Settings.{Setting}
-use Rattle.si_steps.specs.Commands.{query}
+use Rattle.si_steps.specs.Commands.{query, explain}
 use Rattle.si_steps.specs.Steps.{Performs}
 use Rattle.si_examples.specs.Entries.{first_atom, fact, f_of_x, a, placed, positive_literal, keeping}
 use Rattle.si_examples.specs.Relations.{x, f_of_y}
@@ -39,7 +39,19 @@ AnsweredPattern = (setting : Setting)
     → Performs setting (query Instances pattern) state
     (codes "c1:1:1 {?Y -> X}" ∷ codes "end 1" ∷ []) state
 
--- it may not be left out
+-- and `explain` tells that there is one. How many nodes there are, and how many are open, is free.
+abbrev pub ExplainedPattern : Type 0
+ExplainedPattern = (setting : Setting)
+    → Performs setting (explain Instances pattern) state
+    (codes "passed 2 nodes 3 answers 1" ∷ []) state
+
+-- that there is none is wrong, whatever the state behind it
+abbrev pub NoAnswerUntold : Type 0
+NoAnswerUntold = (setting : Setting) (new : State)
+    → Performs setting (explain Instances pattern) state
+    (codes "passed 2 nodes 3 answers 0" ∷ []) new → ⊥
+
+-- the hit may not be left out
 abbrev pub NoHitLeftOut : Type 0
 NoHitLeftOut = IsAnswer Instances pattern (state_entries state.clauses) [] → ⊥
 

@@ -1,26 +1,19 @@
 -- What lines mean: their words, and the commands that they are.
 use Rattle.std.specs.Prelude.{◌≡◌, true, [], ◌∷◌, codes}
+use Rattle.si_defs.specs.Clauses.{literal_pattern}
 use Rattle.si_defs.specs.Tokens.{upper, lower}
 use Rattle.si_defs.specs.Grammar.{left_bracket, right_bracket}
 use Rattle.si_defs.specs.declared.Relation.TheVariants.{Unifiable}
 use Rattle.si_steps.specs.declared.word.Word.{Word}
-use Rattle.si_steps.specs.declared.word.Word.TheVariants.{Ask, Tree}
-use Rattle.si_steps.specs.Words.{command_text, is_built}
-use Rattle.si_steps.specs.Commands.{Command, numeral, IsCommand, add, Means, AddsForeign}
+use Rattle.si_steps.specs.Words.{command_text}
+use Rattle.si_steps.specs.Commands.{Command, numeral, IsCommand, add, tree, explain, Means, AddsForeign}
 use Rattle.si_examples.specs.Entries.{fact, predicate}
+use Rattle.si_examples.specs.Relations.{y, z, p_of}
 
 -- ---- words
 -- two words with the same text are the same word
 abbrev pub SameWord : Type 0
 SameWord = (v w : Word) → command_text v ≡ command_text w → v ≡ w
-
--- unifiable terms are asked for
-abbrev pub BuiltWord : Type 0
-BuiltWord = is_built (Ask Unifiable) ≡ true
-
--- the tree is not shown yet
-abbrev pub NoBuiltWord : Type 0
-NoBuiltWord = is_built Tree ≡ true → ⊥
 
 -- ---- commands
 -- a clause is added
@@ -38,10 +31,26 @@ NoKindOfPattern = (command : Command)
     → IsCommand command (lower (codes "instances") ∷ lower (codes "f") ∷ left_bracket
     ∷ upper (codes "Y") ∷ right_bracket ∷ []) → ⊥
 
--- `tree f` is none: it is not built
-abbrev pub NoUnbuiltCommand : Type 0
-NoUnbuiltCommand = (command : Command)
+-- the trees are shown
+abbrev pub TreeLine : Type 0
+TreeLine = Means tree (codes "tree")
+
+-- behind the word stand a relation and a pattern, as in a query
+abbrev pub ExplainedQuery : Type 0
+ExplainedQuery =
+    Means (explain Unifiable (literal_pattern (record { positive = true; atom = p_of y z })))
+    (codes "explain unifiable lit p(Y,Z)")
+
+-- `tree f` is no command: all trees are shown, and none is asked for
+abbrev pub NoTreeOfTerm : Type 0
+NoTreeOfTerm = (command : Command)
     → IsCommand command (lower (codes "tree") ∷ lower (codes "f") ∷ []) → ⊥
+
+-- nor is `explain lit p`: the relation isn't said
+abbrev pub NoRelationToExplain : Type 0
+NoRelationToExplain = (command : Command)
+    → IsCommand command (lower (codes "explain") ∷ lower (codes "lit") ∷ lower (codes "p") ∷ [])
+    → ⊥
 
 -- `sample 1 0` is none: no clauses would be drawn
 abbrev pub NoEmptySample : Type 0

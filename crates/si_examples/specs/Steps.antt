@@ -9,7 +9,7 @@ use Rattle.si_defs.specs.Entries.{clause_symbols, state_symbols}
 use Rattle.si_state.specs.Signatures.{CountsSymbols}
 use Rattle.si_steps.specs.Settings.{Setting}
 use Rattle.si_steps.specs.Replies.{Reply, is_refusal}
-use Rattle.si_steps.specs.Commands.{add, remove, stats}
+use Rattle.si_steps.specs.Commands.{add, remove, stats, tree}
 use Rattle.si_state.specs.Harvest.{Files}
 use Rattle.si_steps.specs.Loads.{Owed, nothing}
 use Rattle.si_steps.specs.Steps.{RightStep, Step, Performs}
@@ -63,14 +63,6 @@ SilentOnly = (setting : Setting) (told : Option Files) (state : State) (reply : 
 abbrev pub OpenComment : Type 0
 OpenComment = HasOneReply (codes "/* a") (codes "! syntax" ∷ [])
 
--- the word of a command that is not built is for later
-abbrev pub UnbuiltWord : Type 0
-UnbuiltWord = HasOneReply (codes "tree") (codes "! later" ∷ [])
-
--- and what stands behind it is not read: here a quote that is not closed
-abbrev pub UnreadOperands : Type 0
-UnreadOperands = HasOneReply (codes "tree '") (codes "! later" ∷ [])
-
 -- no command has the word `find`
 abbrev pub UnknownWord : Type 0
 UnknownWord = HasOneReply (codes "find p") (codes "! syntax" ∷ [])
@@ -117,7 +109,8 @@ NoMemoryWhereTooLong = (setting : Setting) (told : Option Files) (state : State)
 -- a clause of a new name is counted, and its three entries
 abbrev pub AddedClause : Type 0
 AddedClause = (setting : Setting) → 3 ≤ setting.rules.entries
-    → Performs setting (add kept_clause) empty_state (codes "ok 1 3" ∷ []) (keeping (kept_clause ∷ []))
+    → Performs setting (add kept_clause) empty_state (codes "ok 1 3" ∷ [])
+    (keeping (kept_clause ∷ []))
 
 -- a clause of a taken name is refused, and the state stays
 abbrev pub TakenName : Type 0
@@ -189,6 +182,20 @@ NothingCounted = (setting : Setting)
 abbrev pub NoneUncounted : Type 0
 NoneUncounted = CountsSymbols (kept_clause ∷ []) 0 → ⊥
 
+-- ---- trees
+-- numbers of nodes are free
+abbrev pub ShownTrees : Type 0
+ShownTrees = (setting : Setting) (state : State)
+    → Performs setting tree state
+    (codes "literals nodes 5 leaves 3 unmerged 1" ∷ codes "terms nodes 1 leaves 0 unmerged 0" ∷ [])
+    state
+
+-- but both trees are shown
+abbrev pub NoTreeAlone : Type 0
+NoTreeAlone = (setting : Setting) (state new : State) (line : Bytes)
+    → Performs setting tree state (line ∷ []) new → ⊥
+
+-- ---- names
 -- `1` and `'1'` are two names
 abbrev pub TwoNames : Type 0
 TwoNames =

@@ -35,7 +35,7 @@ pub use runs::whole_runs;
 pub use samples::drawn_clauses;
 pub use solutions::{canonical_lists, triangular_lists};
 pub use spellings::spellings_of_tokens;
-pub use steps::{added_clauses, later_lines, refusals, silent_lines, wrong_lines};
+pub use steps::{added_clauses, long_lines, refusals, shown_trees, silent_lines, wrong_lines};
 pub use subsumption::subsumed_clauses;
 pub use texts::{items_of_texts, nested_texts, places_in_texts};
 pub use tokens::{blanks, tokens_of_texts};

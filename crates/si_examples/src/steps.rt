@@ -1,5 +1,5 @@
 // Lines, their replies and the state behind them.
-ghost use Rattle.si_examples.specs.Steps.{SilentLine, SilentComment, SilentOnly, OpenComment, UnbuiltWord, UnreadOperands, UnknownWord, WordInQuotes, JoinedWord, WordAlone, OtherLanguageAdded, LanguageAlone, TooLong, TooLongBlank, NoMemoryWhereTooLong, AddedClause, TakenName, NoOtherReply, NoSecondClause, FullIndex, NoClauseTooMany, ClashingSymbol, NoClash, NoAgreement, RemovedClause, UnknownName, NoUnknownName, NothingCounted, NoneUncounted, TwoNames, RefusalBeginsSo, LateRefusal, NoRefusal, SilenceIsNoRefusal};
+ghost use Rattle.si_examples.specs.Steps.{SilentLine, SilentComment, SilentOnly, OpenComment, UnknownWord, WordInQuotes, JoinedWord, WordAlone, OtherLanguageAdded, LanguageAlone, TooLong, TooLongBlank, NoMemoryWhereTooLong, AddedClause, TakenName, NoOtherReply, NoSecondClause, FullIndex, NoClauseTooMany, ClashingSymbol, NoClash, NoAgreement, RemovedClause, UnknownName, NoUnknownName, NothingCounted, NoneUncounted, ShownTrees, NoTreeAlone, TwoNames, RefusalBeginsSo, LateRefusal, NoRefusal, SilenceIsNoRefusal};
 
 /// Which lines have no reply.
 pub fn silent_lines()
@@ -9,10 +9,8 @@ pub fn silent_lines()
     ensures open_comment { OpenComment }
 {}
 
-/// Which lines are for later.
-pub fn later_lines()
-    ensures unbuilt_word { UnbuiltWord }
-    ensures unread_operands { UnreadOperands }
+/// Which lines are too long.
+pub fn long_lines()
     ensures too_long { TooLong }
     ensures too_long_blank { TooLongBlank }
     ensures no_memory_where_too_long { NoMemoryWhereTooLong }
@@ -49,6 +47,12 @@ pub fn removals_and_counts()
     ensures no_unknown_name { NoUnknownName }
     ensures nothing_counted { NothingCounted }
     ensures none_uncounted { NoneUncounted }
+{}
+
+/// Which replies show the trees.
+pub fn shown_trees()
+    ensures shown_trees { ShownTrees }
+    ensures no_tree_alone { NoTreeAlone }
 {}
 
 /// Which replies are refusals.

@@ -84,7 +84,7 @@ fn ask<K: Sink>(alloc: Global, index: &Index, sink: &mut K) -> Result<(), Fault>
 fn answer<K: Sink>(index: &Index, pattern: &Pattern, sink: &mut K) -> Result<(), Fault>
     requires { IsSoundPattern (pattern_of pattern.now) }
 {
-    let found = index.find(Relation::Instances, pattern)?;
+    let found = index.find(index.trees(), Relation::Instances, pattern)?;
     tell(&found, sink)
 }
 

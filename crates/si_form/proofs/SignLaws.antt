@@ -66,7 +66,7 @@ one_number number s r one other h k e =
 
 -- ---- heads
 module _ {S V : Type 0} (A : Vocabulary S V) (s r : S) (ts us : terms.Terms S V) where
-  relates_heads : (kind : Relation) → Relates A.same kind (app s ts) (app r us) → s ≡ r
+  pub relates_heads : (kind : Relation) → Relates A.same kind (app s ts) (app r us) → s ≡ r
   relates_heads Unifiable h = (same_app s r _ _ h.1).0
   relates_heads Instances h = (same_app s r _ _ h.1.takes).0
   relates_heads Generalizations h = (same_app s r _ _ (sym h.1.takes)).0
@@ -85,7 +85,7 @@ one_head kind s r ts us number xs ys one other (Some bindings) told apart =
     absurd (apart (ap (λ (z : cells.Symbol). z.number) (relates_heads with_numbers _ _ _ _ kind (relates_of_canonical with_numbers kind q e told.0 told.2.canonical))))
 
 -- ---- signs
-signs_apart : (number : Symbol → ℕ) (s r : Symbol) (one other : Bool) → s.side ≡ Predicate → r.side ≡ Predicate → IsEven (number s) → IsEven (number r) → (one ≡ other → ⊥) → signed one number s ≡ signed other number r → ⊥
+pub signs_apart : (number : Symbol → ℕ) (s r : Symbol) (one other : Bool) → s.side ≡ Predicate → r.side ≡ Predicate → IsEven (number s) → IsEven (number r) → (one ≡ other → ⊥) → signed one number s ≡ signed other number r → ⊥
 signs_apart number s r true true at_s at_r h k distinct e = distinct refl
 signs_apart number s r false false at_s at_r h k distinct e = distinct refl
 signs_apart number s r true false at_s at_r h k distinct e =

@@ -1,5 +1,5 @@
 -- The first of what a search found.
-use Rattle.std.proofs.Common.{◌≡◌, ℕ, List, [], ◌∷◌, Some, ap, subst}
+use Rattle.std.proofs.Common.{◌≡◌, ℕ, List, [], ◌∷◌, Some, None, length, refl, ap, subst, arith}
 use Rattle.std.specs.Prelude.{slice_get}
 use Rattle.si_defs.specs.Clauses.{Pattern}
 use Rattle.si_defs.specs.Entries.{Placed}
@@ -25,3 +25,12 @@ shows_first f index relation p s of_index of_relation of_pattern hits shown =
           (subst (λ r. ShowsEntry f.index.numbers r p shown.0.1.entry s) of_relation
           (subst (λ q. ShowsEntry f.index.numbers f.relation q shown.0.1.entry s) of_pattern shown.2)),
     )
+
+none_of : (hits : List (ℕ × Placed)) (n : ℕ) → n ≡ length hits → n ≡ 0 → hits ≡ []
+none_of [] n size none = refl
+none_of (hit ∷ hits) n size none = absurd (omega (arith, size, none))
+
+-- nothing was found
+pub shows_none : (index : Kept) (relation : Relation) (p : Pattern) (hits : List (ℕ × Placed)) (n : ℕ) → n ≡ length hits → n ≡ 0 → AreHits relation p (entries_from_position 0 index.clauses) hits
+    → ShowsFirst index relation p None
+shows_none index relation p hits n size none found = subst (AreHits relation p (entries_from_position 0 index.clauses)) (none_of hits n size none) found

@@ -39,7 +39,7 @@ pub fn first_shown(
     requires { IsSoundPattern (pattern_of pattern.now) }
     ensures { IfOk result (ShowsFirst index.now relation (pattern_of pattern.now)) }
 {
-    let found = index.find(relation, pattern)?;
+    let found = index.find(index.trees(), relation, pattern)?;
     if found.len() == 0 {
         return Ok(None);
     }

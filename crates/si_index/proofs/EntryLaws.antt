@@ -1,24 +1,28 @@
 -- Terms, literals and clauses whose symbols have numbers, and the parts of them.
-use Rattle.std.proofs.Common.{◌≡◌, ℕ, zero, suc, ◌<◌, ◌≤◌, List, [], ◌∷◌, length, map, get_or, inr, refl, ap, sym, subst, arith}
+use Rattle.std.proofs.Common.{◌≡◌, ℕ, zero, suc, ◌<◌, ◌≤◌, List, [], ◌∷◌, length, map, get_or, inl, inr, ap, sym, subst, arith}
+use Rattle.std.specs.Prelude.{Some, slice_get}
 use Rattle.std.specs.List.{AllByRecursion}
-use Rattle.si_defs.specs.Terms.{app, row, symbols, symbols_of_all}
+use Rattle.si_defs.specs.Terms.{var, app, none, more, row, size, symbols, symbols_of_all}
 use Rattle.si_defs.specs.Symbols.{Numbering}
-use Rattle.si_defs.specs.Clauses.{Term, Literal, Clause, Pattern, literal_pattern, term_pattern, IsSoundTerm, AreSoundTerms, IsSoundAtom, IsSoundLiteral, IsSoundClause, literals_size}
-use Rattle.si_defs.specs.Entries.{literal_entry, term_entry, clause_symbols, literals_symbols, state_symbols}
+use Rattle.si_defs.specs.Clauses.{Term, Terms, Literal, Clause, IsSoundTerm, AreSoundTerms, IsSoundAtom, IsSoundLiteral, IsSoundClause, literals_size}
+use Rattle.si_defs.specs.Entries.{Entry, literal_entry, term_entry, Placed, entries, clause_symbols, literals_symbols, state_symbols}
 use Rattle.si_defs.specs.Substitutions.{IsAmong}
 use Rattle.si_defs.specs.declared.TheConstants.{MOST_OCCURRENCES}
-use Rattle.si_defs.proofs.ListLaws.{among_front, among_back}
+use Rattle.si_defs.proofs.ListLaws.{among_front, among_back, among_parts, get_among}
 use Rattle.si_state.specs.Signatures.{Signature, IsSignatureOf, numbering}
 use Rattle.si_term.specs.Terms.{symbol_of, term_of}
 use Rattle.si_term.specs.Meaning.{literal_of}
 use Rattle.si_term.specs.declared.term.Sym as program_symbol
 use Rattle.si_term.specs.declared.term.Term as program
-use Rattle.si_term.specs.declared.term.Term.TheVariants.{Var, App}
+use Rattle.si_term.specs.declared.term.Term.TheVariants.{App}
 use Rattle.si_term.specs.declared.clause.Literal as program_literal
 use Rattle.si_term.proofs.Rows.{size-read, app-term, positive}
+use Rattle.si_term.specs.Walks.{subterms, subterms_of_all, arguments, entries_alone}
+use Rattle.si_term.proofs.Alone.{entries-alone}
 use Rattle.si_sign.proofs.UsesOf.{among_numbering, uses_positive, times_among}
 use Rattle.si_form.specs.TableNumbers.{HaveNumbers}
-use Rattle.si_index.specs.Searching.{IsTermPattern, AreAlike, IsKnownTerm, AreKnownTerms, IsKnownEntry, IsKnownClause}
+use Rattle.si_form.proofs.Moving.{among_map, among_mapped}
+use Rattle.si_index.specs.Searching.{IsKnownTerm, AreKnownTerms, IsKnownEntry, IsKnownClause}
 
 -- ---- arguments
 argument_at : (numbers : Numbering) (ts : List program.Term) (i : ℕ) (d : program.Term) → i < length ts
@@ -50,13 +54,6 @@ known_arguments numbers t s args us is seen known =
 pub known_sub : (numbers : Numbering) (t : Term) → IsKnownTerm numbers t → IsKnownEntry numbers (term_entry t)
 known_sub numbers t known = record { sound = (known.sound, known.small); numbered = known.numbered }
 
-pub alike_term : (p : Pattern) (t : Term) → IsTermPattern p → AreAlike p (term_entry t)
-alike_term (literal_pattern l) t h = absurd h
-alike_term (term_pattern u) t h = tt
-
-pub alike_literal : (p : Pattern) (q l : Literal) → p ≡ literal_pattern q → q.positive ≡ l.positive → AreAlike p (literal_entry l)
-alike_literal p q l is h = subst (λ r. AreAlike r (literal_entry l)) (sym is) h
-
 -- those of a literal's atom
 pub known_parts : (numbers : Numbering) (l : program_literal.Literal) (s : program_symbol.Sym) (args : List Term) (us : List program.Term) → l.atom ≡ App s args → map term_of us ≡ args → IsKnownEntry numbers (literal_entry (literal_of l)) → AreKnownTerms numbers (row (map term_of us))
 known_parts numbers l s args us is seen known =
@@ -67,13 +64,6 @@ known_parts numbers l s args us is seen known =
       numbered = λ r a. whole.numbered r (inr a);
       small = omega (arith, whole.sound.1);
     }
-
--- an atom is no variable
-pub atom_is_no_variable : (numbers : Numbering) (l : program_literal.Literal) → ((s : program_symbol.Sym) (args : List Term) → l.atom ≡ App s args → ⊥) → IsKnownEntry numbers (literal_entry (literal_of l)) → ⊥
-atom_is_no_variable numbers l none known = by l.atom refl known.sound.0 where
-  by : (t : program.Term) → l.atom ≡ t → IsSoundAtom (term_of t) → ⊥
-  by (Var x) e h = h
-  by (App s args) e h = none s args e
 
 -- ---- literals
 literal_at : (numbers : Numbering) (ls : List program_literal.Literal) (i : ℕ) (d : program_literal.Literal) → i < length ls
@@ -99,6 +89,65 @@ known_literal numbers c ls i l seen h read known =
 pub count_literals : (ls : List program_literal.Literal) → length ls ≤ literals_size (map literal_of ls)
 count_literals [] = omega arith
 count_literals (l ∷ ls) = omega (arith, count_literals ls, positive (term_of l.atom))
+
+-- ---- the entries of a clause
+mutual
+  known_subterms : (numbers : Numbering) (t : Term) → IsKnownTerm numbers t → (u : Term) → IsAmong (subterms t) u → IsKnownTerm numbers u
+  known_subterms numbers (var x) known u a = absurd a
+  known_subterms numbers (app s ts) known u (inl is) = subst (IsKnownTerm numbers) is known
+  known_subterms numbers (app s ts) known u (inr a) =
+      known_all_subterms numbers ts (record { sound = known.sound.1; numbered = λ r b. known.numbered r (inr b); small = omega (arith, known.small) }) u a
+
+  known_all_subterms : (numbers : Numbering) (ts : Terms) → AreKnownTerms numbers ts → (u : Term) → IsAmong (subterms_of_all ts) u → IsKnownTerm numbers u
+  known_all_subterms numbers none known u a = absurd a
+  known_all_subterms numbers (more t ts) known u a =
+      elim (among_parts (subterms t) (subterms_of_all ts) u a) [
+        | inl b ↦
+            known_subterms numbers t
+            (record {
+              sound = known.sound.0;
+              numbered = λ r c. known.numbered r (among_front (symbols t) (symbols_of_all ts) r c);
+              small = omega (arith, known.small);
+            })
+            u b
+        | inr b ↦
+            known_all_subterms numbers ts
+            (record {
+              sound = known.sound.1;
+              numbered = λ r c. known.numbered r (among_back (symbols t) (symbols_of_all ts) r c);
+              small = omega (arith, known.small);
+            })
+            u b
+      ]
+
+-- those of an atom's arguments
+known_inside : (numbers : Numbering) (atom u : Term) → IsSoundAtom atom → HaveNumbers numbers (symbols atom) → size atom ≤ MOST_OCCURRENCES → IsAmong (subterms_of_all (arguments atom)) u → IsKnownTerm numbers u
+known_inside numbers (var x) u sound have small a = absurd a
+known_inside numbers (app s ts) u sound have small a =
+    known_all_subterms numbers ts (record { sound = sound.1; numbered = λ r b. have r (inr b); small = omega (arith, small) }) u a
+
+known_alone : (numbers : Numbering) (ls : List Literal) → AllByRecursion IsSoundLiteral ls → literals_size ls ≤ MOST_OCCURRENCES → HaveNumbers numbers (literals_symbols ls) → (e : Entry) → IsAmong (entries_alone ls) e → IsKnownEntry numbers e
+known_alone numbers [] sound small have e a = absurd a
+known_alone numbers (l ∷ ls) sound small have e (inl is) =
+    subst (IsKnownEntry numbers) is
+    (record {
+      sound = (sound.0, omega (arith, small));
+      numbered = λ s a. have s (among_front (symbols l.atom) (literals_symbols ls) s a);
+    })
+known_alone numbers (l ∷ ls) sound small have e (inr a) =
+    elim (among_parts (map term_entry (subterms_of_all (arguments l.atom))) (entries_alone ls) e a) [
+      | inl b ↦
+          let of = among_mapped term_entry (subterms_of_all (arguments l.atom)) e b in
+          subst (IsKnownEntry numbers) of.2
+          (known_sub numbers of.0
+          (known_inside numbers l.atom of.0 sound.0 (λ s c. have s (among_front (symbols l.atom) (literals_symbols ls) s c)) (omega (arith, small)) of.1))
+      | inr b ↦ known_alone numbers ls sound.1 (omega (arith, small)) (λ s c. have s (among_back (symbols l.atom) (literals_symbols ls) s c)) e b
+    ]
+
+pub known_entry : (numbers : Numbering) (c : Clause) (n : ℕ) (e : Placed) → IsKnownClause numbers c → slice_get (entries c) n ≡ Some e → IsKnownEntry numbers e.entry
+known_entry numbers c n e known got =
+    known_alone numbers c.literals known.sound.sound.each known.sound.sound.no_larger known.numbered e.entry
+    (subst (λ es. IsAmong es e.entry) (entries-alone 1 c.literals) (among_map (λ p. p.entry) (entries c) e (get_among (entries c) n e got)))
 
 -- ---- clauses
 clauses_known : (numbers : Numbering) (cs : List Clause) → AllByRecursion IsSoundClause cs → HaveNumbers numbers (state_symbols cs) → AllByRecursion (IsKnownClause numbers) cs

@@ -26,7 +26,7 @@ use Rattle.si_flat.proofs.FirstPlaces.{among_firsts, filter_among}
 use Rattle.si_unify.proofs.Reading.{one_term}
 use Rattle.si_form.specs.declared.solution.Binding.{Binding}
 use Rattle.si_form.specs.Answers.{IsNumbered, AreNumbered, AnswersTo, Answers}
-use Rattle.si_form.specs.Numberings.{query_by, entry_by, variable_by, symbols_of, TellsApart, IsFor, TextsRelate, AnswersToTexts}
+use Rattle.si_form.specs.Numberings.{query_by, entry_by, variable_by, symbols_of, TellsApart, IsFor, AnswersToTexts}
 use Rattle.si_form.specs.TableNumbers.{HaveNumbers}
 use Rattle.si_form.proofs.NumberingLaws.{answers_are_kept}
 use Rattle.si_form.proofs.SolutionLaws.{solutions_are_of_terms, atoms_are_answered}
@@ -51,7 +51,7 @@ all_numbered numbers ss e s a = by (has_number numbers s) refl where
   by true h = (number_in numbers s, among-number numbers s h)
   by false h = absurd (subst (λ l. IsAmong l s) e (filter_among (λ r. not (has_number numbers r)) ss s a (ap not h)))
 
-tells_apart : (numbers : Numbering) (ss : List Symbol) → IsQueryNumbering numbers → HaveNumbers numbers ss → TellsApart (number_in numbers) ss
+pub tells_apart : (numbers : Numbering) (ss : List Symbol) → IsQueryNumbering numbers → HaveNumbers numbers ss → TellsApart (number_in numbers) ss
 tells_apart numbers ss numbering have =
     let at : (s : Symbol) → IsAmong ss s → IsAmong numbers (s, number_in numbers s) = λ s a. among-number numbers s (has-among numbers s (have s a).0 (have s a).1) in
     record {
@@ -59,10 +59,10 @@ tells_apart numbers ss numbering have =
       even = λ s a. numbering.even s (number_in numbers s) (at s a);
     }
 
-more_numbers : (numbers others : Numbering) (ss : List Symbol) → HaveNumbers numbers ss → HaveNumbers (numbers ++ others) ss
+pub more_numbers : (numbers others : Numbering) (ss : List Symbol) → HaveNumbers numbers ss → HaveNumbers (numbers ++ others) ss
 more_numbers numbers others ss have s a = ((have s a).0, among_front numbers others (s, (have s a).0) (have s a).1)
 
-both_numbered : (numbers : Numbering) (p u : Term) → HaveNumbers numbers (symbols p) → HaveNumbers numbers (symbols u) → HaveNumbers numbers (symbols_of p u)
+pub both_numbered : (numbers : Numbering) (p u : Term) → HaveNumbers numbers (symbols p) → HaveNumbers numbers (symbols u) → HaveNumbers numbers (symbols_of p u)
 both_numbered numbers p u of_p of_u s a =
     elim (among_parts (symbols p) (symbols u) s a) [
       | inl b ↦ of_p s b
@@ -72,7 +72,7 @@ both_numbered numbers p u of_p of_u s a =
 variables_placed : (xs : List Bytes) → AllByRecursion (IsAmong (firsts bytes_eq xs)) xs
 variables_placed xs = all_from (IsAmong (firsts bytes_eq xs)) xs (λ x a. among_firsts bytes_eq text_is xs x a)
 
-is_for : (numbers : Numbering) (p u : Term) → IsQueryNumbering numbers → HaveNumbers numbers (symbols p) → HaveNumbers numbers (symbols u) → IsFor p u (number_in numbers) (firsts bytes_eq (variables p)) (firsts bytes_eq (variables u))
+pub is_for : (numbers : Numbering) (p u : Term) → IsQueryNumbering numbers → HaveNumbers numbers (symbols p) → HaveNumbers numbers (symbols u) → IsFor p u (number_in numbers) (firsts bytes_eq (variables p)) (firsts bytes_eq (variables u))
 is_for numbers p u numbering of_p of_u = record {
   symbols = tells_apart numbers (symbols_of p u) numbering (both_numbered numbers p u of_p of_u);
   pattern_variables = variables_placed (variables p);
@@ -149,11 +149,9 @@ flat_answers kind table (term_pattern t) q (term_entry u) list answer numbering 
 flat_answers kind table (literal_pattern l) q (term_entry u) list answer numbering sound query known alike flat told = absurd alike
 flat_answers kind table (term_pattern t) q (literal_entry k) list answer numbering sound query known alike flat told = absurd alike
 
--- ---- where the symbols don't allow the relation
-pub unfit_fails : (kind : Relation) (p : Pattern) (e : Entry) → AreAlike p e → (TextsRelate kind (whole_of (pattern_entry p)) (whole_of e) → ⊥) → Stands kind p e → ⊥
-unfit_fails kind p e alike unfit stands = unfit (related p e alike stands) where
-  related : (p : Pattern) (e : Entry) → AreAlike p e → Stands kind p e → TextsRelate kind (whole_of (pattern_entry p)) (whole_of e)
-  related (literal_pattern l) (literal_entry k) alike s = s.1
-  related (term_pattern t) (term_entry u) alike s = s
-  related (literal_pattern l) (term_entry u) alike s = absurd alike
-  related (term_pattern t) (literal_entry k) alike s = absurd alike
+-- what stands in the relation is alike
+pub alike_standing : (kind : Relation) (p : Pattern) (e : Entry) → Stands kind p e → AreAlike p e
+alike_standing kind (literal_pattern l) (literal_entry k) s = s.0
+alike_standing kind (term_pattern t) (term_entry u) s = tt
+alike_standing kind (literal_pattern l) (term_entry u) s = s
+alike_standing kind (term_pattern t) (literal_entry k) s = s

@@ -51,7 +51,7 @@ pub match_at : (s : Search) (lists : List Solved) (ms : List Match) (n : ℕ) (m
 match_at s lists ms n m hits seen h = each_at (IsMatch s lists) ms n m (inside ms n hits seen h)
 
 -- a list that is read by its number solves the entry
-pub solves_at : (s : Search) (e : Entry) (lists : List Solved) (n : ℕ) (read : Solved) → HasList s e lists (Some n) → read ≡ get_or lists n read → SolvesIn s e read
+pub solves_at : (s : Search) (e : Entry) (lists : List Solved) (n : ℕ) (read : Solved) → HasList s e lists n → read ≡ get_or lists n read → SolvesIn s e read
 solves_at s e lists n read h is = subst (SolvesIn s e) (sym (get_or_from_slice_get lists n h.0 read h.1) ∙ sym is) h.2
 
 -- what was solved is shown

@@ -1,38 +1,30 @@
--- The entries that a walk has passed, and those of them that it has gathered.
-use Rattle.std.proofs.Common.{◌≡◌, ℕ, Bool, true, false, not, zero, suc, ◌+◌, ◌-◌, ◌<◌, ◌≤◌, List, [], ◌∷◌, ◌++◌, length, map, get_or, take, drop, inl, inr, refl, ap, sym, ◌∙◌, subst, arith, append_assoc, append-nil, length-append}
+-- A walk to entries that are wanted, and what was gathered.
+use Rattle.std.proofs.Common.{◌≡◌, ℕ, zero, suc, ◌+◌, ◌-◌, ◌<◌, ◌≤◌, List, [], ◌∷◌, ◌++◌, length, map, get_or, take, drop, inl, inr, refl, ap, sym, ◌∙◌, subst, arith}
 use Rattle.std.specs.Prelude.{slice_get, Some, None}
-use Rattle.std.specs.List.{AllByRecursion}
-use Rattle.std.proofs.lemmas.List.{drop_more, drop_all, map-append, length-map}
-use Rattle.std.proofs.Math.Seq.{take-append_seam}
-use Rattle.std.proofs.Math.Bool.{beq}
+use Rattle.std.specs.List.{AllByRecursion, AllZip}
+use Rattle.std.proofs.lemmas.List.{drop_more, map-append}
+use Rattle.std.proofs.lemmas.Option.{same_Some, slice_get_within}
 use Rattle.si_defs.specs.Substitutions.{Grows}
-use Rattle.si_defs.specs.Terms as terms
-use Rattle.si_defs.specs.Clauses.{Term, Literal, Clause, Pattern, literal_pattern, term_pattern}
-use Rattle.si_defs.specs.Entries.{literal_entry, term_entry, Placed, literal_entries, proper_occurrences, placed_term, placed_in, entries_from, entries, state_entries}
-use Rattle.si_defs.specs.declared.Relation.{Relation}
-use Rattle.si_defs.proofs.ListLaws.{all_weaker, all_append, get_front}
+use Rattle.si_defs.specs.Clauses.{Clause}
+use Rattle.si_defs.specs.Entries.{Placed, entries}
+use Rattle.si_defs.specs.declared.TheConstants.{MOST_OCCURRENCES}
+use Rattle.si_defs.proofs.ListLaws.{all_weaker, all_append, all_from, all_got, get_front, get_here, not_empty}
 use Rattle.si_state.specs.Answers.{Stands}
-use Rattle.si_term.specs.Terms.{term_of}
-use Rattle.si_term.specs.Meaning.{literal_of}
-use Rattle.si_term.specs.declared.term.Sym as symbol
-use Rattle.si_term.specs.declared.term.Term as program
-use Rattle.si_term.specs.declared.term.Term.TheVariants.{Var, App}
-use Rattle.si_term.specs.declared.clause.Literal as program_literal
-use Rattle.si_index.specs.Finding.{at_position, entries_from_position, AreHits}
-use Rattle.si_index.specs.Searching.{pattern_in, IsTermPattern, HasSolution, IsMatch, AreMatches, hit_of, Adds, Gathers, placed_under}
+use Rattle.si_term.specs.Meaning.{clause_of, entry_of}
+use Rattle.si_term.specs.declared.clause.Entry as program_entry
+use Rattle.si_entries.specs.Walks.{GivesAfter, left_of, place_in}
+use Rattle.si_entries.specs.declared.Entries.{Entries}
+use Rattle.si_index.specs.Kept.{Kept}
+use Rattle.si_index.specs.Searching.{numbers_of, pattern_in, IsKnownEntry, IsKnownClause, HasSolution, IsMatch, hit_of}
+use Rattle.si_index.specs.Gathering.{IsBefore, Rise, IsAhead, IsHitAt, IsStandingAt, IsWalk, Adds}
 use Rattle.si_index.specs.declared.search.Search.{Search}
 use Rattle.si_index.specs.declared.search.Solved.{Solved}
+use Rattle.si_index.specs.declared.gather.ClauseWalk.{ClauseWalk}
 use Rattle.si_index.specs.declared.gather.Match.{Match}
 use Rattle.si_index.specs.declared.gather.Matches.{Matches}
-
--- ---- hits among entries one behind the other
-hits-append : (kind : Relation) (p : Pattern) (es fs hs ks : List (ℕ × Placed)) → AreHits kind p es hs → AreHits kind p fs ks → AreHits kind p (es ++ fs) (hs ++ ks)
-hits-append kind p [] fs hs ks h k = subst (λ l. AreHits kind p fs (l ++ ks)) (sym h) k
-hits-append kind p (e ∷ es) fs hs ks h k =
-    elim h [
-      | inl s ↦ inl (s.0, (s.1.0 ++ ks, hits-append kind p es fs s.1.0 ks s.1.1 k, ap (λ l. l ++ ks) s.1.2))
-      | inr s ↦ inr (s.0, hits-append kind p es fs hs ks s.1 k)
-    ]
+use Rattle.si_index.specs.declared.wanted.Wanted.{Wanted}
+use Rattle.si_index.proofs.EntryLaws.{known_entry}
+use Rattle.si_index.proofs.StoreLaws.{few_entries}
 
 -- ---- what was found keeps its lists where more are made
 match_stays : (s : Search) (old new : List Solved) (m : Match) → Grows old new → IsMatch s old m → IsMatch s new m
@@ -44,186 +36,7 @@ match_stays s old new m front h = record {
 pub matches_stay : (s : Search) (old new : List Solved) (ms : List Match) → Grows old new → AllByRecursion (IsMatch s old) ms → AllByRecursion (IsMatch s new) ms
 matches_stay s old new ms front = all_weaker (IsMatch s old) (IsMatch s new) ms (λ m. match_stays s old new m front)
 
--- ---- what was added
-pub adds_none : (s : Search) (ms : Matches) → AreMatches s ms → Adds s [] ms.found.items ms
-adds_none s ms each = record { more = []; appended = sym (append-nil ms.found.items); each = each; hits = refl }
-
-pub adds_then : (s : Search) (es fs : List (ℕ × Placed)) (a : List Match) (b c : Matches) → Adds s es a b → Adds s fs b.found.items c → Adds s (es ++ fs) a c
-adds_then s es fs a b c h k = record {
-  more = h.more ++ k.more;
-  appended = k.appended ∙ ap (λ l. l ++ k.more) h.appended ∙ append_assoc a h.more k.more;
-  each = k.each;
-  hits = subst (AreHits s.relation (pattern_in s) (es ++ fs)) (sym (map-append hit_of h.more k.more)) (hits-append s.relation (pattern_in s) es fs (map hit_of h.more) (map hit_of k.more) h.hits k.hits);
-}
-
-pub adds_one : (s : Search) (e : ℕ × Placed) (m : Match) (old : List Match) (new : Matches) → new.found.items ≡ old ++ m ∷ [] → AllByRecursion (IsMatch s new.lists.items) old → IsMatch s new.lists.items m → e ≡ hit_of m → Adds s (e ∷ []) old new
-adds_one s e m old new pushed each match is = record {
-  more = m ∷ [];
-  appended = pushed;
-  each = subst (AllByRecursion (IsMatch s new.lists.items)) (sym pushed) (all_append (IsMatch s new.lists.items) old (m ∷ []) each (match, tt));
-  hits = inl (subst (λ f. Stands s.relation (pattern_in s) f.1.entry) (sym is) match.list.2.list.stands, ([], refl, ap (λ f. f ∷ []) (sym is)));
-}
-
-pub adds_no : (s : Search) (e : ℕ × Placed) (old : List Match) (new : Matches) → new.found.items ≡ old → AreMatches s new → (Stands s.relation (pattern_in s) e.1.entry → ⊥) → Adds s (e ∷ []) old new
-adds_no s e old new same each fails = record { more = []; appended = same ∙ sym (append-nil old); each = each; hits = inr (fails, refl) }
-
--- an entry before the others that doesn't stand in the relation
-adds_skip : (s : Search) (e : ℕ × Placed) (es : List (ℕ × Placed)) (old : List Match) (new : Matches) → (Stands s.relation (pattern_in s) e.1.entry → ⊥) → Adds s es old new → Adds s (e ∷ es) old new
-adds_skip s e es old new fails h = record { more = h.more; appended = h.appended; each = h.each; hits = inr (fails, h.hits) }
-
--- entries of which none stands in the relation
-pub adds_nothing : (s : Search) (es : List (ℕ × Placed)) (ms : Matches) → AreMatches s ms → AllByRecursion (λ e. Stands s.relation (pattern_in s) e.1.entry → ⊥) es → Adds s es ms.found.items ms
-adds_nothing s [] ms each none = adds_none s ms each
-adds_nothing s (e ∷ es) ms each none = adds_skip s e es ms.found.items ms none.0 (adds_nothing s es ms each none.1)
-
--- ---- a loop that has passed the first of some entries
-pub record SoFar (s : Search) (left all : List (ℕ × Placed)) (old : List Match) (now : Matches) : Type 0 where
-  pub passed : List (ℕ × Placed)
-  pub whole : all ≡ passed ++ left
-  pub adds : Adds s passed old now
-
-pub so_far_start : (s : Search) (all : List (ℕ × Placed)) (ms : Matches) → AreMatches s ms → SoFar s all all ms.found.items ms
-so_far_start s all ms each = record { passed = []; whole = refl; adds = adds_none s ms each }
-
-pub so_far_more : (s : Search) (left piece rest all : List (ℕ × Placed)) (a : List Match) (b c : Matches) → left ≡ piece ++ rest → SoFar s left all a b → Adds s piece b.found.items c → SoFar s rest all a c
-so_far_more s left piece rest all a b c step h k = record {
-  passed = h.passed ++ piece;
-  whole = h.whole ∙ ap (λ l. h.passed ++ l) step ∙ sym (append_assoc h.passed piece rest);
-  adds = adds_then s h.passed piece a b c h.adds k;
-}
-
-pub so_far_end : (s : Search) (left all : List (ℕ × Placed)) (a : List Match) (b : Matches) → left ≡ [] → SoFar s left all a b → Adds s all a b
-so_far_end s left all a b none h = subst (λ l. Adds s l a b) (sym (h.whole ∙ ap (λ l. h.passed ++ l) none ∙ append-nil h.passed)) h.adds
-
--- ---- subterms under a path
-under-append : (k n : ℕ) (path : List ℕ) (xs ys : List (List ℕ × Term)) → placed_under k n path (xs ++ ys) ≡ placed_under k n path xs ++ placed_under k n path ys
-under-append k n path [] ys = refl
-under-append k n path (x ∷ xs) ys = ap (λ l. (k, record { entry = term_entry x.1; place = record { literal = n; path = path ++ x.0 } }) ∷ l) (under-append k n path xs ys)
-
--- below an argument the path goes on with its number
-under-below : (k n : ℕ) (path : List ℕ) (i : ℕ) (xs : List (List ℕ × Term)) → placed_under k n path (map (terms.below i) xs) ≡ placed_under k n (path ++ i ∷ []) xs
-under-below k n path i [] = refl
-under-below k n path i (x ∷ xs) =
-    λ j. (k, record { entry = term_entry x.1; place = record { literal = n; path = sym (append_assoc path (i ∷ []) x.0) j } }) ∷ under-below k n path i xs j
-
-under-root : (k n : ℕ) (xs : List (List ℕ × Term)) → map (at_position k) (map (placed_term n) xs) ≡ placed_under k n [] xs
-under-root k n [] = refl
-under-root k n (x ∷ xs) = ap (λ l. (k, placed_term n x) ∷ l) (under-root k n xs)
-
--- those of the arguments from the one with the index i on: of that one, and then of the others
-pub arguments_step : (k n : ℕ) (path down : List ℕ) (ts : List program.Term) (i : ℕ) (t : program.Term) → i < length ts → t ≡ get_or ts i t → down ≡ path ++ (i + 1) ∷ []
-    → placed_under k n path (terms.occurrences_from (i + 1) (terms.row (map term_of (drop i ts))))
-    ≡ placed_under k n down (terms.occurrences (term_of t)) ++ placed_under k n path (terms.occurrences_from (i + 1 + 1) (terms.row (map term_of (drop (i + 1) ts))))
-arguments_step k n path down ts i t h e f =
-    let others = terms.row (map term_of (drop (i + 1) ts)) in
-    let turn : i + 1 + 1 ≡ 1 + (i + 1) = omega arith in
-    ap (λ l. placed_under k n path (terms.occurrences_from (i + 1) (terms.row (map term_of l)))) (drop_more ts i t h)
-    ∙ ap (λ u. placed_under k n path (terms.occurrences_from (i + 1) (terms.more (term_of u) others))) (sym e)
-    ∙ under-append k n path (map (terms.below (i + 1)) (terms.occurrences (term_of t))) (terms.occurrences_from (1 + (i + 1)) others)
-    ∙ ap (λ l. l ++ placed_under k n path (terms.occurrences_from (1 + (i + 1)) others)) (under-below k n path (i + 1) (terms.occurrences (term_of t)))
-    ∙ ap (λ p. placed_under k n p (terms.occurrences (term_of t)) ++ placed_under k n path (terms.occurrences_from (1 + (i + 1)) others)) (sym f)
-    ∙ ap (λ m. placed_under k n down (terms.occurrences (term_of t)) ++ placed_under k n path (terms.occurrences_from m others)) (sym turn)
-
-pub arguments_end : (k n : ℕ) (path : List ℕ) (m : ℕ) (ts : List program.Term) (i : ℕ) → length ts ≤ i → placed_under k n path (terms.occurrences_from m (terms.row (map term_of (drop i ts)))) ≡ []
-arguments_end k n path m ts i h = ap (λ l. placed_under k n path (terms.occurrences_from m (terms.row (map term_of l)))) (drop_all i ts h)
-
--- a path without its last number
-pub popped : (old new path : List ℕ) (k n : ℕ) → n ≡ length old → new ≡ take (n - 1) old → old ≡ path ++ k ∷ [] → new ≡ path
-popped old new path k n l h e =
-    let m : n - 1 ≡ length path = omega (arith, l, ap length e, length-append path (k ∷ [])) in
-    h ∙ ap (λ i. take i old) m ∙ ap (take (length path)) e ∙ take-append_seam path (k ∷ [])
-
--- ---- the entries of a literal
--- of a term pattern, only the proper subterms
-
-terms_fail : (kind : Relation) (p : Pattern) (q : Literal) (k n : ℕ) (path : List ℕ) (xs : List (List ℕ × Term)) → p ≡ literal_pattern q → AllByRecursion (λ (e : ℕ × Placed). Stands kind p e.1.entry → ⊥) (placed_under k n path xs)
-terms_fail kind p q k n path [] e = tt
-terms_fail kind p q k n path (x ∷ xs) e = (λ h. subst (λ r. Stands kind r (term_entry x.1)) e h, terms_fail kind p q k n path xs e)
-
--- of a literal pattern, only the literal itself
-pub literal_tried : (s : Search) (k n : ℕ) (path : List ℕ) (l q : Literal) (old : List Match) (new : Matches) → pattern_in s ≡ literal_pattern q → path ≡ []
-    → Adds s ((k, record { entry = literal_entry l; place = record { literal = n; path = path } }) ∷ []) old new
-    → Adds s (map (at_position k) (literal_entries n l)) old new
-literal_tried s k n path l q old new is root h =
-    let first : ℕ × Placed = (k, record { entry = literal_entry l; place = record { literal = n; path = [] } }) in
-    subst (λ es. Adds s (first ∷ es) old new) (sym (under-root k n (proper_occurrences l.atom)))
-    (adds_then s (first ∷ []) (placed_under k n [] (proper_occurrences l.atom)) old new new
-    (subst (λ p. Adds s ((k, record { entry = literal_entry l; place = record { literal = n; path = p } }) ∷ []) old new) root h)
-    (adds_nothing s (placed_under k n [] (proper_occurrences l.atom)) new h.each (terms_fail s.relation (pattern_in s) q k n [] (proper_occurrences l.atom) is)))
-
--- nor that where the sign is another
-signs_fail : (kind : Relation) (p : Pattern) (q l : Literal) → p ≡ literal_pattern q → (q.positive ≡ l.positive → ⊥) → Stands kind p (literal_entry l) → ⊥
-signs_fail kind p q l e differ h = differ (subst (λ r. Stands kind r (literal_entry l)) e h).0
-
-pub other_sign : (s : Search) (k n : ℕ) (l q : Literal) (ms : Matches) → AreMatches s ms → pattern_in s ≡ literal_pattern q → (q.positive ≡ l.positive → ⊥) → Adds s (map (at_position k) (literal_entries n l)) ms.found.items ms
-other_sign s k n l q ms each is differ =
-    literal_tried s k n [] l q ms.found.items ms is refl
-    (adds_no s (k, record { entry = literal_entry l; place = record { literal = n; path = [] } }) ms.found.items ms refl each (signs_fail s.relation (pattern_in s) q l is differ))
-
--- what the test of two signs says
-pub signs_differ : (a b : Bool) → not (beq a b) ≡ true → a ≡ b → ⊥
-signs_differ true true h e = cc
-signs_differ false false h e = cc
-signs_differ true false h e = cc
-signs_differ false true h e = cc
-
-pub signs_agree : (a b : Bool) → not (beq a b) ≡ false → a ≡ b
-signs_agree true true h = refl
-signs_agree false false h = refl
-signs_agree true false h = cc
-signs_agree false true h = cc
-
--- of a term pattern, only the proper subterms of the atom, which are those of its arguments
-literal_fails_at : (kind : Relation) (p : Pattern) (l : Literal) → IsTermPattern p → Stands kind p (literal_entry l) → ⊥
-literal_fails_at kind (literal_pattern q) l is h = is
-literal_fails_at kind (term_pattern t) l is h = h
-
-pub parts_tried : (s : Search) (k n : ℕ) (path : List ℕ) (l : program_literal.Literal) (f : symbol.Sym) (args us : List Term) (old : List Match) (new : Matches) → IsTermPattern (pattern_in s) → l.atom ≡ App f args → us ≡ args → path ≡ []
-    → Adds s (placed_under k n path (terms.occurrences_from 1 (terms.row us))) old new
-    → Adds s (map (at_position k) (literal_entries n (literal_of l))) old new
-parts_tried s k n path l f args us old new is atom seen root h =
-    let first : ℕ × Placed = (k, record { entry = literal_entry (literal_of l); place = record { literal = n; path = [] } }) in
-    let parts : placed_under k n [] (proper_occurrences (term_of l.atom)) ≡ placed_under k n path (terms.occurrences_from 1 (terms.row us)) =
-    ap (λ t. placed_under k n [] (proper_occurrences (term_of t))) atom
-    ∙ ap (λ p. placed_under k n p (terms.occurrences_from 1 (terms.row args))) (sym root)
-    ∙ ap (λ ts. placed_under k n path (terms.occurrences_from 1 (terms.row ts))) (sym seen) in
-    subst (λ es. Adds s (first ∷ es) old new) (sym (under-root k n (proper_occurrences (term_of l.atom)) ∙ parts))
-    (adds_skip s first (placed_under k n path (terms.occurrences_from 1 (terms.row us))) old new (literal_fails_at s.relation (pattern_in s) (literal_of l) is) h)
-
--- ---- the subterms of a term
-pub variable_tried : (s : Search) (k n : ℕ) (path : List ℕ) (t : program.Term) (x : List ℕ) (ms : Matches) → AreMatches s ms → t ≡ Var x → Adds s (placed_under k n path (terms.occurrences (term_of t))) ms.found.items ms
-variable_tried s k n path t x ms each is = subst (λ (u : program.Term). Adds s (placed_under k n path (terms.occurrences (term_of u))) ms.found.items ms) (sym is) (adds_none s ms each)
-
-pub application_tried : (s : Search) (k n : ℕ) (path same : List ℕ) (t : program.Term) (f : symbol.Sym) (args us : List Term) (a : List Match) (b c : Matches) → t ≡ App f args → us ≡ args → same ≡ path
-    → Adds s ((k, record { entry = term_entry (term_of t); place = record { literal = n; path = path } }) ∷ []) a b
-    → Adds s (placed_under k n same (terms.occurrences_from 1 (terms.row us))) b.found.items c
-    → Adds s (placed_under k n path (terms.occurrences (term_of t))) a c
-application_tried s k n path same t f args us a b c is seen kept h rest =
-    let first : Term → ℕ × Placed = λ u. (k, record { entry = term_entry u; place = record { literal = n; path = path } }) in
-    let behind : placed_under k n same (terms.occurrences_from 1 (terms.row us)) ≡ placed_under k n path (terms.occurrences_from 1 (terms.row args)) =
-    ap (λ p. placed_under k n p (terms.occurrences_from 1 (terms.row us))) kept ∙ ap (λ ts. placed_under k n path (terms.occurrences_from 1 (terms.row ts))) seen in
-    let own : placed_under k n path (terms.occurrences (term_of (App f args))) ≡ first (term_of (App f args)) ∷ placed_under k n path (terms.occurrences_from 1 (terms.row args)) =
-    ap (λ p. (k, record { entry = term_entry (term_of (App f args)); place = record { literal = n; path = p } }) ∷ placed_under k n path (terms.occurrences_from 1 (terms.row args))) (append-nil path) in
-    subst (λ (u : program.Term). Adds s (placed_under k n path (terms.occurrences (term_of u))) a c) (sym is)
-    (subst (λ es. Adds s es a c) (sym own)
-    (adds_then s (first (term_of (App f args)) ∷ []) (placed_under k n path (terms.occurrences_from 1 (terms.row args))) a b c
-    (subst (λ (u : program.Term). Adds s (first (term_of u) ∷ []) a b) is h)
-    (subst (λ es. Adds s es b.found.items c) behind rest)))
-
--- ---- the entries of literals, and of clauses
-pub literals_step : (k : ℕ) (ls : List program_literal.Literal) (i : ℕ) (l : program_literal.Literal) → i < length ls → l ≡ get_or ls i l
-    → map (at_position k) (entries_from (i + 1) (map literal_of (drop i ls)))
-    ≡ map (at_position k) (literal_entries (i + 1) (literal_of l)) ++ map (at_position k) (entries_from (i + 1 + 1) (map literal_of (drop (i + 1) ls)))
-literals_step k ls i l h e =
-    let turn : i + 1 + 1 ≡ 1 + (i + 1) = omega arith in
-    ap (λ r. map (at_position k) (entries_from (i + 1) (map literal_of r))) (drop_more ls i l h)
-    ∙ ap (λ r. map (at_position k) (entries_from (i + 1) (literal_of r ∷ map literal_of (drop (i + 1) ls)))) (sym e)
-    ∙ map-append (at_position k) (literal_entries (i + 1) (literal_of l)) (entries_from (1 + (i + 1)) (map literal_of (drop (i + 1) ls)))
-    ∙ ap (λ m. map (at_position k) (literal_entries (i + 1) (literal_of l)) ++ map (at_position k) (entries_from m (map literal_of (drop (i + 1) ls)))) (sym turn)
-
-pub literals_end : (k n : ℕ) (ls : List program_literal.Literal) (i : ℕ) → length ls ≤ i → map (at_position k) (entries_from n (map literal_of (drop i ls))) ≡ []
-literals_end k n ls i h = ap (λ r. map (at_position k) (entries_from n (map literal_of r))) (drop_all i ls h)
-
+-- ---- lists that are passed one by one
 pub drop_got : (cs : List Clause) (i : ℕ) (c : Clause) → slice_get cs i ≡ Some c → drop i cs ≡ c ∷ drop (i + 1) cs
 drop_got [] zero c e = absurd (let wrong : None ≡ Some c = e in cc)
 drop_got [] (suc i) c e = absurd (let wrong : None ≡ Some c = e in cc)
@@ -232,47 +45,96 @@ drop_got (d ∷ cs) (suc i) c e = drop_got cs i c e ∙ ap (λ n. c ∷ drop n (
   later : suc (i + 1) ≡ suc i + 1
   later = omega arith
 
-pub clauses_step : (cs : List Clause) (i : ℕ) (c : Clause) → slice_get cs i ≡ Some c → entries_from_position i (drop i cs) ≡ map (at_position i) (entries c) ++ entries_from_position (i + 1) (drop (i + 1) cs)
-clauses_step cs i c e =
-    let turn : 1 + i ≡ i + 1 = omega arith in
-    ap (entries_from_position i) (drop_got cs i c e) ∙ ap (λ n. map (at_position i) (entries c) ++ entries_from_position n (drop (i + 1) cs)) turn
+drop_past : (passed rest : List Placed) (e : Placed) → drop (length passed + 1) (passed ++ e ∷ rest) ≡ rest
+drop_past [] rest e = refl
+drop_past (p ∷ passed) rest e =
+    let turn : suc (length passed) + 1 ≡ suc (length passed + 1) = omega arith in
+    ap (λ n. drop n ((p ∷ passed) ++ e ∷ rest)) turn ∙ drop_past passed rest e
 
-pub clauses_end : (cs : List Clause) (n i : ℕ) → length cs ≤ i → entries_from_position n (drop i cs) ≡ []
-clauses_end cs n i h = ap (entries_from_position n) (drop_all i cs h)
-
--- there are no more hits than entries
-pub hits_few : (kind : Relation) (p : Pattern) (es hs : List (ℕ × Placed)) → AreHits kind p es hs → length hs ≤ length es
-hits_few kind p [] hs h = omega (arith, ap length h)
-hits_few kind p (e ∷ es) hs h =
-    elim h [
-      | inl s ↦ omega (arith, ap length s.1.2, hits_few kind p es s.1.0 s.1.1)
-      | inr s ↦ omega (arith, hits_few kind p es hs s.1)
-    ]
-
-length_positions : (k : ℕ) (cs : List Clause) → length (entries_from_position k cs) ≡ length (state_entries cs)
-length_positions k [] = refl
-length_positions k (c ∷ cs) =
-    omega (
-      arith,
-      length-append (map (at_position k) (entries c)) (entries_from_position (1 + k) cs),
-      length-append (map (placed_in c) (entries c)) (state_entries cs),
-      length-map (entries c) (at_position k),
-      length-map (entries c) (placed_in c),
-      length_positions (1 + k) cs,
+-- what comes after others in what is left of a list
+pub given_at : (es passed rest : List Placed) (next number : ℕ) (e : Placed) → drop next es ≡ passed ++ e ∷ rest → number ≡ next + length passed
+    → (slice_get es number ≡ Some e) × (rest ≡ drop (number + 1) es)
+given_at es passed rest zero number e left is =
+    let here : number ≡ length passed = omega (arith, is) in (
+      ap (λ l. slice_get l number) left ∙ ap (slice_get (passed ++ e ∷ rest)) here ∙ get_here passed e rest,
+      sym (drop_past passed rest e) ∙ (λ i. drop (sym here i + 1) (sym left i)),
     )
+given_at [] passed rest (suc next) number e left is = absurd (not_empty passed e rest left)
+given_at (d ∷ es) passed rest (suc next) zero e left is = absurd (omega (arith, is))
+given_at (d ∷ es) passed rest (suc next) (suc number) e left is =
+    let h = given_at es passed rest next number e left (omega (arith, is)) in
+    let turn : suc (number + 1) ≡ suc number + 1 = omega arith in
+    (h.0, h.1 ∙ ap (λ n. drop n (d ∷ es)) turn)
 
-pub matches_few : (s : Search) (cs : List Clause) (ms : Matches) → Gathers s (entries_from_position 0 cs) ms → length ms.found.items ≤ length (state_entries cs)
-matches_few s cs ms h =
-    omega (
-      arith,
-      length-map ms.found.items hit_of,
-      hits_few s.relation (pattern_in s) (entries_from_position 0 cs) (map hit_of ms.found.items) h.hits,
-      length_positions 0 cs,
-    )
+zip_more : (R : Wanted → ℕ × Placed → Type 0) (ws : List Wanted) (hits : List (ℕ × Placed)) (i : ℕ) (d : Wanted) (hit : ℕ × Placed) → i < length ws → AllZip R (take i ws) hits → R (get_or ws i d) hit → AllZip R (take (i + 1) ws) (hits ++ hit ∷ [])
+zip_more R [] hits i d hit less h one = absurd (omega (arith, less))
+zip_more R (w ∷ ws) [] zero d hit less h one = (one, tt)
+zip_more R (w ∷ ws) (x ∷ hits) zero d hit less h one = absurd h
+zip_more R (w ∷ ws) [] (suc i) d hit less h one = absurd h
+zip_more R (w ∷ ws) (x ∷ hits) (suc i) d hit less h one =
+    let turn : suc (i + 1) ≡ suc i + 1 = omega arith in
+    subst (λ n. AllZip R (take n (w ∷ ws)) ((x ∷ hits) ++ hit ∷ [])) turn (h.0, zip_more R ws hits i d hit (omega (arith, less)) h.1 one)
 
--- all that was added to nothing was gathered
-pub gathered_all : (s : Search) (es : List (ℕ × Placed)) (ms : Matches) → Adds s es [] ms → Gathers s es ms
-gathered_all s es ms h = record { each = h.each; hits = subst (λ l. AreHits s.relation (pattern_in s) es (map hit_of l)) (sym h.appended) h.hits }
+-- ---- what stands at a place
+module _ (k : Kept) (w : Wanted) where
+  pub same_clause : (c d : Clause) → slice_get k.clauses w.position ≡ Some c → slice_get k.clauses w.position ≡ Some d → c ≡ d
+  same_clause c d a b = same_Some c d (sym a ∙ b)
+
+  one_hit : (a b : ℕ × Placed) → IsHitAt k w a → IsHitAt k w b → a.1 ≡ b.1
+  one_hit a b h g = same_Some a.1 b.1 (sym h.numbered ∙ ap (λ c. slice_get (entries c) w.entry) (same_clause h.clause g.clause h.there g.there) ∙ g.numbered)
+
+pub hit_stands : (s : Search) (w : Wanted) (hit : ℕ × Placed) → IsStandingAt s w → IsHitAt s.index.now w hit → Stands s.relation (pattern_in s) hit.1.entry
+hit_stands s w hit standing h = subst (λ (e : Placed). Stands s.relation (pattern_in s) e.entry) (one_hit s.index.now w standing.0 hit standing.1 h) standing.2
+
+pub hit_known : (s : Search) (w : Wanted) (hit : ℕ × Placed) → AllByRecursion (IsKnownClause (numbers_of s)) s.index.now.clauses → IsHitAt s.index.now w hit → IsKnownEntry (numbers_of s) hit.1.entry
+hit_known s w hit known h =
+    known_entry (numbers_of s) h.clause w.entry hit.1 (all_got (IsKnownClause (numbers_of s)) s.index.now.clauses w.position h.clause known h.there) h.numbered
+
+pub number_few : (s : Search) (w : Wanted) (hit : ℕ × Placed) → AllByRecursion (IsKnownClause (numbers_of s)) s.index.now.clauses → IsHitAt s.index.now w hit → w.entry < MOST_OCCURRENCES
+number_few s w hit known h =
+    let clause = all_got (IsKnownClause (numbers_of s)) s.index.now.clauses w.position h.clause known h.there in
+    omega (arith, few_entries h.clause clause.sound, slice_get_within (entries h.clause) w.entry hit.1 h.numbered)
+
+-- the entry that the walk comes to
+pub walk_given : (k : Kept) (walk : ClauseWalk) (rest : Entries) (w : Wanted) (e : program_entry.Entry) → IsWalk k walk → walk.next ≤ w.entry → GivesAfter (w.entry - walk.next) walk.entries rest (Some e)
+    → (slice_get (entries (clause_of walk.clause.now)) w.entry ≡ Some (record { entry = entry_of e; place = place_in rest })) × (left_of rest ≡ drop (w.entry + 1) (entries (clause_of walk.clause.now)))
+walk_given k walk rest w e h ahead gives =
+    given_at (entries (clause_of walk.clause.now)) gives.0 (left_of rest) walk.next w.entry (record { entry = entry_of e; place = place_in rest }) (sym h.left ∙ gives.2) (omega (arith, gives.1, ahead))
+
+-- ---- what isn't passed yet
+rise_after : (ws : List Wanted) (i : ℕ) (d : Wanted) → Rise ws → i < length ws → AllByRecursion (IsBefore (get_or ws i d)) (drop (i + 1) ws)
+rise_after [] i d rise less = absurd (omega (arith, less))
+rise_after (w ∷ ws) zero d rise less = rise.0
+rise_after (w ∷ ws) (suc i) d rise less =
+    let turn : suc (i + 1) ≡ suc i + 1 = omega arith in
+    subst (λ n. AllByRecursion (IsBefore (get_or ws i d)) (drop n (w ∷ ws))) turn (rise_after ws i d rise.1 (omega (arith, less)))
+
+pub ahead_first : (walk : ClauseWalk) (ws : List Wanted) → walk.next ≡ 0 → AllByRecursion (IsAhead walk) ws
+ahead_first walk ws start = all_from (IsAhead walk) ws (λ w a same. omega (arith, start))
+
+pub ahead_here : (walk : ClauseWalk) (ws : List Wanted) (i : ℕ) (d : Wanted) → i < length ws → AllByRecursion (IsAhead walk) (drop i ws) → IsAhead walk (get_or ws i d)
+ahead_here walk ws i d less ahead = (subst (AllByRecursion (IsAhead walk)) (drop_more ws i d less) ahead).0
+
+pub ahead_next : (walk : ClauseWalk) (ws : List Wanted) (i : ℕ) (d : Wanted) → i < length ws → Rise ws → walk.position ≡ (get_or ws i d).position → walk.next ≡ (get_or ws i d).entry + 1 → AllByRecursion (IsAhead walk) (drop (i + 1) ws)
+ahead_next walk ws i d less rise here next =
+    all_weaker (IsBefore (get_or ws i d)) (IsAhead walk) (drop (i + 1) ws)
+    (λ v before same. elim before [
+      | inl lower ↦ absurd (omega (arith, lower, here, same))
+      | inr both ↦ omega (arith, both.1, next)
+    ])
+    (rise_after ws i d rise less)
+
+-- ---- one more hit
+pub adds_hit : (k : Kept) (ws : List Wanted) (i : ℕ) (d : Wanted) (hit : ℕ × Placed) (old new : List (ℕ × Placed)) → i < length ws
+    → AllZip (IsHitAt k) (take i ws) old → IsHitAt k (get_or ws i d) hit → new ≡ old ++ hit ∷ [] → AllZip (IsHitAt k) (take (i + 1) ws) new
+adds_hit k ws i d hit old new less h at is = subst (AllZip (IsHitAt k) (take (i + 1) ws)) (sym is) (zip_more (IsHitAt k) ws old i d hit less h at)
+
+pub adds_match : (s : Search) (m : Match) (hit : ℕ × Placed) (old new : Matches) (found : List Match) → found ≡ old.found.items → new.found.items ≡ found ++ m ∷ [] → hit ≡ hit_of m
+    → AllByRecursion (IsMatch s new.lists.items) found → IsMatch s new.lists.items m → Adds s hit old new
+adds_match s m hit old new found same pushed is each match = record {
+  hits = ap (map hit_of) (pushed ∙ ap (λ l. l ++ m ∷ []) same) ∙ map-append hit_of old.found.items (m ∷ []) ∙ ap (λ h. map hit_of old.found.items ++ h ∷ []) (sym is);
+  each = subst (AllByRecursion (IsMatch s new.lists.items)) (sym pushed) (all_append (IsMatch s new.lists.items) found (m ∷ []) each (match, tt));
+}
 
 -- each hit has a solution
 pub hits_solved : (s : Search) (lists : List Solved) (ms : List Match) → AllByRecursion (IsMatch s lists) ms → AllByRecursion (λ (hit : ℕ × Placed). HasSolution s.relation (pattern_in s) hit.1.entry) (map hit_of ms)

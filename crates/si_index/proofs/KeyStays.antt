@@ -5,6 +5,9 @@ use Rattle.std.proofs.lemmas.List.{length-map}
 use Rattle.si_defs.specs.Clauses.{Name, Clause}
 use Rattle.si_defs.specs.Substitutions.{IsAmong, AreDistinct}
 use Rattle.si_state.specs.States.{limited_to}
+use Rattle.si_flat.specs.Cells.{Term}
+use Rattle.si_legal.specs.Trees.{Tree}
+use Rattle.si_held.specs.TwoTrees.{TwoTrees}
 use Rattle.si_term.specs.Meaning.{clause_of}
 use Rattle.si_term.specs.declared.clause.Clause as term
 use Rattle.si_keyed.specs.Keyed.{item_keys}
@@ -14,9 +17,16 @@ use Rattle.si_index.specs.Names.{key_of, ChangesName}
 use Rattle.si_index.specs.declared.names.Names.{Names}
 use Rattle.si_index.proofs.NameLaws.{name_either}
 
+-- trees of which nothing is said
+abbrev no_tree : Tree Term
+no_tree = record { nodes = []; root = 0; next = 0; vars = 0 }
+
+abbrev pub no_trees : TwoTrees
+no_trees = record { literals = no_tree; subterms = no_tree }
+
 -- items as they are seen in an index
 abbrev pub kept_as : List (ℕ × term.Clause) → Kept
-kept_as items = record { clauses = clauses_of items; keys = item_keys items; rules = limited_to 0; numbers = [] }
+kept_as items = record { clauses = clauses_of items; keys = item_keys items; rules = limited_to 0; numbers = []; trees = no_trees }
 
 pub are_keyed : (items : List (ℕ × term.Clause)) → AreDistinct (item_keys items) → AreKeyed (kept_as items)
 are_keyed items distinct = record {

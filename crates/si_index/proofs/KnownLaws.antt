@@ -24,7 +24,7 @@ use Rattle.si_sign.proofs.UsesOf.{among_numbering, numbering_among, uses_positiv
 use Rattle.si_keyed.specs.Keyed.{HasKey, HasKeyAt, IsTakenOut}
 use Rattle.si_index.specs.Kept.{KeysStay, clauses_of}
 use Rattle.si_index.specs.Names.{key_of, ChangesName}
-use Rattle.si_index.specs.Known.{AreNamed, IsKnownOf, IsPut, Admits, Enters, Leaves, Stays, Bars}
+use Rattle.si_index.specs.Known.{AreNamed, IsKnownOf, HasPut, Admits, Enters, Uncounts, Leaves, Stays, Bars}
 use Rattle.si_index.specs.Stored.{IsKept}
 use Rattle.si_index.specs.declared.known.Known.{Known}
 use Rattle.si_index.specs.declared.names.Names.{Names}
@@ -91,18 +91,18 @@ kept_stays rules old new items kept same = record {
 -- a clause that is put last
 module _ (rules : Rules) (old between : Known) (items more : List (ℕ × term.Clause)) (c : term.Clause) (names : Names) (good : IsSignature old.signature)
     (kept : IsKept rules items old) (sound : IsSoundClause (clause_of c)) (admits : Admits rules.entries old (clause_of c)) (enters : Enters (clause_of c) old between)
-    (put : IsPut c items more between.names names) where
+    (put : HasPut c items more between.names names) where
   clauses_more : clauses_of more ≡ clauses_of items ++ clause_of c ∷ []
-  clauses_more = ap clauses_of put.pushed ∙ map-append (λ p. clause_of p.1) items ((put.key, c) ∷ [])
+  clauses_more = ap clauses_of put.1.pushed ∙ map-append (λ p. clause_of p.1) items ((put.0, c) ∷ [])
 
   pub accepts_more : Accepts rules (clauses_of items) (clause_of c) (clauses_of more)
   accepts_more = subst (Accepts rules (clauses_of items) (clause_of c)) (sym clauses_more) (accepts rules items old (clause_of c) kept.is_known good sound admits)
 
   names_more : AreNamed more names
   names_more =
-      subst (λ l. AreNamed l names) (sym put.pushed)
-      (named_more items put.key c between.names names (subst (AreNamed items) (sym enters.names) kept.is_known.names) put.fresh
-      (ap (λ m. key_of m (name_of c.name)) enters.names ∙ admits.free) put.name)
+      subst (λ l. AreNamed l names) (sym put.1.pushed)
+      (named_more items put.0 c between.names names (subst (AreNamed items) (sym enters.names) kept.is_known.names) put.1.fresh
+      (ap (λ m. key_of m (name_of c.name)) enters.names ∙ admits.free) put.1.name)
 
   pub kept_more : IsKept rules more (record { names = names; signature = between.signature; entries = between.entries })
   kept_more =
@@ -149,7 +149,20 @@ module _ (rules : Rules) (old between : Known) (items more : List (ℕ × term.C
   keys_more =
       let free = ap (λ m. key_of m (name_of c.name)) enters.names ∙ admits.free in
       keys_stay items more between.names names (subst (AreNamed items) (sym enters.names) kept.is_known.names) names_more
-      (keys_through (name_of c.name) (Some put.key) (key_of between.names) (key_of names) put.name (inl free))
+      (keys_through (name_of c.name) (Some put.0) (key_of between.names) (key_of names) put.1.name (inl free))
+
+-- the same with other names
+pub known_with : (new between : Known) → new.signature ≡ between.signature → new.entries ≡ between.entries → record { names = new.names; signature = between.signature; entries = between.entries } ≡ new
+known_with new between signature counted = λ i. record { names = new.names; signature = sym signature i; entries = sym counted i }
+
+pub uncounted_as : (c : Clause) (between middle new : Known) → middle.signature ≡ between.signature → middle.entries ≡ between.entries → Uncounts c middle new → Uncounts c between new
+uncounted_as c between middle new signature counted undone = record {
+  uses = λ s. undone.uses s ∙ ap (λ g. uses_of g s) signature;
+  sum = undone.sum ∙ ap total signature;
+  entered = undone.entered ∙ counted;
+  signature = undone.signature;
+  numbers = subst (λ g. KeepsNumbers g new.signature) signature undone.numbers;
+}
 
 -- a clause that couldn't be put is struck out again
 -- a number that stays from one signature to the next, and from there on, stays

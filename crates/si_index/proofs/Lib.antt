@@ -1,3 +1,5 @@
+pub mod CountLaws
+pub mod EngineLaws
 pub mod EntryLaws
 pub mod KeptLaws
 mod SolvedLaws
@@ -10,6 +12,10 @@ mod KnownLaws
 mod NameLaws
 mod NamedLaws
 mod ScreenLaws
+pub mod OrderLaws
 pub mod ShownNames
+pub mod StandingLaws
 pub mod StoreLaws
 mod SubsumingLaws
+pub mod HeldClauses
+pub mod WantedLaws

@@ -1,5 +1,6 @@
 -- Laws of names that lead to the keys of their clauses.
-use Rattle.std.proofs.Common.{◌≡◌, ◌⊎◌, inl, inr, ℕ, List, [], ◌∷◌, ◌++◌, Some, None, refl, sym, ap, ◌∙◌, subst}
+use Rattle.std.proofs.Common.{◌≡◌, ◌⊎◌, inl, inr, ℕ, List, [], ◌∷◌, ◌++◌, Option, Some, None, IfSome, refl, sym, ap, ◌∙◌, subst}
+use Rattle.std.specs.Borrow.{Bor}
 use Rattle.std.proofs.lemmas.Option.{same_Some, none-some}
 use Rattle.si_defs.specs.Clauses as defs
 use Rattle.si_defs.specs.Substitutions.{IsAmong}
@@ -7,13 +8,13 @@ use Rattle.si_defs.proofs.ListLaws.{among_front, among_back, among_parts}
 use Rattle.si_state.specs.Acceptance.{IsTaken}
 use Rattle.si_term.specs.Meaning.{name_of}
 use Rattle.si_term.specs.declared.clause.Clause.{Clause}
-use Rattle.si_keyed.specs.Keyed.{HasKey}
+use Rattle.si_keyed.specs.Keyed.{HasKey, IsTakenOut}
 use Rattle.si_index.specs.Kept.{clauses_of}
 use Rattle.si_index.specs.Known.{AreNamed}
 use Rattle.si_index.specs.Names.{key_of, ChangesName}
 use Rattle.si_index.specs.declared.names.Names.{Names}
 use Rattle.si_index.proofs.NameLaws.{name_either}
-use Rattle.si_keyed.proofs.KeyLaws.{item_of, pushed_key, key_among}
+use Rattle.si_keyed.proofs.KeyLaws.{item_of, key_taken, pushed_item, pushed_key, key_among}
 
 -- ---- clauses by names
 pub among_taken : (items : List (ℕ × Clause)) (key : ℕ) (c : Clause) → IsAmong items (key, c) → IsTaken (clauses_of items) (name_of c.name)
@@ -117,3 +118,25 @@ named_stays items old new are same = record {
   named = λ n k h. are.named n k (sym (same n) ∙ h);
   listed = λ k c among. same (name_of c.name) ∙ are.listed k c among;
 }
+
+-- ---- the clause that was put
+pub put_item : (items more : List (ℕ × Clause)) (key : ℕ) (c : Clause) (found : Option (Bor Clause)) (kept : Bor Clause) → (HasKey items key → ⊥)
+    → more ≡ items ++ (key, c) ∷ [] → found ≡ Some kept → IfSome found (λ item. IsAmong {V = ℕ × Clause} more (key, item.now)) → kept.now ≡ c
+put_item items more key c found kept fresh pushed is among =
+    pushed_item items key c kept.now fresh
+    (subst (λ l. IsAmong {V = ℕ × Clause} l (key, kept.now)) pushed (subst (λ r. IfSome r (λ item. IsAmong {V = ℕ × Clause} more (key, item.now))) is among))
+
+pub put_taken : (items more : List (ℕ × Clause)) (key : ℕ) (c back : Clause) (rest : List (ℕ × Clause)) → (HasKey items key → ⊥) → more ≡ items ++ (key, c) ∷ [] → IsTakenOut more key back rest → back ≡ c
+put_taken items more key c back rest fresh pushed taken =
+    pushed_item items key c back fresh (subst (λ l. IsAmong {V = ℕ × Clause} l (key, back)) pushed (key_taken more key back rest taken))
+
+-- its name is taken out again
+pub name_gone : (c d : Clause) (key : ℕ) (old between new : defs.Name → Option ℕ) → d ≡ c → old (name_of c.name) ≡ None → ChangesName (name_of c.name) (Some key) old between
+    → ChangesName (name_of d.name) None between new → (name : defs.Name) → new name ≡ old name
+name_gone c d key old between new same free came went name = by (name_either name (name_of c.name)) where
+  gone : ChangesName (name_of c.name) None between new
+  gone = subst (λ (e : Clause). ChangesName (name_of e.name) None between new) same went
+
+  by : (name ≡ name_of c.name) ⊎ (name ≡ name_of c.name → ⊥) → new name ≡ old name
+  by (inl e) = ap new e ∙ gone.here ∙ sym free ∙ sym (ap old e)
+  by (inr apart) = gone.others name apart ∙ came.others name apart

@@ -39,6 +39,7 @@ pub record Finding : Type 0 where
   pub relation : Relation
   pub pattern : Pattern
   pub hits : List (ℕ × Placed)
+  pub passed : ℕ
 
 abbrev term_code : Coded Term
 term_code = coded_term symbol_code (coded_list coded_ℕ)
@@ -81,12 +82,18 @@ placed_code =
 
 abbrev pub finding_code : Coded Finding
 finding_code =
-    code_by (Kept × (Relation × (Pattern × List (ℕ × Placed))))
+    code_by (Kept × (Relation × (Pattern × (List (ℕ × Placed) × ℕ))))
     (coded× kept_code
     (coded× relation_contracts.the_row.coded
-    (coded× pattern_code (coded_list (coded× coded_ℕ placed_code)))))
-    (λ f. (f.index, (f.relation, (f.pattern, f.hits))))
-    (λ p. record { index = p.0; relation = p.1.0; pattern = p.1.1.0; hits = p.1.1.1 })
+    (coded× pattern_code (coded× (coded_list (coded× coded_ℕ placed_code)) coded_ℕ))))
+    (λ f. (f.index, (f.relation, (f.pattern, (f.hits, f.passed)))))
+    (λ p. record {
+      index = p.0;
+      relation = p.1.0;
+      pattern = p.1.1.0;
+      hits = p.1.1.1.0;
+      passed = p.1.1.1.1;
+    })
     (λ _. refl)
 
 -- the clause of the hit with this number

@@ -1,12 +1,18 @@
 -- What an index is seen as: the clauses that are kept, in the order of acceptance, each with its
--- key, the rules by which they were accepted, and the numbers of their symbols.
-use Rattle.std.specs.Prelude.{◌≡◌, ℕ, List, [], ◌∷◌, Some, refl, length, map, slice_get}
+-- key, the rules by which they were accepted, the numbers of their symbols, and two trees of their
+-- entries.
+use Rattle.std.specs.Prelude.{◌≡◌, ◌↔◌, ℕ, true, List, [], ◌∷◌, Some, refl, length, map, slice_get}
 use Rattle.std.specs.Coded.{Coded, code_by, coded×, coded_ℕ, coded_list}
 use Rattle.si_defs.specs.Symbols.{Symbol, Numbering}
 use Rattle.si_defs.specs.Clauses.{Clause}
+use Rattle.si_defs.specs.Entries.{state_symbols}
+use Rattle.si_flat.specs.Flattened.{has_number}
 use Rattle.si_defs.specs.Substitutions.{IsAmong, AreDistinct}
 use Rattle.si_defs.specs.Codes.{symbol_code, clause_code}
 use Rattle.si_state.specs.States.{Rules, rules_code}
+use Rattle.si_held.specs.TwoTrees.{TwoTrees, Hold}
+use Rattle.si_tree.specs.NewTrees.{IsRootAlone}
+use Rattle.si_forest.specs.Codes.{two_trees_code}
 use Rattle.si_term.specs.Meaning.{clause_of}
 use Rattle.si_term.specs.declared.clause.Clause as term
 
@@ -15,16 +21,23 @@ pub record Kept : Type 0 where
   pub keys : List ℕ
   pub rules : Rules
   pub numbers : Numbering
+  pub trees : TwoTrees
 
 abbrev pub kept_code : Coded Kept
 kept_code =
     code_by
-    (List Clause × (List ℕ × (Rules × List (Symbol × ℕ))))
+    (List Clause × (List ℕ × (Rules × (List (Symbol × ℕ) × TwoTrees))))
     (coded× (coded_list clause_code)
     (coded× (coded_list coded_ℕ)
-    (coded× rules_code (coded_list (coded× symbol_code coded_ℕ)))))
-    (λ k. (k.clauses, (k.keys, (k.rules, k.numbers))))
-    (λ p. record { clauses = p.0; keys = p.1.0; rules = p.1.1.0; numbers = p.1.1.1 })
+    (coded× rules_code (coded× (coded_list (coded× symbol_code coded_ℕ)) two_trees_code))))
+    (λ k. (k.clauses, (k.keys, (k.rules, (k.numbers, k.trees)))))
+    (λ p. record {
+      clauses = p.0;
+      keys = p.1.0;
+      rules = p.1.1.0;
+      numbers = p.1.1.1.0;
+      trees = p.1.1.1.1;
+    })
     (λ _. refl)
 
 -- each clause has a key, and no two have the same
@@ -40,6 +53,24 @@ paired (k ∷ ks) (c ∷ cs) = (k, c) ∷ paired ks cs
 
 abbrev pub kept_clauses : Kept → List (ℕ × Clause)
 kept_clauses k = paired k.keys k.clauses
+
+-- exactly the symbols of these clauses have numbers
+abbrev pub NumbersExactly : Numbering → List Clause → Type 0
+NumbersExactly numbers clauses =
+    (s : Symbol) → (has_number numbers s ≡ true) ↔ IsAmong (state_symbols clauses) s
+
+-- the trees hold the entries of exactly the kept clauses
+abbrev pub TreesHold : Kept → Type 0
+TreesHold k = Hold k.numbers (kept_clauses k) k.trees
+
+-- nothing is kept, and each tree is the root alone
+pub record IsEmpty (rules : Rules) (k : Kept) : Type 0 where
+  pub no_clauses : k.clauses ≡ []
+  pub no_keys : k.keys ≡ []
+  pub no_numbers : k.numbers ≡ []
+  pub ruled : k.rules ≡ rules
+  pub literals : IsRootAlone k.trees.literals
+  pub subterms : IsRootAlone k.trees.subterms
 
 -- the clause is kept by this key
 abbrev pub IsKeptBy : Kept → ℕ → Clause → Type 0

@@ -34,13 +34,16 @@ pub record IsKnownOf (items : List (ℕ × term.Clause)) (known : Known) : Type 
   pub used : total known.signature ≡ length (state_symbols (clauses_of items))
   pub counted : known.entries ≡ length (state_entries (clauses_of items))
 
--- the clause is put last, and its name leads to its key
-pub record IsPut (clause : term.Clause) (items new : List (ℕ × term.Clause))
+-- the clause is put last by this key, and its name leads to it
+pub record IsPut (key : ℕ) (clause : term.Clause) (items new : List (ℕ × term.Clause))
     (old names : Names) : Type 0 where
-  pub key : ℕ
   pub fresh : HasKey items key → ⊥
   pub pushed : new ≡ items ++ (key, clause) ∷ []
   pub name : ChangesName (name_of clause.name) (Some key) (key_of old) (key_of names)
+
+abbrev pub HasPut : term.Clause → (items new : List (ℕ × term.Clause)) → (old names : Names)
+    → Type 0
+HasPut clause items new old names = (key : ℕ) × IsPut key clause items new old names
 
 -- the clause may be entered, with this limit on entries
 pub record Admits (limit : ℕ) (known : Known) (clause : Clause) : Type 0 where

@@ -1,5 +1,8 @@
+pub mod Explaining
+pub mod Engines
 pub mod Finding
 pub mod Fitting
+pub mod Gathering
 pub mod Kept
 pub mod Known
 pub mod Names

@@ -1,6 +1,5 @@
--- A search through the entries of clauses: what it is made of, what it asks of the entries, and
--- what it has gathered.
-use Rattle.std.specs.Prelude.{◌≡◌, ℕ, ◌≤◌, List, [], ◌∷◌, ◌++◌, length, map, Option, Some, None, slice_get}
+-- A search for entries: what it is made of, what it asks of them, and what it has gathered.
+use Rattle.std.specs.Prelude.{◌≡◌, ℕ, ◌≤◌, List, length, map, Option, Some, None, slice_get}
 use Rattle.std.specs.List.{AllByRecursion}
 use Rattle.si_defs.specs.Bytes.{Bytes}
 use Rattle.si_defs.specs.Terms.{size, sizes, symbols, symbols_of_all}
@@ -20,12 +19,10 @@ use Rattle.si_form.specs.Answers.{StandsForList}
 use Rattle.si_form.specs.Numberings.{variable_by, list_by, symbols_of}
 use Rattle.si_form.specs.SolutionParts.{IsBindingOf}
 use Rattle.si_form.specs.TableNumbers.{HaveNumbers}
-use Rattle.si_index.specs.Finding.{AreHits}
 use Rattle.si_index.specs.declared.search.Search.{Search}
 use Rattle.si_index.specs.declared.search.Solved.{Solved}
 use Rattle.si_index.specs.declared.gather.Match.{Match}
 use Rattle.si_index.specs.declared.gather.Matches.{Matches}
-use Rattle.si_index.specs.declared.gather.Spot.{Spot}
 
 -- ---- what is searched for
 abbrev pub numbers_of : Search → Numbering
@@ -38,11 +35,6 @@ pub record IsReady (s : Search) : Type 0 where
   pub numbering : IsNumbering (numbers_of s)
   pub sound : IsSoundPattern (pattern_in s)
   pub flat : FlattensPattern (numbers_of s) (pattern_in s) s.query
-
--- the pattern is a term
-abbrev pub IsTermPattern : Pattern → Type 0
-IsTermPattern (literal_pattern l) = ⊥
-IsTermPattern (term_pattern t) = Unit {0}
 
 -- only literals of one sign are compared, and terms with terms
 abbrev pub AreAlike : Pattern → Entry → Type 0
@@ -98,28 +90,19 @@ pub record SolvesIn (s : Search) (e : Entry) (solved : Solved) : Type 0 where
       (pattern_in s) e solved.solution
   pub are_names : map (λ name. name.now) solved.entry_names.items ≡ distinct_variables e
 
-abbrev pub AnswersIn : Search → Entry → Option Solved → Type 0
-AnswersIn s e None = Stands s.relation (pattern_in s) e → ⊥
-AnswersIn s e (Some solved) = SolvesIn s e solved
-
 -- ---- what was gathered
 -- the clause stands at this position of the index
 abbrev pub IsThere : Search → ℕ → Clause → Type 0
 IsThere s position c = slice_get s.index.now.clauses position ≡ Some c
 
-abbrev pub IsSpot : Search → Spot → Type 0
-IsSpot s spot = IsThere s spot.position (clause_of spot.clause.now)
-
--- the list with this number solves the entry; where there is no number, the entry doesn't stand in
--- the relation
-abbrev pub HasList : Search → Entry → (lists : List Solved) → Option ℕ → Type 0
-HasList s e lists None = Stands s.relation (pattern_in s) e → ⊥
-HasList s e lists (Some n) =
+-- the list with this number solves the entry
+abbrev pub HasList : Search → Entry → (lists : List Solved) → ℕ → Type 0
+HasList s e lists n =
     (solved : Solved) × slice_get lists n ≡ Some solved × SolvesIn s e solved
 
 -- an entry that stands in the relation, with the number of its list, and the clause of its position
 pub record IsMatch (s : Search) (lists : List Solved) (m : Match) : Type 0 where
-  pub list : HasList s (entry_of m.entry) lists (Some m.list)
+  pub list : HasList s (entry_of m.entry) lists m.list
   pub there : IsThere s m.hit.clause (clause_of m.clause.now)
 
 abbrev pub AreMatches : Search → Matches → Type 0
@@ -128,36 +111,6 @@ AreMatches s ms = AllByRecursion (IsMatch s ms.lists.items) ms.found.items
 -- the match as a hit
 abbrev pub hit_of : Match → ℕ × Placed
 hit_of m = (m.hit.clause, record { entry = entry_of m.entry; place = place_of m.hit.place })
-
--- those of these entries were added that stand in the relation
-pub record Adds (s : Search) (es : List (ℕ × Placed)) (old : List Match)
-    (new : Matches) : Type 0 where
-  pub more : List Match
-  pub appended : new.found.items ≡ old ++ more
-  pub each : AreMatches s new
-  pub hits : AreHits s.relation (pattern_in s) es (map hit_of more)
-
--- those of these entries were found that stand in the relation
-pub record Gathers (s : Search) (es : List (ℕ × Placed)) (ms : Matches) : Type 0 where
-  pub each : AreMatches s ms
-  pub hits : AreHits s.relation (pattern_in s) es (map hit_of ms.found.items)
-
--- an entry at the end of a path in a literal
-abbrev pub placed_at : Spot → (path : List ℕ) → Entry → ℕ × Placed
-placed_at spot path e =
-    (spot.position, record { entry = e; place = record { literal = spot.literal; path = path } })
-
--- subterms of the literal with this number, each at the end of a path
-abbrev pub placed_under : ℕ → ℕ → List ℕ → List (List ℕ × Term) → List (ℕ × Placed)
-placed_under position number path [] = []
-placed_under position number path (o ∷ os) = (
-  position,
-  record {
-    entry = term_entry o.1;
-    place = record { literal = number; path = path ++ o.0 };
-  },
-)
-    ∷ placed_under position number path os
 
 -- what was found in an index: no more than its clauses may have
 pub record IsFound (s : Search) (query_names : List Bytes) (ms : Matches) : Type 0 where

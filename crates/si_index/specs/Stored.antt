@@ -1,15 +1,38 @@
--- What holds of an index: its clauses are stored by its rules, and their names and symbols are
--- known.
-use Rattle.std.specs.Prelude.{ℕ, ◌≤◌, List}
+-- What holds of an index: its clauses are stored by its rules, their names and symbols are known,
+-- and two trees hold their entries.
+use Rattle.std.specs.Prelude.{◌≡◌, ℕ, ◌≤◌, List, [], map, None}
+use Rattle.si_defs.specs.Clauses.{Clause, IsSoundClause}
+use Rattle.si_defs.specs.Entries.{clause_symbols}
 use Rattle.si_defs.specs.declared.TheConstants.{MOST_OCCURRENCES}
 use Rattle.si_state.specs.States.{Rules}
+use Rattle.si_state.specs.Signatures.{numbering}
+use Rattle.si_term.specs.Meaning.{clause_of, name_of}
+use Rattle.si_flat.specs.Flattened.{unnumbered}
 use Rattle.si_term.specs.declared.clause.Clause as term
+use Rattle.si_held.specs.TwoTrees.{TwoTrees, Hold}
 use Rattle.si_sign.specs.Stores.{IsStored}
 use Rattle.si_index.specs.Kept.{clauses_of}
 use Rattle.si_index.specs.Known.{IsKnownOf}
+use Rattle.si_index.specs.Names.{key_of}
 use Rattle.si_index.specs.declared.known.Known.{Known}
 
 pub record IsKept (rules : Rules) (items : List (ℕ × term.Clause)) (known : Known) : Type 0 where
   pub small : rules.entries ≤ MOST_OCCURRENCES
   pub stored : IsStored rules (clauses_of items)
   pub is_known : IsKnownOf items known
+
+-- the clauses of a list, each by its key
+abbrev pub keyed_clauses : List (ℕ × term.Clause) → List (ℕ × Clause)
+keyed_clauses items = map (λ p. (p.0, clause_of p.1)) items
+
+abbrev pub AreHeld : List (ℕ × term.Clause) → Known → TwoTrees → Type 0
+AreHeld items known trees = Hold (numbering known.signature) (keyed_clauses items) trees
+
+-- The clause may be put beside these: its symbols have numbers, its name is free, and two trees hold
+-- the others' entries.
+pub record MayKeep (clause : term.Clause) (items : List (ℕ × term.Clause)) (known : Known)
+    (trees : TwoTrees) : Type 0 where
+  pub sound : IsSoundClause (clause_of clause)
+  pub numbered : unnumbered (numbering known.signature) (clause_symbols (clause_of clause)) ≡ []
+  pub free : key_of known.names (name_of clause.name) ≡ None
+  pub held : AreHeld items known trees

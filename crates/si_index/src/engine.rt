@@ -9,6 +9,7 @@ ghost use Rattle.si_legal.specs.declared.Posting as posting;
 
 use si_defs::Relation;
 use si_flat::Flat;
+use si_forest::Trees;
 use si_legal::Posting;
 use std::alloc::AllocError;
 
@@ -21,8 +22,8 @@ pub trait Engine {
     /// Whether the posting is one of the answers.
     ghost answers: { Self → Bool → relation.Relation → List cell.Cell → posting.Posting → Type 0 };
 
-    /// What the engine counts at a question.
-    ghost count: { Self → Bool → relation.Relation → List cell.Cell → ℕ };
+    /// Whether the engine counts so much at a question.
+    ghost count: { Self → Bool → relation.Relation → List cell.Cell → ℕ → Type 0 };
 
     /// Appends the answers, each once, and answers the count. At an error `out` is as before.
     fn ask(
@@ -35,6 +36,29 @@ pub trait Engine {
         requires { AreNumbered Query query.now }
         ensures answers { OnOk result (AppendsAnswers (answers self.now literal kind query.now)
             out.old.items out.new.items) }
-        ensures count { IfOk result (λ n. n ≡ count self.now literal kind query.now) }
+        ensures count { IfOk result (count self.now literal kind query.now) }
         ensures err { OnErr result (out.new.items ≡ out.old.items) };
+}
+
+/// The trees answer with the postings that are stored under terms in the relation to the query, and
+/// count the nodes that are open for it.
+impl Engine for Trees {
+    ghost use Rattle.si_index.specs.Engines.{IsStoredFor, CountsNodes};
+
+    ghost answers = { λ trees literal relation query posting.
+        IsStoredFor trees literal relation query posting };
+
+    ghost count = { λ trees literal relation query n. CountsNodes trees literal relation query n };
+
+    fn ask(
+        &self,
+        literal: bool,
+        kind: Relation,
+        query: &Flat,
+        out: &mut Vec<Posting>,
+    ) -> Result<u64, AllocError> {
+        // So its cells are known to be those of a term.
+        query.cells();
+        self.retrieve(literal, kind, query, out)
+    }
 }

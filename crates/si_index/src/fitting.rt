@@ -1,72 +1,40 @@
-// Whether the symbols of two terms allow a relation.
+// Whether the symbols of two terms allow that a substitution takes the one to the other.
 ghost use Rattle.std.specs.Prelude.{◌≡◌, IsFalse, map};
 ghost use Rattle.si_defs.specs.Symbols.{same_symbol};
 ghost use Rattle.si_defs.specs.Terms.{row};
+ghost use Rattle.si_defs.specs.Variables.{Solution};
 ghost use Rattle.si_term.specs.Terms.{symbol_of, term_of};
-ghost use Rattle.si_form.specs.Numberings.{TextsRelate};
-ghost use Rattle.si_index.specs.Fitting.{Witness, Becomes, BecomeAll, KeepsQuery, KeepsEntry};
+ghost use Rattle.si_index.specs.Fitting.{Takes, TakesAll};
 
-use si_defs::Relation;
 use si_term::{Sym, Term};
 
-/// `false` only where the terms don't stand in the relation. Both are walked over, as far as
-/// variables of either, and no memory is taken.
-pub(crate) fn fits(relation: Relation, query: &Term, term: &Term) -> bool
-    ensures { IsFalse result
-        → TextsRelate relation (term_of query.now) (term_of term.now) → ⊥ }
-{
-    may_become(relation, query, term)
-}
-
-/// `false` only where no substitutions make the terms stand in the relation.
+/// `false` only where no substitution takes the term to the other. Both are walked over, as far as
+/// variables of the first, and no memory is taken.
 #[cycle(fitting)]
-pub(crate) fn may_become(relation: Relation, query: &Term, term: &Term) -> bool
-    ensures { IsFalse result → (w : Witness)
-        → Becomes relation w (term_of query.now) (term_of term.now) → ⊥ }
+pub(crate) fn may_become(term: &Term, target: &Term) -> bool
+    ensures { IsFalse result → (s : Solution)
+        → Takes s (term_of term.now) (term_of target.now) → ⊥ }
 {
-    match (query, term) {
-        (Term::App(wanted, queries), Term::App(symbol, terms)) => {
-            is_same_symbol(wanted, symbol)
-                && all_may_become(relation, queries.as_slice(), terms.as_slice())
+    match (term, target) {
+        (Term::App(symbol, terms), Term::App(other, targets)) => {
+            is_same_symbol(symbol, other) && all_may_become(terms.as_slice(), targets.as_slice())
         }
-        (Term::Var(_), Term::App(_, _)) => binds_query(relation),
-        (Term::App(_, _), Term::Var(_)) => binds_entry(relation),
-        (Term::Var(_), Term::Var(_)) => true,
+        (Term::App(_, _), Term::Var(_)) => false,
+        (Term::Var(_), _) => true,
     }
 }
 
 #[cycle(fitting)]
-fn all_may_become(relation: Relation, queries: &[Term], terms: &[Term]) -> bool
-    ensures { IsFalse result → (w : Witness)
-        → BecomeAll relation w (row (map term_of queries.now)) (row (map term_of terms.now))
-        → ⊥ }
+fn all_may_become(terms: &[Term], targets: &[Term]) -> bool
+    ensures { IsFalse result → (s : Solution)
+        → TakesAll s (row (map term_of terms.now)) (row (map term_of targets.now)) → ⊥ }
 {
-    for i in 0..queries.len().min(terms.len()) {
-        if !may_become(relation, &queries[i], &terms[i]) {
+    for i in 0..terms.len().min(targets.len()) {
+        if !may_become(&terms[i], &targets[i]) {
             return false;
         }
     }
     true
-}
-
-/// `false` only where no variable of the pattern stands for an application.
-fn binds_query(relation: Relation) -> bool
-    ensures { IsFalse result → KeepsQuery relation }
-{
-    match relation {
-        Relation::Instances | Relation::Unifiable => true,
-        Relation::Generalizations | Relation::Variants => false,
-    }
-}
-
-/// `false` only where none of the entry does.
-fn binds_entry(relation: Relation) -> bool
-    ensures { IsFalse result → KeepsEntry relation }
-{
-    match relation {
-        Relation::Generalizations | Relation::Unifiable => true,
-        Relation::Instances | Relation::Variants => false,
-    }
 }
 
 /// Whether two symbols are equal. It is inlined into the walks over terms.

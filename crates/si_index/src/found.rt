@@ -4,10 +4,13 @@ ghost use Rattle.std.specs.List.{AllByRecursion};
 ghost use Rattle.si_defs.specs.Clauses.{IsSoundPattern};
 ghost use Rattle.si_term.specs.Terms.{symbol_of};
 ghost use Rattle.si_term.specs.Meaning.{clause_of, pattern_of, place_of};
+ghost use Rattle.si_index.specs.Engines as engines;
 
-use crate::gather::{Matches, search_clauses};
+use crate::engine::Engine;
+use crate::gather::{Matches, gather};
 use crate::index::Index;
 use crate::search::Search;
+use crate::wanted::in_order;
 use si_defs::Relation;
 use si_flat::flatten_pattern;
 use si_form::Solution;
@@ -47,12 +50,14 @@ pub struct Lent<'a, 'b> {
     pub extra: &'b Syms,
 }
 
-/// The entries that stand in a relation to a pattern, in the order of acceptance and of entries.
+/// The entries that stand in a relation to a pattern, in the order of acceptance and of entries,
+/// and what the engine that found them counted.
 #[derive(Drop)]
 pub struct Found<'a> {
     search: Search<'a>,
     query_names: Texts,
     matches: Matches<'a>,
+    passed: u64,
 }
 
 impl<'a> Model for Found<'a> {
@@ -71,6 +76,7 @@ impl<'a> Model for Found<'a> {
       relation = f.search.relation;
       pattern = pattern_of f.search.pattern.now;
       hits = map hit_of f.matches.found.items;
+      passed = f.passed;
     } };
 
     ghost use Rattle.si_index.specs.Searching.{IsFound};
@@ -88,6 +94,13 @@ impl<'a> Found<'a> {
         ensures { result ≡ length self.now.hits }
     {
         self.matches.found.len() as u32
+    }
+
+    /// What the engine counted.
+    pub fn passed(&self) -> u64
+        ensures { result ≡ self.now.passed }
+    {
+        self.passed
     }
 
     /// The hit with this number from 0.
@@ -150,46 +163,65 @@ fn copy_symbols(alloc: Global, symbols: &Syms) -> Result<Syms, AllocError>
     Ok(copies)
 }
 
-impl Index {
-    ghost use Rattle.si_index.specs.Finding.{AreHits, entries_from_position};
-    ghost use Rattle.si_index.specs.Searching.{HasSolution};
+/// Whether literals are asked for.
+pub(crate) fn asks_literals(pattern: &Pattern) -> bool
+    ensures { result ≡ engines.asks_literals (pattern_of pattern.now) }
+{
+    match pattern {
+        Pattern::Lit(_) => true,
+        Pattern::Term(_) => false,
+    }
+}
 
-    /// The kept entries that stand in the relation to the pattern. Those of a literal pattern are
-    /// the literals of its sign, by their atoms, and those of a term the subterms.
+impl Index {
+    ghost use Rattle.si_index.specs.Searching.{HasSolution};
+    ghost use Rattle.si_index.specs.Engines.{AnswersStanding, Finds};
+
+    /// The entries of what the engine answers to the pattern, in the order of acceptance and of
+    /// entries, each with its canonical list.
     ///
-    /// All clauses are walked over once. Memory is taken for hits with their lists and names, and
-    /// for entries whose symbols allow the relation.
-    pub fn find<'a>(
+    /// The engine is asked once, among literals for a literal pattern, and else among subterms.
+    /// Each clause that has hits is walked through once.
+    pub fn find<'a, E: Engine>(
         &'a self,
+        engine: &E,
         relation: Relation,
         pattern: &'a Pattern,
     ) -> Result<Found<'a>, AllocError>
-        requires { IsSoundPattern (pattern_of pattern.now) }
+        requires sound { IsSoundPattern (pattern_of pattern.now) }
+        requires standing { AnswersStanding (E.answers engine.now) self.now relation
+            (pattern_of pattern.now) }
         ensures index { IfOk result (λ f. f.index ≡ self.now) }
         ensures relation { IfOk result (λ f. f.relation ≡ relation) }
         ensures pattern { IfOk result (λ f. f.pattern ≡ pattern_of pattern.now) }
-        ensures hits { IfOk result (λ f. AreHits relation (pattern_of pattern.now)
-            (entries_from_position 0 self.now.clauses) f.hits) }
+        ensures hits { IfOk result (λ f. Finds (E.answers engine.now) (E.count engine.now)
+            self.now relation (pattern_of pattern.now) f.hits f.passed) }
         ensures solved { IfOk result (λ f. AllByRecursion
             (λ hit. HasSolution relation (pattern_of pattern.now) hit.1.entry) f.hits) }
     {
         let alloc = self.allocator();
         let stats = self.stats();
         let signature = self.signature();
+        let query = flatten_pattern(alloc, signature, pattern)?;
+        let mut postings = Vec::new(alloc);
+        let passed = engine.ask(asks_literals(pattern), relation, &query.flat, &mut postings)?;
+        let wanted = in_order(self, postings.as_slice())?;
         let search = Search {
             alloc,
             index: self,
             signature,
             relation,
             pattern,
-            query: flatten_pattern(alloc, signature, pattern)?,
+            query,
         };
         let query_names = vars_of(alloc, pattern.as_entry())?;
-        let matches = search_clauses(&search, stats.clauses)?;
+        let matches = gather(&search, wanted.as_slice())?;
+        prove!(matches.found.len() as u64 <= stats.entries);
         Ok(Found {
             search,
             query_names,
             matches,
+            passed,
         })
     }
 }

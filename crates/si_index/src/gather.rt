@@ -1,21 +1,20 @@
-// The walk through the entries of clauses, which gathers those that stand in a relation.
-ghost use Rattle.std.specs.Prelude.{◌≡◌, ◌<◌, ◌+◌, [], ◌∷◌, ◌++◌, IfOk, OnOk, map, length};
-ghost use Rattle.std.specs.List.{AllByRecursion};
+// The entries that an engine answered, each with its place and its list.
+ghost use Rattle.std.specs.Prelude.{◌≡◌, ◌<◌, ◌+◌, IfOk, OnOk, map, length};
+ghost use Rattle.std.specs.List.{AllByRecursion, AllZip};
 ghost use Rattle.si_defs.specs.Substitutions.{Grows};
-ghost use Rattle.si_defs.specs.Terms.{row, occurrences, occurrences_from};
-ghost use Rattle.si_defs.specs.Clauses.{literal_pattern};
-ghost use Rattle.si_defs.specs.Entries.{literal_entry, literal_entries, entries};
-ghost use Rattle.si_defs.specs.declared.TheConstants.{MOST_OCCURRENCES};
-ghost use Rattle.si_term.specs.Terms.{term_of};
-ghost use Rattle.si_term.specs.Meaning.{literal_of, clause_of, entry_of};
-ghost use Rattle.si_index.specs.Finding.{at_position, entries_from_position};
-ghost use Rattle.si_index.specs.Searching.{numbers_of, pattern_in, IsReady, IsTermPattern, IsSpot, IsThere, AreAlike, IsKnownTerm, AreKnownTerms, IsKnownEntry, IsKnownClause, HasList, AreMatches, Adds, Gathers, placed_at, placed_under};
+ghost use Rattle.si_term.specs.Meaning.{entry_of};
+ghost use Rattle.si_state.specs.Answers.{Stands};
+ghost use Rattle.si_entries.specs.Walks.{place_in};
+ghost use Rattle.si_index.specs.Searching.{numbers_of, pattern_in, IsReady, IsKnownEntry, IsKnownClause, HasList, AreMatches, hit_of};
+ghost use Rattle.si_index.specs.Gathering.{Rise, IsAhead, IsHitAt, IsStandingAt, IsWalk, Adds};
 
 use crate::found::Hit;
 use crate::same::is_same_entry;
 use crate::search::{Search, Solved, Workspace};
-use si_term::{Clause, Entry, Literal, Path, Pattern, Place, Term};
-use std::alloc::{AllocError, Global};
+use crate::wanted::Wanted;
+use si_entries::Entries;
+use si_term::{Clause, Entry};
+use std::alloc::AllocError;
 
 /// An entry that was found: where it stands, its clause, and the number of its list.
 #[derive(Drop)]
@@ -26,7 +25,7 @@ pub(crate) struct Match<'a> {
     pub(crate) list: usize,
 }
 
-/// The entries that were found, and their lists. Those that are the same, one behind the other,
+/// The entries that were found, and their lists. Those that are the same, one after the other,
 /// share a list.
 #[derive(Drop)]
 pub(crate) struct Matches<'a> {
@@ -34,97 +33,135 @@ pub(crate) struct Matches<'a> {
     pub(crate) lists: Vec<Solved<'a>>,
 }
 
-/// What a walk has gathered, the argument numbers from 1 that lead from the atom to where it
-/// stands, and the memory that it works in.
+/// What was gathered, and the memory that it works in.
 #[derive(Drop)]
 struct Gathered<'a> {
     workspace: Workspace<'a>,
-    path: Vec<u32>,
     matches: Matches<'a>,
 }
 
-/// A literal, by its clause, the position of that from 0, and its own number from 1.
-#[derive(Clone, Copy)]
-struct Spot<'a> {
-    clause: &'a Clause,
+/// A walk through the entries of a clause.
+#[derive(Drop)]
+struct ClauseWalk<'a> {
     position: u32,
-    literal: u32,
+    clause: &'a Clause,
+    entries: Entries<'a>,
+    /// The number of the entry that comes next.
+    next: u32,
 }
 
-/// Adds an entry if it stands in the relation. Most don't, by their symbols.
-fn try_entry<'a>(
-    search: &Search<'a>,
-    spot: Spot<'a>,
-    entry: Entry<'a>,
-    gathered: &mut Gathered<'a>,
-) -> Result<(), AllocError>
-    requires ready { IsReady search.now }
-    requires spot { IsSpot search.now spot }
-    requires known { IsKnownEntry (numbers_of search.now) (entry_of entry) }
-    requires alike { AreAlike (pattern_in search.now) (entry_of entry) }
-    requires each { AreMatches search.now gathered.old.matches }
-    ensures adds { OnOk result (Adds search.now
-        (placed_at spot.entry gathered.old.path.items (entry_of entry.entry) ∷ [])
-        gathered.old.matches.found.items gathered.new.matches) }
-    ensures path { OnOk result (gathered.new.path.items ≡ gathered.old.path.items) }
-{
-    if !search.allows(entry) {
-        return Ok(());
+impl<'a> ClauseWalk<'a> {
+    /// All entries of the clause at this position come next.
+    fn new(search: &Search<'a>, position: u32) -> ClauseWalk<'a>
+        requires there { position < length search.now.index.now.clauses }
+        requires known { AllByRecursion (IsKnownClause (numbers_of search.now))
+            search.now.index.now.clauses }
+        ensures walk { IsWalk search.now.index.now result }
+        ensures position { result.position ≡ position }
+        ensures next { result.next ≡ 0 }
+    {
+        let clause = search.index.clause(position);
+        ClauseWalk {
+            position,
+            clause,
+            entries: Entries::new(search.alloc, clause),
+            next: 0,
+        }
     }
-    solve_entry(search, spot, entry, gathered)
+
+    /// Begins with the clause at this position, unless it is there.
+    fn turn_to(&mut self, search: &Search<'a>, place: Wanted)
+        requires there { place.position < length search.now.index.now.clauses }
+        requires known { AllByRecursion (IsKnownClause (numbers_of search.now))
+            search.now.index.now.clauses }
+        requires walk { IsWalk search.now.index.now self.old }
+        requires ahead { IsAhead self.old place }
+        ensures walk { IsWalk search.now.index.now self.new }
+        ensures position { self.new.position ≡ place.position }
+        ensures ahead { IsAhead self.new place }
+    {
+        if self.position != place.position {
+            *self = ClauseWalk::new(search, place.position);
+        }
+    }
+
+    /// Gives the entry that stands here, which wasn't passed. After an error the walk is of no use.
+    fn go_to(&mut self, search: &Search<'a>, place: Wanted) -> Result<Entry<'a>, AllocError>
+        requires known { AllByRecursion (IsKnownClause (numbers_of search.now))
+            search.now.index.now.clauses }
+        requires there { IsStandingAt search.now place }
+        requires walk { IsWalk search.now.index.now self.old }
+        requires ahead { IsAhead self.old place }
+        ensures walk { OnOk result (IsWalk search.now.index.now self.new) }
+        ensures position { OnOk result (self.new.position ≡ place.position) }
+        ensures next { OnOk result (self.new.next ≡ place.entry + 1) }
+        ensures entry { IfOk result (λ entry. IsHitAt search.now.index.now place (
+          place.position,
+          record {
+            entry = entry_of entry;
+            place = place_in self.new.entries;
+          },
+        )) }
+    {
+        self.turn_to(search, place);
+        let Some(entry) = self.entries.nth(place.entry - self.next)? else {
+            unreachable!()
+        };
+        self.next = place.entry + 1;
+        Ok(entry)
+    }
 }
 
-/// Does the same without a look at the symbols. It isn't inlined: a call begins by clearing its
-/// temporaries, and most entries need none.
-#[inline(never)]
-fn solve_entry<'a>(
+/// Adds the entry that the walk gave last.
+fn add<'a>(
     search: &Search<'a>,
-    spot: Spot<'a>,
+    walk: &ClauseWalk<'a>,
     entry: Entry<'a>,
     gathered: &mut Gathered<'a>,
 ) -> Result<(), AllocError>
     requires ready { IsReady search.now }
-    requires spot { IsSpot search.now spot }
+    requires walk { IsWalk search.now.index.now walk.now }
     requires known { IsKnownEntry (numbers_of search.now) (entry_of entry) }
-    requires alike { AreAlike (pattern_in search.now) (entry_of entry) }
+    requires stands { Stands search.now.relation (pattern_in search.now) (entry_of entry) }
     requires each { AreMatches search.now gathered.old.matches }
-    ensures adds { OnOk result (Adds search.now
-        (placed_at spot.entry gathered.old.path.items (entry_of entry.entry) ∷ [])
-        gathered.old.matches.found.items gathered.new.matches) }
-    ensures path { OnOk result (gathered.new.path.items ≡ gathered.old.path.items) }
+    ensures { OnOk result (Adds search.now (
+      walk.now.position,
+      record {
+        entry = entry_of entry.entry;
+        place = place_in walk.now.entries;
+      },
+    )
+        gathered.old.matches gathered.new.matches) }
 {
-    let matches = &mut gathered.matches;
-    let Some(list) = list_of(search, &mut gathered.workspace, matches, entry)? else {
-        return Ok(());
-    };
-    let path = Path::from_steps(search.alloc, &gathered.path)?;
+    let list = list_of(
+        search,
+        &mut gathered.workspace,
+        &mut gathered.matches,
+        entry,
+    )?;
     let hit = Hit {
-        clause: spot.position,
-        place: Place {
-            literal: spot.literal,
-            path,
-        },
+        clause: walk.position,
+        place: walk.entries.place()?,
     };
     gathered.matches.found.push(Match {
         hit,
-        clause: spot.clause,
+        clause: walk.clause,
         entry,
         list,
     })?;
     Ok(())
 }
 
-/// The number of an entry's list, which is that of the entry found last where both are the same;
-/// `None` where the entry doesn't stand in the relation.
+/// The number of an entry's list, which is that of the entry found last where both are the same.
 fn list_of<'a>(
     search: &Search<'a>,
     workspace: &mut Workspace<'a>,
     matches: &mut Matches<'a>,
     entry: Entry<'a>,
-) -> Result<Option<usize>, AllocError>
+) -> Result<usize, AllocError>
     requires ready { IsReady search.now }
     requires known { IsKnownEntry (numbers_of search.now) (entry_of entry) }
-    requires alike { AreAlike (pattern_in search.now) (entry_of entry) }
+    requires stands { Stands search.now.relation (pattern_in search.now) (entry_of entry) }
     requires each { AreMatches search.now matches.old }
     ensures list { IfOk result (HasList search.now (entry_of entry.entry)
         matches.new.lists.items) }
@@ -135,219 +172,58 @@ fn list_of<'a>(
     if count > 0 {
         let last = &matches.found[count - 1];
         if is_same_entry(last.entry, entry) {
-            return Ok(Some(last.list));
+            return Ok(last.list);
         }
     }
     make_list(search, workspace, &mut matches.lists, entry)
 }
 
-/// Makes the list of an entry, and answers its number; `None` where the entry doesn't stand in the
-/// relation. It isn't inlined either, as an entry that shares a list doesn't come here.
+/// Makes the list of an entry, and answers its number. It isn't inlined, as an entry that shares a
+/// list doesn't come here.
 #[inline(never)]
 fn make_list<'a>(
     search: &Search<'a>,
     workspace: &mut Workspace<'a>,
     lists: &mut Vec<Solved<'a>>,
     entry: Entry<'a>,
-) -> Result<Option<usize>, AllocError>
+) -> Result<usize, AllocError>
     requires ready { IsReady search.now }
     requires known { IsKnownEntry (numbers_of search.now) (entry_of entry) }
-    requires alike { AreAlike (pattern_in search.now) (entry_of entry) }
+    requires stands { Stands search.now.relation (pattern_in search.now) (entry_of entry) }
     ensures list { IfOk result (HasList search.now (entry_of entry.entry) lists.new.items) }
     ensures kept { Grows lists.old.items lists.new.items }
 {
-    let Some(solved) = search.solve(workspace, entry)? else {
-        return Ok(None);
-    };
+    let solved = search.solve(workspace, entry)?;
     let list = lists.len();
     lists.push(solved)?;
-    Ok(Some(list))
+    Ok(list)
 }
 
-/// Puts the number from 1 of the argument with this index behind a path.
-fn descend(path: &mut Vec<u32>, index: usize) -> Result<(), AllocError>
-    requires { index < MOST_OCCURRENCES }
-    ensures { OnOk result (path.new.items ≡ path.old.items ++ (index + 1) ∷ []) }
-{
-    path.push(index as u32 + 1)?;
-    Ok(())
-}
-
-/// Adds the term and its subterms that stand in the relation, in preorder.
-#[cycle(searching)]
-fn search_term<'a>(
-    search: &Search<'a>,
-    spot: Spot<'a>,
-    term: &'a Term,
-    gathered: &mut Gathered<'a>,
-) -> Result<(), AllocError>
-    requires ready { IsReady search.now }
-    requires spot { IsSpot search.now spot }
-    requires alike { IsTermPattern (pattern_in search.now) }
-    requires known { IsKnownTerm (numbers_of search.now) (term_of term.now) }
-    requires each { AreMatches search.now gathered.old.matches }
-    ensures adds { OnOk result (Adds search.now (placed_under spot.entry.position spot.entry.literal
-        gathered.old.path.items (occurrences (term_of term.now)))
-        gathered.old.matches.found.items gathered.new.matches) }
-    ensures path { OnOk result (gathered.new.path.items ≡ gathered.old.path.items) }
-{
-    let Term::App(_, arguments) = term else {
-        return Ok(());
-    };
-    try_entry(search, spot, Entry::Sub(term), gathered)?;
-    search_arguments(search, spot, arguments.as_slice(), gathered)
-}
-
-/// Adds the arguments and their subterms that stand in the relation, in preorder.
-#[cycle(searching)]
-fn search_arguments<'a>(
-    search: &Search<'a>,
-    spot: Spot<'a>,
-    arguments: &'a [Term],
-    gathered: &mut Gathered<'a>,
-) -> Result<(), AllocError>
-    requires ready { IsReady search.now }
-    requires spot { IsSpot search.now spot }
-    requires alike { IsTermPattern (pattern_in search.now) }
-    requires known { AreKnownTerms (numbers_of search.now) (row (map term_of arguments.now)) }
-    requires each { AreMatches search.now gathered.old.matches }
-    ensures adds { OnOk result (Adds search.now (placed_under spot.entry.position spot.entry.literal
-        gathered.old.path.items (occurrences_from 1 (row (map term_of arguments.now))))
-        gathered.old.matches.found.items gathered.new.matches) }
-    ensures path { OnOk result (gathered.new.path.items ≡ gathered.old.path.items) }
-{
-    for i in 0..arguments.len() {
-        descend(&mut gathered.path, i)?;
-        search_term(search, spot, &arguments[i], gathered)?;
-        gathered.path.pop();
-    }
-    Ok(())
-}
-
-/// Adds the literal if it stands in the relation to the one that is wanted.
-fn search_whole<'a>(
-    search: &Search<'a>,
-    wanted: &Literal,
-    spot: Spot<'a>,
-    literal: &'a Literal,
-    gathered: &mut Gathered<'a>,
-) -> Result<(), AllocError>
-    requires ready { IsReady search.now }
-    requires spot { IsSpot search.now spot }
-    requires wanted { pattern_in search.now ≡ literal_pattern (literal_of wanted.now) }
-    requires known { IsKnownEntry (numbers_of search.now) (literal_entry (literal_of literal.now)) }
-    requires root { gathered.old.path.items ≡ [] }
-    requires each { AreMatches search.now gathered.old.matches }
-    ensures adds { OnOk result (Adds search.now (map (at_position spot.entry.position)
-        (literal_entries spot.entry.literal (literal_of literal.now)))
-        gathered.old.matches.found.items gathered.new.matches) }
-    ensures root { OnOk result (gathered.new.path.items ≡ []) }
-{
-    if wanted.positive != literal.positive {
-        return Ok(());
-    }
-    try_entry(search, spot, Entry::Lit(literal), gathered)
-}
-
-/// Adds the proper subterms of the literal's atom that stand in the relation.
-fn search_parts<'a>(
-    search: &Search<'a>,
-    spot: Spot<'a>,
-    literal: &'a Literal,
-    gathered: &mut Gathered<'a>,
-) -> Result<(), AllocError>
-    requires ready { IsReady search.now }
-    requires spot { IsSpot search.now spot }
-    requires alike { IsTermPattern (pattern_in search.now) }
-    requires known { IsKnownEntry (numbers_of search.now) (literal_entry (literal_of literal.now)) }
-    requires root { gathered.old.path.items ≡ [] }
-    requires each { AreMatches search.now gathered.old.matches }
-    ensures adds { OnOk result (Adds search.now (map (at_position spot.entry.position)
-        (literal_entries spot.entry.literal (literal_of literal.now)))
-        gathered.old.matches.found.items gathered.new.matches) }
-    ensures root { OnOk result (gathered.new.path.items ≡ []) }
-{
-    let Term::App(_, arguments) = &literal.atom else {
-        unreachable!()
-    };
-    search_arguments(search, spot, arguments.as_slice(), gathered)
-}
-
-/// Adds the entries of a literal that stand in the relation.
-fn search_literal<'a>(
-    search: &Search<'a>,
-    spot: Spot<'a>,
-    literal: &'a Literal,
-    gathered: &mut Gathered<'a>,
-) -> Result<(), AllocError>
-    requires ready { IsReady search.now }
-    requires spot { IsSpot search.now spot }
-    requires known { IsKnownEntry (numbers_of search.now) (literal_entry (literal_of literal.now)) }
-    requires root { gathered.old.path.items ≡ [] }
-    requires each { AreMatches search.now gathered.old.matches }
-    ensures adds { OnOk result (Adds search.now (map (at_position spot.entry.position)
-        (literal_entries spot.entry.literal (literal_of literal.now)))
-        gathered.old.matches.found.items gathered.new.matches) }
-    ensures root { OnOk result (gathered.new.path.items ≡ []) }
-{
-    match search.pattern {
-        Pattern::Lit(wanted) => search_whole(search, wanted, spot, literal, gathered),
-        Pattern::Term(_) => search_parts(search, spot, literal, gathered),
-    }
-}
-
-/// Adds the entries of a clause that stand in the relation.
-fn search_clause<'a>(
-    search: &Search<'a>,
-    position: u32,
-    clause: &'a Clause,
-    gathered: &mut Gathered<'a>,
-) -> Result<(), AllocError>
-    requires ready { IsReady search.now }
-    requires there { IsThere search.now position (clause_of clause.now) }
-    requires known { IsKnownClause (numbers_of search.now) (clause_of clause.now) }
-    requires root { gathered.old.path.items ≡ [] }
-    requires each { AreMatches search.now gathered.old.matches }
-    ensures adds { OnOk result (Adds search.now (map (at_position position)
-        (entries (clause_of clause.now)))
-        gathered.old.matches.found.items gathered.new.matches) }
-    ensures root { OnOk result (gathered.new.path.items ≡ []) }
-{
-    let literals = clause.literals.as_slice();
-    for i in 0..literals.len() {
-        let spot = Spot {
-            clause,
-            position,
-            literal: i as u32 + 1,
-        };
-        search_literal(search, spot, &literals[i], gathered)?;
-    }
-    Ok(())
-}
-
-/// The entries of the index, which has so many clauses, that stand in the relation.
-pub(crate) fn search_clauses<'a>(search: &Search<'a>, count: u32) -> Result<Matches<'a>, AllocError>
-    requires count { count ≡ length search.now.index.now.clauses }
+/// The entries that stand here, each with its list. Each clause of theirs is walked through once.
+pub(crate) fn gather<'a>(search: &Search<'a>, wanted: &[Wanted]) -> Result<Matches<'a>, AllocError>
     requires ready { IsReady search.now }
     requires known { AllByRecursion (IsKnownClause (numbers_of search.now))
         search.now.index.now.clauses }
-    ensures { IfOk result (Gathers search.now
-        (entries_from_position 0 search.now.index.now.clauses)) }
+    requires stand { AllByRecursion (IsStandingAt search.now) wanted.now }
+    requires rise { Rise wanted.now }
+    ensures each { IfOk result (AreMatches search.now) }
+    ensures hits { IfOk result (λ ms. AllZip (IsHitAt search.now.index.now) wanted.now
+        (map hit_of ms.found.items)) }
 {
     let mut gathered = Gathered {
         workspace: Workspace::new(search.alloc),
-        path: Vec::new(search.alloc),
         matches: Matches {
-            found: Vec::new(search.alloc),
+            found: Vec::with_capacity(search.alloc, wanted.len())?,
             lists: Vec::new(search.alloc),
         },
     };
-    let mut left = search.index.kept();
-    for position in 0..count {
-        let Some((_, clause)) = left.next() else {
-            unreachable!()
-        };
-        search_clause(search, position, clause, &mut gathered)?;
+    let Some(first) = wanted.first() else {
+        return Ok(gathered.matches);
+    };
+    let mut walk = ClauseWalk::new(search, first.position);
+    for place in wanted {
+        let entry = walk.go_to(search, *place)?;
+        add(search, &walk, entry, &mut gathered)?;
     }
     Ok(gathered.matches)
 }

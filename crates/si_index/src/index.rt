@@ -12,15 +12,20 @@ ghost use Rattle.si_defs.specs.Symbols.{IsNumbering};
 ghost use Rattle.si_term.specs.Meaning.{clause_of, name_of};
 ghost use Rattle.si_sign.specs.Stores.{IsStored, Rejects};
 ghost use Rattle.si_keyed.specs.Keyed.{item_keys};
-ghost use Rattle.si_index.specs.Kept.{AreKeyed, KeysStay, NumbersStay, clauses_of};
-ghost use Rattle.si_index.specs.Known.{IsPut};
+ghost use Rattle.si_tree.specs.Reading.{counts_of};
+ghost use Rattle.si_index.specs.Kept.{AreKeyed, IsEmpty, KeysStay, NumbersExactly, NumbersStay, TreesHold, clauses_of};
+ghost use Rattle.si_index.specs.Engines.{TreesAnswer};
+ghost use Rattle.si_index.specs.Known.{IsPut, HasPut};
+ghost use Rattle.si_index.specs.Stored.{AreHeld, MayKeep};
 ghost use Rattle.si_index.specs.Names.{key_of};
 
 use crate::known::Known;
 use crate::names::Names;
+use si_forest::Trees;
 use si_keyed::{Items, KeyedList};
 use si_sign::{AddFault, ClauseStore, Rejected, Signature};
 use si_term::{Clause, Name};
+use si_tree::Counts;
 use std::alloc::{AllocError, Global};
 use std::marker::Model;
 
@@ -35,6 +40,15 @@ pub struct Stats {
     pub symbols: u32,
 }
 
+/// The numbers of nodes of both trees.
+#[derive(Clone, Copy, Debug, PartialEq, Eq)]
+pub struct TreeCounts {
+    /// Of the tree of literals.
+    pub literals: Counts,
+    /// Of the tree of subterms.
+    pub terms: Counts,
+}
+
 /// The clauses that are kept, in the order of acceptance. A name leads to its clause, and one is
 /// taken away without a pass over the others.
 #[derive(Drop)]
@@ -43,6 +57,7 @@ pub struct Index {
     limit: u64,
     clauses: KeyedList<Clause>,
     known: Known,
+    trees: Trees,
 }
 
 impl Model for Index {
@@ -60,29 +75,27 @@ impl Model for Index {
       keys = item_keys i.clauses.items;
       rules = limited_to i.limit;
       numbers = numbering i.known.signature;
+      trees = i.trees;
     } };
 
-    ghost use Rattle.si_index.specs.Stored.{IsKept};
+    ghost use Rattle.si_index.specs.Stored.{IsKept, AreHeld};
 
-    ghost invariant = { λ i. IsKept (limited_to i.limit) i.clauses.items i.known };
+    ghost invariant = { λ i. IsKept (limited_to i.limit) i.clauses.items i.known
+        × AreHeld i.clauses.items i.known i.trees };
 }
 
 impl Index {
     /// The empty index.
     pub fn new(alloc: Global, limit: u64) -> Result<Index, AllocError>
         requires { limit ≤ MOST_OCCURRENCES }
-        ensures { IfOk result (λ i. i ≡ record {
-          clauses = [];
-          keys = [];
-          rules = limited_to limit;
-          numbers = [];
-        }) }
+        ensures { IfOk result (IsEmpty (limited_to limit)) }
     {
         Ok(Index {
             alloc,
             limit,
             clauses: KeyedList::new(alloc),
             known: Known::new(alloc),
+            trees: Trees::new(alloc)?,
         })
     }
 
@@ -135,20 +148,42 @@ impl Index {
         self.clauses.iter()
     }
 
+    /// The trees of the entries of the clauses.
+    pub fn trees(&self) -> &Trees
+        ensures trees { result.now ≡ self.now.trees }
+        ensures keyed { AreKeyed self.now }
+        ensures exactly { NumbersExactly self.now.numbers self.now.clauses }
+        ensures hold { TreesHold self.now }
+        ensures answer { TreesAnswer self.now }
+    {
+        &self.trees
+    }
+
+    /// The numbers of nodes of the trees.
+    pub fn counts(&self) -> TreeCounts
+        ensures literals { result.literals ≡ counts_of self.now.trees.literals }
+        ensures terms { result.terms ≡ counts_of self.now.trees.subterms }
+    {
+        TreeCounts {
+            literals: self.trees.literals().counts(),
+            terms: self.trees.subterms().counts(),
+        }
+    }
+
     pub(crate) fn allocator(&self) -> Global {
         self.alloc
     }
 }
 
-/// Appends a clause, and has its name lead to its key. Where memory runs out, the clauses and their
-/// keys are as before, and so are the names, and the clause is handed back.
+/// Appends a clause, and has its name lead to its key, which is answered. Where memory runs out, the
+/// clauses and their keys are as before, and so are the names, and the clause is handed back.
 fn put(
     alloc: Global,
     clauses: &mut KeyedList<Clause>,
     names: &mut Names,
     clause: Clause,
-) -> Result<(), Clause>
-    ensures put { OnOk result (IsPut clause clauses.old.items clauses.new.items
+) -> Result<usize, Clause>
+    ensures put { IfOk result (λ key. IsPut key clause clauses.old.items clauses.new.items
         names.old names.new) }
     ensures handed_back { IfErr result (λ back. back ≡ clause) }
     ensures err { OnErr result (clauses.new.items ≡ clauses.old.items) }
@@ -158,8 +193,39 @@ fn put(
     let key = clauses.push(clause)?;
     let kept = clauses.get(key).unwrap();
     match names.insert(alloc, &kept.name, key) {
-        Ok(()) => Ok(()),
+        Ok(()) => Ok(key),
         Err(_) => Err(clauses.remove(key)),
+    }
+}
+
+/// Puts a clause whose symbols are known, and the postings of its entries. Where memory runs out, it
+/// is handed back, and the same is kept as before.
+fn keep(
+    alloc: Global,
+    clauses: &mut KeyedList<Clause>,
+    known: &mut Known,
+    trees: &mut Trees,
+    clause: Clause,
+) -> Result<(), Clause>
+    requires { MayKeep clause clauses.old.items known.old trees.old }
+    ensures put { OnOk result (HasPut clause clauses.old.items clauses.new.items
+        known.old.names known.new.names) }
+    ensures handed_back { IfErr result (λ back. back ≡ clause) }
+    ensures err { OnErr result (clauses.new.items ≡ clauses.old.items) }
+    ensures same_names { OnErr result ((name : defs.Name) → key_of known.new.names name
+        ≡ key_of known.old.names name) }
+    ensures signature { known.new.signature ≡ known.old.signature }
+    ensures entries { known.new.entries ≡ known.old.entries }
+    ensures held { AreHeld clauses.new.items known.new trees.new }
+{
+    let key = put(alloc, clauses, &mut known.names, clause)?;
+    let kept = clauses.get(key).unwrap();
+    match trees.add_clause(alloc, &known.signature, key, kept) {
+        Ok(()) => Ok(()),
+        Err(_) => {
+            known.names.remove(&kept.name);
+            Err(clauses.remove(key))
+        }
     }
 }
 
@@ -181,6 +247,7 @@ impl ClauseStore for Index {
         ensures err { OnErr result (self.new.clauses ≡ self.old.clauses) }
         ensures rules { self.new.rules ≡ self.old.rules }
         ensures stored { IsStored self.new.rules self.new.clauses }
+        ensures trees { TreesHold self.new }
         ensures numbers { NumbersStay self.old self.new }
         ensures keys { KeysStay self.old self.new }
     {
@@ -188,7 +255,13 @@ impl ClauseStore for Index {
             Ok(entries) => entries,
             Err(why) => return Err(Rejected { clause, why }),
         };
-        match put(self.alloc, &mut self.clauses, &mut self.known.names, clause) {
+        match keep(
+            self.alloc,
+            &mut self.clauses,
+            &mut self.known,
+            &mut self.trees,
+            clause,
+        ) {
             Ok(()) => Ok(entries),
             Err(clause) => {
                 self.known.uncount(&clause);
@@ -209,12 +282,14 @@ impl ClauseStore for Index {
         ensures none { IfNone result (self.new.clauses ≡ self.old.clauses) }
         ensures rules { self.new.rules ≡ self.old.rules }
         ensures stored { IsStored self.new.rules self.new.clauses }
+        ensures trees { TreesHold self.new }
         ensures numbers { IfSome result (λ n. NumbersStay self.old self.new) }
         ensures keys { IfSome result (λ n. KeysStay self.old self.new) }
         ensures same { IfNone result (self.new ≡ self.old) }
     {
         let key = self.known.names.get(name)?;
         let clause = self.clauses.remove(key);
+        self.trees.remove_clause(self.alloc, key);
         Some(self.known.leave(&clause))
     }
 
@@ -227,12 +302,14 @@ impl ClauseStore for Index {
         ensures none { IfNone result (self.new.clauses ≡ self.old.clauses) }
         ensures rules { self.new.rules ≡ self.old.rules }
         ensures stored { IsStored self.new.rules self.new.clauses }
+        ensures trees { TreesHold self.new }
         ensures numbers { IfSome result (λ n. NumbersStay self.old self.new) }
         ensures keys { IfSome result (λ n. KeysStay self.old self.new) }
         ensures same { IfNone result (self.new ≡ self.old) }
     {
         let key = self.clauses.last_key()?;
         let clause = self.clauses.remove(key);
+        self.trees.remove_clause(self.alloc, key);
         Some(self.known.leave(&clause))
     }
 }

@@ -2,6 +2,7 @@
 #![tactic(auto)]
 
 mod engine;
+mod explain;
 mod fitting;
 mod found;
 mod gather;
@@ -12,9 +13,11 @@ mod same;
 mod screen;
 mod search;
 mod subsuming;
+mod wanted;
 
 pub use engine::Engine;
+pub use explain::Explained;
 pub use found::{Found, Hit, Lent, Shown};
-pub use index::{Index, Stats};
+pub use index::{Index, Stats, TreeCounts};
 pub use si_defs::Relation;
 pub use subsuming::{Mapped, Mappeds};

@@ -6,7 +6,6 @@ ghost use Rattle.si_state.specs.Subsumption.{item_at, TakesTo, IsMap};
 ghost use Rattle.si_term.specs.Meaning.{literal_of};
 
 use crate::fitting::may_become;
-use si_defs::Relation;
 use si_term::{Literal, Literals};
 
 // So many literals are looked at, so that long clauses aren't compared literal by literal.
@@ -17,8 +16,7 @@ fn may_be_taken(literal: &Literal, target: &Literal) -> bool
     ensures { IsFalse result → (s : Solution)
         → TakesTo s (literal_of literal.now) (literal_of target.now) → ⊥ }
 {
-    literal.positive == target.positive
-        && may_become(Relation::Instances, &literal.atom, &target.atom)
+    literal.positive == target.positive && may_become(&literal.atom, &target.atom)
 }
 
 /// `false` only where no substitution takes the literal to one of the others.

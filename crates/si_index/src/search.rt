@@ -1,17 +1,15 @@
-// Whether an entry stands in a relation to a pattern, and how.
-ghost use Rattle.std.specs.Prelude.{◌≡◌, None, IfOk, IsFalse};
-ghost use Rattle.si_term.specs.Terms.{term_of};
+// How an entry stands in a relation to a pattern.
+ghost use Rattle.std.specs.Prelude.{IfOk};
 ghost use Rattle.si_term.specs.Meaning.{entry_of};
-ghost use Rattle.si_flat.specs.Flattened.{whole_of};
-ghost use Rattle.si_index.specs.Searching.{numbers_of, pattern_in, IsReady, AreAlike, IsKnownEntry, AnswersIn};
+ghost use Rattle.si_state.specs.Answers.{Stands};
+ghost use Rattle.si_index.specs.Searching.{numbers_of, pattern_in, IsReady, IsKnownEntry, SolvesIn};
 
-use crate::fitting::fits;
 use crate::index::Index;
 use si_defs::Relation;
 use si_flat::{EntryBuffer, FlatQuery};
 use si_form::{Scratch, Solution, canonical_with};
 use si_sign::Signature;
-use si_term::{Entry, Pattern, Term};
+use si_term::{Entry, Pattern};
 use smallvec::SmallVec;
 use std::alloc::{AllocError, Global};
 
@@ -51,37 +49,17 @@ impl<'a> Workspace<'a> {
     }
 }
 
-/// The atom of a literal, or the term.
-fn whole_term(entry: Entry<'_>) -> &Term
-    ensures { term_of result.now ≡ whole_of (entry_of entry.entry) }
-{
-    match entry {
-        Entry::Lit(literal) => &literal.atom,
-        Entry::Sub(term) => term,
-    }
-}
-
 impl<'a> Search<'a> {
-    /// Whether the symbols of the pattern and of an entry allow the relation: `false` only where it
-    /// fails. It takes no memory.
-    pub(crate) fn allows(&self, entry: Entry<'a>) -> bool
-        requires { AreAlike (pattern_in self.now) (entry_of entry) }
-        ensures { IsFalse result → AnswersIn self.now (entry_of entry.entry) None }
-    {
-        let wanted = whole_term(self.pattern.as_entry());
-        fits(self.relation, wanted, whole_term(entry))
-    }
-
-    /// The canonical list of an entry; `None` where it doesn't stand in the relation.
+    /// The canonical list of an entry that stands in the relation.
     pub(crate) fn solve(
         &self,
         workspace: &mut Workspace<'a>,
         entry: Entry<'a>,
-    ) -> Result<Option<Solved<'a>>, AllocError>
+    ) -> Result<Solved<'a>, AllocError>
         requires ready { IsReady self.now }
         requires known { IsKnownEntry (numbers_of self.now) (entry_of entry) }
-        requires alike { AreAlike (pattern_in self.now) (entry_of entry) }
-        ensures { IfOk result (AnswersIn self.now (entry_of entry.entry)) }
+        requires stands { Stands self.now.relation (pattern_in self.now) (entry_of entry) }
+        ensures { IfOk result (SolvesIn self.now (entry_of entry.entry)) }
     {
         if !workspace.buffer.fill(self.signature, entry)? {
             unreachable!()
@@ -94,12 +72,12 @@ impl<'a> Search<'a> {
             workspace.buffer.cells(),
         )?
         else {
-            return Ok(None);
+            unreachable!()
         };
         let entry_names = SmallVec::from_slice(self.alloc, workspace.buffer.names())?;
-        Ok(Some(Solved {
+        Ok(Solved {
             solution,
             entry_names,
-        }))
+        })
     }
 }

@@ -1,5 +1,6 @@
--- There is at most one answer: each hit has at most one canonical list.
-use Rattle.std.proofs.Common.{◌≡◌, inl, inr, List, [], ◌∷◌, sym, ◌∙◌}
+-- There is at most one answer: each hit has at most one canonical list. And there is at most one
+-- number of entries that stand in a relation.
+use Rattle.std.proofs.Common.{◌≡◌, ℕ, ◌+◌, inl, inr, List, [], ◌∷◌, length, sym, ap, ◌∙◌, arith}
 use Rattle.si_defs.specs.Clauses.{Clause, Pattern, literal_pattern, term_pattern}
 use Rattle.si_defs.specs.Entries.{Entry, literal_entry, term_entry, Placed}
 use Rattle.si_defs.specs.Variables.{same_variable, Apart, Solution}
@@ -7,6 +8,7 @@ use Rattle.si_defs.specs.Solutions.{IsCanonical}
 use Rattle.si_defs.specs.declared.Relation.{Relation}
 use Rattle.si_defs.specs.declared.Relation.TheVariants.{Variants, Instances, Generalizations, Unifiable}
 use Rattle.si_state.specs.Answers.{Hit, IsAnswer, Solves}
+use Rattle.si_steps.specs.Steps.{CountsStanding}
 use Rattle.si_defs.proofs.VariableLaws.{variable_is, variable_self}
 use Rattle.si_form.proofs.CanonicalLaws.{one_match}
 use Rattle.si_form.proofs.UnifierLaws.{one_unifier}
@@ -32,3 +34,19 @@ same_answer relation p ((c, e) ∷ es) hits others (inl (stands, (bs, rest, solv
 same_answer relation p ((c, e) ∷ es) hits others (inl h) (inr k) = absurd (k.0 h.0)
 same_answer relation p ((c, e) ∷ es) hits others (inr h) (inl k) = absurd (h.0 k.0)
 same_answer relation p ((c, e) ∷ es) hits others (inr h) (inr k) = same_answer relation p es hits others h.1 k.1
+
+-- ---- how many there are
+pub one_count : (relation : Relation) (p : Pattern) (es : List (Clause × Placed)) (m n : ℕ) → CountsStanding relation p es m → CountsStanding relation p es n → m ≡ n
+one_count relation p [] m n h k = h ∙ sym k
+one_count relation p ((c, e) ∷ es) m n (inl (stands, (i, counts, more))) (inl (stands_too, (j, counts_too, more_too))) = more ∙ ap (λ l. 1 + l) (one_count relation p es i j counts counts_too) ∙ sym more_too
+one_count relation p ((c, e) ∷ es) m n (inl h) (inr k) = absurd (k.0 h.0)
+one_count relation p ((c, e) ∷ es) m n (inr h) (inl k) = absurd (h.0 k.0)
+one_count relation p ((c, e) ∷ es) m n (inr h) (inr k) = one_count relation p es m n h.1 k.1
+
+answer_counts : (relation : Relation) (p : Pattern) (es : List (Clause × Placed)) (hits : List Hit) → IsAnswer relation p es hits → CountsStanding relation p es (length hits)
+answer_counts relation p [] hits h = ap length h
+answer_counts relation p ((c, e) ∷ es) hits (inl (stands, (bs, rest, solves, answer, whole))) = inl (stands, (length rest, answer_counts relation p es rest answer, omega (arith, ap length whole)))
+answer_counts relation p ((c, e) ∷ es) hits (inr h) = inr (h.0, answer_counts relation p es hits h.1)
+
+pub counts_hits : (relation : Relation) (p : Pattern) (es : List (Clause × Placed)) (n : ℕ) (hits : List Hit) → CountsStanding relation p es n → IsAnswer relation p es hits → n ≡ length hits
+counts_hits relation p es n hits counts answer = one_count relation p es n (length hits) counts (answer_counts relation p es hits answer)

@@ -3,17 +3,16 @@ use Rattle.std.proofs.Common.{◌≡◌, ℕ, ◌<◌, ◌^◌, List, [], ◌∷
 use Rattle.std.proofs.lemmas.Fmt.{decimal_injective}
 use Rattle.std.specs.Prelude.{codes}
 use Rattle.si_defs.specs.Bytes.{Bytes}
-use Rattle.si_defs.specs.Clauses.{Name, Literal, Clause, Pattern, literal_pattern, term_pattern}
+use Rattle.si_defs.specs.Clauses.{Literal, Pattern, literal_pattern, term_pattern}
 use Rattle.si_defs.specs.Tokens.{Token, lower}
-use Rattle.si_defs.specs.declared.TokenKind.TheVariants.{Single}
-use Rattle.si_defs.specs.Grammar.{IsName, IsClause, IsFormula}
+use Rattle.si_defs.specs.Grammar.{IsFormula}
 use Rattle.si_defs.proofs.ListLaws.{same_head, same_tail}
 use Rattle.si_state.specs.Samples.{AllowsSample}
 use Rattle.si_lex.proofs.TokenLaws.{consists_unique}
 use Rattle.si_steps.specs.declared.word.Word.{Word}
 use Rattle.si_steps.specs.declared.word.Word.TheVariants.{Add, Load, Remove, Ask, Subsumers, Subsumed, Stats, Tree, Explain, Sample}
-use Rattle.si_steps.specs.Commands.{Command, add, load, remove, query, subsumers, subsumed, stats, sample, command_word, numeral, IsQuery, AreOperands, IsCommand}
-use Rattle.si_steps.proofs.WordLaws.{same_word}
+use Rattle.si_steps.specs.Commands.{Command, add, load, remove, query, subsumers, subsumed, explain, sample, command_word, IsQuery, IsCommand}
+use Rattle.si_steps.proofs.CommandLaws.{IsOf, of_word, same_relation}
 use Rattle.si_laws.specs.OneReply.{HasOneMeaning}
 use Rattle.si_laws.proofs.GrammarLaws.{term_one, literal_one, formula_one, name_one, clause_one}
 
@@ -46,29 +45,6 @@ query_one (term_pattern t) (term_pattern u) ts us e (vs, h, f) (ws, i, g) =
 query_one (literal_pattern l) (term_pattern u) ts us e (vs, h, f) (ws, i, g) = absurd (literal_no_term (same_head (sym f ∙ e ∙ g)))
 query_one (term_pattern t) (literal_pattern k) ts us e (vs, h, f) (ws, i, g) = absurd (literal_no_term (sym (same_head (sym f ∙ e ∙ g))))
 
--- a command that begins with this word and has these operands, one row a word
-abbrev IsOf : Word → Command → List Token → Type 0
-IsOf Add c ts = (clause : Clause) × (c ≡ add clause) × IsClause clause ts
-IsOf Load c ts = (file : Bytes) × (c ≡ load file) × (ts ≡ record { kind = Single; text = file } ∷ [])
-IsOf Remove c ts = (name : Name) × (t : Token) × (c ≡ remove name) × IsName name t × (ts ≡ t ∷ [])
-IsOf (Ask relation) c ts = (pattern : Pattern) × (c ≡ query relation pattern) × IsQuery pattern ts
-IsOf Subsumers c ts = (formula : List Literal) × (c ≡ subsumers formula) × IsFormula formula ts
-IsOf Subsumed c ts = (formula : List Literal) × (c ≡ subsumed formula) × IsFormula formula ts
-IsOf Stats c ts = c ≡ stats
-IsOf Sample c ts =
-    (start : ℕ) × (count : ℕ) × (c ≡ sample start count) × AllowsSample start count × (ts ≡ numeral start ∷ numeral count ∷ [])
-IsOf word c ts = ⊥
-
-is_of : (c : Command) (ts : List Token) → AreOperands c ts → IsOf (command_word c) c ts
-is_of (add clause) ts h = (clause, refl, h)
-is_of (load file) ts h = (file, refl, h)
-is_of (remove name) ts (t, h, e) = (name, t, refl, h, e)
-is_of (query relation pattern) ts h = (pattern, refl, h)
-is_of (subsumers formula) ts h = (formula, refl, h)
-is_of (subsumed formula) ts h = (formula, refl, h)
-is_of stats ts h = refl
-is_of (sample start count) ts (drawable, e) = (start, count, refl, drawable, e)
-
 -- the operands determine it
 one_of_word : (w : Word) (c d : Command) (ts us : List Token) → ts ≡ us → IsOf w c ts → IsOf w d us → c ≡ d
 one_of_word Add c d ts us e (a, of, h) (b, of_too, k) = of ∙ ap add (clause_one a b ts us e h k) ∙ sym of_too
@@ -77,22 +53,25 @@ one_of_word Remove c d ts us e (n, t, of, h, f) (m, u, of_too, k, g) = of ∙ ap
 one_of_word (Ask relation) c d ts us e (p, of, h) (q, of_too, k) = of ∙ ap (query relation) (query_one p q ts us e h k) ∙ sym of_too
 one_of_word Subsumers c d ts us e (ls, of, h) (ks, of_too, k) = of ∙ ap subsumers (whole_one ls ks ts us e h k) ∙ sym of_too
 one_of_word Subsumed c d ts us e (ls, of, h) (ks, of_too, k) = of ∙ ap subsumed (whole_one ls ks ts us e h k) ∙ sym of_too
-one_of_word Stats c d ts us e of of_too = of ∙ sym of_too
+one_of_word Stats c d ts us e (of, h) (of_too, k) = of ∙ sym of_too
 one_of_word Sample c d ts us e (m, i, of, h, f) (n, j, of_too, k, g) =
     let both = sym f ∙ e ∙ g in
     let start = decimal_injective m n (drawable_start m i h) (drawable_start n j k) (ap (λ (t : Token). t.text) (same_head both)) in
     let count = decimal_injective i j (drawable_count m i h) (drawable_count n j k) (ap (λ (t : Token). t.text) (same_head (same_tail both))) in
     of ∙ (λ x. sample (start x) (count x)) ∙ sym of_too
-one_of_word Tree c d ts us e h k = absurd h
-one_of_word Explain c d ts us e h k = absurd h
+one_of_word Tree c d ts us e (of, h) (of_too, k) = of ∙ sym of_too
+one_of_word Explain c d ts us e (r, p, vs, of, h, f) (s, q, ws, of_too, k, g) =
+    let both = sym f ∙ e ∙ g in
+    let relation = same_relation r s (ap (λ (t : Token). t.text) (same_head both)) in
+    let pattern = query_one p q vs ws (same_tail both) h k in
+    of ∙ (λ x. explain (relation x) (pattern x)) ∙ sym of_too
 
 -- ---- commands
 command_one : (c d : Command) (ts : List Token) → IsCommand c ts → IsCommand d ts → c ≡ d
 command_one c d ts h k =
-    let whole = sym h.whole ∙ k.whole in
-    let word = same_word (command_word c) (command_word d) (ap (λ (t : Token). t.text) (same_head whole)) in
-    one_of_word (command_word d) c d h.operands k.operands (same_tail whole)
-    (subst (λ w. IsOf w c h.operands) word (is_of c h.operands h.spelled)) (is_of d k.operands k.spelled)
+    let word = command_word d in
+    one_of_word word c d k.operands k.operands refl
+    (of_word word c k.operands (subst (IsCommand c) k.whole h)) (of_word word d k.operands (subst (IsCommand d) k.whole k))
 
 pub one_meaning : (line : Bytes) → HasOneMeaning line
 one_meaning line one other h k =

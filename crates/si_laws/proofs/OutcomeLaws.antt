@@ -7,15 +7,15 @@ use Rattle.si_state.specs.States.{State}
 use Rattle.si_state.specs.Harvest.{Files, clauses_behind}
 use Rattle.si_state.specs.Subsumption.{IsMap}
 use Rattle.si_steps.specs.Settings.{Setting}
-use Rattle.si_steps.specs.Commands.{Command, add, load, remove, query, subsumers, subsumed, stats, sample}
+use Rattle.si_steps.specs.Commands.{Command, add, load, remove, query, subsumers, subsumed, stats, tree, explain, sample}
 use Rattle.si_steps.specs.Loads.{Owed, load_bounds, owed_by, load_line, PerformsLoad}
-use Rattle.si_steps.specs.Replies.{Reply, refusal_line, ok_line, stats_line, answer_reply, mapped_reply}
-use Rattle.si_steps.specs.Steps.{Performs, long, later, silent, foreign, wrong, performed, loaded}
+use Rattle.si_steps.specs.Replies.{Reply, refusal_line, ok_line, stats_line, answer_reply, mapped_reply, explain_line}
+use Rattle.si_steps.specs.Steps.{Performs, long, silent, foreign, wrong, performed, loaded}
 use Rattle.si_laws.specs.OneReply.{IsConsistent, HasOneOutcome, LoadsToOneOutcome, StaysConsistent}
 use Rattle.si_laws.proofs.RefusalLaws.{accepts_or_refuses, one_refusal}
 use Rattle.si_laws.proofs.LoadLaws.{accepted_stay, harvest_stays, one_harvest}
 use Rattle.si_laws.proofs.SubsumptionLaws.{same_mappings}
-use Rattle.si_laws.proofs.AnswerLaws.{same_answer}
+use Rattle.si_laws.proofs.AnswerLaws.{same_answer, one_count}
 use Rattle.si_laws.proofs.SampleLaws.{one_sample, sample_stays}
 use Rattle.si_laws.proofs.StateLaws.{same_removal, removes_taken, same_count, consistent_more, consistent_less}
 
@@ -47,6 +47,11 @@ one_outcome setting (subsumed formula) state is reply other new behind h k =
 one_outcome setting (sample start count) state is reply other new behind h k = one_sample setting start count state is reply other new behind h k
 one_outcome setting stats state is reply other new behind h k =
     (h.2 ∙ ap (λ n. stats_line (length state.clauses) (length (state_entries state.clauses)) n ∷ []) (same_count state.clauses h.0 k.0 h.1 k.1) ∙ sym k.2, h.3 ∙ sym k.3)
+one_outcome setting tree state is reply other new behind (literals, terms, said, stays) (literals_too, terms_too, said_too, stays_too) =
+    ((literals, terms, literals_too, terms_too, said, said_too), stays ∙ sym stays_too)
+one_outcome setting (explain relation p) state is reply other new behind (passed, nodes, answers, counts, said, stays) (passed_too, nodes_too, answers_too, counts_too, said_too, stays_too) =
+    let same = one_count relation p (state_entries state.clauses) answers_too answers counts_too counts in
+    ((answers, passed, nodes, passed_too, nodes_too, said, said_too ∙ ap (λ n. explain_line passed_too nodes_too n ∷ []) same), stays ∙ sym stays_too)
 
 pub one_load : (setting : Setting) (files : Files) (file : Bytes) (state : State) → IsConsistent state.clauses → LoadsToOneOutcome setting files file state
 one_load setting files file state is reply other owed due new behind (events, fault, loads, said, owes, left) (others, cause, loads_too, said_too, owes_too, left_too) a b =
@@ -69,6 +74,8 @@ performs_stays setting (subsumers formula) state reply new is h = subst (λ (s :
 performs_stays setting (subsumed formula) state reply new is h = subst (λ (s : State). IsConsistent s.clauses) (sym h.3) is
 performs_stays setting (sample start count) state reply new is h = sample_stays setting start count state reply new is h
 performs_stays setting stats state reply new is h = subst (λ (s : State). IsConsistent s.clauses) (sym h.3) is
+performs_stays setting tree state reply new is h = subst (λ (s : State). IsConsistent s.clauses) (sym h.3) is
+performs_stays setting (explain relation p) state reply new is h = subst (λ (s : State). IsConsistent s.clauses) (sym h.5) is
 
 pub load_stays : (setting : Setting) (told : Option Files) (file : Bytes) (state : State) (reply : Reply) (owed : Owed) (new : State) → IsConsistent state.clauses
     → PerformsLoad setting told file state reply owed new → IsConsistent new.clauses
@@ -80,7 +87,6 @@ load_stays setting None file state reply owed new is (inr (fault, said, owes, le
 
 pub step_stays : (setting : Setting) (told : Option Files) (state : State) (line : Bytes) → StaysConsistent setting told state line
 step_stays setting told state line reply owed new is (long h said owes stays) = subst (λ (s : State). IsConsistent s.clauses) (sym stays) is
-step_stays setting told state line reply owed new is (later h said owes stays) = subst (λ (s : State). IsConsistent s.clauses) (sym stays) is
 step_stays setting told state line reply owed new is (silent h said owes stays) = subst (λ (s : State). IsConsistent s.clauses) (sym stays) is
 step_stays setting told state line reply owed new is (foreign g h n said owes stays) = subst (λ (s : State). IsConsistent s.clauses) (sym stays) is
 step_stays setting told state line reply owed new is (wrong g h f n said owes stays) = subst (λ (s : State). IsConsistent s.clauses) (sym stays) is

@@ -9,7 +9,7 @@ use Rattle.si_steps.specs.Replies.{Reply}
 use Rattle.si_steps.specs.Steps.{Step, right, memory_at_once, memory_behind}
 use Rattle.si_steps.specs.FileWords.{RightWord, nameless, named, WordStep, right_word, no_memory}
 use Rattle.si_steps.specs.Runs.{Request, a_word, a_line, Acts, Run}
-use Rattle.si_laws.specs.OneReply.{IsConsistent, OneRightWord, TellsNoFailure, RightlyActs, RightRun}
+use Rattle.si_laws.specs.OneReply.{IsConsistent, OneRightWord, TellsNoFailure, RightlyActs, RightRun, AreAlikeAt, AreAllAlike}
 use Rattle.si_laws.proofs.CommandLaws.{one_meaning}
 use Rattle.si_laws.proofs.OutcomeLaws.{step_stays, load_stays, one_load}
 use Rattle.si_laws.proofs.StepLaws.{one_step}
@@ -53,16 +53,23 @@ right_act_stays setting files state (a_line line) reply owed new is acts = step_
 
 one_act : (setting : Setting) (files : Files) (state : State) (request : Request) (reply other : Reply) (owed due : Owed) (new behind : State) → IsConsistent state.clauses
     → RightlyActs setting files state request reply owed new → RightlyActs setting files state request other due behind
-    → TellsNoFailure owed → TellsNoFailure due → (reply ≡ other) × (owed ≡ due) × (new ≡ behind)
-one_act setting files state (a_word word) reply other owed due new behind is h k a b = one_word setting files state word is reply other owed due new behind h k a b
-one_act setting files state (a_line line) reply other owed due new behind is h k a b = one_step setting files state line is (one_meaning line) reply other owed due new behind h k a b
+    → TellsNoFailure owed → TellsNoFailure due → AreAlikeAt request reply other × (new ≡ behind)
+one_act setting files state (a_word word) reply other owed due new behind is h k a b = let same = one_word setting files state word is reply other owed due new behind h k a b in (same.0, same.2)
+one_act setting files state (a_line line) reply other owed due new behind is h k a b = let same = one_step setting files state line is (one_meaning line) reply other owed due new behind h k a b in (same.0, same.2)
+
+-- both lists of replies begin with theirs
+replies_begin : (request : Request) (requests : List Request) (replies others rest more : List Reply) (reply other : Reply) → replies ≡ reply ∷ rest → others ≡ other ∷ more
+    → AreAlikeAt request reply other → AreAllAlike requests rest more → AreAllAlike (request ∷ requests) replies others
+replies_begin request requests replies others rest more reply other e f same left =
+    subst (λ l. AreAllAlike (request ∷ requests) l others) (sym e) (subst (AreAllAlike (request ∷ requests) (reply ∷ rest)) (sym f) (same, left))
 
 pub one_run : (setting : Setting) (files : Files) (state : State) (requests : List Request) (replies others : List Reply) (new behind : State) → IsConsistent state.clauses
-    → RightRun setting files state requests replies new → RightRun setting files state requests others behind → (replies ≡ others) × (new ≡ behind)
-one_run setting files state [] replies others new behind is run again = (run.0 ∙ sym again.0, run.1 ∙ sym again.1)
+    → RightRun setting files state requests replies new → RightRun setting files state requests others behind → AreAllAlike requests replies others × (new ≡ behind)
+one_run setting files state [] replies others new behind is run again =
+    (subst (λ l. AreAllAlike [] l others) (sym run.0) (subst (AreAllAlike [] []) (sym again.0) tt), run.1 ∙ sym again.1)
 one_run setting files state (request ∷ requests) replies others new behind is (reply, owed, next, rest, acts, well, run, whole) (told, due, then, more, acts_too, well_too, again, whole_too) =
     let same = one_act setting files state request reply told owed due next then is acts acts_too well well_too in
     let left =
     one_run setting files next requests rest more new behind (right_act_stays setting files state request reply owed next is acts) run
-    (subst (λ s. RightRun setting files s requests more behind) (sym same.2) again) in
-    (whole ∙ (λ i. same.0 i ∷ left.0 i) ∙ sym whole_too, left.1)
+    (subst (λ s. RightRun setting files s requests more behind) (sym same.1) again) in
+    (replies_begin request requests replies others rest more reply told whole whole_too same.0 left.0, left.1)

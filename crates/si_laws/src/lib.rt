@@ -3,16 +3,21 @@
 
 ghost use Rattle.si_laws.specs.OneReply.{IsConsistent, HasOneOutcome, LoadsToOneOutcome, HasOneMeaning, OneRightStep, LoadsNothing, OneStepOfAnyLibrary, OneRightWord, OneRightRun, StaysConsistent};
 ghost use Rattle.si_defs.specs.Bytes.{Bytes};
-ghost use Rattle.std.specs.Prelude.{ℕ, Bool, List, Option};
+ghost use Rattle.si_defs.specs.Clauses.{Clause, Pattern};
+ghost use Rattle.si_defs.specs.Entries.{Placed};
+ghost use Rattle.si_defs.specs.declared.Relation.{Relation};
+ghost use Rattle.std.specs.Prelude.{◌≡◌, ℕ, Bool, List, length, Option};
 ghost use Rattle.si_state.specs.States.{State, empty_state};
+ghost use Rattle.si_state.specs.Answers.{Hit, IsAnswer};
 ghost use Rattle.si_state.specs.Harvest.{Files};
 ghost use Rattle.si_steps.specs.Settings.{Setting};
 ghost use Rattle.si_steps.specs.Commands.{Command};
+ghost use Rattle.si_steps.specs.Steps.{CountsStanding};
 ghost use Rattle.si_steps.specs.Runs.{Request, Run};
 
 /// Where each symbol is used in one way and names are distinct, a command that is no load has at
-/// most one right reply and one right state after it. They depend on the limits, the rules of
-/// acceptance, the command and the state alone.
+/// most one right reply, but that numbers of nodes are free, and one right state after it. They
+/// depend on the limits, the rules of acceptance, the command and the state alone.
 pub fn commands_have_one_outcome()
     ensures { (setting : Setting) (command : Command) (state : State)
         → IsConsistent state.clauses → HasOneOutcome setting command state }
@@ -24,15 +29,26 @@ pub fn loads_have_one_outcome()
         → IsConsistent state.clauses → LoadsToOneOutcome setting files file state }
 {}
 
+/// Of some entries one number stands in a relation to a pattern, and the answer to the pattern has
+/// so many hits.
+pub fn answers_have_one_count()
+    ensures count { (relation : Relation) (pattern : Pattern) (entries : List (Clause × Placed))
+        (count other : ℕ) → CountsStanding relation pattern entries count
+        → CountsStanding relation pattern entries other → count ≡ other }
+    ensures hits { (relation : Relation) (pattern : Pattern) (entries : List (Clause × Placed))
+        (count : ℕ) (hits : List Hit) → CountsStanding relation pattern entries count
+        → IsAnswer relation pattern entries hits → count ≡ length hits }
+{}
+
 /// A line means one command at most.
 pub fn lines_have_one_meaning()
     ensures { (line : Bytes) → HasOneMeaning line }
 {}
 
-/// A line has at most one right step in such a state, except that the library may fail. It depends
-/// on the limits, the rules of acceptance, the line, the state and the files alone: a clause that
-/// is gone leaves no trace. The files decide nothing where the line is no load, whether they are
-/// told or not.
+/// A line has at most one right step in such a state, except that the library may fail, and that
+/// numbers of nodes are free. It depends on the limits, the rules of acceptance, the line, the
+/// state and the files alone: a clause that is gone leaves no trace. The files decide nothing where
+/// the line is no load, whether they are told or not.
 pub fn lines_have_one_right_step()
     ensures step { (setting : Setting) (files : Files) (state : State) (line : Bytes)
         → IsConsistent state.clauses → OneRightStep setting files state line }
@@ -61,8 +77,8 @@ pub fn words_have_one_right_step()
         → IsConsistent state.clauses → OneRightWord setting files state word }
 {}
 
-/// The words and lines of a session have at most one list of right replies, and one right state
-/// after them, where the library tells its files and doesn't fail.
+/// The words and lines of a session have at most one list of right replies, numbers of nodes aside,
+/// and one right state after them, where the library tells its files and doesn't fail.
 pub fn sessions_have_one_right_run()
     ensures { (setting : Setting) (files : Files) (requests : List Request)
         → OneRightRun setting files requests }

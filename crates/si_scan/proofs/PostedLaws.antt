@@ -14,6 +14,7 @@ use Rattle.si_form.proofs.Moving.{among_map, among_mapped}
 use Rattle.si_legal.specs.declared.Posting.{Posting}
 use Rattle.si_legal.specs.Engines.{AreAnswers}
 use Rattle.si_legal.specs.KeptTrees.{IsPostingOf}
+use Rattle.si_index.specs.Engines.{IsOfWanted, AnswersWanted}
 use Rattle.si_index.specs.Kept.{Kept, AreKeyed, paired, kept_clauses}
 use Rattle.si_scan.specs.Scans.{posted, all_posted, AreOfWanted}
 
@@ -185,3 +186,7 @@ are_answers W kept ps keyed h = record {
     (λ s. among_wanted W (all_posted (kept_clauses kept)) ps (p, s.0) h (is_posted (kept_clauses kept) p s.0 s.1) s.2),
   );
 }
+
+-- that is what an engine over flat terms answers
+pub scan_answers : (kept : Kept) → AnswersWanted (IsOfWanted kept) kept
+scan_answers kept literal relation query p = ((λ a. a), (λ a. a))

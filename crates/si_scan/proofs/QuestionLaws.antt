@@ -11,7 +11,6 @@ use Rattle.si_form.specs.declared.solution.Binding.{Binding}
 use Rattle.si_form.specs.Answers.{Answers}
 use Rattle.si_form.proofs.SignLaws.{relates_of_canonical}
 use Rattle.si_form.proofs.Vocabularies.{with_numbers}
-use Rattle.si_index.proofs.GatherLaws.{signs_differ}
 use Rattle.si_scan.specs.Scans.{Wants, IsReady, numbers_of}
 use Rattle.si_scan.specs.declared.question.Question.{Question}
 
@@ -35,9 +34,22 @@ module _ (q : Question) (e : Entry) (held : List Cell) (flat : StandsFor held (n
         relates = relates_of_canonical with_numbers q.kind ready.whole.0 (numbered_entry (numbers_of q) entry e) answer.0 answer.2.canonical;
       }
 
+-- ---- kinds
+kinds_differ : (a b : Bool) → not (beq a b) ≡ true → a ≡ b → ⊥
+kinds_differ true true h e = cc
+kinds_differ false false h e = cc
+kinds_differ true false h e = cc
+kinds_differ false true h e = cc
+
+pub kinds_agree : (a b : Bool) → not (beq a b) ≡ false → a ≡ b
+kinds_agree true true h = refl
+kinds_agree false false h = refl
+kinds_agree true false h = cc
+kinds_agree false true h = cc
+
 -- entries of the other kind aren't wanted
 pub other_kind : (q : Question) (e : Entry) (b : Bool) → b ≡ is_literal e → not (beq b q.literal) ≡ true → Wants q e → ⊥
-other_kind q e b is differ w = signs_differ b q.literal differ (is ∙ w.kind)
+other_kind q e b is differ w = kinds_differ b q.literal differ (is ∙ w.kind)
 
 pub not_wanted : (P : Type 0) (b : Bool) → IsTrue b ↔ P → b ≡ false → P → ⊥
 not_wanted P b told none p = let wrong : true ≡ false = sym (told.1 p) ∙ none in cc

@@ -16,24 +16,9 @@ use Rattle.si_form.specs.Answers.{AreNumbered}
 use Rattle.si_legal.specs.declared.Posting.{Posting}
 use Rattle.si_legal.specs.KeptTrees.{is_literal, IsPostingOf}
 use Rattle.si_index.specs.Kept.{Kept, kept_clauses}
+use Rattle.si_index.specs.Engines.{IsWanted}
 use Rattle.si_index.specs.Searching.{IsKnownClause}
 use Rattle.si_scan.specs.declared.question.Question.{Question}
-
--- ---- answers
--- The entry is of the kind that is asked for, and its flat term, with these numbers for its symbols,
--- stands in the relation to the query.
-pub record IsWanted (numbers : Numbering) (literal : Bool) (relation : Relation)
-    (query : List Cell) (e : Entry) : Type 0 where
-  pub kind : is_literal e ≡ literal
-  pub term : Term
-  pub stands : StandsFor query term
-  pub relates : Relates same_variable relation term (numbered_entry numbers entry e)
-
--- it is the posting of a kept entry that is wanted
-abbrev pub IsScanned : Kept → Bool → Relation → List Cell → Posting → Type 0
-IsScanned kept literal relation query p =
-    (e : Entry) × IsPostingOf (kept_clauses kept) p e
-    × IsWanted kept.numbers literal relation query e
 
 -- ---- a question
 abbrev pub numbers_of : Question → Numbering

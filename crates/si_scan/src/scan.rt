@@ -46,16 +46,16 @@ impl<'a> Scan<'a> {
 }
 
 impl<'a> Engine for Scan<'a> {
-    ghost use Rattle.si_scan.specs.Scans.{IsScanned};
+    ghost use Rattle.si_index.specs.Engines.{IsOfWanted};
     ghost use Rattle.si_defs.specs.Entries.{state_entries};
 
     /// The postings of the kept entries of the kind that is asked for whose flat terms stand in the
     /// relation.
     ghost answers = { λ kept literal relation query posting.
-        IsScanned kept literal relation query posting };
+        IsOfWanted kept literal relation query posting };
 
     /// All entries are looked at.
-    ghost count = { λ kept literal relation query. length (state_entries kept.clauses) };
+    ghost count = { λ kept literal relation query n. n ≡ length (state_entries kept.clauses) };
 
     fn ask(
         &self,

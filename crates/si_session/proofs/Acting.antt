@@ -1,8 +1,10 @@
 -- What a command did, from what its parts wrote; and the step that its line made.
-use Rattle.std.proofs.Common.{◌≡◌, ℕ, ◌≤◌, List, [], ◌∷◌, ◌++◌, length, map, refl, ap, sym, ◌∙◌, subst, inl, inr, arith, length-append}
-use Rattle.std.specs.Prelude.{Bool, Option, Some, None, slice_get, IsTrue}
+use Rattle.std.proofs.Common.{◌≡◌, ℕ, ◌≤◌, List, [], ◌∷◌, ◌++◌, length, map, refl, ap, ap₂, sym, ◌∙◌, subst, inl, inr, arith, length-append}
+use Rattle.std.specs.Prelude.{◌⊎◌, Bool, Option, Some, None, slice_get, codes, IsTrue, IsFalse}
 use Rattle.si_defs.specs.Bytes.{Bytes}
-use Rattle.si_defs.specs.Tokens.{begins_with}
+use Rattle.si_defs.specs.Tokens.{lower, AreBlanks, Begins, begins_with}
+use Rattle.si_lex.proofs.TokenLaws.{blanks_none}
+use Rattle.si_steps.specs.Words.{command_text}
 use Rattle.si_defs.specs.Symbols.{Symbol}
 use Rattle.si_defs.specs.Clauses.{Name, Clause, Pattern, IsSoundClause}
 use Rattle.si_defs.specs.Entries.{entries, state_entries, clause_symbols}
@@ -15,12 +17,12 @@ use Rattle.si_state.specs.Answers.{Hit, IsAnswer, hit_texts}
 use Rattle.si_steps.specs.declared.limits.Limits.{Limits}
 use Rattle.si_steps.specs.Settings.{Setting}
 use Rattle.si_state.specs.Subsumption.{mapped_text}
-use Rattle.si_steps.specs.Replies.{Reply, is_refusal, ok_line, end_line, stats_line, sample_line, misused_line, full_line, unknown_line, memory_line, answer_reply}
-use Rattle.si_steps.specs.Commands.{Command, add, load, remove, query, subsumers, subsumed, stats, sample, IsDecided, IsSilent}
+use Rattle.si_steps.specs.Replies.{Reply, counts_line, tree_reply, explain_line, is_refusal, ok_line, end_line, stats_line, sample_line, misused_line, full_line, unknown_line, syntax_line, memory_line, answer_reply}
+use Rattle.si_steps.specs.Commands.{Command, add, load, remove, query, subsumers, subsumed, stats, tree, explain, sample, command_word, IsShort, IsSilent, Means}
 use Rattle.si_state.specs.Harvest.{Files, Fault, tried, clauses_behind}
 use Rattle.si_steps.specs.Loads.{Owed, nothing, PerformsLoad, gained_line, load_line}
-use Rattle.si_steps.specs.Steps.{Performs, RightStep, right, memory_at_once, memory_behind, performed, loaded}
-use Rattle.si_steps.specs.FileWords.{names_file, named, right_word, no_memory}
+use Rattle.si_steps.specs.Steps.{Performs, IsNoCommand, RightStep, right, memory_at_once, memory_behind, performed, loaded}
+use Rattle.si_steps.specs.FileWords.{names_file, nameless, named, right_word, no_memory}
 use Rattle.si_steps.specs.Runs.{a_line, a_word, ended}
 use Rattle.si_io.specs.Shown.{SinkShown}
 use Rattle.si_io.specs.Sends.{SendsAll, SendsPart}
@@ -32,13 +34,21 @@ use Rattle.si_sign.specs.Stores.{Rejects}
 use Rattle.si_sign.specs.declared.faults.Rejected.{Rejected}
 use Rattle.si_sign.specs.declared.faults.AddFault.{AddFault}
 use Rattle.si_sign.specs.declared.faults.AddFault.TheVariants as add_fault
-use Rattle.si_index.specs.Kept.{Kept}
+use Rattle.si_index.specs.Kept.{Kept, AreKeyed, NumbersExactly, TreesHold}
 use Rattle.si_index.specs.declared.index.Stats.{Stats}
+use Rattle.si_index.specs.declared.index.TreeCounts.{TreeCounts}
+use Rattle.si_tree.specs.declared.node.Counts as node_counts
+use Rattle.si_tree.specs.Reading.{counts_of}
+use Rattle.si_legal.specs.Counts.{node_count}
+use Rattle.si_held.specs.Queries.{asked_tree}
+use Rattle.si_session.specs.Explained.{TellsExplained}
+use Rattle.si_session.proofs.Standing.{hits_standing}
 use Rattle.si_session.specs.declared.reply.ReplyLine as reply
-use Rattle.si_session.specs.Replies.{reply_line, misused_text}
+use Rattle.si_session.specs.Replies.{reply_line, misused_text, counts_text, counts_reply}
 use Rattle.si_session.specs.Rejections.{HasHead, NamesEntry, TellsFault, TellsWhy}
 use Rattle.si_io.specs.Library.{Counts}
-use Rattle.si_session.specs.Session.{Around, Steps, Writes, HasPerformed, ActsOn, rightly, at_once, behind, HasLoaded, LoadsInto, rightly_loaded, ran_out, view_of, holding}
+use Rattle.si_session.specs.ShownTrees.{nodes_of, Asks, ShowsTrees}
+use Rattle.si_session.specs.Session.{Around, Steps, HoldsTrees, GoesByTrees, ChangesKept, Writes, HasPerformed, ActsOn, rightly, at_once, behind, HasLoaded, LoadsInto, rightly_loaded, ran_out, view_of, holding}
 use Rattle.si_session.specs.declared.stepped.Stepped.{Stepped}
 use Rattle.si_session.specs.declared.stepped.Stepped.TheVariants.{Answered, Refused, Silent, SinkFailed}
 
@@ -144,6 +154,8 @@ some_reply setting (query relation pattern) state new reply h e = some_line (hit
 some_reply setting (subsumers formula) state new reply h e = some_line (map mapped_text h.0) _ (sym h.2 ∙ e)
 some_reply setting (subsumed formula) state new reply h e = some_line (map mapped_text h.0) _ (sym h.2 ∙ e)
 some_reply setting stats state new reply h e = some_line [] _ (sym h.2 ∙ e)
+some_reply setting tree state new reply h e = some_line (counts_line (codes "literals") h.0 ∷ []) _ (sym h.2 ∙ e)
+some_reply setting (explain relation pattern) state new reply h e = some_line [] _ (sym h.4 ∙ e)
 some_reply setting (sample start count) state new reply (drawn, are, inl h) e = some_line [] _ (sym h.3 ∙ e)
 some_reply setting (sample start count) state new reply (drawn, are, inr h) e = some_line [] _ (sym h.3 ∙ e)
 
@@ -168,6 +180,8 @@ performs_refused setting (query relation pattern) state new reply h t = h.3
 performs_refused setting (subsumers formula) state new reply h t = h.3
 performs_refused setting (subsumed formula) state new reply h t = h.3
 performs_refused setting stats state new reply h t = h.3
+performs_refused setting tree state new reply h t = h.3
+performs_refused setting (explain relation pattern) state new reply h t = h.5
 performs_refused setting (sample start count) state new reply (drawn, are, inl h) t = h.4
 performs_refused setting (sample start count) state new reply (drawn, are, inr h) t =
     let wrong : IsTrue (is_refusal (sample_line (length drawn) (length (state_entries drawn)) h.0 ∷ [])) = subst (λ r. IsTrue (is_refusal r)) h.3 t in cc
@@ -191,33 +205,141 @@ line_not_silent o line a b w e = let v : Writes Silent (line ∷ []) a b = subst
 setting_stays : (limits : Limits) (old new : Kept) → new.rules ≡ old.rules → (view_of limits new).setting ≡ (view_of limits old).setting
 setting_stays limits old new same = λ i. record { limits = limits; rules = same i }
 
-pub stepped : (limits : Limits) (told : Option Files) (old new : Kept) (line : Bytes) (command : Command) (o : Stepped) (a b : SinkShown) (counts : Counts) (may_fail : Bool)
-    → new.rules ≡ old.rules → length line ≤ limits.line → IsPerformed command line → ActsOn command old new o a b
-    → Steps told (view_of limits old) (view_of limits new) (a_line line) o (beside a counts may_fail) (beside b counts may_fail)
-stepped limits told old new line command o a b counts may_fail rules short performs acts = by (acts (view_of limits old).setting (view_of limits old).state) where
-  now : IsDecided limits line
-  now = record { short = short; built = performs.0 }
+-- a command was performed
+by_trees : (limits : Limits) (old new : Kept) (line : Bytes) (command : Command) → IsShort limits line → Means command line → (reply : Reply) → ShowsTrees old.numbers old.trees command reply
+    → ChangesKept command ⊎ (new.trees ≡ old.trees) → GoesByTrees (view_of limits old) (view_of limits new) line reply
+by_trees limits old new line command short means reply shows stays = record {
+  shown = inr (inr (command, (short, means), shows));
+  stay = by stays;
+} where
+  by : ChangesKept command ⊎ (new.trees ≡ old.trees) → ((c : Command) × Asks limits line c × ChangesKept c) ⊎ (new.trees ≡ old.trees)
+  by (inl changes) = inl (command, (short, means), changes)
+  by (inr same) = inr same
 
+pub stepped : (limits : Limits) (told : Option Files) (old new : Kept) (line : Bytes) (command : Command) (o : Stepped) (a b : SinkShown) (counts : Counts) (may_fail : Bool)
+    → HoldsTrees (view_of limits old) → new.rules ≡ old.rules → IsShort limits line → IsPerformed command line → ActsOn command old new o a b
+    → ((reply : Reply) → ShowsTrees old.numbers old.trees command reply) → ChangesKept command ⊎ (new.trees ≡ old.trees)
+    → Steps told (view_of limits old) (view_of limits new) (a_line line) o (beside a counts may_fail) (beside b counts may_fail)
+stepped limits told old new line command o a b counts may_fail held rules short performs acts shows stays = by (acts (view_of limits old).setting (view_of limits old).state) where
   loud : IsSilent limits line → ⊥
-  loud h = performs.1 h.1
+  loud h = performs.0 h.1
+
+  own : (reply : Reply) → GoesByTrees (view_of limits old) (view_of limits new) line reply
+  own reply = by_trees limits old new line command short performs.1 reply (shows reply) stays
 
   same_setting : (view_of limits new).setting ≡ (view_of limits old).setting
   same_setting = setting_stays limits old new rules
 
   by : HasPerformed (Performs (view_of limits old).setting command (view_of limits old).state) (view_of limits old).state (view_of limits new).state o a b
       → Steps told (view_of limits old) (view_of limits new) (a_line line) o (beside a counts may_fail) (beside b counts may_fail)
-  by (rightly reply p w) = record { reply = reply; owed = nothing; step = right (performed now command performs.2 p refl); setting = same_setting; written = w; counted = refl }
-  by (at_once same w) = record { reply = memory_line ∷ []; owed = nothing; step = memory_at_once loud short refl refl same; setting = same_setting; written = w; counted = refl }
+  by (rightly reply p w) = record { reply = reply; owed = nothing; step = right (performed short command performs.1 p refl); setting = same_setting; held = held; own_trees = own _; written = w; counted = refl }
+  by (at_once same w) = record { reply = memory_line ∷ []; owed = nothing; step = memory_at_once loud short refl refl same; setting = same_setting; held = held; own_trees = own _; written = w; counted = refl }
   by (behind whole next p written left split rest same w) = record {
     reply = written ++ memory_line ∷ [];
     owed = nothing;
     step = memory_behind whole nothing next (right_of p) short written left split rest refl refl same;
     setting = same_setting;
+    held = held;
+    own_trees = own _;
     written = w;
     counted = refl;
   } where
     right_of : Performs (view_of limits old).setting command (view_of limits old).state whole next → RightStep (view_of limits old).setting told (view_of limits old).state line whole nothing next
-    right_of p = performed now command performs.2 p refl
+    right_of p = performed short command performs.1 p refl
+
+-- ---- lines that are no command
+-- blanks are none
+pub blanks_no_command : (line : Bytes) → AreBlanks line → IsNoCommand line
+blanks_no_command line blanks c means =
+    let b = subst (λ ts. Begins line ts means.consists.rest) means.spelled.whole means.consists.begins in
+    blanks_none line blanks (lower (command_text (command_word c))) b.0 b.1
+
+pub line_stepped : (limits : Limits) (told : Option Files) (index : Kept) (line : Bytes) (reply : Reply) (o : Stepped) (a b : SinkShown) (tally : Counts) (may_fail : Bool) → HoldsTrees (view_of limits index) → IsNoCommand line
+    → RightStep (view_of limits index).setting told (view_of limits index).state line reply nothing (view_of limits index).state → Writes o reply a b
+    → Steps told (view_of limits index) (view_of limits index) (a_line line) o (beside a tally may_fail) (beside b tally may_fail)
+line_stepped limits told index line reply o a b tally may_fail held none step w = record {
+  reply = reply;
+  owed = nothing;
+  step = right step;
+  setting = refl;
+  held = held;
+  own_trees = record { shown = inr (inl (λ c asks. none c asks.1)); stay = inr refl };
+  written = w;
+  counted = refl;
+}
+
+-- no memory for what a line says
+pub unread_stepped : (limits : Limits) (told : Option Files) (index : Kept) (line : Bytes) (o : Stepped) (a b : SinkShown) (tally : Counts) (may_fail : Bool) → HoldsTrees (view_of limits index) → IsShort limits line
+    → (AreBlanks line → ⊥) → Writes o (memory_line ∷ []) a b → Steps told (view_of limits index) (view_of limits index) (a_line line) o (beside a tally may_fail) (beside b tally may_fail)
+unread_stepped limits told index line o a b tally may_fail held short some w = record {
+  reply = memory_line ∷ [];
+  owed = nothing;
+  step = memory_at_once (λ h. some h.1) short refl refl refl;
+  setting = refl;
+  held = held;
+  own_trees = record { shown = inl refl; stay = inr refl };
+  written = w;
+  counted = refl;
+}
+
+-- a word that can't name a file
+pub nameless_stepped : (limits : Limits) (told : Option Files) (index : Kept) (word : Bytes) (o : Stepped) (a b : SinkShown) (tally : Counts) (may_fail : Bool) → HoldsTrees (view_of limits index) → IsFalse (names_file word)
+    → Writes o (syntax_line ∷ []) a b → Steps told (view_of limits index) (view_of limits index) (a_word word) o (beside a tally may_fail) (beside b tally may_fail)
+nameless_stepped limits told index word o a b tally may_fail held none w =
+    record { reply = syntax_line ∷ []; owed = nothing; step = right_word (nameless none refl refl refl); setting = refl; held = held; own_trees = tt; written = w; counted = refl }
+
+-- what is known of an index's trees
+pub holds_trees : (limits : Limits) (index : Kept) → AreKeyed index → NumbersExactly index.numbers index.clauses → TreesHold index → HoldsTrees (view_of limits index)
+holds_trees limits index keyed exactly hold = record { number = keyed.number; numbered = exactly; hold = hold }
+
+-- ---- the trees
+-- how many nodes they have
+pub trees_stepped : (limits : Limits) (told : Option Files) (index : Kept) (line : Bytes) (shown : TreeCounts) (o : Stepped) (a b : SinkShown) (tally : Counts) (may_fail : Bool)
+    → HoldsTrees (view_of limits index) → IsShort limits line → IsPerformed tree line → shown.literals ≡ counts_of index.trees.literals → shown.terms ≡ counts_of index.trees.subterms → Writes o (counts_reply shown) a b
+    → Steps told (view_of limits index) (view_of limits index) (a_line line) o (beside a tally may_fail) (beside b tally may_fail)
+trees_stepped limits told index line shown o a b tally may_fail held short performs literals terms w =
+    let whole : counts_reply shown ≡ tree_reply (nodes_of index.trees.literals) (nodes_of index.trees.subterms) =
+    ap₂ (λ (x y : node_counts.Counts). counts_text (codes "literals") x ∷ counts_text (codes "terms") y ∷ []) literals terms in
+    record {
+      reply = counts_reply shown;
+      owed = nothing;
+      step = right (performed short tree performs.1 (nodes_of index.trees.literals, nodes_of index.trees.subterms, whole, refl) refl);
+      setting = refl;
+      held = held;
+      own_trees = by_trees limits index index line tree short performs.1 (counts_reply shown) whole (inr refl);
+      written = w;
+      counted = refl;
+    }
+
+-- what a query passes
+pub explain_stepped : (limits : Limits) (told : Option Files) (index : Kept) (line : Bytes) (relation : Relation) (p : Pattern) (o : Stepped) (a b : SinkShown) (tally : Counts) (may_fail : Bool)
+    → HoldsTrees (view_of limits index) → IsShort limits line → IsPerformed (explain relation p) line → TellsExplained index relation p o a b
+    → Steps told (view_of limits index) (view_of limits index) (a_line line) o (beside a tally may_fail) (beside b tally may_fail)
+explain_stepped limits told index line relation p o a b tally may_fail held short performs (inl (e, explains, w)) =
+    let same : explain_line e.passed e.nodes e.answers ∷ [] ≡ explain_line e.passed (node_count (asked_tree p index.trees)) e.answers ∷ [] =
+    ap (λ n. explain_line e.passed n e.answers ∷ []) explains.nodes in
+    record {
+      reply = explain_line e.passed e.nodes e.answers ∷ [];
+      owed = nothing;
+      step =
+          right (performed short (explain relation p) performs.1
+          (e.passed, e.nodes, e.answers, hits_standing relation p index.clauses explains.hits e.answers explains.are_hits explains.answers, refl, refl) refl);
+      setting = refl;
+      held = held;
+      own_trees = by_trees limits index index line (explain relation p) short performs.1 _ (e.passed, e.answers, explains.passed, same) (inr refl);
+      written = w;
+      counted = refl;
+    }
+explain_stepped limits told index line relation p o a b tally may_fail held short performs (inr w) = record {
+  reply = memory_line ∷ [];
+  owed = nothing;
+  step = memory_at_once (λ h. performs.0 h.1) short refl refl refl;
+  setting = refl;
+  held = held;
+  own_trees = record { shown = inl refl; stay = inr refl };
+  written = w;
+  counted = refl;
+}
 
 -- ---- a load
 load_some : (setting : Setting) (told : Option Files) (file : Bytes) (state new : State) (reply : Reply) (owed : Owed) → PerformsLoad setting told file state reply owed new → reply ≡ [] → ⊥
@@ -258,28 +380,33 @@ module _ (limits : Limits) (told : Option Files) (file : Bytes) (old new : Kept)
         load_stays (view_of limits old).setting told file (view_of limits old).state (view_of limits new).state reply owed p v.1
     by (ran_out same w h) e = same
 
-  pub load_stepped : (line : Bytes) → new.rules ≡ old.rules → length line ≤ limits.line → IsPerformed (load file) line
+  pub load_stepped : (line : Bytes) → HoldsTrees (view_of limits old) → new.rules ≡ old.rules → IsShort limits line → IsPerformed (load file) line
       → Steps told (view_of limits old) (view_of limits new) (a_line line) o a b
-  load_stepped line rules short performs = by own where
+  load_stepped line held rules short performs = by own where
     loud : IsSilent limits line → ⊥
-    loud h = performs.1 h.1
+    loud h = performs.0 h.1
+
+    own_trees : (reply : Reply) → GoesByTrees (view_of limits old) (view_of limits new) line reply
+    own_trees reply = by_trees limits old new line (load file) short performs.1 reply tt (inl tt)
 
     by : HasLoaded (view_of limits old).setting told file (view_of limits old).state (view_of limits new).state o a b
         → Steps told (view_of limits old) (view_of limits new) (a_line line) o a b
     by (rightly_loaded reply owed p w h) = record {
       reply = reply;
       owed = owed;
-      step = right (loaded (record { short = short; built = performs.0 }) file performs.2 p);
+      step = right (loaded short file performs.1 p);
       setting = setting_stays limits old new rules;
+      held = held;
+      own_trees = own_trees reply;
       written = w;
       counted = h;
     }
     by (ran_out same w h) =
-        record { reply = memory_line ∷ []; owed = nothing; step = memory_at_once loud short refl refl same; setting = setting_stays limits old new rules; written = w; counted = h }
+        record { reply = memory_line ∷ []; owed = nothing; step = memory_at_once loud short refl refl same; setting = setting_stays limits old new rules; held = held; own_trees = own_trees (memory_line ∷ []); written = w; counted = h }
 
   -- a word that names the file
-  pub word_stepped : new.rules ≡ old.rules → IsTrue (names_file file) → Steps told (view_of limits old) (view_of limits new) (a_word file) o a b
-  word_stepped rules names = by own where
+  pub word_stepped : HoldsTrees (view_of limits old) → new.rules ≡ old.rules → IsTrue (names_file file) → Steps told (view_of limits old) (view_of limits new) (a_word file) o a b
+  word_stepped held rules names = by own where
     by : HasLoaded (view_of limits old).setting told file (view_of limits old).state (view_of limits new).state o a b
         → Steps told (view_of limits old) (view_of limits new) (a_word file) o a b
     by (rightly_loaded reply owed p w h) = record {
@@ -287,8 +414,10 @@ module _ (limits : Limits) (told : Option Files) (file : Bytes) (old new : Kept)
       owed = owed;
       step = right_word (named names p);
       setting = setting_stays limits old new rules;
+      held = held;
+      own_trees = tt;
       written = w;
       counted = h;
     }
     by (ran_out same w h) =
-        record { reply = memory_line ∷ []; owed = nothing; step = no_memory names refl refl same; setting = setting_stays limits old new rules; written = w; counted = h }
+        record { reply = memory_line ∷ []; owed = nothing; step = no_memory names refl refl same; setting = setting_stays limits old new rules; held = held; own_trees = tt; written = w; counted = h }

@@ -13,10 +13,10 @@ use Rattle.si_defs.specs.Texts.{IsPattern, languages}
 use Rattle.si_defs.proofs.TokenLaws.{begins_split}
 use Rattle.si_state.specs.Samples.{AllowsSample}
 use Rattle.si_steps.specs.declared.word.Word.{Word}
-use Rattle.si_steps.specs.declared.word.Word.TheVariants.{Add, Load, Remove, Ask, Subsumers, Subsumed, Stats, Sample}
-use Rattle.si_steps.specs.Words.{command_text, is_built}
-use Rattle.si_steps.specs.Commands.{Command, add, load, remove, query, subsumers, subsumed, stats, sample, numeral, command_word, IsCommand, IsQuery, AreOperands, Means, IsUnbuilt, AddsForeign}
-use Rattle.si_steps.proofs.WordLaws.{same_word, built_apart}
+use Rattle.si_steps.specs.declared.word.Word.TheVariants.{Add, Load, Remove, Ask, Subsumers, Subsumed, Stats, Tree, Explain, Sample}
+use Rattle.si_steps.specs.Words.{relation_text, command_text}
+use Rattle.si_steps.specs.Commands.{Command, add, load, remove, query, subsumers, subsumed, stats, tree, explain, sample, numeral, command_word, IsCommand, IsQuery, AreOperands, Means, AddsForeign}
+use Rattle.si_steps.proofs.WordLaws.{same_word}
 use Rattle.si_lex.specs.declared.lexeme.Lexeme.{Lexeme}
 use Rattle.si_lex.specs.declared.lexing.Lexing.{Lexing}
 use Rattle.si_lex.specs.declared.lexing.Stop.{Stop}
@@ -37,7 +37,7 @@ use Rattle.si_term.specs.declared.clause.Name as program_name
 use Rattle.si_term.specs.declared.clause.Literal as program_literal
 use Rattle.si_term.specs.declared.clause.Pattern as program_pattern
 use Rattle.si_term.specs.Meaning.{name_of, clause_of, pattern_of}
-use Rattle.si_session.specs.Commands.{ReadsCommand, ReadsOperand, BeginUnbuilt, AddForeign, Commands, kind_word}
+use Rattle.si_session.specs.Commands.{ReadsCommand, ReadsOperand, ReadsQuery, AddForeign, Commands, kind_word}
 use Rattle.si_session.specs.declared.command.Command as read
 use Rattle.si_session.specs.declared.command.Command.TheVariants as command
 
@@ -104,6 +104,7 @@ OperandsOf (Ask relation) = Pattern
 OperandsOf Subsumers = List Literal
 OperandsOf Subsumed = List Literal
 OperandsOf Sample = ℕ × ℕ
+OperandsOf Explain = Relation × Pattern
 OperandsOf w = Unit {0}
 
 abbrev AreSpelled : (w : Word) → OperandsOf w → List Token → Type 0
@@ -114,8 +115,9 @@ AreSpelled (Ask relation) p ts = IsQuery p ts
 AreSpelled Subsumers formula ts = IsFormula formula ts
 AreSpelled Subsumed formula ts = IsFormula formula ts
 AreSpelled Stats none ts = ts ≡ []
+AreSpelled Tree none ts = ts ≡ []
+AreSpelled Explain asked ts = (us : List Token) × IsQuery asked.1 us × (ts ≡ lower (relation_text asked.0) ∷ us)
 AreSpelled Sample numbers ts = AllowsSample numbers.0 numbers.1 × (ts ≡ numeral numbers.0 ∷ numeral numbers.1 ∷ [])
-AreSpelled w none ts = Unit {0}
 
 own : (c : Command) (ts : List Token) → AreOperands c ts → (o : OperandsOf (command_word c)) × AreSpelled (command_word c) o ts
 own (add c) ts h = (c, h)
@@ -125,6 +127,8 @@ own (query r p) ts h = (p, h)
 own (subsumers formula) ts h = (formula, h)
 own (subsumed formula) ts h = (formula, h)
 own stats ts h = (tt, h)
+own tree ts h = (tt, h)
+own (explain r p) ts h = ((r, p), h)
 own (sample start count) ts h = ((start, count), h)
 
 -- what stands behind the word in any command that begins with it
@@ -132,19 +136,14 @@ only : (w : Word) (c : Command) (ts : List Token) → IsCommand c (lower (comman
 only w c ts h =
     subst (λ v. (o : OperandsOf v) × AreSpelled v o ts) (sym (word_is c w ts h)) (own c ts (command_is c (lower (command_text w)) ts h).1)
 
--- behind the word of a command that is built
-built_begins : (w : Word) (ts : List Token) → IsTrue (is_built w) → BeginUnbuilt (lower (command_text w) ∷ ts) → ⊥
-built_begins w ts b u = built_apart w u.0 (same_text (command_text w) (command_text u.0) u.2) b u.1
-
 -- another word than `add`
 other_than_add : (w : Word) (ts : List Token) → (w ≡ Add → ⊥) → AddForeign (lower (command_text w) ∷ ts) → ⊥
 other_than_add w ts n f = n (same_word w Add (same_text (command_text w) (command_text Add) f.0))
 
 -- tokens behind another word than `add` that are no command
-other_wrong : (w : Word) (ts : List Token) (stop : Stop) → IsTrue (is_built w) → (w ≡ Add → ⊥)
+other_wrong : (w : Word) (ts : List Token) (stop : Stop) → (w ≡ Add → ⊥)
     → (stop ≡ End → (c : Command) → IsCommand c (lower (command_text w) ∷ ts) → ⊥) → Commands (lower (command_text w) ∷ ts) stop command.Wrong
-other_wrong w ts stop built other none = (
-  built_begins w ts built,
+other_wrong w ts stop other none = (
   other_than_add w ts other,
   λ e s. some_tokens (lower (command_text w)) ts s,
   none,
@@ -153,7 +152,6 @@ other_wrong w ts stop built other none = (
 -- no word of a command
 pub no_word : (t : Token) (ts : List Token) (stop : Stop) → ((w : Word) → t ≡ lower (command_text w) → ⊥) → Commands (t ∷ ts) stop command.Wrong
 no_word t ts stop n = (
-  λ u. n u.0 u.2,
   λ f. n Add f.0,
   λ e s. some_tokens t ts s,
   λ e c h. n (command_word c) (command_is c t ts h).0,
@@ -165,7 +163,6 @@ pub add_wrong : (tokens : List Lexeme) (stop : Stop) (found : Option (program_cl
     → (AreForeign (tokens_of tokens) → ⊥) → (stop ≡ End → (x : program_clause.Clause) (r : Bor (List Lexeme)) → found ≡ Some (x, r) → r.now ≡ [] → ⊥)
     → Commands (lower (command_text Add) ∷ tokens_of tokens) stop command.Wrong
 add_wrong tokens stop found p own left = (
-  built_begins Add (tokens_of tokens) refl,
   λ f. own f.1,
   λ e s. some_tokens (lower (command_text Add)) (tokens_of tokens) s,
   λ e c h. let d = only Add c (tokens_of tokens) h in whole_none clause_of tokens tt found p (left e) d.0 d.1,
@@ -181,7 +178,7 @@ found_not_foreign tokens x r p f =
 pub add_read : (tokens : List Lexeme) (stop : Stop) (x : program_clause.Clause) (r : Bor (List Lexeme)) → stop ≡ End → r.now ≡ [] → reads.Reads clause_of IsClause Anything tokens (Some (x, r))
     → IsSoundClause (clause_of x) → Commands (lower (command_text Add) ∷ tokens_of tokens) stop (command.Add x)
 add_read tokens stop x r e none p sound =
-    (e, record { built = refl; operands = tokens_of tokens; spelled = whole_means clause_of tokens tt x r none p; whole = refl }, sound)
+    (e, record { operands = tokens_of tokens; spelled = whole_means clause_of tokens tt x r none p; whole = refl }, sound)
 
 -- a formula of another language
 pub add_foreign : (ts : List Token) (stop : Stop) → AreForeign ts → Commands (lower (command_text Add) ∷ ts) stop command.Foreign
@@ -193,36 +190,36 @@ pub remove_wrong : (tokens : List Lexeme) (stop : Stop) (found : Option (program
     → (stop ≡ End → (x : program_name.Name) (r : Bor (List Lexeme)) → found ≡ Some (x, r) → r.now ≡ [] → ⊥)
     → Commands (lower (command_text Remove) ∷ tokens_of tokens) stop command.Wrong
 remove_wrong tokens stop found p left =
-    other_wrong Remove (tokens_of tokens) stop refl (λ e. cc)
+    other_wrong Remove (tokens_of tokens) stop (λ e. cc)
     (λ e c h. let n = only Remove c (tokens_of tokens) h in whole_none name_of tokens tt found p (left e) n.0 n.1)
 
 pub remove_read : (tokens : List Lexeme) (stop : Stop) (x : program_name.Name) (r : Bor (List Lexeme)) → stop ≡ End → r.now ≡ []
     → reads.Reads name_of IsNameToken Anything tokens (Some (x, r)) → Commands (lower (command_text Remove) ∷ tokens_of tokens) stop (command.Remove x)
 remove_read tokens stop x r e none p =
-    (e, record { built = refl; operands = tokens_of tokens; spelled = whole_means name_of tokens tt x r none p; whole = refl })
+    (e, record { operands = tokens_of tokens; spelled = whole_means name_of tokens tt x r none p; whole = refl })
 
 -- ---- `load`
 -- no file's name stands behind the word, or something else than blanks behind it
 pub load_wrong : (ts : List Token) (stop : Stop) → (stop ≡ End → (file : Bytes) → IsFileToken file ts → ⊥) → Commands (lower (command_text Load) ∷ ts) stop command.Wrong
-load_wrong ts stop none = other_wrong Load ts stop refl (λ e. cc) (λ e c h. let f = only Load c ts h in none e f.0 f.1)
+load_wrong ts stop none = other_wrong Load ts stop (λ e. cc) (λ e c h. let f = only Load c ts h in none e f.0 f.1)
 
 pub load_read : (ts : List Token) (stop : Stop) (file : Bytes) → stop ≡ End → IsFileToken file ts → Commands (lower (command_text Load) ∷ ts) stop (command.Load file)
-load_read ts stop file e h = (e, record { built = refl; operands = ts; spelled = h; whole = refl })
+load_read ts stop file e h = (e, record { operands = ts; spelled = h; whole = refl })
 
 -- ---- `stats`
 -- something stands behind the word
 pub stats_wrong : (ts : List Token) (stop : Stop) → (stop ≡ End → ts ≡ [] → ⊥) → Commands (lower (command_text Stats) ∷ ts) stop command.Wrong
-stats_wrong ts stop some = other_wrong Stats ts stop refl (λ e. cc) (λ e c h. some e (only Stats c ts h).1)
+stats_wrong ts stop some = other_wrong Stats ts stop (λ e. cc) (λ e c h. some e (only Stats c ts h).1)
 
 pub stats_read : (ts : List Token) (stop : Stop) → stop ≡ End → ts ≡ [] → Commands (lower (command_text Stats) ∷ ts) stop command.Stats
-stats_read ts stop e none = (e, record { built = refl; operands = ts; spelled = none; whole = refl })
+stats_read ts stop e none = (e, record { operands = ts; spelled = none; whole = refl })
 
 -- ---- `sample`
 -- no start and count stand behind the word
 pub sample_wrong : (ts : List Token) (stop : Stop) → (stop ≡ End → (start count : ℕ) → AllowsSample start count → ts ≡ numeral start ∷ numeral count ∷ [] → ⊥)
     → Commands (lower (command_text Sample) ∷ ts) stop command.Wrong
 sample_wrong ts stop none =
-    other_wrong Sample ts stop refl (λ e. cc) (λ e c h. let numbers = only Sample c ts h in none e numbers.0.0 numbers.0.1 numbers.1.0 numbers.1.1)
+    other_wrong Sample ts stop (λ e. cc) (λ e c h. let numbers = only Sample c ts h in none e numbers.0.0 numbers.0.1 numbers.1.0 numbers.1.1)
 
 -- the count is 0
 pub sample_none : (whole : List Token) (stop : Stop) (t u : Token) (ts : List Token) (n : ℕ) → whole ≡ t ∷ u ∷ ts → u ≡ numeral n → n ≤ 0
@@ -236,13 +233,9 @@ sample_none whole stop t u ts n front word none =
 
 pub sample_read : (ts : List Token) (stop : Stop) (start count : ℕ) → stop ≡ End → AllowsSample start count → ts ≡ numeral start ∷ numeral count ∷ []
     → Commands (lower (command_text Sample) ∷ ts) stop (command.Sample start count)
-sample_read ts stop start count e drawable is = (e, record { built = refl; operands = ts; spelled = (drawable, is); whole = refl }, drawable)
+sample_read ts stop start count e drawable is = (e, record { operands = ts; spelled = (drawable, is); whole = refl }, drawable)
 
 -- ---- queries
--- what such tokens are where they are no command
-query_wrong : (r : Relation) (ts : List Token) (stop : Stop) → (stop ≡ End → (p : Pattern) → IsQuery p ts → ⊥) → Commands (lower (command_text (Ask r)) ∷ ts) stop command.Wrong
-query_wrong r ts stop n = other_wrong (Ask r) ts stop refl (λ e. cc) (λ e c h. let q = only (Ask r) c ts h in n e q.0 q.1)
-
 -- a query is the word of its kind, and the pattern
 pub record Asks (p : Pattern) (t : Token) (ts : List Token) : Type 0 where
   pub kind : PatternKind
@@ -276,34 +269,61 @@ nothing_asked : (p : Pattern) → IsQuery p [] → ⊥
 nothing_asked (literal_pattern l) h = let e = h.2 in cc
 nothing_asked (term_pattern t) h = let e = h.2 in cc
 
--- nothing stands behind the word
-pub query_empty : (r : Relation) (ts : List Token) (stop : Stop) → ts ≡ [] → Commands (lower (command_text (Ask r)) ∷ ts) stop command.Wrong
-query_empty r ts stop none = query_wrong r ts stop (λ e p q. nothing_asked p (subst (IsQuery p) none q))
+-- nothing stands there
+pub query_empty : (ts : List Token) (stop : Stop) → ts ≡ [] → ReadsQuery ts stop None
+query_empty ts stop none e p q = nothing_asked p (subst (IsQuery p) none q)
 
 -- another word than that of a kind does
-pub query_other : (r : Relation) (whole : List Token) (stop : Stop) (t : Token) (ts : List Token) → whole ≡ t ∷ ts → ((k : PatternKind) → t ≡ lower (kind_word k) → ⊥)
-    → Commands (lower (command_text (Ask r)) ∷ whole) stop command.Wrong
-query_other r whole stop t ts front other =
-    query_wrong r whole stop (λ e p q. let a = asks p t ts (subst (IsQuery p) front q) in other a.kind a.word)
+pub query_other : (whole : List Token) (stop : Stop) (t : Token) (ts : List Token) → whole ≡ t ∷ ts → ((k : PatternKind) → t ≡ lower (kind_word k) → ⊥) → ReadsQuery whole stop None
+query_other whole stop t ts front other e p q = let a = asks p t ts (subst (IsQuery p) front q) in other a.kind a.word
 
 -- something else than blanks stands behind the last token
-pub query_bad : (r : Relation) (ts : List Token) (stop : Stop) → (stop ≡ End → ⊥) → Commands (lower (command_text (Ask r)) ∷ ts) stop command.Wrong
-query_bad r ts stop bad = query_wrong r ts stop (λ e p q. bad e)
+pub query_bad : (ts : List Token) (stop : Stop) → (stop ≡ End → ⊥) → ReadsQuery ts stop None
+query_bad ts stop bad e p q = bad e
 
--- the rest is no pattern of the kind
-pub query_none : (r : Relation) (whole : List Token) (stop : Stop) (t : Token) (ts : List Token) (k : PatternKind) → whole ≡ t ∷ ts → t ≡ lower (kind_word k) → ReadsWhole ts k None
-    → Commands (lower (command_text (Ask r)) ∷ whole) stop command.Wrong
-query_none r whole stop t ts k front word none =
-    query_wrong r whole stop
-    (λ e p q.
+-- the rest is what is read of the pattern's tokens
+pub query_rest : (whole : List Token) (stop : Stop) (t : Token) (ts : List Token) (k : PatternKind) (read : Option program_pattern.Pattern) → stop ≡ End → whole ≡ t ∷ ts → t ≡ lower (kind_word k)
+    → ReadsWhole ts k read → ReadsQuery whole stop read
+query_rest whole stop t ts k None e front word none = λ end p q.
     let a = asks p t ts (subst (IsQuery p) front q) in
-    none p (subst (λ j. IsOfKind j p) (same_kind a.kind k t a.word word) a.of_kind) a.spelled)
+    none p (subst (λ j. IsOfKind j p) (same_kind a.kind k t a.word word) a.of_kind) a.spelled
+query_rest whole stop t ts k (Some p) e front word read =
+    (e, subst (IsQuery (pattern_of p)) (sym front) (asks_query k (pattern_of p) t ts word read.of_kind read.spelled), read.sound)
 
--- or it is one
-pub query_read : (r : Relation) (whole : List Token) (stop : Stop) (t : Token) (ts : List Token) (k : PatternKind) (p : program_pattern.Pattern) → stop ≡ End → whole ≡ t ∷ ts → t ≡ lower (kind_word k)
-    → ReadsWhole ts k (Some p) → Commands (lower (command_text (Ask r)) ∷ whole) stop (command.Query r p)
-query_read r whole stop t ts k p e front word read =
-    (e, record { built = refl; operands = whole; spelled = subst (IsQuery (pattern_of p)) (sym front) (asks_query k (pattern_of p) t ts word read.of_kind read.spelled); whole = refl }, read.sound)
+pub query_wrong : (r : Relation) (ts : List Token) (stop : Stop) → ReadsQuery ts stop None → Commands (lower (command_text (Ask r)) ∷ ts) stop command.Wrong
+query_wrong r ts stop none = other_wrong (Ask r) ts stop (λ e. cc) (λ e c h. let q = only (Ask r) c ts h in none e q.0 q.1)
+
+pub query_read : (r : Relation) (ts : List Token) (stop : Stop) (p : program_pattern.Pattern) → ReadsQuery ts stop (Some p) → Commands (lower (command_text (Ask r)) ∷ ts) stop (command.Query r p)
+query_read r ts stop p h = (h.0, record { operands = ts; spelled = h.1; whole = refl }, h.2)
+
+-- ---- `tree`
+pub tree_wrong : (ts : List Token) (stop : Stop) → (stop ≡ End → ts ≡ [] → ⊥) → Commands (lower (command_text Tree) ∷ ts) stop command.Wrong
+tree_wrong ts stop some = other_wrong Tree ts stop (λ e. cc) (λ e c h. some e (only Tree c ts h).1)
+
+pub tree_read : (ts : List Token) (stop : Stop) → stop ≡ End → ts ≡ [] → Commands (lower (command_text Tree) ∷ ts) stop command.Tree
+tree_read ts stop e none = (e, record { operands = ts; spelled = none; whole = refl })
+
+-- ---- `explain`
+-- no word of a relation stands behind the word
+pub explain_empty : (ts : List Token) (stop : Stop) → ts ≡ [] → Commands (lower (command_text Explain) ∷ ts) stop command.Wrong
+explain_empty ts stop none =
+    other_wrong Explain ts stop (λ e. cc) (λ e c h. let x = only Explain c ts h in some_tokens (lower (relation_text x.0.0)) x.1.0 (sym x.1.2 ∙ none))
+
+pub explain_other : (whole : List Token) (stop : Stop) (t : Token) (ts : List Token) → whole ≡ t ∷ ts → ((r : Relation) → t ≡ lower (relation_text r) → ⊥)
+    → Commands (lower (command_text Explain) ∷ whole) stop command.Wrong
+explain_other whole stop t ts front other =
+    other_wrong Explain whole stop (λ e. cc) (λ e c h. let x = only Explain c whole h in other x.0.0 (ap head (sym front ∙ x.1.2)))
+
+-- or no query behind that
+pub explain_wrong : (whole : List Token) (stop : Stop) (t : Token) (ts : List Token) → whole ≡ t ∷ ts → ReadsQuery ts stop None → Commands (lower (command_text Explain) ∷ whole) stop command.Wrong
+explain_wrong whole stop t ts front none =
+    other_wrong Explain whole stop (λ e. cc)
+    (λ e c h. let x = only Explain c whole h in none e x.0.1 (subst (IsQuery x.0.1) (ap others (sym x.1.2 ∙ front)) x.1.1))
+
+pub explain_read : (whole : List Token) (stop : Stop) (t : Token) (ts : List Token) (r : Relation) (p : program_pattern.Pattern) → whole ≡ t ∷ ts → t ≡ lower (relation_text r) → ReadsQuery ts stop (Some p)
+    → Commands (lower (command_text Explain) ∷ whole) stop (command.Explain r p)
+explain_read whole stop t ts r p front word h =
+    (h.0, record { operands = whole; spelled = (ts, h.1, front ∙ ap (λ u. u ∷ ts) word); whole = refl }, h.2)
 
 -- ---- formulas
 -- what is read of the tokens behind a word
@@ -314,34 +334,23 @@ operand_read ts stop (Ok None) e h sound = λ end. h
 operand_read ts stop (Err why) e h sound = tt
 
 pub subsumers_wrong : (ts : List Token) (stop : Stop) → ReadsOperand ts stop None → Commands (lower (command_text Subsumers) ∷ ts) stop command.Wrong
-subsumers_wrong ts stop none = other_wrong Subsumers ts stop refl (λ e. cc) (λ e c h. let f = only Subsumers c ts h in none e f.0 f.1)
+subsumers_wrong ts stop none = other_wrong Subsumers ts stop (λ e. cc) (λ e c h. let f = only Subsumers c ts h in none e f.0 f.1)
 
 pub subsumers_read : (ts : List Token) (stop : Stop) (ls : List program_literal.Literal) → ReadsOperand ts stop (Some ls)
     → Commands (lower (command_text Subsumers) ∷ ts) stop (command.Subsumers ls)
-subsumers_read ts stop ls h = (h.0, record { built = refl; operands = ts; spelled = h.1; whole = refl }, h.2)
+subsumers_read ts stop ls h = (h.0, record { operands = ts; spelled = h.1; whole = refl }, h.2)
 
 pub subsumed_wrong : (ts : List Token) (stop : Stop) → ReadsOperand ts stop None → Commands (lower (command_text Subsumed) ∷ ts) stop command.Wrong
-subsumed_wrong ts stop none = other_wrong Subsumed ts stop refl (λ e. cc) (λ e c h. let f = only Subsumed c ts h in none e f.0 f.1)
+subsumed_wrong ts stop none = other_wrong Subsumed ts stop (λ e. cc) (λ e c h. let f = only Subsumed c ts h in none e f.0 f.1)
 
 pub subsumed_read : (ts : List Token) (stop : Stop) (ls : List program_literal.Literal) → ReadsOperand ts stop (Some ls)
     → Commands (lower (command_text Subsumed) ∷ ts) stop (command.Subsumed ls)
-subsumed_read ts stop ls h = (h.0, record { built = refl; operands = ts; spelled = h.1; whole = refl }, h.2)
+subsumed_read ts stop ls h = (h.0, record { operands = ts; spelled = h.1; whole = refl }, h.2)
 
 -- ---- lines
 module _ (line : Bytes) (x : Lexing) (l : IsLexing line 0 x) where
   abbrev these : List Token
   these = tokens_of x.tokens.items
-
-  unbuilt_tokens : IsUnbuilt line → BeginUnbuilt these
-  unbuilt_tokens u =
-      let k = l.every (lower (command_text u.word) ∷ []) u.rest (u.rest, u.first, refl) (omega arith) in
-      subst BeginUnbuilt (sym k.1) (u.word, u.unbuilt, refl)
-
-  unbuilt_line : BeginUnbuilt these → IsUnbuilt line
-  unbuilt_line b = by these b l.read.begins where
-    by : (ts : List Token) → BeginUnbuilt ts → Begins line ts l.rest → IsUnbuilt line
-    by [] b g = absurd b
-    by (t ∷ ts) b g = record { word = b.0; unbuilt = b.1; rest = g.0; first = subst (λ u. NextToken line u g.0) b.2 g.1 }
 
   pub blank_tokens : AreBlanks line → (x.stop ≡ End) × (these ≡ [])
   blank_tokens b = l.whole [] (record { rest = line; begins = refl; blanks = b }) (omega arith)
@@ -374,67 +383,58 @@ module _ (line : Bytes) (x : Lexing) (l : IsLexing line 0 x) where
   line_means c m = let k = l.whole m.tokens m.consists m.nested in (k.0, subst (IsCommand c) (sym k.1) m.spelled)
 
   -- tokens that are a command
-  command_built : (c : Command) → IsCommand c these → BeginUnbuilt these → ⊥
-  command_built c h b = built_begins (command_word c) h.operands h.built (subst BeginUnbuilt h.whole b)
-
   command_some : (c : Command) → IsCommand c these → these ≡ [] → ⊥
   command_some c h none = some_tokens (lower (command_text (command_word c))) h.operands (sym h.whole ∙ none)
 
   -- tokens that add a formula of another language
-  foreign_built : AddForeign these → BeginUnbuilt these → ⊥
-  foreign_built f b = by these f b where
-    by : (ts : List Token) → AddForeign ts → BeginUnbuilt ts → ⊥
-    by [] f b = f
-    by (t ∷ ts) f b = built_begins Add ts refl (subst (λ u. BeginUnbuilt (u ∷ ts)) f.0 b)
-
   foreign_some : AddForeign these → these ≡ [] → ⊥
   foreign_some f none = let g : AddForeign [] = subst AddForeign none f in g
 
-  unbuilt_some : BeginUnbuilt these → these ≡ [] → ⊥
-  unbuilt_some b none = let g : BeginUnbuilt [] = subst BeginUnbuilt none b in g
-
   -- what its tokens are, the line is
   pub line_read : (c : read.Command) → Commands these x.stop c → ReadsCommand line c
-  line_read command.Blank h = (λ u. unbuilt_some (unbuilt_tokens u) h.1, blank_line h.0 h.1)
-  line_read command.Later h = (λ b. unbuilt_some h (blank_tokens b).1, unbuilt_line h)
+  line_read command.Blank h = blank_line h.0 h.1
   line_read command.Foreign h = (
-    λ u. foreign_built h.0 (unbuilt_tokens u),
     λ b. foreign_some h.0 (blank_tokens b).1,
     foreign_line h.0,
     λ c m. h.1 c (line_means c m).1,
   )
   line_read command.Wrong h = record {
-    built = λ u. h.0 (unbuilt_tokens u);
-    some = λ b. let k = blank_tokens b in h.2 k.0 k.1;
-    own = λ f. h.1 (foreign_tokens f);
-    none = λ c m. let k = line_means c m in h.3 k.0 c k.1;
+    some = λ b. let k = blank_tokens b in h.1 k.0 k.1;
+    own = λ f. h.0 (foreign_tokens f);
+    none = λ c m. let k = line_means c m in h.2 k.0 c k.1;
   }
   line_read (command.Add a) h = (
     (
-      λ u. command_built (add (clause_of a)) h.1 (unbuilt_tokens u),
       λ b. command_some (add (clause_of a)) h.1 (blank_tokens b).1,
       tokens_mean (add (clause_of a)) h.0 h.1,
     ),
     h.2,
   )
   line_read (command.Remove n) h = (
-    λ u. command_built (remove (name_of n)) h.1 (unbuilt_tokens u),
     λ b. command_some (remove (name_of n)) h.1 (blank_tokens b).1,
     tokens_mean (remove (name_of n)) h.0 h.1,
   )
   line_read (command.Load file) h = (
-    λ u. command_built (load file) h.1 (unbuilt_tokens u),
     λ b. command_some (load file) h.1 (blank_tokens b).1,
     tokens_mean (load file) h.0 h.1,
   )
+  line_read command.Tree h = (
+    λ b. command_some tree h.1 (blank_tokens b).1,
+    tokens_mean tree h.0 h.1,
+  )
+  line_read (command.Explain r p) h = (
+    (
+      λ b. command_some (explain r (pattern_of p)) h.1 (blank_tokens b).1,
+      tokens_mean (explain r (pattern_of p)) h.0 h.1,
+    ),
+    h.2,
+  )
   line_read command.Stats h = (
-    λ u. command_built stats h.1 (unbuilt_tokens u),
     λ b. command_some stats h.1 (blank_tokens b).1,
     tokens_mean stats h.0 h.1,
   )
   line_read (command.Sample start count) h = (
     (
-      λ u. command_built (sample start count) h.1 (unbuilt_tokens u),
       λ b. command_some (sample start count) h.1 (blank_tokens b).1,
       tokens_mean (sample start count) h.0 h.1,
     ),
@@ -442,7 +442,6 @@ module _ (line : Bytes) (x : Lexing) (l : IsLexing line 0 x) where
   )
   line_read (command.Query r p) h = (
     (
-      λ u. command_built (query r (pattern_of p)) h.1 (unbuilt_tokens u),
       λ b. command_some (query r (pattern_of p)) h.1 (blank_tokens b).1,
       tokens_mean (query r (pattern_of p)) h.0 h.1,
     ),
@@ -450,7 +449,6 @@ module _ (line : Bytes) (x : Lexing) (l : IsLexing line 0 x) where
   )
   line_read (command.Subsumers ls) h = (
     (
-      λ u. command_built (subsumers (literals_of ls)) h.1 (unbuilt_tokens u),
       λ b. command_some (subsumers (literals_of ls)) h.1 (blank_tokens b).1,
       tokens_mean (subsumers (literals_of ls)) h.0 h.1,
     ),
@@ -458,7 +456,6 @@ module _ (line : Bytes) (x : Lexing) (l : IsLexing line 0 x) where
   )
   line_read (command.Subsumed ls) h = (
     (
-      λ u. command_built (subsumed (literals_of ls)) h.1 (unbuilt_tokens u),
       λ b. command_some (subsumed (literals_of ls)) h.1 (blank_tokens b).1,
       tokens_mean (subsumed (literals_of ls)) h.0 h.1,
     ),

@@ -1,5 +1,6 @@
 pub mod CommandLaws
 pub mod Told
+pub mod Standing
 pub mod Acting
 pub mod Loading
 pub mod ReplyTexts

@@ -6,13 +6,17 @@ use Rattle.std.specs.Borrow.{Bor}
 use Rattle.si_defs.specs.Printing.{file_text, symbol_text, shape_text}
 use Rattle.si_defs.specs.declared.Side.TheVariants.{Predicate, Function}
 use Rattle.si_index.specs.declared.index.Stats.{Stats}
+use Rattle.si_index.specs.declared.index.TreeCounts.{TreeCounts}
+use Rattle.si_tree.specs.declared.node.Counts.{Counts}
+use Rattle.si_steps.specs.Runs.{ended}
+use Rattle.si_index.specs.declared.explain.Explained.{Explained}
 use Rattle.si_sign.specs.declared.faults.Shape.{Shape}
 use Rattle.si_term.specs.declared.term.Sym.{Sym}
 use Rattle.si_term.specs.declared.text.Text.{Text}
 use Rattle.si_defs.specs.Tokens.{begins_with}
 use Rattle.si_steps.specs.Replies.{file_line, spot_line}
 use Rattle.si_term.specs.Terms.{symbol_of}
-use Rattle.si_session.specs.Replies.{reply_line, ended_line, stats_text, sample_text, closed_shape, file_word, line_word}
+use Rattle.si_session.specs.Replies.{reply_line, ended_line, stats_text, counts_text, counts_reply, closed_shape, file_word, line_word}
 use Rattle.si_session.specs.Signs.{sign_text}
 use Rattle.si_session.specs.declared.sign.Sign.TheVariants.{Space, LineFeed}
 use Rattle.si_session.specs.declared.reply.FileFault.{FileFault}
@@ -88,17 +92,33 @@ pub stats_line_is : (r : ReplyLine) (stats : Stats) → r ≡ reply.Stats stats 
 unfolding stats_text ended_line
 stats_line_is r stats e = ap ended_line (sym e)
 
--- ---- samples
-abbrev pub sampled : ℕ → ℕ → ℕ → Bytes
-sampled clauses gained sum = (codes "sample " ++ decimal clauses) ++ ((codes " " ++ decimal gained) ++ ((codes " " ++ decimal sum) ++ sign_text LineFeed))
+-- ---- three words with their numbers
+pub three : (w n m : Bytes) (a b c : ℕ) → (w ++ decimal a) ++ ((n ++ decimal b) ++ ((m ++ decimal c) ++ sign_text LineFeed)) ≡ (((((w ++ decimal a) ++ n) ++ decimal b) ++ m) ++ decimal c) ++ 10 ∷ []
+unfolding sign_text
+three w n m a b c = six (w ++ decimal a) n (decimal b) m (decimal c) (10 ∷ [])
 
-pub sample_is : (clauses gained sum : ℕ) → sampled clauses gained sum ≡ sample_text clauses gained sum
-unfolding sign_text sample_text
-sample_is clauses gained sum = six (codes "sample " ++ decimal clauses) (codes " ") (decimal gained) (codes " ") (decimal sum) (10 ∷ [])
+pub sample_told : (r : ReplyLine) (clauses gained sum : ℕ) → r ≡ reply.Sample clauses gained sum
+    → (codes "sample " ++ decimal clauses) ++ ((codes " " ++ decimal gained) ++ ((codes " " ++ decimal sum) ++ sign_text LineFeed)) ≡ ended_line r
+unfolding ended_line
+sample_told r clauses gained sum e = three (codes "sample ") (codes " ") (codes " ") clauses gained sum ∙ ap ended_line (sym e)
 
-pub sample_line_is : (r : ReplyLine) (clauses gained sum : ℕ) → r ≡ reply.Sample clauses gained sum → sample_text clauses gained sum ≡ ended_line r
-unfolding sample_text ended_line
-sample_line_is r clauses gained sum e = ap ended_line (sym e)
+pub explained_told : (r : ReplyLine) (x : Explained) → r ≡ reply.Explained x
+    → (codes "passed " ++ decimal x.passed) ++ ((codes " nodes " ++ decimal x.nodes) ++ ((codes " answers " ++ decimal x.answers) ++ sign_text LineFeed)) ≡ ended_line r
+unfolding ended_line
+explained_told r x e = three (codes "passed ") (codes " nodes ") (codes " answers ") x.passed x.nodes x.answers ∙ ap ended_line (sym e)
+
+-- ---- the lines of trees
+abbrev pub tree_told : Bytes → Counts → Bytes
+tree_told word counts =
+    (word ++ decimal counts.nodes) ++ ((codes " leaves " ++ decimal counts.leaves) ++ ((codes " unmerged " ++ decimal counts.unmerged) ++ sign_text LineFeed))
+
+tree_line : (word : Bytes) (counts : Counts) → tree_told word counts ≡ (((((word ++ decimal counts.nodes) ++ codes " leaves ") ++ decimal counts.leaves) ++ codes " unmerged ") ++ decimal counts.unmerged) ++ 10 ∷ []
+tree_line word counts = three word (codes " leaves ") (codes " unmerged ") counts.nodes counts.leaves counts.unmerged
+
+pub trees_told : (counts : TreeCounts) → tree_told (codes "literals nodes ") counts.literals ++ tree_told (codes "terms nodes ") counts.terms ≡ ended (counts_reply counts)
+trees_told counts =
+    ap₂ (λ x y. x ++ y) (tree_line (codes "literals nodes ") counts.literals) (tree_line (codes "terms nodes ") counts.terms)
+    ∙ append_assoc (counts_text (codes "literals") counts.literals) (10 ∷ []) (counts_text (codes "terms") counts.terms ++ 10 ∷ [])
 
 -- ---- files
 pub file_told : (r : ReplyLine) (fault : FileFault) (file : Bor Text) (w b : Bytes) → r ≡ reply.File fault file → w ≡ file_word fault → b ≡ file.now

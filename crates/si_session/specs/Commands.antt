@@ -1,15 +1,14 @@
 -- What the reader of command lines gives.
-use Rattle.std.specs.Prelude.{◌≡◌, List, [], ◌∷◌, IsFalse, Option, None, Some, codes, map}
+use Rattle.std.specs.Prelude.{◌≡◌, List, [], ◌∷◌, Option, None, Some, codes, map}
 use Rattle.si_defs.specs.Bytes.{Bytes}
-use Rattle.si_defs.specs.Clauses.{Literal, IsSoundClause, IsSoundPattern, AreSoundLiterals}
+use Rattle.si_defs.specs.Clauses.{Literal, Pattern, IsSoundClause, IsSoundPattern, AreSoundLiterals}
 use Rattle.si_defs.specs.Tokens.{Token, lower, AreBlanks}
 use Rattle.si_defs.specs.Grammar.{IsFormula}
 use Rattle.si_state.specs.Samples.{AllowsSample}
-use Rattle.si_steps.specs.declared.word.Word.{Word}
 use Rattle.si_steps.specs.declared.word.Word.TheVariants.{Add}
-use Rattle.si_steps.specs.Words.{command_text, is_built}
+use Rattle.si_steps.specs.Words.{command_text}
 use Rattle.si_steps.specs.Commands as defs
-use Rattle.si_steps.specs.Commands.{IsUnbuilt, AddsForeign, IsCommand, Means}
+use Rattle.si_steps.specs.Commands.{IsQuery, AddsForeign, IsCommand, Means}
 use Rattle.si_steps.specs.Steps.{IsNoCommand}
 use Rattle.si_lex.specs.declared.lexing.Stop.{Stop}
 use Rattle.si_lex.specs.declared.lexing.Stop.TheVariants.{End}
@@ -17,6 +16,7 @@ use Rattle.si_parse.specs.Reading.{AreForeign}
 use Rattle.si_parse.specs.declared.pattern.PatternKind.{PatternKind}
 use Rattle.si_parse.specs.declared.pattern.PatternKind.TheVariants as kind
 use Rattle.si_term.specs.declared.clause.Literal as term
+use Rattle.si_term.specs.declared.clause.Pattern as program
 use Rattle.si_term.specs.Meaning.{name_of, literal_of, clause_of, pattern_of}
 use Rattle.si_session.specs.declared.command.Command.{Command}
 use Rattle.si_session.specs.declared.command.Command.TheVariants as command
@@ -24,26 +24,26 @@ use Rattle.si_session.specs.declared.command.Command.TheVariants as command
 -- ---- lines
 -- the line is no command of any kind, and says nothing that has a reply of its own
 pub record IsWrong (line : Bytes) : Type 0 where
-  pub built : IsUnbuilt line → ⊥
   pub some : AreBlanks line → ⊥
   pub own : AddsForeign line → ⊥
   pub none : IsNoCommand line
 
--- the line is this command, which is built
+-- the line is this command
 abbrev pub IsPerformed : defs.Command → Bytes → Type 0
-IsPerformed c line = (IsUnbuilt line → ⊥) × (AreBlanks line → ⊥) × Means c line
+IsPerformed c line = (AreBlanks line → ⊥) × Means c line
 
 abbrev pub ReadsCommand : Bytes → Command → Type 0
-ReadsCommand line command.Blank = (IsUnbuilt line → ⊥) × AreBlanks line
-ReadsCommand line command.Later = (AreBlanks line → ⊥) × IsUnbuilt line
-ReadsCommand line command.Foreign =
-    (IsUnbuilt line → ⊥) × (AreBlanks line → ⊥) × AddsForeign line × IsNoCommand line
+ReadsCommand line command.Blank = AreBlanks line
+ReadsCommand line command.Foreign = (AreBlanks line → ⊥) × AddsForeign line × IsNoCommand line
 ReadsCommand line command.Wrong = IsWrong line
 ReadsCommand line (command.Add c) =
     IsPerformed (defs.add (clause_of c)) line × IsSoundClause (clause_of c)
 ReadsCommand line (command.Load file) = IsPerformed (defs.load file) line
 ReadsCommand line (command.Remove n) = IsPerformed (defs.remove (name_of n)) line
 ReadsCommand line command.Stats = IsPerformed defs.stats line
+ReadsCommand line command.Tree = IsPerformed defs.tree line
+ReadsCommand line (command.Explain r p) =
+    IsPerformed (defs.explain r (pattern_of p)) line × IsSoundPattern (pattern_of p)
 ReadsCommand line (command.Sample start count) =
     IsPerformed (defs.sample start count) line × AllowsSample start count
 ReadsCommand line (command.Query r p) =
@@ -54,11 +54,6 @@ ReadsCommand line (command.Subsumed ls) =
     IsPerformed (defs.subsumed (map literal_of ls)) line × AreSoundLiterals (map literal_of ls)
 
 -- ---- the tokens of a line
--- the first of them is the word of a command that isn't built
-abbrev pub BeginUnbuilt : List Token → Type 0
-BeginUnbuilt [] = ⊥
-BeginUnbuilt (t ∷ ts) = (word : Word) × IsFalse (is_built word) × (t ≡ lower (command_text word))
-
 -- they add a formula of another language
 abbrev pub AddForeign : List Token → Type 0
 AddForeign [] = ⊥
@@ -67,16 +62,18 @@ AddForeign (t ∷ ts) = (t ≡ lower (command_text Add)) × AreForeign ts
 -- the command that they are, by what stands behind them
 abbrev pub Commands : List Token → Stop → Command → Type 0
 Commands ts stop command.Blank = (stop ≡ End) × (ts ≡ [])
-Commands ts stop command.Later = BeginUnbuilt ts
 Commands ts stop command.Foreign = AddForeign ts × ((c : defs.Command) → IsCommand c ts → ⊥)
 Commands ts stop command.Wrong =
-    (BeginUnbuilt ts → ⊥) × (AddForeign ts → ⊥) × (stop ≡ End → ts ≡ [] → ⊥)
+    (AddForeign ts → ⊥) × (stop ≡ End → ts ≡ [] → ⊥)
     × (stop ≡ End → (c : defs.Command) → IsCommand c ts → ⊥)
 Commands ts stop (command.Add c) =
     (stop ≡ End) × IsCommand (defs.add (clause_of c)) ts × IsSoundClause (clause_of c)
 Commands ts stop (command.Load file) = (stop ≡ End) × IsCommand (defs.load file) ts
 Commands ts stop (command.Remove n) = (stop ≡ End) × IsCommand (defs.remove (name_of n)) ts
 Commands ts stop command.Stats = (stop ≡ End) × IsCommand defs.stats ts
+Commands ts stop command.Tree = (stop ≡ End) × IsCommand defs.tree ts
+Commands ts stop (command.Explain r p) =
+    (stop ≡ End) × IsCommand (defs.explain r (pattern_of p)) ts × IsSoundPattern (pattern_of p)
 Commands ts stop (command.Sample start count) =
     (stop ≡ End) × IsCommand (defs.sample start count) ts × AllowsSample start count
 Commands ts stop (command.Query r p) =
@@ -98,3 +95,9 @@ abbrev pub ReadsOperand : List Token → Stop → Option (List term.Literal) →
 ReadsOperand ts stop (Some ls) =
     (stop ≡ End) × IsFormula (map literal_of ls) ts × AreSoundLiterals (map literal_of ls)
 ReadsOperand ts stop None = stop ≡ End → (formula : List Literal) → IsFormula formula ts → ⊥
+
+-- the same of a word that says which kind of pattern is asked for, and the pattern
+abbrev pub ReadsQuery : List Token → Stop → Option program.Pattern → Type 0
+ReadsQuery ts stop (Some p) =
+    (stop ≡ End) × IsQuery (pattern_of p) ts × IsSoundPattern (pattern_of p)
+ReadsQuery ts stop None = stop ≡ End → (p : Pattern) → IsQuery p ts → ⊥

@@ -1,3 +1,5 @@
+pub mod ShownTrees
+pub mod Explained
 pub mod Session
 pub mod Signs
 pub mod Commands

@@ -1,14 +1,16 @@
 -- The replies of one line, and the text of an answer before its last line feed.
-use Rattle.std.specs.Prelude.{ℕ, List, [], ◌∷◌, ◌++◌, codes}
+use Rattle.std.specs.Prelude.{List, [], ◌∷◌, ◌++◌, codes, decimal}
 use Rattle.si_defs.specs.Bytes.{Bytes}
 use Rattle.si_defs.specs.Symbols.{Symbol}
 use Rattle.si_defs.specs.Printing.{symbol_text, shape_text}
-use Rattle.si_steps.specs.Replies.{ok_line, stats_line, sample_line, taken_line, full_line, unknown_line, file_line, spot_line, fetches_line, long_line, later_line, language_line, syntax_line, memory_line}
+use Rattle.si_steps.specs.Replies.{Reply, ok_line, stats_line, explain_line, sample_line, taken_line, full_line, unknown_line, file_line, spot_line, fetches_line, long_line, language_line, syntax_line, memory_line}
 use Rattle.si_steps.specs.Runs.{ended}
 use Rattle.si_sign.specs.declared.faults.Shape.{Shape}
 use Rattle.si_term.specs.Terms.{symbol_of}
 use Rattle.si_term.specs.Meaning.{name_of}
 use Rattle.si_index.specs.declared.index.Stats.{Stats}
+use Rattle.si_index.specs.declared.index.TreeCounts.{TreeCounts}
+use Rattle.si_tree.specs.declared.node.Counts.{Counts}
 use Rattle.si_session.specs.declared.reply.FileFault.{FileFault}
 use Rattle.si_session.specs.declared.reply.FileFault.TheVariants as file_fault
 use Rattle.si_session.specs.declared.reply.LineFault.{LineFault}
@@ -42,6 +44,7 @@ abbrev pub reply_line : ReplyLine → Bytes
 reply_line (reply.Ok clauses entries) = ok_line clauses entries
 reply_line (reply.Stats stats) = stats_line stats.clauses stats.entries stats.symbols
 reply_line (reply.Sample clauses gained sum) = sample_line clauses gained sum
+reply_line (reply.Explained e) = explain_line e.passed e.nodes e.answers
 reply_line (reply.Taken name) = taken_line (name_of name.now)
 reply_line (reply.Misused symbol found kept) = misused_text (symbol_of symbol.now) found kept
 reply_line (reply.Full needed limit) = full_line needed limit
@@ -50,7 +53,6 @@ reply_line (reply.File fault file) = file_line (file_word fault) file.now
 reply_line (reply.Line fault file line) = spot_line (line_word fault) file.now line
 reply_line reply.Fetches = fetches_line
 reply_line reply.Long = long_line
-reply_line reply.Later = later_line
 reply_line reply.Language = language_line
 reply_line reply.Syntax = syntax_line
 reply_line reply.Memory = memory_line
@@ -67,6 +69,12 @@ ended_line r = reply_line r ++ 10 ∷ []
 unfoldable pub stats_text : Stats → Bytes
 stats_text stats = stats_line stats.clauses stats.entries stats.symbols ++ 10 ∷ []
 
--- the line of a sample, with its line feed
-unfoldable pub sample_text : ℕ → ℕ → ℕ → Bytes
-sample_text clauses gained sum = sample_line clauses gained sum ++ 10 ∷ []
+-- the numbers of nodes of a tree, behind its name
+abbrev pub counts_text : Bytes → Counts → Bytes
+counts_text name counts =
+    name ++ codes " nodes " ++ decimal counts.nodes ++ codes " leaves " ++ decimal counts.leaves
+    ++ codes " unmerged " ++ decimal counts.unmerged
+
+abbrev pub counts_reply : TreeCounts → Reply
+counts_reply counts =
+    counts_text (codes "literals") counts.literals ∷ counts_text (codes "terms") counts.terms ∷ []

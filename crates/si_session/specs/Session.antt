@@ -1,29 +1,39 @@
 -- What a session is seen as, and what one step does.
-use Rattle.std.specs.Prelude.{◌≡◌, Bool, [], ◌∷◌, ◌++◌, Option, IsTrue, IsFalse, refl}
-use Rattle.std.specs.Coded.{Coded, code_by, coded×}
+use Rattle.std.specs.Prelude.{◌≡◌, ◌⊎◌, ℕ, Bool, List, [], ◌∷◌, ◌++◌, length, Option, IsTrue, IsFalse, refl}
+use Rattle.std.specs.Coded.{Coded, code_by, coded×, coded_ℕ, coded_list}
 use Rattle.si_defs.specs.Bytes.{Bytes}
 use Rattle.si_state.specs.States.{State, Rules, state_code, rules_code, empty_state}
 use Rattle.si_steps.specs.declared.limits.Limits.{Limits}
 use Rattle.si_steps.specs.contracts.limits.Limits as limits_contracts
 use Rattle.si_steps.specs.Settings.{Setting}
-use Rattle.si_steps.specs.Commands.{Command}
+use Rattle.si_defs.specs.Symbols.{Symbol, Numbering}
+use Rattle.si_defs.specs.Codes.{symbol_code}
+use Rattle.si_tree.specs.NewTrees.{IsRootAlone}
+use Rattle.si_held.specs.TwoTrees.{TwoTrees, Hold}
+use Rattle.si_forest.specs.Codes.{two_trees_code}
+use Rattle.si_steps.specs.Commands.{Command, add, load, remove, sample}
 use Rattle.si_steps.specs.Replies.{Reply, is_refusal, memory_line}
 use Rattle.si_state.specs.Harvest.{Files}
 use Rattle.si_steps.specs.Loads.{Owed, nothing, a_miss, a_big, a_failure, PerformsLoad}
 use Rattle.si_steps.specs.Steps.{Performs}
-use Rattle.si_steps.specs.Runs.{Request, Acts, ended}
+use Rattle.si_steps.specs.Runs.{Request, a_word, a_line, Acts, ended}
 use Rattle.si_io.specs.Shown.{SinkShown, LibraryShown}
 use Rattle.si_io.specs.Sends.{SendsAll, SendsPart}
 use Rattle.si_io.specs.Counts.{raised}
 use Rattle.si_io.specs.Library.{Counts, faults_in}
-use Rattle.si_index.specs.Kept.{Kept}
+use Rattle.si_index.specs.Kept.{Kept, NumbersExactly, paired}
+use Rattle.si_session.specs.ShownTrees.{Asks, IsShownBy}
 use Rattle.si_session.specs.declared.stepped.Stepped.{Stepped}
 use Rattle.si_session.specs.declared.stepped.Stepped.TheVariants.{Answered, Refused, Silent, SinkFailed}
 
--- its state, and what it goes by
+-- its state, what it goes by, and what it keeps of the clauses besides: their keys, the numbers of
+-- their symbols, and two trees of their entries
 pub record View : Type 0 where
   pub state : State
   pub setting : Setting
+  pub keys : List ℕ
+  pub numbers : Numbering
+  pub trees : TwoTrees
 
 abbrev pub setting_code : Coded Setting
 setting_code =
@@ -32,19 +42,66 @@ setting_code =
 
 abbrev pub view_code : Coded View
 view_code =
-    code_by (State × Setting) (coded× state_code setting_code) (λ v. (v.state, v.setting))
-    (λ p. record { state = p.0; setting = p.1 }) (λ _. refl)
+    code_by (State × (Setting × (List ℕ × (List (Symbol × ℕ) × TwoTrees))))
+    (coded× state_code
+    (coded× setting_code
+    (coded× (coded_list coded_ℕ)
+    (coded× (coded_list (coded× symbol_code coded_ℕ)) two_trees_code))))
+    (λ v. (v.state, (v.setting, (v.keys, (v.numbers, v.trees)))))
+    (λ p. record {
+      state = p.0;
+      setting = p.1.0;
+      keys = p.1.1.0;
+      numbers = p.1.1.1.0;
+      trees = p.1.1.1.1;
+    })
+    (λ _. refl)
 
 -- what a session with these limits and this index is seen as
 abbrev pub view_of : Limits → Kept → View
 view_of limits index = record {
   state = record { clauses = index.clauses };
   setting = record { limits = limits; rules = index.rules };
+  keys = index.keys;
+  numbers = index.numbers;
+  trees = index.trees;
 }
 
--- a session that is new, in this setting
-abbrev pub IsFresh : Setting → View → Type 0
-IsFresh setting session = session ≡ record { state = empty_state; setting = setting }
+-- a session that is new, in this setting: each tree is the root alone
+pub record IsFresh (setting : Setting) (session : View) : Type 0 where
+  pub empty : session.state ≡ empty_state
+  pub set : session.setting ≡ setting
+  pub no_keys : session.keys ≡ []
+  pub no_numbers : session.numbers ≡ []
+  pub literals : IsRootAlone session.trees.literals
+  pub subterms : IsRootAlone session.trees.subterms
+
+-- exactly the symbols of the kept clauses have numbers, and the trees hold the entries of exactly
+-- these clauses
+pub record HoldsTrees (session : View) : Type 0 where
+  pub number : length session.keys ≡ length session.state.clauses
+  pub numbered : NumbersExactly session.numbers session.state.clauses
+  pub hold : Hold session.numbers (paired session.keys session.state.clauses) session.trees
+
+-- ---- the trees in a step
+-- a command that may change what is kept
+abbrev pub ChangesKept : Command → Type 0
+ChangesKept (add c) = Unit {0}
+ChangesKept (load file) = Unit {0}
+ChangesKept (remove name) = Unit {0}
+ChangesKept (sample start count) = Unit {0}
+ChangesKept command = ⊥
+
+-- At a line the reply shows the session's own trees. They stay, unless the line is a command that
+-- may change what is kept.
+pub record GoesByTrees (old new : View) (line : Bytes) (reply : Reply) : Type 0 where
+  pub shown : IsShownBy old.setting.limits old.numbers old.trees line reply
+  pub stay : ((command : Command) × Asks old.setting.limits line command × ChangesKept command)
+      ⊎ (new.trees ≡ old.trees)
+
+abbrev pub KeepsToTrees : View → View → Request → Reply → Type 0
+KeepsToTrees old new (a_word word) reply = Unit {0}
+KeepsToTrees old new (a_line line) reply = GoesByTrees old new line reply
 
 -- what became of the sink in a step with this reply
 abbrev pub Writes : Stepped → Reply → SinkShown → SinkShown → Type 0
@@ -86,6 +143,8 @@ pub record Steps (told : Option Files) (old new : View) (request : Request) (out
   pub owed : Owed
   pub step : Acts old.setting told old.state request reply owed new.state
   pub setting : new.setting ≡ old.setting
+  pub held : HoldsTrees old
+  pub own_trees : KeepsToTrees old new request reply
   pub written : Writes outcome reply before.sink after.sink
   pub counted : IsCounted before.may_fail owed before.counts after.counts
 

@@ -5,11 +5,11 @@ ghost use Rattle.si_lex.specs.Lexemes.{token_of, tokens_of};
 ghost use Rattle.si_defs.specs.declared.TheConstants.{MOST_BYTES};
 ghost use Rattle.si_parse.specs.declared.pattern.PatternKind.{PatternKind};
 ghost use Rattle.si_steps.specs.Words.{command_text};
-ghost use Rattle.si_steps.specs.declared.word.Word.TheVariants.{Add, Load, Remove, Ask, Subsumers, Subsumed, Stats, Sample};
-ghost use Rattle.si_session.specs.Commands.{Commands, ReadsCommand, ReadsOperand, kind_word};
+ghost use Rattle.si_steps.specs.declared.word.Word.TheVariants.{Add, Load, Remove, Ask, Subsumers, Subsumed, Stats, Tree, Explain, Sample};
+ghost use Rattle.si_session.specs.Commands.{Commands, ReadsCommand, ReadsOperand, ReadsQuery, kind_word};
 
 use crate::number::numeral_of;
-use crate::word::word_of;
+use crate::word::{relation_of, word_of};
 use si_defs::Relation;
 use si_lex::{Lexeme, Stop, lex};
 use si_parse::grammar::{clause, name};
@@ -26,8 +26,6 @@ use std::alloc::{AllocError, Global};
 pub enum Command {
     /// Nothing: only blanks stand there.
     Blank,
-    /// Something that isn't built yet.
-    Later,
     /// That a formula of another language be kept.
     Foreign,
     /// Nothing that is a command.
@@ -46,6 +44,10 @@ pub enum Command {
     Subsumed(Literals),
     /// How much is kept.
     Stats,
+    /// How many nodes the trees have.
+    Tree,
+    /// What a query passes in its tree, and how many answers it has.
+    Explain(Relation, Pattern),
     /// So many clauses that are drawn from a start, and how much unifies with them.
     Sample { start: u32, count: u32 },
 }
@@ -83,8 +85,9 @@ fn command_of(alloc: Global, tokens: &[Lexeme<'_>], stop: Stop) -> Result<Comman
         Some(Word::Subsumers) => subsumers_command(alloc, rest, stop),
         Some(Word::Subsumed) => subsumed_command(alloc, rest, stop),
         Some(Word::Stats) => Ok(stats_command(rest, stop)),
+        Some(Word::Tree) => Ok(tree_command(rest, stop)),
+        Some(Word::Explain) => explain_command(alloc, rest, stop),
         Some(Word::Sample) => Ok(sample_command(rest, stop)),
-        Some(_) => Ok(Command::Later),
         None => Ok(Command::Wrong),
     }
 }
@@ -142,6 +145,16 @@ fn stats_command(tokens: &[Lexeme<'_>], stop: Stop) -> Command
     }
 }
 
+/// The command that the word `tree` begins, by the tokens behind it.
+fn tree_command(tokens: &[Lexeme<'_>], stop: Stop) -> Command
+    ensures { Commands (lower (command_text Tree) ∷ tokens_of tokens.now) stop result }
+{
+    match stop {
+        Stop::End if tokens.is_empty() => Command::Tree,
+        Stop::End | Stop::Bad | Stop::FullStop => Command::Wrong,
+    }
+}
+
 /// The command that the word of a relation begins, by the tokens behind it.
 fn query_command(
     alloc: Global,
@@ -153,18 +166,43 @@ fn query_command(
     ensures { IfOk result (Commands (lower (command_text (Ask relation)) ∷ tokens_of tokens.now)
         stop) }
 {
+    match asked(alloc, tokens, stop)? {
+        Some(pattern) => Ok(Command::Query(relation, pattern)),
+        None => Ok(Command::Wrong),
+    }
+}
+
+/// The command that the word `explain` begins, by the tokens behind it.
+fn explain_command(alloc: Global, tokens: &[Lexeme<'_>], stop: Stop) -> Result<Command, AllocError>
+    requires { length tokens.now ≤ MOST_BYTES }
+    ensures { IfOk result (Commands (lower (command_text Explain) ∷ tokens_of tokens.now) stop) }
+{
     let Some((word, rest)) = tokens.split_first() else {
         return Ok(Command::Wrong);
     };
-    let Some(kind) = kind_of(word) else {
+    let Some(relation) = relation_of(word) else {
         return Ok(Command::Wrong);
     };
-    if stop != Stop::End {
-        return Ok(Command::Wrong);
-    }
-    match whole_pattern(alloc, rest, kind)? {
-        Some(pattern) => Ok(Command::Query(relation, pattern)),
+    match asked(alloc, rest, stop)? {
+        Some(pattern) => Ok(Command::Explain(relation, pattern)),
         None => Ok(Command::Wrong),
+    }
+}
+
+/// The pattern that is asked for by these tokens, of which the first says its kind.
+fn asked(alloc: Global, tokens: &[Lexeme<'_>], stop: Stop) -> Result<Option<Pattern>, AllocError>
+    requires { length tokens.now ≤ MOST_BYTES }
+    ensures { IfOk result (ReadsQuery (tokens_of tokens.now) stop) }
+{
+    let Some((word, rest)) = tokens.split_first() else {
+        return Ok(None);
+    };
+    let Some(kind) = kind_of(word) else {
+        return Ok(None);
+    };
+    match stop {
+        Stop::End => whole_pattern(alloc, rest, kind),
+        Stop::Bad | Stop::FullStop => Ok(None),
     }
 }
 

@@ -12,6 +12,7 @@ mod sample;
 mod session;
 mod sign;
 mod stepped;
+mod trees;
 mod word;
 
 pub use session::Session;

@@ -8,13 +8,13 @@ ghost use Rattle.si_term.specs.Terms.{symbol_of};
 ghost use Rattle.si_term.specs.Meaning.{name_of};
 ghost use Rattle.si_session.specs.Signs.{sign_text};
 ghost use Rattle.si_session.specs.declared.sign.Sign.TheVariants.{Space, LineFeed};
-ghost use Rattle.si_session.specs.Replies.{reply_line, ended_line, stats_text, sample_text, closed_shape, file_word, line_word};
+ghost use Rattle.si_session.specs.Replies.{reply_line, ended_line, stats_text, closed_shape, file_word, line_word};
 ghost use Rattle.si_session.specs.Session.{Writes};
 ghost use Rattle.si_session.specs.declared.stepped.Stepped.TheVariants.{SinkFailed};
 
 use crate::sign::{Sign, put_sign};
 use crate::stepped::Stepped;
-use si_index::Stats;
+use si_index::{Explained, Stats};
 use si_io::{Failed, Sink};
 use si_reply::{put_bytes, put_file, put_name, put_number, put_symbol};
 use si_sign::Shape;
@@ -60,6 +60,8 @@ pub enum ReplyLine<'a> {
         entries: u64,
         sum: u64,
     },
+    /// So much a query passes and answers.
+    Explained(Explained),
     /// A kept clause has this name.
     Taken(&'a Name),
     /// The symbol has one shape in the tried clause, and another stands against it.
@@ -83,8 +85,6 @@ pub enum ReplyLine<'a> {
     Fetches,
     /// The line has more bytes than a line may have.
     Long,
-    /// The line's kind isn't built yet.
-    Later,
     /// The line adds a formula of another language.
     Language,
     /// The line is no command.
@@ -184,27 +184,40 @@ fn put_counts<K: Sink>(
     put_count(sink, next, count)
 }
 
+/// Writes a line of three words, each with a number.
+#[tactic(auto, using(si_io::proofs::Sends::sends))]
+pub fn put_three<K: Sink>(
+    sink: &mut K,
+    word: &[u8],
+    number: u64,
+    next: &[u8],
+    count: u64,
+    last: &[u8],
+    sum: u64,
+) -> Result<(), Failed>
+    ensures { Sends result ((word.now ++ decimal number) ++ ((next.now ++ decimal count)
+        ++ ((last.now ++ decimal sum) ++ sign_text LineFeed))) (K.shown sink.old)
+        (K.shown sink.new) }
+{
+    put_number(sink, word, number)?;
+    put_counts(sink, next, count, last, sum)
+}
+
 /// Writes how much is kept.
 fn put_stats<K: Sink>(sink: &mut K, stats: Stats) -> Result<(), Failed>
     ensures { Sends result (stats_text stats) (K.shown sink.old) (K.shown sink.new) }
 {
-    put_number(sink, b"clauses ", u64::from(stats.clauses))?;
-    put_counts(
+    let clauses = u64::from(stats.clauses);
+    let symbols = u64::from(stats.symbols);
+    put_three(
         sink,
+        b"clauses ",
+        clauses,
         b" entries ",
         stats.entries,
         b" symbols ",
-        u64::from(stats.symbols),
+        symbols,
     )
-}
-
-/// Writes how much was drawn, and how many answers were summed.
-fn put_sample<K: Sink>(sink: &mut K, clauses: u64, entries: u64, sum: u64) -> Result<(), Failed>
-    ensures { Sends result (sample_text clauses entries sum) (K.shown sink.old)
-        (K.shown sink.new) }
-{
-    put_number(sink, b"sample ", clauses)?;
-    put_counts(sink, b" ", entries, b" ", sum)
 }
 
 /// Writes a side and an arity.
@@ -268,7 +281,16 @@ fn put_reply<K: Sink>(sink: &mut K, reply: ReplyLine<'_>) -> Result<(), Failed>
             clauses,
             entries,
             sum,
-        } => put_sample(sink, clauses, entries, sum),
+        } => put_three(sink, b"sample ", clauses, b" ", entries, b" ", sum),
+        ReplyLine::Explained(explained) => put_three(
+            sink,
+            b"passed ",
+            explained.passed,
+            b" nodes ",
+            explained.nodes,
+            b" answers ",
+            explained.answers,
+        ),
         ReplyLine::Taken(name) => put_named(sink, b"! taken ", name),
         ReplyLine::Misused {
             symbol,
@@ -283,7 +305,6 @@ fn put_reply<K: Sink>(sink: &mut K, reply: ReplyLine<'_>) -> Result<(), Failed>
         }
         ReplyLine::Fetches => put_bytes(sink, b"! fetches\n"),
         ReplyLine::Long => put_bytes(sink, b"! long\n"),
-        ReplyLine::Later => put_bytes(sink, b"! later\n"),
         ReplyLine::Language => put_bytes(sink, b"! language\n"),
         ReplyLine::Syntax => put_bytes(sink, b"! syntax\n"),
         ReplyLine::Memory => put_bytes(sink, b"! memory\n"),
@@ -296,12 +317,13 @@ fn refuses(reply: ReplyLine<'_>) -> bool
 {
     match reply {
         ReplyLine::Ok { .. } | ReplyLine::Stats(_) | ReplyLine::Sample { .. } => false,
+        ReplyLine::Explained(_) => false,
         ReplyLine::Taken(_)
         | ReplyLine::Misused { .. }
         | ReplyLine::Full { .. }
         | ReplyLine::Unknown(_) => true,
         ReplyLine::File(..) | ReplyLine::Line(..) | ReplyLine::Fetches => true,
-        ReplyLine::Long | ReplyLine::Later | ReplyLine::Language => true,
+        ReplyLine::Long | ReplyLine::Language => true,
         ReplyLine::Syntax | ReplyLine::Memory => true,
     }
 }

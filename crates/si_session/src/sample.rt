@@ -142,6 +142,6 @@ fn count_unifiable(index: &Index, pattern: &Pattern) -> Result<u32, AllocError>
     ensures { IfOk result (CountsUnifiable (state_entries index.now.clauses)
         (pattern_of pattern.now)) }
 {
-    let found = index.find(Relation::Unifiable, pattern)?;
+    let found = index.find(index.trees(), Relation::Unifiable, pattern)?;
     Ok(found.len())
 }

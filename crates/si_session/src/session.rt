@@ -21,6 +21,7 @@ use crate::refusals::{load_refusal, refusal};
 use crate::reply::{ReplyLine, tell};
 use crate::sample::sample;
 use crate::stepped::Stepped;
+use crate::trees::{explain, tell_trees};
 use si_defs::Relation;
 use si_harvest::{HarvestLimits, expand};
 use si_index::Index;
@@ -87,12 +88,13 @@ impl Session {
         ensures failed { result ≡ SinkFailed → (K.shown sink.new).counts.faults
             ≡ raised (K.shown sink.old).counts.faults }
     {
+        // So the trees are known to hold the entries of what is kept.
+        self.index.trees();
         if line.len() > self.limits.line {
             return tell(sink, ReplyLine::Long);
         }
         match read_command(self.alloc, line) {
             Ok(Command::Blank) => Stepped::Silent,
-            Ok(Command::Later) => tell(sink, ReplyLine::Later),
             Ok(Command::Foreign) => tell(sink, ReplyLine::Language),
             Ok(Command::Wrong) => tell(sink, ReplyLine::Syntax),
             Ok(Command::Add(clause)) => add(&mut self.index, clause, sink),
@@ -111,6 +113,10 @@ impl Session {
             Ok(Command::Subsumers(formula)) => subsumers(&self.index, &formula, sink),
             Ok(Command::Subsumed(formula)) => subsumed(&self.index, &formula, sink),
             Ok(Command::Stats) => tell(sink, ReplyLine::Stats(self.index.stats())),
+            Ok(Command::Tree) => tell_trees(sink, self.index.counts()),
+            Ok(Command::Explain(relation, pattern)) => {
+                explain(&self.index, relation, &pattern, sink)
+            }
             Ok(Command::Sample { start, count }) => {
                 sample(self.alloc, &mut self.index, start, count, sink)
             }
@@ -139,6 +145,8 @@ impl Session {
         ensures failed { result ≡ SinkFailed → (K.shown sink.new).counts.faults
             ≡ raised (K.shown sink.old).counts.faults }
     {
+        // As in a step.
+        self.index.trees();
         if !names_file(word) {
             return tell(sink, ReplyLine::Syntax);
         }
@@ -292,7 +300,7 @@ fn answer<K: Sink>(index: &Index, relation: Relation, pattern: &Pattern, sink: &
     ensures failed { result ≡ SinkFailed → (K.shown sink.new).counts.faults
         ≡ raised (K.shown sink.old).counts.faults }
 {
-    let found = match index.find(relation, pattern) {
+    let found = match index.find(index.trees(), relation, pattern) {
         Ok(found) => found,
         Err(_) => return tell(sink, ReplyLine::Memory),
     };

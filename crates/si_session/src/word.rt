@@ -22,6 +22,18 @@ pub fn word_of(token: &Lexeme<'_>) -> Option<Word>
     }
 }
 
+/// The relation whose word a token is.
+pub fn relation_of(token: &Lexeme<'_>) -> Option<Relation>
+    ensures found { IfSome result (λ relation. token_of token.now ≡ lower (relation_text relation)) }
+    ensures none { IfNone result ((relation : Relation)
+        → token_of token.now ≡ lower (relation_text relation) → ⊥) }
+{
+    match token.kind {
+        TokenKind::Lower => relation_with(token.spelling),
+        _ => None,
+    }
+}
+
 /// The word with this text.
 fn word_with(text: &[u8]) -> Option<Word>
     ensures found { IfSome result (λ word. command_text word ≡ text.now) }

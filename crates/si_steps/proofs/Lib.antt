@@ -1,2 +1,3 @@
 pub mod WordLaws
+pub mod CommandLaws
 pub mod OneSample

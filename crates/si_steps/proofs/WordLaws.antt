@@ -1,11 +1,11 @@
 -- No two words of commands have the same text: each text gives its word back.
 use Rattle.std.proofs.Common.{◌≡◌, refl, ap, sym, ◌∙◌}
-use Rattle.std.specs.Prelude.{true, false, cond, bytes_eq, codes, Option, Some, None, IsTrue, IsFalse}
+use Rattle.std.specs.Prelude.{cond, bytes_eq, codes, Option, Some, None}
 use Rattle.si_defs.specs.Bytes.{Bytes}
 use Rattle.si_defs.specs.declared.Relation.TheVariants.{Variants, Instances, Generalizations, Unifiable}
 use Rattle.si_steps.specs.declared.word.Word.{Word}
 use Rattle.si_steps.specs.declared.word.Word.TheVariants.{Add, Load, Remove, Ask, Subsumers, Subsumed, Stats, Tree, Explain, Sample}
-use Rattle.si_steps.specs.Words.{command_text, is_built}
+use Rattle.si_steps.specs.Words.{command_text}
 
 -- the word with this text
 abbrev pub word_with : Bytes → Option Word
@@ -41,7 +41,3 @@ word_back Sample = refl
 
 pub same_word : (v w : Word) → command_text v ≡ command_text w → v ≡ w
 same_word v w e = let both : Some v ≡ Some w = sym (word_back v) ∙ ap word_with e ∙ word_back w in cc
-
--- a word that is built has not the text of one that isn't
-pub built_apart : (v w : Word) → command_text v ≡ command_text w → IsTrue (is_built v) → IsFalse (is_built w) → ⊥
-built_apart v w e t f = let b : true ≡ false = sym t ∙ ap is_built (same_word v w e) ∙ f in cc

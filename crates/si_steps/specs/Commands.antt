@@ -1,18 +1,18 @@
 -- Which lines are commands, and what they ask for (this project's profile).
-use Rattle.std.specs.Prelude.{◌≡◌, ℕ, ◌<◌, ◌≤◌, List, ◌∷◌, [], length, IsTrue, IsFalse, codes, decimal}
+use Rattle.std.specs.Prelude.{◌≡◌, ℕ, ◌<◌, ◌≤◌, List, ◌∷◌, [], length, codes, decimal}
 use Rattle.si_defs.specs.Bytes.{Bytes}
 use Rattle.si_defs.specs.Clauses.{Name, Literal, Clause, Pattern, literal_pattern, term_pattern}
 use Rattle.si_defs.specs.Substitutions.{IsAmong}
 use Rattle.si_defs.specs.declared.Relation.{Relation}
 use Rattle.si_defs.specs.declared.TokenKind.TheVariants.{Int, Single}
-use Rattle.si_defs.specs.Tokens.{Token, lower, AreBlanks, Begins, NextToken}
+use Rattle.si_defs.specs.Tokens.{Token, lower, AreBlanks, Begins}
 use Rattle.si_defs.specs.Grammar.{IsName, IsClause, IsLiteral, IsTerm, IsFormula, left_bracket}
 use Rattle.si_defs.specs.Texts.{IsText, languages}
 use Rattle.si_state.specs.Samples.{AllowsSample}
 use Rattle.si_steps.specs.declared.limits.Limits.{Limits}
 use Rattle.si_steps.specs.declared.word.Word.{Word}
-use Rattle.si_steps.specs.declared.word.Word.TheVariants.{Add, Load, Remove, Ask, Subsumers, Subsumed, Stats, Sample}
-use Rattle.si_steps.specs.Words.{command_text, is_built}
+use Rattle.si_steps.specs.declared.word.Word.TheVariants.{Add, Load, Remove, Ask, Subsumers, Subsumed, Stats, Tree, Explain, Sample}
+use Rattle.si_steps.specs.Words.{relation_text, command_text}
 
 -- ---- commands
 pub data Command : Type 0 where
@@ -23,6 +23,8 @@ pub data Command : Type 0 where
   subsumers : List Literal → Command
   subsumed : List Literal → Command
   stats : Command
+  tree : Command
+  explain : Relation → Pattern → Command
   sample : ℕ → ℕ → Command
 
 -- the word that it begins with
@@ -34,6 +36,8 @@ command_word (query relation pattern) = Ask relation
 command_word (subsumers formula) = Subsumers
 command_word (subsumed formula) = Subsumed
 command_word stats = Stats
+command_word tree = Tree
+command_word (explain relation pattern) = Explain
 command_word (sample start count) = Sample
 
 abbrev pub IsQuery : Pattern → List Token → Type 0
@@ -54,12 +58,14 @@ AreOperands (query relation pattern) ts = IsQuery pattern ts
 AreOperands (subsumers formula) ts = IsFormula formula ts
 AreOperands (subsumed formula) ts = IsFormula formula ts
 AreOperands stats ts = ts ≡ []
+AreOperands tree ts = ts ≡ []
+AreOperands (explain relation pattern) ts =
+    (us : List Token) × IsQuery pattern us × (ts ≡ lower (relation_text relation) ∷ us)
 AreOperands (sample start count) ts =
     AllowsSample start count × (ts ≡ numeral start ∷ numeral count ∷ [])
 
--- the word of a command that is built, and its operands
+-- its word, and its operands
 pub record IsCommand (command : Command) (ts : List Token) : Type 0 where
-  pub built : IsTrue (is_built (command_word command))
   pub operands : List Token
   pub spelled : AreOperands command operands
   pub whole : ts ≡ lower (command_text (command_word command)) ∷ operands
@@ -69,29 +75,17 @@ abbrev pub Means : Command → Bytes → Type 0
 Means command line = IsText (IsCommand command) line
 
 -- ---- lines that are no command
--- the line begins with the word of a command that is not built yet
-pub record IsUnbuilt (line : Bytes) : Type 0 where
-  pub word : Word
-  pub unbuilt : IsFalse (is_built word)
-  pub rest : Bytes
-  pub first : NextToken line (lower (command_text word)) rest
-
 -- more bytes than a line may have
 abbrev pub IsLong : Limits → Bytes → Type 0
 IsLong limits line = limits.line < length line
 
--- no more, and the first word is one of a command that is not built yet
-abbrev pub IsLater : Limits → Bytes → Type 0
-IsLater limits line = (length line ≤ limits.line) × IsUnbuilt line
-
--- neither, so what it means decides
-pub record IsDecided (limits : Limits) (line : Bytes) : Type 0 where
-  pub short : length line ≤ limits.line
-  pub built : IsUnbuilt line → ⊥
+-- no more
+abbrev pub IsShort : Limits → Bytes → Type 0
+IsShort limits line = length line ≤ limits.line
 
 -- blanks alone
 abbrev pub IsSilent : Limits → Bytes → Type 0
-IsSilent limits line = (length line ≤ limits.line) × AreBlanks line
+IsSilent limits line = IsShort limits line × AreBlanks line
 
 -- `add` and a formula of another language
 abbrev pub AddsForeign : Bytes → Type 0

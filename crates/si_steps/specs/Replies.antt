@@ -28,6 +28,29 @@ stats_line clauses entries symbols =
     codes "clauses " ++ decimal clauses ++ codes " entries " ++ decimal entries ++ codes " symbols "
     ++ decimal symbols
 
+-- so many nodes, so many leaves, and so many leaves without a posting
+pub record NodeCounts : Type 0 where
+  pub nodes : ℕ
+  pub leaves : ℕ
+  pub unmerged : ℕ
+
+-- those of the tree that is named
+abbrev pub counts_line : Bytes → NodeCounts → Bytes
+counts_line name counts =
+    name ++ codes " nodes " ++ decimal counts.nodes ++ codes " leaves " ++ decimal counts.leaves
+    ++ codes " unmerged " ++ decimal counts.unmerged
+
+-- those of the tree of literals, and of the one of subterms
+abbrev pub tree_reply : NodeCounts → NodeCounts → Reply
+tree_reply literals terms =
+    counts_line (codes "literals") literals ∷ counts_line (codes "terms") terms ∷ []
+
+-- so many nodes are open of so many, and so many answers there are
+abbrev pub explain_line : ℕ → ℕ → ℕ → Bytes
+explain_line passed nodes answers =
+    codes "passed " ++ decimal passed ++ codes " nodes " ++ decimal nodes ++ codes " answers "
+    ++ decimal answers
+
 -- so many clauses with so many entries were gained, and these, as patterns, have so many answers of
 -- `unifiable` together
 abbrev pub sample_line : ℕ → ℕ → ℕ → Bytes
@@ -81,9 +104,6 @@ fault_line limit (rejected clause why) = refusal_line limit clause.name why
 
 abbrev pub long_line : Bytes
 long_line = codes "! long"
-
-abbrev pub later_line : Bytes
-later_line = codes "! later"
 
 abbrev pub syntax_line : Bytes
 syntax_line = codes "! syntax"

@@ -1,21 +1,31 @@
 -- One command line: its reply and the state behind it (this project's profile).
-use Rattle.std.specs.Prelude.{◌≡◌, ℕ, ◌≤◌, ◌⊎◌, List, [], ◌∷◌, ◌++◌, length, Option}
+use Rattle.std.specs.Prelude.{◌≡◌, ℕ, ◌+◌, ◌⊎◌, List, [], ◌∷◌, ◌++◌, length, Option}
 use Rattle.si_defs.specs.Bytes.{Bytes}
-use Rattle.si_defs.specs.Clauses.{Clause}
-use Rattle.si_defs.specs.Entries.{entries, state_entries}
+use Rattle.si_defs.specs.Clauses.{Clause, Pattern}
+use Rattle.si_defs.specs.Entries.{Placed, entries, state_entries}
 use Rattle.si_state.specs.States.{State}
 use Rattle.si_state.specs.Acceptance.{IsTaken, Accepts, Refusal, Refuses, Removes}
 use Rattle.si_state.specs.Signatures.{CountsSymbols}
-use Rattle.si_state.specs.Answers.{Hit, IsAnswer}
+use Rattle.si_defs.specs.declared.Relation.{Relation}
+use Rattle.si_state.specs.Answers.{Stands, Hit, IsAnswer}
 use Rattle.si_state.specs.Harvest.{Files, AreAccepted, IsFirstRefused}
 use Rattle.si_state.specs.Subsumption.{MappedClause, AreSubsumers, AreSubsumed}
 use Rattle.si_state.specs.Samples.{AreDrawn, SumsAnswers}
 use Rattle.si_steps.specs.Settings.{Setting}
-use Rattle.si_steps.specs.Commands.{Command, add, load, remove, query, subsumers, subsumed, stats, sample, Means, IsLong, IsLater, IsDecided, IsSilent, AddsForeign}
-use Rattle.si_steps.specs.Replies.{Reply, refusal_line, unknown_line, ok_line, stats_line, answer_reply, mapped_reply, sample_line, long_line, later_line, language_line, syntax_line, memory_line}
+use Rattle.si_steps.specs.Commands.{Command, add, load, remove, query, subsumers, subsumed, stats, tree, explain, sample, Means, IsLong, IsShort, IsSilent, AddsForeign}
+use Rattle.si_steps.specs.Replies.{Reply, NodeCounts, refusal_line, unknown_line, ok_line, stats_line, answer_reply, mapped_reply, tree_reply, explain_line, sample_line, long_line, language_line, syntax_line, memory_line}
 use Rattle.si_steps.specs.Loads.{Owed, nothing, PerformsLoad}
 
--- The command's reply and the state behind it. A load goes by `PerformsLoad`.
+-- so many of these entries stand in the relation
+abbrev pub CountsStanding : Relation → Pattern → List (Clause × Placed) → ℕ → Type 0
+CountsStanding relation pattern [] n = n ≡ 0
+CountsStanding relation pattern ((c, e) ∷ es) n =
+    (Stands relation pattern e.entry
+    × ((others : ℕ) × CountsStanding relation pattern es others × (n ≡ 1 + others)))
+    ⊎ ((Stands relation pattern e.entry → ⊥) × CountsStanding relation pattern es n)
+
+-- The command's reply and the state behind it. A load goes by `PerformsLoad`. Numbers of nodes are
+-- free here: a plain list of clauses has none.
 abbrev pub Performs : Setting → Command → State → Reply → State → Type 0
 Performs setting (add c) state reply new =
     ((why : Refusal) × Refuses setting.rules state.clauses c why
@@ -43,6 +53,12 @@ Performs setting stats state reply new =
     × (reply ≡ stats_line (length state.clauses) (length (state_entries state.clauses)) symbols
     ∷ [])
     × (new ≡ state)
+Performs setting tree state reply new =
+    (literals terms : NodeCounts) × (reply ≡ tree_reply literals terms) × (new ≡ state)
+Performs setting (explain relation pattern) state reply new =
+    (passed nodes answers : ℕ)
+    × CountsStanding relation pattern (state_entries state.clauses) answers
+    × (reply ≡ explain_line passed nodes answers ∷ []) × (new ≡ state)
 Performs setting (sample start count) state reply new =
     (drawn : List Clause) × AreDrawn start count drawn
     × (((clause : Clause) × (why : Refusal)
@@ -63,21 +79,19 @@ pub data RightStep (setting : Setting) (told : Option Files) (state : State) (li
     (reply : Reply) (owed : Owed) (new : State) : Type 0 where
   long : IsLong setting.limits line → reply ≡ long_line ∷ [] → owed ≡ nothing → new ≡ state
       → RightStep setting told state line reply owed new
-  later : IsLater setting.limits line → reply ≡ later_line ∷ [] → owed ≡ nothing → new ≡ state
-      → RightStep setting told state line reply owed new
   silent : IsSilent setting.limits line → reply ≡ [] → owed ≡ nothing → new ≡ state
       → RightStep setting told state line reply owed new
-  foreign : IsDecided setting.limits line → AddsForeign line → IsNoCommand line
+  foreign : IsShort setting.limits line → AddsForeign line → IsNoCommand line
       → reply ≡ language_line ∷ [] → owed ≡ nothing → new ≡ state
       → RightStep setting told state line reply owed new
-  wrong : IsDecided setting.limits line → (IsSilent setting.limits line → ⊥)
+  wrong : IsShort setting.limits line → (IsSilent setting.limits line → ⊥)
       → (AddsForeign line → ⊥) → IsNoCommand line
       → reply ≡ syntax_line ∷ [] → owed ≡ nothing → new ≡ state
       → RightStep setting told state line reply owed new
-  performed : IsDecided setting.limits line → (command : Command) → Means command line
+  performed : IsShort setting.limits line → (command : Command) → Means command line
       → Performs setting command state reply new → owed ≡ nothing
       → RightStep setting told state line reply owed new
-  loaded : IsDecided setting.limits line → (file : Bytes) → Means (load file) line
+  loaded : IsShort setting.limits line → (file : Bytes) → Means (load file) line
       → PerformsLoad setting told file state reply owed new
       → RightStep setting told state line reply owed new
 
@@ -88,12 +102,12 @@ pub data Step (setting : Setting) (told : Option Files) (state : State) (line : 
     (reply : Reply) (owed : Owed) (new : State) : Type 0 where
   right : RightStep setting told state line reply owed new
       → Step setting told state line reply owed new
-  memory_at_once : (IsSilent setting.limits line → ⊥) → length line ≤ setting.limits.line
+  memory_at_once : (IsSilent setting.limits line → ⊥) → IsShort setting.limits line
       → reply ≡ memory_line ∷ [] → owed ≡ nothing → new ≡ state
       → Step setting told state line reply owed new
   memory_behind : (whole : Reply) (due : Owed) (next : State)
       → RightStep setting told state line whole due next
-      → length line ≤ setting.limits.line → (written left : Reply) → whole ≡ written ++ left
+      → IsShort setting.limits line → (written left : Reply) → whole ≡ written ++ left
       → (left ≡ [] → ⊥)
       → reply ≡ written ++ memory_line ∷ [] → owed ≡ nothing → new ≡ state
       → Step setting told state line reply owed new

@@ -1,6 +1,6 @@
 -- The words that commands begin with, and their texts (this project's profile). No two have the
 -- same text.
-use Rattle.std.specs.Prelude.{Bool, true, false, codes}
+use Rattle.std.specs.Prelude.{codes}
 use Rattle.si_defs.specs.Bytes.{Bytes}
 use Rattle.si_defs.specs.declared.Relation.{Relation}
 use Rattle.si_defs.specs.declared.Relation.TheVariants.{Variants, Instances, Generalizations, Unifiable}
@@ -24,15 +24,3 @@ command_text Stats = codes "stats"
 command_text Tree = codes "tree"
 command_text Explain = codes "explain"
 command_text Sample = codes "sample"
-
--- the words of the commands built so far
-abbrev pub is_built : Word → Bool
-is_built Add = true
-is_built Load = true
-is_built Remove = true
-is_built (Ask relation) = true
-is_built Subsumers = true
-is_built Subsumed = true
-is_built Stats = true
-is_built Sample = true
-is_built word = false

@@ -65,7 +65,7 @@ fn tell_hits(
 ) -> Result<(), AllocError>
     requires { IsSoundPattern (pattern_of pattern.now) }
 {
-    let found = index.find(relation, pattern)?;
+    let found = index.find(index.trees(), relation, pattern)?;
     tell_found(&found, page)
 }
 

@@ -8,7 +8,8 @@ use Rattle.si_defs.specs.Bytes.{Bytes}
 use Rattle.si_state.specs.States.{State, empty_state}
 use Rattle.si_state.specs.Harvest.{Files}
 use Rattle.si_steps.specs.Settings.{Setting}
-use Rattle.si_steps.specs.Runs.{ended, failures_in, Request, a_word, Run}
+use Rattle.si_steps.specs.Runs.{ended, failures_in, Request, a_word}
+use Rattle.stindex.specs.Shown.{ShownRun}
 use Rattle.si_session.specs.Session.{Around}
 use Rattle.si_io.proofs.Sends.{SendsAll_then, SendsAll-nil}
 use Rattle.si_io.specs.Shown.{SourceShown}
@@ -27,7 +28,7 @@ pub words_none : (setting : Setting) (told : Option Files) (strict : Bool) (stat
 words_none setting told strict state before none = record {
   output = [];
   failures = 0;
-  run = (refl, refl, none);
+  run = ((refl, refl, none), tt);
   written = SendsAll-nil before.sink;
   counted = tells_none before;
 }
@@ -38,8 +39,8 @@ pub words_more : (setting : Setting) (told : Option Files) (strict : Bool) (word
 words_more setting told strict words word old new before now after l acts = record {
   output = l.output ++ ended acts.reply;
   failures = l.failures + failures_in acts.owed;
-  run = subst (λ (rs : List Request). Run setting told strict empty_state rs (l.output ++ ended acts.reply) (l.failures + failures_in acts.owed) new) (sym (map-append a_word words (word ∷ [])))
-      (Run_more setting told strict empty_state old new (map a_word words) (a_word word) l.output l.failures acts.reply acts.owed l.run acts.step acts.goes);
+  run = subst (λ (rs : List Request). ShownRun setting told strict empty_state rs (l.output ++ ended acts.reply) (l.failures + failures_in acts.owed) new) (sym (map-append a_word words (word ∷ [])))
+      (Run_more setting told strict empty_state old new (map a_word words) (a_word word) l.output l.failures acts.reply acts.owed l.run acts.step acts.goes acts.shows);
   written = SendsAll_then before.sink now.sink after.sink l.output (ended acts.reply) l.written acts.written;
   counted = tells_then before now after l.failures (failures_in acts.owed) l.counted acts.counted;
 }
@@ -60,13 +61,14 @@ words_stop halt setting told strict words others files word old new before now a
     before = l.output;
     fewer = l.failures;
     state = old;
-    run = l.run;
+    run = l.run.0;
     owed = breaks.owed;
     new = new;
     acts = breaks.step;
     whole = refl;
     counted = refl;
   };
+  shown = (l.run.1, breaks.shows);
   written = stops_then halt strict breaks.reply before.sink now.sink after.sink l.output (ended breaks.reply) l.written breaks.written;
   counted = tells_then before now after l.failures (failures_in breaks.owed) l.counted breaks.counted;
 }
@@ -86,7 +88,7 @@ Stands_start setting told strict files source before now state held l empty = re
     failures = l.failures;
     splits = Splits_none;
     holds = empty ∙ sym (shown-nil setting.limits);
-    run = subst (λ (rs : List Request). Run setting told strict empty_state rs l.output l.failures state) (sym (append-nil (map a_word files))) l.run;
+    run = subst (λ (rs : List Request). ShownRun setting told strict empty_state rs l.output l.failures state) (sym (append-nil (map a_word files))) l.run;
     written = l.written;
     counted = l.counted;
   };

@@ -12,6 +12,7 @@ use Rattle.si_io.specs.Content.{Told, Takes, bytes_then}
 use Rattle.si_io.proofs.Content.{Takes_all}
 use Rattle.stindex.specs.declared.status.Status.{Status}
 use Rattle.stindex.specs.declared.status.Status.TheVariants.{Ended, Refused, Usage, SourceFault, SinkFault, Memory, SessionLimit}
+use Rattle.stindex.specs.Shown.{OutputShows}
 use Rattle.stindex.specs.Serve.{Ends, Serves, TellsFailures}
 
 -- A run that ended wrote an output of all its words and of all the lines of its input, behind what
@@ -23,6 +24,7 @@ pub record WritesOutput (setting : Setting) (told : Option Files) (strict : Bool
   pub output : Bytes
   pub failures : ℕ
   pub right : IsOutput setting told strict (requests files (lines_at_end lines rest)) output failures
+  pub shown : OutputShows setting told strict (requests files (lines_at_end lines rest)) output failures right
   pub written : after.sink.told.bytes ≡ Some (had ++ output)
   pub counted : TellsFailures failures before after
 
@@ -35,6 +37,7 @@ whole_run setting told strict files input had source now before after known whol
   output = s.ends.2.output;
   failures = s.ends.2.failures;
   right = s.ends.2.right;
+  shown = s.ends.2.shown;
   written = ap (λ (t : Told). t.bytes) s.ends.2.written.told ∙ ap (λ (b : Option Bytes). bytes_then b s.ends.2.output) known;
   counted = s.ends.2.counted;
 }

@@ -1,17 +1,17 @@
 -- How a run goes on: by bytes of a line that was begun, by a line feed, and by more bytes after
 -- others.
-use Rattle.std.proofs.Common.{◌≡◌, ℕ, ◌+◌, List, [], ◌∷◌, ◌++◌, Option, map, take, refl, sym, ap, subst, ◌∙◌, append_assoc, append-nil, zero, suc, drop, arith}
+use Rattle.std.proofs.Common.{◌≡◌, ℕ, ◌+◌, List, [], ◌∷◌, ◌++◌, Option, map, take, refl, sym, ap, subst, ◌∙◌, append_assoc, append-nil, zero, suc, drop, length, length-take, arith}
 use Rattle.std.proofs.Math.Seq.{take-nil}
 use Rattle.si_defs.specs.Bytes.{Bytes}
 use Rattle.si_steps.specs.declared.limits.Limits.{Limits}
 use Rattle.si_steps.specs.Settings.{Setting}
 use Rattle.si_steps.specs.Replies.{Reply, is_refusal}
 use Rattle.si_steps.specs.Steps.{Step}
-use Rattle.si_steps.specs.Runs.{ended, failures_in, IsOneLine, Splits, lines_at_end, Request, a_line, requests, GoesOn, Run}
+use Rattle.si_steps.specs.Runs.{ended, failures_in, IsOneLine, Splits, lines_at_end, Request, a_line, requests, GoesOn}
 use Rattle.si_state.specs.States.{State, empty_state}
 use Rattle.si_state.specs.Harvest.{Files}
 use Rattle.si_steps.specs.Loads.{Owed, nothing, a_miss, a_big, a_failure}
-use Rattle.si_io.specs.Counts.{raised_by}
+use Rattle.si_io.specs.Counts.{raised, raised_by}
 use Rattle.si_io.specs.Library.{Counts}
 use Rattle.si_io.specs.Shown.{SinkShown}
 use Rattle.si_io.specs.Sends.{SendsAll}
@@ -22,11 +22,13 @@ use Rattle.si_session.specs.declared.stepped.Stepped.TheVariants.{Answered, Refu
 use Rattle.stindex.specs.Progress.{shown, Judges, ActsOnRequest, Breaks, Progress, Advances, Feeds, BrokenOff, Fails, Closes, Cuts}
 use Rattle.stindex.specs.declared.status.Stop.{Stop}
 use Rattle.stindex.specs.declared.status.Stop.TheVariants as stop
-use Rattle.stindex.specs.Serve.{TellsFailures, StopsAt, WritesTo}
-use Rattle.stindex.proofs.Steps.{shown_step}
+use Rattle.stindex.specs.Serve.{TellsFailures, StopsAt, WritesTo, BlamesSink}
+use Rattle.si_session.specs.ShownTrees.{ShowsSome}
+use Rattle.stindex.specs.Shown.{ShowsAt, ShownRun}
+use Rattle.stindex.proofs.Steps.{shown_step, shown_shows, step_shows}
 use Rattle.std.specs.Prelude.{◌==◌, Bool, Some, None, IsTrue, IsFalse, Result, Ok, Err, OnOk, IfErr}
 use Rattle.std.specs.List.{position}
-use Rattle.stindex.proofs.Splitting.{line_end, line_without_end, Splits_more, Splits_line, Splits_any, lines_at_end-some, requests-more, requests-split, Run_line}
+use Rattle.stindex.proofs.Splitting.{line_end, line_without_end, Splits_more, Splits_line, Splits_any, lines_at_end-none, lines_at_end-some, requests-more, requests-split, Run_line}
 
 -- ---- failures of the library
 pub tells_none : (now : Around) → TellsFailures 0 now now
@@ -78,6 +80,7 @@ pub Advances_line : (setting : Setting) (told : Option Files) (strict : Bool) (o
     → ActsOnRequest setting told strict old new (a_line held) now after → Advances setting told strict (10 ∷ []) old held now new [] after
 Advances_line setting told strict old new held now after acts files before taken p =
     let step = shown_step setting told old new p.rest acts.reply acts.owed (subst (λ (l : Bytes). Step setting told old l acts.reply acts.owed new) p.holds acts.step) in
+    let shows = shown_shows setting old p.rest acts.reply (subst (λ (l : Bytes). ShowsSome setting.limits old l acts.reply) p.holds acts.shows) in
     record {
       lines = p.lines ++ p.rest ∷ [];
       rest = [];
@@ -85,7 +88,7 @@ Advances_line setting told strict old new held now after acts files before taken
       failures = p.failures + failures_in acts.owed;
       splits = Splits_line taken p.lines p.rest p.splits;
       holds = sym (shown-nil setting.limits);
-      run = Run_line setting told strict old new files p.lines p.rest p.output p.failures acts.reply acts.owed p.run step acts.goes;
+      run = Run_line setting told strict old new files p.lines p.rest p.output p.failures acts.reply acts.owed p.run step acts.goes shows;
       written = SendsAll_then before.sink now.sink after.sink p.output (ended acts.reply) p.written acts.written;
       counted = tells_then before now after p.failures (failures_in acts.owed) p.counted acts.counted;
     }
@@ -98,11 +101,11 @@ stops_then stop.SinkFault strict reply a b c xs ys h k = SendsPart_then a b c xs
 -- a run stops at a line, behind which others stand
 stops_at : (halt : Stop) (setting : Setting) (told : Option Files) (strict : Bool) (old new : State) (files lines whole : List Bytes) (line : Bytes) (others : List Request) (output : Bytes) (failures : ℕ)
     (held : Bytes) (before now after : Around) (breaks : Breaks halt setting told strict old new (a_line held) now after)
-    → Run setting told strict empty_state (requests files lines) output failures old → Step setting told old line breaks.reply breaks.owed new
+    → ShownRun setting told strict empty_state (requests files lines) output failures old → Step setting told old line breaks.reply breaks.owed new → ShowsAt setting old (a_line line) breaks.reply
     → SendsAll before.sink output now.sink → TellsFailures failures before now
     → requests files lines ++ a_line line ∷ others ≡ requests files whole
     → WritesTo halt setting told strict files whole before after
-stops_at halt setting told strict old new files lines whole line others output failures held before now after breaks run step written counted front = record {
+stops_at halt setting told strict old new files lines whole line others output failures held before now after breaks run step shows written counted front = record {
   reply = breaks.reply;
   output = output ++ ended breaks.reply;
   failures = failures + failures_in breaks.owed;
@@ -114,13 +117,14 @@ stops_at halt setting told strict old new files lines whole line others output f
     before = output;
     fewer = failures;
     state = old;
-    run = run;
+    run = run.0;
     owed = breaks.owed;
     new = new;
     acts = step;
     whole = refl;
     counted = refl;
   };
+  shown = (run.1, shows);
   written = stops_then halt strict breaks.reply before.sink now.sink after.sink output (ended breaks.reply) written breaks.written;
   counted = tells_then before now after failures (failures_in breaks.owed) counted breaks.counted;
 }
@@ -129,12 +133,13 @@ pub Fails_line : (halt : Stop) (setting : Setting) (told : Option Files) (strict
     → Breaks halt setting told strict old new (a_line held) now after → Fails halt setting told strict (10 ∷ bytes) old held now after
 Fails_line halt setting told strict bytes old new held now after breaks files before taken p =
     let step = shown_step setting told old new p.rest breaks.reply breaks.owed (subst (λ (l : Bytes). Step setting told old l breaks.reply breaks.owed new) p.holds breaks.step) in
+    let shows = shown_shows setting old p.rest breaks.reply (subst (λ (l : Bytes). ShowsSome setting.limits old l breaks.reply) p.holds breaks.shows) in
     let more = Splits_any bytes (taken ++ 10 ∷ []) (p.lines ++ p.rest ∷ []) [] (Splits_line taken p.lines p.rest p.splits) in
     record {
       lines = (p.lines ++ p.rest ∷ []) ++ more.0;
       rest = more.1;
       splits = subst (λ (b : Bytes). Splits b ((p.lines ++ p.rest ∷ []) ++ more.0) more.1) (append_assoc taken (10 ∷ []) bytes) more.2;
-      part = stops_at halt setting told strict old new files p.lines ((p.lines ++ p.rest ∷ []) ++ more.0) p.rest (map a_line more.0) p.output p.failures held before now after breaks p.run step p.written p.counted (requests-split files p.lines more.0 p.rest);
+      part = stops_at halt setting told strict old new files p.lines ((p.lines ++ p.rest ∷ []) ++ more.0) p.rest (map a_line more.0) p.output p.failures held before now after breaks p.run step shows p.written p.counted (requests-split files p.lines more.0 p.rest);
     }
 
 pub Fails_then : (halt : Stop) (setting : Setting) (told : Option Files) (strict : Bool) (bs cs : Bytes) (s t : State) (f g : Bytes) (x y z : Around)
@@ -191,13 +196,42 @@ Feeds_end setting told strict bytes rest n old mid held holds filled now x f lin
 rest_some : (limits : Limits) (held rest : Bytes) → (held ≡ [] → ⊥) → held ≡ shown limits rest → rest ≡ [] → ⊥
 rest_some limits held rest some holds none = some (holds ∙ ap (shown limits) none ∙ shown-nil limits)
 
+take_none : (n : ℕ) (xs : Bytes) → [] ≡ take (n + 1) xs → xs ≡ []
+take_none n [] e = refl
+take_none n (x ∷ xs) e = absurd (omega (arith, ap length e, length-take (n + 1) (x ∷ xs)))
+
+-- no line was begun
+pub Closes_none : (setting : Setting) (told : Option Files) (strict : Bool) (state : State) (held : Bytes) (now : Around)
+    → held ≡ [] → Closes setting told strict state held now now
+Closes_none setting told strict state held now none files before taken p =
+    let same : lines_at_end p.lines p.rest ≡ p.lines = lines_at_end-none p.lines p.rest (take_none setting.limits.line p.rest (sym none ∙ p.holds)) in
+    let run =
+    subst (λ (ls : List Bytes). ShownRun setting told strict empty_state (requests files ls) p.output p.failures state) (sym same) p.run in
+    record {
+      lines = p.lines;
+      rest = p.rest;
+      splits = p.splits;
+      all = record {
+        output = p.output;
+        failures = p.failures;
+        right = (state, run.0);
+        shown = run.1;
+        written = p.written;
+        counted = p.counted;
+      };
+    }
+
 -- the line that was begun is the last one
 pub Closes_line : (setting : Setting) (told : Option Files) (strict : Bool) (old new : State) (held : Bytes) (now after : Around)
     → (held ≡ [] → ⊥) → ActsOnRequest setting told strict old new (a_line held) now after → Closes setting told strict old held now after
 Closes_line setting told strict old new held now after some acts files before taken p =
     let step = shown_step setting told old new p.rest acts.reply acts.owed (subst (λ (l : Bytes). Step setting told old l acts.reply acts.owed new) p.holds acts.step) in
+    let shows = shown_shows setting old p.rest acts.reply (subst (λ (l : Bytes). ShowsSome setting.limits old l acts.reply) p.holds acts.shows) in
     let same : lines_at_end p.lines p.rest ≡ p.lines ++ p.rest ∷ [] = lines_at_end-some p.lines p.rest (rest_some setting.limits held p.rest some p.holds) in
     let output : Bytes = p.output ++ ended acts.reply in
+    let run =
+    subst (λ (ls : List Bytes). ShownRun setting told strict empty_state (requests files ls) output (p.failures + failures_in acts.owed) new) (sym same)
+    (Run_line setting told strict old new files p.lines p.rest p.output p.failures acts.reply acts.owed p.run step acts.goes shows) in
     record {
       lines = p.lines;
       rest = p.rest;
@@ -205,11 +239,8 @@ Closes_line setting told strict old new held now after some acts files before ta
       all = record {
         output = output;
         failures = p.failures + failures_in acts.owed;
-        right = (
-          new,
-          subst (λ (ls : List Bytes). Run setting told strict empty_state (requests files ls) output (p.failures + failures_in acts.owed) new) (sym same)
-              (Run_line setting told strict old new files p.lines p.rest p.output p.failures acts.reply acts.owed p.run step acts.goes),
-        );
+        right = (new, run.0);
+        shown = run.1;
         written = SendsAll_then before.sink now.sink after.sink p.output (ended acts.reply) p.written acts.written;
         counted = tells_then before now after p.failures (failures_in acts.owed) p.counted acts.counted;
       };
@@ -219,12 +250,13 @@ pub Cuts_line : (halt : Stop) (setting : Setting) (told : Option Files) (strict 
     → (held ≡ [] → ⊥) → Breaks halt setting told strict old new (a_line held) now after → Cuts halt setting told strict old held now after
 Cuts_line halt setting told strict old new held now after some breaks files before taken p =
     let step = shown_step setting told old new p.rest breaks.reply breaks.owed (subst (λ (l : Bytes). Step setting told old l breaks.reply breaks.owed new) p.holds breaks.step) in
+    let shows = shown_shows setting old p.rest breaks.reply (subst (λ (l : Bytes). ShowsSome setting.limits old l breaks.reply) p.holds breaks.shows) in
     let same : lines_at_end p.lines p.rest ≡ p.lines ++ p.rest ∷ [] = lines_at_end-some p.lines p.rest (rest_some setting.limits held p.rest some p.holds) in
     record {
       lines = p.lines;
       rest = p.rest;
       splits = p.splits;
-      part = stops_at halt setting told strict old new files p.lines (lines_at_end p.lines p.rest) p.rest [] p.output p.failures held before now after breaks p.run step p.written p.counted
+      part = stops_at halt setting told strict old new files p.lines (lines_at_end p.lines p.rest) p.rest [] p.output p.failures held before now after breaks p.run step shows p.written p.counted
           (sym (requests-more files p.lines p.rest) ∙ ap (requests files) (sym same));
     }
 
@@ -254,6 +286,18 @@ tells_owed owed now after h kept = record {
   same = kept;
 }
 
+-- ---- the sink's faults
+module _ (strict : Bool) (outcome : Stepped) (old new : ℕ)
+    (kept : (outcome ≡ SinkFailed → ⊥) → new ≡ old) (failed : outcome ≡ SinkFailed → new ≡ raised old) where
+  pub faults_kept : (r : Result (Unit {0}) Stop) → Judges strict outcome r → OnOk r (new ≡ old)
+  faults_kept (Ok done) h = kept h.0
+  faults_kept (Err halt) h = tt
+
+  pub faults_blamed : (r : Result (Unit {0}) Stop) → Judges strict outcome r → IfErr r (λ halt. BlamesSink halt old new)
+  faults_blamed (Ok done) h = tt
+  faults_blamed (Err stop.Refused) h = kept (λ e. cc)
+  faults_blamed (Err stop.SinkFault) h = failed h
+
 -- ---- what became of a request
 goes_on : (strict : Bool) (outcome : Stepped) (reply : Reply) (now after : SinkShown) → (outcome ≡ SinkFailed → ⊥) → (IsTrue strict → outcome ≡ Refused → ⊥) → Writes outcome reply now after → GoesOn strict reply
 goes_on strict Answered reply now after whole none w s = w.2
@@ -276,6 +320,7 @@ module _ (told : Option Files) (strict : Bool) (old new : View) (request : Reque
     reply = s.reply;
     owed = s.owed;
     step = s.step;
+    shows = step_shows told old new request outcome now after s;
     goes = goes_on strict outcome s.reply now.sink after.sink h.0 h.1 s.written;
     written = written_whole outcome s.reply now.sink after.sink h.0 s.written;
     counted = tells_owed s.owed now after s.counted kept;
@@ -288,6 +333,7 @@ module _ (told : Option Files) (strict : Bool) (old new : View) (request : Reque
     reply = s.reply;
     owed = s.owed;
     step = s.step;
+    shows = step_shows told old new request outcome now after s;
     written = stopped halt strict outcome s.reply now.sink after.sink h s.written;
     counted = tells_owed s.owed now after s.counted kept;
   }

@@ -16,7 +16,8 @@ use Rattle.si_steps.specs.Loads.{Owed}
 use Rattle.si_steps.specs.Steps.{Step}
 use Rattle.si_session.proofs.Told.{ended-append}
 use Rattle.stindex.specs.Lines.{IsLineEnd}
-use Rattle.si_steps.specs.Runs.{ended, failures_in, IsOneLine, Splits, lines_at_end, Request, a_word, a_line, requests, Acts, GoesOn, Run}
+use Rattle.si_steps.specs.Runs.{ended, failures_in, IsOneLine, Splits, lines_at_end, Request, a_word, a_line, requests, Acts, GoesOn}
+use Rattle.stindex.specs.Shown.{ShowsAt, ShownRun}
 
 -- ---- lines
 each-append : (ls : List Bytes) (k : Bytes) → AllByRecursion IsOneLine ls → IsOneLine k → AllByRecursion IsOneLine (ls ++ k ∷ [])
@@ -127,37 +128,44 @@ requests-split files lines others line =
 
 -- a run goes on by one request
 pub Run_more : (setting : Setting) (told : Option Files) (strict : Bool) (old mid new : State) (done : List Request) (request : Request) (output : Bytes) (failures : ℕ) (reply : Reply) (owed : Owed)
-    → Run setting told strict old done output failures mid → Acts setting told mid request reply owed new → GoesOn strict reply
-    → Run setting told strict old (done ++ request ∷ []) (output ++ ended reply) (failures + failures_in owed) new
-Run_more setting told strict old mid new [] request output failures reply owed run acts goes = (
-  reply,
-  owed,
-  new,
-  [],
-  0,
-  subst (λ (s : State). Acts setting told s request reply owed new) run.2 acts,
-  goes,
-  (refl, refl, refl),
-  ap (λ (b : Bytes). b ++ ended reply) run.0 ∙ sym (append-nil (ended reply)),
-  omega (arith, run.1),
+    → ShownRun setting told strict old done output failures mid → Acts setting told mid request reply owed new → GoesOn strict reply → ShowsAt setting mid request reply
+    → ShownRun setting told strict old (done ++ request ∷ []) (output ++ ended reply) (failures + failures_in owed) new
+Run_more setting told strict old mid new [] request output failures reply owed (run, shown) acts goes shows = (
+  (
+    reply,
+    owed,
+    new,
+    [],
+    0,
+    subst (λ (s : State). Acts setting told s request reply owed new) run.2 acts,
+    goes,
+    (refl, refl, refl),
+    ap (λ (b : Bytes). b ++ ended reply) run.0 ∙ sym (append-nil (ended reply)),
+    omega (arith, run.1),
+  ),
+  (subst (λ (s : State). ShowsAt setting s request reply) run.2 shows, tt),
 )
-Run_more setting told strict old mid new (r ∷ rs) request output failures reply owed run acts goes = (
-  run.0,
-  run.1,
-  run.2,
-  run.3 ++ ended reply,
-  run.4 + failures_in owed,
-  run.5,
-  run.6,
-  Run_more setting told strict run.2 mid new rs request run.3 run.4 reply owed run.7 acts goes,
-  ap (λ (b : Bytes). b ++ ended reply) run.8 ∙ append_assoc (ended run.0) run.3 (ended reply),
-  omega (arith, run.9),
-)
+Run_more setting told strict old mid new (r ∷ rs) request output failures reply owed (run, shown) acts goes shows =
+    let more = Run_more setting told strict run.2 mid new rs request run.3 run.4 reply owed (run.7, shown.1) acts goes shows in (
+      (
+        run.0,
+        run.1,
+        run.2,
+        run.3 ++ ended reply,
+        run.4 + failures_in owed,
+        run.5,
+        run.6,
+        more.0,
+        ap (λ (b : Bytes). b ++ ended reply) run.8 ∙ append_assoc (ended run.0) run.3 (ended reply),
+        omega (arith, run.9),
+      ),
+      (shown.0, more.1),
+    )
 
 -- by one line
 pub Run_line : (setting : Setting) (told : Option Files) (strict : Bool) (mid new : State) (files lines : List Bytes) (line output : Bytes) (failures : ℕ) (reply : Reply) (owed : Owed)
-    → Run setting told strict empty_state (requests files lines) output failures mid → Step setting told mid line reply owed new → GoesOn strict reply
-    → Run setting told strict empty_state (requests files (lines ++ line ∷ [])) (output ++ ended reply) (failures + failures_in owed) new
-Run_line setting told strict mid new files lines line output failures reply owed run step goes =
-    subst (λ (rs : List Request). Run setting told strict empty_state rs (output ++ ended reply) (failures + failures_in owed) new) (sym (requests-more files lines line))
-    (Run_more setting told strict empty_state mid new (requests files lines) (a_line line) output failures reply owed run step goes)
+    → ShownRun setting told strict empty_state (requests files lines) output failures mid → Step setting told mid line reply owed new → GoesOn strict reply → ShowsAt setting mid (a_line line) reply
+    → ShownRun setting told strict empty_state (requests files (lines ++ line ∷ [])) (output ++ ended reply) (failures + failures_in owed) new
+Run_line setting told strict mid new files lines line output failures reply owed run step goes shows =
+    subst (λ (rs : List Request). ShownRun setting told strict empty_state rs (output ++ ended reply) (failures + failures_in owed) new) (sym (requests-more files lines line))
+    (Run_more setting told strict empty_state mid new (requests files lines) (a_line line) output failures reply owed run step goes shows)

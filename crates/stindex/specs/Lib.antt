@@ -1,5 +1,6 @@
 pub mod Lines
 pub mod Progress
+pub mod Shown
 pub mod Serve
 pub mod Status
 pub mod Words

@@ -8,7 +8,7 @@ use Rattle.si_state.specs.States.{State, empty_state}
 use Rattle.si_state.specs.Harvest.{Files}
 use Rattle.si_steps.specs.Loads.{Owed}
 use Rattle.si_session.specs.Session.{Around}
-use Rattle.si_steps.specs.Runs.{ended, failures_in, Splits, lines_at_end, Request, a_word, requests, Acts, GoesOn, Run}
+use Rattle.si_steps.specs.Runs.{ended, failures_in, Splits, lines_at_end, Request, a_word, requests, Acts, GoesOn}
 use Rattle.si_session.specs.declared.stepped.Stepped.{Stepped}
 use Rattle.si_session.specs.declared.stepped.Stepped.TheVariants.{Refused, SinkFailed}
 use Rattle.si_io.specs.Sends.{SendsAll}
@@ -16,6 +16,7 @@ use Rattle.si_io.specs.Gives.{Gives}
 use Rattle.si_io.specs.Shown.{SourceShown}
 use Rattle.stindex.specs.declared.status.Stop.{Stop}
 use Rattle.stindex.specs.declared.status.Stop.TheVariants as stop
+use Rattle.stindex.specs.Shown.{ShowsAt, ShownRun}
 use Rattle.stindex.specs.Serve.{WritesAll, WritesTo, StopsAt, TellsFailures, TellsNoEnd}
 
 -- What is held of a line that was begun: its bytes up to one more than a line may have.
@@ -35,6 +36,7 @@ pub record ActsOnRequest (setting : Setting) (told : Option Files) (strict : Boo
   pub reply : Reply
   pub owed : Owed
   pub step : Acts setting told old request reply owed new
+  pub shows : ShowsAt setting old request reply
   pub goes : GoesOn strict reply
   pub written : SendsAll before.sink (ended reply) after.sink
   pub counted : TellsFailures (failures_in owed) before after
@@ -45,6 +47,7 @@ pub record Breaks (halt : Stop) (setting : Setting) (told : Option Files) (stric
   pub reply : Reply
   pub owed : Owed
   pub step : Acts setting told old request reply owed new
+  pub shows : ShowsAt setting old request reply
   pub written : StopsAt halt strict reply (ended reply) before.sink after.sink
   pub counted : TellsFailures (failures_in owed) before after
 
@@ -54,7 +57,7 @@ pub record LoadsWords (setting : Setting) (told : Option Files) (strict : Bool) 
     (before : Around) (state : State) (after : Around) : Type 0 where
   pub output : Bytes
   pub failures : ℕ
-  pub run : Run setting told strict empty_state (map a_word words) output failures state
+  pub run : ShownRun setting told strict empty_state (map a_word words) output failures state
   pub written : SendsAll before.sink output after.sink
   pub counted : TellsFailures failures before after
 
@@ -70,7 +73,7 @@ pub record Progress (setting : Setting) (told : Option Files) (strict : Bool) (f
   pub failures : ℕ
   pub splits : Splits taken lines rest
   pub holds : held ≡ shown setting.limits rest
-  pub run : Run setting told strict empty_state (requests files lines) output failures state
+  pub run : ShownRun setting told strict empty_state (requests files lines) output failures state
   pub written : SendsAll before.sink output after.sink
   pub counted : TellsFailures failures before after
 

@@ -16,6 +16,7 @@ use Rattle.si_io.specs.Content.{Takes}
 use Rattle.clap.specs.Words.{takes}
 use Rattle.stindex.specs.Words.{program, usage_line, asked_by, HasNoFault}
 use Rattle.std.specs.Io.KnownBytes.{IsAtEnd}
+use Rattle.stindex.specs.Shown.{OutputShows, OutputToShows}
 use Rattle.stindex.specs.declared.status.Status.{Status}
 use Rattle.stindex.specs.declared.status.Stop.{Stop}
 use Rattle.stindex.specs.declared.status.Stop.TheVariants as stop
@@ -28,13 +29,14 @@ pub record TellsFailures (failures : ℕ) (before after : Around) : Type 0 where
   pub sure : IsFalse before.may_fail → failures ≡ 0
   pub same : after.may_fail ≡ before.may_fail
 
--- An output of these words and lines was written whole, and the failures that it tells were
--- counted.
+-- An output of these words and lines was written whole, the trees that it shows are such as hold the
+-- kept entries, and the failures that it tells were counted.
 pub record WritesAll (setting : Setting) (told : Option Files) (strict : Bool)
     (files lines : List Bytes) (before after : Around) : Type 0 where
   pub output : Bytes
   pub failures : ℕ
   pub right : IsOutput setting told strict (requests files lines) output failures
+  pub shown : OutputShows setting told strict (requests files lines) output failures right
   pub written : SendsAll before.sink output after.sink
   pub counted : TellsFailures failures before after
 
@@ -53,6 +55,7 @@ pub record WritesTo (stop : Stop) (setting : Setting) (told : Option Files) (str
   pub output : Bytes
   pub failures : ℕ
   pub right : IsOutputTo setting told strict (requests files lines) reply output failures
+  pub shown : OutputToShows setting told strict (requests files lines) reply output failures right
   pub written : StopsAt stop strict reply output before.sink after.sink
   pub counted : TellsFailures failures before after
 

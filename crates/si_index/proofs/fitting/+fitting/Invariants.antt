@@ -4,7 +4,7 @@ use Rattle.si_term.specs.Terms.{term_of}
 use Rattle.si_index.proofs.fitting.+fitting.Given as goal
 
 abbrev pub decreases-may_become : goal.decreases-may_become
-decreases-may_become l = 2 * size (term_of l.query.now)
+decreases-may_become l = 2 * size (term_of l.term.now)
 
 abbrev pub decreases-all_may_become : goal.decreases-all_may_become
-decreases-all_may_become l = 2 * sizes (row (map term_of l.queries.now)) + 1
+decreases-all_may_become l = 2 * sizes (row (map term_of l.terms.now)) + 1

@@ -1,11 +1,11 @@
-use Rattle.std.proofs.Common.{◌≡◌, ℕ, Some, IfSome, sym, subst}
-use Rattle.si_defs.specs.Substitutions.{IsAmong}
+use Rattle.std.proofs.Common.{Some, sym, subst}
 use Rattle.si_term.specs.Meaning.{name_of}
 use Rattle.si_term.specs.declared.clause.Clause.{Clause}
 use Rattle.si_keyed.specs.Keyed.{HasKey, IsTakenOut}
 use Rattle.si_index.specs.Names.{key_of, ChangesName}
-use Rattle.si_keyed.proofs.KeyLaws.{key_taken, pushed_item, pushed_key, taken_back}
+use Rattle.si_keyed.proofs.KeyLaws.{pushed_key, taken_back}
 use Rattle.si_keyed.proofs.Results.{some_unless}
+use Rattle.si_index.proofs.NamedLaws.{put_item, put_taken}
 use Rattle.si_index.proofs.index.put.Goals as goal
 
 pub unwrap-kept-requires : goal.unwrap-kept-requires
@@ -19,25 +19,20 @@ remove-requires c = subst (λ l. HasKey l c.in_ok-key.key) (sym c.in_ok-key.ensu
 pub returns-in-Ok-clause-put : goal.returns-in-Ok-clause-put
 returns-in-Ok-clause-put c =
     let key = c.in_ok-key.key in
-    let kept = c.unwrap-kept.result.now in
-    let among : IsAmong {V = ℕ × Clause} c.push.new.self.items (key, kept) =
-    subst (λ r. IfSome r (λ item. IsAmong {V = ℕ × Clause} c.push.new.self.items (key, item.now))) c.unwrap-kept.ensures c.get.ensures.some in
-    let same : kept ≡ c.args.clause =
-    pushed_item c.args.clauses.now.items key c.args.clause kept c.in_ok-key.ensures.fresh
-    (subst (λ l. IsAmong {V = ℕ × Clause} l (key, kept)) c.in_ok-key.ensures.pushed among) in
+    let fresh = c.in_ok-key.ensures.fresh in
+    let pushed = c.in_ok-key.ensures.pushed in
     record {
-      key = key;
-      fresh = c.in_ok-key.ensures.fresh;
-      pushed = c.in_ok-key.ensures.pushed;
-      name = subst (λ (d : Clause). ChangesName (name_of d.name) (Some key) (key_of c.args.names.now) (key_of c.insert.new.self)) same c.in-Ok.ensures.ok;
+      fresh = fresh;
+      pushed = pushed;
+      name =
+          subst (λ (d : Clause). ChangesName (name_of d.name) (Some key) (key_of c.args.names.now) (key_of c.insert.new.self))
+          (put_item c.args.clauses.now.items c.push.new.self.items key c.args.clause c.get.result c.unwrap-kept.result fresh pushed c.unwrap-kept.ensures c.get.ensures.some) c.in-Ok.ensures.ok;
     }
 
 pub returns-in-Err-clause-handed_back : goal.returns-in-Err-clause-handed_back
 returns-in-Err-clause-handed_back c =
-    let key = c.in_ok-key.key in
-    let among = key_taken c.push.new.self.items key c.remove.result c.remove.new.self.items c.remove.ensures.taken in
-    pushed_item c.args.clauses.now.items key c.args.clause c.remove.result c.in_ok-key.ensures.fresh
-    (subst (λ l. IsAmong {V = ℕ × Clause} l (key, c.remove.result)) c.in_ok-key.ensures.pushed among)
+    put_taken c.args.clauses.now.items c.push.new.self.items c.in_ok-key.key c.args.clause c.remove.result c.remove.new.self.items c.in_ok-key.ensures.fresh c.in_ok-key.ensures.pushed
+    c.remove.ensures.taken
 
 pub returns-in-Err-clause-err : goal.returns-in-Err-clause-err
 returns-in-Err-clause-err c =

@@ -64,3 +64,15 @@ returns-in-Some-Subsumed-clause-read c =
     subst (λ ts. IfOk c.subsumed_command.result (Commands ts c.args.stop))
     (front c.args.tokens.now c.in-Some.first.now c.in-Some.rest.now _ c.in-Some.ensures.cases.0
     (c.in-Some-Subsumed.ensures.found ∙ ap (λ w. lower (command_text w)) c.in-Some-Subsumed.field-0-is)) c.subsumed_command.ensures
+
+pub returns-in-Some-Tree-clause-read : goal.returns-in-Some-Tree-clause-read
+returns-in-Some-Tree-clause-read c =
+    subst (λ ts. Commands ts c.args.stop c.tree_command.result)
+    (front c.args.tokens.now c.in-Some.first.now c.in-Some.rest.now _ c.in-Some.ensures.cases.0
+    (c.in-Some-Tree.ensures.found ∙ ap (λ w. lower (command_text w)) c.in-Some-Tree.field-0-is)) c.tree_command.ensures
+
+pub returns-in-Some-Explain-clause-read : goal.returns-in-Some-Explain-clause-read
+returns-in-Some-Explain-clause-read c =
+    subst (λ ts. IfOk c.explain_command.result (Commands ts c.args.stop))
+    (front c.args.tokens.now c.in-Some.first.now c.in-Some.rest.now _ c.in-Some.ensures.cases.0
+    (c.in-Some-Explain.ensures.found ∙ ap (λ w. lower (command_text w)) c.in-Some-Explain.field-0-is)) c.explain_command.ensures

@@ -2,7 +2,7 @@ use Rattle.std.proofs.Common.{ap, sym, subst}
 use Rattle.si_io.specs.Sends.{Sends}
 use Rattle.si_session.specs.Replies.{ended_line}
 use Rattle.si_session.specs.Signs.{sign_text}
-use Rattle.si_session.proofs.ReplyTexts.{ok_text, stats_line_is, sample_line_is, misused_is, full_text, file_told, line_told}
+use Rattle.si_session.proofs.ReplyTexts.{ok_text, stats_line_is, sample_told, explained_told, misused_is, full_text, file_told, line_told}
 use Rattle.si_session.proofs.reply.put_reply.Goals as goal
 
 pub returns-in-Ok : goal.returns-in-Ok
@@ -34,11 +34,6 @@ pub returns-in-Long : goal.returns-in-Long
 unfolding ended_line
 returns-in-Long g c =
     subst (λ t. Sends c.put_bytes-in-Long.result t (g.K.Sink.shown c.args.sink.now) ((g.K.Sink.shown c.put_bytes-in-Long.new.sink))) (ap ended_line (sym c.in-Long.is)) c.put_bytes-in-Long.ensures
-
-pub returns-in-Later : goal.returns-in-Later
-unfolding ended_line
-returns-in-Later g c =
-    subst (λ t. Sends c.put_bytes-in-Later.result t (g.K.Sink.shown c.args.sink.now) ((g.K.Sink.shown c.put_bytes-in-Later.new.sink))) (ap ended_line (sym c.in-Later.is)) c.put_bytes-in-Later.ensures
 
 pub returns-in-Language : goal.returns-in-Language
 unfolding ended_line
@@ -80,5 +75,10 @@ returns-in-Unknown g c =
 
 pub returns-in-Sample : goal.returns-in-Sample
 returns-in-Sample g c =
-    subst (λ t. Sends c.put_sample.result t (g.K.Sink.shown c.args.sink.now) (g.K.Sink.shown c.put_sample.new.sink))
-    (sample_line_is c.args.reply c.in-Sample.clauses c.in-Sample.entries c.in-Sample.sum c.in-Sample.is) c.put_sample.ensures
+    subst (λ t. Sends c.put_three.result t (g.K.Sink.shown c.args.sink.now) (g.K.Sink.shown c.put_three.new.sink))
+    (sample_told c.args.reply c.in-Sample.clauses c.in-Sample.entries c.in-Sample.sum c.in-Sample.is) c.put_three.ensures
+
+pub returns-in-Explained : goal.returns-in-Explained
+returns-in-Explained g c =
+    subst (λ t. Sends c.put_three-in-Explained.result t (g.K.Sink.shown c.args.sink.now) (g.K.Sink.shown c.put_three-in-Explained.new.sink))
+    (explained_told c.args.reply c.in-Explained.explained c.in-Explained.is) c.put_three-in-Explained.ensures

@@ -4,11 +4,16 @@ use Rattle.si_defs.specs.Entries.{Placed}
 use Rattle.si_term.specs.Meaning.{pattern_of}
 use Rattle.si_index.specs.Searching.{HasSolution}
 use Rattle.si_session.proofs.Acting.{answers, fails}
+use Rattle.si_index.proofs.StandingLaws.{trees_stand, trees_find}
 use Rattle.si_session.proofs.Answering.{are_inside, whole_answer}
 use Rattle.si_session.proofs.session.answer.Goals as goal
 
+pub find-requires-clause-standing : goal.find-requires-clause-standing
+find-requires-clause-standing g c = trees_stand c.args.index.now c.trees.result.now c.args.relation (pattern_of c.args.pattern.now) c.trees.ensures.answer c.trees.ensures.trees c.requires
+
 pub tell_answer-requires-clause-inside : goal.tell_answer-requires-clause-inside
-tell_answer-requires-clause-inside g c = are_inside c.args.relation (pattern_of c.args.pattern.now) c.args.index.now.clauses c.in-Ok.found.hits c.in-Ok.ensures.hits
+tell_answer-requires-clause-inside g c = are_inside c.args.relation (pattern_of c.args.pattern.now) c.args.index.now.clauses c.in-Ok.found.hits
+    (trees_find c.args.index.now c.trees.result.now c.args.relation (pattern_of c.args.pattern.now) c.trees.ensures.answer c.trees.ensures.trees c.requires c.in-Ok.found.hits c.in-Ok.found.passed c.in-Ok.ensures.hits)
 
 pub tell_answer-requires-clause-solved : goal.tell_answer-requires-clause-solved
 tell_answer-requires-clause-solved g c =
@@ -20,12 +25,14 @@ pub returns-in-Ok-tell_answer-clause-acts : goal.returns-in-Ok-tell_answer-claus
 returns-in-Ok-tell_answer-clause-acts g c =
     let f = c.in-Ok.found in
     let told = c.in-Ok-tell_answer.ensures in
-    let answer = whole_answer f c.args.index.now c.args.relation (pattern_of c.args.pattern.now) c.in-Ok.ensures.index c.in-Ok.ensures.relation c.in-Ok.ensures.pattern c.in-Ok.ensures.hits told.0 told.1 in
+    let answer = whole_answer f c.args.index.now c.args.relation (pattern_of c.args.pattern.now) c.in-Ok.ensures.index c.in-Ok.ensures.relation c.in-Ok.ensures.pattern
+    (trees_find c.args.index.now c.trees.result.now c.args.relation (pattern_of c.args.pattern.now) c.trees.ensures.answer c.trees.ensures.trees c.requires c.in-Ok.found.hits c.in-Ok.found.passed c.in-Ok.ensures.hits) told.0 told.1 in
     answers c.args.relation (pattern_of c.args.pattern.now) c.args.index.now told.0 answer (g.K.Sink.shown c.args.sink.now) (g.K.Sink.shown c.tell_answer.new.sink) told.2.all
 
 pub returns-clause-acts : goal.returns-clause-acts
 returns-clause-acts g c =
     let f = c.in-Ok.found in
     let told = c.in-Err-tell_answer.ensures in
-    let answer = whole_answer f c.args.index.now c.args.relation (pattern_of c.args.pattern.now) c.in-Ok.ensures.index c.in-Ok.ensures.relation c.in-Ok.ensures.pattern c.in-Ok.ensures.hits told.0 told.1 in
+    let answer = whole_answer f c.args.index.now c.args.relation (pattern_of c.args.pattern.now) c.in-Ok.ensures.index c.in-Ok.ensures.relation c.in-Ok.ensures.pattern
+    (trees_find c.args.index.now c.trees.result.now c.args.relation (pattern_of c.args.pattern.now) c.trees.ensures.answer c.trees.ensures.trees c.requires c.in-Ok.found.hits c.in-Ok.found.passed c.in-Ok.ensures.hits) told.0 told.1 in
     fails c.args.relation (pattern_of c.args.pattern.now) c.args.index.now told.0 answer (g.K.Sink.shown c.args.sink.now) (g.K.Sink.shown c.tell_answer.new.sink) told.2.part

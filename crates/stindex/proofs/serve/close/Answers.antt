@@ -1,9 +1,10 @@
 -- The line that was begun is the last one, for it isn't empty.
-use Rattle.std.proofs.Common.{◌≡◌, ℕ, Bool, true, false, List, [], length, ap, ◌∙◌, eq-eqb}
+use Rattle.std.proofs.Common.{◌≡◌, ℕ, Bool, true, false, List, [], ◌∷◌, refl, length, ap, ◌∙◌, arith, eq-eqb}
+use Rattle.std.proofs.lemmas.Bool.Decides.{nat_tests}
 use Rattle.std.specs.Prelude.{◌==◌}
 use Rattle.std.proofs.lemmas.Result.{on_ok_weaker, IfErr-weaker}
 use Rattle.stindex.specs.Lines.{held_of}
-use Rattle.stindex.proofs.Progress.{Closes_line, Cuts_line}
+use Rattle.stindex.proofs.Progress.{Closes_none, Closes_line, Cuts_line}
 use Rattle.stindex.proofs.serve.close.Goals as goal
 
 empty_not : (held bytes : List ℕ) (b : Bool) → held ≡ [] → bytes ≡ held → b ≡ (length bytes == 0) → b ≡ false → ⊥
@@ -11,6 +12,16 @@ empty_not held bytes b none same is false_is =
     let zero : length bytes ≡ 0 = ap length (same ∙ none) in
     let yes : (length bytes == 0) ≡ true = eq-eqb (length bytes) 0 zero in
     cc
+
+empty_is : (held bytes : List ℕ) (b : Bool) → bytes ≡ held → b ≡ (length bytes == 0) → b ≡ true → held ≡ []
+empty_is [] bytes b same by_length is_true = refl
+empty_is (x ∷ held) bytes b same by_length is_true =
+    let zero : length bytes ≡ 0 = grind (arith, nat_tests, by_length, is_true) in
+    absurd (omega (arith, zero, ap length same))
+
+pub returns-then-is_empty-clause-closed : goal.returns-then-is_empty-clause-closed
+returns-then-is_empty-clause-closed g c =
+    Closes_none _ _ _ _ _ _ (empty_is _ _ _ c.bytes.ensures c.is_empty.ensures c.if-is_empty.true)
 
 pub returns-clause-closed : goal.returns-clause-closed
 returns-clause-closed g c =

@@ -1,9 +1,18 @@
 -- Each turn goes to the next line feed, and what is left behind the last one belongs to a line that
 -- was begun.
-use Rattle.std.proofs.Common.{◌+◌, ◌∙◌, refl, arith, take_all, length-drop}
+use Rattle.std.proofs.Common.{◌≡◌, ◌+◌, ◌<◌, ◌∙◌, ◌++◌, length, ap, refl, arith, take_all, length-drop, length-append}
 use Rattle.clap.proofs.TakesLemmas.{passed_up}
 use Rattle.stindex.proofs.Progress.{Feeds_line, Feeds_fail, Feeds_end}
+use Rattle.stindex.proofs.Splitting.{line_end}
 use Rattle.stindex.proofs.serve.feed.Goals as goal
+
+pub overflow_add-rest : goal.overflow_add-rest
+overflow_add-rest g c =
+    let rest = c.loop-end.rest.now in
+    let done = c.loop-end.invariant.fed.done in
+    let within : c.in-Some.end < length rest = (line_end rest c.in-Some.end c.in-Some.ensures).within in
+    let whole : length c.args.bytes.now ≡ length (done ++ rest) = ap length c.loop-end.invariant.fed.whole in
+    omega (arith, within, whole, length-append done rest)
 
 pub returns-in_err-act-clause-broken : goal.returns-in_err-act-clause-broken
 returns-in_err-act-clause-broken g c =

@@ -3,20 +3,20 @@ use Rattle.std.proofs.Common.{ℕ, ◌≤◌, ◌∙◌, ◌<◌, length, take, 
 use Rattle.std.proofs.lemmas.List.{take-append-le, length-take-le}
 use Rattle.si_io.specs.declared.counts.SourceCounts.{SourceCounts}
 use Rattle.si_io.proofs.Gives.{Gives_some, Gives_end, Gives_failed, ends_kept, ends_raised}
-use Rattle.si_session.specs.Session.{View}
 use Rattle.stindex.specs.Status.{status_of}
+use Rattle.stindex.specs.declared.status.Status.TheVariants.{SessionLimit}
 use Rattle.stindex.proofs.FileWords.{Stands_under}
-use Rattle.stindex.proofs.Endings.{Stands_more, Serves_under, Serves_as, Serves_ended, Serves_cut, Serves_sink, Serves_source}
+use Rattle.stindex.proofs.Endings.{Stands_more, Serves_under, Serves_as, Serves_ended, Serves_limit, Serves_cut, Serves_sink, Serves_source}
 use Rattle.stindex.proofs.serve.run.Goals as goal
 
 pub returns-in-Err-clause-serves : goal.returns-in-Err-clause-serves
 returns-in-Err-clause-serves g c =
     Serves_as _ _ _ _ _ c.status.result (status_of c.in-Err.stop) _ _ _ _ c.is_strict-strict.ensures c.status.ensures
-    (Serves_under c.in-Err.stop _ _ _ _ _ _ _ _ c.in-Err.ensures.broken (ap (λ (s : View). s.setting) c.requires.start))
+    (Serves_under c.in-Err.stop _ _ _ _ _ _ _ _ c.in-Err.ensures.broken c.requires.start.set)
 
 pub loop-taken-init : goal.loop-taken-init
 loop-taken-init g c =
-    let under = ap (λ (s : View). s.setting) c.requires.start in
+    let under = c.requires.start.set in
     record {
       stands = Stands_under _ _ _ _ _ _ _ _ _ _ c.in-Ok.ensures.loaded under c.requires.held;
       within = omega arith;
@@ -89,3 +89,8 @@ returns-in-Err-read-clause-serves g c =
     Serves_as _ _ _ _ _ _ _ _ _ _ _ c.is_strict-strict.ensures refl
     (Serves_source _ _ _ _ _ _ a b _ _ _ _ c.loop-taken.invariant.stands c.loop-taken-test.true (Gives_failed a b 0 _ c.in-Err-read.ensures.counts c.in-Err-read.ensures.kept)
     (ap (λ (k : SourceCounts). k.ends) c.in-Err-read.ensures.counts))
+
+pub returns-clause-serves : goal.returns-clause-serves
+returns-clause-serves g c =
+    Serves_as _ _ _ _ _ _ SessionLimit _ _ _ _ c.is_strict-strict.ensures refl
+    (Serves_limit _ _ _ _ c.loop-taken.taken _ _ _ _ _ _ c.loop-taken.invariant.stands (omega (arith, c.loop-taken.invariant.within, c.loop-taken-test.false)))

@@ -1,36 +1,108 @@
-use Rattle.std.proofs.Common.{refl, ap, sym, ◌∙◌, subst, arith}
-use Rattle.si_defs.specs.Entries.{distinct_variables}
+use Rattle.std.proofs.Common.{map, refl, sym, ◌∙◌, ap, subst, arith}
+use Rattle.std.specs.List.{AllByRecursion, AllZip}
+use Rattle.std.proofs.lemmas.List.{length-map}
+use Rattle.si_defs.specs.Entries.{pattern_entry, distinct_variables}
 use Rattle.si_defs.specs.Symbols.{IsNumbering}
+use Rattle.si_term.specs.Meaning.{pattern_of}
+use Rattle.si_flat.specs.declared.Owner.TheVariants.{Query}
+use Rattle.si_index.specs.Searching.{hit_of}
+use Rattle.si_index.specs.declared.search.Search.{Search}
+use Rattle.si_index.specs.Gathering.{IsHitAt, IsStandingAt}
 use Rattle.si_index.proofs.EntryLaws.{all_clauses_known}
-use Rattle.si_index.proofs.GatherLaws.{matches_few, hits_solved}
+use Rattle.si_index.proofs.FlatLaws.{flat_is_numbered}
+use Rattle.si_index.proofs.GatherLaws.{hits_solved}
+use Rattle.si_index.proofs.WantedLaws.{is_answered, postings_keyed, wanted_stand, hits_answered, hits_few}
 use Rattle.si_index.proofs.index.Index.find.Goals as goal
 
-pub search_clauses-requires-clause-ready : goal.search_clauses-requires-clause-ready
-search_clauses-requires-clause-ready c = record {
-  numbering = subst IsNumbering (sym c.signature-signature.ensures.numbers) c.stats-stats.ensures.numbering;
-  sound = c.requires;
-  flat = c.in_ok-flatten_pattern.ensures;
-}
+pub ask-requires : goal.ask-requires
+ask-requires g c = flat_is_numbered _ Query (pattern_entry (pattern_of c.args.pattern.now)) c.in_ok-query.query.flat c.in_ok-query.ensures.flat
 
-pub search_clauses-requires-clause-known : goal.search_clauses-requires-clause-known
-search_clauses-requires-clause-known c =
+pub in_order-requires-clause-kept : goal.in_order-requires-clause-kept
+in_order-requires-clause-kept g c =
+    let told =
+    is_answered (g.E.Engine.answers c.args.engine.now) c.args.self.now c.args.relation (pattern_of c.args.pattern.now) _ c.in_ok-query.query _ _ _ _
+    c.signature-signature.ensures.numbers c.in_ok-query.ensures c.requires.standing c.asks_literals.ensures c.in_ok-passed.ensures.answers c.new-postings.ensures.items c.as_slice.ensures.value in
+    postings_keyed c.args.self.now c.args.relation (pattern_of c.args.pattern.now) _ told.standing
+
+pub in_order-requires-clause-distinct : goal.in_order-requires-clause-distinct
+in_order-requires-clause-distinct g c =
+    let told =
+    is_answered (g.E.Engine.answers c.args.engine.now) c.args.self.now c.args.relation (pattern_of c.args.pattern.now) _ c.in_ok-query.query _ _ _ _
+    c.signature-signature.ensures.numbers c.in_ok-query.ensures c.requires.standing c.asks_literals.ensures c.in_ok-passed.ensures.answers c.new-postings.ensures.items c.as_slice.ensures.value in
+    told.are.distinct
+
+pub gather-requires-clause-known : goal.gather-requires-clause-known
+gather-requires-clause-known g c =
     all_clauses_known _ c.args.self.now.clauses c.signature-signature.result.now refl c.signature-signature.ensures.signature c.stats-stats.ensures.stored.sound
 
+pub gather-requires-clause-stand : goal.gather-requires-clause-stand
+gather-requires-clause-stand g c =
+    let told =
+    is_answered (g.E.Engine.answers c.args.engine.now) c.args.self.now c.args.relation (pattern_of c.args.pattern.now) _ c.in_ok-query.query _ _ _ _
+    c.signature-signature.ensures.numbers c.in_ok-query.ensures c.requires.standing c.asks_literals.ensures c.in_ok-passed.ensures.answers c.new-postings.ensures.items c.as_slice.ensures.value in
+    let s : Search = record {
+      alloc = c.allocator-alloc.result;
+      index = c.args.self;
+      signature = c.signature-signature.result;
+      relation = c.args.relation;
+      pattern = c.args.pattern;
+      query = c.in_ok-query.query;
+    } in
+    subst (AllByRecursion (IsStandingAt s)) (sym c.as_slice-2.ensures.value) (wanted_stand s _ _ c.stats-stats.ensures.keyed c.in_ok-wanted.ensures told.standing)
+
+pub prove-unreachable-requires : goal.prove-unreachable-requires
+prove-unreachable-requires g c =
+    let told =
+    is_answered (g.E.Engine.answers c.args.engine.now) c.args.self.now c.args.relation (pattern_of c.args.pattern.now) _ c.in_ok-query.query _ _ _ _
+    c.signature-signature.ensures.numbers c.in_ok-query.ensures c.requires.standing c.asks_literals.ensures c.in_ok-passed.ensures.answers c.new-postings.ensures.items c.as_slice.ensures.value in
+    let answered =
+    hits_answered c.args.self.now _ _ _ (map hit_of c.in_ok-matches.matches.found.items) c.stats-stats.ensures.keyed told.are c.in_ok-wanted.ensures
+    (subst (λ ws. AllZip (IsHitAt c.args.self.now) ws (map hit_of c.in_ok-matches.matches.found.items)) c.as_slice-2.ensures.value c.in_ok-matches.ensures.hits) in
+    omega (
+      arith,
+      c.if-prove.true,
+      c.len.ensures,
+      c.in_ok-matches.matches.found.ok.0,
+      hits_few c.args.self.now _ _ answered,
+      length-map c.in_ok-matches.matches.found.items hit_of,
+      c.stats-stats.ensures.entries,
+    )
+
 pub invariant_of-result : goal.invariant_of-result
-invariant_of-result c = record {
+invariant_of-result g c = record {
   numbers = c.signature-signature.ensures.numbers;
   ready = record {
     numbering = subst IsNumbering (sym c.signature-signature.ensures.numbers) c.stats-stats.ensures.numbering;
-    sound = c.requires;
-    flat = c.in_ok-flatten_pattern.ensures;
+    sound = c.requires.sound;
+    flat = c.in_ok-query.ensures;
   };
   names = c.in_ok-query_names.ensures ∙ ap distinct_variables c.as_entry.ensures;
-  few = omega (arith, matches_few _ c.args.self.now.clauses c.in_ok-matches.matches c.in_ok-matches.ensures, c.stats-stats.ensures.stored.few, c.stats-stats.ensures.small);
+  few =
+      omega (
+        arith,
+        c.if-prove.false,
+        c.len.ensures,
+        c.in_ok-matches.matches.found.ok.0,
+        c.stats-stats.ensures.entries,
+        c.stats-stats.ensures.stored.few,
+        c.stats-stats.ensures.small,
+      );
   each = c.in_ok-matches.ensures.each;
 }
 
 pub returns-clause-hits : goal.returns-clause-hits
-returns-clause-hits c = c.in_ok-matches.ensures.hits
+returns-clause-hits g c =
+    let told =
+    is_answered (g.E.Engine.answers c.args.engine.now) c.args.self.now c.args.relation (pattern_of c.args.pattern.now) _ c.in_ok-query.query _ _ _ _
+    c.signature-signature.ensures.numbers c.in_ok-query.ensures c.requires.standing c.asks_literals.ensures c.in_ok-passed.ensures.answers c.new-postings.ensures.items c.as_slice.ensures.value in
+    record {
+      cells = c.in_ok-query.query.flat;
+      asked = told.asked;
+      answered =
+          hits_answered c.args.self.now _ _ _ (map hit_of c.in_ok-matches.matches.found.items) c.stats-stats.ensures.keyed told.are c.in_ok-wanted.ensures
+          (subst (λ ws. AllZip (IsHitAt c.args.self.now) ws (map hit_of c.in_ok-matches.matches.found.items)) c.as_slice-2.ensures.value c.in_ok-matches.ensures.hits);
+      counted = subst (λ b. g.E.Engine.count c.args.engine.now b c.args.relation c.in_ok-query.query.flat c.in_ok-passed.passed) c.asks_literals.ensures c.in_ok-passed.ensures.count;
+    }
 
 pub returns-clause-solved : goal.returns-clause-solved
-returns-clause-solved c = hits_solved _ c.in_ok-matches.matches.lists.items c.in_ok-matches.matches.found.items c.in_ok-matches.ensures.each
+returns-clause-solved g c = hits_solved _ c.in_ok-matches.matches.lists.items c.in_ok-matches.matches.found.items c.in_ok-matches.ensures.each

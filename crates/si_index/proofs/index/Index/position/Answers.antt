@@ -18,9 +18,9 @@ overflow_cast-result c =
       slice_get_within (item_keys c.self.inside.clauses.items) c.position.result c.args.key c.position.ensures,
       length-map c.self.inside.clauses.items (λ p. p.0),
       length-map c.self.inside.clauses.items (λ p. clause_of p.1),
-      clauses_few (clauses_of c.self.inside.clauses.items) c.self.invariant.stored.sound,
-      c.self.invariant.stored.few,
-      c.self.invariant.small,
+      clauses_few (clauses_of c.self.inside.clauses.items) c.self.invariant.0.stored.sound,
+      c.self.invariant.0.stored.few,
+      c.self.invariant.0.small,
     )
 
 pub returns : goal.returns

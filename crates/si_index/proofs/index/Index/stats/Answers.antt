@@ -14,16 +14,16 @@ overflow_cast-result c =
       arith,
       c.len.ensures.number,
       length-map c.self.inside.clauses.items (λ p. clause_of p.1),
-      clauses_few (clauses_of c.self.inside.clauses.items) c.self.invariant.stored.sound,
-      c.self.invariant.stored.few,
-      c.self.invariant.small,
+      clauses_few (clauses_of c.self.inside.clauses.items) c.self.invariant.0.stored.sound,
+      c.self.invariant.0.stored.few,
+      c.self.invariant.0.small,
     )
 
 pub returns-clause-symbols : goal.returns-clause-symbols
 returns-clause-symbols c =
     subst (λ (k : Kept). CountsSymbols k.clauses c.len-2.result) c.self.view_is
     (subst (CountsSymbols (clauses_of c.self.inside.clauses.items)) (sym c.len-2.ensures.number)
-    (counts_symbols (clauses_of c.self.inside.clauses.items) c.self.inside.known.signature c.len-2.ensures.signature c.self.invariant.is_known.signed))
+    (counts_symbols (clauses_of c.self.inside.clauses.items) c.self.inside.known.signature c.len-2.ensures.signature c.self.invariant.0.is_known.signed))
 
 pub returns-clause-keyed : goal.returns-clause-keyed
 returns-clause-keyed c =

@@ -8,7 +8,7 @@ use Rattle.si_flat.specs.Cells.{IsWhole}
 use Rattle.si_flat.specs.Flattened.{HoldsEntry, FillsEntry, query_numbers}
 use Rattle.si_form.specs.Answers.{AreNumbered, Answers}
 use Rattle.si_index.specs.Searching.{numbers_of, pattern_in}
-use Rattle.si_index.proofs.FlatLaws.{none_lacks, flat_is_numbered}
+use Rattle.si_index.proofs.FlatLaws.{none_lacks, flat_is_numbered, alike_standing}
 use Rattle.si_index.proofs.SolvedLaws.{solved_in}
 use Rattle.si_index.proofs.search.Search.solve.Goals as goal
 
@@ -34,14 +34,15 @@ canonical_with-requires-clause-entry c =
     subst (FillsEntry (numbers_of c.args.self.now) (entry_of c.args.entry) c.fill.new.self.0 c.fill.new.self.1) c.if-not-branch.false c.in_ok-fill.ensures in
     subst (AreNumbered Entry) (sym c.cells-2.ensures) (flat_is_numbered (numbers_of c.args.self.now) Entry (entry_of c.args.entry) c.fill.new.self.0 holds.flat)
 
-pub returns-in_default : goal.returns-in_default
-returns-in_default c =
+pub unreachable-requires-in_default : goal.unreachable-requires-in_default
+unreachable-requires-in_default c =
     let s = c.args.self.now in
     let e = entry_of c.args.entry in
     let holds : HoldsEntry (numbers_of s) e c.fill.new.self.0 c.fill.new.self.1 =
     subst (FillsEntry (numbers_of s) e c.fill.new.self.0 c.fill.new.self.1) c.if-not-branch.false c.in_ok-fill.ensures in
-    solved_in s e c.cells.result.now c.cells-2.result.now c.fill.new.self.0 c.fill.new.self.1 c.cells.ensures.cells c.cells-2.ensures c.requires.ready c.requires.known c.requires.alike holds None
+    solved_in s e c.cells.result.now c.cells-2.result.now c.fill.new.self.0 c.fill.new.self.1 c.cells.ensures.cells c.cells-2.ensures c.requires.ready c.requires.known (alike_standing s.relation (pattern_in s) e c.requires.stands) holds None
     (subst (Answers s.relation c.cells.result.now c.cells-2.result.now) c.in_default.is c.in_ok-solution.ensures.answers)
+    c.requires.stands
 
 pub returns : goal.returns
 returns c =
@@ -51,7 +52,7 @@ returns c =
     subst (FillsEntry (numbers_of s) e c.fill.new.self.0 c.fill.new.self.1) c.if-not-branch.false c.in_ok-fill.ensures in
     record {
       list =
-          solved_in s e c.cells.result.now c.cells-2.result.now c.fill.new.self.0 c.fill.new.self.1 c.cells.ensures.cells c.cells-2.ensures c.requires.ready c.requires.known c.requires.alike holds (Some c.in-Some.solution)
+          solved_in s e c.cells.result.now c.cells-2.result.now c.fill.new.self.0 c.fill.new.self.1 c.cells.ensures.cells c.cells-2.ensures c.requires.ready c.requires.known (alike_standing s.relation (pattern_in s) e c.requires.stands) holds (Some c.in-Some.solution)
           (subst (Answers s.relation c.cells.result.now c.cells-2.result.now) c.in-Some.is c.in_ok-solution.ensures.answers);
       are_names = ap (map (λ (name : Bor Bytes). name.now)) c.in_ok-entry_names.ensures.ok ∙ c.names.ensures ∙ holds.are_names;
     }

@@ -5,9 +5,8 @@ use Rattle.si_flat.specs.Cells.{entry, StandsFor, IsWhole}
 use Rattle.si_flat.specs.Flattened.{HoldsEntry, FillsEntry, numbered_entry}
 use Rattle.si_form.specs.Answers.{AreNumbered, Answers}
 use Rattle.si_index.proofs.FlatLaws.{none_lacks, flat_is_numbered}
-use Rattle.si_index.proofs.GatherLaws.{signs_agree}
 use Rattle.si_scan.specs.Scans.{numbers_of}
-use Rattle.si_scan.proofs.QuestionLaws.{says_yes, says_no, none_wanted, some_wanted, other_kind}
+use Rattle.si_scan.proofs.QuestionLaws.{kinds_agree, some_wanted, none_wanted, other_kind, says_no, says_yes}
 use Rattle.si_scan.proofs.question.Question.is_answered.Goals as goal
 
 pub returns-then-is_literal-self : goal.returns-then-is_literal-self
@@ -39,7 +38,7 @@ returns c =
     subst (FillsEntry (numbers_of q) e c.fill.new.self.0 c.fill.new.self.1) c.if-not-branch.false c.in_ok-fill.ensures in
     says_yes _ (some_wanted q e c.cells.result.now
     (subst (λ l. StandsFor l (numbered_entry (numbers_of q) entry e)) (sym c.cells.ensures) holds.flat.stands)
-    _ c.requires.ready (sym c.is_literal.ensures ∙ signs_agree c.is_literal.result q.literal c.if-is_literal-self.false)
+    _ c.requires.ready (sym c.is_literal.ensures ∙ kinds_agree c.is_literal.result q.literal c.if-is_literal-self.false)
     (subst (Answers q.kind q.query.now c.cells.result.now) c.in-Some.is c.in_ok-canonical_with.ensures.answers))
 
 pub returns-in_default : goal.returns-in_default

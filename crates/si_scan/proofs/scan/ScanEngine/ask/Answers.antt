@@ -5,7 +5,8 @@ use Rattle.si_form.specs.Answers.{AreNumbered}
 use Rattle.si_legal.specs.Engines.{AppendsAnswers}
 use Rattle.si_index.specs.Kept.{Kept, kept_clauses}
 use Rattle.si_index.proofs.EntryLaws.{all_clauses_known}
-use Rattle.si_scan.specs.Scans.{IsWanted, IsScanned, AreOfWanted, all_posted}
+use Rattle.si_index.specs.Engines.{IsWanted, IsOfWanted}
+use Rattle.si_scan.specs.Scans.{AreOfWanted, all_posted}
 use Rattle.si_scan.proofs.PostedLaws.{are_answers}
 use Rattle.si_scan.proofs.scan.ScanEngine.ask.Goals as goal
 
@@ -28,7 +29,7 @@ returns-clause-answers c =
     let wanted : AreOfWanted (IsWanted kept.numbers c.args.literal c.args.kind c.args.query.now) (all_posted (kept_clauses kept)) found =
     subst (λ numbers. AreOfWanted (IsWanted numbers c.args.literal c.args.kind c.args.query.now) (all_posted (kept_clauses kept)) found) c.signature.ensures.numbers
     (subst (λ cells. AreOfWanted (IsWanted (numbering c.signature.result.now) c.args.literal c.args.kind cells) (all_posted (kept_clauses kept)) found) c.cells.ensures.cells c.in_ok-found.ensures) in
-    subst (λ (k : Kept). AppendsAnswers (IsScanned k c.args.literal c.args.kind c.args.query.now) c.args.out.now.items c.append.new.self.items) c.self.view_is
+    subst (λ (k : Kept). AppendsAnswers (IsOfWanted k c.args.literal c.args.kind c.args.query.now) c.args.out.now.items c.append.new.self.items) c.self.view_is
     (record {
       answers = found;
       appended = c.in_ok-append.ensures.items;

@@ -2,7 +2,7 @@
 use Rattle.std.proofs.Common.{ap, sym, ◌∙◌, subst, arith}
 use Rattle.si_steps.specs.Runs.{a_word}
 use Rattle.si_session.specs.Session.{Steps, around, view_of}
-use Rattle.si_session.proofs.Acting.{word_stepped, load_not_silent, load_keeps}
+use Rattle.si_session.proofs.Acting.{word_stepped, nameless_stepped, holds_trees, load_not_silent, load_keeps}
 use Rattle.si_session.proofs.session.Session.load.Goals as goal
 
 pub load-requires-clause-limit : goal.load-requires-clause-limit
@@ -15,7 +15,8 @@ returns-clause-step g c =
     let after = around (g.K.Sink.shown c.load.new.sink) (g.L.Library.shown c.load.new.library) in
     let limits = c.self.inside.limits in
     subst (λ s. Steps told s (view_of limits c.load.new.index) (a_word c.args.word.now) c.load.result before after) c.self.view_is
-    (word_stepped limits told c.args.word.now c.self.inside.index c.load.new.index c.load.result before after c.load.ensures.loads c.load.ensures.rules
+    (word_stepped limits told c.args.word.now c.self.inside.index c.load.new.index c.load.result before after c.load.ensures.loads
+    (holds_trees limits c.self.inside.index c.trees.ensures.keyed c.trees.ensures.exactly c.trees.ensures.hold) c.load.ensures.rules
     (sym c.names_file.ensures ∙ c.if-not-names_file.false))
 
 pub returns-clause-loud : goal.returns-clause-loud

@@ -1,12 +1,16 @@
-use Rattle.std.proofs.Common.{◌≤◌, length, map, refl, ap, ◌∙◌, subst, arith}
+use Rattle.std.proofs.Common.{◌≤◌, [], ◌∷◌, inl, inr, length, map, refl, ap, ◌∙◌, subst, arith}
 use Rattle.si_steps.specs.Commands.{add, remove, query, subsumers, subsumed, stats, sample}
 use Rattle.si_term.specs.Meaning.{name_of, literal_of, clause_of, pattern_of}
 use Rattle.si_steps.specs.Runs.{a_line}
+use Rattle.si_steps.specs.Replies.{language_line, syntax_line}
+use Rattle.si_steps.specs.Steps.{silent, foreign, wrong}
+use Rattle.si_io.proofs.Sends.{SendsAll-nil}
+use Rattle.si_session.specs.declared.stepped.Stepped.TheVariants.{Silent}
 use Rattle.si_session.specs.Session.{Steps, around, view_of}
 use Rattle.si_session.specs.Commands.{ReadsCommand}
 use Rattle.si_session.specs.declared.command.Command.TheVariants as command
 use Rattle.si_io.specs.Library.{faults_in}
-use Rattle.si_session.proofs.Acting.{beside, stepped, not_silent, keeps_state, counts, load_stepped, load_not_silent, load_keeps}
+use Rattle.si_session.proofs.Acting.{beside, stepped, not_silent, keeps_state, counts, trees_stepped, explain_stepped, blanks_no_command, line_stepped, unread_stepped, holds_trees, load_stepped, load_not_silent, load_keeps}
 use Rattle.si_session.proofs.session.Session.step.Goals as goal
 
 pub returns-in-Ok-Add-clause-step : goal.returns-in-Ok-Add-clause-step
@@ -20,7 +24,7 @@ returns-in-Ok-Add-clause-step g c =
     let read : ReadsCommand c.args.line.now (command.Add c.in-Ok-Add.clause) = subst (ReadsCommand c.args.line.now) c.in-Ok-Add.field-0-is c.in-Ok-Add.ensures.read in
     let short : length c.args.line.now ≤ limits.line = omega (arith, c.if-line-self.false) in
     subst (λ s. Steps told s (view_of limits c.add.new.index) (a_line c.args.line.now) c.add.result (beside a tally may_fail) (beside b tally may_fail)) c.self.view_is
-    (stepped limits told c.self.inside.index c.add.new.index c.args.line.now (add (clause_of c.in-Ok-Add.clause)) c.add.result a b tally may_fail c.add.ensures.rules short read.0 c.add.ensures.acts)
+    (stepped limits told c.self.inside.index c.add.new.index c.args.line.now (add (clause_of c.in-Ok-Add.clause)) c.add.result a b tally may_fail (holds_trees limits c.self.inside.index c.trees.ensures.keyed c.trees.ensures.exactly c.trees.ensures.hold) c.add.ensures.rules short read.0 c.add.ensures.acts (λ reply. tt) (inl tt))
 
 pub returns-in-Ok-Query-clause-step : goal.returns-in-Ok-Query-clause-step
 returns-in-Ok-Query-clause-step g c =
@@ -33,7 +37,7 @@ returns-in-Ok-Query-clause-step g c =
     let read : ReadsCommand c.args.line.now (command.Query c.in-Ok-Query.relation c.in-Ok-Query.pattern) = subst (ReadsCommand c.args.line.now) c.in-Ok-Query.field-0-is c.in-Ok-Query.ensures.read in
     let short : length c.args.line.now ≤ limits.line = omega (arith, c.if-line-self.false) in
     subst (λ s. Steps told s s (a_line c.args.line.now) c.answer.result (beside a tally may_fail) (beside b tally may_fail)) c.self.view_is
-    (stepped limits told c.self.inside.index c.self.inside.index c.args.line.now (query c.in-Ok-Query.relation (pattern_of c.in-Ok-Query.pattern)) c.answer.result a b tally may_fail refl short read.0 c.answer.ensures.acts)
+    (stepped limits told c.self.inside.index c.self.inside.index c.args.line.now (query c.in-Ok-Query.relation (pattern_of c.in-Ok-Query.pattern)) c.answer.result a b tally may_fail (holds_trees limits c.self.inside.index c.trees.ensures.keyed c.trees.ensures.exactly c.trees.ensures.hold) refl short read.0 c.answer.ensures.acts (λ reply. tt) (inr refl))
 
 pub returns-in-Ok-Remove-clause-step : goal.returns-in-Ok-Remove-clause-step
 returns-in-Ok-Remove-clause-step g c =
@@ -46,8 +50,8 @@ returns-in-Ok-Remove-clause-step g c =
     let read : ReadsCommand c.args.line.now (command.Remove c.in-Ok-Remove.name) = subst (ReadsCommand c.args.line.now) c.in-Ok-Remove.field-0-is c.in-Ok-Remove.ensures.read in
     let short : length c.args.line.now ≤ limits.line = omega (arith, c.if-line-self.false) in
     subst (λ s. Steps told s (view_of limits c.remove.new.index) (a_line c.args.line.now) c.remove.result (beside a tally may_fail) (beside b tally may_fail)) c.self.view_is
-    (stepped limits told c.self.inside.index c.remove.new.index c.args.line.now (remove (name_of c.in-Ok-Remove.name)) c.remove.result a b tally may_fail c.remove.ensures.rules short read
-    c.remove.ensures.acts)
+    (stepped limits told c.self.inside.index c.remove.new.index c.args.line.now (remove (name_of c.in-Ok-Remove.name)) c.remove.result a b tally may_fail (holds_trees limits c.self.inside.index c.trees.ensures.keyed c.trees.ensures.exactly c.trees.ensures.hold) c.remove.ensures.rules short read
+    c.remove.ensures.acts (λ reply. tt) (inl tt))
 
 pub returns-in-Ok-Add-clause-silent : goal.returns-in-Ok-Add-clause-silent
 returns-in-Ok-Add-clause-silent g c =
@@ -56,7 +60,7 @@ returns-in-Ok-Add-clause-silent g c =
     let limits = c.self.inside.limits in
     let read : ReadsCommand c.args.line.now (command.Add c.in-Ok-Add.clause) = subst (ReadsCommand c.args.line.now) c.in-Ok-Add.field-0-is c.in-Ok-Add.ensures.read in (
       λ e. absurd (not_silent limits (add (clause_of c.in-Ok-Add.clause)) c.self.inside.index c.add.new.index c.add.result a b c.add.ensures.acts e),
-      λ h. absurd (read.0.1 h.1),
+      λ h. absurd (read.0.0 h.1),
     )
 
 pub returns-in-Ok-Add-clause-refused : goal.returns-in-Ok-Add-clause-refused
@@ -73,7 +77,7 @@ returns-in-Ok-Remove-clause-silent g c =
     let limits = c.self.inside.limits in
     let read : ReadsCommand c.args.line.now (command.Remove c.in-Ok-Remove.name) = subst (ReadsCommand c.args.line.now) c.in-Ok-Remove.field-0-is c.in-Ok-Remove.ensures.read in (
       λ e. absurd (not_silent limits (remove (name_of c.in-Ok-Remove.name)) c.self.inside.index c.remove.new.index c.remove.result a b c.remove.ensures.acts e),
-      λ h. absurd (read.1 h.1),
+      λ h. absurd (read.0 h.1),
     )
 
 pub returns-in-Ok-Remove-clause-refused : goal.returns-in-Ok-Remove-clause-refused
@@ -90,7 +94,7 @@ returns-in-Ok-Query-clause-silent g c =
     let limits = c.self.inside.limits in
     let read : ReadsCommand c.args.line.now (command.Query c.in-Ok-Query.relation c.in-Ok-Query.pattern) = subst (ReadsCommand c.args.line.now) c.in-Ok-Query.field-0-is c.in-Ok-Query.ensures.read in (
       λ e. absurd (not_silent limits (query c.in-Ok-Query.relation (pattern_of c.in-Ok-Query.pattern)) c.self.inside.index c.self.inside.index c.answer.result a b c.answer.ensures.acts e),
-      λ h. absurd (read.0.1 h.1),
+      λ h. absurd (read.0.0 h.1),
     )
 
 pub returns-in-Ok-Stats-clause-step : goal.returns-in-Ok-Stats-clause-step
@@ -104,9 +108,9 @@ returns-in-Ok-Stats-clause-step g c =
     let read : ReadsCommand c.args.line.now command.Stats = subst (ReadsCommand c.args.line.now) c.in-Ok-Stats.field-0-is c.in-Ok-Stats.ensures.read in
     let short : length c.args.line.now ≤ limits.line = omega (arith, c.if-line-self.false) in
     subst (λ s. Steps told s s (a_line c.args.line.now) c.tell-in-Ok-Stats.result (beside a tally may_fail) (beside b tally may_fail)) c.self.view_is
-    (stepped limits told c.self.inside.index c.self.inside.index c.args.line.now stats c.tell-in-Ok-Stats.result a b tally may_fail refl short read
+    (stepped limits told c.self.inside.index c.self.inside.index c.args.line.now stats c.tell-in-Ok-Stats.result a b tally may_fail (holds_trees limits c.self.inside.index c.trees.ensures.keyed c.trees.ensures.exactly c.trees.ensures.hold) refl short read
     (counts c.self.inside.index c.stats.result c.tell-in-Ok-Stats.result a b c.stats.ensures.clauses c.stats.ensures.entries c.stats.ensures.symbols
-    c.tell-in-Ok-Stats.ensures.written))
+    c.tell-in-Ok-Stats.ensures.written) (λ reply. tt) (inr refl))
 
 -- ---- a load
 pub load_named-requires-clause-limit : goal.load_named-requires-clause-limit
@@ -121,13 +125,13 @@ returns-in-Ok-Load-clause-step g c =
     let read : ReadsCommand c.args.line.now (command.Load c.in-Ok-Load.name) = subst (ReadsCommand c.args.line.now) c.in-Ok-Load.field-0-is c.in-Ok-Load.ensures.read in
     let short : length c.args.line.now ≤ limits.line = omega (arith, c.if-line-self.false) in
     subst (λ s. Steps told s (view_of limits c.load_named.new.index) (a_line c.args.line.now) c.load_named.result before after) c.self.view_is
-    (load_stepped limits told c.in-Ok-Load.name c.self.inside.index c.load_named.new.index c.load_named.result before after c.load_named.ensures.loads c.args.line.now c.load_named.ensures.rules short read)
+    (load_stepped limits told c.in-Ok-Load.name c.self.inside.index c.load_named.new.index c.load_named.result before after c.load_named.ensures.loads c.args.line.now (holds_trees limits c.self.inside.index c.trees.ensures.keyed c.trees.ensures.exactly c.trees.ensures.hold) c.load_named.ensures.rules short read)
 
 pub returns-in-Ok-Load-clause-silent : goal.returns-in-Ok-Load-clause-silent
 returns-in-Ok-Load-clause-silent g c =
     let read : ReadsCommand c.args.line.now (command.Load c.in-Ok-Load.name) = subst (ReadsCommand c.args.line.now) c.in-Ok-Load.field-0-is c.in-Ok-Load.ensures.read in (
       λ e. absurd (load_not_silent c.self.inside.limits (g.L.Library.shown c.args.library.now).files c.in-Ok-Load.name c.self.inside.index c.load_named.new.index c.load_named.result _ _ c.load_named.ensures.loads e),
-      λ h. absurd (read.1 h.1),
+      λ h. absurd (read.0 h.1),
     )
 
 pub returns-in-Ok-Load-clause-refused : goal.returns-in-Ok-Load-clause-refused
@@ -147,7 +151,7 @@ returns-in-Ok-Subsumers-clause-step g c =
     let read : ReadsCommand c.args.line.now (command.Subsumers c.in-Ok-Subsumers.formula) = subst (ReadsCommand c.args.line.now) c.in-Ok-Subsumers.field-0-is c.in-Ok-Subsumers.ensures.read in
     let short : length c.args.line.now ≤ limits.line = omega (arith, c.if-line-self.false) in
     subst (λ s. Steps told s s (a_line c.args.line.now) c.subsumers.result (beside a tally may_fail) (beside b tally may_fail)) c.self.view_is
-    (stepped limits told c.self.inside.index c.self.inside.index c.args.line.now (subsumers (map literal_of c.in-Ok-Subsumers.formula)) c.subsumers.result a b tally may_fail refl short read.0 c.subsumers.ensures.acts)
+    (stepped limits told c.self.inside.index c.self.inside.index c.args.line.now (subsumers (map literal_of c.in-Ok-Subsumers.formula)) c.subsumers.result a b tally may_fail (holds_trees limits c.self.inside.index c.trees.ensures.keyed c.trees.ensures.exactly c.trees.ensures.hold) refl short read.0 c.subsumers.ensures.acts (λ reply. tt) (inr refl))
 
 pub returns-in-Ok-Subsumers-clause-silent : goal.returns-in-Ok-Subsumers-clause-silent
 returns-in-Ok-Subsumers-clause-silent g c =
@@ -156,7 +160,7 @@ returns-in-Ok-Subsumers-clause-silent g c =
     let limits = c.self.inside.limits in
     let read : ReadsCommand c.args.line.now (command.Subsumers c.in-Ok-Subsumers.formula) = subst (ReadsCommand c.args.line.now) c.in-Ok-Subsumers.field-0-is c.in-Ok-Subsumers.ensures.read in (
       λ e. absurd (not_silent limits (subsumers (map literal_of c.in-Ok-Subsumers.formula)) c.self.inside.index c.self.inside.index c.subsumers.result a b c.subsumers.ensures.acts e),
-      λ h. absurd (read.0.1 h.1),
+      λ h. absurd (read.0.0 h.1),
     )
 
 pub returns-in-Ok-Subsumed-clause-step : goal.returns-in-Ok-Subsumed-clause-step
@@ -170,7 +174,7 @@ returns-in-Ok-Subsumed-clause-step g c =
     let read : ReadsCommand c.args.line.now (command.Subsumed c.in-Ok-Subsumed.formula) = subst (ReadsCommand c.args.line.now) c.in-Ok-Subsumed.field-0-is c.in-Ok-Subsumed.ensures.read in
     let short : length c.args.line.now ≤ limits.line = omega (arith, c.if-line-self.false) in
     subst (λ s. Steps told s s (a_line c.args.line.now) c.subsumed.result (beside a tally may_fail) (beside b tally may_fail)) c.self.view_is
-    (stepped limits told c.self.inside.index c.self.inside.index c.args.line.now (subsumed (map literal_of c.in-Ok-Subsumed.formula)) c.subsumed.result a b tally may_fail refl short read.0 c.subsumed.ensures.acts)
+    (stepped limits told c.self.inside.index c.self.inside.index c.args.line.now (subsumed (map literal_of c.in-Ok-Subsumed.formula)) c.subsumed.result a b tally may_fail (holds_trees limits c.self.inside.index c.trees.ensures.keyed c.trees.ensures.exactly c.trees.ensures.hold) refl short read.0 c.subsumed.ensures.acts (λ reply. tt) (inr refl))
 
 pub returns-in-Ok-Subsumed-clause-silent : goal.returns-in-Ok-Subsumed-clause-silent
 returns-in-Ok-Subsumed-clause-silent g c =
@@ -179,7 +183,7 @@ returns-in-Ok-Subsumed-clause-silent g c =
     let limits = c.self.inside.limits in
     let read : ReadsCommand c.args.line.now (command.Subsumed c.in-Ok-Subsumed.formula) = subst (ReadsCommand c.args.line.now) c.in-Ok-Subsumed.field-0-is c.in-Ok-Subsumed.ensures.read in (
       λ e. absurd (not_silent limits (subsumed (map literal_of c.in-Ok-Subsumed.formula)) c.self.inside.index c.self.inside.index c.subsumed.result a b c.subsumed.ensures.acts e),
-      λ h. absurd (read.0.1 h.1),
+      λ h. absurd (read.0.0 h.1),
     )
 
 -- ---- a sample
@@ -199,7 +203,7 @@ returns-in-Ok-Sample-clause-step g c =
     let read : ReadsCommand c.args.line.now (command.Sample start count) = subst (ReadsCommand c.args.line.now) c.in-Ok-Sample.field-0-is c.in-Ok-Sample.ensures.read in
     let short : length c.args.line.now ≤ limits.line = omega (arith, c.if-line-self.false) in
     subst (λ s. Steps told s (view_of limits c.sample.new.index) (a_line c.args.line.now) c.sample.result (beside a tally may_fail) (beside b tally may_fail)) c.self.view_is
-    (stepped limits told c.self.inside.index c.sample.new.index c.args.line.now (sample start count) c.sample.result a b tally may_fail c.sample.ensures.rules short read.0 c.sample.ensures.acts)
+    (stepped limits told c.self.inside.index c.sample.new.index c.args.line.now (sample start count) c.sample.result a b tally may_fail (holds_trees limits c.self.inside.index c.trees.ensures.keyed c.trees.ensures.exactly c.trees.ensures.hold) c.sample.ensures.rules short read.0 c.sample.ensures.acts (λ reply. tt) (inl tt))
 
 pub returns-in-Ok-Sample-clause-silent : goal.returns-in-Ok-Sample-clause-silent
 returns-in-Ok-Sample-clause-silent g c =
@@ -210,7 +214,7 @@ returns-in-Ok-Sample-clause-silent g c =
     let count = c.in-Ok-Sample.count in
     let read : ReadsCommand c.args.line.now (command.Sample start count) = subst (ReadsCommand c.args.line.now) c.in-Ok-Sample.field-0-is c.in-Ok-Sample.ensures.read in (
       λ e. absurd (not_silent limits (sample start count) c.self.inside.index c.sample.new.index c.sample.result a b c.sample.ensures.acts e),
-      λ h. absurd (read.0.1 h.1),
+      λ h. absurd (read.0.0 h.1),
     )
 
 pub returns-in-Ok-Sample-clause-refused : goal.returns-in-Ok-Sample-clause-refused
@@ -219,3 +223,87 @@ returns-in-Ok-Sample-clause-refused g c =
     let b = (g.K.Sink.shown c.sample.new.sink) in
     let limits = c.self.inside.limits in
     λ e. keeps_state limits (sample c.in-Ok-Sample.start c.in-Ok-Sample.count) c.self.inside.index c.sample.new.index c.sample.result a b c.sample.ensures.acts e ∙ ap (λ s. s.state) c.self.view_is
+
+-- ---- the trees
+pub returns-in-Ok-Tree-clause-step : goal.returns-in-Ok-Tree-clause-step
+returns-in-Ok-Tree-clause-step g c =
+    let a = (g.K.Sink.shown c.args.sink.now) in
+    let b = (g.K.Sink.shown c.tell_trees.new.sink) in
+    let limits = c.self.inside.limits in
+    let told = (g.L.Library.shown c.args.library.now).files in
+    let tally = faults_in (g.L.Library.shown c.args.library.now).counts in
+    let may_fail = (g.L.Library.shown c.args.library.now).may_fail in
+    let read : ReadsCommand c.args.line.now command.Tree = subst (ReadsCommand c.args.line.now) c.in-Ok-Tree.field-0-is c.in-Ok-Tree.ensures.read in
+    let short : length c.args.line.now ≤ limits.line = omega (arith, c.if-line-self.false) in
+    subst (λ s. Steps told s s (a_line c.args.line.now) c.tell_trees.result (beside a tally may_fail) (beside b tally may_fail)) c.self.view_is
+    (trees_stepped limits told c.self.inside.index c.args.line.now c.counts.result c.tell_trees.result a b tally may_fail (holds_trees limits c.self.inside.index c.trees.ensures.keyed c.trees.ensures.exactly c.trees.ensures.hold) short read c.counts.ensures.literals c.counts.ensures.terms c.tell_trees.ensures.written)
+
+pub returns-in-Ok-Explain-clause-step : goal.returns-in-Ok-Explain-clause-step
+returns-in-Ok-Explain-clause-step g c =
+    let a = (g.K.Sink.shown c.args.sink.now) in
+    let b = (g.K.Sink.shown c.explain.new.sink) in
+    let limits = c.self.inside.limits in
+    let told = (g.L.Library.shown c.args.library.now).files in
+    let tally = faults_in (g.L.Library.shown c.args.library.now).counts in
+    let may_fail = (g.L.Library.shown c.args.library.now).may_fail in
+    let read : ReadsCommand c.args.line.now (command.Explain c.in-Ok-Explain.relation c.in-Ok-Explain.pattern) = subst (ReadsCommand c.args.line.now) c.in-Ok-Explain.field-0-is c.in-Ok-Explain.ensures.read in
+    let short : length c.args.line.now ≤ limits.line = omega (arith, c.if-line-self.false) in
+    subst (λ s. Steps told s s (a_line c.args.line.now) c.explain.result (beside a tally may_fail) (beside b tally may_fail)) c.self.view_is
+    (explain_stepped limits told c.self.inside.index c.args.line.now c.in-Ok-Explain.relation (pattern_of c.in-Ok-Explain.pattern) c.explain.result a b tally may_fail (holds_trees limits c.self.inside.index c.trees.ensures.keyed c.trees.ensures.exactly c.trees.ensures.hold) short read.0 c.explain.ensures.tells)
+
+-- ---- lines that are no command
+pub returns-in-Ok-Blank-clause-step : goal.returns-in-Ok-Blank-clause-step
+returns-in-Ok-Blank-clause-step g c =
+    let limits = c.self.inside.limits in
+    let index = c.self.inside.index in
+    let line = c.args.line.now in
+    let told = (g.L.Library.shown c.args.library.now).files in
+    let a = g.K.Sink.shown c.args.sink.now in
+    let b = a in
+    let tally = faults_in (g.L.Library.shown c.args.library.now).counts in
+    let may_fail = (g.L.Library.shown c.args.library.now).may_fail in
+    let read : ReadsCommand line command.Blank = subst (ReadsCommand line) c.in-Ok-Blank.field-0-is c.in-Ok-Blank.ensures.read in
+    let short : length line ≤ limits.line = omega (arith, c.if-line-self.false) in
+    subst (λ s. Steps told s s (a_line line) Silent (beside a tally may_fail) (beside b tally may_fail)) c.self.view_is
+    (line_stepped limits told index line [] Silent a b tally may_fail (holds_trees limits c.self.inside.index c.trees.ensures.keyed c.trees.ensures.exactly c.trees.ensures.hold) (blanks_no_command line read) (silent (short, read) refl refl refl) (SendsAll-nil a, refl))
+
+pub returns-in-Ok-Foreign-clause-step : goal.returns-in-Ok-Foreign-clause-step
+returns-in-Ok-Foreign-clause-step g c =
+    let limits = c.self.inside.limits in
+    let index = c.self.inside.index in
+    let line = c.args.line.now in
+    let told = (g.L.Library.shown c.args.library.now).files in
+    let a = g.K.Sink.shown c.args.sink.now in
+    let b = g.K.Sink.shown c.tell-in-Ok-Foreign.new.sink in
+    let tally = faults_in (g.L.Library.shown c.args.library.now).counts in
+    let may_fail = (g.L.Library.shown c.args.library.now).may_fail in
+    let read : ReadsCommand line command.Foreign = subst (ReadsCommand line) c.in-Ok-Foreign.field-0-is c.in-Ok-Foreign.ensures.read in
+    let short : length line ≤ limits.line = omega (arith, c.if-line-self.false) in
+    subst (λ s. Steps told s s (a_line line) c.tell-in-Ok-Foreign.result (beside a tally may_fail) (beside b tally may_fail)) c.self.view_is
+    (line_stepped limits told index line (language_line ∷ []) c.tell-in-Ok-Foreign.result a b tally may_fail (holds_trees limits c.self.inside.index c.trees.ensures.keyed c.trees.ensures.exactly c.trees.ensures.hold) read.2 (foreign short read.1 read.2 refl refl refl) c.tell-in-Ok-Foreign.ensures.written)
+
+pub returns-in-Ok-Wrong-clause-step : goal.returns-in-Ok-Wrong-clause-step
+returns-in-Ok-Wrong-clause-step g c =
+    let limits = c.self.inside.limits in
+    let index = c.self.inside.index in
+    let line = c.args.line.now in
+    let told = (g.L.Library.shown c.args.library.now).files in
+    let a = g.K.Sink.shown c.args.sink.now in
+    let b = g.K.Sink.shown c.tell-in-Ok-Wrong.new.sink in
+    let tally = faults_in (g.L.Library.shown c.args.library.now).counts in
+    let may_fail = (g.L.Library.shown c.args.library.now).may_fail in
+    let read : ReadsCommand line command.Wrong = subst (ReadsCommand line) c.in-Ok-Wrong.field-0-is c.in-Ok-Wrong.ensures.read in
+    let short : length line ≤ limits.line = omega (arith, c.if-line-self.false) in
+    subst (λ s. Steps told s s (a_line line) c.tell-in-Ok-Wrong.result (beside a tally may_fail) (beside b tally may_fail)) c.self.view_is
+    (line_stepped limits told index line (syntax_line ∷ []) c.tell-in-Ok-Wrong.result a b tally may_fail (holds_trees limits c.self.inside.index c.trees.ensures.keyed c.trees.ensures.exactly c.trees.ensures.hold) read.none (wrong short (λ h. read.some h.1) read.own read.none refl refl refl) c.tell-in-Ok-Wrong.ensures.written)
+
+pub returns-in-Err-clause-step : goal.returns-in-Err-clause-step
+returns-in-Err-clause-step g c =
+    let limits = c.self.inside.limits in
+    let a = g.K.Sink.shown c.args.sink.now in
+    let b = g.K.Sink.shown c.tell-in-Err.new.sink in
+    let short : length c.args.line.now ≤ limits.line = omega (arith, c.if-line-self.false) in
+    subst (λ s. Steps (g.L.Library.shown c.args.library.now).files s s (a_line c.args.line.now) c.tell-in-Err.result
+    (beside a (faults_in (g.L.Library.shown c.args.library.now).counts) (g.L.Library.shown c.args.library.now).may_fail)
+    (beside b (faults_in (g.L.Library.shown c.args.library.now).counts) (g.L.Library.shown c.args.library.now).may_fail)) c.self.view_is
+    (unread_stepped limits (g.L.Library.shown c.args.library.now).files c.self.inside.index c.args.line.now c.tell-in-Err.result a b _ _ (holds_trees limits c.self.inside.index c.trees.ensures.keyed c.trees.ensures.exactly c.trees.ensures.hold) short c.in-Err.ensures.refused c.tell-in-Err.ensures.written)

@@ -1,0 +1,68 @@
+-- Places that are sorted, no two of them the same, rise.
+use Rattle.std.proofs.Common.{◌≡◌, inl, inr, ℕ, suc, ◌+◌, ◌<◌, Bool, true, false, ◌&&◌, List, [], ◌∷◌, get_or, Ordering, Less, Equal, Greater, is_lt, nat_cmp, refl, sym, ◌∙◌, subst, arith}
+use Rattle.std.specs.List.{IsDistinct}
+use Rattle.std.specs.List.Sorted.{IsPermutation, IsSorted}
+use Rattle.std.specs.Ordering.{MatchOrdering, ordering_then}
+use Rattle.std.proofs.Math.Dec.{eqb}
+use Rattle.std.proofs.lemmas.Bool.{cases_eq, eq-eqb, ne_eqb, and_from}
+use Rattle.std.proofs.lemmas.Cmp.{ranked}
+use Rattle.std.proofs.lemmas.Map.Keys.{IsDistinct-IsPermutation, IsDistinct-head, IsDistinct-tail}
+use Rattle.si_defs.proofs.ListLaws.{all_weaker}
+use Rattle.si_index.specs.declared.wanted.Wanted.{Wanted}
+use Rattle.si_index.specs.Gathering.{IsBefore, Rise}
+
+-- ---- the order
+abbrev pub compares : Wanted → Wanted → Ordering
+compares a b = ordering_then (nat_cmp a.position b.position) (nat_cmp a.entry b.entry)
+
+abbrev pub is_same : Wanted → Wanted → Bool
+is_same a b = eqb a.position b.position && eqb a.entry b.entry
+
+pub before_then : (a b c : Wanted) → IsBefore a b → IsBefore b c → IsBefore a c
+before_then a b c (inl h) (inl k) = inl (omega (arith, h, k))
+before_then a b c (inl h) (inr k) = inl (omega (arith, h, k.0))
+before_then a b c (inr h) (inl k) = inl (omega (arith, h.0, k))
+before_then a b c (inr h) (inr k) = inr (h.0 ∙ k.0, omega (arith, h.1, k.1))
+
+-- what isn't above, and isn't the same, stands before
+stands_before : (a b : Wanted) → is_lt (compares b a) ≡ false → is_same a b ≡ false → IsBefore a b
+stands_before a b sorted differ = by (nat_cmp b.position a.position) (nat_cmp b.entry a.entry) (ranked b.position a.position _ refl) (ranked b.entry a.entry _ refl) sorted where
+  same : b.position ≡ a.position → b.entry ≡ a.entry → is_same a b ≡ true
+  same p e = and_from (eqb a.position b.position) (eqb a.entry b.entry) (eq-eqb a.position b.position (sym p)) (eq-eqb a.entry b.entry (sym e))
+
+  by : (p e : Ordering) → MatchOrdering p (b.position < a.position) (b.position ≡ a.position) (a.position < b.position)
+      → MatchOrdering e (b.entry < a.entry) (b.entry ≡ a.entry) (a.entry < b.entry) → is_lt (ordering_then p e) ≡ false → IsBefore a b
+  by Less e of_p of_e above = absurd (let wrong : true ≡ false = above in cc)
+  by Equal Less of_p of_e above = absurd (let wrong : true ≡ false = above in cc)
+  by Equal Equal of_p of_e above = absurd (let wrong : true ≡ false = sym (same of_p of_e) ∙ differ in cc)
+  by Equal Greater of_p of_e above = inr (sym of_p, of_e)
+  by Greater e of_p of_e above = inl of_p
+
+-- ---- sorted places
+abbrev pub AreSorted : List Wanted → Type 0
+AreSorted ws = IsSorted compares ws
+
+rest_sorted : (w : Wanted) (ws : List Wanted) → AreSorted (w ∷ ws) → AreSorted ws
+rest_sorted w ws h k d low high =
+    let turn : suc k + 1 ≡ suc (k + 1) = omega arith in
+    subst (λ n. is_lt (compares (get_or (w ∷ ws) n d) (get_or ws k d)) ≡ false) turn (h (suc k) d (omega arith) (omega (arith, high)))
+
+pub sorted_rise : (ws : List Wanted) → AreSorted ws → IsDistinct is_same ws → Rise ws
+sorted_rise [] sorted distinct = tt
+sorted_rise (w ∷ []) sorted distinct = (tt, tt)
+sorted_rise (w ∷ v ∷ ws) sorted distinct =
+    let rest = sorted_rise (v ∷ ws) (rest_sorted w (v ∷ ws) sorted) (IsDistinct-tail is_same w (v ∷ ws) distinct) in
+    let next : IsBefore w v = stands_before w v (sorted 0 w (omega arith) (omega arith)) (IsDistinct-head is_same w (v ∷ ws) distinct).0 in
+    ((next, all_weaker (IsBefore v) (IsBefore w) ws (λ u. before_then w v u next) rest.0), rest)
+
+flips : (a b : Wanted) → is_same a b ≡ is_same b a
+flips a b = λ i. eqb_flips a.position b.position i && eqb_flips a.entry b.entry i where
+  eqb_flips : (m n : ℕ) → eqb m n ≡ eqb n m
+  eqb_flips m n =
+      elim (cases_eq m n) [
+        | inl same ↦ eq-eqb m n same ∙ sym (eq-eqb n m (sym same))
+        | inr differ ↦ ne_eqb m n differ ∙ sym (ne_eqb n m (λ e. differ (sym e)))
+      ]
+
+pub distinct_sorted : (ws vs : List Wanted) → IsPermutation ws vs → IsDistinct is_same ws → IsDistinct is_same vs
+distinct_sorted ws vs = IsDistinct-IsPermutation is_same flips ws vs

@@ -1,0 +1,394 @@
+-- Where the entries of postings stand, and that the entries that stand there, in order, are those of
+-- the postings.
+use Rattle.std.proofs.Common.{◌≡◌, ◌⊎◌, inl, inr, ℕ, zero, suc, ◌+◌, ◌<◌, ◌≤◌, Bool, true, false, List, [], ◌∷◌, ◌++◌, length, map, get_or, take, refl, sym, ◌∙◌, ap, subst, arith, length-append}
+use Rattle.std.specs.Prelude.{Some, slice_get}
+use Rattle.std.proofs.Math.Seq.{take-suc}
+use Rattle.std.specs.List.{AllByRecursion, AllZip, IsDistinct}
+use Rattle.std.specs.List.Sorted.{IsPermutation}
+use Rattle.std.proofs.lemmas.Bool.{cases_Bool, and_parts, eqb-true}
+use Rattle.std.proofs.lemmas.List.{length-map, map-append}
+use Rattle.std.proofs.lemmas.List.Elements.{All-from_recursion, recursion_from_All}
+use Rattle.std.proofs.lemmas.List.Sorted.{All-permutation, IsPermutation-map, IsPermutation-sym}
+use Rattle.std.proofs.lemmas.Map.Keys.{IsDistinct-cons}
+use Rattle.std.proofs.lemmas.Option.{same_Some, none-some, slice_get_within, get_or_from_slice_get}
+use Rattle.si_defs.specs.Symbols.{Numbering}
+use Rattle.si_defs.specs.Clauses.{Clause, Pattern}
+use Rattle.si_defs.specs.Entries.{Placed, entries, state_entries, placed_in}
+use Rattle.si_defs.specs.Substitutions.{IsAmong, AreDistinct}
+use Rattle.si_defs.specs.declared.Relation.{Relation}
+use Rattle.si_defs.proofs.ListLaws.{all_at, all_from, all_append, among_parts, get_some, get_among}
+use Rattle.si_state.specs.Answers.{Stands}
+use Rattle.si_flat.specs.declared.Cell.{Cell}
+use Rattle.si_flat.specs.declared.flatten.FlatQuery.{FlatQuery}
+use Rattle.si_flat.specs.Flattened.{FlattensPattern}
+use Rattle.si_form.proofs.Moving.{among_map}
+use Rattle.si_legal.specs.declared.Posting.{Posting}
+use Rattle.si_legal.specs.Engines.{AreAnswers, AppendsAnswers}
+use Rattle.si_index.specs.Kept.{Kept, AreKeyed, paired, kept_clauses}
+use Rattle.si_index.specs.Engines.{Answering, asks_literals, AreAsked, AnswersStanding, IsOfStanding, posted_from, posted_entries, AreAnswered}
+use Rattle.si_index.specs.Gathering.{IsBefore, Rise, StandsFor, AreInOrder, IsHitAt, IsStandingAt}
+use Rattle.si_index.specs.Searching.{pattern_in}
+use Rattle.si_index.specs.declared.search.Search.{Search}
+use Rattle.si_index.specs.declared.wanted.Wanted.{Wanted}
+use Rattle.si_index.proofs.EngineLaws.{Posted, stands_at, got_there, among_key, one_clause}
+use Rattle.si_index.proofs.OrderLaws.{is_same, before_then, AreSorted, sorted_rise, distinct_sorted}
+
+-- ---- members of a list in another order
+among_permutation : {X : Type 0} (xs ys : List X) → IsPermutation xs ys → (x : X) → IsAmong ys x → IsAmong xs x
+among_permutation xs ys moved x a =
+    all_at (IsAmong xs) ys x
+    (recursion_from_All (IsAmong xs) ys (All-permutation (IsAmong xs) xs ys moved (All-from_recursion (IsAmong xs) xs (all_from (IsAmong xs) xs (λ y b. b)))))
+    a
+
+-- ---- postings, and where their entries stand
+abbrev pub posting_at : List ℕ → Wanted → Posting
+posting_at keys w = record { clause = get_or keys w.position 0; entry = w.entry }
+
+-- the entries of these postings stand there
+pub record ArePlaced (keys : List ℕ) (postings : List Posting) (ws : List Wanted) : Type 0 where
+  pub postings_are : map (posting_at keys) ws ≡ postings
+  pub inside : AllByRecursion (λ w. w.position < length keys) ws
+
+placed_more : (keys : List ℕ) (postings : List Posting) (ws : List Wanted) (p : Posting) (w : Wanted) → ArePlaced keys postings ws
+    → slice_get keys w.position ≡ Some p.clause → w.entry ≡ p.entry → ArePlaced keys (postings ++ p ∷ []) (ws ++ w ∷ [])
+placed_more keys postings ws p w h key number =
+    let same : posting_at keys w ≡ p = λ i. record { clause = get_or_from_slice_get keys w.position p.clause 0 key i; entry = number i } in
+    record {
+      postings_are = map-append (posting_at keys) ws (w ∷ []) ∙ (λ i. h.postings_are i ++ same i ∷ []);
+      inside = all_append (λ (v : Wanted). v.position < length keys) ws (w ∷ []) h.inside (slice_get_within keys w.position p.clause key, tt);
+    }
+
+pub placed_next : (keys : List ℕ) (postings : List Posting) (ws : List Wanted) (i : ℕ) (d : Posting) (w : Wanted) → i < length postings → ArePlaced keys (take i postings) ws
+    → slice_get keys w.position ≡ Some (get_or postings i d).clause → w.entry ≡ (get_or postings i d).entry → ArePlaced keys (take (i + 1) postings) (ws ++ w ∷ [])
+placed_next keys postings ws i d w less h key number =
+    let turn : suc i ≡ i + 1 = omega arith in
+    subst (λ ps. ArePlaced keys ps (ws ++ w ∷ [])) (sym (take-suc postings i d less) ∙ ap (λ n. take n postings) turn) (placed_more keys (take i postings) ws (get_or postings i d) w h key number)
+
+differ_from : (keys : List ℕ) (w : Wanted) (ws : List Wanted) → (IsAmong (map (posting_at keys) ws) (posting_at keys w) → ⊥) → AllByRecursion (λ v. is_same w v ≡ false) ws
+differ_from keys w ws none = all_from (λ v. is_same w v ≡ false) ws (λ v a. apart v a (cases_Bool (is_same w v))) where
+  apart : (v : Wanted) → IsAmong ws v → (is_same w v ≡ true) ⊎ (is_same w v ≡ false) → is_same w v ≡ false
+  apart v a (inr differ) = differ
+  apart v a (inl same) =
+      let parts = and_parts _ _ same in
+      let position = eqb-true w.position v.position parts.0 in
+      let number = eqb-true w.entry v.entry parts.1 in
+      absurd (none (subst (IsAmong (map (posting_at keys) ws)) (λ i. record { clause = get_or keys (sym position i) 0; entry = sym number i }) (among_map (posting_at keys) ws v a)))
+
+distinct_places : (keys : List ℕ) (ws : List Wanted) → AreDistinct (map (posting_at keys) ws) → IsDistinct is_same ws
+unfolding IsDistinct
+distinct_places keys [] distinct = tt
+distinct_places keys (w ∷ ws) distinct = IsDistinct-cons is_same w ws (differ_from keys w ws distinct.0) (distinct_places keys ws distinct.1)
+
+each_placed : (k : Kept) (ws : List Wanted) → AllByRecursion (λ w. w.position < length k.keys) ws → AllZip (StandsFor k) (map (posting_at k.keys) ws) ws
+each_placed k [] inside = tt
+each_placed k (w ∷ ws) inside =
+    let key = get_some k.keys w.position inside.0 in
+    ((key.1 ∙ ap Some (sym (get_or_from_slice_get k.keys w.position key.0 0 key.1)), refl), each_placed k ws inside.1)
+
+pub sorted_in_order : (k : Kept) (postings : List Posting) (ws vs : List Wanted) → ArePlaced k.keys postings ws → AreDistinct postings → IsPermutation ws vs → AreSorted vs → AreInOrder k postings vs
+sorted_in_order k postings ws vs placed distinct moved sorted =
+    let inside : AllByRecursion (λ w. w.position < length k.keys) vs =
+    recursion_from_All (λ w. w.position < length k.keys) vs
+    (All-permutation (λ w. w.position < length k.keys) ws vs moved (All-from_recursion (λ w. w.position < length k.keys) ws placed.inside)) in
+    let apart = distinct_places k.keys ws (subst AreDistinct (sym placed.postings_are) distinct) in
+    record {
+      ordered = map (posting_at k.keys) vs;
+      same = subst (λ ps. IsPermutation ps (map (posting_at k.keys) vs)) placed.postings_are (IsPermutation-map (posting_at k.keys) ws vs moved);
+      each = each_placed k vs inside;
+      rise = sorted_rise vs sorted (distinct_sorted ws vs moved apart);
+    }
+
+-- ---- what stands there
+paired_got : (keys : List ℕ) (cs : List Clause) (n key : ℕ) (c : Clause) → slice_get keys n ≡ Some key → slice_get cs n ≡ Some c → slice_get (paired keys cs) n ≡ Some (key, c)
+paired_got [] cs n key c a b = absurd (none-some key a)
+paired_got (k ∷ keys) [] n key c a b = absurd (none-some c b)
+paired_got (k ∷ keys) (d ∷ cs) zero key c a b = λ i. Some (same_Some k key a i, same_Some d c b i)
+paired_got (k ∷ keys) (d ∷ cs) (suc n) key c a b = paired_got keys cs n key c a b
+
+-- the entry of a posting of an entry in the relation
+standing_at : (s : Search) (q : Posting) (w : Wanted) → AreKeyed s.index.now → StandsFor s.index.now q w → IsOfStanding s.index.now s.relation (pattern_in s) q → IsStandingAt s w
+standing_at s q w keyed there standing =
+    let k = s.index.now in
+    let own = standing.1 in
+    let at = get_some k.clauses w.position (omega (arith, keyed.number, slice_get_within k.keys w.position q.clause there.0)) in
+    let clause : at.0 ≡ own.clause =
+    one_clause k.keys k.clauses q.clause at.0 own.clause keyed.distinct
+    (get_among (kept_clauses k) w.position (q.clause, at.0) (paired_got k.keys k.clauses w.position q.clause at.0 there.0 at.1)) own.is_kept in (
+      (w.position, own.placed),
+      record {
+        position = refl;
+        clause = own.clause;
+        there = at.1 ∙ ap Some clause;
+        numbered = ap (slice_get (entries own.clause)) there.1 ∙ own.numbered;
+      },
+      subst (Stands s.relation (pattern_in s)) (sym own.entry_is) standing.2,
+    )
+
+all_standing : (s : Search) (qs : List Posting) (ws : List Wanted) → AreKeyed s.index.now → AllZip (StandsFor s.index.now) qs ws
+    → ((q : Posting) → IsAmong qs q → IsOfStanding s.index.now s.relation (pattern_in s) q) → AllByRecursion (IsStandingAt s) ws
+all_standing s [] [] keyed each standing = tt
+all_standing s [] (w ∷ ws) keyed each standing = absurd each
+all_standing s (q ∷ qs) [] keyed each standing = absurd each
+all_standing s (q ∷ qs) (w ∷ ws) keyed each standing = (standing_at s q w keyed each.0 (standing q (inl refl)), all_standing s qs ws keyed each.1 (λ p a. standing p (inr a)))
+
+pub wanted_stand : (s : Search) (postings : List Posting) (ws : List Wanted) → AreKeyed s.index.now → AreInOrder s.index.now postings ws
+    → ((q : Posting) → IsAmong postings q → IsOfStanding s.index.now s.relation (pattern_in s) q) → AllByRecursion (IsStandingAt s) ws
+wanted_stand s postings ws keyed order standing =
+    all_standing s order.ordered ws keyed order.each (λ q a. standing q (among_permutation postings order.ordered order.same q a))
+
+-- ---- an engine was asked for the pattern, and answered this
+pub record IsAnsweredBy (answers : Answering) (k : Kept) (relation : Relation) (p : Pattern) (cells : List Cell) (seen : List Posting) : Type 0 where
+  pub asked : AreAsked k.numbers p cells
+  pub are : AreAnswers (answers (asks_literals p) relation cells) seen
+  pub standing : (q : Posting) → IsAmong seen q → IsOfStanding k relation p q
+
+pub is_answered : (answers : Answering) (k : Kept) (relation : Relation) (p : Pattern) (numbers : Numbering) (query : FlatQuery) (literal : Bool) (old new seen : List Posting)
+    → numbers ≡ k.numbers → FlattensPattern numbers p query → AnswersStanding answers k relation p → literal ≡ asks_literals p
+    → AppendsAnswers (answers literal relation query.flat) old new → old ≡ [] → seen ≡ new → IsAnsweredBy answers k relation p query.flat seen
+is_answered answers k relation p numbers query literal old new seen same flat standing kind appends none is =
+    let asked : AreAsked k.numbers p query.flat = (query, subst (λ ns. FlattensPattern ns p query) same flat, refl) in
+    let are : AreAnswers (answers (asks_literals p) relation query.flat) seen =
+    subst (λ b. AreAnswers (answers b relation query.flat) seen) kind
+    (subst (AreAnswers (answers literal relation query.flat)) (sym (is ∙ appends.appended ∙ ap (λ l. l ++ appends.answers) none)) appends.are) in
+    record {
+      asked = asked;
+      are = are;
+      standing = λ q a. standing query.flat asked q ((are.exact q).0 a);
+    }
+
+-- they have the keys of clauses
+pub postings_keyed : (k : Kept) (relation : Relation) (p : Pattern) (postings : List Posting)
+    → ((q : Posting) → IsAmong postings q → IsOfStanding k relation p q) → AllByRecursion (λ q. IsAmong k.keys q.clause) postings
+postings_keyed k relation p postings standing =
+    all_from (λ q. IsAmong k.keys q.clause) postings (λ q a. let own = (standing q a).1 in among_key k.keys k.clauses q.clause own.clause own.is_kept)
+
+-- ---- entries, each before all after it
+abbrev place : Posted → Wanted
+place x = record { position = x.1.0; entry = x.0.entry }
+
+abbrev pub Follow : List Posted → Type 0
+Follow [] = Unit {0}
+Follow (x ∷ xs) = ((y : Posted) → IsAmong xs y → IsBefore (place x) (place y)) × Follow xs
+
+never_before : (w : Wanted) → IsBefore w w → ⊥
+never_before w (inl less) = omega (arith, less)
+never_before w (inr both) = omega (arith, both.1)
+
+follow_append : (xs ys : List Posted) → Follow xs → Follow ys → ((x y : Posted) → IsAmong xs x → IsAmong ys y → IsBefore (place x) (place y)) → Follow (xs ++ ys)
+follow_append [] ys up ups over = ups
+follow_append (x ∷ xs) ys up ups over = (
+  (λ y a. elim (among_parts xs ys y a) [ inl b ↦ up.0 y b | inr b ↦ over x y (inl refl) b ]),
+  follow_append xs ys up.1 ups (λ z y a b. over z y (inr a) b),
+)
+
+-- an entry that comes later isn't the first
+not_later : (x : Posted) (xs rs : List Posted) (r : Posted) → Follow (x ∷ xs) → Follow (r ∷ rs) → IsAmong xs r → IsAmong (r ∷ rs) x → ⊥
+not_later x xs rs r up ups later (inl is) = never_before (place x) (subst (λ (y : Posted). IsBefore (place x) (place y)) is (up.0 r later))
+not_later x xs rs r up ups later (inr a) = never_before (place x) (before_then (place x) (place r) (place x) (up.0 r later) (ups.0 x a))
+
+-- nor is the first among those after it
+pub not_again : (x : Posted) (xs : List Posted) → Follow (x ∷ xs) → IsAmong xs x → ⊥
+not_again x xs up a = never_before (place x) (up.0 x a)
+
+-- of entries that follow each other, those that follow each other among them
+module _ (these : Posting → Type 0) where
+  abbrev AreAll : List Posted → List Posted → Type 0
+  AreAll xs rs = (x : Posted) → IsAmong xs x → (these x.0 → IsAmong rs x) × (IsAmong rs x → these x.0)
+
+  answered_in_turn : (xs rs : List Posted) → Follow xs → Follow rs → ((x : Posted) → IsAmong rs x → IsAmong xs x) → AreAll xs rs → AreAnswered these xs (map (λ x. x.1) rs)
+  answered_in_turn [] [] up ups inside all = refl
+  answered_in_turn [] (r ∷ rs) up ups inside all = absurd (inside r (inl refl))
+  answered_in_turn (x ∷ xs) [] up ups inside all =
+      inr ((all x (inl refl)).0, answered_in_turn xs [] up.1 tt (λ y a. absurd a) (λ y a. all y (inr a)))
+  answered_in_turn (x ∷ xs) (r ∷ rs) up ups inside all =
+      elim (inside r (inl refl)) [
+        | inl same ↦
+            inl (
+              (all x (inl refl)).1 (inl (sym same)),
+              (
+                map (λ y. y.1) rs,
+                answered_in_turn xs rs up.1 ups.1
+                    (λ y a. elim (inside y (inr a)) [
+                      | inl is ↦ absurd (not_again r rs ups (subst (IsAmong rs) (sym is ∙ same) a))
+                      | inr b ↦ b
+                    ])
+                    (λ y a. (
+                      (λ t. elim ((all y (inr a)).0 t) [
+                        | inl is ↦ absurd (not_again x xs up (subst (IsAmong xs) (sym is ∙ sym same) a))
+                        | inr b ↦ b
+                      ]),
+                      (λ b. (all y (inr a)).1 (inr b)),
+                    )),
+                ap (λ (y : Posted). y.1 ∷ map (λ z. z.1) rs) (sym same),
+              ),
+            )
+        | inr later ↦
+            inr (
+              (λ t. not_later x xs rs r up ups later ((all x (inl refl)).0 t)),
+              answered_in_turn xs (r ∷ rs) up.1 ups
+                  (λ y a. elim (inside y a) [
+                    | inl is ↦ absurd (not_later x xs rs r up ups later (subst (IsAmong (r ∷ rs)) (sym is) a))
+                    | inr b ↦ b
+                  ])
+                  (λ y a. all y (inr a)),
+            )
+      ]
+
+-- ---- all entries
+record IsFromHere (position n : ℕ) (x : Posted) : Type 0 where
+  position_is : x.1.0 ≡ position
+  more : ℕ
+  number_is : x.0.entry ≡ n + more
+
+from_here : (key position n : ℕ) (es : List Placed) (x : Posted) → IsAmong (posted_from key position n es) x → IsFromHere position n x
+from_here key position n [] x a = absurd a
+from_here key position n (e ∷ es) x (inl s) =
+    let zero_more : n ≡ n + 0 = omega arith in
+    record { position_is = ap (λ (y : Posted). y.1.0) (sym s); more = 0; number_is = ap (λ (y : Posted). y.0.entry) (sym s) ∙ zero_more }
+from_here key position n (e ∷ es) x (inr a) =
+    let h = from_here key position (1 + n) es x a in
+    record { position_is = h.position_is; more = suc h.more; number_is = omega (arith, h.number_is) }
+
+own_follow : (key position n : ℕ) (es : List Placed) → Follow (posted_from key position n es)
+own_follow key position n [] = tt
+own_follow key position n (e ∷ es) = (
+  (λ y a. let h = from_here key position (1 + n) es y a in inr (sym h.position_is, omega (arith, h.number_is))),
+  own_follow key position (1 + n) es,
+)
+
+pub entries_follow : (position : ℕ) (cs : List (ℕ × Clause)) → Follow (posted_entries position cs)
+entries_follow position [] = tt
+entries_follow position (c ∷ cs) =
+    follow_append (posted_from c.0 position 0 (entries c.1)) (posted_entries (1 + position) cs) (own_follow c.0 position 0 (entries c.1)) (entries_follow (1 + position) cs)
+    (λ x y a b.
+    let h = from_here c.0 position 0 (entries c.1) x a in
+    let g = stands_at (1 + position) cs y b in
+    inl (omega (arith, h.position_is, g.position_is)))
+
+-- a key leads to one position
+one_position : (keys : List ℕ) (cs : List Clause) (m n key : ℕ) (c d : Clause) → AreDistinct keys → slice_get (paired keys cs) m ≡ Some (key, c) → slice_get (paired keys cs) n ≡ Some (key, d) → m ≡ n
+one_position [] cs m n key c d distinct a b = absurd (none-some (key, c) a)
+one_position (k ∷ keys) [] m n key c d distinct a b = absurd (none-some (key, c) a)
+one_position (k ∷ keys) (f ∷ cs) zero zero key c d distinct a b = refl
+one_position (k ∷ keys) (f ∷ cs) zero (suc n) key c d distinct a b =
+    absurd (distinct.0 (subst (IsAmong keys) (sym (ap (λ (p : ℕ × Clause). p.0) (same_Some (k, f) (key, c) a))) (among_key keys cs key d (get_among (paired keys cs) n (key, d) b))))
+one_position (k ∷ keys) (f ∷ cs) (suc m) zero key c d distinct a b =
+    absurd (distinct.0 (subst (IsAmong keys) (sym (ap (λ (p : ℕ × Clause). p.0) (same_Some (k, f) (key, d) b))) (among_key keys cs key c (get_among (paired keys cs) m (key, c) a))))
+one_position (k ∷ keys) (f ∷ cs) (suc m) (suc n) key c d distinct a b = ap suc (one_position keys cs m n key c d distinct.1 a b)
+
+pub one_posted : (k : Kept) (x y : Posted) → AreKeyed k → IsAmong (posted_entries 0 (kept_clauses k)) x → IsAmong (posted_entries 0 (kept_clauses k)) y → x.0 ≡ y.0 → x ≡ y
+one_posted k x y keyed a b same =
+    let h = stands_at 0 (kept_clauses k) x a in
+    let g = stands_at 0 (kept_clauses k) y b in
+    let key = ap (λ (q : Posting). q.clause) same in
+    let here = h.there ∙ ap (λ n. Some (n, h.clause)) key in
+    let at = one_position k.keys k.clauses h.at g.at y.0.clause h.clause g.clause keyed.distinct here g.there in
+    let both = same_Some (y.0.clause, h.clause) (y.0.clause, g.clause) (sym here ∙ ap (slice_get (kept_clauses k)) at ∙ g.there) in
+    let entry = same_Some x.1.1 y.1.1 (sym h.numbered ∙ (λ i. slice_get (entries (both i).1) (same i).entry) ∙ g.numbered) in
+    let position : x.1.0 ≡ y.1.0 = h.position_is ∙ ap (λ n. 0 + n) at ∙ sym g.position_is in
+    λ i. (same i, (position i, entry i))
+
+-- ---- what was found
+abbrev found : List Posting → List (ℕ × Placed) → List Posted
+found [] hits = []
+found (q ∷ qs) [] = []
+found (q ∷ qs) (hit ∷ hits) = (q, hit) ∷ found qs hits
+
+module _ (k : Kept) where
+  found_hits : (qs : List Posting) (ws : List Wanted) (hits : List (ℕ × Placed)) → AllZip (StandsFor k) qs ws → AllZip (IsHitAt k) ws hits → map (λ x. x.1) (found qs hits) ≡ hits
+  found_hits [] [] [] each are = refl
+  found_hits [] [] (hit ∷ hits) each are = absurd are
+  found_hits [] (w ∷ ws) hits each are = absurd each
+  found_hits (q ∷ qs) [] hits each are = absurd each
+  found_hits (q ∷ qs) (w ∷ ws) [] each are = absurd are
+  found_hits (q ∷ qs) (w ∷ ws) (hit ∷ hits) each are = ap (λ l. hit ∷ l) (found_hits qs ws hits each.1 are.1)
+
+  record IsFoundAt (qs : List Posting) (ws : List Wanted) (x : Posted) : Type 0 where
+    at : Wanted
+    among : IsAmong ws at
+    asked : IsAmong qs x.0
+    there : StandsFor k x.0 at
+    hit : IsHitAt k at x.1
+
+  of_found : (qs : List Posting) (ws : List Wanted) (hits : List (ℕ × Placed)) (x : Posted) → AllZip (StandsFor k) qs ws → AllZip (IsHitAt k) ws hits → IsAmong (found qs hits) x → IsFoundAt qs ws x
+  of_found [] ws hits x each are a = absurd a
+  of_found (q ∷ qs) ws [] x each are a = absurd a
+  of_found (q ∷ qs) [] (hit ∷ hits) x each are a = absurd each
+  of_found (q ∷ qs) (w ∷ ws) (hit ∷ hits) x each are (inl s) =
+      subst (IsFoundAt (q ∷ qs) (w ∷ ws)) s (record { at = w; among = inl refl; asked = inl refl; there = each.0; hit = are.0 })
+  of_found (q ∷ qs) (w ∷ ws) (hit ∷ hits) x each are (inr a) =
+      let h = of_found qs ws hits x each.1 are.1 a in
+      record { at = h.at; among = inr h.among; asked = inr h.asked; there = h.there; hit = h.hit }
+
+  with_found : (qs : List Posting) (ws : List Wanted) (hits : List (ℕ × Placed)) (q : Posting) → AllZip (StandsFor k) qs ws → AllZip (IsHitAt k) ws hits → IsAmong qs q → (hit : ℕ × Placed) × IsAmong (found qs hits) (q, hit)
+  with_found [] ws hits q each are a = absurd a
+  with_found (p ∷ qs) [] hits q each are a = absurd each
+  with_found (p ∷ qs) (w ∷ ws) [] q each are a = absurd are
+  with_found (p ∷ qs) (w ∷ ws) (hit ∷ hits) q each are (inl s) = (hit, inl (ap (λ (r : Posting). (r, hit)) s))
+  with_found (p ∷ qs) (w ∷ ws) (hit ∷ hits) q each are (inr a) = let h = with_found qs ws hits q each.1 are.1 a in (h.0, inr h.1)
+
+  place_found : (qs : List Posting) (ws : List Wanted) (x : Posted) → (h : IsFoundAt qs ws x) → h.at ≡ place x
+  place_found qs ws x h = λ i. record { position = sym h.hit.position i; entry = h.there.1 i }
+
+  found_follow : (qs : List Posting) (ws : List Wanted) (hits : List (ℕ × Placed)) → AllZip (StandsFor k) qs ws → AllZip (IsHitAt k) ws hits → Rise ws → Follow (found qs hits)
+  found_follow [] ws hits each are rise = tt
+  found_follow (q ∷ qs) ws [] each are rise = tt
+  found_follow (q ∷ qs) [] (hit ∷ hits) each are rise = absurd each
+  found_follow (q ∷ qs) (w ∷ ws) (hit ∷ hits) each are rise =
+      let first : IsFoundAt (q ∷ qs) (w ∷ ws) (q, hit) = record { at = w; among = inl refl; asked = inl refl; there = each.0; hit = are.0 } in (
+        (λ y a.
+            let h = of_found qs ws hits y each.1 are.1 a in
+            subst (λ v. IsBefore v (place y)) (place_found (q ∷ qs) (w ∷ ws) (q, hit) first)
+            (subst (IsBefore w) (place_found qs ws y h) (all_at (IsBefore w) ws h.at rise.0 h.among))),
+        found_follow qs ws hits each.1 are.1 rise.1,
+      )
+
+  found_kept : (qs : List Posting) (ws : List Wanted) (x : Posted) → IsFoundAt qs ws x → IsAmong (posted_entries 0 (kept_clauses k)) x
+  found_kept qs ws x h =
+      let pair = paired_got k.keys k.clauses h.at.position x.0.clause h.hit.clause h.there.0 h.hit.there in
+      let from_zero : 0 + h.at.position ≡ x.1.0 = omega (arith, h.hit.position) in
+      subst (IsAmong (posted_entries 0 (kept_clauses k))) (λ i. (record { clause = x.0.clause; entry = h.there.1 i }, (from_zero i, x.1.1)))
+      (got_there 0 (kept_clauses k) h.at.position h.at.entry (x.0.clause, h.hit.clause) x.1.1 pair h.hit.numbered)
+
+-- the hits are the entries of the answers
+pub hits_answered : (k : Kept) (these : Posting → Type 0) (postings : List Posting) (ws : List Wanted) (hits : List (ℕ × Placed)) → AreKeyed k
+    → AreAnswers these postings → AreInOrder k postings ws → AllZip (IsHitAt k) ws hits → AreAnswered these (posted_entries 0 (kept_clauses k)) hits
+hits_answered k these postings ws hits keyed answers order are =
+    let qs = order.ordered in
+    let all = posted_entries 0 (kept_clauses k) in
+    let of : (x : Posted) → IsAmong (found qs hits) x → IsFoundAt k qs ws x = λ x a. of_found k qs ws hits x order.each are a in
+    subst (AreAnswered these all) (found_hits k qs ws hits order.each are)
+    (answered_in_turn these all (found qs hits) (entries_follow 0 (kept_clauses k)) (found_follow k qs ws hits order.each are order.rise)
+    (λ x a. found_kept k qs ws x (of x a))
+    (λ x a. (
+      (λ t.
+          let h = with_found k qs ws hits x.0 order.each are (among_permutation qs postings (IsPermutation-sym postings qs order.same) x.0 ((answers.exact x.0).1 t)) in
+          subst (IsAmong (found qs hits)) (one_posted k (x.0, h.0) x keyed (found_kept k qs ws (x.0, h.0) (of (x.0, h.0) h.1)) a refl) h.1),
+      (λ b. (answers.exact x.0).0 (among_permutation postings qs order.same x.0 (of x b).asked)),
+    )))
+
+-- there are no more of them than entries
+answered_few : (these : Posting → Type 0) (xs : List Posted) (hits : List (ℕ × Placed)) → AreAnswered these xs hits → length hits ≤ length xs
+answered_few these [] hits h = omega (arith, ap length h)
+answered_few these (x ∷ xs) hits (inl h) = omega (arith, ap length h.1.2, answered_few these xs h.1.0 h.1.1)
+answered_few these (x ∷ xs) hits (inr h) = omega (arith, answered_few these xs hits h.1)
+
+length_posted : (key position n : ℕ) (es : List Placed) → length (posted_from key position n es) ≡ length es
+length_posted key position n [] = refl
+length_posted key position n (e ∷ es) = omega (arith, length_posted key position (1 + n) es)
+
+entries_posted : (position : ℕ) (keys : List ℕ) (cs : List Clause) → length (posted_entries position (paired keys cs)) ≤ length (state_entries cs)
+entries_posted position [] cs = omega arith
+entries_posted position (key ∷ keys) [] = omega arith
+entries_posted position (key ∷ keys) (c ∷ cs) =
+    omega (
+      arith,
+      length-append (posted_from key position 0 (entries c)) (posted_entries (1 + position) (paired keys cs)),
+      length_posted key position 0 (entries c),
+      length-append (map (placed_in c) (entries c)) (state_entries cs),
+      length-map (entries c) (placed_in c),
+      entries_posted (1 + position) keys cs,
+    )
+
+pub hits_few : (k : Kept) (these : Posting → Type 0) (hits : List (ℕ × Placed)) → AreAnswered these (posted_entries 0 (kept_clauses k)) hits → length hits ≤ length (state_entries k.clauses)
+hits_few k these hits h = omega (arith, answered_few these (posted_entries 0 (kept_clauses k)) hits h, entries_posted 0 k.keys k.clauses)

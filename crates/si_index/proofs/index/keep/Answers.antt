@@ -1,0 +1,63 @@
+use Rattle.std.proofs.Common.{sym, ap, ◌∙◌, subst}
+use Rattle.si_term.specs.Meaning.{clause_of}
+use Rattle.si_term.specs.declared.clause.Clause.{Clause}
+use Rattle.si_state.specs.Signatures.{numbering}
+use Rattle.si_held.specs.TwoTrees.{Hold, MayAddClause, AddsClause}
+use Rattle.si_held.proofs.Holding.{same_held}
+use Rattle.si_keyed.specs.Keyed.{HasKey, IsTakenOut}
+use Rattle.si_keyed.proofs.KeyLaws.{key_taken, pushed_item, pushed_key, taken_back}
+use Rattle.si_keyed.proofs.Results.{some_unless}
+use Rattle.si_index.specs.Names.{key_of}
+use Rattle.si_index.specs.Stored.{keyed_clauses}
+use Rattle.si_index.proofs.HeldClauses.{may_add, held_more}
+use Rattle.si_index.proofs.NamedLaws.{put_item, put_taken, name_gone}
+use Rattle.si_index.proofs.index.keep.Goals as goal
+
+pub unwrap-kept-requires : goal.unwrap-kept-requires
+unwrap-kept-requires c =
+    let key = c.in_ok-key.key in
+    some_unless c.get.result c.get.ensures.none
+    (subst (λ l. HasKey l key) (sym c.in_ok-key.ensures.put.pushed) (pushed_key c.args.clauses.now.items key c.args.clause))
+
+pub add_clause-requires : goal.add_clause-requires
+add_clause-requires c =
+    let key = c.in_ok-key.key in
+    let put = c.in_ok-key.ensures.put in
+    subst (λ (d : Clause). MayAddClause (numbering c.args.known.now.signature) key (clause_of d) c.args.trees.now)
+    (sym (put_item c.args.clauses.now.items c.put.new.clauses.items key c.args.clause c.get.result c.unwrap-kept.result put.fresh put.pushed c.unwrap-kept.ensures c.get.ensures.some))
+    (may_add (numbering c.args.known.now.signature) c.args.clauses.now.items key c.args.clause c.args.trees.now c.args.trees.now c.requires.held put.fresh c.requires.sound c.requires.numbered)
+
+pub returns-in-Ok-clause-held : goal.returns-in-Ok-clause-held
+returns-in-Ok-clause-held c =
+    let key = c.in_ok-key.key in
+    let put = c.in_ok-key.ensures.put in
+    let numbers = numbering c.args.known.now.signature in
+    let same = put_item c.args.clauses.now.items c.put.new.clauses.items key c.args.clause c.get.result c.unwrap-kept.result put.fresh put.pushed c.unwrap-kept.ensures c.get.ensures.some in
+    subst (λ l. Hold numbers (keyed_clauses l) c.add_clause.new.self) (sym put.pushed)
+    (held_more numbers c.args.clauses.now.items key c.args.clause c.args.trees.now c.add_clause.new.self c.requires.held put.fresh c.requires.numbered
+    (subst (λ (d : Clause). AddsClause numbers key (clause_of d) c.args.trees.now c.add_clause.new.self) same c.in-Ok.ensures.ok) c.add_clause.ensures.legal)
+
+pub remove-requires-in-Err : goal.remove-requires-in-Err
+remove-requires-in-Err c = subst (λ l. HasKey l c.in_ok-key.key) (sym c.in_ok-key.ensures.put.pushed) (pushed_key c.args.clauses.now.items c.in_ok-key.key c.args.clause)
+
+pub returns-in-Err-clause-handed_back : goal.returns-in-Err-clause-handed_back
+returns-in-Err-clause-handed_back c =
+    put_taken c.args.clauses.now.items c.put.new.clauses.items c.in_ok-key.key c.args.clause c.remove-in-Err.result c.remove-in-Err.new.self.items c.in_ok-key.ensures.put.fresh
+    c.in_ok-key.ensures.put.pushed c.remove-in-Err.ensures.taken
+
+pub returns-in-Err-clause-err : goal.returns-in-Err-clause-err
+returns-in-Err-clause-err c =
+    taken_back c.args.clauses.now.items c.in_ok-key.key c.args.clause c.remove-in-Err.result c.remove-in-Err.new.self.items c.in_ok-key.ensures.put.fresh
+    (subst (λ l. IsTakenOut l c.in_ok-key.key c.remove-in-Err.result c.remove-in-Err.new.self.items) c.in_ok-key.ensures.put.pushed c.remove-in-Err.ensures.taken)
+
+pub returns-in-Err-clause-same_names : goal.returns-in-Err-clause-same_names
+returns-in-Err-clause-same_names c =
+    let put = c.in_ok-key.ensures.put in
+    name_gone c.args.clause c.unwrap-kept.result.now c.in_ok-key.key (key_of c.args.known.now.names) (key_of c.put.new.names) (key_of c.remove.new.self)
+    (put_item c.args.clauses.now.items c.put.new.clauses.items c.in_ok-key.key c.args.clause c.get.result c.unwrap-kept.result put.fresh put.pushed c.unwrap-kept.ensures c.get.ensures.some)
+    c.requires.free put.name c.remove.ensures
+
+pub returns-in-Err-clause-held : goal.returns-in-Err-clause-held
+returns-in-Err-clause-held c =
+    subst (λ l. Hold (numbering c.args.known.now.signature) (keyed_clauses l) c.add_clause.new.self) (sym (returns-in-Err-clause-err c))
+    (same_held (numbering c.args.known.now.signature) (keyed_clauses c.args.clauses.now.items) c.args.trees.now c.add_clause.new.self c.requires.held c.in-Err.ensures.err c.add_clause.ensures.legal)

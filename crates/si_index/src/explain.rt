@@ -1,0 +1,44 @@
+// What a query passes in its tree, and how many answers it has.
+ghost use Rattle.std.specs.Prelude.{IfOk};
+ghost use Rattle.si_defs.specs.Clauses.{IsSoundPattern};
+ghost use Rattle.si_term.specs.Meaning.{pattern_of};
+ghost use Rattle.si_index.specs.Explaining.{Explains};
+
+use crate::found::asks_literals;
+use crate::index::Index;
+use si_defs::Relation;
+use si_flat::flatten_pattern;
+use si_term::Pattern;
+use std::alloc::AllocError;
+
+/// How a query goes through the tree that it is asked in.
+#[derive(Clone, Copy, Debug, PartialEq, Eq)]
+pub struct Explained {
+    /// The number of nodes that are open for it.
+    pub passed: u64,
+    /// The number of all nodes.
+    pub nodes: u64,
+    /// The number of its answers.
+    pub answers: u64,
+}
+
+impl Index {
+    /// Counts what a query passes and answers. It makes no list of a hit, and copies no posting.
+    pub fn explain(&self, relation: Relation, pattern: &Pattern) -> Result<Explained, AllocError>
+        requires { IsSoundPattern (pattern_of pattern.now) }
+        ensures { IfOk result (Explains self.now relation (pattern_of pattern.now)) }
+    {
+        // So it is known that what is kept is sound, and that its entries are few.
+        self.stats();
+        let alloc = self.allocator();
+        let trees = self.trees();
+        let query = flatten_pattern(alloc, self.signature(), pattern)?;
+        let literal = asks_literals(pattern);
+        let counted = trees.count(literal, relation, &query.flat)?;
+        Ok(Explained {
+            passed: counted.passed,
+            nodes: trees.tree(literal).counts().nodes,
+            answers: counted.answers,
+        })
+    }
+}

@@ -1,0 +1,83 @@
+// The replies that show the trees.
+ghost use Rattle.std.specs.Prelude.{◌≡◌, ◌≤◌, ◌++◌, codes, decimal};
+ghost use Rattle.si_defs.specs.Clauses.{IsSoundPattern};
+ghost use Rattle.si_steps.specs.Runs.{ended};
+ghost use Rattle.si_io.specs.Counts.{raised};
+ghost use Rattle.si_io.specs.Sends.{Sends};
+ghost use Rattle.si_term.specs.Meaning.{pattern_of};
+ghost use Rattle.si_session.specs.Session.{Writes};
+ghost use Rattle.si_session.specs.Explained.{TellsExplained};
+ghost use Rattle.si_session.specs.Replies.{counts_reply};
+ghost use Rattle.si_session.specs.Signs.{sign_text};
+ghost use Rattle.si_session.specs.declared.sign.Sign.TheVariants.{LineFeed};
+ghost use Rattle.si_session.specs.declared.stepped.Stepped.TheVariants.{SinkFailed};
+
+use crate::reply::{ReplyLine, put_three, tell};
+use crate::stepped::Stepped;
+use si_defs::Relation;
+use si_index::{Index, TreeCounts};
+use si_io::{Failed, Sink};
+use si_term::Pattern;
+use si_tree::Counts;
+
+/// Writes the numbers of nodes of both trees, a line each.
+pub fn tell_trees<K: Sink>(sink: &mut K, counts: TreeCounts) -> Stepped
+    ensures written { Writes result (counts_reply counts) (K.shown sink.old) (K.shown sink.new) }
+    ensures later { (K.shown sink.old).counts.faults ≤ (K.shown sink.new).counts.faults }
+    ensures kept { (result ≡ SinkFailed → ⊥) → (K.shown sink.new).counts.faults ≡
+        (K.shown sink.old).counts.faults }
+    ensures failed { result ≡ SinkFailed → (K.shown sink.new).counts.faults
+        ≡ raised (K.shown sink.old).counts.faults }
+{
+    match put_trees(sink, counts) {
+        Ok(()) => Stepped::Answered,
+        Err(_) => Stepped::SinkFailed,
+    }
+}
+
+/// Writes the line of each tree.
+fn put_trees<K: Sink>(sink: &mut K, counts: TreeCounts) -> Result<(), Failed>
+    ensures { Sends result (ended (counts_reply counts)) (K.shown sink.old) (K.shown sink.new) }
+{
+    put_tree(sink, b"literals nodes ", counts.literals)?;
+    put_tree(sink, b"terms nodes ", counts.terms)
+}
+
+/// Writes the line of a tree, whose first word is given.
+fn put_tree<K: Sink>(sink: &mut K, word: &[u8], counts: Counts) -> Result<(), Failed>
+    ensures { Sends result ((word.now ++ decimal counts.nodes) ++ ((codes " leaves "
+        ++ decimal counts.leaves) ++ ((codes " unmerged " ++ decimal counts.unmerged)
+        ++ sign_text LineFeed))) (K.shown sink.old) (K.shown sink.new) }
+{
+    put_three(
+        sink,
+        word,
+        counts.nodes,
+        b" leaves ",
+        counts.leaves,
+        b" unmerged ",
+        counts.unmerged,
+    )
+}
+
+/// Writes what a query passes in its tree, and how many answers it has.
+pub fn explain<K: Sink>(
+    index: &Index,
+    relation: Relation,
+    pattern: &Pattern,
+    sink: &mut K,
+) -> Stepped
+    requires { IsSoundPattern (pattern_of pattern.now) }
+    ensures tells { TellsExplained index.now relation (pattern_of pattern.now) result
+        (K.shown sink.old) (K.shown sink.new) }
+    ensures later { (K.shown sink.old).counts.faults ≤ (K.shown sink.new).counts.faults }
+    ensures kept { (result ≡ SinkFailed → ⊥) → (K.shown sink.new).counts.faults ≡
+        (K.shown sink.old).counts.faults }
+    ensures failed { result ≡ SinkFailed → (K.shown sink.new).counts.faults
+        ≡ raised (K.shown sink.old).counts.faults }
+{
+    match index.explain(relation, pattern) {
+        Ok(explained) => tell(sink, ReplyLine::Explained(explained)),
+        Err(_) => tell(sink, ReplyLine::Memory),
+    }
+}

@@ -18,7 +18,7 @@ from types import TracebackType
 from typing import NamedTuple
 
 RELATIONS = ("instances", "generalizations", "variants", "unifiable")
-QUESTIONS = (*RELATIONS, "subsumers", "subsumed")  # whose replies end with a line `end N`; others have one line
+QUESTIONS = (*RELATIONS, "subsumers", "subsumed")  # whose replies end with a line `end N`
 BLANKS = r"(?:[\t\f\r ]+|%.*|/\*.*?\*/)*"
 QUOTES = r"""'(?:[^'\\]|\\.)*'|"(?:[^"\\]|\\.)*\""""
 END = re.compile(r"end (\d+)")
@@ -49,6 +49,13 @@ class Ended(Exception):
         how = f"by signal {-status}" if status < 0 else f"with status {status}"
         super().__init__(f"the program ended {how}")
         self.status = status
+
+
+def is_whole(word: str, lines: list[str]) -> bool:
+    """Whether the lines are all of a reply to a command with this word, where it isn't refused."""
+    if word in QUESTIONS:
+        return bool(lines) and END.fullmatch(lines[-1]) is not None
+    return len(lines) == (2 if word == "tree" else 1)
 
 
 class Counts(NamedTuple):
@@ -150,9 +157,9 @@ class Index:
             self._process.stdin.flush()
         except (BrokenPipeError, ValueError):
             raise Ended(self._wait()) from None
-        is_question = re.match(rf"{BLANKS}(\w*)", command)[1] in QUESTIONS
+        word = re.match(rf"{BLANKS}(\w*)", command)[1]
         lines: list[str] = []
-        while not lines or is_question and not END.fullmatch(lines[-1]):
+        while not is_whole(word, lines):
             line = self._process.stdout.readline().decode()
             if not line.endswith("\n"):
                 raise Ended(self._wait())

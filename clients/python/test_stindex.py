@@ -90,6 +90,10 @@ class Client(unittest.TestCase):
             for command in ("", " % c", "/* c */", "stats\nstats"):
                 self.assertRaises(ValueError, index.ask, command)
             self.assertEqual(index.ask("/**/ stats"), ["clauses 0 entries 0 symbols 0"])
+            alone = "nodes 1 leaves 0 unmerged 0"
+            self.assertEqual(index.ask("/**/ tree"), [f"literals {alone}", f"terms {alone}"])
+            self.assertEqual(index.ask("explain variants term X"), ["passed 1 nodes 1 answers 0"])
+            self.assertRaises(stindex.Refused, index.ask, "tree f")
 
     def test_files(self):
         Path(self.folder, "it's.p").write_text("cnf(c1,axiom,\n  p(a)).\n")

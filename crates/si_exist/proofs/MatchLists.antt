@@ -1,6 +1,6 @@
 -- Where a term is an instance of another, the variables of that, each with its image, are the
 -- canonical list.
-use Rattle.std.proofs.Common.{◌≡◌, Bool, true, false, cond, List, [], ◌∷◌, inl, inr, refl, sym, ◌∙◌, ap}
+use Rattle.std.proofs.Common.{◌≡◌, Bool, true, List, [], ◌∷◌, refl, sym, ◌∙◌, ap}
 use Rattle.std.specs.List.{AllByRecursion}
 use Rattle.si_defs.specs.Bytes.{Bytes}
 use Rattle.si_defs.specs.Terms.{Term, Terms, var, app, none, more, variables, variables_of_all, substitute, substitute_all, firsts, rename, rename_all}
@@ -13,6 +13,7 @@ use Rattle.si_defs.proofs.ListLaws.{all_at, all_from, all_front, all_back, all_a
 use Rattle.si_defs.proofs.VariableLaws.{variable_is, variable_self}
 use Rattle.si_flat.proofs.FirstPlaces.{among_firsts}
 use Rattle.si_form.proofs.CanonicalLaws.{canonical_match}
+use Rattle.si_form.proofs.Carrying.{tabulate, image_tabulated}
 
 -- ---- terms
 module _ {S V : Type 0} where
@@ -30,26 +31,13 @@ module _ {S V : Type 0} where
 
 -- ---- the list
 module _ {S V : Type 0} (same : V → V → Bool) (tells : (x y : V) → same x y ≡ true → x ≡ y) (itself : (x : V) → same x x ≡ true) where
+  pub lefts_are : (h : V → Term S V) (xs : List V) → lefts (tabulate same tells itself h xs) ≡ xs
+  lefts_are h [] = refl
+  lefts_are h (x ∷ xs) = ap (λ l. x ∷ l) (lefts_are h xs)
+
   -- each of these variables with its image
   abbrev pub with_images : Substitution S V → List V → Substitution S V
-  with_images s [] = []
-  with_images s (x ∷ xs) = (x, image same s x) ∷ with_images s xs
-
-  lefts_are : (s : Substitution S V) (xs : List V) → lefts (with_images s xs) ≡ xs
-  lefts_are s [] = refl
-  lefts_are s (x ∷ xs) = ap (λ l. x ∷ l) (lefts_are s xs)
-
-  image_is : (s : Substitution S V) (xs : List V) (y : V) → IsAmong xs y → image same (with_images s xs) y ≡ image same s y
-  image_is s [] y a = absurd a
-  image_is s (x ∷ xs) y a = by (same x y) refl a (image_is s xs y)
-    where
-      later : IsAmong (x ∷ xs) y → same x y ≡ false → (IsAmong xs y → image same (with_images s xs) y ≡ image same s y) → image same (with_images s xs) y ≡ image same s y
-      later (inl e) f go = let bad : true ≡ false = sym (itself x) ∙ ap (same x) e ∙ f in cc
-      later (inr b) f go = go b
-
-      by : (b : Bool) → same x y ≡ b → IsAmong (x ∷ xs) y → (IsAmong xs y → image same (with_images s xs) y ≡ image same s y) → cond b (image same s x) (image same (with_images s xs) y) ≡ image same s y
-      by true e b go = ap (image same s) (tells x y e)
-      by false e b go = later b e go
+  with_images s xs = tabulate same tells itself (image same s) xs
 
   pub instance_list :
       (P : V → Type 0) (q e : Term S V) (s : Substitution S V)
@@ -59,10 +47,10 @@ module _ {S V : Type 0} (same : V → V → Bool) (tells : (x y : V) → same x 
       → IsCanonicalMatch same q e (with_images s (firsts same (variables q)))
   instance_list P q e s h target apart =
       let list = with_images s (firsts same (variables q)) in
-      canonical_match same tells itself P q e list (lefts_are s (firsts same (variables q)))
+      canonical_match same tells itself P q e list (lefts_are (image same s) (firsts same (variables q)))
       (
       agreeing (image same list) (image same s) q
-      (all_from (λ x. image same list x ≡ image same s x) (variables q) (λ x a. image_is s (firsts same (variables q)) x (among_firsts same tells (variables q) x a)))
+      (all_from (λ x. image same list x ≡ image same s x) (variables q) (λ x a. image_tabulated same tells itself (image same s) (firsts same (variables q)) x (among_firsts same tells (variables q) x a)))
       ∙ h.takes
       )
       target apart

@@ -5,16 +5,14 @@ use Rattle.std.specs.Prelude.{filter}
 use Rattle.std.specs.List.{AllByRecursion}
 use Rattle.si_defs.specs.Terms.{Term, Terms, var, app, none, more, variables, variables_of_all, substitute, substitute_all, size, sizes, count}
 use Rattle.si_defs.specs.Substitutions.{Substitution, image, lefts, rights, IsAmong}
-use Rattle.si_defs.specs.Solutions.{bind, IsTriangular, Achieves, IsMostGeneral}
+use Rattle.si_defs.specs.Solutions.{bind, IsTriangular, order}
 use Rattle.si_defs.specs.Relations.{Unifies}
-use Rattle.si_defs.specs.declared.Relation.TheVariants.{Unifiable}
 use Rattle.si_defs.proofs.ListLaws.{all_at, all_from, all_front, all_back, all_weaker, among_front, among_back, among_parts}
 use Rattle.si_defs.proofs.TermLaws.{same_app, same_more}
-use Rattle.si_flat.proofs.FirstPlaces.{among_filter, filter_among}
+use Rattle.si_flat.proofs.FirstPlaces.{among_filter, filter_among, among_firsts}
 use Rattle.si_form.proofs.CanonicalLaws.{twice}
 use Rattle.si_form.proofs.FoldedLaws.{images_inside}
-use Rattle.si_form.proofs.GeneralLaws.{Solves, HasUnifiers, general_unifies}
-use Rattle.si_form.proofs.UnifierLaws.{sequence_is}
+use Rattle.si_form.proofs.GeneralLaws.{Solves, HasUnifiers}
 
 abbrev pub Equations : Type 0 → Type 0 → Type 0
 Equations S V = List (Term S V × Term S V)
@@ -27,7 +25,7 @@ module _ {S V : Type 0} (f : V → Term S V) where
     size_inside (var x) y a = elim a [ inl e ↦ (let same : size (f x) ≡ size (f y) = ap (λ z. size (f z)) e in omega (arith, same)) | inr n ↦ elim n [ ] ]
     size_inside (app s ts) y a = let r = sizes_inside ts y a in omega (arith, r)
 
-    sizes_inside : (ts : Terms S V) (y : V) → IsAmong (variables_of_all ts) y → size (f y) ≤ sizes (substitute_all f ts)
+    pub sizes_inside : (ts : Terms S V) (y : V) → IsAmong (variables_of_all ts) y → size (f y) ≤ sizes (substitute_all f ts)
     sizes_inside none y a = elim a [ ]
     sizes_inside (more t ts) y a =
         elim (among_parts (variables t) (variables_of_all ts) y a) [
@@ -49,7 +47,7 @@ module _ {V : Type 0} (p : V → Bool) where
       by true r = omega (arith, r)
       by false r = omega (arith, r)
 
-  filter_shorter : (xs : List V) (y : V) → IsAmong xs y → p y ≡ false → length (filter p xs) < length xs
+  pub filter_shorter : (xs : List V) (y : V) → IsAmong xs y → p y ≡ false → length (filter p xs) < length xs
   filter_shorter [] y a f = elim a [ ]
   filter_shorter (x ∷ xs) y a f = by (p x) refl a (filter_no_longer xs) (λ b. filter_shorter xs y b f)
     where
@@ -276,7 +274,7 @@ module _ {S V : Type 0} (same : V → V → Bool) (tells : (x y : V) → same x 
   solved_below f (suc n) xs es few known h = by_weight f n (solved_below f n) (suc (weight es)) xs es few (omega arith) known h
 
   -- two terms that can be unified have a list whose solutions are their unifiers
-  pub has_unifiers : (q e : Term S V) (s : Substitution S V) → Unifies same q e s → (bs : List (V × Term S V)) × HasUnifiers same tells itself q e bs
+  pub has_unifiers : (q e : Term S V) (s : Substitution S V) → Unifies same q e s → (bs : List (V × Term S V)) × HasUnifiers same tells itself q e bs × AllByRecursion (λ b. AllByRecursion (IsAmong (order same q e)) (variables b.1)) bs
   has_unifiers q e s h =
       let xs = variables q ++ variables e in
       let solved =
@@ -294,13 +292,6 @@ module _ {S V : Type 0} (same : V → V → Bool) (tells : (x y : V) → same x 
           every = λ u k. solved.1.every (image same u) (k, tt);
           only = λ u k. (solved.1.only (image same u) k).0;
         },
-      )
-
-  pub most_general : (q e : Term S V) (s : Substitution S V) → Unifies same q e s → (bs : List (V × Term S V)) × IsTriangular same bs × Achieves same Unifiable q e bs × IsMostGeneral same q e bs
-  most_general q e s h =
-      let found = has_unifiers q e s h in (
-        found.0,
-        found.1.triangular,
-        sequence_is same tells itself found.0 q ∙ general_unifies same tells itself q e found.0 found.1 ∙ sym (sequence_is same tells itself found.0 e),
-        found.1.every,
+        all_weaker (λ b. IsAmong xs b.0 × AllByRecursion (IsAmong xs) (variables b.1)) (λ b. AllByRecursion (IsAmong (order same q e)) (variables b.1)) solved.0
+            (λ b k. all_weaker (IsAmong xs) (IsAmong (order same q e)) (variables b.1) (λ x a. among_firsts same tells xs x a) k.1) solved.1.known,
       )

@@ -4,9 +4,8 @@ use Rattle.si_defs.specs.Clauses.{Clause, Term, Pattern}
 use Rattle.si_defs.specs.Entries.{Entry, Placed}
 use Rattle.si_defs.specs.Variables.{same_variable, pattern_term, entry_term, Solution}
 use Rattle.si_defs.specs.declared.Relation.{Relation}
-use Rattle.si_defs.specs.declared.Relation.TheVariants.{Unifiable}
 use Rattle.si_defs.specs.Relations.{Relates}
-use Rattle.si_defs.specs.Solutions.{IsTriangular, Achieves, IsMostGeneral, IsCanonical}
+use Rattle.si_defs.specs.Solutions.{IsCanonical}
 use Rattle.si_state.specs.Answers.{Stands, Solves, Hit, IsAnswer}
 
 -- exactly one list is so
@@ -25,17 +24,13 @@ HasExactlyOneSolution kind =
     (pattern : Pattern) (entry : Entry) → Stands kind pattern entry
     → IsOfOne (Solves kind pattern entry)
 
--- It isn't so that a pattern has no answer among some entries. (Which of them stand in the relation
--- isn't decided here.)
+-- it isn't so that there is none
+abbrev pub IsNotAbsent : Type 0 → Type 0
+IsNotAbsent P = (P → ⊥) → ⊥
+
+-- A pattern has an answer among any entries. (Which of them stand in the relation isn't decided
+-- here.)
 abbrev pub HasAnAnswer : Relation → Type 0
 HasAnAnswer kind =
     (pattern : Pattern) (entries : List (Clause × Placed))
-    → ((hits : List Hit) → IsAnswer kind pattern entries hits → ⊥) → ⊥
-
--- Terms that can be unified have a most general unifier as a triangular list (Robinson 1965).
-abbrev pub HasAMostGeneralList : Term → Term → Type 0
-HasAMostGeneralList p u =
-    Relates same_variable Unifiable (pattern_term p) (entry_term u)
-    → (list : Solution) × IsTriangular same_variable list
-    × Achieves same_variable Unifiable (pattern_term p) (entry_term u) list
-    × IsMostGeneral same_variable (pattern_term p) (entry_term u) list
+    → IsNotAbsent ((hits : List Hit) × IsAnswer kind pattern entries hits)

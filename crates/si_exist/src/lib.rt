@@ -2,35 +2,51 @@
 //! contract is a law.
 #![tactic(auto)]
 
-ghost use Rattle.si_defs.specs.declared.Relation.TheVariants.{Variants, Instances, Generalizations};
-ghost use Rattle.si_exist.specs.OneList.{HasExactlyOneList, HasExactlyOneSolution};
-ghost use Rattle.si_exist.specs.OneList.{HasAnAnswer, HasAMostGeneralList};
-ghost use Rattle.si_defs.specs.Clauses.{Term};
+ghost use Rattle.std.specs.Prelude.{List, Option};
+ghost use Rattle.si_defs.specs.Bytes.{Bytes};
+ghost use Rattle.si_defs.specs.declared.Relation.{Relation};
+ghost use Rattle.si_state.specs.States.{State};
+ghost use Rattle.si_state.specs.Harvest.{Files};
+ghost use Rattle.si_steps.specs.Settings.{Setting};
+ghost use Rattle.si_steps.specs.Runs.{Request};
+ghost use Rattle.si_laws.specs.OneReply.{OneRightRun};
+ghost use Rattle.si_exist.specs.OneList.{HasExactlyOneList, HasExactlyOneSolution, HasAnAnswer};
+ghost use Rattle.si_exist.specs.RightReplies.{HasRightStep, HasRightWord, HasRightRun};
 
-/// A pattern's term and an entry's, one of which matches the other, have exactly one canonical list
-/// of this relation.
-pub fn matches_have_one_list()
-    ensures variants { HasExactlyOneList Variants }
-    ensures instances { HasExactlyOneList Instances }
-    ensures generalizations { HasExactlyOneList Generalizations }
+/// A pattern's term and an entry's that stand in a relation have exactly one canonical list of it.
+pub fn terms_have_one_list()
+    ensures { (relation : Relation) → HasExactlyOneList relation }
 {}
 
 /// So have a pattern and an entry.
-pub fn matches_have_one_solution()
-    ensures variants { HasExactlyOneSolution Variants }
-    ensures instances { HasExactlyOneSolution Instances }
-    ensures generalizations { HasExactlyOneSolution Generalizations }
+pub fn entries_have_one_solution()
+    ensures { (relation : Relation) → HasExactlyOneSolution relation }
 {}
 
-/// So a pattern has an answer among any entries.
-pub fn matches_have_an_answer()
-    ensures variants { HasAnAnswer Variants }
-    ensures instances { HasAnAnswer Instances }
-    ensures generalizations { HasAnAnswer Generalizations }
+/// So it isn't so that a pattern has no answer among some entries.
+pub fn patterns_have_an_answer()
+    ensures { (relation : Relation) → HasAnAnswer relation }
 {}
 
-/// A pattern's term and an entry's that can be unified have a most general unifier, as a triangular
-/// list.
-pub fn unifiable_terms_have_a_most_general_list()
-    ensures { (p u : Term) → HasAMostGeneralList p u }
+/// Nor that a line has no right step, one that tells no failure of the library, whatever the
+/// limits, the rules of acceptance, the kept clauses and the files are.
+pub fn lines_have_a_right_step()
+    ensures { (setting : Setting) (told : Option Files) (state : State) (line : Bytes)
+        → HasRightStep setting told state line }
+{}
+
+/// Nor that a word has none, whether it names a file or not.
+pub fn words_have_a_right_step()
+    ensures { (setting : Setting) (told : Option Files) (state : State) (word : Bytes)
+        → HasRightWord setting told state word }
+{}
+
+/// The words and lines of a session have exactly one list of right replies, numbers of nodes aside,
+/// and one right state after them, where the library tells its files and doesn't fail: it isn't so
+/// that there is none, and any two are alike.
+pub fn sessions_have_exactly_one_right_run()
+    ensures some { (setting : Setting) (files : Files) (requests : List Request)
+        → HasRightRun setting files requests }
+    ensures alike { (setting : Setting) (files : Files) (requests : List Request)
+        → OneRightRun setting files requests }
 {}

@@ -9,4 +9,4 @@ mod SampleLaws
 mod OutcomeLaws
 mod CommandLaws
 mod StepLaws
-mod RunLaws
+pub mod RunLaws

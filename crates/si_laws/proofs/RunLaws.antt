@@ -1,7 +1,7 @@
 -- Runs stay consistent, and of right replies to some requests there is at most one list.
 use Rattle.std.proofs.Common.{◌≡◌, ℕ, Bool, List, [], ◌∷◌, Option, Some, sym, ◌∙◌, subst}
 use Rattle.si_defs.specs.Bytes.{Bytes}
-use Rattle.si_state.specs.States.{State}
+use Rattle.si_state.specs.States.{State, empty_state}
 use Rattle.si_state.specs.Harvest.{Files}
 use Rattle.si_steps.specs.Settings.{Setting}
 use Rattle.si_steps.specs.Loads.{Owed}
@@ -9,9 +9,10 @@ use Rattle.si_steps.specs.Replies.{Reply}
 use Rattle.si_steps.specs.Steps.{Step, right, memory_at_once, memory_behind}
 use Rattle.si_steps.specs.FileWords.{RightWord, nameless, named, WordStep, right_word, no_memory}
 use Rattle.si_steps.specs.Runs.{Request, a_word, a_line, Acts, Run}
-use Rattle.si_laws.specs.OneReply.{IsConsistent, OneRightWord, TellsNoFailure, RightlyActs, RightRun, AreAlikeAt, AreAllAlike}
+use Rattle.si_laws.specs.OneReply.{IsConsistent, OneRightWord, TellsNoFailure, RightlyActs, RightRun, AreAlikeAt, AreAllAlike, OneRightRun}
 use Rattle.si_laws.proofs.CommandLaws.{one_meaning}
 use Rattle.si_laws.proofs.OutcomeLaws.{step_stays, load_stays, one_load}
+use Rattle.si_laws.proofs.StateLaws.{consistent_none}
 use Rattle.si_laws.proofs.StepLaws.{one_step}
 
 -- ---- words
@@ -63,7 +64,7 @@ replies_begin : (request : Request) (requests : List Request) (replies others re
 replies_begin request requests replies others rest more reply other e f same left =
     subst (λ l. AreAllAlike (request ∷ requests) l others) (sym e) (subst (AreAllAlike (request ∷ requests) (reply ∷ rest)) (sym f) (same, left))
 
-pub one_run : (setting : Setting) (files : Files) (state : State) (requests : List Request) (replies others : List Reply) (new behind : State) → IsConsistent state.clauses
+one_run : (setting : Setting) (files : Files) (state : State) (requests : List Request) (replies others : List Reply) (new behind : State) → IsConsistent state.clauses
     → RightRun setting files state requests replies new → RightRun setting files state requests others behind → AreAllAlike requests replies others × (new ≡ behind)
 one_run setting files state [] replies others new behind is run again =
     (subst (λ l. AreAllAlike [] l others) (sym run.0) (subst (AreAllAlike [] []) (sym again.0) tt), run.1 ∙ sym again.1)
@@ -73,3 +74,6 @@ one_run setting files state (request ∷ requests) replies others new behind is 
     one_run setting files next requests rest more new behind (right_act_stays setting files state request reply owed next is acts) run
     (subst (λ s. RightRun setting files s requests more behind) (sym same.1) again) in
     (replies_begin request requests replies others rest more reply told whole whole_too same.0 left.0, left.1)
+
+pub one_session : (setting : Setting) (files : Files) (requests : List Request) → OneRightRun setting files requests
+one_session setting files requests replies others new behind run again = one_run setting files empty_state requests replies others new behind consistent_none run again

@@ -1,7 +1,7 @@
 //! Laws over the definitions alone. Each function does nothing: its contract is a law.
 #![tactic(auto)]
 
-ghost use Rattle.si_laws.specs.OneReply.{IsConsistent, HasOneOutcome, LoadsToOneOutcome, HasOneMeaning, OneRightStep, LoadsNothing, OneStepOfAnyLibrary, OneRightWord, OneRightRun, StaysConsistent};
+ghost use Rattle.si_laws.specs.OneReply.{IsConsistent, HasOneOutcome, LoadsToOneOutcome, HasOneMeaning, OneRightStep, LoadsNothing, OneStepOfAnyLibrary, OneRightWord, StaysConsistent};
 ghost use Rattle.si_defs.specs.Bytes.{Bytes};
 ghost use Rattle.si_defs.specs.Clauses.{Clause, Pattern};
 ghost use Rattle.si_defs.specs.Entries.{Placed};
@@ -75,11 +75,4 @@ pub fn runs_stay_consistent()
 pub fn words_have_one_right_step()
     ensures { (setting : Setting) (files : Files) (state : State) (word : Bytes)
         → IsConsistent state.clauses → OneRightWord setting files state word }
-{}
-
-/// The words and lines of a session have at most one list of right replies, numbers of nodes aside,
-/// and one right state after them, where the library tells its files and doesn't fail.
-pub fn sessions_have_one_right_run()
-    ensures { (setting : Setting) (files : Files) (requests : List Request)
-        → OneRightRun setting files requests }
 {}

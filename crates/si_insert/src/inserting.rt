@@ -11,7 +11,8 @@ use si_tree::{Head, NodeId, Posting, Tree, head_of};
 use std::alloc::{AllocError, Global};
 
 /// Puts a posting last under a term, and answers the leaf that has it. At an error the stored
-/// postings are as before. Where a split has no numbers for its indicators, all are numbered anew.
+/// postings are as before. Indicators are numbered anew where that is due, and where a split has no
+/// numbers for them.
 pub fn insert(
     alloc: Global,
     openings: &mut Openings,
@@ -38,6 +39,7 @@ pub fn insert_cells(
     ensures ok { IfOk result (λ leaf. Inserts tree.old tree.new cells.now posting leaf) }
     ensures err { OnErr result (KeepsAll tree.old tree.new) }
 {
+    renumber_if_due(alloc, tree);
     let placed = place(alloc, openings, tree, cells, posting)?;
     if let Some(leaf) = placed {
         return Ok(leaf);
@@ -48,6 +50,16 @@ pub fn insert_cells(
         return Err(AllocError);
     };
     Ok(leaf)
+}
+
+// Numbers the indicators anew, where that is due and there is memory for it.
+fn renumber_if_due(alloc: Global, tree: &mut Tree)
+    ensures { KeepsAll tree.old tree.new }
+{
+    if !tree.should_renumber() {
+        return;
+    }
+    let _ = tree.renumber(alloc);
 }
 
 // Puts the posting under the term, if no split is in want of numbers. Else, and at an error, the

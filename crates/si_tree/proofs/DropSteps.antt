@@ -81,6 +81,7 @@ without_leaf old nodes = record {
   vars = old.vars;
   leaves = old.leaves - 1;
   unmerged = old.unmerged - 1;
+  renumbered_next = old.renumbered_next;
 }
 
 -- the parent, and the node that is its child

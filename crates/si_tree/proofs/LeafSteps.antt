@@ -277,6 +277,7 @@ written_leaf old between at m vars leaves = record {
   vars = vars;
   leaves = leaves;
   unmerged = old.unmerged;
+  renumbered_next = old.renumbered_next;
 }
 
 pub links_written : (old : Inside) (made between : Slab TreeNode) (parent at key : ℕ) (l n m : TreeNode) (head : Head) (p : Posting) (vars leaves : ℕ) → at ≡ parent → get made key ≡ None → Updates made between key (Some l) → get between at ≡ Some n → GainsChild n m head key → l.parent ≡ Some parent → content_of l.content ≡ leaf (p ∷ []) → vars ≡ max old.vars (beyond_rights l.bindings) → LinksLeaf (with_nodes old made) (written_leaf old between at m vars leaves) parent key l n m head p

@@ -174,6 +174,7 @@ written old key m unmerged = record {
   vars = old.vars;
   leaves = old.leaves;
   unmerged = unmerged;
+  renumbered_next = old.renumbered_next;
 }
 
 pub change_written : (old : Inside) (tree : Tree Term) (key named : ℕ) (n m : TreeNode) (node : Node Term) (ps : List Posting) (unmerged : ℕ) → tree_of old ≡ tree → key ≡ named → get old.nodes key ≡ Some n → HasNode tree named node → node.content ≡ leaf ps → IsSameBut n m → ChangesLeaf old (written old key m unmerged) key n m

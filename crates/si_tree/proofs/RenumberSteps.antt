@@ -83,6 +83,16 @@ renumbered_inside old r = record {
   vars = old.vars;
   leaves = old.leaves;
   unmerged = old.unmerged;
+  renumbered_next = r.next;
+}
+
+pub kept_still : (old : Inside) (next : ℕ) → IsKept old → IsKept (record old { renumbered_next = next })
+kept_still old next kept = record {
+  legal = kept.legal;
+  whole = kept.whole;
+  heads = kept.heads;
+  leaves = kept.leaves;
+  unmerged = kept.unmerged;
 }
 
 module _ (old : Inside) (kept : IsKept old) (r : Renumbering) (h : IsRenumbering (tree_of old) r) where

@@ -61,6 +61,7 @@ with_nodes old nodes = record {
   vars = old.vars;
   leaves = old.leaves;
   unmerged = old.unmerged;
+  renumbered_next = old.renumbered_next;
 }
 
 pub room_tree : (old : Inside) (nodes : Slab TreeNode) (key : ℕ) → StaySame old.nodes nodes key → tree_of (with_nodes old nodes) ≡ tree_of old

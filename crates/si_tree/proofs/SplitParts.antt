@@ -76,4 +76,5 @@ made_split old nodes next vars = record {
   vars = vars;
   leaves = old.leaves + 1;
   unmerged = old.unmerged;
+  renumbered_next = old.renumbered_next;
 }

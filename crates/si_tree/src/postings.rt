@@ -1,5 +1,5 @@
 // The postings of a leaf.
-ghost use Rattle.std.specs.Prelude.{◌≡◌, ◌<◌, [], ◌∷◌, ◌++◌, IfOk, OnErr, OnOk, Some, length, slice_get};
+ghost use Rattle.std.specs.Prelude.{◌≡◌, ◌<◌, ◌≤◌, [], ◌∷◌, ◌++◌, IfOk, OnErr, OnOk, Some, length, slice_get};
 ghost use Rattle.std.specs.List.{remove};
 ghost use Rattle.si_defs.specs.Substitutions.{IsAmong};
 ghost use Rattle.si_tree.specs.Changes.{IsWithout};
@@ -91,8 +91,40 @@ impl Postings {
     }
 }
 
-// A place of a posting, sought from both ends.
+// A place of a posting. Most lists rise, as keys do, so it is sought by halves first.
 fn place_of(postings: &[Posting], posting: Posting) -> usize
+    requires { IsAmong postings.now posting }
+    ensures { slice_get postings.now result ≡ Some posting }
+{
+    let likely = place_if_rising(postings, posting);
+    if likely < postings.len() && postings[likely] == posting {
+        return likely;
+    }
+    place_from_ends(postings, posting)
+}
+
+// The place of a posting in a list that rises. In another one it is some place, or the end.
+fn place_if_rising(postings: &[Posting], posting: Posting) -> usize
+    ensures { result ≤ length postings.now }
+{
+    let mut low = 0;
+    let mut high = postings.len();
+    while low < high {
+        let middle = low + (high - low) / 2;
+        let item = postings[middle];
+        if item.clause < posting.clause
+            || item.clause == posting.clause && item.entry < posting.entry
+        {
+            low = middle + 1;
+        } else {
+            high = middle;
+        }
+    }
+    low
+}
+
+// A place of a posting, sought from both ends.
+fn place_from_ends(postings: &[Posting], posting: Posting) -> usize
     requires { IsAmong postings.now posting }
     ensures { slice_get postings.now result ≡ Some posting }
 {

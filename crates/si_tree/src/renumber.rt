@@ -11,6 +11,9 @@ use si_flat::Bindings;
 use slab::Slab;
 use std::alloc::{AllocError, Global};
 
+// As few numbers as these are never worth a renumbering.
+const SPARE_NUMBERS: u64 = 256;
+
 // A node that is to be numbered, and how many indicators are opened above it.
 #[derive(Clone, Copy)]
 struct Visit {
@@ -53,10 +56,20 @@ impl Tree {
         ensures ok { OnOk result (Renumbers self.old self.new) }
         ensures err { OnErr result (self.new ≡ self.old) }
     {
+        // Should it fail, it isn't due again before the numbers have doubled.
+        self.renumbered_next = self.next;
         let Renumbering { nodes, next } = self.renumbering(alloc)?;
         exchange(&mut self.nodes, nodes);
         self.next = next;
+        self.renumbered_next = next;
         Ok(())
+    }
+
+    /// Whether so many numbers were given since the last renumbering that the next one costs but a
+    /// constant for each of them.
+    pub fn should_renumber(&self) -> bool {
+        let spare = 2 * u64::from(self.renumbered_next) + SPARE_NUMBERS;
+        u64::from(self.next) > spare.saturating_add(self.nodes.len() as u64)
     }
 
     // What all nodes are to have.

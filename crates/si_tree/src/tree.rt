@@ -29,6 +29,8 @@ pub struct Tree {
     pub(crate) vars: u32,
     pub(crate) leaves: u64,
     pub(crate) unmerged: u64,
+    // `next` after the last renumbering, or at one that found no memory.
+    pub(crate) renumbered_next: u32,
 }
 
 impl Model for Tree {
@@ -65,6 +67,7 @@ impl Tree {
             vars: 0,
             leaves: 0,
             unmerged: 0,
+            renumbered_next: 1,
         })
     }
 

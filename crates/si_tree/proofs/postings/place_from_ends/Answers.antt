@@ -3,7 +3,7 @@ use Rattle.std.proofs.lemmas.List.{take_more}
 use Rattle.si_defs.specs.Substitutions.{IsAmong}
 use Rattle.si_defs.proofs.ListLaws.{among_either}
 use Rattle.si_tree.proofs.PostingLists.{not_same}
-use Rattle.si_tree.proofs.postings.place_of.Goals as goal
+use Rattle.si_tree.proofs.postings.place_from_ends.Goals as goal
 
 pub loop-place-preserved : goal.loop-place-preserved
 loop-place-preserved c among =

@@ -1,7 +1,7 @@
 -- What was found is counted, turn by turn.
-use Rattle.std.proofs.Common.{◌≡◌, ℕ, ◌+◌, ◌-◌, ◌^◌, ◌<◌, ◌≤◌, min, List, [], ◌∷◌, ◌++◌, length, take, slice_get, Option, Some, refl, ap, sym, ◌∙◌, subst, arith}
+use Rattle.std.proofs.Common.{◌≡◌, ℕ, ◌+◌, ◌^◌, ◌<◌, ◌≤◌, List, [], ◌++◌, length, Some, ap, sym, ◌∙◌, subst, arith}
 use Rattle.std.proofs.lemmas.List.{length-append}
-use Rattle.si_flat.specs.Cells.{Term, StandsFor}
+use Rattle.si_flat.specs.Cells.{Term}
 use Rattle.si_legal.specs.declared.Posting.{Posting}
 use Rattle.si_defs.specs.declared.Relation.{Relation}
 use Rattle.si_flat.specs.declared.Cell.{Cell}
@@ -15,11 +15,11 @@ use Rattle.si_descend.specs.declared.counting.Counted.{Counted}
 use Rattle.si_descend.specs.declared.search.Search.{Search}
 use Rattle.si_descend.specs.Counting.{at_most, HasCounted, HasCountedBelow, CountsAnswers}
 use Rattle.si_descend.specs.Searching.{IsReady, HasComeTo, IsOpenAt, IsClosedAt, HasFound, HasFoundBelow}
-use Rattle.si_descend.proofs.Visiting.{found_closed, found_open, AreSiblings, none_yet, one_child_more, all_children, few_below, few_found}
-use Rattle.si_descend.proofs.HeadLaws.{none_found}
-use Rattle.si_descend.proofs.Below.{IsChildOf}
-use Rattle.si_descend.specs.Heads.{IsWanted, RulesOut}
-use Rattle.si_descend.specs.declared.heads.Wanted.{Wanted}
+use Rattle.si_descend.proofs.Visiting.{found_closed, found_open, none_yet, few_below, few_found}
+use Rattle.si_descend.proofs.AttemptLaws.{IsUnderway, found_more, found_all}
+use Rattle.si_descend.specs.Heads.{IsWanted}
+use Rattle.si_descend.specs.Attempts.{IsTried, AreAttempts}
+use Rattle.si_descend.specs.declared.attempts.Attempts.{Attempts}
 use Rattle.si_unify.specs.Solving.{Pairs}
 
 -- the same answers behind others
@@ -52,38 +52,33 @@ module _ (s : Search) (ready : IsReady s) (key : ℕ) (node : Node Term) (has : 
     g ∙ ap (λ n. at_most (n + length own)) e ∙ own_at_most (length found) (length own) (length (own ++ found)) small (length-append own found),
   )
 
-  pub counted_none : (children : List ℕ) (c : Counted) → c.passed ≡ 0 → c.answers ≡ 0 → HasCountedBelow s (take 0 children) c
-  counted_none children c e f = ([], subst (HasFoundBelow s (take 0 children) [] []) (sym e) (none_yet s ready key node has children []), f ∙ none) where
+  -- ---- its children
+  module _ (a : Attempts) (are : AreAttempts s key a) where
+    pub counted_more : (place child : ℕ) (old more c : Counted) → place < a.end → IsTried s key a place child → IsUnderway s key a place (λ tried. HasCountedBelow s tried old) → HasCounted s child more → c.passed ≡ old.passed + more.passed → c.answers ≡ at_most (old.answers + more.answers) → IsUnderway s key a (place + 1) (λ tried. HasCountedBelow s tried c)
+    counted_more place child old more c within t (tried, were, (found, h, k)) (new, g, l) f d =
+        let all = found_more s ready key node has a are place child [] found (found ++ new) old.passed more.passed within t (tried, were, h) (found_behind s child found new more.passed g) in (
+          all.0,
+          all.1,
+          (
+            found ++ new,
+            subst (HasFoundBelow s all.0 [] (found ++ new)) (sym f) all.2,
+            d ∙ ap (λ n. at_most (n + more.answers)) k ∙ ap (λ n. at_most (at_most (length found) + n)) l ∙ sum_at_most (length found) (length new) (length (found ++ new)) (length-append found new),
+          ),
+        )
+
+    pub counted_all : (pairs : Pairs) → HasComeTo s (Some key) pairs → IsWanted s key pairs a.wanted → (place : ℕ) (c : Counted) → a.end ≤ place → IsUnderway s key a place (λ tried. HasCountedBelow s tried c) → HasCountedBelow s (children_of node.content) c
+    counted_all pairs there wanted place c through (tried, were, (found, h, e)) = (found, found_all s ready key node has a are pairs there wanted place [] found c.passed through (tried, were, h), e)
+
+  pub counted_none : (c : Counted) → c.passed ≡ 0 → c.answers ≡ 0 → HasCountedBelow s [] c
+  counted_none c e f = ([], subst (HasFoundBelow s [] [] []) (sym e) (none_yet s ready []), f ∙ none) where
     none : 0 ≡ at_most 0
     none = omega arith
-
-  pub counted_more : (children : List ℕ) (i child : ℕ) (old more c : Counted) → AreSiblings s ready key node has children → slice_get children i ≡ Some child → HasCountedBelow s (take i children) old → HasCounted s child more → c.passed ≡ old.passed + more.passed → c.answers ≡ at_most (old.answers + more.answers) → HasCountedBelow s (take (i + 1) children) c
-  counted_more children i child old more c are e (found, h, k) (new, g, l) f d = (
-    found ++ new,
-    subst (HasFoundBelow s (take (i + 1) children) [] (found ++ new)) (sym f) (one_child_more s ready key node has children i child [] found (found ++ new) old.passed more.passed are e h (found_behind s child found new more.passed g)),
-    d ∙ ap (λ n. at_most (n + more.answers)) k ∙ ap (λ n. at_most (at_most (length found) + n)) l ∙ sum_at_most (length found) (length new) (length (found ++ new)) (length-append found new),
-  )
-
-  pub counted_all : (children : List ℕ) (i : ℕ) (c : Counted) → length children ≤ i → HasCountedBelow s (take i children) c → HasCountedBelow s children c
-  counted_all children i c long (found, h, e) = (found, all_children s ready key node has children i [] found c.passed long h, e)
 
   pub few_counted : (tops : List ℕ) (c : Counted) → HasCountedBelow s tops c → c.passed < 2 ^ 64
   few_counted tops c (found, h, e) = few_below s ready tops [] found c.passed h
 
   pub few_counted_at : (top : ℕ) (c : Counted) → HasCounted s top c → c.passed < 2 ^ 64
   few_counted_at top c (found, h, e) = few_found s ready top [] found c.passed h
-
-  -- a child that isn't visited
-  pub counted_not : (child : ℕ) (is : IsChildOf s.tree.now key child) (pairs : Pairs) → HasComeTo s (Some key) pairs → (w : Option Wanted) → IsWanted s key pairs w → RulesOut s w child → HasCounted s child (record { passed = 0; answers = 0 })
-  counted_not child is pairs there w wanted out = ([], none_found s ready key child is pairs there w wanted out [], zero_left) where
-    zero_left : 0 ≡ at_most 0
-    zero_left = omega arith
-
-  pub passed_more : (n : ℕ) → n ≡ n + 0
-  passed_more n = omega arith
-
-  pub answers_more : (n : ℕ) (tops : List ℕ) (m : ℕ) → HasCountedBelow s tops (record { passed = m; answers = n }) → n ≡ at_most (n + 0)
-  answers_more n tops m (found, h, e) = omega (arith, e)
 
 -- ---- the whole tree
 pub counted_answers : (s : Search) (tree : Tree Term) (kind : Relation) (cells : List Cell) (root : ℕ) (c : Counted) → IsLegal tree → s.tree.now ≡ tree → s.kind ≡ kind → s.query.now ≡ cells → root ≡ tree.root → HasCounted s root c → CountsAnswers tree kind cells c

@@ -16,7 +16,7 @@ use Rattle.si_legal.specs.OpenNodes.{RenamesEntry}
 use Rattle.si_changes.proofs.Frames.{legal_nodes}
 use Rattle.si_descend.specs.declared.search.Search.{Search}
 use Rattle.si_descend.specs.Descending.{Freezes, HasRoom, Renames}
-use Rattle.si_descend.specs.Fitting.{AllowsSolving, HasFitted}
+use Rattle.si_fit.specs.Fitting.{AllowsSolving, HasFitted}
 use Rattle.si_descend.specs.Renaming.{FreezesQuery, bound_variables, IsRenaming, IsRenamingFirst}
 use Rattle.si_descend.specs.Searching.{IsReady, KeepsApart, HasComeTo, HasEntered, IsOpenAt, IsClosedAt}
 use Rattle.si_descend.proofs.Entering.{numbered, entered_shows, entered_open, open_entered}

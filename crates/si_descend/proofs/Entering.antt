@@ -22,7 +22,7 @@ use Rattle.si_changes.proofs.Frames.{legal_nodes}
 use Rattle.si_changes.proofs.StoredLaws.{path_start}
 use Rattle.si_descend.specs.declared.search.Search.{Search}
 use Rattle.si_descend.specs.Descending.{HasRoom, SolvesFrom, ShowsPath, Renames}
-use Rattle.si_descend.specs.Fitting.{AreRowsInRange, EqualizesRows, HasFitted, HasSolution}
+use Rattle.si_fit.specs.Fitting.{AreRowsInRange, EqualizesRows, HasFitted, HasSolution}
 use Rattle.si_descend.specs.Searching.{IsReady, HasComeTo, IsOpenAt, IsClosedAt}
 use Rattle.si_descend.proofs.Openness.{open_solved, solved_open}
 

@@ -9,7 +9,7 @@ module _ {X : Type 0} where
     pub distinct : AreDistinct xs
     pub exact : (x : X) → IsAmong xs x ↔ P x
 
-  distinct_both : (xs ys : List X) → AreDistinct xs → AreDistinct ys → ((x : X) → IsAmong xs x → IsAmong ys x → ⊥) → AreDistinct (xs ++ ys)
+  pub distinct_both : (xs ys : List X) → AreDistinct xs → AreDistinct ys → ((x : X) → IsAmong xs x → IsAmong ys x → ⊥) → AreDistinct (xs ++ ys)
   distinct_both [] ys d e apart = e
   distinct_both (x ∷ xs) ys d e apart = (
     λ a. elim (among_parts xs ys x a) as (λ _. ⊥) [ inl b ↦ d.0 b | inr b ↦ apart x (inl refl) b ],

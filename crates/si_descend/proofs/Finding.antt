@@ -1,21 +1,20 @@
 -- What is open and what is answered below a node, from what is below its children.
-use Rattle.std.proofs.Common.{◌≡◌, ◌≢◌, ◌↔◌, ◌⊎◌, inl, inr, ℕ, ◌+◌, ◌≤◌, List, [], ◌∷◌, ◌++◌, Option, None, Some, length, refl, ap, sym, ◌∙◌, subst, arith, append_assoc, append-nil}
+use Rattle.std.proofs.Common.{◌≡◌, ◌↔◌, ◌⊎◌, inl, inr, ℕ, ◌+◌, ◌≤◌, List, [], ◌∷◌, ◌++◌, Option, Some, length, refl, ap, sym, ◌∙◌, subst, arith, append_assoc, append-nil}
 use Rattle.std.proofs.lemmas.List.{length-append}
 use Rattle.std.proofs.lemmas.Option.{same_Some}
 use Rattle.si_defs.specs.Substitutions.{IsAmong, AreDistinct}
-use Rattle.si_defs.specs.Relations.{Relates}
 use Rattle.si_defs.specs.declared.Relation.{Relation}
 use Rattle.si_defs.proofs.ListLaws.{among_front, among_back, among_either}
-use Rattle.si_flat.specs.Cells.{query, entry, same_variable, Term}
+use Rattle.si_flat.specs.Cells.{query, Term}
 use Rattle.si_flat.specs.Flattened.{IsNumberedBy}
 use Rattle.si_legal.specs.declared.Posting.{Posting}
 use Rattle.si_legal.specs.Counts.{node_count}
 use Rattle.si_legal.specs.Engines.{AreAnswers, AppendsAnswers}
-use Rattle.si_legal.specs.Trees.{inner, leaf, Node, Tree, HasNode, Path, IsPath, PassesBy, path_term, IsLeaf}
+use Rattle.si_legal.specs.Trees.{inner, leaf, Node, Tree, Path, IsPath, PassesBy, path_term, IsLeaf}
 use Rattle.si_legal.specs.Legal.{IsLegal, IsLeafTerm, IsLegalContent}
 use Rattle.si_legal.specs.Descents.{IsAnswer}
 use Rattle.si_legal.specs.OpenNodes.{IsOpen, IsOpenNode, CountsOpen}
-use Rattle.si_legal.proofs.PathLaws.{one_node, one_path}
+use Rattle.si_legal.proofs.PathLaws.{one_path}
 use Rattle.si_changes.proofs.Frames.{legal_nodes, differ_told}
 use Rattle.si_changes.proofs.OpenLaws.{path_node}
 use Rattle.si_changes.proofs.StoredLaws.{no_leaf_here, one_leaf}
@@ -23,7 +22,7 @@ use Rattle.si_descend.specs.Answers.{IsOpenBelowOne, CountsBelow, IsAnswerBelow}
 use Rattle.si_descend.proofs.Openness.{open_above}
 use Rattle.si_descend.proofs.AtLeaves.{open_relates}
 use Rattle.si_descend.proofs.ExactLists.{AreExactly, exactly_none, exactly_one, exactly_both, exactly_same}
-use Rattle.si_descend.proofs.Below.{IsChildOf, passes_first, passes_child, child_passes, no_child_above, one_child, few_keys}
+use Rattle.si_descend.proofs.Below.{IsChildOf, passes_child, child_passes, no_child_above, one_child, few_keys}
 
 module _ (tree : Tree Term) (legal : IsLegal tree) (relation : Relation) (q : Term) (numbered : IsNumberedBy query q) where
   -- ---- upwards
@@ -55,6 +54,9 @@ module _ (tree : Tree Term) (legal : IsLegal tree) (relation : Relation) (q : Te
   pub none_answered : (top : ℕ) (above : Path) → IsPath tree (Some top) above → (IsOpen relation q (path_term above) → ⊥) → (p : Posting) → IsAnswer tree top relation q p → ⊥
   none_answered top above there closed p h =
       closed (passed_open (Some h.key) ((h.key, h.leaf.node) ∷ h.leaf.above) top above h.leaf.reached there h.below (answer_open top p h))
+
+  abbrev pub IsClosedNode : ℕ → Type 0
+  IsClosedNode top = (above : Path) × IsPath tree (Some top) above × (IsOpen relation q (path_term above) → ⊥)
 
   -- ---- counts and lists
   pub counts : (top n : ℕ) → (keys : List ℕ) → AreExactly (IsOpenNode tree top relation q) keys → n ≡ length keys → CountsOpen tree top relation q n
@@ -131,6 +133,29 @@ module _ (tree : Tree Term) (legal : IsLegal tree) (relation : Relation) (q : Te
       are = answers (IsAnswerBelow tree (tops ++ top ∷ []) relation q) (c.answers ++ d.answers)
           (exactly_same (λ p. IsAnswerBelow tree tops relation q p ⊎ IsAnswer tree top relation q p) (IsAnswerBelow tree (tops ++ top ∷ []) relation q) (c.answers ++ d.answers) (λ p. either_way (λ t k. IsAnswer tree t relation q k) p)
           (exactly_both (IsAnswerBelow tree tops relation q) (IsAnswer tree top relation q) c.answers d.answers (exactly (IsAnswerBelow tree tops relation q) c.answers c.are) (exactly (IsAnswer tree top relation q) d.answers d.are) answered_apart));
+    }
+
+  -- ---- more nodes, that are closed
+  module _ (tops wider : List ℕ) (within : (child : ℕ) → IsAmong tops child → IsAmong wider child) (closed : (child : ℕ) → IsAmong wider child → IsAmong tops child ⊎ IsClosedNode child) where
+    no_other : {X : Type 0} (P : ℕ → X → Type 0) → ((child : ℕ) → IsClosedNode child → (x : X) → P child x → ⊥) → (x : X) → ((t : ℕ) × IsAmong tops t × P t x) ↔ ((t : ℕ) × IsAmong wider t × P t x)
+    no_other P none x = (
+      λ h. (h.0, within h.0 h.1, h.2),
+      λ h. elim (closed h.0 h.1) as (λ _. (t : ℕ) × IsAmong tops t × P t x) [
+        | inl a ↦ (h.0, a, h.2)
+        | inr c ↦ absurd (none h.0 c x h.2)
+      ],
+    )
+
+    pub counts_wider : (n : ℕ) → CountsBelow tree tops relation q n → CountsBelow tree wider relation q n
+    counts_wider n c =
+        let all = exactly_same (IsOpenBelowOne tree tops relation q) (IsOpenBelowOne tree wider relation q) c.0 (λ key. no_other (λ t k. IsOpenNode tree t relation q k) (λ child c. none_open child c.0 c.1 c.2) key) (counted_below tops n c) in
+        (c.0, all.distinct, all.exact, c.3)
+
+    pub appends_wider : (old last : List Posting) → AppendsAnswers (IsAnswerBelow tree tops relation q) old last → AppendsAnswers (IsAnswerBelow tree wider relation q) old last
+    appends_wider old last a = record {
+      answers = a.answers;
+      appended = a.appended;
+      are = answers (IsAnswerBelow tree wider relation q) a.answers (exactly_same (IsAnswerBelow tree tops relation q) (IsAnswerBelow tree wider relation q) a.answers (λ p. no_other (λ t k. IsAnswer tree t relation q k) (λ child c. none_answered child c.0 c.1 c.2) p) (exactly (IsAnswerBelow tree tops relation q) a.answers a.are));
     }
 
   -- ---- one node

@@ -17,7 +17,7 @@ use Rattle.si_unify.specs.Solving.{Pairs, slot_count, slot_of, variable_of, is_f
 use Rattle.si_unify.proofs.Lists.{apart_from}
 use Rattle.si_unify.proofs.Places.{variable_of-slot_of}
 use Rattle.si_unify.proofs.Solutions.{lt_tells, solved_of_triangular}
-use Rattle.si_descend.proofs.EndLaws.{lent}
+use Rattle.si_fit.proofs.EndLaws.{lent}
 
 -- ---- slots
 pub record IsSlot (slots : Slots) (k : ℕ) (x : Variable) : Type 0 where

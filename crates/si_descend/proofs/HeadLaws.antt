@@ -1,9 +1,8 @@
 -- A child whose head can't be that of the split is closed.
-use Rattle.std.proofs.Common.{◌≡◌, ◌↔◌, ◌+◌, ◌<◌, inl, inr, ℕ, Bool, true, false, not, IsTrue, List, [], ◌∷◌, Option, None, Some, get_or, refl, ap, sym, ◌∙◌, subst, arith}
-use Rattle.std.specs.List.{AllByRecursion}
+use Rattle.std.proofs.Common.{◌≡◌, ◌↔◌, ◌+◌, ◌<◌, inl, inr, ℕ, Bool, true, false, not, IsTrue, List, [], ◌∷◌, Option, None, Some, refl, ap, sym, ◌∙◌, subst, arith}
 use Rattle.std.specs.Borrow.{Bor}
 use Rattle.si_defs.specs.Terms as terms
-use Rattle.si_defs.specs.Substitutions.{Substitution, image, apply, IsAmong}
+use Rattle.si_defs.specs.Substitutions.{image, apply, IsAmong}
 use Rattle.si_defs.proofs.ListLaws.{all_at}
 use Rattle.si_flat.specs.declared.Cell.{Cell}
 use Rattle.si_flat.specs.declared.Cell.TheVariants as cell
@@ -11,28 +10,25 @@ use Rattle.si_flat.specs.Cells.{Symbol, Variable, query, entry, ind, same_variab
 use Rattle.si_flat.specs.Rows.{CellPair}
 use Rattle.si_trail.specs.Trails.{value_at}
 use Rattle.si_unify.specs.declared.slots.Slots.{Slots}
-use Rattle.si_unify.specs.Solving.{Pairs, IsBinding, IsSolution}
+use Rattle.si_unify.specs.Solving.{Pairs, IsBinding}
 use Rattle.si_legal.specs.Bindings.{Binding, indicator, StandForBindings}
-use Rattle.si_legal.specs.Trees.{Node, Tree, HasNode, Path, IsPath, path_term}
-use Rattle.si_legal.specs.Descents.{SolvesBindings}
+use Rattle.si_legal.specs.Trees.{Node, HasNode, IsPath, path_term}
 use Rattle.si_legal.specs.OpenNodes.{IsOpen}
 use Rattle.si_legal.proofs.PathLaws.{one_node}
 use Rattle.si_changes.proofs.Frames.{legal_nodes}
 use Rattle.si_changes.proofs.StoredLaws.{path_start}
 use Rattle.si_tree.specs.Reading.{AtNode, split_of}
-use Rattle.si_legal.specs.declared.Posting.{Posting}
 use Rattle.si_unify.proofs.Places.{all_at as value_holds}
-use Rattle.si_descend.specs.Ends.{EndsAt}
-use Rattle.si_descend.specs.Fitting.{AllowsSolving}
-use Rattle.si_descend.proofs.EndLaws.{value_same}
+use Rattle.si_fit.specs.Ends.{EndsAt}
+use Rattle.si_fit.specs.Fitting.{AllowsSolving}
+use Rattle.si_fit.proofs.EndLaws.{value_same}
 use Rattle.si_descend.specs.declared.heads.Wanted.{Wanted}
 use Rattle.si_descend.specs.declared.search.Search.{Search}
-use Rattle.si_descend.specs.Descending.{LeavesFrozen}
 use Rattle.si_descend.specs.Heads.{first_of, CannotMeet, IsSplitOf, IsWanted, IsKnownSplit, RulesOut}
-use Rattle.si_descend.specs.Searching.{IsReady, HasComeTo, IsClosedAt, HasFound}
+use Rattle.si_descend.specs.Searching.{IsReady, HasComeTo, IsClosedAt}
 use Rattle.si_descend.proofs.Below.{IsChildOf}
 use Rattle.si_descend.proofs.Openness.{open_solved}
-use Rattle.si_descend.proofs.Visiting.{query_numbered, found_closed}
+use Rattle.si_descend.proofs.Visiting.{query_numbered}
 
 -- ---- terms by their first cell
 is_app : (t : Term) (s a n : ℕ) → first_of (cells_of t) ≡ cell.App s a n → (ts : Terms) × (t ≡ terms.app (record { number = s; arity = a }) ts)
@@ -139,10 +135,14 @@ ruled_out search ready key child is pairs there (Some w) wanted out = λ q path 
     let s = open_solved search.tree.now (legal_nodes search.tree.now ready.legal) search.slots q (query_numbered search ready q h) (Some child) ((child, is.0) ∷ start.0) here search.kind ready.freezes (subst (λ p. IsOpen search.kind q (path_term p)) start.1 is_open) in
     let up : IsPath search.tree.now (Some key) start.0 = subst (λ k. IsPath search.tree.now k start.0) is.2 here.2 in
     let solution = (there.shows q start.0 h up s.map).1 (record { frozen = s.solves.frozen; zero = s.solves.zero; bindings = s.solves.bindings.1 }) in
-    let rows = out is.0 is.1 in
-    let right = row_binding rows.0 is.0.bindings w.split rows.2.0 rows.1 rows.2.1 in
-    let bound = all_at (λ b. apply same_variable s.map (indicator b.0) ≡ apply same_variable s.map b.1) is.0.bindings (w.split, right.0) s.solves.bindings.0 right.2 in
-    rows.2.2 s.map wanted.1.0 right.0 s.solves.frozen wanted.1.1 (ap first_of (sym right.1.cells_are)) (sym (wanted.1.2 s.map solution) ∙ bound)
+    let bound = all_at (λ b. apply same_variable s.map (indicator b.0) ≡ apply same_variable s.map b.1) is.0.bindings (w.split, out.0) s.solves.bindings.0 (subst (λ n. IsAmong n.bindings (w.split, out.0)) (one_node search.tree.now child out.1.0 is.0 out.1.1 is.1) out.1.2) in
+    out.2 s.map wanted.1.0 out.0 s.solves.frozen wanted.1.1 refl (sym (wanted.1.2 s.map solution) ∙ bound)
+
+-- a binding in cells tells so
+pub row_rules_out : (search : Search) (w : Wanted) (child : ℕ) (node : Node Term) → HasNode search.tree.now child node → (rows : List CellPair) → StandForBindings rows node.bindings → IsKnownSplit search.slots w rows → RulesOut search (Some w) child
+row_rules_out search w child node has rows stand (cells, among, cannot_meet) =
+    let right = row_binding rows node.bindings w.split cells stand among in
+    (right.0, (node, has, right.2), subst (CannotMeet search.slots w.first) (ap first_of right.1.cells_are) cannot_meet)
 
 -- ---- answers
 pub cannot : (slots : Slots) (a b one other : Cell) → one ≡ a → other ≡ b → CannotMeet slots a b → CannotMeet slots one other
@@ -183,10 +183,3 @@ known_split slots w rows left rest row right n first e h f g k i cannot_meet = (
   h (w.split, row.1) (subst (λ l. IsAmong l (w.split, row.1)) (sym e) (inl (λ j. ((sym f ∙ g) j, row.1)))),
   subst (CannotMeet slots w.first) (i ∙ ap first_of k) cannot_meet,
 )
-
--- ---- a child that isn't visited
-pub none_found : (search : Search) → IsReady search → (key child : ℕ) → (is : IsChildOf search.tree.now key child) → (pairs : Pairs) → HasComeTo search (Some key) pairs → (w : Option Wanted) → IsWanted search key pairs w → RulesOut search w child → (old : List Posting) → HasFound search child old old 0
-none_found search ready key child is pairs there w wanted out old = found_closed search ready child is.0 is.1 old (ruled_out search ready key child is pairs there w wanted out)
-
-pub none_more : (n : ℕ) → n + 0 ≡ n
-none_more n = omega arith

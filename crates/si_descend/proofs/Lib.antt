@@ -5,11 +5,9 @@ pub mod AtLeaves
 pub mod ExactLists
 pub mod Below
 pub mod Finding
-pub mod FitTurns
 pub mod Entering
 pub mod Depths
 pub mod Visiting
-pub mod EndLaws
 pub mod FreeLaws
 pub mod RenameLaws
 pub mod VariantLaws
@@ -17,4 +15,6 @@ pub mod Entered
 pub mod Starting
 pub mod Retrieving
 pub mod HeadLaws
+pub mod PlaceLaws
+pub mod AttemptLaws
 pub mod CountLaws

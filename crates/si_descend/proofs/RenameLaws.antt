@@ -1,32 +1,35 @@
 -- What becomes of the variables of an entry, binding by binding.
-use Rattle.std.proofs.Common.{◌≡◌, ◌↔◌, ◌⊎◌, inl, inr, ℕ, ◌+◌, ◌-◌, ◌<◌, ◌≤◌, zero, suc, Bool, true, false, not, IsTrue, List, [], ◌∷◌, ◌++◌, map, take, length, slice_get, get_or, refl, sym, ◌∙◌, ap, subst, arith, Option, None, Some}
+use Rattle.std.proofs.Common.{◌≡◌, ◌↔◌, ◌⊎◌, inl, inr, ℕ, ◌+◌, ◌-◌, ◌<◌, ◌≤◌, zero, suc, Bool, true, false, not, IsTrue, List, [], ◌∷◌, map, take, length, slice_get, get_or, refl, sym, ◌∙◌, ap, subst, arith, None, Some}
 use Rattle.std.proofs.lemmas.Bool.Decides.{eqb_tells}
 use Rattle.std.proofs.lemmas.Option.{same_Some}
-use Rattle.std.specs.List.{AllByRecursion}
 use Rattle.std.specs.Borrow.{Bor}
-use Rattle.std.specs.Prelude.{nat_lt}
 use Rattle.si_defs.specs.Terms as terms
 use Rattle.si_defs.specs.Substitutions.{Substitution, image, apply, IsAmong}
-use Rattle.si_defs.proofs.ListLaws.{all_got, get_among}
+use Rattle.si_defs.proofs.ListLaws.{all_got}
 use Rattle.si_flat.specs.declared.Cell.{Cell}
 use Rattle.si_flat.specs.declared.Cell.TheVariants as cell
-use Rattle.si_flat.specs.Cells.{Symbol, Variable, query, entry, ind, same_variable, Term, variable_cell, StandsFor}
+use Rattle.si_flat.specs.Cells.{Symbol, Variable, query, entry, ind, same_variable, Term}
 use Rattle.si_trail.specs.Trails.{value_at, HasDistinctSlots, IsSlotOf}
 use Rattle.si_unify.specs.declared.slots.Slots.{Slots}
-use Rattle.si_unify.specs.Solving.{Pairs, slot_count, slot_of, variable_of, is_frozen, IsInRange, CellIsInRange, AreInRange, IsBinding, IsAcyclic, IsSolution}
+use Rattle.si_unify.specs.Solving.{Pairs, slot_of, variable_of, is_frozen, IsInRange, CellIsInRange, AreInRange, IsSolution}
 use Rattle.si_unify.specs.Spots.{cell_slot, IsUnbound}
 use Rattle.si_unify.proofs.Lists.{apart_from}
-use Rattle.si_unify.proofs.Places.{whole_at, first_cell, cell-at, inside, in_range-at, in_range-variable}
+use Rattle.si_unify.proofs.Places.{whole_at, first_cell, cell-at, inside, in_range-at}
 use Rattle.si_unify.proofs.Solutions.{lt_tells}
 use Rattle.si_legal.specs.OpenNodes.{RenamesEntry}
 use Rattle.si_descend.specs.declared.variants.Became.{Became}
 use Rattle.si_descend.specs.declared.variants.Became.TheVariants.{NoEntry, Variable as Same, Term as Other}
-use Rattle.si_descend.specs.Ends.{EndsAt}
-use Rattle.si_descend.specs.Fitting.{AllowsSolving}
+use Rattle.si_fit.specs.Ends.{EndsAt}
+use Rattle.si_fit.specs.Fitting.{AllowsSolving}
 use Rattle.si_descend.specs.Renaming.{FreezesQuery, bound_variables, IsRenamingFirst, IsRenaming, BindsEntry, HasBecome, IsTaken}
-use Rattle.si_descend.proofs.EndLaws.{no_cell, value_same}
-use Rattle.si_descend.proofs.FreeLaws.{constant, is_free, some_solution}
-use Rattle.si_descend.proofs.Visiting.{take_whole}
+use Rattle.si_fit.proofs.EndLaws.{no_cell, value_same}
+use Rattle.si_descend.proofs.FreeLaws.{is_free, some_solution}
+
+take_whole : {X : Type 0} (xs : List X) (n : ℕ) → length xs ≤ n → take n xs ≡ xs
+take_whole [] zero h = refl
+take_whole [] (suc n) h = refl
+take_whole (x ∷ xs) zero h = absurd (omega (arith, h))
+take_whole (x ∷ xs) (suc n) h = ap (λ l. x ∷ l) (take_whole xs n (omega (arith, h)))
 
 -- ---- places in lists
 got_within : {X : Type 0} (xs : List X) (n : ℕ) (x : X) → slice_get xs n ≡ Some x → n < length xs

@@ -33,7 +33,7 @@ use Rattle.si_changes.proofs.Frames.{legal_nodes}
 use Rattle.si_changes.proofs.OpenLaws.{open_opened, opened_low}
 use Rattle.si_descend.specs.Answers.{Finds, Retrieves, IsStoredAnswer}
 use Rattle.si_descend.specs.Descending.{Freezes, HasRoom, HasRoomFor, LeavesFrozen, SolvesFrom, ShowsPath, IsQuery, ShowsAbove}
-use Rattle.si_descend.specs.Fitting.{AllowsSolving}
+use Rattle.si_fit.specs.Fitting.{AllowsSolving}
 use Rattle.si_descend.proofs.Along.{is_step}
 use Rattle.si_descend.proofs.Entering.{one_row, term_in_range}
 use Rattle.si_descend.proofs.ExactLists.{AreExactly, exactly_same}

@@ -15,7 +15,7 @@ use Rattle.si_changes.proofs.Frames.{legal_nodes}
 use Rattle.si_changes.proofs.StoredLaws.{path_start}
 use Rattle.si_descend.specs.declared.search.Search.{Search}
 use Rattle.si_descend.specs.Descending.{HasRoom, SolvesFrom, Renames, ShowsAbove}
-use Rattle.si_descend.specs.Fitting.{AllowsSolving}
+use Rattle.si_fit.specs.Fitting.{AllowsSolving}
 use Rattle.si_descend.specs.Renaming.{IsRenaming}
 use Rattle.si_descend.specs.Searching.{IsReady, KeepsApart, HasComeTo, IsClosedAt}
 use Rattle.si_descend.proofs.Entered.{variants_freeze}

@@ -25,7 +25,7 @@ use Rattle.si_legal.proofs.SplitLaws.{binding_left}
 use Rattle.si_changes.proofs.Frames.{HasLegalNodes}
 use Rattle.si_changes.proofs.ComposeLaws.{same_substituted, applied_from, right_applied}
 use Rattle.si_descend.specs.Descending.{HasRoom, LeavesFrozen, SolvesFrom, ShowsPath}
-use Rattle.si_descend.specs.Fitting.{AllowsSolving}
+use Rattle.si_fit.specs.Fitting.{AllowsSolving}
 use Rattle.si_descend.specs.Renaming.{FreezesQuery, bound_variables, IsRenaming}
 use Rattle.si_descend.proofs.Tabulated.{variable_tells, substituted_none}
 use Rattle.si_descend.proofs.Along.{is_step, solves_path_term}

@@ -1,16 +1,12 @@
 -- What is found at a node and below its children, turn by turn.
-use Rattle.std.proofs.Common.{◌≡◌, inl, inr, ℕ, zero, suc, ◌+◌, ◌≤◌, ◌<◌, ◌^◌, List, [], ◌∷◌, ◌++◌, Option, None, Some, length, take, slice_get, get_or, refl, ap, sym, ◌∙◌, subst, arith, append_assoc, append-nil}
-use Rattle.std.proofs.lemmas.Option.{same_Some, slice_get-get_or}
+use Rattle.std.proofs.Common.{◌≡◌, ◌⊎◌, inl, inr, ℕ, ◌+◌, ◌<◌, ◌^◌, List, [], ◌∷◌, ◌++◌, Some, refl, ap, sym, ◌∙◌, subst, arith, append-nil}
 use Rattle.si_defs.specs.Substitutions.{IsAmong, AreDistinct, Grows}
-use Rattle.si_defs.proofs.ListLaws.{get_among, among_front, among_back}
 use Rattle.si_flat.specs.Cells.{query, Term, StandsFor}
 use Rattle.si_flat.specs.Flattened.{IsNumberedBy}
 use Rattle.si_unify.proofs.Reading.{one_term}
 use Rattle.si_legal.specs.declared.Posting.{Posting}
-use Rattle.si_legal.specs.Counts.{node_count}
 use Rattle.si_legal.specs.Engines.{AppendsAnswers}
-use Rattle.si_legal.specs.Trees.{Content, inner, leaf, Node, Tree, HasNode, Path, IsPath, path_term}
-use Rattle.si_legal.specs.Descents.{IsAnswer}
+use Rattle.si_legal.specs.Trees.{Content, inner, leaf, Node, HasNode, Path, IsPath}
 use Rattle.si_legal.specs.OpenNodes.{CountsOpen}
 use Rattle.si_tree.specs.Reading.{AtNode, children_of, postings_of}
 use Rattle.si_descend.specs.declared.search.Search.{Search}
@@ -18,45 +14,10 @@ use Rattle.si_descend.specs.Answers.{CountsBelow, IsAnswerBelow}
 use Rattle.si_legal.proofs.PathLaws.{one_node}
 use Rattle.si_unify.specs.declared.slots.Slots.{Slots}
 use Rattle.si_unify.specs.Solving.{Pairs}
-use Rattle.si_descend.specs.Fitting.{AllowsSolving}
+use Rattle.si_fit.specs.Fitting.{AllowsSolving}
 use Rattle.si_descend.specs.Searching.{IsReady, HasComeTo, IsOpenAt, IsClosedAt, HasFound, HasFoundBelow}
 use Rattle.si_descend.proofs.Below.{IsChildOf}
-use Rattle.si_descend.proofs.Finding.{counts_none, appends_none, counts_more, appends_more, counts_closed, appends_closed, counts_leaf, appends_leaf, counts_inner, appends_inner, children_are, children_distinct, few_open, few_open_one}
-
--- ---- places of a list
-take_suc : {X : Type 0} (xs : List X) (n : ℕ) (x : X) → slice_get xs n ≡ Some x → take (suc n) xs ≡ take n xs ++ x ∷ []
-take_suc [] n x e = absurd (by e) where
-  by : None ≡ Some x → ⊥
-  by p = cc
-take_suc (y ∷ xs) zero x e = ap (λ z. z ∷ take 0 xs) (same_Some y x e) ∙ ap (λ l. x ∷ l) (nothing xs) where
-  nothing : {X : Type 0} (xs : List X) → take 0 xs ≡ []
-  nothing [] = refl
-  nothing (x ∷ xs) = refl
-take_suc (y ∷ xs) (suc n) x e = ap (λ l. y ∷ l) (take_suc xs n x e)
-
-pub take_more : {X : Type 0} (xs : List X) (n : ℕ) (x : X) → slice_get xs n ≡ Some x → take (n + 1) xs ≡ take n xs ++ x ∷ []
-take_more xs n x e = let one : n + 1 ≡ suc n = omega arith in ap (λ m. take m xs) one ∙ take_suc xs n x e
-
-pub take_whole : {X : Type 0} (xs : List X) (n : ℕ) → length xs ≤ n → take n xs ≡ xs
-take_whole [] zero h = refl
-take_whole [] (suc n) h = refl
-take_whole (x ∷ xs) zero h = absurd (omega (arith, h))
-take_whole (x ∷ xs) (suc n) h = ap (λ l. x ∷ l) (take_whole xs n (omega (arith, h)))
-
-taken_among : {X : Type 0} (xs : List X) (n : ℕ) (x : X) → IsAmong (take n xs) x → IsAmong xs x
-taken_among [] zero x a = a
-taken_among [] (suc n) x a = a
-taken_among (y ∷ xs) zero x a = absurd a
-taken_among (y ∷ xs) (suc n) x (inl e) = inl e
-taken_among (y ∷ xs) (suc n) x (inr a) = inr (taken_among xs n x a)
-
-not_before : {X : Type 0} (xs : List X) (n : ℕ) (x : X) → AreDistinct xs → slice_get xs n ≡ Some x → IsAmong (take n xs) x → ⊥
-not_before [] n x d e a = by e where
-  by : None ≡ Some x → ⊥
-  by p = cc
-not_before (y ∷ xs) zero x d e a = a
-not_before (y ∷ xs) (suc n) x d e (inl p) = d.0 (subst (IsAmong xs) (sym p) (get_among xs n x e))
-not_before (y ∷ xs) (suc n) x d e (inr a) = not_before xs n x d.1 e a
+use Rattle.si_descend.proofs.Finding.{counts_none, appends_none, counts_more, appends_more, counts_closed, appends_closed, counts_leaf, appends_leaf, counts_inner, appends_inner, counts_wider, appends_wider, IsClosedNode, children_are, children_distinct, few_open, few_open_one}
 
 module _ (search : Search) (ready : IsReady search) where
   pub query_numbered : (q : Term) → StandsFor search.query.now q → IsNumberedBy query q
@@ -119,27 +80,33 @@ module _ (search : Search) (ready : IsReady search) where
         distinct = children_distinct search.tree.now ready.legal search.kind ready.term ready.query.numbered key node up reached split children c;
       }
 
-    pub none_yet : (children : List ℕ) (old : List Posting) → HasFoundBelow search (take 0 children) old old 0
-    none_yet children old = record {
-      counts = λ q h. subst (λ l. CountsBelow search.tree.now l search.kind q 0) (sym (nothing children)) (counts_none search.tree.now ready.legal search.kind q (query_numbered q h));
-      appends = λ q h. subst (λ l. AppendsAnswers (IsAnswerBelow search.tree.now l search.kind q) old old) (sym (nothing children)) (appends_none search.tree.now ready.legal search.kind q (query_numbered q h) old);
+    pub one_child_more : (tops : List ℕ) (child : ℕ) (old mid last : List Posting) (m n : ℕ) → AreSiblings (tops ++ child ∷ []) → (IsAmong tops child → ⊥) → HasFoundBelow search tops old mid m → HasFound search child mid last n → HasFoundBelow search (tops ++ child ∷ []) old last (m + n)
+    one_child_more tops child old mid last m n are new before found = record {
+      counts = λ q h. counts_more search.tree.now ready.legal search.kind q (query_numbered q h) key tops child are.are new m n (before.counts q h) (found.counts q h);
+      appends = λ q h. appends_more search.tree.now ready.legal search.kind q (query_numbered q h) key tops child are.are new old mid last (before.appends q h) (found.appends q h);
+    }
+
+    -- where those left out are closed
+    pub all_children : (tops children : List ℕ) (old last : List Posting) (n : ℕ) → AreSiblings children → ((child : ℕ) → IsAmong tops child → IsAmong children child) → ((child : ℕ) → IsAmong children child → IsAmong tops child ⊎ IsClosedAt search child) → HasFoundBelow search tops old last n → HasFoundBelow search children old last n
+    all_children tops children old last n are within others found = record {
+      counts = λ q h. counts_wider search.tree.now ready.legal search.kind q (query_numbered q h) tops children within (closed q h) n (found.counts q h);
+      appends = λ q h. appends_wider search.tree.now ready.legal search.kind q (query_numbered q h) tops children within (closed q h) old last (found.appends q h);
     } where
-      nothing : (xs : List ℕ) → take 0 xs ≡ []
-      nothing [] = refl
-      nothing (x ∷ xs) = refl
+      closed : (q : Term) (h : StandsFor search.query.now q) (child : ℕ) → IsAmong children child → IsAmong tops child ⊎ IsClosedNode search.tree.now ready.legal search.kind q (query_numbered q h) child
+      closed q h child a =
+          let is = are.are child a in
+          let path : Path = (child, is.0) ∷ (ready.legal.nodes child is.0 is.1).above in
+          let there : IsPath search.tree.now (Some child) path = (refl, is.1, (ready.legal.nodes child is.0 is.1).reached) in
+          elim (others child a) as (λ _. IsAmong tops child ⊎ IsClosedNode search.tree.now ready.legal search.kind q (query_numbered q h) child) [
+            | inl b ↦ inl b
+            | inr c ↦ inr (path, there, c q path h there)
+          ]
 
-    pub one_child_more : (children : List ℕ) (i child : ℕ) (old mid last : List Posting) (m n : ℕ) → AreSiblings children → slice_get children i ≡ Some child → HasFoundBelow search (take i children) old mid m → HasFound search child mid last n → HasFoundBelow search (take (i + 1) children) old last (m + n)
-    one_child_more children i child old mid last m n are e before found =
-        let list = take_more children i child e in
-        let kin : (c : ℕ) → IsAmong (take i children ++ child ∷ []) c → IsChildOf search.tree.now key c = λ c a. are.are c (taken_among children (i + 1) c (subst (λ l. IsAmong l c) (sym list) a)) in
-        let new = not_before children i child are.distinct e in
-        record {
-          counts = λ q h. subst (λ l. CountsBelow search.tree.now l search.kind q (m + n)) (sym list) (counts_more search.tree.now ready.legal search.kind q (query_numbered q h) key (take i children) child kin new m n (before.counts q h) (found.counts q h));
-          appends = λ q h. subst (λ l. AppendsAnswers (IsAnswerBelow search.tree.now l search.kind q) old last) (sym list) (appends_more search.tree.now ready.legal search.kind q (query_numbered q h) key (take i children) child kin new old mid last (before.appends q h) (found.appends q h));
-        }
-
-    pub all_children : (children : List ℕ) (i : ℕ) (old last : List Posting) (n : ℕ) → length children ≤ i → HasFoundBelow search (take i children) old last n → HasFoundBelow search children old last n
-    all_children children i old last n h found = subst (λ l. HasFoundBelow search l old last n) (take_whole children i h) found
+  pub none_yet : (old : List Posting) → HasFoundBelow search [] old old 0
+  none_yet old = record {
+    counts = λ q h. counts_none search.tree.now ready.legal search.kind q (query_numbered q h);
+    appends = λ q h. appends_none search.tree.now ready.legal search.kind q (query_numbered q h) old;
+  }
 
   -- ---- bounds
   pub few_below : (tops : List ℕ) (old last : List Posting) (n : ℕ) → HasFoundBelow search tops old last n → n < 2 ^ 64
@@ -154,10 +121,6 @@ module _ (search : Search) (ready : IsReady search) where
   found_grows tops old last n h = let a = h.appends ready.term ready.query.stands in (a.answers, a.appended)
 
 -- ---- down to a child
--- the element that was read
-pub read : (xs : List ℕ) (i x : ℕ) → i < length xs → x ≡ get_or xs i x → slice_get xs i ≡ Some x
-read xs i x less e = slice_get-get_or xs i x less ∙ ap Some (sym e)
-
 pub still_solving : (slots : Slots) (old new : Pairs) (count count' : ℕ) → new ≡ old → count' ≡ count → AllowsSolving slots old count → AllowsSolving slots new count'
 still_solving slots old new count count' e f h = subst (λ n. AllowsSolving slots new n) (sym f) (subst (λ p. AllowsSolving slots p count) (sym e) h)
 

@@ -3,12 +3,12 @@ use Rattle.std.specs.Prelude.{◌≡◌, ℕ, List, Option, None, Some, get_or}
 use Rattle.si_defs.specs.Substitutions.{Substitution, image, apply, IsAmong}
 use Rattle.si_flat.specs.declared.Cell.{Cell}
 use Rattle.si_flat.specs.declared.Cell.TheVariants as cell
-use Rattle.si_flat.specs.Cells.{Symbol, Variable, ind, same_variable, Term, cells_of, StandsFor}
+use Rattle.si_flat.specs.Cells.{Symbol, Variable, ind, same_variable, Term, cells_of}
 use Rattle.si_flat.specs.Rows.{CellPair}
 use Rattle.si_unify.specs.declared.slots.Slots.{Slots}
 use Rattle.si_unify.specs.Solving.{Pairs, IsSolution}
 use Rattle.si_tree.specs.Reading.{AtNode, split_of}
-use Rattle.si_legal.specs.Bindings.{StandForBindings}
+use Rattle.si_legal.specs.Legal.{ChildBinds}
 use Rattle.si_descend.specs.declared.heads.Wanted.{Wanted}
 use Rattle.si_descend.specs.declared.search.Search.{Search}
 use Rattle.si_descend.specs.Descending.{LeavesFrozen}
@@ -41,8 +41,9 @@ IsKnownSplit slots w rows =
     (cells : List Cell) × IsAmong rows (w.split, cells)
     × CannotMeet slots w.first (first_of cells)
 
+-- the child gives the split a term that can't meet what is wanted
 abbrev pub RulesOut : Search → Option Wanted → ℕ → Type 0
 RulesOut search None child = ⊥
 RulesOut search (Some w) child =
-    AtNode search.tree.now child (λ n. (rows : List CellPair)
-    × StandForBindings rows n.bindings × IsKnownSplit search.slots w rows)
+    (t : Term) × ChildBinds search.tree.now child w.split t
+    × CannotMeet search.slots w.first (first_of (cells_of t))

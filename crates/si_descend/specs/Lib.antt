@@ -1,8 +1,7 @@
 pub mod Descending
 pub mod Answers
-pub mod Fitting
-pub mod Ends
 pub mod Renaming
 pub mod Searching
 pub mod Heads
+pub mod Attempts
 pub mod Counting

@@ -14,7 +14,7 @@ use Rattle.si_legal.specs.OpenNodes.{IsOpen}
 use Rattle.si_descend.specs.declared.search.Search.{Search}
 use Rattle.si_descend.specs.Descending.{Freezes, HasRoom, ShowsPath, IsQueryTerm}
 use Rattle.si_descend.specs.Answers.{Finds, CountsBelow, IsAnswerBelow}
-use Rattle.si_descend.specs.Fitting.{HasSolution}
+use Rattle.si_fit.specs.Fitting.{HasSolution}
 use Rattle.si_descend.specs.Renaming.{IsRenaming}
 
 -- what a search is for

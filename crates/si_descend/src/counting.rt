@@ -2,10 +2,10 @@
 ghost use Rattle.std.specs.Prelude.{◌≡◌, Some, IfOk, OnOk};
 ghost use Rattle.si_tree.specs.Reading.{IsNode, AtNode, children_of};
 ghost use Rattle.si_descend.specs.Counting.{HasCounted, HasCountedBelow};
-ghost use Rattle.si_descend.specs.Fitting.{AllowsSolving};
+ghost use Rattle.si_fit.specs.Fitting.{AllowsSolving};
 ghost use Rattle.si_descend.specs.Searching.{IsReady, HasComeTo};
 
-use crate::heads::{asked_of, is_unwanted};
+use crate::attempts::{attempt, attempts_at};
 use crate::search::{Search, enter};
 use si_flat::Cell;
 use si_trail::Trail;
@@ -75,15 +75,13 @@ fn count_children<'a>(
     ensures same { OnOk result (trail.new.pairs ≡ trail.old.pairs) }
     ensures slots { trail.new.slots ≡ trail.old.slots }
 {
-    let wanted = asked_of(search, node, trail);
-    let children = search.tree.children(node);
+    let attempts = attempts_at(search, node, trail);
     let mut passed = 0;
     let mut answers: u64 = 0;
-    for i in 0..children.len() {
-        let child = children[i];
-        if is_unwanted(search, wanted, child) {
+    for place in 0..attempts.end {
+        let Some(child) = attempt(search, node, attempts, place) else {
             continue;
-        }
+        };
         let more = count_at(search, child, scratch, trail)?;
         passed += more.passed;
         answers = answers.saturating_add(more.answers);

@@ -7,7 +7,7 @@ ghost use Rattle.si_tree.specs.Reading.{IsNode};
 ghost use Rattle.si_descend.specs.Answers.{Finds, Retrieves};
 ghost use Rattle.si_descend.specs.Counting.{CountsAnswers, HasCounted};
 ghost use Rattle.si_descend.specs.Descending.{Freezes, HasRoomFor, IsQuery, ShowsAbove};
-ghost use Rattle.si_descend.specs.Fitting.{AllowsSolving};
+ghost use Rattle.si_fit.specs.Fitting.{AllowsSolving};
 ghost use Rattle.si_descend.specs.Searching.{IsReady, KeepsApart, HasFound};
 
 use crate::counting::{Counted, count_at};

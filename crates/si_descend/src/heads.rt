@@ -2,11 +2,11 @@
 ghost use Rattle.std.specs.Prelude.{◌≡◌, ◌↔◌, Some, IsTrue, length};
 ghost use Rattle.si_flat.specs.Cells.{IsWhole};
 ghost use Rattle.si_tree.specs.Reading.{IsNode};
-ghost use Rattle.si_descend.specs.Fitting.{AllowsSolving};
+ghost use Rattle.si_fit.specs.Fitting.{AllowsSolving};
 ghost use Rattle.si_descend.specs.Heads.{first_of, CannotMeet, IsWanted, IsKnownSplit, RulesOut};
 
-use crate::ends::end_of;
 use crate::search::Search;
+use si_fit::end_of;
 use si_flat::{Bindings, Cell};
 use si_trail::Trail;
 use si_tree::NodeId;

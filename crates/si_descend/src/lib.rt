@@ -6,10 +6,9 @@
 //! at.
 #![tactic(auto)]
 
+mod attempts;
 mod counting;
 mod descent;
-mod ends;
-mod fit;
 mod heads;
 mod search;
 mod variants;

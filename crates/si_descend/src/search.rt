@@ -3,12 +3,12 @@ ghost use Rattle.std.specs.Prelude.{◌≡◌, Some, IfOk, OnOk};
 ghost use Rattle.si_defs.specs.Substitutions.{Grows};
 ghost use Rattle.si_tree.specs.Reading.{IsNode, AtNode, children_of};
 ghost use Rattle.si_descend.specs.Descending.{Freezes, HasRoomFor, IsQuery};
-ghost use Rattle.si_descend.specs.Fitting.{AllowsSolving};
+ghost use Rattle.si_fit.specs.Fitting.{AllowsSolving};
 ghost use Rattle.si_descend.specs.Searching.{IsReady, HasComeTo, HasEntered, HasFound, HasFoundBelow};
 
-use crate::fit::fit;
-use crate::heads::{asked_of, is_unwanted};
+use crate::attempts::{attempt, attempts_at};
 use crate::variants::is_renaming;
+use si_fit::fit;
 use si_flat::{Cell, Flat, Kind};
 use si_legal::Posting;
 use si_trail::Trail;
@@ -132,14 +132,12 @@ fn visit_children<'a>(
     ensures out_grows { Grows out.old.items out.new.items }
     ensures slots { trail.new.slots ≡ trail.old.slots }
 {
-    let wanted = asked_of(search, node, trail);
-    let children = search.tree.children(node);
+    let attempts = attempts_at(search, node, trail);
     let mut count = 0;
-    for i in 0..children.len() {
-        let child = children[i];
-        if is_unwanted(search, wanted, child) {
+    for place in 0..attempts.end {
+        let Some(child) = attempt(search, node, attempts, place) else {
             continue;
-        }
+        };
         count += visit(search, child, scratch, trail, out)?;
     }
     Ok(count)

@@ -2,10 +2,10 @@
 ghost use Rattle.std.specs.Prelude.{◌≡◌, ◌+◌, ◌<◌, ◌≤◌, ◌↔◌, IsTrue, length, true, false};
 ghost use Rattle.si_trail.specs.Trails.{HasDistinctSlots};
 ghost use Rattle.si_descend.specs.declared.variants.Became.TheVariants.{Variable};
-ghost use Rattle.si_descend.specs.Fitting.{AllowsSolving};
+ghost use Rattle.si_fit.specs.Fitting.{AllowsSolving};
 ghost use Rattle.si_descend.specs.Renaming.{FreezesQuery, HasBecome, IsRenaming, IsRenamingFirst, IsTaken};
 
-use crate::ends::end_of;
+use si_fit::end_of;
 use si_flat::Cell;
 use si_trail::Trail;
 use si_unify::Slots;

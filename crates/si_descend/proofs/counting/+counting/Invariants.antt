@@ -1,7 +1,8 @@
-use Rattle.std.proofs.Common.{◌≡◌, ◌+◌, ◌-◌, ◌*◌, take}
+use Rattle.std.proofs.Common.{◌≡◌, ◌+◌, ◌-◌, ◌*◌}
 use Rattle.si_legal.specs.Counts.{node_count}
 use Rattle.si_descend.specs.Counting.{HasCountedBelow}
 use Rattle.si_descend.specs.Searching.{depth}
+use Rattle.si_descend.proofs.AttemptLaws.{IsUnderway}
 use Rattle.si_descend.proofs.counting.+counting.Given as goal
 
 abbrev pub decreases-count_at : goal.decreases-count_at
@@ -15,9 +16,9 @@ pub record Invariant (counted pairs slots : Type 0) : Type 0 where
   pub same_pairs : pairs
   pub same_slots : slots
 
-abbrev pub invariant-count_children-loop-i : goal.invariant-count_children-loop-i
-invariant-count_children-loop-i l =
+abbrev pub invariant-count_children-loop-place : goal.invariant-count_children-loop-place
+invariant-count_children-loop-place l =
     Invariant
-    (HasCountedBelow l.search (take l.i l.children) (record { passed = l.passed; answers = l.answers }))
+    (IsUnderway l.search l.node l.attempts l.place (λ tried. HasCountedBelow l.search tried (record { passed = l.passed; answers = l.answers })))
     (l.trail.pairs ≡ l.fn.trail.pairs)
     (l.trail.slots ≡ l.fn.trail.slots)

@@ -1,6 +1,6 @@
 use Rattle.std.proofs.Common.{get_or}
 use Rattle.si_flat.proofs.Subterms.{some_cell}
-use Rattle.si_descend.proofs.EndLaws.{no_cell}
+use Rattle.si_fit.proofs.EndLaws.{no_cell}
 use Rattle.si_descend.proofs.Retrieving.{app_length, variable_length, query_no_app, entry_no_app, ind_no_app}
 use Rattle.si_descend.proofs.descent.length_of.Goals as goal
 

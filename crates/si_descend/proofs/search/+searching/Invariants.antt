@@ -1,6 +1,7 @@
-use Rattle.std.proofs.Common.{◌≡◌, ◌+◌, ◌-◌, ◌*◌, take}
+use Rattle.std.proofs.Common.{◌≡◌, ◌+◌, ◌-◌, ◌*◌}
 use Rattle.si_legal.specs.Counts.{node_count}
 use Rattle.si_descend.specs.Searching.{HasFoundBelow, depth}
+use Rattle.si_descend.proofs.AttemptLaws.{IsUnderway}
 use Rattle.si_descend.proofs.search.+searching.Given as goal
 
 abbrev pub decreases-visit : goal.decreases-visit
@@ -14,9 +15,9 @@ pub record Invariant (found pairs slots : Type 0) : Type 0 where
   pub same_pairs : pairs
   pub same_slots : slots
 
-abbrev pub invariant-visit_children-loop-i : goal.invariant-visit_children-loop-i
-invariant-visit_children-loop-i l =
+abbrev pub invariant-visit_children-loop-place : goal.invariant-visit_children-loop-place
+invariant-visit_children-loop-place l =
     Invariant
-    (HasFoundBelow l.search (take l.i l.children) l.fn.out.items l.out.items l.count)
+    (IsUnderway l.search l.node l.attempts l.place (λ tried. HasFoundBelow l.search tried l.fn.out.items l.out.items l.count))
     (l.trail.pairs ≡ l.fn.trail.pairs)
     (l.trail.slots ≡ l.fn.trail.slots)

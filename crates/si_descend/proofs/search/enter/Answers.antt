@@ -1,5 +1,5 @@
 use Rattle.std.proofs.Common.{length, ap, sym, subst, arith}
-use Rattle.si_descend.specs.Fitting.{HasFitted}
+use Rattle.si_fit.specs.Fitting.{HasFitted}
 use Rattle.si_descend.proofs.Entering.{entered_range, never_entered}
 use Rattle.si_descend.proofs.Entered.{entered_plain, entered_variants, known_first, variants_freeze, instances_differ, generalizations_differ, unifiable_differ}
 use Rattle.si_descend.proofs.search.enter.Goals as goal

@@ -1,7 +1,7 @@
 use Rattle.std.proofs.Common.{inl, inr, get_or, sym}
 use Rattle.si_unify.specs.Solving.{IsBinding}
 use Rattle.si_unify.proofs.Places.{all_at, whole_at, inside}
-use Rattle.si_descend.proofs.EndLaws.{no_cell}
+use Rattle.si_fit.proofs.EndLaws.{no_cell}
 use Rattle.si_descend.proofs.RenameLaws.{never_unbound, no_entry, became_query, became_other, app_no_query, entry_cell_no_query, ind_cell_no_query}
 use Rattle.si_descend.proofs.variants.outcome.Goals as goal
 

@@ -3,15 +3,15 @@ ghost use Rattle.std.specs.Prelude.{◌≡◌};
 ghost use Rattle.si_flat.specs.Cells.{IsWhole};
 ghost use Rattle.si_unify.specs.Solving.{AreInRange};
 ghost use Rattle.si_unify.specs.Spots.{cell_slot};
-ghost use Rattle.si_descend.specs.Ends.{EndsAt};
-ghost use Rattle.si_descend.specs.Fitting.{AllowsSolving};
+ghost use Rattle.si_fit.specs.Ends.{EndsAt};
+ghost use Rattle.si_fit.specs.Fitting.{AllowsSolving};
 
 use si_flat::Cell;
 use si_trail::Trail;
 use si_unify::Slots;
 
 // The slot of a variable's cell.
-fn slot_of(slots: &Slots, cell: Cell) -> Option<usize>
+pub(crate) fn slot_of(slots: &Slots, cell: Cell) -> Option<usize>
     ensures { result ≡ cell_slot slots.now cell }
 {
     match cell {
@@ -23,7 +23,7 @@ fn slot_of(slots: &Slots, cell: Cell) -> Option<usize>
 }
 
 /// The term that stands at the end of the chain: while it is a bound variable, its value is next.
-pub(crate) fn end_of<'a>(trail: &Trail<&'a [Cell]>, slots: &Slots, start: &'a [Cell]) -> &'a [Cell]
+pub fn end_of<'a>(trail: &Trail<&'a [Cell]>, slots: &Slots, start: &'a [Cell]) -> &'a [Cell]
     requires whole { IsWhole start.now }
     requires range { AreInRange slots.now start.now }
     requires solving { AllowsSolving slots.now trail.now.pairs trail.now.slots }

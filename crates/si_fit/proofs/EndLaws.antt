@@ -1,6 +1,5 @@
 -- Down a chain of bound variables.
 use Rattle.std.proofs.Common.{◌≡◌, ℕ, ◌+◌, ◌<◌, ◌≤◌, List, [], ◌∷◌, length, get_or, refl, sym, ◌∙◌, ap, subst, arith, Option, None, Some}
-use Rattle.std.proofs.lemmas.Option.{same_Some}
 use Rattle.std.specs.Borrow.{Bor}
 use Rattle.si_defs.specs.Terms as terms
 use Rattle.si_flat.specs.declared.Cell.{Cell}
@@ -8,12 +7,12 @@ use Rattle.si_flat.specs.declared.Cell.TheVariants as cell
 use Rattle.si_flat.specs.Cells.{Variable, Term, variable_cell, StandsFor, IsWhole}
 use Rattle.si_trail.specs.Trails.{value_at}
 use Rattle.si_unify.specs.declared.slots.Slots.{Slots}
-use Rattle.si_unify.specs.Solving.{Pairs, variable_of, slot_of, CellIsInRange, AreInRange, Equalizes, IsSolvedBy, IsBinding, IsAcyclic}
+use Rattle.si_unify.specs.Solving.{Pairs, variable_of, slot_of, CellIsInRange, AreInRange, Equalizes, IsSolvedBy, IsBinding}
 use Rattle.si_unify.specs.Spots.{cell_slot, IsBelow, ComesDown, IsChained, IsUnbound}
 use Rattle.si_unify.proofs.Places.{all_at, whole_at, first_cell, cell-at, inside, in_range-at, in_range-variable, variable_of-slot_of, slot_variable}
 use Rattle.si_unify.proofs.Answering.{legal_at_first}
-use Rattle.si_descend.specs.Ends.{EndsAt}
-use Rattle.si_descend.specs.Fitting.{AllowsSolving}
+use Rattle.si_fit.specs.Ends.{EndsAt}
+use Rattle.si_fit.specs.Fitting.{AllowsSolving}
 
 abbrev pub no_cell : Cell
 no_cell = cell.App 0 0 0

@@ -1,6 +1,6 @@
 use Rattle.std.proofs.Common.{◌≡◌}
-use Rattle.si_descend.proofs.FitTurns.{FitsSoFar}
-use Rattle.si_descend.proofs.fit.fit.Given as goal
+use Rattle.si_fit.proofs.FitTurns.{FitsSoFar}
+use Rattle.si_fit.proofs.fitting.fit.Given as goal
 
 pub record Invariant (fits slots : Type 0) : Type 0 where
   pub fits_so_far : fits

@@ -1,6 +1,6 @@
-use Rattle.std.proofs.Common.{arith, None, Some}
-use Rattle.si_descend.proofs.EndLaws.{down_starts, some_reached, down_further, ends_unbound, ends_full}
-use Rattle.si_descend.proofs.ends.end_of.Goals as goal
+use Rattle.std.proofs.Common.{arith, None}
+use Rattle.si_fit.proofs.EndLaws.{down_starts, some_reached, down_further, ends_unbound, ends_full}
+use Rattle.si_fit.proofs.ends.end_of.Goals as goal
 
 pub loop-init : goal.loop-init
 loop-init c = down_starts _ _ _ _ c.requires.solving c.requires.whole c.requires.range

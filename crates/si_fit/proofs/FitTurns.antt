@@ -1,16 +1,15 @@
 -- The turns of a loop that makes bindings fit.
-use Rattle.std.proofs.Common.{◌≡◌, ◌↔◌, ℕ, Bool, true, false, List, [], ◌∷◌, refl, sym, ◌∙◌, ap, subst, append-nil}
-use Rattle.std.specs.List.{AllByRecursion}
+use Rattle.std.proofs.Common.{◌≡◌, ◌↔◌, ℕ, Bool, true, false, List, [], ◌∷◌, sym, subst, append-nil}
 use Rattle.si_defs.specs.Substitutions.{Substitution, image, Grows}
 use Rattle.si_flat.specs.declared.Cell.{Cell}
 use Rattle.si_flat.specs.declared.Cell.TheVariants as cell
-use Rattle.si_flat.specs.Cells.{Symbol, Variable, same_variable, Term, IsWhole, StandsFor, ind}
+use Rattle.si_flat.specs.Cells.{Symbol, Variable, same_variable, IsWhole, ind}
 use Rattle.si_flat.specs.Rows.{CellPair}
 use Rattle.si_defs.specs.Terms as terms
 use Rattle.si_unify.specs.declared.slots.Slots.{Slots}
-use Rattle.si_unify.specs.Solving.{Pairs, CellIsInRange, AreInRange, Equalizes, IsSolution, HasSolved}
+use Rattle.si_unify.specs.Solving.{Pairs, CellIsInRange, AreInRange, IsSolution, HasSolved}
 use Rattle.si_unify.proofs.Comparing.{grows_on}
-use Rattle.si_descend.specs.Fitting.{AllowsSolving, AreRowsInRange, EqualizesRows, HasSolution, HasFitted}
+use Rattle.si_fit.specs.Fitting.{AllowsSolving, AreRowsInRange, EqualizesRows, HasSolution, HasFitted}
 
 pub no_more : {X : Type 0} (xs : List X) → Grows xs xs
 no_more xs = ([], sym (append-nil xs))

@@ -1,5 +1,5 @@
-use Rattle.si_descend.proofs.EndLaws.{IsDown}
-use Rattle.si_descend.proofs.ends.end_of.Given as goal
+use Rattle.si_fit.proofs.EndLaws.{IsDown}
+use Rattle.si_fit.proofs.ends.end_of.Given as goal
 
 abbrev pub invariant-loop : goal.invariant-loop
 invariant-loop l = IsDown l.slots l.trail.pairs l.start l.reached l.counter

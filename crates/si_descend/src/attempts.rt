@@ -1,0 +1,121 @@
+// Which children of a node are tried: all in order or, where these are many, those whose heads can
+// meet what is wanted.
+ghost use Rattle.std.specs.Prelude.{◌≡◌, ◌≤◌, ◌<◌, ◌^◌, IfSome, IfNone, ℕ};
+ghost use Rattle.si_tree.specs.Reading.{IsNode};
+ghost use Rattle.si_descend.specs.Attempts.{head_at, AreHeadsFor, AreAttempts, IsTried};
+ghost use Rattle.si_fit.specs.Fitting.{AllowsSolving};
+ghost use Rattle.si_descend.specs.Heads.{IsWanted, RulesOut};
+ghost use Rattle.si_descend.specs.Searching.{IsReady};
+
+use crate::heads::{Wanted, asked_of, is_unwanted};
+use crate::search::Search;
+use si_flat::Cell;
+use si_trail::Trail;
+use si_tree::{Head, NodeId, head_of};
+use si_unify::Slots;
+
+/// The places at which the children of a node are tried.
+#[derive(Clone, Copy)]
+pub(crate) struct Attempts<'a> {
+    children: &'a [NodeId],
+    wanted: Option<Wanted>,
+    /// Where a cell stands here, the places are those of heads: first that of a term which begins
+    /// with it, and then the variables of an entry. Else they are those of the children.
+    by_head: Option<Cell>,
+    /// The number of places.
+    pub(crate) end: usize,
+}
+
+/// What is tried below a node. Where it has more children than there are heads that can meet what
+/// is wanted, they are looked up by these heads.
+pub(crate) fn attempts_at<'a>(
+    search: &Search<'a>,
+    node: NodeId,
+    trail: &Trail<&'a [Cell]>,
+) -> Attempts<'a>
+    requires node { IsNode search.now.tree.now node }
+    requires ready { IsReady search.now }
+    requires solving { AllowsSolving search.now.slots trail.now.pairs trail.now.slots }
+    ensures wanted { IsWanted search.now node trail.now.pairs result.wanted }
+    ensures attempts { AreAttempts search.now node result }
+{
+    let wanted = asked_of(search, node, trail);
+    let children = search.tree.children(node);
+    let vars = search.tree.vars();
+    let all = Attempts {
+        children,
+        wanted,
+        by_head: None,
+        end: children.len(),
+    };
+    let Some(asked) = wanted else {
+        return all;
+    };
+    let Some(end) = heads_for(&search.slots, vars, asked.first) else {
+        return all;
+    };
+    if children.len() <= end {
+        return all;
+    }
+    Attempts {
+        children,
+        wanted,
+        by_head: Some(asked.first),
+        end,
+    }
+}
+
+// How many heads can meet a term that begins with this cell, if not all can: its own, and where
+// these can be bound, the variables of an entry.
+fn heads_for(slots: &Slots, vars: u32, first: Cell) -> Option<usize>
+    ensures { IfSome result (AreHeadsFor slots.now vars first) }
+{
+    let all = 1 + vars as usize;
+    match first {
+        Cell::App { .. } => Some(if slots.freeze_entry { 1 } else { all }),
+        Cell::Entry(_) => if slots.freeze_entry { Some(1) } else { None },
+        Cell::Query(_) => if slots.freeze_query { Some(all) } else { None },
+        Cell::Ind(_) => None,
+    }
+}
+
+/// The child at a place, if there is one that can be open.
+#[inline(always)]
+pub(crate) fn attempt(
+    search: &Search<'_>,
+    node: NodeId,
+    attempts: Attempts<'_>,
+    place: usize,
+) -> Option<NodeId>
+    requires node { IsNode search.now.tree.now node }
+    requires ready { IsReady search.now }
+    requires attempts { AreAttempts search.now node attempts }
+    requires within { place < attempts.end }
+    ensures some { IfSome result (IsTried search.now node attempts.entry place) }
+    ensures none { IfNone result ((child : ℕ)
+        → IsTried search.now node attempts.entry place child
+        → RulesOut search.now attempts.entry.wanted child) }
+{
+    let Some(first) = attempts.by_head else {
+        let child = attempts.children[place];
+        if is_unwanted(search, attempts.wanted, child) {
+            return None;
+        }
+        return Some(child);
+    };
+    let Some(head) = head_at(first, place) else {
+        return None;
+    };
+    search.tree.child(node, head)
+}
+
+// The head at a place: that of a term which begins with this cell, and then the variables.
+fn head_at(first: Cell, place: usize) -> Option<Head>
+    requires { place ≤ 2 ^ 32 }
+    ensures { result ≡ head_at first place }
+{
+    if place == 0 {
+        return head_of(first);
+    }
+    Some(Head::Var((place - 1) as u32))
+}

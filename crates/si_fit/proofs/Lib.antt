@@ -1,0 +1,6 @@
+pub mod EndLaws
+pub mod FitTurns
+pub mod BindLaws
+pub mod MeetLaws
+pub mod WalkLaws
+pub mod PairLaws

@@ -1,0 +1,53 @@
+use Rattle.std.proofs.Common.{refl, sym, ◌∙◌, subst, arith}
+use Rattle.si_fit.specs.Fitting.{AllowsSolving}
+use Rattle.si_fit.proofs.WalkLaws.{walk_starts, left_inside, walk_descends, heads_differ, other_some, left_within, walk_goes_on, walk_clashes, walk_ends}
+use Rattle.si_fit.proofs.walking.walk.Goals as goal
+
+pub loop-j-init : goal.loop-j-init
+loop-j-init c = record {
+  is_walking = walk_starts c.args.slots.now c.args.left.now c.args.right.now c.args.trail.now.pairs c.args.trail.now.slots c.requires.left c.requires.right c.requires.ready;
+  left_within = omega arith;
+  same_slots = refl;
+}
+
+pub bounds-left-i : goal.bounds-left-i
+bounds-left-i c = left_inside c.args.slots.now c.args.left.now c.args.right.now c.args.trail.now.pairs c.args.trail.now.slots c.loop-j.trail.pairs c.loop-j.i c.loop-j.j c.loop-j.invariant.is_walking c.loop-j-test.true
+
+pub overflow_add-i : goal.overflow_add-i
+overflow_add-i c = omega (arith, c.well_formed.1.1.0.0, left_inside c.args.slots.now c.args.left.now c.args.right.now c.args.trail.now.pairs c.args.trail.now.slots c.loop-j.trail.pairs c.loop-j.i c.loop-j.j c.loop-j.invariant.is_walking c.loop-j-test.true)
+
+pub loop-j-preserved-then-have_same_symbol : goal.loop-j-preserved-then-have_same_symbol
+loop-j-preserved-then-have_same_symbol c = record {
+  is_walking = walk_descends c.args.slots.now c.args.left.now c.args.right.now c.args.trail.now.pairs c.args.trail.now.slots c.loop-j.trail.pairs c.loop-j.i c.loop-j.j c.loop-j.invariant.is_walking c.loop-j-test.true (sym c.have_same_symbol.ensures ∙ c.if-have_same_symbol.true);
+  left_within = omega (arith, left_inside c.args.slots.now c.args.left.now c.args.right.now c.args.trail.now.pairs c.args.trail.now.slots c.loop-j.trail.pairs c.loop-j.i c.loop-j.j c.loop-j.invariant.is_walking c.loop-j-test.true);
+  same_slots = c.loop-j.invariant.same_slots;
+}
+
+pub sub-one-requires-clause-inside : goal.sub-one-requires-clause-inside
+sub-one-requires-clause-inside c = left_inside c.args.slots.now c.args.left.now c.args.right.now c.args.trail.now.pairs c.args.trail.now.slots c.loop-j.trail.pairs c.loop-j.i c.loop-j.j c.loop-j.invariant.is_walking c.loop-j-test.true
+
+pub meet-requires-clause-differ : goal.meet-requires-clause-differ
+meet-requires-clause-differ c =
+    heads_differ c.args.slots.now c.args.left.now c.args.right.now c.args.trail.now.pairs c.args.trail.now.slots c.loop-j.trail.pairs c.loop-j.i c.loop-j.j c.sub-one.result.now c.sub-other.result.now c.loop-j.invariant.is_walking c.loop-j-test.true c.sub-one.ensures.place c.sub-other.ensures.place c.sub-one.ensures.whole c.sub-other.ensures.whole
+    (sym c.have_same_symbol.ensures ∙ c.if-have_same_symbol.false)
+
+pub loop-j-smaller : goal.loop-j-smaller
+loop-j-smaller c = omega (arith, c.loop-j-test.true, other_some c.args.slots.now c.args.left.now c.args.right.now c.args.trail.now.pairs c.args.trail.now.slots c.loop-j.trail.pairs c.loop-j.i c.loop-j.j c.sub-one.result.now c.sub-other.result.now c.loop-j.invariant.is_walking c.loop-j-test.true c.sub-one.ensures.place c.sub-other.ensures.place c.sub-one.ensures.whole c.sub-other.ensures.whole)
+
+pub loop-j-preserved : goal.loop-j-preserved
+loop-j-preserved c = record {
+  is_walking =
+      walk_goes_on c.args.slots.now c.args.left.now c.args.right.now c.args.trail.now.pairs c.args.trail.now.slots c.loop-j.trail.pairs c.loop-j.i c.loop-j.j c.sub-one.result.now c.sub-other.result.now c.loop-j.invariant.is_walking c.loop-j-test.true c.sub-one.ensures.place c.sub-other.ensures.place c.sub-one.ensures.whole c.sub-other.ensures.whole
+      c.meet.new.trail.pairs c.in-Equal.ensures.met c.meet.ensures.grows
+      (subst (AllowsSolving c.args.slots.now c.meet.new.trail.pairs) (c.meet.ensures.slots ∙ c.loop-j.invariant.same_slots) c.meet.ensures.ready);
+  left_within = left_within c.args.slots.now c.args.left.now c.args.right.now c.args.trail.now.pairs c.args.trail.now.slots c.loop-j.trail.pairs c.loop-j.i c.loop-j.j c.sub-one.result.now c.sub-other.result.now c.loop-j.invariant.is_walking c.loop-j-test.true c.sub-one.ensures.place c.sub-other.ensures.place c.sub-one.ensures.whole c.sub-other.ensures.whole;
+  same_slots = c.meet.ensures.slots ∙ c.loop-j.invariant.same_slots;
+}
+
+pub returns-in-Clash-clause-met : goal.returns-in-Clash-clause-met
+returns-in-Clash-clause-met c =
+    walk_clashes c.args.slots.now c.args.left.now c.args.right.now c.args.trail.now.pairs c.args.trail.now.slots c.loop-j.trail.pairs c.loop-j.i c.loop-j.j c.sub-one.result.now c.sub-other.result.now c.loop-j.invariant.is_walking c.loop-j-test.true c.sub-one.ensures.place c.sub-other.ensures.place c.sub-one.ensures.whole c.sub-other.ensures.whole
+    c.meet.new.trail.pairs c.in-Clash.ensures.met c.meet.new.trail.pairs
+
+pub returns-clause-met : goal.returns-clause-met
+returns-clause-met c = walk_ends c.args.slots.now c.args.left.now c.args.right.now c.args.trail.now.pairs c.args.trail.now.slots c.loop-j.trail.pairs c.loop-j.i c.loop-j.j c.loop-j.invariant.is_walking (omega (arith, c.loop-j-test.false))

@@ -1,0 +1,78 @@
+// Bindings that are made to fit those of a trail.
+ghost use Rattle.std.specs.Prelude.{◌≡◌, IfOk};
+ghost use Rattle.si_defs.specs.Substitutions.{Grows};
+ghost use Rattle.si_flat.specs.Cells.{IsWhole};
+ghost use Rattle.si_unify.specs.Solving.{AreInRange, HasSolved};
+ghost use Rattle.si_fit.specs.Fitting.{AllowsSolving, AreRowsInRange, HasFitted, HasSolution};
+
+use crate::ends::end_of;
+use crate::meeting::Met;
+use crate::walking::walk;
+use si_flat::{Bindings, Cell};
+use si_trail::Trail;
+use si_unify::{Scratch, Slots, solve_with};
+use std::alloc::AllocError;
+
+// Makes a left side equal to its right side, over the bindings that are there: by a walk over both,
+// and by the solver where the walk doesn't tell.
+fn fit_pair<'a>(
+    scratch: &mut Scratch,
+    trail: &mut Trail<&'a [Cell]>,
+    slots: &Slots,
+    left: &'a [Cell],
+    right: &'a [Cell],
+) -> Result<bool, AllocError>
+    requires left { IsWhole left.now }
+    requires right { IsWhole right.now }
+    requires left_range { AreInRange slots.now left.now }
+    requires right_range { AreInRange slots.now right.now }
+    requires ready { AllowsSolving slots.now trail.old.pairs trail.old.slots }
+    ensures solved { IfOk result (HasSolved slots.now trail.old.pairs trail.new.pairs left.now
+        right.now) }
+    ensures grows { Grows trail.old.pairs trail.new.pairs }
+    ensures ready { AllowsSolving slots.now trail.new.pairs trail.new.slots }
+    ensures slots { trail.new.slots ≡ trail.old.slots }
+{
+    let mark = trail.mark();
+    let end = end_of(trail, slots, left);
+    match walk(trail, slots, end, right) {
+        Met::Equal => {
+            // So no slot of the trail is known to be bound twice.
+            trail.mark();
+            Ok(true)
+        }
+        Met::Clash => Ok(false),
+        Met::Unknown => {
+            trail.undo(mark);
+            solve_with(scratch, trail, slots, left, right)
+        }
+    }
+}
+
+/// Makes each left side equal to its right side, over the bindings that are there.
+///
+/// It tells whether that can be done. Where it can't, and where memory runs out, some may have been
+/// bound.
+pub fn fit<'a>(
+    scratch: &mut Scratch,
+    trail: &mut Trail<&'a [Cell]>,
+    slots: &Slots,
+    bindings: &'a Bindings,
+) -> Result<bool, AllocError>
+    requires range { AreRowsInRange slots.now bindings.now }
+    requires solution { HasSolution slots.now trail.old.pairs }
+    requires ready { AllowsSolving slots.now trail.old.pairs trail.old.slots }
+    ensures fits { IfOk result (HasFitted slots.now trail.old.pairs trail.new.pairs bindings.now) }
+    ensures grows { Grows trail.old.pairs trail.new.pairs }
+    ensures ready { AllowsSolving slots.now trail.new.pairs trail.new.slots }
+    ensures slots { trail.new.slots ≡ trail.old.slots }
+{
+    for pair in bindings.pairs() {
+        let left = pair.left_cells();
+        let right = pair.right();
+        if !fit_pair(scratch, trail, slots, left, right)? {
+            return Ok(false);
+        }
+    }
+    Ok(true)
+}

@@ -1,0 +1,10 @@
+//! Bindings that are made to fit those of a trail.
+#![tactic(auto)]
+
+mod ends;
+mod fitting;
+mod meeting;
+mod walking;
+
+pub use ends::end_of;
+pub use fitting::fit;

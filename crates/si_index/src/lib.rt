@@ -20,4 +20,5 @@ pub use explain::Explained;
 pub use found::{Found, Hit, Lent, Shown};
 pub use index::{Index, Stats, TreeCounts};
 pub use si_defs::Relation;
+pub use si_forest::Trees;
 pub use subsuming::{Mapped, Mappeds};

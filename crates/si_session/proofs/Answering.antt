@@ -10,7 +10,8 @@ use Rattle.si_session.specs.declared.sign.Sign.TheVariants.{Space, LineFeed}
 use Rattle.si_defs.specs.Entries.{Place, Placed, entries, state_entries, placed_in}
 use Rattle.si_defs.specs.Variables.{Solution, variable_text}
 use Rattle.si_defs.specs.declared.Relation.{Relation}
-use Rattle.si_state.specs.Answers.{Hit, IsAnswer, hit_text, hit_texts}
+use Rattle.si_state.specs.Answers.{Hit, IsAnswer, Stands, hit_text, hit_texts}
+use Rattle.si_exist.specs.OneList.{HasExactlyOneSolution}
 use Rattle.si_steps.specs.Replies.{end_line}
 use Rattle.si_steps.specs.Runs.{ended}
 use Rattle.si_io.specs.Shown.{SinkShown}
@@ -71,6 +72,21 @@ module _ (relation : Relation) (p : Pattern) (clauses : List Clause) where
   inside_all k (c ∷ back) e fs h =
       inside_clause k (omega (arith, e)) (entries c) (entries_from_position (1 + k) back) (λ gs a. inside_all (1 + k) back (omega (arith, e)) gs a) fs h
 
+  -- it stands in the relation, so it has a list
+  all_stand : (es fs : Found) → AreHits relation p es fs → AllByRecursion (λ f. Stands relation p f.1.entry) fs
+  all_stand [] fs h = subst (AllByRecursion (λ f. Stands relation p f.1.entry)) (sym h) tt
+  all_stand (e ∷ es) fs (inl h) =
+      subst (AllByRecursion (λ f. Stands relation p f.1.entry)) (sym h.1.2) (h.0, all_stand es h.1.0 h.1.1)
+  all_stand (e ∷ es) fs (inr h) = all_stand es fs h.1
+
+  pub all_solved : HasExactlyOneSolution relation → (es fs : Found) → AreHits relation p es fs → AllByRecursion (λ f. HasSolution relation p f.1.entry) fs
+  all_solved one es fs h = by fs (all_stand es fs h) where
+    by : (fs : Found) → AllByRecursion (λ f. Stands relation p f.1.entry) fs → AllByRecursion (λ f. HasSolution relation p f.1.entry) fs
+    by [] stand = tt
+    by (f ∷ fs) stand =
+        let list = one p f.1.entry stand.0 in
+        (record { stands = stand.0; solution = list.0; solves = list.1 }, by fs stand.1)
+
   -- each of them has its hit
   pub hits_of : (fs : Found) → AllByRecursion (IsInside clauses) fs → AllByRecursion (λ f. HasSolution relation p f.1.entry) fs → (hits : List Hit) × AreHitsOf relation p clauses fs hits
   hits_of [] inside solved = ([], refl)
@@ -90,6 +106,12 @@ module _ (relation : Relation) (p : Pattern) (clauses : List Clause) where
 
   pub is_answer : (fs : Found) (hits : List Hit) → AreHits relation p (entries_from_position 0 clauses) fs → AreHitsOf relation p clauses fs hits → IsAnswer relation p (state_entries clauses) hits
   is_answer fs hits h g = of_all [] clauses refl fs hits h g
+
+  -- the answer is no longer than what it is found among
+  pub few_answers : (es : List (Clause × Placed)) (hits : List Hit) → IsAnswer relation p es hits → length hits ≤ length es
+  few_answers [] hits h = omega (arith, ap length h)
+  few_answers (e ∷ es) hits (inl h) = omega (arith, few_answers es h.1.1 h.1.3, ap length h.1.4)
+  few_answers (e ∷ es) hits (inr h) = omega (arith, few_answers es hits h.1)
 
   pub are_inside : (fs : Found) → AreHits relation p (entries_from_position 0 clauses) fs → AllByRecursion (IsInside clauses) fs
   are_inside fs h = inside_all 0 clauses (omega arith) fs h

@@ -136,12 +136,14 @@ fn count_answers(alloc: Global, index: &Index, entry: Entry<'_>) -> Result<u32, 
     count_unifiable(index, &pattern)
 }
 
-/// How many entries unify with a pattern.
+/// How many entries unify with a pattern. None of them is listed.
 fn count_unifiable(index: &Index, pattern: &Pattern) -> Result<u32, AllocError>
     requires { IsSoundPattern (pattern_of pattern.now) }
     ensures { IfOk result (CountsUnifiable (state_entries index.now.clauses)
         (pattern_of pattern.now)) }
 {
-    let found = index.find(index.trees(), Relation::Unifiable, pattern)?;
-    Ok(found.len())
+    let kept = index.stats();
+    let explained = index.explain(Relation::Unifiable, pattern)?;
+    prove!(explained.answers <= kept.entries);
+    Ok(explained.answers as u32)
 }

@@ -173,8 +173,11 @@ const ROWS: [(&[u8], &[u8]); 22] = [
         b"add cnf(e,plain,($false),inference(spm,[status(thm)],[c_0_2,c_0_3])).\nadd cnf(c_0_5, plain, (p(X1)|~q(X1,esk1_0)), inference(rw,[status(thm)],[c_0_2, c_0_3]), ['final']).\nstats\n",
         b"ok 1 1\nok 1 3\nclauses 2 entries 4 symbols 4\n",
     ),
-    // Words of commands that aren't built.
-    (b"tree\nexplain x\n%\n", b"! later\n! later\n"),
+    // Numbers of nodes, of empty trees and of a clause's.
+    (
+        b"tree\nexplain x\n%\nadd cnf(c1,axiom,p(f(X),a)).\nexplain unifiable lit p(Y,Z)\nexplain unifiable term b\ntree\n",
+        b"literals nodes 1 leaves 0 unmerged 0\nterms nodes 1 leaves 0 unmerged 0\n! syntax\nok 1 3\npassed 2 nodes 2 answers 1\npassed 1 nodes 3 answers 0\nliterals nodes 2 leaves 1 unmerged 0\nterms nodes 3 leaves 2 unmerged 0\n",
+    ),
     // Two spellings of one name, and an integer that is another.
     (
         b"add cnf(c1,axiom,r).\nadd cnf('c1',axiom,r).\nadd cnf(1,axiom,r).\nadd cnf('1',axiom,r).\nadd cnf(1,axiom,q).\n",
@@ -370,9 +373,10 @@ fn limits_on_entries_and_input(rt: HostRuntime) -> Result<(), Fail> {
 /// Three lines, with the bytes that are read and written up to the end of each.
 const LINES: &[u8] = b"add cnf(c1,axiom,p(f(X),a)).\ninstances lit p(Y,Z)\ntree\n";
 
-const REPLIES: &[u8] = b"ok 1 3\nc1:1 {?Y -> f(X); ?Z -> a}\nend 1\n! later\n";
+const REPLIES: &[u8] =
+    b"ok 1 3\nc1:1 {?Y -> f(X); ?Z -> a}\nend 1\nliterals nodes 2 leaves 1 unmerged 0\nterms nodes 3 leaves 2 unmerged 0\n";
 
-const ENDS: [(u32, usize); 3] = [(29, 7), (50, 40), (55, 48)];
+const ENDS: [(u32, usize); 3] = [(29, 7), (50, 40), (55, 111)];
 
 #[test]
 fn each_read_may_fail(rt: HostRuntime) -> Result<(), Fail> {
@@ -403,10 +407,10 @@ fn each_read_may_fail(rt: HostRuntime) -> Result<(), Fail> {
 #[test]
 fn each_write_may_fail(rt: HostRuntime) -> Result<(), Fail> {
     let alloc = rt.alloc();
-    for count in 0..=48u32 {
+    for count in 0..=111u32 {
         let mut due = REPLIES.to_vec(alloc)?;
         due.truncate(count as usize);
-        let end = if count < 48 {
+        let end = if count < 111 {
             Status::SinkFault
         } else {
             Status::Ended

@@ -2,7 +2,9 @@
 
 `run` tells the replies and the status that are due for the words of a call, an input and a folder
 of files. Terms are written out and substitutions are dictionaries, so nothing here is like the
-program. It is slow, and it never lacks memory.
+program. It is slow, and it never lacks memory. It has no trees, so what depends on their form is
+a `?` in its replies, as it is in those of the program once they are `masked`. Then a line of a
+tree ends with the number of leaves that have entries, which doesn't depend on it.
 """
 import os
 import re
@@ -24,9 +26,12 @@ MOST_DRAWN = 10_000
 
 RELATIONS = (b"instances", b"generalizations", b"variants", b"unifiable")
 SUBSUMPTIONS = (b"subsumers", b"subsumed")
-UNBUILT = (b"tree", b"explain")
 LANGUAGES = (b"fof", b"tff", b"thf", b"tcf", b"tpi")
 USAGE = b"usage: stindex [--strict] [FILE]...\n"
+TREE = re.compile(rb"^(literals|terms) nodes \d+ leaves (\d+) unmerged (\d+)$", re.MULTILINE)
+MASKED_TREE = b"%s nodes ? leaves ? unmerged ?, %d with entries"
+PASSED = re.compile(rb"^passed \d+ nodes \d+(?= answers \d+$)", re.MULTILINE)
+MASKED_PASSED = b"passed ? nodes ?"
 
 
 class Unread(Exception):
@@ -536,6 +541,12 @@ def as_pattern(term: Term) -> Term:
     return replaced({x: Variable(x.name, True) for x in variables(term)}, term)
 
 
+def without_names(term: Term) -> Term:
+    """The term with numbers for its variables, in the order of first occurrence."""
+    numbers = enumerate(variables(term))
+    return replaced({x: Variable(b"%d" % number, False) for number, x in numbers}, term)
+
+
 # The kept clauses, and the symbols in use
 
 class Store:
@@ -610,6 +621,14 @@ class Store:
             numbers = least_map(*pair)
             if numbers is not None:
                 yield printed_name(name) + b" " + printed_map(numbers) + b"\n"
+
+    def variant_count(self, of_literals: bool) -> int:
+        """How many of the literals, or of the subterms, differ in more than the names of variables."""
+        return len({
+            (entry.sign, without_names(entry.term))
+            for entries in self.entries.values() for entry in entries
+            if of_literals == (entry.sign is not None)
+        })
 
     def unifiable_count(self, clauses: list[Clause]) -> int:
         """How many entries unify with each entry of these clauses, summed up."""
@@ -687,6 +706,22 @@ def counted(lines: Iterable[bytes]) -> bytes:
     return b"".join(lines) + b"end %d\n" % len(lines)
 
 
+def word_at(line: bytes, place: int, words: tuple[bytes, ...]) -> Token:
+    """The next token, which has to be one of these lower words."""
+    token = token_at(line, place)
+    if token is None or token.kind != "lower" or token.text not in words:
+        raise Unread
+    return token
+
+
+def masked(output: bytes) -> bytes:
+    """The output of the program with `?` for each number that depends on the form of the trees."""
+    def line(found: re.Match[bytes]) -> bytes:
+        return MASKED_TREE % (found[1], int(found[2]) - int(found[3]))
+
+    return PASSED.sub(MASKED_PASSED, TREE.sub(line, output))
+
+
 class Session:
     def __init__(self, folder: str):
         self.store = Store()
@@ -710,15 +745,23 @@ class Session:
             raise Unread
         return b"ok 1 %d\n" % self.store.add(clause)
 
-    def find(self, relation: bytes, line: bytes, place: int) -> bytes:
-        word = token_at(line, place)
-        if word is None or word.kind != "lower" or word.text not in (b"lit", b"term"):
-            raise Unread
+    def answers(self, relation: bytes, line: bytes, place: int) -> Iterator[bytes]:
+        """The lines that answer a question, whose relation ends at the place."""
+        word = word_at(line, place, (b"lit", b"term"))
         if word.text == b"lit":
             sign, query = whole(Reader.literal, line, word.end, True)
         else:
             sign, query = None, whole(Reader.term, line, word.end, True)
-        return counted(self.store.answers(relation, sign, query))
+        return self.store.answers(relation, sign, query)
+
+    def explain(self, line: bytes, place: int) -> bytes:
+        relation = word_at(line, place, RELATIONS)
+        answers = sum(1 for _ in self.answers(relation.text, line, relation.end))
+        return b"%s answers %d\n" % (MASKED_PASSED, answers)
+
+    def tree(self) -> bytes:
+        counts = (b"literals", self.store.variant_count(True)), (b"terms", self.store.variant_count(False))
+        return b"".join(MASKED_TREE % count + b"\n" for count in counts)
 
     def subsumption(self, command: bytes, line: bytes, place: int) -> bytes:
         formula = whole(Reader.formula, line, place, True)
@@ -734,10 +777,10 @@ class Session:
         word = token_at(line, 0)
         if word.kind != "lower":
             raise Unread
-        if word.text in UNBUILT:
-            raise Refusal(b"! later")
         if word.text in RELATIONS:
-            return self.find(word.text, line, word.end)
+            return counted(self.answers(word.text, line, word.end))
+        if word.text == b"explain":
+            return self.explain(line, word.end)
         if word.text in SUBSUMPTIONS:
             return self.subsumption(word.text, line, word.end)
         if word.text == b"add":
@@ -748,7 +791,11 @@ class Session:
             return self.load(whole(Reader.file, line, word.end))
         if word.text == b"remove":
             return b"ok 1 %d\n" % self.store.remove(whole(Reader.name, line, word.end))
-        if word.text == b"stats" and blanks_end(line, word.end) == len(line):
+        if blanks_end(line, word.end) != len(line):
+            raise Unread
+        if word.text == b"tree":
+            return self.tree()
+        if word.text == b"stats":
             numbers = (len(self.store.entries), self.store.total, len(self.store.uses))
             return b"clauses %d entries %d symbols %d\n" % numbers
         raise Unread

@@ -1,5 +1,5 @@
-"""One session that has each command, each relation and each refusal but `! full`, `! big`, `! depth` and `! fetches`, and
-loads files with includes, by a word of the call too."""
+"""One session that has each command, each relation and each refusal but `! full`, `! big`, `! depth` and `! fetches`,
+loads files with includes, by a word of the call too, and splits and joins nodes of the trees."""
 import re
 from pathlib import Path
 
@@ -26,6 +26,7 @@ add fof(c2,axiom,p(a,b)).
 
 % a comment
 tree
+explain variants term f(X)
 load 'main.p'
 load 'list.p'
 load 'none.p'
@@ -46,11 +47,34 @@ unifiable lit p(U,V)
 unifiable lit p(f(U),U)
 unifiable term f(U)
 unifiable lit U=V
+explain instances lit p(U,V)
+explain generalizations lit p(f(b),a)
+explain unifiable term f(U)
+explain instances lit p(c)|q
 subsumers p(f(b),a)|~q(b)|p(b,b)
 subsumers (r(a,'v w'))
 subsumed ~q(U)
 subsumed p(U,V)|p(W,V)
+add cnf(w1,axiom,w(f(a),b)).
+add cnf(w2,axiom,w(f(c),b)).
+add cnf(w3,axiom,w(f(c),d)|w(f(X),X)).
+add cnf(w4,axiom,w(g(a),Y)|w(f(a),b)).
+tree
+unifiable lit w(U,V)
+remove w2
+explain unifiable lit w(U,b)
+remove w1
+tree
+instances lit w(f(U),V)
+add cnf(w2,axiom,w(f(c),b)).
+remove w4
+remove w3
+explain instances term U
+generalizations lit w(f(c),b)
+tree
+remove w2
 remove c1
+tree
 remove 'Step 3'
 remove c9
 sample 1 3

@@ -117,7 +117,6 @@ LINES = {
     "lines that are wrong": Shape(10_000, lambda n: lines(*["find p"] * n)),
     "clauses that are wrong at the end": Shape(5_000, lambda n: lines(*[add("p(f(a),b") + ")"] * n)),
     "clauses of other languages": Shape(10_000, lambda n: lines(*["add fof(a,axiom,p)."] * n)),
-    "commands that aren't built": Shape(10_000, lambda n: lines(*["tree"] * n)),
     "names that are taken": Shape(5_000, lambda n: lines(*[add("q(a)")] * n, before=[add("p(a)")])),
     "symbols that are used otherwise": Shape(5_000, lambda n: lines(*[add("q|p", "d")] * n, before=[add("p(a)")])),
     "a symbol that is used otherwise, after many":
@@ -240,6 +239,86 @@ HITS = (
     | every_relation("literals of many clauses", 500, lambda n: each(add("p(X,Y)", "c#"), n), "lit p(U,V)")
 )
 
+# Trees
+
+
+def come_and_go(clauses: Callable[[int], list[str]], name: str, size: int, most: float = 2.3) -> dict[str, Shape]:
+    """Clauses c0, c1 and so on that are added, and that are removed in three orders."""
+    orders = {
+        "the first one first": lambda n: range(n),
+        "the last one first": lambda n: range(n - 1, -1, -1),
+        "in a scattered order": lambda n: (number * 7919 % n for number in range(n)),
+    }
+    removed = {
+        f"{name}, removed, {order}": Shape(size, lambda n, numbers=numbers: lines(
+            *(f"remove c{number}" for number in numbers(n)), before=clauses(n)), most=most)
+        for order, numbers in orders.items()
+    }
+    return {f"{name}, added": Shape(size, lambda n: lines(*clauses(n)), most=most)} | removed
+
+
+def wide_node(n: int) -> list[str]:
+    """Clauses whose leaves have one parent."""
+    return each(add("p(a#)", "c#"), n)
+
+
+def variants(n: int) -> list[str]:
+    """Clauses that share one leaf, each with variables of its own."""
+    return each(add("p(X#)", "c#"), n)
+
+
+def round_a_wide_term(n: int) -> str:
+    """500 terms round one of n constants and as many variables."""
+    return nested("g(", f"f({listed('a#,X#', n)})", ")", 500)
+
+
+def chain_of_splits(n: int) -> list[str]:
+    """Clauses of n variables, each one variable less, so that each splits the node below the root, and all nodes that
+    were split are a chain."""
+    return [
+        add(f"p({','.join(each('X#', n - number) + ['X0'] * number)})", f"c{number}") for number in range(n)
+    ]
+
+
+TREES = (
+    come_and_go(wide_node, "a wide node", 2_000)
+    | {f"a wide node, all children asked for: {relation}": Shape(500, lambda n, r=relation: lines(
+        *each(f"{r} lit p(a#)", n), before=wide_node(n))) for relation in RELATIONS}
+    | every_relation("a wide node, a child that isn't there", 2_000, wide_node, "lit p(b)")
+    | come_and_go(variants, "one leaf", 2_000)
+    | every_relation("one leaf", 500, variants, "lit p(U)")
+    | come_and_go(chain_of_splits, "a chain of splits", 60, 4.6)
+    | {f"a chain of splits: explain {relation}": Shape(60, lambda n, r=relation: lines(
+        f"explain {r} lit p({listed('U#', n)})", before=chain_of_splits(n)), most=4.6) for relation in RELATIONS}
+    | {
+        "a deep chain of splits: explain, all relations": Shape(500, lambda n: lines(
+            *(f"explain {relation} lit p({listed('U#', n)})" for relation in RELATIONS), before=chain_of_splits(n)),
+            most=4.6),
+        "splits that come and go, and 100 questions": Shape(2_000, lambda n: lines(
+            *["unifiable lit p(U,U)"] * 100,
+            before=[add("p(a,b)"), *[add("p(a,c)", "d"), "remove d"] * n])),
+        "symbols that come and go": Shape(2_000, lambda n: lines(
+            *(line for number in range(n) for line in (add(f"p(a{number},f{number}(X))"), "remove c")))),
+        "symbols that come and go, all of them at once": Shape(2_000, lambda n: lines(
+            *each(add("p(a#)", "c#"), n), *each("remove c#", n), *each(add("p(b#)", "d#"), n))),
+        "a clause of many variables, added and removed": Shape(10_000, lambda n: lines(
+            add(f"p({listed('X#', n)})"), "remove c")),
+        "a clause of many variables, and 100 questions that pass it by": Shape(10_000, lambda n: lines(
+            *["unifiable lit q(U)"] * 100, before=[add(f"p({listed('X#', n)})"), add("q(X)", "d")])),
+        "a clause of many variables that is gone, and 100 questions": Shape(10_000, lambda n: lines(
+            *["unifiable lit q(U)"] * 100, before=[add(f"p({listed('X#', n)})"), "remove c", add("q(X)", "d")])),
+        "500 brackets round a wide term, added": Shape(250, lambda n: lines(add(f"p({round_a_wide_term(n)})"))),
+        "500 brackets round a wide term, removed": Shape(250, lambda n: lines(
+            "remove c", before=[add(f"p({round_a_wide_term(n)})")])),
+        "500 brackets round a wide term, asked for": Shape(250, lambda n: lines(
+            f"unifiable term {round_a_wide_term(n)}", before=[add(f"p({round_a_wide_term(n)})")])),
+        "500 brackets round a wide term, each asked for": Shape(250, lambda n: lines(
+            "unifiable term g(U)", before=[add(f"p({round_a_wide_term(n)})")])),
+        "tree": Shape(10_000, lambda n: lines(*["tree"] * n, before=own_clauses(100))),
+        "explain": Shape(5_000, lambda n: lines(*["explain unifiable lit p(U,V)"] * n, before=own_clauses(20))),
+    }
+)
+
 # Subsumption
 
 
@@ -298,7 +377,7 @@ LIKE_LITERALS = {
 }
 SAMPLES = {"sample": Shape(60, lambda n: lines(f"sample 1 {n}"), most=4.6)}
 
-SHAPES = ADDED | REMOVED | LINES | LOADED | query_shapes() | HITS | SUBSUMED | TOWERS | LIKE_LITERALS | SAMPLES
+SHAPES = ADDED | REMOVED | LINES | LOADED | query_shapes() | HITS | TREES | SUBSUMED | TOWERS | LIKE_LITERALS | SAMPLES
 
 
 def main() -> None:

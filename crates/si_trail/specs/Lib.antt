@@ -1,1 +1,3 @@
+pub mod Bound
+pub mod Pages
 pub mod Trails

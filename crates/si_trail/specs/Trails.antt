@@ -1,6 +1,6 @@
 -- What a trail is seen as: a number of slots, and pairs of a slot and its value in the order in
 -- which they were bound.
-use Rattle.std.specs.Prelude.{◌≡◌, ℕ, ◌+◌, ◌<◌, ◌==◌, if◌then◌else◌, List, [], ◌∷◌, length, refl, Option, None, Some, sum_by, slice_index_or, slice_get}
+use Rattle.std.specs.Prelude.{◌≡◌, ℕ, ◌<◌, ◌==◌, if◌then◌else◌, List, [], ◌∷◌, refl, Option, None, Some, slice_get}
 use Rattle.std.specs.List.{AllByRecursion}
 use Rattle.std.specs.Coded.{Coded, code_by, coded×, coded_ℕ, coded_list}
 
@@ -39,15 +39,3 @@ module _ {T : Type 0} where
   -- the pair with this number has the slot
   abbrev pub IsSlotOf : List (ℕ × T) → ℕ → ℕ → Type 0
   IsSlotOf pairs n slot = (value : T) × (slice_get pairs n ≡ Some (slot, value))
-
-  abbrev pub vacancy : Option T → ℕ
-  vacancy None = 1
-  vacancy (Some x) = 0
-
-  -- a table of values by slot, beside the pairs
-  pub record IsTableOf (values : List (Option T)) (pairs : List (ℕ × T)) : Type 0 where
-    pub at : (slot : ℕ) → slot < length values
-        → slice_index_or values slot None ≡ value_at pairs slot
-    pub distinct : HasDistinctSlots pairs
-    pub below : HasSlotsBelow (length values) pairs
-    pub room : sum_by vacancy values + length pairs ≡ length values

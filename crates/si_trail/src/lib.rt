@@ -8,44 +8,52 @@
 ghost use Rattle.std.specs.Prelude.{◌≡◌, ◌<◌, ◌≤◌, [], ◌∷◌, ◌++◌, IfOk, None, length, take, drop, option_copied};
 ghost use Rattle.si_trail.specs.Trails.{value_at, AreUnbound, IsSlotOf, HasDistinctSlots, HasSlotsBelow};
 
+use pages::Pages;
 use std::alloc::{AllocError, Global};
 use std::marker::Model;
 
+mod pages;
 #[cfg(test)]
 mod tests;
 
 /// Bindings of slots to values, in the order in which they were made.
 #[derive(Drop)]
 pub struct Trail<T> {
-    // What each slot is bound to.
-    values: Vec<Option<T>>,
+    slots: usize,
+    // Where the binding of each slot stands. What is left of bindings that were undone is told by
+    // looking there.
+    pages: Pages,
     // The bindings, in order.
     bound: Vec<(usize, T)>,
 }
 
 impl<T> Model for Trail<T> {
-    ghost use Rattle.std.specs.Prelude.{◌≤◌, length, vec_capacity};
-    ghost use Rattle.si_trail.specs.Trails.{Trail as Seen, trail_code, IsTableOf};
+    ghost use Rattle.std.specs.Prelude.{vec_capacity};
+    ghost use Rattle.si_trail.specs.Bound.{IsTableOf};
+    ghost use Rattle.si_trail.specs.Trails.{Trail as Seen, trail_code};
 
     ghost Value = { Seen T };
 
     ghost coded = { trail_code T.code };
 
-    ghost view = { λ t. record { slots = length t.values.items; pairs = t.bound.items } };
+    ghost view = { λ t. record { slots = t.slots; pairs = t.bound.items } };
 
-    ghost invariant = { λ t. IsTableOf t.values.items t.bound.items
-        × (length t.values.items ≤ vec_capacity t.bound) };
+    ghost invariant = { λ t. IsTableOf t.pages t.slots (vec_capacity t.bound) t.bound.items };
 }
 
 impl<T: Copy> Trail<T> {
-    /// A trail with so many slots, none of which is bound. No other call takes memory.
+    /// A trail with so many slots, none of which is bound. No other call takes memory, and this one
+    /// writes little of what it takes.
+    ///
+    /// # Errors
+    ///
+    /// `AllocError` where there is no memory, and where there would be about 2^32 slots or more.
     pub fn with_slots(alloc: Global, n: usize) -> Result<Trail<T>, AllocError>
         ensures { IfOk result (λ t. t ≡ record { slots = n; pairs = [] }) }
     {
-        let mut values = Vec::with_capacity(alloc, n)?;
-        values.resize(n, None)?;
         Ok(Trail {
-            values,
+            slots: n,
+            pages: Pages::with_slots(alloc, n)?,
             bound: Vec::with_capacity(alloc, n)?,
         })
     }
@@ -56,7 +64,7 @@ impl<T: Copy> Trail<T> {
         ensures distinct { HasDistinctSlots self.now.pairs }
         ensures below { HasSlotsBelow self.now.slots self.now.pairs }
     {
-        self.values.len()
+        self.slots
     }
 
     /// The number of bindings. It is what [`Trail::undo`] takes to come back here.
@@ -76,24 +84,32 @@ impl<T: Copy> Trail<T> {
     }
 
     /// The value that the slot is bound to.
+    #[inline(always)]
     pub fn get(&self, slot: usize) -> Option<&T>
         ensures { option_copied result ≡ value_at self.now.pairs slot }
     {
-        match self.values.get(slot) {
-            Some(value) => value.as_ref(),
+        match self.bound.get(self.pages.get(slot)) {
+            Some(binding) => {
+                if binding.0 == slot {
+                    Some(&binding.1)
+                } else {
+                    None
+                }
+            }
             None => None,
         }
     }
 
     /// Binds a slot.
+    #[inline(always)]
     pub fn bind(&mut self, slot: usize, value: T)
         requires in_range { slot < self.old.slots }
         requires unbound { value_at self.old.pairs slot ≡ None }
         ensures pairs { self.new.pairs ≡ self.old.pairs ++ (slot, value) ∷ [] }
         ensures slots { self.new.slots ≡ self.old.slots }
     {
-        self.values[slot] = Some(value);
-        self.bound.push((slot, value)).unwrap();
+        self.pages.set(slot, self.bound.len() as u32);
+        self.bound.push_reserved((slot, value));
     }
 
     /// Undoes all bindings but the first so many.
@@ -103,10 +119,6 @@ impl<T: Copy> Trail<T> {
         ensures slots { self.new.slots ≡ self.old.slots }
         ensures unbound { AreUnbound self.new.pairs (drop mark self.old.pairs) }
     {
-        while self.bound.len() > mark {
-            if let Some((slot, _)) = self.bound.pop() {
-                self.values[slot] = None;
-            }
-        }
+        self.bound.truncate(mark);
     }
 }

@@ -1,14 +1,18 @@
-use Rattle.std.proofs.Common.{◌≡◌, ◌<◌, length, None, ap, ◌∙◌, arith, subst, sym}
-use Rattle.std.proofs.lemmas.List.{length-set}
-use Rattle.si_trail.specs.Trails.{value_at}
-use Rattle.si_trail.proofs.Tables.{table_pushed}
+use Rattle.std.proofs.Common.{◌≡◌, length, arith, subst}
+use Rattle.si_trail.specs.Pages.{IsSet}
+use Rattle.si_trail.proofs.BoundLaws.{table_pushed, has_room}
 use Rattle.si_trail.proofs.Trail.bind.Goals as goal
+
+pub overflow_cast-len : goal.overflow_cast-len
+overflow_cast-len g c =
+    omega (arith, has_room _ _ _ c.args.slot c.args.value _ _ c.self.invariant c.self.view_is c.requires.in_range c.requires.unbound, c.self.invariant.small, c.len.ensures, c.self.inside.bound.ok)
+
+pub push_reserved-requires : goal.push_reserved-requires
+push_reserved-requires g c =
+    omega (arith, has_room _ _ _ c.args.slot c.args.value _ _ c.self.invariant c.self.view_is c.requires.in_range c.requires.unbound, c.self.invariant.room, c.self.inside.bound.ok)
 
 pub invariant_of-self : goal.invariant_of-self
 invariant_of-self g c =
-    let unbound : value_at c.self.inside.bound.items c.args.slot ≡ None = ap (λ t. value_at t.pairs c.args.slot) c.self.view_is ∙ c.requires.unbound in
-    let in_range : c.args.slot < length c.self.inside.values.items = subst (λ n. c.args.slot < n) (sym (ap (λ t. t.slots) c.self.view_is)) c.requires.in_range in
-    let pushed = rw c.unwrap.ensures at c.push.ensures.items in (
-      rw pushed (table_pushed _ _ _ _ c.self.invariant.0 in_range unbound),
-      omega (arith, c.self.invariant.1, c.push.ensures.capacity, length-set c.self.inside.values.items c.args.slot),
-    )
+    let counted : c.len.result ≡ length c.self.inside.bound.items = omega (arith, c.len.ensures, c.self.inside.bound.ok) in
+    let here : IsSet c.set.new.self c.args.slot (length c.self.inside.bound.items) = subst (IsSet c.set.new.self c.args.slot) counted c.set.ensures.set in
+    table_pushed _ _ _ _ _ _ _ _ _ _ c.self.invariant c.self.view_is c.requires.in_range c.requires.unbound c.set.ensures.pages c.set.ensures.reach here c.set.ensures.others c.push_reserved.ensures.capacity c.push_reserved.ensures.items

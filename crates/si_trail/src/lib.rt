@@ -47,7 +47,7 @@ impl<T: Copy> Trail<T> {
     ///
     /// # Errors
     ///
-    /// `AllocError` where there is no memory, and where there would be about 2^32 slots or more.
+    /// `AllocError` where there is no memory, as there never is for nearly 2^32 slots or more.
     pub fn with_slots(alloc: Global, n: usize) -> Result<Trail<T>, AllocError>
         ensures { IfOk result (λ t. t ≡ record { slots = n; pairs = [] }) }
     {

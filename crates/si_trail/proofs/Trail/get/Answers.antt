@@ -1,4 +1,4 @@
-use Rattle.std.proofs.Common.{◌≡◌, ◌∙◌, ap, arith}
+use Rattle.std.proofs.Common.{◌∙◌, ap, arith}
 use Rattle.si_trail.specs.Trails.{value_at}
 use Rattle.si_trail.proofs.BoundLaws.{told_there, told_other, told_none}
 use Rattle.si_trail.proofs.Trail.get.Goals as goal

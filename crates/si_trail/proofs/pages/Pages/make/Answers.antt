@@ -1,4 +1,4 @@
-use Rattle.std.proofs.Common.{◌≡◌, ◌+◌, length, arith}
+use Rattle.std.proofs.Common.{◌≡◌, ◌+◌, arith}
 use Rattle.std.specs.Prelude.{vec_len}
 use Rattle.si_trail.proofs.PageLaws.{parted_more}
 use Rattle.si_trail.proofs.pages.Pages.make.Goals as goal

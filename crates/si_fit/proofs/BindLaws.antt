@@ -1,26 +1,29 @@
--- A slot that is bound to a term none of whose variables is bound.
-use Rattle.std.proofs.Common.{◌≡◌, ℕ, ◌+◌, ◌<◌, ◌≤◌, ◌==◌, ◌⊎◌, inl, inr, Bool, true, false, cond, List, [], ◌∷◌, ◌++◌, refl, sym, ◌∙◌, ap, subst, arith, append-nil, Option, None, Some}
-use Rattle.std.proofs.lemmas.Bool.Decides.{eqb_tells}
+-- A slot that is bound to a term that doesn't lead to it.
+use Rattle.std.proofs.Common.{◌≡◌, ℕ, zero, suc, ◌+◌, ◌<◌, ◌≤◌, ◌||◌, ◌⊎◌, inl, inr, Bool, true, false, cond, List, [], ◌∷◌, ◌++◌, length, get_or, refl, sym, ◌∙◌, ap, subst, arith, append-nil, Option, None, Some}
 use Rattle.std.proofs.lemmas.Bool.{eq-eqb}
 use Rattle.std.specs.List.{AllByRecursion}
 use Rattle.std.specs.Borrow.{Bor}
 use Rattle.si_defs.specs.Terms as terms
-use Rattle.si_defs.proofs.ListLaws.{all_with, all_weaker, all_append}
+use Rattle.si_defs.proofs.ListLaws.{all_with, all_weaker, all_append, all_get}
 use Rattle.si_flat.specs.declared.Cell.{Cell}
 use Rattle.si_flat.specs.declared.Cell.TheVariants as cell
-use Rattle.si_flat.specs.Cells.{Variable, query, entry, ind, Term, variable_cell, cells_of, IsWhole}
-use Rattle.si_trail.specs.Trails.{value_at}
+use Rattle.si_flat.specs.Cells.{Variable, query, entry, ind, Term, variable_cell, IsWhole}
+use Rattle.si_trail.specs.Trails.{value_at, HasDistinctSlots}
 use Rattle.si_unify.specs.declared.slots.Slots.{Slots}
 use Rattle.si_unify.specs.Solving.{Pairs, slot_of, variable_of, is_frozen, IsInRange, CellIsInRange, AreInRange, RanksBelow, IsAcyclic, IsBinding}
-use Rattle.si_unify.specs.Spots.{cell_slot, free_slot, IsUnbound}
-use Rattle.si_unify.proofs.Places.{all_at, first_cell, in_range-variable, variable_of-slot_of}
+use Rattle.si_unify.specs.Spots.{cell_slot, free_slot, IsBelow, IsUnbound}
+use Rattle.si_unify.proofs.Places.{all_at, whole_at, first_cell, cell-at, inside, in_range-at, in_range-variable, variable_of-slot_of}
 use Rattle.si_unify.proofs.Reading.{one_term}
 use Rattle.si_unify.proofs.Binding.{IsNot, CanBind, solved_front, bound_legal, bound_solved, bound_equal}
 use Rattle.si_unify.proofs.Meeting.{slot_of-cell}
+use Rattle.si_unify.proofs.Triangular.{IsFound, all_told}
 use Rattle.si_unify.proofs.Answering.{legal_at_first}
 use Rattle.si_fit.specs.Fitting.{AllowsSolving}
-use Rattle.si_fit.specs.Meeting.{IsOtherUnbound, IsFreeFor, IsOpenSlot, slot_cells, HasMet}
+use Rattle.si_fit.specs.Meeting.{IsOpenSlot, slot_cells, slot_value, value_of, HasMet}
+use Rattle.si_fit.specs.Occurring.{slot_leads, value_leads, leads_to, AvoidsCell, Avoids}
 use Rattle.si_fit.specs.declared.meeting.Met.TheVariants.{Equal}
+use Rattle.si_fit.proofs.EndLaws.{no_cell}
+use Rattle.si_fit.proofs.OccurringLaws.{leads_still, leads_on}
 
 -- a variable is frozen, or its slot is that of its cell
 frozen_or_free : (slots : Slots) (x : Variable) → (is_frozen slots x ≡ true) ⊎ (free_slot slots (variable_cell x) ≡ Some (slot_of slots x))
@@ -44,117 +47,138 @@ frozen_unbound slots pairs x bindings range frozen = go (value_at pairs (slot_of
       let bad : true ≡ false = sym frozen ∙ ap (is_frozen slots) (sym (variable_of-slot_of slots x range)) ∙ b.unfrozen in
       cc
 
-module _ (slots : Slots) (pairs : Pairs) (slot count : ℕ) (v : Bor (List Cell)) (ready : AllowsSolving slots pairs count) (slot_open : IsOpenSlot slots slot) (unbound : value_at pairs slot ≡ None) (whole : IsWhole v.now) (range : AreInRange slots v.now) (free : AllByRecursion (IsFreeFor slots pairs slot) v.now) where
-  -- ---- variables of the term
-  is_other : (x : Variable) → IsInRange slots x → IsFreeFor slots pairs slot (variable_cell x) → (slot_of slots x ≡ slot → ⊥) × (value_at pairs (slot_of slots x) ≡ None)
-  is_other x inside h =
-      elim (frozen_or_free slots x) [
-        | inl frozen ↦ (
-          λ e.
-              let bad : true ≡ false = sym frozen ∙ ap (is_frozen slots) (sym (variable_of-slot_of slots x inside) ∙ ap (variable_of slots) e) ∙ slot_open.unfrozen in cc,
-          frozen_unbound slots pairs x ready.bindings inside frozen,
-        )
-        | inr is ↦ subst (IsOtherUnbound pairs slot) is h
-      ]
+-- a cell without a value is a symbol's or an unbound variable's
+ends_unbound : (slots : Slots) (pairs : Pairs) (t : Term) → AllByRecursion (IsBinding slots) pairs → CellIsInRange slots (first_cell t) → value_of slots pairs (first_cell t) ≡ None → IsUnbound pairs (cell_slot slots (first_cell t))
+ends_unbound slots pairs (terms.app s ts) bindings range e = tt
+ends_unbound slots pairs (terms.var x) bindings range e = subst (IsUnbound pairs) (sym (slot_of-cell slots x)) unbound where
+  unbound : value_at pairs (slot_of slots x) ≡ None
+  unbound = elim (frozen_or_free slots x) [
+    | inl frozen ↦ frozen_unbound slots pairs x bindings (in_range-variable slots x range) frozen
+    | inr is ↦ ap (slot_value pairs) (sym is) ∙ e
+  ]
 
-  -- ---- ranks: unbound variables of the term, the slot, and what was bound
-  abbrev rank_of : Option (Bor (List Cell)) → Bool → ℕ → ℕ
-  rank_of None true n = 1
-  rank_of None false n = 0
-  rank_of (Some w) b n = 2 + n
+-- ---- ranks by cells
+below_of : (slots : Slots) (rank : ℕ → ℕ) (k : ℕ) (c : Cell) → RanksBelow slots rank k c → IsBelow rank k (cell_slot slots c)
+below_of slots rank k (cell.App s a n) h = tt
+below_of slots rank k (cell.Query n) h = h
+below_of slots rank k (cell.Entry n) h = h
+below_of slots rank k (cell.Ind n) h = h
+
+of_below : (slots : Slots) (rank : ℕ → ℕ) (k : ℕ) (c : Cell) → IsBelow rank k (cell_slot slots c) → RanksBelow slots rank k c
+of_below slots rank k (cell.App s a n) h = tt
+of_below slots rank k (cell.Query n) h = h
+of_below slots rank k (cell.Entry n) h = h
+of_below slots rank k (cell.Ind n) h = h
+
+-- no cell's slot ranks higher
+abbrev slot_rank : (ℕ → ℕ) → Option ℕ → ℕ
+slot_rank rank None = 0
+slot_rank rank (Some k) = rank k
+
+abbrev top_rank : Slots → (ℕ → ℕ) → List Cell → ℕ
+top_rank slots rank [] = 0
+top_rank slots rank (c ∷ cells) = slot_rank rank (cell_slot slots c) + top_rank slots rank cells
+
+none_higher : (slots : Slots) (rank : ℕ → ℕ) (cells : List Cell) → AllByRecursion (λ c. slot_rank rank (cell_slot slots c) ≤ top_rank slots rank cells) cells
+none_higher slots rank [] = tt
+none_higher slots rank (c ∷ cells) = (
+  omega arith,
+  all_weaker (λ d. slot_rank rank (cell_slot slots d) ≤ top_rank slots rank cells) (λ d. slot_rank rank (cell_slot slots d) ≤ top_rank slots rank (c ∷ cells)) cells (λ d h. omega (arith, h)) (none_higher slots rank cells),
+)
+
+module _ (slots : Slots) (pairs : Pairs) (slot count : ℕ) (v : Bor (List Cell)) (ready : AllowsSolving slots pairs count) (distinct : HasDistinctSlots pairs) (slot_open : IsOpenSlot slots slot) (unbound : value_at pairs slot ≡ None) (whole : IsWhole v.now) (range : AreInRange slots v.now) (free : Avoids slots pairs slot v.now) (ends : value_of slots pairs (get_or v.now 0 no_cell) ≡ None) where
+  -- ---- ranks: what leads to the slot is lifted above what the term leads to
+  abbrev old : ℕ → ℕ
+  old = ready.triangular.0
+
+  abbrev lift : ℕ
+  lift = 1 + top_rank slots old v.now
+
+  abbrev lifted : Bool → ℕ
+  lifted b = cond b lift 0
+
+  abbrev leads : ℕ → Bool
+  leads k = leads_to slots pairs slot (old k) k
 
   abbrev rank : ℕ → ℕ
-  rank k = rank_of (value_at pairs k) (k == slot) (ready.triangular.0 k)
+  rank k = old k + lifted (leads k)
 
-  most : (o : Option (Bor (List Cell))) (b : Bool) (n : ℕ) → rank_of o b n ≤ 2 + n
-  most None true n = omega arith
-  most None false n = omega arith
-  most (Some w) b n = omega arith
+  -- the value of a slot that is bound leads no further than the slot
+  old_below : (k : ℕ) (w : Bor (List Cell)) (o : Option ℕ) → value_at pairs k ≡ Some w → ((n : ℕ) → slot_leads (leads_to slots pairs slot n) o ≡ true → leads_to slots pairs slot (suc n) k ≡ true) → IsBelow old k o → IsBelow rank k o
+  old_below k w None bound on h = tt
+  old_below k w (Some m) bound on h = go (leads m) refl where
+    go : (b : Bool) → leads m ≡ b → rank m < rank k
+    go false e = let low : rank m ≡ old m + 0 = ap (λ b. old m + lifted b) e in omega (arith, low, h)
+    go true e =
+        let there : leads k ≡ true = up (old k) refl e in
+        let low : rank m ≡ old m + lift = ap (λ b. old m + lifted b) e in
+        let high : rank k ≡ old k + lift = ap (λ b. old k + lifted b) there in
+        omega (arith, low, high, h)
+      where
+        up : (n : ℕ) → old k ≡ n → leads m ≡ true → leads k ≡ true
+        up zero is e = absurd (omega (arith, is, h))
+        up (suc n) is e = ap (λ a. leads_to slots pairs slot a k) is ∙ on n (leads_still slots pairs slot (old m) n m (omega (arith, is, h)) e)
 
-  rank_most : (k : ℕ) → rank k ≤ 2 + ready.triangular.0 k
-  rank_most k = most (value_at pairs k) (k == slot) (ready.triangular.0 k)
+  old_cells : (k : ℕ) (w : Bor (List Cell)) → value_at pairs k ≡ Some w → AllByRecursion (RanksBelow slots old k) w.now → AllByRecursion (RanksBelow slots rank k) w.now
+  old_cells k w bound h =
+      all_with (λ c. (n : ℕ) → slot_leads (leads_to slots pairs slot n) (cell_slot slots c) ≡ true → leads_to slots pairs slot (suc n) k ≡ true) (RanksBelow slots old k) (RanksBelow slots rank k) w.now
+      (λ c on below. of_below slots rank k c (old_below k w (cell_slot slots c) bound on (below_of slots old k c below)))
+      (each (λ n c. slot_leads (leads_to slots pairs slot n) (cell_slot slots c) ≡ true → leads_to slots pairs slot (suc n) k ≡ true) w.now (λ n. leads_on slots pairs slot n k w bound)) h
+    where
+      each : (P : ℕ → Cell → Type 0) (cells : List Cell) → ((n : ℕ) → AllByRecursion (P n) cells) → AllByRecursion (λ c. (n : ℕ) → P n c) cells
+      each P [] give = tt
+      each P (c ∷ cells) give = (λ n. (give n).0, each P cells (λ n. (give n).1))
 
-  rank_bound : (k : ℕ) → (value_at pairs k ≡ None → ⊥) → rank k ≡ 2 + ready.triangular.0 k
-  rank_bound k bound = go (value_at pairs k) refl where
-    go : (o : Option (Bor (List Cell))) → value_at pairs k ≡ o → rank k ≡ 2 + ready.triangular.0 k
-    go None e = absurd (bound e)
-    go (Some w) e = ap (λ p. rank_of p (k == slot) (ready.triangular.0 k)) e
+  -- the slot itself leads to itself
+  self_leads : (n : ℕ) → leads_to slots pairs slot n slot ≡ true
+  self_leads zero = eq-eqb slot slot refl
+  self_leads (suc n) = ap (λ b. b || value_leads (leads_to slots pairs slot n) slots (value_at pairs slot)) (eq-eqb slot slot refl)
 
-  rank_here : rank slot ≡ 1
-  rank_here = ap (λ o. rank_of o (slot == slot) (ready.triangular.0 slot)) unbound ∙ ap (λ b. rank_of None b (ready.triangular.0 slot)) (eq-eqb slot slot refl)
-
-  not_here : (k : ℕ) → (k ≡ slot → ⊥) → (k == slot) ≡ false
-  not_here k differs = elim (eqb_tells k slot) [ inl h ↦ absurd (differs h.1) | inr h ↦ h.0 ]
-
-  rank_other : (k : ℕ) → (k ≡ slot → ⊥) → value_at pairs k ≡ None → rank k ≡ 0
-  rank_other k differs e = ap (λ o. rank_of o (k == slot) (ready.triangular.0 k)) e ∙ ap (λ b. rank_of None b (ready.triangular.0 k)) (not_here k differs)
-
-  ranks_at : (k : ℕ) (c : Cell) → ((x : Variable) → c ≡ variable_cell x → rank (slot_of slots x) < rank k) → RanksBelow slots rank k c
-  ranks_at k (cell.App s a n) give = tt
-  ranks_at k (cell.Query n) give = give (query n) refl
-  ranks_at k (cell.Entry n) give = give (entry n) refl
-  ranks_at k (cell.Ind n) give = give (ind n) refl
-
-  ranked : (old : ℕ → ℕ) (k : ℕ) (x : Variable) → RanksBelow slots old k (variable_cell x) → old (slot_of slots x) < old k
-  ranked old k (query n) h = h
-  ranked old k (entry n) h = h
-  ranked old k (ind n) h = h
-
-  old_cell : (k : ℕ) (c : Cell) → (value_at pairs k ≡ None → ⊥) → RanksBelow slots ready.triangular.0 k c → RanksBelow slots rank k c
-  old_cell k c bound h = ranks_at k c (λ x e. omega (arith, rank_most (slot_of slots x), rank_bound k bound, ranked ready.triangular.0 k x (subst (RanksBelow slots ready.triangular.0 k) e h)))
-
-  new_cell : (c : Cell) → CellIsInRange slots c → IsFreeFor slots pairs slot c → RanksBelow slots rank slot c
-  new_cell c inside h = ranks_at slot c (λ x e.
-      let other = is_other x (in_range-variable slots x (subst (CellIsInRange slots) e inside)) (subst (IsFreeFor slots pairs slot) e h) in
-      omega (arith, rank_here, rank_other (slot_of slots x) other.0 other.1))
-
-  each_bound : (all : Pairs) → AllByRecursion (λ pair. value_at all pair.0 ≡ None → ⊥) all
-  each_bound [] = tt
-  each_bound (p ∷ ps) = (
-    λ e. (let here : Some p.1 ≡ None = rw (eq-eqb p.0 p.0 refl) at e in cc),
-    all_weaker (λ pair. value_at ps pair.0 ≡ None → ⊥) (λ pair. value_at (p ∷ ps) pair.0 ≡ None → ⊥) ps (λ pair h e. behind pair.0 h e) (each_bound ps),
-  ) where
-    behind : (k : ℕ) → (value_at ps k ≡ None → ⊥) → value_at (p ∷ ps) k ≡ None → ⊥
-    behind k h e = elim (eqb_tells p.0 k) [
-      | inl same ↦ let bad : Some p.1 ≡ None = rw same.0 at e in cc
-      | inr other ↦ h (rw other.0 at e)
-    ]
+  new_below : (o : Option ℕ) → ((n : ℕ) → slot_leads (leads_to slots pairs slot n) o ≡ false) → slot_rank old o ≤ top_rank slots old v.now → IsBelow rank slot o
+  new_below None none low = tt
+  new_below (Some m) none low =
+      let here : rank m ≡ old m + 0 = ap (λ b. old m + lifted b) (none (old m)) in
+      let there : rank slot ≡ old slot + lift = ap (λ b. old slot + lifted b) (self_leads (old slot)) in
+      omega (arith, here, there, low)
 
   still_acyclic : IsAcyclic slots (pairs ++ (slot, v) ∷ [])
   still_acyclic = (
     rank,
     all_append (λ pair. AllByRecursion (RanksBelow slots rank pair.0) pair.1.now) pairs ((slot, v) ∷ [])
-        (all_with (λ pair. value_at pairs pair.0 ≡ None → ⊥) (λ pair. AllByRecursion (RanksBelow slots ready.triangular.0 pair.0) pair.1.now) (λ pair. AllByRecursion (RanksBelow slots rank pair.0) pair.1.now) pairs
-        (λ pair bound h. all_weaker (RanksBelow slots ready.triangular.0 pair.0) (RanksBelow slots rank pair.0) pair.1.now (λ c k. old_cell pair.0 c bound k) h)
-        (each_bound pairs) ready.triangular.1)
-        (all_with (CellIsInRange slots) (IsFreeFor slots pairs slot) (RanksBelow slots rank slot) v.now new_cell range free, tt),
+        (all_with (IsFound pairs) (λ pair. AllByRecursion (RanksBelow slots old pair.0) pair.1.now) (λ pair. AllByRecursion (RanksBelow slots rank pair.0) pair.1.now) pairs
+        (λ pair bound h. old_cells pair.0 pair.1 bound h)
+        (all_told pairs distinct) ready.triangular.1) (
+          all_with (AvoidsCell slots pairs slot) (λ c. slot_rank old (cell_slot slots c) ≤ top_rank slots old v.now) (RanksBelow slots rank slot) v.now
+              (λ c avoids low. of_below slots rank slot c (new_below (cell_slot slots c) avoids low))
+              free (none_higher slots old v.now),
+          tt,
+        ),
   )
 
   -- ---- what the solver's own binding asks for
-  head_free : (t : Term) (rest : List Cell) → AllByRecursion (CellIsInRange slots) (cells_of t ++ rest) → AllByRecursion (IsFreeFor slots pairs slot) (cells_of t ++ rest) → IsUnbound pairs (cell_slot slots (first_cell t)) × IsNot (cell_slot slots (first_cell t)) slot
-  head_free (terms.app s ts) rest inside h = (tt, tt)
-  head_free (terms.var x) rest inside h =
-      let other = is_other x (in_range-variable slots x inside.0) h.0 in
-      (subst (IsUnbound pairs) (sym (slot_of-cell slots x)) other.1, subst (λ o. IsNot o slot) (sym (slot_of-cell slots x)) other.0)
+  head_differs : (o : Option ℕ) → ((n : ℕ) → slot_leads (leads_to slots pairs slot n) o ≡ false) → IsNot o slot
+  head_differs None none = tt
+  head_differs (Some m) none = λ e. (let bad : true ≡ false = sym (eq-eqb m slot e) ∙ none 0 in cc)
 
-  cells_are : v.now ≡ cells_of whole.0 ++ []
-  cells_are = whole.1.cells_are ∙ sym (append-nil (cells_of whole.0))
+  head_is : get_or v.now 0 no_cell ≡ first_cell whole.0
+  head_is = cell-at v.now 0 whole.0 no_cell (whole_at v.now whole.0 whole.1)
+
+  some : 0 < length v.now
+  some = inside v.now 0 whole.0 (whole_at v.now whole.0 whole.1)
 
   can_bind : CanBind (record { slots = slots; left = v; right = v }) pairs [] (variable_of slots slot) whole.0 slot v
-  can_bind =
-      let head = head_free whole.0 [] (subst (AllByRecursion (CellIsInRange slots)) cells_are range) (subst (AllByRecursion (IsFreeFor slots pairs slot)) cells_are free) in
-      record {
-        legal = legal_at_first (record { slots = slots; left = v; right = v }) pairs ready.bindings ready.triangular whole whole range range;
-        apart = tt;
-        slot_is = slot_open.slot_is;
-        range = slot_open.range;
-        free = slot_open.unfrozen;
-        whole = whole.1;
-        value_range = range;
-        handed_in = inl (record { before = []; after = []; whole = sym (append-nil v.now) });
-        ends = head.0;
-        differs = head.1;
-      }
+  can_bind = record {
+    legal = legal_at_first (record { slots = slots; left = v; right = v }) pairs ready.bindings ready.triangular whole whole range range;
+    apart = tt;
+    slot_is = slot_open.slot_is;
+    range = slot_open.range;
+    free = slot_open.unfrozen;
+    whole = whole.1;
+    value_range = range;
+    handed_in = inl (record { before = []; after = []; whole = sym (append-nil v.now) });
+    ends = ends_unbound slots pairs whole.0 ready.bindings (subst (CellIsInRange slots) head_is (in_range-at slots v.now 0 no_cell range some)) (ap (value_of slots pairs) (sym head_is) ∙ ends);
+    differs = head_differs (cell_slot slots (first_cell whole.0)) (subst (AvoidsCell slots pairs slot) head_is (all_get (AvoidsCell slots pairs slot) v.now 0 no_cell free some));
+  }
 
   -- ---- bound
   pub bound_ready : AllowsSolving slots (pairs ++ (slot, v) ∷ []) count

@@ -1,5 +1,6 @@
 pub mod EndLaws
 pub mod FitTurns
+pub mod OccurringLaws
 pub mod BindLaws
 pub mod MeetLaws
 pub mod WalkLaws

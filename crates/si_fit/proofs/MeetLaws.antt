@@ -1,13 +1,12 @@
 -- Two terms of which one is a variable, or whose heads differ.
-use Rattle.std.proofs.Common.{◌≡◌, ℕ, ◌+◌, true, List, [], ◌∷◌, get_or, refl, sym, ◌∙◌, ap, subst, None, Some}
+use Rattle.std.proofs.Common.{◌≡◌, ℕ, ◌+◌, true, List, [], ◌∷◌, get_or, refl, sym, ◌∙◌, ap, subst, Option, None, Some}
 use Rattle.std.proofs.lemmas.Bool.{eq-eqb}
 use Rattle.std.specs.List.{AllByRecursion}
 use Rattle.std.specs.Borrow.{Bor}
 use Rattle.si_defs.specs.Terms as terms
-use Rattle.si_defs.proofs.ListLaws.{all_front, all_back}
 use Rattle.si_flat.specs.declared.Cell.{Cell}
 use Rattle.si_flat.specs.declared.Cell.TheVariants as cell
-use Rattle.si_flat.specs.Cells.{Symbol, Variable, Term, Terms, variable_cell, cells_of, cells_of_all, StandsFor, IsWhole}
+use Rattle.si_flat.specs.Cells.{Symbol, Variable, query, entry, ind, Term, variable_cell, cells_of, StandsFor, IsWhole}
 use Rattle.si_trail.specs.Trails.{value_at}
 use Rattle.si_unify.specs.declared.slots.Slots.{Slots}
 use Rattle.si_unify.specs.Solving.{Pairs, slot_of, variable_of, is_frozen, CellIsInRange, AreInRange, Equalizes, IsSolvedBy, IsBinding, IsInRange}
@@ -15,29 +14,10 @@ use Rattle.si_unify.specs.Spots.{free_slot}
 use Rattle.si_unify.proofs.Places.{all_at, first_cell, whole_at, cell-at, inside, in_range-at, in_range-variable, variable_of-slot_of}
 use Rattle.si_unify.proofs.Reading.{one_term}
 use Rattle.si_unify.proofs.Meeting.{free_variable, frozen_variable}
-use Rattle.si_fit.specs.Meeting.{IsRigid, IsOpenSlot, slot_cells, same_symbol, HasMet, LeavesFrozen, HasCompared}
+use Rattle.si_fit.specs.Meeting.{IsOpenSlot, IsSameVariable, slot_cells, slot_value, value_of, same_symbol, HasMet, LeavesFrozen}
 use Rattle.si_fit.specs.declared.meeting.Met.{Met}
 use Rattle.si_fit.specs.declared.meeting.Met.TheVariants.{Equal, Clash, Unknown}
 use Rattle.si_fit.proofs.EndLaws.{no_cell}
-
--- ---- rigid terms stay as they are
-module _ (slots : Slots) (f : Variable → Term) (leaves : LeavesFrozen slots f) where
-  mutual
-    stays : (t : Term) → AllByRecursion (IsRigid slots) (cells_of t) → terms.substitute f t ≡ t
-    stays (terms.var x) h = leaves x (frozen_variable slots x h.0)
-    stays (terms.app s ts) h = ap (terms.app s) (stay ts h.1)
-
-    stay : (ts : Terms) → AllByRecursion (IsRigid slots) (cells_of_all ts) → terms.substitute_all f ts ≡ ts
-    stay terms.none h = refl
-    stay (terms.more t ts) h = λ i. terms.more (stays t (all_front (IsRigid slots) (cells_of t) (cells_of_all ts) h) i) (stay ts (all_back (IsRigid slots) (cells_of t) (cells_of_all ts) h) i)
-
-pub rigid_clash : (slots : Slots) (left right : List Cell) → IsWhole left → IsWhole right → (left ≡ right → ⊥) → AllByRecursion (IsRigid slots) left → AllByRecursion (IsRigid slots) right → HasCompared slots left right Clash
-rigid_clash slots left right t u differ left_rigid right_rigid f leaves equal =
-    let same : t.0 ≡ u.0 =
-    sym (stays slots f leaves t.0 (subst (AllByRecursion (IsRigid slots)) t.1.cells_are left_rigid))
-    ∙ equal t.0 u.0 t.1 u.1
-    ∙ stays slots f leaves u.0 (subst (AllByRecursion (IsRigid slots)) u.1.cells_are right_rigid) in
-    differ (t.1.cells_are ∙ ap cells_of same ∙ sym u.1.cells_are)
 
 -- ---- nothing is bound
 pub same_met : (slots : Slots) (pairs : Pairs) (left right : List Cell) → left ≡ right → HasMet slots pairs pairs left right Equal
@@ -47,21 +27,30 @@ same_met slots pairs left right e f = (
 )
 
 -- the slot has this value
-pub value_met : (slots : Slots) (pairs : Pairs) (slot : ℕ) (v : Bor (List Cell)) (term : List Cell) (m : Met) → AllByRecursion (IsBinding slots) pairs → value_at pairs slot ≡ Some v → HasCompared slots v.now term m → HasMet slots pairs pairs (slot_cells slots slot) term m
-value_met slots pairs slot v term m bindings e h = go m h where
-  bound : (f : Variable → Term) → IsSolvedBy slots pairs f → Equalizes f (slot_cells slots slot) v.now
-  bound f is = all_at (λ pair. Equalizes f (variable_cell (variable_of slots pair.0) ∷ []) pair.1.now) pairs slot v is.equal e
+pub value_met : (slots : Slots) (old new : Pairs) (slot : ℕ) (v : Bor (List Cell)) (term : List Cell) (m : Met) → AllByRecursion (IsBinding slots) old → value_at old slot ≡ Some v → HasMet slots old new v.now term m → HasMet slots old new (slot_cells slots slot) term m
+value_met slots old new slot v term m bindings e h = go m h where
+  whole : IsWhole v.now
+  whole = (all_at (IsBinding slots) old slot v bindings e).whole
 
-  go : (n : Met) → HasCompared slots v.now term n → HasMet slots pairs pairs (slot_cells slots slot) term n
+  stands : StandsFor (slot_cells slots slot) (terms.var (variable_of slots slot))
+  stands = record { cells_are = refl; sound = tt }
+
+  bound : (f : Variable → Term) → IsSolvedBy slots old f → Equalizes f (slot_cells slots slot) v.now
+  bound f is = all_at (λ pair. Equalizes f (variable_cell (variable_of slots pair.0) ∷ []) pair.1.now) old slot v is.equal e
+
+  from_value : (f : Variable → Term) → IsSolvedBy slots old f → Equalizes f v.now term → Equalizes f (slot_cells slots slot) term
+  from_value f is equal t u left right = bound f is t whole.0 left whole.1 ∙ equal whole.0 u whole.1 right
+
+  to_value : (f : Variable → Term) → IsSolvedBy slots old f → Equalizes f (slot_cells slots slot) term → Equalizes f v.now term
+  to_value f is equal t u left right = sym (bound f is (terms.var (variable_of slots slot)) t stands left) ∙ equal (terms.var (variable_of slots slot)) u stands right
+
+  go : (n : Met) → HasMet slots old new v.now term n → HasMet slots old new (slot_cells slots slot) term n
   go Unknown k = tt
   go Equal k = λ f. (
-    λ solved. (solved, subst (Equalizes f (slot_cells slots slot)) k (bound f solved)),
-    λ both. both.0,
+    λ solved. let both = (k f).0 solved in (both.0, from_value f both.0 both.1),
+    λ both. (k f).1 (both.0, to_value f both.0 both.1),
   )
-  go Clash k = λ f solved equal.
-      k f solved.frozen (λ t u left right.
-      sym (bound f solved (terms.var (variable_of slots slot)) t (record { cells_are = refl; sound = tt }) left)
-      ∙ equal (terms.var (variable_of slots slot)) u (record { cells_are = refl; sound = tt }) right)
+  go Clash k = λ f solved equal. k f solved (to_value f solved equal)
 
 -- ---- turned
 equal_turned : (f : Variable → Term) (left right : List Cell) → Equalizes f left right → Equalizes f right left
@@ -109,24 +98,88 @@ right_met slots old new slot left right m x h = met_turned slots old new right l
 same_heads : (s r : Symbol) (m n : ℕ) → s ≡ r → same_symbol (cell.App s.number s.arity m) (cell.App r.number r.arity n) ≡ true
 same_heads s r m n e = rw (eq-eqb s.number r.number (ap (λ a. a.number) e), eq-eqb s.arity r.arity (ap (λ a. a.arity) e)) refl
 
-apart : (slots : Slots) (t u : Term) (f : Variable → Term) → (t ≡ u → ⊥) → free_slot slots (first_cell t) ≡ None → free_slot slots (first_cell u) ≡ None → (same_symbol (first_cell t) (first_cell u) ≡ true → ⊥) → LeavesFrozen slots f → terms.substitute f t ≡ terms.substitute f u → ⊥
-apart slots (terms.var x) (terms.var y) f differ left right heads leaves e =
-    differ (sym (leaves x (frozen_variable slots x left)) ∙ e ∙ leaves y (frozen_variable slots y right))
-apart slots (terms.var x) (terms.app r us) f differ left right heads leaves e =
+self_variable : (x y : Variable) → x ≡ y → IsSameVariable (variable_cell x) (variable_cell y)
+self_variable x y e = subst (λ z. IsSameVariable (variable_cell x) (variable_cell z)) e (self x) where
+  self : (x : Variable) → IsSameVariable (variable_cell x) (variable_cell x)
+  self (query n) = refl
+  self (entry n) = refl
+  self (ind n) = refl
+
+apart : (slots : Slots) (t u : Term) (f : Variable → Term) → (IsSameVariable (first_cell t) (first_cell u) → ⊥) → free_slot slots (first_cell t) ≡ None → free_slot slots (first_cell u) ≡ None → (same_symbol (first_cell t) (first_cell u) ≡ true → ⊥) → LeavesFrozen slots f → terms.substitute f t ≡ terms.substitute f u → ⊥
+apart slots (terms.var x) (terms.var y) f others left right heads leaves e =
+    let same : terms.var x ≡ terms.var y = sym (leaves x (frozen_variable slots x left)) ∙ e ∙ leaves y (frozen_variable slots y right) in
+    let is : x ≡ y = cc in others (self_variable x y is)
+apart slots (terms.var x) (terms.app r us) f others left right heads leaves e =
     let bad : terms.var x ≡ terms.app r (terms.substitute_all f us) = sym (leaves x (frozen_variable slots x left)) ∙ e in cc
-apart slots (terms.app s ts) (terms.var y) f differ left right heads leaves e =
+apart slots (terms.app s ts) (terms.var y) f others left right heads leaves e =
     let bad : terms.app s (terms.substitute_all f ts) ≡ terms.var y = e ∙ leaves y (frozen_variable slots y right) in cc
-apart slots (terms.app s ts) (terms.app r us) f differ left right heads leaves e =
+apart slots (terms.app s ts) (terms.app r us) f others left right heads leaves e =
     let same : s ≡ r = cc in heads (same_heads s r (1 + terms.sizes ts) (1 + terms.sizes us) same)
 
-pub heads_clash : (slots : Slots) (old new : Pairs) (left right : List Cell) → IsWhole left → IsWhole right → (left ≡ right → ⊥) → free_slot slots (get_or left 0 no_cell) ≡ None → free_slot slots (get_or right 0 no_cell) ≡ None → (same_symbol (get_or left 0 no_cell) (get_or right 0 no_cell) ≡ true → ⊥) → HasMet slots old new left right Clash
-heads_clash slots old new left right t u differ left_fixed right_fixed heads f solved equal =
+pub heads_clash : (slots : Slots) (old new : Pairs) (left right : List Cell) → IsWhole left → IsWhole right → (IsSameVariable (get_or left 0 no_cell) (get_or right 0 no_cell) → ⊥) → free_slot slots (get_or left 0 no_cell) ≡ None → free_slot slots (get_or right 0 no_cell) ≡ None → (same_symbol (get_or left 0 no_cell) (get_or right 0 no_cell) ≡ true → ⊥) → HasMet slots old new left right Clash
+heads_clash slots old new left right t u others left_fixed right_fixed heads f solved equal =
     let left_is = head_of left t.0 t.1 in
     let right_is = head_of right u.0 u.1 in
     apart slots t.0 u.0 f
-    (λ e. differ (t.1.cells_are ∙ ap cells_of e ∙ sym u.1.cells_are))
+    (λ e. others (subst (λ c. IsSameVariable c (get_or right 0 no_cell)) (sym left_is) (subst (IsSameVariable (first_cell t.0)) (sym right_is) e)))
     (ap (free_slot slots) (sym left_is) ∙ left_fixed)
     (ap (free_slot slots) (sym right_is) ∙ right_fixed)
     (λ e. heads (ap (λ c. same_symbol c (get_or right 0 no_cell)) left_is ∙ ap (same_symbol (first_cell t.0)) right_is ∙ e))
     solved.frozen
     (equal t.0 u.0 t.1 u.1)
+
+-- ---- one variable on both sides
+one_variable : (x y : Variable) → IsSameVariable (variable_cell x) (variable_cell y) → x ≡ y
+one_variable (query m) (query n) e = ap query e
+one_variable (entry m) (entry n) e = ap entry e
+one_variable (ind m) (ind n) e = ap ind e
+one_variable (query m) (entry n) e = absurd e
+one_variable (query m) (ind n) e = absurd e
+one_variable (entry m) (query n) e = absurd e
+one_variable (entry m) (ind n) e = absurd e
+one_variable (ind m) (query n) e = absurd e
+one_variable (ind m) (entry n) e = absurd e
+
+one_head : (t u : Term) → IsSameVariable (first_cell t) (first_cell u) → t ≡ u
+one_head (terms.var x) (terms.var y) e = ap terms.var (one_variable x y e)
+one_head (terms.var (query n)) (terms.app r us) e = absurd e
+one_head (terms.var (entry n)) (terms.app r us) e = absurd e
+one_head (terms.var (ind n)) (terms.app r us) e = absurd e
+one_head (terms.app s ts) u e = absurd e
+
+pub variable_met : (slots : Slots) (pairs : Pairs) (left right : List Cell) → IsWhole left → IsWhole right → IsSameVariable (get_or left 0 no_cell) (get_or right 0 no_cell) → HasMet slots pairs pairs left right Equal
+variable_met slots pairs left right t u e =
+    let heads = subst (λ c. IsSameVariable c (first_cell u.0)) (head_of left t.0 t.1) (subst (IsSameVariable (get_or left 0 no_cell)) (head_of right u.0 u.1) e) in
+    same_met slots pairs left right (t.1.cells_are ∙ ap cells_of (one_head t.0 u.0 heads) ∙ sym u.1.cells_are)
+
+-- ---- a bound variable on one side
+-- a cell that has a value is that of a slot
+pub record IsValueOf (slots : Slots) (pairs : Pairs) (c : Cell) (v : Bor (List Cell)) : Type 0 where
+  pub slot : ℕ
+  pub slot_is : free_slot slots c ≡ Some slot
+  pub bound : value_at pairs slot ≡ Some v
+
+value_slot : (slots : Slots) (pairs : Pairs) (c : Cell) (v : Bor (List Cell)) → value_of slots pairs c ≡ Some v → IsValueOf slots pairs c v
+value_slot slots pairs c v e = go (free_slot slots c) refl where
+  go : (o : Option ℕ) → free_slot slots c ≡ o → IsValueOf slots pairs c v
+  go None is = let bad : None ≡ Some v = ap (slot_value pairs) (sym is) ∙ e in cc
+  go (Some slot) is = record { slot = slot; slot_is = is; bound = ap (slot_value pairs) (sym is) ∙ e }
+
+pub value_binding : (slots : Slots) (pairs : Pairs) (c : Cell) (v : Bor (List Cell)) → AllByRecursion (IsBinding slots) pairs → value_of slots pairs c ≡ Some v → IsWhole v.now × AreInRange slots v.now
+value_binding slots pairs c v bindings e =
+    let is = value_slot slots pairs c v e in
+    let binding = all_at (IsBinding slots) pairs is.slot v bindings is.bound in
+    (binding.whole, binding.in_range)
+
+pub left_followed : (slots : Slots) (old new : Pairs) (left right : List Cell) (v : Bor (List Cell)) (m : Met) → IsWhole left → AreInRange slots left → AllByRecursion (IsBinding slots) old → value_of slots old (get_or left 0 no_cell) ≡ Some v → HasMet slots old new v.now right m → HasMet slots old new left right m
+left_followed slots old new left right v m whole range bindings e h =
+    let is = value_slot slots old (get_or left 0 no_cell) v e in
+    left_met slots old new is.slot left right m (variable_at slots is.slot left whole range is.slot_is) (value_met slots old new is.slot v right m bindings is.bound h)
+
+pub right_followed : (slots : Slots) (old new : Pairs) (left right : List Cell) (v : Bor (List Cell)) (m : Met) → IsWhole right → AreInRange slots right → AllByRecursion (IsBinding slots) old → value_of slots old (get_or right 0 no_cell) ≡ Some v → HasMet slots old new left v.now m → HasMet slots old new left right m
+right_followed slots old new left right v m whole range bindings e h =
+    met_turned slots old new right left m (left_followed slots old new right left v m whole range bindings e (met_turned slots old new left v.now m h))
+
+-- a slot of a cell that has no value is unbound
+pub slot_unbound : (slots : Slots) (pairs : Pairs) (c : Cell) (slot : ℕ) → free_slot slots c ≡ Some slot → value_of slots pairs c ≡ None → value_at pairs slot ≡ None
+slot_unbound slots pairs c slot is e = ap (slot_value pairs) (sym is) ∙ e

@@ -4,13 +4,14 @@ use Rattle.std.proofs.lemmas.List.{length-drop}
 use Rattle.std.proofs.Math.Seq.{drop-append_seam}
 use Rattle.si_defs.specs.Terms as terms
 use Rattle.si_defs.specs.Substitutions.{Grows}
+use Rattle.si_defs.proofs.ListLaws.{all_take, all_drop}
 use Rattle.si_defs.proofs.TermLaws.{size_some, same_app, same_more}
 use Rattle.si_flat.specs.declared.Cell.{Cell}
 use Rattle.si_flat.specs.declared.Cell.TheVariants as cell
 use Rattle.si_flat.specs.Cells.{Symbol, Variable, Term, Terms, join, cells_of, cells_of_all, AreSound, StandsFor, IsWhole}
 use Rattle.si_flat.proofs.Subterms.{length-cells_of_all, cells_some}
 use Rattle.si_unify.specs.declared.slots.Slots.{Slots}
-use Rattle.si_unify.specs.Solving.{Pairs, Equalizes, IsSolvedBy}
+use Rattle.si_unify.specs.Solving.{Pairs, CellIsInRange, AreInRange, Equalizes, IsSolvedBy}
 use Rattle.si_unify.specs.Spots.{IsAt, common_arity}
 use Rattle.si_unify.proofs.Places.{first_cell, cell-at, inside}
 use Rattle.si_unify.proofs.Reading.{one_term}
@@ -29,6 +30,10 @@ use Rattle.si_fit.proofs.FitTurns.{no_more}
 behind : (cells : List Cell) (at : ℕ) (front back : List Cell) (n : ℕ) → drop at cells ≡ front ++ back → n ≡ length front → drop (at + n) cells ≡ back
 behind cells at front back n e long =
     sym (drop-drop n at cells) ∙ ap (drop n) e ∙ ap (λ k. drop k (front ++ back)) long ∙ drop-append_seam front back
+
+-- what is cut out
+pub cut_in_range : (slots : Slots) (cells : List Cell) (at : ℕ) (piece : List Cell) → AreInRange slots cells → piece ≡ take (length piece) (drop at cells) → AreInRange slots piece
+cut_in_range slots cells at piece range place = subst (AreInRange slots) (sym place) (all_take (CellIsInRange slots) (length piece) (drop at cells) (all_drop (CellIsInRange slots) at cells range))
 
 no_terms : (ts : Terms) → length (cells_of_all ts) ≡ 0 → ts ≡ terms.none
 no_terms terms.none e = refl

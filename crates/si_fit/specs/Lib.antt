@@ -1,3 +1,4 @@
 pub mod Fitting
 pub mod Ends
 pub mod Meeting
+pub mod Occurring

@@ -1,5 +1,6 @@
 -- What is told of two terms that are to be made equal, where no search is made.
 use Rattle.std.specs.Prelude.{◌≡◌, ℕ, ◌↔◌, ◌==◌, Bool, true, false, ◌&&◌, List, [], ◌∷◌, Option, None, Some}
+use Rattle.std.specs.Borrow.{Bor}
 use Rattle.si_defs.specs.Terms as terms
 use Rattle.si_flat.specs.declared.Cell.{Cell}
 use Rattle.si_flat.specs.declared.Cell.TheVariants as cell
@@ -12,18 +13,19 @@ use Rattle.si_fit.specs.declared.meeting.Met.{Met}
 use Rattle.si_fit.specs.declared.meeting.Met.TheVariants.{Equal, Clash, Unknown}
 
 -- ---- cells
--- no variable that isn't frozen
-abbrev pub IsRigid : Slots → Cell → Type 0
-IsRigid slots c = free_slot slots c ≡ None
+-- what a variable that isn't frozen is bound to
+abbrev pub slot_value : Pairs → Option ℕ → Option (Bor (List Cell))
+slot_value pairs None = None
+slot_value pairs (Some slot) = value_at pairs slot
 
--- the slot is unbound, and isn't this one
-abbrev pub IsOtherUnbound : Pairs → ℕ → Option ℕ → Type 0
-IsOtherUnbound pairs slot None = Unit {0}
-IsOtherUnbound pairs slot (Some other) = (other ≡ slot → ⊥) × (value_at pairs other ≡ None)
+abbrev pub value_of : Slots → Pairs → Cell → Option (Bor (List Cell))
+value_of slots pairs c = slot_value pairs (free_slot slots c)
 
--- no variable that is bound or has this slot, but for frozen ones
-abbrev pub IsFreeFor : Slots → Pairs → ℕ → Cell → Type 0
-IsFreeFor slots pairs slot c = IsOtherUnbound pairs slot (free_slot slots c)
+abbrev pub IsSameVariable : Cell → Cell → Type 0
+IsSameVariable (cell.Query m) (cell.Query n) = m ≡ n
+IsSameVariable (cell.Entry m) (cell.Entry n) = m ≡ n
+IsSameVariable (cell.Ind m) (cell.Ind n) = m ≡ n
+IsSameVariable _ _ = ⊥
 
 abbrev pub same_symbol : Cell → Cell → Bool
 same_symbol (cell.App s a m) (cell.App r b n) = s == r && a == b
@@ -53,10 +55,3 @@ HasMet slots old new left right Unknown = Unit {0}
 
 abbrev pub LeavesFrozen : Slots → (Variable → Term) → Type 0
 LeavesFrozen slots f = (x : Variable) → is_frozen slots x ≡ true → f x ≡ terms.var x
-
--- without the bindings
-abbrev pub HasCompared : Slots → List Cell → List Cell → Met → Type 0
-HasCompared slots left right Equal = left ≡ right
-HasCompared slots left right Clash =
-    (f : Variable → Term) → LeavesFrozen slots f → Equalizes f left right → ⊥
-HasCompared slots left right Unknown = Unit {0}

@@ -1,26 +1,12 @@
 // Where chains of bound variables end.
-ghost use Rattle.std.specs.Prelude.{◌≡◌};
 ghost use Rattle.si_flat.specs.Cells.{IsWhole};
 ghost use Rattle.si_unify.specs.Solving.{AreInRange};
-ghost use Rattle.si_unify.specs.Spots.{cell_slot};
 ghost use Rattle.si_fit.specs.Ends.{EndsAt};
 ghost use Rattle.si_fit.specs.Fitting.{AllowsSolving};
 
 use si_flat::Cell;
 use si_trail::Trail;
 use si_unify::Slots;
-
-// The slot of a variable's cell.
-pub(crate) fn slot_of(slots: &Slots, cell: Cell) -> Option<usize>
-    ensures { result ≡ cell_slot slots.now cell }
-{
-    match cell {
-        Cell::App { .. } => None,
-        Cell::Query(number) => Some(number as usize),
-        Cell::Entry(number) => Some(slots.query as usize + number as usize),
-        Cell::Ind(number) => Some(slots.query as usize + slots.entry as usize + number as usize),
-    }
-}
 
 /// The term that stands at the end of the chain: while it is a bound variable, its value is next.
 pub fn end_of<'a>(trail: &Trail<&'a [Cell]>, slots: &Slots, start: &'a [Cell]) -> &'a [Cell]
@@ -32,7 +18,7 @@ pub fn end_of<'a>(trail: &Trail<&'a [Cell]>, slots: &Slots, start: &'a [Cell]) -
 {
     let mut reached = start;
     for _ in 0..trail.mark() {
-        let Some(slot) = slot_of(slots, reached[0]) else {
+        let Some(slot) = slots.slot_of(reached[0]) else {
             return reached;
         };
         match trail.get(slot) {

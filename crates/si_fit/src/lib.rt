@@ -4,6 +4,7 @@
 mod ends;
 mod fitting;
 mod meeting;
+mod occurring;
 mod walking;
 
 pub use ends::end_of;

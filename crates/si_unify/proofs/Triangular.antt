@@ -82,7 +82,7 @@ told_behind first pair pairs none e =
     ]
 
 -- each pair is the one that its slot finds
-all_told : (pairs : Pairs) → HasDistinctSlots pairs → AllByRecursion (IsFound pairs) pairs
+pub all_told : (pairs : Pairs) → HasDistinctSlots pairs → AllByRecursion (IsFound pairs) pairs
 all_told [] h = tt
 all_told (p ∷ pairs) h = (
   rw (eq-eqb p.0 p.0 refl) refl,

@@ -49,8 +49,8 @@ impl Slots {
         }
     }
 
-    // The slot of a variable's cell.
-    pub(crate) fn slot_of(&self, cell: Cell) -> Option<usize>
+    /// The slot of a variable's cell.
+    pub fn slot_of(&self, cell: Cell) -> Option<usize>
         ensures { result ≡ cell_slot self.now cell }
     {
         match cell {
@@ -63,8 +63,8 @@ impl Slots {
         }
     }
 
-    // The slot of the cell of a variable that isn't frozen.
-    pub(crate) fn free_slot(&self, cell: Cell) -> Option<usize>
+    /// The slot of the cell of a variable that isn't frozen.
+    pub fn free_slot(&self, cell: Cell) -> Option<usize>
         ensures { result ≡ free_slot self.now cell }
     {
         match cell {

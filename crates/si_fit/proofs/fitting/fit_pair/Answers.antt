@@ -8,22 +8,21 @@ use Rattle.si_fit.proofs.fitting.fit_pair.Goals as goal
 
 pub returns-in-Equal-clause-solved : goal.returns-in-Equal-clause-solved
 returns-in-Equal-clause-solved c =
-    met_solved c.args.slots.now c.args.trail.now.pairs c.walk.new.trail.pairs c.args.left.now c.end_of-end.result.now c.args.right.now c.end_of-end.ensures.ends
-    c.walk.new.trail.slots c.in-Equal.ensures.met c.walk.ensures.ready c.mark.ensures.distinct
+    met_solved c.args.slots.now c.args.trail.now.pairs c.meet.new.trail.pairs c.args.left.now c.args.right.now
+    c.meet.new.trail.slots c.in-Equal.ensures.met c.meet.ensures.ready c.mark.ensures.distinct
 
 pub returns-in-Clash-clause-solved : goal.returns-in-Clash-clause-solved
 returns-in-Clash-clause-solved c =
-    clash_unsolved c.args.slots.now c.args.trail.now.pairs c.walk.new.trail.pairs c.args.left.now c.end_of-end.result.now c.args.right.now c.end_of-end.ensures.ends
-    c.in-Clash.ensures.met
+    clash_unsolved c.args.slots.now c.args.trail.now.pairs c.meet.new.trail.pairs c.args.left.now c.args.right.now c.in-Clash.ensures.met
 
 pub returns-in-Unknown-clause-solved : goal.returns-in-Unknown-clause-solved
 returns-in-Unknown-clause-solved c =
     subst (λ l. IfOk c.solve_with.result (HasSolved c.args.slots.now l c.solve_with.new.trail.pairs c.args.left.now c.args.right.now))
-    (c.undo.ensures.pairs ∙ ap (λ n. take n c.walk.new.trail.pairs) c.mark-mark.ensures.number ∙ front_of c.args.trail.now.pairs c.walk.new.trail.pairs c.walk.ensures.grows)
+    (c.undo.ensures.pairs ∙ ap (λ n. take n c.meet.new.trail.pairs) c.mark-mark.ensures.number ∙ front_of c.args.trail.now.pairs c.meet.new.trail.pairs c.meet.ensures.grows)
     c.solve_with.ensures.solved
 
 pub returns-in-Unknown-clause-grows : goal.returns-in-Unknown-clause-grows
 returns-in-Unknown-clause-grows c =
     subst (λ l. Grows l c.solve_with.new.trail.pairs)
-    (c.undo.ensures.pairs ∙ ap (λ n. take n c.walk.new.trail.pairs) c.mark-mark.ensures.number ∙ front_of c.args.trail.now.pairs c.walk.new.trail.pairs c.walk.ensures.grows)
+    (c.undo.ensures.pairs ∙ ap (λ n. take n c.meet.new.trail.pairs) c.mark-mark.ensures.number ∙ front_of c.args.trail.now.pairs c.meet.new.trail.pairs c.meet.ensures.grows)
     (still_grows c.undo.new.self.pairs c.solve_with.new.trail.pairs c.solve_with.result c.solve_with.ensures.grows c.solve_with.ensures.no c.solve_with.ensures.err)

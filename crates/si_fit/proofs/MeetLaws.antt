@@ -1,23 +1,26 @@
 -- Two terms of which one is a variable, or whose heads differ.
-use Rattle.std.proofs.Common.{◌≡◌, ℕ, ◌+◌, true, List, [], ◌∷◌, get_or, refl, sym, ◌∙◌, ap, subst, Option, None, Some}
+use Rattle.std.proofs.Common.{◌≡◌, ℕ, ◌+◌, ◌≤◌, true, List, [], ◌∷◌, get_or, refl, sym, ◌∙◌, ap, subst, arith, Option, None, Some}
 use Rattle.std.proofs.lemmas.Bool.{eq-eqb}
 use Rattle.std.specs.List.{AllByRecursion}
 use Rattle.std.specs.Borrow.{Bor}
 use Rattle.si_defs.specs.Terms as terms
 use Rattle.si_flat.specs.declared.Cell.{Cell}
 use Rattle.si_flat.specs.declared.Cell.TheVariants as cell
-use Rattle.si_flat.specs.Cells.{Symbol, Variable, query, entry, ind, Term, variable_cell, cells_of, StandsFor, IsWhole}
+use Rattle.si_flat.specs.Cells.{Symbol, Variable, query, entry, ind, Term, Terms, variable_cell, cells_of, cells_of_all, StandsFor, IsWhole}
 use Rattle.si_trail.specs.Trails.{value_at}
 use Rattle.si_unify.specs.declared.slots.Slots.{Slots}
 use Rattle.si_unify.specs.Solving.{Pairs, slot_of, variable_of, is_frozen, CellIsInRange, AreInRange, Equalizes, IsSolvedBy, IsBinding, IsInRange}
 use Rattle.si_unify.specs.Spots.{free_slot}
 use Rattle.si_unify.proofs.Places.{all_at, first_cell, whole_at, cell-at, inside, in_range-at, in_range-variable, variable_of-slot_of}
 use Rattle.si_unify.proofs.Reading.{one_term}
+use Rattle.si_unify.proofs.Weights.{fits_all}
 use Rattle.si_unify.proofs.Meeting.{free_variable, frozen_variable}
 use Rattle.si_fit.specs.Meeting.{IsOpenSlot, IsSameVariable, slot_cells, slot_value, value_of, same_symbol, HasMet, LeavesFrozen}
 use Rattle.si_fit.specs.declared.meeting.Met.{Met}
 use Rattle.si_fit.specs.declared.meeting.Met.TheVariants.{Equal, Clash, Unknown}
+use Rattle.si_fit.specs.Occurring.{image_size, OccursIn}
 use Rattle.si_fit.proofs.EndLaws.{no_cell}
+use Rattle.si_fit.proofs.OccurringLaws.{images_fit}
 
 -- ---- nothing is bound
 pub same_met : (slots : Slots) (pairs : Pairs) (left right : List Cell) → left ≡ right → HasMet slots pairs pairs left right Equal
@@ -183,3 +186,20 @@ right_followed slots old new left right v m whole range bindings e h =
 -- a slot of a cell that has no value is unbound
 pub slot_unbound : (slots : Slots) (pairs : Pairs) (c : Cell) (slot : ℕ) → free_slot slots c ≡ Some slot → value_of slots pairs c ≡ None → value_at pairs slot ≡ None
 slot_unbound slots pairs c slot is e = ap (slot_value pairs) (sym is) ∙ e
+
+-- ---- a variable in the arguments of a symbol
+symbol_head : (t : Term) (s a n : ℕ) → first_cell t ≡ cell.App s a n → (symbol : Symbol) × (arguments : Terms) × (t ≡ terms.app symbol arguments)
+symbol_head (terms.var (query k)) s a n e = cc
+symbol_head (terms.var (entry k)) s a n e = cc
+symbol_head (terms.var (ind k)) s a n e = cc
+symbol_head (terms.app symbol arguments) s a n e = (symbol, arguments, refl)
+
+pub occurs_clash : (slots : Slots) (old new : Pairs) (slot : ℕ) (cells : List Cell) (s a n : ℕ) → IsWhole cells → get_or cells 0 no_cell ≡ cell.App s a n → OccursIn slots old slot cells → HasMet slots old new (slot_cells slots slot) cells Clash
+occurs_clash slots old new slot cells s a n t head occurs f solved equal =
+    let is = symbol_head t.0 s a n (sym (head_of cells t.0 t.1) ∙ head) in
+    let room : ℕ = terms.sizes (terms.substitute_all f is.1) in
+    let fits : AllByRecursion (λ c. image_size f c ≤ room) cells =
+    subst (AllByRecursion (λ c. image_size f c ≤ room)) (sym (t.1.cells_are ∙ ap cells_of is.2)) (omega arith, images_fit slots old slot f room (cells_of_all is.1) (fits_all f room is.1 (omega arith))) in
+    let same : f (variable_of slots slot) ≡ terms.app is.0 (terms.substitute_all f is.1) =
+    equal (terms.var (variable_of slots slot)) t.0 (record { cells_are = refl; sound = tt }) t.1 ∙ ap (terms.substitute f) is.2 in
+    absurd (omega (arith, occurs f room solved fits, ap terms.size same))

@@ -4,14 +4,21 @@ use Rattle.std.proofs.lemmas.Bool.Decides.{eqb_tells}
 use Rattle.std.proofs.Math.Seq.{take-suc}
 use Rattle.std.specs.List.{AllByRecursion}
 use Rattle.std.specs.Borrow.{Bor}
-use Rattle.si_defs.proofs.ListLaws.{all_weaker, all_append}
+use Rattle.si_defs.specs.Terms as terms
+use Rattle.si_defs.proofs.ListLaws.{all_weaker, all_append, all_get}
 use Rattle.si_flat.specs.declared.Cell.{Cell}
+use Rattle.si_flat.specs.declared.Cell.TheVariants as cell
+use Rattle.si_flat.specs.Cells.{Variable, query, entry, ind, Term, variable_cell, cells_of}
 use Rattle.si_trail.specs.Trails.{value_at}
 use Rattle.si_unify.specs.declared.slots.Slots.{Slots}
-use Rattle.si_unify.specs.Solving.{Pairs}
+use Rattle.si_unify.specs.Solving.{Pairs, slot_of, variable_of, IsInRange, CellIsInRange, IsSolvedBy, IsBinding}
 use Rattle.si_unify.specs.Spots.{cell_slot}
-use Rattle.si_fit.specs.Occurring.{slot_leads, some_leads, value_leads, leads_to, AvoidsCell, Avoids}
-use Rattle.si_fit.proofs.EndLaws.{no_cell}
+use Rattle.si_unify.proofs.Places.{all_at, variable_of-slot_of}
+use Rattle.si_unify.proofs.Weights.{FitsIn, fits}
+use Rattle.si_fit.specs.Occurring.{slot_leads, some_leads, value_leads, leads_to, AvoidsCell, Avoids, image_size, OccursInCell, OccursIn, HasSearchedCell, HasSearched}
+use Rattle.si_fit.specs.declared.occurring.Occurrence.{Occurrence}
+use Rattle.si_fit.specs.declared.occurring.Occurrence.TheVariants.{Absent, Present, Unknown}
+use Rattle.si_fit.proofs.EndLaws.{no_cell, value_same}
 
 or_true : (b : Bool) → (b || true) ≡ true
 or_true true = refl
@@ -94,3 +101,47 @@ module _ (slots : Slots) (pairs : Pairs) (target : ℕ) (c : Cell) where
       avoids_by slot e apart (λ n.
       ap (value_leads (leads_to slots pairs target n) slots) bound
       ∙ none_leads (leads_to slots pairs target n) slots v.now (all_weaker (AvoidsCell slots pairs target) (λ d. slot_leads (leads_to slots pairs target n) (cell_slot slots d) ≡ false) v.now (λ d k. k n) h))
+
+-- ---- what is found
+module _ (slots : Slots) (pairs : Pairs) (target : ℕ) where
+  no_larger : (x : Variable) → IsInRange slots x → slot_of slots x ≡ target → (f : Variable → Term) → terms.size (f (variable_of slots target)) ≤ terms.size (f x)
+  no_larger x range e f = omega (arith, ap (λ y. terms.size (f y)) (ap (variable_of slots) (sym e) ∙ variable_of-slot_of slots x range))
+
+  pub itself_occurs : (c : Cell) → CellIsInRange slots c → cell_slot slots c ≡ Some target → OccursInCell slots pairs target c
+  itself_occurs (cell.App s a n) range e = cc
+  itself_occurs (cell.Query n) range e = let here : slot_of slots (query n) ≡ target = cc in λ f is. no_larger (query n) range here f
+  itself_occurs (cell.Entry n) range e = let here : slot_of slots (entry n) ≡ target = cc in λ f is. no_larger (entry n) range here f
+  itself_occurs (cell.Ind n) range e = let here : slot_of slots (ind n) ≡ target = cc in λ f is. no_larger (ind n) range here f
+
+  fit_image : (f : Variable → Term) (n : ℕ) (c : Cell) → FitsIn f n c → image_size f c ≤ n
+  fit_image f n (cell.App s a m) h = omega arith
+  fit_image f n (cell.Query k) h = h
+  fit_image f n (cell.Entry k) h = h
+  fit_image f n (cell.Ind k) h = h
+
+  pub images_fit : (f : Variable → Term) (n : ℕ) (cells : List Cell) → AllByRecursion (FitsIn f n) cells → AllByRecursion (λ c. image_size f c ≤ n) cells
+  images_fit f n cells h = all_weaker (FitsIn f n) (λ c. image_size f c ≤ n) cells (fit_image f n) h
+
+  in_value : (x : Variable) (slot : ℕ) (v : Bor (List Cell)) → CellIsInRange slots (variable_cell x) → slot_of slots x ≡ slot → value_at pairs slot ≡ Some v → AllByRecursion (IsBinding slots) pairs → OccursIn slots pairs target v.now → (f : Variable → Term) → IsSolvedBy slots pairs f → terms.size (f (variable_of slots target)) ≤ terms.size (f x)
+  in_value x slot v range e bound bindings occurs f is =
+      let whole = (all_at (IsBinding slots) pairs slot v bindings bound).whole in
+      let same : f x ≡ terms.substitute f whole.0 = value_same slots pairs x v whole.0 range (ap (value_at pairs) e ∙ bound) whole.1 f is in
+      occurs f (terms.size (f x)) is
+      (subst (AllByRecursion (λ c. image_size f c ≤ terms.size (f x))) (sym whole.1.cells_are)
+      (images_fit f (terms.size (f x)) (cells_of whole.0) (fits f (terms.size (f x)) whole.0 (omega (arith, ap terms.size same)))))
+
+  pub value_occurs : (c : Cell) (slot : ℕ) (v : Bor (List Cell)) → CellIsInRange slots c → cell_slot slots c ≡ Some slot → value_at pairs slot ≡ Some v → AllByRecursion (IsBinding slots) pairs → OccursIn slots pairs target v.now → OccursInCell slots pairs target c
+  value_occurs (cell.App s a n) slot v range e bound bindings occurs = cc
+  value_occurs (cell.Query n) slot v range e bound bindings occurs = let here : slot_of slots (query n) ≡ slot = cc in in_value (query n) slot v range here bound bindings occurs
+  value_occurs (cell.Entry n) slot v range e bound bindings occurs = let here : slot_of slots (entry n) ≡ slot = cc in in_value (entry n) slot v range here bound bindings occurs
+  value_occurs (cell.Ind n) slot v range e bound bindings occurs = let here : slot_of slots (ind n) ≡ slot = cc in in_value (ind n) slot v range here bound bindings occurs
+
+  -- what a cell's value tells, of the cell
+  pub value_searched : (c : Cell) (slot : ℕ) (v : Bor (List Cell)) (found : Occurrence) → CellIsInRange slots c → cell_slot slots c ≡ Some slot → (slot ≡ target → ⊥) → value_at pairs slot ≡ Some v → AllByRecursion (IsBinding slots) pairs → HasSearched slots pairs target v.now found → HasSearchedCell slots pairs target c found
+  value_searched c slot v Absent range e apart bound bindings h = bound_avoids slots pairs target c slot v e apart bound h
+  value_searched c slot v Present range e apart bound bindings h = value_occurs c slot v range e bound bindings h
+  value_searched c slot v Unknown range e apart bound bindings h = tt
+
+  pub one_occurs : (cells : List Cell) (i : ℕ) → i < length cells → OccursInCell slots pairs target (get_or cells i no_cell) → OccursIn slots pairs target cells
+  one_occurs cells i less occurs f n is all =
+      omega (arith, occurs f is, all_get (λ c. image_size f c ≤ n) cells i no_cell all less)

@@ -1,12 +1,17 @@
 -- Whether a variable occurs in a term once the bindings are put in.
-use Rattle.std.specs.Prelude.{◌≡◌, ℕ, zero, suc, ◌==◌, ◌||◌, Bool, false, List, [], ◌∷◌, Option, None, Some}
+use Rattle.std.specs.Prelude.{◌≡◌, ℕ, zero, suc, ◌≤◌, ◌==◌, ◌||◌, Bool, false, List, [], ◌∷◌, Option, None, Some}
 use Rattle.std.specs.List.{AllByRecursion}
 use Rattle.std.specs.Borrow.{Bor}
+use Rattle.si_defs.specs.Terms as terms
 use Rattle.si_flat.specs.declared.Cell.{Cell}
+use Rattle.si_flat.specs.declared.Cell.TheVariants as cell
+use Rattle.si_flat.specs.Cells.{Variable, query, entry, ind, Term}
 use Rattle.si_trail.specs.Trails.{value_at}
 use Rattle.si_unify.specs.declared.slots.Slots.{Slots}
-use Rattle.si_unify.specs.Solving.{Pairs}
+use Rattle.si_unify.specs.Solving.{Pairs, variable_of, IsSolvedBy}
 use Rattle.si_unify.specs.Spots.{cell_slot}
+use Rattle.si_fit.specs.declared.occurring.Occurrence.{Occurrence}
+use Rattle.si_fit.specs.declared.occurring.Occurrence.TheVariants.{Absent, Present, Unknown}
 
 -- ---- from slot to slot, by the variables of the values
 abbrev pub slot_leads : (ℕ → Bool) → Option ℕ → Bool
@@ -35,3 +40,33 @@ AvoidsCell slots pairs target c =
 
 abbrev pub Avoids : Slots → Pairs → ℕ → List Cell → Type 0
 Avoids slots pairs target = AllByRecursion (AvoidsCell slots pairs target)
+
+-- ---- each solution makes the slot's variable no larger than what it is found in
+abbrev pub image_size : (Variable → Term) → Cell → ℕ
+image_size f (cell.App s a n) = 0
+image_size f (cell.Query n) = terms.size (f (query n))
+image_size f (cell.Entry n) = terms.size (f (entry n))
+image_size f (cell.Ind n) = terms.size (f (ind n))
+
+abbrev pub OccursInCell : Slots → Pairs → ℕ → Cell → Type 0
+OccursInCell slots pairs target c =
+    (f : Variable → Term) → IsSolvedBy slots pairs f
+    → terms.size (f (variable_of slots target)) ≤ image_size f c
+
+-- nor larger than the largest image of a variable of the term
+abbrev pub OccursIn : Slots → Pairs → ℕ → List Cell → Type 0
+OccursIn slots pairs target cells =
+    (f : Variable → Term) (n : ℕ) → IsSolvedBy slots pairs f
+    → AllByRecursion (λ c. image_size f c ≤ n) cells
+    → terms.size (f (variable_of slots target)) ≤ n
+
+-- ---- outcomes
+abbrev pub HasSearchedCell : Slots → Pairs → ℕ → Cell → Occurrence → Type 0
+HasSearchedCell slots pairs target c Absent = AvoidsCell slots pairs target c
+HasSearchedCell slots pairs target c Present = OccursInCell slots pairs target c
+HasSearchedCell slots pairs target c Unknown = Unit {0}
+
+abbrev pub HasSearched : Slots → Pairs → ℕ → List Cell → Occurrence → Type 0
+HasSearched slots pairs target cells Absent = Avoids slots pairs target cells
+HasSearched slots pairs target cells Present = OccursIn slots pairs target cells
+HasSearched slots pairs target cells Unknown = Unit {0}

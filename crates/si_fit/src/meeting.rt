@@ -10,7 +10,7 @@ ghost use Rattle.si_unify.specs.Spots.{free_slot};
 ghost use Rattle.si_fit.specs.Fitting.{AllowsSolving};
 ghost use Rattle.si_fit.specs.Meeting.{IsOpenSlot, IsSameVariable, slot_cells, same_symbol, value_of, HasMet};
 
-use crate::occurring::avoids;
+use crate::occurring::{Occurrence, search};
 use si_flat::Cell;
 use si_trail::Trail;
 use si_unify::Slots;
@@ -101,13 +101,20 @@ fn bind<'a>(
     ensures slots { trail.new.slots ≡ trail.old.slots }
     ensures fewer { budget.new ≤ budget.old }
 {
+    let head = term[0];
     // So no slot of the trail is known to be bound twice.
     trail.mark();
-    if !avoids(trail, slots, slot, term, budget) {
-        return Met::Unknown;
+    match search(trail, slots, slot, term, budget) {
+        Occurrence::Absent => {
+            trail.bind(slot, term);
+            Met::Equal
+        }
+        Occurrence::Present => match head {
+            Cell::App { .. } => Met::Clash,
+            _ => Met::Unknown,
+        },
+        Occurrence::Unknown => Met::Unknown,
     }
-    trail.bind(slot, term);
-    Met::Equal
 }
 
 /// Makes two terms equal that don't have the same symbol at the head, of which neither is a bound

@@ -1,59 +1,78 @@
 // Whether a variable occurs in a term once the bindings are put in.
-ghost use Rattle.std.specs.Prelude.{◌≤◌, IsTrue};
-ghost use Rattle.si_fit.specs.Occurring.{AvoidsCell, Avoids};
+ghost use Rattle.std.specs.Prelude.{◌≤◌};
+ghost use Rattle.std.specs.List.{AllByRecursion};
+ghost use Rattle.si_unify.specs.Solving.{AreInRange, CellIsInRange, IsBinding};
+ghost use Rattle.si_fit.specs.Occurring.{HasSearched, HasSearchedCell};
 
 use si_flat::Cell;
 use si_trail::Trail;
 use si_unify::Slots;
 
-// Whether the slot is neither that of the cell nor one that the cell's value leads to.
+/// What the search for a variable in a term found.
+#[derive(Clone, Copy)]
+pub(crate) enum Occurrence {
+    /// It occurs neither in the term nor in what the term's variables lead to.
+    Absent,
+    /// It occurs there.
+    Present,
+    /// It wasn't found out.
+    Unknown,
+}
+
+// Looks for the variable of a slot in a cell, and in what the cell's value leads to.
 #[cycle(occurring)]
-fn avoids_cell(
+fn search_cell(
     trail: &Trail<&[Cell]>,
     slots: &Slots,
     slot: usize,
     cell: Cell,
     budget: &mut u32,
-) -> bool
-    ensures avoids { IsTrue result → AvoidsCell slots.now trail.now.pairs slot cell }
+) -> Occurrence
+    requires range { CellIsInRange slots.now cell }
+    requires bindings { AllByRecursion (IsBinding slots.now) trail.now.pairs }
+    ensures found { HasSearchedCell slots.now trail.now.pairs slot cell result }
     ensures fewer { budget.new ≤ budget.old }
 {
     let Some(other) = slots.slot_of(cell) else {
-        return true;
+        return Occurrence::Absent;
     };
     if other == slot {
-        return false;
+        return Occurrence::Present;
     }
     let Some(value) = trail.get(other) else {
-        return true;
+        return Occurrence::Absent;
     };
     if *budget == 0 {
-        return false;
+        return Occurrence::Unknown;
     }
     *budget -= 1;
-    avoids(trail, slots, slot, value, budget)
+    search(trail, slots, slot, value, budget)
 }
 
-/// Whether the variable of a slot occurs neither in a term nor in what its variables lead to. So no
-/// circle goes through the term, once the slot is bound to it.
+/// Looks for the variable of a slot in a term, and in what the term's variables lead to. Where it
+/// is absent, no circle goes through the term once the slot is bound to it.
 ///
-/// Each bound variable that is followed is taken from the budget. Where that is used up, the answer
-/// is no.
+/// Each bound variable that is followed is taken from the budget. Where that is used up, it isn't
+/// found out.
 #[cycle(occurring)]
-pub(crate) fn avoids(
+pub(crate) fn search(
     trail: &Trail<&[Cell]>,
     slots: &Slots,
     slot: usize,
     cells: &[Cell],
     budget: &mut u32,
-) -> bool
-    ensures avoids { IsTrue result → Avoids slots.now trail.now.pairs slot cells.now }
+) -> Occurrence
+    requires range { AreInRange slots.now cells.now }
+    requires bindings { AllByRecursion (IsBinding slots.now) trail.now.pairs }
+    ensures found { HasSearched slots.now trail.now.pairs slot cells.now result }
     ensures fewer { budget.new ≤ budget.old }
 {
     for &cell in cells {
-        if !avoids_cell(trail, slots, slot, cell, budget) {
-            return false;
+        match search_cell(trail, slots, slot, cell, budget) {
+            Occurrence::Absent => {}
+            Occurrence::Present => return Occurrence::Present,
+            Occurrence::Unknown => return Occurrence::Unknown,
         }
     }
-    true
+    Occurrence::Absent
 }

@@ -1,5 +1,5 @@
 -- A slot that is bound to a term that doesn't lead to it.
-use Rattle.std.proofs.Common.{◌≡◌, ℕ, zero, suc, ◌+◌, ◌<◌, ◌≤◌, ◌||◌, ◌⊎◌, inl, inr, Bool, true, false, cond, List, [], ◌∷◌, ◌++◌, length, get_or, refl, sym, ◌∙◌, ap, subst, arith, append-nil, Option, None, Some}
+use Rattle.std.proofs.Common.{◌≡◌, ℕ, zero, suc, ◌+◌, ◌<◌, ◌≤◌, ◌||◌, inl, inr, Bool, true, false, cond, List, [], ◌∷◌, ◌++◌, length, get_or, refl, sym, ◌∙◌, ap, subst, arith, append-nil, Option, None, Some}
 use Rattle.std.proofs.lemmas.Bool.{eq-eqb}
 use Rattle.std.specs.List.{AllByRecursion}
 use Rattle.std.specs.Borrow.{Bor}
@@ -7,12 +7,12 @@ use Rattle.si_defs.specs.Terms as terms
 use Rattle.si_defs.proofs.ListLaws.{all_with, all_weaker, all_append, all_get}
 use Rattle.si_flat.specs.declared.Cell.{Cell}
 use Rattle.si_flat.specs.declared.Cell.TheVariants as cell
-use Rattle.si_flat.specs.Cells.{Variable, query, entry, ind, Term, variable_cell, IsWhole}
+use Rattle.si_flat.specs.Cells.{Term, IsWhole}
 use Rattle.si_trail.specs.Trails.{value_at, HasDistinctSlots}
 use Rattle.si_unify.specs.declared.slots.Slots.{Slots}
-use Rattle.si_unify.specs.Solving.{Pairs, slot_of, variable_of, is_frozen, IsInRange, CellIsInRange, AreInRange, RanksBelow, IsAcyclic, IsBinding}
-use Rattle.si_unify.specs.Spots.{cell_slot, free_slot, IsBelow, IsUnbound}
-use Rattle.si_unify.proofs.Places.{all_at, whole_at, first_cell, cell-at, inside, in_range-at, in_range-variable, variable_of-slot_of}
+use Rattle.si_unify.specs.Solving.{Pairs, slot_of, variable_of, CellIsInRange, AreInRange, RanksBelow, IsAcyclic, IsBinding}
+use Rattle.si_unify.specs.Spots.{cell_slot, IsBelow, IsUnbound}
+use Rattle.si_unify.proofs.Places.{whole_at, first_cell, cell-at, inside, in_range-at, in_range-variable}
 use Rattle.si_unify.proofs.Reading.{one_term}
 use Rattle.si_unify.proofs.Binding.{IsNot, CanBind, solved_front, bound_legal, bound_solved, bound_equal}
 use Rattle.si_unify.proofs.Meeting.{slot_of-cell}
@@ -24,28 +24,7 @@ use Rattle.si_fit.specs.Occurring.{slot_leads, value_leads, leads_to, AvoidsCell
 use Rattle.si_fit.specs.declared.meeting.Met.TheVariants.{Equal}
 use Rattle.si_fit.proofs.EndLaws.{no_cell}
 use Rattle.si_fit.proofs.OccurringLaws.{leads_still, leads_on}
-
--- a variable is frozen, or its slot is that of its cell
-frozen_or_free : (slots : Slots) (x : Variable) → (is_frozen slots x ≡ true) ⊎ (free_slot slots (variable_cell x) ≡ Some (slot_of slots x))
-frozen_or_free slots (query n) = go slots.freeze_query refl where
-  go : (b : Bool) → slots.freeze_query ≡ b → (slots.freeze_query ≡ true) ⊎ (cond slots.freeze_query None (Some n) ≡ Some n)
-  go true e = inl e
-  go false e = inr (ap (λ b. cond b None (Some n)) e)
-frozen_or_free slots (entry n) = go slots.freeze_entry refl where
-  go : (b : Bool) → slots.freeze_entry ≡ b → (slots.freeze_entry ≡ true) ⊎ (cond slots.freeze_entry None (Some (slots.query + n)) ≡ Some (slots.query + n))
-  go true e = inl e
-  go false e = inr (ap (λ b. cond b None (Some (slots.query + n))) e)
-frozen_or_free slots (ind n) = inr refl
-
--- frozen variables are unbound
-frozen_unbound : (slots : Slots) (pairs : Pairs) (x : Variable) → AllByRecursion (IsBinding slots) pairs → IsInRange slots x → is_frozen slots x ≡ true → value_at pairs (slot_of slots x) ≡ None
-frozen_unbound slots pairs x bindings range frozen = go (value_at pairs (slot_of slots x)) refl where
-  go : (o : Option (Bor (List Cell))) → value_at pairs (slot_of slots x) ≡ o → value_at pairs (slot_of slots x) ≡ None
-  go None e = e
-  go (Some v) e =
-      let b = all_at (IsBinding slots) pairs (slot_of slots x) v bindings e in
-      let bad : true ≡ false = sym frozen ∙ ap (is_frozen slots) (sym (variable_of-slot_of slots x range)) ∙ b.unfrozen in
-      cc
+use Rattle.si_fit.proofs.FrozenLaws.{frozen_or_free, frozen_unbound}
 
 -- a cell without a value is a symbol's or an unbound variable's
 ends_unbound : (slots : Slots) (pairs : Pairs) (t : Term) → AllByRecursion (IsBinding slots) pairs → CellIsInRange slots (first_cell t) → value_of slots pairs (first_cell t) ≡ None → IsUnbound pairs (cell_slot slots (first_cell t))

@@ -9,7 +9,7 @@ use Rattle.si_flat.specs.Cells.{Variable, query, entry, ind, Term}
 use Rattle.si_trail.specs.Trails.{value_at}
 use Rattle.si_unify.specs.declared.slots.Slots.{Slots}
 use Rattle.si_unify.specs.Solving.{Pairs, variable_of, IsSolvedBy}
-use Rattle.si_unify.specs.Spots.{cell_slot}
+use Rattle.si_unify.specs.Spots.{cell_slot, free_slot}
 use Rattle.si_fit.specs.declared.occurring.Occurrence.{Occurrence}
 use Rattle.si_fit.specs.declared.occurring.Occurrence.TheVariants.{Absent, Present, Unknown}
 
@@ -40,6 +40,16 @@ AvoidsCell slots pairs target c =
 
 abbrev pub Avoids : Slots → Pairs → ℕ → List Cell → Type 0
 Avoids slots pairs target = AllByRecursion (AvoidsCell slots pairs target)
+
+-- ---- at a glance
+-- the slot is unbound, and isn't this one
+abbrev pub IsOtherUnbound : Pairs → ℕ → Option ℕ → Type 0
+IsOtherUnbound pairs slot None = Unit {0}
+IsOtherUnbound pairs slot (Some other) = (other ≡ slot → ⊥) × (value_at pairs other ≡ None)
+
+-- no variable that is bound or has this slot, but for frozen ones
+abbrev pub IsFreeFor : Slots → Pairs → ℕ → Cell → Type 0
+IsFreeFor slots pairs slot c = IsOtherUnbound pairs slot (free_slot slots c)
 
 -- ---- each solution makes the slot's variable no larger than what it is found in
 abbrev pub image_size : (Variable → Term) → Cell → ℕ

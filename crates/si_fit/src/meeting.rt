@@ -81,6 +81,7 @@ pub(crate) fn value_of<'a>(
 }
 
 // Binds the variable of a slot to a term, unless it occurs there.
+#[inline(always)]
 fn bind<'a>(
     trail: &mut Trail<&'a [Cell]>,
     slots: &Slots,

@@ -1,8 +1,9 @@
 // Whether a variable occurs in a term once the bindings are put in.
-ghost use Rattle.std.specs.Prelude.{◌≤◌};
+ghost use Rattle.std.specs.Prelude.{◌↔◌, ◌≤◌, IsTrue};
 ghost use Rattle.std.specs.List.{AllByRecursion};
 ghost use Rattle.si_unify.specs.Solving.{AreInRange, CellIsInRange, IsBinding};
-ghost use Rattle.si_fit.specs.Occurring.{HasSearched, HasSearchedCell};
+ghost use Rattle.si_fit.specs.Meeting.{IsOpenSlot};
+ghost use Rattle.si_fit.specs.Occurring.{IsFreeFor, HasSearched, HasSearchedCell};
 
 use si_flat::Cell;
 use si_trail::Trail;
@@ -46,16 +47,12 @@ fn search_cell(
         return Occurrence::Unknown;
     }
     *budget -= 1;
-    search(trail, slots, slot, value, budget)
+    search_deep(trail, slots, slot, value, budget)
 }
 
-/// Looks for the variable of a slot in a term, and in what the term's variables lead to. Where it
-/// is absent, no circle goes through the term once the slot is bound to it.
-///
-/// Each bound variable that is followed is taken from the budget. Where that is used up, it isn't
-/// found out.
+// Looks for the variable of a slot in a term, and in what the term's variables lead to.
 #[cycle(occurring)]
-pub(crate) fn search(
+fn search_deep(
     trail: &Trail<&[Cell]>,
     slots: &Slots,
     slot: usize,
@@ -75,4 +72,49 @@ pub(crate) fn search(
         }
     }
     Occurrence::Absent
+}
+
+fn is_free_cell(trail: &Trail<&[Cell]>, slots: &Slots, slot: usize, cell: Cell) -> bool
+    ensures { IsTrue result ↔ IsFreeFor slots.now trail.now.pairs slot cell }
+{
+    match slots.free_slot(cell) {
+        Some(other) => other != slot && trail.get(other).is_none(),
+        None => true,
+    }
+}
+
+// Whether no variable of a term is bound or has this slot.
+#[inline(always)]
+fn is_free(trail: &Trail<&[Cell]>, slots: &Slots, slot: usize, cells: &[Cell]) -> bool
+    ensures { IsTrue result ↔ AllByRecursion (IsFreeFor slots.now trail.now.pairs slot) cells.now }
+{
+    cells
+        .iter()
+        .all(|cell| is_free_cell(trail, slots, slot, *cell))
+}
+
+/// Looks for the variable of a slot in a term, and in what the term's variables lead to. Where it
+/// is absent, no circle goes through the term once the slot is bound to it.
+///
+/// Each bound variable that is followed is taken from the budget. Where that is used up, it isn't
+/// found out.
+#[inline(always)]
+pub(crate) fn search(
+    trail: &Trail<&[Cell]>,
+    slots: &Slots,
+    slot: usize,
+    cells: &[Cell],
+    budget: &mut u32,
+) -> Occurrence
+    requires slot { IsOpenSlot slots.now slot }
+    requires range { AreInRange slots.now cells.now }
+    requires bindings { AllByRecursion (IsBinding slots.now) trail.now.pairs }
+    ensures found { HasSearched slots.now trail.now.pairs slot cells.now result }
+    ensures fewer { budget.new ≤ budget.old }
+{
+    // Most terms have no bound variable.
+    if is_free(trail, slots, slot, cells) {
+        return Occurrence::Absent;
+    }
+    search_deep(trail, slots, slot, cells, budget)
 }

@@ -55,6 +55,7 @@ pub(crate) fn have_same_symbol(one: Cell, other: Cell) -> bool
 }
 
 /// Whether the cells are those of one variable.
+#[inline(always)]
 pub(crate) fn is_same_variable(one: Cell, other: Cell) -> bool
     ensures { IsTrue result ↔ IsSameVariable one other }
 {
@@ -67,6 +68,7 @@ pub(crate) fn is_same_variable(one: Cell, other: Cell) -> bool
 }
 
 /// What a variable that isn't frozen is bound to.
+#[inline(always)]
 pub(crate) fn value_of<'a>(
     trail: &Trail<&'a [Cell]>,
     slots: &Slots,
@@ -120,6 +122,7 @@ fn bind<'a>(
 
 /// Makes two terms equal that don't have the same symbol at the head, of which neither is a bound
 /// variable, and which aren't one variable.
+#[inline(always)]
 pub(crate) fn settle<'a>(
     trail: &mut Trail<&'a [Cell]>,
     slots: &Slots,

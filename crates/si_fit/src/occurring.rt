@@ -52,6 +52,7 @@ fn search_cell(
 
 // Looks for the variable of a slot in a term, and in what the term's variables lead to.
 #[cycle(occurring)]
+#[inline(never)]
 fn search_deep(
     trail: &Trail<&[Cell]>,
     slots: &Slots,
@@ -74,6 +75,7 @@ fn search_deep(
     Occurrence::Absent
 }
 
+#[inline(always)]
 fn is_free_cell(trail: &Trail<&[Cell]>, slots: &Slots, slot: usize, cell: Cell) -> bool
     ensures { IsTrue result ↔ IsFreeFor slots.now trail.now.pairs slot cell }
 {

@@ -16,6 +16,7 @@ use si_unify::Slots;
 ///
 /// Each one that is followed is taken from the budget. Where that is used up, it isn't found out.
 #[cycle(walking)]
+#[inline(never)]
 pub(crate) fn walk<'a>(
     trail: &mut Trail<&'a [Cell]>,
     slots: &Slots,
@@ -58,6 +59,7 @@ pub(crate) fn walk<'a>(
 
 // Makes two terms equal of which one was a bound variable.
 #[cycle(walking)]
+#[inline(always)]
 fn follow<'a>(
     trail: &mut Trail<&'a [Cell]>,
     slots: &Slots,
@@ -85,6 +87,7 @@ fn follow<'a>(
 
 /// Makes two terms equal that don't have the same symbol at the head.
 #[cycle(walking)]
+#[inline(always)]
 pub(crate) fn meet<'a>(
     trail: &mut Trail<&'a [Cell]>,
     slots: &Slots,

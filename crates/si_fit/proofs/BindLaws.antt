@@ -19,21 +19,21 @@ use Rattle.si_unify.proofs.Meeting.{slot_of-cell}
 use Rattle.si_unify.proofs.Triangular.{IsFound, all_told}
 use Rattle.si_unify.proofs.Answering.{legal_at_first}
 use Rattle.si_fit.specs.Fitting.{AllowsSolving}
-use Rattle.si_fit.specs.Meeting.{IsOpenSlot, slot_cells, slot_value, value_of, HasMet}
-use Rattle.si_fit.specs.Occurring.{slot_leads, value_leads, leads_to, AvoidsCell, Avoids}
+use Rattle.si_fit.specs.Meeting.{IsOpenSlot, slot_cells, HasMet}
+use Rattle.si_fit.specs.Occurring.{IsOtherUnbound, IsFreeFor, slot_leads, value_leads, leads_to, AvoidsCell, Avoids}
 use Rattle.si_fit.specs.declared.meeting.Met.TheVariants.{Equal}
 use Rattle.si_fit.proofs.EndLaws.{no_cell}
 use Rattle.si_fit.proofs.OccurringLaws.{leads_still, leads_on}
 use Rattle.si_fit.proofs.FrozenLaws.{frozen_or_free, frozen_unbound}
 
--- a cell without a value is a symbol's or an unbound variable's
-ends_unbound : (slots : Slots) (pairs : Pairs) (t : Term) → AllByRecursion (IsBinding slots) pairs → CellIsInRange slots (first_cell t) → value_of slots pairs (first_cell t) ≡ None → IsUnbound pairs (cell_slot slots (first_cell t))
-ends_unbound slots pairs (terms.app s ts) bindings range e = tt
-ends_unbound slots pairs (terms.var x) bindings range e = subst (IsUnbound pairs) (sym (slot_of-cell slots x)) unbound where
+-- a term whose head is free begins with a symbol or an unbound variable
+ends_unbound : (slots : Slots) (pairs : Pairs) (slot : ℕ) (t : Term) → AllByRecursion (IsBinding slots) pairs → CellIsInRange slots (first_cell t) → IsFreeFor slots pairs slot (first_cell t) → IsUnbound pairs (cell_slot slots (first_cell t))
+ends_unbound slots pairs slot (terms.app s ts) bindings range h = tt
+ends_unbound slots pairs slot (terms.var x) bindings range h = subst (IsUnbound pairs) (sym (slot_of-cell slots x)) unbound where
   unbound : value_at pairs (slot_of slots x) ≡ None
   unbound = elim (frozen_or_free slots x) [
     | inl frozen ↦ frozen_unbound slots pairs x bindings (in_range-variable slots x range) frozen
-    | inr is ↦ ap (slot_value pairs) (sym is) ∙ e
+    | inr is ↦ (subst (IsOtherUnbound pairs slot) is h).1
   ]
 
 -- ---- ranks by cells
@@ -65,7 +65,7 @@ none_higher slots rank (c ∷ cells) = (
   all_weaker (λ d. slot_rank rank (cell_slot slots d) ≤ top_rank slots rank cells) (λ d. slot_rank rank (cell_slot slots d) ≤ top_rank slots rank (c ∷ cells)) cells (λ d h. omega (arith, h)) (none_higher slots rank cells),
 )
 
-module _ (slots : Slots) (pairs : Pairs) (slot count : ℕ) (v : Bor (List Cell)) (ready : AllowsSolving slots pairs count) (distinct : HasDistinctSlots pairs) (slot_open : IsOpenSlot slots slot) (unbound : value_at pairs slot ≡ None) (whole : IsWhole v.now) (range : AreInRange slots v.now) (free : Avoids slots pairs slot v.now) (ends : value_of slots pairs (get_or v.now 0 no_cell) ≡ None) where
+module _ (slots : Slots) (pairs : Pairs) (slot count : ℕ) (v : Bor (List Cell)) (ready : AllowsSolving slots pairs count) (distinct : HasDistinctSlots pairs) (slot_open : IsOpenSlot slots slot) (unbound : value_at pairs slot ≡ None) (whole : IsWhole v.now) (range : AreInRange slots v.now) (free : Avoids slots pairs slot v.now) (first : IsFreeFor slots pairs slot (get_or v.now 0 no_cell)) where
   -- ---- ranks: what leads to the slot is lifted above what the term leads to
   abbrev old : ℕ → ℕ
   old = ready.triangular.0
@@ -155,7 +155,7 @@ module _ (slots : Slots) (pairs : Pairs) (slot count : ℕ) (v : Bor (List Cell)
     whole = whole.1;
     value_range = range;
     handed_in = inl (record { before = []; after = []; whole = sym (append-nil v.now) });
-    ends = ends_unbound slots pairs whole.0 ready.bindings (subst (CellIsInRange slots) head_is (in_range-at slots v.now 0 no_cell range some)) (ap (value_of slots pairs) (sym head_is) ∙ ends);
+    ends = ends_unbound slots pairs slot whole.0 ready.bindings (subst (CellIsInRange slots) head_is (in_range-at slots v.now 0 no_cell range some)) (subst (IsFreeFor slots pairs slot) head_is first);
     differs = head_differs (cell_slot slots (first_cell whole.0)) (subst (AvoidsCell slots pairs slot) head_is (all_get (AvoidsCell slots pairs slot) v.now 0 no_cell free some));
   }
 

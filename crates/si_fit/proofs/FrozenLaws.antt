@@ -1,11 +1,12 @@
 -- Frozen variables, and what isn't bound at a glance.
-use Rattle.std.proofs.Common.{◌≡◌, ℕ, ◌+◌, ◌⊎◌, inl, inr, Bool, true, false, cond, List, sym, refl, ◌∙◌, ap, subst, Option, None, Some}
+use Rattle.std.proofs.Common.{◌≡◌, ℕ, ◌+◌, ◌<◌, [], ◌∷◌, length, drop, get_or, ◌⊎◌, inl, inr, Bool, true, false, cond, List, sym, refl, ◌∙◌, ap, subst, Option, None, Some}
 use Rattle.std.specs.List.{AllByRecursion}
 use Rattle.std.specs.Borrow.{Bor}
 use Rattle.si_defs.proofs.ListLaws.{all_with}
 use Rattle.si_flat.specs.declared.Cell.{Cell}
 use Rattle.si_flat.specs.declared.Cell.TheVariants as cell
-use Rattle.si_flat.specs.Cells.{Variable, query, entry, ind, variable_cell}
+use Rattle.si_flat.specs.Cells.{Variable, query, entry, ind, variable_cell, IsWhole}
+use Rattle.si_flat.proofs.Subterms.{some_cell}
 use Rattle.si_trail.specs.Trails.{value_at}
 use Rattle.si_unify.specs.declared.slots.Slots.{Slots}
 use Rattle.si_unify.specs.Solving.{Pairs, slot_of, variable_of, is_frozen, IsInRange, CellIsInRange, AreInRange, IsBinding}
@@ -14,6 +15,7 @@ use Rattle.si_unify.proofs.Places.{all_at, in_range-variable, variable_of-slot_o
 use Rattle.si_unify.proofs.Meeting.{slot_of-cell}
 use Rattle.si_fit.specs.Meeting.{IsOpenSlot}
 use Rattle.si_fit.specs.Occurring.{IsOtherUnbound, IsFreeFor, AvoidsCell, Avoids}
+use Rattle.si_fit.proofs.EndLaws.{no_cell}
 use Rattle.si_fit.proofs.OccurringLaws.{symbol_avoids, unbound_avoids}
 
 -- a variable is frozen, or its slot is that of its cell
@@ -64,3 +66,10 @@ module _ (slots : Slots) (pairs : Pairs) (slot : ℕ) (bindings : AllByRecursion
 
   pub free_avoids : (cells : List Cell) → AreInRange slots cells → AllByRecursion (IsFreeFor slots pairs slot) cells → Avoids slots pairs slot cells
   free_avoids cells range free = all_with (CellIsInRange slots) (IsFreeFor slots pairs slot) (AvoidsCell slots pairs slot) cells free_cell range free
+
+  -- the first cell was looked at before
+  pub rest_avoids : (cells rest : List Cell) → IsWhole cells → AreInRange slots cells → IsFreeFor slots pairs slot (get_or cells 0 no_cell) → rest ≡ drop 1 cells → AllByRecursion (IsFreeFor slots pairs slot) rest → Avoids slots pairs slot cells
+  rest_avoids cells rest whole range first is free = free_avoids cells range (all cells (some_cell cells whole) first (subst (AllByRecursion (IsFreeFor slots pairs slot)) is free)) where
+    all : (xs : List Cell) → 0 < length xs → IsFreeFor slots pairs slot (get_or xs 0 no_cell) → AllByRecursion (IsFreeFor slots pairs slot) (drop 1 xs) → AllByRecursion (IsFreeFor slots pairs slot) xs
+    all [] some h k = tt
+    all (x ∷ xs) some h k = (h, k)

@@ -1,5 +1,5 @@
 -- Two terms of which one is a variable, or whose heads differ.
-use Rattle.std.proofs.Common.{◌≡◌, ℕ, ◌+◌, ◌≤◌, true, List, [], ◌∷◌, get_or, refl, sym, ◌∙◌, ap, subst, arith, Option, None, Some}
+use Rattle.std.proofs.Common.{◌≡◌, ℕ, ◌+◌, ◌≤◌, true, List, [], ◌∷◌, get_or, refl, sym, ◌∙◌, ap, subst, arith, None, Some}
 use Rattle.std.proofs.lemmas.Bool.{eq-eqb}
 use Rattle.std.specs.List.{AllByRecursion}
 use Rattle.std.specs.Borrow.{Bor}
@@ -15,10 +15,10 @@ use Rattle.si_unify.proofs.Places.{all_at, first_cell, whole_at, cell-at, inside
 use Rattle.si_unify.proofs.Reading.{one_term}
 use Rattle.si_unify.proofs.Weights.{fits_all}
 use Rattle.si_unify.proofs.Meeting.{free_variable, frozen_variable}
-use Rattle.si_fit.specs.Meeting.{IsOpenSlot, IsSameVariable, slot_cells, slot_value, value_of, same_symbol, HasMet, LeavesFrozen}
+use Rattle.si_fit.specs.Meeting.{IsOpenSlot, IsSameVariable, slot_cells, same_symbol, HasMet, LeavesFrozen}
 use Rattle.si_fit.specs.declared.meeting.Met.{Met}
 use Rattle.si_fit.specs.declared.meeting.Met.TheVariants.{Equal, Clash, Unknown}
-use Rattle.si_fit.specs.Occurring.{image_size, OccursIn}
+use Rattle.si_fit.specs.Occurring.{IsOtherUnbound, IsFreeFor, image_size, OccursIn}
 use Rattle.si_fit.proofs.EndLaws.{no_cell}
 use Rattle.si_fit.proofs.OccurringLaws.{images_fit}
 
@@ -156,36 +156,24 @@ variable_met slots pairs left right t u e =
     same_met slots pairs left right (t.1.cells_are ∙ ap cells_of (one_head t.0 u.0 heads) ∙ sym u.1.cells_are)
 
 -- ---- a bound variable on one side
--- a cell that has a value is that of a slot
-pub record IsValueOf (slots : Slots) (pairs : Pairs) (c : Cell) (v : Bor (List Cell)) : Type 0 where
-  pub slot : ℕ
-  pub slot_is : free_slot slots c ≡ Some slot
-  pub bound : value_at pairs slot ≡ Some v
+pub left_followed : (slots : Slots) (old new : Pairs) (slot : ℕ) (left right : List Cell) (v : Bor (List Cell)) (m : Met) → IsVariable slots slot left → AllByRecursion (IsBinding slots) old → value_at old slot ≡ Some v → HasMet slots old new v.now right m → HasMet slots old new left right m
+left_followed slots old new slot left right v m x bindings bound h = left_met slots old new slot left right m x (value_met slots old new slot v right m bindings bound h)
 
-value_slot : (slots : Slots) (pairs : Pairs) (c : Cell) (v : Bor (List Cell)) → value_of slots pairs c ≡ Some v → IsValueOf slots pairs c v
-value_slot slots pairs c v e = go (free_slot slots c) refl where
-  go : (o : Option ℕ) → free_slot slots c ≡ o → IsValueOf slots pairs c v
-  go None is = let bad : None ≡ Some v = ap (slot_value pairs) (sym is) ∙ e in cc
-  go (Some slot) is = record { slot = slot; slot_is = is; bound = ap (slot_value pairs) (sym is) ∙ e }
+pub right_followed : (slots : Slots) (old new : Pairs) (slot : ℕ) (left right : List Cell) (v : Bor (List Cell)) (m : Met) → IsVariable slots slot right → AllByRecursion (IsBinding slots) old → value_at old slot ≡ Some v → HasMet slots old new left v.now m → HasMet slots old new left right m
+right_followed slots old new slot left right v m x bindings bound h =
+    met_turned slots old new right left m (left_followed slots old new slot right left v m x bindings bound (met_turned slots old new left v.now m h))
 
-pub value_binding : (slots : Slots) (pairs : Pairs) (c : Cell) (v : Bor (List Cell)) → AllByRecursion (IsBinding slots) pairs → value_of slots pairs c ≡ Some v → IsWhole v.now × AreInRange slots v.now
-value_binding slots pairs c v bindings e =
-    let is = value_slot slots pairs c v e in
-    let binding = all_at (IsBinding slots) pairs is.slot v bindings is.bound in
-    (binding.whole, binding.in_range)
+-- ---- unbound variables
+-- one variable on both sides
+pub slot_met : (slots : Slots) (pairs : Pairs) (slot : ℕ) (left right : List Cell) → IsVariable slots slot left → IsVariable slots slot right → HasMet slots pairs pairs left right Equal
+slot_met slots pairs slot left right x y = same_met slots pairs left right (sym x.cells_are ∙ y.cells_are)
 
-pub left_followed : (slots : Slots) (old new : Pairs) (left right : List Cell) (v : Bor (List Cell)) (m : Met) → IsWhole left → AreInRange slots left → AllByRecursion (IsBinding slots) old → value_of slots old (get_or left 0 no_cell) ≡ Some v → HasMet slots old new v.now right m → HasMet slots old new left right m
-left_followed slots old new left right v m whole range bindings e h =
-    let is = value_slot slots old (get_or left 0 no_cell) v e in
-    left_met slots old new is.slot left right m (variable_at slots is.slot left whole range is.slot_is) (value_met slots old new is.slot v right m bindings is.bound h)
+-- a head that is free for a slot
+pub fixed_free : (slots : Slots) (pairs : Pairs) (slot : ℕ) (c : Cell) → free_slot slots c ≡ None → IsFreeFor slots pairs slot c
+fixed_free slots pairs slot c e = subst (IsOtherUnbound pairs slot) (sym e) tt
 
-pub right_followed : (slots : Slots) (old new : Pairs) (left right : List Cell) (v : Bor (List Cell)) (m : Met) → IsWhole right → AreInRange slots right → AllByRecursion (IsBinding slots) old → value_of slots old (get_or right 0 no_cell) ≡ Some v → HasMet slots old new left v.now m → HasMet slots old new left right m
-right_followed slots old new left right v m whole range bindings e h =
-    met_turned slots old new right left m (left_followed slots old new right left v m whole range bindings e (met_turned slots old new left v.now m h))
-
--- a slot of a cell that has no value is unbound
-pub slot_unbound : (slots : Slots) (pairs : Pairs) (c : Cell) (slot : ℕ) → free_slot slots c ≡ Some slot → value_of slots pairs c ≡ None → value_at pairs slot ≡ None
-slot_unbound slots pairs c slot is e = ap (slot_value pairs) (sym is) ∙ e
+pub other_free : (slots : Slots) (pairs : Pairs) (slot other : ℕ) (c : Cell) → free_slot slots c ≡ Some other → (other ≡ slot → ⊥) → value_at pairs other ≡ None → IsFreeFor slots pairs slot c
+other_free slots pairs slot other c e apart unbound = subst (IsOtherUnbound pairs slot) (sym e) (apart, unbound)
 
 -- ---- a variable in the arguments of a symbol
 symbol_head : (t : Term) (s a n : ℕ) → first_cell t ≡ cell.App s a n → (symbol : Symbol) × (arguments : Terms) × (t ≡ terms.app symbol arguments)

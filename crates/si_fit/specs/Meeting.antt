@@ -1,26 +1,15 @@
 -- What is told of two terms that are to be made equal, where no search is made.
-use Rattle.std.specs.Prelude.{◌≡◌, ℕ, ◌↔◌, ◌==◌, Bool, true, false, ◌&&◌, List, [], ◌∷◌, Option, None, Some}
-use Rattle.std.specs.Borrow.{Bor}
+use Rattle.std.specs.Prelude.{◌≡◌, ℕ, ◌↔◌, ◌==◌, Bool, true, false, ◌&&◌, List, [], ◌∷◌}
 use Rattle.si_defs.specs.Terms as terms
 use Rattle.si_flat.specs.declared.Cell.{Cell}
 use Rattle.si_flat.specs.declared.Cell.TheVariants as cell
 use Rattle.si_flat.specs.Cells.{Variable, Term, variable_cell}
-use Rattle.si_trail.specs.Trails.{value_at}
 use Rattle.si_unify.specs.declared.slots.Slots.{Slots}
 use Rattle.si_unify.specs.Solving.{Pairs, slot_of, variable_of, is_frozen, IsInRange, Equalizes, IsSolvedBy}
-use Rattle.si_unify.specs.Spots.{free_slot}
 use Rattle.si_fit.specs.declared.meeting.Met.{Met}
 use Rattle.si_fit.specs.declared.meeting.Met.TheVariants.{Equal, Clash, Unknown}
 
 -- ---- cells
--- what a variable that isn't frozen is bound to
-abbrev pub slot_value : Pairs → Option ℕ → Option (Bor (List Cell))
-slot_value pairs None = None
-slot_value pairs (Some slot) = value_at pairs slot
-
-abbrev pub value_of : Slots → Pairs → Cell → Option (Bor (List Cell))
-value_of slots pairs c = slot_value pairs (free_slot slots c)
-
 abbrev pub IsSameVariable : Cell → Cell → Type 0
 IsSameVariable (cell.Query m) (cell.Query n) = m ≡ n
 IsSameVariable (cell.Entry m) (cell.Entry n) = m ≡ n

@@ -1,14 +1,13 @@
-// Two terms that are made equal by a look at their first cells: one is a variable that can be bound,
-// or their heads differ.
-ghost use Rattle.std.specs.Prelude.{◌≡◌, ◌↔◌, ◌≤◌, ℕ, None, Some, IsTrue, get_or};
+// A variable that is made equal to a term by binding it.
+ghost use Rattle.std.specs.Prelude.{◌≡◌, ◌↔◌, ◌≤◌, None, IsTrue, get_or};
 ghost use Rattle.si_defs.specs.Substitutions.{Grows};
 ghost use Rattle.si_flat.specs.declared.Cell.TheVariants.{App};
 ghost use Rattle.si_flat.specs.Cells.{IsWhole};
 ghost use Rattle.si_trail.specs.Trails.{value_at};
 ghost use Rattle.si_unify.specs.Solving.{AreInRange};
-ghost use Rattle.si_unify.specs.Spots.{free_slot};
 ghost use Rattle.si_fit.specs.Fitting.{AllowsSolving};
-ghost use Rattle.si_fit.specs.Meeting.{IsOpenSlot, IsSameVariable, slot_cells, same_symbol, value_of, HasMet};
+ghost use Rattle.si_fit.specs.Meeting.{IsOpenSlot, IsSameVariable, slot_cells, same_symbol, HasMet};
+ghost use Rattle.si_fit.specs.Occurring.{IsFreeFor};
 
 use crate::occurring::{Occurrence, search};
 use si_flat::Cell;
@@ -24,16 +23,6 @@ pub(crate) enum Met {
     Clash,
     /// It wasn't found out.
     Unknown,
-}
-
-// The slot of an indicator's cell.
-fn indicator_slot(slots: &Slots, cell: Cell) -> Option<usize>
-    ensures { (slot : ℕ) → result ≡ Some slot → free_slot slots.now cell ≡ Some slot }
-{
-    match cell {
-        Cell::Ind(_) => slots.free_slot(cell),
-        _ => None,
-    }
 }
 
 /// Whether terms that begin with these cells have the same symbol at the head.
@@ -67,24 +56,17 @@ pub(crate) fn is_same_variable(one: Cell, other: Cell) -> bool
     }
 }
 
-/// What a variable that isn't frozen is bound to.
+/// What a slot is bound to.
 #[inline(always)]
-pub(crate) fn value_of<'a>(
-    trail: &Trail<&'a [Cell]>,
-    slots: &Slots,
-    cell: Cell,
-) -> Option<&'a [Cell]>
-    ensures { result ≡ value_of slots.now trail.now.pairs cell }
+pub(crate) fn value_at<'a>(trail: &Trail<&'a [Cell]>, slot: usize) -> Option<&'a [Cell]>
+    ensures { result ≡ value_at trail.now.pairs slot }
 {
-    match slots.free_slot(cell) {
-        Some(slot) => trail.get(slot).copied(),
-        None => None,
-    }
+    trail.get(slot).copied()
 }
 
-// Binds the variable of a slot to a term, unless it occurs there.
+/// Binds the variable of a slot to a term, unless it occurs there.
 #[inline(always)]
-fn bind<'a>(
+pub(crate) fn bind<'a>(
     trail: &mut Trail<&'a [Cell]>,
     slots: &Slots,
     slot: usize,
@@ -95,7 +77,7 @@ fn bind<'a>(
     requires unbound { value_at trail.old.pairs slot ≡ None }
     requires whole { IsWhole term.now }
     requires range { AreInRange slots.now term.now }
-    requires ends { value_of slots.now trail.old.pairs (get_or term.now 0 (App 0 0 0)) ≡ None }
+    requires first { IsFreeFor slots.now trail.old.pairs slot (get_or term.now 0 (App 0 0 0)) }
     requires ready { AllowsSolving slots.now trail.old.pairs trail.old.slots }
     ensures met { HasMet slots.now trail.old.pairs trail.new.pairs (slot_cells slots.now slot)
         term.now result }
@@ -118,45 +100,4 @@ fn bind<'a>(
         },
         Occurrence::Unknown => Met::Unknown,
     }
-}
-
-/// Makes two terms equal that don't have the same symbol at the head, of which neither is a bound
-/// variable, and which aren't one variable.
-#[inline(always)]
-pub(crate) fn settle<'a>(
-    trail: &mut Trail<&'a [Cell]>,
-    slots: &Slots,
-    left: &'a [Cell],
-    right: &'a [Cell],
-    budget: &mut u32,
-) -> Met
-    requires left { IsWhole left.now }
-    requires right { IsWhole right.now }
-    requires left_range { AreInRange slots.now left.now }
-    requires right_range { AreInRange slots.now right.now }
-    requires ready { AllowsSolving slots.now trail.old.pairs trail.old.slots }
-    requires left_ends { value_of slots.now trail.old.pairs (get_or left.now 0 (App 0 0 0)) ≡ None }
-    requires right_ends { value_of slots.now trail.old.pairs (get_or right.now 0 (App 0 0 0)) ≡ None }
-    requires differ { IsTrue (same_symbol (get_or left.now 0 (App 0 0 0))
-        (get_or right.now 0 (App 0 0 0))) → ⊥ }
-    requires others { IsSameVariable (get_or left.now 0 (App 0 0 0))
-        (get_or right.now 0 (App 0 0 0)) → ⊥ }
-    ensures met { HasMet slots.now trail.old.pairs trail.new.pairs left.now right.now result }
-    ensures grows { Grows trail.old.pairs trail.new.pairs }
-    ensures ready { AllowsSolving slots.now trail.new.pairs trail.new.slots }
-    ensures slots { trail.new.slots ≡ trail.old.slots }
-    ensures fewer { budget.new ≤ budget.old }
-{
-    let one = left[0];
-    let other = right[0];
-    if let Some(slot) = indicator_slot(slots, one) {
-        return bind(trail, slots, slot, right, budget);
-    }
-    if let Some(slot) = slots.free_slot(other) {
-        return bind(trail, slots, slot, left, budget);
-    }
-    if let Some(slot) = slots.free_slot(one) {
-        return bind(trail, slots, slot, right, budget);
-    }
-    Met::Clash
 }

@@ -1,6 +1,8 @@
 // Whether a variable occurs in a term once the bindings are put in.
-ghost use Rattle.std.specs.Prelude.{◌↔◌, ◌≤◌, IsTrue};
+ghost use Rattle.std.specs.Prelude.{◌↔◌, ◌≤◌, IsTrue, get_or};
 ghost use Rattle.std.specs.List.{AllByRecursion};
+ghost use Rattle.si_flat.specs.declared.Cell.TheVariants.{App};
+ghost use Rattle.si_flat.specs.Cells.{IsWhole};
 ghost use Rattle.si_unify.specs.Solving.{AreInRange, CellIsInRange, IsBinding};
 ghost use Rattle.si_fit.specs.Meeting.{IsOpenSlot};
 ghost use Rattle.si_fit.specs.Occurring.{IsFreeFor, HasSearched, HasSearchedCell};
@@ -98,8 +100,8 @@ fn is_free(trail: &Trail<&[Cell]>, slots: &Slots, slot: usize, cells: &[Cell]) -
 /// Looks for the variable of a slot in a term, and in what the term's variables lead to. Where it
 /// is absent, no circle goes through the term once the slot is bound to it.
 ///
-/// Each bound variable that is followed is taken from the budget. Where that is used up, it isn't
-/// found out.
+/// The first cell was looked at before. Each bound variable that is followed is taken from the
+/// budget. Where that is used up, it isn't found out.
 #[inline(always)]
 pub(crate) fn search(
     trail: &Trail<&[Cell]>,
@@ -109,13 +111,15 @@ pub(crate) fn search(
     budget: &mut u32,
 ) -> Occurrence
     requires slot { IsOpenSlot slots.now slot }
+    requires whole { IsWhole cells.now }
+    requires first { IsFreeFor slots.now trail.now.pairs slot (get_or cells.now 0 (App 0 0 0)) }
     requires range { AreInRange slots.now cells.now }
     requires bindings { AllByRecursion (IsBinding slots.now) trail.now.pairs }
     ensures found { HasSearched slots.now trail.now.pairs slot cells.now result }
     ensures fewer { budget.new ≤ budget.old }
 {
     // Most terms have no bound variable.
-    if is_free(trail, slots, slot, cells) {
+    if is_free(trail, slots, slot, &cells[1..]) {
         return Occurrence::Absent;
     }
     search_deep(trail, slots, slot, cells, budget)

@@ -1,13 +1,15 @@
 // The walk over two terms beside each other.
-ghost use Rattle.std.specs.Prelude.{◌≡◌, ◌≤◌, IsTrue, get_or};
+ghost use Rattle.std.specs.Prelude.{◌≡◌, ◌≤◌, None, Some, IsTrue, get_or};
 ghost use Rattle.si_defs.specs.Substitutions.{Grows};
 ghost use Rattle.si_flat.specs.declared.Cell.TheVariants.{App};
 ghost use Rattle.si_flat.specs.Cells.{IsWhole};
+ghost use Rattle.si_trail.specs.Trails.{value_at};
 ghost use Rattle.si_unify.specs.Solving.{AreInRange};
+ghost use Rattle.si_unify.specs.Spots.{free_slot};
 ghost use Rattle.si_fit.specs.Fitting.{AllowsSolving};
 ghost use Rattle.si_fit.specs.Meeting.{same_symbol, HasMet};
 
-use crate::meeting::{Met, have_same_symbol, is_same_variable, settle, value_of};
+use crate::meeting::{Met, bind, have_same_symbol, is_same_variable, value_at};
 use si_flat::{Cell, sub};
 use si_trail::Trail;
 use si_unify::Slots;
@@ -85,6 +87,84 @@ fn follow<'a>(
     walk(trail, slots, left, right, budget)
 }
 
+// Makes a term equal to one that begins with a symbol or a frozen variable.
+#[cycle(walking)]
+#[inline(always)]
+fn meet_fixed<'a>(
+    trail: &mut Trail<&'a [Cell]>,
+    slots: &Slots,
+    left: &'a [Cell],
+    right: &'a [Cell],
+    budget: &mut u32,
+) -> Met
+    requires left { IsWhole left.now }
+    requires right { IsWhole right.now }
+    requires left_range { AreInRange slots.now left.now }
+    requires right_range { AreInRange slots.now right.now }
+    requires ready { AllowsSolving slots.now trail.old.pairs trail.old.slots }
+    requires differ { IsTrue (same_symbol (get_or left.now 0 (App 0 0 0))
+        (get_or right.now 0 (App 0 0 0))) → ⊥ }
+    requires fixed { free_slot slots.now (get_or right.now 0 (App 0 0 0)) ≡ None }
+    ensures met { HasMet slots.now trail.old.pairs trail.new.pairs left.now right.now result }
+    ensures grows { Grows trail.old.pairs trail.new.pairs }
+    ensures ready { AllowsSolving slots.now trail.new.pairs trail.new.slots }
+    ensures slots { trail.new.slots ≡ trail.old.slots }
+    ensures fewer { budget.new ≤ budget.old }
+{
+    let one = left[0];
+    let other = right[0];
+    let Some(slot) = slots.free_slot(one) else {
+        if is_same_variable(one, other) {
+            return Met::Equal;
+        }
+        return Met::Clash;
+    };
+    if let Some(value) = value_at(trail, slot) {
+        return follow(trail, slots, value, right, budget);
+    }
+    bind(trail, slots, slot, right, budget)
+}
+
+// Makes a term equal to the unbound variable of a slot.
+#[cycle(walking)]
+#[inline(always)]
+fn meet_unbound<'a>(
+    trail: &mut Trail<&'a [Cell]>,
+    slots: &Slots,
+    left: &'a [Cell],
+    right: &'a [Cell],
+    slot: usize,
+    budget: &mut u32,
+) -> Met
+    requires left { IsWhole left.now }
+    requires right { IsWhole right.now }
+    requires left_range { AreInRange slots.now left.now }
+    requires right_range { AreInRange slots.now right.now }
+    requires ready { AllowsSolving slots.now trail.old.pairs trail.old.slots }
+    requires variable { free_slot slots.now (get_or right.now 0 (App 0 0 0)) ≡ Some slot }
+    requires unbound { value_at trail.old.pairs slot ≡ None }
+    ensures met { HasMet slots.now trail.old.pairs trail.new.pairs left.now right.now result }
+    ensures grows { Grows trail.old.pairs trail.new.pairs }
+    ensures ready { AllowsSolving slots.now trail.new.pairs trail.new.slots }
+    ensures slots { trail.new.slots ≡ trail.old.slots }
+    ensures fewer { budget.new ≤ budget.old }
+{
+    let one = left[0];
+    let Some(own) = slots.free_slot(one) else {
+        return bind(trail, slots, slot, left, budget);
+    };
+    if let Some(value) = value_at(trail, own) {
+        return follow(trail, slots, value, right, budget);
+    }
+    if own == slot {
+        return Met::Equal;
+    }
+    if let Cell::Ind(_) = one {
+        return bind(trail, slots, own, right, budget);
+    }
+    bind(trail, slots, slot, left, budget)
+}
+
 /// Makes two terms equal that don't have the same symbol at the head.
 #[cycle(walking)]
 #[inline(always)]
@@ -108,16 +188,12 @@ pub(crate) fn meet<'a>(
     ensures slots { trail.new.slots ≡ trail.old.slots }
     ensures fewer { budget.new ≤ budget.old }
 {
-    let one = left[0];
     let other = right[0];
-    if is_same_variable(one, other) {
-        return Met::Equal;
-    }
-    if let Some(value) = value_of(trail, slots, one) {
-        return follow(trail, slots, value, right, budget);
-    }
-    if let Some(value) = value_of(trail, slots, other) {
+    let Some(slot) = slots.free_slot(other) else {
+        return meet_fixed(trail, slots, left, right, budget);
+    };
+    if let Some(value) = value_at(trail, slot) {
         return follow(trail, slots, left, value, budget);
     }
-    settle(trail, slots, left, right, budget)
+    meet_unbound(trail, slots, left, right, slot, budget)
 }

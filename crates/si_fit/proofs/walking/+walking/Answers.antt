@@ -1,8 +1,10 @@
 use Rattle.std.proofs.Common.{◌≡◌, true, false, refl, sym, ◌∙◌, subst, arith}
 use Rattle.si_flat.proofs.Subterms.{some_cell}
+use Rattle.si_unify.specs.Solving.{IsBinding}
+use Rattle.si_unify.proofs.Places.{all_at}
 use Rattle.si_fit.specs.Fitting.{AllowsSolving}
 use Rattle.si_fit.proofs.WalkLaws.{walk_starts, left_inside, walk_descends, heads_differ, other_some, left_within, walk_goes_on, walk_clashes, walk_ends, cut_in_range}
-use Rattle.si_fit.proofs.MeetLaws.{variable_met, value_binding, left_followed, right_followed}
+use Rattle.si_fit.proofs.MeetLaws.{IsVariable, variable_at, variable_met, slot_met, left_met, right_met, heads_clash, fixed_free, other_free, left_followed, right_followed}
 use Rattle.si_fit.proofs.walking.+walking.Goals as goal
 
 pub walk-loop-j-init : goal.walk-loop-j-init
@@ -77,39 +79,116 @@ walk-returns-clause-met t c = walk_ends c.args.slots.now c.args.left.now c.args.
 pub follow-walk-requires : goal.follow-walk-requires
 follow-walk-requires t c = (omega (arith, c.decreases, c.if-budget-eq0.false), (c.requires.left, (c.requires.right, (c.requires.left_range, (c.requires.right_range, c.requires.ready)))))
 
-pub meet-bounds-left-0 : goal.meet-bounds-left-0
-meet-bounds-left-0 t c = some_cell c.args.left.now c.requires.left
-
 pub meet-bounds-right-0 : goal.meet-bounds-right-0
-meet-bounds-right-0 t c = some_cell c.args.right.now c.requires.right
+meet-bounds-right-0 t c =
+    some_cell c.args.right.now c.requires.right
 
-pub meet-returns-then-is_same_variable-clause-met : goal.meet-returns-then-is_same_variable-clause-met
-meet-returns-then-is_same_variable-clause-met t c =
-    variable_met c.args.slots.now c.args.trail.now.pairs c.args.left.now c.args.right.now c.requires.left c.requires.right (c.is_same_variable.ensures.0 c.if-is_same_variable.true)
+pub meet-meet_fixed-requires : goal.meet-meet_fixed-requires
+meet-meet_fixed-requires t c =
+    (omega (arith, c.decreases), (c.requires.left, (c.requires.right, (c.requires.left_range, (c.requires.right_range, (c.requires.ready, (c.requires.differ, (sym c.in_default.ensures))))))))
 
 pub meet-follow-requires : goal.meet-follow-requires
 meet-follow-requires t c =
-    let value = value_binding c.args.slots.now c.args.trail.now.pairs _ c.in-Some.value c.requires.ready.bindings (sym c.in-Some.ensures) in
-    (omega (arith, c.decreases), (value.0, (c.requires.right, (value.1, (c.requires.right_range, c.requires.ready)))))
+    let value = all_at (IsBinding c.args.slots.now) c.args.trail.now.pairs c.in-Some.slot c.in-Some-value_at.value c.requires.ready.bindings (sym c.in-Some-value_at.ensures) in (omega (arith, c.decreases), (c.requires.left, (value.whole, (c.requires.left_range, (value.in_range, (c.requires.ready))))))
 
-pub meet-returns-in-Some-clause-met : goal.meet-returns-in-Some-clause-met
-meet-returns-in-Some-clause-met t c =
-    left_followed c.args.slots.now c.args.trail.now.pairs c.follow.new.trail.pairs c.args.left.now c.args.right.now c.in-Some.value c.follow.result c.requires.left c.requires.left_range c.requires.ready.bindings (sym c.in-Some.ensures) c.follow.ensures.met
+pub meet-returns-in-Some-value_at-clause-met : goal.meet-returns-in-Some-value_at-clause-met
+meet-returns-in-Some-value_at-clause-met t c =
+    right_followed c.args.slots.now c.args.trail.now.pairs c.follow.new.trail.pairs c.in-Some.slot c.args.left.now c.args.right.now c.in-Some-value_at.value c.follow.result (variable_at c.args.slots.now c.in-Some.slot c.args.right.now c.requires.right c.requires.right_range (sym c.in-Some.ensures)) c.requires.ready.bindings (sym c.in-Some-value_at.ensures) c.follow.ensures.met
 
-pub meet-follow-requires-in-Some-value_of : goal.meet-follow-requires-in-Some-value_of
-meet-follow-requires-in-Some-value_of t c =
-    let value = value_binding c.args.slots.now c.args.trail.now.pairs _ c.in-Some-value_of.value c.requires.ready.bindings (sym c.in-Some-value_of.ensures) in
-    (omega (arith, c.decreases), (c.requires.left, (value.0, (c.requires.left_range, (value.1, c.requires.ready)))))
+pub meet-meet_unbound-requires : goal.meet-meet_unbound-requires
+meet-meet_unbound-requires t c =
+    (omega (arith, c.decreases), (c.requires.left, (c.requires.right, (c.requires.left_range, (c.requires.right_range, (c.requires.ready, (sym c.in-Some.ensures, (sym c.in_default-value_at.ensures))))))))
 
-pub meet-returns-in-Some-value_of-clause-met : goal.meet-returns-in-Some-value_of-clause-met
-meet-returns-in-Some-value_of-clause-met t c =
-    right_followed c.args.slots.now c.args.trail.now.pairs c.follow-in-Some-value_of.new.trail.pairs c.args.left.now c.args.right.now c.in-Some-value_of.value c.follow-in-Some-value_of.result c.requires.right c.requires.right_range c.requires.ready.bindings (sym c.in-Some-value_of.ensures) c.follow-in-Some-value_of.ensures.met
+pub meet_fixed-bounds-left-0 : goal.meet_fixed-bounds-left-0
+meet_fixed-bounds-left-0 t c =
+    some_cell c.args.left.now c.requires.left
 
-pub meet-settle-requires-clause-left_ends : goal.meet-settle-requires-clause-left_ends
-meet-settle-requires-clause-left_ends t c = sym c.in_default.ensures
+pub meet_fixed-follow-requires : goal.meet_fixed-follow-requires
+meet_fixed-follow-requires t c =
+    let value = all_at (IsBinding c.args.slots.now) c.args.trail.now.pairs c.in-Some.slot c.in-Some-value_at.value c.requires.ready.bindings (sym c.in-Some-value_at.ensures) in (omega (arith, c.decreases), (value.whole, (c.requires.right, (value.in_range, (c.requires.right_range, (c.requires.ready))))))
 
-pub meet-settle-requires-clause-right_ends : goal.meet-settle-requires-clause-right_ends
-meet-settle-requires-clause-right_ends t c = sym c.in_default-value_of.ensures
+pub meet_fixed-returns-in-Some-value_at-clause-met : goal.meet_fixed-returns-in-Some-value_at-clause-met
+meet_fixed-returns-in-Some-value_at-clause-met t c =
+    left_followed c.args.slots.now c.args.trail.now.pairs c.follow.new.trail.pairs c.in-Some.slot c.args.left.now c.args.right.now c.in-Some-value_at.value c.follow.result (variable_at c.args.slots.now c.in-Some.slot c.args.left.now c.requires.left c.requires.left_range (sym c.in-Some.ensures)) c.requires.ready.bindings (sym c.in-Some-value_at.ensures) c.follow.ensures.met
 
-pub meet-settle-requires-clause-others : goal.meet-settle-requires-clause-others
-meet-settle-requires-clause-others t c = λ e. (let bad : true ≡ false = sym (c.is_same_variable.ensures.1 e) ∙ c.if-is_same_variable.false in cc)
+pub meet_unbound-bounds-left-0 : goal.meet_unbound-bounds-left-0
+meet_unbound-bounds-left-0 t c =
+    some_cell c.args.left.now c.requires.left
+
+pub meet_unbound-follow-requires : goal.meet_unbound-follow-requires
+meet_unbound-follow-requires t c =
+    let value = all_at (IsBinding c.args.slots.now) c.args.trail.now.pairs c.in-Some.own c.in-Some-value_at.value c.requires.ready.bindings (sym c.in-Some-value_at.ensures) in (omega (arith, c.decreases), (value.whole, (c.requires.right, (value.in_range, (c.requires.right_range, (c.requires.ready))))))
+
+pub meet_unbound-returns-in-Some-value_at-clause-met : goal.meet_unbound-returns-in-Some-value_at-clause-met
+meet_unbound-returns-in-Some-value_at-clause-met t c =
+    left_followed c.args.slots.now c.args.trail.now.pairs c.follow.new.trail.pairs c.in-Some.own c.args.left.now c.args.right.now c.in-Some-value_at.value c.follow.result (variable_at c.args.slots.now c.in-Some.own c.args.left.now c.requires.left c.requires.left_range (sym c.in-Some.ensures)) c.requires.ready.bindings (sym c.in-Some-value_at.ensures) c.follow.ensures.met
+
+pub meet_fixed-bounds-right-0 : goal.meet_fixed-bounds-right-0
+meet_fixed-bounds-right-0 t c =
+    some_cell c.args.right.now c.requires.right
+
+pub meet_fixed-returns-then-is_same_variable-clause-met : goal.meet_fixed-returns-then-is_same_variable-clause-met
+meet_fixed-returns-then-is_same_variable-clause-met t c =
+    variable_met c.args.slots.now c.args.trail.now.pairs c.args.left.now c.args.right.now c.requires.left c.requires.right (c.is_same_variable.ensures.0 c.if-is_same_variable.true)
+
+pub meet_fixed-returns-in_default-clause-met : goal.meet_fixed-returns-in_default-clause-met
+meet_fixed-returns-in_default-clause-met t c =
+    heads_clash c.args.slots.now c.args.trail.now.pairs c.args.trail.now.pairs c.args.left.now c.args.right.now c.requires.left c.requires.right
+    (λ e. (let bad : true ≡ false = sym (c.is_same_variable.ensures.1 e) ∙ c.if-is_same_variable.false in cc))
+    (sym c.in_default.ensures) c.requires.fixed c.requires.differ
+
+pub meet_fixed-bind-requires-clause-slot : goal.meet_fixed-bind-requires-clause-slot
+meet_fixed-bind-requires-clause-slot t c =
+    (variable_at c.args.slots.now c.in-Some.slot c.args.left.now c.requires.left c.requires.left_range (sym c.in-Some.ensures)).slot_open
+
+pub meet_fixed-bind-requires-clause-unbound : goal.meet_fixed-bind-requires-clause-unbound
+meet_fixed-bind-requires-clause-unbound t c =
+    sym c.in_default-value_at.ensures
+
+pub meet_fixed-bind-requires-clause-first : goal.meet_fixed-bind-requires-clause-first
+meet_fixed-bind-requires-clause-first t c =
+    fixed_free c.args.slots.now c.args.trail.now.pairs c.in-Some.slot _ c.requires.fixed
+
+pub meet_fixed-returns-clause-met : goal.meet_fixed-returns-clause-met
+meet_fixed-returns-clause-met t c =
+    left_met c.args.slots.now c.args.trail.now.pairs c.bind.new.trail.pairs c.in-Some.slot c.args.left.now c.args.right.now c.bind.result (variable_at c.args.slots.now c.in-Some.slot c.args.left.now c.requires.left c.requires.left_range (sym c.in-Some.ensures)) c.bind.ensures.met
+
+pub meet_unbound-bind-requires-clause-slot : goal.meet_unbound-bind-requires-clause-slot
+meet_unbound-bind-requires-clause-slot t c =
+    (variable_at c.args.slots.now c.args.slot c.args.right.now c.requires.right c.requires.right_range c.requires.variable).slot_open
+
+pub meet_unbound-bind-requires-clause-unbound : goal.meet_unbound-bind-requires-clause-unbound
+meet_unbound-bind-requires-clause-unbound t c =
+    c.requires.unbound
+
+pub meet_unbound-bind-requires-clause-first : goal.meet_unbound-bind-requires-clause-first
+meet_unbound-bind-requires-clause-first t c =
+    fixed_free c.args.slots.now c.args.trail.now.pairs c.args.slot _ (sym c.in_default.ensures)
+
+pub meet_unbound-returns-in_default-clause-met : goal.meet_unbound-returns-in_default-clause-met
+meet_unbound-returns-in_default-clause-met t c =
+    right_met c.args.slots.now c.args.trail.now.pairs c.bind.new.trail.pairs c.args.slot c.args.left.now c.args.right.now c.bind.result (variable_at c.args.slots.now c.args.slot c.args.right.now c.requires.right c.requires.right_range c.requires.variable) c.bind.ensures.met
+
+pub meet_unbound-returns-then-own-slot-clause-met : goal.meet_unbound-returns-then-own-slot-clause-met
+meet_unbound-returns-then-own-slot-clause-met t c =
+    slot_met c.args.slots.now c.args.trail.now.pairs c.args.slot c.args.left.now c.args.right.now (subst (λ n. IsVariable c.args.slots.now n c.args.left.now) c.if-own-slot.true (variable_at c.args.slots.now c.in-Some.own c.args.left.now c.requires.left c.requires.left_range (sym c.in-Some.ensures))) (variable_at c.args.slots.now c.args.slot c.args.right.now c.requires.right c.requires.right_range c.requires.variable)
+
+pub meet_unbound-bind-requires-in-Ind-clause-slot : goal.meet_unbound-bind-requires-in-Ind-clause-slot
+meet_unbound-bind-requires-in-Ind-clause-slot t c =
+    (variable_at c.args.slots.now c.in-Some.own c.args.left.now c.requires.left c.requires.left_range (sym c.in-Some.ensures)).slot_open
+
+pub meet_unbound-bind-requires-in-Ind-clause-unbound : goal.meet_unbound-bind-requires-in-Ind-clause-unbound
+meet_unbound-bind-requires-in-Ind-clause-unbound t c =
+    sym c.in_default-value_at.ensures
+
+pub meet_unbound-bind-requires-in-Ind-clause-first : goal.meet_unbound-bind-requires-in-Ind-clause-first
+meet_unbound-bind-requires-in-Ind-clause-first t c =
+    other_free c.args.slots.now c.args.trail.now.pairs c.in-Some.own c.args.slot _ c.requires.variable (λ e. c.if-own-slot.false (sym e)) c.requires.unbound
+
+pub meet_unbound-returns-in-Ind-clause-met : goal.meet_unbound-returns-in-Ind-clause-met
+meet_unbound-returns-in-Ind-clause-met t c =
+    left_met c.args.slots.now c.args.trail.now.pairs c.bind-in-Ind.new.trail.pairs c.in-Some.own c.args.left.now c.args.right.now c.bind-in-Ind.result (variable_at c.args.slots.now c.in-Some.own c.args.left.now c.requires.left c.requires.left_range (sym c.in-Some.ensures)) c.bind-in-Ind.ensures.met
+
+pub meet_unbound-returns-clause-met : goal.meet_unbound-returns-clause-met
+meet_unbound-returns-clause-met t c =
+    right_met c.args.slots.now c.args.trail.now.pairs c.bind-2.new.trail.pairs c.args.slot c.args.left.now c.args.right.now c.bind-2.result (variable_at c.args.slots.now c.args.slot c.args.right.now c.requires.right c.requires.right_range c.requires.variable) c.bind-2.ensures.met

@@ -3,13 +3,19 @@ use Rattle.si_fit.proofs.WalkLaws.{IsWalking}
 use Rattle.si_fit.proofs.walking.+walking.Given as goal
 
 abbrev pub decreases-walk : goal.decreases-walk
-decreases-walk l = 3 * l.budget.now + 2
+decreases-walk l = 4 * l.budget.now + 3
 
 abbrev pub decreases-meet : goal.decreases-meet
-decreases-meet l = 3 * l.budget.now + 1
+decreases-meet l = 4 * l.budget.now + 2
+
+abbrev pub decreases-meet_fixed : goal.decreases-meet_fixed
+decreases-meet_fixed l = 4 * l.budget.now + 1
+
+abbrev pub decreases-meet_unbound : goal.decreases-meet_unbound
+decreases-meet_unbound l = 4 * l.budget.now + 1
 
 abbrev pub decreases-follow : goal.decreases-follow
-decreases-follow l = 3 * l.budget.now
+decreases-follow l = 4 * l.budget.now
 
 pub record Invariant (walking within slots few : Type 0) : Type 0 where
   pub is_walking : walking

@@ -1,6 +1,7 @@
 -- Bindings composed in cells, and what the removal of a posting does (this project's profile).
 use Rattle.std.specs.Prelude.{◌≡◌, ◌≢◌, ℕ, ◌+◌, ◌^◌, ◌≤◌, cond, not, ◌==◌, List, [], ◌∷◌, ◌++◌, Some, map, filter, length}
 use Rattle.std.specs.List.{list_any}
+use Rattle.std.specs.List.Sorted.{IsNonDecreasingBy, IsPermutation}
 use Rattle.si_defs.specs.Substitutions.{AreDistinct}
 use Rattle.si_flat.specs.declared.Cell.{Cell}
 use Rattle.si_flat.specs.declared.Cell.TheVariants as cell
@@ -55,6 +56,18 @@ carried_pairs first second = map (λ b. (b.0, respanned (filled second b.1))) fi
 -- the pairs whose left sides are none of these
 abbrev pub unused_pairs : List ℕ → List CellPair → List CellPair
 unused_pairs ns bs = filter (λ b. not (list_any (λ n. n == b.0) ns)) bs
+
+-- ---- bindings in order
+-- they have other bindings in the order of their left sides, and no left side stands there twice
+pub record AreInOrder (pairs order : List CellPair) : Type 0 where
+  pub distinct : AreDistinct (left_sides pairs)
+  pub same : IsPermutation pairs order
+  pub rise : IsNonDecreasingBy (λ pair. pair.0) order
+
+-- they are other numbers in their order
+pub record AreNumbersInOrder (numbers order : List ℕ) : Type 0 where
+  pub same : IsPermutation numbers order
+  pub rise : IsNonDecreasingBy (λ n. n) order
 
 -- ---- a leaf goes
 abbrev pub IsEmptyLeaf : Tree Term → ℕ → Type 0

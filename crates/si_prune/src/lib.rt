@@ -4,6 +4,7 @@
 #![tactic(auto)]
 
 mod composing;
+mod finding;
 mod removing;
 
 pub use composing::compose;

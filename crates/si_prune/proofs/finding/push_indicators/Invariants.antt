@@ -1,6 +1,6 @@
 use Rattle.std.proofs.Common.{◌≡◌, ◌++◌, drop}
 use Rattle.si_tree.specs.Numbers.{indicators_in}
-use Rattle.si_prune.proofs.composing.push_indicators.Given as goal
+use Rattle.si_prune.proofs.finding.push_indicators.Given as goal
 
 abbrev pub invariant-loop-cell : goal.invariant-loop-cell
 invariant-loop-cell l =

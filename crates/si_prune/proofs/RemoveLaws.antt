@@ -1,5 +1,5 @@
 -- A posting goes, and then the leaf, where no posting is left.
-use Rattle.std.proofs.Common.{◌≡◌, ◌≢◌, ℕ, ◌+◌, ◌≤◌, true, false, ◌==◌, List, [], ◌∷◌, ◌++◌, length, Option, None, Some, inl, inr, refl, sym, ◌∙◌, ap, subst, arith}
+use Rattle.std.proofs.Common.{◌≡◌, ◌≢◌, ℕ, ◌+◌, ◌≤◌, true, false, ◌==◌, List, [], ◌∷◌, ◌++◌, length, Option, None, Some, Result, Ok, Err, OnOk, OnErr, inl, inr, refl, sym, ◌∙◌, ap, subst, arith}
 use Rattle.std.proofs.lemmas.Bool.{eqb-true}
 use Rattle.si_flat.specs.Cells.{Term}
 use Rattle.si_flat.specs.Rows.{CellPair}
@@ -15,7 +15,7 @@ use Rattle.si_tree.specs.Dropping.{Goes, Drops}
 use Rattle.si_tree.specs.Reading.{AtNode, IsNode, postings_of}
 use Rattle.si_tree.proofs.ChildLaws.{inner_no_leaf}
 use Rattle.si_tree.proofs.CountLaws.{weight, counted_changed}
-use Rattle.si_prune.specs.Pruning.{IsEmptyLeaf, IsJoinDue, Removes}
+use Rattle.si_prune.specs.Pruning.{IsEmptyLeaf, IsJoinDue, LeavesUnmerged, Removes, RemovesWhole}
 use Rattle.si_prune.proofs.LoseLaws.{loses_then, keeps_then}
 
 few_unmerged : (ps : List Posting) → unmerged_of (leaf ps) ≤ 1
@@ -25,6 +25,10 @@ few_unmerged (p ∷ ps) = omega arith
 some_merged : (ps : List Posting) → (length ps == 0) ≡ false → unmerged_of (leaf ps) ≡ 0
 some_merged [] some = cc
 some_merged (p ∷ ps) some = refl
+
+merged_with : (before : List Posting) (p : Posting) (after : List Posting) → unmerged_of (leaf (before ++ p ∷ after)) ≡ 0
+merged_with [] p after = refl
+merged_with (q ∷ before) p after = refl
 
 none_left : (ps : List Posting) → (length ps == 0) ≡ true → ps ≡ []
 none_left [] none = refl
@@ -50,10 +54,12 @@ module _ (old middle : Tree Term) (key : ℕ) (p : Posting) (drops : DropsPostin
   is_left : (t : Term) (postings : List Posting) → IsLeaf middle key t postings → left ≡ postings
   is_left t postings here = ap postings_of (ap (λ n. n.content) (one_node middle key (with_content drops.changes.node (leaf left)) here.node drops.changes.has here.reached.1) ∙ here.content)
 
-  counted : unmerged_count middle ≤ unmerged_count old + unmerged_of (leaf left)
+  -- it had a posting before
+  counted : unmerged_count middle ≡ unmerged_count old + unmerged_of (leaf left)
   counted =
       let changed = counted_changed unmerged_of old.nodes middle.nodes key (λ k apart. drops.changes.others k (λ a. elim a as (λ _. ⊥) [ inl e ↦ apart (sym e) | inr n ↦ n ])) in
-      omega (arith, changed, ap (weight unmerged_of) drops.changes.has)
+      let had = ap (weight unmerged_of) drops.changes.had ∙ ap unmerged_of drops.changes.content ∙ merged_with drops.before p drops.after in
+      omega (arith, changed, had, ap (weight unmerged_of) drops.changes.has)
 
   -- a join that is due then was due before
   was_due : IsJoinDue middle key → IsJoinDue old key
@@ -86,33 +92,55 @@ module _ (old middle : Tree Term) (key : ℕ) (p : Posting) (drops : DropsPostin
     is_empty none = (with_content drops.changes.node (leaf left), drops.changes.has, ap leaf (sym are_left ∙ none_left postings none))
 
     -- the leaf stays with its other postings
-    pub removes_one : (length postings == 0) ≡ false → Removes old middle key p
-    removes_one some =
-        let merged = some_merged left (ap (λ ps. length ps == 0) (sym are_left) ∙ some) in
+    pub removes_one : (length postings == 0) ≡ false → RemovesWhole old middle key p
+    removes_one some = record {
+      loses = leaf_loses;
+      keeps = drops.keeps;
+      gone = λ t here. differ (sym (ap (λ ps. length ps == 0) (are_left ∙ is_left t [] here)) ∙ some);
+      unmerged = omega (arith, counted, some_merged left (ap (λ ps. length ps == 0) (sym are_left) ∙ some));
+    }
+
+    -- the leaf stays without a posting
+    pub removes_last : (length postings == 0) ≡ true → IsJoinDue middle key → LeavesUnmerged old middle key p
+    removes_last none due =
+        let empty : left ≡ [] = sym are_left ∙ none_left postings none in
         record {
           loses = leaf_loses;
           keeps = drops.keeps;
-          stays = λ t here. absurd (differ (sym (ap (λ ps. length ps == 0) (are_left ∙ is_left t [] here)) ∙ some));
-          unmerged = omega (arith, counted, merged);
-          only_due = λ none. omega (arith, counted, merged);
+          stays = is_empty none;
+          due = was_due due;
+          unmerged = omega (arith, counted, ap (λ ps. unmerged_of (leaf ps)) empty);
         }
 
-  -- the leaf stays without a posting
-  pub removes_last : IsJoinDue middle key → Removes old middle key p
-  removes_last due = record {
-    loses = leaf_loses;
-    keeps = drops.keeps;
-    stays = λ t here. was_due due;
-    unmerged = omega (arith, counted, few_unmerged left);
-    only_due = λ none. absurd (none (was_due due));
-  }
-
   -- the leaf goes too
-  pub removes_leaf : (new : Tree Term) (joined : Option (List CellPair)) → Drops middle new key joined → Removes old new key p
+  pub removes_leaf : (new : Tree Term) (joined : Option (List CellPair)) → Drops middle new key joined → RemovesWhole old new key p
   removes_leaf new joined gone = record {
     loses = λ t postings here. loses_then old middle new t p (leaf_loses t postings here) gone.stays;
     keeps = keeps_then old middle new drops.keeps gone.keeps gone.stays;
-    stays = λ t here. absurd (vacant_apart new key key here.node (leaf_gone middle new key joined gone.goes) here.reached.1 refl);
+    gone = λ t here. vacant_apart new key key here.node (leaf_gone middle new key joined gone.goes) here.reached.1 refl;
     unmerged = omega (arith, counted, few_unmerged left, gone.unmerged);
-    only_due = λ none. omega (arith, counted, few_unmerged left, gone.unmerged);
   }
+
+-- ---- whether all went that had to isn't told
+module _ (old new : Tree Term) (key : ℕ) (p : Posting) where
+  of_whole : RemovesWhole old new key p → Removes old new key p
+  of_whole whole = record {
+    loses = whole.loses;
+    keeps = whole.keeps;
+    stays = λ t here. absurd (whole.gone t here);
+    unmerged = omega (arith, whole.unmerged);
+    only_due = λ none. whole.unmerged;
+  }
+
+  of_unmerged : LeavesUnmerged old new key p → Removes old new key p
+  of_unmerged left = record {
+    loses = left.loses;
+    keeps = left.keeps;
+    stays = λ t here. left.due;
+    unmerged = omega (arith, left.unmerged);
+    only_due = λ none. absurd (none left.due);
+  }
+
+  pub removes : {T E : Type 0} (answer : Result T E) → OnOk answer (RemovesWhole old new key p) → OnErr answer (LeavesUnmerged old new key p) → Removes old new key p
+  removes (Ok done) whole unmerged = of_whole whole
+  removes (Err error) whole unmerged = of_unmerged unmerged

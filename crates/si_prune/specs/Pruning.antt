@@ -96,6 +96,25 @@ pub record AreToJoin (tree : Tree Term) (key parent other : ℕ) : Type 0 where
   pub composable : AreComposable may.parent_node.bindings other_node.bindings
 
 -- ---- a posting removed
+-- The leaf's term loses the posting, and other terms keep theirs. No leaf stays for it without a
+-- posting, so there are no more such leaves than before.
+pub record RemovesWhole (old new : Tree Term) (key : ℕ) (p : Posting) : Type 0 where
+  pub loses : (t : Term) (postings : List Posting) → IsLeaf old key t postings
+      → Loses old new t p
+  pub keeps : KeepsLeaves old new
+  pub gone : (t : Term) → IsLeaf new key t [] → ⊥
+  pub unmerged : unmerged_count new ≤ unmerged_count old
+
+-- The leaf's term loses the posting, and other terms keep theirs. The leaf stays without a posting,
+-- though a join was due, so there is one more such leaf.
+pub record LeavesUnmerged (old new : Tree Term) (key : ℕ) (p : Posting) : Type 0 where
+  pub loses : (t : Term) (postings : List Posting) → IsLeaf old key t postings
+      → Loses old new t p
+  pub keeps : KeepsLeaves old new
+  pub stays : IsEmptyLeaf new key
+  pub due : IsJoinDue old key
+  pub unmerged : unmerged_count new ≡ unmerged_count old + 1
+
 -- The leaf's term loses the posting, and other terms keep theirs. The leaf stays without a posting
 -- only where a join is due; elsewhere there are no more such leaves than before, and there one more
 -- at most.

@@ -8,4 +8,4 @@ mod finding;
 mod removing;
 
 pub use composing::compose;
-pub use removing::remove;
+pub use removing::{remove, try_remove};

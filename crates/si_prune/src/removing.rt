@@ -1,10 +1,10 @@
 // A posting that goes, and with it a leaf that is left without one.
-ghost use Rattle.std.specs.Prelude.{◌≡◌, ◌≢◌, ◌∷◌, [], IfNone, IfOk, IfSome, IsPermutation, OnErr, length};
+ghost use Rattle.std.specs.Prelude.{◌≡◌, ◌≢◌, ◌∷◌, [], IfNone, IfOk, IfSome, IsPermutation, OnErr, OnOk, length};
 ghost use Rattle.si_defs.specs.Substitutions.{IsAmong};
 ghost use Rattle.si_changes.specs.Leaves.{MayDropLeaf};
 ghost use Rattle.si_tree.specs.Changes.{HasPosting};
 ghost use Rattle.si_tree.specs.Dropping.{MayDrop};
-ghost use Rattle.si_prune.specs.Pruning.{AreToJoin, IsEmptyLeaf, IsJoinDue, Removes};
+ghost use Rattle.si_prune.specs.Pruning.{AreToJoin, IsEmptyLeaf, IsJoinDue, LeavesUnmerged, Removes, RemovesWhole};
 
 use crate::composing::compose;
 use si_flat::Bindings;
@@ -18,14 +18,28 @@ pub fn remove(alloc: Global, tree: &mut Tree, leaf: NodeId, posting: Posting)
     requires { HasPosting tree.old leaf posting }
     ensures { Removes tree.old tree.new leaf posting }
 {
+    let _ = try_remove(alloc, tree, leaf, posting);
+}
+
+/// Takes a posting from a leaf, as [`remove`] does, and tells whether all went that had to. At an
+/// error the posting is gone, but the leaf stays without one, as there was no memory for a join.
+pub fn try_remove(
+    alloc: Global,
+    tree: &mut Tree,
+    leaf: NodeId,
+    posting: Posting,
+) -> Result<(), AllocError>
+    requires { HasPosting tree.old leaf posting }
+    ensures ok { OnOk result (RemovesWhole tree.old tree.new leaf posting) }
+    ensures err { OnErr result (LeavesUnmerged tree.old tree.new leaf posting) }
+{
     tree.drop_posting(leaf, posting);
     if !tree.postings(leaf).is_empty() {
-        return;
+        return Ok(());
     }
-    let Ok(joined) = joined(alloc, tree, leaf) else {
-        return;
-    };
+    let joined = joined(alloc, tree, leaf)?;
     tree.drop_leaf(leaf, joined);
+    Ok(())
 }
 
 // The bindings that the other child of the leaf's parent gets, where that is joined with it.

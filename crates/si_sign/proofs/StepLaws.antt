@@ -58,7 +58,7 @@ uses_total (u ∷ us) s = by (same_symbol u.symbol s) (uses_total us s) where
 
 -- ---- changes of one slot
 abbrev pub recount : Uses → ℕ → Counted → ℕ → Uses
-recount t k d n = record { keys = t.keys; slots = with_value t.slots k d; total = n }
+recount t k d n = record { keys = t.keys; slots = with_value t.slots k d; total = n; recent = tt }
 
 pub recounted_there : (t : Uses) (k : ℕ) (c d : Counted) (n : ℕ) → get t.slots k ≡ Some c → get (recount t k d n).slots k ≡ Some d
 recounted_there t k c d n there = get_or-set_same t.slots.slots k (Some d) None (within t.slots.slots k c there)

@@ -7,6 +7,7 @@
 pub mod faults;
 mod keys;
 mod plain;
+mod recent;
 pub mod signature;
 pub mod store;
 pub mod texts;

@@ -128,7 +128,7 @@ impl SymTable for Signature {
     ghost pairs = { λ s. numbering s };
 
     fn id_of(&self, sym: &Sym) -> Option<u32> {
-        let Some(key) = self.uses.keys.get(sym.kind, sym.text.as_bytes()) else {
+        let Some(key) = self.uses.find(sym) else {
             return None;
         };
         let counted = &self.uses.slots[key];

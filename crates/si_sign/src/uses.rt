@@ -1,5 +1,5 @@
 // The symbols in use, and how often each occurs.
-ghost use Rattle.std.specs.Prelude.{◌≡◌, ◌+◌, ◌<◌, ◌≤◌, Some, None, [], ◌∷◌, IfOk, OnOk, OnErr, IfErr, length, ◌&&◌, ◌==◌};
+ghost use Rattle.std.specs.Prelude.{◌≡◌, ◌+◌, ◌<◌, ◌≤◌, Some, None, [], ◌∷◌, IfOk, OnOk, OnErr, IfErr, length, IsTrue, ◌&&◌, ◌==◌};
 ghost use Rattle.slab.specs.Slab.{get};
 ghost use Rattle.si_defs.specs.Symbols.{same_side};
 ghost use Rattle.si_state.specs.Signatures.{uses_of};
@@ -11,6 +11,7 @@ ghost use Rattle.si_sign.specs.Taking.{TakesUses, GivesBack, RefusesFrom};
 
 use crate::faults::{Clash, Shape, TakeFault};
 use crate::keys::SymbolKeys;
+use crate::recent::Recent;
 use si_defs::Side;
 use si_term::Sym;
 use slab::Slab;
@@ -32,6 +33,7 @@ pub struct Uses {
     pub keys: SymbolKeys,
     pub slots: Slab<Counted>,
     pub total: u64,
+    pub recent: Recent,
 }
 
 impl Uses {
@@ -44,7 +46,32 @@ impl Uses {
             keys: SymbolKeys::new(alloc),
             slots: Slab::new(alloc),
             total: 0,
+            recent: Recent::new(),
         }
+    }
+
+    /// The key of a symbol's kind and text. Where the symbol was found of late, it isn't looked for
+    /// in the map.
+    pub fn find(&self, symbol: &Sym) -> Option<usize>
+        requires { IsUses self.now }
+        ensures { result ≡ symbol_key self.now.keys symbol.now.kind symbol.now.text }
+    {
+        let likely = self.recent.likely(symbol.text.as_bytes());
+        if self.stands_at(likely, symbol) {
+            return Some(likely);
+        }
+        self.keys.get(symbol.kind, symbol.text.as_bytes())
+    }
+
+    /// Whether the symbol has this key.
+    fn stands_at(&self, key: usize, symbol: &Sym) -> bool
+        ensures { IsTrue result → (c : Counted) × (get self.now.slots key ≡ Some c)
+            × (symbol_of c.sym ≡ symbol_of symbol.now) }
+    {
+        let Some(counted) = self.slots.get(key) else {
+            return false;
+        };
+        counted.sym.is(symbol)
     }
 
     /// Counts one more occurrence of a symbol. `begin` is the number of uses before its clause.
@@ -59,7 +86,7 @@ impl Uses {
             (symbol_of symbol.now ∷ [])) }
         ensures err { OnErr result (seen self.new ≡ seen self.old) }
     {
-        match self.keys.get(symbol.kind, symbol.text.as_bytes()) {
+        match self.find(symbol) {
             Some(key) => self.take_known(key, symbol, begin),
             None => match self.take_new(alloc, symbol) {
                 Ok(()) => Ok(()),
@@ -91,6 +118,7 @@ impl Uses {
         }
         self.slots[key].uses += 1;
         self.total += 1;
+        self.recent.note(symbol.text.as_bytes(), key);
         Ok(())
     }
 
@@ -114,6 +142,7 @@ impl Uses {
         self.keys.insert(symbol.kind, text, key)?;
         self.slots.insert_reserved(Counted { sym, uses: 1 });
         self.total += 1;
+        self.recent.note(symbol.text.as_bytes(), key);
         Ok(())
     }
 
@@ -124,10 +153,11 @@ impl Uses {
         ensures uses { IsUses self.new }
         ensures back { GivesBack (symbol_of symbol.now ∷ []) (seen self.old) (seen self.new) }
     {
-        let Some(key) = self.keys.get(symbol.kind, symbol.text.as_bytes()) else {
+        let Some(key) = self.find(symbol) else {
             unreachable!()
         };
         self.total -= 1;
+        self.recent.note(symbol.text.as_bytes(), key);
         if self.slots[key].uses > 1 {
             self.slots[key].uses -= 1;
             return;

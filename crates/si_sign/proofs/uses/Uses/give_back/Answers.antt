@@ -15,7 +15,7 @@ unreachable-requires c =
     let t = c.args.self.now in
     let s : Symbol = symbol_of c.args.symbol.now in
     let u = used_slot t c.requires.uses s c.requires.used in
-    let clash : None ≡ Some u.slot = sym c.in_default.is ∙ c.get.ensures ∙ ap (symbol_key t.keys s.kind) c.as_bytes.ensures ∙ u.known in
+    let clash : None ≡ Some u.slot = sym c.in_default.is ∙ c.find.ensures ∙ u.known in
     cc
 
 pub overflow_sub-self : goal.overflow_sub-self
@@ -29,7 +29,7 @@ returns-then-index-gt1-clause-uses c =
     let t = c.args.self.now in
     let s : Symbol = symbol_of c.args.symbol.now in
     let key = c.in-Some.key in
-    let known : symbol_key t.keys s.kind s.text ≡ Some key = ap (symbol_key t.keys s.kind) (sym c.as_bytes.ensures) ∙ sym c.get.ensures ∙ c.in-Some.is in
+    let known : symbol_key t.keys s.kind s.text ≡ Some key = sym c.find.ensures ∙ c.in-Some.is in
     let w = c.index_mut.result.now in
     let there = c.index_mut.ensures.value in
     let d : Counted = record { sym = w.sym; uses = w.uses - 1 } in
@@ -44,7 +44,7 @@ returns-then-index-gt1-clause-back c =
     let t = c.args.self.now in
     let s : Symbol = symbol_of c.args.symbol.now in
     let key = c.in-Some.key in
-    let known : symbol_key t.keys s.kind s.text ≡ Some key = ap (symbol_key t.keys s.kind) (sym c.as_bytes.ensures) ∙ sym c.get.ensures ∙ c.in-Some.is in
+    let known : symbol_key t.keys s.kind s.text ≡ Some key = sym c.find.ensures ∙ c.in-Some.is in
     let w = c.index_mut.result.now in
     let there = c.index_mut.ensures.value in
     let d : Counted = record { sym = w.sym; uses = w.uses - 1 } in
@@ -61,10 +61,10 @@ returns-clause-uses c =
     let t = c.args.self.now in
     let s : Symbol = symbol_of c.args.symbol.now in
     let key = c.in-Some.key in
-    let known : symbol_key t.keys s.kind s.text ≡ Some key = ap (symbol_key t.keys s.kind) (sym c.as_bytes.ensures) ∙ sym c.get.ensures ∙ c.in-Some.is in
+    let known : symbol_key t.keys s.kind s.text ≡ Some key = sym c.find.ensures ∙ c.in-Some.is in
     let w = c.index.result.now in
     let there = c.index.ensures in
-    let v : Uses = record { keys = c.remove.new.self; slots = c.remove-counted.new.self; total = t.total - 1 } in
+    let v : Uses = record { keys = c.remove.new.self; slots = c.remove-counted.new.self; total = t.total - 1; recent = tt } in
     let one : w.uses ≡ 1 = omega (arith, c.if-index-gt1.false, c.requires.uses.used key w there) in
     let positive : 1 ≤ t.total = omega (arith, uses_total (seen t) s, c.requires.used, c.requires.uses.counted) in
     let keyed = subst (λ x. HasAtKind s.kind x None (symbol_key t.keys) (symbol_key v.keys)) c.as_bytes-2.ensures c.remove.ensures in
@@ -77,10 +77,10 @@ returns-clause-back c =
     let t = c.args.self.now in
     let s : Symbol = symbol_of c.args.symbol.now in
     let key = c.in-Some.key in
-    let known : symbol_key t.keys s.kind s.text ≡ Some key = ap (symbol_key t.keys s.kind) (sym c.as_bytes.ensures) ∙ sym c.get.ensures ∙ c.in-Some.is in
+    let known : symbol_key t.keys s.kind s.text ≡ Some key = sym c.find.ensures ∙ c.in-Some.is in
     let w = c.index.result.now in
     let there = c.index.ensures in
-    let v : Uses = record { keys = c.remove.new.self; slots = c.remove-counted.new.self; total = t.total - 1 } in
+    let v : Uses = record { keys = c.remove.new.self; slots = c.remove-counted.new.self; total = t.total - 1; recent = tt } in
     let one : w.uses ≡ 1 = omega (arith, c.if-index-gt1.false, c.requires.uses.used key w there) in
     let positive : 1 ≤ t.total = omega (arith, uses_total (seen t) s, c.requires.used, c.requires.uses.counted) in
     let keyed = subst (λ x. HasAtKind s.kind x None (symbol_key t.keys) (symbol_key v.keys)) c.as_bytes-2.ensures c.remove.ensures in

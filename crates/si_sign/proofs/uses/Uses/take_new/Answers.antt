@@ -15,7 +15,7 @@ returns-clause-uses c =
     let s : Symbol = symbol_of c.args.symbol.now in
     let key = c.vacant_key-key.result in
     let d : Counted = record { sym = c.in_ok-sym.sym; uses = 1 } in
-    let v : Uses = record { keys = c.insert.new.self; slots = c.insert_reserved.new.self; total = t.total + 1 } in
+    let v : Uses = record { keys = c.insert.new.self; slots = c.insert_reserved.new.self; total = t.total + 1; recent = tt } in
     let rest = c.in_ok-reserve.ensures.rest_kept in
     let key_is : c.insert_reserved.result ≡ key = c.insert_reserved.ensures.key ∙ ap (λ r. r.vacant_key) rest ∙ sym c.vacant_key-key.ensures.value in
     let text = c.in_ok-text.ensures in
@@ -32,7 +32,7 @@ returns-clause-ok c =
     let s : Symbol = symbol_of c.args.symbol.now in
     let key = c.vacant_key-key.result in
     let d : Counted = record { sym = c.in_ok-sym.sym; uses = 1 } in
-    let v : Uses = record { keys = c.insert.new.self; slots = c.insert_reserved.new.self; total = t.total + 1 } in
+    let v : Uses = record { keys = c.insert.new.self; slots = c.insert_reserved.new.self; total = t.total + 1; recent = tt } in
     let rest = c.in_ok-reserve.ensures.rest_kept in
     let key_is : c.insert_reserved.result ≡ key = c.insert_reserved.ensures.key ∙ ap (λ r. r.vacant_key) rest ∙ sym c.vacant_key-key.ensures.value in
     let text = c.in_ok-text.ensures in

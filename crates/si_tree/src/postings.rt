@@ -103,14 +103,15 @@ fn place_of(postings: &[Posting], posting: Posting) -> usize
     place_from_ends(postings, posting)
 }
 
-// The place of a posting in a list that rises. In another one it is some place, or the end.
+// The place of a posting in a list that rises. In another one it is some place, or the end. Often
+// the oldest clause goes first, so the first posting is looked at before the middle one.
 fn place_if_rising(postings: &[Posting], posting: Posting) -> usize
     ensures { result ≤ length postings.now }
 {
     let mut low = 0;
     let mut high = postings.len();
+    let mut middle = 0;
     while low < high {
-        let middle = low + (high - low) / 2;
         let item = postings[middle];
         if item.clause < posting.clause
             || item.clause == posting.clause && item.entry < posting.entry
@@ -119,6 +120,7 @@ fn place_if_rising(postings: &[Posting], posting: Posting) -> usize
         } else {
             high = middle;
         }
+        middle = low + (high - low) / 2;
     }
     low
 }

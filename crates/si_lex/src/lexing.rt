@@ -87,7 +87,7 @@ fn lex_up_to<'a>(
     ensures refused { OnErr result (AreBlanks (drop at bytes.now) → ⊥) }
 {
     let start = skip_blanks(bytes, at);
-    let mut tokens = room(alloc, start < bytes.len())?;
+    let mut tokens = room(alloc, start < bytes.len(), bytes.len())?;
     let mut depth = 0;
     let mut place = start;
     while place < bytes.len() {
@@ -134,13 +134,14 @@ fn lexeme_within<'a>(bytes: &'a [u8], at: usize, depth: usize) -> Option<(Lexeme
     Some((lexeme, behind))
 }
 
-// Room for the tokens of most items, if any token can stand.
-fn room<'a>(alloc: Global, some: bool) -> Result<Vec<Lexeme<'a>>, AllocError>
+// Room for the tokens of most items, or of a line of so many bytes, if any token can stand. A line
+// mostly wants a small block, which the allocator finds fast.
+fn room<'a>(alloc: Global, some: bool, bytes: usize) -> Result<Vec<Lexeme<'a>>, AllocError>
     ensures empty { IfOk result (λ tokens. tokens.items ≡ []) }
     ensures refused { OnErr result (IsTrue some) }
 {
     if some {
-        Vec::with_capacity(alloc, 128)
+        Vec::with_capacity(alloc, (bytes / 2 + 1).min(128))
     } else {
         Ok(Vec::new(alloc))
     }

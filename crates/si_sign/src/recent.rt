@@ -3,10 +3,10 @@ ghost use Rattle.std.specs.Prelude.{◌<◌};
 
 use std::marker::Model;
 
-// So many keys are noted.
-const PLACES: usize = 32;
+// So many keys are noted. Of few places too many texts would share one.
+const PLACES: usize = 128;
 
-/// The key that was found last for the texts that share a place, by their last byte. Nothing is
+/// The key that was found last for the texts that share a place, by their length and ends. Nothing is
 /// promised of it: who takes it looks whether the symbol has that key still.
 #[derive(Drop)]
 pub struct Recent {
@@ -36,12 +36,15 @@ impl Recent {
     }
 }
 
-// The place of a text.
+// The place of a text, by its length and its bytes at both ends.
 fn place_of(text: &[u8]) -> usize
     ensures { result < PLACES }
 {
-    match text.last() {
-        Some(byte) => *byte as usize % PLACES,
-        None => 0,
-    }
+    let Some(first) = text.first() else {
+        return 0;
+    };
+    let Some(last) = text.last() else {
+        return 0;
+    };
+    (*first as usize + 8 * *last as usize + 3 * (text.len() % PLACES)) % PLACES
 }

@@ -18,3 +18,5 @@ pub mod HeadLaws
 pub mod PlaceLaws
 pub mod AttemptLaws
 pub mod CountLaws
+pub mod Assigning
+pub mod OpenSubtrees

@@ -8,7 +8,7 @@ use Rattle.si_unify.specs.Solving.{Pairs}
 use Rattle.si_legal.specs.declared.Posting.{Posting}
 use Rattle.si_legal.specs.Counts.{node_count}
 use Rattle.si_legal.specs.Engines.{AppendsAnswers}
-use Rattle.si_legal.specs.Trees.{Node, Tree, Path, IsPath, path_term}
+use Rattle.si_legal.specs.Trees.{Node, Tree, Path, IsPath, PassesBy, path_term}
 use Rattle.si_legal.specs.Legal.{IsLegal}
 use Rattle.si_legal.specs.OpenNodes.{IsOpen}
 use Rattle.si_descend.specs.declared.search.Search.{Search}
@@ -51,6 +51,13 @@ IsClosedAt search key =
     (q : Term) (path : Path)
     → StandsFor search.query.now q → IsPath search.tree.now (Some key) path
     → IsOpen search.kind q (path_term path) → ⊥
+
+-- all nodes that stand below this one or at it
+abbrev pub AreOpenBelow : Search → ℕ → Type 0
+AreOpenBelow search top =
+    (q : Term) (key : ℕ) (path : Path)
+    → StandsFor search.query.now q → IsPath search.tree.now (Some key) path → PassesBy path top
+    → IsOpen search.kind q (path_term path)
 
 abbrev pub HasEntered : Search → ℕ → Pairs → Bool → Type 0
 HasEntered search key pairs true = HasComeTo search (Some key) pairs × IsOpenAt search key

@@ -20,3 +20,5 @@ pub mod AttemptLaws
 pub mod CountLaws
 pub mod Assigning
 pub mod OpenSubtrees
+pub mod EndTurns
+pub mod Walking

@@ -1,11 +1,11 @@
 -- Below a node all are open, where all indicators that are open there can be anything.
-use Rattle.std.proofs.Common.{◌≡◌, ◌≢◌, ◌⊎◌, inl, inr, ℕ, zero, suc, ◌+◌, ◌≤◌, Bool, true, List, [], ◌∷◌, ◌++◌, map, Option, None, Some, length, refl, ap, sym, ◌∙◌, subst, arith}
+use Rattle.std.proofs.Common.{◌≡◌, ◌≢◌, ◌⊎◌, inl, inr, ℕ, zero, suc, ◌+◌, ◌≤◌, Bool, true, false, List, [], ◌∷◌, ◌++◌, map, Option, None, Some, length, refl, ap, sym, ◌∙◌, subst, arith}
 use Rattle.std.proofs.lemmas.Bool.{cases_eq}
 use Rattle.std.specs.List.{AllByRecursion}
 use Rattle.si_defs.specs.Terms as terms
 use Rattle.si_defs.specs.Substitutions.{Substitution, image, apply, IsAmong}
 use Rattle.si_defs.specs.declared.Relation.{Relation}
-use Rattle.si_defs.specs.declared.Relation.TheVariants.{Instances, Unifiable}
+use Rattle.si_defs.specs.declared.Relation.TheVariants.{Variants, Instances, Generalizations, Unifiable}
 use Rattle.si_defs.proofs.ListLaws.{all_at, among_front, among_back, among_parts}
 use Rattle.si_flat.specs.Cells.{Symbol, Variable, query, entry, ind, same_variable, Term, Terms, IsSound, AreSound, StandsFor}
 use Rattle.si_trail.specs.Trails.{HasDistinctSlots}
@@ -134,6 +134,20 @@ entry_in_range tree legal slots q room from (step ∷ above) reached m a =
       | inl b ↦ entry_in_range tree legal slots q room step.1.parent above reached.2 m b
       | inr b ↦ all_at (IsInRange slots) (terms.variables b.0.1) (entry m) (all_at (λ c. IsInRange slots (ind c.0) × AllByRecursion (IsInRange slots) (terms.variables c.1)) step.1.bindings b.0 (room.nodes step.0 step.1 reached.1) b.1).1 b.2
     ]
+
+-- where the query's variables aren't constants
+pub has_kind : (search : Search) → IsReady search → search.slots.freeze_query ≡ false → (search.kind ≡ Instances) ⊎ (search.kind ≡ Unifiable)
+has_kind search ready free = by search.kind refl where
+  no_both : search.slots.freeze_query ≡ true → ⊥
+  no_both e = bad (sym free ∙ e) where
+    bad : false ≡ true → ⊥
+    bad p = cc
+
+  by : (kind : Relation) → search.kind ≡ kind → (search.kind ≡ Instances) ⊎ (search.kind ≡ Unifiable)
+  by Variants e = absurd (no_both (subst (λ k. Freezes k search.slots) e ready.freezes).0)
+  by Instances e = inl e
+  by Generalizations e = absurd (no_both (subst (λ k. Freezes k search.slots) e ready.freezes).0)
+  by Unifiable e = inr e
 
 module _ (search : Search) (ready : IsReady search) (top : ℕ) (pairs : Pairs) (count : ℕ) (solving : AllowsSolving search.slots pairs count) (distinct : HasDistinctSlots pairs) (there : HasComeTo search (Some top) pairs) (ns ends : List ℕ) (are : AreEndsOf search.slots pairs ns ends) (all : AreAllOpen search.tree.now top ns) (clear : AreClear search.slots pairs ends) where
   legal : HasLegalNodes search.tree.now

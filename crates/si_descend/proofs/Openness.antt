@@ -52,7 +52,7 @@ query_no_entry m n e = cc
 pub entry_no_ind : (m n : ℕ) → entry m ≡ ind n → ⊥
 entry_no_ind m n e = cc
 
-ind_no_entry : (m n : ℕ) → ind m ≡ entry n → ⊥
+pub ind_no_entry : (m n : ℕ) → ind m ≡ entry n → ⊥
 ind_no_entry m n e = cc
 
 entry_no_query : (m n : ℕ) → entry m ≡ query n → ⊥

@@ -1,7 +1,8 @@
 -- Whole subtrees that are open: where all indicators that are open at a node stand for different
 -- variables that can still be anything.
-use Rattle.std.specs.Prelude.{◌≡◌, ℕ, false, List, map, Option, None, Some}
+use Rattle.std.specs.Prelude.{◌≡◌, ℕ, false, List, ◌++◌, map, Option, None, Some, slice_get}
 use Rattle.std.specs.List.{AllByRecursion}
+use Rattle.std.specs.Borrow.{Bor}
 use Rattle.si_defs.specs.Substitutions.{IsAmong, AreDistinct}
 use Rattle.si_trail.specs.Trails.{value_at}
 use Rattle.si_flat.specs.declared.Cell.{Cell}
@@ -33,6 +34,11 @@ pub record AreEndsOf (slots : Slots) (pairs : Pairs) (ns ends : List ℕ) : Type
   pub free : AllByRecursion (λ r. EndsFree slots pairs r.0 r.1) rows
   pub distinct : AreDistinct ends
 
+-- all of these indicators end behind those that did before
+abbrev pub AddsEnds : Slots → Pairs → List ℕ → List ℕ → List ℕ → Type 0
+AddsEnds slots pairs more old new =
+    (ns : List ℕ) → AreEndsOf slots pairs ns old → AreEndsOf slots pairs (ns ++ more) new
+
 -- ---- values of the entry's variables
 -- the slot is unbound, and none of the ends
 abbrev pub IsClear : Pairs → List ℕ → Option ℕ → Type 0
@@ -45,6 +51,13 @@ AreClear slots pairs ends =
     AllByRecursion
     (λ pair. (m : ℕ) → variable_of slots pair.0 ≡ entry m
     → AllByRecursion (λ c. IsClear pairs ends (cell_slot slots c)) pair.1.now) pairs
+
+-- where the binding with this number is of a variable of the entry, its value has
+abbrev pub HasClearValue : Slots → Pairs → List ℕ → ℕ → Type 0
+HasClearValue slots pairs ends n =
+    (slot m : ℕ) (value : Bor (List Cell)) → slice_get pairs n ≡ Some (slot, value)
+    → variable_of slots slot ≡ entry m
+    → AllByRecursion (λ c. IsClear pairs ends (cell_slot slots c)) value.now
 
 -- ---- at a node
 -- each indicator that is open there is one of these

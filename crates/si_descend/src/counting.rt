@@ -7,6 +7,7 @@ ghost use Rattle.si_descend.specs.Searching.{IsReady, HasComeTo};
 
 use crate::attempts::{attempt, attempts_at};
 use crate::search::{Search, enter};
+use crate::subtrees::{count_all, is_open_below};
 use si_flat::Cell;
 use si_trail::Trail;
 use si_tree::NodeId;
@@ -48,6 +49,10 @@ pub(crate) fn count_at<'a>(
             passed: 0,
             answers: 0,
         });
+    }
+    if is_open_below(search, node, trail) {
+        trail.undo(mark);
+        return Ok(count_all(search, node));
     }
     let own = search.tree.postings(node).len();
     let below = count_children(search, node, scratch, trail)?;

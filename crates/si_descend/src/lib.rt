@@ -9,8 +9,10 @@
 mod attempts;
 mod counting;
 mod descent;
+mod ends;
 mod heads;
 mod search;
+mod subtrees;
 mod variants;
 
 pub use counting::Counted;

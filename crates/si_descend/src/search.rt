@@ -7,6 +7,7 @@ ghost use Rattle.si_fit.specs.Fitting.{AllowsSolving};
 ghost use Rattle.si_descend.specs.Searching.{IsReady, HasComeTo, HasEntered, HasFound, HasFoundBelow};
 
 use crate::attempts::{attempt, attempts_at};
+use crate::subtrees::{append_all, is_open_below};
 use crate::variants::is_renaming;
 use si_fit::fit;
 use si_flat::{Cell, Flat, Kind};
@@ -105,6 +106,10 @@ pub(crate) fn visit<'a>(
     if !enter(search, node, scratch, trail)? {
         trail.undo(mark);
         return Ok(0);
+    }
+    if is_open_below(search, node, trail) {
+        trail.undo(mark);
+        return append_all(search, node, out);
     }
     out.extend_from_slice(search.tree.postings(node))?;
     let below = visit_children(search, node, scratch, trail, out)?;

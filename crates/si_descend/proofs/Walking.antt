@@ -1,0 +1,49 @@
+-- What is found where all nodes below are open, child by child.
+use Rattle.std.proofs.Common.{◌≡◌, ℕ, ◌+◌, ◌<◌, ◌≤◌, List, [], ◌∷◌, ◌++◌, Some, length, take, drop, slice_get, get_or, inl, refl, ap, sym, ◌∙◌, subst}
+use Rattle.std.proofs.lemmas.List.{take_more, take_all, take-append-drop}
+use Rattle.si_defs.specs.Substitutions.{IsAmong, AreDistinct}
+use Rattle.si_defs.proofs.ListLaws.{among_front, get_among}
+use Rattle.si_flat.specs.Cells.{Term}
+use Rattle.si_flat.proofs.RowLaws.{distinct_parts}
+use Rattle.si_legal.specs.declared.Posting.{Posting}
+use Rattle.si_legal.specs.Trees.{Node, HasNode}
+use Rattle.si_tree.specs.Reading.{children_of}
+use Rattle.si_descend.specs.declared.search.Search.{Search}
+use Rattle.si_descend.specs.Searching.{IsReady, IsOpenAt, AreOpenBelow, HasFound, HasFoundBelow}
+use Rattle.si_descend.proofs.Below.{IsChildOf, child_passes, passes_first}
+use Rattle.si_descend.proofs.Visiting.{AreSiblings, siblings, one_child_more}
+
+-- ---- downwards
+pub open_at : (search : Search) (key : ℕ) → AreOpenBelow search key → IsOpenAt search key
+open_at search key all q path stands reached = all q key path stands reached (passes_first search.tree.now key path reached)
+
+pub open_child : (search : Search) (key child : ℕ) → IsChildOf search.tree.now key child → AreOpenBelow search key → AreOpenBelow search child
+open_child search key child is all q low path stands reached passes = all q low path stands reached (child_passes search.tree.now (Some low) path key child reached is passes)
+
+module _ (search : Search) (ready : IsReady search) (key : ℕ) (node : Node Term) (has : HasNode search.tree.now key node) (children : List ℕ) (are : children ≡ children_of node.content) where
+  all_siblings : AreSiblings search ready key node has children
+  all_siblings = subst (AreSiblings search ready key node has) (sym are) (siblings search ready key node has)
+
+  pub child_at : (place child : ℕ) → slice_get children place ≡ Some child → IsChildOf search.tree.now key child
+  child_at place child e = all_siblings.are child (get_among children place child e)
+
+  taken_siblings : (n : ℕ) → AreSiblings search ready key node has (take n children)
+  taken_siblings n = record {
+    are = λ child a. all_siblings.are child (subst (λ l. IsAmong l child) (take-append-drop n children) (among_front (take n children) (drop n children) child a));
+    distinct = (distinct_parts (take n children) (drop n children) (subst AreDistinct (sym (take-append-drop n children)) all_siblings.distinct)).0;
+  }
+
+  -- ---- one child more
+  pub walked_more : (place child : ℕ) (old mid last : List Posting) (m n : ℕ) → place < length children → get_or children place child ≡ child → HasFoundBelow search (take place children) old mid m → HasFound search child mid last n → HasFoundBelow search (take (place + 1) children) old last (m + n)
+  walked_more place child old mid last m n within is before found =
+      subst (λ tops. HasFoundBelow search tops old last (m + n)) (sym next)
+      (one_child_more search ready key node has (take place children) child old mid last m n are_more (λ a. (distinct_parts (take place children) (child ∷ []) are_more.distinct).2 child a (inl refl)) before found)
+    where
+      next : take (place + 1) children ≡ take place children ++ child ∷ []
+      next = take_more children place child within ∙ ap (λ c. take place children ++ c ∷ []) is
+
+      are_more : AreSiblings search ready key node has (take place children ++ child ∷ [])
+      are_more = subst (AreSiblings search ready key node has) (take_more children place child within ∙ ap (λ c. take place children ++ c ∷ []) is) (taken_siblings (place + 1))
+
+  pub walked_all : (place : ℕ) (old last : List Posting) (n : ℕ) → length children ≤ place → HasFoundBelow search (take place children) old last n → HasFoundBelow search (children_of node.content) old last n
+  walked_all place old last n through = subst (λ tops. HasFoundBelow search tops old last n) (take_all place children through ∙ are)

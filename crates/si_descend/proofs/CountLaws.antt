@@ -1,5 +1,5 @@
 -- What was found is counted, turn by turn.
-use Rattle.std.proofs.Common.{◌≡◌, ℕ, ◌+◌, ◌^◌, ◌<◌, ◌≤◌, List, [], ◌++◌, length, Some, ap, sym, ◌∙◌, subst, arith}
+use Rattle.std.proofs.Common.{◌≡◌, ℕ, ◌+◌, ◌^◌, ◌<◌, ◌≤◌, List, [], ◌++◌, length, take, get_or, Some, ap, sym, ◌∙◌, subst, arith}
 use Rattle.std.proofs.lemmas.List.{length-append}
 use Rattle.si_flat.specs.Cells.{Term}
 use Rattle.si_legal.specs.declared.Posting.{Posting}
@@ -17,6 +17,7 @@ use Rattle.si_descend.specs.Counting.{at_most, HasCounted, HasCountedBelow, Coun
 use Rattle.si_descend.specs.Searching.{IsReady, HasComeTo, IsOpenAt, IsClosedAt, HasFound, HasFoundBelow}
 use Rattle.si_descend.proofs.Visiting.{found_closed, found_open, none_yet, few_below, few_found}
 use Rattle.si_descend.proofs.AttemptLaws.{IsUnderway, found_more, found_all}
+use Rattle.si_descend.proofs.Walking.{walked_more, walked_all}
 use Rattle.si_descend.specs.Heads.{IsWanted}
 use Rattle.si_descend.specs.Attempts.{IsTried, AreAttempts}
 use Rattle.si_descend.specs.declared.attempts.Attempts.{Attempts}
@@ -35,6 +36,11 @@ below_behind s tops front new n h = record { counts = h.counts; appends = λ q s
 -- ---- numbers
 sum_at_most : (m n k : ℕ) → k ≡ m + n → at_most (at_most m + at_most n) ≡ at_most k
 sum_at_most m n k e = omega (arith, e)
+
+-- two numbers of answers, and that of all of them
+both_counted : (one other all : ℕ) (found new : List Posting) → one ≡ at_most (length found) → other ≡ at_most (length new) → all ≡ at_most (one + other) → all ≡ at_most (length (found ++ new))
+both_counted one other all found new e f sum =
+    sum ∙ ap (λ n. at_most (n + other)) e ∙ ap (λ n. at_most (at_most (length found) + n)) f ∙ sum_at_most (length found) (length new) (length (found ++ new)) (length-append found new)
 
 own_at_most : (m n k : ℕ) → n < 2 ^ 64 → k ≡ n + m → at_most (at_most m + n) ≡ at_most k
 own_at_most m n k small e = omega (arith, e, small)
@@ -62,12 +68,24 @@ module _ (s : Search) (ready : IsReady s) (key : ℕ) (node : Node Term) (has : 
           (
             found ++ new,
             subst (HasFoundBelow s all.0 [] (found ++ new)) (sym f) all.2,
-            d ∙ ap (λ n. at_most (n + more.answers)) k ∙ ap (λ n. at_most (at_most (length found) + n)) l ∙ sum_at_most (length found) (length new) (length (found ++ new)) (length-append found new),
+            both_counted old.answers more.answers c.answers found new k l d,
           ),
         )
 
     pub counted_all : (pairs : Pairs) → HasComeTo s (Some key) pairs → IsWanted s key pairs a.wanted → (place : ℕ) (c : Counted) → a.end ≤ place → IsUnderway s key a place (λ tried. HasCountedBelow s tried c) → HasCountedBelow s (children_of node.content) c
     counted_all pairs there wanted place c through (tried, were, (found, h, e)) = (found, found_all s ready key node has a are pairs there wanted place [] found c.passed through (tried, were, h), e)
+
+  -- all of them, where all nodes below are open
+  module _ (children : List ℕ) (are : children ≡ children_of node.content) where
+    pub counted_walked : (place child : ℕ) (old more c : Counted) → place < length children → child ≡ get_or children place child → HasCountedBelow s (take place children) old → HasCounted s child more → c.passed ≡ old.passed + more.passed → c.answers ≡ at_most (old.answers + more.answers) → HasCountedBelow s (take (place + 1) children) c
+    counted_walked place child old more c within is (found, h, k) (new, g, l) f d = (
+      found ++ new,
+      subst (HasFoundBelow s (take (place + 1) children) [] (found ++ new)) (sym f) (walked_more s ready key node has children are place child [] found (found ++ new) old.passed more.passed within is h (found_behind s child found new more.passed g)),
+      both_counted old.answers more.answers c.answers found new k l d,
+    )
+
+    pub counted_walked_all : (place : ℕ) (c : Counted) → length children ≤ place → HasCountedBelow s (take place children) c → HasCountedBelow s (children_of node.content) c
+    counted_walked_all place c through (found, h, e) = (found, walked_all s ready key node has children are place [] found c.passed through h, e)
 
   pub counted_none : (c : Counted) → c.passed ≡ 0 → c.answers ≡ 0 → HasCountedBelow s [] c
   counted_none c e f = ([], subst (HasFoundBelow s [] [] []) (sym e) (none_yet s ready []), f ∙ none) where

@@ -2,7 +2,7 @@
 use Rattle.std.proofs.Common.{◌≡◌, ℕ, ◌+◌, ◌<◌, ◌≤◌, List, [], ◌∷◌, ◌++◌, Some, length, take, drop, slice_get, get_or, inl, refl, ap, sym, ◌∙◌, subst}
 use Rattle.std.proofs.lemmas.List.{take_more, take_all, take-append-drop}
 use Rattle.si_defs.specs.Substitutions.{IsAmong, AreDistinct}
-use Rattle.si_defs.proofs.ListLaws.{among_front, get_among}
+use Rattle.si_defs.proofs.ListLaws.{all_from, all_get, among_front, get_among}
 use Rattle.si_flat.specs.Cells.{Term}
 use Rattle.si_flat.proofs.RowLaws.{distinct_parts}
 use Rattle.si_legal.specs.declared.Posting.{Posting}
@@ -27,6 +27,10 @@ module _ (search : Search) (ready : IsReady search) (key : ℕ) (node : Node Ter
   pub child_at : (place child : ℕ) → slice_get children place ≡ Some child → IsChildOf search.tree.now key child
   child_at place child e = all_siblings.are child (get_among children place child e)
 
+  pub child_item : (place child : ℕ) → place < length children → child ≡ get_or children place child → IsChildOf search.tree.now key child
+  child_item place child within e =
+      all_siblings.are child (subst (IsAmong children) (sym e) (all_get (IsAmong children) children place child (all_from (IsAmong children) children (λ x a. a)) within))
+
   taken_siblings : (n : ℕ) → AreSiblings search ready key node has (take n children)
   taken_siblings n = record {
     are = λ child a. all_siblings.are child (subst (λ l. IsAmong l child) (take-append-drop n children) (among_front (take n children) (drop n children) child a));
@@ -34,16 +38,16 @@ module _ (search : Search) (ready : IsReady search) (key : ℕ) (node : Node Ter
   }
 
   -- ---- one child more
-  pub walked_more : (place child : ℕ) (old mid last : List Posting) (m n : ℕ) → place < length children → get_or children place child ≡ child → HasFoundBelow search (take place children) old mid m → HasFound search child mid last n → HasFoundBelow search (take (place + 1) children) old last (m + n)
+  pub walked_more : (place child : ℕ) (old mid last : List Posting) (m n : ℕ) → place < length children → child ≡ get_or children place child → HasFoundBelow search (take place children) old mid m → HasFound search child mid last n → HasFoundBelow search (take (place + 1) children) old last (m + n)
   walked_more place child old mid last m n within is before found =
       subst (λ tops. HasFoundBelow search tops old last (m + n)) (sym next)
       (one_child_more search ready key node has (take place children) child old mid last m n are_more (λ a. (distinct_parts (take place children) (child ∷ []) are_more.distinct).2 child a (inl refl)) before found)
     where
       next : take (place + 1) children ≡ take place children ++ child ∷ []
-      next = take_more children place child within ∙ ap (λ c. take place children ++ c ∷ []) is
+      next = take_more children place child within ∙ ap (λ c. take place children ++ c ∷ []) (sym is)
 
       are_more : AreSiblings search ready key node has (take place children ++ child ∷ [])
-      are_more = subst (AreSiblings search ready key node has) (take_more children place child within ∙ ap (λ c. take place children ++ c ∷ []) is) (taken_siblings (place + 1))
+      are_more = subst (AreSiblings search ready key node has) (take_more children place child within ∙ ap (λ c. take place children ++ c ∷ []) (sym is)) (taken_siblings (place + 1))
 
   pub walked_all : (place : ℕ) (old last : List Posting) (n : ℕ) → length children ≤ place → HasFoundBelow search (take place children) old last n → HasFoundBelow search (children_of node.content) old last n
   walked_all place old last n through = subst (λ tops. HasFoundBelow search tops old last n) (take_all place children through ∙ are)

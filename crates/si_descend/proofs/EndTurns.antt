@@ -10,7 +10,7 @@ use Rattle.std.specs.List.{AllByRecursion, list_any}
 use Rattle.std.specs.Borrow.{Bor}
 use Rattle.si_defs.specs.Terms as terms
 use Rattle.si_defs.specs.Substitutions.{IsAmong, AreDistinct}
-use Rattle.si_defs.proofs.ListLaws.{all_append, among_front, among_back}
+use Rattle.si_defs.proofs.ListLaws.{all_weaker, all_append, among_front, among_back}
 use Rattle.si_flat.specs.declared.Cell.{Cell}
 use Rattle.si_flat.specs.declared.Cell.TheVariants as cell
 use Rattle.si_flat.specs.Cells.{Variable, query, entry, ind, Term, variable_cell}
@@ -18,7 +18,7 @@ use Rattle.si_flat.specs.Rows.{CellPair, left_sides}
 use Rattle.si_flat.proofs.RowLaws.{distinct_append}
 use Rattle.si_trail.specs.Trails.{value_at, HasDistinctSlots, IsSlotOf}
 use Rattle.si_unify.specs.declared.slots.Slots.{Slots}
-use Rattle.si_unify.specs.Solving.{Pairs, slot_of, variable_of, is_frozen, CellIsInRange, AreInRange, IsSolvedBy}
+use Rattle.si_unify.specs.Solving.{Pairs, slot_of, variable_of, is_frozen, CellIsInRange, AreInRange, IsSolvedBy, IsBinding}
 use Rattle.si_unify.specs.Spots.{cell_slot, IsUnbound}
 use Rattle.si_unify.proofs.Places.{whole_at, first_cell, cell-at, inside, in_range-at, in_range-variable}
 use Rattle.si_unify.proofs.Reading.{one_term}
@@ -41,6 +41,7 @@ use Rattle.si_descend.specs.Subtrees.{EndsFree, AreEndsOf, AddsEnds, IsClear, Ha
 use Rattle.si_descend.proofs.Along.{is_step}
 use Rattle.si_descend.proofs.Openness.{of_kind, entry_no_ind}
 use Rattle.si_descend.proofs.Below.{IsChildOf}
+use Rattle.si_descend.proofs.RenameLaws.{got_within, none_got}
 
 -- ---- lists of slots
 untrue : (b : Bool) → b ≡ false → IsTrue b → ⊥
@@ -53,14 +54,6 @@ tells_among ns n = (
   λ t. elim (among_or_not ns n) as (λ _. IsAmong ns n) [ inl a ↦ a | inr o ↦ absurd (untrue (list_any (λ m. m == n) ns) (occurs_not ns n o) t) ],
   λ a. occurs ns n a,
 )
-
-none_got : {X : Type 0} (x : X) → None ≡ Some x → ⊥
-none_got x e = cc
-
-got_within : {X : Type 0} (xs : List X) (n : ℕ) (x : X) → slice_get xs n ≡ Some x → n < length xs
-got_within [] n x e = absurd (none_got x e)
-got_within (y ∷ xs) zero x e = omega arith
-got_within (y ∷ xs) (suc n) x e = omega (arith, got_within xs n x e)
 
 -- ---- one end
 variable_first : (t : Term) (x : Variable) → first_cell t ≡ variable_cell x → t ≡ terms.var x
@@ -163,6 +156,12 @@ module _ (slots : Slots) (pairs : Pairs) where
       let same = same_Some (slot, value) (found, is.0) (sym e ∙ is.1) in
       let own : w ≡ is.0 = same_Some w is.0 (bound ∙ value_told pairs n found is.0 distinct is.1) in
       subst (λ u. AllByRecursion (λ c. IsClear pairs ends (cell_slot slots c)) u.now) (own ∙ sym (ap (λ p. p.1) same)) clear
+
+  -- frozen ones have none
+  pub frozen_clear : (ends : List ℕ) → AllByRecursion (IsBinding slots) pairs → slots.freeze_entry ≡ true → AreClear slots pairs ends
+  frozen_clear ends bindings frozen = all_weaker (IsBinding slots) (λ p. (m : ℕ) → variable_of slots p.0 ≡ entry m → AllByRecursion (λ c. IsClear pairs ends (cell_slot slots c)) p.1.now) pairs (λ p b m name. absurd (both (sym b.unfrozen ∙ ap (is_frozen slots) name ∙ frozen))) bindings where
+    both : false ≡ true → ⊥
+    both e = cc
 
   abbrev pub AreClearBefore : List ℕ → ℕ → Type 0
   AreClearBefore ends end = (n : ℕ) → n < end → HasClearValue slots pairs ends n

@@ -32,7 +32,7 @@ take_whole (x ∷ xs) zero h = absurd (omega (arith, h))
 take_whole (x ∷ xs) (suc n) h = ap (λ l. x ∷ l) (take_whole xs n (omega (arith, h)))
 
 -- ---- places in lists
-got_within : {X : Type 0} (xs : List X) (n : ℕ) (x : X) → slice_get xs n ≡ Some x → n < length xs
+pub got_within : {X : Type 0} (xs : List X) (n : ℕ) (x : X) → slice_get xs n ≡ Some x → n < length xs
 got_within [] n x e = absurd (by e) where
   by : None ≡ Some x → ⊥
   by p = cc
@@ -54,7 +54,7 @@ at_mapped f (x ∷ xs) zero y a = absurd a
 at_mapped f (x ∷ xs) (suc n) y (inl e) = (0, omega arith, (x, refl, e))
 at_mapped f (x ∷ xs) (suc n) y (inr a) = let h = at_mapped f xs n y a in (suc h.0, omega (arith, h.1), h.2)
 
-none_got : {X : Type 0} (x : X) → None ≡ Some x → ⊥
+pub none_got : {X : Type 0} (x : X) → None ≡ Some x → ⊥
 none_got x e = cc
 
 -- no slot stands twice

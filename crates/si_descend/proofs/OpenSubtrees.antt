@@ -1,5 +1,5 @@
 -- Below a node all are open, where all indicators that are open there can be anything.
-use Rattle.std.proofs.Common.{◌≡◌, ◌≢◌, ◌⊎◌, inl, inr, ℕ, zero, suc, ◌+◌, ◌≤◌, Bool, true, false, List, [], ◌∷◌, ◌++◌, map, Option, None, Some, length, refl, ap, sym, ◌∙◌, subst, arith}
+use Rattle.std.proofs.Common.{◌≡◌, ◌≢◌, ◌⊎◌, inl, inr, ℕ, zero, suc, ◌+◌, ◌≤◌, true, false, List, [], ◌∷◌, ◌++◌, map, Option, None, Some, refl, ap, sym, ◌∙◌, subst, arith}
 use Rattle.std.proofs.lemmas.Bool.{cases_eq}
 use Rattle.std.specs.List.{AllByRecursion}
 use Rattle.si_defs.specs.Terms as terms
@@ -12,7 +12,6 @@ use Rattle.si_trail.specs.Trails.{HasDistinctSlots}
 use Rattle.si_unify.specs.declared.slots.Slots.{Slots}
 use Rattle.si_unify.specs.Solving.{Pairs, IsInRange}
 use Rattle.si_unify.proofs.Reading.{one_term}
-use Rattle.si_legal.specs.declared.Posting.{Posting}
 use Rattle.si_legal.specs.Bindings.{indicators, substitution_of, applied}
 use Rattle.si_legal.specs.Counts.{node_count}
 use Rattle.si_legal.specs.Trees.{Content, inner, leaf, Node, Tree, HasNode, Path, IsPath, PassesBy, path_term}
@@ -23,7 +22,6 @@ use Rattle.si_changes.proofs.Frames.{HasLegalNodes, legal_nodes}
 use Rattle.si_changes.proofs.HeadLaws.{image_keeps, indicator_variable}
 use Rattle.si_changes.proofs.OpenLaws.{path_node, root_no_child}
 use Rattle.si_changes.proofs.Permuted.{among_or_not}
-use Rattle.si_changes.proofs.StoredLaws.{path_start}
 use Rattle.si_changes.proofs.ComposeLaws.{substituted_twice, is_substituted, applied_from, indicator_in}
 use Rattle.si_fit.specs.Fitting.{AllowsSolving}
 use Rattle.si_descend.specs.declared.search.Search.{Search}
@@ -106,8 +104,8 @@ leaf_below tree legal zero key node has other few =
     leaf_from tree legal key node has other (λ child is. let d = child_deeper tree (legal_nodes tree legal) key child is in absurd (omega (arith, few, d.one, d.few)))
 leaf_below tree legal (suc left) key node has other few =
     leaf_from tree legal key node has other (λ child is.
-        let d = child_deeper tree (legal_nodes tree legal) key child is in
-        leaf_below tree legal left child is.0 is.1 (root_no_child tree legal child key is.0 is.1 is.2) (omega (arith, few, d.one)))
+    let d = child_deeper tree (legal_nodes tree legal) key child is in
+    leaf_below tree legal left child is.0 is.1 (root_no_child tree legal child key is.0 is.1 is.2) (omega (arith, few, d.one)))
 
 -- ---- parts of a term
 mutual

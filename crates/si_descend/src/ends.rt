@@ -184,9 +184,7 @@ fn are_clear_cells(trail: &Trail<&[Cell]>, slots: &Slots, ends: &Ends, cells: &[
     ensures { IsTrue result ↔ AllByRecursion (λ c. IsClear trail.now.pairs ends.now
         (cell_slot slots.now c)) cells.now }
 {
-    cells
-        .iter()
-        .all(|cell| is_clear(trail, slots, ends, *cell))
+    cells.iter().all(|cell| is_clear(trail, slots, ends, *cell))
 }
 
 fn is_clear(trail: &Trail<&[Cell]>, slots: &Slots, ends: &Ends, cell: Cell) -> bool

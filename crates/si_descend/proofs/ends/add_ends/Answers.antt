@@ -1,5 +1,5 @@
 use Rattle.si_fit.proofs.FitTurns.{indicator_whole}
-use Rattle.si_descend.proofs.EndTurns.{adding_starts, first_range, adding_more, adding_ends}
+use Rattle.si_descend.proofs.EndTurns.{adding_more}
 use Rattle.si_descend.proofs.ends.add_ends.Goals as goal
 
 pub free_end-requires-clause-whole : goal.free_end-requires-clause-whole

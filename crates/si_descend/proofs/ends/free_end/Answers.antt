@@ -1,5 +1,5 @@
 use Rattle.std.proofs.Common.{refl}
-use Rattle.si_flat.specs.Cells.{query, entry, ind}
+use Rattle.si_flat.specs.Cells.{query, ind}
 use Rattle.si_descend.proofs.Openness.{query_no_entry, ind_no_entry}
 use Rattle.si_descend.proofs.EndTurns.{some_end, ends_free}
 use Rattle.si_descend.proofs.ends.free_end.Goals as goal

@@ -1,16 +1,19 @@
 -- What is found where all nodes below are open, child by child.
-use Rattle.std.proofs.Common.{◌≡◌, ℕ, ◌+◌, ◌<◌, ◌≤◌, List, [], ◌∷◌, ◌++◌, Some, length, take, drop, slice_get, get_or, inl, refl, ap, sym, ◌∙◌, subst}
+use Rattle.std.proofs.Common.{◌≡◌, ℕ, ◌+◌, ◌<◌, ◌≤◌, false, true, List, [], ◌∷◌, ◌++◌, Option, Some, length, take, drop, slice_get, get_or, inl, inr, refl, ap, sym, ◌∙◌, subst}
+use Rattle.std.specs.Option.{is_some}
 use Rattle.std.proofs.lemmas.List.{take_more, take_all, take-append-drop}
 use Rattle.si_defs.specs.Substitutions.{IsAmong, AreDistinct}
 use Rattle.si_defs.proofs.ListLaws.{all_from, all_get, among_front, get_among}
 use Rattle.si_flat.specs.Cells.{Term}
 use Rattle.si_flat.proofs.RowLaws.{distinct_parts}
 use Rattle.si_legal.specs.declared.Posting.{Posting}
-use Rattle.si_legal.specs.Trees.{Node, HasNode}
-use Rattle.si_tree.specs.Reading.{children_of}
+use Rattle.si_legal.specs.Trees.{Content, inner, leaf, Node, HasNode, IsPath, path_term}
+use Rattle.si_legal.specs.Legal.{IsLegalNode, IsLegalContent}
+use Rattle.si_legal.specs.OpenNodes.{IsOpen}
+use Rattle.si_tree.specs.Reading.{children_of, split_of}
 use Rattle.si_descend.specs.declared.search.Search.{Search}
 use Rattle.si_descend.specs.Searching.{IsReady, IsOpenAt, AreOpenBelow, HasFound, HasFoundBelow}
-use Rattle.si_descend.proofs.Below.{IsChildOf, child_passes, passes_first}
+use Rattle.si_descend.proofs.Below.{IsChildOf, passes_child, child_passes, passes_first}
 use Rattle.si_descend.proofs.Visiting.{AreSiblings, siblings, one_child_more}
 
 -- ---- downwards
@@ -19,6 +22,21 @@ open_at search key all q path stands reached = all q key path stands reached (pa
 
 pub open_child : (search : Search) (key child : ℕ) → IsChildOf search.tree.now key child → AreOpenBelow search key → AreOpenBelow search child
 open_child search key child is all q low path stands reached passes = all q low path stands reached (child_passes search.tree.now (Some low) path key child reached is passes)
+
+-- below a leaf there is no other node
+pub leaf_below : (search : Search) → IsReady search → (key : ℕ) (node : Node Term) → HasNode search.tree.now key node → (o : Option ℕ) → o ≡ split_of node.content → is_some o ≡ false → IsOpenAt search key → AreOpenBelow search key
+leaf_below search ready key node has o is none here q low path stands reached passes =
+    elim (passes_child search.tree.now (Some low) path key reached passes) as (λ _. IsOpen search.kind q (path_term path)) [
+      | inl e ↦ here q path stands (subst (λ k. IsPath search.tree.now k path) e reached)
+      | inr h ↦ absurd (no_child (ready.legal.nodes key node has) node.content refl h.0 h.1)
+    ]
+  where
+    bad : false ≡ true → ⊥
+    bad e = cc
+
+    no_child : IsLegalNode search.tree.now key node → (c : Content) → node.content ≡ c → (child : ℕ) → IsChildOf search.tree.now key child → ⊥
+    no_child legal (inner split children) e child down = bad (sym none ∙ ap is_some (is ∙ ap split_of e))
+    no_child legal (leaf ps) e child down = ((subst (IsLegalContent search.tree.now key ((key, node) ∷ legal.above)) e legal.content).0 child).1 down
 
 module _ (search : Search) (ready : IsReady search) (key : ℕ) (node : Node Term) (has : HasNode search.tree.now key node) (children : List ℕ) (are : children ≡ children_of node.content) where
   all_siblings : AreSiblings search ready key node has children

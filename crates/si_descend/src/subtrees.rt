@@ -15,9 +15,9 @@ use si_trail::Trail;
 use si_tree::NodeId;
 use std::alloc::AllocError;
 
-/// Whether an open node has children, and all nodes below it are known to be open. They are where
-/// instances or unifiable terms are sought, and all open indicators stand for different variables
-/// of which nothing else is told. At other nodes it may be so too.
+/// Whether all nodes below an open node are known to be open: it is a leaf, or instances or
+/// unifiable terms are sought, and all open indicators stand for different variables of which
+/// nothing else is told.
 pub(crate) fn is_open_below<'a>(
     search: &Search<'a>,
     node: NodeId,
@@ -30,7 +30,10 @@ pub(crate) fn is_open_below<'a>(
     requires opened { IsOpenAt search.now node }
     ensures { IsTrue result → AreOpenBelow search.now node }
 {
-    if search.slots.freeze_query || search.tree.split(node).is_none() {
+    if search.tree.split(node).is_none() {
+        return true;
+    }
+    if search.slots.freeze_query {
         return false;
     }
     match ends_below(search, node, trail) {

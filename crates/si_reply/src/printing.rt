@@ -10,6 +10,7 @@ ghost use Rattle.si_term.specs.Terms.{symbol_of, term_of};
 ghost use Rattle.si_term.specs.Meaning.{name_of, place_of};
 ghost use Rattle.si_reply.specs.PrintedParts.{arguments_text, numbers_behind, number_list};
 
+use crate::bytes::is_word_byte;
 use itoa::Buffer;
 use si_flat::LitMap;
 use si_io::{Failed, Sink, write_all};
@@ -40,6 +41,9 @@ pub fn put_number<K: Sink>(sink: &mut K, word: &[u8], number: u64) -> Result<(),
         (K.shown sink.new) }
 {
     put_bytes(sink, word)?;
+    if number < 10 {
+        return put_bytes(sink, &[b'0' + number as u8]);
+    }
     let mut buffer = Buffer::new();
     put_bytes(sink, buffer.format(number).as_bytes())
 }
@@ -154,7 +158,7 @@ fn are_word_bytes(bytes: &[u8]) -> bool
     ensures { result ≡ list_all is_word_byte bytes.now }
 {
     for byte in bytes {
-        if !byte.is_ascii_alphanumeric() && *byte != b'_' {
+        if !is_word_byte(*byte) {
             return false;
         }
     }

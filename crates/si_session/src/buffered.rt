@@ -89,6 +89,51 @@ fn hand_on<S: Borrowed>(sink: &mut S, bytes: &[u8], from: &mut usize) -> Result<
     Ok(())
 }
 
+/// Copies bytes over as many others. A few of them are copied without a call.
+#[inline(always)]
+fn copy(into: &mut [u8], bytes: &[u8])
+    requires { length into.old ≡ length bytes.now }
+    ensures { into.new ≡ bytes.now }
+{
+    let size = bytes.len();
+    if size < 2 || 16 < size {
+        copy_any(into, bytes);
+        return;
+    }
+    if size < 4 {
+        copy_ends::<2>(into, bytes);
+        return;
+    }
+    if size < 8 {
+        copy_ends::<4>(into, bytes);
+        return;
+    }
+    copy_ends::<8>(into, bytes);
+}
+
+/// Copies any number of bytes. Few pieces are so long, so this isn't inlined.
+#[inline(never)]
+fn copy_any(into: &mut [u8], bytes: &[u8])
+    requires { length into.old ≡ length bytes.now }
+    ensures { into.new ≡ bytes.now }
+{
+    into.copy_from_slice(bytes);
+}
+
+/// Copies so many bytes from the front and as many from the end, which is all of them: these may
+/// overlap.
+#[inline(always)]
+fn copy_ends<const N: usize>(into: &mut [u8], bytes: &[u8])
+    requires same { length into.old ≡ length bytes.now }
+    requires some { N ≤ length bytes.now }
+    requires all { length bytes.now ≤ N + N }
+    ensures { into.new ≡ bytes.now }
+{
+    let behind = bytes.len() - N;
+    into[..N].copy_from_slice(&bytes[..N]);
+    into[behind..].copy_from_slice(&bytes[behind..]);
+}
+
 /// A sink over a sink, which gathers what it is given, and hands it on where there is no room for
 /// more.
 #[derive(Drop)]
@@ -200,15 +245,27 @@ impl<S: Borrowed, B: Origin> Buffered<S, B> {
         ensures calls { self.new.calls ≡ self.old.calls }
     {
         let start = self.end;
-        // One byte is stored without a call.
+        // One byte is stored as it is.
         if bytes.len() == 1 {
             self.bytes[start] = bytes[0];
             self.end = start + 1;
             return;
         }
         let end = start + bytes.len();
-        self.bytes[start..end].copy_from_slice(bytes);
+        copy(&mut self.bytes[start..end], bytes);
         self.end = end;
+    }
+
+    /// Holds bytes, as `hold` does, for a caller that seldom does so.
+    #[inline(never)]
+    fn hold_apart(&mut self, bytes: &[u8])
+        requires { self.old.end + length bytes.now ≤ 1023 }
+        ensures held { held self.new.bytes self.new.start self.new.end
+            ≡ held self.old.bytes self.old.start self.old.end ++ bytes.now }
+        ensures sink { self.new.sink ≡ self.old.sink }
+        ensures calls { self.new.calls ≡ self.old.calls }
+    {
+        self.hold(bytes);
     }
 
     /// Ends a reply of which all was told but its last line feed: hands on what is held, and that.
@@ -248,7 +305,7 @@ impl<S: Borrowed, B: Origin> Sink for Buffered<S, B> {
         }
         self.hand_on_held()?;
         let count = bytes.len().min(HELD - self.end);
-        self.hold(&bytes[..count]);
+        self.hold_apart(&bytes[..count]);
         Ok(count)
     }
 }

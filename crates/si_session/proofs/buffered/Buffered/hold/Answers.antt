@@ -7,5 +7,5 @@ pub returns-clause-held : goal.returns-clause-held
 returns-clause-held g c =
     let b = c.args.self.now in
     let all : length b.bytes ≡ 1024 = search rules in
-    held_more b.bytes c.copy_from_slice.new.self c.args.bytes.now b.start b.end (length c.args.bytes.now)
-    c.copy_from_slice.ensures.after refl b.order (omega (arith, all, b.within))
+    held_more b.bytes c.copy.new.into c.args.bytes.now b.start b.end (length c.args.bytes.now)
+    c.copy.ensures refl b.order (omega (arith, all, b.within))

@@ -16,7 +16,7 @@ use Rattle.si_term.specs.declared.text.Text.{Text}
 use Rattle.si_defs.specs.Tokens.{begins_with}
 use Rattle.si_steps.specs.Replies.{file_line, spot_line}
 use Rattle.si_term.specs.Terms.{symbol_of}
-use Rattle.si_session.specs.Replies.{reply_line, ended_line, stats_text, counts_text, counts_reply, closed_shape, file_word, line_word}
+use Rattle.si_session.specs.Replies.{reply_line, closed_line, stats_text, counts_text, counts_reply, closed_shape, file_word, line_word}
 use Rattle.si_session.specs.Signs.{sign_text}
 use Rattle.si_session.specs.declared.sign.Sign.TheVariants.{Space, LineFeed}
 use Rattle.si_session.specs.declared.reply.FileFault.{FileFault}
@@ -30,13 +30,13 @@ four : (x s d f : Bytes) → x ++ ((s ++ d) ++ f) ≡ ((x ++ s) ++ d) ++ f
 four x s d f = ap (λ l. x ++ l) (append_assoc s d f) ∙ sym (append_assoc x s (d ++ f)) ∙ sym (append_assoc (x ++ s) d f)
 
 pub ok_text : (r : ReplyLine) (clauses entries : ℕ) → r ≡ reply.Ok clauses entries
-    → (codes "ok " ++ decimal clauses) ++ ((codes " " ++ decimal entries) ++ sign_text LineFeed) ≡ ended_line r
-unfolding sign_text ended_line
-ok_text r clauses entries e = four (codes "ok " ++ decimal clauses) (codes " ") (decimal entries) (10 ∷ []) ∙ ap ended_line (sym e)
+    → (codes "ok " ++ decimal clauses) ++ (codes " " ++ decimal entries) ≡ closed_line r
+unfolding closed_line
+ok_text r clauses entries e = sym (append_assoc (codes "ok " ++ decimal clauses) (codes " ") (decimal entries)) ∙ ap closed_line (sym e)
 
 -- a line and its line feed
-pub ended_is : (r : ReplyLine) → ended_line r ≡ reply_line r ++ 10 ∷ []
-unfolding ended_line
+pub ended_is : (r : ReplyLine) → closed_line r ++ 10 ∷ [] ≡ reply_line r ++ 10 ∷ []
+unfolding closed_line
 ended_is r = refl
 
 pub feed_is : sign_text LineFeed ≡ 10 ∷ []
@@ -47,17 +47,17 @@ feed_is = refl
 -- the counts with their words, one behind the other
 abbrev pub counted : ℕ → ℕ → ℕ → Bytes
 counted clauses entries symbols =
-    (codes "clauses " ++ decimal clauses) ++ ((codes " entries " ++ decimal entries) ++ ((codes " symbols " ++ decimal symbols) ++ sign_text LineFeed))
+    (codes "clauses " ++ decimal clauses) ++ ((codes " entries " ++ decimal entries) ++ (codes " symbols " ++ decimal symbols))
 
-six : (x e d s k f : Bytes) → x ++ ((e ++ d) ++ ((s ++ k) ++ f)) ≡ ((((x ++ e) ++ d) ++ s) ++ k) ++ f
-six x e d s k f = four x e d ((s ++ k) ++ f) ∙ four ((x ++ e) ++ d) s k f
+five : (x e d s k : Bytes) → x ++ ((e ++ d) ++ (s ++ k)) ≡ (((x ++ e) ++ d) ++ s) ++ k
+five x e d s k = four x e d (s ++ k) ∙ sym (append_assoc ((x ++ e) ++ d) s k)
 
 pub stats_is : (stats : Stats) (clauses symbols : ℕ) → clauses ≡ stats.clauses → symbols ≡ stats.symbols
     → counted clauses stats.entries symbols ≡ stats_text stats
-unfolding sign_text stats_text
+unfolding stats_text
 stats_is stats clauses symbols c s =
     ap (λ n. counted n stats.entries symbols) c ∙ ap (counted stats.clauses stats.entries) s
-    ∙ six (codes "clauses " ++ decimal stats.clauses) (codes " entries ") (decimal stats.entries) (codes " symbols ") (decimal stats.symbols) (10 ∷ [])
+    ∙ five (codes "clauses " ++ decimal stats.clauses) (codes " entries ") (decimal stats.entries) (codes " symbols ") (decimal stats.symbols)
 
 pub predicate_is : (shape : Shape) (arity : ℕ) → shape.side ≡ Predicate → arity ≡ shape.arity → codes "predicate/" ++ decimal arity ≡ closed_shape shape
 unfolding closed_shape
@@ -67,53 +67,52 @@ pub function_is : (shape : Shape) (arity : ℕ) → shape.side ≡ Function → 
 unfolding closed_shape
 function_is shape arity e a = ap (shape_text Function) a ∙ ap (λ side. shape_text side shape.arity) (sym e)
 
-seven : (a b c d e f g : Bytes) → a ++ (b ++ (c ++ (d ++ (e ++ (f ++ g))))) ≡ (((((a ++ b) ++ c) ++ d) ++ e) ++ f) ++ g
-seven a b c d e f g =
-    sym (append_assoc a b (c ++ (d ++ (e ++ (f ++ g)))))
-    ∙ sym (append_assoc (a ++ b) c (d ++ (e ++ (f ++ g))))
-    ∙ sym (append_assoc ((a ++ b) ++ c) d (e ++ (f ++ g)))
-    ∙ sym (append_assoc (((a ++ b) ++ c) ++ d) e (f ++ g))
-    ∙ sym (append_assoc ((((a ++ b) ++ c) ++ d) ++ e) f g)
+six : (a b c d e f : Bytes) → a ++ (b ++ (c ++ (d ++ (e ++ f)))) ≡ ((((a ++ b) ++ c) ++ d) ++ e) ++ f
+six a b c d e f =
+    sym (append_assoc a b (c ++ (d ++ (e ++ f))))
+    ∙ sym (append_assoc (a ++ b) c (d ++ (e ++ f)))
+    ∙ sym (append_assoc ((a ++ b) ++ c) d (e ++ f))
+    ∙ sym (append_assoc (((a ++ b) ++ c) ++ d) e f)
 
 pub misused_is : (r : ReplyLine) (symbol : Bor Sym) (found kept : Shape) → r ≡ reply.Misused symbol found kept
-    → codes "! use " ++ (symbol_text (symbol_of symbol.now) ++ (sign_text Space ++ (closed_shape found ++ (sign_text Space ++ (closed_shape kept ++ sign_text LineFeed)))))
-    ≡ ended_line r
-unfolding sign_text closed_shape ended_line
+    → codes "! use " ++ (symbol_text (symbol_of symbol.now) ++ (sign_text Space ++ (closed_shape found ++ (sign_text Space ++ closed_shape kept))))
+    ≡ closed_line r
+unfolding sign_text closed_shape closed_line
 misused_is r symbol found kept e =
-    seven (codes "! use ") (symbol_text (symbol_of symbol.now)) (codes " ") (shape_text found.side found.arity) (codes " ") (shape_text kept.side kept.arity) (10 ∷ [])
-    ∙ ap ended_line (sym e)
+    six (codes "! use ") (symbol_text (symbol_of symbol.now)) (codes " ") (shape_text found.side found.arity) (codes " ") (shape_text kept.side kept.arity)
+    ∙ ap closed_line (sym e)
 
 pub full_text : (r : ReplyLine) (needed limit : ℕ) → r ≡ reply.Full needed limit
-    → (codes "! full " ++ decimal needed) ++ ((codes " " ++ decimal limit) ++ sign_text LineFeed) ≡ ended_line r
-unfolding sign_text ended_line
-full_text r needed limit e = four (codes "! full " ++ decimal needed) (codes " ") (decimal limit) (10 ∷ []) ∙ ap ended_line (sym e)
+    → (codes "! full " ++ decimal needed) ++ (codes " " ++ decimal limit) ≡ closed_line r
+unfolding closed_line
+full_text r needed limit e = sym (append_assoc (codes "! full " ++ decimal needed) (codes " ") (decimal limit)) ∙ ap closed_line (sym e)
 
-pub stats_line_is : (r : ReplyLine) (stats : Stats) → r ≡ reply.Stats stats → stats_text stats ≡ ended_line r
-unfolding stats_text ended_line
-stats_line_is r stats e = ap ended_line (sym e)
+pub stats_line_is : (r : ReplyLine) (stats : Stats) → r ≡ reply.Stats stats → stats_text stats ≡ closed_line r
+unfolding stats_text closed_line
+stats_line_is r stats e = ap closed_line (sym e)
 
 -- ---- three words with their numbers
-pub three : (w n m : Bytes) (a b c : ℕ) → (w ++ decimal a) ++ ((n ++ decimal b) ++ ((m ++ decimal c) ++ sign_text LineFeed)) ≡ (((((w ++ decimal a) ++ n) ++ decimal b) ++ m) ++ decimal c) ++ 10 ∷ []
-unfolding sign_text
-three w n m a b c = six (w ++ decimal a) n (decimal b) m (decimal c) (10 ∷ [])
+pub three : (w n m : Bytes) (a b c : ℕ) → (w ++ decimal a) ++ ((n ++ decimal b) ++ (m ++ decimal c)) ≡ ((((w ++ decimal a) ++ n) ++ decimal b) ++ m) ++ decimal c
+three w n m a b c = five (w ++ decimal a) n (decimal b) m (decimal c)
 
 pub sample_told : (r : ReplyLine) (clauses gained sum : ℕ) → r ≡ reply.Sample clauses gained sum
-    → (codes "sample " ++ decimal clauses) ++ ((codes " " ++ decimal gained) ++ ((codes " " ++ decimal sum) ++ sign_text LineFeed)) ≡ ended_line r
-unfolding ended_line
-sample_told r clauses gained sum e = three (codes "sample ") (codes " ") (codes " ") clauses gained sum ∙ ap ended_line (sym e)
+    → (codes "sample " ++ decimal clauses) ++ ((codes " " ++ decimal gained) ++ (codes " " ++ decimal sum)) ≡ closed_line r
+unfolding closed_line
+sample_told r clauses gained sum e = three (codes "sample ") (codes " ") (codes " ") clauses gained sum ∙ ap closed_line (sym e)
 
 pub explained_told : (r : ReplyLine) (x : Explained) → r ≡ reply.Explained x
-    → (codes "passed " ++ decimal x.passed) ++ ((codes " nodes " ++ decimal x.nodes) ++ ((codes " answers " ++ decimal x.answers) ++ sign_text LineFeed)) ≡ ended_line r
-unfolding ended_line
-explained_told r x e = three (codes "passed ") (codes " nodes ") (codes " answers ") x.passed x.nodes x.answers ∙ ap ended_line (sym e)
+    → (codes "passed " ++ decimal x.passed) ++ ((codes " nodes " ++ decimal x.nodes) ++ (codes " answers " ++ decimal x.answers)) ≡ closed_line r
+unfolding closed_line
+explained_told r x e = three (codes "passed ") (codes " nodes ") (codes " answers ") x.passed x.nodes x.answers ∙ ap closed_line (sym e)
 
 -- ---- the lines of trees
 abbrev pub tree_told : Bytes → Counts → Bytes
 tree_told word counts =
-    (word ++ decimal counts.nodes) ++ ((codes " leaves " ++ decimal counts.leaves) ++ ((codes " unmerged " ++ decimal counts.unmerged) ++ sign_text LineFeed))
+    ((word ++ decimal counts.nodes) ++ ((codes " leaves " ++ decimal counts.leaves) ++ (codes " unmerged " ++ decimal counts.unmerged))) ++ sign_text LineFeed
 
 tree_line : (word : Bytes) (counts : Counts) → tree_told word counts ≡ (((((word ++ decimal counts.nodes) ++ codes " leaves ") ++ decimal counts.leaves) ++ codes " unmerged ") ++ decimal counts.unmerged) ++ 10 ∷ []
-tree_line word counts = three word (codes " leaves ") (codes " unmerged ") counts.nodes counts.leaves counts.unmerged
+unfolding sign_text
+tree_line word counts = ap (λ l. l ++ 10 ∷ []) (three word (codes " leaves ") (codes " unmerged ") counts.nodes counts.leaves counts.unmerged)
 
 pub trees_told : (counts : TreeCounts) → tree_told (codes "literals nodes ") counts.literals ++ tree_told (codes "terms nodes ") counts.terms ≡ ended (counts_reply counts)
 trees_told counts =
@@ -122,17 +121,17 @@ trees_told counts =
 
 -- ---- files
 pub file_told : (r : ReplyLine) (fault : FileFault) (file : Bor Text) (w b : Bytes) → r ≡ reply.File fault file → w ≡ file_word fault → b ≡ file.now
-    → w ++ file_text b ++ sign_text LineFeed ≡ ended_line r
-unfolding sign_text ended_line
-file_told r fault file w b e word bytes = ap₂ (λ x y. (x ++ file_text y) ++ 10 ∷ []) word bytes ∙ ap ended_line (sym e)
+    → w ++ file_text b ≡ closed_line r
+unfolding closed_line
+file_told r fault file w b e word bytes = ap₂ file_line word bytes ∙ ap closed_line (sym e)
 
 pub line_told : (r : ReplyLine) (fault : LineFault) (file : Bor Text) (line : ℕ) (w b : Bytes) → r ≡ reply.Line fault file line → w ≡ line_word fault → b ≡ file.now
-    → w ++ (file_text b ++ ((codes " " ++ decimal line) ++ sign_text LineFeed)) ≡ ended_line r
-unfolding sign_text ended_line
+    → w ++ (file_text b ++ (codes " " ++ decimal line)) ≡ closed_line r
+unfolding closed_line
 line_told r fault file line w b e word bytes =
-    sym (append_assoc w (file_text b) ((codes " " ++ decimal line) ++ 10 ∷ []))
-    ∙ four (w ++ file_text b) (codes " ") (decimal line) (10 ∷ [])
-    ∙ ap₂ (λ x y. spot_line x y line ++ 10 ∷ []) word bytes ∙ ap ended_line (sym e)
+    sym (append_assoc w (file_text b) (codes " " ++ decimal line))
+    ∙ sym (append_assoc (w ++ file_text b) (codes " ") (decimal line))
+    ∙ ap₂ (λ x y. spot_line x y line) word bytes ∙ ap closed_line (sym e)
 
 file_marked : (fault : FileFault) (file : Bytes) → true ≡ begins_with 33 (file_line (file_word fault) file)
 unfolding file_word

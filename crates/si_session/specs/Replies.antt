@@ -61,13 +61,13 @@ reply_line reply.Memory = memory_line
 abbrev pub unended : List Bytes → Bytes → Bytes
 unended lines last = ended lines ++ last
 
--- with its line feed
-unfoldable pub ended_line : ReplyLine → Bytes
-ended_line r = reply_line r ++ 10 ∷ []
+-- the same; the text stays closed in proofs about writing
+unfoldable pub closed_line : ReplyLine → Bytes
+closed_line r = reply_line r
 
--- how much is kept, with its line feed
+-- how much is kept
 unfoldable pub stats_text : Stats → Bytes
-stats_text stats = stats_line stats.clauses stats.entries stats.symbols ++ 10 ∷ []
+stats_text stats = stats_line stats.clauses stats.entries stats.symbols
 
 -- the numbers of nodes of a tree, behind its name
 abbrev pub counts_text : Bytes → Counts → Bytes

@@ -7,11 +7,12 @@ ghost use Rattle.si_io.specs.Sends.{Sends};
 ghost use Rattle.si_term.specs.Terms.{symbol_of};
 ghost use Rattle.si_term.specs.Meaning.{name_of};
 ghost use Rattle.si_session.specs.Signs.{sign_text};
-ghost use Rattle.si_session.specs.declared.sign.Sign.TheVariants.{Space, LineFeed};
-ghost use Rattle.si_session.specs.Replies.{reply_line, ended_line, stats_text, closed_shape, file_word, line_word};
+ghost use Rattle.si_session.specs.declared.sign.Sign.TheVariants.{Space};
+ghost use Rattle.si_session.specs.Replies.{reply_line, closed_line, stats_text, closed_shape, file_word, line_word};
 ghost use Rattle.si_session.specs.Session.{Writes};
 ghost use Rattle.si_session.specs.declared.stepped.Stepped.TheVariants.{SinkFailed};
 
+use crate::buffered::{Borrowed, Buffered, Origin};
 use crate::sign::{Sign, put_sign};
 use crate::stepped::Stepped;
 use si_index::{Explained, Stats};
@@ -19,6 +20,7 @@ use si_io::{Failed, Sink};
 use si_reply::{put_bytes, put_file, put_name, put_number, put_symbol};
 use si_sign::Shape;
 use si_term::{Name, Side, Sym, Text};
+use std::marker::Brand;
 
 /// Why a load is refused for a file.
 #[derive(Clone, Copy)]
@@ -93,25 +95,14 @@ pub enum ReplyLine<'a> {
     Memory,
 }
 
-/// Writes a line of a word and a number.
-#[tactic(auto, using(si_io::proofs::Sends::sends))]
-fn put_count<K: Sink>(sink: &mut K, word: &[u8], number: u64) -> Result<(), Failed>
-    ensures { Sends result ((word.now ++ decimal number) ++ sign_text LineFeed)
-        (K.shown sink.old) (K.shown sink.new) }
-{
-    put_number(sink, word, number)?;
-    put_sign(sink, Sign::LineFeed)
-}
-
-/// Writes a line of a word and the name of a clause.
+/// Writes a word and the name of a clause.
 #[tactic(auto, using(si_io::proofs::Sends::sends))]
 fn put_named<K: Sink>(sink: &mut K, word: &[u8], name: &Name) -> Result<(), Failed>
-    ensures { Sends result (word.now ++ name_text (name_of name.now) ++ sign_text LineFeed)
-        (K.shown sink.old) (K.shown sink.new) }
+    ensures { Sends result (word.now ++ name_text (name_of name.now)) (K.shown sink.old)
+        (K.shown sink.new) }
 {
     put_bytes(sink, word)?;
-    put_name(sink, name)?;
-    put_sign(sink, Sign::LineFeed)
+    put_name(sink, name)
 }
 
 /// The word of a fault, before the name of a file.
@@ -139,18 +130,17 @@ fn line_word(fault: LineFault) -> &'static [u8]
     }
 }
 
-/// Writes a line of a word and the name of a file.
+/// Writes a word and the name of a file.
 #[tactic(auto, using(si_io::proofs::Sends::sends))]
 fn put_filed<K: Sink>(sink: &mut K, word: &[u8], file: &[u8]) -> Result<(), Failed>
-    ensures { Sends result (word.now ++ file_text file.now ++ sign_text LineFeed)
-        (K.shown sink.old) (K.shown sink.new) }
+    ensures { Sends result (word.now ++ file_text file.now) (K.shown sink.old)
+        (K.shown sink.new) }
 {
     put_bytes(sink, word)?;
-    put_file(sink, file)?;
-    put_sign(sink, Sign::LineFeed)
+    put_file(sink, file)
 }
 
-/// Writes a line of a word, the name of a file, and the number of a line of it.
+/// Writes a word, the name of a file, and the number of a line of it.
 #[tactic(auto, using(si_io::proofs::Sends::sends))]
 fn put_lined<K: Sink>(
     sink: &mut K,
@@ -159,15 +149,15 @@ fn put_lined<K: Sink>(
     space: &[u8],
     line: u64,
 ) -> Result<(), Failed>
-    ensures { Sends result (word.now ++ (file_text file.now ++ ((space.now ++ decimal line)
-        ++ sign_text LineFeed))) (K.shown sink.old) (K.shown sink.new) }
+    ensures { Sends result (word.now ++ (file_text file.now ++ (space.now ++ decimal line)))
+        (K.shown sink.old) (K.shown sink.new) }
 {
     put_bytes(sink, word)?;
     put_file(sink, file)?;
-    put_count(sink, space, line)
+    put_number(sink, space, line)
 }
 
-/// Writes a line of two words, each with a number.
+/// Writes two words, each with a number.
 #[tactic(auto, using(si_io::proofs::Sends::sends))]
 fn put_counts<K: Sink>(
     sink: &mut K,
@@ -176,15 +166,14 @@ fn put_counts<K: Sink>(
     next: &[u8],
     count: u64,
 ) -> Result<(), Failed>
-    ensures { Sends result ((word.now ++ decimal number) ++
-        ((next.now ++ decimal count) ++ sign_text LineFeed)) (K.shown sink.old)
-        (K.shown sink.new) }
+    ensures { Sends result ((word.now ++ decimal number) ++ (next.now ++ decimal count))
+        (K.shown sink.old) (K.shown sink.new) }
 {
     put_number(sink, word, number)?;
-    put_count(sink, next, count)
+    put_number(sink, next, count)
 }
 
-/// Writes a line of three words, each with a number.
+/// Writes three words, each with a number.
 #[tactic(auto, using(si_io::proofs::Sends::sends))]
 pub fn put_three<K: Sink>(
     sink: &mut K,
@@ -196,8 +185,7 @@ pub fn put_three<K: Sink>(
     sum: u64,
 ) -> Result<(), Failed>
     ensures { Sends result ((word.now ++ decimal number) ++ ((next.now ++ decimal count)
-        ++ ((last.now ++ decimal sum) ++ sign_text LineFeed))) (K.shown sink.old)
-        (K.shown sink.new) }
+        ++ (last.now ++ decimal sum))) (K.shown sink.old) (K.shown sink.new) }
 {
     put_number(sink, word, number)?;
     put_counts(sink, next, count, last, sum)
@@ -230,21 +218,19 @@ fn put_shape<K: Sink>(sink: &mut K, shape: Shape) -> Result<(), Failed>
     }
 }
 
-/// Writes two shapes, and ends the line.
+/// Writes two shapes, each behind a space.
 #[tactic(auto, using(si_io::proofs::Sends::sends))]
 fn put_shapes<K: Sink>(sink: &mut K, found: Shape, kept: Shape) -> Result<(), Failed>
     ensures { Sends result (sign_text Space ++ (closed_shape found ++ (sign_text Space
-        ++ (closed_shape kept ++ sign_text LineFeed)))) (K.shown sink.old)
-        (K.shown sink.new) }
+        ++ closed_shape kept))) (K.shown sink.old) (K.shown sink.new) }
 {
     put_sign(sink, Sign::Space)?;
     put_shape(sink, found)?;
     put_sign(sink, Sign::Space)?;
-    put_shape(sink, kept)?;
-    put_sign(sink, Sign::LineFeed)
+    put_shape(sink, kept)
 }
 
-/// Writes a word, a symbol and two shapes, and ends the line.
+/// Writes a word, a symbol and two shapes.
 #[tactic(auto, using(si_io::proofs::Sends::sends))]
 fn put_misused<K: Sink>(
     sink: &mut K,
@@ -254,8 +240,8 @@ fn put_misused<K: Sink>(
     kept: Shape,
 ) -> Result<(), Failed>
     ensures { Sends result (word.now ++ (symbol_text (symbol_of symbol.now) ++ (sign_text Space
-        ++ (closed_shape found ++ (sign_text Space ++ (closed_shape kept
-        ++ sign_text LineFeed)))))) (K.shown sink.old) (K.shown sink.new) }
+        ++ (closed_shape found ++ (sign_text Space ++ closed_shape kept))))) (K.shown sink.old)
+        (K.shown sink.new) }
 {
     put_bytes(sink, word)?;
     put_symbol(sink, symbol)?;
@@ -269,9 +255,9 @@ pub fn put_end<K: Sink>(sink: &mut K, lines: u64) -> Result<(), Failed>
     put_number(sink, b"end ", lines)
 }
 
-/// Writes a reply of one line.
+/// Writes a reply of one line without its line feed, piece by piece.
 fn put_reply<K: Sink>(sink: &mut K, reply: ReplyLine<'_>) -> Result<(), Failed>
-    ensures { Sends result (ended_line reply.entry) (K.shown sink.old)
+    ensures { Sends result (closed_line reply.entry) (K.shown sink.old)
         (K.shown sink.new) }
 {
     match reply {
@@ -303,12 +289,34 @@ fn put_reply<K: Sink>(sink: &mut K, reply: ReplyLine<'_>) -> Result<(), Failed>
         ReplyLine::Line(fault, file, line) => {
             put_lined(sink, line_word(fault), file.as_bytes(), b" ", line)
         }
-        ReplyLine::Fetches => put_bytes(sink, b"! fetches\n"),
-        ReplyLine::Long => put_bytes(sink, b"! long\n"),
-        ReplyLine::Language => put_bytes(sink, b"! language\n"),
-        ReplyLine::Syntax => put_bytes(sink, b"! syntax\n"),
-        ReplyLine::Memory => put_bytes(sink, b"! memory\n"),
+        ReplyLine::Fetches => put_bytes(sink, b"! fetches"),
+        ReplyLine::Long => put_bytes(sink, b"! long"),
+        ReplyLine::Language => put_bytes(sink, b"! language"),
+        ReplyLine::Syntax => put_bytes(sink, b"! syntax"),
+        ReplyLine::Memory => put_bytes(sink, b"! memory"),
     }
+}
+
+/// Writes a reply of one line over a sink that gathers its bytes.
+fn put_over<S: Borrowed, B: Origin>(sink: S, reply: ReplyLine<'_>) -> (Result<(), Failed>, S)
+    requires same { S.name sink ≡ B.name }
+    requires start { S.shown sink ≡ B.shown }
+    ensures text { Sends result.0 (closed_line reply.entry ++ 10 ∷ []) (S.shown sink)
+        (S.shown result.1) }
+    ensures same { S.name result.1 ≡ S.name sink }
+{
+    let mut buffered = Buffered::<S, B>::over(sink);
+    let told = put_reply(&mut buffered, reply);
+    buffered.finish(told)
+}
+
+/// Writes a reply of one line, at once where it isn't long.
+fn put_at_once<K: Sink>(sink: &mut K, reply: ReplyLine<'_>) -> Result<(), Failed>
+    ensures { Sends result (closed_line reply.entry ++ 10 ∷ []) (K.shown sink.old)
+        (K.shown sink.new) }
+{
+    let (told, _) = put_over::<&mut K, Brand>(sink, reply);
+    told
 }
 
 /// Whether the line is a refusal.
@@ -338,7 +346,7 @@ pub fn tell<K: Sink>(sink: &mut K, reply: ReplyLine<'_>) -> Stepped
     ensures failed { result ≡ SinkFailed → (K.shown sink.new).counts.faults
         ≡ raised (K.shown sink.old).counts.faults }
 {
-    match put_reply(sink, reply) {
+    match put_at_once(sink, reply) {
         Ok(()) if refuses(reply) => Stepped::Refused,
         Ok(()) => Stepped::Answered,
         Err(_) => Stepped::SinkFailed,

@@ -13,6 +13,7 @@ ghost use Rattle.si_session.specs.declared.sign.Sign.TheVariants.{LineFeed};
 ghost use Rattle.si_session.specs.declared.stepped.Stepped.TheVariants.{SinkFailed};
 
 use crate::reply::{ReplyLine, put_three, tell};
+use crate::sign::{Sign, put_sign};
 use crate::stepped::Stepped;
 use si_defs::Relation;
 use si_index::{Index, TreeCounts};
@@ -44,10 +45,11 @@ fn put_trees<K: Sink>(sink: &mut K, counts: TreeCounts) -> Result<(), Failed>
 }
 
 /// Writes the line of a tree, whose first word is given.
+#[tactic(auto, using(si_io::proofs::Sends::sends))]
 fn put_tree<K: Sink>(sink: &mut K, word: &[u8], counts: Counts) -> Result<(), Failed>
-    ensures { Sends result ((word.now ++ decimal counts.nodes) ++ ((codes " leaves "
-        ++ decimal counts.leaves) ++ ((codes " unmerged " ++ decimal counts.unmerged)
-        ++ sign_text LineFeed))) (K.shown sink.old) (K.shown sink.new) }
+    ensures { Sends result (((word.now ++ decimal counts.nodes) ++ ((codes " leaves "
+        ++ decimal counts.leaves) ++ (codes " unmerged " ++ decimal counts.unmerged)))
+        ++ sign_text LineFeed) (K.shown sink.old) (K.shown sink.new) }
 {
     put_three(
         sink,
@@ -57,7 +59,8 @@ fn put_tree<K: Sink>(sink: &mut K, word: &[u8], counts: Counts) -> Result<(), Fa
         counts.leaves,
         b" unmerged ",
         counts.unmerged,
-    )
+    )?;
+    put_sign(sink, Sign::LineFeed)
 }
 
 /// Writes what a query passes in its tree, and how many answers it has.

@@ -17,9 +17,9 @@ pub returns : goal.returns
 returns g c =
     let w = g.K.Sink.shown in
     Sends_then
-    c.put_count.result (w c.args.sink.now) (w c.put_bytes.new.sink) (w c.put_count.new.sink) c.args.word.now _
+    c.put_number.result (w c.args.sink.now) (w c.put_bytes.new.sink) (w c.put_number.new.sink) c.args.word.now _
     c.in_ok-put_bytes.ensures.all
     (Sends_then
-    c.put_count.result (w c.put_bytes.new.sink) (w c.put_file.new.sink) (w c.put_count.new.sink) (file_text c.args.file.now) _
+    c.put_number.result (w c.put_bytes.new.sink) (w c.put_file.new.sink) (w c.put_number.new.sink) (file_text c.args.file.now) _
     c.in_ok-put_file.ensures.all
-    c.put_count.ensures)
+    c.put_number.ensures)

@@ -1,7 +1,6 @@
 use Rattle.std.proofs.Common.{ap, sym, subst}
 use Rattle.si_io.specs.Sends.{Sends}
-use Rattle.si_session.specs.Replies.{ended_line}
-use Rattle.si_session.specs.Signs.{sign_text}
+use Rattle.si_session.specs.Replies.{closed_line}
 use Rattle.si_session.proofs.ReplyTexts.{ok_text, stats_line_is, sample_told, explained_told, misused_is, full_text, file_told, line_told}
 use Rattle.si_session.proofs.reply.put_reply.Goals as goal
 
@@ -11,9 +10,9 @@ returns-in-Ok g c =
     (ok_text c.args.reply c.in-Ok.clauses c.in-Ok.entries c.in-Ok.is) c.put_counts.ensures
 
 pub returns-in-Taken : goal.returns-in-Taken
-unfolding ended_line sign_text
+unfolding closed_line
 returns-in-Taken g c =
-    subst (λ t. Sends c.put_named.result t (g.K.Sink.shown c.args.sink.now) (g.K.Sink.shown c.put_named.new.sink)) (ap ended_line (sym c.in-Taken.is)) c.put_named.ensures
+    subst (λ t. Sends c.put_named.result t (g.K.Sink.shown c.args.sink.now) (g.K.Sink.shown c.put_named.new.sink)) (ap closed_line (sym c.in-Taken.is)) c.put_named.ensures
 
 pub returns-in-File : goal.returns-in-File
 returns-in-File g c =
@@ -26,31 +25,31 @@ returns-in-Line g c =
     (line_told c.args.reply c.in-Line.fault c.in-Line.file c.in-Line.line _ _ c.in-Line.is c.line_word.ensures c.as_bytes-in-Line.ensures) c.put_lined.ensures
 
 pub returns-in-Fetches : goal.returns-in-Fetches
-unfolding ended_line
+unfolding closed_line
 returns-in-Fetches g c =
-    subst (λ t. Sends c.put_bytes.result t (g.K.Sink.shown c.args.sink.now) (g.K.Sink.shown c.put_bytes.new.sink)) (ap ended_line (sym c.in-Fetches.is)) c.put_bytes.ensures
+    subst (λ t. Sends c.put_bytes.result t (g.K.Sink.shown c.args.sink.now) (g.K.Sink.shown c.put_bytes.new.sink)) (ap closed_line (sym c.in-Fetches.is)) c.put_bytes.ensures
 
 pub returns-in-Long : goal.returns-in-Long
-unfolding ended_line
+unfolding closed_line
 returns-in-Long g c =
-    subst (λ t. Sends c.put_bytes-in-Long.result t (g.K.Sink.shown c.args.sink.now) ((g.K.Sink.shown c.put_bytes-in-Long.new.sink))) (ap ended_line (sym c.in-Long.is)) c.put_bytes-in-Long.ensures
+    subst (λ t. Sends c.put_bytes-in-Long.result t (g.K.Sink.shown c.args.sink.now) ((g.K.Sink.shown c.put_bytes-in-Long.new.sink))) (ap closed_line (sym c.in-Long.is)) c.put_bytes-in-Long.ensures
 
 pub returns-in-Language : goal.returns-in-Language
-unfolding ended_line
+unfolding closed_line
 returns-in-Language g c =
-    subst (λ t. Sends c.put_bytes-in-Language.result t (g.K.Sink.shown c.args.sink.now) ((g.K.Sink.shown c.put_bytes-in-Language.new.sink))) (ap ended_line (sym c.in-Language.is))
+    subst (λ t. Sends c.put_bytes-in-Language.result t (g.K.Sink.shown c.args.sink.now) ((g.K.Sink.shown c.put_bytes-in-Language.new.sink))) (ap closed_line (sym c.in-Language.is))
     c.put_bytes-in-Language.ensures
 
 pub returns-in-Syntax : goal.returns-in-Syntax
-unfolding ended_line
+unfolding closed_line
 returns-in-Syntax g c =
-    subst (λ t. Sends c.put_bytes-in-Syntax.result t (g.K.Sink.shown c.args.sink.now) ((g.K.Sink.shown c.put_bytes-in-Syntax.new.sink))) (ap ended_line (sym c.in-Syntax.is))
+    subst (λ t. Sends c.put_bytes-in-Syntax.result t (g.K.Sink.shown c.args.sink.now) ((g.K.Sink.shown c.put_bytes-in-Syntax.new.sink))) (ap closed_line (sym c.in-Syntax.is))
     c.put_bytes-in-Syntax.ensures
 
 pub returns-in-Memory : goal.returns-in-Memory
-unfolding ended_line
+unfolding closed_line
 returns-in-Memory g c =
-    subst (λ t. Sends c.put_bytes-in-Memory.result t (g.K.Sink.shown c.args.sink.now) ((g.K.Sink.shown c.put_bytes-in-Memory.new.sink))) (ap ended_line (sym c.in-Memory.is))
+    subst (λ t. Sends c.put_bytes-in-Memory.result t (g.K.Sink.shown c.args.sink.now) ((g.K.Sink.shown c.put_bytes-in-Memory.new.sink))) (ap closed_line (sym c.in-Memory.is))
     c.put_bytes-in-Memory.ensures
 
 pub returns-in-Stats : goal.returns-in-Stats
@@ -69,9 +68,9 @@ returns-in-Full g c =
     (full_text c.args.reply c.in-Full.needed c.in-Full.limit c.in-Full.is) c.put_counts-in-Full.ensures
 
 pub returns-in-Unknown : goal.returns-in-Unknown
-unfolding ended_line sign_text
+unfolding closed_line
 returns-in-Unknown g c =
-    subst (λ t. Sends c.put_named-in-Unknown.result t (g.K.Sink.shown c.args.sink.now) ((g.K.Sink.shown c.put_named-in-Unknown.new.sink))) (ap ended_line (sym c.in-Unknown.is)) c.put_named-in-Unknown.ensures
+    subst (λ t. Sends c.put_named-in-Unknown.result t (g.K.Sink.shown c.args.sink.now) ((g.K.Sink.shown c.put_named-in-Unknown.new.sink))) (ap closed_line (sym c.in-Unknown.is)) c.put_named-in-Unknown.ensures
 
 pub returns-in-Sample : goal.returns-in-Sample
 returns-in-Sample g c =

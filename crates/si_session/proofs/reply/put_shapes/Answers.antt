@@ -17,13 +17,6 @@ returns-in_err-put_sign-2 g c = record {
       (SendsPart_then _ _ _ _ _ c.in_ok-put_shape.ensures.all (SendsPart_more _ _ _ _ c.in_err-put_sign-2.ensures.part)));
 }
 
-pub returns-in_err-put_shape-2 : goal.returns-in_err-put_shape-2
-returns-in_err-put_shape-2 g c = record {
-  all = search rules;
-  part = on_err _ (SendsPart_then _ _ _ _ _ c.in_ok-put_sign.ensures.all (SendsPart_then _ _ _ _ _ c.in_ok-put_shape.ensures.all
-      (SendsPart_then _ _ _ _ _ c.in_ok-put_sign-2.ensures.all (SendsPart_more _ _ _ _ c.in_err-put_shape-2.ensures.part))));
-}
-
 pub returns : goal.returns
 returns g c = Sends_then _ _ _ _ _ _ c.in_ok-put_sign.ensures.all (Sends_then _ _ _ _ _ _ c.in_ok-put_shape.ensures.all
-    (Sends_then _ _ _ _ _ _ c.in_ok-put_sign-2.ensures.all (Sends_then _ _ _ _ _ _ c.in_ok-put_shape-2.ensures.all c.put_sign-3.ensures)))
+    (Sends_then _ _ _ _ _ _ c.in_ok-put_sign-2.ensures.all c.put_shape-2.ensures))

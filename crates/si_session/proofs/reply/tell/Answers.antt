@@ -5,17 +5,17 @@ use Rattle.si_session.proofs.reply.tell.Goals as goal
 
 pub returns-in-Ok-clause-written : goal.returns-in-Ok-clause-written
 returns-in-Ok-clause-written g c = (
-  subst (λ t. SendsAll (g.K.Sink.shown c.args.sink.now) t (g.K.Sink.shown c.put_reply.new.sink)) (ended_is c.args.reply) c.in-Ok.ensures.all,
+  subst (λ t. SendsAll (g.K.Sink.shown c.args.sink.now) t (g.K.Sink.shown c.put_at_once.new.sink)) (ended_is c.args.reply) c.in-Ok.ensures.all,
   sym c.refuses.ensures ∙ c.if-refuses.true,
 )
 
 pub returns-in-Ok-2-clause-written : goal.returns-in-Ok-2-clause-written
 returns-in-Ok-2-clause-written g c = (
-  subst (λ t. SendsAll (g.K.Sink.shown c.args.sink.now) t (g.K.Sink.shown c.put_reply.new.sink)) (ended_is c.args.reply) c.in-Ok-2.ensures.all,
+  subst (λ t. SendsAll (g.K.Sink.shown c.args.sink.now) t (g.K.Sink.shown c.put_at_once.new.sink)) (ended_is c.args.reply) c.in-Ok-2.ensures.all,
   λ e. cc,
   sym c.refuses.ensures ∙ c.if-refuses.false,
 )
 
 pub returns-in-Err-clause-written : goal.returns-in-Err-clause-written
 returns-in-Err-clause-written g c =
-    subst (λ t. SendsPart (g.K.Sink.shown c.args.sink.now) t (g.K.Sink.shown c.put_reply.new.sink)) (ended_is c.args.reply) c.in-Err.ensures.part
+    subst (λ t. SendsPart (g.K.Sink.shown c.args.sink.now) t (g.K.Sink.shown c.put_at_once.new.sink)) (ended_is c.args.reply) c.in-Err.ensures.part

@@ -14,6 +14,12 @@ use Rattle.si_reply.specs.PrintedParts.{arguments_text, numbers_behind, number_l
 pub tail_is : {A : Type 0} (xs : List A) → take (length xs - 1) (drop 1 xs) ≡ drop 1 xs
 tail_is xs = take_all _ _ (omega (arith, length-drop 1 xs))
 
+-- a list of one item
+pub single : (xs : List ℕ) → length xs ≡ 1 → xs ≡ get_or xs 0 0 ∷ []
+single [] h = absurd (omega (arith, h))
+single (x ∷ []) h = refl
+single (x ∷ y ∷ xs) h = absurd (omega (arith, h))
+
 -- ---- texts
 pub separated-numbers : (mark : Bytes) (n : ℕ) (ns : List ℕ) → separated mark (decimals (n ∷ ns)) ≡ decimal n ++ numbers_behind mark ns
 separated-numbers mark n [] = sym (append-nil (decimal n))

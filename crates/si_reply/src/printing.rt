@@ -40,12 +40,23 @@ pub fn put_number<K: Sink>(sink: &mut K, word: &[u8], number: u64) -> Result<(),
     ensures { Sends result (word.now ++ decimal number) (K.shown sink.old)
         (K.shown sink.new) }
 {
-    put_bytes(sink, word)?;
     if number < 10 {
-        return put_bytes(sink, &[b'0' + number as u8]);
+        return put_digit(sink, word, b'0' + number as u8);
     }
+    put_bytes(sink, word)?;
     let mut buffer = Buffer::new();
     put_bytes(sink, buffer.format(number).as_bytes())
+}
+
+/// Writes a word, and then a byte: both at once where the word has one byte.
+fn put_digit<K: Sink>(sink: &mut K, word: &[u8], digit: u8) -> Result<(), Failed>
+    ensures { Sends result (word.now ++ digit ∷ []) (K.shown sink.old) (K.shown sink.new) }
+{
+    if word.len() == 1 {
+        return put_bytes(sink, &[word[0], digit]);
+    }
+    put_bytes(sink, word)?;
+    put_bytes(sink, &[digit])
 }
 
 /// Writes a text between quotes, with a backslash before each quote and each backslash.

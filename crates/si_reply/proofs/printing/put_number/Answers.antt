@@ -7,12 +7,9 @@ use Rattle.si_reply.proofs.printing.put_number.Goals as goal
 
 pub returns-then-number-lt10 : goal.returns-then-number-lt10
 returns-then-number-lt10 g c =
-    let n = c.args.number in
-    let last = c.put_bytes-then-number-lt10 in
+    let last = c.put_digit in
     let old = g.K.Sink.shown c.args.sink.now in
-    let new = g.K.Sink.shown last.new.sink in
-    subst (λ l. Sends last.result (c.args.word.now ++ l) old new) (sym (decimal_digit n c.if-number-lt10.true))
-    (Sends_then _ _ _ _ _ _ c.in_ok-put_bytes.ensures.all last.ensures)
+    subst (λ l. Sends last.result (c.args.word.now ++ l) old (g.K.Sink.shown last.new.sink)) (sym (decimal_digit c.args.number c.if-number-lt10.true)) last.ensures
 
 pub returns : goal.returns
 returns g c =

@@ -7,10 +7,10 @@ ghost use Rattle.si_flat.specs.Cells.{IsWhole};
 ghost use Rattle.si_term.specs.Meaning.{pattern_of};
 ghost use Rattle.si_term.specs.Terms.{symbol_of};
 
-use crate::texts::pattern_in;
 use si_flat::{Cell, EntryBuffer, Flat, flatten_entry, flatten_pattern, sub};
 use si_parse::pattern::PatternKind;
 use si_term::{Pattern, Side, Sym, SymKind, SymTable, Text};
+use si_texts::pattern_in;
 use std::alloc::{AllocError, Global};
 use std::process::Abort;
 use std::test::Fail;

@@ -4,11 +4,11 @@ ghost use Rattle.si_defs.specs.Clauses.{IsSoundPattern};
 ghost use Rattle.si_term.specs.Meaning.{pattern_of};
 
 use crate::stores::{assert_forgets, tell_calls};
-use crate::texts::pattern_in;
 use si_defs::Relation;
 use si_index::{Found, Index, Stats};
 use si_parse::pattern::PatternKind;
 use si_term::Pattern;
+use si_texts::pattern_in;
 use std::alloc::{AllocError, Global};
 use std::process::Abort;
 use std::test::Fail;

@@ -1,4 +1,4 @@
-//! Tests of the libraries: one file a library, and two that several share. They stand in a crate of
+//! Tests of the libraries: one file a library, and one that several share. They stand in a crate of
 //! their own, over all of them: beside a library its own functions would be proved once more with
 //! its tests, and here clauses and patterns are read from texts.
 #![tactic(auto)]
@@ -25,7 +25,5 @@ mod signatures;
 mod stores;
 #[cfg(test)]
 mod terms;
-#[cfg(test)]
-mod texts;
 #[cfg(test)]
 mod tokens;

@@ -1,7 +1,7 @@
 // The least maps of one clause to another.
-use crate::texts::formula_in;
 use si_flat::LitMap;
 use si_subsume::least_map;
+use si_texts::formula_in;
 use std::alloc::{AllocError, Global};
 use std::process::Abort;
 use std::test::Fail;

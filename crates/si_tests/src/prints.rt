@@ -1,10 +1,10 @@
 // Printed texts.
-use crate::texts::{name_in, pattern_in};
 use si_flat::LitMap;
 use si_io::{Failed, MemorySink, Sink};
 use si_parse::pattern::PatternKind;
 use si_reply::{put_bytes, put_map, put_place, put_term};
 use si_term::{Name, Path, Pattern, Place};
+use si_texts::{name_in, pattern_in};
 use std::alloc::{AllocError, Global};
 use std::process::Abort;
 use std::test::Fail;

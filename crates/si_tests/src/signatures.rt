@@ -6,10 +6,10 @@ ghost use Rattle.si_state.specs.Signatures.{uses_of};
 ghost use Rattle.si_term.specs.Meaning.{clause_of};
 
 use crate::stores::assert_forgets;
-use crate::texts::clause_of_letters;
 use si_defs::{Side, SymKind};
 use si_sign::{AddFault, Clash, PlainStore, Shape, Signature, TakeFault};
 use si_term::{Clause, Sym, SymTable, symbols_of};
+use si_texts::clause_of_letters;
 use std::alloc::{AllocError, Global};
 use std::test::Fail;
 

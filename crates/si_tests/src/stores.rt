@@ -1,8 +1,8 @@
 // Calls of a store of clauses.
-use crate::texts::clause_of_letters;
 use si_defs::NameKind;
 use si_sign::{AddFault, ClauseStore, Rejected};
 use si_term::{Name, Text};
+use si_texts::clause_of_letters;
 use std::alloc::{AllocError, Global};
 use std::process::Abort;
 

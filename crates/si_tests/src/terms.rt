@@ -4,12 +4,12 @@ ghost use Rattle.si_defs.specs.Clauses.{IsSoundClause};
 ghost use Rattle.si_defs.specs.Entries.{entries};
 ghost use Rattle.si_term.specs.Meaning.{clause_of};
 
-use crate::texts::{clause_in, pattern_in};
 use si_parse::pattern::PatternKind;
 use si_term::{
     Clause, Entry, Place, Sym, Term, Text, entry_at, entry_count, head_at, place_at, symbols_of,
     to_pattern, vars_of,
 };
+use si_texts::{clause_in, pattern_in};
 use std::alloc::{AllocError, Global};
 use std::process::Abort;
 use std::test::Fail;

@@ -1,5 +1,7 @@
-// Clauses, patterns, formulas and names that texts are. A text that is none is answered like want
-// of memory.
+//! Clauses, patterns, formulas and names that texts are, for tests. A text that is none is answered
+//! like want of memory.
+#![tactic(auto)]
+
 ghost use Rattle.std.specs.Prelude.{IfOk};
 ghost use Rattle.si_defs.specs.Clauses.{AreSoundLiterals, IsSoundClause, IsSoundPattern};
 ghost use Rattle.si_parse.specs.Meaning.{literals_of};

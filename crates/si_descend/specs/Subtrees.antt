@@ -1,11 +1,12 @@
 -- Whole subtrees that are open: where all indicators that are open at a node stand for different
 -- variables that can still be anything.
-use Rattle.std.specs.Prelude.{◌≡◌, ℕ, false, List, ◌++◌, map, Option, None, Some, slice_get}
+use Rattle.std.specs.Prelude.{◌≡◌, ℕ, Bool, true, false, List, ◌∷◌, ◌++◌, map, Option, None, Some, slice_get}
 use Rattle.std.specs.List.{AllByRecursion}
 use Rattle.std.specs.Borrow.{Bor}
 use Rattle.si_defs.specs.Substitutions.{IsAmong, AreDistinct}
 use Rattle.si_trail.specs.Trails.{value_at}
 use Rattle.si_flat.specs.declared.Cell.{Cell}
+use Rattle.si_flat.specs.declared.Cell.TheVariants as cell
 use Rattle.si_flat.specs.Cells.{Variable, entry, ind, Term}
 use Rattle.si_legal.specs.Trees.{Tree, Path, IsPath}
 use Rattle.si_legal.specs.Legal.{IsOpenBelow}
@@ -64,3 +65,12 @@ HasClearValue slots pairs ends n =
 abbrev pub AreAllOpen : Tree Term → ℕ → List ℕ → Type 0
 AreAllOpen tree key ns =
     (path : Path) → IsPath tree (Some key) path → (n : ℕ) → IsOpenBelow path n → IsAmong ns n
+
+-- the value begins with a symbol
+abbrev pub begins_with_symbol : List Cell → Bool
+begins_with_symbol (cell.App s a n ∷ cells) = true
+begins_with_symbol cells = false
+
+abbrev pub has_symbol : Option (Bor (List Cell)) → Bool
+has_symbol None = false
+has_symbol (Some value) = begins_with_symbol value.now

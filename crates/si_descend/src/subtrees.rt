@@ -2,9 +2,13 @@
 ghost use Rattle.std.specs.Prelude.{◌≡◌, IfOk, IsTrue};
 ghost use Rattle.si_defs.specs.Substitutions.{Grows};
 ghost use Rattle.si_tree.specs.Reading.{IsNode};
+ghost use Rattle.si_flat.specs.Cells.{ind};
+ghost use Rattle.si_trail.specs.Trails.{value_at};
+ghost use Rattle.si_unify.specs.Solving.{slot_of};
 ghost use Rattle.si_fit.specs.Fitting.{AllowsSolving};
 ghost use Rattle.si_descend.specs.Counting.{HasCounted};
 ghost use Rattle.si_descend.specs.Searching.{AreOpenBelow, HasComeTo, HasFound, IsOpenAt, IsReady};
+ghost use Rattle.si_descend.specs.Subtrees.{has_symbol};
 
 use crate::counting::Counted;
 use crate::ends::{are_clear, ends_below};
@@ -13,6 +17,7 @@ use si_flat::Cell;
 use si_legal::Posting;
 use si_trail::Trail;
 use si_tree::NodeId;
+use si_unify::Slots;
 use std::alloc::AllocError;
 
 /// Whether all nodes below an open node are known to be open: it is a leaf, or instances or
@@ -30,14 +35,28 @@ pub(crate) fn is_open_below<'a>(
     requires opened { IsOpenAt search.now node }
     ensures { IsTrue result → AreOpenBelow search.now node }
 {
-    if search.tree.split(node).is_none() {
+    let Some(split) = search.tree.split(node) else {
         return true;
-    }
-    if search.slots.freeze_query {
+    };
+    if search.slots.freeze_query || has_symbol(trail, &search.slots, split) {
         return false;
     }
     match ends_below(search, node, trail) {
         Some(ends) => are_clear(trail, &search.slots, &ends),
+        None => false,
+    }
+}
+
+// Whether an indicator is bound to a term that is no variable. It then ends at none, so no further
+// look is taken.
+fn has_symbol(trail: &Trail<&[Cell]>, slots: &Slots, indicator: u32) -> bool
+    ensures { result ≡ has_symbol (value_at trail.now.pairs (slot_of slots.now (ind indicator))) }
+{
+    match trail.get(slots.query as usize + slots.entry as usize + indicator as usize) {
+        Some(value) => match value.first() {
+            Some(Cell::App { .. }) => true,
+            _ => false,
+        },
         None => false,
     }
 }

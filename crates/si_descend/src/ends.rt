@@ -190,20 +190,8 @@ fn are_clear_cells(trail: &Trail<&[Cell]>, slots: &Slots, ends: &Ends, cells: &[
 fn is_clear(trail: &Trail<&[Cell]>, slots: &Slots, ends: &Ends, cell: Cell) -> bool
     ensures { IsTrue result ↔ IsClear trail.now.pairs ends.now (cell_slot slots.now cell) }
 {
-    match slot_of(slots, cell) {
+    match slots.slot_of(cell) {
         Some(slot) => trail.get(slot).is_none() && !ends.has(slot),
         None => true,
-    }
-}
-
-// The slot of a variable's cell.
-fn slot_of(slots: &Slots, cell: Cell) -> Option<usize>
-    ensures { result ≡ cell_slot slots.now cell }
-{
-    match cell {
-        Cell::App { .. } => None,
-        Cell::Query(number) => Some(number as usize),
-        Cell::Entry(number) => Some(slots.query as usize + number as usize),
-        Cell::Ind(number) => Some(slots.query as usize + slots.entry as usize + number as usize),
     }
 }

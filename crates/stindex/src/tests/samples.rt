@@ -3,7 +3,7 @@ use super::assert_outputs;
 use std::test::Fail;
 
 /// Inputs with their outputs.
-const ROWS: [(&[u8], &[u8]); 8] = [
+const ROWS: [(&[u8], &[u8]); 9] = [
     // The clauses are kept, so their names are taken.
     (
         b"sample 1 2\ninstances lit q(X)\nsample 1 2\nstats\n",
@@ -17,6 +17,8 @@ const ROWS: [(&[u8], &[u8]); 8] = [
     // The least and the greatest start.
     (b"sample 0 1\n", b"sample 1 1 1\n"),
     (b"sample 2147483647 1\n", b"sample 1 8 10\n"),
+    // Many clauses.
+    (b"sample 1 1000\n", b"sample 1000 4194 1762066\n"),
     // Numbers that are too large, or none.
     (
         b"sample 2147483648 1\nsample 4294967297 1\nsample 99999999999999999999999999 1\nsample 1 0\nsample 1 10001\nsample 1 99999999999999999999999999\n",

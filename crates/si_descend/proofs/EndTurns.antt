@@ -1,7 +1,7 @@
 -- Where indicators end, and that the first nodes down to a leaf bind all that are open above.
-use Rattle.std.proofs.Common.{◌≡◌, ◌↔◌, ◌⊎◌, inl, inr, ℕ, zero, suc, ◌+◌, ◌<◌, ◌≤◌, Bool, true, false, IsTrue, List, [], ◌∷◌, ◌++◌, Option, None, Some, length, slice_get, get_or, refl, ap, sym, ◌∙◌, subst, arith, append_assoc, append-nil}
+use Rattle.std.proofs.Common.{◌≡◌, ◌↔◌, ◌⊎◌, inl, inr, ℕ, zero, suc, ◌<◌, ◌≤◌, Bool, true, false, IsTrue, List, [], ◌∷◌, ◌++◌, Option, None, Some, length, slice_get, get_or, refl, ap, sym, ◌∙◌, subst, arith, append_assoc}
 use Rattle.std.proofs.lemmas.Bool.Decides.{eqb_tells}
-use Rattle.std.proofs.lemmas.Bool.{cases_eq, eq-eqb}
+use Rattle.std.proofs.lemmas.Bool.{eq-eqb}
 use Rattle.std.proofs.lemmas.List.{map-append}
 use Rattle.std.proofs.lemmas.Option.{same_Some}
 use Rattle.std.specs.Prelude.{◌==◌}
@@ -110,17 +110,6 @@ module _ (slots : Slots) (pairs : Pairs) where
     pub range : AreRowsInRange slots left
     pub adds : AddsEnds slots pairs (left_sides done) old new
 
-  pub adding_starts : (rows left : List CellPair) (old : List ℕ) → left ≡ rows → AreRowsInRange slots rows → IsAdding rows left old old
-  adding_starts rows left old e range = record {
-    done = [];
-    whole = sym e;
-    range = subst (AreRowsInRange slots) (sym e) range;
-    adds = λ ns h. subst (λ l. AreEndsOf slots pairs l old) (sym (append-nil ns)) h;
-  }
-
-  pub first_range : (rows left : List CellPair) (old new : List ℕ) (row : CellPair) (rest : List CellPair) → left ≡ row ∷ rest → IsAdding rows left old new → CellIsInRange slots (cell.Ind row.0)
-  first_range rows left old new row rest first h = (subst (AreRowsInRange slots) first h.range).0.0
-
   pub adding_more : (rows left : List CellPair) (old mid new : List ℕ) (row : CellPair) (rest : List CellPair) (slot : ℕ) → left ≡ row ∷ rest → IsAdding rows left old mid → EndsFree slots pairs row.0 slot → (IsAmong mid slot → ⊥) → new ≡ mid ++ slot ∷ [] → IsAdding rows rest old new
   adding_more rows left old mid new row rest slot first h free apart e = record {
     done = h.done ++ row ∷ [];
@@ -130,9 +119,6 @@ module _ (slots : Slots) (pairs : Pairs) where
         subst (λ l. AreEndsOf slots pairs l new) (append_assoc ns (left_sides h.done) (row.0 ∷ []) ∙ ap (λ l. ns ++ l) (sym (map-append (λ r. r.0) h.done (row ∷ []))))
         (subst (AreEndsOf slots pairs ((ns ++ left_sides h.done) ++ row.0 ∷ [])) (sym e) (end_added (ns ++ left_sides h.done) mid row.0 slot free apart (h.adds ns are)));
   }
-
-  pub adding_ends : (rows left : List CellPair) (old new : List ℕ) → left ≡ [] → IsAdding rows left old new → AddsEnds slots pairs (left_sides rows) old new
-  adding_ends rows left old new e h = subst (λ l. AddsEnds slots pairs (left_sides l) old new) (sym (h.whole ∙ ap (λ l. h.done ++ l) e ∙ append-nil h.done)) h.adds
 
   -- ---- values of the entry's variables
   value_told : (all : Pairs) (n slot : ℕ) (v : Bor (List Cell)) → HasDistinctSlots all → slice_get all n ≡ Some (slot, v) → value_at all slot ≡ Some v
@@ -164,17 +150,6 @@ module _ (slots : Slots) (pairs : Pairs) where
 
   abbrev pub AreClearBefore : List ℕ → ℕ → Type 0
   AreClearBefore ends end = (n : ℕ) → n < end → HasClearValue slots pairs ends n
-
-  pub clear_none : (ends : List ℕ) → AreClearBefore ends 0
-  clear_none ends n less = absurd (omega (arith, less))
-
-  pub clear_more : (ends : List ℕ) (end : ℕ) → AreClearBefore ends end → HasClearValue slots pairs ends end → AreClearBefore ends (end + 1)
-  clear_more ends end before h n less = elim (below n end less) as (λ _. HasClearValue slots pairs ends n) [
-    | inl e ↦ subst (HasClearValue slots pairs ends) (sym e) h
-    | inr lower ↦ before n lower
-  ] where
-    below : (n end : ℕ) → n < end + 1 → (n ≡ end) ⊎ (n < end)
-    below n end less = elim (cases_eq n end) as (λ _. (n ≡ end) ⊎ (n < end)) [ inl e ↦ inl e | inr o ↦ inr (omega (arith, less, o)) ]
 
   pub all_clear : (ends : List ℕ) (end : ℕ) → length pairs ≤ end → AreClearBefore ends end → AreClear slots pairs ends
   all_clear ends end long h = by pairs (λ n p e m name. h n (omega (arith, long, got_within pairs n p e)) p.0 m p.1 e name) where

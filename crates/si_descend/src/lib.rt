@@ -3,7 +3,7 @@
 //!
 //! It goes from a node to its children and makes their bindings fit, over a trail on which the
 //! bindings of all nodes above are solved. Below a node whose bindings don't fit nothing is looked
-//! at.
+//! at. Where a node's open indicators can be anything, all below it is walked and not solved.
 #![tactic(auto)]
 
 mod attempts;

@@ -1,4 +1,5 @@
 pub mod OneLaws
+mod PlaceLaws
 pub mod TreeLaws
 pub mod ChangeLaws
 pub mod LoseLaws

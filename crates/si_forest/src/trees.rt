@@ -1,7 +1,10 @@
 // The trees of an index.
 ghost use Rattle.std.specs.Prelude.{◌≡◌, ◌<◌, IfOk, OnErr, OnOk, length};
+ghost use Rattle.si_flat.specs.Cells.{Term};
 ghost use Rattle.si_term.specs.Meaning.{clause_of};
 ghost use Rattle.si_legal.specs.Legal.{IsLegal};
+ghost use Rattle.si_legal.specs.Trees.{StandsIn};
+ghost use Rattle.si_legal.specs.StoredSets.{IsUnder};
 ghost use Rattle.si_descend.specs.Answers.{Retrieves};
 ghost use Rattle.si_descend.specs.Counting.{CountsAnswers};
 ghost use Rattle.si_descend.specs.Descending.{IsQuery};
@@ -14,7 +17,7 @@ use si_descend::Counted;
 use si_flat::{Flat, Kind};
 use si_legal::Posting;
 use si_term::{Clause, SymTable};
-use si_tree::Tree;
+use si_tree::{NodeId, Tree};
 use std::alloc::{AllocError, Global};
 use std::marker::Model;
 
@@ -77,6 +80,14 @@ impl Trees {
         ensures legal { IsLegal result.now }
     {
         self.pair.tree(literal)
+    }
+
+    /// The leaf that the posting stands in, which is stored in the tree of this kind.
+    pub fn leaf_of(&self, literal: bool, posting: Posting) -> NodeId
+        requires { (t : Term) × IsUnder (tree_for literal self.now) t posting }
+        ensures { (t : Term) × StandsIn (tree_for literal self.now) result t posting }
+    {
+        self.locations[posting.clause][posting.entry as usize].leaf
     }
 
     /// Puts a posting for each entry of a clause into its tree. At an error the trees store what

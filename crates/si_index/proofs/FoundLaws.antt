@@ -1,9 +1,9 @@
 -- What an answer tells of its hits.
-use Rattle.std.proofs.Common.{◌≡◌, ℕ, zero, suc, ◌<◌, List, [], ◌∷◌, ◌++◌, length, map, get_or, ap, sym, ◌∙◌, subst, arith}
-use Rattle.std.specs.Prelude.{slice_get, Some}
+use Rattle.std.proofs.Common.{◌≡◌, ◌≢◌, ℕ, zero, suc, ◌<◌, List, [], ◌∷◌, ◌++◌, length, map, get_or, ap, sym, ◌∙◌, subst, arith}
+use Rattle.std.specs.Prelude.{slice_get, None, Some}
 use Rattle.std.specs.List.{AllByRecursion}
 use Rattle.std.proofs.lemmas.List.{length-map}
-use Rattle.std.proofs.lemmas.Option.{get_or_from_slice_get}
+use Rattle.std.proofs.lemmas.Option.{get_or_from_slice_get, none-some, same_Some}
 use Rattle.si_defs.specs.Bytes.{Bytes}
 use Rattle.si_defs.specs.Symbols.{Symbol, Numbering}
 use Rattle.si_defs.specs.Entries.{Entry, Placed, pattern_entry, distinct_variables}
@@ -19,9 +19,9 @@ use Rattle.si_form.specs.Numberings.{variable_by, list_by, symbols_of}
 use Rattle.si_form.specs.TableNumbers.{HaveNumbers}
 use Rattle.si_index.specs.Finding.{position_and_place}
 use Rattle.si_index.specs.Showing.{ShowsEntry}
-use Rattle.si_index.specs.Searching.{numbers_of, pattern_in, IsReady, SolvesEntry, SolvesIn, HasList, IsMatch, hit_of}
+use Rattle.si_index.specs.Searching.{numbers_of, pattern_in, IsReady, SolvesEntry, HasList, IsMatch, hit_of}
 use Rattle.si_index.specs.declared.search.Search.{Search}
-use Rattle.si_index.specs.declared.search.Solved.{Solved}
+use Rattle.si_index.specs.declared.wanted.Leaf.{Leaf}
 use Rattle.si_index.specs.declared.gather.Match.{Match}
 
 -- there are as many hits as matches
@@ -47,12 +47,19 @@ pub each_at : (P : Match → Type 0) (ms : List Match) (n : ℕ) (m : Match) →
 each_at P ms n m h read all = subst P (sym read) (all_get P ms n m all h)
 
 -- the match that a hit's number reads
-pub match_at : (s : Search) (lists : List Solved) (ms : List Match) (n : ℕ) (m : Match) (hits : List (ℕ × Placed)) → map hit_of ms ≡ hits → n < length hits → m ≡ get_or ms n m → AllByRecursion (IsMatch s lists) ms → IsMatch s lists m
-match_at s lists ms n m hits seen h = each_at (IsMatch s lists) ms n m (inside ms n hits seen h)
+pub match_at : (s : Search) (leaves : List Leaf) (ms : List Match) (n : ℕ) (m : Match) (hits : List (ℕ × Placed)) → map hit_of ms ≡ hits → n < length hits → m ≡ get_or ms n m → AllByRecursion (IsMatch s leaves) ms → IsMatch s leaves m
+match_at s leaves ms n m hits seen h = each_at (IsMatch s leaves) ms n m (inside ms n hits seen h)
 
--- a list that is read by its number solves the entry
-pub solves_at : (s : Search) (e : Entry) (lists : List Solved) (n : ℕ) (read : Solved) → HasList s e lists n → read ≡ get_or lists n read → SolvesIn s e read
-solves_at s e lists n read h is = subst (SolvesIn s e) (sym (get_or_from_slice_get lists n h.0 read h.1) ∙ sym is) h.2
+-- a leaf that is read by its number has the list of the entry
+module _ (s : Search) (e : Entry) (leaves : List Leaf) (n : ℕ) (read : Leaf) (h : HasList s e leaves n) (is : read ≡ get_or leaves n read) where
+  has_own : read.list ≡ Some h.0
+  has_own = ap (λ (l : Leaf). l.list) (is ∙ get_or_from_slice_get leaves n h.1.0 read h.1.1) ∙ h.1.2
+
+  pub is_made : read.list ≢ None
+  is_made none = none-some h.0 (sym none ∙ has_own)
+
+  pub solves_at : (list : List Binding) → read.list ≡ Some list → SolvesEntry s.relation (query_numbers (numbers_of s) s.query.extra) (pattern_in s) e list
+  solves_at list own = subst (SolvesEntry s.relation (query_numbers (numbers_of s) s.query.extra) (pattern_in s) e) (same_Some h.0 list (sym has_own ∙ own)) h.2
 
 -- what was solved is shown
 pub shows_entry : (s : Search) (numbers : Numbering) (e : Entry) (bindings : List Binding) (query_names entry_names : List Bytes) (extra : List Sym)

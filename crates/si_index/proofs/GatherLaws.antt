@@ -4,37 +4,51 @@ use Rattle.std.specs.Prelude.{slice_get, Some, None}
 use Rattle.std.specs.List.{AllByRecursion, AllZip}
 use Rattle.std.proofs.lemmas.List.{drop_more, map-append}
 use Rattle.std.proofs.lemmas.Option.{same_Some, slice_get_within}
-use Rattle.si_defs.specs.Substitutions.{Grows}
 use Rattle.si_defs.specs.Clauses.{Clause}
 use Rattle.si_defs.specs.Entries.{Placed, entries}
 use Rattle.si_defs.specs.declared.TheConstants.{MOST_OCCURRENCES}
-use Rattle.si_defs.proofs.ListLaws.{all_weaker, all_append, all_from, all_got, get_front, get_here, not_empty}
+use Rattle.si_defs.proofs.ListLaws.{all_weaker, all_append, all_from, all_got, get_here, not_empty}
 use Rattle.si_state.specs.Answers.{Stands}
 use Rattle.si_term.specs.Meaning.{clause_of, entry_of}
 use Rattle.si_term.specs.declared.clause.Entry as program_entry
 use Rattle.si_entries.specs.Walks.{GivesAfter, left_of, place_in}
 use Rattle.si_entries.specs.declared.Entries.{Entries}
 use Rattle.si_index.specs.Kept.{Kept}
-use Rattle.si_index.specs.Searching.{numbers_of, pattern_in, IsKnownEntry, IsKnownClause, HasSolution, IsMatch, hit_of}
+use Rattle.si_index.specs.Leaves.{StayMade}
+use Rattle.si_index.specs.Searching.{numbers_of, pattern_in, IsKnownEntry, IsKnownClause, IsOfLeaf, HasSolution, IsMatch, AreMatches, hit_of}
 use Rattle.si_index.specs.Gathering.{IsBefore, Rise, IsAhead, IsHitAt, IsStandingAt, IsWalk, Adds}
 use Rattle.si_index.specs.declared.search.Search.{Search}
-use Rattle.si_index.specs.declared.search.Solved.{Solved}
 use Rattle.si_index.specs.declared.gather.ClauseWalk.{ClauseWalk}
 use Rattle.si_index.specs.declared.gather.Match.{Match}
 use Rattle.si_index.specs.declared.gather.Matches.{Matches}
+use Rattle.si_index.specs.declared.wanted.Leaf.{Leaf}
 use Rattle.si_index.specs.declared.wanted.Wanted.{Wanted}
 use Rattle.si_index.proofs.EntryLaws.{known_entry}
+use Rattle.si_index.proofs.LeafLaws.{of_leaf_stays}
 use Rattle.si_index.proofs.StoreLaws.{few_entries}
 
 -- ---- what was found keeps its lists where more are made
-match_stays : (s : Search) (old new : List Solved) (m : Match) → Grows old new → IsMatch s old m → IsMatch s new m
-match_stays s old new m front h = record {
-  list = (h.list.0, ap (λ l. slice_get l m.list) front.1 ∙ get_front old front.0 m.list h.list.0 h.list.1, h.list.2);
+match_stays : (s : Search) (old new : List Leaf) (m : Match) → StayMade old new → IsMatch s old m → IsMatch s new m
+match_stays s old new m stay h = record {
+  list = (h.list.0, stay.lists m.leaf h.list.0 h.list.1, h.list.2);
+  are_names = h.are_names;
   there = h.there;
 }
 
-pub matches_stay : (s : Search) (old new : List Solved) (ms : List Match) → Grows old new → AllByRecursion (IsMatch s old) ms → AllByRecursion (IsMatch s new) ms
-matches_stay s old new ms front = all_weaker (IsMatch s old) (IsMatch s new) ms (λ m. match_stays s old new m front)
+pub matches_stay : (s : Search) (old new : List Leaf) (ms : List Match) → StayMade old new → AllByRecursion (IsMatch s old) ms → AllByRecursion (IsMatch s new) ms
+matches_stay s old new ms stay = all_weaker (IsMatch s old) (IsMatch s new) ms (λ m. match_stays s old new m stay)
+
+-- and so do the places that are wanted
+standing_stays : (s : Search) (old new : List Leaf) (w : Wanted) → StayMade old new → IsStandingAt s old w → IsStandingAt s new w
+standing_stays s old new w stay h = record {
+  hit = h.hit;
+  at = h.at;
+  stands = h.stands;
+  of_leaf = of_leaf_stays s old new w.leaf h.hit.1.entry stay h.of_leaf;
+}
+
+pub places_stay : (s : Search) (old new : List Leaf) (ws : List Wanted) → StayMade old new → AllByRecursion (IsStandingAt s old) ws → AllByRecursion (IsStandingAt s new) ws
+places_stay s old new ws stay = all_weaker (IsStandingAt s old) (IsStandingAt s new) ws (λ w. standing_stays s old new w stay)
 
 -- ---- lists that are passed one by one
 pub drop_got : (cs : List Clause) (i : ℕ) (c : Clause) → slice_get cs i ≡ Some c → drop i cs ≡ c ∷ drop (i + 1) cs
@@ -83,8 +97,15 @@ module _ (k : Kept) (w : Wanted) where
   one_hit : (a b : ℕ × Placed) → IsHitAt k w a → IsHitAt k w b → a.1 ≡ b.1
   one_hit a b h g = same_Some a.1 b.1 (sym h.numbered ∙ ap (λ c. slice_get (entries c) w.entry) (same_clause h.clause g.clause h.there g.there) ∙ g.numbered)
 
-pub hit_stands : (s : Search) (w : Wanted) (hit : ℕ × Placed) → IsStandingAt s w → IsHitAt s.index.now w hit → Stands s.relation (pattern_in s) hit.1.entry
-hit_stands s w hit standing h = subst (λ (e : Placed). Stands s.relation (pattern_in s) e.entry) (one_hit s.index.now w standing.0 hit standing.1 h) standing.2
+module _ (s : Search) (leaves : List Leaf) (w : Wanted) (hit : ℕ × Placed) (standing : IsStandingAt s leaves w) (h : IsHitAt s.index.now w hit) where
+  its_hit : standing.hit.1 ≡ hit.1
+  its_hit = one_hit s.index.now w standing.hit hit standing.at h
+
+  pub hit_stands : Stands s.relation (pattern_in s) hit.1.entry
+  hit_stands = subst (λ (e : Placed). Stands s.relation (pattern_in s) e.entry) its_hit standing.stands
+
+  pub hit_of_leaf : IsOfLeaf s leaves w.leaf hit.1.entry
+  hit_of_leaf = subst (λ (e : Placed). IsOfLeaf s leaves w.leaf e.entry) its_hit standing.of_leaf
 
 pub hit_known : (s : Search) (w : Wanted) (hit : ℕ × Placed) → AllByRecursion (IsKnownClause (numbers_of s)) s.index.now.clauses → IsHitAt s.index.now w hit → IsKnownEntry (numbers_of s) hit.1.entry
 hit_known s w hit known h =
@@ -129,16 +150,18 @@ pub adds_hit : (k : Kept) (ws : List Wanted) (i : ℕ) (d : Wanted) (hit : ℕ �
     → AllZip (IsHitAt k) (take i ws) old → IsHitAt k (get_or ws i d) hit → new ≡ old ++ hit ∷ [] → AllZip (IsHitAt k) (take (i + 1) ws) new
 adds_hit k ws i d hit old new less h at is = subst (AllZip (IsHitAt k) (take (i + 1) ws)) (sym is) (zip_more (IsHitAt k) ws old i d hit less h at)
 
-pub adds_match : (s : Search) (m : Match) (hit : ℕ × Placed) (old new : Matches) (found : List Match) → found ≡ old.found.items → new.found.items ≡ found ++ m ∷ [] → hit ≡ hit_of m
-    → AllByRecursion (IsMatch s new.lists.items) found → IsMatch s new.lists.items m → Adds s hit old new
-adds_match s m hit old new found same pushed is each match = record {
-  hits = ap (map hit_of) (pushed ∙ ap (λ l. l ++ m ∷ []) same) ∙ map-append hit_of old.found.items (m ∷ []) ∙ ap (λ h. map hit_of old.found.items ++ h ∷ []) (sym is);
-  each = subst (AllByRecursion (IsMatch s new.lists.items)) (sym pushed) (all_append (IsMatch s new.lists.items) found (m ∷ []) each (match, tt));
+pub adds_match : (s : Search) (m : Match) (hit : ℕ × Placed) (old new : Matches) → new.found.items ≡ old.found.items ++ m ∷ [] → hit ≡ hit_of m
+    → StayMade old.leaves.items new.leaves.items → AreMatches s old → IsMatch s new.leaves.items m → Adds s hit old new
+adds_match s m hit old new pushed is stay each match = record {
+  hits = ap (map hit_of) pushed ∙ map-append hit_of old.found.items (m ∷ []) ∙ ap (λ h. map hit_of old.found.items ++ h ∷ []) (sym is);
+  each =
+      subst (AllByRecursion (IsMatch s new.leaves.items)) (sym pushed)
+      (all_append (IsMatch s new.leaves.items) old.found.items (m ∷ []) (matches_stay s old.leaves.items new.leaves.items old.found.items stay each) (match, tt));
 }
 
 -- each hit has a solution
-pub hits_solved : (s : Search) (lists : List Solved) (ms : List Match) → AllByRecursion (IsMatch s lists) ms → AllByRecursion (λ (hit : ℕ × Placed). HasSolution s.relation (pattern_in s) hit.1.entry) (map hit_of ms)
-hits_solved s lists [] all = tt
-hits_solved s lists (m ∷ ms) all =
-    let list = all.0.list.2.list in
-    (record { stands = list.stands; solution = list.solution; solves = list.solves }, hits_solved s lists ms all.1)
+pub hits_solved : (s : Search) (leaves : List Leaf) (ms : List Match) → AllByRecursion (IsMatch s leaves) ms → AllByRecursion (λ (hit : ℕ × Placed). HasSolution s.relation (pattern_in s) hit.1.entry) (map hit_of ms)
+hits_solved s leaves [] all = tt
+hits_solved s leaves (m ∷ ms) all =
+    let list = all.0.list.2 in
+    (record { stands = list.stands; solution = list.solution; solves = list.solves }, hits_solved s leaves ms all.1)

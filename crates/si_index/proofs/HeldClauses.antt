@@ -1,7 +1,6 @@
 -- What two trees hold of the clauses of an index, as clauses and the numbers of their symbols come
 -- and go.
-use Rattle.std.proofs.Common.{◌≡◌, inl, inr, None, ℕ, ◌+◌, ◌≤◌, Bool, true, false, cond, List, [], ◌∷◌, ◌++◌, map, length, refl, sym, ap, ◌∙◌, subst, arith}
-use Rattle.std.specs.List.{AllByRecursion}
+use Rattle.std.proofs.Common.{◌≡◌, inl, inr, None, ℕ, ◌≤◌, Bool, true, false, cond, List, [], ◌∷◌, ◌++◌, map, refl, sym, ap, ◌∙◌, subst, arith}
 use Rattle.std.specs.Prelude.{◌≢◌, not}
 use Rattle.std.proofs.lemmas.Bool.{false≢true}
 use Rattle.std.proofs.lemmas.List.{map-append}
@@ -23,7 +22,7 @@ use Rattle.si_changes.specs.Nodes.{IsVacant}
 use Rattle.si_tree.proofs.RootLaws.{root_legal}
 use Rattle.si_forest.specs.Pairs.{AreAlone}
 use Rattle.si_held.proofs.Holding.{roots_held}
-use Rattle.si_held.specs.TwoTrees.{TwoTrees, tree_for, AreLegal, Hold, MayAddClause, AddsClause, RemovesClause, HoldSame}
+use Rattle.si_held.specs.TwoTrees.{TwoTrees, tree_for, AreLegal, Hold, MayAddClause, AddsClause, RemovesClause}
 use Rattle.si_held.proofs.RenumberedLaws.{renumbered_held}
 use Rattle.si_held.proofs.ClauseEntries.{new_key}
 use Rattle.si_held.proofs.AddedLaws.{adds_held}

@@ -2,6 +2,7 @@ pub mod CountLaws
 pub mod EngineLaws
 pub mod EntryLaws
 pub mod KeptLaws
+pub mod LeafLaws
 mod SolvedLaws
 mod FittingLaws
 pub mod FlatLaws
@@ -19,3 +20,4 @@ pub mod StoreLaws
 mod SubsumingLaws
 pub mod HeldClauses
 pub mod WantedLaws
+mod VariableLaws

@@ -13,7 +13,7 @@ use Rattle.si_index.specs.Gathering.{IsBefore, Rise}
 
 -- ---- the order
 abbrev pub compares : Wanted → Wanted → Ordering
-compares a b = ordering_then (nat_cmp a.position b.position) (nat_cmp a.entry b.entry)
+compares a b = ordering_then (nat_cmp a.position b.position) (ordering_then (nat_cmp a.entry b.entry) (nat_cmp a.leaf b.leaf))
 
 abbrev pub is_same : Wanted → Wanted → Bool
 is_same a b = eqb a.position b.position && eqb a.entry b.entry
@@ -26,17 +26,17 @@ before_then a b c (inr h) (inr k) = inr (h.0 ∙ k.0, omega (arith, h.1, k.1))
 
 -- what isn't above, and isn't the same, stands before
 stands_before : (a b : Wanted) → is_lt (compares b a) ≡ false → is_same a b ≡ false → IsBefore a b
-stands_before a b sorted differ = by (nat_cmp b.position a.position) (nat_cmp b.entry a.entry) (ranked b.position a.position _ refl) (ranked b.entry a.entry _ refl) sorted where
+stands_before a b sorted differ = by (nat_cmp b.position a.position) (nat_cmp b.entry a.entry) (nat_cmp b.leaf a.leaf) (ranked b.position a.position _ refl) (ranked b.entry a.entry _ refl) sorted where
   same : b.position ≡ a.position → b.entry ≡ a.entry → is_same a b ≡ true
   same p e = and_from (eqb a.position b.position) (eqb a.entry b.entry) (eq-eqb a.position b.position (sym p)) (eq-eqb a.entry b.entry (sym e))
 
-  by : (p e : Ordering) → MatchOrdering p (b.position < a.position) (b.position ≡ a.position) (a.position < b.position)
-      → MatchOrdering e (b.entry < a.entry) (b.entry ≡ a.entry) (a.entry < b.entry) → is_lt (ordering_then p e) ≡ false → IsBefore a b
-  by Less e of_p of_e above = absurd (let wrong : true ≡ false = above in cc)
-  by Equal Less of_p of_e above = absurd (let wrong : true ≡ false = above in cc)
-  by Equal Equal of_p of_e above = absurd (let wrong : true ≡ false = sym (same of_p of_e) ∙ differ in cc)
-  by Equal Greater of_p of_e above = inr (sym of_p, of_e)
-  by Greater e of_p of_e above = inl of_p
+  by : (p e l : Ordering) → MatchOrdering p (b.position < a.position) (b.position ≡ a.position) (a.position < b.position)
+      → MatchOrdering e (b.entry < a.entry) (b.entry ≡ a.entry) (a.entry < b.entry) → is_lt (ordering_then p (ordering_then e l)) ≡ false → IsBefore a b
+  by Less e l of_p of_e above = absurd (let wrong : true ≡ false = above in cc)
+  by Equal Less l of_p of_e above = absurd (let wrong : true ≡ false = above in cc)
+  by Equal Equal l of_p of_e above = absurd (let wrong : true ≡ false = sym (same of_p of_e) ∙ differ in cc)
+  by Equal Greater l of_p of_e above = inr (sym of_p, of_e)
+  by Greater e l of_p of_e above = inl of_p
 
 -- ---- sorted places
 abbrev pub AreSorted : List Wanted → Type 0

@@ -12,25 +12,35 @@ use Rattle.std.proofs.lemmas.List.Sorted.{All-permutation, IsPermutation-map, Is
 use Rattle.std.proofs.lemmas.Map.Keys.{IsDistinct-cons}
 use Rattle.std.proofs.lemmas.Option.{same_Some, none-some, slice_get_within, get_or_from_slice_get}
 use Rattle.si_defs.specs.Symbols.{Numbering}
-use Rattle.si_defs.specs.Clauses.{Clause, Pattern}
-use Rattle.si_defs.specs.Entries.{Placed, entries, state_entries, placed_in}
+use Rattle.si_defs.specs.Clauses.{Clause, Pattern, literal_pattern, term_pattern}
+use Rattle.si_defs.specs.Entries.{Entry, literal_entry, term_entry, Placed, entries, state_entries, placed_in}
 use Rattle.si_defs.specs.Substitutions.{IsAmong, AreDistinct}
 use Rattle.si_defs.specs.declared.Relation.{Relation}
-use Rattle.si_defs.proofs.ListLaws.{all_at, all_from, all_append, among_parts, get_some, get_among}
+use Rattle.si_defs.proofs.ListLaws.{all_at, all_from, all_weaker, all_append, among_parts, get_some, get_among}
 use Rattle.si_state.specs.Answers.{Stands}
 use Rattle.si_flat.specs.declared.Cell.{Cell}
 use Rattle.si_flat.specs.declared.flatten.FlatQuery.{FlatQuery}
-use Rattle.si_flat.specs.Flattened.{FlattensPattern}
+use Rattle.si_flat.specs.Cells.{entry, Term}
+use Rattle.si_flat.specs.Flattened.{FlattensPattern, numbered_entry}
 use Rattle.si_form.proofs.Moving.{among_map}
 use Rattle.si_legal.specs.declared.Posting.{Posting}
 use Rattle.si_legal.specs.Engines.{AreAnswers, AppendsAnswers}
-use Rattle.si_index.specs.Kept.{Kept, AreKeyed, paired, kept_clauses}
+use Rattle.si_legal.specs.KeptTrees.{is_literal, IsPostingOf}
+use Rattle.si_legal.specs.Trees.{Tree, IsLeaf, StandsIn}
+use Rattle.si_held.specs.TwoTrees.{tree_for}
+use Rattle.si_held.proofs.Holding.{held}
+use Rattle.si_held.proofs.KeyLaws.{one_entry as kept_once}
+use Rattle.si_index.specs.Kept.{Kept, AreKeyed, TreesHold, paired, kept_clauses}
+use Rattle.si_index.specs.Leaves.{HasNode, AreUnmade, StayMade}
 use Rattle.si_index.specs.Engines.{Answering, asks_literals, AreAsked, AnswersStanding, IsOfStanding, posted_from, posted_entries, AreAnswered}
-use Rattle.si_index.specs.Gathering.{IsBefore, Rise, StandsFor, AreInOrder, IsHitAt, IsStandingAt}
-use Rattle.si_index.specs.Searching.{pattern_in}
+use Rattle.si_index.specs.Gathering.{IsBefore, Rise, StandsFor, IsStored, IsInLeaf, AreInOrder, IsHitAt, IsStandingAt}
+use Rattle.si_index.specs.Searching.{numbers_of, pattern_in, tree_in, term_in, AreAlike, IsOfLeaf}
 use Rattle.si_index.specs.declared.search.Search.{Search}
+use Rattle.si_index.specs.declared.wanted.Leaf.{Leaf}
+use Rattle.si_index.specs.declared.wanted.Ordered.{Ordered}
 use Rattle.si_index.specs.declared.wanted.Wanted.{Wanted}
 use Rattle.si_index.proofs.EngineLaws.{Posted, stands_at, got_there, among_key, one_clause}
+use Rattle.si_index.proofs.FlatLaws.{alike_standing}
 use Rattle.si_index.proofs.OrderLaws.{is_same, before_then, AreSorted, sorted_rise, distinct_sorted}
 
 -- ---- members of a list in another order
@@ -44,25 +54,58 @@ among_permutation xs ys moved x a =
 abbrev pub posting_at : List ℕ → Wanted → Posting
 posting_at keys w = record { clause = get_or keys w.position 0; entry = w.entry }
 
--- the entries of these postings stand there
-pub record ArePlaced (keys : List ℕ) (postings : List Posting) (ws : List Wanted) : Type 0 where
+-- the entries of these postings stand there, and in these leaves
+pub record ArePlaced (keys : List ℕ) (tree : Tree Term) (leaves : List Leaf) (postings : List Posting) (ws : List Wanted) : Type 0 where
   pub postings_are : map (posting_at keys) ws ≡ postings
   pub inside : AllByRecursion (λ w. w.position < length keys) ws
+  pub in_leaves : AllByRecursion (IsInLeaf keys tree leaves) ws
 
-placed_more : (keys : List ℕ) (postings : List Posting) (ws : List Wanted) (p : Posting) (w : Wanted) → ArePlaced keys postings ws
-    → slice_get keys w.position ≡ Some p.clause → w.entry ≡ p.entry → ArePlaced keys (postings ++ p ∷ []) (ws ++ w ∷ [])
-placed_more keys postings ws p w h key number =
-    let same : posting_at keys w ≡ p = λ i. record { clause = get_or_from_slice_get keys w.position p.clause 0 key i; entry = number i } in
+-- the one of this posting does
+pub record IsPlaced (keys : List ℕ) (tree : Tree Term) (leaves : List Leaf) (p : Posting) (w : Wanted) : Type 0 where
+  pub key : slice_get keys w.position ≡ Some p.clause
+  pub number : w.entry ≡ p.entry
+  pub node : ℕ
+  pub has_node : HasNode leaves w.leaf node
+  pub term : Term
+  pub stands : StandsIn tree node term p
+
+in_leaf : (keys : List ℕ) (tree : Tree Term) (leaves : List Leaf) (p : Posting) (w : Wanted) → IsPlaced keys tree leaves p w → IsInLeaf keys tree leaves w
+in_leaf keys tree leaves p w h = record {
+  key = p.clause;
+  has_key = h.key;
+  node = h.node;
+  has_node = h.has_node;
+  term = h.term;
+  stands = subst (StandsIn tree h.node h.term) (λ i. record { clause = p.clause; entry = sym h.number i }) h.stands;
+}
+
+leaf_stays : (keys : List ℕ) (tree : Tree Term) (old new : List Leaf) (w : Wanted) → StayMade old new → IsInLeaf keys tree old w → IsInLeaf keys tree new w
+leaf_stays keys tree old new w stay h = record {
+  key = h.key;
+  has_key = h.has_key;
+  node = h.node;
+  has_node = stay.nodes w.leaf h.node h.has_node;
+  term = h.term;
+  stands = h.stands;
+}
+
+placed_more : (keys : List ℕ) (tree : Tree Term) (old new : List Leaf) (postings : List Posting) (ws : List Wanted) (p : Posting) (w : Wanted) → ArePlaced keys tree old postings ws → StayMade old new
+    → IsPlaced keys tree new p w → ArePlaced keys tree new (postings ++ p ∷ []) (ws ++ w ∷ [])
+placed_more keys tree old new postings ws p w h stay one =
+    let same : posting_at keys w ≡ p = λ i. record { clause = get_or_from_slice_get keys w.position p.clause 0 one.key i; entry = one.number i } in
     record {
       postings_are = map-append (posting_at keys) ws (w ∷ []) ∙ (λ i. h.postings_are i ++ same i ∷ []);
-      inside = all_append (λ (v : Wanted). v.position < length keys) ws (w ∷ []) h.inside (slice_get_within keys w.position p.clause key, tt);
+      inside = all_append (λ (v : Wanted). v.position < length keys) ws (w ∷ []) h.inside (slice_get_within keys w.position p.clause one.key, tt);
+      in_leaves =
+          all_append (IsInLeaf keys tree new) ws (w ∷ []) (all_weaker (IsInLeaf keys tree old) (IsInLeaf keys tree new) ws (λ v. leaf_stays keys tree old new v stay) h.in_leaves)
+          (in_leaf keys tree new p w one, tt);
     }
 
-pub placed_next : (keys : List ℕ) (postings : List Posting) (ws : List Wanted) (i : ℕ) (d : Posting) (w : Wanted) → i < length postings → ArePlaced keys (take i postings) ws
-    → slice_get keys w.position ≡ Some (get_or postings i d).clause → w.entry ≡ (get_or postings i d).entry → ArePlaced keys (take (i + 1) postings) (ws ++ w ∷ [])
-placed_next keys postings ws i d w less h key number =
+pub placed_next : (keys : List ℕ) (tree : Tree Term) (old new : List Leaf) (postings : List Posting) (ws : List Wanted) (i : ℕ) (d : Posting) (w : Wanted) → i < length postings → ArePlaced keys tree old (take i postings) ws
+    → StayMade old new → IsPlaced keys tree new (get_or postings i d) w → ArePlaced keys tree new (take (i + 1) postings) (ws ++ w ∷ [])
+placed_next keys tree old new postings ws i d w less h stay one =
     let turn : suc i ≡ i + 1 = omega arith in
-    subst (λ ps. ArePlaced keys ps (ws ++ w ∷ [])) (sym (take-suc postings i d less) ∙ ap (λ n. take n postings) turn) (placed_more keys (take i postings) ws (get_or postings i d) w h key number)
+    subst (λ ps. ArePlaced keys tree new ps (ws ++ w ∷ [])) (sym (take-suc postings i d less) ∙ ap (λ n. take n postings) turn) (placed_more keys tree old new (take i postings) ws (get_or postings i d) w h stay one)
 
 differ_from : (keys : List ℕ) (w : Wanted) (ws : List Wanted) → (IsAmong (map (posting_at keys) ws) (posting_at keys w) → ⊥) → AllByRecursion (λ v. is_same w v ≡ false) ws
 differ_from keys w ws none = all_from (λ v. is_same w v ≡ false) ws (λ v a. apart v a (cases_Bool (is_same w v))) where
@@ -85,17 +128,22 @@ each_placed k (w ∷ ws) inside =
     let key = get_some k.keys w.position inside.0 in
     ((key.1 ∙ ap Some (sym (get_or_from_slice_get k.keys w.position key.0 0 key.1)), refl), each_placed k ws inside.1)
 
-pub sorted_in_order : (k : Kept) (postings : List Posting) (ws vs : List Wanted) → ArePlaced k.keys postings ws → AreDistinct postings → IsPermutation ws vs → AreSorted vs → AreInOrder k postings vs
-sorted_in_order k postings ws vs placed distinct moved sorted =
-    let inside : AllByRecursion (λ w. w.position < length k.keys) vs =
-    recursion_from_All (λ w. w.position < length k.keys) vs
-    (All-permutation (λ w. w.position < length k.keys) ws vs moved (All-from_recursion (λ w. w.position < length k.keys) ws placed.inside)) in
+moved_all : (P : Wanted → Type 0) (ws vs : List Wanted) → IsPermutation ws vs → AllByRecursion P ws → AllByRecursion P vs
+moved_all P ws vs moved all = recursion_from_All P vs (All-permutation P ws vs moved (All-from_recursion P ws all))
+
+pub sorted_in_order : (k : Kept) (tree : Tree Term) (postings : List Posting) (ws : List Wanted) (o : Ordered) → ArePlaced k.keys tree o.leaves.items postings ws → AreUnmade o.leaves.items → AreDistinct postings
+    → IsPermutation ws o.places.items → AreSorted o.places.items → AreInOrder k tree postings o
+sorted_in_order k tree postings ws o placed unmade distinct moved sorted =
+    let vs = o.places.items in
+    let inside = moved_all (λ w. w.position < length k.keys) ws vs moved placed.inside in
     let apart = distinct_places k.keys ws (subst AreDistinct (sym placed.postings_are) distinct) in
     record {
       ordered = map (posting_at k.keys) vs;
       same = subst (λ ps. IsPermutation ps (map (posting_at k.keys) vs)) placed.postings_are (IsPermutation-map (posting_at k.keys) ws vs moved);
       each = each_placed k vs inside;
       rise = sorted_rise vs sorted (distinct_sorted ws vs moved apart);
+      in_leaves = moved_all (IsInLeaf k.keys tree o.leaves.items) ws vs moved placed.in_leaves;
+      unmade = unmade;
     }
 
 -- ---- what stands there
@@ -105,36 +153,68 @@ paired_got (k ∷ keys) [] n key c a b = absurd (none-some c b)
 paired_got (k ∷ keys) (d ∷ cs) zero key c a b = λ i. Some (same_Some k key a i, same_Some d c b i)
 paired_got (k ∷ keys) (d ∷ cs) (suc n) key c a b = paired_got keys cs n key c a b
 
--- the entry of a posting of an entry in the relation
-standing_at : (s : Search) (q : Posting) (w : Wanted) → AreKeyed s.index.now → StandsFor s.index.now q w → IsOfStanding s.index.now s.relation (pattern_in s) q → IsStandingAt s w
-standing_at s q w keyed there standing =
-    let k = s.index.now in
-    let own = standing.1 in
-    let at = get_some k.clauses w.position (omega (arith, keyed.number, slice_get_within k.keys w.position q.clause there.0)) in
-    let clause : at.0 ≡ own.clause =
-    one_clause k.keys k.clauses q.clause at.0 own.clause keyed.distinct
-    (get_among (kept_clauses k) w.position (q.clause, at.0) (paired_got k.keys k.clauses w.position q.clause at.0 there.0 at.1)) own.is_kept in (
-      (w.position, own.placed),
+same_kind : (p : Pattern) (e : Entry) → AreAlike p e → is_literal e ≡ asks_literals p
+same_kind (literal_pattern l) (literal_entry k) alike = refl
+same_kind (term_pattern t) (term_entry u) alike = refl
+same_kind (literal_pattern l) (term_entry u) alike = absurd alike
+same_kind (term_pattern t) (literal_entry k) alike = absurd alike
+
+-- the tree that is asked stores it
+stored_standing : (k : Kept) (relation : Relation) (p : Pattern) (q : Posting) → TreesHold k → IsOfStanding k relation p q → IsStored (tree_for (asks_literals p) k.trees) q
+stored_standing k relation p q hold s = (
+  numbered_entry k.numbers entry s.0,
+  (held k.numbers (kept_clauses k) k.trees hold (asks_literals p) (numbered_entry k.numbers entry s.0) q).1 (s.0, s.1, same_kind p s.0 (alike_standing relation p s.0 s.2), refl),
+)
+
+pub postings_stored : (k : Kept) (relation : Relation) (p : Pattern) (postings : List Posting) → TreesHold k
+    → ((q : Posting) → IsAmong postings q → IsOfStanding k relation p q) → AllByRecursion (IsStored (tree_for (asks_literals p) k.trees)) postings
+postings_stored k relation p postings hold standing = all_from (IsStored (tree_for (asks_literals p) k.trees)) postings (λ q a. stored_standing k relation p q hold (standing q a))
+
+-- of a search whose numbers are those of its index, and whose trees hold the clauses
+module _ (s : Search) (leaves : List Leaf) (keyed : AreKeyed s.index.now) (hold : TreesHold s.index.now) (numbers : numbers_of s ≡ s.index.now.numbers) where
+  -- the leaf of a posting has the term of its entry
+  leaf_term : (q : Posting) (w : Wanted) (e : Entry) → StandsFor s.index.now q w → IsInLeaf s.index.now.keys (tree_in s) leaves w → IsPostingOf (kept_clauses s.index.now) q e → IsOfLeaf s leaves w.leaf e
+  leaf_term q w e there h own =
+      let k = s.index.now in
+      let key = same_Some h.key q.clause (sym h.has_key ∙ there.0) in
+      let stands : StandsIn (tree_in s) h.node h.term q = subst (StandsIn (tree_in s) h.node h.term) (λ i. record { clause = key i; entry = there.1 i }) h.stands in
+      let of = (held k.numbers (kept_clauses k) k.trees hold (asks_literals (pattern_in s)) h.term q).0 (h.node, stands) in
+      let same : of.0 ≡ e = kept_once (kept_clauses k) q of.0 e hold.keys of.1 own in
+      let term : h.term ≡ term_in s e = of.3 ∙ ap (numbered_entry k.numbers entry) same ∙ ap (λ ns. numbered_entry ns entry e) (sym numbers) in
+      (h.node, h.has_node, (stands.0, subst (λ t. IsLeaf (tree_in s) h.node t stands.0) term stands.1))
+
+  -- the entry of a posting of an entry in the relation
+  standing_at : (q : Posting) (w : Wanted) → StandsFor s.index.now q w → IsInLeaf s.index.now.keys (tree_in s) leaves w → IsOfStanding s.index.now s.relation (pattern_in s) q → IsStandingAt s leaves w
+  standing_at q w there in_its standing =
+      let k = s.index.now in
+      let own = standing.1 in
+      let at = get_some k.clauses w.position (omega (arith, keyed.number, slice_get_within k.keys w.position q.clause there.0)) in
+      let clause : at.0 ≡ own.clause =
+      one_clause k.keys k.clauses q.clause at.0 own.clause keyed.distinct
+      (get_among (kept_clauses k) w.position (q.clause, at.0) (paired_got k.keys k.clauses w.position q.clause at.0 there.0 at.1)) own.is_kept in
       record {
-        position = refl;
-        clause = own.clause;
-        there = at.1 ∙ ap Some clause;
-        numbered = ap (slice_get (entries own.clause)) there.1 ∙ own.numbered;
-      },
-      subst (Stands s.relation (pattern_in s)) (sym own.entry_is) standing.2,
-    )
+        hit = (w.position, own.placed);
+        at = record {
+          position = refl;
+          clause = own.clause;
+          there = at.1 ∙ ap Some clause;
+          numbered = ap (slice_get (entries own.clause)) there.1 ∙ own.numbered;
+        };
+        stands = subst (Stands s.relation (pattern_in s)) (sym own.entry_is) standing.2;
+        of_leaf = subst (IsOfLeaf s leaves w.leaf) (sym own.entry_is) (leaf_term q w standing.0 there in_its own);
+      }
 
-all_standing : (s : Search) (qs : List Posting) (ws : List Wanted) → AreKeyed s.index.now → AllZip (StandsFor s.index.now) qs ws
-    → ((q : Posting) → IsAmong qs q → IsOfStanding s.index.now s.relation (pattern_in s) q) → AllByRecursion (IsStandingAt s) ws
-all_standing s [] [] keyed each standing = tt
-all_standing s [] (w ∷ ws) keyed each standing = absurd each
-all_standing s (q ∷ qs) [] keyed each standing = absurd each
-all_standing s (q ∷ qs) (w ∷ ws) keyed each standing = (standing_at s q w keyed each.0 (standing q (inl refl)), all_standing s qs ws keyed each.1 (λ p a. standing p (inr a)))
+  all_standing : (qs : List Posting) (ws : List Wanted) → AllZip (StandsFor s.index.now) qs ws → AllByRecursion (IsInLeaf s.index.now.keys (tree_in s) leaves) ws
+      → ((q : Posting) → IsAmong qs q → IsOfStanding s.index.now s.relation (pattern_in s) q) → AllByRecursion (IsStandingAt s leaves) ws
+  all_standing [] [] each in_leaves standing = tt
+  all_standing [] (w ∷ ws) each in_leaves standing = absurd each
+  all_standing (q ∷ qs) [] each in_leaves standing = absurd each
+  all_standing (q ∷ qs) (w ∷ ws) each in_leaves standing = (standing_at q w each.0 in_leaves.0 (standing q (inl refl)), all_standing qs ws each.1 in_leaves.1 (λ p a. standing p (inr a)))
 
-pub wanted_stand : (s : Search) (postings : List Posting) (ws : List Wanted) → AreKeyed s.index.now → AreInOrder s.index.now postings ws
-    → ((q : Posting) → IsAmong postings q → IsOfStanding s.index.now s.relation (pattern_in s) q) → AllByRecursion (IsStandingAt s) ws
-wanted_stand s postings ws keyed order standing =
-    all_standing s order.ordered ws keyed order.each (λ q a. standing q (among_permutation postings order.ordered order.same q a))
+pub wanted_stand : (s : Search) (postings : List Posting) (o : Ordered) → AreKeyed s.index.now → TreesHold s.index.now → numbers_of s ≡ s.index.now.numbers → AreInOrder s.index.now (tree_in s) postings o
+    → ((q : Posting) → IsAmong postings q → IsOfStanding s.index.now s.relation (pattern_in s) q) → AllByRecursion (IsStandingAt s o.leaves.items) o.places.items
+wanted_stand s postings o keyed hold numbers order standing =
+    all_standing s o.leaves.items keyed hold numbers order.ordered o.places.items order.each order.in_leaves (λ q a. standing q (among_permutation postings order.ordered order.same q a))
 
 -- ---- an engine was asked for the pattern, and answered this
 pub record IsAnsweredBy (answers : Answering) (k : Kept) (relation : Relation) (p : Pattern) (cells : List Cell) (seen : List Posting) : Type 0 where
@@ -164,7 +244,12 @@ postings_keyed k relation p postings standing =
 
 -- ---- entries, each before all after it
 abbrev place : Posted → Wanted
-place x = record { position = x.1.0; entry = x.0.entry }
+place x = record { position = x.1.0; entry = x.0.entry; leaf = 0 }
+
+-- by position and entry alone
+same_before : (a b c d : Wanted) → a.position ≡ c.position → a.entry ≡ c.entry → b.position ≡ d.position → b.entry ≡ d.entry → IsBefore a b → IsBefore c d
+same_before a b c d p e q f (inl h) = inl (omega (arith, h, p, q))
+same_before a b c d p e q f (inr h) = inr (sym p ∙ h.0 ∙ q, omega (arith, h.1, e, f))
 
 abbrev pub Follow : List Posted → Type 0
 Follow [] = Unit {0}
@@ -327,21 +412,16 @@ module _ (k : Kept) where
   with_found (p ∷ qs) (w ∷ ws) (hit ∷ hits) q each are (inl s) = (hit, inl (ap (λ (r : Posting). (r, hit)) s))
   with_found (p ∷ qs) (w ∷ ws) (hit ∷ hits) q each are (inr a) = let h = with_found qs ws hits q each.1 are.1 a in (h.0, inr h.1)
 
-  place_found : (qs : List Posting) (ws : List Wanted) (x : Posted) → (h : IsFoundAt qs ws x) → h.at ≡ place x
-  place_found qs ws x h = λ i. record { position = sym h.hit.position i; entry = h.there.1 i }
-
   found_follow : (qs : List Posting) (ws : List Wanted) (hits : List (ℕ × Placed)) → AllZip (StandsFor k) qs ws → AllZip (IsHitAt k) ws hits → Rise ws → Follow (found qs hits)
   found_follow [] ws hits each are rise = tt
   found_follow (q ∷ qs) ws [] each are rise = tt
   found_follow (q ∷ qs) [] (hit ∷ hits) each are rise = absurd each
-  found_follow (q ∷ qs) (w ∷ ws) (hit ∷ hits) each are rise =
-      let first : IsFoundAt (q ∷ qs) (w ∷ ws) (q, hit) = record { at = w; among = inl refl; asked = inl refl; there = each.0; hit = are.0 } in (
-        (λ y a.
-            let h = of_found qs ws hits y each.1 are.1 a in
-            subst (λ v. IsBefore v (place y)) (place_found (q ∷ qs) (w ∷ ws) (q, hit) first)
-            (subst (IsBefore w) (place_found qs ws y h) (all_at (IsBefore w) ws h.at rise.0 h.among))),
-        found_follow qs ws hits each.1 are.1 rise.1,
-      )
+  found_follow (q ∷ qs) (w ∷ ws) (hit ∷ hits) each are rise = (
+    (λ y a.
+        let h = of_found qs ws hits y each.1 are.1 a in
+        same_before w h.at (place (q, hit)) (place y) (sym are.0.position) each.0.1 (sym h.hit.position) h.there.1 (all_at (IsBefore w) ws h.at rise.0 h.among)),
+    found_follow qs ws hits each.1 are.1 rise.1,
+  )
 
   found_kept : (qs : List Posting) (ws : List Wanted) (x : Posted) → IsFoundAt qs ws x → IsAmong (posted_entries 0 (kept_clauses k)) x
   found_kept qs ws x h =
@@ -351,9 +431,10 @@ module _ (k : Kept) where
       (got_there 0 (kept_clauses k) h.at.position h.at.entry (x.0.clause, h.hit.clause) x.1.1 pair h.hit.numbered)
 
 -- the hits are the entries of the answers
-pub hits_answered : (k : Kept) (these : Posting → Type 0) (postings : List Posting) (ws : List Wanted) (hits : List (ℕ × Placed)) → AreKeyed k
-    → AreAnswers these postings → AreInOrder k postings ws → AllZip (IsHitAt k) ws hits → AreAnswered these (posted_entries 0 (kept_clauses k)) hits
-hits_answered k these postings ws hits keyed answers order are =
+pub hits_answered : (k : Kept) (these : Posting → Type 0) (tree : Tree Term) (postings : List Posting) (o : Ordered) (hits : List (ℕ × Placed)) → AreKeyed k
+    → AreAnswers these postings → AreInOrder k tree postings o → AllZip (IsHitAt k) o.places.items hits → AreAnswered these (posted_entries 0 (kept_clauses k)) hits
+hits_answered k these tree postings o hits keyed answers order are =
+    let ws = o.places.items in
     let qs = order.ordered in
     let all = posted_entries 0 (kept_clauses k) in
     let of : (x : Posted) → IsAmong (found qs hits) x → IsFoundAt k qs ws x = λ x a. of_found k qs ws hits x order.each are a in

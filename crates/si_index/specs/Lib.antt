@@ -5,6 +5,7 @@ pub mod Fitting
 pub mod Gathering
 pub mod Kept
 pub mod Known
+pub mod Leaves
 pub mod Names
 pub mod Searching
 pub mod Showing

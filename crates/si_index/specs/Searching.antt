@@ -12,15 +12,23 @@ use Rattle.si_defs.specs.declared.Relation.{Relation}
 use Rattle.si_state.specs.Signatures.{numbering}
 use Rattle.si_state.specs.Answers.{Stands, Solves}
 use Rattle.si_term.specs.Meaning.{pattern_of, entry_of, clause_of, place_of}
+use Rattle.si_flat.specs.declared.Cell.{Cell}
+use Rattle.si_flat.specs.Cells as cells
+use Rattle.si_flat.specs.Cells.{StandsFor}
 use Rattle.si_flat.specs.Numbered.{number_in}
-use Rattle.si_flat.specs.Flattened.{IsSoundEntry, FlattensPattern, whole_of, query_numbers}
+use Rattle.si_flat.specs.Flattened.{IsNumberedBy, IsSoundEntry, FlattensPattern, numbered_entry, whole_of, query_numbers}
 use Rattle.si_form.specs.declared.solution.Binding.{Binding}
-use Rattle.si_form.specs.Answers.{StandsForList}
+use Rattle.si_form.specs.Answers.{Answers, StandsForList}
 use Rattle.si_form.specs.Numberings.{variable_by, list_by, symbols_of}
 use Rattle.si_form.specs.SolutionParts.{IsBindingOf}
 use Rattle.si_form.specs.TableNumbers.{HaveNumbers}
+use Rattle.si_legal.specs.declared.Posting.{Posting}
+use Rattle.si_legal.specs.Trees.{Tree, IsLeaf}
+use Rattle.si_held.specs.TwoTrees.{tree_for}
+use Rattle.si_index.specs.Engines.{asks_literals}
+use Rattle.si_index.specs.Leaves.{HasNode, HasMade}
 use Rattle.si_index.specs.declared.search.Search.{Search}
-use Rattle.si_index.specs.declared.search.Solved.{Solved}
+use Rattle.si_index.specs.declared.wanted.Leaf.{Leaf}
 use Rattle.si_index.specs.declared.gather.Match.{Match}
 use Rattle.si_index.specs.declared.gather.Matches.{Matches}
 
@@ -84,29 +92,59 @@ abbrev pub AnswersEntry : Relation → Numbering → Pattern → Entry → Optio
 AnswersEntry relation numbers p e None = Stands relation p e → ⊥
 AnswersEntry relation numbers p e (Some bindings) = SolvesEntry relation numbers p e bindings
 
--- by the numbers of the search, with the names of the entry's variables
-pub record SolvesIn (s : Search) (e : Entry) (solved : Solved) : Type 0 where
-  pub list : SolvesEntry s.relation (query_numbers (numbers_of s) s.query.extra)
-      (pattern_in s) e solved.solution
-  pub are_names : map (λ name. name.now) solved.entry_names.items ≡ distinct_variables e
+-- ---- terms and leaves
+-- the entry's term, by the numbers of the search
+abbrev pub term_in : Search → Entry → cells.Term
+term_in s e = numbered_entry (numbers_of s) cells.entry e
+
+-- the tree that is asked
+abbrev pub tree_in : Search → Tree cells.Term
+tree_in s = tree_for (asks_literals (pattern_in s)) s.index.now.trees
+
+-- Cells of the term are answered these bindings. Entries of which it is the term have them for their
+-- canonical list.
+pub record SolvesTerm (s : Search) (t : cells.Term) (bindings : List Binding) : Type 0 where
+  pub flat : List Cell
+  pub stands : StandsFor flat t
+  pub numbered : IsNumberedBy cells.entry t
+  pub answered : Answers s.relation s.query.flat flat (Some bindings)
+
+-- the node is a leaf with this term
+abbrev pub IsLeafOf : Tree cells.Term → ℕ → cells.Term → Type 0
+IsLeafOf tree node t = (postings : List Posting) × IsLeaf tree node t postings
+
+-- the leaf with this number has the entry's term
+abbrev pub IsOfLeaf : Search → List Leaf → ℕ → Entry → Type 0
+IsOfLeaf s leaves n e =
+    (node : ℕ) × HasNode leaves n node × IsLeafOf (tree_in s) node (term_in s e)
+
+-- the lists that are made are those of the leaves' terms
+abbrev pub AreMade : Search → List Leaf → Type 0
+AreMade s leaves =
+    (n : ℕ) (list : List Binding) → HasMade leaves n list
+    → (node : ℕ) × HasNode leaves n node
+    × ((t : cells.Term) × IsLeafOf (tree_in s) node t × SolvesTerm s t list)
 
 -- ---- what was gathered
 -- the clause stands at this position of the index
 abbrev pub IsThere : Search → ℕ → Clause → Type 0
 IsThere s position c = slice_get s.index.now.clauses position ≡ Some c
 
--- the list with this number solves the entry
-abbrev pub HasList : Search → Entry → (lists : List Solved) → ℕ → Type 0
-HasList s e lists n =
-    (solved : Solved) × slice_get lists n ≡ Some solved × SolvesIn s e solved
+-- the leaf with this number has a list, which solves the entry
+abbrev pub HasList : Search → Entry → (leaves : List Leaf) → ℕ → Type 0
+HasList s e leaves n =
+    (list : List Binding) × HasMade leaves n list
+    × SolvesEntry s.relation (query_numbers (numbers_of s) s.query.extra) (pattern_in s) e list
 
--- an entry that stands in the relation, with the number of its list, and the clause of its position
-pub record IsMatch (s : Search) (lists : List Solved) (m : Match) : Type 0 where
-  pub list : HasList s (entry_of m.entry) lists m.list
+-- an entry that stands in the relation, with the number of its leaf, the names of its variables, and
+-- the clause of its position
+pub record IsMatch (s : Search) (leaves : List Leaf) (m : Match) : Type 0 where
+  pub list : HasList s (entry_of m.entry) leaves m.leaf
+  pub are_names : map (λ name. name.now) m.names.items ≡ distinct_variables (entry_of m.entry)
   pub there : IsThere s m.hit.clause (clause_of m.clause.now)
 
 abbrev pub AreMatches : Search → Matches → Type 0
-AreMatches s ms = AllByRecursion (IsMatch s ms.lists.items) ms.found.items
+AreMatches s ms = AllByRecursion (IsMatch s ms.leaves.items) ms.found.items
 
 -- the match as a hit
 abbrev pub hit_of : Match → ℕ × Placed

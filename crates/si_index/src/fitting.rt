@@ -39,7 +39,7 @@ fn all_may_become(terms: &[Term], targets: &[Term]) -> bool
 
 /// Whether two symbols are equal. It is inlined into the walks over terms.
 #[inline(always)]
-pub(crate) fn is_same_symbol(one: &Sym, other: &Sym) -> bool
+fn is_same_symbol(one: &Sym, other: &Sym) -> bool
     ensures { result ≡ same_symbol (symbol_of one.now) (symbol_of other.now) }
 {
     one.kind == other.kind

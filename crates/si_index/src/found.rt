@@ -1,5 +1,5 @@
 // What a search for a pattern found.
-ghost use Rattle.std.specs.Prelude.{◌≡◌, ◌<◌, IfOk, Some, length, map, slice_get};
+ghost use Rattle.std.specs.Prelude.{◌≡◌, ◌≢◌, ◌<◌, IfOk, None, Some, length, map, slice_get};
 ghost use Rattle.std.specs.List.{AllByRecursion};
 ghost use Rattle.si_defs.specs.Clauses.{IsSoundPattern};
 ghost use Rattle.si_term.specs.Terms.{symbol_of};
@@ -10,7 +10,7 @@ use crate::engine::Engine;
 use crate::gather::{Matches, gather};
 use crate::index::Index;
 use crate::search::Search;
-use crate::wanted::in_order;
+use crate::wanted::{Leaf, Ordered, in_order};
 use si_defs::Relation;
 use si_flat::flatten_pattern;
 use si_form::Solution;
@@ -127,9 +127,10 @@ impl<'a> Found<'a> {
     {
         let search = &self.search;
         let found = &self.matches.found[n as usize];
-        let solved = &self.matches.lists[found.list];
+        let leaf = &self.matches.leaves[found.leaf];
+        let list = list_of(leaf);
         Ok(Shown {
-            solution: solved.solution.copy(search.alloc)?,
+            solution: list.copy(search.alloc)?,
             query_names: vars_of(search.alloc, search.pattern.as_entry())?,
             entry_names: vars_of(search.alloc, found.entry)?,
             extra: copy_symbols(search.alloc, &search.query.extra)?,
@@ -142,14 +143,23 @@ impl<'a> Found<'a> {
         ensures { ShowsHit self.now n (shown_of result) }
     {
         let found = &self.matches.found[n as usize];
-        let solved = &self.matches.lists[found.list];
+        let leaf = &self.matches.leaves[found.leaf];
+        let list = list_of(leaf);
         Lent {
-            solution: &solved.solution,
+            solution: list,
             query_names: &self.query_names,
-            entry_names: solved.entry_names.as_slice(),
+            entry_names: found.names.as_slice(),
             extra: &self.search.query.extra,
         }
     }
+}
+
+/// The list of a leaf, which is made.
+fn list_of(leaf: &Leaf) -> &Solution
+    requires { leaf.now.list ≢ None }
+    ensures { leaf.now.list ≡ Some result.now }
+{
+    leaf.list.as_ref().unwrap()
 }
 
 // Equal symbols.
@@ -204,8 +214,11 @@ impl Index {
         let signature = self.signature();
         let query = flatten_pattern(alloc, signature, pattern)?;
         let mut postings = Vec::new(alloc);
-        let passed = engine.ask(asks_literals(pattern), relation, &query.flat, &mut postings)?;
-        let wanted = in_order(self, postings.as_slice())?;
+        let literal = asks_literals(pattern);
+        let passed = engine.ask(literal, relation, &query.flat, &mut postings)?;
+        let trees = self.trees();
+        let ordered = in_order(self, trees, literal, postings.as_slice())?;
+        let Ordered { places, leaves } = ordered;
         let search = Search {
             alloc,
             index: self,
@@ -215,7 +228,7 @@ impl Index {
             query,
         };
         let query_names = vars_of(alloc, pattern.as_entry())?;
-        let matches = gather(&search, wanted.as_slice())?;
+        let matches = gather(&search, places.as_slice(), leaves)?;
         prove!(matches.found.len() as u64 <= stats.entries);
         Ok(Found {
             search,

@@ -1,36 +1,38 @@
 // The entries that an engine answered, each with its place and its list.
-ghost use Rattle.std.specs.Prelude.{◌≡◌, ◌<◌, ◌+◌, IfOk, OnOk, map, length};
+ghost use Rattle.std.specs.Prelude.{◌≡◌, ℕ, ◌<◌, ◌+◌, IfOk, OnOk, map, length};
 ghost use Rattle.std.specs.List.{AllByRecursion, AllZip};
-ghost use Rattle.si_defs.specs.Substitutions.{Grows};
+ghost use Rattle.si_defs.specs.Entries.{Placed};
 ghost use Rattle.si_term.specs.Meaning.{entry_of};
 ghost use Rattle.si_state.specs.Answers.{Stands};
 ghost use Rattle.si_entries.specs.Walks.{place_in};
-ghost use Rattle.si_index.specs.Searching.{numbers_of, pattern_in, IsReady, IsKnownEntry, IsKnownClause, HasList, AreMatches, hit_of};
+ghost use Rattle.si_index.specs.Leaves.{AreUnmade, IsUnmade, StayMade};
+ghost use Rattle.si_index.specs.Searching.{numbers_of, pattern_in, IsReady, IsKnownEntry, IsKnownClause, IsOfLeaf, AreMade, HasList, AreMatches, hit_of};
 ghost use Rattle.si_index.specs.Gathering.{Rise, IsAhead, IsHitAt, IsStandingAt, IsWalk, Adds};
 
 use crate::found::Hit;
-use crate::same::is_same_entry;
-use crate::search::{Search, Solved, Workspace};
-use crate::wanted::Wanted;
+use crate::search::{Search, Workspace};
+use crate::variables::EntryNames;
+use crate::wanted::{Leaf, Wanted};
 use si_entries::Entries;
 use si_term::{Clause, Entry};
 use std::alloc::AllocError;
 
-/// An entry that was found: where it stands, its clause, and the number of its list.
+/// An entry that was found: where it stands, its clause, the names of its variables, and the number
+/// of its leaf.
 #[derive(Drop)]
 pub(crate) struct Match<'a> {
     pub(crate) hit: Hit,
     pub(crate) clause: &'a Clause,
     pub(crate) entry: Entry<'a>,
-    pub(crate) list: usize,
+    pub(crate) names: EntryNames<'a>,
+    pub(crate) leaf: usize,
 }
 
-/// The entries that were found, and their lists. Those that are the same, one after the other,
-/// share a list.
+/// The entries that were found, and their leaves, whose lists are made.
 #[derive(Drop)]
 pub(crate) struct Matches<'a> {
     pub(crate) found: Vec<Match<'a>>,
-    pub(crate) lists: Vec<Solved<'a>>,
+    pub(crate) leaves: Vec<Leaf>,
 }
 
 /// What was gathered, and the memory that it works in.
@@ -89,7 +91,7 @@ impl<'a> ClauseWalk<'a> {
     fn go_to(&mut self, search: &Search<'a>, place: Wanted) -> Result<Entry<'a>, AllocError>
         requires known { AllByRecursion (IsKnownClause (numbers_of search.now))
             search.now.index.now.clauses }
-        requires there { IsStandingAt search.now place }
+        requires there { (hit : ℕ × Placed) × IsHitAt search.now.index.now place hit }
         requires walk { IsWalk search.now.index.now self.old }
         requires ahead { IsAhead self.old place }
         ensures walk { OnOk result (IsWalk search.now.index.now self.new) }
@@ -112,19 +114,22 @@ impl<'a> ClauseWalk<'a> {
     }
 }
 
-/// Adds the entry that the walk gave last.
+/// Adds the entry that the walk gave last, which is of this leaf.
 fn add<'a>(
     search: &Search<'a>,
     walk: &ClauseWalk<'a>,
     entry: Entry<'a>,
+    leaf: usize,
     gathered: &mut Gathered<'a>,
 ) -> Result<(), AllocError>
     requires ready { IsReady search.now }
     requires walk { IsWalk search.now.index.now walk.now }
     requires known { IsKnownEntry (numbers_of search.now) (entry_of entry) }
     requires stands { Stands search.now.relation (pattern_in search.now) (entry_of entry) }
+    requires leaf { IsOfLeaf search.now gathered.old.matches.leaves.items leaf (entry_of entry) }
+    requires made { AreMade search.now gathered.old.matches.leaves.items }
     requires each { AreMatches search.now gathered.old.matches }
-    ensures { OnOk result (Adds search.now (
+    ensures adds { OnOk result (Adds search.now (
       walk.now.position,
       record {
         entry = entry_of entry.entry;
@@ -132,98 +137,109 @@ fn add<'a>(
       },
     )
         gathered.old.matches gathered.new.matches) }
+    ensures made { OnOk result (AreMade search.now gathered.new.matches.leaves.items) }
+    ensures stay { OnOk result (StayMade gathered.old.matches.leaves.items
+        gathered.new.matches.leaves.items) }
 {
-    let list = list_of(
+    make_list(
         search,
         &mut gathered.workspace,
-        &mut gathered.matches,
+        &mut gathered.matches.leaves,
+        leaf,
         entry,
     )?;
     let hit = Hit {
         clause: walk.position,
         place: walk.entries.place()?,
     };
+    let names = search.names(&mut gathered.workspace, entry)?;
     gathered.matches.found.push(Match {
         hit,
         clause: walk.clause,
         entry,
-        list,
+        names,
+        leaf,
     })?;
     Ok(())
 }
 
-/// The number of an entry's list, which is that of the entry found last where both are the same.
-fn list_of<'a>(
-    search: &Search<'a>,
-    workspace: &mut Workspace<'a>,
-    matches: &mut Matches<'a>,
-    entry: Entry<'a>,
-) -> Result<usize, AllocError>
-    requires ready { IsReady search.now }
-    requires known { IsKnownEntry (numbers_of search.now) (entry_of entry) }
-    requires stands { Stands search.now.relation (pattern_in search.now) (entry_of entry) }
-    requires each { AreMatches search.now matches.old }
-    ensures list { IfOk result (HasList search.now (entry_of entry.entry)
-        matches.new.lists.items) }
-    ensures found { matches.new.found.items ≡ matches.old.found.items }
-    ensures each { AreMatches search.now matches.new }
-{
-    let count = matches.found.len();
-    if count > 0 {
-        let last = &matches.found[count - 1];
-        if is_same_entry(last.entry, entry) {
-            return Ok(last.list);
-        }
-    }
-    make_list(search, workspace, &mut matches.lists, entry)
-}
-
-/// Makes the list of an entry, and answers its number. It isn't inlined, as an entry that shares a
-/// list doesn't come here.
-#[inline(never)]
+/// Makes the list of a leaf, by an entry of it, unless it is made.
 fn make_list<'a>(
     search: &Search<'a>,
     workspace: &mut Workspace<'a>,
-    lists: &mut Vec<Solved<'a>>,
+    leaves: &mut Vec<Leaf>,
+    leaf: usize,
     entry: Entry<'a>,
-) -> Result<usize, AllocError>
+) -> Result<(), AllocError>
     requires ready { IsReady search.now }
     requires known { IsKnownEntry (numbers_of search.now) (entry_of entry) }
     requires stands { Stands search.now.relation (pattern_in search.now) (entry_of entry) }
-    ensures list { IfOk result (HasList search.now (entry_of entry.entry) lists.new.items) }
-    ensures kept { Grows lists.old.items lists.new.items }
+    requires leaf { IsOfLeaf search.now leaves.old.items leaf (entry_of entry) }
+    requires made { AreMade search.now leaves.old.items }
+    ensures list { OnOk result (HasList search.now (entry_of entry.entry) leaves.new.items leaf) }
+    ensures made { OnOk result (AreMade search.now leaves.new.items) }
+    ensures stay { OnOk result (StayMade leaves.old.items leaves.new.items) }
 {
-    let solved = search.solve(workspace, entry)?;
-    let list = lists.len();
-    lists.push(solved)?;
-    Ok(list)
+    if leaves[leaf].list.is_some() {
+        return Ok(());
+    }
+    solve_leaf(search, workspace, leaves, leaf, entry)
+}
+
+/// Makes the list of a leaf that has none. It isn't inlined, as most entries don't come here.
+#[inline(never)]
+fn solve_leaf<'a>(
+    search: &Search<'a>,
+    workspace: &mut Workspace<'a>,
+    leaves: &mut Vec<Leaf>,
+    leaf: usize,
+    entry: Entry<'a>,
+) -> Result<(), AllocError>
+    requires ready { IsReady search.now }
+    requires known { IsKnownEntry (numbers_of search.now) (entry_of entry) }
+    requires stands { Stands search.now.relation (pattern_in search.now) (entry_of entry) }
+    requires leaf { IsOfLeaf search.now leaves.old.items leaf (entry_of entry) }
+    requires made { AreMade search.now leaves.old.items }
+    requires unmade { IsUnmade leaves.old.items leaf }
+    ensures list { OnOk result (HasList search.now (entry_of entry.entry) leaves.new.items leaf) }
+    ensures made { OnOk result (AreMade search.now leaves.new.items) }
+    ensures stay { OnOk result (StayMade leaves.old.items leaves.new.items) }
+{
+    let list = search.solve(workspace, entry)?;
+    leaves[leaf].list = Some(list);
+    Ok(())
 }
 
 /// The entries that stand here, each with its list. Each clause of theirs is walked through once.
-pub(crate) fn gather<'a>(search: &Search<'a>, wanted: &[Wanted]) -> Result<Matches<'a>, AllocError>
+pub(crate) fn gather<'a>(
+    search: &Search<'a>,
+    places: &[Wanted],
+    leaves: Vec<Leaf>,
+) -> Result<Matches<'a>, AllocError>
     requires ready { IsReady search.now }
     requires known { AllByRecursion (IsKnownClause (numbers_of search.now))
         search.now.index.now.clauses }
-    requires stand { AllByRecursion (IsStandingAt search.now) wanted.now }
-    requires rise { Rise wanted.now }
+    requires unmade { AreUnmade leaves.items }
+    requires stand { AllByRecursion (IsStandingAt search.now leaves.items) places.now }
+    requires rise { Rise places.now }
     ensures each { IfOk result (AreMatches search.now) }
-    ensures hits { IfOk result (λ ms. AllZip (IsHitAt search.now.index.now) wanted.now
+    ensures hits { IfOk result (λ ms. AllZip (IsHitAt search.now.index.now) places.now
         (map hit_of ms.found.items)) }
 {
     let mut gathered = Gathered {
         workspace: Workspace::new(search.alloc),
         matches: Matches {
-            found: Vec::with_capacity(search.alloc, wanted.len())?,
-            lists: Vec::new(search.alloc),
+            found: Vec::with_capacity(search.alloc, places.len())?,
+            leaves,
         },
     };
-    let Some(first) = wanted.first() else {
+    let Some(first) = places.first() else {
         return Ok(gathered.matches);
     };
     let mut walk = ClauseWalk::new(search, first.position);
-    for place in wanted {
+    for place in places {
         let entry = walk.go_to(search, *place)?;
-        add(search, &walk, entry, &mut gathered)?;
+        add(search, &walk, entry, place.leaf, &mut gathered)?;
     }
     Ok(gathered.matches)
 }

@@ -9,10 +9,10 @@ mod gather;
 mod index;
 mod known;
 mod names;
-mod same;
 mod screen;
 mod search;
 mod subsuming;
+mod variables;
 mod wanted;
 
 pub use engine::Engine;

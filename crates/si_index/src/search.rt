@@ -2,7 +2,7 @@
 ghost use Rattle.std.specs.Prelude.{IfOk};
 ghost use Rattle.si_term.specs.Meaning.{entry_of};
 ghost use Rattle.si_state.specs.Answers.{Stands};
-ghost use Rattle.si_index.specs.Searching.{numbers_of, pattern_in, IsReady, IsKnownEntry, SolvesIn};
+ghost use Rattle.si_index.specs.Searching.{numbers_of, pattern_in, term_in, IsReady, IsKnownEntry, SolvesTerm};
 
 use crate::index::Index;
 use si_defs::Relation;
@@ -10,7 +10,6 @@ use si_flat::{EntryBuffer, FlatQuery};
 use si_form::{Scratch, Solution, canonical_with};
 use si_sign::Signature;
 use si_term::{Entry, Pattern};
-use smallvec::SmallVec;
 use std::alloc::{AllocError, Global};
 
 /// What is searched for, and where.
@@ -25,18 +24,12 @@ pub(crate) struct Search<'a> {
     pub(crate) query: FlatQuery,
 }
 
-/// The canonical list of an entry, and the names of its variables.
-#[derive(Drop)]
-pub(crate) struct Solved<'a> {
-    pub(crate) solution: Solution,
-    pub(crate) entry_names: SmallVec<&'a [u8], 2>,
-}
-
 /// The memory that a search works in, lent from entry to entry.
 #[derive(Drop)]
 pub(crate) struct Workspace<'a> {
-    buffer: EntryBuffer<'a>,
+    pub(crate) buffer: EntryBuffer<'a>,
     scratch: Scratch,
+    pub(crate) met: Vec<&'a [u8]>,
 }
 
 impl<'a> Workspace<'a> {
@@ -45,21 +38,23 @@ impl<'a> Workspace<'a> {
         Workspace {
             buffer: EntryBuffer::new(alloc),
             scratch: Scratch::new(alloc),
+            met: Vec::new(alloc),
         }
     }
 }
 
 impl<'a> Search<'a> {
-    /// The canonical list of an entry that stands in the relation.
+    /// The canonical list of an entry that stands in the relation. All entries with the same flat
+    /// term have it.
     pub(crate) fn solve(
         &self,
         workspace: &mut Workspace<'a>,
         entry: Entry<'a>,
-    ) -> Result<Solved<'a>, AllocError>
+    ) -> Result<Solution, AllocError>
         requires ready { IsReady self.now }
         requires known { IsKnownEntry (numbers_of self.now) (entry_of entry) }
         requires stands { Stands self.now.relation (pattern_in self.now) (entry_of entry) }
-        ensures { IfOk result (SolvesIn self.now (entry_of entry.entry)) }
+        ensures { IfOk result (SolvesTerm self.now (term_in self.now (entry_of entry.entry))) }
     {
         if !workspace.buffer.fill(self.signature, entry)? {
             unreachable!()
@@ -74,10 +69,6 @@ impl<'a> Search<'a> {
         else {
             unreachable!()
         };
-        let entry_names = SmallVec::from_slice(self.alloc, workspace.buffer.names())?;
-        Ok(Solved {
-            solution,
-            entry_names,
-        })
+        Ok(solution)
     }
 }

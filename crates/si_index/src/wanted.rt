@@ -1,11 +1,16 @@
 // The entries that an engine answered, in order.
-ghost use Rattle.std.specs.Prelude.{IfOk};
+ghost use Rattle.std.specs.Prelude.{◌≡◌, IfOk, OnOk, Some, None, slice_get};
 ghost use Rattle.std.specs.List.{AllByRecursion};
 ghost use Rattle.si_defs.specs.Substitutions.{IsAmong, AreDistinct};
-ghost use Rattle.si_index.specs.Gathering.{AreInOrder};
+ghost use Rattle.si_held.specs.TwoTrees.{tree_for};
+ghost use Rattle.si_index.specs.Gathering.{AreInOrder, IsStored};
+ghost use Rattle.si_index.specs.Leaves.{StayMade, HasNode, AreUnmade};
 
 use crate::index::Index;
+use si_forest::Trees;
+use si_form::Solution;
 use si_legal::Posting;
+use si_tree::NodeId;
 use std::alloc::AllocError;
 
 /// Where a kept entry stands: the position of its clause, from 0, and its number in the clause.
@@ -13,21 +18,64 @@ use std::alloc::AllocError;
 pub(crate) struct Wanted {
     pub(crate) position: u32,
     pub(crate) entry: u32,
+    /// The number of its leaf among those that were found.
+    pub(crate) leaf: usize,
 }
 
-/// Where the entries of these postings stand, in order.
-pub(crate) fn in_order(index: &Index, postings: &[Posting]) -> Result<Vec<Wanted>, AllocError>
+/// A leaf of the tree that was asked. Its entries have one flat term, and so one canonical list.
+#[derive(Drop)]
+pub(crate) struct Leaf {
+    pub(crate) node: NodeId,
+    /// The canonical list, once it is made.
+    pub(crate) list: Option<Solution>,
+}
+
+/// Where the entries stand that were found, in order, and their leaves.
+#[derive(Drop)]
+pub(crate) struct Ordered {
+    pub(crate) places: Vec<Wanted>,
+    pub(crate) leaves: Vec<Leaf>,
+}
+
+/// Where the entries of these postings stand, in order. A leaf whose postings come one after the
+/// other is there once.
+pub(crate) fn in_order(
+    index: &Index,
+    trees: &Trees,
+    literal: bool,
+    postings: &[Posting],
+) -> Result<Ordered, AllocError>
     requires kept { AllByRecursion (λ p. IsAmong index.now.keys p.clause) postings.now }
+    requires stored { AllByRecursion (IsStored (tree_for literal trees.now)) postings.now }
     requires distinct { AreDistinct postings.now }
-    ensures { IfOk result (λ wanted. AreInOrder index.now postings.now wanted.items) }
+    ensures { IfOk result (AreInOrder index.now (tree_for literal trees.now) postings.now) }
 {
-    let mut wanted = Vec::with_capacity(index.allocator(), postings.len())?;
+    let alloc = index.allocator();
+    let mut places = Vec::with_capacity(alloc, postings.len())?;
+    let mut leaves = Vec::new(alloc);
     for posting in postings {
-        wanted.push(Wanted {
+        let node = trees.leaf_of(literal, *posting);
+        places.push(Wanted {
             position: index.position(posting.clause),
             entry: posting.entry,
+            leaf: number_of(&mut leaves, node)?,
         })?;
     }
-    wanted.sort_unstable();
-    Ok(wanted)
+    places.sort_unstable();
+    Ok(Ordered { places, leaves })
+}
+
+/// The number of a leaf, which is put behind the others where it isn't the last.
+fn number_of(leaves: &mut Vec<Leaf>, node: NodeId) -> Result<usize, AllocError>
+    requires { AreUnmade leaves.old.items }
+    ensures kept { OnOk result (StayMade leaves.old.items leaves.new.items) }
+    ensures unmade { OnOk result (AreUnmade leaves.new.items) }
+    ensures node { IfOk result (λ n. HasNode leaves.new.items n node) }
+{
+    let count = leaves.len();
+    if count > 0 && leaves[count - 1].node == node {
+        return Ok(count - 1);
+    }
+    leaves.push(Leaf { node, list: None })?;
+    Ok(count)
 }

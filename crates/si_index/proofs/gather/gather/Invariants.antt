@@ -1,14 +1,16 @@
 use Rattle.std.proofs.Common.{drop, map, take}
 use Rattle.std.specs.List.{AllByRecursion, AllZip}
-use Rattle.si_index.specs.Gathering.{IsAhead, IsHitAt, IsWalk}
-use Rattle.si_index.specs.Searching.{AreMatches, hit_of}
+use Rattle.si_index.specs.Gathering.{IsAhead, IsHitAt, IsStandingAt, IsWalk}
+use Rattle.si_index.specs.Searching.{AreMade, AreMatches, hit_of}
 use Rattle.si_index.proofs.gather.gather.Given as goal
 
 -- what stood before this place was added, and nothing else was passed
 abbrev pub invariant-loop-place : goal.invariant-loop-place
 invariant-loop-place l = record {
   walk : IsWalk l.search.index.now l.walk;
-  ahead : AllByRecursion (IsAhead l.walk) (drop l.place-index l.wanted);
+  ahead : AllByRecursion (IsAhead l.walk) (drop l.place-index l.places);
+  stand : AllByRecursion (IsStandingAt l.search l.gathered.matches.leaves.items) l.places;
+  made : AreMade l.search l.gathered.matches.leaves.items;
   each : AreMatches l.search l.gathered.matches;
-  hits : AllZip (IsHitAt l.search.index.now) (take l.place-index l.wanted) (map hit_of l.gathered.matches.found.items);
+  hits : AllZip (IsHitAt l.search.index.now) (take l.place-index l.places) (map hit_of l.gathered.matches.found.items);
 }

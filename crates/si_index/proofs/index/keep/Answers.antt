@@ -1,11 +1,11 @@
-use Rattle.std.proofs.Common.{sym, ap, ◌∙◌, subst}
+use Rattle.std.proofs.Common.{sym, subst}
 use Rattle.si_term.specs.Meaning.{clause_of}
 use Rattle.si_term.specs.declared.clause.Clause.{Clause}
 use Rattle.si_state.specs.Signatures.{numbering}
 use Rattle.si_held.specs.TwoTrees.{Hold, MayAddClause, AddsClause}
 use Rattle.si_held.proofs.Holding.{same_held}
 use Rattle.si_keyed.specs.Keyed.{HasKey, IsTakenOut}
-use Rattle.si_keyed.proofs.KeyLaws.{key_taken, pushed_item, pushed_key, taken_back}
+use Rattle.si_keyed.proofs.KeyLaws.{pushed_key, taken_back}
 use Rattle.si_keyed.proofs.Results.{some_unless}
 use Rattle.si_index.specs.Names.{key_of}
 use Rattle.si_index.specs.Stored.{keyed_clauses}

@@ -1,13 +1,12 @@
-use Rattle.std.proofs.Common.{Bor, map, ap, sym, ◌∙◌, subst}
+use Rattle.std.proofs.Common.{sym, subst}
 use Rattle.std.specs.Prelude.{Some, None}
-use Rattle.si_defs.specs.Bytes.{Bytes}
 use Rattle.si_defs.specs.Entries.{pattern_entry}
 use Rattle.si_term.specs.Meaning.{entry_of}
 use Rattle.si_flat.specs.declared.Owner.TheVariants.{Query, Entry}
-use Rattle.si_flat.specs.Cells.{IsWhole}
+use Rattle.si_flat.specs.Cells.{IsWhole, StandsFor}
 use Rattle.si_flat.specs.Flattened.{HoldsEntry, FillsEntry, query_numbers}
 use Rattle.si_form.specs.Answers.{AreNumbered, Answers}
-use Rattle.si_index.specs.Searching.{numbers_of, pattern_in}
+use Rattle.si_index.specs.Searching.{numbers_of, pattern_in, term_in}
 use Rattle.si_index.proofs.FlatLaws.{none_lacks, flat_is_numbered, alike_standing}
 use Rattle.si_index.proofs.SolvedLaws.{solved_in}
 use Rattle.si_index.proofs.search.Search.solve.Goals as goal
@@ -51,8 +50,10 @@ returns c =
     let holds : HoldsEntry (numbers_of s) e c.fill.new.self.0 c.fill.new.self.1 =
     subst (FillsEntry (numbers_of s) e c.fill.new.self.0 c.fill.new.self.1) c.if-not-branch.false c.in_ok-fill.ensures in
     record {
-      list =
-          solved_in s e c.cells.result.now c.cells-2.result.now c.fill.new.self.0 c.fill.new.self.1 c.cells.ensures.cells c.cells-2.ensures c.requires.ready c.requires.known (alike_standing s.relation (pattern_in s) e c.requires.stands) holds (Some c.in-Some.solution)
+      flat = c.cells-2.result.now;
+      stands = subst (λ l. StandsFor l (term_in s e)) (sym c.cells-2.ensures) holds.flat.stands;
+      numbered = holds.flat.numbered;
+      answered =
+          subst (λ l. Answers s.relation l c.cells-2.result.now (Some c.in-Some.solution)) c.cells.ensures.cells
           (subst (Answers s.relation c.cells.result.now c.cells-2.result.now) c.in-Some.is c.in_ok-solution.ensures.answers);
-      are_names = ap (map (λ (name : Bor Bytes). name.now)) c.in_ok-entry_names.ensures.ok ∙ c.names.ensures ∙ holds.are_names;
     }

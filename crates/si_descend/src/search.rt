@@ -111,7 +111,7 @@ pub(crate) fn visit<'a>(
         trail.undo(mark);
         return append_all(search, node, out);
     }
-    out.extend_from_slice(search.tree.postings(node))?;
+    search.tree.postings(node).append_to(out)?;
     let below = visit_children(search, node, scratch, trail, out)?;
     trail.undo(mark);
     Ok(1 + below)

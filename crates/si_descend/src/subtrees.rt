@@ -76,7 +76,7 @@ pub(crate) fn append_all(
     ensures found { IfOk result (HasFound search.now node out.old.items out.new.items) }
     ensures out_grows { Grows out.old.items out.new.items }
 {
-    out.extend_from_slice(search.tree.postings(node))?;
+    search.tree.postings(node).append_to(out)?;
     let mut below = 0;
     for child in search.tree.children(node) {
         below += append_all(search, *child, out)?;

@@ -1,10 +1,10 @@
 // Bindings of indicators.
-ghost use Rattle.std.specs.Prelude.{◌≡◌, ◌<◌, [], ◌∷◌, ◌++◌, OnErr, OnOk, Some, length, slice_get};
+ghost use Rattle.std.specs.Prelude.{◌≡◌, ◌<◌, [], ◌∷◌, ◌++◌, IfOk, OnErr, OnOk, Some, length, slice_get};
 ghost use Rattle.std.specs.Iterator.{YieldsFirstBy, item_count};
 ghost use Rattle.si_defs.specs.Substitutions.{IsAmong};
 ghost use Rattle.si_flat.specs.declared.Cell.TheVariants.{Ind};
 ghost use Rattle.si_flat.specs.Cells.{IsWhole};
-ghost use Rattle.si_flat.specs.Rows.{IsPair, IsRow, left_rows, left_sides, pair_cells, pair_of, pairs_of, right_sides};
+ghost use Rattle.si_flat.specs.Rows.{IsPair, IsRow, left_rows, left_sides, pair_cells, pair_of, pairs_of, right_sides, row_of};
 
 use crate::Cell;
 use std::alloc::{AllocError, Global};
@@ -87,6 +87,28 @@ impl Bindings {
         }
     }
 
+    /// The empty list, with room for so many cells, as [`Bindings::cells`] counts them.
+    pub fn with_capacity(alloc: Global, cells: usize) -> Result<Bindings, AllocError>
+        ensures { IfOk result (λ bindings. bindings ≡ []) }
+    {
+        Ok(Bindings {
+            cells: Vec::with_capacity(alloc, cells)?,
+            count: 0,
+        })
+    }
+
+    /// A copy, with no room behind the last binding.
+    pub fn copy(&self, alloc: Global) -> Result<Bindings, AllocError>
+        ensures { IfOk result (λ bindings. bindings ≡ self.now) }
+    {
+        let mut cells = Vec::with_capacity(alloc, self.cells.len())?;
+        cells.extend_from_slice(self.cells.as_slice())?;
+        Ok(Bindings {
+            cells,
+            count: self.count,
+        })
+    }
+
     /// Appends a binding. At an error the list is as before.
     pub fn push(&mut self, left: u32, right: &[Cell]) -> Result<(), AllocError>
         requires new { IsAmong (left_sides self.old) left → ⊥ }
@@ -99,18 +121,18 @@ impl Bindings {
         Ok(())
     }
 
-    /// Gives back the memory behind the last binding, where the allocator takes it.
-    pub fn shrink(&mut self)
-        ensures { self.new ≡ self.old }
-    {
-        self.cells.shrink_to_fit();
-    }
-
     /// The number of bindings.
     pub fn len(&self) -> usize
         ensures { result ≡ length self.now }
     {
         self.count
+    }
+
+    /// The number of cells: one for each left side, and those of the right sides.
+    pub fn cells(&self) -> usize
+        ensures { result ≡ length (row_of self.now) }
+    {
+        self.cells.len()
     }
 
     /// The bindings in order.

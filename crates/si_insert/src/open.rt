@@ -121,14 +121,15 @@ impl Openings {
         requires within { AreWithin cells.now self.now }
         ensures { IfOk result (λ bindings. bindings ≡ open_pairs cells.now self.now) }
     {
-        let mut bindings = Bindings::new(alloc);
+        let room = cells.len().saturating_add(self.opened.len());
+        let mut bindings = Bindings::with_capacity(alloc, room)?;
         for opened in self.opened.as_slice() {
             if opened.bound {
                 continue;
             }
             bindings.push(opened.indicator, sub(cells, opened.at))?;
         }
-        Ok(bindings)
+        bindings.copy(alloc)
     }
 }
 

@@ -54,7 +54,8 @@ fn parts_at(
     requires distinct { AreDistinct (left_sides bindings.now) }
     ensures { IfOk result (λ new. GivesParts cells.now openings.now bindings.now new) }
 {
-    let mut new = Bindings::new(alloc);
+    let room = cells.len().saturating_add(bindings.len());
+    let mut new = Bindings::with_capacity(alloc, room)?;
     for pair in bindings.pairs() {
         let at = openings.at(pair.left());
         new.push(pair.left(), sub(cells, at))?;

@@ -30,10 +30,10 @@ pub fn generalise(
     requires { MayGeneralise next node.now new.now }
     ensures { IfOk result (Generalises next node.now new.now) }
 {
-    let mut walk = Walk::new(alloc, next);
+    let mut walk = Walk::new(alloc, node.cells(), new.cells(), next)?;
     walk.leave_differing(node, new)?;
     walk.share_agreeing(node, new)?;
-    Ok(walk.finish())
+    walk.finish(alloc)
 }
 
 // Whether two right sides have the same head.

@@ -21,29 +21,35 @@ pub(crate) struct Walk {
 }
 
 impl Walk {
-    pub(crate) fn new(alloc: Global, next: u32) -> Walk
-        ensures { state_of result ≡ start next }
+    /// Nothing was found yet. There is room for what two lists of so many cells can have.
+    pub(crate) fn new(
+        alloc: Global,
+        node_cells: usize,
+        new_cells: usize,
+        next: u32,
+    ) -> Result<Walk, AllocError>
+        ensures { IfOk result (λ walk. state_of walk ≡ start next) }
     {
-        Walk {
+        Ok(Walk {
             split: Split {
-                common: Bindings::new(alloc),
-                rest_node: Bindings::new(alloc),
-                rest_new: Bindings::new(alloc),
+                common: Bindings::with_capacity(alloc, node_cells)?,
+                rest_node: Bindings::with_capacity(alloc, node_cells)?,
+                rest_new: Bindings::with_capacity(alloc, new_cells)?,
             },
             next,
-            draft: Vec::new(alloc),
-        }
+            draft: Vec::with_capacity(alloc, node_cells)?,
+        })
     }
 
-    /// The parts. Memory after their last cells is given back, where the allocator takes it.
-    pub(crate) fn finish(self) -> Split
-        ensures { result ≡ self.split }
+    /// The parts, with no room behind their last cells.
+    pub(crate) fn finish(&self, alloc: Global) -> Result<Split, AllocError>
+        ensures { IfOk result (λ split. split ≡ self.now.split) }
     {
-        let mut split = self.split;
-        split.common.shrink();
-        split.rest_node.shrink();
-        split.rest_new.shrink();
-        split
+        Ok(Split {
+            common: self.split.common.copy(alloc)?,
+            rest_node: self.split.rest_node.copy(alloc)?,
+            rest_new: self.split.rest_new.copy(alloc)?,
+        })
     }
 
     /// Leaves to both rests what differs at the root.

@@ -22,8 +22,7 @@ pub fn compose(alloc: Global, node: &Bindings, child: &Bindings) -> Result<Bindi
         }
         both.push(pair.left(), pair.right())?;
     }
-    both.shrink();
-    Ok(both)
+    both.copy(alloc)
 }
 
 // The bindings of a node, with those of its child applied to their right sides.
@@ -32,8 +31,9 @@ fn carried(alloc: Global, node: &Bindings, child: &Bindings) -> Result<Bindings,
     ensures { IfOk result (λ both. both ≡ carried_pairs node.now child.now) }
 {
     let order = in_order(alloc, child)?;
-    let mut both = Bindings::new(alloc);
-    let mut draft = Vec::new(alloc);
+    let room = node.cells().saturating_add(child.cells());
+    let mut both = Bindings::with_capacity(alloc, room)?;
+    let mut draft = Vec::with_capacity(alloc, room)?;
     for pair in node.pairs() {
         fill(&mut draft, pair.right(), child, &order)?;
         set_spans(&mut draft);

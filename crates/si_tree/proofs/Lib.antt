@@ -8,6 +8,7 @@ pub mod ChildPlaces
 pub mod RootLaws
 pub mod NewLaws
 pub mod PostingLists
+pub mod StandingLaws
 pub mod KeptLaws
 pub mod PostingSteps
 pub mod RightLaws

@@ -5,6 +5,7 @@ pub mod KeptHeads
 pub mod NewTrees
 pub mod Reading
 pub mod Changes
+pub mod Slots
 pub mod Rights
 pub mod KeptNodes
 pub mod Numbers

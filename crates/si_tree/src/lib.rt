@@ -13,6 +13,7 @@ mod tests;
 mod tree;
 
 pub use node::{Counts, Head, NodeId};
+pub use postings::Postings;
 pub use rights::head_of;
 pub use si_legal::Posting;
 pub use tree::Tree;

@@ -12,7 +12,7 @@ ghost use Rattle.si_tree.specs.Dropping.{HasBesides, LosesChild};
 ghost use Rattle.si_tree.specs.Heads.{StandTogether};
 
 use crate::heads::Heads;
-use crate::postings::Postings;
+use crate::postings::PostingList;
 use crate::rights::joined;
 use si_flat::Bindings;
 use si_legal::Posting;
@@ -72,7 +72,7 @@ pub(crate) struct TreeNode {
 #[derive(Drop)]
 pub(crate) enum Content {
     Inner(Branches),
-    Leaf(Postings),
+    Leaf(PostingList),
 }
 
 /// The children of a node. They are told apart by their heads, which stand in the same order.
@@ -88,7 +88,7 @@ impl Content {
     pub(crate) fn leaf(alloc: Global, posting: Posting) -> Result<Content, AllocError>
         ensures { IfOk result (λ content. content_of content ≡ leaf (posting ∷ [])) }
     {
-        let postings = Postings::one(alloc, posting)?;
+        let postings = PostingList::one(alloc, posting)?;
         Ok(Content::Leaf(postings))
     }
 }
@@ -181,7 +181,7 @@ impl TreeNode {
         ensures { result ≡ unmerged_of (content_of self.now.content) }
     {
         match &self.content {
-            Content::Leaf(postings) => u64::from(postings.as_slice().is_empty()),
+            Content::Leaf(postings) => u64::from(postings.all().is_empty()),
             Content::Inner(_) => 0,
         }
     }

@@ -88,11 +88,10 @@ pub(crate) fn renumbered(
     ensures { IfOk result (λ bs. bs ≡ renumbered_pairs (noted_number numbers.now) bindings.now) }
 {
     let mut right = Vec::new(alloc);
-    let mut all = Bindings::new(alloc);
+    let mut all = Bindings::with_capacity(alloc, bindings.cells())?;
     for pair in bindings.pairs() {
         renumber_cells(numbers, pair.right(), &mut right)?;
         all.push(numbers[pair.left() as usize], right.as_slice())?;
     }
-    all.shrink();
     Ok(all)
 }

@@ -1,47 +1,87 @@
 // The postings of a leaf.
-ghost use Rattle.std.specs.Prelude.{◌≡◌, ◌<◌, ◌≤◌, [], ◌∷◌, ◌++◌, IfOk, OnErr, OnOk, Some, length, slice_get};
-ghost use Rattle.std.specs.List.{remove};
+ghost use Rattle.std.specs.Prelude.{◌≡◌, ◌<◌, ◌≤◌, [], ◌∷◌, ◌++◌, ◌==◌, IfOk, IsFalse, IsTrue, OnErr, OnOk, Some, length, slice_get};
 ghost use Rattle.si_defs.specs.Substitutions.{IsAmong};
+ghost use Rattle.si_legal.specs.declared.Posting as posting;
 ghost use Rattle.si_tree.specs.Changes.{IsWithout};
+ghost use Rattle.si_tree.specs.Slots.{filled, standing};
 
 use si_legal::Posting;
 use std::alloc::{AllocError, Global};
 use std::marker::Model;
 
-/// The postings of a leaf, in order. Contracts see the list. One that goes leaves its room to those
-/// on its shorter side, so there may be a gap at the front.
-#[derive(Drop)]
-pub(crate) struct Postings {
-    items: Vec<Posting>,
-    gap: usize,
+/// A posting, and whether it stands there still.
+#[derive(Clone, Copy)]
+pub(crate) struct Slot {
+    clause: usize,
+    entry: u32,
+    stands: bool,
 }
 
-impl Model for Postings {
-    ghost use Rattle.std.specs.Prelude.{◌≤◌, List, drop, length};
+/// The postings of a leaf, in order. Contracts see the list. One that goes leaves its slot empty, so
+/// that no other is moved; where most slots are empty, they are closed.
+#[derive(Drop)]
+pub(crate) struct PostingList {
+    slots: Vec<Slot>,
+    count: usize,
+    // Where the first and the last posting are likely to stand.
+    first: usize,
+    last: usize,
+}
+
+impl Model for PostingList {
+    ghost use Rattle.std.specs.Prelude.{◌≡◌, List, length};
     ghost use Rattle.si_legal.specs.declared.Posting.{Posting};
+    ghost use Rattle.si_tree.specs.Slots.{standing};
 
     ghost Value = { List Posting };
 
-    ghost view = { λ p. drop p.gap p.items.items };
+    ghost view = { λ p. standing p.slots.items };
 
-    ghost invariant = { λ p. p.gap ≤ length p.items.items };
+    ghost invariant = { λ p. p.count ≡ length (standing p.slots.items) };
 }
 
-impl Postings {
+/// The postings of a node, in order. Contracts see the list.
+#[derive(Drop)]
+pub struct Postings<'a> {
+    slots: &'a [Slot],
+    count: usize,
+}
+
+impl<'a> Model for Postings<'a> {
+    ghost use Rattle.std.specs.Prelude.{◌≡◌, List, length};
+    ghost use Rattle.si_legal.specs.declared.Posting.{Posting};
+    ghost use Rattle.si_tree.specs.Slots.{standing};
+
+    ghost Value = { List Posting };
+
+    ghost view = { λ p. standing p.slots.now };
+
+    ghost invariant = { λ p. p.count ≡ length (standing p.slots.now) };
+}
+
+impl PostingList {
     /// One posting.
-    pub(crate) fn one(alloc: Global, posting: Posting) -> Result<Postings, AllocError>
+    pub(crate) fn one(alloc: Global, posting: Posting) -> Result<PostingList, AllocError>
         ensures { IfOk result (λ postings. postings ≡ posting ∷ []) }
     {
-        let mut items = Vec::with_capacity(alloc, 1)?;
-        items.push_reserved(posting);
-        Ok(Postings { items, gap: 0 })
+        let mut slots = Vec::with_capacity(alloc, 1)?;
+        slots.push_reserved(Slot::of(posting));
+        Ok(PostingList {
+            slots,
+            count: 1,
+            first: 0,
+            last: 0,
+        })
     }
 
     /// All of them.
-    pub(crate) fn as_slice(&self) -> &[Posting]
-        ensures { result.now ≡ self.now }
+    pub(crate) fn all(&self) -> Postings<'_>
+        ensures { result ≡ self.now }
     {
-        &self.items[self.gap..]
+        Postings {
+            slots: self.slots.as_slice(),
+            count: self.count,
+        }
     }
 
     /// Appends a posting. At an error the list is as before.
@@ -49,7 +89,10 @@ impl Postings {
         ensures ok { OnOk result (self.new ≡ self.old ++ posting ∷ []) }
         ensures err { OnErr result (self.new ≡ self.old) }
     {
-        self.items.push(posting)?;
+        let place = self.slots.len();
+        self.slots.push(Slot::of(posting))?;
+        self.count += 1;
+        self.last = place;
         Ok(())
     }
 
@@ -58,85 +101,171 @@ impl Postings {
         requires { IsAmong self.old posting }
         ensures { IsWithout self.old posting self.new }
     {
-        let place = place_of(self.as_slice(), posting);
-        self.take(place);
+        let place = place_of(self.slots.as_slice(), self.first, self.last, posting);
+        empty(&mut self.slots, place);
+        self.count -= 1;
+        self.pass(place);
         self.close();
     }
 
-    // Takes out the posting at a place: those before it move up, or those after it down.
-    fn take(&mut self, place: usize)
-        requires { place < length self.old }
-        ensures { self.new ≡ remove self.old place }
+    // Notes that an end no longer stands at this place.
+    fn pass(&mut self, place: usize)
+        ensures { self.new ≡ self.old }
     {
-        let at = self.gap + place;
-        if place < self.items.len() - at {
-            self.items.copy_within(self.gap..at, self.gap + 1);
-            self.gap += 1;
-        } else {
-            self.items.remove(at);
+        if place == self.first {
+            self.first = place.saturating_add(1);
+        }
+        if place == self.last {
+            self.last = place.saturating_sub(1);
         }
     }
 
-    // Closes the gap where it is longer than the list.
+    // Closes the empty slots where they are most.
     fn close(&mut self)
         ensures { self.new ≡ self.old }
     {
-        let left = self.items.len() - self.gap;
-        if self.gap <= left {
+        if self.slots.len() / 2 <= self.count {
             return;
         }
-        self.items.copy_within(self.gap.., 0);
-        self.items.truncate(left);
-        self.gap = 0;
+        self.slots.retain(|slot| slot.stands);
+        self.first = 0;
+        self.last = self.count.saturating_sub(1);
     }
 }
 
-// A place of a posting. Most lists rise, as keys do, so it is sought by halves first.
-fn place_of(postings: &[Posting], posting: Posting) -> usize
-    requires { IsAmong postings.now posting }
-    ensures { slice_get postings.now result ≡ Some posting }
+impl<'a> Postings<'a> {
+    /// No postings.
+    pub(crate) fn none() -> Postings<'a>
+        ensures { result ≡ [] }
+    {
+        Postings {
+            slots: Default::default(),
+            count: 0,
+        }
+    }
+
+    /// How many there are.
+    pub fn len(&self) -> usize
+        ensures { result ≡ length self.now }
+    {
+        self.count
+    }
+
+    /// Whether there are none.
+    pub fn is_empty(&self) -> bool
+        ensures { result ≡ (length self.now == 0) }
+    {
+        self.count == 0
+    }
+
+    /// Appends them to others. At an error these are as before.
+    pub fn append_to(&self, others: &mut Vec<Posting>) -> Result<(), AllocError>
+        ensures ok { OnOk result (others.new.items ≡ others.old.items ++ self.now) }
+        ensures err { OnErr result (others.new.items ≡ others.old.items) }
+    {
+        others.reserve(self.count)?;
+        for slot in self.slots {
+            if !slot.stands {
+                continue;
+            }
+            others.push_reserved(slot.posting());
+        }
+        Ok(())
+    }
+}
+
+impl Slot {
+    // The slot in which the posting stands.
+    fn of(posting: Posting) -> Slot
+        ensures { result ≡ filled posting }
+    {
+        Slot {
+            clause: posting.clause,
+            entry: posting.entry,
+            stands: true,
+        }
+    }
+
+    // The posting that stands there, or stood there.
+    fn posting(&self) -> Posting
+        ensures clause { result.clause ≡ self.now.clause }
+        ensures entry { result.entry ≡ self.now.entry }
+    {
+        Posting {
+            clause: self.clause,
+            entry: self.entry,
+        }
+    }
+}
+
+// Empties a slot.
+fn empty(slots: &mut Vec<Slot>, place: usize)
+    requires { place < length slots.old.items }
+    ensures { (p : posting.Posting) → slice_get slots.old.items place ≡ Some (filled p)
+        → IsWithout (standing slots.old.items) p (standing slots.new.items) }
 {
-    let likely = place_if_rising(postings, posting);
-    if likely < postings.len() && postings[likely] == posting {
+    slots[place].stands = false;
+}
+
+// The place of a posting. Most lists rise, as keys do, and often the oldest or the newest clause goes
+// first. So it is sought at both ends, then by halves, and only then at each place.
+fn place_of(slots: &[Slot], first: usize, last: usize, posting: Posting) -> usize
+    requires { IsAmong (standing slots.now) posting }
+    ensures { slice_get slots.now result ≡ Some (filled posting) }
+{
+    if is_at(slots, first, posting) {
+        return first;
+    }
+    if is_at(slots, last, posting) {
+        return last;
+    }
+    let likely = place_if_rising(slots, posting);
+    if is_at(slots, likely, posting) {
         return likely;
     }
-    place_from_ends(postings, posting)
+    place_from_ends(slots, posting)
 }
 
-// The place of a posting in a list that rises. In another one it is some place, or the end. Often
-// the oldest clause goes first, so the first posting is looked at before the middle one.
-fn place_if_rising(postings: &[Posting], posting: Posting) -> usize
-    ensures { result ≤ length postings.now }
+// Whether the posting stands at this place.
+fn is_at(slots: &[Slot], place: usize, posting: Posting) -> bool
+    ensures yes { IsTrue result → slice_get slots.now place ≡ Some (filled posting) }
+    ensures no { IsFalse result → slice_get slots.now place ≡ Some (filled posting) → ⊥ }
 {
+    let Some(slot) = slots.get(place) else {
+        return false;
+    };
+    slot.clause == posting.clause && slot.entry == posting.entry && slot.stands
+}
+
+// The place of a posting among slots that rise. Among others it is some place.
+fn place_if_rising(slots: &[Slot], posting: Posting) -> usize {
     let mut low = 0;
-    let mut high = postings.len();
-    let mut middle = 0;
-    while low < high {
-        let item = postings[middle];
-        if item.clause < posting.clause
-            || item.clause == posting.clause && item.entry < posting.entry
+    let mut count = slots.len();
+    while count > 1 {
+        let half = count / 2;
+        let slot = slots[low + half];
+        if slot.clause < posting.clause
+            || slot.clause == posting.clause && slot.entry <= posting.entry
         {
-            low = middle + 1;
-        } else {
-            high = middle;
+            low += half;
         }
-        middle = low + (high - low) / 2;
+        count -= half;
     }
     low
 }
 
-// A place of a posting, sought from both ends.
-fn place_from_ends(postings: &[Posting], posting: Posting) -> usize
-    requires { IsAmong postings.now posting }
-    ensures { slice_get postings.now result ≡ Some posting }
+// The place of a posting, sought from both ends.
+fn place_from_ends(slots: &[Slot], posting: Posting) -> usize
+    requires { IsAmong (standing slots.now) posting }
+    ensures { slice_get slots.now result ≡ Some (filled posting) }
 {
-    for place in 0..postings.len() {
-        if postings[place] == posting {
+    for place in 0..slots.len() {
+        if is_at(slots, place, posting) {
             return place;
         }
-        let behind = postings.len() - 1 - place;
-        if postings[behind] == posting {
-            return behind;
+        let other = slots.len() - 1 - place;
+        if is_at(slots, other, posting) {
+            return other;
         }
     }
     unreachable!()

@@ -13,6 +13,7 @@ ghost use Rattle.si_tree.specs.Reading.{IsNode, AtNode, split_of, children_of, p
 ghost use Rattle.si_tree.specs.Heads.{IsChildBy};
 
 use crate::node::{Branches, Content, Counts, Head, NodeId, TreeNode};
+use crate::postings::Postings;
 use crate::rights::{beyond_entries, head_at, head_below, next_after};
 use si_flat::{Bindings, Split};
 use si_legal::Posting;
@@ -143,13 +144,13 @@ impl Tree {
     }
 
     /// The postings of a leaf. Another node has none.
-    pub fn postings(&self, node: NodeId) -> &[Posting]
+    pub fn postings(&self, node: NodeId) -> Postings<'_>
         requires { IsNode self.now node }
-        ensures { AtNode self.now node (λ n. result.now ≡ postings_of n.content) }
+        ensures { AtNode self.now node (λ n. result ≡ postings_of n.content) }
     {
         match &self.nodes[node.key].content {
-            Content::Inner(_) => Default::default(),
-            Content::Leaf(postings) => postings.as_slice(),
+            Content::Inner(_) => Postings::none(),
+            Content::Leaf(postings) => postings.all(),
         }
     }
 

@@ -16,8 +16,8 @@ visit-returns-then-not-branch-clause-found t c =
 pub visit-returns-clause-found : goal.visit-returns-clause-found
 visit-returns-clause-found t c =
     let entered = subst (HasEntered c.args.search.now c.args.node c.enter.new.trail.pairs) c.if-not-branch.false c.in_ok-enter.ensures.enters in
-    found_open c.args.search.now c.requires.ready c.args.node c.requires.node.0 c.requires.node.1 c.args.out.now.items c.extend_from_slice.new.self.items c.visit_children.new.out.items c.in_ok-below.below entered.1
-    (postings_appended c.args.search.now c.requires.ready c.args.node c.requires.node.0 c.requires.node.1 c.args.out.now.items c.extend_from_slice.new.self.items c.postings.result.now c.in_ok-extend_from_slice.ensures.items (c.postings.ensures c.requires.node.0 c.requires.node.1))
+    found_open c.args.search.now c.requires.ready c.args.node c.requires.node.0 c.requires.node.1 c.args.out.now.items c.append_to.new.others.items c.visit_children.new.out.items c.in_ok-below.below entered.1
+    (postings_appended c.args.search.now c.requires.ready c.args.node c.requires.node.0 c.requires.node.1 c.args.out.now.items c.append_to.new.others.items c.postings.result c.in_ok-append_to.ensures.ok (c.postings.ensures c.requires.node.0 c.requires.node.1))
     (c.in_ok-below.ensures.found c.requires.node.0 c.requires.node.1)
 
 pub visit-overflow_add-result : goal.visit-overflow_add-result
@@ -27,8 +27,8 @@ visit-overflow_add-result t c =
       arith,
       few_found c.args.search.now c.requires.ready c.args.node c.args.out.now.items c.visit_children.new.out.items (1 + c.in_ok-below.below)
           (
-          found_open c.args.search.now c.requires.ready c.args.node c.requires.node.0 c.requires.node.1 c.args.out.now.items c.extend_from_slice.new.self.items c.visit_children.new.out.items c.in_ok-below.below entered.1
-          (postings_appended c.args.search.now c.requires.ready c.args.node c.requires.node.0 c.requires.node.1 c.args.out.now.items c.extend_from_slice.new.self.items c.postings.result.now c.in_ok-extend_from_slice.ensures.items (c.postings.ensures c.requires.node.0 c.requires.node.1))
+          found_open c.args.search.now c.requires.ready c.args.node c.requires.node.0 c.requires.node.1 c.args.out.now.items c.append_to.new.others.items c.visit_children.new.out.items c.in_ok-below.below entered.1
+          (postings_appended c.args.search.now c.requires.ready c.args.node c.requires.node.0 c.requires.node.1 c.args.out.now.items c.append_to.new.others.items c.postings.result c.in_ok-append_to.ensures.ok (c.postings.ensures c.requires.node.0 c.requires.node.1))
           (c.in_ok-below.ensures.found c.requires.node.0 c.requires.node.1)
           ),
     )

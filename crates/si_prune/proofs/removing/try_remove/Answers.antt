@@ -8,18 +8,18 @@ postings-requires c = leaf_there c.args.tree.now c.drop_posting.new.self c.args.
 
 pub returns-then-not-is_empty-clause-ok : goal.returns-then-not-is_empty-clause-ok
 returns-then-not-is_empty-clause-ok c =
-    removes_one c.args.tree.now c.drop_posting.new.self c.args.leaf c.args.posting c.drop_posting.ensures c.postings.result.now c.postings.ensures
+    removes_one c.args.tree.now c.drop_posting.new.self c.args.leaf c.args.posting c.drop_posting.ensures c.postings.result c.postings.ensures
     (sym c.is_empty.ensures ∙ c.if-not-is_empty.true)
 
 pub joined-requires : goal.joined-requires
 joined-requires c =
-    is_empty c.args.tree.now c.drop_posting.new.self c.args.leaf c.args.posting c.drop_posting.ensures c.postings.result.now c.postings.ensures
+    is_empty c.args.tree.now c.drop_posting.new.self c.args.leaf c.args.posting c.drop_posting.ensures c.postings.result c.postings.ensures
     (sym c.is_empty.ensures ∙ c.if-not-is_empty.false)
 
 pub returns-in_err-joined-clause-err : goal.returns-in_err-joined-clause-err
 returns-in_err-joined-clause-err c =
     on_err _
-    (removes_last c.args.tree.now c.drop_posting.new.self c.args.leaf c.args.posting c.drop_posting.ensures c.postings.result.now c.postings.ensures
+    (removes_last c.args.tree.now c.drop_posting.new.self c.args.leaf c.args.posting c.drop_posting.ensures c.postings.result c.postings.ensures
     (sym c.is_empty.ensures ∙ c.if-not-is_empty.false) c.in_err-joined.ensures.err)
 
 pub returns-clause-ok : goal.returns-clause-ok

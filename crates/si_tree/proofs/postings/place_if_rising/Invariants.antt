@@ -1,8 +1,8 @@
-use Rattle.std.proofs.Common.{◌<◌, ◌≤◌, ◌-◌, length}
+use Rattle.std.proofs.Common.{◌≤◌, ◌+◌, length}
 use Rattle.si_tree.proofs.postings.place_if_rising.Given as goal
 
-abbrev pub invariant-loop-low : goal.invariant-loop-low
-invariant-loop-low l = (l.low ≤ l.middle) × (l.low < l.high → l.middle < l.high) × (l.low ≤ l.high) × (l.high ≤ length l.postings)
+abbrev pub invariant-loop-count : goal.invariant-loop-count
+invariant-loop-count l = l.low + l.count ≤ length l.slots
 
-abbrev pub decreases-loop-low : goal.decreases-loop-low
-decreases-loop-low l = l.high - l.low
+abbrev pub decreases-loop-count : goal.decreases-loop-count
+decreases-loop-count l = l.count

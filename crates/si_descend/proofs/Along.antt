@@ -1,6 +1,5 @@
 -- Terms under all bindings of a path.
 use Rattle.std.proofs.Common.{◌≡◌, ◌⊎◌, inl, inr, ℕ, cond, List, [], ◌∷◌, ◌++◌, Option, refl, ap, sym, ◌∙◌, subst}
-use Rattle.std.specs.List.{AllByRecursion}
 use Rattle.si_defs.specs.Terms as terms
 use Rattle.si_defs.specs.Substitutions.{Substitution, image, apply, IsAmong, AreDistinct}
 use Rattle.si_defs.proofs.ListLaws.{all_at, all_from, among_front, among_back, among_parts}
@@ -9,7 +8,7 @@ use Rattle.si_flat.specs.Rows.{left_sides}
 use Rattle.si_flat.proofs.RowLaws.{distinct_parts}
 use Rattle.si_legal.specs.Bindings.{Binding, indicators, right_indicators, indicator, substitution_of, applied}
 use Rattle.si_legal.specs.Trees.{Node, Tree, HasNode, Path, IsPath, path_term, opened}
-use Rattle.si_legal.specs.Legal.{IsOpenBelow, AreLegalBindings, IsWithin}
+use Rattle.si_legal.specs.Legal.{IsOpenBelow, AreLegalBindings}
 use Rattle.si_legal.specs.Descents.{SolvesBindings, SolvesPath}
 use Rattle.si_legal.proofs.PathLaws.{one_path}
 use Rattle.si_legal.proofs.SplitLaws.{binding_left}

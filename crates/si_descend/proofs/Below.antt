@@ -1,11 +1,11 @@
 -- Which nodes stand below a node: itself, and those below its children, each below one of them.
-use Rattle.std.proofs.Common.{◌≡◌, ◌≢◌, ◌⊎◌, inl, inr, ℕ, zero, suc, ◌+◌, ◌<◌, ◌≤◌, List, [], ◌∷◌, Option, None, Some, length, slice_index_or, refl, ap, sym, ◌∙◌, subst, arith}
+use Rattle.std.proofs.Common.{◌≡◌, ◌⊎◌, inl, inr, ℕ, zero, suc, ◌+◌, ◌≤◌, List, [], ◌∷◌, Option, None, Some, length, slice_index_or, refl, ap, sym, ◌∙◌, subst, arith}
 use Rattle.std.proofs.lemmas.Option.{same_Some}
 use Rattle.si_defs.specs.Substitutions.{IsAmong, AreDistinct}
 use Rattle.si_flat.specs.Cells.{Term}
 use Rattle.si_legal.specs.Counts.{counted, node_count}
 use Rattle.si_legal.specs.Trees.{Node, Tree, HasNode, Path, IsPath, PassesBy}
-use Rattle.si_legal.proofs.PathLaws.{one_node, one_path}
+use Rattle.si_legal.proofs.PathLaws.{one_node}
 use Rattle.si_changes.proofs.OpenLaws.{no_return}
 use Rattle.si_descend.proofs.ExactLists.{no_more}
 

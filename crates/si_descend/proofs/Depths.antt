@@ -1,8 +1,8 @@
 -- How far down a node stands: a child stands one deeper, and no node deeper than there are nodes.
-use Rattle.std.proofs.Common.{◌≡◌, ℕ, zero, suc, ◌+◌, ◌*◌, ◌-◌, ◌<◌, ◌≤◌, [], ◌∷◌, Option, None, Some, length, slice_index_or, refl, ap, sym, ◌∙◌, subst, arith}
+use Rattle.std.proofs.Common.{◌≡◌, ℕ, zero, suc, ◌+◌, ◌*◌, ◌-◌, ◌<◌, ◌≤◌, [], ◌∷◌, Option, None, Some, length, refl, ap, ◌∙◌, subst, arith}
 use Rattle.si_flat.specs.Cells.{Term}
 use Rattle.si_legal.specs.Counts.{node_count}
-use Rattle.si_legal.specs.Trees.{Node, Tree, HasNode, Path, IsPath}
+use Rattle.si_legal.specs.Trees.{Tree, Path, IsPath}
 use Rattle.si_changes.proofs.Frames.{HasLegalNodes}
 use Rattle.si_descend.specs.Searching.{depth_within, one_deeper, depth}
 use Rattle.si_descend.proofs.Below.{IsChildOf, short_path}

@@ -1,25 +1,26 @@
 -- What is known once a node's bindings fit, for each relation.
-use Rattle.std.proofs.Common.{◌≡◌, ◌↔◌, ◌≤◌, ℕ, Bool, true, false, IsTrue, List, length, take, Option, Some, refl, ap, sym, ◌∙◌, subst}
+use Rattle.std.proofs.Common.{◌≡◌, ◌↔◌, ◌≤◌, ℕ, Bool, true, false, IsTrue, List, length, take, Some, is_some, refl, ap, sym, ◌∙◌, subst}
 use Rattle.si_defs.specs.Substitutions.{Substitution, Grows}
 use Rattle.si_defs.specs.declared.Relation.{Relation}
 use Rattle.si_defs.specs.declared.Relation.TheVariants.{Variants, Instances, Generalizations, Unifiable}
-use Rattle.si_flat.specs.Cells.{Symbol, Variable, query, Term, StandsFor}
+use Rattle.si_flat.specs.Cells.{Symbol, Variable, Term, StandsFor}
 use Rattle.si_flat.specs.Rows.{CellPair}
-use Rattle.si_trail.specs.Trails.{HasDistinctSlots}
+use Rattle.si_trail.specs.Trails.{Trail, value_at, HasDistinctSlots}
 use Rattle.si_unify.specs.declared.slots.Slots.{Slots}
-use Rattle.si_unify.specs.Solving.{Pairs, IsSolution}
+use Rattle.si_unify.specs.Solving.{Pairs}
 use Rattle.si_unify.proofs.Reading.{one_term}
 use Rattle.si_unify.proofs.Answering.{front_of}
 use Rattle.si_legal.specs.Bindings.{StandForBindings}
-use Rattle.si_legal.specs.Trees.{Node, Tree, HasNode, Path, IsPath, path_term}
+use Rattle.si_legal.specs.Trees.{Node, HasNode, path_term}
 use Rattle.si_legal.specs.OpenNodes.{RenamesEntry}
 use Rattle.si_changes.proofs.Frames.{legal_nodes}
 use Rattle.si_descend.specs.declared.search.Search.{Search}
 use Rattle.si_descend.specs.Descending.{Freezes, HasRoom, Renames}
 use Rattle.si_fit.specs.Fitting.{AllowsSolving, HasFitted}
-use Rattle.si_descend.specs.Renaming.{FreezesQuery, bound_variables, IsRenaming, IsRenamingFirst}
-use Rattle.si_descend.specs.Searching.{IsReady, KeepsApart, HasComeTo, HasEntered, IsOpenAt, IsClosedAt}
+use Rattle.si_descend.specs.Renaming.{FreezesQuery, bound_variables, IsRenaming, IsRenamingFirst, IsTaken, AreTaken}
+use Rattle.si_descend.specs.Searching.{IsReady, KeepsApart, NotesTaken, HasComeTo, HasEntered}
 use Rattle.si_descend.proofs.Entering.{numbered, entered_shows, entered_open, open_entered}
+use Rattle.si_descend.proofs.RenameLaws.{still_taken}
 use Rattle.si_descend.proofs.VariantLaws.{renaming_open, open_renaming}
 
 untold : false ≡ true → ⊥
@@ -55,6 +56,26 @@ unifiable_differ kind e f = by (sym e ∙ f) where
 pub variants_freeze : (search : Search) → IsReady search → search.kind ≡ Variants → FreezesQuery search.slots
 variants_freeze search ready is = subst (λ k. Freezes k search.slots) is ready.freezes
 
+-- ---- what is taken
+module _ {T : Type 0} where
+  pub plain_notes : (kind : Relation) (slots : Slots) (pairs : Pairs) (taken : Trail T) → (kind ≡ Variants → ⊥) → NotesTaken kind slots pairs taken
+  plain_notes Variants slots pairs taken other = absurd (other refl)
+  plain_notes Instances slots pairs taken other = tt
+  plain_notes Generalizations slots pairs taken other = tt
+  plain_notes Unifiable slots pairs taken other = tt
+
+  variants_note : (kind : Relation) (slots : Slots) (pairs : Pairs) (taken : Trail T) → kind ≡ Variants → NotesTaken kind slots pairs taken → NotesTaken Variants slots pairs taken
+  variants_note kind slots pairs taken is h = subst (λ k. NotesTaken k slots pairs taken) is h
+
+  pub room_taken : (kind : Relation) (slots : Slots) (pairs : Pairs) (taken : Trail T) → kind ≡ Variants → NotesTaken kind slots pairs taken → slots.query ≤ taken.slots
+  room_taken kind slots pairs taken is h = (variants_note kind slots pairs taken is h).1
+
+  pub notes_new : (kind : Relation) (slots : Slots) (pairs : Pairs) (taken : Trail T) → kind ≡ Variants → AreTaken slots pairs (length pairs) taken.pairs → slots.query ≤ taken.slots → NotesTaken kind slots pairs taken
+  notes_new kind slots pairs taken is h room = subst (λ k. NotesTaken k slots pairs taken) (sym is) (h, room)
+
+  pub still_noted : (kind : Relation) (slots : Slots) (old new : Pairs) (taken taken' : Trail T) → new ≡ old → taken' ≡ taken → NotesTaken kind slots old taken → NotesTaken kind slots new taken'
+  still_noted kind slots old new taken taken' e f h = subst (λ t. NotesTaken kind slots new t) (sym f) (subst (λ p. NotesTaken kind slots p taken) (sym e) h)
+
 module _ (search : Search) (ready : IsReady search) (key : ℕ) (node : Node Term) (has : HasNode search.tree.now key node) (rows : List CellPair) (stand : StandForBindings rows node.bindings) (old : Pairs) (above : HasComeTo search node.parent old) (new : Pairs) where
   pub entered_plain : (b : Bool) → HasFitted search.slots old new rows b → b ≡ true → (search.kind ≡ Variants → ⊥) → HasEntered search key new true
   entered_plain b fits is other =
@@ -73,6 +94,12 @@ module _ (search : Search) (ready : IsReady search) (key : ℕ) (node : Node Ter
       let fitted : HasFitted search.slots old new rows true = subst (HasFitted search.slots old new rows) is fits in
       let apart : IsRenaming search.slots old = subst (λ k. KeepsApart k search.slots old) variants above.apart in
       subst (λ l. RenamesEntry (bound_variables search.slots l) s) (sym (front_of old new grows) ∙ ap (λ n. take n new) (sym e)) (apart s ((fitted.1 s).0 h).0)
+
+  pub known_taken : {T : Type 0} (known : ℕ) (b : Bool) (taken : Trail T) → HasFitted search.slots old new rows b → b ≡ true → search.kind ≡ Variants → known ≡ length old → Grows old new → NotesTaken search.kind search.slots old taken → AreTaken search.slots new known taken.pairs
+  known_taken known b taken fits is variants e grows noted k =
+      let fitted : HasFitted search.slots old new rows true = subst (HasFitted search.slots old new rows) is fits in
+      subst (λ n. IsTaken search.slots new n k (is_some (value_at taken.pairs k))) (sym e)
+      (still_taken search.slots old new grows (λ s h. ((fitted.1 s).0 h).0) k (is_some (value_at taken.pairs k)) ((variants_note search.kind search.slots old taken variants noted).0 k))
 
   module _ (variants : search.kind ≡ Variants) (count : ℕ) (solving : AllowsSolving search.slots new count) (distinct : HasDistinctSlots new) where
     room : (q : Term) → StandsFor search.query.now q → HasRoom search.slots search.tree.now q

@@ -1,10 +1,9 @@
 -- What the trail shows once the bindings of a node fit, and that the node is closed where they
 -- don't.
-use Rattle.std.proofs.Common.{◌≡◌, ◌↔◌, ◌<◌, ℕ, Bool, true, false, List, [], ◌∷◌, ◌++◌, Option, None, Some, refl, ap, sym, ◌∙◌, subst}
+use Rattle.std.proofs.Common.{◌≡◌, ◌↔◌, ◌<◌, ℕ, true, false, List, [], ◌∷◌, Some, refl, ap, sym, ◌∙◌, subst}
 use Rattle.std.specs.List.{AllByRecursion}
 use Rattle.si_defs.specs.Terms as terms
 use Rattle.si_defs.specs.Substitutions.{Substitution, image, apply}
-use Rattle.si_defs.specs.declared.Relation.{Relation}
 use Rattle.si_defs.proofs.ListLaws.{all_front, all_back, all_append}
 use Rattle.si_flat.specs.declared.Cell.{Cell}
 use Rattle.si_flat.specs.declared.Cell.TheVariants as cell
@@ -15,14 +14,14 @@ use Rattle.si_unify.specs.declared.slots.Slots.{Slots}
 use Rattle.si_unify.specs.Solving.{Pairs, IsInRange, CellIsInRange, AreInRange, Equalizes, IsSolution}
 use Rattle.si_unify.proofs.Reading.{one_term}
 use Rattle.si_legal.specs.Bindings.{Binding, indicator, StandForBindings}
-use Rattle.si_legal.specs.Trees.{Node, Tree, HasNode, Path, IsPath, path_term}
+use Rattle.si_legal.specs.Trees.{Node, HasNode, Path, IsPath, path_term}
 use Rattle.si_legal.specs.Descents.{SolvesBindings}
 use Rattle.si_legal.specs.OpenNodes.{IsOpen}
 use Rattle.si_changes.proofs.Frames.{legal_nodes}
 use Rattle.si_changes.proofs.StoredLaws.{path_start}
 use Rattle.si_descend.specs.declared.search.Search.{Search}
-use Rattle.si_descend.specs.Descending.{HasRoom, SolvesFrom, ShowsPath, Renames}
-use Rattle.si_fit.specs.Fitting.{AreRowsInRange, EqualizesRows, HasFitted, HasSolution}
+use Rattle.si_descend.specs.Descending.{ShowsPath, Renames}
+use Rattle.si_fit.specs.Fitting.{AreRowsInRange, EqualizesRows, HasFitted}
 use Rattle.si_descend.specs.Searching.{IsReady, HasComeTo, IsOpenAt, IsClosedAt}
 use Rattle.si_descend.proofs.Openness.{open_solved, solved_open}
 

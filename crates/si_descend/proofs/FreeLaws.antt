@@ -1,19 +1,17 @@
 -- A variable that isn't bound can be anything: some solution makes it this constant.
-use Rattle.std.proofs.Common.{◌≡◌, ◌≢◌, ◌⊎◌, inl, inr, ℕ, ◌+◌, ◌<◌, ◌≤◌, zero, suc, Bool, true, false, List, [], ◌∷◌, ◌++◌, map, take, length, slice_get, get_or, refl, sym, ◌∙◌, ap, subst, arith, Option, None, Some}
+use Rattle.std.proofs.Common.{◌≡◌, ◌≢◌, inl, inr, ℕ, ◌+◌, ◌<◌, false, cond, List, [], ◌∷◌, ◌++◌, refl, sym, ◌∙◌, ap, subst, arith, None, Some}
 use Rattle.std.proofs.lemmas.Bool.Decides.{eqb_tells}
-use Rattle.std.proofs.lemmas.Option.{same_Some}
 use Rattle.std.specs.List.{AllByRecursion}
 use Rattle.std.specs.Borrow.{Bor}
-use Rattle.std.specs.Prelude.{◌==◌, nat_lt}
+use Rattle.std.specs.Prelude.{◌==◌}
 use Rattle.si_defs.specs.Terms as terms
-use Rattle.si_defs.specs.Substitutions.{Substitution, image, apply, IsAmong}
+use Rattle.si_defs.specs.Substitutions.{Substitution, image}
 use Rattle.si_defs.proofs.ListLaws.{all_append, all_front, all_back}
 use Rattle.si_flat.specs.declared.Cell.{Cell}
-use Rattle.si_flat.specs.declared.Cell.TheVariants as cell
-use Rattle.si_flat.specs.Cells.{Symbol, Variable, query, entry, ind, same_variable, Term, Terms, variable_cell, cells_of, cells_of_all, StandsFor}
+use Rattle.si_flat.specs.Cells.{Symbol, Variable, query, entry, ind, same_variable, Term, variable_cell, cells_of}
 use Rattle.si_trail.specs.Trails.{value_at, HasDistinctSlots}
 use Rattle.si_unify.specs.declared.slots.Slots.{Slots}
-use Rattle.si_unify.specs.Solving.{Pairs, slot_count, slot_of, variable_of, is_frozen, IsInRange, CellIsInRange, Equalizes, IsSolvedBy, IsBinding, RanksBelow, IsTriangularBy, IsAcyclic, IsSolution}
+use Rattle.si_unify.specs.Solving.{Pairs, slot_count, slot_of, variable_of, is_frozen, IsInRange, Equalizes, IsBinding, RanksBelow, IsAcyclic, IsSolution}
 use Rattle.si_unify.proofs.Lists.{apart_from}
 use Rattle.si_unify.proofs.Places.{variable_of-slot_of}
 use Rattle.si_unify.proofs.Solutions.{lt_tells, solved_of_triangular}
@@ -41,20 +39,25 @@ slot_below slots (entry n) h = omega (arith, h)
 slot_below slots (ind n) h = omega (arith, h)
 
 -- ---- one binding more
-distinct_more : (pairs : Pairs) (slot : ℕ) (v : Bor (List Cell)) → HasDistinctSlots pairs → value_at pairs slot ≡ None → HasDistinctSlots (pairs ++ (slot, v) ∷ [])
-distinct_more pairs slot v d unbound = by pairs d (apart_from pairs slot unbound) where
-  still : (pairs : Pairs) (k : ℕ) → value_at pairs k ≡ None → k ≢ slot → value_at (pairs ++ (slot, v) ∷ []) k ≡ None
-  still [] k e apart = elim (eqb_tells slot k) [ inl h ↦ absurd (apart (sym h.1)) | inr h ↦ rw h.0 refl ]
-  still (p ∷ pairs) k e apart = elim (eqb_tells p.0 k) [
-    | inl h ↦ let bad : Some p.1 ≡ None = rw h.0 at e in absurd (no bad)
-    | inr h ↦ rw h.0 (still pairs k (rw h.0 at e) apart)
+module _ {T : Type 0} where
+  pub value_at-last : (pairs : List (ℕ × T)) (slot : ℕ) (v : T) → value_at pairs slot ≡ None → value_at (pairs ++ (slot, v) ∷ []) slot ≡ Some v
+  value_at-last [] slot v unbound = elim (eqb_tells slot slot) [ inl h ↦ rw h.0 refl | inr h ↦ absurd (h.1 refl) ]
+  value_at-last (p ∷ pairs) slot v unbound = elim (eqb_tells p.0 slot) [
+    | inl h ↦ let bad : Some p.1 ≡ None = rw h.0 at unbound in absurd (no bad)
+    | inr h ↦ rw h.0 (value_at-last pairs slot v (rw h.0 at unbound))
   ] where
     no : Some p.1 ≡ None → ⊥
     no b = cc
 
+  pub value_at-others : (pairs : List (ℕ × T)) (slot k : ℕ) (v : T) → k ≢ slot → value_at (pairs ++ (slot, v) ∷ []) k ≡ value_at pairs k
+  value_at-others [] slot k v apart = elim (eqb_tells slot k) [ inl h ↦ absurd (apart (sym h.1)) | inr h ↦ rw h.0 refl ]
+  value_at-others (p ∷ pairs) slot k v apart = ap (λ o. cond (p.0 == k) (Some p.1) o) (value_at-others pairs slot k v apart)
+
+distinct_more : (pairs : Pairs) (slot : ℕ) (v : Bor (List Cell)) → HasDistinctSlots pairs → value_at pairs slot ≡ None → HasDistinctSlots (pairs ++ (slot, v) ∷ [])
+distinct_more pairs slot v d unbound = by pairs d (apart_from pairs slot unbound) where
   by : (pairs : Pairs) → HasDistinctSlots pairs → AllByRecursion (λ pair. pair.0 ≢ slot) pairs → HasDistinctSlots (pairs ++ (slot, v) ∷ [])
   by [] d apart = (refl, tt)
-  by (p ∷ pairs) d apart = (still pairs p.0 d.0 apart.0, by pairs d.1 apart.1)
+  by (p ∷ pairs) d apart = (value_at-others pairs slot p.0 v apart.0 ∙ d.0, by pairs d.1 apart.1)
 
 -- a constant with this number
 abbrev pub constant : ℕ → Term

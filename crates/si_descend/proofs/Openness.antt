@@ -1,9 +1,9 @@
 -- A node is open where some map solves the bindings of its path, with 0 for the query.
-use Rattle.std.proofs.Common.{◌≡◌, ◌↔◌, ◌⊎◌, inl, inr, ℕ, zero, suc, Bool, true, false, List, [], ◌∷◌, ◌++◌, Option, map, refl, ap, sym, ◌∙◌, subst}
+use Rattle.std.proofs.Common.{◌≡◌, ◌⊎◌, inl, inr, ℕ, zero, suc, Bool, true, false, List, [], ◌∷◌, ◌++◌, Option, map, refl, ap, sym, ◌∙◌, subst}
 use Rattle.std.specs.List.{AllByRecursion}
 use Rattle.si_defs.specs.Terms as terms
 use Rattle.si_defs.specs.Substitutions.{Substitution, image, apply, lefts, IsAmong, IsOn}
-use Rattle.si_defs.specs.Relations.{Matches, IsInstance}
+use Rattle.si_defs.specs.Relations.{Matches}
 use Rattle.si_defs.specs.declared.Relation.{Relation}
 use Rattle.si_defs.specs.declared.Relation.TheVariants.{Variants, Instances, Generalizations, Unifiable}
 use Rattle.si_defs.proofs.ListLaws.{all_at, among_front, among_back, among_parts}
@@ -13,10 +13,10 @@ use Rattle.si_flat.proofs.VariableLaws.{variable_is}
 use Rattle.si_flat.proofs.FirstPlaces.{among_firsts}
 use Rattle.si_unify.specs.declared.slots.Slots.{Slots}
 use Rattle.si_unify.specs.Solving.{is_frozen}
-use Rattle.si_legal.specs.Bindings.{Binding, indicators, indicator, substitution_of, applied}
-use Rattle.si_legal.specs.Trees.{Node, Tree, HasNode, Path, IsPath, path_term}
+use Rattle.si_legal.specs.Bindings.{Binding, indicators, substitution_of, applied}
+use Rattle.si_legal.specs.Trees.{Node, Tree, Path, IsPath, path_term}
 use Rattle.si_legal.specs.Legal.{IsWithin}
-use Rattle.si_legal.specs.OpenNodes.{IsOpen, RenamesEntry}
+use Rattle.si_legal.specs.OpenNodes.{IsOpen}
 use Rattle.si_changes.proofs.Frames.{HasLegalNodes}
 use Rattle.si_changes.proofs.HeadLaws.{image_keeps}
 use Rattle.si_changes.proofs.Permuted.{among_or_not}

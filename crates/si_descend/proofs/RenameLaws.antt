@@ -1,11 +1,11 @@
 -- What becomes of the variables of an entry, binding by binding.
-use Rattle.std.proofs.Common.{◌≡◌, ◌↔◌, ◌⊎◌, inl, inr, ℕ, ◌+◌, ◌-◌, ◌<◌, ◌≤◌, zero, suc, Bool, true, false, not, IsTrue, List, [], ◌∷◌, map, take, length, slice_get, get_or, refl, sym, ◌∙◌, ap, subst, arith, None, Some}
+use Rattle.std.proofs.Common.{◌≡◌, ◌≢◌, ◌↔◌, ◌⊎◌, inl, inr, ℕ, ◌+◌, ◌-◌, ◌<◌, ◌≤◌, zero, suc, Bool, true, false, IsTrue, List, [], ◌∷◌, ◌++◌, map, take, length, slice_get, get_or, refl, sym, ◌∙◌, ap, subst, arith, append-nil, Option, None, Some, is_some, is_none}
 use Rattle.std.proofs.lemmas.Bool.Decides.{eqb_tells}
-use Rattle.std.proofs.lemmas.Option.{same_Some}
+use Rattle.std.proofs.lemmas.Option.{same_Some, slice_get-get_or}
 use Rattle.std.specs.Borrow.{Bor}
 use Rattle.si_defs.specs.Terms as terms
-use Rattle.si_defs.specs.Substitutions.{Substitution, image, apply, IsAmong}
-use Rattle.si_defs.proofs.ListLaws.{all_got}
+use Rattle.si_defs.specs.Substitutions.{Substitution, image, apply, Grows, IsAmong}
+use Rattle.si_defs.proofs.ListLaws.{all_got, get_front}
 use Rattle.si_flat.specs.declared.Cell.{Cell}
 use Rattle.si_flat.specs.declared.Cell.TheVariants as cell
 use Rattle.si_flat.specs.Cells.{Symbol, Variable, query, entry, ind, same_variable, Term}
@@ -17,13 +17,12 @@ use Rattle.si_unify.proofs.Lists.{apart_from}
 use Rattle.si_unify.proofs.Places.{whole_at, first_cell, cell-at, inside, in_range-at}
 use Rattle.si_unify.proofs.Solutions.{lt_tells}
 use Rattle.si_legal.specs.OpenNodes.{RenamesEntry}
-use Rattle.si_descend.specs.declared.variants.Became.{Became}
 use Rattle.si_descend.specs.declared.variants.Became.TheVariants.{NoEntry, Variable as Same, Term as Other}
 use Rattle.si_fit.specs.Ends.{EndsAt}
 use Rattle.si_fit.specs.Fitting.{AllowsSolving}
-use Rattle.si_descend.specs.Renaming.{FreezesQuery, bound_variables, IsRenamingFirst, IsRenaming, BindsEntry, HasBecome, IsTaken}
+use Rattle.si_descend.specs.Renaming.{FreezesQuery, bound_variables, IsRenamingFirst, IsRenaming, BindsEntry, HasBecome, IsTaken, AreTaken, Takes}
 use Rattle.si_fit.proofs.EndLaws.{no_cell, value_same}
-use Rattle.si_descend.proofs.FreeLaws.{is_free, some_solution}
+use Rattle.si_descend.proofs.FreeLaws.{value_at-last, value_at-others, is_free, some_solution}
 
 take_whole : {X : Type 0} (xs : List X) (n : ℕ) → length xs ≤ n → take n xs ≡ xs
 take_whole [] zero h = refl
@@ -160,6 +159,9 @@ module _ (slots : Slots) (pairs : Pairs) (count : ℕ) (frozen : FreezesQuery sl
         value_same slots pairs (entry (slot - slots.query)) v ends.first inside_entry (ap (value_at pairs) slot_is ∙ sym bound) ends.first_stands (image same_variable s) is
         ∙ ends.same (image same_variable s) is
 
+    pub query_range : (k : ℕ) → get_or end 0 no_cell ≡ cell.Query k → k < slots.query
+    query_range k e = subst (CellIsInRange slots) e head_range
+
     pub became_query : (k : ℕ) → get_or end 0 no_cell ≡ cell.Query k → HasBecome slots pairs n (Same k)
     became_query k e = (m, binds, λ s is. becomes s is ∙ ap (apply same_variable s) (last_is ends.last (sym head_is ∙ e)) ∙ is.frozen (query k) frozen.0) where
       last_is : (t : Term) → first_cell t ≡ cell.Query k → t ≡ terms.var (query k)
@@ -269,27 +271,63 @@ module _ (slots : Slots) (pairs : Pairs) (count : ℕ) (frozen : FreezesQuery sl
         let same : m ≡ l = (from_list (n + 1) s.0 (h s.0 s.1)).apart j n m l (omega (arith, less)) (omega arith) b own (is_too s.0 s.1 ∙ sym (is_query s.0 s.1)) in
         omega (arith, less, one_number j n l (subst (BindsEntry slots pairs j) same b) own)
 
-    pub told_apart : (k : ℕ) (taken : Bool) → HasBecome slots pairs n (Same k) → IsTaken slots pairs n k taken → IsTrue (not taken) ↔ IsRenamingFirst slots pairs (n + 1)
-    told_apart k true b t = (λ e. absurd (no e), λ h. absurd (never_taken k b t h)) where
-      no : false ≡ true → ⊥
-      no e = cc
-    told_apart k false b t = (λ e. more_apart k b t, λ h. refl)
+    -- ---- what is taken then
+    more_unless : (b : Bool) (k : ℕ) → ((m : ℕ) → BindsEntry slots pairs n m → (s : Substitution Symbol Variable) → IsSolution slots pairs s → image same_variable s (entry m) ≡ terms.var (query k) → ⊥) → IsTaken slots pairs n k b → IsTaken slots pairs (n + 1) k b
+    more_unless true k other (j, less, became) = (j, omega (arith, less), became)
+    more_unless false k other apart = λ j l less b s is e. elim (last_or n j less) as (λ _. ⊥) [
+      | inl h ↦ apart j l h b s is e
+      | inr g ↦ other l (subst (λ i. BindsEntry slots pairs i l) g b) s is e
+    ]
 
-  -- ---- the search for a variable
-  module _ (end : ℕ) (known : IsRenamingFirst slots pairs end) (k : ℕ) where
-    pub taken_more : (n : ℕ) (b : Became) → n < end → IsTaken slots pairs n k false → HasBecome slots pairs n b → (b ≡ Same k → ⊥) → IsTaken slots pairs (n + 1) k false
-    taken_more n b less before has other j m small binds s is e = elim (last_or n j small) as (λ _. ⊥) [
-      | inl h ↦ before j m h binds s is e
-      | inr h ↦ by b has other (subst (λ i. BindsEntry slots pairs i m) h binds)
-    ] where
-      by : (b : Became) → HasBecome slots pairs n b → (b ≡ Same k → ⊥) → BindsEntry slots pairs n m → ⊥
-      by NoEntry has other binds = has m binds
-      by (Same i) (l, own, is_query) other binds = other (ap Same (same_query i k (sym (is_query s is) ∙ ap (λ a. image same_variable s (entry a)) (one_entry n l m own binds) ∙ e)))
-      by Other (l, own, (r, is_r, never)) other binds = let y = (from_list end r (known r is_r)).renames n l less own in never y.0 y.1
+    module _ {T : Type 0} where
+      pub told_apart : (k : ℕ) (taken : List (ℕ × T)) (free : Bool) → HasBecome slots pairs n (Same k) → AreTaken slots pairs n taken → free ≡ is_none (value_at taken k) → IsTrue free ↔ IsRenamingFirst slots pairs (n + 1)
+      told_apart k taken free b t e = by (value_at taken k) (t k) e where
+        no : false ≡ true → ⊥
+        no p = cc
+
+        by : (o : Option T) → IsTaken slots pairs n k (is_some o) → free ≡ is_none o → IsTrue free ↔ IsRenamingFirst slots pairs (n + 1)
+        by None apart is = (λ p. more_apart k b apart, λ h. is)
+        by (Some x) there is = (λ p. absurd (no (sym is ∙ p)), λ h. absurd (never_taken k b there h))
+
+      pub none_more_taken : (taken : List (ℕ × T)) → HasBecome slots pairs n NoEntry → AreTaken slots pairs n taken → AreTaken slots pairs (n + 1) taken
+      none_more_taken taken none t k = more_unless (is_some (value_at taken k)) k (λ m b s is e. none m b) (t k)
+
+      pub one_more_taken : (q : ℕ) (old new : List (ℕ × T)) (free : Bool) → HasBecome slots pairs n (Same q) → AreTaken slots pairs n old → free ≡ is_none (value_at old q) → Takes old q new free → IsTrue free → AreTaken slots pairs (n + 1) new
+      one_more_taken q old new true became t free (x, new_is) told k =
+          subst (λ l. IsTaken slots pairs (n + 1) k (is_some (value_at l k))) (sym new_is)
+          (elim (eqb_tells k q) as (λ _. IsTaken slots pairs (n + 1) k (is_some (value_at (old ++ (q, x) ∷ []) k))) [ inl e ↦ here e.1 | inr d ↦ else d.1 ])
+        where
+          unbound : (o : Option T) → true ≡ is_none o → o ≡ None
+          unbound None e = refl
+          unbound (Some y) e = absurd (no e) where
+            no : true ≡ false → ⊥
+            no p = cc
+
+          here : k ≡ q → IsTaken slots pairs (n + 1) k (is_some (value_at (old ++ (q, x) ∷ []) k))
+          here e =
+              subst (λ i. IsTaken slots pairs (n + 1) i (is_some (value_at (old ++ (q, x) ∷ []) i))) (sym e)
+              (subst (λ o. IsTaken slots pairs (n + 1) q (is_some o)) (sym (value_at-last old q x (unbound (value_at old q) free))) (n, omega arith, became))
+
+          other : k ≢ q → (m : ℕ) → BindsEntry slots pairs n m → (s : Substitution Symbol Variable) → IsSolution slots pairs s → image same_variable s (entry m) ≡ terms.var (query k) → ⊥
+          other d l b s is e = d (sym (same_query q k (sym (became.2 s is) ∙ ap (λ i. image same_variable s (entry i)) (one_entry n became.0 l became.1 b) ∙ e)))
+
+          else : k ≢ q → IsTaken slots pairs (n + 1) k (is_some (value_at (old ++ (q, x) ∷ []) k))
+          else d =
+              subst (λ o. IsTaken slots pairs (n + 1) k (is_some o)) (sym (value_at-others old q k x d))
+              (more_unless (is_some (value_at old k)) k (other d) (t k))
+      one_more_taken q old new false became t free takes told k = absurd (no told) where
+        no : false ≡ true → ⊥
+        no p = cc
 
   -- ---- all of them
   pub all_renamed : (n : ℕ) → length pairs ≤ n → IsRenamingFirst slots pairs n → IsRenaming slots pairs
   all_renamed n long h s is = subst (λ l. RenamesEntry (bound_variables slots l) s) (take_whole pairs n long) (h s is)
+
+  pub all_taken : {T : Type 0} (n : ℕ) (taken : List (ℕ × T)) → length pairs ≤ n → AreTaken slots pairs n taken → AreTaken slots pairs (length pairs) taken
+  all_taken n taken long t k = by (is_some (value_at taken k)) (t k) where
+    by : (b : Bool) → IsTaken slots pairs n k b → IsTaken slots pairs (length pairs) k b
+    by true (j, less, (l, b, is)) = (j, got_within pairs j (b.slot, b.is_slot.0) b.is_slot.1, (l, b, is))
+    by false apart = λ j l less b s is e. apart j l (omega (arith, less, long)) b s is e
 
   pub first_renamed : (n : ℕ) → IsRenaming slots pairs → IsRenamingFirst slots pairs n
   first_renamed n h s is =
@@ -298,6 +336,27 @@ module _ (slots : Slots) (pairs : Pairs) (count : ℕ) (frozen : FreezesQuery sl
         renames = λ j m less b. all.renames j m (got_within pairs j (b.slot, b.is_slot.0) b.is_slot.1) b;
         apart = λ i j k m less less' a b. all.apart i j k m (got_within pairs i (a.slot, a.is_slot.0) a.is_slot.1) (got_within pairs j (b.slot, b.is_slot.0) b.is_slot.1) a b;
       })
+
+-- ---- what is taken
+pub takes_grows : {T : Type 0} (old : List (ℕ × T)) (k : ℕ) (new : List (ℕ × T)) (b : Bool) → Takes old k new b → Grows old new
+takes_grows old k new true (x, e) = ((k, x) ∷ [], e)
+takes_grows old k new false e = ([], e ∙ sym (append-nil old))
+
+-- it stays so with more bindings
+pub still_taken : (slots : Slots) (old new : Pairs) → Grows old new → ((s : Substitution Symbol Variable) → IsSolution slots new s → IsSolution slots old s) → (k : ℕ) (b : Bool) → IsTaken slots old (length old) k b → IsTaken slots new (length old) k b
+still_taken slots old new grows solved k true (n, less, (l, bound, is)) = (n, less, (l, bound_still, λ s h. is s (solved s h))) where
+  bound_still : BindsEntry slots new n l
+  bound_still = record {
+    slot = bound.slot;
+    is_slot = (bound.is_slot.0, subst (λ xs. slice_get xs n ≡ Some (bound.slot, bound.is_slot.0)) (sym grows.1) (get_front old grows.0 n (bound.slot, bound.is_slot.0) bound.is_slot.1));
+    variable = bound.variable;
+  }
+still_taken slots old new grows solved k false apart = λ n l less b s is e. apart n l less (bound_before n l less b) s (solved s is) e where
+  bound_before : (n l : ℕ) → n < length old → BindsEntry slots new n l → BindsEntry slots old n l
+  bound_before n l less b =
+      let got : slice_get old n ≡ Some (get_or old n (b.slot, b.is_slot.0)) = slice_get-get_or old n (b.slot, b.is_slot.0) less in
+      let front : slice_get new n ≡ Some (get_or old n (b.slot, b.is_slot.0)) = subst (λ xs. slice_get xs n ≡ Some (get_or old n (b.slot, b.is_slot.0))) (sym grows.1) (get_front old grows.0 n (get_or old n (b.slot, b.is_slot.0)) got) in
+      record { slot = b.slot; is_slot = (b.is_slot.0, got ∙ sym front ∙ b.is_slot.1); variable = b.variable }
 
 -- ---- answers
 pub never : {P : Type 0} → (P → ⊥) → IsTrue false ↔ P

@@ -1,13 +1,11 @@
 -- A descent from the root, where only indicator 0 is bound.
-use Rattle.std.proofs.Common.{◌≡◌, ◌↔◌, ◌⊎◌, inl, inr, ℕ, ◌+◌, ◌<◌, ◌≤◌, zero, suc, Bool, true, false, cond, not, List, [], ◌∷◌, ◌++◌, filter, length, get_or, Option, None, Some, refl, ap, sym, ◌∙◌, subst, arith}
+use Rattle.std.proofs.Common.{◌≡◌, ◌↔◌, inl, inr, ℕ, ◌+◌, ◌<◌, ◌≤◌, zero, suc, Bool, true, false, cond, not, List, [], ◌∷◌, ◌++◌, filter, length, get_or, Option, None, Some, refl, ap, sym, ◌∙◌, subst, arith}
 use Rattle.std.proofs.lemmas.List.{length-append}
 use Rattle.std.specs.List.{AllByRecursion}
 use Rattle.std.specs.Borrow.{Bor}
 use Rattle.si_defs.specs.Terms as terms
 use Rattle.si_defs.specs.Substitutions.{Substitution, image, apply, IsAmong}
-use Rattle.si_defs.specs.Relations.{Relates}
 use Rattle.si_defs.specs.declared.Relation.{Relation}
-use Rattle.si_defs.specs.declared.Relation.TheVariants.{Variants, Instances, Generalizations, Unifiable}
 use Rattle.si_defs.proofs.ListLaws.{all_at, all_from, all_weaker, all_append, among_front, among_back}
 use Rattle.si_flat.specs.declared.Cell.{Cell}
 use Rattle.si_flat.specs.declared.Cell.TheVariants as cell
@@ -18,25 +16,23 @@ use Rattle.si_flat.proofs.Subterms.{length-cells_of}
 use Rattle.si_flat.proofs.VariableLaws.{variable_is}
 use Rattle.si_flat.proofs.FirstPlaces.{among_firsts}
 use Rattle.si_unify.specs.declared.slots.Slots.{Slots}
-use Rattle.si_unify.specs.Solving.{Pairs, slot_count, slot_of, variable_of, is_frozen, IsInRange, CellIsInRange, AreInRange, Equalizes, IsBinding, RanksBelow, IsAcyclic, IsSolution}
+use Rattle.si_unify.specs.Solving.{Pairs, slot_count, slot_of, variable_of, is_frozen, IsInRange, AreInRange, Equalizes, IsBinding, RanksBelow}
 use Rattle.si_unify.proofs.Places.{variable_of-slot_of, first_cell, cell-at, whole_at}
 use Rattle.si_unify.proofs.Reading.{one_term}
 use Rattle.si_legal.specs.declared.Posting.{Posting}
-use Rattle.si_legal.specs.Bindings.{Binding, indicator}
-use Rattle.si_legal.specs.Trees.{Node, Tree, HasNode, Path, IsPath, PassesBy, path_term}
+use Rattle.si_legal.specs.Bindings.{indicator}
+use Rattle.si_legal.specs.Trees.{Node, Tree, HasNode, Path, IsPath, PassesBy}
 use Rattle.si_legal.specs.Legal.{IsLegal, IsWithin, IsOpenBelow}
 use Rattle.si_legal.specs.Descents.{IsAnswer}
-use Rattle.si_legal.specs.Engines.{AppendsAnswers}
 use Rattle.si_legal.proofs.PathLaws.{one_node}
 use Rattle.si_legal.proofs.SplitLaws.{binding_left}
 use Rattle.si_changes.proofs.Frames.{legal_nodes}
 use Rattle.si_changes.proofs.OpenLaws.{open_opened, opened_low}
 use Rattle.si_descend.specs.Answers.{Finds, Retrieves, IsStoredAnswer}
-use Rattle.si_descend.specs.Descending.{Freezes, HasRoom, HasRoomFor, LeavesFrozen, SolvesFrom, ShowsPath, IsQuery, ShowsAbove}
+use Rattle.si_descend.specs.Descending.{HasRoomFor, ShowsPath, IsQuery, ShowsAbove}
 use Rattle.si_fit.specs.Fitting.{AllowsSolving}
 use Rattle.si_descend.proofs.Along.{is_step}
 use Rattle.si_descend.proofs.Entering.{one_row, term_in_range}
-use Rattle.si_descend.proofs.ExactLists.{AreExactly, exactly_same}
 use Rattle.si_descend.proofs.Openness.{of_kind}
 
 -- ---- the variables of a query are fewer than its cells

@@ -1,20 +1,20 @@
 -- Where a search begins: what is known above, and that all is closed where that isn't open.
-use Rattle.std.proofs.Common.{◌≡◌, ◌↔◌, ◌<◌, ◌^◌, ℕ, Bool, true, false, IsTrue, List, [], ◌∷◌, Option, None, Some, refl, ap, sym, ◌∙◌, subst, arith}
+use Rattle.std.proofs.Common.{◌≡◌, ℕ, List, ◌∷◌, Some, refl, sym, subst}
 use Rattle.si_defs.specs.declared.Relation.{Relation}
 use Rattle.si_defs.specs.declared.Relation.TheVariants.{Variants, Instances, Generalizations, Unifiable}
 use Rattle.si_flat.specs.declared.Cell.{Cell}
-use Rattle.si_flat.specs.Cells.{entry, query, Term, StandsFor}
+use Rattle.si_flat.specs.Cells.{query, Term, StandsFor}
 use Rattle.si_flat.specs.Flattened.{IsNumberedBy}
 use Rattle.si_trail.specs.Trails.{HasDistinctSlots}
 use Rattle.si_unify.specs.declared.slots.Slots.{Slots}
 use Rattle.si_unify.specs.Solving.{Pairs}
 use Rattle.si_unify.proofs.Reading.{one_term}
-use Rattle.si_legal.specs.Trees.{Node, Tree, HasNode, Path, IsPath, path_term}
+use Rattle.si_legal.specs.Trees.{Node, Tree, HasNode, IsPath, path_term}
 use Rattle.si_legal.specs.OpenNodes.{IsOpen}
 use Rattle.si_changes.proofs.Frames.{legal_nodes}
 use Rattle.si_changes.proofs.StoredLaws.{path_start}
 use Rattle.si_descend.specs.declared.search.Search.{Search}
-use Rattle.si_descend.specs.Descending.{HasRoom, SolvesFrom, Renames, ShowsAbove}
+use Rattle.si_descend.specs.Descending.{HasRoom, Renames, ShowsAbove}
 use Rattle.si_fit.specs.Fitting.{AllowsSolving}
 use Rattle.si_descend.specs.Renaming.{IsRenaming}
 use Rattle.si_descend.specs.Searching.{IsReady, KeepsApart, HasComeTo, IsClosedAt}

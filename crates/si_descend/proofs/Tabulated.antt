@@ -1,7 +1,6 @@
 -- A map of finitely many variables, made of a function.
 use Rattle.std.proofs.Common.{◌≡◌, ◌⊎◌, inl, inr, Bool, true, false, cond, List, [], ◌∷◌, map, refl, ap, sym, ◌∙◌, subst}
 use Rattle.std.proofs.lemmas.Bool.{false≢true}
-use Rattle.std.specs.List.{AllByRecursion}
 use Rattle.si_defs.specs.Terms as terms
 use Rattle.si_defs.specs.Substitutions.{Substitution, image, apply, lefts, IsAmong, IsOn}
 use Rattle.si_defs.proofs.ListLaws.{all_from, among_front, among_back}

@@ -1,30 +1,29 @@
 -- Where the query is a constant, the variables of an entry in an open node's term are just those
 -- that the trail binds, and all solutions agree on them.
-use Rattle.std.proofs.Common.{◌≡◌, ◌↔◌, ◌⊎◌, inl, inr, ℕ, ◌+◌, ◌<◌, ◌≤◌, zero, suc, Bool, true, false, cond, IsTrue, List, [], ◌∷◌, ◌++◌, map, take, length, slice_get, refl, sym, ◌∙◌, ap, subst, arith, Option, None, Some}
-use Rattle.std.proofs.lemmas.Option.{same_Some}
+use Rattle.std.proofs.Common.{◌≡◌, ◌⊎◌, inl, inr, ℕ, true, false, cond, List, [], ◌∷◌, refl, sym, ◌∙◌, ap, subst, arith, Option, None, Some}
 use Rattle.std.specs.List.{AllByRecursion}
 use Rattle.std.specs.Borrow.{Bor}
 use Rattle.si_defs.specs.Terms as terms
 use Rattle.si_defs.specs.Substitutions.{Substitution, image, apply, IsAmong}
-use Rattle.si_defs.proofs.ListLaws.{all_at, all_from, all_front, all_back, all_got, among_front, among_back, among_parts}
+use Rattle.si_defs.proofs.ListLaws.{all_at, all_from, all_front, all_back, among_parts}
 use Rattle.si_defs.proofs.TermLaws.{same_app, same_more}
 use Rattle.si_flat.specs.declared.Cell.{Cell}
-use Rattle.si_flat.specs.Cells.{Symbol, Variable, query, entry, ind, same_variable, Term, Terms, variable_cell, cells_of, cells_of_all, StandsFor}
+use Rattle.si_flat.specs.Cells.{Symbol, Variable, query, entry, ind, same_variable, Term, Terms, variable_cell, cells_of, cells_of_all}
 use Rattle.si_flat.specs.Flattened.{IsNumberedBy}
 use Rattle.si_flat.specs.Rows.{left_sides}
 use Rattle.si_trail.specs.Trails.{value_at, HasDistinctSlots}
 use Rattle.si_unify.specs.declared.slots.Slots.{Slots}
-use Rattle.si_unify.specs.Solving.{Pairs, slot_of, variable_of, is_frozen, IsInRange, Equalizes, IsBinding, RanksBelow, IsAcyclic, IsSolution}
+use Rattle.si_unify.specs.Solving.{Pairs, slot_of, variable_of, is_frozen, IsInRange, Equalizes, IsBinding, RanksBelow, IsSolution}
 use Rattle.si_unify.proofs.Places.{all_at as value_holds, variable_of-slot_of}
-use Rattle.si_legal.specs.Bindings.{Binding, indicator}
-use Rattle.si_legal.specs.Trees.{Node, Tree, HasNode, Path, IsPath, path_term}
+use Rattle.si_legal.specs.Bindings.{indicator}
+use Rattle.si_legal.specs.Trees.{Tree, Path, IsPath, path_term}
 use Rattle.si_legal.specs.Legal.{IsOpenBelow}
-use Rattle.si_legal.specs.Descents.{SolvesBindings, SolvesPath}
+use Rattle.si_legal.specs.Descents.{SolvesPath}
 use Rattle.si_legal.specs.OpenNodes.{RenamesEntry}
 use Rattle.si_legal.proofs.SplitLaws.{binding_left}
 use Rattle.si_changes.proofs.Frames.{HasLegalNodes}
 use Rattle.si_changes.proofs.ComposeLaws.{same_substituted, applied_from, right_applied}
-use Rattle.si_descend.specs.Descending.{HasRoom, LeavesFrozen, SolvesFrom, ShowsPath}
+use Rattle.si_descend.specs.Descending.{HasRoom, ShowsPath}
 use Rattle.si_fit.specs.Fitting.{AllowsSolving}
 use Rattle.si_descend.specs.Renaming.{FreezesQuery, bound_variables, IsRenaming}
 use Rattle.si_descend.proofs.Tabulated.{variable_tells, substituted_none}

@@ -6,13 +6,13 @@ use Rattle.si_defs.specs.Terms as terms
 use Rattle.si_defs.specs.Substitutions.{Substitution, image, apply}
 use Rattle.si_defs.specs.declared.Relation.{Relation}
 use Rattle.si_defs.specs.declared.Relation.TheVariants.{Variants, Instances, Generalizations, Unifiable}
-use Rattle.si_flat.specs.Cells.{Symbol, Variable, query, entry, ind, same_variable, Term, StandsFor}
+use Rattle.si_flat.specs.Cells.{Symbol, Variable, query, ind, same_variable, Term, StandsFor}
 use Rattle.si_flat.specs.Flattened.{IsNumberedBy}
 use Rattle.si_flat.specs.declared.Cell.{Cell}
 use Rattle.si_unify.specs.declared.slots.Slots.{Slots}
 use Rattle.si_unify.specs.Solving.{Pairs, IsInRange, is_frozen, IsSolution}
-use Rattle.si_legal.specs.Bindings.{Binding, indicator}
-use Rattle.si_legal.specs.Trees.{Node, Tree, HasNode, Path, IsPath, path_term}
+use Rattle.si_legal.specs.Bindings.{indicator}
+use Rattle.si_legal.specs.Trees.{Node, Tree, HasNode, Path, IsPath}
 use Rattle.si_legal.specs.Descents.{SolvesPath}
 use Rattle.si_legal.specs.OpenNodes.{RenamesEntry}
 

@@ -1,8 +1,8 @@
 -- Lists of bindings that rename the variables of an entry.
-use Rattle.std.specs.Prelude.{◌≡◌, ℕ, ◌<◌, Bool, true, false, List, map, take}
+use Rattle.std.specs.Prelude.{◌≡◌, ℕ, ◌<◌, Bool, true, false, List, [], ◌∷◌, ◌++◌, is_some, map, take}
 use Rattle.si_defs.specs.Terms as terms
 use Rattle.si_defs.specs.Substitutions.{Substitution, image}
-use Rattle.si_trail.specs.Trails.{IsSlotOf}
+use Rattle.si_trail.specs.Trails.{value_at, IsSlotOf}
 use Rattle.si_flat.specs.Cells.{Symbol, Variable, query, entry, same_variable}
 use Rattle.si_unify.specs.declared.slots.Slots.{Slots}
 use Rattle.si_unify.specs.Solving.{Pairs, variable_of, IsSolution}
@@ -48,6 +48,13 @@ HasBecome slots pairs n Other =
     × ((s : Substitution Symbol Variable) × IsSolution slots pairs s
     × ((y : Variable) → image same_variable s (entry m) ≡ terms.var y → ⊥))
 
+-- the query has a variable with this number
+abbrev pub IsNumberInRange : Slots → Became → Type 0
+IsNumberInRange slots NoEntry = Unit {0}
+IsNumberInRange slots (Same k) = k < slots.query
+IsNumberInRange slots Other = Unit {0}
+
+-- ---- what is taken
 -- one of the first so many became this variable, or none did
 abbrev pub IsTaken : Slots → Pairs → ℕ → ℕ → Bool → Type 0
 IsTaken slots pairs end k true = (n : ℕ) × (n < end) × HasBecome slots pairs n (Same k)
@@ -55,3 +62,14 @@ IsTaken slots pairs end k false =
     (n m : ℕ) → n < end → BindsEntry slots pairs n m
     → (s : Substitution Symbol Variable) → IsSolution slots pairs s
     → image same_variable s (entry m) ≡ terms.var (query k) → ⊥
+
+module _ {T : Type 0} where
+  -- the bound slots are those of the query's variables that one of the first so many became
+  abbrev pub AreTaken : Slots → Pairs → ℕ → List (ℕ × T) → Type 0
+  AreTaken slots pairs end taken =
+      (k : ℕ) → IsTaken slots pairs end k (is_some (value_at taken k))
+
+  -- `true`: this slot is bound too. `false`: nothing changes.
+  abbrev pub Takes : List (ℕ × T) → ℕ → List (ℕ × T) → Bool → Type 0
+  Takes old k new true = (x : T) × (new ≡ old ++ (k, x) ∷ [])
+  Takes old k new false = new ≡ old

@@ -1,8 +1,9 @@
 -- What the search of a tree knows at a node, and what it finds below it.
-use Rattle.std.specs.Prelude.{ℕ, zero, suc, ◌<◌, ◌^◌, Bool, true, false, List, Option, None, Some, slice_index_or}
+use Rattle.std.specs.Prelude.{◌≡◌, ℕ, zero, suc, ◌<◌, ◌≤◌, ◌^◌, length, Bool, true, false, List, [], Option, None, Some, slice_index_or}
 use Rattle.si_defs.specs.declared.Relation.{Relation}
-use Rattle.si_defs.specs.declared.Relation.TheVariants.{Variants, Instances, Generalizations, Unifiable}
+use Rattle.si_defs.specs.declared.Relation.TheVariants.{Variants}
 use Rattle.si_flat.specs.Cells.{Term, StandsFor}
+use Rattle.si_trail.specs.Trails.{Trail}
 use Rattle.si_unify.specs.declared.slots.Slots.{Slots}
 use Rattle.si_unify.specs.Solving.{Pairs}
 use Rattle.si_legal.specs.declared.Posting.{Posting}
@@ -15,7 +16,7 @@ use Rattle.si_descend.specs.declared.search.Search.{Search}
 use Rattle.si_descend.specs.Descending.{Freezes, HasRoom, ShowsPath, IsQueryTerm}
 use Rattle.si_descend.specs.Answers.{Finds, CountsBelow, IsAnswerBelow}
 use Rattle.si_fit.specs.Fitting.{HasSolution}
-use Rattle.si_descend.specs.Renaming.{IsRenaming}
+use Rattle.si_descend.specs.Renaming.{AreTaken, IsRenaming}
 
 -- what a search is for
 pub record IsReady (search : Search) : Type 0 where
@@ -30,6 +31,17 @@ pub record IsReady (search : Search) : Type 0 where
 abbrev pub KeepsApart : Relation → Slots → Pairs → Type 0
 KeepsApart Variants slots pairs = IsRenaming slots pairs
 KeepsApart relation slots pairs = Unit {0}
+
+-- where variants are sought, the second trail binds those of the query's variables that an entry's
+-- became, or none yet
+abbrev pub NotesTaken : {T : Type 0} → Relation → Slots → Pairs → Trail T → Type 0
+NotesTaken Variants slots pairs taken =
+    AreTaken slots pairs (length pairs) taken.pairs × (slots.query ≤ taken.slots)
+NotesTaken relation slots pairs taken = Unit {0}
+
+abbrev pub HasNoneTaken : {T : Type 0} → Relation → Slots → Trail T → Type 0
+HasNoneTaken Variants slots taken = (taken.pairs ≡ []) × (slots.query ≤ taken.slots)
+HasNoneTaken relation slots taken = Unit {0}
 
 -- The bindings of the node with this key and of those above it are solved. No key stands for what
 -- is above the root.

@@ -3,7 +3,7 @@ ghost use Rattle.std.specs.Prelude.{◌≡◌, Some, IfOk, OnOk};
 ghost use Rattle.si_tree.specs.Reading.{IsNode, AtNode, children_of};
 ghost use Rattle.si_descend.specs.Counting.{HasCounted, HasCountedBelow};
 ghost use Rattle.si_fit.specs.Fitting.{AllowsSolving};
-ghost use Rattle.si_descend.specs.Searching.{IsReady, HasComeTo};
+ghost use Rattle.si_descend.specs.Searching.{IsReady, NotesTaken, HasComeTo};
 
 use crate::attempts::{attempt, attempts_at};
 use crate::search::{Search, enter};
@@ -32,19 +32,24 @@ pub(crate) fn count_at<'a>(
     node: NodeId,
     scratch: &mut Scratch,
     trail: &mut Trail<&'a [Cell]>,
+    taken: &mut Trail<()>,
 ) -> Result<Counted, AllocError>
     requires node { IsNode search.now.tree.now node }
     requires ready { IsReady search.now }
     requires solving { AllowsSolving search.now.slots trail.old.pairs trail.old.slots }
     requires above { AtNode search.now.tree.now node
         (λ n. HasComeTo search.now n.parent trail.old.pairs) }
+    requires taken { NotesTaken search.now.kind search.now.slots trail.old.pairs taken.old }
     ensures counted { IfOk result (HasCounted search.now node) }
     ensures same { OnOk result (trail.new.pairs ≡ trail.old.pairs) }
     ensures slots { trail.new.slots ≡ trail.old.slots }
+    ensures taken { OnOk result (taken.new ≡ taken.old) }
 {
     let mark = trail.mark();
-    if !enter(search, node, scratch, trail)? {
+    let taken_mark = taken.mark();
+    if !enter(search, node, scratch, trail, taken)? {
         trail.undo(mark);
+        taken.undo(taken_mark);
         return Ok(Counted {
             passed: 0,
             answers: 0,
@@ -52,11 +57,13 @@ pub(crate) fn count_at<'a>(
     }
     if is_open_below(search, node, trail) {
         trail.undo(mark);
+        taken.undo(taken_mark);
         return Ok(count_all(search, node));
     }
     let own = search.tree.postings(node).len();
-    let below = count_children(search, node, scratch, trail)?;
+    let below = count_children(search, node, scratch, trail, taken)?;
     trail.undo(mark);
+    taken.undo(taken_mark);
     Ok(Counted {
         passed: 1 + below.passed,
         answers: below.answers.saturating_add(own as u64),
@@ -70,15 +77,18 @@ fn count_children<'a>(
     node: NodeId,
     scratch: &mut Scratch,
     trail: &mut Trail<&'a [Cell]>,
+    taken: &mut Trail<()>,
 ) -> Result<Counted, AllocError>
     requires node { IsNode search.now.tree.now node }
     requires ready { IsReady search.now }
     requires solving { AllowsSolving search.now.slots trail.old.pairs trail.old.slots }
     requires there { HasComeTo search.now (Some node) trail.old.pairs }
+    requires taken { NotesTaken search.now.kind search.now.slots trail.old.pairs taken.old }
     ensures counted { IfOk result (λ c. AtNode search.now.tree.now node (λ parent.
         HasCountedBelow search.now (children_of parent.content) c)) }
     ensures same { OnOk result (trail.new.pairs ≡ trail.old.pairs) }
     ensures slots { trail.new.slots ≡ trail.old.slots }
+    ensures taken { OnOk result (taken.new ≡ taken.old) }
 {
     let attempts = attempts_at(search, node, trail);
     let mut passed = 0;
@@ -87,7 +97,7 @@ fn count_children<'a>(
         let Some(child) = attempt(search, node, attempts, place) else {
             continue;
         };
-        let more = count_at(search, child, scratch, trail)?;
+        let more = count_at(search, child, scratch, trail, taken)?;
         passed += more.passed;
         answers = answers.saturating_add(more.answers);
     }

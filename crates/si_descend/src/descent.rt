@@ -8,7 +8,7 @@ ghost use Rattle.si_descend.specs.Answers.{Finds, Retrieves};
 ghost use Rattle.si_descend.specs.Counting.{CountsAnswers, HasCounted};
 ghost use Rattle.si_descend.specs.Descending.{Freezes, HasRoomFor, IsQuery, ShowsAbove};
 ghost use Rattle.si_fit.specs.Fitting.{AllowsSolving};
-ghost use Rattle.si_descend.specs.Searching.{IsReady, KeepsApart, HasFound};
+ghost use Rattle.si_descend.specs.Searching.{IsReady, KeepsApart, HasNoneTaken, NotesTaken, HasFound};
 
 use crate::counting::{Counted, count_at};
 use crate::search::{Search, visit};
@@ -49,8 +49,7 @@ pub fn descend<'a>(
     let search = Search::new(tree, kind, query, *slots);
     let mark = trail.mark();
     let before = out.len();
-    let mut scratch = Scratch::new(alloc);
-    match search_below(&search, node, &mut scratch, trail, out) {
+    match search_below(alloc, &search, node, trail, out) {
         Ok(count) => Ok(count),
         Err(error) => {
             trail.undo(mark);
@@ -93,15 +92,14 @@ pub fn count(alloc: Global, tree: &Tree, kind: Kind, query: &Flat) -> Result<Cou
     let mut trail = Trail::with_slots(alloc, slots.count())?;
     trail.bind(slots.query as usize + slots.entry as usize, cells);
     let search = Search::new(tree, kind, query, slots);
-    let mut scratch = Scratch::new(alloc);
-    count_below(&search, root, &mut scratch, &mut trail)
+    count_below(alloc, &search, root, &mut trail)
 }
 
 // Counts below a node or at it.
 fn count_below<'a>(
+    alloc: Global,
     search: &Search<'a>,
     node: NodeId,
-    scratch: &mut Scratch,
     trail: &mut Trail<&'a [Cell]>,
 ) -> Result<Counted, AllocError>
     requires node { IsNode search.now.tree.now node }
@@ -113,13 +111,15 @@ fn count_below<'a>(
 {
     // So no slot of the trail is known to be bound twice.
     trail.mark();
-    if !keeps_apart(search, trail) {
+    let mut taken = none_taken(alloc, search)?;
+    if !keeps_apart(search, trail, &mut taken) {
         return Ok(Counted {
             passed: 0,
             answers: 0,
         });
     }
-    count_at(search, node, scratch, trail)
+    let mut scratch = Scratch::new(alloc);
+    count_at(search, node, &mut scratch, trail, &mut taken)
 }
 
 // Slots for the query, and for all numbers of the tree. A query has no more variables than cells.
@@ -160,9 +160,9 @@ fn length_of(cells: &[Cell]) -> u32
 
 // The same, but that where memory runs out, bindings and postings may be left.
 fn search_below<'a>(
+    alloc: Global,
     search: &Search<'a>,
     node: NodeId,
-    scratch: &mut Scratch,
     trail: &mut Trail<&'a [Cell]>,
     out: &mut Vec<Posting>,
 ) -> Result<u64, AllocError>
@@ -178,20 +178,39 @@ fn search_below<'a>(
     ensures out_grows { Grows out.old.items out.new.items }
     ensures slots { trail.new.slots ≡ trail.old.slots }
 {
-    if !keeps_apart(search, trail) {
+    let mut taken = none_taken(alloc, search)?;
+    if !keeps_apart(search, trail, &mut taken) {
         return Ok(0);
     }
-    visit(search, node, scratch, trail, out)
+    let mut scratch = Scratch::new(alloc);
+    visit(search, node, &mut scratch, trail, &mut taken, out)
 }
 
-// Whether the bindings of the nodes above leave them open, where these are solved.
-fn keeps_apart(search: &Search<'_>, trail: &Trail<&[Cell]>) -> bool
-    requires ready { IsReady search.now }
-    requires solving { AllowsSolving search.now.slots trail.now.pairs trail.now.slots }
-    ensures { IsTrue result ↔ KeepsApart search.now.kind search.now.slots trail.now.pairs }
+// Room to take the query's variables where variants are sought. None is taken yet.
+fn none_taken(alloc: Global, search: &Search<'_>) -> Result<Trail<()>, AllocError>
+    ensures { IfOk result (HasNoneTaken search.now.kind search.now.slots) }
 {
     match search.kind {
-        Kind::Variants => is_renaming(trail, &search.slots, 0),
+        Kind::Variants => Trail::with_slots(alloc, search.slots.query as usize),
+        Kind::Instances => Trail::with_slots(alloc, 0),
+        Kind::Generalizations => Trail::with_slots(alloc, 0),
+        Kind::Unifiable => Trail::with_slots(alloc, 0),
+    }
+}
+
+// Whether the bindings of the nodes above leave them open, where these are solved. What their
+// variables became is then taken.
+fn keeps_apart(search: &Search<'_>, trail: &Trail<&[Cell]>, taken: &mut Trail<()>) -> bool
+    requires ready { IsReady search.now }
+    requires solving { AllowsSolving search.now.slots trail.now.pairs trail.now.slots }
+    requires none { HasNoneTaken search.now.kind search.now.slots taken.old }
+    ensures apart { IsTrue result
+        ↔ KeepsApart search.now.kind search.now.slots trail.now.pairs }
+    ensures taken { IsTrue result
+        → NotesTaken search.now.kind search.now.slots trail.now.pairs taken.new }
+{
+    match search.kind {
+        Kind::Variants => is_renaming(trail, &search.slots, 0, taken),
         Kind::Instances => true,
         Kind::Generalizations => true,
         Kind::Unifiable => true,

@@ -1,10 +1,10 @@
 // The search of a tree from a node downwards.
-ghost use Rattle.std.specs.Prelude.{◌≡◌, Some, IfOk, OnOk};
+ghost use Rattle.std.specs.Prelude.{◌≡◌, Some, IfOk, IsTrue, OnOk};
 ghost use Rattle.si_defs.specs.Substitutions.{Grows};
 ghost use Rattle.si_tree.specs.Reading.{IsNode, AtNode, children_of};
 ghost use Rattle.si_descend.specs.Descending.{Freezes, HasRoomFor, IsQuery};
 ghost use Rattle.si_fit.specs.Fitting.{AllowsSolving};
-ghost use Rattle.si_descend.specs.Searching.{IsReady, HasComeTo, HasEntered, HasFound, HasFoundBelow};
+ghost use Rattle.si_descend.specs.Searching.{IsReady, NotesTaken, HasComeTo, HasEntered, HasFound, HasFoundBelow};
 
 use crate::attempts::{attempt, attempts_at};
 use crate::subtrees::{append_all, is_open_below};
@@ -56,23 +56,29 @@ pub(crate) fn enter<'a>(
     node: NodeId,
     scratch: &mut Scratch,
     trail: &mut Trail<&'a [Cell]>,
+    taken: &mut Trail<()>,
 ) -> Result<bool, AllocError>
     requires node { IsNode search.now.tree.now node }
     requires ready { IsReady search.now }
     requires solving { AllowsSolving search.now.slots trail.old.pairs trail.old.slots }
     requires above { AtNode search.now.tree.now node
         (λ n. HasComeTo search.now n.parent trail.old.pairs) }
+    requires taken { NotesTaken search.now.kind search.now.slots trail.old.pairs taken.old }
     ensures enters { IfOk result (HasEntered search.now node trail.new.pairs) }
     ensures grows { Grows trail.old.pairs trail.new.pairs }
     ensures solving { AllowsSolving search.now.slots trail.new.pairs trail.new.slots }
     ensures slots { trail.new.slots ≡ trail.old.slots }
+    ensures taken { IfOk result (λ is_open. IsTrue is_open
+        → NotesTaken search.now.kind search.now.slots trail.new.pairs taken.new) }
+    ensures taken_grows { Grows taken.old.pairs taken.new.pairs }
+    ensures taken_slots { taken.new.slots ≡ taken.old.slots }
 {
     let known = trail.mark();
     if !fit(scratch, trail, &search.slots, search.tree.bindings(node))? {
         return Ok(false);
     }
     match search.kind {
-        Kind::Variants => Ok(is_renaming(trail, &search.slots, known)),
+        Kind::Variants => Ok(is_renaming(trail, &search.slots, known, taken)),
         Kind::Instances => Ok(true),
         Kind::Generalizations => Ok(true),
         Kind::Unifiable => Ok(true),
@@ -89,6 +95,7 @@ pub(crate) fn visit<'a>(
     node: NodeId,
     scratch: &mut Scratch,
     trail: &mut Trail<&'a [Cell]>,
+    taken: &mut Trail<()>,
     out: &mut Vec<Posting>,
 ) -> Result<u64, AllocError>
     requires node { IsNode search.now.tree.now node }
@@ -96,24 +103,30 @@ pub(crate) fn visit<'a>(
     requires solving { AllowsSolving search.now.slots trail.old.pairs trail.old.slots }
     requires above { AtNode search.now.tree.now node
         (λ n. HasComeTo search.now n.parent trail.old.pairs) }
+    requires taken { NotesTaken search.now.kind search.now.slots trail.old.pairs taken.old }
     ensures found { IfOk result (HasFound search.now node out.old.items out.new.items) }
     ensures same { OnOk result (trail.new.pairs ≡ trail.old.pairs) }
     ensures grows { Grows trail.old.pairs trail.new.pairs }
     ensures out_grows { Grows out.old.items out.new.items }
     ensures slots { trail.new.slots ≡ trail.old.slots }
+    ensures taken { OnOk result (taken.new ≡ taken.old) }
 {
     let mark = trail.mark();
-    if !enter(search, node, scratch, trail)? {
+    let taken_mark = taken.mark();
+    if !enter(search, node, scratch, trail, taken)? {
         trail.undo(mark);
+        taken.undo(taken_mark);
         return Ok(0);
     }
     if is_open_below(search, node, trail) {
         trail.undo(mark);
+        taken.undo(taken_mark);
         return append_all(search, node, out);
     }
     search.tree.postings(node).append_to(out)?;
-    let below = visit_children(search, node, scratch, trail, out)?;
+    let below = visit_children(search, node, scratch, trail, taken, out)?;
     trail.undo(mark);
+    taken.undo(taken_mark);
     Ok(1 + below)
 }
 
@@ -124,18 +137,21 @@ fn visit_children<'a>(
     node: NodeId,
     scratch: &mut Scratch,
     trail: &mut Trail<&'a [Cell]>,
+    taken: &mut Trail<()>,
     out: &mut Vec<Posting>,
 ) -> Result<u64, AllocError>
     requires node { IsNode search.now.tree.now node }
     requires ready { IsReady search.now }
     requires solving { AllowsSolving search.now.slots trail.old.pairs trail.old.slots }
     requires there { HasComeTo search.now (Some node) trail.old.pairs }
+    requires taken { NotesTaken search.now.kind search.now.slots trail.old.pairs taken.old }
     ensures found { IfOk result (λ n. AtNode search.now.tree.now node (λ parent.
         HasFoundBelow search.now (children_of parent.content) out.old.items out.new.items n)) }
     ensures same { OnOk result (trail.new.pairs ≡ trail.old.pairs) }
     ensures grows { Grows trail.old.pairs trail.new.pairs }
     ensures out_grows { Grows out.old.items out.new.items }
     ensures slots { trail.new.slots ≡ trail.old.slots }
+    ensures taken { OnOk result (taken.new ≡ taken.old) }
 {
     let attempts = attempts_at(search, node, trail);
     let mut count = 0;
@@ -143,7 +159,7 @@ fn visit_children<'a>(
         let Some(child) = attempt(search, node, attempts, place) else {
             continue;
         };
-        count += visit(search, child, scratch, trail, out)?;
+        count += visit(search, child, scratch, trail, taken, out)?;
     }
     Ok(count)
 }

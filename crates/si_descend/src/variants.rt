@@ -1,9 +1,9 @@
 // Whether the variables of an entry are renamed.
-ghost use Rattle.std.specs.Prelude.{◌≡◌, ◌+◌, ◌<◌, ◌≤◌, ◌↔◌, IsTrue, length, true, false};
-ghost use Rattle.si_trail.specs.Trails.{HasDistinctSlots};
-ghost use Rattle.si_descend.specs.declared.variants.Became.TheVariants.{Variable};
+ghost use Rattle.std.specs.Prelude.{◌≡◌, ◌+◌, ◌<◌, ◌≤◌, ◌↔◌, IsTrue, is_none, length};
+ghost use Rattle.si_defs.specs.Substitutions.{Grows};
+ghost use Rattle.si_trail.specs.Trails.{HasDistinctSlots, value_at};
 ghost use Rattle.si_fit.specs.Fitting.{AllowsSolving};
-ghost use Rattle.si_descend.specs.Renaming.{FreezesQuery, HasBecome, IsRenaming, IsRenamingFirst, IsTaken};
+ghost use Rattle.si_descend.specs.Renaming.{AreTaken, FreezesQuery, HasBecome, IsNumberInRange, IsRenaming, IsRenamingFirst, Takes};
 
 use si_fit::end_of;
 use si_flat::Cell;
@@ -22,64 +22,68 @@ pub(crate) enum Became {
 }
 
 /// Whether the bound variables of the entry become variables of the query, no two the same. Of
-/// those of the first so many bindings it is known.
-pub(crate) fn is_renaming(trail: &Trail<&[Cell]>, slots: &Slots, known: usize) -> bool
+/// those of the first so many bindings it is known, and what they became is bound in `taken`.
+pub(crate) fn is_renaming(
+    trail: &Trail<&[Cell]>,
+    slots: &Slots,
+    known: usize,
+    taken: &mut Trail<()>,
+) -> bool
     requires frozen { FreezesQuery slots.now }
     requires solving { AllowsSolving slots.now trail.now.pairs trail.now.slots }
     requires within { known ≤ length trail.now.pairs }
     requires known { IsRenamingFirst slots.now trail.now.pairs known }
+    requires taken { AreTaken slots.now trail.now.pairs known taken.old.pairs }
+    requires room { slots.now.query ≤ taken.old.slots }
     ensures renaming { IsTrue result ↔ IsRenaming slots.now trail.now.pairs }
     ensures distinct { HasDistinctSlots trail.now.pairs }
+    ensures taken { IsTrue result
+        → AreTaken slots.now trail.now.pairs (length trail.now.pairs) taken.new.pairs }
+    ensures grows { Grows taken.old.pairs taken.new.pairs }
+    ensures slots { taken.new.slots ≡ taken.old.slots }
 {
     for n in known..trail.mark() {
-        if !is_renamed_apart(trail, slots, n) {
+        if !is_renamed_apart(trail, slots, n, taken) {
             return false;
         }
     }
     true
 }
 
-// Whether that still holds with one binding more.
-fn is_renamed_apart(trail: &Trail<&[Cell]>, slots: &Slots, n: usize) -> bool
+// Whether that still holds with one binding more. What its variable became is then taken too.
+fn is_renamed_apart(trail: &Trail<&[Cell]>, slots: &Slots, n: usize, taken: &mut Trail<()>) -> bool
     requires distinct { HasDistinctSlots trail.now.pairs }
     requires frozen { FreezesQuery slots.now }
     requires solving { AllowsSolving slots.now trail.now.pairs trail.now.slots }
     requires within { n < length trail.now.pairs }
     requires known { IsRenamingFirst slots.now trail.now.pairs n }
-    ensures { IsTrue result ↔ IsRenamingFirst slots.now trail.now.pairs (n + 1) }
+    requires taken { AreTaken slots.now trail.now.pairs n taken.old.pairs }
+    requires room { slots.now.query ≤ taken.old.slots }
+    ensures renaming { IsTrue result ↔ IsRenamingFirst slots.now trail.now.pairs (n + 1) }
+    ensures taken { IsTrue result
+        → AreTaken slots.now trail.now.pairs (n + 1) taken.new.pairs }
+    ensures grows { Grows taken.old.pairs taken.new.pairs }
+    ensures slots { taken.new.slots ≡ taken.old.slots }
 {
     match outcome(trail, slots, n) {
         Became::NoEntry => true,
-        Became::Variable(number) => !is_taken(trail, slots, n, number),
+        Became::Variable(number) => take(taken, number),
         Became::Term => false,
     }
 }
 
-// Whether one of the first so many variables became this one of the query.
-fn is_taken(trail: &Trail<&[Cell]>, slots: &Slots, end: usize, number: u32) -> bool
-    requires distinct { HasDistinctSlots trail.now.pairs }
-    requires frozen { FreezesQuery slots.now }
-    requires solving { AllowsSolving slots.now trail.now.pairs trail.now.slots }
-    requires within { end ≤ length trail.now.pairs }
-    requires known { IsRenamingFirst slots.now trail.now.pairs end }
-    ensures { IsTaken slots.now trail.now.pairs end number result }
+// Takes a variable of the query, if it isn't taken.
+fn take(taken: &mut Trail<()>, number: u32) -> bool
+    requires { number < taken.old.slots }
+    ensures free { result ≡ is_none (value_at taken.old.pairs number) }
+    ensures takes { Takes taken.old.pairs number taken.new.pairs result }
+    ensures slots { taken.new.slots ≡ taken.old.slots }
 {
-    for n in 0..end {
-        if is_that(outcome(trail, slots, n), number) {
-            return true;
-        }
+    if taken.get(number as usize).is_some() {
+        return false;
     }
-    false
-}
-
-fn is_that(became: Became, number: u32) -> bool
-    ensures { IsTrue result ↔ (became ≡ Variable number) }
-{
-    match became {
-        Became::NoEntry => false,
-        Became::Variable(other) => other == number,
-        Became::Term => false,
-    }
+    taken.bind(number as usize, ());
+    true
 }
 
 // What became of the variable of the binding with this number.
@@ -88,7 +92,8 @@ fn outcome(trail: &Trail<&[Cell]>, slots: &Slots, n: usize) -> Became
     requires frozen { FreezesQuery slots.now }
     requires solving { AllowsSolving slots.now trail.now.pairs trail.now.slots }
     requires within { n < length trail.now.pairs }
-    ensures { HasBecome slots.now trail.now.pairs n result }
+    ensures became { HasBecome slots.now trail.now.pairs n result }
+    ensures range { IsNumberInRange slots.now result }
 {
     let slot = trail.slot(n);
     let first = slots.query as usize;

@@ -5,6 +5,7 @@ use Rattle.si_descend.specs.Searching.{HasEntered}
 use Rattle.si_descend.proofs.Below.{IsChildOf}
 use Rattle.si_descend.proofs.CountLaws.{counted_closed, counted_open, counted_none, counted_more, counted_all, few_counted, few_counted_at}
 use Rattle.si_descend.proofs.Depths.{child_deeper, falls}
+use Rattle.si_descend.proofs.Entered.{still_noted}
 use Rattle.si_descend.proofs.Visiting.{still_solving, come_down}
 use Rattle.si_descend.proofs.AttemptLaws.{IsUnderway, none_tried, one_not_tried, tried_child}
 use Rattle.si_descend.proofs.counting.+counting.Goals as goal
@@ -42,6 +43,7 @@ count_children-loop-place-init t c = record {
   counted_so_far = none_tried c.args.search.now c.requires.ready c.args.node c.requires.node.0 c.requires.node.1 c.attempts_at-attempts.result c.attempts_at-attempts.ensures.attempts (λ tried. HasCountedBelow c.args.search.now tried (record { passed = 0; answers = 0 })) (counted_none c.args.search.now c.requires.ready c.args.node c.requires.node.0 c.requires.node.1 (record { passed = 0; answers = 0 }) refl refl);
   same_pairs = refl;
   same_slots = refl;
+  same_taken = refl;
 }
 
 pub count_children-attempt-requires-clause-attempts : goal.count_children-attempt-requires-clause-attempts
@@ -55,6 +57,7 @@ count_children-loop-place-preserved-in_default t c = record {
   counted_so_far = one_not_tried c.args.search.now c.requires.ready c.args.node c.requires.node.0 c.requires.node.1 c.attempts_at-attempts.result c.attempts_at-attempts.ensures.attempts c.loop-place.place (λ tried. HasCountedBelow c.args.search.now tried (record { passed = c.loop-place.passed; answers = c.loop-place.answers })) c.in_default.ensures.none c.loop-place.invariant.counted_so_far;
   same_pairs = c.loop-place.invariant.same_pairs;
   same_slots = c.loop-place.invariant.same_slots;
+  same_taken = c.loop-place.invariant.same_taken;
 }
 
 pub count_children-count_at-requires : goal.count_children-count_at-requires
@@ -67,7 +70,10 @@ count_children-count_at-requires t c =
           c.requires.ready,
           (
             still_solving c.args.search.now.slots c.args.trail.now.pairs c.loop-place.trail.pairs c.args.trail.now.slots c.loop-place.trail.slots c.loop-place.invariant.same_pairs c.loop-place.invariant.same_slots c.requires.solving,
-            come_down c.args.search.now c.args.node c.in-Some.child c.args.trail.now.pairs c.loop-place.trail.pairs is c.loop-place.invariant.same_pairs c.requires.there,
+            (
+              come_down c.args.search.now c.args.node c.in-Some.child c.args.trail.now.pairs c.loop-place.trail.pairs is c.loop-place.invariant.same_pairs c.requires.there,
+              still_noted c.args.search.now.kind c.args.search.now.slots c.args.trail.now.pairs c.loop-place.trail.pairs c.args.taken.now c.loop-place.taken c.loop-place.invariant.same_pairs c.loop-place.invariant.same_taken c.requires.taken,
+            ),
           ),
         ),
       ),
@@ -78,6 +84,7 @@ count_children-loop-place-preserved t c = record {
   counted_so_far = counted_more c.args.search.now c.requires.ready c.args.node c.requires.node.0 c.requires.node.1 c.attempts_at-attempts.result c.attempts_at-attempts.ensures.attempts c.loop-place.place c.in-Some.child (record { passed = c.loop-place.passed; answers = c.loop-place.answers }) c.in_ok-more.more (record { passed = c.loop-place.passed + c.in_ok-more.more.passed; answers = c.saturating_add-answers.result }) c.loop-place-test.true c.in-Some.ensures.some c.loop-place.invariant.counted_so_far c.in_ok-more.ensures.counted refl (omega (arith, c.saturating_add-answers.ensures));
   same_pairs = c.in_ok-more.ensures.same ∙ c.loop-place.invariant.same_pairs;
   same_slots = c.in_ok-more.ensures.slots ∙ c.loop-place.invariant.same_slots;
+  same_taken = c.in_ok-more.ensures.taken ∙ c.loop-place.invariant.same_taken;
 }
 
 pub count_children-overflow_add-passed : goal.count_children-overflow_add-passed

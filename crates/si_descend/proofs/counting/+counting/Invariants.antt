@@ -11,10 +11,11 @@ decreases-count_at l = 2 * (node_count l.search.now.tree.now - depth l.search.no
 abbrev pub decreases-count_children : goal.decreases-count_children
 decreases-count_children l = 2 * (node_count l.search.now.tree.now - depth l.search.now.tree.now l.node)
 
-pub record Invariant (counted pairs slots : Type 0) : Type 0 where
+pub record Invariant (counted pairs slots taken : Type 0) : Type 0 where
   pub counted_so_far : counted
   pub same_pairs : pairs
   pub same_slots : slots
+  pub same_taken : taken
 
 abbrev pub invariant-count_children-loop-place : goal.invariant-count_children-loop-place
 invariant-count_children-loop-place l =
@@ -22,3 +23,4 @@ invariant-count_children-loop-place l =
     (IsUnderway l.search l.node l.attempts l.place (λ tried. HasCountedBelow l.search tried (record { passed = l.passed; answers = l.answers })))
     (l.trail.pairs ≡ l.fn.trail.pairs)
     (l.trail.slots ≡ l.fn.trail.slots)
+    (l.taken ≡ l.fn.taken)

@@ -9,10 +9,10 @@ returns-then-not-keeps_apart c =
     let node = c.requires.node in
     counted_closed c.args.search.now c.requires.ready c.args.node node.0 node.1
     (closed_above c.args.search.now c.requires.ready c.args.node node.0 node.1 c.args.trail.now.pairs c.args.trail.now.slots c.requires.solving c.mark.ensures.distinct c.requires.above
-    (untrue c.keeps_apart.result c.keeps_apart.ensures c.if-not-keeps_apart.true))
+    (untrue c.keeps_apart.result c.keeps_apart.ensures.apart c.if-not-keeps_apart.true))
     (record { passed = 0; answers = 0 }) refl refl
 
 pub count_at-requires-clause-above : goal.count_at-requires-clause-above
 count_at-requires-clause-above c node has =
     comes_to c.args.search.now c.requires.ready c.args.node node has c.args.trail.now.pairs c.args.trail.now.slots c.requires.solving c.mark.ensures.distinct c.requires.above
-    (c.keeps_apart.ensures.0 c.if-not-keeps_apart.false)
+    (c.keeps_apart.ensures.apart.0 c.if-not-keeps_apart.false)

@@ -1,4 +1,4 @@
-use Rattle.std.proofs.Common.{◌<◌, ◌+◌, length, refl, ap, sym, ◌∙◌, subst, arith}
+use Rattle.std.proofs.Common.{◌+◌, length, refl, ap, sym, ◌∙◌, subst, arith}
 use Rattle.std.proofs.lemmas.Result.{IfOk-weaker}
 use Rattle.si_descend.proofs.Retrieving.{has_room, bound_first, first_solving, first_shows, shows_root, found_retrieves}
 use Rattle.si_descend.specs.Answers.{Finds}

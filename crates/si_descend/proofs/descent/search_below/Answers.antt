@@ -1,5 +1,3 @@
-use Rattle.std.proofs.Common.{subst, sym}
-use Rattle.si_legal.proofs.PathLaws.{one_node}
 use Rattle.si_descend.proofs.RenameLaws.{untrue}
 use Rattle.si_descend.proofs.Starting.{comes_to, closed_above}
 use Rattle.si_descend.proofs.Visiting.{found_closed}
@@ -10,9 +8,9 @@ returns-then-not-keeps_apart-clause-found c =
     let node = c.requires.node in
     found_closed c.args.search.now c.requires.ready c.args.node node.0 node.1 c.args.out.now.items
     (closed_above c.args.search.now c.requires.ready c.args.node node.0 node.1 c.args.trail.now.pairs c.args.trail.now.slots c.requires.solving c.requires.distinct c.requires.above
-    (untrue c.keeps_apart.result c.keeps_apart.ensures c.if-not-keeps_apart.true))
+    (untrue c.keeps_apart.result c.keeps_apart.ensures.apart c.if-not-keeps_apart.true))
 
 pub visit-requires-clause-above : goal.visit-requires-clause-above
 visit-requires-clause-above c node has =
     comes_to c.args.search.now c.requires.ready c.args.node node has c.args.trail.now.pairs c.args.trail.now.slots c.requires.solving c.requires.distinct c.requires.above
-    (c.keeps_apart.ensures.0 c.if-not-keeps_apart.false)
+    (c.keeps_apart.ensures.apart.0 c.if-not-keeps_apart.false)

@@ -1,4 +1,4 @@
-use Rattle.std.proofs.Common.{Some, sym, ◌∙◌, refl}
+use Rattle.std.proofs.Common.{sym}
 use Rattle.si_unify.specs.Solving.{IsBinding}
 use Rattle.si_unify.proofs.Places.{all_at}
 use Rattle.si_descend.proofs.HeadLaws.{split_wanted}

@@ -1,10 +1,12 @@
-use Rattle.std.proofs.Common.{◌+◌, refl, ◌∙◌, subst, arith}
+use Rattle.std.proofs.Common.{◌+◌, [], take, refl, ap, sym, ◌∙◌, subst, append-nil, arith}
 use Rattle.si_changes.proofs.Frames.{legal_nodes}
 use Rattle.si_descend.specs.Searching.{HasEntered, HasFoundBelow}
 use Rattle.si_descend.proofs.Below.{IsChildOf}
 use Rattle.si_descend.proofs.Depths.{child_deeper, falls}
+use Rattle.si_descend.proofs.Entered.{still_noted}
 use Rattle.si_descend.proofs.Visiting.{still_solving, come_down, postings_appended, found_closed, found_open, none_yet, few_below, few_found, found_grows}
 use Rattle.si_descend.proofs.AttemptLaws.{IsUnderway, none_tried, one_not_tried, tried_child, found_more, found_all}
+use Rattle.si_unify.proofs.Answering.{front_of}
 use Rattle.si_unify.proofs.Comparing.{grows_on}
 use Rattle.si_descend.proofs.search.+searching.Goals as goal
 
@@ -19,6 +21,16 @@ visit-returns-clause-found t c =
     found_open c.args.search.now c.requires.ready c.args.node c.requires.node.0 c.requires.node.1 c.args.out.now.items c.append_to.new.others.items c.visit_children.new.out.items c.in_ok-below.below entered.1
     (postings_appended c.args.search.now c.requires.ready c.args.node c.requires.node.0 c.requires.node.1 c.args.out.now.items c.append_to.new.others.items c.postings.result c.in_ok-append_to.ensures.ok (c.postings.ensures c.requires.node.0 c.requires.node.1))
     (c.in_ok-below.ensures.found c.requires.node.0 c.requires.node.1)
+
+pub visit-returns-clause-grows : goal.visit-returns-clause-grows
+visit-returns-clause-grows t c = (
+  [],
+  c.undo-2.ensures.pairs
+      ∙ ap (take c.mark-mark.result) c.in_ok-below.ensures.same
+      ∙ ap (λ n. take n c.enter.new.trail.pairs) c.mark-mark.ensures.number
+      ∙ front_of c.args.trail.now.pairs c.enter.new.trail.pairs c.enter.ensures.grows
+      ∙ sym (append-nil c.args.trail.now.pairs),
+)
 
 pub visit-overflow_add-result : goal.visit-overflow_add-result
 visit-overflow_add-result t c =
@@ -38,6 +50,7 @@ visit_children-loop-place-init t c = record {
   found_so_far = none_tried c.args.search.now c.requires.ready c.args.node c.requires.node.0 c.requires.node.1 c.attempts_at-attempts.result c.attempts_at-attempts.ensures.attempts (λ tried. HasFoundBelow c.args.search.now tried c.args.out.now.items c.args.out.now.items 0) (none_yet c.args.search.now c.requires.ready c.args.out.now.items);
   same_pairs = refl;
   same_slots = refl;
+  same_taken = refl;
 }
 
 pub visit_children-attempt-requires-clause-attempts : goal.visit_children-attempt-requires-clause-attempts
@@ -51,6 +64,7 @@ visit_children-loop-place-preserved-in_default t c = record {
   found_so_far = one_not_tried c.args.search.now c.requires.ready c.args.node c.requires.node.0 c.requires.node.1 c.attempts_at-attempts.result c.attempts_at-attempts.ensures.attempts c.loop-place.place (λ tried. HasFoundBelow c.args.search.now tried c.args.out.now.items c.loop-place.out.items c.loop-place.count) c.in_default.ensures.none c.loop-place.invariant.found_so_far;
   same_pairs = c.loop-place.invariant.same_pairs;
   same_slots = c.loop-place.invariant.same_slots;
+  same_taken = c.loop-place.invariant.same_taken;
 }
 
 pub visit_children-visit-requires : goal.visit_children-visit-requires
@@ -63,7 +77,10 @@ visit_children-visit-requires t c =
           c.requires.ready,
           (
             still_solving c.args.search.now.slots c.args.trail.now.pairs c.loop-place.trail.pairs c.args.trail.now.slots c.loop-place.trail.slots c.loop-place.invariant.same_pairs c.loop-place.invariant.same_slots c.requires.solving,
-            come_down c.args.search.now c.args.node c.in-Some.child c.args.trail.now.pairs c.loop-place.trail.pairs is c.loop-place.invariant.same_pairs c.requires.there,
+            (
+              come_down c.args.search.now c.args.node c.in-Some.child c.args.trail.now.pairs c.loop-place.trail.pairs is c.loop-place.invariant.same_pairs c.requires.there,
+              still_noted c.args.search.now.kind c.args.search.now.slots c.args.trail.now.pairs c.loop-place.trail.pairs c.args.taken.now c.loop-place.taken c.loop-place.invariant.same_pairs c.loop-place.invariant.same_taken c.requires.taken,
+            ),
           ),
         ),
       ),
@@ -74,6 +91,7 @@ visit_children-loop-place-preserved t c = record {
   found_so_far = found_more c.args.search.now c.requires.ready c.args.node c.requires.node.0 c.requires.node.1 c.attempts_at-attempts.result c.attempts_at-attempts.ensures.attempts c.loop-place.place c.in-Some.child c.args.out.now.items c.loop-place.out.items c.visit.new.out.items c.loop-place.count c.in_ok-count.field-0 c.loop-place-test.true c.in-Some.ensures.some c.loop-place.invariant.found_so_far c.in_ok-count.ensures.found;
   same_pairs = c.in_ok-count.ensures.same ∙ c.loop-place.invariant.same_pairs;
   same_slots = c.in_ok-count.ensures.slots ∙ c.loop-place.invariant.same_slots;
+  same_taken = c.in_ok-count.ensures.taken ∙ c.loop-place.invariant.same_taken;
 }
 
 pub visit_children-overflow_add-count : goal.visit_children-overflow_add-count

@@ -10,10 +10,11 @@ decreases-visit l = 2 * (node_count l.search.now.tree.now - depth l.search.now.t
 abbrev pub decreases-visit_children : goal.decreases-visit_children
 decreases-visit_children l = 2 * (node_count l.search.now.tree.now - depth l.search.now.tree.now l.node)
 
-pub record Invariant (found pairs slots : Type 0) : Type 0 where
+pub record Invariant (found pairs slots taken : Type 0) : Type 0 where
   pub found_so_far : found
   pub same_pairs : pairs
   pub same_slots : slots
+  pub same_taken : taken
 
 abbrev pub invariant-visit_children-loop-place : goal.invariant-visit_children-loop-place
 invariant-visit_children-loop-place l =
@@ -21,3 +22,4 @@ invariant-visit_children-loop-place l =
     (IsUnderway l.search l.node l.attempts l.place (λ tried. HasFoundBelow l.search tried l.fn.out.items l.out.items l.count))
     (l.trail.pairs ≡ l.fn.trail.pairs)
     (l.trail.slots ≡ l.fn.trail.slots)
+    (l.taken ≡ l.fn.taken)

@@ -1,7 +1,7 @@
-use Rattle.std.proofs.Common.{length, ap, sym, subst, arith}
+use Rattle.std.proofs.Common.{subst, arith}
 use Rattle.si_fit.specs.Fitting.{HasFitted}
 use Rattle.si_descend.proofs.Entering.{entered_range, never_entered}
-use Rattle.si_descend.proofs.Entered.{entered_plain, entered_variants, known_first, variants_freeze, instances_differ, generalizations_differ, unifiable_differ}
+use Rattle.si_descend.proofs.Entered.{entered_plain, entered_variants, known_taken, notes_new, plain_notes, room_taken, instances_differ, generalizations_differ, unifiable_differ}
 use Rattle.si_descend.proofs.search.enter.Goals as goal
 
 pub fit-requires-clause-range : goal.fit-requires-clause-range
@@ -37,3 +37,28 @@ pub returns-in-Variants-clause-enters : goal.returns-in-Variants-clause-enters
 returns-in-Variants-clause-enters c =
     let node = c.requires.node in
     entered_variants c.args.search.now c.requires.ready c.args.node node.0 node.1 c.bindings.result.now (c.bindings.ensures node.0 node.1) c.args.trail.now.pairs (c.requires.above node.0 node.1) c.fit.new.trail.pairs c.in-Variants.is c.fit.new.trail.slots c.in_ok-fit.ensures.ready c.is_renaming.ensures.distinct c.in_ok-fit.field-0 c.is_renaming.result c.in_ok-fit.ensures.fits c.if-not-branch.false c.is_renaming.ensures.renaming
+
+pub returns-in-Instances-clause-taken : goal.returns-in-Instances-clause-taken
+returns-in-Instances-clause-taken c told =
+    plain_notes c.args.search.now.kind c.args.search.now.slots c.fit.new.trail.pairs c.args.taken.now (instances_differ c.args.search.now.kind c.in-Instances.is)
+
+pub returns-in-Generalizations-clause-taken : goal.returns-in-Generalizations-clause-taken
+returns-in-Generalizations-clause-taken c told =
+    plain_notes c.args.search.now.kind c.args.search.now.slots c.fit.new.trail.pairs c.args.taken.now (generalizations_differ c.args.search.now.kind c.in-Generalizations.is)
+
+pub returns-in-Unifiable-clause-taken : goal.returns-in-Unifiable-clause-taken
+returns-in-Unifiable-clause-taken c told =
+    plain_notes c.args.search.now.kind c.args.search.now.slots c.fit.new.trail.pairs c.args.taken.now (unifiable_differ c.args.search.now.kind c.in-Unifiable.is)
+
+pub is_renaming-requires-clause-taken : goal.is_renaming-requires-clause-taken
+is_renaming-requires-clause-taken c =
+    let node = c.requires.node in
+    known_taken c.args.search.now c.requires.ready c.args.node node.0 node.1 c.bindings.result.now (c.bindings.ensures node.0 node.1) c.args.trail.now.pairs (c.requires.above node.0 node.1) c.fit.new.trail.pairs c.mark-known.result c.in_ok-fit.field-0 c.args.taken.now c.in_ok-fit.ensures.fits c.if-not-branch.false c.in-Variants.is c.mark-known.ensures.number c.fit.ensures.grows c.requires.taken
+
+pub is_renaming-requires-clause-room : goal.is_renaming-requires-clause-room
+is_renaming-requires-clause-room c = room_taken c.args.search.now.kind c.args.search.now.slots c.args.trail.now.pairs c.args.taken.now c.in-Variants.is c.requires.taken
+
+pub returns-in-Variants-clause-taken : goal.returns-in-Variants-clause-taken
+returns-in-Variants-clause-taken c told =
+    notes_new c.args.search.now.kind c.args.search.now.slots c.fit.new.trail.pairs c.is_renaming.new.taken c.in-Variants.is (c.is_renaming.ensures.taken told)
+    (omega (arith, c.is_renaming.ensures.slots, room_taken c.args.search.now.kind c.args.search.now.slots c.args.trail.now.pairs c.args.taken.now c.in-Variants.is c.requires.taken))

@@ -1,8 +1,8 @@
-use Rattle.std.proofs.Common.{inl, inr, get_or, sym}
+use Rattle.std.proofs.Common.{get_or, sym}
 use Rattle.si_unify.specs.Solving.{IsBinding}
 use Rattle.si_unify.proofs.Places.{all_at, whole_at, inside}
 use Rattle.si_fit.proofs.EndLaws.{no_cell}
-use Rattle.si_descend.proofs.RenameLaws.{never_unbound, no_entry, became_query, became_other, app_no_query, entry_cell_no_query, ind_cell_no_query}
+use Rattle.si_descend.proofs.RenameLaws.{never_unbound, query_range, became_query, became_other, app_no_query, entry_cell_no_query, ind_cell_no_query}
 use Rattle.si_descend.proofs.variants.outcome.Goals as goal
 
 pub unreachable-requires : goal.unreachable-requires
@@ -18,22 +18,27 @@ end_of-end-requires-clause-range c = (all_at (IsBinding c.args.slots.now) c.args
 pub bounds-0 : goal.bounds-0
 bounds-0 c = inside c.end_of-end.result.now 0 c.end_of-end.ensures.ends.last (whole_at c.end_of-end.result.now c.end_of-end.ensures.ends.last c.end_of-end.ensures.ends.last_stands)
 
-pub returns-in-Query : goal.returns-in-Query
-returns-in-Query c =
+pub returns-in-Query-clause-became : goal.returns-in-Query-clause-became
+returns-in-Query-clause-became c =
     became_query c.args.slots.now c.args.trail.now.pairs c.args.trail.now.slots c.requires.frozen c.requires.solving c.requires.distinct c.args.n c.slot-slot.result c.slot-slot.ensures c.if-slot-first.false c.if-slot-first-2.false c.in-Some.value.now c.in-Some.ensures c.end_of-end.result.now c.end_of-end.ensures.ends c.end_of-end.ensures.range
     c.in-Query.number c.in-Query.is
 
-pub returns-in-App : goal.returns-in-App
-returns-in-App c =
+pub returns-in-Query-clause-range : goal.returns-in-Query-clause-range
+returns-in-Query-clause-range c =
+    query_range c.args.slots.now c.args.trail.now.pairs c.args.trail.now.slots c.requires.frozen c.requires.solving c.requires.distinct c.args.n c.slot-slot.result c.slot-slot.ensures c.if-slot-first.false c.if-slot-first-2.false c.in-Some.value.now c.in-Some.ensures c.end_of-end.result.now c.end_of-end.ensures.ends c.end_of-end.ensures.range
+    c.in-Query.number c.in-Query.is
+
+pub returns-in-App-clause-became : goal.returns-in-App-clause-became
+returns-in-App-clause-became c =
     became_other c.args.slots.now c.args.trail.now.pairs c.args.trail.now.slots c.requires.frozen c.requires.solving c.requires.distinct c.args.n c.slot-slot.result c.slot-slot.ensures c.if-slot-first.false c.if-slot-first-2.false c.in-Some.value.now c.in-Some.ensures c.end_of-end.result.now c.end_of-end.ensures.ends c.end_of-end.ensures.range
     (app_no_query (get_or c.end_of-end.result.now 0 no_cell) c.in-App.sym c.in-App.arity c.in-App.len c.in-App.is)
 
-pub returns-in-Entry : goal.returns-in-Entry
-returns-in-Entry c =
+pub returns-in-Entry-clause-became : goal.returns-in-Entry-clause-became
+returns-in-Entry-clause-became c =
     became_other c.args.slots.now c.args.trail.now.pairs c.args.trail.now.slots c.requires.frozen c.requires.solving c.requires.distinct c.args.n c.slot-slot.result c.slot-slot.ensures c.if-slot-first.false c.if-slot-first-2.false c.in-Some.value.now c.in-Some.ensures c.end_of-end.result.now c.end_of-end.ensures.ends c.end_of-end.ensures.range
     (entry_cell_no_query (get_or c.end_of-end.result.now 0 no_cell) c.in-Entry.field-0 c.in-Entry.is)
 
-pub returns-in-Ind : goal.returns-in-Ind
-returns-in-Ind c =
+pub returns-in-Ind-clause-became : goal.returns-in-Ind-clause-became
+returns-in-Ind-clause-became c =
     became_other c.args.slots.now c.args.trail.now.pairs c.args.trail.now.slots c.requires.frozen c.requires.solving c.requires.distinct c.args.n c.slot-slot.result c.slot-slot.ensures c.if-slot-first.false c.if-slot-first-2.false c.in-Some.value.now c.in-Some.ensures c.end_of-end.result.now c.end_of-end.ensures.ends c.end_of-end.ensures.range
     (ind_cell_no_query (get_or c.end_of-end.result.now 0 no_cell) c.in-Ind.field-0 c.in-Ind.is)

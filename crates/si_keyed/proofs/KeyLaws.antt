@@ -2,7 +2,7 @@
 use Rattle.std.proofs.Common.{◌≡◌, ◌⊎◌, inl, inr, ℕ, zero, suc, ◌+◌, ◌≤◌, List, [], ◌∷◌, ◌++◌, Some, length, slice_get, refl, sym, ap, ◌∙◌, subst, arith, length-append}
 use Rattle.std.proofs.lemmas.Option.{same_Some, none-some}
 use Rattle.si_defs.specs.Substitutions.{IsAmong}
-use Rattle.si_defs.proofs.ListLaws.{among_front, among_back, among_parts, get_among, same_head, same_tail, not_empty}
+use Rattle.si_defs.proofs.ListLaws.{among_back, among_parts, get_among, same_head, same_tail, not_empty}
 use Rattle.si_keyed.specs.Keyed.{item_keys, HasKey, IsTakenOut}
 
 -- what stands last is all that is taken away from there

@@ -4,11 +4,11 @@ use Rattle.std.proofs.lemmas.Option.{same_Some, none-some}
 use Rattle.std.specs.List.{filter}
 use Rattle.si_defs.specs.Substitutions.{IsAmong}
 use Rattle.si_keyed.specs.Halves.{sum_of}
-use Rattle.si_keyed.specs.Keyed.{item_keys, HasKey, IsTakenOut}
+use Rattle.si_keyed.specs.Keyed.{HasKey, IsTakenOut}
 use Rattle.si_keyed.specs.KeyedSlots.{kept, flags, HoldsAt}
 use Rattle.si_keyed.specs.declared.keyed.Kept.{Kept}
 
-get_next : {X : Type 0} (x : X) (xs : List X) (n : ℕ) → slice_get (x ∷ xs) (1 + n) ≡ slice_get xs n
+pub get_next : {X : Type 0} (x : X) (xs : List X) (n : ℕ) → slice_get (x ∷ xs) (1 + n) ≡ slice_get xs n
 get_next x xs n = subst (λ m. slice_get (x ∷ xs) m ≡ slice_get xs n) {x = suc n} (omega arith) refl
 
 module _ {T : Type 0} where

@@ -4,9 +4,11 @@ ghost use Rattle.slab.specs.Slab.{get, slab_len, ContainsKey, HasRoomFor, Update
 ghost use Rattle.si_defs.specs.Substitutions.{IsAmong, AreDistinct};
 ghost use Rattle.si_keyed.specs.Halves.{sum_of};
 ghost use Rattle.si_keyed.specs.Keyed.{item_keys, HasKey, HasKeyAt, IsTakenOut, HasFewHoles};
+ghost use Rattle.si_keyed.specs.Placed.{placed_items, PlacesRise};
 ghost use Rattle.si_keyed.specs.KeyedSlots.{kept, flags, seen, IsLinked, KnowsKeys, IsIndexed};
 ghost use Rattle.std.specs.Iterator.{YieldsFirstBy, item_count};
 
+use crate::places::Places;
 use crate::ranks::Ranks;
 use slab::Slab;
 use std::alloc::{AllocError, Global};
@@ -14,9 +16,9 @@ use std::marker::Model;
 
 /// An item with its key.
 #[derive(Drop)]
-struct Kept<T> {
-    key: usize,
-    item: T,
+pub(crate) struct Kept<T> {
+    pub(crate) key: usize,
+    pub(crate) item: T,
 }
 
 /// A list in the order of insertion. An item goes by a key, which it keeps while it is there, and
@@ -106,6 +108,18 @@ impl<T> KeyedList<T> {
         ensures { HasKeyAt self.now.items result key }
     {
         self.ranks.before(self.places[key])
+    }
+
+    /// Where the items stand.
+    pub fn places(&self) -> Places<'_, T>
+        ensures items { placed_items result ≡ self.now.items }
+        ensures rise { PlacesRise result }
+    {
+        Places {
+            slots: self.slots.as_slice(),
+            places: &self.places,
+            ranks: &self.ranks,
+        }
     }
 
     /// The keys and items, in order.

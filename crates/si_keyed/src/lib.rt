@@ -2,8 +2,10 @@
 #![tactic(auto)]
 
 mod keyed;
+mod places;
 mod ranks;
 #[cfg(test)]
 mod tests;
 
 pub use keyed::{Items, KeyedList};
+pub use places::Places;

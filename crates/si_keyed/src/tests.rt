@@ -1,10 +1,15 @@
 use crate::keyed::KeyedList;
 use std::test::Fail;
 
-// The position and the item of a key, where there are any.
+// The position and the item of a key, where there are any, and where those of its place are the same.
 fn found(list: &KeyedList<u32>, key: usize) -> Option<(usize, u32)> {
     let item = *list.get(key)?;
-    Some((list.position(key), item))
+    let position = list.position(key);
+    let places = list.places();
+    if places.at(places.place(key)) != (position, &item) {
+        return None;
+    }
+    Some((position, item))
 }
 
 // Takes out the item of a key, if there is one.

@@ -52,9 +52,10 @@ impl Names {
         }
     }
 
-    /// Takes the name out. It takes no memory.
-    pub fn remove(&mut self, name: &Name)
-        ensures { ChangesName (name_of name.now) None (key_of self.old) (key_of self.new) }
+    /// Takes the name out, and answers its key. It takes no memory.
+    pub fn remove(&mut self, name: &Name) -> Option<usize>
+        ensures key { result ≡ key_of self.old (name_of name.now) }
+        ensures gone { ChangesName (name_of name.now) None (key_of self.old) (key_of self.new) }
     {
         match name.kind {
             NameKind::Word => self.words.remove(name.text.as_bytes()),

@@ -62,9 +62,10 @@ impl SymbolKeys {
         }
     }
 
-    /// Takes the kind and text out.
-    pub fn remove(&mut self, kind: SymKind, text: &[u8])
-        ensures { HasAtKind kind text.now None (symbol_key self.old) (symbol_key self.new) }
+    /// Takes the kind and text out, and answers their key.
+    pub fn remove(&mut self, kind: SymKind, text: &[u8]) -> Option<usize>
+        ensures key { result ≡ symbol_key self.old kind text.now }
+        ensures gone { HasAtKind kind text.now None (symbol_key self.old) (symbol_key self.new) }
     {
         match kind {
             SymKind::Word => self.words.remove(text),

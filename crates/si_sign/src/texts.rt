@@ -39,10 +39,11 @@ impl TextKeys {
         Ok(())
     }
 
-    /// Takes the text out.
-    pub fn remove(&mut self, text: &[u8])
-        ensures { HasAt text.now None (text_key self.old) (text_key self.new) }
+    /// Takes the text out, and answers its key.
+    pub fn remove(&mut self, text: &[u8]) -> Option<usize>
+        ensures key { result ≡ text_key self.old text.now }
+        ensures gone { HasAt text.now None (text_key self.old) (text_key self.new) }
     {
-        self.keys.swap_remove(text);
+        self.keys.swap_remove(text)
     }
 }

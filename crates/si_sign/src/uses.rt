@@ -157,7 +157,6 @@ impl Uses {
             unreachable!()
         };
         self.total -= 1;
-        self.recent.note(symbol.text.as_bytes(), key);
         if self.slots[key].uses > 1 {
             self.slots[key].uses -= 1;
             return;

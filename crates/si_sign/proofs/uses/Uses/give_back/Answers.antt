@@ -67,7 +67,7 @@ returns-clause-uses c =
     let v : Uses = record { keys = c.remove.new.self; slots = c.remove-counted.new.self; total = t.total - 1; recent = tt } in
     let one : w.uses ≡ 1 = omega (arith, c.if-index-gt1.false, c.requires.uses.used key w there) in
     let positive : 1 ≤ t.total = omega (arith, uses_total (seen t) s, c.requires.used, c.requires.uses.counted) in
-    let keyed = subst (λ x. HasAtKind s.kind x None (symbol_key t.keys) (symbol_key v.keys)) c.as_bytes-2.ensures c.remove.ensures in
+    let keyed = subst (λ x. HasAtKind s.kind x None (symbol_key t.keys) (symbol_key v.keys)) c.as_bytes.ensures c.remove.ensures.gone in
     let gone = c.remove-counted.ensures.updates.changed in
     let change = removed t v c.requires.uses s key w known there one keyed gone c.remove-counted.ensures.updates.others (omega arith) in
     changed t v s.kind s.text key c.requires.uses change
@@ -83,7 +83,7 @@ returns-clause-back c =
     let v : Uses = record { keys = c.remove.new.self; slots = c.remove-counted.new.self; total = t.total - 1; recent = tt } in
     let one : w.uses ≡ 1 = omega (arith, c.if-index-gt1.false, c.requires.uses.used key w there) in
     let positive : 1 ≤ t.total = omega (arith, uses_total (seen t) s, c.requires.used, c.requires.uses.counted) in
-    let keyed = subst (λ x. HasAtKind s.kind x None (symbol_key t.keys) (symbol_key v.keys)) c.as_bytes-2.ensures c.remove.ensures in
+    let keyed = subst (λ x. HasAtKind s.kind x None (symbol_key t.keys) (symbol_key v.keys)) c.as_bytes.ensures c.remove.ensures.gone in
     let gone = c.remove-counted.ensures.updates.changed in
     let change = removed t v c.requires.uses s key w known there one keyed gone c.remove-counted.ensures.updates.others (omega arith) in
     let is = slot_symbol t c.requires.uses s key w c.requires.used known there in

@@ -84,6 +84,13 @@ stats
 """
 
 
+def long() -> bytes:
+    """A session without loads whose output is many times what a pipe of one page holds."""
+    added = "".join(f"add cnf(k{n},axiom,p(f(a{n % 7},X),g(Y,b{n}))|~q(X)).\n" for n in range(60))
+    asked = "unifiable lit p(U,g(V,W))\nunifiable term f(U,V)\nsubsumed p(U,V)\nx\n"
+    return (added + asked * 8 + "stats\n").encode()
+
+
 def written(folder: str) -> tuple[list[str], bytes]:
     """Writes the files into this folder: the words of the call and the session, which name them there."""
     def there(text: str) -> str:

@@ -33,6 +33,7 @@ use Rattle.si_index.specs.Finding.{AreHits, entries_from_position}
 use Rattle.si_index.specs.Engines.{Answering, asks_literals, AreAsked, posted_entries, AreAnswered}
 use Rattle.si_index.specs.Explaining.{Explains}
 use Rattle.si_index.proofs.EngineLaws.{Posted, got_there}
+use Rattle.si_index.proofs.SlotLaws.{place_among}
 use Rattle.si_index.proofs.StandingLaws.{IsOrderly, finds_all, by_terms}
 use Rattle.si_index.proofs.WantedLaws.{Follow, not_again, entries_follow, one_posted, hits_few}
 
@@ -109,11 +110,6 @@ postings_apart k (x ∷ xs) keyed inside follow = (
       not_again x xs follow (subst (IsAmong xs) (one_posted k y.0 x keyed (inside y.0 (inr y.1)) (inside x (inl refl)) y.2) y.1)),
   postings_apart k xs keyed (λ y a. inside y (inr a)) follow.1,
 )
-
-place_among : {X : Type 0} (xs : List X) (x : X) → IsAmong xs x → (n : ℕ) × (slice_get xs n ≡ Some x)
-place_among [] x a = absurd a
-place_among (y ∷ xs) x (inl same) = (0, ap Some same)
-place_among (y ∷ xs) x (inr a) = let h = place_among xs x a in (suc h.0, h.1)
 
 entry_of : (k : Kept) (q : Posting) (e : Entry) → IsPostingOf (kept_clauses k) q e → (x : Posted) × IsAmong (posted_entries 0 (kept_clauses k)) x × (x.0 ≡ q)
 entry_of k q e h =

@@ -1,28 +1,43 @@
 -- What an answer tells of its hits.
-use Rattle.std.proofs.Common.{◌≡◌, ◌≢◌, ℕ, zero, suc, ◌<◌, List, [], ◌∷◌, ◌++◌, length, map, get_or, ap, sym, ◌∙◌, subst, arith}
+use Rattle.std.proofs.Common.{◌≡◌, ◌≢◌, ℕ, zero, suc, ◌<◌, List, [], ◌∷◌, ◌++◌, length, map, get_or, refl, ap, sym, ◌∙◌, subst, arith}
 use Rattle.std.specs.Prelude.{slice_get, None, Some}
 use Rattle.std.specs.List.{AllByRecursion}
 use Rattle.std.proofs.lemmas.List.{length-map}
 use Rattle.std.proofs.lemmas.Option.{get_or_from_slice_get, none-some, same_Some}
 use Rattle.si_defs.specs.Bytes.{Bytes}
-use Rattle.si_defs.specs.Symbols.{Symbol, Numbering}
+use Rattle.si_defs.specs.Symbols.{Symbol, Numbering, IsNumbering}
+use Rattle.si_defs.specs.Clauses.{IsSoundPattern, IsSoundClause}
 use Rattle.si_defs.specs.Entries.{Entry, Placed, pattern_entry, distinct_variables}
 use Rattle.si_defs.proofs.ListLaws.{all_get}
+use Rattle.si_state.specs.Signatures.{IsSignatureOf}
 use Rattle.si_term.specs.Terms.{symbol_of}
 use Rattle.si_term.specs.Meaning.{place_of}
 use Rattle.si_term.specs.declared.term.Sym.{Sym}
 use Rattle.si_flat.specs.Numbered.{number_in}
-use Rattle.si_flat.specs.Flattened.{extra_numbers, query_numbers, whole_of}
+use Rattle.si_flat.specs.Flattened.{FlattensPattern, extra_numbers, query_numbers, whole_of}
 use Rattle.si_form.specs.declared.solution.Binding.{Binding}
 use Rattle.si_form.specs.Answers.{StandsForList}
 use Rattle.si_form.specs.Numberings.{variable_by, list_by, symbols_of}
 use Rattle.si_form.specs.TableNumbers.{HaveNumbers}
 use Rattle.si_index.specs.Finding.{position_and_place}
 use Rattle.si_index.specs.Showing.{ShowsEntry}
+use Rattle.si_index.specs.Slots.{HasSlots}
+use Rattle.si_index.proofs.EntryLaws.{all_clauses_known}
 use Rattle.si_index.specs.Searching.{numbers_of, pattern_in, IsReady, SolvesEntry, HasList, IsMatch, hit_of}
 use Rattle.si_index.specs.declared.search.Search.{Search}
 use Rattle.si_index.specs.declared.wanted.Leaf.{Leaf}
 use Rattle.si_index.specs.declared.gather.Match.{Match}
+
+-- the numbers of a search are those of its index, whose clauses are sound
+pub is_ready : (s : Search) → numbers_of s ≡ s.index.now.numbers → IsNumbering s.index.now.numbers → IsSoundPattern (pattern_in s) → FlattensPattern (numbers_of s) (pattern_in s) s.query → HasSlots s.index.now s.slots
+    → IsSignatureOf s.index.now.clauses s.signature.now → AllByRecursion IsSoundClause s.index.now.clauses → IsReady s
+is_ready s numbers numbering sound flat slots signed clauses = record {
+  numbering = subst IsNumbering (sym numbers) numbering;
+  sound = sound;
+  flat = flat;
+  slots = slots;
+  known = all_clauses_known (numbers_of s) s.index.now.clauses s.signature.now refl signed clauses;
+}
 
 -- there are as many hits as matches
 pub inside : (ms : List Match) (n : ℕ) (hits : List (ℕ × Placed)) → map hit_of ms ≡ hits → n < length hits → n < length ms

@@ -13,6 +13,7 @@ mod KnownLaws
 mod NameLaws
 mod NamedLaws
 mod ScreenLaws
+pub mod SlotLaws
 pub mod OrderLaws
 pub mod ShownNames
 pub mod StandingLaws

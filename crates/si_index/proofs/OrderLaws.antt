@@ -9,28 +9,28 @@ use Rattle.std.proofs.lemmas.Cmp.{ranked}
 use Rattle.std.proofs.lemmas.Map.Keys.{IsDistinct-IsPermutation, IsDistinct-head, IsDistinct-tail}
 use Rattle.si_defs.proofs.ListLaws.{all_weaker}
 use Rattle.si_index.specs.declared.wanted.Wanted.{Wanted}
-use Rattle.si_index.specs.Gathering.{IsBefore, Rise}
+use Rattle.si_index.specs.Gathering.{IsLower, IsBefore, Rise}
 
 -- ---- the order
 abbrev pub compares : Wanted → Wanted → Ordering
-compares a b = ordering_then (nat_cmp a.position b.position) (ordering_then (nat_cmp a.entry b.entry) (nat_cmp a.leaf b.leaf))
+compares a b = ordering_then (nat_cmp a.slot b.slot) (ordering_then (nat_cmp a.entry b.entry) (nat_cmp a.leaf b.leaf))
 
 abbrev pub is_same : Wanted → Wanted → Bool
-is_same a b = eqb a.position b.position && eqb a.entry b.entry
+is_same a b = eqb a.slot b.slot && eqb a.entry b.entry
 
-pub before_then : (a b c : Wanted) → IsBefore a b → IsBefore b c → IsBefore a c
-before_then a b c (inl h) (inl k) = inl (omega (arith, h, k))
-before_then a b c (inl h) (inr k) = inl (omega (arith, h, k.0))
-before_then a b c (inr h) (inl k) = inl (omega (arith, h.0, k))
-before_then a b c (inr h) (inr k) = inr (h.0 ∙ k.0, omega (arith, h.1, k.1))
+pub lower_then : (a b c : ℕ × ℕ) → IsLower a b → IsLower b c → IsLower a c
+lower_then a b c (inl h) (inl k) = inl (omega (arith, h, k))
+lower_then a b c (inl h) (inr k) = inl (omega (arith, h, k.0))
+lower_then a b c (inr h) (inl k) = inl (omega (arith, h.0, k))
+lower_then a b c (inr h) (inr k) = inr (h.0 ∙ k.0, omega (arith, h.1, k.1))
 
 -- what isn't above, and isn't the same, stands before
 stands_before : (a b : Wanted) → is_lt (compares b a) ≡ false → is_same a b ≡ false → IsBefore a b
-stands_before a b sorted differ = by (nat_cmp b.position a.position) (nat_cmp b.entry a.entry) (nat_cmp b.leaf a.leaf) (ranked b.position a.position _ refl) (ranked b.entry a.entry _ refl) sorted where
-  same : b.position ≡ a.position → b.entry ≡ a.entry → is_same a b ≡ true
-  same p e = and_from (eqb a.position b.position) (eqb a.entry b.entry) (eq-eqb a.position b.position (sym p)) (eq-eqb a.entry b.entry (sym e))
+stands_before a b sorted differ = by (nat_cmp b.slot a.slot) (nat_cmp b.entry a.entry) (nat_cmp b.leaf a.leaf) (ranked b.slot a.slot _ refl) (ranked b.entry a.entry _ refl) sorted where
+  same : b.slot ≡ a.slot → b.entry ≡ a.entry → is_same a b ≡ true
+  same p e = and_from (eqb a.slot b.slot) (eqb a.entry b.entry) (eq-eqb a.slot b.slot (sym p)) (eq-eqb a.entry b.entry (sym e))
 
-  by : (p e l : Ordering) → MatchOrdering p (b.position < a.position) (b.position ≡ a.position) (a.position < b.position)
+  by : (p e l : Ordering) → MatchOrdering p (b.slot < a.slot) (b.slot ≡ a.slot) (a.slot < b.slot)
       → MatchOrdering e (b.entry < a.entry) (b.entry ≡ a.entry) (a.entry < b.entry) → is_lt (ordering_then p (ordering_then e l)) ≡ false → IsBefore a b
   by Less e l of_p of_e above = absurd (let wrong : true ≡ false = above in cc)
   by Equal Less l of_p of_e above = absurd (let wrong : true ≡ false = above in cc)
@@ -53,10 +53,10 @@ sorted_rise (w ∷ []) sorted distinct = (tt, tt)
 sorted_rise (w ∷ v ∷ ws) sorted distinct =
     let rest = sorted_rise (v ∷ ws) (rest_sorted w (v ∷ ws) sorted) (IsDistinct-tail is_same w (v ∷ ws) distinct) in
     let next : IsBefore w v = stands_before w v (sorted 0 w (omega arith) (omega arith)) (IsDistinct-head is_same w (v ∷ ws) distinct).0 in
-    ((next, all_weaker (IsBefore v) (IsBefore w) ws (λ u. before_then w v u next) rest.0), rest)
+    ((next, all_weaker (IsBefore v) (IsBefore w) ws (λ u. lower_then (w.slot, w.entry) (v.slot, v.entry) (u.slot, u.entry) next) rest.0), rest)
 
 flips : (a b : Wanted) → is_same a b ≡ is_same b a
-flips a b = λ i. eqb_flips a.position b.position i && eqb_flips a.entry b.entry i where
+flips a b = λ i. eqb_flips a.slot b.slot i && eqb_flips a.entry b.entry i where
   eqb_flips : (m n : ℕ) → eqb m n ≡ eqb n m
   eqb_flips m n =
       elim (cases_eq m n) [

@@ -10,19 +10,22 @@ use Rattle.std.proofs.lemmas.List.{length-map, map-append}
 use Rattle.std.proofs.lemmas.List.Elements.{All-from_recursion, recursion_from_All}
 use Rattle.std.proofs.lemmas.List.Sorted.{All-permutation, IsPermutation-map, IsPermutation-sym}
 use Rattle.std.proofs.lemmas.Map.Keys.{IsDistinct-cons}
-use Rattle.std.proofs.lemmas.Option.{same_Some, none-some, slice_get_within, get_or_from_slice_get}
+use Rattle.std.proofs.lemmas.Option.{same_Some, none-some}
 use Rattle.si_defs.specs.Symbols.{Numbering}
 use Rattle.si_defs.specs.Clauses.{Clause, Pattern, literal_pattern, term_pattern}
 use Rattle.si_defs.specs.Entries.{Entry, literal_entry, term_entry, Placed, entries, state_entries, placed_in}
 use Rattle.si_defs.specs.Substitutions.{IsAmong, AreDistinct}
 use Rattle.si_defs.specs.declared.Relation.{Relation}
-use Rattle.si_defs.proofs.ListLaws.{all_at, all_from, all_weaker, all_append, among_parts, get_some, get_among}
+use Rattle.si_defs.proofs.ListLaws.{all_at, all_from, all_weaker, all_append, among_parts, get_among}
 use Rattle.si_state.specs.Answers.{Stands}
+use Rattle.si_term.specs.Meaning.{clause_of}
 use Rattle.si_flat.specs.declared.Cell.{Cell}
 use Rattle.si_flat.specs.declared.flatten.FlatQuery.{FlatQuery}
 use Rattle.si_flat.specs.Cells.{entry, Term}
 use Rattle.si_flat.specs.Flattened.{FlattensPattern, numbered_entry}
 use Rattle.si_form.proofs.Moving.{among_map}
+use Rattle.si_keyed.specs.Placed.{PlacesRise}
+use Rattle.si_keyed.proofs.PlacedLaws.{lower_position, same_position, key_there, key_is}
 use Rattle.si_legal.specs.declared.Posting.{Posting}
 use Rattle.si_legal.specs.Engines.{AreAnswers, AppendsAnswers}
 use Rattle.si_legal.specs.KeptTrees.{is_literal, IsPostingOf}
@@ -33,7 +36,8 @@ use Rattle.si_held.proofs.KeyLaws.{one_entry as kept_once}
 use Rattle.si_index.specs.Kept.{Kept, AreKeyed, TreesHold, paired, kept_clauses}
 use Rattle.si_index.specs.Leaves.{HasNode, AreUnmade, StayMade}
 use Rattle.si_index.specs.Engines.{Answering, asks_literals, AreAsked, AnswersStanding, IsOfStanding, posted_from, posted_entries, AreAnswered}
-use Rattle.si_index.specs.Gathering.{IsBefore, Rise, StandsFor, IsStored, IsInLeaf, AreInOrder, IsHitAt, IsStandingAt}
+use Rattle.si_index.specs.Gathering.{IsLower, IsBefore, Rise, StandsFor, IsStored, IsInLeaf, AreInOrder, IsHitAt, IsStandingAt}
+use Rattle.si_index.specs.Slots.{Slots, HasSlots, IsIn}
 use Rattle.si_index.specs.Searching.{numbers_of, pattern_in, tree_in, term_in, AreAlike, IsOfLeaf}
 use Rattle.si_index.specs.declared.search.Search.{Search}
 use Rattle.si_index.specs.declared.wanted.Leaf.{Leaf}
@@ -41,7 +45,8 @@ use Rattle.si_index.specs.declared.wanted.Ordered.{Ordered}
 use Rattle.si_index.specs.declared.wanted.Wanted.{Wanted}
 use Rattle.si_index.proofs.EngineLaws.{Posted, stands_at, got_there, among_key, one_clause}
 use Rattle.si_index.proofs.FlatLaws.{alike_standing}
-use Rattle.si_index.proofs.OrderLaws.{is_same, before_then, AreSorted, sorted_rise, distinct_sorted}
+use Rattle.si_index.proofs.SlotLaws.{place_among, has_key, has_clause, one_key}
+use Rattle.si_index.proofs.OrderLaws.{is_same, lower_then, AreSorted, sorted_rise, distinct_sorted}
 
 -- ---- members of a list in another order
 among_permutation : {X : Type 0} (xs ys : List X) → IsPermutation xs ys → (x : X) → IsAmong ys x → IsAmong xs x
@@ -51,26 +56,25 @@ among_permutation xs ys moved x a =
     a
 
 -- ---- postings, and where their entries stand
-abbrev pub posting_at : List ℕ → Wanted → Posting
-posting_at keys w = record { clause = get_or keys w.position 0; entry = w.entry }
+abbrev pub posting_at : Slots → Wanted → Posting
+posting_at slots w = record { clause = key_there slots w.slot; entry = w.entry }
 
 -- the entries of these postings stand there, and in these leaves
-pub record ArePlaced (keys : List ℕ) (tree : Tree Term) (leaves : List Leaf) (postings : List Posting) (ws : List Wanted) : Type 0 where
-  pub postings_are : map (posting_at keys) ws ≡ postings
-  pub inside : AllByRecursion (λ w. w.position < length keys) ws
-  pub in_leaves : AllByRecursion (IsInLeaf keys tree leaves) ws
+pub record ArePlaced (slots : Slots) (tree : Tree Term) (leaves : List Leaf) (postings : List Posting) (ws : List Wanted) : Type 0 where
+  pub postings_are : map (posting_at slots) ws ≡ postings
+  pub in_leaves : AllByRecursion (IsInLeaf slots tree leaves) ws
 
 -- the one of this posting does
-pub record IsPlaced (keys : List ℕ) (tree : Tree Term) (leaves : List Leaf) (p : Posting) (w : Wanted) : Type 0 where
-  pub key : slice_get keys w.position ≡ Some p.clause
+pub record IsPlaced (slots : Slots) (tree : Tree Term) (leaves : List Leaf) (p : Posting) (w : Wanted) : Type 0 where
+  pub key : IsIn slots w.slot p.clause
   pub number : w.entry ≡ p.entry
   pub node : ℕ
   pub has_node : HasNode leaves w.leaf node
   pub term : Term
   pub stands : StandsIn tree node term p
 
-in_leaf : (keys : List ℕ) (tree : Tree Term) (leaves : List Leaf) (p : Posting) (w : Wanted) → IsPlaced keys tree leaves p w → IsInLeaf keys tree leaves w
-in_leaf keys tree leaves p w h = record {
+in_leaf : (slots : Slots) (tree : Tree Term) (leaves : List Leaf) (p : Posting) (w : Wanted) → IsPlaced slots tree leaves p w → IsInLeaf slots tree leaves w
+in_leaf slots tree leaves p w h = record {
   key = p.clause;
   has_key = h.key;
   node = h.node;
@@ -79,8 +83,8 @@ in_leaf keys tree leaves p w h = record {
   stands = subst (StandsIn tree h.node h.term) (λ i. record { clause = p.clause; entry = sym h.number i }) h.stands;
 }
 
-leaf_stays : (keys : List ℕ) (tree : Tree Term) (old new : List Leaf) (w : Wanted) → StayMade old new → IsInLeaf keys tree old w → IsInLeaf keys tree new w
-leaf_stays keys tree old new w stay h = record {
+leaf_stays : (slots : Slots) (tree : Tree Term) (old new : List Leaf) (w : Wanted) → StayMade old new → IsInLeaf slots tree old w → IsInLeaf slots tree new w
+leaf_stays slots tree old new w stay h = record {
   key = h.key;
   has_key = h.has_key;
   node = h.node;
@@ -89,60 +93,59 @@ leaf_stays keys tree old new w stay h = record {
   stands = h.stands;
 }
 
-placed_more : (keys : List ℕ) (tree : Tree Term) (old new : List Leaf) (postings : List Posting) (ws : List Wanted) (p : Posting) (w : Wanted) → ArePlaced keys tree old postings ws → StayMade old new
-    → IsPlaced keys tree new p w → ArePlaced keys tree new (postings ++ p ∷ []) (ws ++ w ∷ [])
-placed_more keys tree old new postings ws p w h stay one =
-    let same : posting_at keys w ≡ p = λ i. record { clause = get_or_from_slice_get keys w.position p.clause 0 one.key i; entry = one.number i } in
+placed_more : (slots : Slots) (tree : Tree Term) (old new : List Leaf) (postings : List Posting) (ws : List Wanted) (p : Posting) (w : Wanted) → PlacesRise slots → ArePlaced slots tree old postings ws → StayMade old new
+    → IsPlaced slots tree new p w → ArePlaced slots tree new (postings ++ p ∷ []) (ws ++ w ∷ [])
+placed_more slots tree old new postings ws p w rise h stay one =
+    let same : posting_at slots w ≡ p = λ i. record { clause = key_is slots w.slot p.clause one.key.0 rise one.key.1 i; entry = one.number i } in
     record {
-      postings_are = map-append (posting_at keys) ws (w ∷ []) ∙ (λ i. h.postings_are i ++ same i ∷ []);
-      inside = all_append (λ (v : Wanted). v.position < length keys) ws (w ∷ []) h.inside (slice_get_within keys w.position p.clause one.key, tt);
+      postings_are = map-append (posting_at slots) ws (w ∷ []) ∙ (λ i. h.postings_are i ++ same i ∷ []);
       in_leaves =
-          all_append (IsInLeaf keys tree new) ws (w ∷ []) (all_weaker (IsInLeaf keys tree old) (IsInLeaf keys tree new) ws (λ v. leaf_stays keys tree old new v stay) h.in_leaves)
-          (in_leaf keys tree new p w one, tt);
+          all_append (IsInLeaf slots tree new) ws (w ∷ []) (all_weaker (IsInLeaf slots tree old) (IsInLeaf slots tree new) ws (λ v. leaf_stays slots tree old new v stay) h.in_leaves)
+          (in_leaf slots tree new p w one, tt);
     }
 
-pub placed_next : (keys : List ℕ) (tree : Tree Term) (old new : List Leaf) (postings : List Posting) (ws : List Wanted) (i : ℕ) (d : Posting) (w : Wanted) → i < length postings → ArePlaced keys tree old (take i postings) ws
-    → StayMade old new → IsPlaced keys tree new (get_or postings i d) w → ArePlaced keys tree new (take (i + 1) postings) (ws ++ w ∷ [])
-placed_next keys tree old new postings ws i d w less h stay one =
+pub placed_next : (slots : Slots) (tree : Tree Term) (old new : List Leaf) (postings : List Posting) (ws : List Wanted) (i : ℕ) (d : Posting) (w : Wanted) → PlacesRise slots → i < length postings → ArePlaced slots tree old (take i postings) ws
+    → StayMade old new → IsPlaced slots tree new (get_or postings i d) w → ArePlaced slots tree new (take (i + 1) postings) (ws ++ w ∷ [])
+placed_next slots tree old new postings ws i d w rise less h stay one =
     let turn : suc i ≡ i + 1 = omega arith in
-    subst (λ ps. ArePlaced keys tree new ps (ws ++ w ∷ [])) (sym (take-suc postings i d less) ∙ ap (λ n. take n postings) turn) (placed_more keys tree old new (take i postings) ws (get_or postings i d) w h stay one)
+    subst (λ ps. ArePlaced slots tree new ps (ws ++ w ∷ [])) (sym (take-suc postings i d less) ∙ ap (λ n. take n postings) turn) (placed_more slots tree old new (take i postings) ws (get_or postings i d) w rise h stay one)
 
-differ_from : (keys : List ℕ) (w : Wanted) (ws : List Wanted) → (IsAmong (map (posting_at keys) ws) (posting_at keys w) → ⊥) → AllByRecursion (λ v. is_same w v ≡ false) ws
-differ_from keys w ws none = all_from (λ v. is_same w v ≡ false) ws (λ v a. apart v a (cases_Bool (is_same w v))) where
+differ_from : (slots : Slots) (w : Wanted) (ws : List Wanted) → (IsAmong (map (posting_at slots) ws) (posting_at slots w) → ⊥) → AllByRecursion (λ v. is_same w v ≡ false) ws
+differ_from slots w ws none = all_from (λ v. is_same w v ≡ false) ws (λ v a. apart v a (cases_Bool (is_same w v))) where
   apart : (v : Wanted) → IsAmong ws v → (is_same w v ≡ true) ⊎ (is_same w v ≡ false) → is_same w v ≡ false
   apart v a (inr differ) = differ
   apart v a (inl same) =
       let parts = and_parts _ _ same in
-      let position = eqb-true w.position v.position parts.0 in
+      let slot = eqb-true w.slot v.slot parts.0 in
       let number = eqb-true w.entry v.entry parts.1 in
-      absurd (none (subst (IsAmong (map (posting_at keys) ws)) (λ i. record { clause = get_or keys (sym position i) 0; entry = sym number i }) (among_map (posting_at keys) ws v a)))
+      absurd (none (subst (IsAmong (map (posting_at slots) ws)) (λ i. record { clause = key_there slots (sym slot i); entry = sym number i }) (among_map (posting_at slots) ws v a)))
 
-distinct_places : (keys : List ℕ) (ws : List Wanted) → AreDistinct (map (posting_at keys) ws) → IsDistinct is_same ws
+distinct_places : (slots : Slots) (ws : List Wanted) → AreDistinct (map (posting_at slots) ws) → IsDistinct is_same ws
 unfolding IsDistinct
-distinct_places keys [] distinct = tt
-distinct_places keys (w ∷ ws) distinct = IsDistinct-cons is_same w ws (differ_from keys w ws distinct.0) (distinct_places keys ws distinct.1)
+distinct_places slots [] distinct = tt
+distinct_places slots (w ∷ ws) distinct = IsDistinct-cons is_same w ws (differ_from slots w ws distinct.0) (distinct_places slots ws distinct.1)
 
-each_placed : (k : Kept) (ws : List Wanted) → AllByRecursion (λ w. w.position < length k.keys) ws → AllZip (StandsFor k) (map (posting_at k.keys) ws) ws
-each_placed k [] inside = tt
-each_placed k (w ∷ ws) inside =
-    let key = get_some k.keys w.position inside.0 in
-    ((key.1 ∙ ap Some (sym (get_or_from_slice_get k.keys w.position key.0 0 key.1)), refl), each_placed k ws inside.1)
+each_placed : (slots : Slots) (tree : Tree Term) (leaves : List Leaf) (ws : List Wanted) → PlacesRise slots → AllByRecursion (IsInLeaf slots tree leaves) ws → AllZip (StandsFor slots) (map (posting_at slots) ws) ws
+each_placed slots tree leaves [] rise in_leaves = tt
+each_placed slots tree leaves (w ∷ ws) rise in_leaves =
+    let key = key_is slots w.slot in_leaves.0.key in_leaves.0.has_key.0 rise in_leaves.0.has_key.1 in
+    ((subst (IsIn slots w.slot) (sym key) in_leaves.0.has_key, refl), each_placed slots tree leaves ws rise in_leaves.1)
 
 moved_all : (P : Wanted → Type 0) (ws vs : List Wanted) → IsPermutation ws vs → AllByRecursion P ws → AllByRecursion P vs
 moved_all P ws vs moved all = recursion_from_All P vs (All-permutation P ws vs moved (All-from_recursion P ws all))
 
-pub sorted_in_order : (k : Kept) (tree : Tree Term) (postings : List Posting) (ws : List Wanted) (o : Ordered) → ArePlaced k.keys tree o.leaves.items postings ws → AreUnmade o.leaves.items → AreDistinct postings
-    → IsPermutation ws o.places.items → AreSorted o.places.items → AreInOrder k tree postings o
-sorted_in_order k tree postings ws o placed unmade distinct moved sorted =
+pub sorted_in_order : (slots : Slots) (tree : Tree Term) (postings : List Posting) (ws : List Wanted) (o : Ordered) → PlacesRise slots → ArePlaced slots tree o.leaves.items postings ws → AreUnmade o.leaves.items → AreDistinct postings
+    → IsPermutation ws o.places.items → AreSorted o.places.items → AreInOrder slots tree postings o
+sorted_in_order slots tree postings ws o rise placed unmade distinct moved sorted =
     let vs = o.places.items in
-    let inside = moved_all (λ w. w.position < length k.keys) ws vs moved placed.inside in
-    let apart = distinct_places k.keys ws (subst AreDistinct (sym placed.postings_are) distinct) in
+    let in_leaves = moved_all (IsInLeaf slots tree o.leaves.items) ws vs moved placed.in_leaves in
+    let apart = distinct_places slots ws (subst AreDistinct (sym placed.postings_are) distinct) in
     record {
-      ordered = map (posting_at k.keys) vs;
-      same = subst (λ ps. IsPermutation ps (map (posting_at k.keys) vs)) placed.postings_are (IsPermutation-map (posting_at k.keys) ws vs moved);
-      each = each_placed k vs inside;
+      ordered = map (posting_at slots) vs;
+      same = subst (λ ps. IsPermutation ps (map (posting_at slots) vs)) placed.postings_are (IsPermutation-map (posting_at slots) ws vs moved);
+      each = each_placed slots tree o.leaves.items vs rise in_leaves;
       rise = sorted_rise vs sorted (distinct_sorted ws vs moved apart);
-      in_leaves = moved_all (IsInLeaf k.keys tree o.leaves.items) ws vs moved placed.in_leaves;
+      in_leaves = in_leaves;
       unmade = unmade;
     }
 
@@ -171,12 +174,12 @@ pub postings_stored : (k : Kept) (relation : Relation) (p : Pattern) (postings :
 postings_stored k relation p postings hold standing = all_from (IsStored (tree_for (asks_literals p) k.trees)) postings (λ q a. stored_standing k relation p q hold (standing q a))
 
 -- of a search whose numbers are those of its index, and whose trees hold the clauses
-module _ (s : Search) (leaves : List Leaf) (keyed : AreKeyed s.index.now) (hold : TreesHold s.index.now) (numbers : numbers_of s ≡ s.index.now.numbers) where
+module _ (s : Search) (leaves : List Leaf) (slots : HasSlots s.index.now s.slots) (keyed : AreKeyed s.index.now) (hold : TreesHold s.index.now) (numbers : numbers_of s ≡ s.index.now.numbers) where
   -- the leaf of a posting has the term of its entry
-  leaf_term : (q : Posting) (w : Wanted) (e : Entry) → StandsFor s.index.now q w → IsInLeaf s.index.now.keys (tree_in s) leaves w → IsPostingOf (kept_clauses s.index.now) q e → IsOfLeaf s leaves w.leaf e
+  leaf_term : (q : Posting) (w : Wanted) (e : Entry) → StandsFor s.slots q w → IsInLeaf s.slots (tree_in s) leaves w → IsPostingOf (kept_clauses s.index.now) q e → IsOfLeaf s leaves w.leaf e
   leaf_term q w e there h own =
       let k = s.index.now in
-      let key = same_Some h.key q.clause (sym h.has_key ∙ there.0) in
+      let key = one_key s.slots w.slot h.key q.clause slots.rise h.has_key there.0 in
       let stands : StandsIn (tree_in s) h.node h.term q = subst (StandsIn (tree_in s) h.node h.term) (λ i. record { clause = key i; entry = there.1 i }) h.stands in
       let of = (held k.numbers (kept_clauses k) k.trees hold (asks_literals (pattern_in s)) h.term q).0 (h.node, stands) in
       let same : of.0 ≡ e = kept_once (kept_clauses k) q of.0 e hold.keys of.1 own in
@@ -184,37 +187,37 @@ module _ (s : Search) (leaves : List Leaf) (keyed : AreKeyed s.index.now) (hold 
       (h.node, h.has_node, (stands.0, subst (λ t. IsLeaf (tree_in s) h.node t stands.0) term stands.1))
 
   -- the entry of a posting of an entry in the relation
-  standing_at : (q : Posting) (w : Wanted) → StandsFor s.index.now q w → IsInLeaf s.index.now.keys (tree_in s) leaves w → IsOfStanding s.index.now s.relation (pattern_in s) q → IsStandingAt s leaves w
+  standing_at : (q : Posting) (w : Wanted) → StandsFor s.slots q w → IsInLeaf s.slots (tree_in s) leaves w → IsOfStanding s.index.now s.relation (pattern_in s) q → IsStandingAt s leaves w
   standing_at q w there in_its standing =
       let k = s.index.now in
       let own = standing.1 in
-      let at = get_some k.clauses w.position (omega (arith, keyed.number, slice_get_within k.keys w.position q.clause there.0)) in
-      let clause : at.0 ≡ own.clause =
-      one_clause k.keys k.clauses q.clause at.0 own.clause keyed.distinct
-      (get_among (kept_clauses k) w.position (q.clause, at.0) (paired_got k.keys k.clauses w.position q.clause at.0 there.0 at.1)) own.is_kept in
+      let c = there.0.0 in
+      let at = place_among s.slots (w.slot, (q.clause, c)) there.0.1 in
+      let pair = paired_got k.keys k.clauses at.0 q.clause (clause_of c) (has_key k s.slots slots at.0 w.slot q.clause c at.1) (has_clause k s.slots slots at.0 w.slot q.clause c at.1) in
+      let clause : clause_of c ≡ own.clause = one_clause k.keys k.clauses q.clause (clause_of c) own.clause keyed.distinct (get_among (kept_clauses k) at.0 (q.clause, clause_of c) pair) own.is_kept in
       record {
-        hit = (w.position, own.placed);
+        hit = (at.0, own.placed);
         at = record {
-          position = refl;
-          clause = own.clause;
-          there = at.1 ∙ ap Some clause;
-          numbered = ap (slice_get (entries own.clause)) there.1 ∙ own.numbered;
+          key = q.clause;
+          clause = c;
+          there = at.1;
+          numbered = (λ i. slice_get (entries (clause i)) (there.1 i)) ∙ own.numbered;
         };
         stands = subst (Stands s.relation (pattern_in s)) (sym own.entry_is) standing.2;
         of_leaf = subst (IsOfLeaf s leaves w.leaf) (sym own.entry_is) (leaf_term q w standing.0 there in_its own);
       }
 
-  all_standing : (qs : List Posting) (ws : List Wanted) → AllZip (StandsFor s.index.now) qs ws → AllByRecursion (IsInLeaf s.index.now.keys (tree_in s) leaves) ws
+  all_standing : (qs : List Posting) (ws : List Wanted) → AllZip (StandsFor s.slots) qs ws → AllByRecursion (IsInLeaf s.slots (tree_in s) leaves) ws
       → ((q : Posting) → IsAmong qs q → IsOfStanding s.index.now s.relation (pattern_in s) q) → AllByRecursion (IsStandingAt s leaves) ws
   all_standing [] [] each in_leaves standing = tt
   all_standing [] (w ∷ ws) each in_leaves standing = absurd each
   all_standing (q ∷ qs) [] each in_leaves standing = absurd each
   all_standing (q ∷ qs) (w ∷ ws) each in_leaves standing = (standing_at q w each.0 in_leaves.0 (standing q (inl refl)), all_standing qs ws each.1 in_leaves.1 (λ p a. standing p (inr a)))
 
-pub wanted_stand : (s : Search) (postings : List Posting) (o : Ordered) → AreKeyed s.index.now → TreesHold s.index.now → numbers_of s ≡ s.index.now.numbers → AreInOrder s.index.now (tree_in s) postings o
+pub wanted_stand : (s : Search) (postings : List Posting) (o : Ordered) → HasSlots s.index.now s.slots → AreKeyed s.index.now → TreesHold s.index.now → numbers_of s ≡ s.index.now.numbers → AreInOrder s.slots (tree_in s) postings o
     → ((q : Posting) → IsAmong postings q → IsOfStanding s.index.now s.relation (pattern_in s) q) → AllByRecursion (IsStandingAt s o.leaves.items) o.places.items
-wanted_stand s postings o keyed hold numbers order standing =
-    all_standing s o.leaves.items keyed hold numbers order.ordered o.places.items order.each order.in_leaves (λ q a. standing q (among_permutation postings order.ordered order.same q a))
+wanted_stand s postings o slots keyed hold numbers order standing =
+    all_standing s o.leaves.items slots keyed hold numbers order.ordered o.places.items order.each order.in_leaves (λ q a. standing q (among_permutation postings order.ordered order.same q a))
 
 -- ---- an engine was asked for the pattern, and answered this
 pub record IsAnsweredBy (answers : Answering) (k : Kept) (relation : Relation) (p : Pattern) (cells : List Cell) (seen : List Posting) : Type 0 where
@@ -243,23 +246,18 @@ postings_keyed k relation p postings standing =
     all_from (λ q. IsAmong k.keys q.clause) postings (λ q a. let own = (standing q a).1 in among_key k.keys k.clauses q.clause own.clause own.is_kept)
 
 -- ---- entries, each before all after it
-abbrev place : Posted → Wanted
-place x = record { position = x.1.0; entry = x.0.entry; leaf = 0 }
-
--- by position and entry alone
-same_before : (a b c d : Wanted) → a.position ≡ c.position → a.entry ≡ c.entry → b.position ≡ d.position → b.entry ≡ d.entry → IsBefore a b → IsBefore c d
-same_before a b c d p e q f (inl h) = inl (omega (arith, h, p, q))
-same_before a b c d p e q f (inr h) = inr (sym p ∙ h.0 ∙ q, omega (arith, h.1, e, f))
+abbrev place : Posted → ℕ × ℕ
+place x = (x.1.0, x.0.entry)
 
 abbrev pub Follow : List Posted → Type 0
 Follow [] = Unit {0}
-Follow (x ∷ xs) = ((y : Posted) → IsAmong xs y → IsBefore (place x) (place y)) × Follow xs
+Follow (x ∷ xs) = ((y : Posted) → IsAmong xs y → IsLower (place x) (place y)) × Follow xs
 
-never_before : (w : Wanted) → IsBefore w w → ⊥
+never_before : (w : ℕ × ℕ) → IsLower w w → ⊥
 never_before w (inl less) = omega (arith, less)
 never_before w (inr both) = omega (arith, both.1)
 
-follow_append : (xs ys : List Posted) → Follow xs → Follow ys → ((x y : Posted) → IsAmong xs x → IsAmong ys y → IsBefore (place x) (place y)) → Follow (xs ++ ys)
+follow_append : (xs ys : List Posted) → Follow xs → Follow ys → ((x y : Posted) → IsAmong xs x → IsAmong ys y → IsLower (place x) (place y)) → Follow (xs ++ ys)
 follow_append [] ys up ups over = ups
 follow_append (x ∷ xs) ys up ups over = (
   (λ y a. elim (among_parts xs ys y a) [ inl b ↦ up.0 y b | inr b ↦ over x y (inl refl) b ]),
@@ -268,8 +266,8 @@ follow_append (x ∷ xs) ys up ups over = (
 
 -- an entry that comes later isn't the first
 not_later : (x : Posted) (xs rs : List Posted) (r : Posted) → Follow (x ∷ xs) → Follow (r ∷ rs) → IsAmong xs r → IsAmong (r ∷ rs) x → ⊥
-not_later x xs rs r up ups later (inl is) = never_before (place x) (subst (λ (y : Posted). IsBefore (place x) (place y)) is (up.0 r later))
-not_later x xs rs r up ups later (inr a) = never_before (place x) (before_then (place x) (place r) (place x) (up.0 r later) (ups.0 x a))
+not_later x xs rs r up ups later (inl is) = never_before (place x) (subst (λ (y : Posted). IsLower (place x) (place y)) is (up.0 r later))
+not_later x xs rs r up ups later (inr a) = never_before (place x) (lower_then (place x) (place r) (place x) (up.0 r later) (ups.0 x a))
 
 -- nor is the first among those after it
 pub not_again : (x : Posted) (xs : List Posted) → Follow (x ∷ xs) → IsAmong xs x → ⊥
@@ -379,8 +377,8 @@ found [] hits = []
 found (q ∷ qs) [] = []
 found (q ∷ qs) (hit ∷ hits) = (q, hit) ∷ found qs hits
 
-module _ (k : Kept) where
-  found_hits : (qs : List Posting) (ws : List Wanted) (hits : List (ℕ × Placed)) → AllZip (StandsFor k) qs ws → AllZip (IsHitAt k) ws hits → map (λ x. x.1) (found qs hits) ≡ hits
+module _ (slots : Slots) where
+  found_hits : (qs : List Posting) (ws : List Wanted) (hits : List (ℕ × Placed)) → AllZip (StandsFor slots) qs ws → AllZip (IsHitAt slots) ws hits → map (λ x. x.1) (found qs hits) ≡ hits
   found_hits [] [] [] each are = refl
   found_hits [] [] (hit ∷ hits) each are = absurd are
   found_hits [] (w ∷ ws) hits each are = absurd each
@@ -392,10 +390,10 @@ module _ (k : Kept) where
     at : Wanted
     among : IsAmong ws at
     asked : IsAmong qs x.0
-    there : StandsFor k x.0 at
-    hit : IsHitAt k at x.1
+    there : StandsFor slots x.0 at
+    hit : IsHitAt slots at x.1
 
-  of_found : (qs : List Posting) (ws : List Wanted) (hits : List (ℕ × Placed)) (x : Posted) → AllZip (StandsFor k) qs ws → AllZip (IsHitAt k) ws hits → IsAmong (found qs hits) x → IsFoundAt qs ws x
+  of_found : (qs : List Posting) (ws : List Wanted) (hits : List (ℕ × Placed)) (x : Posted) → AllZip (StandsFor slots) qs ws → AllZip (IsHitAt slots) ws hits → IsAmong (found qs hits) x → IsFoundAt qs ws x
   of_found [] ws hits x each are a = absurd a
   of_found (q ∷ qs) ws [] x each are a = absurd a
   of_found (q ∷ qs) [] (hit ∷ hits) x each are a = absurd each
@@ -405,46 +403,54 @@ module _ (k : Kept) where
       let h = of_found qs ws hits x each.1 are.1 a in
       record { at = h.at; among = inr h.among; asked = inr h.asked; there = h.there; hit = h.hit }
 
-  with_found : (qs : List Posting) (ws : List Wanted) (hits : List (ℕ × Placed)) (q : Posting) → AllZip (StandsFor k) qs ws → AllZip (IsHitAt k) ws hits → IsAmong qs q → (hit : ℕ × Placed) × IsAmong (found qs hits) (q, hit)
+  with_found : (qs : List Posting) (ws : List Wanted) (hits : List (ℕ × Placed)) (q : Posting) → AllZip (StandsFor slots) qs ws → AllZip (IsHitAt slots) ws hits → IsAmong qs q → (hit : ℕ × Placed) × IsAmong (found qs hits) (q, hit)
   with_found [] ws hits q each are a = absurd a
   with_found (p ∷ qs) [] hits q each are a = absurd each
   with_found (p ∷ qs) (w ∷ ws) [] q each are a = absurd are
   with_found (p ∷ qs) (w ∷ ws) (hit ∷ hits) q each are (inl s) = (hit, inl (ap (λ (r : Posting). (r, hit)) s))
   with_found (p ∷ qs) (w ∷ ws) (hit ∷ hits) q each are (inr a) = let h = with_found qs ws hits q each.1 are.1 a in (h.0, inr h.1)
 
-  found_follow : (qs : List Posting) (ws : List Wanted) (hits : List (ℕ × Placed)) → AllZip (StandsFor k) qs ws → AllZip (IsHitAt k) ws hits → Rise ws → Follow (found qs hits)
-  found_follow [] ws hits each are rise = tt
-  found_follow (q ∷ qs) ws [] each are rise = tt
-  found_follow (q ∷ qs) [] (hit ∷ hits) each are rise = absurd each
-  found_follow (q ∷ qs) (w ∷ ws) (hit ∷ hits) each are rise = (
+  -- positions rise with slots
+  hits_rise : (w v : Wanted) (a b : ℕ × Placed) (m n : ℕ) → PlacesRise slots → IsHitAt slots w a → IsHitAt slots v b → w.entry ≡ m → v.entry ≡ n → IsBefore w v → IsLower (a.0, m) (b.0, n)
+  hits_rise w v a b m n rise h g e f (inl less) = inl (lower_position slots a.0 b.0 _ _ rise h.there g.there less)
+  hits_rise w v a b m n rise h g e f (inr both) = inr (same_position slots a.0 b.0 _ _ rise h.there g.there both.0, omega (arith, both.1, e, f))
+
+  found_follow : (qs : List Posting) (ws : List Wanted) (hits : List (ℕ × Placed)) → PlacesRise slots → AllZip (StandsFor slots) qs ws → AllZip (IsHitAt slots) ws hits → Rise ws → Follow (found qs hits)
+  found_follow [] ws hits up each are rise = tt
+  found_follow (q ∷ qs) ws [] up each are rise = tt
+  found_follow (q ∷ qs) [] (hit ∷ hits) up each are rise = absurd each
+  found_follow (q ∷ qs) (w ∷ ws) (hit ∷ hits) up each are rise = (
     (λ y a.
         let h = of_found qs ws hits y each.1 are.1 a in
-        same_before w h.at (place (q, hit)) (place y) (sym are.0.position) each.0.1 (sym h.hit.position) h.there.1 (all_at (IsBefore w) ws h.at rise.0 h.among)),
-    found_follow qs ws hits each.1 are.1 rise.1,
+        hits_rise w h.at hit y.1 q.entry y.0.entry up are.0 h.hit each.0.1 h.there.1 (all_at (IsBefore w) ws h.at rise.0 h.among)),
+    found_follow qs ws hits up each.1 are.1 rise.1,
   )
 
-  found_kept : (qs : List Posting) (ws : List Wanted) (x : Posted) → IsFoundAt qs ws x → IsAmong (posted_entries 0 (kept_clauses k)) x
-  found_kept qs ws x h =
-      let pair = paired_got k.keys k.clauses h.at.position x.0.clause h.hit.clause h.there.0 h.hit.there in
-      let from_zero : 0 + h.at.position ≡ x.1.0 = omega (arith, h.hit.position) in
+  found_kept : (k : Kept) (qs : List Posting) (ws : List Wanted) (x : Posted) → HasSlots k slots → IsFoundAt qs ws x → IsAmong (posted_entries 0 (kept_clauses k)) x
+  found_kept k qs ws x of h =
+      let n = x.1.0 in
+      let c = h.hit.clause in
+      let key : h.hit.key ≡ x.0.clause = one_key slots h.at.slot h.hit.key x.0.clause of.rise (c, get_among slots n (h.at.slot, (h.hit.key, c)) h.hit.there) h.there.0 in
+      let pair = paired_got k.keys k.clauses n x.0.clause (clause_of c) (has_key k slots of n h.at.slot h.hit.key c h.hit.there ∙ ap Some key) (has_clause k slots of n h.at.slot h.hit.key c h.hit.there) in
+      let from_zero : 0 + n ≡ n = omega arith in
       subst (IsAmong (posted_entries 0 (kept_clauses k))) (λ i. (record { clause = x.0.clause; entry = h.there.1 i }, (from_zero i, x.1.1)))
-      (got_there 0 (kept_clauses k) h.at.position h.at.entry (x.0.clause, h.hit.clause) x.1.1 pair h.hit.numbered)
+      (got_there 0 (kept_clauses k) n h.at.entry (x.0.clause, clause_of c) x.1.1 pair h.hit.numbered)
 
 -- the hits are the entries of the answers
-pub hits_answered : (k : Kept) (these : Posting → Type 0) (tree : Tree Term) (postings : List Posting) (o : Ordered) (hits : List (ℕ × Placed)) → AreKeyed k
-    → AreAnswers these postings → AreInOrder k tree postings o → AllZip (IsHitAt k) o.places.items hits → AreAnswered these (posted_entries 0 (kept_clauses k)) hits
-hits_answered k these tree postings o hits keyed answers order are =
+pub hits_answered : (k : Kept) (slots : Slots) (these : Posting → Type 0) (tree : Tree Term) (postings : List Posting) (o : Ordered) (hits : List (ℕ × Placed)) → AreKeyed k → HasSlots k slots
+    → AreAnswers these postings → AreInOrder slots tree postings o → AllZip (IsHitAt slots) o.places.items hits → AreAnswered these (posted_entries 0 (kept_clauses k)) hits
+hits_answered k slots these tree postings o hits keyed at answers order are =
     let ws = o.places.items in
     let qs = order.ordered in
     let all = posted_entries 0 (kept_clauses k) in
-    let of : (x : Posted) → IsAmong (found qs hits) x → IsFoundAt k qs ws x = λ x a. of_found k qs ws hits x order.each are a in
-    subst (AreAnswered these all) (found_hits k qs ws hits order.each are)
-    (answered_in_turn these all (found qs hits) (entries_follow 0 (kept_clauses k)) (found_follow k qs ws hits order.each are order.rise)
-    (λ x a. found_kept k qs ws x (of x a))
+    let of : (x : Posted) → IsAmong (found qs hits) x → IsFoundAt slots qs ws x = λ x a. of_found slots qs ws hits x order.each are a in
+    subst (AreAnswered these all) (found_hits slots qs ws hits order.each are)
+    (answered_in_turn these all (found qs hits) (entries_follow 0 (kept_clauses k)) (found_follow slots qs ws hits at.rise order.each are order.rise)
+    (λ x a. found_kept slots k qs ws x at (of x a))
     (λ x a. (
       (λ t.
-          let h = with_found k qs ws hits x.0 order.each are (among_permutation qs postings (IsPermutation-sym postings qs order.same) x.0 ((answers.exact x.0).1 t)) in
-          subst (IsAmong (found qs hits)) (one_posted k (x.0, h.0) x keyed (found_kept k qs ws (x.0, h.0) (of (x.0, h.0) h.1)) a refl) h.1),
+          let h = with_found slots qs ws hits x.0 order.each are (among_permutation qs postings (IsPermutation-sym postings qs order.same) x.0 ((answers.exact x.0).1 t)) in
+          subst (IsAmong (found qs hits)) (one_posted k (x.0, h.0) x keyed (found_kept slots k qs ws (x.0, h.0) at (of (x.0, h.0) h.1)) a refl) h.1),
       (λ b. (answers.exact x.0).0 (among_permutation postings qs order.same x.0 (of x b).asked)),
     )))
 

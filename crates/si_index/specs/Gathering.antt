@@ -3,18 +3,18 @@
 use Rattle.std.specs.Prelude.{◌≡◌, ◌⊎◌, ℕ, ◌<◌, ◌≤◌, List, [], ◌∷◌, ◌++◌, Some, map, drop, slice_get}
 use Rattle.std.specs.List.{AllByRecursion, AllZip}
 use Rattle.std.specs.List.Sorted.{IsPermutation}
-use Rattle.si_defs.specs.Clauses.{Clause}
 use Rattle.si_defs.specs.Entries.{Placed, entries}
 use Rattle.si_state.specs.Answers.{Stands}
 use Rattle.si_term.specs.Meaning.{clause_of}
+use Rattle.si_term.specs.declared.clause.Clause.{Clause}
 use Rattle.si_entries.specs.Walks.{IsSmall, left_of}
 use Rattle.si_flat.specs.Cells.{Term}
 use Rattle.si_legal.specs.declared.Posting.{Posting}
 use Rattle.si_legal.specs.StoredSets.{IsUnder}
 use Rattle.si_legal.specs.Trees.{Tree, StandsIn}
-use Rattle.si_index.specs.Kept.{Kept}
 use Rattle.si_index.specs.Leaves.{HasNode, AreUnmade}
 use Rattle.si_index.specs.Searching.{pattern_in, AreMatches, IsOfLeaf, hit_of}
+use Rattle.si_index.specs.Slots.{Slots, IsIn}
 use Rattle.si_index.specs.declared.gather.ClauseWalk.{ClauseWalk}
 use Rattle.si_index.specs.declared.gather.Matches.{Matches}
 use Rattle.si_index.specs.declared.search.Search.{Search}
@@ -23,9 +23,13 @@ use Rattle.si_index.specs.declared.wanted.Ordered.{Ordered}
 use Rattle.si_index.specs.declared.wanted.Wanted.{Wanted}
 
 -- ---- where entries stand
+-- the first pair of numbers stands before the second
+abbrev pub IsLower : ℕ × ℕ → ℕ × ℕ → Type 0
+IsLower a b = (a.0 < b.0) ⊎ ((a.0 ≡ b.0) × (a.1 < b.1))
+
 -- the first entry stands before the second
 abbrev pub IsBefore : Wanted → Wanted → Type 0
-IsBefore a b = (a.position < b.position) ⊎ ((a.position ≡ b.position) × (a.entry < b.entry))
+IsBefore a b = IsLower (a.slot, a.entry) (b.slot, b.entry)
 
 -- each stands before all after it
 abbrev pub Rise : List Wanted → Type 0
@@ -33,18 +37,18 @@ Rise [] = Unit {0}
 Rise (w ∷ ws) = AllByRecursion (IsBefore w) ws × Rise ws
 
 -- the entry of this posting stands there
-abbrev pub StandsFor : Kept → Posting → Wanted → Type 0
-StandsFor k p w = (slice_get k.keys w.position ≡ Some p.clause) × (w.entry ≡ p.entry)
+abbrev pub StandsFor : Slots → Posting → Wanted → Type 0
+StandsFor slots p w = IsIn slots w.slot p.clause × (w.entry ≡ p.entry)
 
 -- the tree stores the posting
 abbrev pub IsStored : Tree Term → Posting → Type 0
 IsStored tree p = (t : Term) × IsUnder tree t p
 
 -- the posting of the entry there is stored in the leaf with this number
-pub record IsInLeaf (keys : List ℕ) (tree : Tree Term) (leaves : List Leaf) (w : Wanted)
+pub record IsInLeaf (slots : Slots) (tree : Tree Term) (leaves : List Leaf) (w : Wanted)
     : Type 0 where
   pub key : ℕ
-  pub has_key : slice_get keys w.position ≡ Some key
+  pub has_key : IsIn slots w.slot key
   pub node : ℕ
   pub has_node : HasNode leaves w.leaf node
   pub term : Term
@@ -52,39 +56,40 @@ pub record IsInLeaf (keys : List ℕ) (tree : Tree Term) (leaves : List Leaf) (w
 
 -- it is where the entries of these postings stand, in order, and their leaves, of which no list is
 -- made yet
-pub record AreInOrder (k : Kept) (tree : Tree Term) (postings : List Posting) (o : Ordered)
+pub record AreInOrder (slots : Slots) (tree : Tree Term) (postings : List Posting) (o : Ordered)
     : Type 0 where
   pub ordered : List Posting
   pub same : IsPermutation postings ordered
-  pub each : AllZip (StandsFor k) ordered o.places.items
+  pub each : AllZip (StandsFor slots) ordered o.places.items
   pub rise : Rise o.places.items
-  pub in_leaves : AllByRecursion (IsInLeaf k.keys tree o.leaves.items) o.places.items
+  pub in_leaves : AllByRecursion (IsInLeaf slots tree o.leaves.items) o.places.items
   pub unmade : AreUnmade o.leaves.items
 
 -- the hit is the entry that stands there
-pub record IsHitAt (k : Kept) (w : Wanted) (hit : ℕ × Placed) : Type 0 where
-  pub position : hit.0 ≡ w.position
+pub record IsHitAt (slots : Slots) (w : Wanted) (hit : ℕ × Placed) : Type 0 where
+  pub key : ℕ
   pub clause : Clause
-  pub there : slice_get k.clauses w.position ≡ Some clause
-  pub numbered : slice_get (entries clause) w.entry ≡ Some hit.1
+  pub there : slice_get slots hit.0 ≡ Some (w.slot, (key, clause))
+  pub numbered : slice_get (entries (clause_of clause)) w.entry ≡ Some hit.1
 
 -- an entry stands there, it stands in the relation, and is of the leaf with this number
 pub record IsStandingAt (s : Search) (leaves : List Leaf) (w : Wanted) : Type 0 where
   pub hit : ℕ × Placed
-  pub at : IsHitAt s.index.now w hit
+  pub at : IsHitAt s.slots w hit
   pub stands : Stands s.relation (pattern_in s) hit.1.entry
   pub of_leaf : IsOfLeaf s leaves w.leaf hit.1.entry
 
 -- ---- a walk
--- it goes through a kept clause, and the entry that comes next has its number
-pub record IsWalk (k : Kept) (walk : ClauseWalk) : Type 0 where
-  pub there : slice_get k.clauses walk.position ≡ Some (clause_of walk.clause.now)
+-- it goes through the clause in its slot, and the entry that comes next has its number
+pub record IsWalk (slots : Slots) (walk : ClauseWalk) : Type 0 where
+  pub key : ℕ
+  pub there : slice_get slots walk.position ≡ Some (walk.slot, (key, walk.clause.now))
   pub small : IsSmall walk.entries
   pub left : left_of walk.entries ≡ drop walk.next (entries (clause_of walk.clause.now))
 
 -- it didn't pass what stands there
 abbrev pub IsAhead : ClauseWalk → Wanted → Type 0
-IsAhead walk w = walk.position ≡ w.position → walk.next ≤ w.entry
+IsAhead walk w = walk.slot ≡ w.slot → walk.next ≤ w.entry
 
 -- this hit was added
 pub record Adds (s : Search) (hit : ℕ × Placed) (old new : Matches) : Type 0 where

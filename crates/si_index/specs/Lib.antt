@@ -9,5 +9,6 @@ pub mod Leaves
 pub mod Names
 pub mod Searching
 pub mod Showing
+pub mod Slots
 pub mod Stored
 pub mod Subsuming

@@ -27,6 +27,7 @@ use Rattle.si_legal.specs.Trees.{Tree, IsLeaf}
 use Rattle.si_held.specs.TwoTrees.{tree_for}
 use Rattle.si_index.specs.Engines.{asks_literals}
 use Rattle.si_index.specs.Leaves.{HasNode, HasMade}
+use Rattle.si_index.specs.Slots.{HasSlots}
 use Rattle.si_index.specs.declared.search.Search.{Search}
 use Rattle.si_index.specs.declared.wanted.Leaf.{Leaf}
 use Rattle.si_index.specs.declared.gather.Match.{Match}
@@ -38,11 +39,6 @@ numbers_of s = numbering s.signature.now
 
 abbrev pub pattern_in : Search → Pattern
 pattern_in s = pattern_of s.pattern.now
-
-pub record IsReady (s : Search) : Type 0 where
-  pub numbering : IsNumbering (numbers_of s)
-  pub sound : IsSoundPattern (pattern_in s)
-  pub flat : FlattensPattern (numbers_of s) (pattern_in s) s.query
 
 -- only literals of one sign are compared, and terms with terms
 abbrev pub AreAlike : Pattern → Entry → Type 0
@@ -69,6 +65,14 @@ pub record IsKnownEntry (numbers : Numbering) (e : Entry) : Type 0 where
 pub record IsKnownClause (numbers : Numbering) (c : Clause) : Type 0 where
   pub sound : IsSoundClause c
   pub numbered : HaveNumbers numbers (clause_symbols c)
+
+-- ---- the search can begin: its clauses are those of the index, and are known
+pub record IsReady (s : Search) : Type 0 where
+  pub numbering : IsNumbering (numbers_of s)
+  pub sound : IsSoundPattern (pattern_in s)
+  pub flat : FlattensPattern (numbers_of s) (pattern_in s) s.query
+  pub slots : HasSlots s.index.now s.slots
+  pub known : AllByRecursion (IsKnownClause (numbers_of s)) s.index.now.clauses
 
 -- ---- what an entry is answered
 -- the entry stands in the relation, and has a canonical list

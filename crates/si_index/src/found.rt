@@ -217,11 +217,13 @@ impl Index {
         let literal = asks_literals(pattern);
         let passed = engine.ask(literal, relation, &query.flat, &mut postings)?;
         let trees = self.trees();
-        let ordered = in_order(self, trees, literal, postings.as_slice())?;
+        let slots = self.slots();
+        let ordered = in_order(self, &slots, trees, literal, postings.as_slice())?;
         let Ordered { places, leaves } = ordered;
         let search = Search {
             alloc,
             index: self,
+            slots,
             signature,
             relation,
             pattern,

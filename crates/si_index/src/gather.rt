@@ -1,12 +1,13 @@
 // The entries that an engine answered, each with its place and its list.
-ghost use Rattle.std.specs.Prelude.{◌≡◌, ℕ, ◌<◌, ◌+◌, IfOk, OnOk, map, length};
+ghost use Rattle.std.specs.Prelude.{◌≡◌, ℕ, ◌+◌, IfOk, OnOk, map};
 ghost use Rattle.std.specs.List.{AllByRecursion, AllZip};
 ghost use Rattle.si_defs.specs.Entries.{Placed};
 ghost use Rattle.si_term.specs.Meaning.{entry_of};
 ghost use Rattle.si_state.specs.Answers.{Stands};
 ghost use Rattle.si_entries.specs.Walks.{place_in};
+ghost use Rattle.si_keyed.specs.Placed.{HasPlace};
 ghost use Rattle.si_index.specs.Leaves.{AreUnmade, IsUnmade, StayMade};
-ghost use Rattle.si_index.specs.Searching.{numbers_of, pattern_in, IsReady, IsKnownEntry, IsKnownClause, IsOfLeaf, AreMade, HasList, AreMatches, hit_of};
+ghost use Rattle.si_index.specs.Searching.{numbers_of, pattern_in, IsReady, IsKnownEntry, IsOfLeaf, AreMade, HasList, AreMatches, hit_of};
 ghost use Rattle.si_index.specs.Gathering.{Rise, IsAhead, IsHitAt, IsStandingAt, IsWalk, Adds};
 
 use crate::found::Hit;
@@ -45,6 +46,7 @@ struct Gathered<'a> {
 /// A walk through the entries of a clause.
 #[derive(Drop)]
 struct ClauseWalk<'a> {
+    slot: u32,
     position: u32,
     clause: &'a Clause,
     entries: Entries<'a>,
@@ -53,52 +55,50 @@ struct ClauseWalk<'a> {
 }
 
 impl<'a> ClauseWalk<'a> {
-    /// All entries of the clause at this position come next.
-    fn new(search: &Search<'a>, position: u32) -> ClauseWalk<'a>
-        requires there { position < length search.now.index.now.clauses }
-        requires known { AllByRecursion (IsKnownClause (numbers_of search.now))
-            search.now.index.now.clauses }
-        ensures walk { IsWalk search.now.index.now result }
-        ensures position { result.position ≡ position }
+    /// All entries of the clause in this slot come next.
+    fn new(search: &Search<'a>, slot: u32) -> ClauseWalk<'a>
+        requires ready { IsReady search.now }
+        requires there { HasPlace search.now.slots slot }
+        ensures walk { IsWalk search.now.slots result }
+        ensures slot { result.slot ≡ slot }
         ensures next { result.next ≡ 0 }
     {
-        let clause = search.index.clause(position);
+        let (position, clause) = search.slots.at(slot as usize);
         ClauseWalk {
-            position,
+            slot,
+            position: position as u32,
             clause,
             entries: Entries::new(search.alloc, clause),
             next: 0,
         }
     }
 
-    /// Begins with the clause at this position, unless it is there.
+    /// Begins with the clause in this slot, unless it is there.
     fn turn_to(&mut self, search: &Search<'a>, place: Wanted)
-        requires there { place.position < length search.now.index.now.clauses }
-        requires known { AllByRecursion (IsKnownClause (numbers_of search.now))
-            search.now.index.now.clauses }
-        requires walk { IsWalk search.now.index.now self.old }
+        requires ready { IsReady search.now }
+        requires there { HasPlace search.now.slots place.slot }
+        requires walk { IsWalk search.now.slots self.old }
         requires ahead { IsAhead self.old place }
-        ensures walk { IsWalk search.now.index.now self.new }
-        ensures position { self.new.position ≡ place.position }
+        ensures walk { IsWalk search.now.slots self.new }
+        ensures slot { self.new.slot ≡ place.slot }
         ensures ahead { IsAhead self.new place }
     {
-        if self.position != place.position {
-            *self = ClauseWalk::new(search, place.position);
+        if self.slot != place.slot {
+            *self = ClauseWalk::new(search, place.slot);
         }
     }
 
     /// Gives the entry that stands here, which wasn't passed. After an error the walk is of no use.
     fn go_to(&mut self, search: &Search<'a>, place: Wanted) -> Result<Entry<'a>, AllocError>
-        requires known { AllByRecursion (IsKnownClause (numbers_of search.now))
-            search.now.index.now.clauses }
-        requires there { (hit : ℕ × Placed) × IsHitAt search.now.index.now place hit }
-        requires walk { IsWalk search.now.index.now self.old }
+        requires ready { IsReady search.now }
+        requires there { (hit : ℕ × Placed) × IsHitAt search.now.slots place hit }
+        requires walk { IsWalk search.now.slots self.old }
         requires ahead { IsAhead self.old place }
-        ensures walk { OnOk result (IsWalk search.now.index.now self.new) }
-        ensures position { OnOk result (self.new.position ≡ place.position) }
+        ensures walk { OnOk result (IsWalk search.now.slots self.new) }
+        ensures slot { OnOk result (self.new.slot ≡ place.slot) }
         ensures next { OnOk result (self.new.next ≡ place.entry + 1) }
-        ensures entry { IfOk result (λ entry. IsHitAt search.now.index.now place (
-          place.position,
+        ensures entry { IfOk result (λ entry. IsHitAt search.now.slots place (
+          self.new.position,
           record {
             entry = entry_of entry;
             place = place_in self.new.entries;
@@ -123,7 +123,7 @@ fn add<'a>(
     gathered: &mut Gathered<'a>,
 ) -> Result<(), AllocError>
     requires ready { IsReady search.now }
-    requires walk { IsWalk search.now.index.now walk.now }
+    requires walk { IsWalk search.now.slots walk.now }
     requires known { IsKnownEntry (numbers_of search.now) (entry_of entry) }
     requires stands { Stands search.now.relation (pattern_in search.now) (entry_of entry) }
     requires leaf { IsOfLeaf search.now gathered.old.matches.leaves.items leaf (entry_of entry) }
@@ -217,13 +217,11 @@ pub(crate) fn gather<'a>(
     leaves: Vec<Leaf>,
 ) -> Result<Matches<'a>, AllocError>
     requires ready { IsReady search.now }
-    requires known { AllByRecursion (IsKnownClause (numbers_of search.now))
-        search.now.index.now.clauses }
     requires unmade { AreUnmade leaves.items }
     requires stand { AllByRecursion (IsStandingAt search.now leaves.items) places.now }
     requires rise { Rise places.now }
     ensures each { IfOk result (AreMatches search.now) }
-    ensures hits { IfOk result (λ ms. AllZip (IsHitAt search.now.index.now) places.now
+    ensures hits { IfOk result (λ ms. AllZip (IsHitAt search.now.slots) places.now
         (map hit_of ms.found.items)) }
 {
     let mut gathered = Gathered {
@@ -236,7 +234,7 @@ pub(crate) fn gather<'a>(
     let Some(first) = places.first() else {
         return Ok(gathered.matches);
     };
-    let mut walk = ClauseWalk::new(search, first.position);
+    let mut walk = ClauseWalk::new(search, first.slot);
     for place in places {
         let entry = walk.go_to(search, *place)?;
         add(search, &walk, entry, place.leaf, &mut gathered)?;

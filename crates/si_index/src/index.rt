@@ -3,7 +3,6 @@ ghost use Rattle.std.specs.Prelude.{◌≡◌, ◌<◌, ◌≤◌, [], ◌∷◌
 ghost use Rattle.si_defs.specs.Clauses as defs;
 ghost use Rattle.si_defs.specs.Clauses.{IsSoundClause};
 ghost use Rattle.si_defs.specs.Entries.{entries, state_entries};
-ghost use Rattle.si_defs.specs.Substitutions.{IsAmong};
 ghost use Rattle.si_state.specs.States.{limited_to};
 ghost use Rattle.si_state.specs.Acceptance.{Accepts, IsTaken, Removes};
 ghost use Rattle.si_defs.specs.declared.TheConstants.{MOST_OCCURRENCES};
@@ -18,11 +17,12 @@ ghost use Rattle.si_index.specs.Engines.{TreesAnswer};
 ghost use Rattle.si_index.specs.Known.{IsPut, HasPut};
 ghost use Rattle.si_index.specs.Stored.{AreHeld, MayKeep};
 ghost use Rattle.si_index.specs.Names.{key_of};
+ghost use Rattle.si_index.specs.Slots.{HasSlots};
 
 use crate::known::Known;
 use crate::names::Names;
 use si_forest::Trees;
-use si_keyed::{Items, KeyedList};
+use si_keyed::{Items, KeyedList, Places};
 use si_sign::{AddFault, ClauseStore, Rejected, Signature};
 use si_term::{Clause, Name};
 use si_tree::Counts;
@@ -124,12 +124,11 @@ impl Index {
         self.clauses.at(at as usize).1
     }
 
-    /// The position, from 0, of the clause with this key.
-    pub fn position(&self, key: usize) -> u32
-        requires { IsAmong self.now.keys key }
-        ensures { slice_get self.now.keys result ≡ Some key }
+    /// The clauses by their slots in the list.
+    pub(crate) fn slots(&self) -> Places<'_, Clause>
+        ensures { HasSlots self.now result }
     {
-        self.clauses.position(key) as u32
+        self.clauses.places()
     }
 
     /// The symbols of the clauses.

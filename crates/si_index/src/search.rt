@@ -8,8 +8,9 @@ use crate::index::Index;
 use si_defs::Relation;
 use si_flat::{EntryBuffer, FlatQuery};
 use si_form::{Scratch, Solution, canonical_with};
+use si_keyed::Places;
 use si_sign::Signature;
-use si_term::{Entry, Pattern};
+use si_term::{Clause, Entry, Pattern};
 use std::alloc::{AllocError, Global};
 
 /// What is searched for, and where.
@@ -17,6 +18,8 @@ use std::alloc::{AllocError, Global};
 pub(crate) struct Search<'a> {
     pub(crate) alloc: Global,
     pub(crate) index: &'a Index,
+    /// The clauses of the index, by their slots.
+    pub(crate) slots: Places<'a, Clause>,
     pub(crate) signature: &'a Signature,
     pub(crate) relation: Relation,
     pub(crate) pattern: &'a Pattern,

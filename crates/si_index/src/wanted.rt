@@ -4,19 +4,23 @@ ghost use Rattle.std.specs.List.{AllByRecursion};
 ghost use Rattle.si_defs.specs.Substitutions.{IsAmong, AreDistinct};
 ghost use Rattle.si_held.specs.TwoTrees.{tree_for};
 ghost use Rattle.si_index.specs.Gathering.{AreInOrder, IsStored};
+ghost use Rattle.si_index.specs.Slots.{HasSlots};
 ghost use Rattle.si_index.specs.Leaves.{StayMade, HasNode, AreUnmade};
 
 use crate::index::Index;
 use si_forest::Trees;
 use si_form::Solution;
+use si_keyed::Places;
 use si_legal::Posting;
+use si_term::Clause;
 use si_tree::NodeId;
 use std::alloc::AllocError;
 
-/// Where a kept entry stands: the position of its clause, from 0, and its number in the clause.
+/// Where a kept entry stands: the slot of its clause, and its number in the clause. Slots are in
+/// the order of the clauses, and a key leads to its slot by one read.
 #[derive(Clone, Copy, Debug, PartialEq, Eq, PartialOrd, Ord)]
 pub(crate) struct Wanted {
-    pub(crate) position: u32,
+    pub(crate) slot: u32,
     pub(crate) entry: u32,
     /// The number of its leaf among those that were found.
     pub(crate) leaf: usize,
@@ -41,14 +45,16 @@ pub(crate) struct Ordered {
 /// other is there once.
 pub(crate) fn in_order(
     index: &Index,
+    slots: &Places<'_, Clause>,
     trees: &Trees,
     literal: bool,
     postings: &[Posting],
 ) -> Result<Ordered, AllocError>
+    requires slots { HasSlots index.now slots.now }
     requires kept { AllByRecursion (λ p. IsAmong index.now.keys p.clause) postings.now }
     requires stored { AllByRecursion (IsStored (tree_for literal trees.now)) postings.now }
     requires distinct { AreDistinct postings.now }
-    ensures { IfOk result (AreInOrder index.now (tree_for literal trees.now) postings.now) }
+    ensures { IfOk result (AreInOrder slots.now (tree_for literal trees.now) postings.now) }
 {
     let alloc = index.allocator();
     let mut places = Vec::with_capacity(alloc, postings.len())?;
@@ -56,7 +62,7 @@ pub(crate) fn in_order(
     for posting in postings {
         let node = trees.leaf_of(literal, *posting);
         places.push(Wanted {
-            position: index.position(posting.clause),
+            slot: slots.place(posting.clause) as u32,
             entry: posting.entry,
             leaf: number_of(&mut leaves, node)?,
         })?;

@@ -1,7 +1,7 @@
 use crate::keyed::KeyedList;
 use std::test::Fail;
 
-// The position and the item of a key, where there are any, and where those of its place are the same.
+// The position and the item of a key, where there are any, and its place tells the same.
 fn found(list: &KeyedList<u32>, key: usize) -> Option<(usize, u32)> {
     let item = *list.get(key)?;
     let position = list.position(key);

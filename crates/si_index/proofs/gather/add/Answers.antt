@@ -1,6 +1,7 @@
 use Rattle.std.proofs.Common.{sym}
 use Rattle.si_term.specs.Meaning.{entry_of}
 use Rattle.si_index.proofs.GatherLaws.{adds_match}
+use Rattle.si_index.proofs.SlotLaws.{has_clause}
 use Rattle.si_index.proofs.gather.add.Goals as goal
 
 pub returns-clause-adds : goal.returns-clause-adds
@@ -10,5 +11,5 @@ returns-clause-adds c =
     (record {
       list = c.in_ok-make_list.ensures.list;
       are_names = c.in_ok-names.ensures;
-      there = c.requires.walk.there;
+      there = has_clause c.args.search.now.index.now c.args.search.now.slots c.requires.ready.slots c.args.walk.now.position c.args.walk.now.slot c.requires.walk.key c.args.walk.now.clause.now c.requires.walk.there;
     })

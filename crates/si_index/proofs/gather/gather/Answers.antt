@@ -1,14 +1,14 @@
-use Rattle.std.proofs.Common.{List, get_or, map, take, sym, subst}
+use Rattle.std.proofs.Common.{List, map, take, sym, subst}
 use Rattle.std.specs.List.{AllByRecursion, AllZip}
 use Rattle.si_defs.specs.Entries.{Placed}
-use Rattle.si_defs.proofs.ListLaws.{all_get}
+use Rattle.si_defs.proofs.ListLaws.{all_get, all_got}
 use Rattle.si_term.specs.Meaning.{entry_of}
 use Rattle.si_entries.specs.Walks.{place_in}
 use Rattle.si_index.specs.Gathering.{IsHitAt, IsStandingAt}
 use Rattle.si_index.specs.Searching.{IsMatch, hit_of}
 use Rattle.si_index.specs.declared.gather.Match.{Match}
 use Rattle.si_index.specs.declared.wanted.Wanted.{Wanted}
-use Rattle.si_index.proofs.GatherLaws.{ahead_first, ahead_next, adds_hit, hit_known, hit_stands, hit_of_leaf, places_stay}
+use Rattle.si_index.proofs.GatherLaws.{ahead_first, ahead_next, adds_hit, hit_known, hit_place, hit_stands, hit_of_leaf, places_stay}
 use Rattle.si_index.proofs.LeafLaws.{none_made}
 use Rattle.si_index.proofs.gather.gather.Goals as goal
 
@@ -22,8 +22,13 @@ loop-place-init c =
       stand = c.requires.stand;
       made = none_made s c.args.leaves.items c.requires.unmade;
       each = subst (AllByRecursion (IsMatch s c.args.leaves.items)) none tt;
-      hits = subst (λ (ms : List Match). AllZip (IsHitAt s.index.now) (take 0 c.args.places.now) (map hit_of ms)) none tt;
+      hits = subst (λ (ms : List Match). AllZip (IsHitAt s.slots) (take 0 c.args.places.now) (map hit_of ms)) none tt;
     }
+
+pub new-walk-requires-clause-there : goal.new-walk-requires-clause-there
+new-walk-requires-clause-there c =
+    let here = all_got (IsStandingAt c.args.search.now c.args.leaves.items) c.args.places.now 0 c.in-Some.first.now c.requires.stand (sym c.in-Some.ensures.value) in
+    hit_place c.args.search.now _ here.hit c.requires.ready here.at
 
 pub go_to-requires-clause-there : goal.go_to-requires-clause-there
 go_to-requires-clause-there c =
@@ -31,35 +36,33 @@ go_to-requires-clause-there c =
     (here.hit, here.at)
 
 pub add-requires-clause-known : goal.add-requires-clause-known
-add-requires-clause-known c = hit_known c.args.search.now _ _ c.requires.known c.in_ok-entry.ensures.entry
+add-requires-clause-known c = hit_known c.args.search.now _ _ c.requires.ready c.in_ok-entry.ensures.entry
 
 pub add-requires-clause-stands : goal.add-requires-clause-stands
 add-requires-clause-stands c =
     let leaves = c.loop-place.gathered.matches.leaves.items in
     let here = all_get (IsStandingAt c.args.search.now leaves) c.args.places.now c.loop-place.place-index _ c.loop-place.invariant.stand c.loop-place-test.true in
-    hit_stands c.args.search.now leaves _ _ here c.in_ok-entry.ensures.entry
+    hit_stands c.args.search.now leaves _ _ c.requires.ready here c.in_ok-entry.ensures.entry
 
 pub add-requires-clause-leaf : goal.add-requires-clause-leaf
 add-requires-clause-leaf c =
     let leaves = c.loop-place.gathered.matches.leaves.items in
     let here = all_get (IsStandingAt c.args.search.now leaves) c.args.places.now c.loop-place.place-index _ c.loop-place.invariant.stand c.loop-place-test.true in
-    hit_of_leaf c.args.search.now leaves _ _ here c.in_ok-entry.ensures.entry
+    hit_of_leaf c.args.search.now leaves _ _ c.requires.ready here c.in_ok-entry.ensures.entry
 
 pub loop-place-preserved : goal.loop-place-preserved
 loop-place-preserved c =
     let s = c.args.search.now in
-    let k = s.index.now in
     let ws = c.args.places.now in
     let i = c.loop-place.place-index in
     let less = c.loop-place-test.true in
-    let none : Wanted = record { position = 0; entry = 0; leaf = 0 } in
+    let none : Wanted = record { slot = 0; entry = 0; leaf = 0 } in
     let e : Placed = record { entry = entry_of c.in_ok-entry.entry; place = place_in c.go_to.new.self.entries } in
-    let at = subst (λ n. IsHitAt k (get_or ws i none) (n, e)) (sym c.in_ok-entry.ensures.position) c.in_ok-entry.ensures.entry in
     record {
       walk = c.in_ok-entry.ensures.walk;
-      ahead = ahead_next c.go_to.new.self ws i none less c.requires.rise c.in_ok-entry.ensures.position c.in_ok-entry.ensures.next;
+      ahead = ahead_next c.go_to.new.self ws i none less c.requires.rise c.in_ok-entry.ensures.slot c.in_ok-entry.ensures.next;
       stand = places_stay s _ _ ws c.in_ok-add.ensures.stay c.loop-place.invariant.stand;
       made = c.in_ok-add.ensures.made;
       each = c.in_ok-add.ensures.adds.each;
-      hits = adds_hit k ws i none (c.go_to.new.self.position, e) _ _ less c.loop-place.invariant.hits at c.in_ok-add.ensures.adds.hits;
+      hits = adds_hit s.slots ws i none (c.go_to.new.self.position, e) _ _ less c.loop-place.invariant.hits c.in_ok-entry.ensures.entry c.in_ok-add.ensures.adds.hits;
     }

@@ -7,10 +7,10 @@ use Rattle.si_index.proofs.gather.gather.Given as goal
 -- what stood before this place was added, and nothing else was passed
 abbrev pub invariant-loop-place : goal.invariant-loop-place
 invariant-loop-place l = record {
-  walk : IsWalk l.search.index.now l.walk;
+  walk : IsWalk l.search.slots l.walk;
   ahead : AllByRecursion (IsAhead l.walk) (drop l.place-index l.places);
   stand : AllByRecursion (IsStandingAt l.search l.gathered.matches.leaves.items) l.places;
   made : AreMade l.search l.gathered.matches.leaves.items;
   each : AreMatches l.search l.gathered.matches;
-  hits : AllZip (IsHitAt l.search.index.now) (take l.place-index l.places) (map hit_of l.gathered.matches.found.items);
+  hits : AllZip (IsHitAt l.search.slots) (take l.place-index l.places) (map hit_of l.gathered.matches.found.items);
 }

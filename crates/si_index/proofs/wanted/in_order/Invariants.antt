@@ -7,6 +7,6 @@ use Rattle.si_index.proofs.wanted.in_order.Given as goal
 -- the entries of the postings before this one stand there
 abbrev pub invariant-loop-posting : goal.invariant-loop-posting
 invariant-loop-posting l = record {
-  placed : ArePlaced l.index.keys (tree_for l.literal l.trees) l.leaves.items (take l.posting-index l.postings) l.places.items;
+  placed : ArePlaced l.slots (tree_for l.literal l.trees) l.leaves.items (take l.posting-index l.postings) l.places.items;
   unmade : AreUnmade l.leaves.items;
 }

@@ -1,5 +1,13 @@
+use Rattle.std.proofs.Common.{sym, subst}
+use Rattle.si_keyed.specs.Keyed.{HasKey}
 use Rattle.si_keyed.proofs.KeyLaws.{key_among}
 use Rattle.si_keyed.proofs.tests.found.Goals as goal
 
-pub position-requires : goal.position-requires
-position-requires c = key_among _ _ c.in_ok-item.ensures.some
+pub position-position-requires : goal.position-position-requires
+position-position-requires c = key_among _ _ c.in_ok-item.ensures.some
+
+pub place-requires : goal.place-requires
+place-requires c = subst (λ l. HasKey l c.args.key) (sym c.places-places.ensures.items) (key_among _ _ c.in_ok-item.ensures.some)
+
+pub at-requires : goal.at-requires
+at-requires c = ((c.args.key, c.place.ensures.there.0), c.place.ensures.there.1)

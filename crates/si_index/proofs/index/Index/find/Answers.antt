@@ -1,8 +1,7 @@
-use Rattle.std.proofs.Common.{map, refl, sym, ◌∙◌, ap, subst, arith}
+use Rattle.std.proofs.Common.{map, sym, ◌∙◌, ap, subst, arith}
 use Rattle.std.specs.List.{AllByRecursion, AllZip}
 use Rattle.std.proofs.lemmas.List.{length-map}
 use Rattle.si_defs.specs.Entries.{pattern_entry, distinct_variables}
-use Rattle.si_defs.specs.Symbols.{IsNumbering}
 use Rattle.si_term.specs.Meaning.{pattern_of}
 use Rattle.si_flat.specs.declared.Owner.TheVariants.{Query}
 use Rattle.si_held.specs.TwoTrees.{tree_for}
@@ -10,8 +9,8 @@ use Rattle.si_index.specs.Engines.{asks_literals}
 use Rattle.si_index.specs.Searching.{hit_of, tree_in}
 use Rattle.si_index.specs.declared.search.Search.{Search}
 use Rattle.si_index.specs.Gathering.{AreInOrder, IsHitAt, IsStandingAt, IsStored, Rise}
-use Rattle.si_index.proofs.EntryLaws.{all_clauses_known}
 use Rattle.si_index.proofs.FlatLaws.{flat_is_numbered}
+use Rattle.si_index.proofs.FoundLaws.{is_ready}
 use Rattle.si_index.proofs.GatherLaws.{hits_solved}
 use Rattle.si_index.proofs.WantedLaws.{is_answered, postings_keyed, postings_stored, wanted_stand, hits_answered, hits_few}
 use Rattle.si_index.proofs.index.Index.find.Goals as goal
@@ -42,9 +41,12 @@ in_order-requires-clause-stored g c =
     (subst (λ trees. AllByRecursion (IsStored (tree_for (asks_literals (pattern_of c.args.pattern.now)) trees)) c.as_slice.result.now) (sym c.trees-trees.ensures.trees)
     (postings_stored c.args.self.now c.args.relation (pattern_of c.args.pattern.now) _ c.trees-trees.ensures.hold told.standing))
 
-pub gather-requires-clause-known : goal.gather-requires-clause-known
-gather-requires-clause-known g c =
-    all_clauses_known _ c.args.self.now.clauses c.signature-signature.result.now refl c.signature-signature.ensures.signature c.stats-stats.ensures.stored.sound
+pub in_order-requires-clause-slots : goal.in_order-requires-clause-slots
+in_order-requires-clause-slots g c = c.slots-slots.ensures
+
+pub gather-requires-clause-ready : goal.gather-requires-clause-ready
+gather-requires-clause-ready g c =
+    is_ready _ c.signature-signature.ensures.numbers c.stats-stats.ensures.numbering c.requires.sound c.in_ok-query.ensures c.slots-slots.ensures c.signature-signature.ensures.signature c.stats-stats.ensures.stored.sound
 
 pub gather-requires-clause-stand : goal.gather-requires-clause-stand
 gather-requires-clause-stand g c =
@@ -54,17 +56,18 @@ gather-requires-clause-stand g c =
     let s : Search = record {
       alloc = c.allocator-alloc.result;
       index = c.args.self;
+      slots = c.slots-slots.result;
       signature = c.signature-signature.result;
       relation = c.args.relation;
       pattern = c.args.pattern;
       query = c.in_ok-query.query;
     } in
     let ordered = c.in_ok-ordered.ordered in
-    let order : AreInOrder c.args.self.now (tree_in s) c.as_slice.result.now ordered =
-    subst (λ literal. AreInOrder c.args.self.now (tree_for literal c.args.self.now.trees) c.as_slice.result.now ordered) c.asks_literals-literal.ensures
-    (subst (λ trees. AreInOrder c.args.self.now (tree_for c.asks_literals-literal.result trees) c.as_slice.result.now ordered) c.trees-trees.ensures.trees c.in_ok-ordered.ensures) in
+    let order : AreInOrder c.slots-slots.result (tree_in s) c.as_slice.result.now ordered =
+    subst (λ literal. AreInOrder c.slots-slots.result (tree_for literal c.args.self.now.trees) c.as_slice.result.now ordered) c.asks_literals-literal.ensures
+    (subst (λ trees. AreInOrder c.slots-slots.result (tree_for c.asks_literals-literal.result trees) c.as_slice.result.now ordered) c.trees-trees.ensures.trees c.in_ok-ordered.ensures) in
     subst (AllByRecursion (IsStandingAt s ordered.leaves.items)) (sym c.as_slice-2.ensures.value)
-    (wanted_stand s c.as_slice.result.now ordered c.stats-stats.ensures.keyed c.trees-trees.ensures.hold c.signature-signature.ensures.numbers order told.standing)
+    (wanted_stand s c.as_slice.result.now ordered c.slots-slots.ensures c.stats-stats.ensures.keyed c.trees-trees.ensures.hold c.signature-signature.ensures.numbers order told.standing)
 
 pub gather-requires-clause-unmade : goal.gather-requires-clause-unmade
 gather-requires-clause-unmade g c = c.in_ok-ordered.ensures.unmade
@@ -78,8 +81,8 @@ prove-unreachable-requires g c =
     is_answered (g.E.Engine.answers c.args.engine.now) c.args.self.now c.args.relation (pattern_of c.args.pattern.now) _ c.in_ok-query.query _ _ _ _
     c.signature-signature.ensures.numbers c.in_ok-query.ensures c.requires.standing c.asks_literals-literal.ensures c.in_ok-passed.ensures.answers c.new-postings.ensures.items c.as_slice.ensures.value in
     let answered =
-    hits_answered c.args.self.now _ _ _ _ (map hit_of c.in_ok-matches.matches.found.items) c.stats-stats.ensures.keyed told.are c.in_ok-ordered.ensures
-    (subst (λ ws. AllZip (IsHitAt c.args.self.now) ws (map hit_of c.in_ok-matches.matches.found.items)) c.as_slice-2.ensures.value c.in_ok-matches.ensures.hits) in
+    hits_answered c.args.self.now _ _ _ _ _ (map hit_of c.in_ok-matches.matches.found.items) c.stats-stats.ensures.keyed c.slots-slots.ensures told.are c.in_ok-ordered.ensures
+    (subst (λ ws. AllZip (IsHitAt c.slots-slots.result) ws (map hit_of c.in_ok-matches.matches.found.items)) c.as_slice-2.ensures.value c.in_ok-matches.ensures.hits) in
     omega (
       arith,
       c.if-prove.true,
@@ -93,11 +96,8 @@ prove-unreachable-requires g c =
 pub invariant_of-result : goal.invariant_of-result
 invariant_of-result g c = record {
   numbers = c.signature-signature.ensures.numbers;
-  ready = record {
-    numbering = subst IsNumbering (sym c.signature-signature.ensures.numbers) c.stats-stats.ensures.numbering;
-    sound = c.requires.sound;
-    flat = c.in_ok-query.ensures;
-  };
+  ready =
+      is_ready _ c.signature-signature.ensures.numbers c.stats-stats.ensures.numbering c.requires.sound c.in_ok-query.ensures c.slots-slots.ensures c.signature-signature.ensures.signature c.stats-stats.ensures.stored.sound;
   names = c.in_ok-query_names.ensures ∙ ap distinct_variables c.as_entry.ensures;
   few =
       omega (
@@ -121,8 +121,8 @@ returns-clause-hits g c =
       cells = c.in_ok-query.query.flat;
       asked = told.asked;
       answered =
-          hits_answered c.args.self.now _ _ _ _ (map hit_of c.in_ok-matches.matches.found.items) c.stats-stats.ensures.keyed told.are c.in_ok-ordered.ensures
-          (subst (λ ws. AllZip (IsHitAt c.args.self.now) ws (map hit_of c.in_ok-matches.matches.found.items)) c.as_slice-2.ensures.value c.in_ok-matches.ensures.hits);
+          hits_answered c.args.self.now _ _ _ _ _ (map hit_of c.in_ok-matches.matches.found.items) c.stats-stats.ensures.keyed c.slots-slots.ensures told.are c.in_ok-ordered.ensures
+          (subst (λ ws. AllZip (IsHitAt c.slots-slots.result) ws (map hit_of c.in_ok-matches.matches.found.items)) c.as_slice-2.ensures.value c.in_ok-matches.ensures.hits);
       counted = subst (λ b. g.E.Engine.count c.args.engine.now b c.args.relation c.in_ok-query.query.flat c.in_ok-passed.passed) c.asks_literals-literal.ensures c.in_ok-passed.ensures.count;
     }
 

@@ -1,5 +1,4 @@
 use Rattle.std.proofs.Common.{sym, ◌∙◌, ap, subst, arith}
-use Rattle.slab.specs.Slab.{get}
 use Rattle.si_keyed.specs.Keyed.{HasFewHoles}
 use Rattle.si_keyed.specs.KeyedSlots.{kept, seen, IsIndexed}
 use Rattle.si_keyed.proofs.PlacedLaws.{items_placed, places_rise}

@@ -7,6 +7,7 @@ use Rattle.si_io.specs.declared.counts.LibraryCounts.{LibraryCounts}
 use Rattle.si_io.specs.declared.library.Fetched.{Fetched}
 use Rattle.si_io.specs.declared.library.Fetched.TheVariants.{Found, Missing, TooBig, Failed, Memory}
 use Rattle.si_io.specs.Counts.{raised, raised_by, fetch_counted}
+use Rattle.si_io.proofs.Fetching.{HasFetchCause_once}
 use Rattle.si_harvest.specs.declared.reading.Reading.{Reading}
 use Rattle.si_harvest.specs.Opened.{opened}
 use Rattle.si_harvest.specs.Stepping.{FetchesOn}
@@ -22,6 +23,10 @@ one_call Memory before = refl
 pub called_once : (answer : Fetched) (before now : LibraryCounts) → now ≡ fetch_counted answer before → now.calls ≡ raised before.calls
 called_once answer before now once = ap (λ (c : LibraryCounts). c.calls) once ∙ one_call answer before
 
+-- what one fetch owes: name it in the function's `using`
+pub ruleset one_fetch = (HasFetchCause_once, called_once)
+
+-- ---- the fetches of a reading
 pub fetches_none : (most made now calls calls_now : ℕ) → now ≡ made → calls_now ≡ calls → FetchesOn most made now calls calls_now
 fetches_none most made now calls calls_now same still = record {
   later = omega (arith, same);

@@ -144,10 +144,12 @@ module _ (told : Option Files) (bounds : Bounds) (rules : Rules) (start : List C
     by : (x : Fault) → IsRejected rules state clause x → HasFault told bounds rules start file made x
     by (rejected c refusal) (same, refuses) =
         has_fault old state (attempt clause ∷ []) made (rejected c refusal) u (omega (arith, same_made))
-        (λ files t. (subst (λ ss. Finishes files bounds rules ss old.fetches state (attempt clause ∷ []) (Some (rejected c refusal))) (sym w.first)
-        (subst (λ d. Finishes files bounds rules (w.spot ∷ w.outer) old.fetches state (attempt clause ∷ []) (Some (rejected d refusal))) (sym same)
-        (finishes_refused files bounds rules w.spot w.outer old.fetches state clause (drop end f.bytes.items) refusal item selected refuses)),
-        omega (arith, same_made, u.asked, fetches-append u.events (attempt clause ∷ []))))
+        (λ files t. (
+          subst (λ ss. Finishes files bounds rules ss old.fetches state (attempt clause ∷ []) (Some (rejected c refusal))) (sym w.first)
+              (subst (λ d. Finishes files bounds rules (w.spot ∷ w.outer) old.fetches state (attempt clause ∷ []) (Some (rejected d refusal))) (sym same)
+              (finishes_refused files bounds rules w.spot w.outer old.fetches state clause (drop end f.bytes.items) refusal item selected refuses)),
+          omega (arith, same_made, u.asked, fetches-append u.events (attempt clause ∷ [])),
+        ))
     by (cycle x) h = absurd h
     by (too_deep x) h = absurd h
     by too_many h = absurd h
@@ -163,9 +165,11 @@ module _ (told : Option Files) (bounds : Bounds) (rules : Rules) (start : List C
   is_stuck old state items f fault e h u =
       let w = now_front old state items f e u in
       has_fault old state [] old.fetches fault u (omega arith)
-      (λ files t. (subst (λ ss. Finishes files bounds rules ss old.fetches state [] (Some fault)) (sym w.first)
-      (finishes_stuck files bounds rules w.spot w.outer old.fetches state fault (h w.spot w.outer w.own)),
-      u.asked ∙ made_stuck w.spot fault u.events (h w.spot w.outer w.own) ∙ ap (λ es. fetches_made es (Some fault)) (sym (append-nil u.events))))
+      (λ files t. (
+        subst (λ ss. Finishes files bounds rules ss old.fetches state [] (Some fault)) (sym w.first)
+            (finishes_stuck files bounds rules w.spot w.outer old.fetches state fault (h w.spot w.outer w.own)),
+        u.asked ∙ made_stuck w.spot fault u.events (h w.spot w.outer w.own) ∙ ap (λ es. fetches_made es (Some fault)) (sym (append-nil u.events)),
+      ))
 
   -- ---- includes
   narrows : (selection : Selection) (chosen : Option NameSet) (around : List (List Name)) → Lists selection chosen → Narrows chosen around (narrowed selection around)

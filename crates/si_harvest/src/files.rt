@@ -81,10 +81,7 @@ pub fn may_ask(
 }
 
 /// Fetches a file, which is then open at its front.
-#[tactic(auto, using(
-    si_io::proofs::Fetching::HasFetchCause_once,
-    crate::proofs::Fetching::called_once
-))]
+#[tactic(auto, using(crate::proofs::Fetching::one_fetch))]
 pub fn open<L: Library>(
     alloc: Global,
     library: &mut L,

@@ -10,7 +10,7 @@ use Rattle.si_defs.specs.Grammar.{Selection, Item, clause_item, include_item}
 use Rattle.si_defs.specs.Texts.{BeginsWithItem, line_of}
 use Rattle.si_state.specs.States.{Rules}
 use Rattle.si_state.specs.Acceptance.{Refuses}
-use Rattle.si_state.specs.Harvest.{Files, Bounds, Event, ask, attempt, tried, fetches, Fault, cycle, too_deep, too_many, missing, too_big, failed, foreign, malformed, rejected, MayAsk, IsBarred, IsWithheld, narrowed, IsSelected, Spot, IsOnLine, IsStuck, Harvests, barred, withheld, fetched, Continues, ended, stuck, passed_over, accepted, refused, expanded, broken_off, AreAccepted}
+use Rattle.si_state.specs.Harvest.{Files, Bounds, Event, ask, attempt, tried, fetches, Fault, cycle, too_deep, too_many, missing, too_big, failed, foreign, malformed, rejected, IsBarred, IsWithheld, narrowed, IsSelected, Spot, IsOnLine, IsStuck, Harvests, barred, withheld, fetched, Continues, ended, stuck, passed_over, accepted, refused, expanded, broken_off, AreAccepted}
 use Rattle.si_state.proofs.HarvestLaws.{tried-append}
 use Rattle.si_steps.specs.Loads.{owed_for}
 use Rattle.si_steps.proofs.FetchLaws.{barred_no_ask}

@@ -1,6 +1,6 @@
 -- What a load did, from what the harvest answered and what was told of it.
 use Rattle.std.proofs.Common.{◌≡◌, ℕ, Bool, List, [], ◌∷◌, ◌++◌, refl, sym, ap, ap₂, ◌∙◌, subst, inl, inr, Option, None, Some, Ok, Err, arith}
-use Rattle.std.specs.Prelude.{slice_get, IsTrue, IsFalse}
+use Rattle.std.specs.Prelude.{slice_get, IsTrue}
 use Rattle.si_defs.specs.Bytes.{Bytes}
 use Rattle.si_defs.specs.Clauses.{IsSoundClause, Clause}
 use Rattle.si_defs.specs.Entries.{clause_symbols}

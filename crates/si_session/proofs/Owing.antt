@@ -1,6 +1,5 @@
 -- What a library counts behind nothing, and behind what two replies owe.
 use Rattle.std.proofs.Common.{◌≡◌, ℕ, ◌+◌, Bool, refl, ap, ◌∙◌, arith}
-use Rattle.std.specs.Prelude.{IsFalse}
 use Rattle.si_steps.specs.Loads.{Owed, nothing, together}
 use Rattle.si_io.specs.declared.counts.LibraryCounts.{LibraryCounts}
 use Rattle.si_io.specs.Counts.{raised_by}

@@ -11,11 +11,11 @@ use Rattle.si_steps.specs.Commands.{Means, load}
 use Rattle.si_steps.specs.Loads.{load_bounds}
 use Rattle.si_steps.specs.Replies.{Reply, fault_line}
 use Rattle.si_steps.specs.Steps.{loaded}
-use Rattle.si_examples.specs.Harvests.{bounds, c, selecting}
-use Rattle.si_examples.specs.Loads.{LoadedLine, NoGainWithoutFile}
+use Rattle.si_examples.specs.Harvests.{bounds, c, includes, selecting}
+use Rattle.si_examples.specs.Loads.{LoadedLine, OwnIncludeOwed, NoGainWithoutFile}
 use Rattle.si_examples.proofs.Differ.{first_byte, differ}
 use Rattle.si_examples.proofs.Pieces.{space, word, token, consists, token_of}
-use Rattle.si_examples.proofs.OneHarvest.{selected_clause, no_missing_file}
+use Rattle.si_examples.proofs.OneHarvest.{selected_clause, own_include, no_missing_file}
 
 -- ---- a load of a file
 abbrev line : Bytes
@@ -40,6 +40,15 @@ loaded_line setting w within rules =
       read =
           subst (λ (b : Bounds). Loads selecting b setting.rules [] (codes "m") (ask (codes "m") ∷ ask (codes "a") ∷ attempt c ∷ []) None) (sym within)
           (subst (λ (r : Rules). Loads selecting (bounds 30 2 2) r [] (codes "m") (ask (codes "m") ∷ ask (codes "a") ∷ attempt c ∷ []) None) (sym rules) selected_clause)
+
+-- ---- a file that includes itself
+pub own_include_owed : OwnIncludeOwed
+own_include_owed setting within rules =
+    (ask (codes "a") ∷ ask (codes "a") ∷ [], Some (cycle (codes "a")), read, refl, refl, refl) where
+      read : Loads (includes (codes "a")) (load_bounds setting.limits) setting.rules [] (codes "a") (ask (codes "a") ∷ ask (codes "a") ∷ []) (Some (cycle (codes "a")))
+      read =
+          subst (λ (b : Bounds). Loads (includes (codes "a")) b setting.rules [] (codes "a") (ask (codes "a") ∷ ask (codes "a") ∷ []) (Some (cycle (codes "a")))) (sym within)
+          (subst (λ (r : Rules). Loads (includes (codes "a")) (bounds 15 1 1) r [] (codes "a") (ask (codes "a") ∷ ask (codes "a") ∷ []) (Some (cycle (codes "a")))) (sym rules) own_include)
 
 -- ---- the line of a fault
 first_line : Reply → Bytes

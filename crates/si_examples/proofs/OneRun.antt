@@ -58,7 +58,7 @@ added_and_found setting told strict w room = (
     nothing,
     keeping (clause ∷ []),
     codes "c:1 {}\nend 1\n",
-    0,
+    nothing,
     right (performed (omega arith) (add clause) added_line
         (inr (record { free = λ h. h; agree = (tt, tt); room = room; added = refl }, rw (decimal_digit 1 (omega arith)) refl, refl)) refl),
     (λ s. refl),
@@ -67,7 +67,7 @@ added_and_found setting told strict w room = (
       nothing,
       keeping (clause ∷ []),
       [],
-      0,
+      nothing,
       right (performed (omega arith) (query Instances (literal_pattern literal)) asked
           (hit ∷ [], answered, rw (decimal_digit 1 (omega arith)) refl, refl) refl),
       (λ s. refl),

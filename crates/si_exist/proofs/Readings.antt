@@ -16,7 +16,7 @@ use Rattle.si_lex.proofs.SpellingLaws.{spelling_some}
 use Rattle.si_state.specs.States.{State, Rules}
 use Rattle.si_state.specs.Harvest.{Files, Bounds, Event, ask, attempt, tried, fetches, Fault, cycle, too_deep, too_many, missing, too_big, foreign, malformed, rejected, MayAsk, narrowed, IsSelected, Spot, IsOnLine, Harvests, barred, withheld, fetched, Continues, ended, stuck, passed_over, accepted, refused, expanded, broken_off, clauses_behind}
 use Rattle.si_steps.specs.Settings.{Setting}
-use Rattle.si_steps.specs.Loads.{nothing, a_miss, a_big, owed_by, gained_line, load_line, load_bounds, PerformsLoad}
+use Rattle.si_steps.specs.Loads.{nothing, owed_for, owed_by, MayFetch, gained_line, load_line, load_bounds, PerformsLoad}
 use Rattle.si_laws.specs.OneReply.{TellsNoFailure}
 use Rattle.si_exist.specs.OneList.{IsNotAbsent}
 use Rattle.si_exist.specs.RightReplies.{HasOneWithoutFailure}
@@ -25,13 +25,7 @@ use Rattle.si_exist.proofs.TriedClauses.{accepted_or_refused}
 
 -- ---- what tells no failure
 pub owes_nothing : TellsNoFailure nothing
-owes_nothing e = cc
-
-owes_miss : TellsNoFailure a_miss
-owes_miss e = cc
-
-owes_big : TellsNoFailure a_big
-owes_big e = cc
+owes_nothing = refl
 
 -- ---- places
 -- rest stands behind some bytes
@@ -88,11 +82,11 @@ behind_blanks (suc n) bytes short =
 module _ (files : Files) (bounds : Bounds) (rules : Rules) where
   abbrev IsRead : List Bytes → List (List Name) → ℕ → List Clause → Bytes → Type 0
   IsRead opened around made clauses file =
-      IsNotAbsent ((events : List Event) × (fault : Option Fault) × Harvests files bounds rules opened around made clauses file events fault × TellsNoFailure (owed_by fault))
+      IsNotAbsent ((events : List Event) × (fault : Option Fault) × Harvests files bounds rules opened around made clauses file events fault × TellsNoFailure (owed_for 0 fault))
 
   abbrev IsReadOn : Spot → ℕ → List Clause → Type 0
   IsReadOn spot made clauses =
-      IsNotAbsent ((events : List Event) × (fault : Option Fault) × Continues files bounds rules spot made clauses events fault × TellsNoFailure (owed_by fault))
+      IsNotAbsent ((events : List Event) × (fault : Option Fault) × Continues files bounds rules spot made clauses events fault × TellsNoFailure (owed_for 0 fault))
 
   -- files are read behind so many open ones that no more than d may be opened
   abbrev AreReadBehind : ℕ → Type 0
@@ -153,7 +147,7 @@ module _ (files : Files) (bounds : Bounds) (rules : Rules) where
       include_here file selection after begins =
           and_then (inner spot.opened (narrowed selection spot.around) made clauses file deep) (λ h. by h.0 h.1 h.2 h.3)
         where
-          by : (inside : List Event) (fault : Option Fault) → Harvests files bounds rules spot.opened (narrowed selection spot.around) made clauses file inside fault → TellsNoFailure (owed_by fault) → IsReadOn spot made clauses
+          by : (inside : List Event) (fault : Option Fault) → Harvests files bounds rules spot.opened (narrowed selection spot.around) made clauses file inside fault → TellsNoFailure (owed_for 0 fault) → IsReadOn spot made clauses
           by inside None h quiet =
               and_then (go_on (include_item file selection) after begins (made + fetches inside) (clauses ++ tried inside))
               (λ r. there (inside ++ r.0, r.1, expanded spot made clauses file selection after begins inside r.0 (inside ++ r.0) r.1 h r.2 refl, r.3))
@@ -187,7 +181,7 @@ module _ (files : Files) (bounds : Bounds) (rules : Rules) where
   asked d inner opened around made clauses file deep may = by (files file) refl
     where
       by : (o : Option Bytes) → files file ≡ o → IsRead opened around made clauses file
-      by None e = there (ask file ∷ [], Some (missing file), withheld opened around made clauses file (missing file) may (refl, e), owes_miss)
+      by None e = there (ask file ∷ [], Some (missing file), withheld opened around made clauses file (missing file) may (refl, e), refl)
       by (Some bytes) e =
           elim (cases_lt bounds.file (length bytes)) [
             | inl long ↦
@@ -195,7 +189,7 @@ module _ (files : Files) (bounds : Bounds) (rules : Rules) where
                   ask file ∷ [],
                   Some (too_big file),
                   withheld opened around made clauses file (too_big file) may (refl, rw e long),
-                  owes_big,
+                  refl,
                 )
             | inr fits ↦
                 (let spot : Spot = record { file = file; bytes = bytes; opened = file ∷ opened; around = around; rest = bytes } in
@@ -229,14 +223,28 @@ module _ (files : Files) (bounds : Bounds) (rules : Rules) where
 
 -- ---- loads
 pub load_of : (setting : Setting) (told : Option Files) (file : Bytes) (state : State) → HasOneWithoutFailure (PerformsLoad setting told file state)
-load_of setting None file state = there (gained_line [] ∷ [], nothing, record state { clauses = state.clauses ++ [] }, inl ([], tt, refl, refl, refl), owes_nothing)
+load_of setting None file state =
+    elim (cases_lt 0 bounds.fetches) [
+      | inl few ↦
+          elim (cases_lt 0 bounds.depth) [
+            | inl shallow ↦ gains 1 (record { most = omega (arith, few); none = λ never. absurd (never (record { fresh = λ h. h; shallow = shallow; few = few })) }) (λ may. omega arith)
+            | inr deep ↦ gains 0 (record { most = omega arith; none = λ never. refl }) (λ may. absurd (omega (arith, may.shallow, deep)))
+          ]
+      | inr many ↦ gains 0 (record { most = omega arith; none = λ never. refl }) (λ may. absurd (omega (arith, may.few, many)))
+    ] where
+      bounds : Bounds
+      bounds = load_bounds setting.limits
+
+      gains : (made : ℕ) → MayFetch bounds file made → (MayAsk bounds [] 0 file → 1 ≤ made) → HasOneWithoutFailure (PerformsLoad setting None file state)
+      gains made may some =
+          there (gained_line [] ∷ [], owed_for made None, record state { clauses = state.clauses ++ [] }, (may, some, inl ([], tt, refl, refl, refl)), owes_nothing)
 load_of setting (Some files) file state =
     let bounds = load_bounds setting.limits in
     and_then (read_behind files bounds setting.rules bounds.depth [] [] 0 state.clauses file (omega arith))
     (λ r.
     there (
       load_line setting.rules.entries r.0 r.1 ∷ [],
-      owed_by r.1,
+      owed_by r.0 r.1,
       record state { clauses = clauses_behind state.clauses r.0 r.1 },
       (r.0, r.1, r.2, refl, refl, refl),
       r.3,

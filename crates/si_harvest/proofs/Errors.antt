@@ -1,11 +1,17 @@
 -- Faults that are passed on.
-use Rattle.std.proofs.Common.{◌≡◌, sym, subst, inl, inr}
+use Rattle.std.proofs.Common.{◌≡◌, ℕ, List, Option, sym, subst, inl, inr}
+use Rattle.si_defs.specs.Bytes.{Bytes}
+use Rattle.si_defs.specs.Clauses.{Clause}
 use Rattle.std.specs.Prelude.{Bool, Result, Ok, Err, IfErr, IsErrAnd}
 use Rattle.si_state.specs.States.{Rules}
-use Rattle.si_state.specs.Harvest.{Fault}
+use Rattle.si_state.specs.Harvest.{Files, Bounds, Fault}
+use Rattle.si_steps.specs.Loads.{MayFetch}
+use Rattle.si_io.specs.Counts.{raised_by}
 use Rattle.si_io.specs.Library.{Counts}
 use Rattle.si_harvest.specs.declared.faults.HarvestFault.{HarvestFault}
 use Rattle.si_harvest.specs.Faults.{Explains, HasFaultCause, HasLoadCause}
+use Rattle.si_harvest.specs.Opened.{HasFault}
+use Rattle.si_harvest.specs.Loading.{ReadsFiles}
 
 -- the fault is told for another reason
 pub blames_weaker : (rules : Rules) (e : HarvestFault) (P Q : Fault → Type 0) → ((f : Fault) → P f → Q f) → Explains rules e P → Explains rules e Q
@@ -25,3 +31,11 @@ err_has (Err x) e P h p = subst P (sym h) p
 pub cause_again : {T : Type 0} (r : Result T HarvestFault) (e : HarvestFault) (may_fail : Bool) (before now : Counts) → IsErrAnd r (λ x. x ≡ e) → HasFaultCause may_fail before now e → HasLoadCause may_fail before now r
 cause_again (Ok x) e may_fail before now h c = absurd h
 cause_again (Err x) e may_fail before now h c = subst (HasFaultCause may_fail before now) (sym h) c
+
+-- so a load ends with it
+pub reads_fault : {T : Type 0} (told : Option Files) (bounds : Bounds) (rules : Rules) (file : Bytes) (r : Result T HarvestFault) (e : HarvestFault) (start kept : List Clause) (calls calls_now made : ℕ)
+    → IsErrAnd r (λ x. x ≡ e) → calls_now ≡ raised_by made calls → MayFetch bounds file made → Explains rules e (HasFault told bounds rules start file made)
+    → ReadsFiles told bounds rules file r start kept calls calls_now
+reads_fault told bounds rules file (Ok x) e start kept calls calls_now made h counted may f = absurd h
+reads_fault told bounds rules file (Err x) e start kept calls calls_now made h counted may f =
+    record { made = made; counted = counted; may = may; right = tt; fault = subst (λ y. Explains rules y (HasFault told bounds rules start file made)) (sym h) f }

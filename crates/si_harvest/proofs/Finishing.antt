@@ -10,6 +10,7 @@ use Rattle.si_state.specs.Acceptance.{Refusal, Accepts, Refuses}
 use Rattle.si_state.specs.Harvest.{Files, Bounds, Event, ask, attempt, Fault, rejected, fetches, tried, MayAsk, IsBarred, IsWithheld, narrowed, IsSelected, Spot, IsStuck, Harvests, barred, withheld, fetched, Continues, ended, stuck, passed_over, accepted, refused, expanded, broken_off, Loads}
 use Rattle.std.specs.Prelude.{length, ◌≤◌}
 use Rattle.si_state.proofs.HarvestLaws.{tried-append}
+use Rattle.si_steps.proofs.FetchLaws.{fetches-append}
 use Rattle.si_harvest.specs.Underway.{Finishes}
 
 module _ (files : Files) (bounds : Bounds) (rules : Rules) where
@@ -84,11 +85,6 @@ module _ (files : Files) (bounds : Bounds) (rules : Rules) where
           finishes_as ss _ _ _ _ rest fault fetched_all tried_all h,
           ap (λ l. ask file ∷ l) (e ∙ ap (λ l. own ++ l) g ∙ sym (append_assoc own mine rest)),
         ) where
-          fetches-append : (xs ys : List Event) → fetches (xs ++ ys) ≡ fetches xs + fetches ys
-          fetches-append [] ys = omega arith
-          fetches-append (ask x ∷ xs) ys = omega (arith, fetches-append xs ys)
-          fetches-append (attempt x ∷ xs) ys = fetches-append xs ys
-
           fetched_all : made + 1 + fetches own + fetches mine ≡ made + fetches ((ask file ∷ own) ++ mine)
           fetched_all = omega (arith, fetches-append own mine)
 

@@ -1,5 +1,6 @@
 mod AnyLaws
 mod Stands
+mod Fetching
 mod Finishing
 mod Moves
 mod Shorter

@@ -1,5 +1,5 @@
 -- A load goes on by one item, or ends with a fault.
-use Rattle.std.proofs.Common.{◌≡◌, ℕ, ◌+◌, true, false, List, [], ◌∷◌, ◌++◌, drop, reverse, refl, sym, ap, ◌∙◌, subst, Option, None, Some, ◌⊎◌, inl, inr, append_assoc, append-nil}
+use Rattle.std.proofs.Common.{◌≡◌, ℕ, ◌+◌, ◌≤◌, arith, true, false, List, [], ◌∷◌, ◌++◌, drop, reverse, refl, sym, ap, ◌∙◌, subst, Option, None, Some, ◌⊎◌, inl, inr, append_assoc, append-nil}
 use Rattle.std.specs.Prelude.{IfSome}
 use Rattle.si_defs.specs.Bytes.{Bytes}
 use Rattle.si_defs.specs.Clauses.{Name, Clause}
@@ -8,8 +8,10 @@ use Rattle.si_defs.specs.Grammar.{Selection, all, only, clause_item, include_ite
 use Rattle.si_defs.specs.Texts.{BeginsWithItem}
 use Rattle.si_state.specs.States.{Rules}
 use Rattle.si_state.specs.Acceptance.{Accepts}
-use Rattle.si_state.specs.Harvest.{Files, Bounds, Event, ask, attempt, Fault, cycle, too_deep, too_many, missing, too_big, failed, foreign, malformed, rejected, tried, MayAsk, IsBarred, IsWithheld, narrowed, IsSelected, Spot, IsStuck, IsRejected, Loads, barred, withheld}
+use Rattle.si_state.specs.Harvest.{Files, Bounds, Event, ask, attempt, Fault, cycle, too_deep, too_many, missing, too_big, failed, foreign, malformed, rejected, tried, fetches, MayAsk, IsBarred, IsWithheld, narrowed, IsSelected, Spot, IsStuck, IsRejected, Loads, barred, withheld}
 use Rattle.si_state.proofs.HarvestLaws.{tried-append}
+use Rattle.si_steps.specs.Loads.{fetches_made}
+use Rattle.si_steps.proofs.FetchLaws.{fetches-append, barred_no_ask, made_barred, made_withheld, made_stuck}
 use Rattle.si_harvest.specs.declared.files.OpenFile.{OpenFile}
 use Rattle.si_harvest.specs.declared.names.NameSet.{NameSet}
 use Rattle.si_harvest.specs.declared.reading.Reading.{Reading}
@@ -43,33 +45,36 @@ module _ (told : Option Files) (bounds : Bounds) (rules : Rules) (start : List C
 
   -- The load goes on behind these events.
   pub goes_on : (old new : Reading) (state state' : List Clause) (gained : List Event) (spots : List Spot) (u : IsUnderway told bounds rules start file old state)
-      → Stand (reverse new.files.items) spots → state' ≡ state ++ tried gained
+      → Stand (reverse new.files.items) spots → state' ≡ state ++ tried gained → new.fetches ≡ old.fetches + fetches gained
       → ((files : Files) → told ≡ Some files → (es : List Event) (fault : Option Fault) → Finishes files bounds rules spots new.fetches state' es fault
       → Finishes files bounds rules u.spots old.fetches state (gained ++ es) fault)
       → IsUnderway told bounds rules start file new state'
-  goes_on old new state state' gained spots u stand whole finishes = record {
+  goes_on old new state state' gained spots u stand whole made finishes = record {
     spots = spots;
     stand = stand;
     events = u.events ++ gained;
     gained = whole ∙ ap (λ l. l ++ tried gained) u.gained ∙ append_assoc start (tried u.events) (tried gained) ∙ ap (λ l. start ++ l) (sym (tried-append u.events gained));
+    asked = omega (arith, made, u.asked, fetches-append u.events gained);
+    begun = omega (arith, made, u.begun);
     goes_on = λ files t es fault h. subst (λ l. Loads files bounds rules start file l fault) (sym (append_assoc u.events gained es)) (u.goes_on files t (gained ++ es) fault (finishes files t es fault h));
   }
 
   -- or it ends with a fault
-  pub has_fault : (old : Reading) (state : List Clause) (gained : List Event) (fault : Fault) (u : IsUnderway told bounds rules start file old state)
-      → ((files : Files) → told ≡ Some files → Finishes files bounds rules u.spots old.fetches state gained (Some fault))
-      → HasFault told bounds rules start file fault
-  has_fault old state gained fault u finishes = by told refl where
-    by : (t : Option Files) → told ≡ t → IfSome t (λ files. (events : List Event) × Loads files bounds rules start file events (Some fault))
+  pub has_fault : (old : Reading) (state : List Clause) (gained : List Event) (made : ℕ) (fault : Fault) (u : IsUnderway told bounds rules start file old state) → old.fetches ≤ made
+      → ((files : Files) → told ≡ Some files
+      → Finishes files bounds rules u.spots old.fetches state gained (Some fault) × (made ≡ fetches_made (u.events ++ gained) (Some fault)))
+      → HasFault told bounds rules start file made fault
+  has_fault old state gained made fault u later finishes = (λ may. omega (arith, u.begun, later), by told refl) where
+    by : (t : Option Files) → told ≡ t → IfSome t (λ files. (events : List Event) × Loads files bounds rules start file events (Some fault) × (made ≡ fetches_made events (Some fault)))
     by None e = tt
-    by (Some files) e = (u.events ++ gained, u.goes_on files e gained (Some fault) (finishes files e))
+    by (Some files) e = let all = finishes files e in (u.events ++ gained, u.goes_on files e gained (Some fault) all.0, all.1)
 
   -- the file is at its end
   pub at_end : (old new : Reading) (state : List Clause) (items : List OpenFile) (f : OpenFile) → old.files.items ≡ items ++ f ∷ [] → AreBlanks (drop f.at f.bytes.items)
       → new.files.items ≡ items → new.fetches ≡ old.fetches → IsUnderway told bounds rules start file old state → IsUnderway told bounds rules start file new state
   at_end old new state items f e b same made u =
       let w = now_front old state items f e u in
-      goes_on old new state state [] w.outer u (subst (λ fs. Stand (reverse fs) w.outer) (sym same) w.others) (sym (append-nil state))
+      goes_on old new state state [] w.outer u (subst (λ fs. Stand (reverse fs) w.outer) (sym same) w.others) (sym (append-nil state)) (omega (arith, made))
       (λ files t es fault h. subst (λ ss. Finishes files bounds rules ss old.fetches state es fault) (sym w.first)
       (finishes_end files bounds rules w.spot w.outer old.fetches state es fault (subst AreBlanks (sym w.own.left) b)
       (subst (λ n. Finishes files bounds rules w.outer n state es fault) made h)))
@@ -100,24 +105,24 @@ module _ (told : Option Files) (bounds : Bounds) (rules : Rules) (start : List C
         → IsUnderway told bounds rules start file new state'
     by (inl (no_one, stays)) =
         let unselected : IsSelected w.spot.around clause.name → ⊥ = stand_unselected (reverse new.files.items) (next ∷ w.outer) clause.name stands (selected-reverse new.files.items clause.name ∙ no_one) in
-        goes_on old new state state' [] (next ∷ w.outer) u stands (stays ∙ sym (append-nil state))
+        goes_on old new state state' [] (next ∷ w.outer) u stands (stays ∙ sym (append-nil state)) (omega (arith, made))
         (λ files t es fault h. subst (λ ss. Finishes files bounds rules ss old.fetches state es fault) (sym w.first)
         (finishes_over files bounds rules w.spot w.outer old.fetches state clause (drop end f.bytes.items) es fault item unselected
         (subst (λ n. Finishes files bounds rules (next ∷ w.outer) n state es fault) made (subst (λ l. Finishes files bounds rules (next ∷ w.outer) new.fetches l es fault) stays h))))
     by (inr (each, accepts)) =
         let selected : IsSelected w.spot.around clause.name = stand_selected (reverse new.files.items) (next ∷ w.outer) clause.name stands (selected-reverse new.files.items clause.name ∙ each) in
         let added : Accepts rules state clause (state ++ clause ∷ []) = subst (Accepts rules state clause) accepts.added accepts in
-        goes_on old new state state' (attempt clause ∷ []) (next ∷ w.outer) u stands accepts.added
+        goes_on old new state state' (attempt clause ∷ []) (next ∷ w.outer) u stands accepts.added (omega (arith, made))
         (λ files t es fault h. subst (λ ss. Finishes files bounds rules ss old.fetches state (attempt clause ∷ es) fault) (sym w.first)
         (finishes_accepted files bounds rules w.spot w.outer old.fetches state clause (drop end f.bytes.items) es fault item selected added
         (subst (λ n. Finishes files bounds rules (next ∷ w.outer) n (state ++ clause ∷ []) es fault) made (subst (λ l. Finishes files bounds rules (next ∷ w.outer) new.fetches l es fault) accepts.added h))))
 
   -- a clause is refused
-  pub is_refused : (old : Reading) (state : List Clause) (items : List OpenFile) (f : OpenFile) (end : ℕ) (clause : Clause) (fault : Fault) → old.files.items ≡ items ++ f ∷ []
+  pub is_refused : (old : Reading) (state : List Clause) (items : List OpenFile) (f : OpenFile) (end : ℕ) (clause : Clause) (made : ℕ) (fault : Fault) → old.files.items ≡ items ++ f ∷ []
       → BeginsWithItem (drop f.at f.bytes.items) (clause_item clause) (drop end f.bytes.items)
-      → is_selected (items ++ record f { at = end } ∷ []) clause.name ≡ true → IsRejected rules state clause fault
-      → IsUnderway told bounds rules start file old state → HasFault told bounds rules start file fault
-  is_refused old state items f end clause fault e b each r u = by fault r where
+      → is_selected (items ++ record f { at = end } ∷ []) clause.name ≡ true → IsRejected rules state clause fault → made ≡ old.fetches
+      → IsUnderway told bounds rules start file old state → HasFault told bounds rules start file made fault
+  is_refused old state items f end clause made fault e b each r same_made u = by fault r where
     w : Front f (reverse items) u.spots
     w = now_front old state items f e u
 
@@ -136,12 +141,15 @@ module _ (told : Option Files) (bounds : Bounds) (rules : Rules) (start : List C
     selected : IsSelected w.spot.around clause.name
     selected = stand_selected (reverse moved) (next ∷ w.outer) clause.name stands (selected-reverse moved clause.name ∙ each)
 
-    by : (x : Fault) → IsRejected rules state clause x → HasFault told bounds rules start file x
+    by : (x : Fault) → IsRejected rules state clause x → HasFault told bounds rules start file made x
     by (rejected c refusal) (same, refuses) =
-        has_fault old state (attempt clause ∷ []) (rejected c refusal) u
-        (λ files t. subst (λ ss. Finishes files bounds rules ss old.fetches state (attempt clause ∷ []) (Some (rejected c refusal))) (sym w.first)
-        (subst (λ d. Finishes files bounds rules (w.spot ∷ w.outer) old.fetches state (attempt clause ∷ []) (Some (rejected d refusal))) (sym same)
-        (finishes_refused files bounds rules w.spot w.outer old.fetches state clause (drop end f.bytes.items) refusal item selected refuses)))
+        has_fault old state (attempt clause ∷ []) made (rejected c refusal) u (omega (arith, same_made))
+        (λ files t. (
+          subst (λ ss. Finishes files bounds rules ss old.fetches state (attempt clause ∷ []) (Some (rejected c refusal))) (sym w.first)
+              (subst (λ d. Finishes files bounds rules (w.spot ∷ w.outer) old.fetches state (attempt clause ∷ []) (Some (rejected d refusal))) (sym same)
+              (finishes_refused files bounds rules w.spot w.outer old.fetches state clause (drop end f.bytes.items) refusal item selected refuses)),
+          omega (arith, same_made, u.asked, fetches-append u.events (attempt clause ∷ [])),
+        ))
     by (cycle x) h = absurd h
     by (too_deep x) h = absurd h
     by too_many h = absurd h
@@ -153,12 +161,15 @@ module _ (told : Option Files) (bounds : Bounds) (rules : Rules) (start : List C
 
   -- no item stands there
   pub is_stuck : (old : Reading) (state : List Clause) (items : List OpenFile) (f : OpenFile) (fault : Fault) → old.files.items ≡ items ++ f ∷ []
-      → ((s : Spot) (outer : List Spot) → IsAtSpot f outer s → IsStuck s fault) → IsUnderway told bounds rules start file old state → HasFault told bounds rules start file fault
+      → ((s : Spot) (outer : List Spot) → IsAtSpot f outer s → IsStuck s fault) → IsUnderway told bounds rules start file old state → HasFault told bounds rules start file old.fetches fault
   is_stuck old state items f fault e h u =
       let w = now_front old state items f e u in
-      has_fault old state [] fault u
-      (λ files t. subst (λ ss. Finishes files bounds rules ss old.fetches state [] (Some fault)) (sym w.first)
-      (finishes_stuck files bounds rules w.spot w.outer old.fetches state fault (h w.spot w.outer w.own)))
+      has_fault old state [] old.fetches fault u (omega arith)
+      (λ files t. (
+        subst (λ ss. Finishes files bounds rules ss old.fetches state [] (Some fault)) (sym w.first)
+            (finishes_stuck files bounds rules w.spot w.outer old.fetches state fault (h w.spot w.outer w.own)),
+        u.asked ∙ made_stuck w.spot fault u.events (h w.spot w.outer w.own) ∙ ap (λ es. fetches_made es (Some fault)) (sym (append-nil u.events)),
+      ))
 
   -- ---- includes
   narrows : (selection : Selection) (chosen : Option NameSet) (around : List (List Name)) → Lists selection chosen → Narrows chosen around (narrowed selection around)
@@ -211,7 +222,7 @@ module _ (told : Option Files) (bounds : Bounds) (rules : Rules) (start : List C
 
     by : (t : Option Files) → told ≡ t → IsUnderway told bounds rules start file new state
     by t same_told =
-        goes_on old new state state (ask name ∷ []) (inner ∷ next ∷ w.outer) u all_stand (sym (append-nil state))
+        goes_on old new state state (ask name ∷ []) (inner ∷ next ∷ w.outer) u all_stand (sym (append-nil state)) (omega (arith, count))
         (λ files q es fault k. subst (λ ss. Finishes files bounds rules ss old.fetches state (ask name ∷ es) fault) (sym w.first)
         (finishes_opened files bounds rules w.spot w.outer old.fetches state name h.file.bytes.items selection (drop end f.bytes.items) es fault item may
         (given files q) h.given.small
@@ -220,13 +231,23 @@ module _ (told : Option Files) (bounds : Bounds) (rules : Rules) (start : List C
           given files q = subst (λ x. IfSome x (λ fs. fs name ≡ Some h.file.bytes.items)) q h.given.given
 
   -- or it can't be opened
-  pub is_unopened : (old middle : Reading) (state : List Clause) (items : List OpenFile) (f : OpenFile) (end : ℕ) (name : Bytes) (selection : Selection) (fault : Fault)
+  pub is_unopened : (old middle : Reading) (state : List Clause) (items : List OpenFile) (f : OpenFile) (end : ℕ) (name : Bytes) (selection : Selection) (count : ℕ) (fault : Fault)
       → old.files.items ≡ items ++ f ∷ [] → BeginsWithItem (drop f.at f.bytes.items) (include_item name selection) (drop end f.bytes.items)
-      → middle.files.items ≡ items ++ record f { at = end } ∷ [] → middle.fetches ≡ old.fetches → IsUnopened told bounds name middle fault
-      → IsUnderway told bounds rules start file old state → HasFault told bounds rules start file fault
-  is_unopened old middle state items f end name selection fault e b same made h u =
-      has_fault old state (ask name ∷ []) fault u
-      (λ files t. subst (λ ss. Finishes files bounds rules ss old.fetches state (ask name ∷ []) (Some fault)) (sym w.first) (by files t h)) where
+      → middle.files.items ≡ items ++ record f { at = end } ∷ [] → middle.fetches ≡ old.fetches → IsUnopened told bounds name middle count fault
+      → IsUnderway told bounds rules start file old state → HasFault told bounds rules start file count fault
+  is_unopened old middle state items f end name selection count fault e b same made h u =
+      has_fault old state (ask name ∷ []) count fault u (later h)
+      (λ files t. (subst (λ ss. Finishes files bounds rules ss old.fetches state (ask name ∷ []) (Some fault)) (sym w.first) (by files t h), counted files t h)) where
+        later : IsUnopened told bounds name middle count fault → old.fetches ≤ count
+        later (inl (no_one, same_count)) = omega (arith, same_count, made)
+        later (inr (may, no_file, one_more)) = omega (arith, one_more, made)
+
+        counted : (files : Files) → told ≡ Some files → IsUnopened told bounds name middle count fault → count ≡ fetches_made (u.events ++ ask name ∷ []) (Some fault)
+        counted files t (inl (no_one, same_count)) =
+            same_count ∙ made ∙ u.asked ∙ made_barred bounds (opened middle.files.items) middle.fetches name fault u.events no_one
+        counted files t (inr (may, no_file, one_more)) =
+            one_more ∙ ap (λ n. n + 1) (made ∙ u.asked) ∙ made_withheld files bounds name fault u.events (subst (λ x. IfSome x (λ fs. IsWithheld fs bounds name fault)) t no_file)
+
         w : Front f (reverse items) u.spots
         w = now_front old state items f e u
 
@@ -242,12 +263,12 @@ module _ (told : Option Files) (bounds : Bounds) (rules : Rules) (start : List C
         item : BeginsWithItem w.spot.rest (include_item name selection) (drop end f.bytes.items)
         item = subst (λ l. BeginsWithItem l (include_item name selection) (drop end f.bytes.items)) (sym w.own.left) b
 
-        by : (files : Files) → told ≡ Some files → IsUnopened told bounds name middle fault
+        by : (files : Files) → told ≡ Some files → IsUnopened told bounds name middle count fault
             → Finishes files bounds rules (w.spot ∷ w.outer) old.fetches state (ask name ∷ []) (Some fault)
-        by files t (inl no_one) =
+        by files t (inl (no_one, same_count)) =
             finishes_barred files bounds rules w.spot w.outer old.fetches state name selection (drop end f.bytes.items) fault item
             (subst (λ l. IsBarred bounds l old.fetches name fault) names (subst (λ n. IsBarred bounds (opened middle.files.items) n name fault) made no_one))
-        by files t (inr (may, no_file)) =
+        by files t (inr (may, no_file, one_more)) =
             finishes_withheld files bounds rules w.spot w.outer old.fetches state name selection (drop end f.bytes.items) fault item
             (subst (λ l. MayAsk bounds l old.fetches name) names (subst (λ n. MayAsk bounds (opened middle.files.items) n name) made may))
             (subst (λ x. IfSome x (λ fs. IsWithheld fs bounds name fault)) t no_file)
@@ -262,6 +283,8 @@ module _ (told : Option Files) (bounds : Bounds) (rules : Rules) (start : List C
     stand = subst (λ fs. Stand fs (inner ∷ [])) (sym (ap (λ l. reverse l) (h.inside ∙ ap (λ l. l ++ h.file ∷ []) none))) (own, tt);
     events = ask file ∷ [];
     gained = sym (append-nil start);
+    asked = omega (arith, h.counted, zero);
+    begun = omega (arith, h.counted);
     goes_on = λ files q es fault k. loads_opened files bounds rules start file h.file.bytes.items es fault (may_begin old new none zero h)
         (subst (λ x. IfSome x (λ fs. fs file ≡ Some h.file.bytes.items)) q h.given.given) h.given.small
         (subst (λ n. Finishes files bounds rules (inner ∷ []) n start es fault) (h.counted ∙ ap (λ n. n + 1) zero) k);
@@ -278,39 +301,49 @@ module _ (told : Option Files) (bounds : Bounds) (rules : Rules) (start : List C
       left = ap (λ n. drop n h.file.bytes.items) (sym h.given.front);
     }
 
-  pub never_begins : (old : Reading) (fault : Fault) → old.files.items ≡ [] → old.fetches ≡ 0 → IsUnopened told bounds file old fault → HasFault told bounds rules start file fault
-  never_begins old fault none zero h = by told refl h where
-    by : (t : Option Files) → told ≡ t → IsUnopened told bounds file old fault → IfSome t (λ files. (events : List Event) × Loads files bounds rules start file events (Some fault))
-    by None e k = tt
-    by (Some files) e (inl no_one) =
-        (ask file ∷ [], barred [] [] 0 start file fault (subst (λ n. IsBarred bounds [] n file fault) zero (subst (λ l. IsBarred bounds (opened l) old.fetches file fault) none no_one)))
-    by (Some files) e (inr (may, no_file)) = (
-      ask file ∷ [],
-      withheld [] [] 0 start file fault (subst (λ n. MayAsk bounds [] n file) zero (subst (λ l. MayAsk bounds (opened l) old.fetches file) none may))
-          (subst (λ x. IfSome x (λ fs. IsWithheld fs bounds file fault)) e no_file),
-    )
+  pub never_begins : (old : Reading) (made : ℕ) (fault : Fault) → old.files.items ≡ [] → old.fetches ≡ 0 → IsUnopened told bounds file old made fault → HasFault told bounds rules start file made fault
+  never_begins old made fault none zero h = (some h, by told refl h) where
+    not_asked : IsBarred bounds (opened old.files.items) old.fetches file fault → IsBarred bounds [] 0 file fault
+    not_asked no_one = subst (λ n. IsBarred bounds [] n file fault) zero (subst (λ l. IsBarred bounds (opened l) old.fetches file fault) none no_one)
 
-  pub may_not_begin : (old : Reading) (fault : Fault) → old.files.items ≡ [] → old.fetches ≡ 0 → (MayAsk bounds [] 0 file → ⊥) → IsUnopened told bounds file old fault
+    some : IsUnopened told bounds file old made fault → MayAsk bounds [] 0 file → 1 ≤ made
+    some (inl (no_one, same)) may = absurd (barred_no_ask bounds [] 0 file fault (not_asked no_one) may)
+    some (inr (may, no_file, one_more)) asks = omega (arith, one_more)
+
+    by : (t : Option Files) → told ≡ t → IsUnopened told bounds file old made fault
+        → IfSome t (λ files. (events : List Event) × Loads files bounds rules start file events (Some fault) × (made ≡ fetches_made events (Some fault)))
+    by None e k = tt
+    by (Some files) e (inl (no_one, same)) =
+        (ask file ∷ [], barred [] [] 0 start file fault (not_asked no_one), same ∙ zero ∙ made_barred bounds [] 0 file fault [] (not_asked no_one))
+    by (Some files) e (inr (may, no_file, one_more)) =
+        let gone = subst (λ x. IfSome x (λ fs. IsWithheld fs bounds file fault)) e no_file in (
+          ask file ∷ [],
+          withheld [] [] 0 start file fault (subst (λ n. MayAsk bounds [] n file) zero (subst (λ l. MayAsk bounds (opened l) old.fetches file) none may)) gone,
+          one_more ∙ ap (λ n. n + 1) zero ∙ made_withheld files bounds file fault [] gone,
+        )
+
+  pub may_not_begin : (old : Reading) (made : ℕ) (fault : Fault) → old.files.items ≡ [] → old.fetches ≡ 0 → (MayAsk bounds [] 0 file → ⊥) → IsUnopened told bounds file old made fault
       → IsBarred bounds [] 0 file fault
-  may_not_begin old fault none zero never h = by h where
-    by : IsUnopened told bounds file old fault → IsBarred bounds [] 0 file fault
-    by (inl no_one) = subst (λ n. IsBarred bounds [] n file fault) zero (subst (λ l. IsBarred bounds (opened l) old.fetches file fault) none no_one)
-    by (inr (may, no_file)) = absurd (never (subst (λ n. MayAsk bounds [] n file) zero (subst (λ l. MayAsk bounds (opened l) old.fetches file) none may)))
+  may_not_begin old made fault none zero never h = by h where
+    by : IsUnopened told bounds file old made fault → IsBarred bounds [] 0 file fault
+    by (inl (no_one, same)) = subst (λ n. IsBarred bounds [] n file fault) zero (subst (λ l. IsBarred bounds (opened l) old.fetches file fault) none no_one)
+    by (inr (may, no_file, one_more)) = absurd (never (subst (λ n. MayAsk bounds [] n file) zero (subst (λ l. MayAsk bounds (opened l) old.fetches file) none may)))
 
   -- no file is open any more
   pub is_over : (old : Reading) (state : List Clause) → old.files.items ≡ [] → IsUnderway told bounds rules start file old state
-      → IfSome told (λ files. GainsByLoad files bounds rules start file state)
-  is_over old state none u = by told refl where
+      → GainsByLoad told bounds rules start file old.fetches state
+  is_over old state none u = (u.begun, by told refl) where
     no_spots : (ss : List Spot) → Stand [] ss → ss ≡ []
     no_spots [] h = refl
     no_spots (s ∷ ss) h = absurd h
 
-    by : (t : Option Files) → told ≡ t → IfSome t (λ files. GainsByLoad files bounds rules start file state)
+    by : (t : Option Files) → told ≡ t → IfSome t (λ files. (events : List Event) × Loads files bounds rules start file events None × (old.fetches ≡ fetches events) × (state ≡ start ++ tried events))
     by None e = tt
     by (Some files) e =
         let empty : u.spots ≡ [] = no_spots u.spots (subst (λ fs. Stand (reverse fs) u.spots) none u.stand) in (
           u.events,
           subst (λ l. Loads files bounds rules start file l None) (append-nil u.events)
               (u.goes_on files e [] None (subst (λ ss. Finishes files bounds rules ss old.fetches state [] None) (sym empty) (refl, refl))),
+          u.asked,
           u.gained,
         )

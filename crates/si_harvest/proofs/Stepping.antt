@@ -32,7 +32,7 @@ read_as bytes bytes' at r r' b e h = subst (IsRead bytes' at) e (subst (λ l. Is
 module _ (told : Option Files) (bounds : Bounds) (rules : Rules) where
   -- an error that is passed on
   pub steps_fault : (r : Result Bool HarvestFault) (e : HarvestFault) (old new : Reading) (before after : List Clause) → IsErrAnd r (λ x. x ≡ e)
-      → ((start : List Clause) (file : Bytes) → IsUnderway told bounds rules start file old before → Explains rules e (HasFault told bounds rules start file))
+      → ((start : List Clause) (file : Bytes) → IsUnderway told bounds rules start file old before → Explains rules e (HasFault told bounds rules start file new.fetches))
       → StepsReading told bounds rules old new before after r
   steps_fault (Ok x) e old new before after h f = absurd h
   steps_fault (Err x) e old new before after h f = subst (λ y. StepsReading told bounds rules old new before after (Err y)) (sym h) f
@@ -58,12 +58,12 @@ module _ (told : Option Files) (bounds : Bounds) (rules : Rules) where
     falls = falls_item bounds old new items f (clause_item clause) end e r.begins n m;
   }
 
-  pub step_refused : (old : Reading) (state : List Clause) (items : List OpenFile) (f : OpenFile) (end : ℕ) (clause : Clause) (x : HarvestFault) → old.files.items ≡ items ++ f ∷ []
+  pub step_refused : (old : Reading) (state : List Clause) (items : List OpenFile) (f : OpenFile) (end : ℕ) (clause : Clause) (made : ℕ) (x : HarvestFault) → old.files.items ≡ items ++ f ∷ []
       → IsItemRead f.bytes.items f.at (clause_item clause) end
-      → Explains rules x (λ fault. (is_selected (items ++ record f { at = end } ∷ []) clause.name ≡ true) × IsRejected rules state clause fault)
-      → (start : List Clause) (file : Bytes) → IsUnderway told bounds rules start file old state → Explains rules x (HasFault told bounds rules start file)
-  step_refused old state items f end clause x e r b start file u =
-      blames_weaker rules x _ _ (λ fault h. is_refused told bounds rules start file old state items f end clause fault e r.begins h.0 h.1 u) b
+      → Explains rules x (λ fault. (is_selected (items ++ record f { at = end } ∷ []) clause.name ≡ true) × IsRejected rules state clause fault) → made ≡ old.fetches
+      → (start : List Clause) (file : Bytes) → IsUnderway told bounds rules start file old state → Explains rules x (HasFault told bounds rules start file made)
+  step_refused old state items f end clause made x e r b same start file u =
+      blames_weaker rules x _ _ (λ fault h. is_refused told bounds rules start file old state items f end clause made fault e r.begins h.0 h.1 same u) b
 
   pub step_include : (old middle new : Reading) (state : List Clause) (items : List OpenFile) (f : OpenFile) (end : ℕ) (name : Bytes) (selection : Selection) (chosen : Option NameSet)
       → old.files.items ≡ items ++ f ∷ [] → IsItemRead f.bytes.items f.at (include_item name selection) end → Lists selection chosen
@@ -75,12 +75,12 @@ module _ (told : Option Files) (bounds : Bounds) (rules : Rules) where
     falls = falls_entered told bounds name chosen old middle new items f (include_item name selection) end e r.begins n m h;
   }
 
-  pub step_unopened : (old : Reading) (state : List Clause) (items : List OpenFile) (f : OpenFile) (end : ℕ) (name : Bytes) (selection : Selection) (x : HarvestFault)
+  pub step_unopened : (old : Reading) (state : List Clause) (items : List OpenFile) (f : OpenFile) (end : ℕ) (name : Bytes) (selection : Selection) (made : ℕ) (x : HarvestFault)
       → old.files.items ≡ items ++ f ∷ [] → IsItemRead f.bytes.items f.at (include_item name selection) end
-      → Explains rules x (λ fault. (middle : Reading) × (middle.files.items ≡ items ++ record f { at = end } ∷ []) × (middle.fetches ≡ old.fetches) × IsUnopened told bounds name middle fault)
-      → (start : List Clause) (file : Bytes) → IsUnderway told bounds rules start file old state → Explains rules x (HasFault told bounds rules start file)
-  step_unopened old state items f end name selection x e r b start file u =
-      blames_weaker rules x _ _ (λ fault h. is_unopened told bounds rules start file old h.0 state items f end name selection fault e r.begins h.1 h.2 h.3 u) b
+      → Explains rules x (λ fault. (middle : Reading) × (middle.files.items ≡ items ++ record f { at = end } ∷ []) × (middle.fetches ≡ old.fetches) × IsUnopened told bounds name middle made fault)
+      → (start : List Clause) (file : Bytes) → IsUnderway told bounds rules start file old state → Explains rules x (HasFault told bounds rules start file made)
+  step_unopened old state items f end name selection made x e r b start file u =
+      blames_weaker rules x _ _ (λ fault h. is_unopened told bounds rules start file old h.0 state items f end name selection made fault e r.begins h.1 h.2 h.3 u) b
 
   -- ---- where no item stands
   spot_stuck : (f : OpenFile) (place : ℕ) (outer : List Spot) (s : Spot) → IsFault f.bytes.items f.at place → IsAtSpot f outer s
@@ -115,7 +115,7 @@ module _ (told : Option Files) (bounds : Bounds) (rules : Rules) where
 
   pub step_foreign : (old : Reading) (state : List Clause) (items : List OpenFile) (f : OpenFile) (place line : ℕ) → old.files.items ≡ items ++ f ∷ []
       → IsFault f.bytes.items f.at place × IsForeign (drop f.at f.bytes.items) → line ≡ line_of (take place f.bytes.items)
-      → (start : List Clause) (file : Bytes) → IsUnderway told bounds rules start file old state → Explains rules (Language f.name line) (HasFault told bounds rules start file)
+      → (start : List Clause) (file : Bytes) → IsUnderway told bounds rules start file old state → Explains rules (Language f.name line) (HasFault told bounds rules start file old.fetches)
   step_foreign old state items f place line e r l start file u = inr (record {
     fault = foreign f.name line;
     told = refl;
@@ -125,7 +125,7 @@ module _ (told : Option Files) (bounds : Bounds) (rules : Rules) where
 
   pub step_malformed : (old : Reading) (state : List Clause) (items : List OpenFile) (f : OpenFile) (place line : ℕ) → old.files.items ≡ items ++ f ∷ []
       → IsFault f.bytes.items f.at place × (IsForeign (drop f.at f.bytes.items) → ⊥) → line ≡ line_of (take place f.bytes.items)
-      → (start : List Clause) (file : Bytes) → IsUnderway told bounds rules start file old state → Explains rules (Syntax f.name line) (HasFault told bounds rules start file)
+      → (start : List Clause) (file : Bytes) → IsUnderway told bounds rules start file old state → Explains rules (Syntax f.name line) (HasFault told bounds rules start file old.fetches)
   step_malformed old state items f place line e r l start file u = inr (record {
     fault = malformed f.name line;
     told = refl;
@@ -143,5 +143,13 @@ steps_true told told' bounds rules rules' old new before after more t l m h =
 
 -- and one where none was
 pub steps_false : (told : Option Files) (bounds : Bounds) (rules : Rules) (old new : Reading) (before after : List Clause) (more : Bool) → more ≡ false
-    → StepsReading told bounds rules old new before after (Ok more) → (old.files.items ≡ []) × (after ≡ before)
+    → StepsReading told bounds rules old new before after (Ok more) → (old.files.items ≡ []) × (after ≡ before) × (new.fetches ≡ old.fetches)
 steps_false told bounds rules old new before after more m h = subst (λ b. StepsReading told bounds rules old new before after (Ok b)) m h
+
+-- an error of a step, of a load with these files and these rules
+pub steps_error : (told told' : Option Files) (bounds : Bounds) (rules rules' : Rules) (old new : Reading) (before after : List Clause) (e : HarvestFault) → told ≡ told' → rules ≡ rules'
+    → StepsReading told bounds rules old new before after (Err e)
+    → (start : List Clause) (file : Bytes) → IsUnderway told' bounds rules' start file old before → Explains rules' e (HasFault told' bounds rules' start file new.fetches)
+steps_error told told' bounds rules rules' old new before after e t l h =
+    subst (λ x. StepsReading x bounds rules' old new before after (Err e)) t
+    (subst (λ n. StepsReading told bounds n old new before after (Err e)) l h)

@@ -1,10 +1,10 @@
 -- What a load has gained so far.
-use Rattle.std.specs.Prelude.{◌≡◌, ◌≤◌, List, ◌++◌, length, None}
+use Rattle.std.specs.Prelude.{◌≡◌, ℕ, ◌≤◌, List, ◌++◌, length, Option, None, IfSome}
 use Rattle.si_defs.specs.Bytes.{Bytes}
 use Rattle.si_defs.specs.Clauses.{Clause}
 use Rattle.si_defs.specs.Entries.{state_entries}
 use Rattle.si_state.specs.States.{Rules}
-use Rattle.si_state.specs.Harvest.{Files, Bounds, Event, tried, Loads, AreAccepted}
+use Rattle.si_state.specs.Harvest.{Files, Bounds, Event, tried, fetches, Loads, AreAccepted}
 use Rattle.si_harvest.specs.declared.faults.Loaded.{Loaded}
 
 -- no more is counted than is kept
@@ -22,8 +22,11 @@ pub record Gained (rules : Rules) (start : List Clause) (loaded : Loaded)
   pub clauses : loaded.clauses ≡ length gained
   pub entries : loaded.entries ≡ length (state_entries gained)
 
--- behind a load of the file these clauses are kept, and there is no fault
-abbrev pub GainsByLoad : Files → Bounds → Rules → List Clause → Bytes → List Clause → Type 0
-GainsByLoad files bounds rules start file kept =
-    (events : List Event)
-    × Loads files bounds rules start file events None × (kept ≡ start ++ tried events)
+-- behind a load of the file and so many fetches these clauses are kept, and there is no fault
+abbrev pub GainsByLoad : Option Files → Bounds → Rules → List Clause → Bytes → (made : ℕ)
+    → List Clause → Type 0
+GainsByLoad told bounds rules start file made kept =
+    (1 ≤ made)
+    × IfSome told (λ files. (events : List Event)
+    × Loads files bounds rules start file events None × (made ≡ fetches events)
+    × (kept ≡ start ++ tried events))

@@ -1,11 +1,12 @@
 -- The files that are open, and where their reading stands.
-use Rattle.std.specs.Prelude.{◌≡◌, ◌+◌, ◌≤◌, ◌⊎◌, Bool, true, false, List, [], ◌∷◌, ◌++◌, length, map, reverse, Option, None, Some, IfSome, bytes_eq}
+use Rattle.std.specs.Prelude.{◌≡◌, ℕ, ◌+◌, ◌≤◌, ◌⊎◌, Bool, true, false, List, [], ◌∷◌, ◌++◌, length, map, reverse, Option, None, Some, IfSome, bytes_eq}
 use Rattle.std.specs.List.{list_any, list_all}
 use Rattle.si_defs.specs.Bytes.{Bytes}
 use Rattle.si_defs.specs.Clauses.{Name, Clause}
 use Rattle.si_state.specs.States.{Rules}
 use Rattle.si_state.specs.Harvest.{Files, Bounds, Event, Fault, MayAsk, IsBarred, IsWithheld, Loads}
 use Rattle.si_state.specs.Acceptance.{Accepts}
+use Rattle.si_steps.specs.Loads.{fetches_made}
 use Rattle.si_harvest.specs.declared.files.OpenFile.{OpenFile}
 use Rattle.si_harvest.specs.declared.names.NameSet.{NameSet}
 use Rattle.si_harvest.specs.declared.reading.Reading.{Reading}
@@ -48,12 +49,13 @@ pub record OpensInside (told : Option Files) (bounds : Bounds) (name : Bytes)
   pub inside : after.files.items ≡ before.files.items ++ file ∷ []
   pub counted : after.fetches ≡ before.fetches + 1
 
--- why it can't be opened
-abbrev pub IsUnopened : Option Files → Bounds → Bytes → Reading → Fault → Type 0
-IsUnopened told bounds name reading fault =
-    IsBarred bounds (opened reading.files.items) reading.fetches name fault
+-- why it can't be opened, behind so many fetches: it may not be asked for, or one more was made
+abbrev pub IsUnopened : Option Files → Bounds → Bytes → Reading → ℕ → Fault → Type 0
+IsUnopened told bounds name reading made fault =
+    (IsBarred bounds (opened reading.files.items) reading.fetches name fault
+    × (made ≡ reading.fetches))
     ⊎ (MayAsk bounds (opened reading.files.items) reading.fetches name
-    × IfSome told (λ files. IsWithheld files bounds name fault))
+    × IfSome told (λ files. IsWithheld files bounds name fault) × (made ≡ reading.fetches + 1))
 
 -- The clause was passed over where the selections don't all list it, and else it was accepted.
 abbrev pub TriesClause : Rules → List OpenFile → Clause → List Clause → List Clause → Type 0
@@ -61,8 +63,12 @@ TriesClause rules files clause before after =
     ((is_selected files clause.name ≡ false) × (after ≡ before))
     ⊎ ((is_selected files clause.name ≡ true) × Accepts rules before clause after)
 
--- a load of the file has this fault
-abbrev pub HasFault : Option Files → Bounds → Rules → List Clause → Bytes → Fault → Type 0
-HasFault told bounds rules start file fault =
-    IfSome told (λ files. (events : List Event)
-    × Loads files bounds rules start file events (Some fault))
+-- A load of the file has this fault, behind so many fetches: at least one, if the file may be asked
+-- for.
+abbrev pub HasFault : Option Files → Bounds → Rules → List Clause → Bytes → (made : ℕ) → Fault
+    → Type 0
+HasFault told bounds rules start file made fault =
+    (MayAsk bounds [] 0 file → 1 ≤ made)
+    × IfSome told (λ files. (events : List Event)
+    × Loads files bounds rules start file events (Some fault)
+    × (made ≡ fetches_made events (Some fault)))

@@ -1,14 +1,21 @@
 -- One step of a load.
-use Rattle.std.specs.Prelude.{◌≡◌, ◌<◌, Bool, true, false, List, [], Option, Result, Ok, Err}
+use Rattle.std.specs.Prelude.{◌≡◌, ℕ, ◌≤◌, ◌<◌, Bool, true, false, List, [], Option, Result, Ok, Err}
 use Rattle.si_defs.specs.Bytes.{Bytes}
 use Rattle.si_defs.specs.Clauses.{Clause}
 use Rattle.si_state.specs.States.{Rules}
 use Rattle.si_state.specs.Harvest.{Files, Bounds}
+use Rattle.si_io.specs.Counts.{raised_by}
 use Rattle.si_harvest.specs.declared.reading.Reading.{Reading}
 use Rattle.si_harvest.specs.declared.faults.HarvestFault.{HarvestFault}
 use Rattle.si_harvest.specs.Faults.{Explains}
 use Rattle.si_harvest.specs.Opened.{HasFault}
 use Rattle.si_harvest.specs.Underway.{IsUnderway, AreWithin, steps_left}
+
+-- The library was called once for each fetch in between, and no more were made than there may be.
+pub record FetchesOn (most made now calls calls_now : ℕ) : Type 0 where
+  pub later : made ≤ now
+  pub counted : (first : ℕ) → calls ≡ raised_by made first → calls_now ≡ raised_by now first
+  pub few : made ≤ most → now ≤ most
 
 -- each load that is under way stays so, and less is left to read
 pub record StepsOn (told : Option Files) (bounds : Bounds) (rules : Rules) (old new : Reading)
@@ -25,7 +32,7 @@ abbrev pub StepsReading : Option Files → Bounds → Rules → Reading → Read
 StepsReading told bounds rules old new before after (Ok true) =
     StepsOn told bounds rules old new before after
 StepsReading told bounds rules old new before after (Ok false) =
-    (old.files.items ≡ []) × (after ≡ before)
+    (old.files.items ≡ []) × (after ≡ before) × (new.fetches ≡ old.fetches)
 StepsReading told bounds rules old new before after (Err e) =
     (start : List Clause) (file : Bytes) → IsUnderway told bounds rules start file old before
-    → Explains rules e (HasFault told bounds rules start file)
+    → Explains rules e (HasFault told bounds rules start file new.fetches)

@@ -63,13 +63,16 @@ module _ (files : Files) (bounds : Bounds) (rules : Rules) where
       × (fault ≡ Some early))
 
 -- At the start of the load of a file the first of these clauses were kept, and behind some events
--- the others are. What the readings give from here on, the load gives behind those events.
+-- the others are. The fetches so far are those of these events. What the readings give from here
+-- on, the load gives behind them.
 pub record IsUnderway (told : Option Files) (bounds : Bounds) (rules : Rules) (start : List Clause)
     (file : Bytes) (reading : Reading) (kept : List Clause) : Type 0 where
   pub spots : List Spot
   pub stand : Stand (reverse reading.files.items) spots
   pub events : List Event
   pub gained : kept ≡ start ++ tried events
+  pub asked : reading.fetches ≡ fetches events
+  pub begun : 1 ≤ reading.fetches
   pub goes_on : (files : Files) → told ≡ Some files → (others : List Event) (fault : Option Fault)
       → Finishes files bounds rules spots reading.fetches kept others fault
       → Loads files bounds rules start file (events ++ others) fault

@@ -4,6 +4,7 @@ ghost use Rattle.si_defs.specs.Texts.{line_of};
 ghost use Rattle.si_state.specs.States.{Rules};
 ghost use Rattle.si_state.specs.Harvest.{MayAsk, IsBarred, IsWithheld};
 ghost use Rattle.si_term.specs.Meaning.{name_of};
+ghost use Rattle.si_io.specs.Counts.{raised};
 ghost use Rattle.si_io.specs.Library.{Counts, faults_in};
 ghost use Rattle.si_harvest.specs.Faults.{Explains, HasLoadCause, bounds_of};
 ghost use Rattle.si_harvest.specs.Opened.{HasOpened, opened, has_open, lists, is_selected};
@@ -80,38 +81,38 @@ pub fn may_ask(
 }
 
 /// Fetches a file, which is then open at its front.
-#[tactic(auto, using(si_io::proofs::Fetching::HasFetchCause_once))]
+#[tactic(auto, using(crate::proofs::Fetching::one_fetch))]
 pub fn open<L: Library>(
     alloc: Global,
     library: &mut L,
     limits: &HarvestLimits,
-    name: &[u8],
+    name: Text,
     chosen: Option<NameSet>,
 ) -> Result<OpenFile, HarvestFault>
     ensures opened { IfOk result
-        (HasOpened (L.shown library.old).files (bounds_of limits.now) name.now
-        chosen) }
+        (HasOpened (L.shown library.old).files (bounds_of limits.now) name chosen) }
     ensures withheld { IfErr result (λ e. (rules : Rules) → Explains rules e (λ fault. IfSome
         (L.shown library.old).files
-        (λ files. IsWithheld files (bounds_of limits.now) name.now fault))) }
+        (λ files. IsWithheld files (bounds_of limits.now) name fault))) }
     ensures told { (L.shown library.new).files ≡ (L.shown library.old).files }
     ensures same { (L.shown library.new).may_fail ≡ (L.shown library.old).may_fail }
     ensures cause { HasLoadCause (L.shown library.old).may_fail
         (faults_in (L.shown library.old).counts)
         (faults_in (L.shown library.new).counts) result }
+    ensures once { (L.shown library.new).counts.calls
+        ≡ raised (L.shown library.old).counts.calls }
 {
-    let name_text = Text::from_bytes(alloc, name)?;
     let mut bytes = Vec::new(alloc);
-    match library.fetch(name, &mut bytes, limits.file) {
+    match library.fetch(name.as_bytes(), &mut bytes, limits.file) {
         Fetched::Found => Ok(OpenFile {
-            name: name_text,
+            name,
             bytes,
             at: 0,
             chosen,
         }),
-        Fetched::Missing => Err(HarvestFault::Missing(name_text)),
-        Fetched::TooBig => Err(HarvestFault::Big(name_text)),
-        Fetched::Failed => Err(HarvestFault::Fault(name_text)),
+        Fetched::Missing => Err(HarvestFault::Missing(name)),
+        Fetched::TooBig => Err(HarvestFault::Big(name)),
+        Fetched::Failed => Err(HarvestFault::Fault(name)),
         Fetched::Memory => Err(HarvestFault::Memory),
     }
 }

@@ -1,10 +1,10 @@
 // Loads: all clauses of a file, or none.
-ghost use Rattle.std.specs.Prelude.{◌≡◌, ◌≤◌, IfOk, IfErr, IfSome, OnOk, OnErr};
+ghost use Rattle.std.specs.Prelude.{◌≡◌, ◌≤◌, IfOk, OnErr};
 ghost use Rattle.si_defs.specs.declared.TheConstants.{MOST_OCCURRENCES};
 ghost use Rattle.si_io.specs.Library.{faults_in};
-ghost use Rattle.si_harvest.specs.Faults.{Explains, ChecksStart, HasLoadCause, bounds_of};
-ghost use Rattle.si_harvest.specs.Opened.{HasFault};
-ghost use Rattle.si_harvest.specs.Gains.{CountsNoMore, Gained, GainsByLoad};
+ghost use Rattle.si_harvest.specs.Faults.{ChecksStart, HasLoadCause, bounds_of};
+ghost use Rattle.si_harvest.specs.Gains.{CountsNoMore, Gained};
+ghost use Rattle.si_harvest.specs.Loading.{ReadsFiles};
 
 use crate::faults::{HarvestFault, HarvestLimits, Loaded};
 use crate::reading::Reading;
@@ -27,12 +27,9 @@ pub fn expand<L: Library, T: ClauseStore>(
     requires limit { (T.rules store.old).entries ≤ MOST_OCCURRENCES }
     ensures loaded { IfOk result (λ loaded. Gained (T.rules store.old) (T.clauses store.old) loaded
         (T.clauses store.new)) }
-    ensures right { IfOk result (λ loaded. IfSome (L.shown library.old).files (λ files.
-        GainsByLoad files (bounds_of limits.now) (T.rules store.old) (T.clauses store.old) name.now
-        (T.clauses store.new))) }
-    ensures fault { IfErr result (λ e. Explains (T.rules store.old) e (HasFault
-        (L.shown library.old).files (bounds_of limits.now) (T.rules store.old) (T.clauses store.old)
-        name.now)) }
+    ensures reads { ReadsFiles (L.shown library.old).files (bounds_of limits.now)
+        (T.rules store.old) name.now result (T.clauses store.old) (T.clauses store.new)
+        (L.shown library.old).counts.calls (L.shown library.new).counts.calls }
     ensures start { ChecksStart (bounds_of limits.now) (T.rules store.old) name.now result }
     ensures err { OnErr result (T.clauses store.new ≡ T.clauses store.old) }
     ensures rules { T.rules store.new ≡ T.rules store.old }
@@ -69,12 +66,9 @@ fn read_all<L: Library, T: ClauseStore>(
     requires counted { CountsNoMore loaded.old (T.clauses store.old) }
     requires gained { Gained (T.rules store.old) (T.clauses store.old) loaded.old
         (T.clauses store.old) }
-    ensures right { OnOk result (IfSome (L.shown library.old).files (λ files. GainsByLoad files
-        (bounds_of limits.now) (T.rules store.old) (T.clauses store.old) name.now
-        (T.clauses store.new))) }
-    ensures fault { IfErr result (λ e. Explains (T.rules store.old) e (HasFault
-        (L.shown library.old).files (bounds_of limits.now) (T.rules store.old) (T.clauses store.old)
-        name.now)) }
+    ensures reads { ReadsFiles (L.shown library.old).files (bounds_of limits.now)
+        (T.rules store.old) name.now result (T.clauses store.old) (T.clauses store.new)
+        (L.shown library.old).counts.calls (L.shown library.new).counts.calls }
     ensures start { ChecksStart (bounds_of limits.now) (T.rules store.old) name.now result }
     ensures gained { Gained (T.rules store.old) (T.clauses store.old) loaded.new
         (T.clauses store.new) }

@@ -4,15 +4,15 @@ ghost use Rattle.si_defs.specs.Clauses as defs;
 ghost use Rattle.si_defs.specs.Clauses.{IsSoundClause};
 ghost use Rattle.si_defs.specs.declared.TheConstants.{MOST_OCCURRENCES};
 ghost use Rattle.si_state.specs.States.{Rules};
-ghost use Rattle.si_state.specs.Harvest.{IsRejected};
+ghost use Rattle.si_state.specs.Harvest.{MayAsk, IsRejected};
 ghost use Rattle.si_io.specs.Library.{faults_in};
 ghost use Rattle.si_term.specs.Meaning.{clause_of};
 ghost use Rattle.si_harvest.specs.declared.names.NameSet.{NameSet};
 ghost use Rattle.si_harvest.specs.declared.reading.Reading.{Reading};
 ghost use Rattle.si_parse.specs.Meaning.{selection_of};
 ghost use Rattle.si_harvest.specs.Faults.{Explains, HasLoadCause, bounds_of};
-ghost use Rattle.si_harvest.specs.Opened.{OpensInside, IsUnopened, TriesClause, is_selected};
-ghost use Rattle.si_harvest.specs.Stepping.{StepsReading};
+ghost use Rattle.si_harvest.specs.Opened.{opened, OpensInside, IsUnopened, TriesClause, is_selected};
+ghost use Rattle.si_harvest.specs.Stepping.{FetchesOn, StepsReading};
 ghost use Rattle.si_harvest.specs.Gains.{CountsNoMore, Gained};
 ghost use Rattle.si_harvest.specs.Underway.{AreWithin, Lists};
 
@@ -24,10 +24,10 @@ use si_io::Library;
 use si_parse::grammar::Selection;
 use si_parse::item::{Read, next_item};
 use si_sign::ClauseStore;
-use si_term::Clause;
+use si_term::{Clause, Text};
 use std::alloc::{AllocError, Global};
 
-/// The files that are open, the first one first, and how many were fetched.
+/// The files that are open, the first one first, and how often a file was fetched.
 #[derive(Drop)]
 pub struct Reading {
     files: Vec<OpenFile>,
@@ -47,6 +47,7 @@ impl Reading {
     }
 
     /// Opens a file inside those that are open.
+    #[tactic(auto, using(crate::proofs::Fetching::counted))]
     pub fn enter<L: Library>(
         &mut self,
         alloc: Global,
@@ -58,16 +59,22 @@ impl Reading {
         ensures entered { OnOk result (OpensInside (L.shown library.old).files
             (bounds_of limits.now) name.now chosen self.old self.new) }
         ensures unopened { IfErr result (λ e. (rules : Rules) → Explains rules e (IsUnopened
-            (L.shown library.old).files (bounds_of limits.now) name.now self.old)) }
+            (L.shown library.old).files (bounds_of limits.now) name.now self.old
+            self.new.fetches)) }
+        ensures unasked { (MayAsk (bounds_of limits.now) (opened self.old.files.items)
+            self.old.fetches name.now → ⊥) → self.new.fetches ≡ self.old.fetches }
         ensures told { (L.shown library.new).files ≡ (L.shown library.old).files }
         ensures same { (L.shown library.new).may_fail ≡ (L.shown library.old).may_fail }
         ensures cause { HasLoadCause (L.shown library.old).may_fail
             (faults_in (L.shown library.old).counts) (faults_in (L.shown library.new).counts)
             result }
+        ensures fetches { FetchesOn limits.now.fetches self.old.fetches self.new.fetches
+            (L.shown library.old).counts.calls (L.shown library.new).counts.calls }
     {
         may_ask(alloc, self.files.as_slice(), self.fetches, limits, name)?;
-        let file = open(alloc, library, limits, name, chosen)?;
+        let file_name = Text::from_bytes(alloc, name)?;
         self.fetches += 1;
+        let file = open(alloc, library, limits, file_name, chosen)?;
         self.push(file)?;
         Ok(())
     }
@@ -112,6 +119,7 @@ impl Reading {
     }
 
     /// Opens a file that is included, and reads on behind the include later.
+    #[tactic(auto, using(crate::proofs::Fetching::counted))]
     fn include<L: Library>(
         &mut self,
         alloc: Global,
@@ -131,12 +139,14 @@ impl Reading {
             (middle : Reading) × (middle.files.items ≡ self.old.files.items ++ file ∷ [])
             × (middle.fetches ≡ self.old.fetches)
             × IsUnopened (L.shown library.old).files (bounds_of limits.now) name.now middle
-            fault)) }
+            self.new.fetches fault)) }
         ensures told { (L.shown library.new).files ≡ (L.shown library.old).files }
         ensures same { (L.shown library.new).may_fail ≡ (L.shown library.old).may_fail }
         ensures cause { HasLoadCause (L.shown library.old).may_fail
             (faults_in (L.shown library.old).counts) (faults_in (L.shown library.new).counts)
             result }
+        ensures fetches { FetchesOn limits.now.fetches self.old.fetches self.new.fetches
+            (L.shown library.old).counts.calls (L.shown library.new).counts.calls }
     {
         self.push(file)?;
         let chosen = chosen(alloc, selection)?;
@@ -144,6 +154,7 @@ impl Reading {
     }
 
     /// Reads on by one item, or leaves the file at its end. Answers whether a file was open.
+    #[tactic(auto, using(crate::proofs::Fetching::counted))]
     pub fn step<L: Library, T: ClauseStore>(
         &mut self,
         alloc: Global,
@@ -169,6 +180,8 @@ impl Reading {
         ensures cause { HasLoadCause (L.shown library.old).may_fail
             (faults_in (L.shown library.old).counts) (faults_in (L.shown library.new).counts)
             result }
+        ensures fetches { FetchesOn limits.now.fetches self.old.fetches self.new.fetches
+            (L.shown library.old).counts.calls (L.shown library.new).counts.calls }
     {
         let Some(mut file) = self.files.pop() else {
             return Ok(false);

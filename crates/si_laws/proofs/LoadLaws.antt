@@ -10,9 +10,10 @@ use Rattle.si_defs.specs.Grammar.{Selection, Item, clause_item, include_item}
 use Rattle.si_defs.specs.Texts.{BeginsWithItem, line_of}
 use Rattle.si_state.specs.States.{Rules}
 use Rattle.si_state.specs.Acceptance.{Refuses}
-use Rattle.si_state.specs.Harvest.{Files, Bounds, Event, ask, attempt, tried, fetches, Fault, cycle, too_deep, too_many, missing, too_big, failed, foreign, malformed, rejected, MayAsk, IsBarred, IsWithheld, narrowed, IsSelected, Spot, IsOnLine, IsStuck, Harvests, barred, withheld, fetched, Continues, ended, stuck, passed_over, accepted, refused, expanded, broken_off, AreAccepted}
+use Rattle.si_state.specs.Harvest.{Files, Bounds, Event, ask, attempt, tried, fetches, Fault, cycle, too_deep, too_many, missing, too_big, failed, foreign, malformed, rejected, IsBarred, IsWithheld, narrowed, IsSelected, Spot, IsOnLine, IsStuck, Harvests, barred, withheld, fetched, Continues, ended, stuck, passed_over, accepted, refused, expanded, broken_off, AreAccepted}
 use Rattle.si_state.proofs.HarvestLaws.{tried-append}
-use Rattle.si_steps.specs.Loads.{nothing, a_failure, owed_by}
+use Rattle.si_steps.specs.Loads.{owed_for}
+use Rattle.si_steps.proofs.FetchLaws.{barred_no_ask}
 use Rattle.si_lex.proofs.BlankLaws.{place_unique}
 use Rattle.si_parse.proofs.GrammarStops.{no_item_in_blanks}
 use Rattle.si_laws.specs.OneReply.{IsConsistent, TellsNoFailure}
@@ -28,19 +29,7 @@ accepted_stay rules state (c ∷ cs) is h =
 
 -- ---- why a file isn't opened
 module _ (bounds : Bounds) (opened : List Bytes) (made : ℕ) (file : Bytes) where
-  -- a file that is barred may not be asked for
-  barred_no_ask : (f : Fault) → IsBarred bounds opened made file f → MayAsk bounds opened made file → ⊥
-  barred_no_ask (cycle n) h m = m.fresh h.1
-  barred_no_ask (too_deep n) h m = absurd (omega (arith, h.2, m.shallow))
-  barred_no_ask too_many h m = absurd (omega (arith, h.2, m.few))
-  barred_no_ask (missing n) h m = h
-  barred_no_ask (too_big n) h m = h
-  barred_no_ask (failed n) h m = h
-  barred_no_ask (foreign n line) h m = h
-  barred_no_ask (malformed n line) h m = h
-  barred_no_ask (rejected c why) h m = h
-
-  -- and it is so for one first reason
+  -- a file is barred for one first reason
   barred_one : (f g : Fault) → IsBarred bounds opened made file f → IsBarred bounds opened made file g → f ≡ g
   barred_one (cycle n) (cycle m) h k = ap cycle (h.0 ∙ sym k.0)
   barred_one (cycle n) (too_deep m) h k = absurd (k.1 h.1)
@@ -78,10 +67,10 @@ module _ (bounds : Bounds) (opened : List Bytes) (made : ℕ) (file : Bytes) whe
 
 -- the reading ends with no failure of the library
 abbrev Ends : Option Fault → Type 0
-Ends fault = TellsNoFailure (owed_by fault)
+Ends fault = TellsNoFailure (owed_for 0 fault)
 
 ends_well : Ends None
-ends_well e = let other : nothing ≡ a_failure = e in cc
+ends_well = refl
 
 module _ (files : Files) (bounds : Bounds) (file : Bytes) where
   -- a file that is given is not withheld, but for a failure
@@ -91,7 +80,7 @@ module _ (files : Files) (bounds : Bounds) (file : Bytes) where
   withheld_no_file too_many bytes well h e small = h
   withheld_no_file (missing n) bytes well h e small = absurd (none-some _ (sym h.1 ∙ e))
   withheld_no_file (too_big n) bytes well h e small = absurd (omega (arith, subst (λ o. IsSomeAnd o (λ b. bounds.file < length b)) e h.1, small))
-  withheld_no_file (failed n) bytes well h e small = well refl
+  withheld_no_file (failed n) bytes well h e small = absurd (omega (arith, well))
   withheld_no_file (foreign n line) bytes well h e small = h
   withheld_no_file (malformed n line) bytes well h e small = h
   withheld_no_file (rejected c why) bytes well h e small = h
@@ -106,7 +95,7 @@ module _ (files : Files) (bounds : Bounds) (file : Bytes) where
   withheld_one (missing n) too_many a b h k = absurd k
   withheld_one (missing n) (missing m) a b h k = ap missing (h.0 ∙ sym k.0)
   withheld_one (missing n) (too_big m) a b h k = absurd (subst (λ o. IsSomeAnd o (λ b. bounds.file < length b)) h.1 k.1)
-  withheld_one (missing n) (failed m) a b h k = absurd (b refl)
+  withheld_one (missing n) (failed m) a b h k = absurd (omega (arith, b))
   withheld_one (missing n) (foreign m spot_line) a b h k = absurd k
   withheld_one (missing n) (malformed m spot_line) a b h k = absurd k
   withheld_one (missing n) (rejected d because) a b h k = absurd k
@@ -115,11 +104,11 @@ module _ (files : Files) (bounds : Bounds) (file : Bytes) where
   withheld_one (too_big n) too_many a b h k = absurd k
   withheld_one (too_big n) (missing m) a b h k = absurd (subst (λ o. IsSomeAnd o (λ b. bounds.file < length b)) k.1 h.1)
   withheld_one (too_big n) (too_big m) a b h k = ap too_big (h.0 ∙ sym k.0)
-  withheld_one (too_big n) (failed m) a b h k = absurd (b refl)
+  withheld_one (too_big n) (failed m) a b h k = absurd (omega (arith, b))
   withheld_one (too_big n) (foreign m spot_line) a b h k = absurd k
   withheld_one (too_big n) (malformed m spot_line) a b h k = absurd k
   withheld_one (too_big n) (rejected d because) a b h k = absurd k
-  withheld_one (failed n) other a b h k = absurd (a refl)
+  withheld_one (failed n) other a b h k = absurd (omega (arith, a))
   withheld_one (foreign n line) other a b h k = absurd h
   withheld_one (malformed n line) other a b h k = absurd h
   withheld_one (rejected c why) other a b h k = absurd h

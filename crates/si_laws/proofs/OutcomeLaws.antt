@@ -56,9 +56,9 @@ one_outcome setting (explain relation p) state is reply other new behind (passed
 pub one_load : (setting : Setting) (files : Files) (file : Bytes) (state : State) → IsConsistent state.clauses → LoadsToOneOutcome setting files file state
 one_load setting files file state is reply other owed due new behind (events, fault, loads, said, owes, left) (others, cause, loads_too, said_too, owes_too, left_too) a b =
     let same =
-    one_harvest files (load_bounds setting.limits) setting.rules [] [] 0 state.clauses file events others fault cause is loads loads_too (λ e. a (owes ∙ e)) (λ e. b (owes_too ∙ e)) in (
+    one_harvest files (load_bounds setting.limits) setting.rules [] [] 0 state.clauses file events others fault cause is loads loads_too (sym (ap (λ (o : Owed). o.failures) owes) ∙ a) (sym (ap (λ (o : Owed). o.failures) owes_too) ∙ b) in (
       said ∙ (λ i. load_line setting.rules.entries (same.0 i) (same.1 i) ∷ []) ∙ sym said_too,
-      owes ∙ ap owed_by same.1 ∙ sym owes_too,
+      owes ∙ (λ i. owed_by (same.0 i) (same.1 i)) ∙ sym owes_too,
       left ∙ (λ i. record state { clauses = clauses_behind state.clauses (same.0 i) (same.1 i) }) ∙ sym left_too,
     )
 
@@ -82,8 +82,8 @@ pub load_stays : (setting : Setting) (told : Option Files) (file : Bytes) (state
 load_stays setting (Some files) file state reply owed new is (events, None, loads, said, owes, left) =
     subst (λ (s : State). IsConsistent s.clauses) (sym left) (harvest_stays files (load_bounds setting.limits) setting.rules [] [] 0 state.clauses file events is loads)
 load_stays setting (Some files) file state reply owed new is (events, Some fault, loads, said, owes, left) = subst (λ (s : State). IsConsistent s.clauses) (sym left) is
-load_stays setting None file state reply owed new is (inl (gained, accepted, said, owes, left)) = subst (λ (s : State). IsConsistent s.clauses) (sym left) (accepted_stay setting.rules state.clauses gained is accepted)
-load_stays setting None file state reply owed new is (inr (fault, said, owes, left)) = subst (λ (s : State). IsConsistent s.clauses) (sym left) is
+load_stays setting None file state reply owed new is (may, some, inl (gained, accepted, said, owes, left)) = subst (λ (s : State). IsConsistent s.clauses) (sym left) (accepted_stay setting.rules state.clauses gained is accepted)
+load_stays setting None file state reply owed new is (may, some, inr (fault, said, owes, left)) = subst (λ (s : State). IsConsistent s.clauses) (sym left) is
 
 pub step_stays : (setting : Setting) (told : Option Files) (state : State) (line : Bytes) → StaysConsistent setting told state line
 step_stays setting told state line reply owed new is (long h said owes stays) = subst (λ (s : State). IsConsistent s.clauses) (sym stays) is

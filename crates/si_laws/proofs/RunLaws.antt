@@ -1,5 +1,5 @@
 -- Runs stay consistent, and of right replies to some requests there is at most one list.
-use Rattle.std.proofs.Common.{◌≡◌, ℕ, Bool, List, [], ◌∷◌, Option, Some, sym, ◌∙◌, subst}
+use Rattle.std.proofs.Common.{◌≡◌, Bool, List, [], ◌∷◌, Option, Some, sym, ◌∙◌, subst}
 use Rattle.si_defs.specs.Bytes.{Bytes}
 use Rattle.si_state.specs.States.{State, empty_state}
 use Rattle.si_state.specs.Harvest.{Files}
@@ -43,10 +43,10 @@ act_stays : (setting : Setting) (told : Option Files) (state : State) (request :
 act_stays setting told state (a_word word) reply owed new is acts = word_stays setting told state word reply owed new is acts
 act_stays setting told state (a_line line) reply owed new is acts = any_step_stays setting told state line reply owed new is acts
 
-pub run_stays : (setting : Setting) (told : Option Files) (strict : Bool) (state : State) (requests : List Request) (output : Bytes) (failures : ℕ) (new : State) → IsConsistent state.clauses → Run setting told strict state requests output failures new → IsConsistent new.clauses
-run_stays setting told strict state [] output failures new is run = subst (λ (s : State). IsConsistent s.clauses) (sym run.2) is
-run_stays setting told strict state (request ∷ requests) output failures new is (reply, owed, next, others, further, acts, goes, run, whole, count) =
-    run_stays setting told strict next requests others further new (act_stays setting told state request reply owed next is acts) run
+pub run_stays : (setting : Setting) (told : Option Files) (strict : Bool) (state : State) (requests : List Request) (output : Bytes) (owed : Owed) (new : State) → IsConsistent state.clauses → Run setting told strict state requests output owed new → IsConsistent new.clauses
+run_stays setting told strict state [] output owed new is run = subst (λ (s : State). IsConsistent s.clauses) (sym run.2) is
+run_stays setting told strict state (request ∷ requests) output owed new is (reply, due, next, others, further, acts, goes, run, whole, count) =
+    run_stays setting told strict next requests others further new (act_stays setting told state request reply due next is acts) run
 
 right_act_stays : (setting : Setting) (files : Files) (state : State) (request : Request) (reply : Reply) (owed : Owed) (new : State) → IsConsistent state.clauses → RightlyActs setting files state request reply owed new → IsConsistent new.clauses
 right_act_stays setting files state (a_word word) reply owed new is acts = right_word_stays setting (Some files) state word reply owed new is acts

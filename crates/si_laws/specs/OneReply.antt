@@ -8,7 +8,7 @@ use Rattle.si_state.specs.Acceptance.{HasDistinctNames, AllAgree}
 use Rattle.si_state.specs.Harvest.{Files}
 use Rattle.si_steps.specs.Settings.{Setting}
 use Rattle.si_steps.specs.Commands.{Command, load, tree, explain, Means}
-use Rattle.si_steps.specs.Loads.{Owed, a_failure, PerformsLoad}
+use Rattle.si_steps.specs.Loads.{Owed, PerformsLoad}
 use Rattle.si_steps.specs.Replies.{Reply, NodeCounts, tree_reply, explain_line}
 use Rattle.si_steps.specs.Steps.{Performs, RightStep}
 use Rattle.si_steps.specs.FileWords.{RightWord}
@@ -21,7 +21,7 @@ pub record IsConsistent (clauses : List Clause) : Type 0 where
 
 -- the reply tells no failure of the library
 abbrev pub TellsNoFailure : Owed → Type 0
-TellsNoFailure owed = owed ≡ a_failure → ⊥
+TellsNoFailure owed = owed.failures ≡ 0
 
 -- ---- commands
 -- Two replies to the command are alike: they are the same, but that numbers of nodes are free.

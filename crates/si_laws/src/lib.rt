@@ -11,6 +11,7 @@ ghost use Rattle.si_state.specs.States.{State, empty_state};
 ghost use Rattle.si_state.specs.Answers.{Hit, IsAnswer};
 ghost use Rattle.si_state.specs.Harvest.{Files};
 ghost use Rattle.si_steps.specs.Settings.{Setting};
+ghost use Rattle.si_steps.specs.Loads.{Owed};
 ghost use Rattle.si_steps.specs.Commands.{Command};
 ghost use Rattle.si_steps.specs.Steps.{CountsStanding};
 ghost use Rattle.si_steps.specs.Runs.{Request, Run};
@@ -65,8 +66,8 @@ pub fn right_steps_stay_consistent()
 /// Each state of a session is such, also where memory runs out or the library fails.
 pub fn runs_stay_consistent()
     ensures { (setting : Setting) (told : Option Files) (strict : Bool) (requests : List Request)
-        (output : Bytes) (failures : ℕ) (new : State)
-        → Run setting told strict empty_state requests output failures new
+        (output : Bytes) (owed : Owed) (new : State)
+        → Run setting told strict empty_state requests output owed new
         → IsConsistent new.clauses }
 {}
 

@@ -1,5 +1,5 @@
 -- What a command did, from what its parts wrote; and the step that its line made.
-use Rattle.std.proofs.Common.{◌≡◌, ℕ, ◌≤◌, List, [], ◌∷◌, ◌++◌, length, map, refl, ap, ap₂, sym, ◌∙◌, subst, inl, inr, arith, length-append}
+use Rattle.std.proofs.Common.{◌≡◌, ℕ, List, [], ◌∷◌, ◌++◌, length, map, refl, ap, ap₂, sym, ◌∙◌, subst, inl, inr, arith, length-append}
 use Rattle.std.specs.Prelude.{◌⊎◌, Bool, Option, Some, None, slice_get, codes, IsTrue, IsFalse}
 use Rattle.si_defs.specs.Bytes.{Bytes}
 use Rattle.si_defs.specs.Tokens.{lower, AreBlanks, Begins, begins_with}
@@ -17,11 +17,11 @@ use Rattle.si_state.specs.Answers.{Hit, IsAnswer, hit_texts}
 use Rattle.si_steps.specs.declared.limits.Limits.{Limits}
 use Rattle.si_steps.specs.Settings.{Setting}
 use Rattle.si_state.specs.Subsumption.{mapped_text}
-use Rattle.si_steps.specs.Replies.{Reply, counts_line, tree_reply, explain_line, is_refusal, ok_line, end_line, stats_line, sample_line, misused_line, full_line, unknown_line, syntax_line, memory_line, answer_reply}
-use Rattle.si_steps.specs.Commands.{Command, add, load, remove, query, subsumers, subsumed, stats, tree, explain, sample, command_word, IsShort, IsSilent, Means}
+use Rattle.si_steps.specs.Replies.{Reply, counts_line, tree_reply, explain_line, is_refusal, ok_line, end_line, stats_line, sample_line, misused_line, full_line, unknown_line, syntax_line, long_line, memory_line, answer_reply}
+use Rattle.si_steps.specs.Commands.{Command, add, load, remove, query, subsumers, subsumed, stats, tree, explain, sample, command_word, IsLong, IsShort, IsSilent, Means}
 use Rattle.si_state.specs.Harvest.{Files, Fault, tried, clauses_behind}
 use Rattle.si_steps.specs.Loads.{Owed, nothing, PerformsLoad, gained_line, load_line}
-use Rattle.si_steps.specs.Steps.{Performs, IsNoCommand, RightStep, right, memory_at_once, memory_behind, performed, loaded}
+use Rattle.si_steps.specs.Steps.{Performs, IsNoCommand, RightStep, right, long, memory_at_once, memory_behind, performed, loaded}
 use Rattle.si_steps.specs.FileWords.{names_file, nameless, named, right_word, no_memory}
 use Rattle.si_steps.specs.Runs.{a_line, a_word, ended}
 use Rattle.si_io.specs.Shown.{SinkShown}
@@ -46,14 +46,15 @@ use Rattle.si_session.proofs.Standing.{hits_standing}
 use Rattle.si_session.specs.declared.reply.ReplyLine as reply
 use Rattle.si_session.specs.Replies.{reply_line, misused_text, counts_text, counts_reply}
 use Rattle.si_session.specs.Rejections.{HasHead, NamesEntry, TellsFault, TellsWhy}
-use Rattle.si_io.specs.Library.{Counts}
+use Rattle.si_io.specs.declared.counts.LibraryCounts.{LibraryCounts}
 use Rattle.si_session.specs.ShownTrees.{nodes_of, Asks, ShowsTrees}
 use Rattle.si_session.specs.Session.{Around, Steps, HoldsTrees, GoesByTrees, ChangesKept, Writes, HasPerformed, ActsOn, rightly, at_once, behind, HasLoaded, LoadsInto, rightly_loaded, ran_out, view_of, holding}
 use Rattle.si_session.specs.declared.stepped.Stepped.{Stepped}
+use Rattle.si_session.proofs.Owing.{counts_nothing}
 use Rattle.si_session.specs.declared.stepped.Stepped.TheVariants.{Answered, Refused, Silent, SinkFailed}
 
 -- what is known of a sink, and of a library beside it
-abbrev pub beside : SinkShown → Counts → Bool → Around
+abbrev pub beside : SinkShown → LibraryCounts → Bool → Around
 beside sink counts may_fail = record { sink = sink; counts = counts; may_fail = may_fail }
 
 -- ---- the last line of a reply
@@ -216,7 +217,7 @@ by_trees limits old new line command short means reply shows stays = record {
   by (inl changes) = inl (command, (short, means), changes)
   by (inr same) = inr same
 
-pub stepped : (limits : Limits) (told : Option Files) (old new : Kept) (line : Bytes) (command : Command) (o : Stepped) (a b : SinkShown) (counts : Counts) (may_fail : Bool)
+pub stepped : (limits : Limits) (told : Option Files) (old new : Kept) (line : Bytes) (command : Command) (o : Stepped) (a b : SinkShown) (counts : LibraryCounts) (may_fail : Bool)
     → HoldsTrees (view_of limits old) → new.rules ≡ old.rules → IsShort limits line → IsPerformed command line → ActsOn command old new o a b
     → ((reply : Reply) → ShowsTrees old.numbers old.trees command reply) → ChangesKept command ⊎ (new.trees ≡ old.trees)
     → Steps told (view_of limits old) (view_of limits new) (a_line line) o (beside a counts may_fail) (beside b counts may_fail)
@@ -232,8 +233,8 @@ stepped limits told old new line command o a b counts may_fail held rules short 
 
   by : HasPerformed (Performs (view_of limits old).setting command (view_of limits old).state) (view_of limits old).state (view_of limits new).state o a b
       → Steps told (view_of limits old) (view_of limits new) (a_line line) o (beside a counts may_fail) (beside b counts may_fail)
-  by (rightly reply p w) = record { reply = reply; owed = nothing; step = right (performed short command performs.1 p refl); setting = same_setting; held = held; own_trees = own _; written = w; counted = refl }
-  by (at_once same w) = record { reply = memory_line ∷ []; owed = nothing; step = memory_at_once loud short refl refl same; setting = same_setting; held = held; own_trees = own _; written = w; counted = refl }
+  by (rightly reply p w) = record { reply = reply; owed = nothing; step = right (performed short command performs.1 p refl); setting = same_setting; held = held; own_trees = own _; written = w; counted = counts_nothing counts may_fail }
+  by (at_once same w) = record { reply = memory_line ∷ []; owed = nothing; step = memory_at_once loud short refl (inl refl) same; setting = same_setting; held = held; own_trees = own _; written = w; counted = counts_nothing counts may_fail }
   by (behind whole next p written left split rest same w) = record {
     reply = written ++ memory_line ∷ [];
     owed = nothing;
@@ -242,7 +243,7 @@ stepped limits told old new line command o a b counts may_fail held rules short 
     held = held;
     own_trees = own _;
     written = w;
-    counted = refl;
+    counted = counts_nothing counts may_fail;
   } where
     right_of : Performs (view_of limits old).setting command (view_of limits old).state whole next → RightStep (view_of limits old).setting told (view_of limits old).state line whole nothing next
     right_of p = performed short command performs.1 p refl
@@ -254,7 +255,7 @@ blanks_no_command line blanks c means =
     let b = subst (λ ts. Begins line ts means.consists.rest) means.spelled.whole means.consists.begins in
     blanks_none line blanks (lower (command_text (command_word c))) b.0 b.1
 
-pub line_stepped : (limits : Limits) (told : Option Files) (index : Kept) (line : Bytes) (reply : Reply) (o : Stepped) (a b : SinkShown) (tally : Counts) (may_fail : Bool) → HoldsTrees (view_of limits index) → IsNoCommand line
+pub line_stepped : (limits : Limits) (told : Option Files) (index : Kept) (line : Bytes) (reply : Reply) (o : Stepped) (a b : SinkShown) (tally : LibraryCounts) (may_fail : Bool) → HoldsTrees (view_of limits index) → IsNoCommand line
     → RightStep (view_of limits index).setting told (view_of limits index).state line reply nothing (view_of limits index).state → Writes o reply a b
     → Steps told (view_of limits index) (view_of limits index) (a_line line) o (beside a tally may_fail) (beside b tally may_fail)
 line_stepped limits told index line reply o a b tally may_fail held none step w = record {
@@ -265,28 +266,42 @@ line_stepped limits told index line reply o a b tally may_fail held none step w 
   held = held;
   own_trees = record { shown = inr (inl (λ c asks. none c asks.1)); stay = inr refl };
   written = w;
-  counted = refl;
+  counted = counts_nothing tally may_fail;
+}
+
+-- a line that is too long
+pub long_stepped : (limits : Limits) (told : Option Files) (index : Kept) (line : Bytes) (o : Stepped) (a b : SinkShown) (tally : LibraryCounts) (may_fail : Bool) → HoldsTrees (view_of limits index) → IsLong limits line
+    → Writes o (long_line ∷ []) a b → Steps told (view_of limits index) (view_of limits index) (a_line line) o (beside a tally may_fail) (beside b tally may_fail)
+long_stepped limits told index line o a b tally may_fail held more w = record {
+  reply = long_line ∷ [];
+  owed = nothing;
+  step = right (long more refl refl refl);
+  setting = refl;
+  held = held;
+  own_trees = record { shown = inr (inl (λ c asks. absurd (omega (arith, more, asks.0)))); stay = inr refl };
+  written = w;
+  counted = counts_nothing tally may_fail;
 }
 
 -- no memory for what a line says
-pub unread_stepped : (limits : Limits) (told : Option Files) (index : Kept) (line : Bytes) (o : Stepped) (a b : SinkShown) (tally : Counts) (may_fail : Bool) → HoldsTrees (view_of limits index) → IsShort limits line
+pub unread_stepped : (limits : Limits) (told : Option Files) (index : Kept) (line : Bytes) (o : Stepped) (a b : SinkShown) (tally : LibraryCounts) (may_fail : Bool) → HoldsTrees (view_of limits index) → IsShort limits line
     → (AreBlanks line → ⊥) → Writes o (memory_line ∷ []) a b → Steps told (view_of limits index) (view_of limits index) (a_line line) o (beside a tally may_fail) (beside b tally may_fail)
 unread_stepped limits told index line o a b tally may_fail held short some w = record {
   reply = memory_line ∷ [];
   owed = nothing;
-  step = memory_at_once (λ h. some h.1) short refl refl refl;
+  step = memory_at_once (λ h. some h.1) short refl (inl refl) refl;
   setting = refl;
   held = held;
   own_trees = record { shown = inl refl; stay = inr refl };
   written = w;
-  counted = refl;
+  counted = counts_nothing tally may_fail;
 }
 
 -- a word that can't name a file
-pub nameless_stepped : (limits : Limits) (told : Option Files) (index : Kept) (word : Bytes) (o : Stepped) (a b : SinkShown) (tally : Counts) (may_fail : Bool) → HoldsTrees (view_of limits index) → IsFalse (names_file word)
+pub nameless_stepped : (limits : Limits) (told : Option Files) (index : Kept) (word : Bytes) (o : Stepped) (a b : SinkShown) (tally : LibraryCounts) (may_fail : Bool) → HoldsTrees (view_of limits index) → IsFalse (names_file word)
     → Writes o (syntax_line ∷ []) a b → Steps told (view_of limits index) (view_of limits index) (a_word word) o (beside a tally may_fail) (beside b tally may_fail)
 nameless_stepped limits told index word o a b tally may_fail held none w =
-    record { reply = syntax_line ∷ []; owed = nothing; step = right_word (nameless none refl refl refl); setting = refl; held = held; own_trees = tt; written = w; counted = refl }
+    record { reply = syntax_line ∷ []; owed = nothing; step = right_word (nameless none refl refl refl); setting = refl; held = held; own_trees = tt; written = w; counted = counts_nothing tally may_fail }
 
 -- what is known of an index's trees
 pub holds_trees : (limits : Limits) (index : Kept) → AreKeyed index → NumbersExactly index.numbers index.clauses → TreesHold index → HoldsTrees (view_of limits index)
@@ -294,7 +309,7 @@ holds_trees limits index keyed exactly hold = record { number = keyed.number; nu
 
 -- ---- the trees
 -- how many nodes they have
-pub trees_stepped : (limits : Limits) (told : Option Files) (index : Kept) (line : Bytes) (shown : TreeCounts) (o : Stepped) (a b : SinkShown) (tally : Counts) (may_fail : Bool)
+pub trees_stepped : (limits : Limits) (told : Option Files) (index : Kept) (line : Bytes) (shown : TreeCounts) (o : Stepped) (a b : SinkShown) (tally : LibraryCounts) (may_fail : Bool)
     → HoldsTrees (view_of limits index) → IsShort limits line → IsPerformed tree line → shown.literals ≡ counts_of index.trees.literals → shown.terms ≡ counts_of index.trees.subterms → Writes o (counts_reply shown) a b
     → Steps told (view_of limits index) (view_of limits index) (a_line line) o (beside a tally may_fail) (beside b tally may_fail)
 trees_stepped limits told index line shown o a b tally may_fail held short performs literals terms w =
@@ -308,11 +323,11 @@ trees_stepped limits told index line shown o a b tally may_fail held short perfo
       held = held;
       own_trees = by_trees limits index index line tree short performs.1 (counts_reply shown) whole (inr refl);
       written = w;
-      counted = refl;
+      counted = counts_nothing tally may_fail;
     }
 
 -- what a query passes
-pub explain_stepped : (limits : Limits) (told : Option Files) (index : Kept) (line : Bytes) (relation : Relation) (p : Pattern) (o : Stepped) (a b : SinkShown) (tally : Counts) (may_fail : Bool)
+pub explain_stepped : (limits : Limits) (told : Option Files) (index : Kept) (line : Bytes) (relation : Relation) (p : Pattern) (o : Stepped) (a b : SinkShown) (tally : LibraryCounts) (may_fail : Bool)
     → HoldsTrees (view_of limits index) → IsShort limits line → IsPerformed (explain relation p) line → TellsExplained index relation p o a b
     → Steps told (view_of limits index) (view_of limits index) (a_line line) o (beside a tally may_fail) (beside b tally may_fail)
 explain_stepped limits told index line relation p o a b tally may_fail held short performs (inl (e, explains, w)) =
@@ -328,23 +343,23 @@ explain_stepped limits told index line relation p o a b tally may_fail held shor
       held = held;
       own_trees = by_trees limits index index line (explain relation p) short performs.1 _ (e.passed, e.answers, explains.passed, same) (inr refl);
       written = w;
-      counted = refl;
+      counted = counts_nothing tally may_fail;
     }
 explain_stepped limits told index line relation p o a b tally may_fail held short performs (inr w) = record {
   reply = memory_line ∷ [];
   owed = nothing;
-  step = memory_at_once (λ h. performs.0 h.1) short refl refl refl;
+  step = memory_at_once (λ h. performs.0 h.1) short refl (inl refl) refl;
   setting = refl;
   held = held;
   own_trees = record { shown = inl refl; stay = inr refl };
   written = w;
-  counted = refl;
+  counted = counts_nothing tally may_fail;
 }
 
 -- ---- a load
 load_some : (setting : Setting) (told : Option Files) (file : Bytes) (state new : State) (reply : Reply) (owed : Owed) → PerformsLoad setting told file state reply owed new → reply ≡ [] → ⊥
-load_some setting None file state new reply owed (inl h) e = some_line [] _ (sym h.2 ∙ e)
-load_some setting None file state new reply owed (inr h) e = some_line [] _ (sym h.1 ∙ e)
+load_some setting None file state new reply owed (may, some, inl h) e = some_line [] _ (sym h.2 ∙ e)
+load_some setting None file state new reply owed (may, some, inr h) e = some_line [] _ (sym h.1 ∙ e)
 load_some setting (Some files) file state new reply owed h e = some_line [] _ (sym h.3 ∙ e)
 
 not_gained : (gained : List Clause) (reply : Reply) → reply ≡ gained_line gained ∷ [] → IsTrue (is_refusal reply) → ⊥
@@ -352,8 +367,8 @@ not_gained gained reply e t = let wrong : IsTrue (is_refusal (gained_line gained
 
 load_stays : (setting : Setting) (told : Option Files) (file : Bytes) (state new : State) (reply : Reply) (owed : Owed) → PerformsLoad setting told file state reply owed new
     → IsTrue (is_refusal reply) → new ≡ state
-load_stays setting None file state new reply owed (inl h) t = absurd (not_gained h.0 reply h.2 t)
-load_stays setting None file state new reply owed (inr h) t = h.3
+load_stays setting None file state new reply owed (may, some, inl h) t = absurd (not_gained h.0 reply h.2 t)
+load_stays setting None file state new reply owed (may, some, inr h) t = h.3
 load_stays setting (Some files) file state new reply owed h t = by h.1 h.3 h.5 where
   by : (fault : Option Fault) → reply ≡ load_line setting.rules.entries h.0 fault ∷ [] → new ≡ record state { clauses = clauses_behind state.clauses h.0 fault } → new ≡ state
   by None e s = absurd (not_gained (tried h.0) reply e t)
@@ -370,7 +385,7 @@ module _ (limits : Limits) (told : Option Files) (file : Bytes) (old new : Kept)
     by (rightly_loaded reply owed p w h) e =
         let v : Writes Silent reply a.sink b.sink = subst (λ x. Writes x reply a.sink b.sink) e w in
         load_some (view_of limits old).setting told file (view_of limits old).state (view_of limits new).state reply owed p v.1
-    by (ran_out same w h) e = line_not_silent o memory_line a.sink b.sink w e
+    by (ran_out owed owes same w h) e = line_not_silent o memory_line a.sink b.sink w e
 
   pub load_keeps : o ≡ Refused → (view_of limits new).state ≡ (view_of limits old).state
   load_keeps = by own where
@@ -378,7 +393,7 @@ module _ (limits : Limits) (told : Option Files) (file : Bytes) (old new : Kept)
     by (rightly_loaded reply owed p w h) e =
         let v : Writes Refused reply a.sink b.sink = subst (λ x. Writes x reply a.sink b.sink) e w in
         load_stays (view_of limits old).setting told file (view_of limits old).state (view_of limits new).state reply owed p v.1
-    by (ran_out same w h) e = same
+    by (ran_out owed owes same w h) e = same
 
   pub load_stepped : (line : Bytes) → HoldsTrees (view_of limits old) → new.rules ≡ old.rules → IsShort limits line → IsPerformed (load file) line
       → Steps told (view_of limits old) (view_of limits new) (a_line line) o a b
@@ -401,8 +416,8 @@ module _ (limits : Limits) (told : Option Files) (file : Bytes) (old new : Kept)
       written = w;
       counted = h;
     }
-    by (ran_out same w h) =
-        record { reply = memory_line ∷ []; owed = nothing; step = memory_at_once loud short refl refl same; setting = setting_stays limits old new rules; held = held; own_trees = own_trees (memory_line ∷ []); written = w; counted = h }
+    by (ran_out owed owes same w h) =
+        record { reply = memory_line ∷ []; owed = owed; step = memory_at_once loud short refl (inr (file, performs.1, owes)) same; setting = setting_stays limits old new rules; held = held; own_trees = own_trees (memory_line ∷ []); written = w; counted = h }
 
   -- a word that names the file
   pub word_stepped : HoldsTrees (view_of limits old) → new.rules ≡ old.rules → IsTrue (names_file file) → Steps told (view_of limits old) (view_of limits new) (a_word file) o a b
@@ -419,5 +434,5 @@ module _ (limits : Limits) (told : Option Files) (file : Bytes) (old new : Kept)
       written = w;
       counted = h;
     }
-    by (ran_out same w h) =
-        record { reply = memory_line ∷ []; owed = nothing; step = no_memory names refl refl same; setting = setting_stays limits old new rules; held = held; own_trees = tt; written = w; counted = h }
+    by (ran_out owed owes same w h) =
+        record { reply = memory_line ∷ []; owed = owed; step = no_memory names refl owes same; setting = setting_stays limits old new rules; held = held; own_trees = tt; written = w; counted = h }

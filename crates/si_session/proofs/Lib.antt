@@ -1,6 +1,7 @@
 pub mod CommandLaws
 pub mod Told
 pub mod Standing
+pub mod Owing
 pub mod Acting
 pub mod Loading
 pub mod ReplyTexts

@@ -1,19 +1,21 @@
 -- What a load did, from what the harvest answered and what was told of it.
-use Rattle.std.proofs.Common.{◌≡◌, ℕ, Bool, List, [], ◌∷◌, ◌++◌, refl, sym, ap, ap₂, ◌∙◌, subst, inl, inr, Option, None, Some}
-use Rattle.std.specs.Prelude.{IfSome, slice_get}
+use Rattle.std.proofs.Common.{◌≡◌, ℕ, Bool, List, [], ◌∷◌, ◌++◌, refl, sym, ap, ap₂, ◌∙◌, subst, inl, inr, Option, None, Some, Ok, Err, arith}
+use Rattle.std.specs.Prelude.{slice_get, IsTrue}
 use Rattle.si_defs.specs.Bytes.{Bytes}
 use Rattle.si_defs.specs.Clauses.{IsSoundClause, Clause}
 use Rattle.si_defs.specs.Entries.{clause_symbols}
 use Rattle.si_state.specs.States.{State, Rules}
 use Rattle.si_state.specs.Acceptance.{Refusal, Refuses}
-use Rattle.si_state.specs.Harvest.{Files, Fault, tried}
+use Rattle.si_state.specs.Harvest.{Files, Fault, cycle, too_deep, too_many, missing, too_big, failed, foreign, malformed, rejected, tried}
 use Rattle.si_steps.specs.declared.limits.Limits.{Limits}
 use Rattle.si_steps.specs.Replies.{refusal_line, misused_line, full_line, fault_line, ok_line, memory_line}
-use Rattle.si_steps.specs.Loads.{nothing, owed_by_fault, load_bounds, gained_line, PerformsLoad}
+use Rattle.si_steps.specs.Loads.{misses_in, bigs_in, failures_in, owed_for, MayFetch, load_bounds, gained_line, PerformsLoad}
 use Rattle.si_term.proofs.EntryHeads.{symbol_placed}
 use Rattle.si_term.specs.Meaning.{name_of, clause_of}
 use Rattle.si_io.specs.Shown.{SinkShown}
-use Rattle.si_io.specs.Library.{Counts}
+use Rattle.si_io.specs.Library.{Counts, faults_in}
+use Rattle.si_io.specs.declared.counts.LibraryCounts.{LibraryCounts}
+use Rattle.si_io.specs.Counts.{raised_by}
 use Rattle.si_sign.specs.Shapes.{shape_of}
 use Rattle.si_sign.specs.Stores.{Rejects}
 use Rattle.si_sign.specs.declared.faults.Rejected.{Rejected}
@@ -26,11 +28,12 @@ use Rattle.si_harvest.specs.Faults.{IsReason, NamesFault, Explains, HasFaultCaus
 use Rattle.si_index.specs.Kept.{Kept}
 use Rattle.si_harvest.specs.Gains.{Gained, GainsByLoad}
 use Rattle.si_harvest.specs.Opened.{HasFault}
+use Rattle.si_harvest.specs.Loading.{ReadsFiles}
 use Rattle.si_session.specs.declared.reply.ReplyLine as program
 use Rattle.si_session.specs.declared.stepped.Stepped.{Stepped}
 use Rattle.si_session.specs.Replies.{reply_line, misused_text}
 use Rattle.si_session.specs.Rejections.{TellsFault, IsTellable, TellsFaultOfLoad}
-use Rattle.si_session.specs.Session.{Writes, IsCounted, LoadsInto, rightly_loaded, ran_out, view_of, holding}
+use Rattle.si_session.specs.Session.{behind_owed, IsCounted, Writes, HasLoaded, LoadsInto, rightly_loaded, ran_out, view_of, holding}
 use Rattle.si_session.proofs.Acting.{beside, holds_same, at_seam, has_head}
 
 -- ---- a clause that is refused
@@ -87,57 +90,98 @@ fault_told rules (harvest_fault.Depth file) fault told n t = t ∙ ap (fault_lin
 fault_told rules harvest_fault.Fetches fault told n t = t ∙ ap (fault_line rules.entries) (sym n)
 fault_told rules harvest_fault.Memory fault told n t = absurd n
 
--- what it owes was counted
-owed_counted : (rules : Rules) (e : HarvestFault) (fault : Fault) (may_fail : Bool) (before now : Counts) → NamesFault rules e fault → HasFaultCause may_fail before now e → IsCounted may_fail (owed_by_fault fault) before now
-owed_counted rules (harvest_fault.Syntax file line) fault may_fail before now n h = subst (λ f. IsCounted may_fail (owed_by_fault f) before now) (sym n) h
-owed_counted rules (harvest_fault.Language file line) fault may_fail before now n h = subst (λ f. IsCounted may_fail (owed_by_fault f) before now) (sym n) h
-owed_counted rules (harvest_fault.Rejected r) fault may_fail before now n h = subst (λ f. IsCounted may_fail (owed_by_fault f) before now) (sym n.1) h
-owed_counted rules (harvest_fault.Missing file) fault may_fail before now n h = subst (λ f. IsCounted may_fail (owed_by_fault f) before now) (sym n) h
-owed_counted rules (harvest_fault.Big file) fault may_fail before now n h = subst (λ f. IsCounted may_fail (owed_by_fault f) before now) (sym n) h
-owed_counted rules (harvest_fault.Fault file) fault may_fail before now n h = subst (λ f. IsCounted may_fail (owed_by_fault f) before now) (sym n) h
-owed_counted rules (harvest_fault.Cycle file) fault may_fail before now n h = subst (λ f. IsCounted may_fail (owed_by_fault f) before now) (sym n) h
-owed_counted rules (harvest_fault.Depth file) fault may_fail before now n h = subst (λ f. IsCounted may_fail (owed_by_fault f) before now) (sym n) h
-owed_counted rules harvest_fault.Fetches fault may_fail before now n h = subst (λ f. IsCounted may_fail (owed_by_fault f) before now) (sym n) h
-owed_counted rules harvest_fault.Memory fault may_fail before now n h = absurd n
+-- ---- what a load owes
+-- so many fetches were counted, and the other counts moved by what a fault owes
+counted_for : (made misses bigs failures : ℕ) (before now : LibraryCounts) → now.calls ≡ raised_by made before.calls
+    → now.faults ≡ raised_by failures before.faults → now.misses ≡ raised_by misses before.misses → now.bigs ≡ raised_by bigs before.bigs
+    → now ≡ behind_owed (record { fetches = made; misses = misses; bigs = bigs; failures = failures }) before
+counted_for made misses bigs failures before now c f m b = λ i. record { calls = c i; faults = f i; misses = m i; bigs = b i }
+
+-- the load has no fault that is owed
+none_owed : (made : ℕ) (fault : Option Fault) (may_fail : Bool) (before now : LibraryCounts) → misses_in fault ≡ 0 → bigs_in fault ≡ 0 → failures_in fault ≡ 0
+    → now.calls ≡ raised_by made before.calls → faults_in now ≡ faults_in before → IsCounted may_fail (owed_for made fault) before now
+none_owed made fault may_fail before now misses bigs failures calls same = record {
+  counts = counted_for made (misses_in fault) (bigs_in fault) (failures_in fault) before now calls
+      (omega (arith, failures, ap (λ (c : Counts). c.faults) same)) (omega (arith, misses, ap (λ (c : Counts). c.misses) same)) (omega (arith, bigs, ap (λ (c : Counts). c.bigs) same));
+  sure = λ never. failures;
+}
+
+pub gained_counted : (made : ℕ) (may_fail : Bool) (before now : LibraryCounts) → now.calls ≡ raised_by made before.calls → faults_in now ≡ faults_in before
+    → IsCounted may_fail (owed_for made None) before now
+gained_counted made may_fail before now calls same = none_owed made None may_fail before now refl refl refl calls same
+
+module _ (rules : Rules) (made : ℕ) (fault : Fault) (may_fail : Bool) (before now : LibraryCounts) (calls : now.calls ≡ raised_by made before.calls) where
+  -- of this fault
+  as_named : (named : Fault) → fault ≡ named → IsCounted may_fail (owed_for made (Some named)) before now → IsCounted may_fail (owed_for made (Some fault)) before now
+  as_named named n h = subst (λ f. IsCounted may_fail (owed_for made (Some f)) before now) (sym n) h
+
+  fault_counted : (e : HarvestFault) → NamesFault rules e fault → HasFaultCause may_fail (faults_in before) (faults_in now) e → IsCounted may_fail (owed_for made (Some fault)) before now
+  fault_counted (harvest_fault.Syntax file line) n h = as_named (malformed file line) n (none_owed made (Some (malformed file line)) may_fail before now refl refl refl calls h)
+  fault_counted (harvest_fault.Language file line) n h = as_named (foreign file line) n (none_owed made (Some (foreign file line)) may_fail before now refl refl refl calls h)
+  fault_counted (harvest_fault.Rejected r) n h =
+      as_named (rejected (clause_of r.clause) n.0) n.1 (none_owed made (Some (rejected (clause_of r.clause) n.0)) may_fail before now refl refl refl calls h)
+  fault_counted (harvest_fault.Missing file) n h = as_named (missing file) n (record {
+    counts = counted_for made 1 0 0 before now calls (omega (arith, ap (λ (c : Counts). c.faults) h)) (ap (λ (c : Counts). c.misses) h) (omega (arith, ap (λ (c : Counts). c.bigs) h));
+    sure = λ never. refl;
+  })
+  fault_counted (harvest_fault.Big file) n h = as_named (too_big file) n (record {
+    counts = counted_for made 0 1 0 before now calls (omega (arith, ap (λ (c : Counts). c.faults) h)) (omega (arith, ap (λ (c : Counts). c.misses) h)) (ap (λ (c : Counts). c.bigs) h);
+    sure = λ never. refl;
+  })
+  fault_counted (harvest_fault.Fault file) n h = as_named (failed file) n (record {
+    counts = counted_for made 0 0 1 before now calls (ap (λ (c : Counts). c.faults) h.0) (omega (arith, ap (λ (c : Counts). c.misses) h.0)) (omega (arith, ap (λ (c : Counts). c.bigs) h.0));
+    sure = λ never. let may : IsTrue may_fail = h.1 in cc;
+  })
+  fault_counted (harvest_fault.Cycle file) n h = as_named (cycle file) n (none_owed made (Some (cycle file)) may_fail before now refl refl refl calls h)
+  fault_counted (harvest_fault.Depth file) n h = as_named (too_deep file) n (none_owed made (Some (too_deep file)) may_fail before now refl refl refl calls h)
+  fault_counted harvest_fault.Fetches n h = as_named too_many n (none_owed made (Some too_many) may_fail before now refl refl refl calls h)
+  fault_counted harvest_fault.Memory n h = absurd n
 
 -- ---- the load
-module _ (limits : Limits) (told : Option Files) (file : Bytes) (old new : Kept) (o : Stepped) (a b : SinkShown) (x y : Counts) (may_fail now : Bool) where
-  refused_where : (told : Option Files) (fault : Fault) (state : State) → HasFault told (load_bounds limits) old.rules old.clauses file fault → new.clauses ≡ old.clauses
-      → PerformsLoad (view_of limits old).setting told file (holding state old) (fault_line old.rules.entries fault ∷ []) (owed_by_fault fault) (holding state new)
-  refused_where None fault state h e = inr (fault, refl, refl, holds_same old new state e)
-  refused_where (Some files) fault state h e = (h.0, Some fault, h.1, refl, refl, holds_same old new state e)
+module _ (limits : Limits) (told : Option Files) (file : Bytes) (old new : Kept) (o : Stepped) (a b : SinkShown) (x y : LibraryCounts) (may_fail now : Bool) where
+  refused_where : (told : Option Files) (fault : Fault) (made : ℕ) (state : State) → MayFetch (load_bounds limits) file made → HasFault told (load_bounds limits) old.rules old.clauses file made fault
+      → new.clauses ≡ old.clauses
+      → PerformsLoad (view_of limits old).setting told file (holding state old) (fault_line old.rules.entries fault ∷ []) (owed_for made (Some fault)) (holding state new)
+  refused_where None fault made state may h e = (may, h.0, inr (fault, refl, refl, holds_same old new state e))
+  refused_where (Some files) fault made state may h e =
+      (h.1.0, Some fault, h.1.1, refl, ap (λ n. owed_for n (Some fault)) h.1.2, holds_same old new state e)
 
-  pub load_refused : (e : HarvestFault) (line : program.ReplyLine) → Explains old.rules e (HasFault told (load_bounds limits) old.rules old.clauses file)
-      → TellsFaultOfLoad e line → HasFaultCause may_fail x y e → new.clauses ≡ old.clauses → Writes o (reply_line line ∷ []) a b
+  pub load_refused : (e : HarvestFault) (line : program.ReplyLine) → ReadsFiles {T = Loaded} told (load_bounds limits) old.rules file (Err e) old.clauses new.clauses x.calls y.calls
+      → TellsFaultOfLoad e line → HasFaultCause may_fail (faults_in x) (faults_in y) e → new.clauses ≡ old.clauses → Writes o (reply_line line ∷ []) a b
       → LoadsInto limits told file old new o (beside a x may_fail) (beside b y now)
-  load_refused e line (inl m) t h same w state =
-      let out : reply_line line ≡ memory_line = subst (λ f. TellsFaultOfLoad f line) m t in
-      ran_out (holds_same old new state same) (subst (λ l. Writes o (l ∷ []) a b) out w) (subst (HasFaultCause may_fail x y) m h)
-  load_refused e line (inr r) t h same w state =
-      rightly_loaded (fault_line old.rules.entries r.fault ∷ []) (owed_by_fault r.fault) (refused_where told r.fault state r.holds same)
-      (subst (λ l. Writes o (l ∷ []) a b) (fault_told old.rules e r.fault line r.told t) w) (owed_counted old.rules e r.fault may_fail x y r.told h)
+  load_refused e line reads t h same w state = by reads.fault where
+    by : Explains old.rules e (HasFault told (load_bounds limits) old.rules old.clauses file reads.made)
+        → HasLoaded (view_of limits old).setting told file (holding state old) (holding state new) o (beside a x may_fail) (beside b y now)
+    by (inl m) =
+        let out : reply_line line ≡ memory_line = subst (λ f. TellsFaultOfLoad f line) m t in
+        ran_out (owed_for reads.made None) (reads.may, refl) (holds_same old new state same) (subst (λ l. Writes o (l ∷ []) a b) out w)
+        (gained_counted reads.made may_fail x y reads.counted (subst (HasFaultCause may_fail (faults_in x) (faults_in y)) m h))
+    by (inr r) =
+        rightly_loaded (fault_line old.rules.entries r.fault ∷ []) (owed_for reads.made (Some r.fault)) (refused_where told r.fault reads.made state reads.may r.holds same)
+        (subst (λ l. Writes o (l ∷ []) a b) (fault_told old.rules e r.fault line r.told t) w)
+        (fault_counted old.rules reads.made r.fault may_fail x y reads.counted e r.told h)
 
-  gained_where : (told : Option Files) (loaded : Loaded) (state : State) → Gained old.rules old.clauses loaded new.clauses
-      → IfSome told (λ files. GainsByLoad files (load_bounds limits) old.rules old.clauses file new.clauses)
-      → PerformsLoad (view_of limits old).setting told file (holding state old) (ok_line loaded.clauses loaded.entries ∷ []) nothing (holding state new)
-  gained_where None loaded state g h =
-      inl (g.gained, g.accepted, ap₂ (λ m n. ok_line m n ∷ []) g.clauses g.entries, refl, ap (λ cs. record state { clauses = cs }) g.whole)
-  gained_where (Some files) loaded state g h =
-      let same : tried h.0 ≡ g.gained = front old.clauses (tried h.0) g.gained (sym h.2 ∙ g.whole) in (
-        h.0,
+  gained_where : (told : Option Files) (loaded : Loaded) (made : ℕ) (state : State) → Gained old.rules old.clauses loaded new.clauses
+      → MayFetch (load_bounds limits) file made → GainsByLoad told (load_bounds limits) old.rules old.clauses file made new.clauses
+      → PerformsLoad (view_of limits old).setting told file (holding state old) (ok_line loaded.clauses loaded.entries ∷ []) (owed_for made None) (holding state new)
+  gained_where None loaded made state g may h =
+      (may, (λ asks. h.0), inl (g.gained, g.accepted, ap₂ (λ m n. ok_line m n ∷ []) g.clauses g.entries, refl, ap (λ cs. record state { clauses = cs }) g.whole))
+  gained_where (Some files) loaded made state g may h =
+      let same : tried h.1.0 ≡ g.gained = front old.clauses (tried h.1.0) g.gained (sym h.1.3 ∙ g.whole) in (
+        h.1.0,
         None,
-        h.1,
+        h.1.1,
         ap₂ (λ m n. ok_line m n ∷ []) g.clauses g.entries ∙ ap (λ cs. gained_line cs ∷ []) (sym same),
-        refl,
-        ap (λ cs. record state { clauses = cs }) h.2,
+        ap (λ n. owed_for n None) h.1.2,
+        ap (λ cs. record state { clauses = cs }) h.1.3,
       ) where
         front : (xs ys zs : List Clause) → xs ++ ys ≡ xs ++ zs → ys ≡ zs
         front [] ys zs e = e
         front (c ∷ cs) ys zs e = let f : cs ++ ys ≡ cs ++ zs = cc in front cs ys zs f
 
   pub load_gained : (loaded : Loaded) (clauses entries : ℕ) → clauses ≡ loaded.clauses → entries ≡ loaded.entries → Gained old.rules old.clauses loaded new.clauses
-      → IfSome told (λ files. GainsByLoad files (load_bounds limits) old.rules old.clauses file new.clauses)
-      → y ≡ x → Writes o (ok_line clauses entries ∷ []) a b → LoadsInto limits told file old new o (beside a x may_fail) (beside b y now)
-  load_gained loaded clauses entries many more g h same w state =
-      rightly_loaded (ok_line loaded.clauses loaded.entries ∷ []) nothing (gained_where told loaded state g h)
-      (subst (λ r. Writes o r a b) (ap₂ (λ m n. ok_line m n ∷ []) many more) w) same
+      → ReadsFiles {T = Loaded} told (load_bounds limits) old.rules file (Ok loaded) old.clauses new.clauses x.calls y.calls
+      → faults_in y ≡ faults_in x → Writes o (ok_line clauses entries ∷ []) a b → LoadsInto limits told file old new o (beside a x may_fail) (beside b y now)
+  load_gained loaded clauses entries many more g reads same w state =
+      rightly_loaded (ok_line loaded.clauses loaded.entries ∷ []) (owed_for reads.made None) (gained_where told loaded reads.made state g reads.may reads.right)
+      (subst (λ r. Writes o r a b) (ap₂ (λ m n. ok_line m n ∷ []) many more) w) (gained_counted reads.made may_fail x y reads.counted same)

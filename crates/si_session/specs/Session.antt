@@ -14,13 +14,13 @@ use Rattle.si_forest.specs.Codes.{two_trees_code}
 use Rattle.si_steps.specs.Commands.{Command, add, load, remove, sample}
 use Rattle.si_steps.specs.Replies.{Reply, is_refusal, memory_line}
 use Rattle.si_state.specs.Harvest.{Files}
-use Rattle.si_steps.specs.Loads.{Owed, nothing, a_miss, a_big, a_failure, PerformsLoad}
+use Rattle.si_steps.specs.Loads.{Owed, OwesFetches, PerformsLoad}
 use Rattle.si_steps.specs.Steps.{Performs}
 use Rattle.si_steps.specs.Runs.{Request, a_word, a_line, Acts, ended}
 use Rattle.si_io.specs.Shown.{SinkShown, LibraryShown}
 use Rattle.si_io.specs.Sends.{SendsAll, SendsPart}
-use Rattle.si_io.specs.Counts.{raised}
-use Rattle.si_io.specs.Library.{Counts, faults_in}
+use Rattle.si_io.specs.declared.counts.LibraryCounts.{LibraryCounts}
+use Rattle.si_io.specs.Counts.{raised_by}
 use Rattle.si_index.specs.Kept.{Kept, NumbersExactly, paired}
 use Rattle.si_session.specs.ShownTrees.{Asks, IsShownBy}
 use Rattle.si_session.specs.declared.stepped.Stepped.{Stepped}
@@ -111,28 +111,31 @@ Writes Refused reply before after = SendsAll before (ended reply) after × IsTru
 Writes Silent reply before after = SendsAll before (ended reply) after × (reply ≡ [])
 Writes SinkFailed reply before after = SendsPart before (ended reply) after
 
--- What a reply owes to the library was counted there, and no other count moved. It owes a failure
--- only where the library may fail.
-abbrev pub IsCounted : Bool → Owed → Counts → Counts → Type 0
-IsCounted may_fail nothing before now = now ≡ before
-IsCounted may_fail a_miss before now =
-    now ≡ record before { misses = raised before.misses }
-IsCounted may_fail a_big before now =
-    now ≡ record before { bigs = raised before.bigs }
-IsCounted may_fail a_failure before now =
-    (now ≡ record before { faults = raised before.faults }) × IsTrue may_fail
+-- what a library counts behind what is owed to it
+abbrev pub behind_owed : Owed → LibraryCounts → LibraryCounts
+behind_owed owed counts = record {
+  calls = raised_by owed.fetches counts.calls;
+  faults = raised_by owed.failures counts.faults;
+  misses = raised_by owed.misses counts.misses;
+  bigs = raised_by owed.bigs counts.bigs;
+}
+
+-- Exactly what is owed to the library was counted. A failure is owed only where it may fail.
+pub record IsCounted (may_fail : Bool) (owed : Owed) (before now : LibraryCounts) : Type 0 where
+  pub counts : now ≡ behind_owed owed before
+  pub sure : IsFalse may_fail → owed.failures ≡ 0
 
 -- what is known of the sink, of the library's counts and of whether the library may fail, before a
 -- step or behind it
 pub record Around : Type 0 where
   pub sink : SinkShown
-  pub counts : Counts
+  pub counts : LibraryCounts
   pub may_fail : Bool
 
 -- the same of a sink and a library that show this
 abbrev pub around : SinkShown → LibraryShown → Around
 around sink library =
-    record { sink = sink; counts = faults_in library.counts; may_fail = library.may_fail }
+    record { sink = sink; counts = library.counts; may_fail = library.may_fail }
 
 -- The call went one step over a library: the state is the one behind it, its reply was written, or
 -- at a sink's fault a prefix of it, and what the reply owes to the library was counted. The setting
@@ -178,15 +181,16 @@ ActsOn command old new outcome before after =
     (holding state old) (holding state new) outcome before after
 
 -- What a load did: its reply was right, what it owes was counted, and the state is the one behind
--- it; or memory ran out, and the state stayed.
+-- it; or memory ran out, its fetches were counted, and the state stayed.
 pub data HasLoaded (setting : Setting) (told : Option Files) (file : Bytes) (old new : State)
     (outcome : Stepped) (before after : Around) : Type 0 where
   rightly_loaded : (reply : Reply) (owed : Owed) → PerformsLoad setting told file old reply owed new
       → Writes outcome reply before.sink after.sink
       → IsCounted before.may_fail owed before.counts after.counts
       → HasLoaded setting told file old new outcome before after
-  ran_out : new ≡ old → Writes outcome (memory_line ∷ []) before.sink after.sink
-      → after.counts ≡ before.counts
+  ran_out : (owed : Owed) → OwesFetches setting.limits file owed → new ≡ old
+      → Writes outcome (memory_line ∷ []) before.sink after.sink
+      → IsCounted before.may_fail owed before.counts after.counts
       → HasLoaded setting told file old new outcome before after
 
 -- the same of an index, under these limits

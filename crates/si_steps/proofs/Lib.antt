@@ -1,3 +1,4 @@
 pub mod WordLaws
 pub mod CommandLaws
 pub mod OneSample
+pub mod FetchLaws

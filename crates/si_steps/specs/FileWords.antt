@@ -7,7 +7,7 @@ use Rattle.si_state.specs.States.{State}
 use Rattle.si_state.specs.Harvest.{Files}
 use Rattle.si_steps.specs.Settings.{Setting}
 use Rattle.si_steps.specs.Replies.{Reply, syntax_line, memory_line}
-use Rattle.si_steps.specs.Loads.{Owed, nothing, PerformsLoad}
+use Rattle.si_steps.specs.Loads.{Owed, nothing, OwesFetches, PerformsLoad}
 
 -- it isn't empty, and each byte is one that may stand between quotes
 abbrev pub names_file : Bytes → Bool
@@ -27,5 +27,6 @@ pub data WordStep (setting : Setting) (told : Option Files) (state : State) (wor
     (reply : Reply) (owed : Owed) (new : State) : Type 0 where
   right_word : RightWord setting told state word reply owed new
       → WordStep setting told state word reply owed new
-  no_memory : IsTrue (names_file word) → reply ≡ memory_line ∷ [] → owed ≡ nothing → new ≡ state
+  no_memory : IsTrue (names_file word) → reply ≡ memory_line ∷ []
+      → OwesFetches setting.limits word owed → new ≡ state
       → WordStep setting told state word reply owed new

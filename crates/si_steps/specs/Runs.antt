@@ -1,13 +1,13 @@
 -- A run over the words of the program's call and the lines of its input, and the replies one after
 -- the other (this project's profile).
-use Rattle.std.specs.Prelude.{◌≡◌, ℕ, ◌+◌, ◌==◌, Bool, Option, List, [], ◌∷◌, ◌++◌, map, IsTrue, IsFalse}
+use Rattle.std.specs.Prelude.{◌≡◌, ◌==◌, Bool, Option, List, [], ◌∷◌, ◌++◌, map, IsTrue, IsFalse}
 use Rattle.std.specs.List.{list_any, AllByRecursion}
 use Rattle.si_defs.specs.Bytes.{Bytes}
 use Rattle.si_state.specs.States.{State, empty_state}
 use Rattle.si_steps.specs.Settings.{Setting}
 use Rattle.si_steps.specs.Replies.{Reply, is_refusal}
 use Rattle.si_state.specs.Harvest.{Files}
-use Rattle.si_steps.specs.Loads.{Owed, a_failure}
+use Rattle.si_steps.specs.Loads.{Owed, nothing, together}
 use Rattle.si_steps.specs.Steps.{Step}
 use Rattle.si_steps.specs.FileWords.{WordStep}
 
@@ -32,11 +32,6 @@ abbrev pub lines_at_end : List Bytes → Bytes → List Bytes
 lines_at_end lines [] = lines
 lines_at_end lines (c ∷ cs) = lines ++ (c ∷ cs) ∷ []
 
--- how many failures of the library a reply tells
-abbrev pub failures_in : Owed → ℕ
-failures_in a_failure = 1
-failures_in owed = 0
-
 -- what a session acts on: a word that names a file, or a line
 pub data Request : Type 0 where
   a_word a_line : Bytes → Request
@@ -55,38 +50,39 @@ Acts setting told state (a_line line) reply owed new = Step setting told state l
 abbrev pub GoesOn : (strict : Bool) → Reply → Type 0
 GoesOn strict reply = IsTrue strict → IsFalse (is_refusal reply)
 
--- From this state on the requests have this output, which tells so many failures of the library,
--- and the new state stands behind them. The run goes on behind each.
-abbrev pub Run : Setting → Option Files → (strict : Bool) → State → List Request → Bytes → ℕ → State
-    → Type 0
-Run setting told strict state [] output failures new =
-    (output ≡ []) × (failures ≡ 0) × (new ≡ state)
-Run setting told strict state (request ∷ requests) output failures new =
-    (reply : Reply) × (owed : Owed) × (next : State) × (others : Bytes) × (further : ℕ)
-    × Acts setting told state request reply owed next × GoesOn strict reply
+-- From this state on the requests have this output, which owes so much to the library, and the new
+-- state stands behind them. The run goes on behind each.
+abbrev pub Run : Setting → Option Files → (strict : Bool) → State → List Request → Bytes → Owed
+    → State → Type 0
+Run setting told strict state [] output owed new =
+    (output ≡ []) × (owed ≡ nothing) × (new ≡ state)
+Run setting told strict state (request ∷ requests) output owed new =
+    (reply : Reply) × (due : Owed) × (next : State) × (others : Bytes) × (further : Owed)
+    × Acts setting told state request reply due next × GoesOn strict reply
     × Run setting told strict next requests others further new
-    × (output ≡ ended reply ++ others) × (failures ≡ failures_in owed + further)
+    × (output ≡ ended reply ++ others) × (owed ≡ together due further)
 
--- the output of a session over all these requests, which begins with the empty state, and how
--- many failures it tells
-abbrev pub IsOutput : Setting → Option Files → (strict : Bool) → List Request → Bytes → ℕ → Type 0
-IsOutput setting told strict requests output failures =
-    (new : State) × Run setting told strict empty_state requests output failures new
+-- the output of a session over all these requests, which begins with the empty state, and what it
+-- owes to the library
+abbrev pub IsOutput : Setting → Option Files → (strict : Bool) → List Request → Bytes → Owed
+    → Type 0
+IsOutput setting told strict requests output owed =
+    (new : State) × Run setting told strict empty_state requests output owed new
 
 -- The output of such a session over the first of these requests. It ends with this reply, behind
 -- which the run need not go on.
 pub record IsOutputTo (setting : Setting) (told : Option Files) (strict : Bool)
-    (requests : List Request) (reply : Reply) (output : Bytes) (failures : ℕ) : Type 0 where
+    (requests : List Request) (reply : Reply) (output : Bytes) (owed : Owed) : Type 0 where
   pub done : List Request
   pub last : Request
   pub others : List Request
   pub front : done ++ last ∷ others ≡ requests
   pub before : Bytes
-  pub fewer : ℕ
+  pub less : Owed
   pub state : State
-  pub run : Run setting told strict empty_state done before fewer state
-  pub owed : Owed
+  pub run : Run setting told strict empty_state done before less state
+  pub due : Owed
   pub new : State
-  pub acts : Acts setting told state last reply owed new
+  pub acts : Acts setting told state last reply due new
   pub whole : output ≡ before ++ ended reply
-  pub counted : failures ≡ fewer + failures_in owed
+  pub counted : owed ≡ together less due

@@ -14,7 +14,8 @@ use Rattle.si_state.specs.Samples.{AreDrawn, SumsAnswers}
 use Rattle.si_steps.specs.Settings.{Setting}
 use Rattle.si_steps.specs.Commands.{Command, add, load, remove, query, subsumers, subsumed, stats, tree, explain, sample, Means, IsLong, IsShort, IsSilent, AddsForeign}
 use Rattle.si_steps.specs.Replies.{Reply, NodeCounts, refusal_line, unknown_line, ok_line, stats_line, answer_reply, mapped_reply, tree_reply, explain_line, sample_line, long_line, language_line, syntax_line, memory_line}
-use Rattle.si_steps.specs.Loads.{Owed, nothing, PerformsLoad}
+use Rattle.si_steps.specs.declared.limits.Limits.{Limits}
+use Rattle.si_steps.specs.Loads.{Owed, nothing, OwesFetches, PerformsLoad}
 
 -- so many of these entries stand in the relation
 abbrev pub CountsStanding : Relation → Pattern → List (Clause × Placed) → ℕ → Type 0
@@ -95,6 +96,11 @@ pub data RightStep (setting : Setting) (told : Option Files) (state : State) (li
       → PerformsLoad setting told file state reply owed new
       → RightStep setting told state line reply owed new
 
+-- what a reply that memory ran out owes at once: nothing, but where the line loads a file
+abbrev pub OwesAtOnce : Limits → Bytes → Owed → Type 0
+OwesAtOnce limits line owed =
+    (owed ≡ nothing) ⊎ ((file : Bytes) × Means (load file) line × OwesFetches limits file owed)
+
 -- A step is right, or memory runs out, and the state stays: at once, whatever the right reply is,
 -- or behind some lines of the right reply, but not all. That never happens at a line that is too
 -- long, nor at one without a reply.
@@ -103,7 +109,7 @@ pub data Step (setting : Setting) (told : Option Files) (state : State) (line : 
   right : RightStep setting told state line reply owed new
       → Step setting told state line reply owed new
   memory_at_once : (IsSilent setting.limits line → ⊥) → IsShort setting.limits line
-      → reply ≡ memory_line ∷ [] → owed ≡ nothing → new ≡ state
+      → reply ≡ memory_line ∷ [] → OwesAtOnce setting.limits line owed → new ≡ state
       → Step setting told state line reply owed new
   memory_behind : (whole : Reply) (due : Owed) (next : State)
       → RightStep setting told state line whole due next

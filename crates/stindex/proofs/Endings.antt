@@ -60,7 +60,7 @@ Serves_limit setting told strict files n source now before state held after s fu
   gives = s.gives;
   within = omega (arith, s.size);
   splits = s.progress.splits;
-  ends = (s.unended, s.size ∙ full, record { output = s.progress.output; failures = s.progress.failures; right = (state, s.progress.run.0); shown = s.progress.run.1; written = s.progress.written; counted = s.progress.counted });
+  ends = (s.unended, s.size ∙ full, record { output = s.progress.output; owed = s.progress.owed; right = (state, s.progress.run.0); shown = s.progress.run.1; written = s.progress.written; counted = s.progress.counted });
 }
 
 -- the source failed, and took nothing
@@ -73,7 +73,7 @@ Serves_source setting told strict files n source now next before state held afte
   gives = Gives_last source now next s.taken s.gives gives;
   within = omega (arith, s.size);
   splits = s.progress.splits;
-  ends = (unended ∙ s.unended, omega (arith, s.size), record { output = s.progress.output; failures = s.progress.failures; right = (state, s.progress.run.0); shown = s.progress.run.1; written = s.progress.written; counted = s.progress.counted });
+  ends = (unended ∙ s.unended, omega (arith, s.size), record { output = s.progress.output; owed = s.progress.owed; right = (state, s.progress.run.0); shown = s.progress.run.1; written = s.progress.written; counted = s.progress.counted });
 }
 
 -- the run stopped at a reply

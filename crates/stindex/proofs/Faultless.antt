@@ -20,11 +20,11 @@ module _ (limits : Limits) (told : Option Files) (words : List Bytes) (source no
   no_sink_fault s = elim s.ends [
     | inl stop ↦
         let part = stop.1 in
-        let fits : length part.output ≤ before.sink.told.room = room.outputs s.taken now.left s.lines s.rest part.reply part.output part.failures s.gives.left s.within s.splits (inl part.right) part.counted.sure in
+        let fits : length part.output ≤ before.sink.told.room = room.outputs s.taken now.left s.lines s.rest part.reply part.output part.owed s.gives.left s.within s.splits (inl part.right) part.counted.counts.sure in
         omega (arith, fits, part.written.told.past_room)
     | inr end ↦
         let part = end.2 in
-        let fits : length part.output ≤ before.sink.told.room = room.outputs s.taken now.left s.lines s.rest part.reply part.output part.failures s.gives.left s.within s.splits (inr (end.1, part.right)) part.counted.sure in
+        let fits : length part.output ≤ before.sink.told.room = room.outputs s.taken now.left s.lines s.rest part.reply part.output part.owed s.gives.left s.within s.splits (inr (end.1, part.right)) part.counted.counts.sure in
         omega (arith, fits, part.written.told.past_room)
   ]
 

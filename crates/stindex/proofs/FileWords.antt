@@ -8,7 +8,8 @@ use Rattle.si_defs.specs.Bytes.{Bytes}
 use Rattle.si_state.specs.States.{State, empty_state}
 use Rattle.si_state.specs.Harvest.{Files}
 use Rattle.si_steps.specs.Settings.{Setting}
-use Rattle.si_steps.specs.Runs.{ended, failures_in, Request, a_word}
+use Rattle.si_steps.specs.Loads.{nothing, together}
+use Rattle.si_steps.specs.Runs.{ended, Request, a_word}
 use Rattle.stindex.specs.Shown.{ShownRun}
 use Rattle.si_session.specs.Session.{Around}
 use Rattle.si_io.proofs.Sends.{SendsAll_then, SendsAll-nil}
@@ -22,15 +23,15 @@ use Rattle.stindex.specs.Serve.{WritesTo}
 use Rattle.stindex.specs.Progress.{ActsOnRequest, Breaks, LoadsWords, HasProgressed}
 use Rattle.stindex.proofs.Splitting.{Run_more, Splits_none}
 use Rattle.stindex.proofs.Rows.{all_is}
-use Rattle.stindex.proofs.Progress.{tells_none, tells_then, stops_then, shown-nil}
+use Rattle.stindex.proofs.Progress.{owed_none, owed_then, stops_then, shown-nil}
 
 pub words_none : (setting : Setting) (told : Option Files) (strict : Bool) (state : State) (before : Around) → state ≡ empty_state → LoadsWords setting told strict [] before state before
 words_none setting told strict state before none = record {
   output = [];
-  failures = 0;
+  owed = nothing;
   run = ((refl, refl, none), tt);
   written = SendsAll-nil before.sink;
-  counted = tells_none before;
+  counted = owed_none before;
 }
 
 -- one word more
@@ -38,11 +39,11 @@ pub words_more : (setting : Setting) (told : Option Files) (strict : Bool) (word
     → LoadsWords setting told strict words before old now → ActsOnRequest setting told strict old new (a_word word) now after → LoadsWords setting told strict (words ++ word ∷ []) before new after
 words_more setting told strict words word old new before now after l acts = record {
   output = l.output ++ ended acts.reply;
-  failures = l.failures + failures_in acts.owed;
-  run = subst (λ (rs : List Request). ShownRun setting told strict empty_state rs (l.output ++ ended acts.reply) (l.failures + failures_in acts.owed) new) (sym (map-append a_word words (word ∷ [])))
-      (Run_more setting told strict empty_state old new (map a_word words) (a_word word) l.output l.failures acts.reply acts.owed l.run acts.step acts.goes acts.shows);
+  owed = together l.owed acts.owed;
+  run = subst (λ (rs : List Request). ShownRun setting told strict empty_state rs (l.output ++ ended acts.reply) (together l.owed acts.owed) new) (sym (map-append a_word words (word ∷ [])))
+      (Run_more setting told strict empty_state old new (map a_word words) (a_word word) l.output l.owed acts.reply acts.owed l.run acts.step acts.goes acts.shows);
   written = SendsAll_then before.sink now.sink after.sink l.output (ended acts.reply) l.written acts.written;
-  counted = tells_then before now after l.failures (failures_in acts.owed) l.counted acts.counted;
+  counted = owed_then before now after l.owed acts.owed l.counted acts.counted;
 }
 
 -- the run stops at one
@@ -52,17 +53,17 @@ pub words_stop : (halt : Stop) (setting : Setting) (told : Option Files) (strict
 words_stop halt setting told strict words others files word old new before now after l breaks whole = record {
   reply = breaks.reply;
   output = l.output ++ ended breaks.reply;
-  failures = l.failures + failures_in breaks.owed;
+  owed = together l.owed breaks.owed;
   right = record {
     done = map a_word words;
     last = a_word word;
     others = map a_word others;
     front = sym (map-append a_word words (word ∷ others)) ∙ ap (map a_word) whole ∙ sym (append-nil (map a_word files));
     before = l.output;
-    fewer = l.failures;
+    less = l.owed;
     state = old;
     run = l.run.0;
-    owed = breaks.owed;
+    due = breaks.owed;
     new = new;
     acts = breaks.step;
     whole = refl;
@@ -70,7 +71,7 @@ words_stop halt setting told strict words others files word old new before now a
   };
   shown = (l.run.1, breaks.shows);
   written = stops_then halt strict breaks.reply before.sink now.sink after.sink l.output (ended breaks.reply) l.written breaks.written;
-  counted = tells_then before now after l.failures (failures_in breaks.owed) l.counted breaks.counted;
+  counted = owed_then before now after l.owed breaks.owed l.counted breaks.counted;
 }
 
 -- behind the words nothing is taken yet
@@ -85,10 +86,10 @@ Stands_start setting told strict files source before now state held l empty = re
     lines = [];
     rest = [];
     output = l.output;
-    failures = l.failures;
+    owed = l.owed;
     splits = Splits_none;
     holds = empty ∙ sym (shown-nil setting.limits);
-    run = subst (λ (rs : List Request). ShownRun setting told strict empty_state rs l.output l.failures state) (sym (append-nil (map a_word files))) l.run;
+    run = subst (λ (rs : List Request). ShownRun setting told strict empty_state rs l.output l.owed state) (sym (append-nil (map a_word files))) l.run;
     written = l.written;
     counted = l.counted;
   };

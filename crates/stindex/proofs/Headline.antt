@@ -1,9 +1,10 @@
 -- What the contract of a run says where the devices tell their bytes, and when a run ends by the
 -- session's limit.
-use Rattle.std.proofs.Common.{◌≡◌, ℕ, Bool, List, ◌++◌, Option, Some, length, refl, sym, ap, subst, ◌∙◌, arith}
+use Rattle.std.proofs.Common.{◌≡◌, Bool, List, ◌++◌, Option, Some, length, refl, sym, ap, subst, ◌∙◌, arith}
 use Rattle.std.specs.Prelude.{◌↔◌}
 use Rattle.si_defs.specs.Bytes.{Bytes}
 use Rattle.si_steps.specs.Settings.{Setting}
+use Rattle.si_steps.specs.Loads.{Owed}
 use Rattle.si_steps.specs.Runs.{Splits, lines_at_end, requests, IsOutput}
 use Rattle.si_state.specs.Harvest.{Files}
 use Rattle.si_session.specs.Session.{Around}
@@ -13,20 +14,20 @@ use Rattle.si_io.proofs.Content.{Takes_all}
 use Rattle.stindex.specs.declared.status.Status.{Status}
 use Rattle.stindex.specs.declared.status.Status.TheVariants.{Ended, Refused, Usage, SourceFault, SinkFault, Memory, SessionLimit}
 use Rattle.stindex.specs.Shown.{OutputShows}
-use Rattle.stindex.specs.Serve.{Ends, Serves, TellsFailures}
+use Rattle.stindex.specs.Serve.{Ends, Serves, CountsOwed}
 
 -- A run that ended wrote an output of all its words and of all the lines of its input, behind what
--- the sink had, and the failures that it tells were counted.
+-- the sink had, and what it owes to the library was counted.
 pub record WritesOutput (setting : Setting) (told : Option Files) (strict : Bool) (files : List Bytes) (input had : Bytes) (before after : Around) : Type 0 where
   pub lines : List Bytes
   pub rest : Bytes
   pub splits : Splits input lines rest
   pub output : Bytes
-  pub failures : ℕ
-  pub right : IsOutput setting told strict (requests files (lines_at_end lines rest)) output failures
-  pub shown : OutputShows setting told strict (requests files (lines_at_end lines rest)) output failures right
+  pub owed : Owed
+  pub right : IsOutput setting told strict (requests files (lines_at_end lines rest)) output owed
+  pub shown : OutputShows setting told strict (requests files (lines_at_end lines rest)) output owed right
   pub written : after.sink.told.bytes ≡ Some (had ++ output)
-  pub counted : TellsFailures failures before after
+  pub counted : CountsOwed owed before after
 
 pub whole_run : (setting : Setting) (told : Option Files) (strict : Bool) (files : List Bytes) (input had : Bytes) (source now : SourceShown) (before after : Around)
     → before.sink.told.bytes ≡ Some had → source.left ≡ Some input → Serves setting told strict files Ended source now before after → WritesOutput setting told strict files input had before after
@@ -35,7 +36,7 @@ whole_run setting told strict files input had source now before after known whol
   rest = s.rest;
   splits = subst (λ (b : Bytes). Splits b s.lines s.rest) (sym (Takes_all (Some input) now.left s.taken (subst (λ (o : Option Bytes). Takes o s.taken now.left) whole s.gives.left) s.ends.1.at_end)) s.splits;
   output = s.ends.2.output;
-  failures = s.ends.2.failures;
+  owed = s.ends.2.owed;
   right = s.ends.2.right;
   shown = s.ends.2.shown;
   written = ap (λ (t : Told). t.bytes) s.ends.2.written.told ∙ ap (λ (b : Option Bytes). bytes_then b s.ends.2.output) known;

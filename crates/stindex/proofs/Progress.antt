@@ -7,22 +7,22 @@ use Rattle.si_steps.specs.declared.limits.Limits.{Limits}
 use Rattle.si_steps.specs.Settings.{Setting}
 use Rattle.si_steps.specs.Replies.{Reply, is_refusal}
 use Rattle.si_steps.specs.Steps.{Step}
-use Rattle.si_steps.specs.Runs.{ended, failures_in, IsOneLine, Splits, lines_at_end, Request, a_line, requests, GoesOn}
+use Rattle.si_steps.specs.Runs.{ended, IsOneLine, Splits, lines_at_end, Request, a_line, requests, GoesOn}
 use Rattle.si_state.specs.States.{State, empty_state}
 use Rattle.si_state.specs.Harvest.{Files}
-use Rattle.si_steps.specs.Loads.{Owed, nothing, a_miss, a_big, a_failure}
-use Rattle.si_io.specs.Counts.{raised, raised_by}
-use Rattle.si_io.specs.Library.{Counts}
+use Rattle.si_steps.specs.Loads.{Owed, nothing, together}
+use Rattle.si_io.specs.Counts.{raised}
 use Rattle.si_io.specs.Shown.{SinkShown}
 use Rattle.si_io.specs.Sends.{SendsAll}
 use Rattle.si_io.proofs.Sends.{SendsAll_then, SendsPart_then}
 use Rattle.si_session.specs.Session.{View, Around, Writes, Steps, IsCounted}
+use Rattle.si_session.proofs.Owing.{counts_nothing, counts_then}
 use Rattle.si_session.specs.declared.stepped.Stepped.{Stepped}
 use Rattle.si_session.specs.declared.stepped.Stepped.TheVariants.{Answered, Refused, Silent, SinkFailed}
 use Rattle.stindex.specs.Progress.{shown, Judges, ActsOnRequest, Breaks, Progress, Advances, Feeds, BrokenOff, Fails, Closes, Cuts}
 use Rattle.stindex.specs.declared.status.Stop.{Stop}
 use Rattle.stindex.specs.declared.status.Stop.TheVariants as stop
-use Rattle.stindex.specs.Serve.{TellsFailures, StopsAt, WritesTo, BlamesSink}
+use Rattle.stindex.specs.Serve.{CountsOwed, StopsAt, WritesTo, BlamesSink}
 use Rattle.si_session.specs.ShownTrees.{ShowsSome}
 use Rattle.stindex.specs.Shown.{ShowsAt, ShownRun}
 use Rattle.stindex.proofs.Steps.{shown_step, shown_shows, step_shows}
@@ -30,14 +30,13 @@ use Rattle.std.specs.Prelude.{◌==◌, Bool, Some, None, IsTrue, IsFalse, Resul
 use Rattle.std.specs.List.{position}
 use Rattle.stindex.proofs.Splitting.{line_end, line_without_end, Splits_more, Splits_line, Splits_any, lines_at_end-none, lines_at_end-some, requests-more, requests-split, Run_line}
 
--- ---- failures of the library
-pub tells_none : (now : Around) → TellsFailures 0 now now
-tells_none now = record { rose = omega arith; sure = λ never. refl; same = refl }
+-- ---- what is owed to the library
+pub owed_none : (now : Around) → CountsOwed nothing now now
+owed_none now = record { counts = counts_nothing now.counts now.may_fail; same = refl }
 
-pub tells_then : (x y z : Around) (m n : ℕ) → TellsFailures m x y → TellsFailures n y z → TellsFailures (m + n) x z
-tells_then x y z m n h k = record {
-  rose = omega (arith, h.rose, k.rose);
-  sure = λ never. omega (arith, h.sure never, k.sure (subst (λ b. IsFalse b) (sym h.same) never));
+pub owed_then : (x y z : Around) (one other : Owed) → CountsOwed one x y → CountsOwed other y z → CountsOwed (together one other) x z
+owed_then x y z one other h k = record {
+  counts = counts_then x.may_fail x.counts y.counts z.counts one other h.counts (subst (λ b. IsCounted b other y.counts z.counts) h.same k.counts);
   same = k.same ∙ h.same;
 }
 
@@ -67,7 +66,7 @@ Advances_more setting told strict bytes held holds state now one filled files be
   lines = p.lines;
   rest = p.rest ++ bytes;
   output = p.output;
-  failures = p.failures;
+  owed = p.owed;
   splits = Splits_more taken p.lines p.rest bytes p.splits one;
   holds = filled ∙ ap (λ (b : Bytes). take (setting.limits.line + 1) (b ++ bytes)) p.holds ∙ take-take-append (setting.limits.line + 1) p.rest bytes;
   run = p.run;
@@ -85,12 +84,12 @@ Advances_line setting told strict old new held now after acts files before taken
       lines = p.lines ++ p.rest ∷ [];
       rest = [];
       output = p.output ++ ended acts.reply;
-      failures = p.failures + failures_in acts.owed;
+      owed = together p.owed acts.owed;
       splits = Splits_line taken p.lines p.rest p.splits;
       holds = sym (shown-nil setting.limits);
-      run = Run_line setting told strict old new files p.lines p.rest p.output p.failures acts.reply acts.owed p.run step acts.goes shows;
+      run = Run_line setting told strict old new files p.lines p.rest p.output p.owed acts.reply acts.owed p.run step acts.goes shows;
       written = SendsAll_then before.sink now.sink after.sink p.output (ended acts.reply) p.written acts.written;
-      counted = tells_then before now after p.failures (failures_in acts.owed) p.counted acts.counted;
+      counted = owed_then before now after p.owed acts.owed p.counted acts.counted;
     }
 
 -- ---- stops
@@ -99,26 +98,26 @@ stops_then stop.Refused strict reply a b c xs ys h k = (SendsAll_then a b c xs y
 stops_then stop.SinkFault strict reply a b c xs ys h k = SendsPart_then a b c xs ys h k
 
 -- a run stops at a line, behind which others stand
-stops_at : (halt : Stop) (setting : Setting) (told : Option Files) (strict : Bool) (old new : State) (files lines whole : List Bytes) (line : Bytes) (others : List Request) (output : Bytes) (failures : ℕ)
+stops_at : (halt : Stop) (setting : Setting) (told : Option Files) (strict : Bool) (old new : State) (files lines whole : List Bytes) (line : Bytes) (others : List Request) (output : Bytes) (owed : Owed)
     (held : Bytes) (before now after : Around) (breaks : Breaks halt setting told strict old new (a_line held) now after)
-    → ShownRun setting told strict empty_state (requests files lines) output failures old → Step setting told old line breaks.reply breaks.owed new → ShowsAt setting old (a_line line) breaks.reply
-    → SendsAll before.sink output now.sink → TellsFailures failures before now
+    → ShownRun setting told strict empty_state (requests files lines) output owed old → Step setting told old line breaks.reply breaks.owed new → ShowsAt setting old (a_line line) breaks.reply
+    → SendsAll before.sink output now.sink → CountsOwed owed before now
     → requests files lines ++ a_line line ∷ others ≡ requests files whole
     → WritesTo halt setting told strict files whole before after
-stops_at halt setting told strict old new files lines whole line others output failures held before now after breaks run step shows written counted front = record {
+stops_at halt setting told strict old new files lines whole line others output owed held before now after breaks run step shows written counted front = record {
   reply = breaks.reply;
   output = output ++ ended breaks.reply;
-  failures = failures + failures_in breaks.owed;
+  owed = together owed breaks.owed;
   right = record {
     done = requests files lines;
     last = a_line line;
     others = others;
     front = front;
     before = output;
-    fewer = failures;
+    less = owed;
     state = old;
     run = run.0;
-    owed = breaks.owed;
+    due = breaks.owed;
     new = new;
     acts = step;
     whole = refl;
@@ -126,7 +125,7 @@ stops_at halt setting told strict old new files lines whole line others output f
   };
   shown = (run.1, shows);
   written = stops_then halt strict breaks.reply before.sink now.sink after.sink output (ended breaks.reply) written breaks.written;
-  counted = tells_then before now after failures (failures_in breaks.owed) counted breaks.counted;
+  counted = owed_then before now after owed breaks.owed counted breaks.counted;
 }
 
 pub Fails_line : (halt : Stop) (setting : Setting) (told : Option Files) (strict : Bool) (bytes : Bytes) (old new : State) (held : Bytes) (now after : Around)
@@ -139,7 +138,7 @@ Fails_line halt setting told strict bytes old new held now after breaks files be
       lines = (p.lines ++ p.rest ∷ []) ++ more.0;
       rest = more.1;
       splits = subst (λ (b : Bytes). Splits b ((p.lines ++ p.rest ∷ []) ++ more.0) more.1) (append_assoc taken (10 ∷ []) bytes) more.2;
-      part = stops_at halt setting told strict old new files p.lines ((p.lines ++ p.rest ∷ []) ++ more.0) p.rest (map a_line more.0) p.output p.failures held before now after breaks p.run step shows p.written p.counted (requests-split files p.lines more.0 p.rest);
+      part = stops_at halt setting told strict old new files p.lines ((p.lines ++ p.rest ∷ []) ++ more.0) p.rest (map a_line more.0) p.output p.owed held before now after breaks p.run step shows p.written p.counted (requests-split files p.lines more.0 p.rest);
     }
 
 pub Fails_then : (halt : Stop) (setting : Setting) (told : Option Files) (strict : Bool) (bs cs : Bytes) (s t : State) (f g : Bytes) (x y z : Around)
@@ -206,14 +205,14 @@ pub Closes_none : (setting : Setting) (told : Option Files) (strict : Bool) (sta
 Closes_none setting told strict state held now none files before taken p =
     let same : lines_at_end p.lines p.rest ≡ p.lines = lines_at_end-none p.lines p.rest (take_none setting.limits.line p.rest (sym none ∙ p.holds)) in
     let run =
-    subst (λ (ls : List Bytes). ShownRun setting told strict empty_state (requests files ls) p.output p.failures state) (sym same) p.run in
+    subst (λ (ls : List Bytes). ShownRun setting told strict empty_state (requests files ls) p.output p.owed state) (sym same) p.run in
     record {
       lines = p.lines;
       rest = p.rest;
       splits = p.splits;
       all = record {
         output = p.output;
-        failures = p.failures;
+        owed = p.owed;
         right = (state, run.0);
         shown = run.1;
         written = p.written;
@@ -230,19 +229,19 @@ Closes_line setting told strict old new held now after some acts files before ta
     let same : lines_at_end p.lines p.rest ≡ p.lines ++ p.rest ∷ [] = lines_at_end-some p.lines p.rest (rest_some setting.limits held p.rest some p.holds) in
     let output : Bytes = p.output ++ ended acts.reply in
     let run =
-    subst (λ (ls : List Bytes). ShownRun setting told strict empty_state (requests files ls) output (p.failures + failures_in acts.owed) new) (sym same)
-    (Run_line setting told strict old new files p.lines p.rest p.output p.failures acts.reply acts.owed p.run step acts.goes shows) in
+    subst (λ (ls : List Bytes). ShownRun setting told strict empty_state (requests files ls) output (together p.owed acts.owed) new) (sym same)
+    (Run_line setting told strict old new files p.lines p.rest p.output p.owed acts.reply acts.owed p.run step acts.goes shows) in
     record {
       lines = p.lines;
       rest = p.rest;
       splits = p.splits;
       all = record {
         output = output;
-        failures = p.failures + failures_in acts.owed;
+        owed = together p.owed acts.owed;
         right = (new, run.0);
         shown = run.1;
         written = SendsAll_then before.sink now.sink after.sink p.output (ended acts.reply) p.written acts.written;
-        counted = tells_then before now after p.failures (failures_in acts.owed) p.counted acts.counted;
+        counted = owed_then before now after p.owed acts.owed p.counted acts.counted;
       };
     }
 
@@ -256,7 +255,7 @@ Cuts_line halt setting told strict old new held now after some breaks files befo
       lines = p.lines;
       rest = p.rest;
       splits = p.splits;
-      part = stops_at halt setting told strict old new files p.lines (lines_at_end p.lines p.rest) p.rest [] p.output p.failures held before now after breaks p.run step shows p.written p.counted
+      part = stops_at halt setting told strict old new files p.lines (lines_at_end p.lines p.rest) p.rest [] p.output p.owed held before now after breaks p.run step shows p.written p.counted
           (sym (requests-more files p.lines p.rest) ∙ ap (requests files) (sym same));
     }
 
@@ -266,25 +265,6 @@ written_whole Answered reply now after whole w = w.0
 written_whole Refused reply now after whole w = w.0
 written_whole Silent reply now after whole w = w.0
 written_whole SinkFailed reply now after whole w = absurd (whole refl)
-
-owed_rose : (owed : Owed) (may_fail : Bool) (before now : Counts) → IsCounted may_fail owed before now → now.faults ≡ raised_by (failures_in owed) before.faults
-owed_rose nothing may_fail before now h = omega (arith, ap (λ (k : Counts). k.faults) h)
-owed_rose a_miss may_fail before now h = omega (arith, ap (λ (k : Counts). k.faults) h)
-owed_rose a_big may_fail before now h = omega (arith, ap (λ (k : Counts). k.faults) h)
-owed_rose a_failure may_fail before now h = ap (λ (k : Counts). k.faults) h.0
-
-owed_sure : (owed : Owed) (may_fail : Bool) (before now : Counts) → IsCounted may_fail owed before now → IsFalse may_fail → failures_in owed ≡ 0
-owed_sure nothing may_fail before now h never = refl
-owed_sure a_miss may_fail before now h never = refl
-owed_sure a_big may_fail before now h never = refl
-owed_sure a_failure may_fail before now h never = let fails : IsTrue may_fail = h.1 in cc
-
-tells_owed : (owed : Owed) (now after : Around) → IsCounted now.may_fail owed now.counts after.counts → after.may_fail ≡ now.may_fail → TellsFailures (failures_in owed) now after
-tells_owed owed now after h kept = record {
-  rose = owed_rose owed now.may_fail now.counts after.counts h;
-  sure = owed_sure owed now.may_fail now.counts after.counts h;
-  same = kept;
-}
 
 -- ---- the sink's faults
 module _ (strict : Bool) (outcome : Stepped) (old new : ℕ)
@@ -323,7 +303,7 @@ module _ (told : Option Files) (strict : Bool) (old new : View) (request : Reque
     shows = step_shows told old new request outcome now after s;
     goes = goes_on strict outcome s.reply now.sink after.sink h.0 h.1 s.written;
     written = written_whole outcome s.reply now.sink after.sink h.0 s.written;
-    counted = tells_owed s.owed now after s.counted kept;
+    counted = record { counts = s.counted; same = kept };
   }
   acted (Err halt) h = tt
 
@@ -335,5 +315,5 @@ module _ (told : Option Files) (strict : Bool) (old new : View) (request : Reque
     step = s.step;
     shows = step_shows told old new request outcome now after s;
     written = stopped halt strict outcome s.reply now.sink after.sink h s.written;
-    counted = tells_owed s.owed now after s.counted kept;
+    counted = record { counts = s.counted; same = kept };
   }

@@ -12,11 +12,11 @@ use Rattle.si_steps.specs.Settings.{Setting}
 use Rattle.si_steps.specs.Replies.{Reply}
 use Rattle.si_state.specs.States.{State, empty_state}
 use Rattle.si_state.specs.Harvest.{Files}
-use Rattle.si_steps.specs.Loads.{Owed}
+use Rattle.si_steps.specs.Loads.{Owed, nothing, together}
 use Rattle.si_steps.specs.Steps.{Step}
 use Rattle.si_session.proofs.Told.{ended-append}
 use Rattle.stindex.specs.Lines.{IsLineEnd}
-use Rattle.si_steps.specs.Runs.{ended, failures_in, IsOneLine, Splits, lines_at_end, Request, a_word, a_line, requests, Acts, GoesOn}
+use Rattle.si_steps.specs.Runs.{ended, IsOneLine, Splits, lines_at_end, Request, a_word, a_line, requests, Acts, GoesOn}
 use Rattle.stindex.specs.Shown.{ShowsAt, ShownRun}
 
 -- ---- lines
@@ -126,46 +126,65 @@ requests-split files lines others line =
     append_assoc (map a_word files) (map a_line lines) (a_line line ∷ map a_line others)
     ∙ ap (λ (rs : List Request). map a_word files ++ rs) (sym (map-append a_line lines (line ∷ others)) ∙ ap (map a_line) (sym (append_assoc lines (line ∷ []) others)))
 
+-- ---- what is owed
+-- nothing comes first or last
+together_swapped : (due : Owed) → together nothing due ≡ together due nothing
+together_swapped due =
+    λ i. record { fetches = swap due.fetches i; misses = swap due.misses i; bigs = swap due.bigs i; failures = swap due.failures i } where
+      swap : (n : ℕ) → 0 + n ≡ n + 0
+      swap n = omega arith
+
+together_assoc : (one two three : Owed) → together (together one two) three ≡ together one (together two three)
+together_assoc one two three =
+    λ i. record {
+      fetches = assoc one.fetches two.fetches three.fetches i;
+      misses = assoc one.misses two.misses three.misses i;
+      bigs = assoc one.bigs two.bigs three.bigs i;
+      failures = assoc one.failures two.failures three.failures i;
+    } where
+      assoc : (l m n : ℕ) → (l + m) + n ≡ l + (m + n)
+      assoc l m n = omega arith
+
 -- a run goes on by one request
-pub Run_more : (setting : Setting) (told : Option Files) (strict : Bool) (old mid new : State) (done : List Request) (request : Request) (output : Bytes) (failures : ℕ) (reply : Reply) (owed : Owed)
-    → ShownRun setting told strict old done output failures mid → Acts setting told mid request reply owed new → GoesOn strict reply → ShowsAt setting mid request reply
-    → ShownRun setting told strict old (done ++ request ∷ []) (output ++ ended reply) (failures + failures_in owed) new
-Run_more setting told strict old mid new [] request output failures reply owed (run, shown) acts goes shows = (
+pub Run_more : (setting : Setting) (told : Option Files) (strict : Bool) (old mid new : State) (done : List Request) (request : Request) (output : Bytes) (owed : Owed) (reply : Reply) (due : Owed)
+    → ShownRun setting told strict old done output owed mid → Acts setting told mid request reply due new → GoesOn strict reply → ShowsAt setting mid request reply
+    → ShownRun setting told strict old (done ++ request ∷ []) (output ++ ended reply) (together owed due) new
+Run_more setting told strict old mid new [] request output owed reply due (run, shown) acts goes shows = (
   (
     reply,
-    owed,
+    due,
     new,
     [],
-    0,
-    subst (λ (s : State). Acts setting told s request reply owed new) run.2 acts,
+    nothing,
+    subst (λ (s : State). Acts setting told s request reply due new) run.2 acts,
     goes,
     (refl, refl, refl),
     ap (λ (b : Bytes). b ++ ended reply) run.0 ∙ sym (append-nil (ended reply)),
-    omega (arith, run.1),
+    ap (λ (o : Owed). together o due) run.1 ∙ together_swapped due,
   ),
   (subst (λ (s : State). ShowsAt setting s request reply) run.2 shows, tt),
 )
-Run_more setting told strict old mid new (r ∷ rs) request output failures reply owed (run, shown) acts goes shows =
-    let more = Run_more setting told strict run.2 mid new rs request run.3 run.4 reply owed (run.7, shown.1) acts goes shows in (
+Run_more setting told strict old mid new (r ∷ rs) request output owed reply due (run, shown) acts goes shows =
+    let more = Run_more setting told strict run.2 mid new rs request run.3 run.4 reply due (run.7, shown.1) acts goes shows in (
       (
         run.0,
         run.1,
         run.2,
         run.3 ++ ended reply,
-        run.4 + failures_in owed,
+        together run.4 due,
         run.5,
         run.6,
         more.0,
         ap (λ (b : Bytes). b ++ ended reply) run.8 ∙ append_assoc (ended run.0) run.3 (ended reply),
-        omega (arith, run.9),
+        ap (λ (o : Owed). together o due) run.9 ∙ together_assoc run.1 run.4 due,
       ),
       (shown.0, more.1),
     )
 
 -- by one line
-pub Run_line : (setting : Setting) (told : Option Files) (strict : Bool) (mid new : State) (files lines : List Bytes) (line output : Bytes) (failures : ℕ) (reply : Reply) (owed : Owed)
-    → ShownRun setting told strict empty_state (requests files lines) output failures mid → Step setting told mid line reply owed new → GoesOn strict reply → ShowsAt setting mid (a_line line) reply
-    → ShownRun setting told strict empty_state (requests files (lines ++ line ∷ [])) (output ++ ended reply) (failures + failures_in owed) new
-Run_line setting told strict mid new files lines line output failures reply owed run step goes shows =
-    subst (λ (rs : List Request). ShownRun setting told strict empty_state rs (output ++ ended reply) (failures + failures_in owed) new) (sym (requests-more files lines line))
-    (Run_more setting told strict empty_state mid new (requests files lines) (a_line line) output failures reply owed run step goes shows)
+pub Run_line : (setting : Setting) (told : Option Files) (strict : Bool) (mid new : State) (files lines : List Bytes) (line output : Bytes) (owed : Owed) (reply : Reply) (due : Owed)
+    → ShownRun setting told strict empty_state (requests files lines) output owed mid → Step setting told mid line reply due new → GoesOn strict reply → ShowsAt setting mid (a_line line) reply
+    → ShownRun setting told strict empty_state (requests files (lines ++ line ∷ [])) (output ++ ended reply) (together owed due) new
+Run_line setting told strict mid new files lines line output owed reply due run step goes shows =
+    subst (λ (rs : List Request). ShownRun setting told strict empty_state rs (output ++ ended reply) (together owed due) new) (sym (requests-more files lines line))
+    (Run_more setting told strict empty_state mid new (requests files lines) (a_line line) output owed reply due run step goes shows)

@@ -8,7 +8,7 @@ use Rattle.si_state.specs.States.{State, empty_state}
 use Rattle.si_state.specs.Harvest.{Files}
 use Rattle.si_steps.specs.Loads.{Owed}
 use Rattle.si_session.specs.Session.{Around}
-use Rattle.si_steps.specs.Runs.{ended, failures_in, Splits, lines_at_end, Request, a_word, requests, Acts, GoesOn}
+use Rattle.si_steps.specs.Runs.{ended, Splits, lines_at_end, Request, a_word, requests, Acts, GoesOn}
 use Rattle.si_session.specs.declared.stepped.Stepped.{Stepped}
 use Rattle.si_session.specs.declared.stepped.Stepped.TheVariants.{Refused, SinkFailed}
 use Rattle.si_io.specs.Sends.{SendsAll}
@@ -17,7 +17,7 @@ use Rattle.si_io.specs.Shown.{SourceShown}
 use Rattle.stindex.specs.declared.status.Stop.{Stop}
 use Rattle.stindex.specs.declared.status.Stop.TheVariants as stop
 use Rattle.stindex.specs.Shown.{ShowsAt, ShownRun}
-use Rattle.stindex.specs.Serve.{WritesAll, WritesTo, StopsAt, TellsFailures, TellsNoEnd}
+use Rattle.stindex.specs.Serve.{WritesAll, WritesTo, StopsAt, CountsOwed, TellsNoEnd}
 
 -- What is held of a line that was begun: its bytes up to one more than a line may have.
 abbrev pub shown : Limits → Bytes → Bytes
@@ -39,7 +39,7 @@ pub record ActsOnRequest (setting : Setting) (told : Option Files) (strict : Boo
   pub shows : ShowsAt setting old request reply
   pub goes : GoesOn strict reply
   pub written : SendsAll before.sink (ended reply) after.sink
-  pub counted : TellsFailures (failures_in owed) before after
+  pub counted : CountsOwed owed before after
 
 -- A request was acted on, and the run stopped at its reply.
 pub record Breaks (halt : Stop) (setting : Setting) (told : Option Files) (strict : Bool)
@@ -49,17 +49,17 @@ pub record Breaks (halt : Stop) (setting : Setting) (told : Option Files) (stric
   pub step : Acts setting told old request reply owed new
   pub shows : ShowsAt setting old request reply
   pub written : StopsAt halt strict reply (ended reply) before.sink after.sink
-  pub counted : TellsFailures (failures_in owed) before after
+  pub counted : CountsOwed owed before after
 
 -- From the start on, where `before` was written, these words were acted on: they gave their output
 -- and the state.
 pub record LoadsWords (setting : Setting) (told : Option Files) (strict : Bool) (words : List Bytes)
     (before : Around) (state : State) (after : Around) : Type 0 where
   pub output : Bytes
-  pub failures : ℕ
-  pub run : ShownRun setting told strict empty_state (map a_word words) output failures state
+  pub owed : Owed
+  pub run : ShownRun setting told strict empty_state (map a_word words) output owed state
   pub written : SendsAll before.sink output after.sink
-  pub counted : TellsFailures failures before after
+  pub counted : CountsOwed owed before after
 
 -- From the start on, where `before` was written, the words and these bytes were acted on: the words
 -- and the lines that are whole in the bytes gave their output and the state, and of the
@@ -70,12 +70,12 @@ pub record Progress (setting : Setting) (told : Option Files) (strict : Bool) (f
   pub lines : List Bytes
   pub rest : Bytes
   pub output : Bytes
-  pub failures : ℕ
+  pub owed : Owed
   pub splits : Splits taken lines rest
   pub holds : held ≡ shown setting.limits rest
-  pub run : ShownRun setting told strict empty_state (requests files lines) output failures state
+  pub run : ShownRun setting told strict empty_state (requests files lines) output owed state
   pub written : SendsAll before.sink output after.sink
-  pub counted : TellsFailures failures before after
+  pub counted : CountsOwed owed before after
 
 -- These bytes carry every progress on.
 abbrev pub Advances : Setting → Option Files → (strict : Bool)

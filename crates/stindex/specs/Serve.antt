@@ -7,8 +7,9 @@ use Rattle.si_steps.specs.Settings.{Setting, setting_of}
 use Rattle.si_steps.specs.Replies.{Reply, is_refusal}
 use Rattle.si_steps.specs.Runs.{Splits, lines_at_end, requests, IsOutput, IsOutputTo}
 use Rattle.si_state.specs.Harvest.{Files}
-use Rattle.si_session.specs.Session.{Around}
-use Rattle.si_io.specs.Counts.{raised, raised_by}
+use Rattle.si_steps.specs.Loads.{Owed}
+use Rattle.si_session.specs.Session.{Around, IsCounted}
+use Rattle.si_io.specs.Counts.{raised}
 use Rattle.si_io.specs.Gives.{Gives}
 use Rattle.si_io.specs.Shown.{SourceShown, SinkShown}
 use Rattle.si_io.specs.Sends.{SendsAll, SendsPart}
@@ -22,23 +23,22 @@ use Rattle.stindex.specs.declared.status.Stop.{Stop}
 use Rattle.stindex.specs.declared.status.Stop.TheVariants as stop
 use Rattle.stindex.specs.declared.status.Status.TheVariants.{Ended, Refused, Usage, SourceFault, SinkFault, Memory, SessionLimit}
 
--- So many failures of the library were told. Its count of faults rose by as many, up to the largest
--- `u64`, and none was told of a library that can't fail.
-pub record TellsFailures (failures : ℕ) (before after : Around) : Type 0 where
-  pub rose : after.counts.faults ≡ raised_by failures before.counts.faults
-  pub sure : IsFalse before.may_fail → failures ≡ 0
+-- Exactly what is owed to the library was counted there, and no failure is owed to one that can't
+-- fail.
+pub record CountsOwed (owed : Owed) (before after : Around) : Type 0 where
+  pub counts : IsCounted before.may_fail owed before.counts after.counts
   pub same : after.may_fail ≡ before.may_fail
 
--- An output of these words and lines was written whole, the trees that it shows are such as hold the
--- kept entries, and the failures that it tells were counted.
+-- An output of these words and lines was written whole, the trees that it shows are such as hold
+-- the kept entries, and what it owes to the library was counted.
 pub record WritesAll (setting : Setting) (told : Option Files) (strict : Bool)
     (files lines : List Bytes) (before after : Around) : Type 0 where
   pub output : Bytes
-  pub failures : ℕ
-  pub right : IsOutput setting told strict (requests files lines) output failures
-  pub shown : OutputShows setting told strict (requests files lines) output failures right
+  pub owed : Owed
+  pub right : IsOutput setting told strict (requests files lines) output owed
+  pub shown : OutputShows setting told strict (requests files lines) output owed right
   pub written : SendsAll before.sink output after.sink
-  pub counted : TellsFailures failures before after
+  pub counted : CountsOwed owed before after
 
 -- what was written of an output that ends with this reply, at which the run stops
 abbrev pub StopsAt : Stop → (strict : Bool) → Reply → Bytes → SinkShown → SinkShown → Type 0
@@ -47,17 +47,17 @@ StopsAt stop.Refused strict reply output before after =
 StopsAt stop.SinkFault strict reply output before after = SendsPart before output after
 
 -- The run stopped at the reply to one of these words and lines. The output up to and with it was
--- written, or at a fault of the sink a prefix of it, and nothing else; and the failures that the
--- output tells were counted.
+-- written, or at a fault of the sink a prefix of it, and nothing else; and what the output owes to
+-- the library was counted.
 pub record WritesTo (stop : Stop) (setting : Setting) (told : Option Files) (strict : Bool)
     (files lines : List Bytes) (before after : Around) : Type 0 where
   pub reply : Reply
   pub output : Bytes
-  pub failures : ℕ
-  pub right : IsOutputTo setting told strict (requests files lines) reply output failures
-  pub shown : OutputToShows setting told strict (requests files lines) reply output failures right
+  pub owed : Owed
+  pub right : IsOutputTo setting told strict (requests files lines) reply output owed
+  pub shown : OutputToShows setting told strict (requests files lines) reply output owed right
   pub written : StopsAt stop strict reply output before.sink after.sink
-  pub counted : TellsFailures failures before after
+  pub counted : CountsOwed owed before after
 
 -- The input ended, before as many bytes were taken as a session may have.
 pub record MetEnd (limits : Limits) (taken : Bytes) (left : Option Bytes) : Type 0 where
@@ -178,11 +178,11 @@ BlamesSink stop.SinkFault sink sink_now = sink_now ≡ raised sink
 -- where the end of the input was met
 abbrev pub MayWrite : Setting → Option Files → (strict : Bool)
     → (files : List Bytes) (taken : Bytes) (lines : List Bytes) (rest : Bytes) (now : Option Bytes)
-    → Reply → Bytes → ℕ → Type 0
-MayWrite setting told strict files taken lines rest now reply output failures =
-    IsOutputTo setting told strict (requests files lines) reply output failures
+    → Reply → Bytes → Owed → Type 0
+MayWrite setting told strict files taken lines rest now reply output owed =
+    IsOutputTo setting told strict (requests files lines) reply output owed
     ⊎ (MetEnd setting.limits taken now × IsOutputTo setting told strict
-    (requests files (lines_at_end lines rest)) reply output failures)
+    (requests files (lines_at_end lines rest)) reply output owed)
 
 -- What the run may write fits the room, whatever it takes of what the source has left, and where
 -- the words are declined, what is said then. If the library can't fail, this is asked of the
@@ -191,8 +191,8 @@ pub record HasRoomForOutputs (limits : Limits) (told : Option Files) (words : Li
     (may_fail : Bool) (left : Option Bytes) (room : ℕ) : Type 0 where
   pub usage : takes program words ≡ false → length usage_line ≤ room
   pub outputs : (taken : Bytes) (now : Option Bytes) (lines : List Bytes) (rest : Bytes)
-      (reply : Reply) (output : Bytes) (failures : ℕ)
+      (reply : Reply) (output : Bytes) (owed : Owed)
       → Takes left taken now → length taken ≤ limits.session → Splits taken lines rest
       → MayWrite (setting_of limits) told (asked_by words).strict
-      (asked_by words).files taken lines rest now reply output failures
-      → (IsFalse may_fail → failures ≡ 0) → length output ≤ room
+      (asked_by words).files taken lines rest now reply output owed
+      → (IsFalse may_fail → owed.failures ≡ 0) → length output ≤ room

@@ -1,10 +1,8 @@
 // Which calls `serve` makes of its devices.
-use super::loads::library_of;
-use super::words::owned;
-use super::{Device, LINES, ROOM, WHOLE};
+use super::{Device, LINES, ROOM};
 use crate::serve::serve;
 use crate::status::Status;
-use si_io::{Failed, Fetched, Library, MemoryLibrary, MemorySink, MemorySource, Sink, Source};
+use si_io::{Failed, MemoryLibrary, MemorySink, MemorySource, Sink, Source};
 use si_session::Limits;
 use std::alloc::{AllocError, Global};
 use std::cell::Cell;
@@ -15,7 +13,6 @@ use std::test::Fail;
 struct Calls {
     reads: Cell<u32>,
     writes: Cell<u32>,
-    fetches: Cell<u32>,
     /// Those with an empty slice.
     empty: Cell<u32>,
     /// Reads behind the end of the input, and calls of any device behind a fault of the source or
@@ -34,7 +31,6 @@ impl Calls {
         Calls {
             reads: Cell::new(0),
             writes: Cell::new(0),
-            fetches: Cell::new(0),
             empty: Cell::new(0),
             late: Cell::new(0),
             ended: Cell::new(false),
@@ -94,16 +90,6 @@ impl<K: Sink> Sink for Watched<'_, K> {
         let answer = self.device.write(bytes);
         calls.end(&answer, empty, &calls.failed);
         answer
-    }
-}
-
-impl<L: Library> Library for Watched<'_, L> {
-    ghost shown = { λ watched. L.shown watched.device };
-
-    fn fetch(&mut self, name: &[u8], into: &mut Vec<u8>, limit: usize) -> Fetched {
-        count(&self.calls.fetches);
-        self.calls.begin(false, false);
-        self.device.fetch(name, into, limit)
     }
 }
 
@@ -210,84 +196,6 @@ fn no_call_is_empty_or_late(rt: HostRuntime) -> Result<(), Fail> {
                 assert_eq!(rt; noted, (0, 0, call > 0), "chunk {chunk}, call {call}");
             }
         }
-    }
-    Ok(())
-}
-
-/// Files that include others, one that isn't there, one of more than 40 bytes, one with three files
-/// open, one with four fetches, and one that includes itself.
-const FILES: &[(&[u8], &[u8])] = &[
-    (b"a", b"include('b').\ninclude('c')."),
-    (b"b", b"cnf(b,axiom,p)."),
-    (b"c", b"cnf(c,axiom,q)."),
-    (b"m", b"include('none').\ninclude('b')."),
-    (b"g", b"include('big')."),
-    (b"big", b"cnf(long,axiom,p(a) | p(b) | p(c) | p(d))."),
-    (b"d", b"include('a')."),
-    (b"e", b""),
-    (b"f", b"include('e').include('e').include('e')."),
-    (b"o", b"include('o')."),
-];
-
-/// Words of the call, the fetch and the write that fail, where 0 is none, the input, and how many
-/// files it may ask for on the way to its end or to the fault.
-const FETCHES: [(&[&str], u32, u32, &[u8], u32); 10] = [
-    (&[], 0, 0, b"stats\nload\nload ''\nx\n", 0),
-    (&["a", "none"], 0, 0, b"load 'b'\n", 5),
-    (&[], 0, 0, b"load 'a'\nload 'none'\nload 'big'\n", 5),
-    (&[], 0, 0, b"load 'm'\nload 'g'\nload 'b'\nstats\n", 5),
-    (&["--strict", "m", "b"], 0, 0, b"load 'b'\n", 2),
-    // A file too deep, one too many, and one that is open already aren't asked for.
-    (&[], 0, 0, b"load 'd'\nload 'f'\nload 'o'\n", 6),
-    // A fault of the library ends its load, and no other.
-    (&["a", "b"], 2, 0, b"load 'c'\n", 4),
-    (&["a"], 3, 0, b"load 'm'\n", 5),
-    // A fault of the sink ends all.
-    (&["a", "b"], 0, 1, b"load 'c'\n", 3),
-    (&[], 0, 1, b"load 'c'\nload 'b'\n", 1),
-];
-
-/// Runs over these words, this input and `FILES`, with a fetch and a write that fail.
-fn load_watched(
-    alloc: Global,
-    words: &[&str],
-    (fetch, write): (u32, u32),
-    input: &[u8],
-    calls: &Calls,
-) -> Result<(), AllocError> {
-    let limits = Limits {
-        file: 40,
-        fetches: 3,
-        depth: 2,
-        ..Limits::standard()
-    };
-    if !limits.fits() {
-        return Err(AllocError);
-    }
-    let mut source = Watched {
-        device: MemorySource::new(input.to_vec(alloc)?, WHOLE.chunk, Vec::new(alloc)),
-        calls,
-    };
-    let mut sink = Watched {
-        device: MemorySink::new(alloc, ROOM, WHOLE.chunk, vec![in alloc; write]?)?,
-        calls,
-    };
-    let mut library = Watched {
-        device: library_of(alloc, FILES, fetch)?,
-        calls,
-    };
-    let words = owned(alloc, words)?;
-    serve(alloc, &words, &limits, &mut source, &mut sink, &mut library);
-    Ok(())
-}
-
-#[test]
-fn each_file_that_may_be_asked_for_is_fetched_once(rt: HostRuntime) -> Result<(), Fail> {
-    for (words, fetch, write, input, due) in FETCHES {
-        let calls = Calls::new();
-        load_watched(rt.alloc(), words, (fetch, write), input, &calls)?;
-        let noted = (calls.fetches.get(), calls.late.get());
-        assert_eq!(rt; noted, (due, 0), "at {input:?}");
     }
     Ok(())
 }

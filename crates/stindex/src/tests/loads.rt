@@ -47,7 +47,7 @@ impl Bound {
     }
 }
 
-pub fn library_of(alloc: Global, files: Files, fails_at: u32) -> Result<MemoryLibrary, AllocError> {
+fn library_of(alloc: Global, files: Files, fails_at: u32) -> Result<MemoryLibrary, AllocError> {
     let mut library = MemoryLibrary::new(alloc, vec![in alloc; fails_at]?);
     for (name, bytes) in files {
         library.put(name.to_vec(alloc)?, bytes.to_vec(alloc)?)?;

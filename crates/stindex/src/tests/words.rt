@@ -68,7 +68,7 @@ const CALLS: [(&[&str], Status, &[u8]); 17] = [
 ];
 
 /// The words as the program has them.
-pub fn owned(alloc: Global, words: &[&str]) -> Result<Vec<String>, AllocError> {
+fn owned(alloc: Global, words: &[&str]) -> Result<Vec<String>, AllocError> {
     let mut all = Vec::new(alloc);
     for word in words {
         all.push(word.to_string(alloc)?)?;

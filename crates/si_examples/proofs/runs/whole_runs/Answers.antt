@@ -12,7 +12,7 @@ pub returns-clause-added_and_found : goal.returns-clause-added_and_found
 returns-clause-added_and_found c = added_and_found
 
 pub returns-clause-no_output : goal.returns-clause-no_output
-returns-clause-no_output c = λ setting told strict w. (empty_state, ([], nothing, empty_state, [], 0, right (silent (w, one_space) refl refl refl), (λ s. refl), (refl, refl, refl), refl, refl))
+returns-clause-no_output c = λ setting told strict w. (empty_state, ([], nothing, empty_state, [], nothing, right (silent (w, one_space) refl refl refl), (λ s. refl), (refl, refl, refl), refl, refl))
 
 pub returns-clause-empty_word_ends : goal.returns-clause-empty_word_ends
 returns-clause-empty_word_ends c = λ setting told. record {
@@ -21,10 +21,10 @@ returns-clause-empty_word_ends c = λ setting told. record {
   others = a_word (codes "a.p") ∷ a_line (codes "stats") ∷ [];
   front = refl;
   before = [];
-  fewer = 0;
+  less = nothing;
   state = empty_state;
   run = (refl, refl, refl);
-  owed = nothing;
+  due = nothing;
   new = empty_state;
   acts = right_word (nameless refl refl refl refl);
   whole = refl;

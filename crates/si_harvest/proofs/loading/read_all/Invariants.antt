@@ -1,5 +1,6 @@
 use Rattle.si_io.specs.Library.{faults_in}
-use Rattle.std.proofs.Common.{◌≡◌, []}
+use Rattle.std.proofs.Common.{◌≡◌, ◌≤◌, []}
+use Rattle.si_io.specs.Counts.{raised_by}
 use Rattle.si_state.specs.Harvest.{MayAsk}
 use Rattle.si_harvest.specs.Faults.{bounds_of}
 use Rattle.si_harvest.specs.Underway.{steps_left}
@@ -13,6 +14,8 @@ invariant-loop-reading g l = record {
   told : (g.L.Library.shown l.library).files ≡ (g.L.Library.shown l.fn.library).files;
   same : (g.L.Library.shown l.library).may_fail ≡ (g.L.Library.shown l.fn.library).may_fail;
   counts : faults_in (g.L.Library.shown l.library).counts ≡ faults_in (g.L.Library.shown l.fn.library).counts;
+  calls : (g.L.Library.shown l.library).counts.calls ≡ raised_by l.reading.fetches (g.L.Library.shown l.fn.library).counts.calls;
+  few : l.reading.fetches ≤ l.limits.fetches;
   rules : g.T.ClauseStore.rules l.store ≡ g.T.ClauseStore.rules l.fn.store;
 }
 

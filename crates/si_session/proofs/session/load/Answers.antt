@@ -1,9 +1,8 @@
-use Rattle.si_io.specs.Library.{faults_in}
 use Rattle.si_session.proofs.Loading.{tellable, load_refused, load_gained}
 use Rattle.si_session.proofs.session.load.Goals as goal
 
 pub load_refusal-requires : goal.load_refusal-requires
-load_refusal-requires g c = tellable _ c.in-Err.fault _ c.in-Err.ensures.fault
+load_refusal-requires g c = tellable _ c.in-Err.fault _ c.in-Err.ensures.reads.fault
 
 pub returns-in-Ok-clause-loads : goal.returns-in-Ok-clause-loads
 returns-in-Ok-clause-loads g c =
@@ -12,10 +11,10 @@ returns-in-Ok-clause-loads g c =
     let old = c.args.index.now in
     let new = c.expand.new.store in
     load_gained limits told c.args.name.now old new c.tell.result (g.K.Sink.shown c.args.sink.now) (g.K.Sink.shown c.tell.new.sink)
-    (faults_in (g.L.Library.shown c.args.library.now).counts) (faults_in (g.L.Library.shown c.expand.new.library).counts)
+    (g.L.Library.shown c.args.library.now).counts (g.L.Library.shown c.expand.new.library).counts
     (g.L.Library.shown c.args.library.now).may_fail (g.L.Library.shown c.expand.new.library).may_fail c.in-Ok.gained
     c.from.result c.from-in-Ok.result c.from.ensures c.from-in-Ok.ensures
-    c.in-Ok.ensures.loaded c.in-Ok.ensures.right c.in-Ok.ensures.cause c.tell.ensures.written
+    c.in-Ok.ensures.loaded c.in-Ok.ensures.reads c.in-Ok.ensures.cause c.tell.ensures.written
 
 pub returns-in-Err-clause-loads : goal.returns-in-Err-clause-loads
 returns-in-Err-clause-loads g c =
@@ -24,6 +23,6 @@ returns-in-Err-clause-loads g c =
     let old = c.args.index.now in
     let new = c.expand.new.store in
     load_refused limits told c.args.name.now old new c.tell-in-Err.result (g.K.Sink.shown c.args.sink.now) ((g.K.Sink.shown c.tell-in-Err.new.sink))
-    (faults_in (g.L.Library.shown c.args.library.now).counts) (faults_in (g.L.Library.shown c.expand.new.library).counts)
+    (g.L.Library.shown c.args.library.now).counts (g.L.Library.shown c.expand.new.library).counts
     (g.L.Library.shown c.args.library.now).may_fail (g.L.Library.shown c.expand.new.library).may_fail c.in-Err.fault c.load_refusal.result
-    c.in-Err.ensures.fault c.load_refusal.ensures c.in-Err.ensures.cause c.in-Err.ensures.err c.tell-in-Err.ensures.written
+    c.in-Err.ensures.reads c.load_refusal.ensures c.in-Err.ensures.cause c.in-Err.ensures.err c.tell-in-Err.ensures.written

@@ -24,10 +24,10 @@ returns-in_err-take-in-Cnf-clause-stepped g c =
     let told = (g.L.Library.shown c.args.library.now).files in
     let rules = g.T.ClauseStore.rules c.args.store.now in
     steps_fault told (bounds_of c.args.limits.now) rules c.from_residual-in_err-take-in-Cnf.result c.in_err-take-in-Cnf.field-0.0 c.args.self.now _ _ _ c.from_residual-in_err-take-in-Cnf.ensures.1
-    (step_refused told (bounds_of c.args.limits.now) rules c.args.self.now _ c.pop.new.self.items c.in-Some.file c.in-Cnf.end (clause_of c.in-Cnf.clause) c.in_err-take-in-Cnf.field-0.0
+    (step_refused told (bounds_of c.args.limits.now) rules c.args.self.now _ c.pop.new.self.items c.in-Some.file c.in-Cnf.end (clause_of c.in-Cnf.clause) c.take.new.self.fetches c.in_err-take-in-Cnf.field-0.0
     c.in-Some.ensures.items
     ((read_as _ _ c.in-Some.file.at _ _ c.as_slice.ensures.value c.in-Cnf.is c.in_ok-next_item.ensures).0)
-    c.in_err-take-in-Cnf.ensures.refused)
+    c.in_err-take-in-Cnf.ensures.refused c.take.ensures.fetches)
 
 pub returns-in_ok-include-in-Include-clause-stepped : goal.returns-in_ok-include-in-Include-clause-stepped
 returns-in_ok-include-in-Include-clause-stepped g c =
@@ -45,10 +45,10 @@ returns-in_err-include-in-Include-clause-stepped g c =
     steps_fault told (bounds_of c.args.limits.now) rules c.from_residual-in_err-include-in-Include.result c.in_err-include-in-Include.field-0.0 c.args.self.now _ _ _
     c.from_residual-in_err-include-in-Include.ensures.1
     (step_unopened told (bounds_of c.args.limits.now) rules c.args.self.now _ c.pop.new.self.items c.in-Some.file c.in-Include.end c.in-Include.name (selection_of c.in-Include.selection)
-    c.in_err-include-in-Include.field-0.0 c.in-Some.ensures.items
+    c.include.new.self.fetches c.in_err-include-in-Include.field-0.0 c.in-Some.ensures.items
     (read_as _ _ c.in-Some.file.at _ _ c.as_slice.ensures.value c.in-Include.is c.in_ok-next_item.ensures)
     (subst (λ n. Explains rules c.in_err-include-in-Include.field-0.0 (λ fault. (middle : Reading) × (middle.files.items ≡ c.pop.new.self.items ++ record c.in-Some.file { at = c.in-Include.end } ∷ [])
-    × (middle.fetches ≡ c.args.self.now.fetches) × IsUnopened told (bounds_of c.args.limits.now) n middle fault))
+    × (middle.fetches ≡ c.args.self.now.fetches) × IsUnopened told (bounds_of c.args.limits.now) n middle c.include.new.self.fetches fault))
     c.as_bytes.ensures (c.in_err-include-in-Include.ensures.unopened rules)))
 
 pub returns-in-Syntax-clause-stepped : goal.returns-in-Syntax-clause-stepped

@@ -2,7 +2,7 @@
 use Rattle.std.proofs.Common.{ap, sym, ◌∙◌, subst, arith}
 use Rattle.si_steps.specs.Runs.{a_word}
 use Rattle.si_session.specs.Session.{Steps, around, view_of}
-use Rattle.si_session.proofs.Acting.{word_stepped, nameless_stepped, holds_trees, load_not_silent, load_keeps}
+use Rattle.si_session.proofs.Acting.{beside, word_stepped, nameless_stepped, holds_trees, load_not_silent, load_keeps}
 use Rattle.si_session.proofs.session.Session.load.Goals as goal
 
 pub load-requires-clause-limit : goal.load-requires-clause-limit
@@ -26,3 +26,16 @@ pub returns-clause-refused : goal.returns-clause-refused
 returns-clause-refused g c =
     λ e. load_keeps c.self.inside.limits (g.L.Library.shown c.args.library.now).files c.args.word.now c.self.inside.index c.load.new.index c.load.result _ _ c.load.ensures.loads e
     ∙ ap (λ s. s.state) c.self.view_is
+
+pub returns-then-not-names_file-clause-step : goal.returns-then-not-names_file-clause-step
+returns-then-not-names_file-clause-step g c =
+    let told = (g.L.Library.shown c.args.library.now).files in
+    let tally = (g.L.Library.shown c.args.library.now).counts in
+    let may_fail = (g.L.Library.shown c.args.library.now).may_fail in
+    let a = g.K.Sink.shown c.args.sink.now in
+    let b = g.K.Sink.shown c.tell.new.sink in
+    let limits = c.self.inside.limits in
+    subst (λ s. Steps told s s (a_word c.args.word.now) c.tell.result (beside a tally may_fail) (beside b tally may_fail)) c.self.view_is
+    (nameless_stepped limits told c.self.inside.index c.args.word.now c.tell.result a b tally may_fail
+    (holds_trees limits c.self.inside.index c.trees.ensures.keyed c.trees.ensures.exactly c.trees.ensures.hold)
+    (sym c.names_file.ensures ∙ c.if-not-names_file.true) c.tell.ensures.written)

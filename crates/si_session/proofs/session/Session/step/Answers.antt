@@ -9,8 +9,7 @@ use Rattle.si_session.specs.declared.stepped.Stepped.TheVariants.{Silent}
 use Rattle.si_session.specs.Session.{Steps, around, view_of}
 use Rattle.si_session.specs.Commands.{ReadsCommand}
 use Rattle.si_session.specs.declared.command.Command.TheVariants as command
-use Rattle.si_io.specs.Library.{faults_in}
-use Rattle.si_session.proofs.Acting.{beside, stepped, not_silent, keeps_state, counts, trees_stepped, explain_stepped, blanks_no_command, line_stepped, unread_stepped, holds_trees, load_stepped, load_not_silent, load_keeps}
+use Rattle.si_session.proofs.Acting.{beside, stepped, not_silent, keeps_state, counts, trees_stepped, explain_stepped, blanks_no_command, line_stepped, long_stepped, unread_stepped, holds_trees, load_stepped, load_not_silent, load_keeps}
 use Rattle.si_session.proofs.session.Session.step.Goals as goal
 
 pub returns-in-Ok-Add-clause-step : goal.returns-in-Ok-Add-clause-step
@@ -19,7 +18,7 @@ returns-in-Ok-Add-clause-step g c =
     let b = (g.K.Sink.shown c.add.new.sink) in
     let limits = c.self.inside.limits in
     let told = (g.L.Library.shown c.args.library.now).files in
-    let tally = faults_in (g.L.Library.shown c.args.library.now).counts in
+    let tally = (g.L.Library.shown c.args.library.now).counts in
     let may_fail = (g.L.Library.shown c.args.library.now).may_fail in
     let read : ReadsCommand c.args.line.now (command.Add c.in-Ok-Add.clause) = subst (ReadsCommand c.args.line.now) c.in-Ok-Add.field-0-is c.in-Ok-Add.ensures.read in
     let short : length c.args.line.now ≤ limits.line = omega (arith, c.if-line-self.false) in
@@ -32,7 +31,7 @@ returns-in-Ok-Query-clause-step g c =
     let b = (g.K.Sink.shown c.answer.new.sink) in
     let limits = c.self.inside.limits in
     let told = (g.L.Library.shown c.args.library.now).files in
-    let tally = faults_in (g.L.Library.shown c.args.library.now).counts in
+    let tally = (g.L.Library.shown c.args.library.now).counts in
     let may_fail = (g.L.Library.shown c.args.library.now).may_fail in
     let read : ReadsCommand c.args.line.now (command.Query c.in-Ok-Query.relation c.in-Ok-Query.pattern) = subst (ReadsCommand c.args.line.now) c.in-Ok-Query.field-0-is c.in-Ok-Query.ensures.read in
     let short : length c.args.line.now ≤ limits.line = omega (arith, c.if-line-self.false) in
@@ -45,7 +44,7 @@ returns-in-Ok-Remove-clause-step g c =
     let b = (g.K.Sink.shown c.remove.new.sink) in
     let limits = c.self.inside.limits in
     let told = (g.L.Library.shown c.args.library.now).files in
-    let tally = faults_in (g.L.Library.shown c.args.library.now).counts in
+    let tally = (g.L.Library.shown c.args.library.now).counts in
     let may_fail = (g.L.Library.shown c.args.library.now).may_fail in
     let read : ReadsCommand c.args.line.now (command.Remove c.in-Ok-Remove.name) = subst (ReadsCommand c.args.line.now) c.in-Ok-Remove.field-0-is c.in-Ok-Remove.ensures.read in
     let short : length c.args.line.now ≤ limits.line = omega (arith, c.if-line-self.false) in
@@ -103,7 +102,7 @@ returns-in-Ok-Stats-clause-step g c =
     let b = (g.K.Sink.shown c.tell-in-Ok-Stats.new.sink) in
     let limits = c.self.inside.limits in
     let told = (g.L.Library.shown c.args.library.now).files in
-    let tally = faults_in (g.L.Library.shown c.args.library.now).counts in
+    let tally = (g.L.Library.shown c.args.library.now).counts in
     let may_fail = (g.L.Library.shown c.args.library.now).may_fail in
     let read : ReadsCommand c.args.line.now command.Stats = subst (ReadsCommand c.args.line.now) c.in-Ok-Stats.field-0-is c.in-Ok-Stats.ensures.read in
     let short : length c.args.line.now ≤ limits.line = omega (arith, c.if-line-self.false) in
@@ -146,7 +145,7 @@ returns-in-Ok-Subsumers-clause-step g c =
     let b = (g.K.Sink.shown c.subsumers.new.sink) in
     let limits = c.self.inside.limits in
     let told = (g.L.Library.shown c.args.library.now).files in
-    let tally = faults_in (g.L.Library.shown c.args.library.now).counts in
+    let tally = (g.L.Library.shown c.args.library.now).counts in
     let may_fail = (g.L.Library.shown c.args.library.now).may_fail in
     let read : ReadsCommand c.args.line.now (command.Subsumers c.in-Ok-Subsumers.formula) = subst (ReadsCommand c.args.line.now) c.in-Ok-Subsumers.field-0-is c.in-Ok-Subsumers.ensures.read in
     let short : length c.args.line.now ≤ limits.line = omega (arith, c.if-line-self.false) in
@@ -169,7 +168,7 @@ returns-in-Ok-Subsumed-clause-step g c =
     let b = (g.K.Sink.shown c.subsumed.new.sink) in
     let limits = c.self.inside.limits in
     let told = (g.L.Library.shown c.args.library.now).files in
-    let tally = faults_in (g.L.Library.shown c.args.library.now).counts in
+    let tally = (g.L.Library.shown c.args.library.now).counts in
     let may_fail = (g.L.Library.shown c.args.library.now).may_fail in
     let read : ReadsCommand c.args.line.now (command.Subsumed c.in-Ok-Subsumed.formula) = subst (ReadsCommand c.args.line.now) c.in-Ok-Subsumed.field-0-is c.in-Ok-Subsumed.ensures.read in
     let short : length c.args.line.now ≤ limits.line = omega (arith, c.if-line-self.false) in
@@ -196,7 +195,7 @@ returns-in-Ok-Sample-clause-step g c =
     let b = (g.K.Sink.shown c.sample.new.sink) in
     let limits = c.self.inside.limits in
     let told = (g.L.Library.shown c.args.library.now).files in
-    let tally = faults_in (g.L.Library.shown c.args.library.now).counts in
+    let tally = (g.L.Library.shown c.args.library.now).counts in
     let may_fail = (g.L.Library.shown c.args.library.now).may_fail in
     let start = c.in-Ok-Sample.start in
     let count = c.in-Ok-Sample.count in
@@ -231,7 +230,7 @@ returns-in-Ok-Tree-clause-step g c =
     let b = (g.K.Sink.shown c.tell_trees.new.sink) in
     let limits = c.self.inside.limits in
     let told = (g.L.Library.shown c.args.library.now).files in
-    let tally = faults_in (g.L.Library.shown c.args.library.now).counts in
+    let tally = (g.L.Library.shown c.args.library.now).counts in
     let may_fail = (g.L.Library.shown c.args.library.now).may_fail in
     let read : ReadsCommand c.args.line.now command.Tree = subst (ReadsCommand c.args.line.now) c.in-Ok-Tree.field-0-is c.in-Ok-Tree.ensures.read in
     let short : length c.args.line.now ≤ limits.line = omega (arith, c.if-line-self.false) in
@@ -244,7 +243,7 @@ returns-in-Ok-Explain-clause-step g c =
     let b = (g.K.Sink.shown c.explain.new.sink) in
     let limits = c.self.inside.limits in
     let told = (g.L.Library.shown c.args.library.now).files in
-    let tally = faults_in (g.L.Library.shown c.args.library.now).counts in
+    let tally = (g.L.Library.shown c.args.library.now).counts in
     let may_fail = (g.L.Library.shown c.args.library.now).may_fail in
     let read : ReadsCommand c.args.line.now (command.Explain c.in-Ok-Explain.relation c.in-Ok-Explain.pattern) = subst (ReadsCommand c.args.line.now) c.in-Ok-Explain.field-0-is c.in-Ok-Explain.ensures.read in
     let short : length c.args.line.now ≤ limits.line = omega (arith, c.if-line-self.false) in
@@ -260,7 +259,7 @@ returns-in-Ok-Blank-clause-step g c =
     let told = (g.L.Library.shown c.args.library.now).files in
     let a = g.K.Sink.shown c.args.sink.now in
     let b = a in
-    let tally = faults_in (g.L.Library.shown c.args.library.now).counts in
+    let tally = (g.L.Library.shown c.args.library.now).counts in
     let may_fail = (g.L.Library.shown c.args.library.now).may_fail in
     let read : ReadsCommand line command.Blank = subst (ReadsCommand line) c.in-Ok-Blank.field-0-is c.in-Ok-Blank.ensures.read in
     let short : length line ≤ limits.line = omega (arith, c.if-line-self.false) in
@@ -275,7 +274,7 @@ returns-in-Ok-Foreign-clause-step g c =
     let told = (g.L.Library.shown c.args.library.now).files in
     let a = g.K.Sink.shown c.args.sink.now in
     let b = g.K.Sink.shown c.tell-in-Ok-Foreign.new.sink in
-    let tally = faults_in (g.L.Library.shown c.args.library.now).counts in
+    let tally = (g.L.Library.shown c.args.library.now).counts in
     let may_fail = (g.L.Library.shown c.args.library.now).may_fail in
     let read : ReadsCommand line command.Foreign = subst (ReadsCommand line) c.in-Ok-Foreign.field-0-is c.in-Ok-Foreign.ensures.read in
     let short : length line ≤ limits.line = omega (arith, c.if-line-self.false) in
@@ -290,7 +289,7 @@ returns-in-Ok-Wrong-clause-step g c =
     let told = (g.L.Library.shown c.args.library.now).files in
     let a = g.K.Sink.shown c.args.sink.now in
     let b = g.K.Sink.shown c.tell-in-Ok-Wrong.new.sink in
-    let tally = faults_in (g.L.Library.shown c.args.library.now).counts in
+    let tally = (g.L.Library.shown c.args.library.now).counts in
     let may_fail = (g.L.Library.shown c.args.library.now).may_fail in
     let read : ReadsCommand line command.Wrong = subst (ReadsCommand line) c.in-Ok-Wrong.field-0-is c.in-Ok-Wrong.ensures.read in
     let short : length line ≤ limits.line = omega (arith, c.if-line-self.false) in
@@ -304,6 +303,17 @@ returns-in-Err-clause-step g c =
     let b = g.K.Sink.shown c.tell-in-Err.new.sink in
     let short : length c.args.line.now ≤ limits.line = omega (arith, c.if-line-self.false) in
     subst (λ s. Steps (g.L.Library.shown c.args.library.now).files s s (a_line c.args.line.now) c.tell-in-Err.result
-    (beside a (faults_in (g.L.Library.shown c.args.library.now).counts) (g.L.Library.shown c.args.library.now).may_fail)
-    (beside b (faults_in (g.L.Library.shown c.args.library.now).counts) (g.L.Library.shown c.args.library.now).may_fail)) c.self.view_is
+    (beside a ((g.L.Library.shown c.args.library.now).counts) (g.L.Library.shown c.args.library.now).may_fail)
+    (beside b ((g.L.Library.shown c.args.library.now).counts) (g.L.Library.shown c.args.library.now).may_fail)) c.self.view_is
     (unread_stepped limits (g.L.Library.shown c.args.library.now).files c.self.inside.index c.args.line.now c.tell-in-Err.result a b _ _ (holds_trees limits c.self.inside.index c.trees.ensures.keyed c.trees.ensures.exactly c.trees.ensures.hold) short c.in-Err.ensures.refused c.tell-in-Err.ensures.written)
+
+pub returns-then-line-self-clause-step : goal.returns-then-line-self-clause-step
+returns-then-line-self-clause-step g c =
+    let tally = (g.L.Library.shown c.args.library.now).counts in
+    let may_fail = (g.L.Library.shown c.args.library.now).may_fail in
+    let a = g.K.Sink.shown c.args.sink.now in
+    let b = g.K.Sink.shown c.tell.new.sink in
+    let limits = c.self.inside.limits in
+    subst (λ s. Steps (g.L.Library.shown c.args.library.now).files s s (a_line c.args.line.now) c.tell.result (beside a tally may_fail) (beside b tally may_fail)) c.self.view_is
+    (long_stepped limits (g.L.Library.shown c.args.library.now).files c.self.inside.index c.args.line.now c.tell.result a b tally may_fail
+    (holds_trees limits c.self.inside.index c.trees.ensures.keyed c.trees.ensures.exactly c.trees.ensures.hold) (omega (arith, c.if-line-self.true)) c.tell.ensures.written)

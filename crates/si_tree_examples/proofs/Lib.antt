@@ -2,6 +2,7 @@ pub mod SplitsProved
 pub mod TreesProved
 pub mod FiveNodesProved
 pub mod ChangesProved
+pub mod RemovalsProved
 pub mod OpenNodesProved
 pub mod CountsProved
 pub mod KeptProved

@@ -8,6 +8,7 @@ mod descents;
 mod kept;
 mod numbers;
 mod open_nodes;
+mod removals;
 mod splits;
 mod trees;
 
@@ -16,5 +17,6 @@ pub use descents::answered_postings;
 pub use kept::kept_clause;
 pub use numbers::renumbered_trees;
 pub use open_nodes::{counted_nodes, open_paths};
+pub use removals::{joined_nodes, removed_postings};
 pub use splits::{split_bindings, wrong_splits};
 pub use trees::{illegal_trees, legal_trees};

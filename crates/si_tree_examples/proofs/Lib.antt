@@ -3,6 +3,7 @@ pub mod TreesProved
 pub mod FiveNodesProved
 pub mod ChangesProved
 pub mod RemovalsProved
+pub mod InsertionsProved
 pub mod OpenNodesProved
 pub mod CountsProved
 pub mod KeptProved

@@ -43,6 +43,11 @@ tree_of nodes next vars = record { nodes = map Some nodes; root = 0; next = next
 abbrev pub new_tree : Tree Term
 new_tree = tree_of (root [] ∷ []) 1 0
 
+-- the root and one leaf
+abbrev pub two_nodes : Term → List Posting → Tree Term
+two_nodes t postings =
+    tree_of (root (1 ∷ []) ∷ leaf_holding 0 ((0, t) ∷ []) postings ∷ []) 1 0
+
 -- f(a), f(b) and c, where the leaves of f(b) and of c hold these postings
 abbrev pub five_of : List Posting → List Posting → Tree Term
 five_of of_b of_c =

@@ -5,6 +5,7 @@
 
 mod changes;
 mod descents;
+mod insertions;
 mod kept;
 mod numbers;
 mod open_nodes;
@@ -14,6 +15,7 @@ mod trees;
 
 pub use changes::changed_trees;
 pub use descents::answered_postings;
+pub use insertions::inserted_terms;
 pub use kept::kept_clause;
 pub use numbers::renumbered_trees;
 pub use open_nodes::{counted_nodes, open_paths};

@@ -1,8 +1,11 @@
-// What two trees hold of a clause.
-ghost use Rattle.si_tree_examples.specs.SomeKept.{OneClause, NoForgottenSubterm};
+// What two trees hold of clauses.
+ghost use Rattle.si_tree_examples.specs.SomeKept.{OneClause, NoForgottenSubterm, NoSwappedTrees, TwoClauses, NoForgottenClause};
 
-/// The trees of one clause.
-pub fn kept_clause()
+/// The trees of one clause, and of two.
+pub fn kept_clauses()
     ensures one_clause { OneClause }
     ensures no_forgotten_subterm { NoForgottenSubterm }
+    ensures no_swapped_trees { NoSwappedTrees }
+    ensures two_clauses { TwoClauses }
+    ensures no_forgotten_clause { NoForgottenClause }
 {}

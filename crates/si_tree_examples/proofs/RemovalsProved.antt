@@ -15,11 +15,12 @@ use Rattle.si_changes.specs.Joins.{MayJoin, Joins}
 use Rattle.si_changes.proofs.JoinTreeLaws.{joins_nodes}
 use Rattle.si_changes.proofs.PostingLaws.{loses_posting}
 use Rattle.si_changes.proofs.StoredLaws.{one_leaf, no_leaf_vacant}
+use Rattle.si_prune.specs.Pruning.{IsJoinDue}
 use Rattle.si_prune.proofs.LoseLaws.{loses_then, keeps_then}
 use Rattle.si_tree_examples.specs.SomeTerms.{f, a, b, c}
 use Rattle.si_tree_examples.specs.SomeTrees.{posting, leaf_holding, leaf_of, five_of, five_nodes, five_unmerged, UnmergedLeaf, NothingStored}
-use Rattle.si_tree_examples.specs.SomeRemovals.{three_nodes, ThreeNodes, JoinsLeaf, NoOtherChild, NoUncomposed, NoRootJoined, RemovesLast, LeavesLeaf, NoLeafLeft}
-use Rattle.si_tree_examples.proofs.FiveNodesProved.{base, leaf_a, middle, leaf_b, above_leaf, five_legal}
+use Rattle.si_tree_examples.specs.SomeRemovals.{three_nodes, ThreeNodes, JoinsLeaf, NoOtherChild, NoUncomposed, NoRootJoined, RemovesLast, LeavesLeaf, NoLeafLeft, RemovesEither, NoLeafBelowRoot}
+use Rattle.si_tree_examples.proofs.FiveNodesProved.{base, leaf_a, middle, leaf_b, leaf_c, above_leaf, five_legal}
 
 -- ---- the posting goes
 abbrev bare_b : Node Term
@@ -180,26 +181,56 @@ removes_last = record {
   unmerged = omega arith;
 }
 
+due_at_b : IsJoinDue five_nodes 3
+due_at_b = record {
+  node = leaf_b;
+  parent = 2;
+  parent_node = middle;
+  split = 1;
+  children = 1 ∷ 3 ∷ [];
+  has = refl;
+  below = refl;
+  no_root = λ e. omega (arith, e);
+  is_parent = refl;
+  inner_node = refl;
+  two = refl;
+}
+
 pub leaves_leaf : LeavesLeaf
 leaves_leaf = record {
   loses = λ t postings here. subst (λ u. Loses five_nodes five_unmerged u (posting 1)) (sym (is_lost t postings here)) first_step.1;
   keeps = first_step.2;
   stays = (bare_b, refl, refl);
-  due = record {
-    node = leaf_b;
-    parent = 2;
-    parent_node = middle;
-    split = 1;
-    children = 1 ∷ 3 ∷ [];
-    has = refl;
-    below = refl;
-    no_root = λ e. omega (arith, e);
-    is_parent = refl;
-    inner_node = refl;
-    two = refl;
-  };
+  due = due_at_b;
   unmerged = refl;
 }
 
 pub no_leaf_left : NoLeafLeft
 no_leaf_left h = h.gone (f (b ∷ [])) bare_leaf
+
+pub removes_either : RemovesEither
+removes_either = (
+  record {
+    loses = removes_last.loses;
+    keeps = removes_last.keeps;
+    stays = λ t here. due_at_b;
+    unmerged = omega arith;
+    only_due = λ none. omega arith;
+  },
+  record {
+    loses = leaves_leaf.loses;
+    keeps = leaves_leaf.keeps;
+    stays = λ t here. due_at_b;
+    unmerged = omega arith;
+    only_due = λ none. absurd (none due_at_b);
+  },
+)
+
+-- the parent of the leaf of c is the root
+none_due_at_c : IsJoinDue five_nodes 4 → ⊥
+none_due_at_c due =
+    let child : leaf_c ≡ due.node = one_node five_nodes 4 leaf_c due.node refl due.has in
+    due.no_root (sym (same_Some 0 due.parent (ap (λ n. n.parent) child ∙ due.below)))
+
+pub no_leaf_below_root : NoLeafBelowRoot
+no_leaf_below_root h = omega (arith, h.only_due none_due_at_c)

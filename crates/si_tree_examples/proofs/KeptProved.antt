@@ -62,7 +62,7 @@ tells t held =
 the_leaf : (t : Term) (held : List Posting) (key : ℕ) (u : Term) (postings : List Posting) → IsLeaf (two_nodes t held) key u postings → IsTheLeaf t held key u postings
 the_leaf t held key u postings h = subst (λ v. IsTheLeaf t held key v postings) (sym h.term) (tells t held key h.node h.reached.1 h.above h.reached.2 postings h.content)
 
-there : (t : Term) (held : List Posting) (p : Posting) → IsAmong held p → IsUnder (two_nodes t held) t p
+pub there : (t : Term) (held : List Posting) (p : Posting) → IsAmong held p → IsUnder (two_nodes t held) t p
 there t held p among = (
   1,
   (
@@ -72,7 +72,7 @@ there t held p among = (
   ),
 )
 
-only : (t : Term) (held : List Posting) (u : Term) (q : Posting) → IsUnder (two_nodes t held) u q → (u ≡ t) × IsAmong held q
+pub only : (t : Term) (held : List Posting) (u : Term) (q : Posting) → IsUnder (two_nodes t held) u q → (u ≡ t) × IsAmong held q
 only t held u q h =
     let l = the_leaf t held h.0 u h.1.0 h.1.1 in
     (l.term_is, subst (λ ps. IsAmong ps q) l.postings_are h.1.2)
@@ -133,21 +133,21 @@ legal t held fits distinct = record {
 
 -- ---- the entries of such clauses
 -- the keys and the names of some that are kept
-abbrev Named : Type 0
+abbrev pub Named : Type 0
 Named = List (ℕ × Bytes)
 
 abbrev clauses_of : Named → List (ℕ × Clause)
 clauses_of ns = map (λ n. (n.0, clause_named n.1)) ns
 
 -- a posting of each, of the entry with this number
-abbrev postings_of : ℕ → Named → List Posting
+abbrev pub postings_of : ℕ → Named → List Posting
 postings_of number ns = map (λ n. entry_of n.0 number) ns
 
-abbrev entry_at : Bool → Entry
+abbrev pub entry_at : Bool → Entry
 entry_at true = literal_entry literal
 entry_at false = term_entry argument
 
-abbrev number_at : Bool → ℕ
+abbrev pub number_at : Bool → ℕ
 number_at true = 0
 number_at false = 1
 
@@ -212,13 +212,13 @@ each_keeps (n ∷ ns) literals p (inl e) = subst (KeepsEntry (n ∷ ns) literals
 each_keeps (n ∷ ns) literals p (inr a) = others_keep n ns literals p (each_keeps ns literals p a)
 
 -- ---- their terms
-abbrev term_at : Bool → Term
+abbrev pub term_at : Bool → Term
 term_at literals = numbered_entry numbers entry (entry_at literals)
 
-abbrev tree_at : Named → Bool → Tree Term
+abbrev pub tree_at : Named → Bool → Tree Term
 tree_at ns literals = two_nodes (term_at literals) (postings_of (number_at literals) ns)
 
-kind_is : (literals : Bool) → is_literal (entry_at literals) ≡ literals
+pub kind_is : (literals : Bool) → is_literal (entry_at literals) ≡ literals
 kind_is true = refl
 kind_is false = refl
 
@@ -288,7 +288,7 @@ fits_subterm = record {
 }
 
 -- ---- one clause
-abbrev one : Named
+abbrev pub one : Named
 one = (5, codes "k") ∷ []
 
 pub one_clause : OneClause
@@ -321,7 +321,7 @@ no_swapped_trees h =
     omega (arith, ap (λ p. p.entry) is)
 
 -- ---- two clauses
-abbrev two : Named
+abbrev pub two : Named
 two = (5, codes "k") ∷ (7, codes "m") ∷ []
 
 keys_differ : IsAmong {V = ℕ} (7 ∷ []) 5 → ⊥

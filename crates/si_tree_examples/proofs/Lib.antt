@@ -7,5 +7,6 @@ pub mod InsertionsProved
 pub mod OpenNodesProved
 pub mod CountsProved
 pub mod KeptProved
+pub mod SharedProved
 pub mod DescentsProved
 pub mod NumbersProved

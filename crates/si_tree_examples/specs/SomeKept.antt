@@ -12,6 +12,7 @@ use Rattle.si_flat.specs.Cells.{Term}
 use Rattle.si_legal.specs.declared.Posting.{Posting}
 use Rattle.si_legal.specs.Trees.{Tree}
 use Rattle.si_legal.specs.KeptTrees.{HoldKept}
+use Rattle.si_held.specs.TwoTrees.{TwoTrees, Hold, AddsClause, RemovesClause}
 use Rattle.si_tree_examples.specs.SomeTerms.{f, a}
 use Rattle.si_tree_examples.specs.SomeTrees.{two_nodes, new_tree}
 
@@ -61,20 +62,42 @@ OneClause = HoldKept numbers kept literal_tree subterm_tree
 abbrev pub NoForgottenSubterm : Type 0
 NoForgottenSubterm = HoldKept numbers kept literal_tree new_tree → ⊥
 
--- neither tree does for the other
+-- nor does each tree in the other's place
 abbrev pub NoSwappedTrees : Type 0
 NoSwappedTrees = HoldKept numbers kept subterm_tree literal_tree → ⊥
 
 -- ---- two clauses of the same literal
+abbrev pub second_clause : Clause
+second_clause = clause_named (codes "m")
+
 abbrev pub kept_twice : List (ℕ × Clause)
-kept_twice = (5, clause_named (codes "k")) ∷ (7, clause_named (codes "m")) ∷ []
+kept_twice = (5, clause_named (codes "k")) ∷ (7, second_clause) ∷ []
+
+abbrev pub trees_of_one : TwoTrees
+trees_of_one = record { literals = literal_tree; subterms = subterm_tree }
 
 -- each term has one leaf, with a posting of each clause
+abbrev pub trees_of_two : TwoTrees
+trees_of_two = record {
+  literals = two_nodes (f (a ∷ [])) (entry_of 5 0 ∷ entry_of 7 0 ∷ []);
+  subterms = two_nodes a (entry_of 5 1 ∷ entry_of 7 1 ∷ []);
+}
+
 abbrev pub TwoClauses : Type 0
-TwoClauses =
-    HoldKept numbers kept_twice
-    (two_nodes (f (a ∷ [])) (entry_of 5 0 ∷ entry_of 7 0 ∷ []))
-    (two_nodes a (entry_of 5 1 ∷ entry_of 7 1 ∷ []))
+TwoClauses = Hold numbers kept_twice trees_of_two
 
 abbrev pub NoForgottenClause : Type 0
-NoForgottenClause = HoldKept numbers kept_twice literal_tree subterm_tree → ⊥
+NoForgottenClause = Hold numbers kept_twice trees_of_one → ⊥
+
+-- ---- the second comes and goes
+abbrev pub AddsSecond : Type 0
+AddsSecond = AddsClause numbers 7 second_clause trees_of_one trees_of_two
+
+abbrev pub NoOtherKeyAdded : Type 0
+NoOtherKeyAdded = AddsClause numbers 9 second_clause trees_of_one trees_of_two → ⊥
+
+abbrev pub RemovesSecond : Type 0
+RemovesSecond = RemovesClause 7 trees_of_two trees_of_one
+
+abbrev pub NoOtherKeyRemoved : Type 0
+NoOtherKeyRemoved = RemovesClause 5 trees_of_two trees_of_one → ⊥

@@ -16,7 +16,7 @@ mod trees;
 pub use changes::changed_trees;
 pub use descents::answered_postings;
 pub use insertions::inserted_terms;
-pub use kept::kept_clauses;
+pub use kept::{changed_clauses, kept_clauses};
 pub use numbers::renumbered_trees;
 pub use open_nodes::{counted_nodes, open_paths};
 pub use removals::{joined_nodes, removed_postings};

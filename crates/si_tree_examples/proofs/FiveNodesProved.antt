@@ -44,6 +44,10 @@ leaf_b = leaf_of 2 ((1, b) ∷ []) 1
 abbrev pub leaf_c : Node Term
 leaf_c = leaf_of 0 ((0, c) ∷ []) 2
 
+-- f(a) below the root
+abbrev pub only_a : Node Term
+only_a = leaf_of 0 ((0, f (a ∷ [])) ∷ []) 0
+
 abbrev pub above_middle : Path
 above_middle = (0, base) ∷ []
 

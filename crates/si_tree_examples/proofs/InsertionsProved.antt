@@ -16,9 +16,9 @@ use Rattle.si_changes.specs.Leaves.{IsTermAt, MayAddLeaf, AddsLeaf}
 use Rattle.si_changes.specs.Splits.{MaySplitNode, SplitsNode}
 use Rattle.si_changes.proofs.Relinked.{same_inner}
 use Rattle.si_tree_examples.specs.SomeTerms.{f, a, b, c}
-use Rattle.si_tree_examples.specs.SomeTrees.{posting, root, leaf_of, new_tree, five_nodes}
+use Rattle.si_tree_examples.specs.SomeTrees.{posting, root, new_tree, five_nodes}
 use Rattle.si_tree_examples.specs.SomeInsertions.{one_term, four_with, parts, FirstInsertion, SecondInsertion, ThirdInsertion, NoOldNext, NoEqualHead}
-use Rattle.si_tree_examples.proofs.FiveNodesProved.{EachNode, each_node, middle, leaf_b, leaf_c, above_middle, no_leaf}
+use Rattle.si_tree_examples.proofs.FiveNodesProved.{EachNode, each_node, middle, leaf_b, leaf_c, above_middle, no_leaf, only_a}
 use Rattle.si_tree_examples.proofs.DescentsProved.{holds_no_other}
 use Rattle.si_tree_examples.proofs.TreesProved.{one_binding}
 
@@ -41,9 +41,6 @@ not_stored tree p each u h =
     each_node (HoldsNo p) tree.nodes each h.0 l.node l.reached.1 h.1.0 l.content h.1.2
 
 -- ---- the first
-abbrev only_a : Node Term
-only_a = leaf_of 0 ((0, f (a ∷ [])) ∷ []) 0
-
 may_add_a : MayAddLeaf new_tree 0 ((0, f (a ∷ [])) ∷ []) (posting 0)
 may_add_a = record {
   node = root [];

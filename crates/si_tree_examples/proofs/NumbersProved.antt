@@ -10,7 +10,7 @@ use Rattle.si_tree_examples.specs.SomeTerms.{f, a, b}
 use Rattle.si_tree_examples.specs.SomeTrees.{root, fork, leaf_of, five_nodes}
 use Rattle.si_tree_examples.specs.SomeRemovals.{three_with, three_nodes}
 use Rattle.si_tree_examples.specs.SomeNumbers.{five_with, SevenToOne, NoSevenToTwo, NoLargeNext, TwoToOne, KeepsTerms, NoNextKept}
-use Rattle.si_tree_examples.proofs.FiveNodesProved.{EachNode, each_node, base, middle, leaf_a, leaf_b, leaf_c, above_leaf, above_middle, not_none}
+use Rattle.si_tree_examples.proofs.FiveNodesProved.{EachNode, each_node, base, middle, leaf_a, leaf_b, leaf_c, above_leaf, above_middle, not_none, only_a}
 
 -- the inner node and the leaves, where the indicator has this number
 abbrev fork_with : ℕ → Node Term
@@ -172,9 +172,6 @@ no_large_next h =
 -- ---- after the removal
 abbrev base_of_three : Node Term
 base_of_three = root (1 ∷ 4 ∷ [])
-
-abbrev only_a : Node Term
-only_a = leaf_of 0 ((0, f (a ∷ [])) ∷ []) 0
 
 abbrev below_base : Path
 below_base = (0, base_of_three) ∷ []

@@ -1,15 +1,19 @@
 -- A tree gains a posting and loses one, proved.
-use Rattle.std.proofs.Common.{◌≡◌, inl, inr, ℕ, List, [], ◌∷◌, ◌++◌, Some, refl, ap, sym, ◌∙◌, subst, arith}
+use Rattle.std.proofs.Common.{◌≡◌, inl, inr, ℕ, zero, suc, List, [], ◌∷◌, ◌++◌, Some, refl, ap, sym, ◌∙◌, subst, arith}
 use Rattle.std.specs.Prelude.{◌≢◌}
 use Rattle.si_flat.specs.Cells.{Term}
 use Rattle.si_legal.specs.declared.Posting.{Posting}
 use Rattle.si_legal.specs.Trees.{leaf, Node, HasNode, Path, IsPath, path_term, IsLeaf, StandsIn}
-use Rattle.si_legal.specs.StoredSets.{AreUnder, OthersStay}
+use Rattle.si_defs.specs.Substitutions.{IsAmong}
+use Rattle.si_legal.specs.StoredSets.{AreUnder, IsUnder, OthersStay}
 use Rattle.si_legal.proofs.PathLaws.{one_path}
+use Rattle.si_changes.specs.Nodes.{OtherNodesStay, ChangesPostings}
+use Rattle.si_changes.proofs.PostingLaws as gained
+use Rattle.si_changes.proofs.StoredLaws.{one_leaf}
 use Rattle.si_tree_examples.specs.SomeTerms.{c}
-use Rattle.si_tree_examples.specs.SomeTrees.{posting, leaf_holding, five_holding}
+use Rattle.si_tree_examples.specs.SomeTrees.{posting, leaf_holding, five_holding, five_nodes, five_shared, SharedLeaf, NoTurnedPostings}
 use Rattle.si_tree_examples.specs.SomeChanges.{GainsPosting, NoGainInFront, LosesPosting, KeepsLeaf}
-use Rattle.si_tree_examples.proofs.FiveNodesProved.{each_node, leaf_a, leaf_b, above_leaf, above_middle, no_leaf, postings_in, key_of, symbol_in}
+use Rattle.si_tree_examples.proofs.FiveNodesProved.{each_node, leaf_a, leaf_b, above_leaf, above_middle, no_leaf, postings_in, key_of, symbol_in, five_legal, holds}
 
 abbrev holder : List Posting → Node Term
 holder held = leaf_holding 0 ((0, c) ∷ []) held
@@ -96,6 +100,46 @@ gains_posting = record {
 abbrev first_clause : List Posting → ℕ
 first_clause [] = 0
 first_clause (p ∷ ps) = p.clause
+
+pub no_turned_postings : NoTurnedPostings
+no_turned_postings h = omega (arith, ap first_clause (only_under_c (posting 2 ∷ posting 3 ∷ []) (posting 3 ∷ posting 2 ∷ []) h))
+
+-- the second posting comes into a legal tree
+same_elsewhere : OtherNodesStay five_nodes five_shared (4 ∷ [])
+same_elsewhere zero other = refl
+same_elsewhere (suc zero) other = refl
+same_elsewhere (suc (suc zero)) other = refl
+same_elsewhere (suc (suc (suc zero))) other = refl
+same_elsewhere (suc (suc (suc (suc zero)))) other = absurd (other (inl refl))
+same_elsewhere (suc (suc (suc (suc (suc n))))) other = refl
+
+shared : ChangesPostings five_nodes five_shared 4 (posting 2 ∷ []) (posting 2 ∷ posting 3 ∷ [])
+shared = record {
+  node = holder (posting 2 ∷ []);
+  had = refl;
+  content = refl;
+  has = refl;
+  others = same_elsewhere;
+  root = refl;
+  next = refl;
+  vars = refl;
+}
+
+third_new : (u : Term) → IsUnder five_nodes u (posting 3) → ⊥
+third_new u h =
+    let key : h.0 ≡ 4 = holds h.0 u (posting 3) h.1 in
+    let here : IsLeaf five_nodes 4 u h.1.0 = subst (λ k. IsLeaf five_nodes k u h.1.0) key h.1.1 in
+    by (subst (λ ps. IsAmong ps (posting 3)) (one_leaf five_nodes 4 u c h.1.0 (posting 2 ∷ []) here (leaf_of_c (posting 2 ∷ []))).1 h.1.2) where
+      by : IsAmong (posting 2 ∷ []) (posting 3) → ⊥
+      by (inl e) = omega (arith, ap (λ p. p.clause) e)
+      by (inr n) = n
+
+pub shared_leaf : SharedLeaf
+shared_leaf = (
+  (gained.gains_posting five_nodes five_shared 4 (posting 2 ∷ []) (posting 3) c five_legal shared (leaf_of_c (posting 2 ∷ [])) third_new).0,
+  refl,
+  under_c (posting 2 ∷ posting 3 ∷ []),
+)
 
 pub no_gain_in_front : NoGainInFront
 no_gain_in_front h =

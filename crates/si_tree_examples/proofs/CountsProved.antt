@@ -1,8 +1,8 @@
 -- Open nodes of the tree of five nodes, counted.
-use Rattle.std.proofs.Common.{◌≡◌, inl, inr, ℕ, [], ◌∷◌, List, Some, refl, ap, sym, subst, arith}
+use Rattle.std.proofs.Common.{◌≡◌, ◌↔◌, inl, inr, ℕ, [], ◌∷◌, List, Some, refl, ap, sym, subst, arith}
 use Rattle.std.specs.List.{AllByRecursion}
 use Rattle.std.proofs.lemmas.Option.{same_Some}
-use Rattle.si_defs.specs.Substitutions.{IsAmong}
+use Rattle.si_defs.specs.Substitutions.{IsAmong, AreDistinct}
 use Rattle.si_defs.specs.Relations.{IsUnifiable}
 use Rattle.si_defs.specs.declared.Relation.TheVariants.{Unifiable}
 use Rattle.si_defs.proofs.ListLaws.{all_at}
@@ -10,9 +10,10 @@ use Rattle.si_flat.specs.Cells.{query, ind, same_variable, Term}
 use Rattle.si_legal.specs.Trees.{Node, Path, IsPath, path_term}
 use Rattle.si_legal.specs.OpenNodes.{IsOpenNode}
 use Rattle.si_legal.proofs.PathLaws.{one_path}
+use Rattle.si_changes.proofs.FewOpened.{few_members}
 use Rattle.si_tree_examples.specs.SomeTerms.{f, a, b, c}
 use Rattle.si_tree_examples.specs.SomeTrees.{five_nodes}
-use Rattle.si_tree_examples.specs.SomeOpenNodes.{y, FourOpen}
+use Rattle.si_tree_examples.specs.SomeOpenNodes.{y, FourOpen, NoOtherCount}
 use Rattle.si_tree_examples.proofs.FiveNodesProved.{each_node, leaf_a, leaf_b, leaf_c, above_leaf, above_middle, not_none, symbol_in}
 
 abbrev asked : Term
@@ -91,16 +92,23 @@ no_others (step ∷ above) key leads unifies =
 not_in : (n : ℕ) (ns : List ℕ) → AllByRecursion (λ m. m ≡ n → ⊥) ns → IsAmong ns n → ⊥
 not_in n ns h m = all_at (λ k. k ≡ n → ⊥) ns n h m refl
 
-pub four_open : FourOpen
-four_open = (
-  keys,
+keys_distinct : AreDistinct keys
+keys_distinct = (
+  not_in 0 (2 ∷ 1 ∷ 3 ∷ []) ((λ e. omega (arith, e)), ((λ e. omega (arith, e)), ((λ e. omega (arith, e)), tt))),
   (
-    not_in 0 (2 ∷ 1 ∷ 3 ∷ []) ((λ e. omega (arith, e)), ((λ e. omega (arith, e)), ((λ e. omega (arith, e)), tt))),
-    (
-      not_in 2 (1 ∷ 3 ∷ []) ((λ e. omega (arith, e)), ((λ e. omega (arith, e)), tt)),
-      (not_in 1 (3 ∷ []) ((λ e. omega (arith, e)), tt), ((λ h. h), tt)),
-    ),
+    not_in 2 (1 ∷ 3 ∷ []) ((λ e. omega (arith, e)), ((λ e. omega (arith, e)), tt)),
+    (not_in 1 (3 ∷ []) ((λ e. omega (arith, e)), tt), ((λ h. h), tt)),
   ),
-  (λ key. (are_open key, (λ h. no_others h.path key h.leads h.open_for))),
-  refl,
 )
+
+exactly : (key : ℕ) → IsAmong keys key ↔ IsOpenKey key
+exactly key = (are_open key, (λ h. no_others h.path key h.leads h.open_for))
+
+pub four_open : FourOpen
+four_open = (keys, keys_distinct, exactly, refl)
+
+pub no_other_count : NoOtherCount
+no_other_count n differs (others, distinct, open_keys, count) =
+    let most = few_members others keys distinct (λ key m. (exactly key).1 ((open_keys key).0 m)) in
+    let least = few_members keys others keys_distinct (λ key m. (open_keys key).1 ((exactly key).0 m)) in
+    differs (omega (arith, count, most, least))

@@ -16,7 +16,7 @@ abbrev asked : Term
 asked = f (y ∷ [])
 
 -- a leaf with one posting holds no other
-holds_no_other : (m n : ℕ) (postings : List Posting) → (m ≡ n → ⊥) → leaf (posting m ∷ []) ≡ leaf postings → IsAmong postings (posting n) → ⊥
+pub holds_no_other : (m n : ℕ) (postings : List Posting) → (m ≡ n → ⊥) → leaf (posting m ∷ []) ≡ leaf postings → IsAmong postings (posting n) → ⊥
 holds_no_other m n postings differ e among = by (subst (λ l. IsAmong l (posting n)) (sym (ap postings_in e)) among) where
   by : IsAmong (posting m ∷ []) (posting n) → ⊥
   by (inl d) = differ (ap (λ p. p.clause) d)

@@ -44,6 +44,10 @@ leaf_b = leaf_of 2 ((1, b) ∷ []) 1
 abbrev pub leaf_c : Node Term
 leaf_c = leaf_of 0 ((0, c) ∷ []) 2
 
+-- f(a) below the root
+abbrev pub only_a : Node Term
+only_a = leaf_of 0 ((0, f (a ∷ [])) ∷ []) 0
+
 abbrev pub above_middle : Path
 above_middle = (0, base) ∷ []
 
@@ -204,7 +208,7 @@ tells =
 leaf_known : (key : ℕ) (t : Term) (postings : List Posting) (h : IsLeaf five_nodes key t postings) → Known key h.node h.above t postings
 leaf_known key t postings h = subst (λ u. Known key h.node h.above u postings) (sym h.term) (tells key h.node h.reached.1 h.above h.reached.2 postings h.content)
 
-holds : (key : ℕ) (t : Term) (p : Posting) → StandsIn five_nodes key t p → key ≡ holder_of p.clause
+pub holds : (key : ℕ) (t : Term) (p : Posting) → StandsIn five_nodes key t p → key ≡ holder_of p.clause
 holds key t p h = (leaf_known key t h.0 h.1).by_posting p h.2
 
 pub five_legal : IsLegal five_nodes

@@ -2,8 +2,11 @@ pub mod SplitsProved
 pub mod TreesProved
 pub mod FiveNodesProved
 pub mod ChangesProved
+pub mod RemovalsProved
+pub mod InsertionsProved
 pub mod OpenNodesProved
 pub mod CountsProved
 pub mod KeptProved
+pub mod SharedProved
 pub mod DescentsProved
 pub mod NumbersProved

@@ -11,7 +11,7 @@ use Rattle.si_legal.specs.Trees.{Node, Tree, HasNode, Path, IsPath, path_term, o
 use Rattle.si_legal.specs.Legal.{IsLegalNode, ChildBinds}
 use Rattle.si_legal.proofs.PathLaws.{one_node, one_path}
 use Rattle.si_tree_examples.specs.SomeTerms.{f, g, a, b, x}
-use Rattle.si_tree_examples.specs.SomeTrees.{root, fork, leaf_of, tree_of, NoSingleChild, NoBareIndicator, NoIndicatorTwice, NoIndicatorAgain, NoForeignBinding, NoBoundSplit, NoSplitUnbound, NoEqualHeads, NoOpenLeaf, NoLaterVariable, NoLargeIndicator, NoLargeVariable, NoPostingTwice, NoForgottenChild, posting}
+use Rattle.si_tree_examples.specs.SomeTrees.{root, fork, leaf_of, tree_of, NoSingleChild, NoBareIndicator, NoIndicatorTwice, NoIndicatorAgain, NoForeignBinding, NoBoundSplit, NoSplitUnbound, NoEqualHeads, NoTermTwice, NoOpenLeaf, NoLaterVariable, NoLargeIndicator, NoLargeVariable, NoPostingTwice, NoForgottenChild, posting}
 
 -- the path of a node is the one that is known
 known_path : (tree : Tree Term) (key : ℕ) (node : Node Term) (n : IsLegalNode tree key node) (above : Path) → IsPath tree node.parent above → n.above ≡ above
@@ -78,6 +78,18 @@ no_equal_heads l =
     by (subst (λ t. general.same_head t (f (b ∷ [])) ≡ false) (sym is) (first.2.0 (f (b ∷ [])) (leaf_of 0 ((0, f (b ∷ [])) ∷ []) 1, refl, inl refl))) where
       by : true ≡ false → ⊥
       by e = cc
+
+pub no_term_twice : NoTermTwice
+no_term_twice l =
+    let base = root (1 ∷ 2 ∷ []) in
+    let one = leaf_of 0 ((0, a) ∷ []) 0 in
+    let two = leaf_of 0 ((0, a) ∷ []) 1 in
+    omega (
+      arith,
+      l.terms_differ 1 2 a (posting 0 ∷ []) (posting 1 ∷ [])
+          (record { node = one; above = (0, base) ∷ []; reached = (refl, refl, (refl, refl, refl)); content = refl; term = refl })
+          (record { node = two; above = (0, base) ∷ []; reached = (refl, refl, (refl, refl, refl)); content = refl; term = refl }),
+    )
 
 -- no variable but the entry's first comes first
 numbered_first : (y : Variable) (n : ℕ) → y ∷ [] ≡ counted_from entry 0 n → y ≡ entry 0

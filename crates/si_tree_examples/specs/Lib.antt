@@ -2,6 +2,8 @@ pub mod SomeTerms
 pub mod SomeSplits
 pub mod SomeTrees
 pub mod SomeChanges
+pub mod SomeInsertions
+pub mod SomeRemovals
 pub mod SomeOpenNodes
 pub mod SomeKept
 pub mod SomeDescents

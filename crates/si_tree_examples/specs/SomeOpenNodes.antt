@@ -1,5 +1,5 @@
 -- Which terms of paths are open for a query.
-use Rattle.std.specs.Prelude.{[], ◌∷◌}
+use Rattle.std.specs.Prelude.{◌≢◌, ℕ, [], ◌∷◌}
 use Rattle.si_defs.specs.declared.Relation.TheVariants.{Variants, Instances, Generalizations, Unifiable}
 use Rattle.si_defs.specs.Terms as terms
 use Rattle.si_flat.specs.Cells.{query, Term}
@@ -43,3 +43,7 @@ ClosedByHead = IsOpen Unifiable (f (y ∷ [])) (g (indicator 1)) → ⊥
 -- of the five nodes all but the leaf of c are open for f(Y)
 abbrev pub FourOpen : Type 0
 FourOpen = CountsOpen five_nodes 0 Unifiable (f (y ∷ [])) 4
+
+-- and no other number counts them
+abbrev pub NoOtherCount : Type 0
+NoOtherCount = (n : ℕ) → n ≢ 4 → CountsOpen five_nodes 0 Unifiable (f (y ∷ [])) n → ⊥

@@ -6,7 +6,7 @@ use Rattle.si_legal.specs.Bindings.{Binding, indicator}
 use Rattle.si_legal.specs.Trees.{inner, leaf, Node, Tree}
 use Rattle.si_legal.specs.Legal.{IsLegal}
 use Rattle.si_legal.specs.Counts.{node_count, leaf_count, unmerged_count}
-use Rattle.si_legal.specs.StoredSets.{AreUnder}
+use Rattle.si_legal.specs.StoredSets.{AreUnder, IsUnder}
 use Rattle.si_tree_examples.specs.SomeTerms.{f, g, a, b, c, x}
 
 -- ---- nodes and trees
@@ -43,20 +43,37 @@ tree_of nodes next vars = record { nodes = map Some nodes; root = 0; next = next
 abbrev pub new_tree : Tree Term
 new_tree = tree_of (root [] ∷ []) 1 0
 
--- f(a), f(b) and c, whose leaf holds these postings
-abbrev pub five_holding : List Posting → Tree Term
-five_holding postings =
+-- the root and one leaf
+abbrev pub two_nodes : Term → List Posting → Tree Term
+two_nodes t postings =
+    tree_of (root (1 ∷ []) ∷ leaf_holding 0 ((0, t) ∷ []) postings ∷ []) 1 0
+
+-- f(a), f(b) and c, where the leaves of f(b) and of c hold these postings
+abbrev pub five_of : List Posting → List Posting → Tree Term
+five_of of_b of_c =
     tree_of (
     root (2 ∷ 4 ∷ [])
     ∷ leaf_of 2 ((1, a) ∷ []) 0
     ∷ fork 0 ((0, f (indicator 1 ∷ [])) ∷ []) 1 (1 ∷ 3 ∷ [])
-    ∷ leaf_of 2 ((1, b) ∷ []) 1
-    ∷ leaf_holding 0 ((0, c) ∷ []) postings
+    ∷ leaf_holding 2 ((1, b) ∷ []) of_b
+    ∷ leaf_holding 0 ((0, c) ∷ []) of_c
     ∷ []
     ) 2 0
 
+-- the leaf of c holds these postings
+abbrev pub five_holding : List Posting → Tree Term
+five_holding postings = five_of (posting 1 ∷ []) postings
+
 abbrev pub five_nodes : Tree Term
 five_nodes = five_holding (posting 2 ∷ [])
+
+-- the leaf of f(b) has no posting
+abbrev pub five_unmerged : Tree Term
+five_unmerged = five_of [] (posting 2 ∷ [])
+
+-- the leaf of c has two postings
+abbrev pub five_shared : Tree Term
+five_shared = five_holding (posting 2 ∷ posting 3 ∷ [])
 
 abbrev pub NewTree : Type 0
 NewTree = IsLegal new_tree
@@ -70,6 +87,26 @@ FiveNodes =
 abbrev pub StoredPostings : Type 0
 StoredPostings =
     AreUnder five_nodes (f (b ∷ [])) (posting 1 ∷ []) × AreUnder five_nodes (g a) []
+
+abbrev pub UnmergedLeaf : Type 0
+UnmergedLeaf =
+    IsLegal five_unmerged × (node_count five_unmerged ≡ 5) × (leaf_count five_unmerged ≡ 3)
+    × (unmerged_count five_unmerged ≡ 1)
+
+-- nothing is stored under the term of a leaf without a posting
+abbrev pub NothingStored : Type 0
+NothingStored =
+    AreUnder five_unmerged (f (b ∷ [])) []
+    × ((p : Posting) → IsUnder five_unmerged (f (b ∷ [])) p → ⊥)
+
+-- a term of two clauses has one leaf, which holds both postings in their order
+abbrev pub SharedLeaf : Type 0
+SharedLeaf =
+    IsLegal five_shared × (leaf_count five_shared ≡ 3)
+    × AreUnder five_shared c (posting 2 ∷ posting 3 ∷ [])
+
+abbrev pub NoTurnedPostings : Type 0
+NoTurnedPostings = AreUnder five_shared c (posting 3 ∷ posting 2 ∷ []) → ⊥
 
 -- ---- one rule broken
 abbrev pub NoBindingRoot : Type 0
@@ -181,6 +218,16 @@ NoEqualHeads =
     ∷ leaf_of 0 ((0, f (a ∷ [])) ∷ []) 0
     ∷ leaf_of 0 ((0, f (b ∷ [])) ∷ []) 1
     ∷ []
+    ) 1 0
+    )
+    → ⊥
+
+-- a term has one leaf
+abbrev pub NoTermTwice : Type 0
+NoTermTwice =
+    IsLegal (
+    tree_of (
+    root (1 ∷ 2 ∷ []) ∷ leaf_of 0 ((0, a) ∷ []) 0 ∷ leaf_of 0 ((0, a) ∷ []) 1 ∷ []
     ) 1 0
     )
     → ⊥

@@ -5,16 +5,20 @@
 
 mod changes;
 mod descents;
+mod insertions;
 mod kept;
 mod numbers;
 mod open_nodes;
+mod removals;
 mod splits;
 mod trees;
 
 pub use changes::changed_trees;
 pub use descents::answered_postings;
-pub use kept::kept_clause;
+pub use insertions::inserted_terms;
+pub use kept::{changed_clauses, kept_clauses};
 pub use numbers::renumbered_trees;
 pub use open_nodes::{counted_nodes, open_paths};
+pub use removals::{joined_nodes, removed_postings};
 pub use splits::{split_bindings, wrong_splits};
 pub use trees::{illegal_trees, legal_trees};

@@ -1,5 +1,5 @@
 // Open and closed nodes.
-ghost use Rattle.si_tree_examples.specs.SomeOpenNodes.{OpenForInstances, ConstantVariable, OnlyGeneralization, OpenForVariants, NoTwoForOne, ClosedByHead, FourOpen};
+ghost use Rattle.si_tree_examples.specs.SomeOpenNodes.{OpenForInstances, ConstantVariable, OnlyGeneralization, OpenForVariants, NoTwoForOne, ClosedByHead, FourOpen, NoOtherCount};
 
 /// Which terms of paths are open for a query.
 pub fn open_paths()
@@ -13,5 +13,6 @@ pub fn open_paths()
 
 /// How many nodes are open.
 pub fn counted_nodes()
-    ensures { FourOpen }
+    ensures four_open { FourOpen }
+    ensures no_other_count { NoOtherCount }
 {}

@@ -1,11 +1,15 @@
 // Trees that are legal, and trees that aren't.
-ghost use Rattle.si_tree_examples.specs.SomeTrees.{NewTree, FiveNodes, StoredPostings, NoBindingRoot, NoOtherRootSplit, NoSingleChild, NoBareIndicator, NoIndicatorTwice, NoIndicatorAgain, NoForeignBinding, NoBoundSplit, NoSplitUnbound, NoEqualHeads, NoOpenLeaf, NoLaterVariable, NoLargeIndicator, NoLargeVariable, NoPostingTwice, NoForgottenChild};
+ghost use Rattle.si_tree_examples.specs.SomeTrees.{NewTree, FiveNodes, StoredPostings, UnmergedLeaf, NothingStored, SharedLeaf, NoTurnedPostings, NoBindingRoot, NoOtherRootSplit, NoSingleChild, NoBareIndicator, NoIndicatorTwice, NoIndicatorAgain, NoForeignBinding, NoBoundSplit, NoSplitUnbound, NoEqualHeads, NoTermTwice, NoOpenLeaf, NoLaterVariable, NoLargeIndicator, NoLargeVariable, NoPostingTwice, NoForgottenChild};
 
 /// Legal trees, and what one stores.
 pub fn legal_trees()
     ensures new_tree { NewTree }
     ensures five_nodes { FiveNodes }
     ensures stored_postings { StoredPostings }
+    ensures unmerged_leaf { UnmergedLeaf }
+    ensures nothing_stored { NothingStored }
+    ensures shared_leaf { SharedLeaf }
+    ensures no_turned_postings { NoTurnedPostings }
 {}
 
 /// Trees that break one rule each.
@@ -20,6 +24,7 @@ pub fn illegal_trees()
     ensures no_bound_split { NoBoundSplit }
     ensures no_split_unbound { NoSplitUnbound }
     ensures no_equal_heads { NoEqualHeads }
+    ensures no_term_twice { NoTermTwice }
     ensures no_open_leaf { NoOpenLeaf }
     ensures no_later_variable { NoLaterVariable }
     ensures no_large_indicator { NoLargeIndicator }

@@ -1,4 +1,4 @@
-use Rattle.si_tree_examples.proofs.TreesProved.{no_single_child, no_bare_indicator, no_indicator_twice, no_indicator_again, no_foreign_binding, no_bound_split, no_split_unbound, no_equal_heads, no_open_leaf, no_later_variable, no_large_indicator, no_large_variable, no_forgotten_child, no_posting_twice}
+use Rattle.si_tree_examples.proofs.TreesProved.{no_single_child, no_bare_indicator, no_indicator_twice, no_indicator_again, no_foreign_binding, no_bound_split, no_split_unbound, no_equal_heads, no_term_twice, no_open_leaf, no_later_variable, no_large_indicator, no_large_variable, no_forgotten_child, no_posting_twice}
 use Rattle.si_tree_examples.proofs.trees.illegal_trees.Goals as goal
 
 pub returns-clause-no_single_child : goal.returns-clause-no_single_child
@@ -24,6 +24,9 @@ returns-clause-no_split_unbound c = no_split_unbound
 
 pub returns-clause-no_equal_heads : goal.returns-clause-no_equal_heads
 returns-clause-no_equal_heads c = no_equal_heads
+
+pub returns-clause-no_term_twice : goal.returns-clause-no_term_twice
+returns-clause-no_term_twice c = no_term_twice
 
 pub returns-clause-no_open_leaf : goal.returns-clause-no_open_leaf
 returns-clause-no_open_leaf c = no_open_leaf

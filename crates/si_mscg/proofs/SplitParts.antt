@@ -1,5 +1,6 @@
 -- What the two walks come to is the common part and the rests of the lists that the cells stand for.
 use Rattle.std.proofs.Common.{◌≡◌, ℕ, ◌+◌, ◌<◌, ◌≤◌, ◌^◌, not, List, [], ◌∷◌, ◌++◌, refl, ap, sym, ◌∙◌, subst, arith}
+use Rattle.std.specs.Prelude.{Result, Ok, Err, IfOk}
 use Rattle.std.specs.List.{AllByRecursion}
 use Rattle.std.proofs.lemmas.List.{map-append}
 use Rattle.si_defs.specs.Terms as terms
@@ -180,3 +181,7 @@ generalises next node new s t w split is first second done h =
       subst (λ c. StandForBindings c (new_rest next ss)) (sym (ap (λ x. x.new) here) ∙ sym (ap (λ x. x.rest_new) done)) parts.new,
       parts.splits,
     )
+
+pub generalises_if_ok : {E : Type 0} (r : Result Split E) (next : ℕ) (node new : List CellPair) (s t : State) (w : Walk) → s ≡ start next → OfSides node new (λ ss. t ≡ with_differing s ss) → OfSides node new (λ ss. state_of w ≡ with_agreeing t ss) → IfOk r (λ split. split ≡ w.split) → MayGeneralise next node new → IfOk r (Generalises next node new)
+generalises_if_ok (Ok split) next node new s t w is first second done h = generalises next node new s t w split is first second done h
+generalises_if_ok (Err e) next node new s t w is first second done h = tt

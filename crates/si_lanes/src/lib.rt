@@ -5,7 +5,7 @@
 //! A row is four words of 64 bits; `specs/Rows.antt` says which bit stands where.
 #![tactic(auto)]
 
-ghost use Rattle.std.specs.Prelude.{◌≡◌, ◌↔◌, ◌-◌, ◌^◌, ◌<◌, ◌≤◌, [], ◌∷◌, ◌++◌, OnOk, OnErr, IsTrue, length, take};
+ghost use Rattle.std.specs.Prelude.{◌≡◌, ◌↔◌, ◌+◌, ◌-◌, ◌^◌, ◌<◌, ◌≤◌, [], ◌∷◌, ◌++◌, OnOk, OnErr, IsTrue, length, take, vec_len, vec_capacity};
 ghost use Rattle.si_lanes.specs.Rows.{IsSubset, AppendsPositions};
 
 use std::alloc::AllocError;
@@ -27,6 +27,7 @@ pub fn subset_rows(mask: &Row, rows: &[Row], out: &mut Vec<u32>) -> Result<(), A
     ensures ok { OnOk result (AppendsPositions (λ row. IsSubset row mask.now) rows.now
         out.old.items out.new.items) }
     ensures err { OnErr result (out.new.items ≡ out.old.items) }
+    ensures full { OnErr result (vec_capacity out.old < vec_len out.old + length rows.now) }
 {
     let mask = u64x4::from_array(*mask);
     let mark = out.len();
@@ -50,6 +51,7 @@ pub fn superset_rows(mask: &Row, rows: &[Row], out: &mut Vec<u32>) -> Result<(),
     ensures ok { OnOk result (AppendsPositions (λ row. IsSubset mask.now row) rows.now
         out.old.items out.new.items) }
     ensures err { OnErr result (out.new.items ≡ out.old.items) }
+    ensures full { OnErr result (vec_capacity out.old < vec_len out.old + length rows.now) }
 {
     let mask = u64x4::from_array(*mask);
     let mark = out.len();
@@ -68,6 +70,9 @@ fn append(position: u32, mark: usize, out: &mut Vec<u32>) -> Result<(), AllocErr
     requires { mark ≤ length out.old.items }
     ensures ok { OnOk result (out.new.items ≡ out.old.items ++ position ∷ []) }
     ensures err { OnErr result (out.new.items ≡ take mark out.old.items) }
+    ensures len { OnOk result (vec_len out.new ≡ vec_len out.old + 1) }
+    ensures capacity { OnOk result (vec_capacity out.old ≤ vec_capacity out.new) }
+    ensures full { OnErr result (vec_capacity out.old ≤ vec_len out.old) }
 {
     match out.push(position) {
         Ok(()) => Ok(()),

@@ -1,4 +1,4 @@
-use Rattle.std.proofs.Common.{inl, inr, sym, ◌∙◌, arith}
+use Rattle.std.proofs.Common.{vec_len, vec_capacity, ◌≡◌, inl, inr, sym, ◌∙◌, arith}
 use Rattle.std.proofs.lemmas.Bool.{false≢true}
 use Rattle.std.proofs.lemmas.List.{drop_all}
 use Rattle.si_lanes.specs.Rows.{IsSubset}
@@ -14,6 +14,22 @@ loop-position-preserved c = (
         | else-is_subset w ↦ inr (λ h. false≢true (sym w.if-is_subset.false ∙ c.is_subset.ensures.1 h), (λ i. (w.out-is i).items))
       ]),
   c.loop-position.invariant.1,
+  elim c.if-is_subset.branch [
+    | then-is_subset+in_ok-append w ↦
+        let e : vec_len c.if-is_subset.out ≡ vec_len w.append.new.out = λ i. vec_len (w.out-is i) in
+        omega (arith, e, w.in_ok-append.ensures.len, c.loop-position.invariant.2)
+    | else-is_subset w ↦
+        let e : vec_len c.if-is_subset.out ≡ vec_len c.loop-position.out = λ i. vec_len (w.out-is i) in
+        omega (arith, e, c.loop-position.invariant.2)
+  ],
+  elim c.if-is_subset.branch [
+    | then-is_subset+in_ok-append w ↦
+        let e : vec_capacity c.if-is_subset.out ≡ vec_capacity w.append.new.out = λ i. vec_capacity (w.out-is i) in
+        omega (arith, e, w.in_ok-append.ensures.capacity, c.loop-position.invariant.3)
+    | else-is_subset w ↦
+        let e : vec_capacity c.if-is_subset.out ≡ vec_capacity c.loop-position.out = λ i. vec_capacity (w.out-is i) in
+        omega (arith, e, c.loop-position.invariant.3)
+  ],
 )
 
 pub returns-clause-ok : goal.returns-clause-ok

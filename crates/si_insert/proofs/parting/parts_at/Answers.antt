@@ -9,7 +9,7 @@ pub loop-pair-init : goal.loop-pair-init
 loop-pair-init c = (
   tt,
   tt,
-  λ there bs may. subst (λ ps. LeftToGive c.args.cells.now c.args.openings.now there bs ps c.new-new.result) (sym (c.into_iter-pair-iterator.ensures.into_iter_gives ∙ c.pairs-pair-items.ensures)) (subst (LeftToGive c.args.cells.now c.args.openings.now there bs c.args.bindings.now) (sym c.new-new.ensures) (give_start c.args.cells.now c.args.openings.now c.args.bindings.now there bs may)),
+  λ there bs may. subst (λ ps. LeftToGive c.args.cells.now c.args.openings.now there bs ps c.in_ok-new.new) (sym (c.into_iter-pair-iterator.ensures.into_iter_gives ∙ c.pairs-pair-items.ensures)) (subst (LeftToGive c.args.cells.now c.args.openings.now there bs c.args.bindings.now) (sym c.in_ok-new.ensures) (give_start c.args.cells.now c.args.openings.now c.args.bindings.now there bs may)),
 )
 
 pub at-at-requires : goal.at-at-requires

@@ -12,8 +12,8 @@ in_order-requires c =
 
 pub loop-pair-init : goal.loop-pair-init
 loop-pair-init c = (
-  carry_begins c.args.node.now c.args.child.now c.new-both.result c.into_iter-pair-iterator.result c.new-draft.result.items c.requires c.new-both.ensures
-      (c.into_iter-pair-iterator.ensures.into_iter_gives ∙ c.pairs-pair-items.ensures) c.new-draft.ensures.items,
+  carry_begins c.args.node.now c.args.child.now c.in_ok-both.both c.into_iter-pair-iterator.result c.in_ok-draft.draft.items c.requires c.in_ok-both.ensures
+      (c.into_iter-pair-iterator.ensures.into_iter_gives ∙ c.pairs-pair-items.ensures) c.in_ok-draft.ensures.items,
   c.in_ok-order.ensures,
 )
 

@@ -4,6 +4,7 @@ use Rattle.si_defs.specs.Substitutions.{IsAmong}
 use Rattle.si_flat.specs.Rows.{left_sides}
 use Rattle.si_tree.specs.Numbers.{rights_in}
 use Rattle.si_prune.specs.Pruning.{Composes, carried_pairs}
+use Rattle.si_mscg.proofs.CopyLaws.{copied}
 use Rattle.si_prune.proofs.AddLaws.{IsAdding, add_begins, add_skips, add_new, add_more, composes}
 use Rattle.si_prune.proofs.composing.compose.Goals as goal
 
@@ -50,5 +51,5 @@ loop-pair-preserved c =
 
 pub returns : goal.returns
 returns c =
-    subst (Composes c.args.node.now c.args.child.now) (sym c.shrink.ensures)
+    copied c.copy.result c.loop-pair.both (Composes c.args.node.now c.args.child.now) c.copy.ensures
     (composes c.args.node.now c.args.child.now c.loop-pair.both c.loop-pair.pair-iterator (rights_in c.args.node.now) c.loop-pair.invariant.0 c.in-None.ensures.steps.0 refl)

@@ -8,7 +8,7 @@ use Rattle.si_tree.proofs.numbers.renumbered.Goals as goal
 
 pub loop-pair-init : goal.loop-pair-init
 loop-pair-init c =
-    copying_begins c.args.numbers.now c.args.bindings.now c.new-all.result c.into_iter-pair-iterator.result c.new-all.ensures (c.into_iter-pair-iterator.ensures.into_iter_gives ∙ c.pairs-pair-items.ensures)
+    copying_begins c.args.numbers.now c.args.bindings.now c.in_ok-all.all c.into_iter-pair-iterator.result c.in_ok-all.ensures (c.into_iter-pair-iterator.ensures.into_iter_gives ∙ c.pairs-pair-items.ensures)
     c.requires.whole c.requires.lefts c.requires.rights c.requires.distinct
 
 pub renumber_cells-requires : goal.renumber_cells-requires
@@ -39,4 +39,4 @@ loop-pair-preserved c =
     subst (λ l. AreRenumbering c.args.numbers.now c.args.bindings.now l c.next.new.self) ((λ i. c.loop-pair.all ++ (left i, cells i) ∷ []) ∙ sym c.in_ok-push.ensures.ok) turn.then
 
 pub returns : goal.returns
-returns c = c.shrink.ensures ∙ copying_ends c.args.numbers.now c.args.bindings.now c.loop-pair.all c.loop-pair.pair-iterator c.in-None.ensures.steps.0 c.loop-pair.invariant
+returns c = copying_ends c.args.numbers.now c.args.bindings.now c.loop-pair.all c.loop-pair.pair-iterator c.in-None.ensures.steps.0 c.loop-pair.invariant

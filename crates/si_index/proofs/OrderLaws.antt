@@ -1,7 +1,7 @@
 -- Places that are sorted, no two of them the same, rise.
 use Rattle.std.proofs.Common.{◌≡◌, inl, inr, ℕ, suc, ◌+◌, ◌<◌, Bool, true, false, ◌&&◌, List, [], ◌∷◌, get_or, Ordering, Less, Equal, Greater, is_lt, nat_cmp, refl, sym, ◌∙◌, subst, arith}
 use Rattle.std.specs.List.{IsDistinct}
-use Rattle.std.specs.List.Sorted.{IsPermutation, IsSorted}
+use Rattle.std.specs.List.Sorted.{IsPermutation}
 use Rattle.std.specs.Ordering.{MatchOrdering, ordering_then}
 use Rattle.std.proofs.Math.Dec.{eqb}
 use Rattle.std.proofs.lemmas.Bool.{cases_eq, eq-eqb, ne_eqb, and_from}
@@ -10,11 +10,9 @@ use Rattle.std.proofs.lemmas.Map.Keys.{IsDistinct-IsPermutation, IsDistinct-head
 use Rattle.si_defs.proofs.ListLaws.{all_weaker}
 use Rattle.si_index.specs.declared.wanted.Wanted.{Wanted}
 use Rattle.si_index.specs.Gathering.{IsLower, IsBefore, Rise}
+use Rattle.si_index.specs.Sorting.{compares, AreSorted}
 
 -- ---- the order
-abbrev pub compares : Wanted → Wanted → Ordering
-compares a b = ordering_then (nat_cmp a.slot b.slot) (ordering_then (nat_cmp a.entry b.entry) (nat_cmp a.leaf b.leaf))
-
 abbrev pub is_same : Wanted → Wanted → Bool
 is_same a b = eqb a.slot b.slot && eqb a.entry b.entry
 
@@ -39,9 +37,6 @@ stands_before a b sorted differ = by (nat_cmp b.slot a.slot) (nat_cmp b.entry a.
   by Greater e l of_p of_e above = inl of_p
 
 -- ---- sorted places
-abbrev pub AreSorted : List Wanted → Type 0
-AreSorted ws = IsSorted compares ws
-
 rest_sorted : (w : Wanted) (ws : List Wanted) → AreSorted (w ∷ ws) → AreSorted ws
 rest_sorted w ws h k d low high =
     let turn : suc k + 1 ≡ suc (k + 1) = omega arith in

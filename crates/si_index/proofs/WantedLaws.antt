@@ -38,6 +38,7 @@ use Rattle.si_index.specs.Leaves.{HasNode, AreUnmade, StayMade}
 use Rattle.si_index.specs.Engines.{Answering, asks_literals, AreAsked, AnswersStanding, IsOfStanding, posted_from, posted_entries, AreAnswered}
 use Rattle.si_index.specs.Gathering.{IsLower, IsBefore, Rise, StandsFor, IsStored, IsInLeaf, AreInOrder, IsHitAt, IsStandingAt}
 use Rattle.si_index.specs.Slots.{Slots, HasSlots, IsIn}
+use Rattle.si_index.specs.Sorting.{AreSorted}
 use Rattle.si_index.specs.Searching.{numbers_of, pattern_in, tree_in, term_in, AreAlike, IsOfLeaf}
 use Rattle.si_index.specs.declared.search.Search.{Search}
 use Rattle.si_index.specs.declared.wanted.Leaf.{Leaf}
@@ -46,7 +47,7 @@ use Rattle.si_index.specs.declared.wanted.Wanted.{Wanted}
 use Rattle.si_index.proofs.EngineLaws.{Posted, stands_at, got_there, among_key, one_clause}
 use Rattle.si_index.proofs.FlatLaws.{alike_standing}
 use Rattle.si_index.proofs.SlotLaws.{place_among, has_key, has_clause, one_key}
-use Rattle.si_index.proofs.OrderLaws.{is_same, lower_then, AreSorted, sorted_rise, distinct_sorted}
+use Rattle.si_index.proofs.OrderLaws.{is_same, lower_then, sorted_rise, distinct_sorted}
 
 -- ---- members of a list in another order
 among_permutation : {X : Type 0} (xs ys : List X) → IsPermutation xs ys → (x : X) → IsAmong ys x → IsAmong xs x

@@ -10,5 +10,6 @@ pub mod Names
 pub mod Searching
 pub mod Showing
 pub mod Slots
+pub mod Sorting
 pub mod Stored
 pub mod Subsuming

@@ -1,10 +1,12 @@
 // The entries that an engine answered, in order.
 ghost use Rattle.std.specs.Prelude.{◌≡◌, IfOk, OnOk, Some, None, slice_get};
 ghost use Rattle.std.specs.List.{AllByRecursion};
+ghost use Rattle.std.specs.List.Sorted.{IsPermutation};
 ghost use Rattle.si_defs.specs.Substitutions.{IsAmong, AreDistinct};
 ghost use Rattle.si_held.specs.TwoTrees.{tree_for};
 ghost use Rattle.si_index.specs.Gathering.{AreInOrder, IsStored};
 ghost use Rattle.si_index.specs.Slots.{HasSlots};
+ghost use Rattle.si_index.specs.Sorting.{AreSorted};
 ghost use Rattle.si_index.specs.Leaves.{StayMade, HasNode, AreUnmade};
 
 use crate::index::Index;
@@ -15,6 +17,9 @@ use si_legal::Posting;
 use si_term::Clause;
 use si_tree::NodeId;
 use std::alloc::AllocError;
+
+/// From so many entries for each leaf on, a merge of the leaves is cheaper than a sort of all.
+const MANY_OF_A_LEAF: usize = 64;
 
 /// Where a kept entry stands: the slot of its clause, and its number in the clause. Slots are in
 /// the order of the clauses, and a key leads to its slot by one read.
@@ -67,8 +72,21 @@ pub(crate) fn in_order(
             leaf: number_of(&mut leaves, node)?,
         })?;
     }
-    places.sort_unstable();
+    put_in_order(&mut places, leaves.len())?;
     Ok(Ordered { places, leaves })
+}
+
+/// Puts the places in order. Those of a leaf come in order, so where they are many for each leaf,
+/// they are merged.
+fn put_in_order(places: &mut Vec<Wanted>, leaves: usize) -> Result<(), AllocError>
+    ensures same { IsPermutation places.old.items places.new.items }
+    ensures sorted { OnOk result (AreSorted places.new.items) }
+{
+    if leaves <= places.len() / MANY_OF_A_LEAF {
+        return places.sort();
+    }
+    places.sort_unstable();
+    Ok(())
 }
 
 /// The number of a leaf, which is put behind the others where it isn't the last.

@@ -45,4 +45,4 @@ returns c =
     let tree = tree_for c.args.literal c.args.trees.now in
     sorted_in_order c.args.slots.now tree c.args.postings.now c.loop-posting.places.items _ c.requires.slots.rise
     (subst (λ ps. ArePlaced c.args.slots.now tree c.loop-posting.leaves.items ps c.loop-posting.places.items) (take_all c.loop-posting.posting-index c.args.postings.now c.loop-posting-test.false) c.loop-posting.invariant.placed)
-    c.loop-posting.invariant.unmade c.requires.distinct c.sort_unstable.ensures.permutation c.sort_unstable.ensures.sorted
+    c.loop-posting.invariant.unmade c.requires.distinct c.put_in_order.ensures.same c.in_ok-put_in_order.ensures.sorted

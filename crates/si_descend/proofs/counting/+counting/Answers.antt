@@ -20,20 +20,20 @@ pub count_at-returns-clause-counted : goal.count_at-returns-clause-counted
 count_at-returns-clause-counted t c =
     counted_open c.args.search.now c.requires.ready c.args.node c.requires.node.0 c.requires.node.1
     (subst (HasEntered c.args.search.now c.args.node c.enter.new.trail.pairs) c.if-not-branch.false c.in_ok-enter.ensures.enters).1
-    c.postings-own.result (c.postings-own.ensures c.requires.node.0 c.requires.node.1) c.postings-own.type_inv.0 c.in_ok-below.below
+    c.postings.result (c.postings.ensures c.requires.node.0 c.requires.node.1) (omega (arith, c.len-own.ensures, c.len-own.type_inv)) c.in_ok-below.below
     (record { passed = 1 + c.in_ok-below.below.passed; answers = c.saturating_add.result })
-    (c.in_ok-below.ensures.counted c.requires.node.0 c.requires.node.1) refl (omega (arith, c.saturating_add.ensures))
+    (c.in_ok-below.ensures.counted c.requires.node.0 c.requires.node.1) refl (omega (arith, c.saturating_add.ensures, c.len-own.ensures))
 
 pub count_at-overflow_add-result : goal.count_at-overflow_add-result
 count_at-overflow_add-result t c =
     omega (
       arith,
-      few_counted_at c.args.search.now c.requires.ready c.args.node c.requires.node.0 c.requires.node.1 c.args.node (record { passed = 1 + c.in_ok-below.below.passed; answers = at_most (c.in_ok-below.below.answers + length c.postings-own.result) })
+      few_counted_at c.args.search.now c.requires.ready c.args.node c.requires.node.0 c.requires.node.1 c.args.node (record { passed = 1 + c.in_ok-below.below.passed; answers = at_most (c.in_ok-below.below.answers + length c.postings.result) })
           (
           counted_open c.args.search.now c.requires.ready c.args.node c.requires.node.0 c.requires.node.1
           (subst (HasEntered c.args.search.now c.args.node c.enter.new.trail.pairs) c.if-not-branch.false c.in_ok-enter.ensures.enters).1
-          c.postings-own.result (c.postings-own.ensures c.requires.node.0 c.requires.node.1) c.postings-own.type_inv.0 c.in_ok-below.below
-          (record { passed = 1 + c.in_ok-below.below.passed; answers = at_most (c.in_ok-below.below.answers + length c.postings-own.result) })
+          c.postings.result (c.postings.ensures c.requires.node.0 c.requires.node.1) (omega (arith, c.len-own.ensures, c.len-own.type_inv)) c.in_ok-below.below
+          (record { passed = 1 + c.in_ok-below.below.passed; answers = at_most (c.in_ok-below.below.answers + length c.postings.result) })
           (c.in_ok-below.ensures.counted c.requires.node.0 c.requires.node.1) refl refl
           ),
     )

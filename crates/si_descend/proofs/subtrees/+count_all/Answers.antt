@@ -37,11 +37,11 @@ pub overflow_add-result : goal.overflow_add-result
 overflow_add-result t c =
     let node = c.requires.node in
     let below : Counted = record { passed = c.loop-child.passed; answers = c.loop-child.answers } in
-    let all : Counted = record { passed = 1 + c.loop-child.passed; answers = at_most (c.loop-child.answers + length c.postings-own.result) } in
+    let all : Counted = record { passed = 1 + c.loop-child.passed; answers = at_most (c.loop-child.answers + length c.postings.result) } in
     omega (
       arith,
       few_counted_at c.args.search.now c.requires.ready c.args.node node.0 node.1 c.args.node all
-          (counted_open c.args.search.now c.requires.ready c.args.node node.0 node.1 (open_at c.args.search.now c.args.node c.requires.opened) c.postings-own.result (c.postings-own.ensures node.0 node.1) c.postings-own.type_inv.0 below all
+          (counted_open c.args.search.now c.requires.ready c.args.node node.0 node.1 (open_at c.args.search.now c.args.node c.requires.opened) c.postings.result (c.postings.ensures node.0 node.1) (omega (arith, c.len-own.ensures, c.len-own.type_inv)) below all
           (counted_walked_all c.args.search.now c.requires.ready c.args.node node.0 node.1 c.children-child-items.result.now (c.children-child-items.ensures node.0 node.1) c.loop-child.child-index below (omega (arith, c.loop-child-test.false)) c.loop-child.invariant) refl refl),
     )
 
@@ -49,6 +49,6 @@ pub returns : goal.returns
 returns t c =
     let node = c.requires.node in
     let below : Counted = record { passed = c.loop-child.passed; answers = c.loop-child.answers } in
-    counted_open c.args.search.now c.requires.ready c.args.node node.0 node.1 (open_at c.args.search.now c.args.node c.requires.opened) c.postings-own.result (c.postings-own.ensures node.0 node.1) c.postings-own.type_inv.0 below
+    counted_open c.args.search.now c.requires.ready c.args.node node.0 node.1 (open_at c.args.search.now c.args.node c.requires.opened) c.postings.result (c.postings.ensures node.0 node.1) (omega (arith, c.len-own.ensures, c.len-own.type_inv)) below
     (record { passed = 1 + c.loop-child.passed; answers = c.saturating_add.result })
-    (counted_walked_all c.args.search.now c.requires.ready c.args.node node.0 node.1 c.children-child-items.result.now (c.children-child-items.ensures node.0 node.1) c.loop-child.child-index below (omega (arith, c.loop-child-test.false)) c.loop-child.invariant) refl (omega (arith, c.saturating_add.ensures))
+    (counted_walked_all c.args.search.now c.requires.ready c.args.node node.0 node.1 c.children-child-items.result.now (c.children-child-items.ensures node.0 node.1) c.loop-child.child-index below (omega (arith, c.loop-child-test.false)) c.loop-child.invariant) refl (omega (arith, c.saturating_add.ensures, c.len-own.ensures))

@@ -1,8 +1,8 @@
 -- Lists of bindings that rename the variables of an entry.
-use Rattle.std.specs.Prelude.{◌≡◌, ℕ, ◌<◌, Bool, true, false, List, [], ◌∷◌, ◌++◌, is_some, map, take}
+use Rattle.std.specs.Prelude.{◌≡◌, ℕ, ◌<◌, Bool, true, false, ⊤, List, [], ◌∷◌, ◌++◌, Option, None, Some, is_some, map, take}
 use Rattle.si_defs.specs.Terms as terms
 use Rattle.si_defs.specs.Substitutions.{Substitution, image}
-use Rattle.si_trail.specs.Trails.{value_at, IsSlotOf}
+use Rattle.si_trail.specs.Trails.{Trail, value_at, IsSlotOf}
 use Rattle.si_flat.specs.Cells.{Symbol, Variable, query, entry, same_variable}
 use Rattle.si_unify.specs.declared.slots.Slots.{Slots}
 use Rattle.si_unify.specs.Solving.{Pairs, variable_of, IsSolution}
@@ -55,6 +55,11 @@ IsNumberInRange slots (Same k) = k < slots.query
 IsNumberInRange slots Other = Unit {0}
 
 -- ---- what is taken
+-- where nothing can be taken, nothing is
+abbrev pub taken_in : Option (Trail ⊤) → Trail ⊤
+taken_in None = record { slots = 0; pairs = [] }
+taken_in (Some trail) = trail
+
 -- one of the first so many became this variable, or none did
 abbrev pub IsTaken : Slots → Pairs → ℕ → ℕ → Bool → Type 0
 IsTaken slots pairs end k true = (n : ℕ) × (n < end) × HasBecome slots pairs n (Same k)

@@ -8,6 +8,7 @@ ghost use Rattle.si_descend.specs.Searching.{IsReady, NotesTaken, HasComeTo};
 use crate::attempts::{attempt, attempts_at};
 use crate::search::{Search, enter};
 use crate::subtrees::{count_all, is_open_below};
+use crate::taken::Taken;
 use si_flat::Cell;
 use si_trail::Trail;
 use si_tree::NodeId;
@@ -32,7 +33,7 @@ pub(crate) fn count_at<'a>(
     node: NodeId,
     scratch: &mut Scratch,
     trail: &mut Trail<&'a [Cell]>,
-    taken: &mut Trail<()>,
+    taken: &mut Taken,
 ) -> Result<Counted, AllocError>
     requires node { IsNode search.now.tree.now node }
     requires ready { IsReady search.now }
@@ -77,7 +78,7 @@ fn count_children<'a>(
     node: NodeId,
     scratch: &mut Scratch,
     trail: &mut Trail<&'a [Cell]>,
-    taken: &mut Trail<()>,
+    taken: &mut Taken,
 ) -> Result<Counted, AllocError>
     requires node { IsNode search.now.tree.now node }
     requires ready { IsReady search.now }

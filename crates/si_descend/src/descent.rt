@@ -12,6 +12,7 @@ ghost use Rattle.si_descend.specs.Searching.{IsReady, KeepsApart, HasNoneTaken, 
 
 use crate::counting::{Counted, count_at};
 use crate::search::{Search, visit};
+use crate::taken::Taken;
 use crate::variants::is_renaming;
 use si_flat::{Cell, Flat, Kind};
 use si_legal::Posting;
@@ -111,7 +112,7 @@ fn count_below<'a>(
 {
     // So no slot of the trail is known to be bound twice.
     trail.mark();
-    let mut taken = none_taken(alloc, search)?;
+    let mut taken = Taken::none(alloc, search.kind, &search.slots)?;
     if !keeps_apart(search, trail, &mut taken) {
         return Ok(Counted {
             passed: 0,
@@ -178,7 +179,7 @@ fn search_below<'a>(
     ensures out_grows { Grows out.old.items out.new.items }
     ensures slots { trail.new.slots ≡ trail.old.slots }
 {
-    let mut taken = none_taken(alloc, search)?;
+    let mut taken = Taken::none(alloc, search.kind, &search.slots)?;
     if !keeps_apart(search, trail, &mut taken) {
         return Ok(0);
     }
@@ -186,21 +187,9 @@ fn search_below<'a>(
     visit(search, node, &mut scratch, trail, &mut taken, out)
 }
 
-// Room to take the query's variables where variants are sought. None is taken yet.
-fn none_taken(alloc: Global, search: &Search<'_>) -> Result<Trail<()>, AllocError>
-    ensures { IfOk result (HasNoneTaken search.now.kind search.now.slots) }
-{
-    match search.kind {
-        Kind::Variants => Trail::with_slots(alloc, search.slots.query as usize),
-        Kind::Instances => Trail::with_slots(alloc, 0),
-        Kind::Generalizations => Trail::with_slots(alloc, 0),
-        Kind::Unifiable => Trail::with_slots(alloc, 0),
-    }
-}
-
 // Whether the bindings of the nodes above leave them open, where these are solved. What their
 // variables became is then taken.
-fn keeps_apart(search: &Search<'_>, trail: &Trail<&[Cell]>, taken: &mut Trail<()>) -> bool
+fn keeps_apart(search: &Search<'_>, trail: &Trail<&[Cell]>, taken: &mut Taken) -> bool
     requires ready { IsReady search.now }
     requires solving { AllowsSolving search.now.slots trail.now.pairs trail.now.slots }
     requires none { HasNoneTaken search.now.kind search.now.slots taken.old }

@@ -13,6 +13,7 @@ mod ends;
 mod heads;
 mod search;
 mod subtrees;
+mod taken;
 mod variants;
 
 pub use counting::Counted;

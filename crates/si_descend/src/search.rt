@@ -8,6 +8,7 @@ ghost use Rattle.si_descend.specs.Searching.{IsReady, NotesTaken, HasComeTo, Has
 
 use crate::attempts::{attempt, attempts_at};
 use crate::subtrees::{append_all, is_open_below};
+use crate::taken::Taken;
 use crate::variants::is_renaming;
 use si_fit::fit;
 use si_flat::{Cell, Flat, Kind};
@@ -56,7 +57,7 @@ pub(crate) fn enter<'a>(
     node: NodeId,
     scratch: &mut Scratch,
     trail: &mut Trail<&'a [Cell]>,
-    taken: &mut Trail<()>,
+    taken: &mut Taken,
 ) -> Result<bool, AllocError>
     requires node { IsNode search.now.tree.now node }
     requires ready { IsReady search.now }
@@ -95,7 +96,7 @@ pub(crate) fn visit<'a>(
     node: NodeId,
     scratch: &mut Scratch,
     trail: &mut Trail<&'a [Cell]>,
-    taken: &mut Trail<()>,
+    taken: &mut Taken,
     out: &mut Vec<Posting>,
 ) -> Result<u64, AllocError>
     requires node { IsNode search.now.tree.now node }
@@ -137,7 +138,7 @@ fn visit_children<'a>(
     node: NodeId,
     scratch: &mut Scratch,
     trail: &mut Trail<&'a [Cell]>,
-    taken: &mut Trail<()>,
+    taken: &mut Taken,
     out: &mut Vec<Posting>,
 ) -> Result<u64, AllocError>
     requires node { IsNode search.now.tree.now node }

@@ -1,10 +1,11 @@
 // Whether the variables of an entry are renamed.
-ghost use Rattle.std.specs.Prelude.{◌≡◌, ◌+◌, ◌<◌, ◌≤◌, ◌↔◌, IsTrue, is_none, length};
+ghost use Rattle.std.specs.Prelude.{◌≡◌, ◌+◌, ◌<◌, ◌≤◌, ◌↔◌, IsTrue, length};
 ghost use Rattle.si_defs.specs.Substitutions.{Grows};
-ghost use Rattle.si_trail.specs.Trails.{HasDistinctSlots, value_at};
+ghost use Rattle.si_trail.specs.Trails.{HasDistinctSlots};
 ghost use Rattle.si_fit.specs.Fitting.{AllowsSolving};
-ghost use Rattle.si_descend.specs.Renaming.{AreTaken, FreezesQuery, HasBecome, IsNumberInRange, IsRenaming, IsRenamingFirst, Takes};
+ghost use Rattle.si_descend.specs.Renaming.{AreTaken, FreezesQuery, HasBecome, IsNumberInRange, IsRenaming, IsRenamingFirst};
 
+use crate::taken::Taken;
 use si_fit::end_of;
 use si_flat::Cell;
 use si_trail::Trail;
@@ -27,7 +28,7 @@ pub(crate) fn is_renaming(
     trail: &Trail<&[Cell]>,
     slots: &Slots,
     known: usize,
-    taken: &mut Trail<()>,
+    taken: &mut Taken,
 ) -> bool
     requires frozen { FreezesQuery slots.now }
     requires solving { AllowsSolving slots.now trail.now.pairs trail.now.slots }
@@ -51,7 +52,7 @@ pub(crate) fn is_renaming(
 }
 
 // Whether that still holds with one binding more. What its variable became is then taken too.
-fn is_renamed_apart(trail: &Trail<&[Cell]>, slots: &Slots, n: usize, taken: &mut Trail<()>) -> bool
+fn is_renamed_apart(trail: &Trail<&[Cell]>, slots: &Slots, n: usize, taken: &mut Taken) -> bool
     requires distinct { HasDistinctSlots trail.now.pairs }
     requires frozen { FreezesQuery slots.now }
     requires solving { AllowsSolving slots.now trail.now.pairs trail.now.slots }
@@ -67,23 +68,9 @@ fn is_renamed_apart(trail: &Trail<&[Cell]>, slots: &Slots, n: usize, taken: &mut
 {
     match outcome(trail, slots, n) {
         Became::NoEntry => true,
-        Became::Variable(number) => take(taken, number),
+        Became::Variable(number) => taken.take(number),
         Became::Term => false,
     }
-}
-
-// Takes a variable of the query, if it isn't taken.
-fn take(taken: &mut Trail<()>, number: u32) -> bool
-    requires { number < taken.old.slots }
-    ensures free { result ≡ is_none (value_at taken.old.pairs number) }
-    ensures takes { Takes taken.old.pairs number taken.new.pairs result }
-    ensures slots { taken.new.slots ≡ taken.old.slots }
-{
-    if taken.get(number as usize).is_some() {
-        return false;
-    }
-    taken.bind(number as usize, ());
-    true
 }
 
 // What became of the variable of the binding with this number.

@@ -68,7 +68,7 @@ posted_distinct key n (e ∷ es) = (
 )
 
 -- ---- an entry without its place
-got_placed : (es : List Placed) (n : ℕ) (e : Entry) → slice_get (map (λ (p : Placed). p.entry) es) n ≡ Some e → (p : Placed) × (slice_get es n ≡ Some p) × (p.entry ≡ e)
+pub got_placed : (es : List Placed) (n : ℕ) (e : Entry) → slice_get (map (λ (p : Placed). p.entry) es) n ≡ Some e → (p : Placed) × (slice_get es n ≡ Some p) × (p.entry ≡ e)
 got_placed [] n e got = absurd (none-some e got)
 got_placed (p ∷ es) zero e got = (p, refl, same_Some p.entry e got)
 got_placed (p ∷ es) (suc n) e got = got_placed es n e got

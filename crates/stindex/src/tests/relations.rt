@@ -3,7 +3,7 @@ use super::assert_outputs;
 use std::test::Fail;
 
 /// Inputs with their outputs.
-const ROWS: [(&[u8], &[u8]); 11] = [
+const ROWS: [(&[u8], &[u8]); 12] = [
     // The pattern's variables come first, and two variables may be named alike.
     (
         b"add cnf(c1,axiom,p(f(X),a)).\nunifiable lit p(f(b),W)\nunifiable term X\ngeneralizations lit p(f(a),a)\n",
@@ -28,6 +28,10 @@ const ROWS: [(&[u8], &[u8]); 11] = [
     (
         b"add cnf(c1,axiom,p(X,Y)).\nadd cnf(c2,axiom,p(X,X)).\nvariants lit p(B,A)\nvariants lit p(A,A)\n",
         b"ok 1 1\nok 1 1\nc1:1 {?B -> X; ?A -> Y}\nend 1\nc2:1 {?A -> X}\nend 1\n",
+    ),
+    (
+        b"add cnf(c1,axiom,q(X,Y,Z)).\nadd cnf(c2,axiom,q(X,X,Y)).\nadd cnf(c3,axiom,q(X,Y,X)).\nadd cnf(c4,axiom,q(X,Y,Y)).\nadd cnf(c5,axiom,q(X,X,X)).\nvariants lit q(C,A,B)\nvariants lit q(A,A,C)\nvariants lit q(A,B,A)\nvariants lit q(B,A,A)\nvariants lit q(A,A,A)\n",
+        b"ok 1 1\nok 1 1\nok 1 1\nok 1 1\nok 1 1\nc1:1 {?C -> X; ?A -> Y; ?B -> Z}\nend 1\nc2:1 {?A -> X; ?C -> Y}\nend 1\nc3:1 {?A -> X; ?B -> Y}\nend 1\nc4:1 {?B -> X; ?A -> Y}\nend 1\nc5:1 {?A -> X}\nend 1\n",
     ),
     // Equal terms at several places, and equal literals.
     (

@@ -19,10 +19,10 @@ returns-in-Variable-clause-renaming c =
 
 pub returns-in-Variable-clause-taken : goal.returns-in-Variable-clause-taken
 returns-in-Variable-clause-taken c =
-    one_more_taken c.args.slots.now c.args.trail.now.pairs c.args.trail.now.slots c.requires.frozen c.requires.solving c.requires.distinct c.args.n c.requires.known c.in-Variable.number c.args.taken.now.pairs c.take.new.taken.pairs c.take.result c.in-Variable.ensures.became c.requires.taken c.take.ensures.free c.take.ensures.takes
+    one_more_taken c.args.slots.now c.args.trail.now.pairs c.args.trail.now.slots c.requires.frozen c.requires.solving c.requires.distinct c.args.n c.requires.known c.in-Variable.number c.args.taken.now.pairs c.take.new.self.pairs c.take.result c.in-Variable.ensures.became c.requires.taken c.take.ensures.free c.take.ensures.takes
 
 pub returns-in-Variable-clause-grows : goal.returns-in-Variable-clause-grows
-returns-in-Variable-clause-grows c = takes_grows c.args.taken.now.pairs c.in-Variable.number c.take.new.taken.pairs c.take.result c.take.ensures.takes
+returns-in-Variable-clause-grows c = takes_grows c.args.taken.now.pairs c.in-Variable.number c.take.new.self.pairs c.take.result c.take.ensures.takes
 
 pub returns-in-Term-clause-renaming : goal.returns-in-Term-clause-renaming
 returns-in-Term-clause-renaming c =

@@ -1,0 +1,93 @@
+// Which variables of the query an entry's became.
+ghost use Rattle.std.specs.Prelude.{◌≡◌, ◌<◌, ◌≤◌, IfOk, is_none, length, take};
+ghost use Rattle.si_trail.specs.Trails.{value_at};
+ghost use Rattle.si_descend.specs.Renaming.{Takes};
+ghost use Rattle.si_descend.specs.Searching.{HasNoneTaken};
+
+use si_flat::Kind;
+use si_trail::Trail;
+use si_unify::Slots;
+use std::alloc::{AllocError, Global};
+use std::marker::Model;
+
+/// The variables of the query that are taken, in the order in which they were. Where no variants
+/// are sought none can be, and there is no memory for any.
+#[derive(Drop)]
+pub(crate) struct Taken {
+    trail: Option<Trail<()>>,
+}
+
+impl Model for Taken {
+    ghost use Rattle.si_trail.specs.Trails.{Trail as Seen};
+    ghost use Rattle.si_descend.specs.Renaming.{taken_in};
+
+    ghost Value = { Seen (Unit {0}) };
+
+    ghost view = { λ t. taken_in t.trail };
+}
+
+impl Taken {
+    /// None is taken yet.
+    pub(crate) fn none(alloc: Global, kind: Kind, slots: &Slots) -> Result<Taken, AllocError>
+        ensures { IfOk result (HasNoneTaken kind slots.now) }
+    {
+        match kind {
+            Kind::Variants => {
+                let trail = Trail::with_slots(alloc, slots.query as usize)?;
+                Ok(Taken { trail: Some(trail) })
+            }
+            Kind::Instances => Ok(Taken { trail: None }),
+            Kind::Generalizations => Ok(Taken { trail: None }),
+            Kind::Unifiable => Ok(Taken { trail: None }),
+        }
+    }
+
+    /// How many are taken. It is what [`Taken::undo`] takes to come back here.
+    pub(crate) fn mark(&self) -> usize
+        ensures { result ≡ length self.now.pairs }
+    {
+        match &self.trail {
+            Some(trail) => trail.mark(),
+            None => 0,
+        }
+    }
+
+    /// Only the first so many stay taken.
+    pub(crate) fn undo(&mut self, mark: usize)
+        requires { mark ≤ length self.old.pairs }
+        ensures pairs { self.new.pairs ≡ take mark self.old.pairs }
+        ensures slots { self.new.slots ≡ self.old.slots }
+    {
+        match &mut self.trail {
+            Some(trail) => trail.undo(mark),
+            None => {}
+        }
+    }
+
+    /// Takes a variable, if it isn't taken.
+    pub(crate) fn take(&mut self, number: u32) -> bool
+        requires { number < self.old.slots }
+        ensures free { result ≡ is_none (value_at self.old.pairs number) }
+        ensures takes { Takes self.old.pairs number self.new.pairs result }
+        ensures slots { self.new.slots ≡ self.old.slots }
+    {
+        match &mut self.trail {
+            Some(trail) => take(trail, number),
+            None => unreachable!(),
+        }
+    }
+}
+
+// The same over a trail.
+fn take(trail: &mut Trail<()>, number: u32) -> bool
+    requires { number < trail.old.slots }
+    ensures free { result ≡ is_none (value_at trail.old.pairs number) }
+    ensures takes { Takes trail.old.pairs number trail.new.pairs result }
+    ensures slots { trail.new.slots ≡ trail.old.slots }
+{
+    if trail.get(number as usize).is_some() {
+        return false;
+    }
+    trail.bind(number as usize, ());
+    true
+}

@@ -1,5 +1,6 @@
 // Whole runs over sources, sinks and libraries in memory.
 mod counts;
+mod faults;
 mod lists;
 mod loads;
 mod relations;
@@ -367,75 +368,5 @@ fn limits_on_entries_and_input(rt: HostRuntime) -> Result<(), Fail> {
     let (status, bytes) = run(alloc, &limits, b"stats\nstats\n", failing, WHOLE, ROOM)?;
     assert_eq!(rt; status, Status::SourceFault);
     assert_eq!(rt; bytes.as_slice(), counted);
-    Ok(())
-}
-
-/// Three lines, with the bytes that are read and written up to the end of each.
-const LINES: &[u8] = b"add cnf(c1,axiom,p(f(X),a)).\ninstances lit p(Y,Z)\ntree\n";
-
-const REPLIES: &[u8] =
-    b"ok 1 3\nc1:1 {?Y -> f(X); ?Z -> a}\nend 1\nliterals nodes 2 leaves 1 unmerged 0\nterms nodes 3 leaves 2 unmerged 0\n";
-
-const ENDS: [(u32, usize); 3] = [(29, 7), (50, 40), (55, 111)];
-
-#[test]
-fn each_read_may_fail(rt: HostRuntime) -> Result<(), Fail> {
-    let alloc = rt.alloc();
-    // The last number is of no call, for the one before it meets the end.
-    for fails_at in 1..=57 {
-        let from = Device { chunk: 1, fails_at };
-        let mut count = 0;
-        for (read, wrote) in ENDS {
-            if read < fails_at {
-                count = wrote;
-            }
-        }
-        let mut due = REPLIES.to_vec(alloc)?;
-        due.truncate(count);
-        let end = if fails_at < 57 {
-            Status::SourceFault
-        } else {
-            Status::Ended
-        };
-        let (status, bytes) = run(alloc, &Limits::standard(), LINES, from, WHOLE, ROOM)?;
-        assert_eq!(rt; status, end, "read {fails_at}");
-        assert_eq!(rt; bytes.as_slice(), due.as_slice(), "read {fails_at}");
-    }
-    Ok(())
-}
-
-#[test]
-fn each_write_may_fail(rt: HostRuntime) -> Result<(), Fail> {
-    let alloc = rt.alloc();
-    for count in 0..=111u32 {
-        let mut due = REPLIES.to_vec(alloc)?;
-        due.truncate(count as usize);
-        let end = if count < 111 {
-            Status::SinkFault
-        } else {
-            Status::Ended
-        };
-        let failing = Device {
-            chunk: 1,
-            fails_at: count + 1,
-        };
-        let (status, bytes) = run(alloc, &Limits::standard(), LINES, WHOLE, failing, ROOM)?;
-        assert_eq!(rt; status, end, "write {count}");
-        assert_eq!(rt; bytes.as_slice(), due.as_slice(), "write {count}");
-        let by_one = Device {
-            chunk: 1,
-            fails_at: 0,
-        };
-        let (status, bytes) = run(
-            alloc,
-            &Limits::standard(),
-            LINES,
-            WHOLE,
-            by_one,
-            count as usize,
-        )?;
-        assert_eq!(rt; status, end, "room {count}");
-        assert_eq!(rt; bytes.as_slice(), due.as_slice(), "room {count}");
-    }
     Ok(())
 }

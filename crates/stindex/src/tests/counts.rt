@@ -1,5 +1,5 @@
 // Which calls `serve` makes of its devices.
-use super::{Device, LINES, ROOM};
+use super::{Device, ROOM};
 use crate::serve::serve;
 use crate::status::Status;
 use si_io::{Failed, MemoryLibrary, MemorySink, MemorySource, Sink, Source};
@@ -153,7 +153,11 @@ const RUNS: [(u64, &[u8], Status); 8] = [
     (1000, b"", Status::Ended),
     (1000, b"\n", Status::Ended),
     (1000, b"x", Status::Ended),
-    (1000, LINES, Status::Ended),
+    (
+        1000,
+        b"add cnf(c1,axiom,p(f(X),a)).\ninstances lit p(Y,Z)\ntree\n",
+        Status::Ended,
+    ),
     // Refusals, white space, and a last line without a line feed.
     (
         1000,

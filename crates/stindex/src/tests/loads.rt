@@ -4,6 +4,7 @@ use crate::status::Status;
 use si_io::MemoryLibrary;
 use si_session::Limits;
 use std::alloc::{AllocError, Global};
+use std::process::Abort;
 use std::test::Fail;
 
 /// The names of files, and their bytes.
@@ -47,7 +48,12 @@ impl Bound {
     }
 }
 
-fn library_of(alloc: Global, files: Files, fails_at: u32) -> Result<MemoryLibrary, AllocError> {
+/// A library of these files, of which one fetch fails, or none at 0.
+pub fn library_of(
+    alloc: Global,
+    files: &[(&[u8], &[u8])],
+    fails_at: u32,
+) -> Result<MemoryLibrary, AllocError> {
     let mut library = MemoryLibrary::new(alloc, vec![in alloc; fails_at]?);
     for (name, bytes) in files {
         library.put(name.to_vec(alloc)?, bytes.to_vec(alloc)?)?;
@@ -78,18 +84,6 @@ const INCLUDING: Files = &[
     (b"b.ax", b"cnf(b1,axiom,p(a))."),
 ];
 
-/// A problem, and the axioms of groups.
-const GROUP: Files = &[
-    (
-        b"grp.ax",
-        b"cnf(left_identity,axiom,( multiply(identity,X) = X )).\ncnf(left_inverse,axiom,( multiply(inverse(X),X) = identity )).\ncnf(associativity,axiom,\n    ( multiply(multiply(X,Y),Z) = multiply(X,multiply(Y,Z)) )).\ncnf(right_inverse,axiom,( multiply(X,inverse(X)) = identity )).\n",
-    ),
-    (
-        b"main.p",
-        b"% a group problem\ninclude('grp.ax',[left_inverse,associativity]).\ncnf(goal,negated_conjecture,( multiply(a,inverse(a)) != identity )).\n",
-    ),
-];
-
 /// Files with one fault each.
 const FAULTY: Files = &[
     (
@@ -99,24 +93,19 @@ const FAULTY: Files = &[
     (b"other", b"cnf(x1,axiom,p(a)).\n\nfof(f,axiom,p)."),
     (b"twice", b"cnf(x1,axiom,p(a)).\ncnf(x1,axiom,p(b))."),
     (b"shapes", b"cnf(x1,axiom,p(a)).\ncnf(x2,axiom,p(a,b))."),
+    (b"open", b"cnf(k,axiom,p)./* x"),
+    (b"odd", b"cnf(k,axiom,p).\xc8"),
     (b"good", b"cnf(x1,axiom,p(a)).\ncnf(x2,axiom,p(b))."),
 ];
 
 /// A bound, files, an input and its output.
-const ROWS: [(Bound, Files, &[u8], &[u8]); 14] = [
-    // A problem with those of its axioms that it selects, in order.
-    (
-        Bound::Standard,
-        GROUP,
-        b"load 'main.p'\nunifiable term multiply(X,inverse(X))\ninstances term inverse(X)\nremove left_inverse\nstats\n",
-        b"ok 3 15\nassociativity:1:1 {Z -> inverse(?X); ?X -> multiply(X,Y)}\nassociativity:1:1.1 {X -> ?X; Y -> inverse(?X)}\nassociativity:1:2.2 {Y -> ?X; Z -> inverse(?X)}\ngoal:1:1 {?X -> a}\nend 4\nleft_inverse:1:1.1 {?X -> X}\ngoal:1:1.2 {?X -> a}\nend 2\nok 1 4\nclauses 2 entries 11 symbols 5\n",
-    ),
+const ROWS: [(Bound, Files, &[u8], &[u8]); 12] = [
     // A refused load keeps none of its clauses.
     (
         Bound::Standard,
         FAULTY,
-        b"load 'late'\nstats\nload 'other'\nload 'twice'\nload 'shapes'\nstats\n",
-        b"! syntax 'late' 4\nclauses 0 entries 0 symbols 0\n! language 'other' 3\n! taken x1\n! use p predicate/2 predicate/1\nclauses 0 entries 0 symbols 0\n",
+        b"load 'late'\nstats\nload 'other'\nload 'twice'\nload 'shapes'\nload 'open'\nload 'odd'\nstats\n",
+        b"! syntax 'late' 4\nclauses 0 entries 0 symbols 0\n! language 'other' 3\n! taken x1\n! use p predicate/2 predicate/1\n! syntax 'open' 1\n! syntax 'odd' 1\nclauses 0 entries 0 symbols 0\n",
     ),
     // Nor does it take one that was kept before.
     (
@@ -167,13 +156,6 @@ const ROWS: [(Bound, Files, &[u8], &[u8]); 14] = [
         b"load 'a.p'\nstats\nload 'a.p'\n",
         b"! fault 'b.ax'\nclauses 0 entries 0 symbols 0\nok 1 2\n",
     ),
-    // It fails at the first file.
-    (
-        Bound::Fails(1),
-        INCLUDING,
-        b"load 'a.p'\nload 'b.ax'\nload 'a.p'\n",
-        b"! fault 'a.p'\nok 1 2\n! taken b1\n",
-    ),
     // What is no load asks for no file, so the first one asked for is the one that fails.
     (
         Bound::Fails(1),
@@ -204,15 +186,29 @@ const ROWS: [(Bound, Files, &[u8], &[u8]); 14] = [
     ),
 ];
 
+/// Looks at what is written where this is the input, over these files, of which one fetch fails, or
+/// none at 0.
+pub fn assert_output(
+    rt: &impl Abort,
+    alloc: Global,
+    limits: &Limits,
+    (files, fails_at): (&[(&[u8], &[u8])], u32),
+    input: &[u8],
+    output: &[u8],
+) -> Result<(), AllocError> {
+    let mut library = library_of(alloc, files, fails_at)?;
+    let devices = (WHOLE, WHOLE);
+    let (status, bytes) = run_over(alloc, limits, input, devices, ROOM, &mut library)?;
+    assert_eq!(rt; status, Status::Ended);
+    assert_eq!(rt; bytes.as_slice(), output, "at {input:?}");
+    Ok(())
+}
+
 #[test]
 fn files_are_loaded_or_refused(rt: HostRuntime) -> Result<(), Fail> {
-    let alloc = rt.alloc();
     for (bound, files, input, output) in ROWS {
-        let mut library = library_of(alloc, files, bound.fails_at())?;
-        let devices = (WHOLE, WHOLE);
-        let (status, bytes) = run_over(alloc, &bound.limits(), input, devices, ROOM, &mut library)?;
-        assert_eq!(rt; status, Status::Ended);
-        assert_eq!(rt; bytes.as_slice(), output, "at {input:?}");
+        let library = (files, bound.fails_at());
+        assert_output(&rt, rt.alloc(), &bound.limits(), library, input, output)?;
     }
     Ok(())
 }

@@ -1,5 +1,6 @@
 // Whole runs over sources, sinks and libraries in memory.
 mod counts;
+mod large;
 mod lists;
 mod loads;
 mod relations;

@@ -1,6 +1,7 @@
 // Whole runs over sources, sinks and libraries in memory.
 mod counts;
 mod faults;
+mod large;
 mod lists;
 mod loads;
 mod relations;

@@ -55,7 +55,7 @@ returns-in-Err-clause-same_names c =
     let put = c.in_ok-key.ensures.put in
     name_gone c.args.clause c.unwrap-kept.result.now c.in_ok-key.key (key_of c.args.known.now.names) (key_of c.put.new.names) (key_of c.remove.new.self)
     (put_item c.args.clauses.now.items c.put.new.clauses.items c.in_ok-key.key c.args.clause c.get.result c.unwrap-kept.result put.fresh put.pushed c.unwrap-kept.ensures c.get.ensures.some)
-    c.requires.free put.name c.remove.ensures
+    c.requires.free put.name c.remove.ensures.gone
 
 pub returns-in-Err-clause-held : goal.returns-in-Err-clause-held
 returns-in-Err-clause-held c =

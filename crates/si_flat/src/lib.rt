@@ -114,11 +114,12 @@ impl Flat {
         })
     }
 
-    // The term of these cells, in the memory that they have.
-    fn from_vec(cells: Vec<Cell>) -> Flat
+    // The term of these cells, in their memory, without the room after the last one.
+    fn from_vec(mut cells: Vec<Cell>) -> Flat
         requires { IsWhole cells.items }
         ensures { result ≡ cells.items }
     {
+        cells.shrink_to_fit();
         Flat {
             cells: SmallVec::from_vec(cells),
         }

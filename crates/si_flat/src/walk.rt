@@ -14,6 +14,9 @@ use crate::{Cell, Owner};
 use si_term::{Entry, SymTable, Term};
 use std::alloc::{AllocError, Global};
 
+// Room for so many cells is made at once: most entries of a prover's clauses have no more.
+const FEW_CELLS: usize = 16;
+
 /// What the numbers of symbols and the kind of variables go by.
 #[derive(Clone, Copy)]
 pub(crate) struct Scheme {
@@ -65,6 +68,7 @@ impl<'a> WrittenEntry<'a> {
         };
         self.met.clear();
         self.cells.clear();
+        self.cells.reserve(FEW_CELLS)?;
         write_term(table, scheme, term, &mut self.met, &mut self.cells)
     }
 }

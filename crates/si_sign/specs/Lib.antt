@@ -4,3 +4,4 @@ pub mod Keys
 pub mod Uses
 pub mod Taking
 pub mod Plain
+pub mod Short

@@ -8,6 +8,7 @@ pub mod faults;
 mod keys;
 mod plain;
 mod recent;
+mod short;
 pub mod signature;
 pub mod store;
 pub mod texts;
@@ -16,6 +17,7 @@ mod walk;
 
 pub use faults::{AddFault, Clash, Rejected, Shape, TakeFault};
 pub use plain::PlainStore;
+pub use short::ShortStore;
 pub use signature::Signature;
 pub use store::ClauseStore;
 pub use texts::TextKeys;

@@ -65,6 +65,14 @@ impl PlainStore {
             limit,
         }
     }
+
+    /// The number of clauses.
+    pub fn len(&self) -> usize
+        ensures number { result ≡ length self.now.1 }
+        ensures stored { IsStored self.now.0 self.now.1 }
+    {
+        self.clauses.len()
+    }
 }
 
 impl ClauseStore for PlainStore {

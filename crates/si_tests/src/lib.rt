@@ -20,6 +20,8 @@ mod maps;
 #[cfg(test)]
 mod prints;
 #[cfg(test)]
+mod short;
+#[cfg(test)]
 mod signatures;
 #[cfg(test)]
 mod stores;

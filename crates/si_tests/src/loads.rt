@@ -14,7 +14,7 @@ use std::test::Fail;
 
 /// What a load answers, but for the name that it tells.
 #[derive(Clone, Copy, Debug, PartialEq, Eq)]
-enum Answer {
+pub(crate) enum Answer {
     /// So many clauses and entries.
     Gained(u32, u32),
     Syntax(u64),
@@ -80,7 +80,7 @@ impl Bound {
 }
 
 /// The names of files, and their bytes.
-type Files = &'static [(&'static [u8], &'static [u8])];
+pub(crate) type Files = &'static [(&'static [u8], &'static [u8])];
 
 /// A load of the file `m` into a store that has the clause `k`: the files, the small bound, the
 /// answer, the name that it tells, and the names of the clauses that are kept afterwards.
@@ -527,7 +527,7 @@ const LIMITS: [Row; 15] = [
 const KEPT: Files = &[(b"k", b"cnf(k,axiom,r).")];
 
 /// What the load answered, and the name that it told.
-fn told(answer: &Result<Loaded, HarvestFault>) -> (Answer, &[u8]) {
+pub(crate) fn told(answer: &Result<Loaded, HarvestFault>) -> (Answer, &[u8]) {
     match answer {
         Ok(loaded) => (Answer::Gained(loaded.clauses, loaded.entries), &[]),
         Err(HarvestFault::Syntax { file, line }) => (Answer::Syntax(*line), file.as_bytes()),
@@ -555,7 +555,7 @@ fn why(fault: &AddFault) -> Answer {
 }
 
 /// Whether the store had a clause with this name. It has none then.
-fn removes(alloc: Global, store: &mut PlainStore, name: &[u8]) -> Result<bool, AllocError> {
+fn removes<T: ClauseStore>(alloc: Global, store: &mut T, name: &[u8]) -> Result<bool, AllocError> {
     let name = Name {
         kind: NameKind::Word,
         text: Text::from_bytes(alloc, name)?,
@@ -564,7 +564,11 @@ fn removes(alloc: Global, store: &mut PlainStore, name: &[u8]) -> Result<bool, A
 }
 
 /// Whether the store has the clauses with these names, and no others. It is empty then.
-fn has_only(alloc: Global, store: &mut PlainStore, names: &[&[u8]]) -> Result<bool, AllocError> {
+pub(crate) fn has_only<T: ClauseStore>(
+    alloc: Global,
+    store: &mut T,
+    names: &[&[u8]],
+) -> Result<bool, AllocError> {
     for name in names {
         if !removes(alloc, store, name)? {
             return Ok(false);
@@ -573,7 +577,11 @@ fn has_only(alloc: Global, store: &mut PlainStore, names: &[&[u8]]) -> Result<bo
     Ok(store.remove_last().is_none())
 }
 
-fn library_of(alloc: Global, files: Files, fails_at: u32) -> Result<MemoryLibrary, AllocError> {
+pub(crate) fn library_of(
+    alloc: Global,
+    files: Files,
+    fails_at: u32,
+) -> Result<MemoryLibrary, AllocError> {
     let mut library = MemoryLibrary::new(alloc, vec![in alloc; fails_at]?);
     for (name, bytes) in files {
         library.put(name.to_vec(alloc)?, bytes.to_vec(alloc)?)?;

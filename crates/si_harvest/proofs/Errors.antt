@@ -1,5 +1,5 @@
 -- Faults that are passed on.
-use Rattle.std.proofs.Common.{◌≡◌, ℕ, List, Option, sym, subst, inl, inr}
+use Rattle.std.proofs.Common.{◌≡◌, ◌⊎◌, ℕ, List, Option, sym, subst, inl, inr}
 use Rattle.si_defs.specs.Bytes.{Bytes}
 use Rattle.si_defs.specs.Clauses.{Clause}
 use Rattle.std.specs.Prelude.{Bool, Result, Ok, Err, IfErr, IsErrAnd}
@@ -10,7 +10,7 @@ use Rattle.si_io.specs.Counts.{raised_by}
 use Rattle.si_io.specs.Library.{Counts}
 use Rattle.si_harvest.specs.declared.faults.HarvestFault.{HarvestFault}
 use Rattle.si_harvest.specs.Faults.{Explains, HasFaultCause, HasLoadCause}
-use Rattle.si_harvest.specs.Opened.{HasFault}
+use Rattle.si_harvest.specs.Opened.{HasFault, HasFetched}
 use Rattle.si_harvest.specs.Loading.{ReadsFiles}
 
 -- the fault is told for another reason
@@ -34,8 +34,8 @@ cause_again (Err x) e may_fail before now h c = subst (HasFaultCause may_fail be
 
 -- so a load ends with it
 pub reads_fault : {T : Type 0} (told : Option Files) (bounds : Bounds) (rules : Rules) (file : Bytes) (r : Result T HarvestFault) (e : HarvestFault) (start kept : List Clause) (calls calls_now made : ℕ)
-    → IsErrAnd r (λ x. x ≡ e) → calls_now ≡ raised_by made calls → MayFetch bounds file made → Explains rules e (HasFault told bounds rules start file made)
+    → IsErrAnd r (λ x. x ≡ e) → calls_now ≡ raised_by made calls → MayFetch bounds file made → (made ≡ 0) ⊎ HasFetched told bounds rules start file made → Explains rules e (HasFault told bounds rules start file made)
     → ReadsFiles told bounds rules file r start kept calls calls_now
-reads_fault told bounds rules file (Ok x) e start kept calls calls_now made h counted may f = absurd h
-reads_fault told bounds rules file (Err x) e start kept calls calls_now made h counted may f =
-    record { made = made; counted = counted; may = may; right = tt; fault = subst (λ y. Explains rules y (HasFault told bounds rules start file made)) (sym h) f }
+reads_fault told bounds rules file (Ok x) e start kept calls calls_now made h counted may first f = absurd h
+reads_fault told bounds rules file (Err x) e start kept calls calls_now made h counted may first f =
+    record { made = made; counted = counted; may = may; first = first; right = tt; fault = subst (λ y. Explains rules y (HasFault told bounds rules start file made)) (sym h) f }

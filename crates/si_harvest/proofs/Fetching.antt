@@ -1,5 +1,5 @@
 -- Each fetch of a load is one call of the library.
-use Rattle.std.proofs.Common.{◌≡◌, ℕ, ◌+◌, ◌<◌, ◌≤◌, [], refl, sym, ap, ◌∙◌, subst, arith}
+use Rattle.std.proofs.Common.{◌≡◌, ℕ, ◌+◌, ◌<◌, ◌≤◌, [], refl, sym, ap, ◌∙◌, subst, inl, inr, arith}
 use Rattle.si_defs.specs.Bytes.{Bytes}
 use Rattle.si_state.specs.Harvest.{Bounds, MayAsk}
 use Rattle.si_steps.specs.Loads.{MayFetch}
@@ -9,7 +9,7 @@ use Rattle.si_io.specs.declared.library.Fetched.TheVariants.{Found, Missing, Too
 use Rattle.si_io.specs.Counts.{raised, raised_by, fetch_counted}
 use Rattle.si_io.proofs.Fetching.{HasFetchCause_once}
 use Rattle.si_harvest.specs.declared.reading.Reading.{Reading}
-use Rattle.si_harvest.specs.Opened.{opened}
+use Rattle.si_harvest.specs.Opened.{opened, FetchesOnce}
 use Rattle.si_harvest.specs.Stepping.{FetchesOn}
 
 one_call : (answer : Fetched) (before : LibraryCounts) → (fetch_counted answer before).calls ≡ raised before.calls
@@ -52,11 +52,11 @@ none_counted made first none = omega (arith, none)
 
 -- behind the fetch of the first file
 pub first_fetch : (bounds : Bounds) (file : Bytes) (old new : Reading) → old.files.items ≡ [] → old.fetches ≡ 0 → (old.fetches ≤ bounds.fetches → new.fetches ≤ bounds.fetches)
-    → ((MayAsk bounds (opened old.files.items) old.fetches file → ⊥) → new.fetches ≡ old.fetches) → MayFetch bounds file new.fetches
-first_fetch bounds file old new none zero few unasked = record {
-  most = few (omega (arith, zero));
-  none = λ never. unasked (λ may. never (subst (λ n. MayAsk bounds [] n file) zero (subst (λ fs. MayAsk bounds (opened fs) old.fetches file) none may))) ∙ zero;
-}
+    → FetchesOnce bounds file old.files.items old.fetches new.fetches → MayFetch bounds file new.fetches
+first_fetch bounds file old new none zero few once = record { most = few (omega (arith, zero)); none = λ never. by never once } where
+  by : (MayAsk bounds [] 0 file → ⊥) → FetchesOnce bounds file old.files.items old.fetches new.fetches → new.fetches ≡ 0
+  by never (inl same) = same ∙ zero
+  by never (inr (may, one_more)) = absurd (never (subst (λ n. MayAsk bounds [] n file) zero (subst (λ fs. MayAsk bounds (opened fs) old.fetches file) none may)))
 
 -- and behind others
 pub further_fetch : (bounds : Bounds) (file : Bytes) (made : ℕ) → MayAsk bounds [] 0 file → made ≤ bounds.fetches → MayFetch bounds file made

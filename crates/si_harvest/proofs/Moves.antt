@@ -15,7 +15,7 @@ use Rattle.si_steps.proofs.FetchLaws.{fetches-append, barred_no_ask, made_barred
 use Rattle.si_harvest.specs.declared.files.OpenFile.{OpenFile}
 use Rattle.si_harvest.specs.declared.names.NameSet.{NameSet}
 use Rattle.si_harvest.specs.declared.reading.Reading.{Reading}
-use Rattle.si_harvest.specs.Opened.{opened, is_selected, OpensInside, IsUnopened, TriesClause, HasFault}
+use Rattle.si_harvest.specs.Opened.{opened, is_selected, OpensInside, IsUnopened, FetchesOnce, TriesClause, HasFault, HasFetched}
 use Rattle.si_harvest.specs.Underway.{Lists, Narrows, IsAtSpot, Stand, Finishes, IsUnderway}
 use Rattle.si_harvest.specs.Gains.{GainsByLoad}
 use Rattle.si_harvest.proofs.Stands.{innermost, stand_names, stand_selected, stand_unselected, selected-reverse}
@@ -45,19 +45,24 @@ module _ (told : Option Files) (bounds : Bounds) (rules : Rules) (start : List C
 
   -- The load goes on behind these events.
   pub goes_on : (old new : Reading) (state state' : List Clause) (gained : List Event) (spots : List Spot) (u : IsUnderway told bounds rules start file old state)
-      → Stand (reverse new.files.items) spots → state' ≡ state ++ tried gained → new.fetches ≡ old.fetches + fetches gained
+      → Stand (reverse new.files.items) spots → state' ≡ state ++ tried gained → new.fetches ≡ old.fetches + fetches gained → HasFetched told bounds rules start file new.fetches
       → ((files : Files) → told ≡ Some files → (es : List Event) (fault : Option Fault) → Finishes files bounds rules spots new.fetches state' es fault
       → Finishes files bounds rules u.spots old.fetches state (gained ++ es) fault)
       → IsUnderway told bounds rules start file new state'
-  goes_on old new state state' gained spots u stand whole made finishes = record {
+  goes_on old new state state' gained spots u stand whole made fetched finishes = record {
     spots = spots;
     stand = stand;
     events = u.events ++ gained;
     gained = whole ∙ ap (λ l. l ++ tried gained) u.gained ∙ append_assoc start (tried u.events) (tried gained) ∙ ap (λ l. start ++ l) (sym (tried-append u.events gained));
     asked = omega (arith, made, u.asked, fetches-append u.events gained);
     begun = omega (arith, made, u.begun);
+    fetched = fetched;
     goes_on = λ files t es fault h. subst (λ l. Loads files bounds rules start file l fault) (sym (append_assoc u.events gained es)) (u.goes_on files t (gained ++ es) fault (finishes files t es fault h));
   }
+
+  -- with no fetch more
+  pub still_fetched : (old : Reading) (state : List Clause) (made : ℕ) → made ≡ old.fetches → IsUnderway told bounds rules start file old state → HasFetched told bounds rules start file made
+  still_fetched old state made same u = subst (λ n. HasFetched told bounds rules start file n) (sym same) u.fetched
 
   -- or it ends with a fault
   pub has_fault : (old : Reading) (state : List Clause) (gained : List Event) (made : ℕ) (fault : Fault) (u : IsUnderway told bounds rules start file old state) → old.fetches ≤ made
@@ -74,7 +79,7 @@ module _ (told : Option Files) (bounds : Bounds) (rules : Rules) (start : List C
       → new.files.items ≡ items → new.fetches ≡ old.fetches → IsUnderway told bounds rules start file old state → IsUnderway told bounds rules start file new state
   at_end old new state items f e b same made u =
       let w = now_front old state items f e u in
-      goes_on old new state state [] w.outer u (subst (λ fs. Stand (reverse fs) w.outer) (sym same) w.others) (sym (append-nil state)) (omega (arith, made))
+      goes_on old new state state [] w.outer u (subst (λ fs. Stand (reverse fs) w.outer) (sym same) w.others) (sym (append-nil state)) (omega (arith, made)) (still_fetched old state new.fetches made u)
       (λ files t es fault h. subst (λ ss. Finishes files bounds rules ss old.fetches state es fault) (sym w.first)
       (finishes_end files bounds rules w.spot w.outer old.fetches state es fault (subst AreBlanks (sym w.own.left) b)
       (subst (λ n. Finishes files bounds rules w.outer n state es fault) made h)))
@@ -105,14 +110,14 @@ module _ (told : Option Files) (bounds : Bounds) (rules : Rules) (start : List C
         → IsUnderway told bounds rules start file new state'
     by (inl (no_one, stays)) =
         let unselected : IsSelected w.spot.around clause.name → ⊥ = stand_unselected (reverse new.files.items) (next ∷ w.outer) clause.name stands (selected-reverse new.files.items clause.name ∙ no_one) in
-        goes_on old new state state' [] (next ∷ w.outer) u stands (stays ∙ sym (append-nil state)) (omega (arith, made))
+        goes_on old new state state' [] (next ∷ w.outer) u stands (stays ∙ sym (append-nil state)) (omega (arith, made)) (still_fetched old state new.fetches made u)
         (λ files t es fault h. subst (λ ss. Finishes files bounds rules ss old.fetches state es fault) (sym w.first)
         (finishes_over files bounds rules w.spot w.outer old.fetches state clause (drop end f.bytes.items) es fault item unselected
         (subst (λ n. Finishes files bounds rules (next ∷ w.outer) n state es fault) made (subst (λ l. Finishes files bounds rules (next ∷ w.outer) new.fetches l es fault) stays h))))
     by (inr (each, accepts)) =
         let selected : IsSelected w.spot.around clause.name = stand_selected (reverse new.files.items) (next ∷ w.outer) clause.name stands (selected-reverse new.files.items clause.name ∙ each) in
         let added : Accepts rules state clause (state ++ clause ∷ []) = subst (Accepts rules state clause) accepts.added accepts in
-        goes_on old new state state' (attempt clause ∷ []) (next ∷ w.outer) u stands accepts.added (omega (arith, made))
+        goes_on old new state state' (attempt clause ∷ []) (next ∷ w.outer) u stands accepts.added (omega (arith, made)) (still_fetched old state new.fetches made u)
         (λ files t es fault h. subst (λ ss. Finishes files bounds rules ss old.fetches state (attempt clause ∷ es) fault) (sym w.first)
         (finishes_accepted files bounds rules w.spot w.outer old.fetches state clause (drop end f.bytes.items) es fault item selected added
         (subst (λ n. Finishes files bounds rules (next ∷ w.outer) n (state ++ clause ∷ []) es fault) made (subst (λ l. Finishes files bounds rules (next ∷ w.outer) new.fetches l es fault) accepts.added h))))
@@ -172,6 +177,67 @@ module _ (told : Option Files) (bounds : Bounds) (rules : Rules) (start : List C
       ))
 
   -- ---- includes
+  -- the file can't be opened inside the others
+  pub is_unopened : (old : Reading) (state : List Clause) (items : List OpenFile) (f : OpenFile) (end : ℕ) (name : Bytes) (selection : Selection) (count : ℕ) (fault : Fault)
+      → old.files.items ≡ items ++ f ∷ [] → BeginsWithItem (drop f.at f.bytes.items) (include_item name selection) (drop end f.bytes.items)
+      → IsUnopened told bounds name (items ++ record f { at = end } ∷ []) old.fetches count fault
+      → IsUnderway told bounds rules start file old state → HasFault told bounds rules start file count fault
+  is_unopened old state items f end name selection count fault e b h u =
+      has_fault old state (ask name ∷ []) count fault u (later h)
+      (λ files t. (subst (λ ss. Finishes files bounds rules ss old.fetches state (ask name ∷ []) (Some fault)) (sym w.first) (by files t h), counted files t h)) where
+        moved : List OpenFile
+        moved = items ++ record f { at = end } ∷ []
+
+        later : IsUnopened told bounds name moved old.fetches count fault → old.fetches ≤ count
+        later (inl (no_one, same_count)) = omega (arith, same_count)
+        later (inr (may, no_file, one_more)) = omega (arith, one_more)
+
+        counted : (files : Files) → told ≡ Some files → IsUnopened told bounds name moved old.fetches count fault → count ≡ fetches_made (u.events ++ ask name ∷ []) (Some fault)
+        counted files t (inl (no_one, same_count)) =
+            same_count ∙ u.asked ∙ made_barred bounds (opened moved) old.fetches name fault u.events no_one
+        counted files t (inr (may, no_file, one_more)) =
+            one_more ∙ ap (λ n. n + 1) u.asked ∙ made_withheld files bounds name fault u.events (subst (λ x. IfSome x (λ fs. IsWithheld fs bounds name fault)) t no_file)
+
+        w : Front f (reverse items) u.spots
+        w = now_front old state items f e u
+
+        next : Spot
+        next = record w.spot { rest = drop end f.bytes.items }
+
+        stands : Stand (reverse moved) (next ∷ w.outer)
+        stands = subst (λ fs. Stand fs (next ∷ w.outer)) (sym (innermost items (record f { at = end }))) (behind f w.outer w.spot end w.own, w.others)
+
+        names : opened moved ≡ w.spot.opened
+        names = sym (stand_names (reverse moved) (next ∷ w.outer) stands)
+
+        item : BeginsWithItem w.spot.rest (include_item name selection) (drop end f.bytes.items)
+        item = subst (λ l. BeginsWithItem l (include_item name selection) (drop end f.bytes.items)) (sym w.own.left) b
+
+        by : (files : Files) → told ≡ Some files → IsUnopened told bounds name moved old.fetches count fault
+            → Finishes files bounds rules (w.spot ∷ w.outer) old.fetches state (ask name ∷ []) (Some fault)
+        by files t (inl (no_one, same_count)) =
+            finishes_barred files bounds rules w.spot w.outer old.fetches state name selection (drop end f.bytes.items) fault item
+            (subst (λ l. IsBarred bounds l old.fetches name fault) names no_one)
+        by files t (inr (may, no_file, one_more)) =
+            finishes_withheld files bounds rules w.spot w.outer old.fetches state name selection (drop end f.bytes.items) fault item
+            (subst (λ l. MayAsk bounds l old.fetches name) names may)
+            (subst (λ x. IfSome x (λ fs. IsWithheld fs bounds name fault)) t no_file)
+
+  -- a fetch that is made may be one at which the library fails
+  pub may_fail : (name : Bytes) (outer : List OpenFile) (before made : ℕ) → MayAsk bounds (opened outer) before name → made ≡ before + 1 → IsUnopened told bounds name outer before made (failed name)
+  may_fail name outer before made may one_more = inr (may, any told, one_more) where
+    any : (t : Option Files) → IfSome t (λ files. IsWithheld files bounds name (failed name))
+    any None = tt
+    any (Some files) = refl
+
+  -- so the fetches so far are the first ones of the load
+  pub once_fetched : (old : Reading) (state : List Clause) (items : List OpenFile) (f : OpenFile) (end : ℕ) (name : Bytes) (selection : Selection) (made : ℕ)
+      → old.files.items ≡ items ++ f ∷ [] → BeginsWithItem (drop f.at f.bytes.items) (include_item name selection) (drop end f.bytes.items)
+      → FetchesOnce bounds name (items ++ record f { at = end } ∷ []) old.fetches made → IsUnderway told bounds rules start file old state → HasFetched told bounds rules start file made
+  once_fetched old state items f end name selection made e b (inl same) u = still_fetched old state made same u
+  once_fetched old state items f end name selection made e b (inr (may, one_more)) u =
+      (name, is_unopened old state items f end name selection made (failed name) e b (may_fail name (items ++ record f { at = end } ∷ []) old.fetches made may one_more) u)
+
   narrows : (selection : Selection) (chosen : Option NameSet) (around : List (List Name)) → Lists selection chosen → Narrows chosen around (narrowed selection around)
   narrows all None around h = refl
   narrows all (Some set) around h = let e : Some set ≡ None = h in cc
@@ -223,6 +289,7 @@ module _ (told : Option Files) (bounds : Bounds) (rules : Rules) (start : List C
     by : (t : Option Files) → told ≡ t → IsUnderway told bounds rules start file new state
     by t same_told =
         goes_on old new state state (ask name ∷ []) (inner ∷ next ∷ w.outer) u all_stand (sym (append-nil state)) (omega (arith, count))
+        (once_fetched old state items f end name selection new.fetches e b (inr (subst (λ fs. MayAsk bounds (opened fs) old.fetches name) same (subst (λ n. MayAsk bounds (opened middle.files.items) n name) made h.may), count)) u)
         (λ files q es fault k. subst (λ ss. Finishes files bounds rules ss old.fetches state (ask name ∷ es) fault) (sym w.first)
         (finishes_opened files bounds rules w.spot w.outer old.fetches state name h.file.bytes.items selection (drop end f.bytes.items) es fault item may
         (given files q) h.given.small
@@ -230,52 +297,34 @@ module _ (told : Option Files) (bounds : Bounds) (rules : Rules) (start : List C
           given : (files : Files) → told ≡ Some files → files name ≡ Some h.file.bytes.items
           given files q = subst (λ x. IfSome x (λ fs. fs name ≡ Some h.file.bytes.items)) q h.given.given
 
-  -- or it can't be opened
-  pub is_unopened : (old middle : Reading) (state : List Clause) (items : List OpenFile) (f : OpenFile) (end : ℕ) (name : Bytes) (selection : Selection) (count : ℕ) (fault : Fault)
-      → old.files.items ≡ items ++ f ∷ [] → BeginsWithItem (drop f.at f.bytes.items) (include_item name selection) (drop end f.bytes.items)
-      → middle.files.items ≡ items ++ record f { at = end } ∷ [] → middle.fetches ≡ old.fetches → IsUnopened told bounds name middle count fault
-      → IsUnderway told bounds rules start file old state → HasFault told bounds rules start file count fault
-  is_unopened old middle state items f end name selection count fault e b same made h u =
-      has_fault old state (ask name ∷ []) count fault u (later h)
-      (λ files t. (subst (λ ss. Finishes files bounds rules ss old.fetches state (ask name ∷ []) (Some fault)) (sym w.first) (by files t h), counted files t h)) where
-        later : IsUnopened told bounds name middle count fault → old.fetches ≤ count
-        later (inl (no_one, same_count)) = omega (arith, same_count, made)
-        later (inr (may, no_file, one_more)) = omega (arith, one_more, made)
-
-        counted : (files : Files) → told ≡ Some files → IsUnopened told bounds name middle count fault → count ≡ fetches_made (u.events ++ ask name ∷ []) (Some fault)
-        counted files t (inl (no_one, same_count)) =
-            same_count ∙ made ∙ u.asked ∙ made_barred bounds (opened middle.files.items) middle.fetches name fault u.events no_one
-        counted files t (inr (may, no_file, one_more)) =
-            one_more ∙ ap (λ n. n + 1) (made ∙ u.asked) ∙ made_withheld files bounds name fault u.events (subst (λ x. IfSome x (λ fs. IsWithheld fs bounds name fault)) t no_file)
-
-        w : Front f (reverse items) u.spots
-        w = now_front old state items f e u
-
-        next : Spot
-        next = record w.spot { rest = drop end f.bytes.items }
-
-        stands : Stand (reverse middle.files.items) (next ∷ w.outer)
-        stands = subst (λ fs. Stand fs (next ∷ w.outer)) (sym (ap (λ l. reverse l) same ∙ innermost items (record f { at = end }))) (behind f w.outer w.spot end w.own, w.others)
-
-        names : opened middle.files.items ≡ w.spot.opened
-        names = sym (stand_names (reverse middle.files.items) (next ∷ w.outer) stands)
-
-        item : BeginsWithItem w.spot.rest (include_item name selection) (drop end f.bytes.items)
-        item = subst (λ l. BeginsWithItem l (include_item name selection) (drop end f.bytes.items)) (sym w.own.left) b
-
-        by : (files : Files) → told ≡ Some files → IsUnopened told bounds name middle count fault
-            → Finishes files bounds rules (w.spot ∷ w.outer) old.fetches state (ask name ∷ []) (Some fault)
-        by files t (inl (no_one, same_count)) =
-            finishes_barred files bounds rules w.spot w.outer old.fetches state name selection (drop end f.bytes.items) fault item
-            (subst (λ l. IsBarred bounds l old.fetches name fault) names (subst (λ n. IsBarred bounds (opened middle.files.items) n name fault) made no_one))
-        by files t (inr (may, no_file, one_more)) =
-            finishes_withheld files bounds rules w.spot w.outer old.fetches state name selection (drop end f.bytes.items) fault item
-            (subst (λ l. MayAsk bounds l old.fetches name) names (subst (λ n. MayAsk bounds (opened middle.files.items) n name) made may))
-            (subst (λ x. IfSome x (λ fs. IsWithheld fs bounds name fault)) t no_file)
-
   -- ---- the first file
   pub may_begin : (old new : Reading) → old.files.items ≡ [] → old.fetches ≡ 0 → OpensInside told bounds file None old new → MayAsk bounds [] 0 file
   may_begin old new none zero h = subst (λ n. MayAsk bounds [] n file) zero (subst (λ l. MayAsk bounds (opened l) old.fetches file) none h.may)
+
+  pub never_begins : (old : Reading) (made : ℕ) (fault : Fault) → old.files.items ≡ [] → old.fetches ≡ 0 → IsUnopened told bounds file old.files.items old.fetches made fault → HasFault told bounds rules start file made fault
+  never_begins old made fault none zero h = (some h, by told refl h) where
+    not_asked : IsBarred bounds (opened old.files.items) old.fetches file fault → IsBarred bounds [] 0 file fault
+    not_asked no_one = subst (λ n. IsBarred bounds [] n file fault) zero (subst (λ l. IsBarred bounds (opened l) old.fetches file fault) none no_one)
+
+    some : IsUnopened told bounds file old.files.items old.fetches made fault → MayAsk bounds [] 0 file → 1 ≤ made
+    some (inl (no_one, same)) may = absurd (barred_no_ask bounds [] 0 file fault (not_asked no_one) may)
+    some (inr (may, no_file, one_more)) asks = omega (arith, one_more)
+
+    by : (t : Option Files) → told ≡ t → IsUnopened told bounds file old.files.items old.fetches made fault
+        → IfSome t (λ files. (events : List Event) × Loads files bounds rules start file events (Some fault) × (made ≡ fetches_made events (Some fault)))
+    by None e k = tt
+    by (Some files) e (inl (no_one, same)) =
+        (ask file ∷ [], barred [] [] 0 start file fault (not_asked no_one), same ∙ zero ∙ made_barred bounds [] 0 file fault [] (not_asked no_one))
+    by (Some files) e (inr (may, no_file, one_more)) =
+        let gone = subst (λ x. IfSome x (λ fs. IsWithheld fs bounds file fault)) e no_file in (
+          ask file ∷ [],
+          withheld [] [] 0 start file fault (subst (λ n. MayAsk bounds [] n file) zero (subst (λ l. MayAsk bounds (opened l) old.fetches file) none may)) gone,
+          one_more ∙ ap (λ n. n + 1) zero ∙ made_withheld files bounds file fault [] gone,
+        )
+
+  pub first_fetched : (old : Reading) (made : ℕ) → old.files.items ≡ [] → old.fetches ≡ 0 → FetchesOnce bounds file old.files.items old.fetches made → (made ≡ 0) ⊎ HasFetched told bounds rules start file made
+  first_fetched old made none zero (inl same) = inl (same ∙ zero)
+  first_fetched old made none zero (inr (may, one_more)) = inr (file, never_begins old made (failed file) none zero (may_fail file old.files.items old.fetches made may one_more))
 
   pub begins : (old new : Reading) → old.files.items ≡ [] → old.fetches ≡ 0 → OpensInside told bounds file None old new → IsUnderway told bounds rules start file new start
   begins old new none zero h = record {
@@ -285,6 +334,7 @@ module _ (told : Option Files) (bounds : Bounds) (rules : Rules) (start : List C
     gained = sym (append-nil start);
     asked = omega (arith, h.counted, zero);
     begun = omega (arith, h.counted);
+    fetched = (file, never_begins old new.fetches (failed file) none zero (may_fail file old.files.items old.fetches new.fetches h.may h.counted));
     goes_on = λ files q es fault k. loads_opened files bounds rules start file h.file.bytes.items es fault (may_begin old new none zero h)
         (subst (λ x. IfSome x (λ fs. fs file ≡ Some h.file.bytes.items)) q h.given.given) h.given.small
         (subst (λ n. Finishes files bounds rules (inner ∷ []) n start es fault) (h.counted ∙ ap (λ n. n + 1) zero) k);
@@ -301,31 +351,10 @@ module _ (told : Option Files) (bounds : Bounds) (rules : Rules) (start : List C
       left = ap (λ n. drop n h.file.bytes.items) (sym h.given.front);
     }
 
-  pub never_begins : (old : Reading) (made : ℕ) (fault : Fault) → old.files.items ≡ [] → old.fetches ≡ 0 → IsUnopened told bounds file old made fault → HasFault told bounds rules start file made fault
-  never_begins old made fault none zero h = (some h, by told refl h) where
-    not_asked : IsBarred bounds (opened old.files.items) old.fetches file fault → IsBarred bounds [] 0 file fault
-    not_asked no_one = subst (λ n. IsBarred bounds [] n file fault) zero (subst (λ l. IsBarred bounds (opened l) old.fetches file fault) none no_one)
-
-    some : IsUnopened told bounds file old made fault → MayAsk bounds [] 0 file → 1 ≤ made
-    some (inl (no_one, same)) may = absurd (barred_no_ask bounds [] 0 file fault (not_asked no_one) may)
-    some (inr (may, no_file, one_more)) asks = omega (arith, one_more)
-
-    by : (t : Option Files) → told ≡ t → IsUnopened told bounds file old made fault
-        → IfSome t (λ files. (events : List Event) × Loads files bounds rules start file events (Some fault) × (made ≡ fetches_made events (Some fault)))
-    by None e k = tt
-    by (Some files) e (inl (no_one, same)) =
-        (ask file ∷ [], barred [] [] 0 start file fault (not_asked no_one), same ∙ zero ∙ made_barred bounds [] 0 file fault [] (not_asked no_one))
-    by (Some files) e (inr (may, no_file, one_more)) =
-        let gone = subst (λ x. IfSome x (λ fs. IsWithheld fs bounds file fault)) e no_file in (
-          ask file ∷ [],
-          withheld [] [] 0 start file fault (subst (λ n. MayAsk bounds [] n file) zero (subst (λ l. MayAsk bounds (opened l) old.fetches file) none may)) gone,
-          one_more ∙ ap (λ n. n + 1) zero ∙ made_withheld files bounds file fault [] gone,
-        )
-
-  pub may_not_begin : (old : Reading) (made : ℕ) (fault : Fault) → old.files.items ≡ [] → old.fetches ≡ 0 → (MayAsk bounds [] 0 file → ⊥) → IsUnopened told bounds file old made fault
+  pub may_not_begin : (old : Reading) (made : ℕ) (fault : Fault) → old.files.items ≡ [] → old.fetches ≡ 0 → (MayAsk bounds [] 0 file → ⊥) → IsUnopened told bounds file old.files.items old.fetches made fault
       → IsBarred bounds [] 0 file fault
   may_not_begin old made fault none zero never h = by h where
-    by : IsUnopened told bounds file old made fault → IsBarred bounds [] 0 file fault
+    by : IsUnopened told bounds file old.files.items old.fetches made fault → IsBarred bounds [] 0 file fault
     by (inl (no_one, same)) = subst (λ n. IsBarred bounds [] n file fault) zero (subst (λ l. IsBarred bounds (opened l) old.fetches file fault) none no_one)
     by (inr (may, no_file, one_more)) = absurd (never (subst (λ n. MayAsk bounds [] n file) zero (subst (λ l. MayAsk bounds (opened l) old.fetches file) none may)))
 

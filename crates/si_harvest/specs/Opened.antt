@@ -4,7 +4,7 @@ use Rattle.std.specs.List.{list_any, list_all}
 use Rattle.si_defs.specs.Bytes.{Bytes}
 use Rattle.si_defs.specs.Clauses.{Name, Clause}
 use Rattle.si_state.specs.States.{Rules}
-use Rattle.si_state.specs.Harvest.{Files, Bounds, Event, Fault, MayAsk, IsBarred, IsWithheld, Loads}
+use Rattle.si_state.specs.Harvest.{Files, Bounds, Event, Fault, failed, MayAsk, IsBarred, IsWithheld, Loads}
 use Rattle.si_state.specs.Acceptance.{Accepts}
 use Rattle.si_steps.specs.Loads.{fetches_made}
 use Rattle.si_harvest.specs.declared.files.OpenFile.{OpenFile}
@@ -49,13 +49,19 @@ pub record OpensInside (told : Option Files) (bounds : Bounds) (name : Bytes)
   pub inside : after.files.items ≡ before.files.items ++ file ∷ []
   pub counted : after.fetches ≡ before.fetches + 1
 
--- why it can't be opened, behind so many fetches: it may not be asked for, or one more was made
-abbrev pub IsUnopened : Option Files → Bounds → Bytes → Reading → ℕ → Fault → Type 0
-IsUnopened told bounds name reading made fault =
-    (IsBarred bounds (opened reading.files.items) reading.fetches name fault
-    × (made ≡ reading.fetches))
-    ⊎ (MayAsk bounds (opened reading.files.items) reading.fetches name
-    × IfSome told (λ files. IsWithheld files bounds name fault) × (made ≡ reading.fetches + 1))
+-- Why it can't be opened inside these, behind so many fetches: it may not be asked for, or one more
+-- was made.
+abbrev pub IsUnopened : Option Files → Bounds → Bytes → List OpenFile → (before made : ℕ) → Fault
+    → Type 0
+IsUnopened told bounds name outer before made fault =
+    (IsBarred bounds (opened outer) before name fault × (made ≡ before))
+    ⊎ (MayAsk bounds (opened outer) before name
+    × IfSome told (λ files. IsWithheld files bounds name fault) × (made ≡ before + 1))
+
+-- no fetch more was made, or one, of a file that may be asked for
+abbrev pub FetchesOnce : Bounds → Bytes → List OpenFile → (before made : ℕ) → Type 0
+FetchesOnce bounds name outer before made =
+    (made ≡ before) ⊎ (MayAsk bounds (opened outer) before name × (made ≡ before + 1))
 
 -- The clause was passed over where the selections don't all list it, and else it was accepted.
 abbrev pub TriesClause : Rules → List OpenFile → Clause → List Clause → List Clause → Type 0
@@ -72,3 +78,9 @@ HasFault told bounds rules start file made fault =
     × IfSome told (λ files. (events : List Event)
     × Loads files bounds rules start file events (Some fault)
     × (made ≡ fetches_made events (Some fault)))
+
+-- A load of the file makes so many fetches: it ends with the last of them where the library fails at
+-- that one.
+abbrev pub HasFetched : Option Files → Bounds → Rules → List Clause → Bytes → (made : ℕ) → Type 0
+HasFetched told bounds rules start file made =
+    (name : Bytes) × HasFault told bounds rules start file made (failed name)

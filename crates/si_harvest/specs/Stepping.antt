@@ -8,7 +8,7 @@ use Rattle.si_io.specs.Counts.{raised_by}
 use Rattle.si_harvest.specs.declared.reading.Reading.{Reading}
 use Rattle.si_harvest.specs.declared.faults.HarvestFault.{HarvestFault}
 use Rattle.si_harvest.specs.Faults.{Explains}
-use Rattle.si_harvest.specs.Opened.{HasFault}
+use Rattle.si_harvest.specs.Opened.{HasFault, HasFetched}
 use Rattle.si_harvest.specs.Underway.{IsUnderway, AreWithin, steps_left}
 
 -- The library was called once for each fetch in between, and no more were made than there may be.
@@ -26,7 +26,8 @@ pub record StepsOn (told : Option Files) (bounds : Bounds) (rules : Rules) (old 
   pub within : AreWithin new.files.items
   pub falls : steps_left bounds new < steps_left bounds old
 
--- what a step answers: whether a file was open, or the fault of each load that is under way
+-- what a step answers: whether a file was open, or the fault of each load that is under way, with
+-- its fetches until then
 abbrev pub StepsReading : Option Files → Bounds → Rules → Reading → Reading
     → (before after : List Clause) → Result Bool HarvestFault → Type 0
 StepsReading told bounds rules old new before after (Ok true) =
@@ -36,3 +37,4 @@ StepsReading told bounds rules old new before after (Ok false) =
 StepsReading told bounds rules old new before after (Err e) =
     (start : List Clause) (file : Bytes) → IsUnderway told bounds rules start file old before
     → Explains rules e (HasFault told bounds rules start file new.fetches)
+    × HasFetched told bounds rules start file new.fetches

@@ -11,6 +11,7 @@ use Rattle.si_harvest.specs.declared.files.OpenFile.{OpenFile}
 use Rattle.si_harvest.specs.declared.names.NameSet.{NameSet}
 use Rattle.si_harvest.specs.declared.reading.Reading.{Reading}
 use Rattle.si_harvest.specs.Chosen.{IsSetOf}
+use Rattle.si_harvest.specs.Opened.{HasFetched}
 
 -- ---- spots
 -- the files that are open at the first of these, and the selections round it
@@ -63,8 +64,9 @@ module _ (files : Files) (bounds : Bounds) (rules : Rules) where
       × (fault ≡ Some early))
 
 -- At the start of the load of a file the first of these clauses were kept, and behind some events
--- the others are. The fetches so far are those of these events. What the readings give from here
--- on, the load gives behind them.
+-- the others are. The fetches so far are those of these events, and the load ends with the last of
+-- them where the library fails at it. What the readings give from here on, the load gives behind
+-- the events.
 pub record IsUnderway (told : Option Files) (bounds : Bounds) (rules : Rules) (start : List Clause)
     (file : Bytes) (reading : Reading) (kept : List Clause) : Type 0 where
   pub spots : List Spot
@@ -73,6 +75,7 @@ pub record IsUnderway (told : Option Files) (bounds : Bounds) (rules : Rules) (s
   pub gained : kept ≡ start ++ tried events
   pub asked : reading.fetches ≡ fetches events
   pub begun : 1 ≤ reading.fetches
+  pub fetched : HasFetched told bounds rules start file reading.fetches
   pub goes_on : (files : Files) → told ≡ Some files → (others : List Event) (fault : Option Fault)
       → Finishes files bounds rules spots reading.fetches kept others fault
       → Loads files bounds rules start file (events ++ others) fault

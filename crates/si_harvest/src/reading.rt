@@ -4,14 +4,14 @@ ghost use Rattle.si_defs.specs.Clauses as defs;
 ghost use Rattle.si_defs.specs.Clauses.{IsSoundClause};
 ghost use Rattle.si_defs.specs.declared.TheConstants.{MOST_OCCURRENCES};
 ghost use Rattle.si_state.specs.States.{Rules};
-ghost use Rattle.si_state.specs.Harvest.{MayAsk, IsRejected};
+ghost use Rattle.si_state.specs.Harvest.{IsRejected};
 ghost use Rattle.si_io.specs.Library.{faults_in};
 ghost use Rattle.si_term.specs.Meaning.{clause_of};
 ghost use Rattle.si_harvest.specs.declared.names.NameSet.{NameSet};
 ghost use Rattle.si_harvest.specs.declared.reading.Reading.{Reading};
 ghost use Rattle.si_parse.specs.Meaning.{selection_of};
 ghost use Rattle.si_harvest.specs.Faults.{Explains, HasLoadCause, bounds_of};
-ghost use Rattle.si_harvest.specs.Opened.{opened, OpensInside, IsUnopened, TriesClause, is_selected};
+ghost use Rattle.si_harvest.specs.Opened.{OpensInside, IsUnopened, FetchesOnce, TriesClause, is_selected};
 ghost use Rattle.si_harvest.specs.Stepping.{FetchesOn, StepsReading};
 ghost use Rattle.si_harvest.specs.Gains.{CountsNoMore, Gained};
 ghost use Rattle.si_harvest.specs.Underway.{AreWithin, Lists};
@@ -59,10 +59,10 @@ impl Reading {
         ensures entered { OnOk result (OpensInside (L.shown library.old).files
             (bounds_of limits.now) name.now chosen self.old self.new) }
         ensures unopened { IfErr result (λ e. (rules : Rules) → Explains rules e (IsUnopened
-            (L.shown library.old).files (bounds_of limits.now) name.now self.old
-            self.new.fetches)) }
-        ensures unasked { (MayAsk (bounds_of limits.now) (opened self.old.files.items)
-            self.old.fetches name.now → ⊥) → self.new.fetches ≡ self.old.fetches }
+            (L.shown library.old).files (bounds_of limits.now) name.now self.old.files.items
+            self.old.fetches self.new.fetches)) }
+        ensures once { FetchesOnce (bounds_of limits.now) name.now self.old.files.items
+            self.old.fetches self.new.fetches }
         ensures told { (L.shown library.new).files ≡ (L.shown library.old).files }
         ensures same { (L.shown library.new).may_fail ≡ (L.shown library.old).may_fail }
         ensures cause { HasLoadCause (L.shown library.old).may_fail
@@ -135,11 +135,11 @@ impl Reading {
             × (middle.fetches ≡ self.old.fetches)
             × OpensInside (L.shown library.old).files (bounds_of limits.now) name.now chosen middle
             self.new) }
-        ensures unopened { IfErr result (λ e. (rules : Rules) → Explains rules e (λ fault.
-            (middle : Reading) × (middle.files.items ≡ self.old.files.items ++ file ∷ [])
-            × (middle.fetches ≡ self.old.fetches)
-            × IsUnopened (L.shown library.old).files (bounds_of limits.now) name.now middle
-            self.new.fetches fault)) }
+        ensures unopened { IfErr result (λ e. (rules : Rules) → Explains rules e (IsUnopened
+            (L.shown library.old).files (bounds_of limits.now) name.now
+            (self.old.files.items ++ file ∷ []) self.old.fetches self.new.fetches)) }
+        ensures once { FetchesOnce (bounds_of limits.now) name.now
+            (self.old.files.items ++ file ∷ []) self.old.fetches self.new.fetches }
         ensures told { (L.shown library.new).files ≡ (L.shown library.old).files }
         ensures same { (L.shown library.new).may_fail ≡ (L.shown library.old).may_fail }
         ensures cause { HasLoadCause (L.shown library.old).may_fail

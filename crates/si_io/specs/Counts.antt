@@ -1,5 +1,5 @@
 -- What devices count: numbers that never fall, and stand still at the largest `u64`.
-use Rattle.std.specs.Prelude.{ℕ, ◌+◌, ◌-◌, ◌^◌, min, max, Bool, ◌&&◌, nat_eq, nat_lt, Result, Ok, Err, if◌then◌else◌}
+use Rattle.std.specs.Prelude.{ℕ, zero, suc, ◌+◌, ◌-◌, ◌^◌, min, max, Bool, ◌&&◌, nat_eq, nat_lt, Result, Ok, Err, if◌then◌else◌}
 use Rattle.si_io.specs.declared.counts.SourceCounts.{SourceCounts}
 use Rattle.si_io.specs.declared.counts.SinkCounts.{SinkCounts}
 use Rattle.si_io.specs.declared.counts.LibraryCounts.{LibraryCounts}
@@ -18,16 +18,25 @@ raised count = raised_by 1 count
 abbrev pub none_of_some : (count size : ℕ) → Bool
 none_of_some count size = nat_eq count 0 && nat_lt 0 size
 
+-- how many empty slices a read into so much room has: one, or none
+abbrev pub empty_slices : (room : ℕ) → ℕ
+empty_slices zero = 1
+empty_slices (suc room) = 0
+
 -- what a source counted after one more read into so much room
 abbrev pub read_counted : {E : Type 0} → (room : ℕ) → Result ℕ E → SourceCounts → SourceCounts
 read_counted room (Ok n) counts = record {
   calls = raised counts.calls;
   bytes = raised_by n counts.bytes;
   ends = if none_of_some n room then raised counts.ends else counts.ends;
+  empty = raised_by (empty_slices room) counts.empty;
   faults = counts.faults;
 }
-read_counted room (Err e) counts =
-    record counts { calls = raised counts.calls; faults = raised counts.faults }
+read_counted room (Err e) counts = record counts {
+  calls = raised counts.calls;
+  empty = raised_by (empty_slices room) counts.empty;
+  faults = raised counts.faults;
+}
 
 -- what a sink counted after one more write of so many bytes
 abbrev pub write_counted : {E : Type 0} → (size : ℕ) → Result ℕ E → SinkCounts → SinkCounts

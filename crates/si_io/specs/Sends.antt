@@ -20,8 +20,8 @@ pub record SendsAll (before : SinkShown) (bs : List ℕ) (after : SinkShown) : T
   pub faults : after.counts.faults ≡ before.counts.faults
   pub few : WritesFew before.counts after.counts
 
--- The sink took the first of the bytes, for all of which it had no room, and one write failed. So,
--- as the writes are few, none came after that.
+-- The sink took the first of the bytes, for all of which it had no room, and one write failed. None
+-- came after it, since that could have failed too, and would be counted.
 pub record SendsPart (before : SinkShown) (bs : List ℕ) (after : SinkShown) : Type 0 where
   pub told : ReceivesPrefix before.told bs after.told
   pub bytes : after.counts.bytes ≤ raised_by (length bs) before.counts.bytes

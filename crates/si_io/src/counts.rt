@@ -1,6 +1,6 @@
 // What devices count. Each count stands still at the largest `u64`.
 ghost use Rattle.std.specs.Prelude.{◌≡◌};
-ghost use Rattle.si_io.specs.Counts.{none_of_some, raised_by, read_counted, write_counted, fetch_counted};
+ghost use Rattle.si_io.specs.Counts.{none_of_some, empty_slices, raised_by, read_counted, write_counted, fetch_counted};
 
 use crate::{Failed, Fetched};
 
@@ -13,6 +13,8 @@ pub struct SourceCounts {
     pub bytes: u64,
     /// Those that told the end.
     pub ends: u64,
+    /// Those into an empty slice.
+    pub empty: u64,
     /// Those that failed.
     pub faults: u64,
 }
@@ -44,12 +46,13 @@ pub struct LibraryCounts {
 impl SourceCounts {
     /// Nothing is counted yet.
     pub fn new() -> SourceCounts
-        ensures { result ≡ record { calls = 0; bytes = 0; ends = 0; faults = 0 } }
+        ensures { result ≡ record { calls = 0; bytes = 0; ends = 0; empty = 0; faults = 0 } }
     {
         SourceCounts {
             calls: 0,
             bytes: 0,
             ends: 0,
+            empty: 0,
             faults: 0,
         }
     }
@@ -60,6 +63,7 @@ impl SourceCounts {
         ensures counts { self.new ≡ read_counted room answer self.old }
     {
         self.calls = raised(self.calls, 1);
+        self.empty = raised(self.empty, empty_slices(room));
         match answer {
             Ok(count) => {
                 self.bytes = raised(self.bytes, count as u64);
@@ -145,6 +149,16 @@ fn raised(count: u64, more: u64) -> u64
     ensures { result ≡ raised_by more count }
 {
     count.saturating_add(more)
+}
+
+/// One slice where it has no room, and else none.
+fn empty_slices(room: usize) -> u64
+    ensures { result ≡ empty_slices room }
+{
+    match room {
+        0 => 1,
+        _ => 0,
+    }
 }
 
 fn is_none_of_some(count: usize, size: usize) -> bool

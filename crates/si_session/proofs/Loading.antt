@@ -1,5 +1,5 @@
 -- What a load did, from what the harvest answered and what was told of it.
-use Rattle.std.proofs.Common.{◌≡◌, ℕ, Bool, List, [], ◌∷◌, ◌++◌, refl, sym, ap, ap₂, ◌∙◌, subst, inl, inr, Option, None, Some, Ok, Err, arith}
+use Rattle.std.proofs.Common.{◌≡◌, ◌⊎◌, ℕ, Bool, List, [], ◌∷◌, ◌++◌, refl, sym, ap, ap₂, ◌∙◌, subst, inl, inr, Option, None, Some, Ok, Err, arith}
 use Rattle.std.specs.Prelude.{slice_get, IsTrue}
 use Rattle.si_defs.specs.Bytes.{Bytes}
 use Rattle.si_defs.specs.Clauses.{IsSoundClause, Clause}
@@ -27,7 +27,7 @@ use Rattle.si_harvest.specs.declared.faults.HarvestFault.TheVariants as harvest_
 use Rattle.si_harvest.specs.Faults.{IsReason, NamesFault, Explains, HasFaultCause}
 use Rattle.si_index.specs.Kept.{Kept}
 use Rattle.si_harvest.specs.Gains.{Gained, GainsByLoad}
-use Rattle.si_harvest.specs.Opened.{HasFault}
+use Rattle.si_harvest.specs.Opened.{HasFault, HasFetched}
 use Rattle.si_harvest.specs.Loading.{ReadsFiles}
 use Rattle.si_session.specs.declared.reply.ReplyLine as program
 use Rattle.si_session.specs.declared.stepped.Stepped.{Stepped}
@@ -146,6 +146,18 @@ module _ (limits : Limits) (told : Option Files) (file : Bytes) (old new : Kept)
   refused_where (Some files) fault made state may h e =
       (h.1.0, Some fault, h.1.1, refl, ap (λ n. owed_for n (Some fault)) h.1.2, holds_same old new state e)
 
+  -- the fetches of a load that memory broke off
+  first_made : (told : Option Files) (made : ℕ) (state : State) → MayFetch (load_bounds limits) file made → (made ≡ 0) ⊎ HasFetched told (load_bounds limits) old.rules old.clauses file made
+      → new.clauses ≡ old.clauses
+      → (made ≡ 0) ⊎ ((name : Bytes) × PerformsLoad (view_of limits old).setting told file (holding state old) (fault_line old.rules.entries (failed name) ∷ []) (owed_for made (Some (failed name))) (holding state old))
+  first_made told made state may (inl none) e = inl none
+  first_made told made state may (inr (name, h)) e =
+      inr (
+        name,
+        subst (λ s. PerformsLoad (view_of limits old).setting told file (holding state old) (fault_line old.rules.entries (failed name) ∷ []) (owed_for made (Some (failed name))) s) (holds_same old new state e)
+            (refused_where told (failed name) made state may h e),
+      )
+
   pub load_refused : (e : HarvestFault) (line : program.ReplyLine) → ReadsFiles {T = Loaded} told (load_bounds limits) old.rules file (Err e) old.clauses new.clauses x.calls y.calls
       → TellsFaultOfLoad e line → HasFaultCause may_fail (faults_in x) (faults_in y) e → new.clauses ≡ old.clauses → Writes o (reply_line line ∷ []) a b
       → LoadsInto limits told file old new o (beside a x may_fail) (beside b y now)
@@ -154,7 +166,7 @@ module _ (limits : Limits) (told : Option Files) (file : Bytes) (old new : Kept)
         → HasLoaded (view_of limits old).setting told file (holding state old) (holding state new) o (beside a x may_fail) (beside b y now)
     by (inl m) =
         let out : reply_line line ≡ memory_line = subst (λ f. TellsFaultOfLoad f line) m t in
-        ran_out (owed_for reads.made None) (reads.may, refl) (holds_same old new state same) (subst (λ l. Writes o (l ∷ []) a b) out w)
+        ran_out (owed_for reads.made None) (reads.may, refl, first_made told reads.made state reads.may reads.first same) (holds_same old new state same) (subst (λ l. Writes o (l ∷ []) a b) out w)
         (gained_counted reads.made may_fail x y reads.counted (subst (HasFaultCause may_fail (faults_in x) (faults_in y)) m h))
     by (inr r) =
         rightly_loaded (fault_line old.rules.entries r.fault ∷ []) (owed_for reads.made (Some r.fault)) (refused_where told r.fault reads.made state reads.may r.holds same)

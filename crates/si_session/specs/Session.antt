@@ -188,7 +188,7 @@ pub data HasLoaded (setting : Setting) (told : Option Files) (file : Bytes) (old
       → Writes outcome reply before.sink after.sink
       → IsCounted before.may_fail owed before.counts after.counts
       → HasLoaded setting told file old new outcome before after
-  ran_out : (owed : Owed) → OwesFetches setting.limits file owed → new ≡ old
+  ran_out : (owed : Owed) → OwesFetches setting told file old owed → new ≡ old
       → Writes outcome (memory_line ∷ []) before.sink after.sink
       → IsCounted before.may_fail owed before.counts after.counts
       → HasLoaded setting told file old new outcome before after

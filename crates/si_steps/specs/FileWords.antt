@@ -28,5 +28,5 @@ pub data WordStep (setting : Setting) (told : Option Files) (state : State) (wor
   right_word : RightWord setting told state word reply owed new
       → WordStep setting told state word reply owed new
   no_memory : IsTrue (names_file word) → reply ≡ memory_line ∷ []
-      → OwesFetches setting.limits word owed → new ≡ state
+      → OwesFetches setting told word state owed → new ≡ state
       → WordStep setting told state word reply owed new

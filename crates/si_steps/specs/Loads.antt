@@ -71,11 +71,6 @@ pub record MayFetch (bounds : Bounds) (file : Bytes) (made : ℕ) : Type 0 where
   pub most : made ≤ bounds.fetches
   pub none : (MayAsk bounds [] 0 file → ⊥) → made ≡ 0
 
--- where memory runs out, a load owes the fetches that it made
-abbrev pub OwesFetches : Limits → Bytes → Owed → Type 0
-OwesFetches limits file owed =
-    MayFetch (load_bounds limits) file owed.fetches × (owed ≡ owed_for owed.fetches None)
-
 -- ---- the reply
 -- these clauses were gained
 abbrev pub gained_line : List Clause → Bytes
@@ -102,3 +97,13 @@ PerformsLoad setting None file state reply owed new =
     × (new ≡ record state { clauses = state.clauses ++ gained }))
     ⊎ ((fault : Fault) × (reply ≡ fault_line setting.rules.entries fault ∷ [])
     × (owed ≡ owed_for owed.fetches (Some fault)) × (new ≡ state)))
+
+-- Where memory runs out, a load owes the fetches that it made: none, or the first ones of a load,
+-- which owes just as many where the library fails at the last of them.
+abbrev pub OwesFetches : Setting → Option Files → Bytes → State → Owed → Type 0
+OwesFetches setting told file state owed =
+    MayFetch (load_bounds setting.limits) file owed.fetches × (owed ≡ owed_for owed.fetches None)
+    × ((owed.fetches ≡ 0)
+    ⊎ ((name : Bytes)
+    × PerformsLoad setting told file state (fault_line setting.rules.entries (failed name) ∷ [])
+    (owed_for owed.fetches (Some (failed name))) state))

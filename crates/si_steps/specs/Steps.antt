@@ -97,9 +97,9 @@ pub data RightStep (setting : Setting) (told : Option Files) (state : State) (li
       → RightStep setting told state line reply owed new
 
 -- what a reply that memory ran out owes at once: nothing, but where the line loads a file
-abbrev pub OwesAtOnce : Limits → Bytes → Owed → Type 0
-OwesAtOnce limits line owed =
-    (owed ≡ nothing) ⊎ ((file : Bytes) × Means (load file) line × OwesFetches limits file owed)
+abbrev pub OwesAtOnce : Setting → Option Files → State → Bytes → Owed → Type 0
+OwesAtOnce setting told state line owed = (owed ≡ nothing)
+    ⊎ ((file : Bytes) × Means (load file) line × OwesFetches setting told file state owed)
 
 -- A step is right, or memory runs out, and the state stays: at once, whatever the right reply is,
 -- or behind some lines of the right reply, but not all. That never happens at a line that is too
@@ -109,7 +109,7 @@ pub data Step (setting : Setting) (told : Option Files) (state : State) (line : 
   right : RightStep setting told state line reply owed new
       → Step setting told state line reply owed new
   memory_at_once : (IsSilent setting.limits line → ⊥) → IsShort setting.limits line
-      → reply ≡ memory_line ∷ [] → OwesAtOnce setting.limits line owed → new ≡ state
+      → reply ≡ memory_line ∷ [] → OwesAtOnce setting told state line owed → new ≡ state
       → Step setting told state line reply owed new
   memory_behind : (whole : Reply) (due : Owed) (next : State)
       → RightStep setting told state line whole due next

@@ -15,13 +15,13 @@ use Rattle.si_io.proofs.Gives.{Gives-nil, Gives_then, Gives_last}
 use Rattle.si_io.proofs.Content.{prepend_told-nil}
 use Rattle.stindex.specs.declared.status.Status.{Status}
 use Rattle.stindex.specs.declared.status.Status.TheVariants.{Ended, SourceFault, Memory, SessionLimit}
-use Rattle.si_steps.specs.Runs.{lines_at_end}
+use Rattle.si_steps.specs.Runs.{lines_at_end, requests}
 use Rattle.stindex.specs.declared.status.Stop.{Stop}
 use Rattle.stindex.specs.declared.status.Stop.TheVariants as stop
 use Rattle.stindex.specs.Status.{status_of}
 use Rattle.clap.specs.Words.{Row, matches_of, takes}
 use Rattle.stindex.specs.Words.{Asked, IsReadAsSaid, program, asked_in, asked_by, HasNoFault, has_strict, files_in}
-use Rattle.stindex.specs.Serve.{DeclinesOrServes, WritesUsage, WritesTo, MetEnd, TellsEnd, TellsNoEnd, Ends, Serves, CountsFaults, BlamesSink}
+use Rattle.stindex.specs.Serve.{DeclinesOrServes, WritesUsage, WritesTo, MetEnd, TellsEnd, TellsNoEnd, ReadsNoFurther, Ends, Serves, CountsFaults, BlamesSink}
 use Rattle.stindex.specs.Progress.{Advances, Fails, Closes, Cuts, HasProgressed}
 use Rattle.stindex.proofs.Splitting.{Splits_none}
 
@@ -78,15 +78,17 @@ Serves_source setting told strict files n source now next before state held afte
 
 -- the run stopped at a reply
 pub stops_within : (halt : Stop) (setting : Setting) (told : Option Files) (strict : Bool) (files : List Bytes) (taken : Bytes) (lines : List Bytes) (rest : Bytes) (source now : SourceShown) (before after : Around)
-    → TellsNoEnd source now → WritesTo halt setting told strict files lines before after → Ends (status_of halt) setting told strict files taken lines rest source now before after
-stops_within stop.Refused setting told strict files taken lines rest source now before after unended w = inl (unended, w)
-stops_within stop.SinkFault setting told strict files taken lines rest source now before after unended w = inl (unended, w)
+    → TellsNoEnd source now → (part : WritesTo halt setting told strict files lines before after) → ReadsNoFurther files taken part.right.done source now
+    → Ends (status_of halt) setting told strict files taken lines rest source now before after
+stops_within stop.Refused setting told strict files taken lines rest source now before after unended part reads = inl (unended, part, reads)
+stops_within stop.SinkFault setting told strict files taken lines rest source now before after unended part reads = inl (unended, part, reads)
 
 -- behind the end of the input
 stops_last : (halt : Stop) (setting : Setting) (told : Option Files) (strict : Bool) (files : List Bytes) (taken : Bytes) (lines : List Bytes) (rest : Bytes) (source now : SourceShown) (before after : Around)
-    → TellsEnd source now → MetEnd setting.limits taken now.left → WritesTo halt setting told strict files (lines_at_end lines rest) before after → Ends (status_of halt) setting told strict files taken lines rest source now before after
-stops_last stop.Refused setting told strict files taken lines rest source now before after ended end w = inr (ended, end, w)
-stops_last stop.SinkFault setting told strict files taken lines rest source now before after ended end w = inr (ended, end, w)
+    → TellsEnd source now → MetEnd setting.limits taken now.left → (part : WritesTo halt setting told strict files (lines_at_end lines rest) before after) → part.right.done ≡ requests files lines
+    → Ends (status_of halt) setting told strict files taken lines rest source now before after
+stops_last stop.Refused setting told strict files taken lines rest source now before after ended end part acted = inr (ended, end, part, acted)
+stops_last stop.SinkFault setting told strict files taken lines rest source now before after ended end part acted = inr (ended, end, part, acted)
 
 -- at a word
 pub Serves_word : (halt : Stop) (setting : Setting) (told : Option Files) (strict : Bool) (files : List Bytes) (source : SourceShown) (before after : Around)
@@ -98,7 +100,7 @@ Serves_word halt setting told strict files source before after w = record {
   gives = Gives-nil source;
   within = omega arith;
   splits = Splits_none;
-  ends = stops_within halt setting told strict files [] [] [] source source before after refl w;
+  ends = stops_within halt setting told strict files [] [] [] source source before after refl w (inl refl);
 }
 
 pub Serves_under : (halt : Stop) (given setting : Setting) (told : Option Files) (strict : Bool) (files : List Bytes) (source : SourceShown) (before after : Around)
@@ -127,9 +129,9 @@ stop_not_memory stop.SinkFault e = cc
 
 -- the run stopped at a line that is whole in the bytes of the last read
 pub Serves_sink : (halt : Stop) (setting : Setting) (told : Option Files) (strict : Bool) (files : List Bytes) (given : Setting) (tell : Option Files) (n m : ℕ) (bytes fed : Bytes) (source now next : SourceShown) (before : Around) (state : State) (held : Bytes) (x after : Around)
-    → HasProgressed setting told strict files n source now before state held x → given ≡ setting → tell ≡ told → Gives now bytes next → TellsNoEnd now next → length bytes ≡ m → n + m ≤ setting.limits.session → fed ≡ bytes
+    → HasProgressed setting told strict files n source now before state held x → given ≡ setting → tell ≡ told → Gives now bytes next → next.counts.calls ≡ raised now.counts.calls → TellsNoEnd now next → length bytes ≡ m → n + m ≤ setting.limits.session → fed ≡ bytes
     → Fails halt given tell strict fed state held x after → Serves setting told strict files (status_of halt) source next before after
-Serves_sink halt setting told strict files given tell n m bytes fed source now next before state held x after s same known gives unended size within is fails =
+Serves_sink halt setting told strict files given tell n m bytes fed source now next before state held x after s same known gives once unended size within is fails =
     let all : Fails halt setting told strict bytes state held x after =
     subst (λ (b : Bytes). Fails halt setting told strict b state held x after) is (subst (λ (l : Setting). Fails halt l told strict fed state held x after) same (subst (λ (o : Option Files). Fails halt given o strict fed state held x after) known fails)) in
     let failed = all files before s.taken s.progress in
@@ -140,7 +142,20 @@ Serves_sink halt setting told strict files given tell n m bytes fed source now n
       gives = Gives_then source now next s.taken bytes s.gives gives;
       within = omega (arith, length-append s.taken bytes, s.size);
       splits = failed.splits;
-      ends = stops_within halt setting told strict files (s.taken ++ bytes) failed.lines failed.rest source next before after (unended ∙ s.unended) failed.part;
+      ends = stops_within halt setting told strict files (s.taken ++ bytes) failed.lines failed.rest source next before after (unended ∙ s.unended) failed.part
+          (inr (record {
+            earlier = s.taken;
+            brought = bytes;
+            whole = refl;
+            middle = now;
+            gave = s.gives;
+            read = gives;
+            once = once;
+            lines = s.progress.lines;
+            rest = s.progress.rest;
+            splits = s.progress.splits;
+            acted = failed.acted s.progress.lines s.progress.rest s.progress.splits;
+          }));
     }
 
 -- the end was met
@@ -179,7 +194,7 @@ Serves_cut halt setting told strict files given tell n source now next before st
       gives = Gives_last source now next s.taken s.gives gives;
       within = omega (arith, s.size);
       splits = cut.splits;
-      ends = stops_last halt setting told strict files s.taken cut.lines cut.rest source next before after (told_end ∙ ap raised s.unended) (record { below = omega (arith, s.size); at_end = subst IsAtEnd (sym left_is) ended }) cut.part;
+      ends = stops_last halt setting told strict files s.taken cut.lines cut.rest source next before after (told_end ∙ ap raised s.unended) (record { below = omega (arith, s.size); at_end = subst IsAtEnd (sym left_is) ended }) cut.part cut.acted;
     }
 
 -- ---- the words

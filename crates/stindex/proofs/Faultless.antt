@@ -1,18 +1,24 @@
 -- A run over a source and a sink that can't fail ends in no fault, nor does one in which no count
 -- rose.
-use Rattle.std.proofs.Common.{◌≡◌, ◌≤◌, ℕ, Bool, List, Option, inl, inr, length, refl, arith}
+use Rattle.std.proofs.Common.{◌≡◌, ◌<◌, ◌≤◌, ℕ, Bool, List, ◌++◌, Option, inl, inr, length, refl, ap, length-append, arith}
 use Rattle.std.specs.Prelude.{IsTrue, IsFalse}
 use Rattle.si_defs.specs.Bytes.{Bytes}
 use Rattle.si_steps.specs.declared.limits.Limits.{Limits}
+use Rattle.si_steps.specs.Runs.{ended}
 use Rattle.si_steps.specs.Settings.{setting_of}
 use Rattle.si_state.specs.Harvest.{Files}
 use Rattle.si_session.specs.Session.{Around}
 use Rattle.stindex.specs.declared.status.Status.{Status}
 use Rattle.stindex.specs.declared.status.Status.TheVariants.{Ended, Refused, Usage, SourceFault, SinkFault, Memory, SessionLimit}
+use Rattle.si_io.specs.Content.{Told, Receives}
 use Rattle.si_io.specs.Faults.{Rose}
 use Rattle.si_io.specs.Shown.{SourceShown}
 use Rattle.stindex.specs.Words.{usage_line, asked_by}
 use Rattle.stindex.specs.Serve.{Serves, Declines, DeclinesOrServes, IsFaultless, CountsFaults, HasRoomForOutputs}
+
+-- a text that fits the room isn't past what its front left of it
+past : (old now : Told) (front last whole : Bytes) → Receives old front now → whole ≡ front ++ last → length whole ≤ old.room → now.room < length last → ⊥
+past old now front last whole given parts fits beyond = omega (arith, fits, beyond, ap (λ (t : Told). t.room) given, ap length parts, length-append front last)
 
 module _ (limits : Limits) (told : Option Files) (words : List Bytes) (source now : SourceShown) (before after : Around)
     (room : HasRoomForOutputs limits told words before.may_fail source.left before.sink.told.room) where
@@ -21,11 +27,11 @@ module _ (limits : Limits) (told : Option Files) (words : List Bytes) (source no
     | inl stop ↦
         let part = stop.1 in
         let fits : length part.output ≤ before.sink.told.room = room.outputs s.taken now.left s.lines s.rest part.reply part.output part.owed s.gives.left s.within s.splits (inl part.right) part.counted.counts.sure in
-        omega (arith, fits, part.written.told.past_room)
+        past before.sink.told part.now.told part.right.before (ended part.reply) part.output part.written.told part.right.whole fits part.stopped.told.past_room
     | inr end ↦
         let part = end.2 in
         let fits : length part.output ≤ before.sink.told.room = room.outputs s.taken now.left s.lines s.rest part.reply part.output part.owed s.gives.left s.within s.splits (inr (end.1, part.right)) part.counted.counts.sure in
-        omega (arith, fits, part.written.told.past_room)
+        past before.sink.told part.now.told part.right.before (ended part.reply) part.output part.written.told part.right.whole fits part.stopped.told.past_room
   ]
 
   no_usage_fault : Declines words SinkFault source now before after → ⊥

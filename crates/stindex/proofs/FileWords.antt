@@ -23,7 +23,7 @@ use Rattle.stindex.specs.Serve.{WritesTo}
 use Rattle.stindex.specs.Progress.{ActsOnRequest, Breaks, LoadsWords, HasProgressed}
 use Rattle.stindex.proofs.Splitting.{Run_more, Splits_none}
 use Rattle.stindex.proofs.Rows.{all_is}
-use Rattle.stindex.proofs.Progress.{owed_none, owed_then, stops_then, shown-nil}
+use Rattle.stindex.proofs.Progress.{owed_none, owed_then, shown-nil}
 
 pub words_none : (setting : Setting) (told : Option Files) (strict : Bool) (state : State) (before : Around) → state ≡ empty_state → LoadsWords setting told strict [] before state before
 words_none setting told strict state before none = record {
@@ -70,7 +70,9 @@ words_stop halt setting told strict words others files word old new before now a
     counted = refl;
   };
   shown = (l.run.1, breaks.shows);
-  written = stops_then halt strict breaks.reply before.sink now.sink after.sink l.output (ended breaks.reply) l.written breaks.written;
+  now = now.sink;
+  written = l.written;
+  stopped = breaks.written;
   counted = owed_then before now after l.owed breaks.owed l.counted breaks.counted;
 }
 

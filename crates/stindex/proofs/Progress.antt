@@ -14,7 +14,7 @@ use Rattle.si_steps.specs.Loads.{Owed, nothing, together}
 use Rattle.si_io.specs.Counts.{raised}
 use Rattle.si_io.specs.Shown.{SinkShown}
 use Rattle.si_io.specs.Sends.{SendsAll}
-use Rattle.si_io.proofs.Sends.{SendsAll_then, SendsPart_then}
+use Rattle.si_io.proofs.Sends.{SendsAll_then}
 use Rattle.si_session.specs.Session.{View, Around, Writes, Steps, IsCounted}
 use Rattle.si_session.proofs.Owing.{counts_nothing, counts_then}
 use Rattle.si_session.specs.declared.stepped.Stepped.{Stepped}
@@ -28,7 +28,7 @@ use Rattle.stindex.specs.Shown.{ShowsAt, ShownRun}
 use Rattle.stindex.proofs.Steps.{shown_step, shown_shows, step_shows}
 use Rattle.std.specs.Prelude.{◌==◌, Bool, Some, None, IsTrue, IsFalse, Result, Ok, Err, OnOk, IfErr}
 use Rattle.std.specs.List.{position}
-use Rattle.stindex.proofs.Splitting.{line_end, line_without_end, Splits_more, Splits_line, Splits_any, lines_at_end-none, lines_at_end-some, requests-more, requests-split, Run_line}
+use Rattle.stindex.proofs.Splitting.{line_end, line_without_end, Splits_more, Splits_line, Splits_any, Splits_one, lines_at_end-none, lines_at_end-some, requests-append, requests-more, requests-split, Run_line}
 
 -- ---- what is owed to the library
 pub owed_none : (now : Around) → CountsOwed nothing now now
@@ -93,40 +93,41 @@ Advances_line setting told strict old new held now after acts files before taken
     }
 
 -- ---- stops
-pub stops_then : (halt : Stop) (strict : Bool) (reply : Reply) (a b c : SinkShown) (xs ys : Bytes) → SendsAll a xs b → StopsAt halt strict reply ys b c → StopsAt halt strict reply (xs ++ ys) a c
-stops_then stop.Refused strict reply a b c xs ys h k = (SendsAll_then a b c xs ys h k.0, k.1, k.2)
-stops_then stop.SinkFault strict reply a b c xs ys h k = SendsPart_then a b c xs ys h k
-
 -- a run stops at a line, behind which others stand
 stops_at : (halt : Stop) (setting : Setting) (told : Option Files) (strict : Bool) (old new : State) (files lines whole : List Bytes) (line : Bytes) (others : List Request) (output : Bytes) (owed : Owed)
     (held : Bytes) (before now after : Around) (breaks : Breaks halt setting told strict old new (a_line held) now after)
     → ShownRun setting told strict empty_state (requests files lines) output owed old → Step setting told old line breaks.reply breaks.owed new → ShowsAt setting old (a_line line) breaks.reply
     → SendsAll before.sink output now.sink → CountsOwed owed before now
     → requests files lines ++ a_line line ∷ others ≡ requests files whole
-    → WritesTo halt setting told strict files whole before after
-stops_at halt setting told strict old new files lines whole line others output owed held before now after breaks run step shows written counted front = record {
-  reply = breaks.reply;
-  output = output ++ ended breaks.reply;
-  owed = together owed breaks.owed;
-  right = record {
-    done = requests files lines;
-    last = a_line line;
-    others = others;
-    front = front;
-    before = output;
-    less = owed;
-    state = old;
-    run = run.0;
-    due = breaks.owed;
-    new = new;
-    acts = step;
-    whole = refl;
-    counted = refl;
-  };
-  shown = (run.1, shows);
-  written = stops_then halt strict breaks.reply before.sink now.sink after.sink output (ended breaks.reply) written breaks.written;
-  counted = owed_then before now after owed breaks.owed counted breaks.counted;
-}
+    → (part : WritesTo halt setting told strict files whole before after) × (part.right.done ≡ requests files lines)
+stops_at halt setting told strict old new files lines whole line others output owed held before now after breaks run step shows written counted front = (
+  record {
+    reply = breaks.reply;
+    output = output ++ ended breaks.reply;
+    owed = together owed breaks.owed;
+    right = record {
+      done = requests files lines;
+      last = a_line line;
+      others = others;
+      front = front;
+      before = output;
+      less = owed;
+      state = old;
+      run = run.0;
+      due = breaks.owed;
+      new = new;
+      acts = step;
+      whole = refl;
+      counted = refl;
+    };
+    shown = (run.1, shows);
+    now = now.sink;
+    written = written;
+    stopped = breaks.written;
+    counted = owed_then before now after owed breaks.owed counted breaks.counted;
+  },
+  refl,
+)
 
 pub Fails_line : (halt : Stop) (setting : Setting) (told : Option Files) (strict : Bool) (bytes : Bytes) (old new : State) (held : Bytes) (now after : Around)
     → Breaks halt setting told strict old new (a_line held) now after → Fails halt setting told strict (10 ∷ bytes) old held now after
@@ -134,17 +135,29 @@ Fails_line halt setting told strict bytes old new held now after breaks files be
     let step = shown_step setting told old new p.rest breaks.reply breaks.owed (subst (λ (l : Bytes). Step setting told old l breaks.reply breaks.owed new) p.holds breaks.step) in
     let shows = shown_shows setting old p.rest breaks.reply (subst (λ (l : Bytes). ShowsSome setting.limits old l breaks.reply) p.holds breaks.shows) in
     let more = Splits_any bytes (taken ++ 10 ∷ []) (p.lines ++ p.rest ∷ []) [] (Splits_line taken p.lines p.rest p.splits) in
+    let stop = stops_at halt setting told strict old new files p.lines ((p.lines ++ p.rest ∷ []) ++ more.0) p.rest (map a_line more.0) p.output p.owed held before now after breaks p.run step shows p.written p.counted (requests-split files p.lines more.0 p.rest) in
     record {
       lines = (p.lines ++ p.rest ∷ []) ++ more.0;
       rest = more.1;
       splits = subst (λ (b : Bytes). Splits b ((p.lines ++ p.rest ∷ []) ++ more.0) more.1) (append_assoc taken (10 ∷ []) bytes) more.2;
-      part = stops_at halt setting told strict old new files p.lines ((p.lines ++ p.rest ∷ []) ++ more.0) p.rest (map a_line more.0) p.output p.owed held before now after breaks p.run step shows p.written p.counted (requests-split files p.lines more.0 p.rest);
+      part = stop.0;
+      acted = λ whole begun s. ([], stop.1 ∙ ap (requests files) (Splits_one taken p.lines whole p.rest begun p.splits s) ∙ sym (append-nil (requests files whole)));
     }
 
 pub Fails_then : (halt : Stop) (setting : Setting) (told : Option Files) (strict : Bool) (bs cs : Bytes) (s t : State) (f g : Bytes) (x y z : Around)
     → Advances setting told strict bs s f x t g y → Fails halt setting told strict cs t g y z → Fails halt setting told strict (bs ++ cs) s f x z
 Fails_then halt setting told strict bs cs s t f g x y z first second files before taken p =
-    subst (λ (b : Bytes). BrokenOff halt setting told strict files before b z) (append_assoc taken bs cs) (second files before (taken ++ bs) (first files before taken p))
+    let off = second files before (taken ++ bs) (first files before taken p) in
+    record {
+      lines = off.lines;
+      rest = off.rest;
+      splits = subst (λ (b : Bytes). Splits b off.lines off.rest) (append_assoc taken bs cs) off.splits;
+      part = off.part;
+      acted = λ whole begun split.
+          let more = Splits_any bs taken whole begun split in
+          let all = off.acted (whole ++ more.0) more.1 more.2 in
+          (map a_line more.0 ++ all.0, all.1 ∙ ap (λ (rs : List Request). rs ++ all.0) (requests-append files whole more.0) ∙ append_assoc (requests files whole) (map a_line more.0) all.0);
+    }
 
 -- ---- bytes from line feed to line feed
 -- a line was acted on that ends in the rest
@@ -251,13 +264,9 @@ Cuts_line halt setting told strict old new held now after some breaks files befo
     let step = shown_step setting told old new p.rest breaks.reply breaks.owed (subst (λ (l : Bytes). Step setting told old l breaks.reply breaks.owed new) p.holds breaks.step) in
     let shows = shown_shows setting old p.rest breaks.reply (subst (λ (l : Bytes). ShowsSome setting.limits old l breaks.reply) p.holds breaks.shows) in
     let same : lines_at_end p.lines p.rest ≡ p.lines ++ p.rest ∷ [] = lines_at_end-some p.lines p.rest (rest_some setting.limits held p.rest some p.holds) in
-    record {
-      lines = p.lines;
-      rest = p.rest;
-      splits = p.splits;
-      part = stops_at halt setting told strict old new files p.lines (lines_at_end p.lines p.rest) p.rest [] p.output p.owed held before now after breaks p.run step shows p.written p.counted
-          (sym (requests-more files p.lines p.rest) ∙ ap (requests files) (sym same));
-    }
+    let stop = stops_at halt setting told strict old new files p.lines (lines_at_end p.lines p.rest) p.rest [] p.output p.owed held before now after breaks p.run step shows p.written p.counted
+    (sym (requests-more files p.lines p.rest) ∙ ap (requests files) (sym same)) in
+    record { lines = p.lines; rest = p.rest; splits = p.splits; part = stop.0; acted = stop.1 }
 
 -- ---- what one step wrote
 written_whole : (outcome : Stepped) (reply : Reply) (now after : SinkShown) → (outcome ≡ SinkFailed → ⊥) → Writes outcome reply now after → SendsAll now (ended reply) after
@@ -285,7 +294,7 @@ goes_on strict Refused reply now after whole none w s = absurd (none s refl)
 goes_on strict Silent reply now after whole none w s = subst (λ (r : Reply). IsFalse (is_refusal r)) (sym w.1) refl
 goes_on strict SinkFailed reply now after whole none w s = absurd (whole refl)
 
-stopped : (halt : Stop) (strict : Bool) (outcome : Stepped) (reply : Reply) (now after : SinkShown) → Judges strict outcome (Err halt) → Writes outcome reply now after → StopsAt halt strict reply (ended reply) now after
+stopped : (halt : Stop) (strict : Bool) (outcome : Stepped) (reply : Reply) (now after : SinkShown) → Judges strict outcome (Err halt) → Writes outcome reply now after → StopsAt halt strict reply now after
 stopped stop.Refused strict outcome reply now after h w = let v : Writes Refused reply now after = subst (λ (o : Stepped). Writes o reply now after) h.0 w in (v.0, h.1, v.1)
 stopped stop.SinkFault strict outcome reply now after h w = subst (λ (o : Stepped). Writes o reply now after) h w
 

@@ -1,8 +1,8 @@
 -- How bytes fall into lines as more of them come, and how a run goes on by one line.
 use Rattle.std.proofs.Common.{◌≡◌, ℕ, Bool, true, false, List, [], ◌∷◌, ◌++◌, refl, sym, ap, subst, ◌∙◌, append_assoc, append-nil, arith, Option, ltb, cond, length, get_or, map, take, drop, ◌≤◌, ◌+◌, suc, add-one, take_all, take-append-drop, drop-cons}
-use Rattle.std.specs.Prelude.{◌==◌}
+use Rattle.std.specs.Prelude.{◌==◌, ◌||◌}
 use Rattle.std.specs.Prelude.{None, Some}
-use Rattle.std.specs.List.{AllByRecursion, position, position_or_len}
+use Rattle.std.specs.List.{AllByRecursion, list_any, position, position_or_len}
 use Rattle.std.proofs.lemmas.List.Quantifiers.{position-Some}
 use Rattle.std.proofs.lemmas.List.{map-append}
 use Rattle.std.proofs.lemmas.List.Folds.{list_any-append}
@@ -71,6 +71,42 @@ Splits_any [] bytes lines rest s =
     ([], rest, subst (λ (b : Bytes). Splits b (lines ++ []) rest) (sym (append-nil bytes)) (subst (λ (ls : List Bytes). Splits bytes ls rest) (sym (append-nil lines)) s))
 Splits_any (c ∷ cs) bytes lines rest s = falls_by c cs bytes lines rest (c == 10) refl s (Splits_any cs)
 
+-- ---- one way to fall into lines
+line_tail : (c : ℕ) (cs : Bytes) → IsOneLine (c ∷ cs) → (c ≡ 10 → ⊥) × IsOneLine cs
+line_tail c cs one = by (c == 10) refl one where
+  by : (b : Bool) → (c == 10) ≡ b → (b || list_any (λ d. d == 10) cs) ≡ false → (c ≡ 10 → ⊥) × IsOneLine cs
+  by true e one = cc
+  by false e one = (λ is. let feed : true ≡ false = sym (ap (λ (n : ℕ). n == 10) is) ∙ e in cc, one)
+
+first_line : (a b xs ys : Bytes) → IsOneLine a → IsOneLine b → a ++ 10 ∷ xs ≡ b ++ 10 ∷ ys → (a ≡ b) × (xs ≡ ys)
+first_line [] [] xs ys one two e = (refl, cc)
+first_line [] (d ∷ ds) xs ys one two e = let is : d ≡ 10 = cc in absurd ((line_tail d ds two).0 is)
+first_line (c ∷ cs) [] xs ys one two e = let is : c ≡ 10 = cc in absurd ((line_tail c cs one).0 is)
+first_line (c ∷ cs) (d ∷ ds) xs ys one two e =
+    let is : c ≡ d = cc in
+    let left : cs ++ 10 ∷ xs ≡ ds ++ 10 ∷ ys = cc in
+    let same = first_line cs ds xs ys (line_tail c cs one).1 (line_tail d ds two).1 left in
+    (λ i. is i ∷ same.0 i, same.1)
+
+no_line_feed : (rest before after : Bytes) → IsOneLine rest → rest ≡ before ++ 10 ∷ after → ⊥
+no_line_feed rest before after one e =
+    by (list_any (λ c. c == 10) before) (sym (list_any-append (λ (c : ℕ). c == 10) before (10 ∷ after)) ∙ subst IsOneLine e one) where
+      by : (b : Bool) → (b || true) ≡ false → ⊥
+      by true e = cc
+      by false e = cc
+
+same_lines : (ls ms : List Bytes) (r s : Bytes) → IsOneLine r → IsOneLine s → AllByRecursion IsOneLine ls → AllByRecursion IsOneLine ms → ended ls ++ r ≡ ended ms ++ s → ls ≡ ms
+same_lines [] [] r s one two each all e = refl
+same_lines [] (m ∷ ms) r s one two each all e = absurd (no_line_feed r m (ended ms ++ s) one (e ∙ append_assoc m (10 ∷ ended ms) s))
+same_lines (l ∷ ls) [] r s one two each all e = absurd (no_line_feed s l (ended ls ++ r) two (sym e ∙ append_assoc l (10 ∷ ended ls) r))
+same_lines (l ∷ ls) (m ∷ ms) r s one two each all e =
+    let first = first_line l m (ended ls ++ r) (ended ms ++ s) each.0 all.0 (sym (append_assoc l (10 ∷ ended ls) r) ∙ e ∙ append_assoc m (10 ∷ ended ms) s) in
+    let others = same_lines ls ms r s one two each.1 all.1 first.1 in
+    λ i. first.0 i ∷ others i
+
+pub Splits_one : (bytes : Bytes) (ls ms : List Bytes) (r s : Bytes) → Splits bytes ls r → Splits bytes ms s → ls ≡ ms
+Splits_one bytes ls ms r s a b = same_lines ls ms r s a.last b.last a.each b.each (sym a.whole ∙ b.whole)
+
 -- ---- the first line feed
 one_line_before : (xs : Bytes) → IsOneLine (take (position_or_len (λ c. c == 10) xs) xs)
 one_line_before [] = refl
@@ -115,16 +151,18 @@ lines_at_end-some lines [] some = absurd (some refl)
 lines_at_end-some lines (c ∷ cs) some = refl
 
 -- ---- runs
--- one line more is one request more
-pub requests-more : (files lines : List Bytes) (line : Bytes) → requests files (lines ++ line ∷ []) ≡ requests files lines ++ a_line line ∷ []
-requests-more files lines line =
-    ap (λ (rs : List Request). map a_word files ++ rs) (map-append a_line lines (line ∷ [])) ∙ sym (append_assoc (map a_word files) (map a_line lines) (a_line line ∷ []))
+-- more lines are more requests
+pub requests-append : (files lines others : List Bytes) → requests files (lines ++ others) ≡ requests files lines ++ map a_line others
+requests-append files lines others =
+    ap (λ (rs : List Request). map a_word files ++ rs) (map-append a_line lines others) ∙ sym (append_assoc (map a_word files) (map a_line lines) (map a_line others))
 
--- and so are some more
+pub requests-more : (files lines : List Bytes) (line : Bytes) → requests files (lines ++ line ∷ []) ≡ requests files lines ++ a_line line ∷ []
+requests-more files lines line = requests-append files lines (line ∷ [])
+
+-- so are a line and those behind it
 pub requests-split : (files lines others : List Bytes) (line : Bytes) → requests files lines ++ a_line line ∷ map a_line others ≡ requests files ((lines ++ line ∷ []) ++ others)
 requests-split files lines others line =
-    append_assoc (map a_word files) (map a_line lines) (a_line line ∷ map a_line others)
-    ∙ ap (λ (rs : List Request). map a_word files ++ rs) (sym (map-append a_line lines (line ∷ others)) ∙ ap (map a_line) (sym (append_assoc lines (line ∷ []) others)))
+    sym (requests-append files lines (line ∷ others)) ∙ ap (requests files) (sym (append_assoc lines (line ∷ []) others))
 
 -- ---- what is owed
 -- nothing comes first or last

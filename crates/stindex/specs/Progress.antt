@@ -17,7 +17,7 @@ use Rattle.si_io.specs.Shown.{SourceShown}
 use Rattle.stindex.specs.declared.status.Stop.{Stop}
 use Rattle.stindex.specs.declared.status.Stop.TheVariants as stop
 use Rattle.stindex.specs.Shown.{ShowsAt, ShownRun}
-use Rattle.stindex.specs.Serve.{WritesAll, WritesTo, StopsAt, CountsOwed, TellsNoEnd}
+use Rattle.stindex.specs.Serve.{WritesAll, WritesTo, StopsAt, BeginWith, CountsOwed, TellsNoEnd}
 
 -- What is held of a line that was begun: its bytes up to one more than a line may have.
 abbrev pub shown : Limits → Bytes → Bytes
@@ -48,7 +48,7 @@ pub record Breaks (halt : Stop) (setting : Setting) (told : Option Files) (stric
   pub owed : Owed
   pub step : Acts setting told old request reply owed new
   pub shows : ShowsAt setting old request reply
-  pub written : StopsAt halt strict reply (ended reply) before.sink after.sink
+  pub written : StopsAt halt strict reply before.sink after.sink
   pub counted : CountsOwed owed before after
 
 -- From the start on, where `before` was written, these words were acted on: they gave their output
@@ -94,13 +94,16 @@ pub record Feeds (setting : Setting) (told : Option Files) (strict : Bool) (byte
   pub whole : bytes ≡ done ++ rest
   pub advances : Advances setting told strict done old held now new holds after
 
--- The run stopped at a word, or at one of the lines that are whole in the bytes taken.
+-- The run stopped at one of the lines that are whole behind these bytes, and all that were whole
+-- before them were done.
 pub record BrokenOff (halt : Stop) (setting : Setting) (told : Option Files) (strict : Bool)
-    (files : List Bytes) (before : Around) (taken : Bytes) (after : Around) : Type 0 where
+    (files : List Bytes) (before : Around) (taken bytes : Bytes) (after : Around) : Type 0 where
   pub lines : List Bytes
   pub rest : Bytes
-  pub splits : Splits taken lines rest
+  pub splits : Splits (taken ++ bytes) lines rest
   pub part : WritesTo halt setting told strict files lines before after
+  pub acted : (whole : List Bytes) (begun : Bytes) → Splits taken whole begun
+      → BeginWith files whole part.right.done
 
 -- These bytes end every progress at a reply.
 abbrev pub Fails : Stop → Setting → Option Files → (strict : Bool)
@@ -108,7 +111,7 @@ abbrev pub Fails : Stop → Setting → Option Files → (strict : Bool)
 Fails halt setting told strict bytes old held now after =
     (files : List Bytes) (before : Around) (taken : Bytes)
     → Progress setting told strict files before taken old held now
-    → BrokenOff halt setting told strict files before (taken ++ bytes) after
+    → BrokenOff halt setting told strict files before taken bytes after
 
 -- The input ended behind the bytes taken, and every line was acted on.
 pub record Closed (setting : Setting) (told : Option Files) (strict : Bool) (files : List Bytes)
@@ -125,6 +128,7 @@ pub record Cut (halt : Stop) (setting : Setting) (told : Option Files) (strict :
   pub rest : Bytes
   pub splits : Splits taken lines rest
   pub part : WritesTo halt setting told strict files (lines_at_end lines rest) before after
+  pub acted : part.right.done ≡ requests files lines
 
 -- The end of the input closes every progress.
 abbrev pub Closes : Setting → Option Files → (strict : Bool)

@@ -1,11 +1,11 @@
 -- What a whole run of the program does: the input that it takes, the output that it writes, and how
 -- it ends.
-use Rattle.std.specs.Prelude.{◌≡◌, ℕ, ◌<◌, ◌≤◌, ◌⊎◌, List, [], Option, length, Bool, false, IsTrue, IsFalse}
+use Rattle.std.specs.Prelude.{◌≡◌, ℕ, ◌<◌, ◌≤◌, ◌⊎◌, List, [], ◌++◌, Option, length, Bool, false, IsTrue, IsFalse}
 use Rattle.si_defs.specs.Bytes.{Bytes}
 use Rattle.si_steps.specs.declared.limits.Limits.{Limits}
 use Rattle.si_steps.specs.Settings.{Setting, setting_of}
 use Rattle.si_steps.specs.Replies.{Reply, is_refusal}
-use Rattle.si_steps.specs.Runs.{Splits, lines_at_end, requests, IsOutput, IsOutputTo}
+use Rattle.si_steps.specs.Runs.{ended, Splits, lines_at_end, Request, requests, IsOutput, IsOutputTo}
 use Rattle.si_state.specs.Harvest.{Files}
 use Rattle.si_steps.specs.Loads.{Owed}
 use Rattle.si_session.specs.Session.{Around, IsCounted}
@@ -40,15 +40,15 @@ pub record WritesAll (setting : Setting) (told : Option Files) (strict : Bool)
   pub written : SendsAll before.sink output after.sink
   pub counted : CountsOwed owed before after
 
--- what was written of an output that ends with this reply, at which the run stops
-abbrev pub StopsAt : Stop → (strict : Bool) → Reply → Bytes → SinkShown → SinkShown → Type 0
-StopsAt stop.Refused strict reply output before after =
-    SendsAll before output after × IsTrue strict × IsTrue (is_refusal reply)
-StopsAt stop.SinkFault strict reply output before after = SendsPart before output after
+-- what was written of the reply at which the run stops
+abbrev pub StopsAt : Stop → (strict : Bool) → Reply → SinkShown → SinkShown → Type 0
+StopsAt stop.Refused strict reply before after =
+    SendsAll before (ended reply) after × IsTrue strict × IsTrue (is_refusal reply)
+StopsAt stop.SinkFault strict reply before after = SendsPart before (ended reply) after
 
--- The run stopped at the reply to one of these words and lines. The output up to and with it was
--- written, or at a fault of the sink a prefix of it, and nothing else; and what the output owes to
--- the library was counted.
+-- The run stopped at the reply to one of these words and lines. The replies before it were written
+-- whole, and then it, or at a fault of the sink a prefix of it, and nothing else; and what all of
+-- them owe to the library was counted.
 pub record WritesTo (stop : Stop) (setting : Setting) (told : Option Files) (strict : Bool)
     (files lines : List Bytes) (before after : Around) : Type 0 where
   pub reply : Reply
@@ -56,7 +56,9 @@ pub record WritesTo (stop : Stop) (setting : Setting) (told : Option Files) (str
   pub owed : Owed
   pub right : IsOutputTo setting told strict (requests files lines) reply output owed
   pub shown : OutputToShows setting told strict (requests files lines) reply output owed right
-  pub written : StopsAt stop strict reply output before.sink after.sink
+  pub now : SinkShown
+  pub written : SendsAll before.sink right.before now
+  pub stopped : StopsAt stop strict reply now after.sink
   pub counted : CountsOwed owed before after
 
 -- The input ended, before as many bytes were taken as a session may have.
@@ -71,15 +73,44 @@ TellsEnd source now = now.counts.ends ≡ raised source.counts.ends
 abbrev pub TellsNoEnd : SourceShown → SourceShown → Type 0
 TellsNoEnd source now = now.counts.ends ≡ source.counts.ends
 
--- The run stopped at the reply to a word or a whole line, before the source told its end, or to the
--- last line, after it.
+-- these requests begin with the words and lines
+abbrev pub BeginWith : (files lines : List Bytes) → List Request → Type 0
+BeginWith files lines done = (others : List Request) × (done ≡ requests files lines ++ others)
+
+-- One read, the last one, brought the line at which the run stopped: all lines that were whole in
+-- the bytes before were done by then.
+pub record BringsLine (files : List Bytes) (taken : Bytes) (done : List Request)
+    (source now : SourceShown) : Type 0 where
+  pub earlier : Bytes
+  pub brought : Bytes
+  pub whole : taken ≡ earlier ++ brought
+  pub middle : SourceShown
+  pub gave : Gives source earlier middle
+  pub read : Gives middle brought now
+  pub once : now.counts.calls ≡ raised middle.counts.calls
+  pub lines : List Bytes
+  pub rest : Bytes
+  pub splits : Splits earlier lines rest
+  pub acted : BeginWith files lines done
+
+-- Behind the request at which the run stopped nothing was read: it is a word, before which nothing
+-- was read either, or a line that the last read brought.
+abbrev pub ReadsNoFurther : (files : List Bytes) (taken : Bytes) → List Request
+    → (source now : SourceShown) → Type 0
+ReadsNoFurther files taken done source now =
+    (now ≡ source) ⊎ BringsLine files taken done source now
+
+-- The run stopped at the reply to a word or a whole line, before the source told its end, and read
+-- no further; or at that to the last line, after it.
 abbrev pub StopsIn : Stop → Setting → Option Files → (strict : Bool)
     → (files : List Bytes) (taken : Bytes) (lines : List Bytes) (rest : Bytes)
     (source now : SourceShown) (before after : Around) → Type 0
 StopsIn halt setting told strict files taken lines rest source now before after =
-    (TellsNoEnd source now × WritesTo halt setting told strict files lines before after)
+    (TellsNoEnd source now × (part : WritesTo halt setting told strict files lines before after)
+    × ReadsNoFurther files taken part.right.done source now)
     ⊎ (TellsEnd source now × MetEnd setting.limits taken now.left
-    × WritesTo halt setting told strict files (lines_at_end lines rest) before after)
+    × (part : WritesTo halt setting told strict files (lines_at_end lines rest) before after)
+    × (part.right.done ≡ requests files lines))
 
 -- Of a run that ends so: how far it took the input, of which words and lines it wrote the replies,
 -- and how many bytes of them. The bytes that it took are these lines, and then the rest of a line

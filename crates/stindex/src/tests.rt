@@ -1,5 +1,4 @@
 // Whole runs over sources, sinks and libraries in memory.
-mod counts;
 mod faults;
 mod large;
 mod lists;

@@ -28,7 +28,7 @@ impl MemorySource {
         ensures chunk { source_chunk result ≡ max chunk 1 }
         ensures failing { source_failing result ≡ failing.items }
         ensures counts { source_counts result
-            ≡ record { calls = 0; bytes = 0; ends = 0; faults = 0 } }
+            ≡ record { calls = 0; bytes = 0; ends = 0; empty = 0; faults = 0 } }
     {
         MemorySource {
             bytes,

@@ -24,7 +24,7 @@ impl<R> RealSource<R> {
     /// A source over this reader, which has counted nothing yet.
     pub fn new(reader: R) -> RealSource<R>
         ensures reader { reader_of result ≡ reader }
-        ensures counts { reads_of result ≡ record { calls = 0; bytes = 0; ends = 0; faults = 0 } }
+        ensures counts { reads_of result ≡ record { calls = 0; bytes = 0; ends = 0; empty = 0; faults = 0 } }
     {
         RealSource {
             reader,

@@ -1,11 +1,12 @@
-use Rattle.std.proofs.Common.{None, [], refl, sym, subst, arith}
+use Rattle.std.proofs.Common.{None, [], refl, sym, subst, inr, arith}
 use Rattle.si_state.specs.Harvest.{IsBarred}
 use Rattle.si_harvest.specs.Faults.{Explains, bounds_of}
 use Rattle.si_harvest.specs.Gains.{GainsByLoad}
+use Rattle.si_harvest.specs.Opened.{HasFetched}
 use Rattle.si_harvest.specs.Underway.{AreWithin}
 use Rattle.si_harvest.proofs.Errors.{blames_weaker, err_has, reads_fault}
 use Rattle.si_harvest.proofs.Fetching.{none_counted, first_fetch, further_fetch}
-use Rattle.si_harvest.proofs.Moves.{begins, may_begin, never_begins, may_not_begin, is_over}
+use Rattle.si_harvest.proofs.Moves.{begins, may_begin, never_begins, first_fetched, may_not_begin, is_over}
 use Rattle.si_harvest.proofs.Safety.{within_entered}
 use Rattle.si_harvest.proofs.Stepping.{steps_false, steps_error}
 use Rattle.si_harvest.proofs.loading.read_all.Goals as goal
@@ -18,7 +19,8 @@ returns-in_err-enter-clause-reads g c =
     let start = g.T.ClauseStore.clauses c.args.store.now in
     reads_fault told bounds rules c.args.name.now c.from_residual.result c.in_err-enter.field-0.0 start _ _ _ c.enter.new.self.fetches c.from_residual.ensures.1
     (c.enter.ensures.fetches.counted _ (none_counted _ _ c.new-reading.ensures.fetches))
-    (first_fetch bounds c.args.name.now c.new-reading.result c.enter.new.self c.new-reading.ensures.files c.new-reading.ensures.fetches c.enter.ensures.fetches.few c.enter.ensures.unasked)
+    (first_fetch bounds c.args.name.now c.new-reading.result c.enter.new.self c.new-reading.ensures.files c.new-reading.ensures.fetches c.enter.ensures.fetches.few c.enter.ensures.once)
+    (first_fetched told bounds rules start c.args.name.now c.new-reading.result c.enter.new.self.fetches c.new-reading.ensures.files c.new-reading.ensures.fetches c.enter.ensures.once)
     (blames_weaker rules c.in_err-enter.field-0.0 _ _
     (λ fault h. never_begins told bounds rules start c.args.name.now c.new-reading.result c.enter.new.self.fetches fault c.new-reading.ensures.files c.new-reading.ensures.fetches h)
     (c.in_err-enter.ensures.unopened rules))
@@ -64,11 +66,12 @@ returns-in_err-step-clause-reads g c =
     let rules = g.T.ClauseStore.rules c.args.store.now in
     let start = g.T.ClauseStore.clauses c.args.store.now in
     let invariant = c.loop-reading.invariant in
+    let ended = steps_error _ told bounds _ rules c.loop-reading.reading c.step.new.self (g.T.ClauseStore.clauses c.loop-reading.store) (g.T.ClauseStore.clauses c.step.new.store) c.in_err-step.field-0.0 invariant.told invariant.rules c.in_err-step.ensures.stepped
+    start c.args.name.now invariant.loading.under_way in
     reads_fault told bounds rules c.args.name.now c.from_residual-in_err-step.result c.in_err-step.field-0.0 start _ _ _ c.step.new.self.fetches c.from_residual-in_err-step.ensures.1
     (c.step.ensures.fetches.counted _ invariant.calls)
     (further_fetch bounds c.args.name.now _ invariant.may (c.step.ensures.fetches.few invariant.few))
-    (steps_error _ told bounds _ rules c.loop-reading.reading c.step.new.self (g.T.ClauseStore.clauses c.loop-reading.store) (g.T.ClauseStore.clauses c.step.new.store) c.in_err-step.field-0.0 invariant.told invariant.rules c.in_err-step.ensures.stepped
-    start c.args.name.now invariant.loading.under_way)
+    (inr ended.1) ended.0
 
 pub returns-clause-reads : goal.returns-clause-reads
 returns-clause-reads g c =
@@ -83,6 +86,7 @@ returns-clause-reads g c =
       made = c.step.new.self.fetches;
       counted = c.step.ensures.fetches.counted _ invariant.calls;
       may = further_fetch bounds c.args.name.now _ invariant.may (c.step.ensures.fetches.few invariant.few);
+      first = inr (subst (λ n. HasFetched told bounds rules start c.args.name.now n) (sym over.2) invariant.loading.under_way.fetched);
       right = subst (λ n. GainsByLoad told bounds rules start c.args.name.now n (g.T.ClauseStore.clauses c.step.new.store)) (sym over.2)
           (subst (λ s. GainsByLoad told bounds rules start c.args.name.now c.loop-reading.reading.fetches s) (sym over.1)
           (is_over told bounds rules start c.args.name.now c.loop-reading.reading (g.T.ClauseStore.clauses c.loop-reading.store) over.0 invariant.loading.under_way));

@@ -55,9 +55,11 @@ returns-in-Err-feed-clause-serves g c =
     let b = g.S.Source.shown c.read.new.self in
     let into = c.read.new.into in
     let count = c.in-Ok-read.count in
+    let some : 0 < length (take c.min-room.result c.loop-taken.chunk) = omega (arith, length-take c.min-room.result c.loop-taken.chunk) in
     let within : count ≤ length into = omega (arith, c.in-Ok-read.ensures.bound, c.read.auto.into, length-take c.min-room.result c.loop-taken.chunk) in
     Serves_as _ _ _ _ _ _ (status_of c.in-Err-feed.stop) _ _ _ _ c.is_strict-strict.ensures c.status-in-Err-feed.ensures
-    (Serves_sink c.in-Err-feed.stop _ _ _ _ _ _ _ count (take count into) _ _ _ (g.S.Source.shown c.read.new.self) _ _ _ _ _ c.loop-taken.invariant.stands c.loop-taken.invariant.setting c.loop-taken.invariant.told (Gives_some a b _ _ c.in-Ok-read.ensures.counts c.if-count-eq0.false _ (length-take-le count into within) c.in-Ok-read.ensures.taken)
+    (Serves_sink c.in-Err-feed.stop _ _ _ _ _ _ _ count (take count into) _ _ _ (g.S.Source.shown c.read.new.self) _ _ _ _ _ c.loop-taken.invariant.stands c.loop-taken.invariant.setting c.loop-taken.invariant.told (Gives_some a b _ _ c.in-Ok-read.ensures.counts c.if-count-eq0.false _ some (length-take-le count into within) c.in-Ok-read.ensures.taken)
+    (ap (λ (k : SourceCounts). k.calls) c.in-Ok-read.ensures.counts)
     (ends_kept a b _ _ c.in-Ok-read.ensures.counts c.if-count-eq0.false)
     (length-take-le count into within) (omega (arith, length-take c.min-room.result c.loop-taken.chunk)) (take-append-le count into _ within) c.in-Err-feed.ensures.broken)
 
@@ -67,9 +69,10 @@ loop-taken-preserved g c =
     let b = g.S.Source.shown c.read.new.self in
     let into = c.read.new.into in
     let count = c.in-Ok-read.count in
+    let some : 0 < length (take c.min-room.result c.loop-taken.chunk) = omega (arith, length-take c.min-room.result c.loop-taken.chunk) in
     let within : count ≤ length into = omega (arith, c.in-Ok-read.ensures.bound, c.read.auto.into, length-take c.min-room.result c.loop-taken.chunk) in
     record {
-      stands = Stands_more _ _ _ _ _ _ _ count (take count into) _ _ _ _ _ _ _ _ _ _ _ c.loop-taken.invariant.stands c.loop-taken.invariant.setting c.loop-taken.invariant.told (Gives_some a b _ _ c.in-Ok-read.ensures.counts c.if-count-eq0.false _ (length-take-le count into within) c.in-Ok-read.ensures.taken)
+      stands = Stands_more _ _ _ _ _ _ _ count (take count into) _ _ _ _ _ _ _ _ _ _ _ c.loop-taken.invariant.stands c.loop-taken.invariant.setting c.loop-taken.invariant.told (Gives_some a b _ _ c.in-Ok-read.ensures.counts c.if-count-eq0.false _ some (length-take-le count into within) c.in-Ok-read.ensures.taken)
           (ends_kept a b _ _ c.in-Ok-read.ensures.counts c.if-count-eq0.false)
           (length-take-le count into within) (take-append-le count into _ within) c.in-Ok-feed.ensures.fed;
       within = omega (arith, length-take c.min-room.result c.loop-taken.chunk);
@@ -86,8 +89,9 @@ pub returns-in-Err-read-clause-serves : goal.returns-in-Err-read-clause-serves
 returns-in-Err-read-clause-serves g c =
     let a = g.S.Source.shown c.loop-taken.source in
     let b = g.S.Source.shown c.read.new.self in
+    let some : 0 < length (take c.min-room.result c.loop-taken.chunk) = omega (arith, length-take c.min-room.result c.loop-taken.chunk) in
     Serves_as _ _ _ _ _ _ _ _ _ _ _ c.is_strict-strict.ensures refl
-    (Serves_source _ _ _ _ _ _ a b _ _ _ _ c.loop-taken.invariant.stands c.loop-taken-test.true (Gives_failed a b 0 _ c.in-Err-read.ensures.counts c.in-Err-read.ensures.kept)
+    (Serves_source _ _ _ _ _ _ a b _ _ _ _ c.loop-taken.invariant.stands c.loop-taken-test.true (Gives_failed a b _ _ some c.in-Err-read.ensures.counts c.in-Err-read.ensures.kept)
     (ap (λ (k : SourceCounts). k.ends) c.in-Err-read.ensures.counts))
 
 pub returns-clause-serves : goal.returns-clause-serves

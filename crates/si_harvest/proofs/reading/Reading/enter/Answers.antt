@@ -13,7 +13,7 @@ pub returns-in_err-may_ask-clause-unopened : goal.returns-in_err-may_ask-clause-
 returns-in_err-may_ask-clause-unopened g c =
     let told = (g.L.Library.shown c.args.library.now).files in
     let bounds = bounds_of c.args.limits.now in
-    let P : HarvestFault → Type 0 = λ e. (rules : Rules) → Explains rules e (IsUnopened told bounds c.args.name.now c.args.self.now c.args.self.now.fetches) in
+    let P : HarvestFault → Type 0 = λ e. (rules : Rules) → Explains rules e (IsUnopened told bounds c.args.name.now c.args.self.now.files.items c.args.self.now.fetches c.args.self.now.fetches) in
     err_again c.from_residual.result c.in_err-may_ask.field-0.0 P c.from_residual.ensures.1
     (λ rules. blames_weaker rules c.in_err-may_ask.field-0.0 _ _ (λ fault h. inl (subst (λ fs. IsBarred bounds (opened fs) c.args.self.now.fetches c.args.name.now fault) c.as_slice.ensures.value h, refl)) (c.in_err-may_ask.ensures.barred rules))
 
@@ -25,7 +25,7 @@ pub returns-in_err-file-clause-unopened : goal.returns-in_err-file-clause-unopen
 returns-in_err-file-clause-unopened g c =
     let told = (g.L.Library.shown c.args.library.now).files in
     let bounds = bounds_of c.args.limits.now in
-    let P : HarvestFault → Type 0 = λ e. (rules : Rules) → Explains rules e (IsUnopened told bounds c.args.name.now c.args.self.now (c.args.self.now.fetches + 1)) in
+    let P : HarvestFault → Type 0 = λ e. (rules : Rules) → Explains rules e (IsUnopened told bounds c.args.name.now c.args.self.now.files.items c.args.self.now.fetches (c.args.self.now.fetches + 1)) in
     err_again c.from_residual-in_err-file.result c.in_err-file.field-0.0 P c.from_residual-in_err-file.ensures.1
     (λ rules. blames_weaker rules c.in_err-file.field-0.0 _ _ (λ fault h. inr (subst (λ fs. MayAsk bounds (opened fs) c.args.self.now.fetches c.args.name.now) c.as_slice.ensures.value c.in_ok-may_ask.ensures.may, subst (λ n. IfSome told (λ files. IsWithheld files bounds n fault)) c.in_ok-file_name.ensures h, refl)) (c.in_err-file.ensures.withheld rules))
 

@@ -1,11 +1,11 @@
-use Rattle.std.proofs.Common.{◌≡◌, ◌++◌, ◌∷◌, []}
-use Rattle.std.proofs.lemmas.Result.{on_ok_weaker, IfErr-weaker}
+use Rattle.std.proofs.Common.{ℕ, List, subst}
+use Rattle.std.specs.Prelude.{IfErr}
+use Rattle.std.proofs.lemmas.Result.{on_ok_weaker}
 use Rattle.si_state.specs.States.{Rules}
 use Rattle.si_harvest.specs.declared.faults.HarvestFault.{HarvestFault}
-use Rattle.si_harvest.specs.declared.reading.Reading.{Reading}
+use Rattle.si_harvest.specs.declared.files.OpenFile.{OpenFile}
 use Rattle.si_harvest.specs.Faults.{Explains, bounds_of}
-use Rattle.si_harvest.specs.Opened.{IsUnopened}
-use Rattle.si_harvest.proofs.Errors.{blames_weaker}
+use Rattle.si_harvest.specs.Opened.{IsUnopened, FetchesOnce}
 use Rattle.si_harvest.proofs.Fetching.{fetches_from}
 use Rattle.si_harvest.proofs.reading.Reading.include.Goals as goal
 
@@ -19,12 +19,15 @@ pub returns-clause-unopened : goal.returns-clause-unopened
 returns-clause-unopened g c =
     let told = (g.L.Library.shown c.args.library.now).files in
     let bounds = bounds_of c.args.limits.now in
-    let P : HarvestFault → Type 0 = λ e. (rules : Rules) → Explains rules e (IsUnopened told bounds c.args.name.now c.push.new.self c.enter.new.self.fetches) in
-    let Q : HarvestFault → Type 0 = λ e. (rules : Rules) → Explains rules e (λ fault. (middle : Reading) × (middle.files.items ≡ c.args.self.now.files.items ++ c.args.file ∷ [])
-    × (middle.fetches ≡ c.args.self.now.fetches) × IsUnopened told bounds c.args.name.now middle c.enter.new.self.fetches fault) in
-    IfErr-weaker c.enter.result P Q
-    (λ e h rules. blames_weaker rules e _ _ (λ fault k. (c.push.new.self, c.in_ok-push.ensures.files, c.push.ensures.fetches, k)) (h rules))
-    c.enter.ensures.unopened
+    let P : List OpenFile → ℕ → HarvestFault → Type 0 = λ outer before e. (rules : Rules) → Explains rules e (IsUnopened told bounds c.args.name.now outer before c.enter.new.self.fetches) in
+    subst (λ outer. IfErr c.enter.result (P outer c.args.self.now.fetches)) c.in_ok-push.ensures.files
+    (subst (λ before. IfErr c.enter.result (P c.push.new.self.files.items before)) c.push.ensures.fetches c.enter.ensures.unopened)
+
+pub returns-clause-once : goal.returns-clause-once
+returns-clause-once g c =
+    let bounds = bounds_of c.args.limits.now in
+    subst (λ outer. FetchesOnce bounds c.args.name.now outer c.args.self.now.fetches c.enter.new.self.fetches) c.in_ok-push.ensures.files
+    (subst (λ before. FetchesOnce bounds c.args.name.now c.push.new.self.files.items before c.enter.new.self.fetches) c.push.ensures.fetches c.enter.ensures.once)
 
 pub returns-clause-fetches : goal.returns-clause-fetches
 returns-clause-fetches g c = fetches_from _ _ c.push.new.self.fetches _ _ _ c.push.ensures.fetches c.enter.ensures.fetches

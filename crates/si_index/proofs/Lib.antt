@@ -14,6 +14,7 @@ mod NameLaws
 mod NamedLaws
 mod ScreenLaws
 pub mod SlotLaws
+mod RowsKept
 pub mod OrderLaws
 pub mod ShownNames
 pub mod StandingLaws

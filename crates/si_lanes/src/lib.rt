@@ -6,7 +6,7 @@
 #![tactic(auto)]
 
 ghost use Rattle.std.specs.Prelude.{◌≡◌, ◌↔◌, ◌+◌, ◌-◌, ◌^◌, ◌<◌, ◌≤◌, [], ◌∷◌, ◌++◌, OnOk, OnErr, IsTrue, length, take, vec_len, vec_capacity};
-ghost use Rattle.si_lanes.specs.Rows.{IsSubset, AppendsPositions};
+ghost use Rattle.si_lanes.specs.Rows.{IsSubset, AppendsPositions, SetsBit};
 
 use std::alloc::AllocError;
 use std::simd::prelude::*;
@@ -16,6 +16,16 @@ mod tests;
 
 /// A row of 256 bits.
 pub type Row = [u64; 4];
+
+/// The row in which no bit is set.
+pub const EMPTY: Row = [0; 4];
+
+/// Sets a bit.
+pub fn set_bit(row: &mut Row, bit: u8)
+    ensures { SetsBit row.old row.new bit }
+{
+    row[(bit / 64) as usize] |= 1 << (bit % 64);
+}
 
 /// Appends the positions from 0 of exactly the rows whose set bits are all set in the mask, rising.
 ///

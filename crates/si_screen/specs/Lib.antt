@@ -1,0 +1,2 @@
+pub mod ClauseRows
+pub mod Walks

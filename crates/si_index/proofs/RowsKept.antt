@@ -1,11 +1,11 @@
 -- The rows of the kept clauses, as clauses and the numbers of their symbols come and go.
-use Rattle.std.proofs.Common.{◌≡◌, ◌⊎◌, inl, inr, ℕ, ◌+◌, ◌≤◌, true, List, [], ◌∷◌, ◌++◌, refl, sym, ap, ◌∙◌, subst, arith}
-use Rattle.si_defs.specs.Symbols.{Symbol, Numbering, times}
+use Rattle.std.proofs.Common.{◌≡◌, ◌⊎◌, inl, inr, ℕ, List, [], ◌∷◌, ◌++◌, sym, ap, subst, arith}
+use Rattle.si_defs.specs.Symbols.{Symbol, Numbering}
 use Rattle.si_defs.specs.Clauses.{Clause}
 use Rattle.si_defs.specs.Entries.{clause_symbols, state_symbols}
 use Rattle.si_defs.specs.Substitutions.{IsAmong}
 use Rattle.si_defs.proofs.ListLaws.{among_front, among_back, among_parts}
-use Rattle.si_state.specs.Signatures.{Signature, KeepsNumbers, numbering, uses_of}
+use Rattle.si_state.specs.Signatures.{Signature, KeepsNumbers, numbering}
 use Rattle.si_term.specs.Meaning.{clause_of}
 use Rattle.si_term.specs.declared.clause.Clause as term
 use Rattle.si_flat.specs.Numbered.{number_in}
@@ -35,10 +35,10 @@ still_rows : (old new : Signature) (items : List (ℕ × term.Clause)) (rows : L
 still_rows old new items rows have keeps used still key c row a b =
     row_stays (number_in (numbering old)) (number_in (numbering new)) (clause_of c).literals row
     (λ s there.
-        let met = symbols_there items key c s a there in
-        keeps s (number_in (numbering old) s) (number_in (numbering new) s)
-        (among-number (numbering old) s (used_in old (state_symbols (clauses_of items)) used s met))
-        (among-number (numbering new) s (used_in new (state_symbols (clauses_of items)) still s met)))
+    let met = symbols_there items key c s a there in
+    keeps s (number_in (numbering old) s) (number_in (numbering new) s)
+    (among-number (numbering old) s (used_in old (state_symbols (clauses_of items)) used s met))
+    (among-number (numbering new) s (used_in new (state_symbols (clauses_of items)) still s met)))
     (have key c row a b)
 
 -- ---- a clause comes
@@ -72,15 +72,15 @@ rows_less numbers items new rows after key c row have out out_rows k d r a b =
     have k d r (left_there items new key c (k, d) out a) (left_there rows after key row (k, r) out_rows b)
 
 -- ---- what is known of the clauses
+pub uncounted_rows : (items : List (ℕ × term.Clause)) (rows : List (ℕ × List ℕ)) (known : Known) (c : Clause) (between new : Known) → IsKnownOf items known → Enters c known between → Uncounts c between new → HaveRows (numbering between.signature) items rows
+    → HaveRows (numbering new.signature) items rows
+uncounted_rows items rows known c between new is enters undone now =
+    still_rows between.signature new.signature items rows now undone.numbers (λ s. omega (arith, enters.uses s, is.signed s)) (λ s. omega (arith, enters.uses s, is.signed s, undone.uses s))
+
 module _ (items : List (ℕ × term.Clause)) (rows : List (ℕ × List ℕ)) (known : Known) (is : IsKnownOf items known) (have : HaveRows (numbering known.signature) items rows) where
   pub entered_rows : (c : Clause) (between : Known) → Enters c known between → HaveRows (numbering between.signature) items rows
   entered_rows c between enters =
       still_rows known.signature between.signature items rows have enters.numbers (λ s. omega (arith, is.signed s)) (λ s. omega (arith, enters.uses s, is.signed s))
-
-  pub uncounted_rows : (c : Clause) (between new : Known) → Enters c known between → Uncounts c between new → HaveRows (numbering between.signature) items rows
-      → HaveRows (numbering new.signature) items rows
-  uncounted_rows c between new enters undone now =
-      still_rows between.signature new.signature items rows now undone.numbers (λ s. omega (arith, enters.uses s, is.signed s)) (λ s. omega (arith, enters.uses s, is.signed s, undone.uses s))
 
   pub stays_rows : (new : Known) → Stays known new → HaveRows (numbering new.signature) items rows
   stays_rows new same = still_rows known.signature new.signature items rows have same.numbers (λ s. omega (arith, is.signed s)) (λ s. omega (arith, same.uses s, is.signed s))

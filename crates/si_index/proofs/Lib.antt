@@ -15,6 +15,7 @@ mod NamedLaws
 mod ScreenLaws
 pub mod SlotLaws
 mod RowsKept
+mod ScreenedLaws
 pub mod OrderLaws
 pub mod ShownNames
 pub mod StandingLaws

@@ -1,5 +1,5 @@
 // The index.
-ghost use Rattle.std.specs.Prelude.{◌≡◌, ◌<◌, ◌≤◌, [], ◌∷◌, ◌++◌, IfOk, IfErr, IfNone, IfSome, OnOk, OnErr, Some, length, slice_get};
+ghost use Rattle.std.specs.Prelude.{◌≡◌, ◌<◌, ◌≤◌, ◌-◌, ◌^◌, [], ◌∷◌, ◌++◌, IfOk, IfErr, IfNone, IfSome, OnOk, OnErr, Some, length, slice_get};
 ghost use Rattle.si_defs.specs.Clauses as defs;
 ghost use Rattle.si_defs.specs.Clauses.{IsSoundClause};
 ghost use Rattle.si_defs.specs.Entries.{entries, state_entries};
@@ -17,7 +17,7 @@ ghost use Rattle.si_index.specs.Engines.{TreesAnswer};
 ghost use Rattle.si_index.specs.Known.{IsPut, HasPut};
 ghost use Rattle.si_index.specs.Stored.{AreHeld, HaveRows, MayKeep};
 ghost use Rattle.si_index.specs.Names.{key_of};
-ghost use Rattle.si_index.specs.Slots.{HasSlots};
+ghost use Rattle.si_index.specs.Slots.{HasSlots, HaveSlotRows};
 
 use crate::known::Known;
 use crate::names::Names;
@@ -132,7 +132,18 @@ impl Index {
     pub(crate) fn slots(&self) -> Places<'_, Clause>
         ensures { HasSlots self.now result }
     {
-        self.clauses.places()
+        self.slots_and_rows().0
+    }
+
+    /// The clauses by their slots in the list, and the rows by those slots. A slot without a clause
+    /// has some row too.
+    pub(crate) fn slots_and_rows(&self) -> (Places<'_, Clause>, &[Row])
+        ensures slots { HasSlots self.now result.0 }
+        ensures rows { HaveSlotRows self.now.numbers result.0 result.1.now }
+        ensures few { length result.1.now < 2 ^ 32 - 1 }
+        ensures stored { IsStored self.now.rules self.now.clauses }
+    {
+        self.clauses.marked_places()
     }
 
     /// The symbols of the clauses.

@@ -39,11 +39,9 @@ pub fn subset_rows(mask: &Row, rows: &[Row], out: &mut Vec<u32>) -> Result<(), A
     ensures err { OnErr result (out.new.items ≡ out.old.items) }
     ensures full { OnErr result (vec_capacity out.old < vec_len out.old + length rows.now) }
 {
-    let mask = u64x4::from_array(*mask);
     let mark = out.len();
     for position in 0..rows.len() {
-        let row = u64x4::from_array(rows[position]);
-        if is_subset(row, mask) {
+        if is_within(&rows[position], mask) {
             append(position as u32, mark, out)?;
         }
     }
@@ -63,11 +61,9 @@ pub fn superset_rows(mask: &Row, rows: &[Row], out: &mut Vec<u32>) -> Result<(),
     ensures err { OnErr result (out.new.items ≡ out.old.items) }
     ensures full { OnErr result (vec_capacity out.old < vec_len out.old + length rows.now) }
 {
-    let mask = u64x4::from_array(*mask);
     let mark = out.len();
     for position in 0..rows.len() {
-        let row = u64x4::from_array(rows[position]);
-        if is_subset(mask, row) {
+        if is_within(mask, &rows[position]) {
             append(position as u32, mark, out)?;
         }
     }
@@ -91,6 +87,18 @@ fn append(position: u32, mark: usize, out: &mut Vec<u32>) -> Result<(), AllocErr
             Err(AllocError)
         }
     }
+}
+
+/// Whether each bit that is set in the row is set in the other one. Most rows differ in the first
+/// word, so that is looked at before the lanes are.
+#[inline(always)]
+fn is_within(row: &Row, other: &Row) -> bool
+    ensures { IsTrue result ↔ IsSubset row.now other.now }
+{
+    if row[0] & !other[0] != 0 {
+        return false;
+    }
+    is_subset(u64x4::from_array(*row), u64x4::from_array(*other))
 }
 
 /// Whether each bit that is set in the row is set in the other one.

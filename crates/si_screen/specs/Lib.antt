@@ -1,2 +1,3 @@
 pub mod ClauseRows
+pub mod Examples
 pub mod Walks

@@ -5,8 +5,10 @@
 //! says which bits a clause has.
 #![tactic(auto)]
 
+mod examples;
 mod laws;
 mod rows;
 
+pub use examples::rows_of_clauses;
 pub use laws::rows_follow_maps;
 pub use rows::literals_row;

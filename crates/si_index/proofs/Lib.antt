@@ -1,7 +1,6 @@
 pub mod CountLaws
 pub mod EngineLaws
 pub mod EntryLaws
-pub mod KeptLaws
 pub mod LeafLaws
 mod SolvedLaws
 mod FittingLaws
@@ -20,7 +19,6 @@ pub mod OrderLaws
 pub mod ShownNames
 pub mod StandingLaws
 pub mod StoreLaws
-mod SubsumingLaws
 pub mod HeldClauses
 pub mod WantedLaws
 mod VariableLaws

@@ -14,7 +14,8 @@ abbrev pub keyed_code : {T M : Type 0} → Coded T → Coded M → Coded (Keyed 
 keyed_code {T} {M} code mark_code =
     code_by
     (List (ℕ × T) × (List (ℕ × M) × ℕ))
-    (coded× (coded_list (coded× coded_ℕ code)) (coded× (coded_list (coded× coded_ℕ mark_code)) coded_ℕ))
+    (coded× (coded_list (coded× coded_ℕ code))
+    (coded× (coded_list (coded× coded_ℕ mark_code)) coded_ℕ))
     (λ l. (l.items, (l.marks, l.slots)))
     (λ p. record { items = p.0; marks = p.1.0; slots = p.1.1 })
     (λ _. refl)

@@ -26,5 +26,6 @@ module _ {T : Type 0} where
 
 -- each of these items has its mark at its place in the other list
 abbrev pub HaveMarks : {T M : Type 0} → List (ℕ × (ℕ × T)) → List (ℕ × M) → List M → Type 0
-HaveMarks {T} {M} placed marks by_place = (place key : ℕ) (item : T) → IsAmong placed (place, (key, item))
+HaveMarks {T} {M} placed marks by_place = (place key : ℕ) (item : T)
+    → IsAmong placed (place, (key, item))
     → (mark : M) × (slice_get by_place place ≡ Some mark) × IsAmong marks (key, mark)

@@ -69,10 +69,10 @@ numbered_used known s good has =
     omega (arith, all_at (λ u. 1 ≤ u.uses) known there.used good.used there.among, uses, ap (λ (p : Symbol × ℕ). uses_of known p.0) there.is)
 
 -- as often as they occur, at least
-abbrev AreUsed : Signature → List Symbol → Type 0
+abbrev pub AreUsed : Signature → List Symbol → Type 0
 AreUsed known ss = (s : Symbol) → times s ss ≤ uses_of known s
 
-used_in : (known : Signature) (ss : List Symbol) → AreUsed known ss → (s : Symbol) → IsAmong ss s → has_number (numbering known) s ≡ true
+pub used_in : (known : Signature) (ss : List Symbol) → AreUsed known ss → (s : Symbol) → IsAmong ss s → has_number (numbering known) s ≡ true
 used_in known ss used s a = used_numbered known s (omega (arith, times_among s ss a, used s))
 
 numbers_all : (known : Signature) (items : List (ℕ × term.Clause)) → AreUsed known (state_symbols (clauses_of items)) → NumbersAll (numbering known) (map (λ k. k.1) (keyed_clauses items))

@@ -1,7 +1,6 @@
 pub mod CountLaws
 pub mod EngineLaws
 pub mod EntryLaws
-pub mod KeptLaws
 pub mod LeafLaws
 mod SolvedLaws
 mod FittingLaws
@@ -14,11 +13,12 @@ mod NameLaws
 mod NamedLaws
 mod ScreenLaws
 pub mod SlotLaws
+mod RowsKept
+mod ScreenedLaws
 pub mod OrderLaws
 pub mod ShownNames
 pub mod StandingLaws
 pub mod StoreLaws
-mod SubsumingLaws
 pub mod HeldClauses
 pub mod WantedLaws
 mod VariableLaws

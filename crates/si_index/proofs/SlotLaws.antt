@@ -19,6 +19,16 @@ place_among [] x a = absurd a
 place_among (y ∷ xs) x (inl same) = (0, ap Some same)
 place_among (y ∷ xs) x (inr a) = let h = place_among xs x a in (suc h.0, h.1)
 
+pub placed_among : (slots : Slots) (slot key : ℕ) (c : Clause) → IsAmong slots (slot, (key, c)) → IsAmong (placed_items slots) (key, c)
+placed_among [] slot key c a = absurd a
+placed_among (x ∷ slots) slot key c (inl e) = inl (ap (λ (y : ℕ × (ℕ × Clause)). y.1) e)
+placed_among (x ∷ slots) slot key c (inr a) = inr (placed_among slots slot key c a)
+
+pub clause_among : (slots : Slots) (slot key : ℕ) (c : Clause) → IsAmong slots (slot, (key, c)) → IsAmong (clauses_of (placed_items slots)) (clause_of c)
+clause_among [] slot key c a = absurd a
+clause_among (x ∷ slots) slot key c (inl e) = inl (ap (λ (y : ℕ × (ℕ × Clause)). clause_of y.1.1) e)
+clause_among (x ∷ slots) slot key c (inr a) = inr (clause_among slots slot key c a)
+
 -- ---- the clause at a position
 key_got : (slots : Slots) (n : ℕ) (x : ℕ × (ℕ × Clause)) → slice_get slots n ≡ Some x → slice_get (item_keys (placed_items slots)) n ≡ Some x.1.0
 key_got [] n x got = absurd (none-some x got)

@@ -1,7 +1,11 @@
 -- The kept clauses by their slots: in order, each with its key, behind its place in the list.
-use Rattle.std.specs.Prelude.{◌≡◌, ℕ, ◌≤◌, List, length}
+use Rattle.std.specs.Prelude.{◌≡◌, ℕ, ◌≤◌, List, length, slice_get, Some}
 use Rattle.si_defs.specs.Substitutions.{IsAmong}
 use Rattle.si_defs.specs.declared.TheConstants.{MOST_OCCURRENCES}
+use Rattle.si_defs.specs.Symbols.{Numbering}
+use Rattle.si_term.specs.Meaning.{clause_of}
+use Rattle.si_flat.specs.Numbered.{number_in}
+use Rattle.si_screen.specs.ClauseRows.{IsRowOf}
 use Rattle.si_term.specs.declared.clause.Clause as term
 use Rattle.si_keyed.specs.Keyed.{item_keys}
 use Rattle.si_keyed.specs.Placed.{placed_items, PlacesRise}
@@ -20,3 +24,9 @@ pub record HasSlots (k : Kept) (slots : Slots) : Type 0 where
 -- a clause with this key stands in this slot
 abbrev pub IsIn : Slots → ℕ → ℕ → Type 0
 IsIn slots slot key = (c : term.Clause) × IsAmong slots (slot, (key, c))
+
+-- Each clause has its row at its slot in the other list, by these numbers.
+abbrev pub HaveSlotRows : Numbering → Slots → List (List ℕ) → Type 0
+HaveSlotRows numbers slots rows = (slot key : ℕ) (c : term.Clause) → IsAmong slots (slot, (key, c))
+    → (row : List ℕ) × (slice_get rows slot ≡ Some row)
+    × IsRowOf (number_in numbers) (clause_of c).literals row

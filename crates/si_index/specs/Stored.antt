@@ -1,13 +1,17 @@
 -- What holds of an index: its clauses are stored by its rules, their names and symbols are known,
--- and two trees hold their entries.
+-- two trees hold their entries, and each has its row.
 use Rattle.std.specs.Prelude.{◌≡◌, ℕ, ◌≤◌, List, [], map, None}
 use Rattle.si_defs.specs.Clauses.{Clause, IsSoundClause}
+use Rattle.si_defs.specs.Symbols.{Numbering}
+use Rattle.si_defs.specs.Substitutions.{IsAmong}
 use Rattle.si_defs.specs.Entries.{clause_symbols}
 use Rattle.si_defs.specs.declared.TheConstants.{MOST_OCCURRENCES}
 use Rattle.si_state.specs.States.{Rules}
 use Rattle.si_state.specs.Signatures.{numbering}
 use Rattle.si_term.specs.Meaning.{clause_of, name_of}
 use Rattle.si_flat.specs.Flattened.{unnumbered}
+use Rattle.si_flat.specs.Numbered.{number_in}
+use Rattle.si_screen.specs.ClauseRows.{IsRowOf}
 use Rattle.si_term.specs.declared.clause.Clause as term
 use Rattle.si_held.specs.TwoTrees.{TwoTrees, Hold}
 use Rattle.si_sign.specs.Stores.{IsStored}
@@ -27,6 +31,11 @@ keyed_clauses items = map (λ p. (p.0, clause_of p.1)) items
 
 abbrev pub AreHeld : List (ℕ × term.Clause) → Known → TwoTrees → Type 0
 AreHeld items known trees = Hold (numbering known.signature) (keyed_clauses items) trees
+
+-- each of these clauses has its row, by these numbers
+abbrev pub HaveRows : Numbering → List (ℕ × term.Clause) → List (ℕ × List ℕ) → Type 0
+HaveRows numbers items rows = (key : ℕ) (c : term.Clause) (row : List ℕ) → IsAmong items (key, c)
+    → IsAmong rows (key, row) → IsRowOf (number_in numbers) (clause_of c).literals row
 
 -- The clause may be put beside these: its symbols have numbers, its name is free, and two trees hold
 -- the others' entries.

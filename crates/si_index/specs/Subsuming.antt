@@ -1,8 +1,13 @@
 -- The kept clauses that subsume a formula, and those that it subsumes: by position, each with its
 -- map.
-use Rattle.std.specs.Prelude.{◌≡◌, ◌⊎◌, ℕ, suc, List, [], ◌∷◌, ◌++◌}
+use Rattle.std.specs.Prelude.{◌≡◌, ◌⊎◌, ℕ, suc, List, [], ◌∷◌, ◌++◌, slice_get, Some}
 use Rattle.si_defs.specs.Clauses.{Literal, Clause}
 use Rattle.si_state.specs.Subsumption.{IsMap, IsLeast}
+use Rattle.si_term.specs.Meaning.{clause_of}
+use Rattle.si_term.specs.declared.clause.Clause as term
+use Rattle.si_keyed.specs.Placed.{HasPlace}
+use Rattle.si_lanes.specs.Rows.{IsSubset}
+use Rattle.si_index.specs.Slots.{Slots}
 use Rattle.si_index.specs.declared.subsuming.Direction.{Direction}
 use Rattle.si_index.specs.declared.subsuming.Direction.TheVariants.{ToFormula, FromFormula}
 use Rattle.si_index.specs.declared.subsuming.Mapped.{Mapped}
@@ -28,3 +33,23 @@ abbrev pub Tries : (List Literal → List ℕ → Type 0) → ℕ → Clause →
 Tries P k c old new =
     ((m : Mapped) × (m.clause ≡ k) × IsLeast (P c.literals) m.map × (new ≡ old ++ m ∷ []))
     ⊎ (((ns : List ℕ) → P c.literals ns → ⊥) × (new ≡ old))
+
+-- A clause whose row doesn't stand in this relation to the formula's has no map.
+abbrev pub PassesIn : Direction → (formula : List ℕ) → (row : List ℕ) → Type 0
+PassesIn ToFormula formula row = IsSubset row formula
+PassesIn FromFormula formula row = IsSubset formula row
+
+-- the clause in this slot was tried, if there is one
+abbrev pub TriesSlot : (List Literal → List ℕ → Type 0) → Slots → ℕ → List Mapped
+    → List Mapped → Type 0
+TriesSlot P slots slot old new =
+    ((n key : ℕ) × (c : term.Clause) × (slice_get slots n ≡ Some (slot, (key, c)))
+    × Tries P n (clause_of c) old new)
+    ⊎ ((HasPlace slots slot → ⊥) × (new ≡ old))
+
+-- the clauses in these slots were tried, one after the other
+abbrev pub TriesSlots : (List Literal → List ℕ → Type 0) → Slots → List ℕ → List Mapped
+    → List Mapped → Type 0
+TriesSlots P slots [] old new = new ≡ old
+TriesSlots P slots (q ∷ qs) old new =
+    (between : List Mapped) × TriesSlot P slots q old between × TriesSlots P slots qs between new

@@ -1,5 +1,5 @@
 // The index.
-ghost use Rattle.std.specs.Prelude.{◌≡◌, ◌<◌, ◌≤◌, [], ◌∷◌, ◌++◌, IfOk, IfErr, IfNone, IfSome, OnOk, OnErr, Some, length, slice_get};
+ghost use Rattle.std.specs.Prelude.{◌≡◌, ◌<◌, ◌≤◌, ◌-◌, ◌^◌, [], ◌∷◌, ◌++◌, IfOk, IfErr, IfNone, IfSome, OnOk, OnErr, Some, length, slice_get};
 ghost use Rattle.si_defs.specs.Clauses as defs;
 ghost use Rattle.si_defs.specs.Clauses.{IsSoundClause};
 ghost use Rattle.si_defs.specs.Entries.{entries, state_entries};
@@ -10,19 +10,21 @@ ghost use Rattle.si_state.specs.Signatures.{CountsSymbols, IsSignatureOf, number
 ghost use Rattle.si_defs.specs.Symbols.{IsNumbering};
 ghost use Rattle.si_term.specs.Meaning.{clause_of, name_of};
 ghost use Rattle.si_sign.specs.Stores.{IsStored, Rejects};
-ghost use Rattle.si_keyed.specs.Keyed.{item_keys};
+ghost use Rattle.si_keyed.specs.Keyed.{item_keys, HasKey};
 ghost use Rattle.si_tree.specs.Reading.{counts_of};
 ghost use Rattle.si_index.specs.Kept.{AreKeyed, IsEmpty, KeysStay, NumbersExactly, NumbersStay, TreesHold, clauses_of};
 ghost use Rattle.si_index.specs.Engines.{TreesAnswer};
 ghost use Rattle.si_index.specs.Known.{IsPut, HasPut};
-ghost use Rattle.si_index.specs.Stored.{AreHeld, MayKeep};
+ghost use Rattle.si_index.specs.Stored.{AreHeld, HaveRows, MayKeep};
 ghost use Rattle.si_index.specs.Names.{key_of};
-ghost use Rattle.si_index.specs.Slots.{HasSlots};
+ghost use Rattle.si_index.specs.Slots.{HasSlots, HaveSlotRows};
 
 use crate::known::Known;
 use crate::names::Names;
 use si_forest::Trees;
 use si_keyed::{Items, KeyedList, Places};
+use si_lanes::Row;
+use si_screen::literals_row;
 use si_sign::{AddFault, ClauseStore, Rejected, Signature};
 use si_term::{Clause, Name};
 use si_tree::Counts;
@@ -55,7 +57,8 @@ pub struct TreeCounts {
 pub struct Index {
     alloc: Global,
     limit: u64,
-    clauses: KeyedList<Clause>,
+    // Each with its row, so that a screen reads the rows one after the other.
+    clauses: KeyedList<Clause, Row>,
     known: Known,
     trees: Trees,
 }
@@ -78,10 +81,11 @@ impl Model for Index {
       trees = i.trees;
     } };
 
-    ghost use Rattle.si_index.specs.Stored.{IsKept, AreHeld};
+    ghost use Rattle.si_index.specs.Stored.{IsKept, AreHeld, HaveRows};
 
     ghost invariant = { λ i. IsKept (limited_to i.limit) i.clauses.items i.known
-        × AreHeld i.clauses.items i.known i.trees };
+        × AreHeld i.clauses.items i.known i.trees
+        × HaveRows (numbering i.known.signature) i.clauses.items i.clauses.marks };
 }
 
 impl Index {
@@ -128,7 +132,18 @@ impl Index {
     pub(crate) fn slots(&self) -> Places<'_, Clause>
         ensures { HasSlots self.now result }
     {
-        self.clauses.places()
+        self.slots_and_rows().0
+    }
+
+    /// The clauses by their slots in the list, and the rows by those slots. A slot without a clause
+    /// has some row too.
+    pub(crate) fn slots_and_rows(&self) -> (Places<'_, Clause>, &[Row])
+        ensures slots { HasSlots self.now result.0 }
+        ensures rows { HaveSlotRows self.now.numbers result.0 result.1.now }
+        ensures few { length result.1.now < 2 ^ 32 - 1 }
+        ensures stored { IsStored self.now.rules self.now.clauses }
+    {
+        self.clauses.marked_places()
     }
 
     /// The symbols of the clauses.
@@ -174,22 +189,27 @@ impl Index {
     }
 }
 
-/// Appends a clause, and has its name lead to its key, which is answered. Where memory runs out, the
-/// clauses and their keys are as before, and so are the names, and the clause is handed back.
+/// Appends a clause with its row, and has its name lead to its key, which is answered. Where memory
+/// runs out, the clauses, their rows and their keys are as before, and so are the names, and the
+/// clause is handed back.
 fn put(
     alloc: Global,
-    clauses: &mut KeyedList<Clause>,
+    clauses: &mut KeyedList<Clause, Row>,
     names: &mut Names,
     clause: Clause,
+    row: Row,
 ) -> Result<usize, Clause>
     ensures put { IfOk result (λ key. IsPut key clause clauses.old.items clauses.new.items
         names.old names.new) }
+    ensures row { IfOk result (λ key. clauses.new.marks ≡ clauses.old.marks ++ (key, row) ∷ []) }
+    ensures no_row { IfOk result (λ key. HasKey clauses.old.marks key → ⊥) }
     ensures handed_back { IfErr result (λ back. back ≡ clause) }
     ensures err { OnErr result (clauses.new.items ≡ clauses.old.items) }
+    ensures same_rows { OnErr result (clauses.new.marks ≡ clauses.old.marks) }
     ensures same_names { OnErr result ((name : defs.Name) → key_of names.new name
         ≡ key_of names.old name) }
 {
-    let key = clauses.push(clause)?;
+    let key = clauses.push(clause, row)?;
     let kept = clauses.get(key).unwrap();
     match names.insert(alloc, &kept.name, key) {
         Ok(()) => Ok(key),
@@ -201,12 +221,14 @@ fn put(
 /// is handed back, and the same is kept as before.
 fn keep(
     alloc: Global,
-    clauses: &mut KeyedList<Clause>,
+    clauses: &mut KeyedList<Clause, Row>,
     known: &mut Known,
     trees: &mut Trees,
     clause: Clause,
 ) -> Result<(), Clause>
-    requires { MayKeep clause clauses.old.items known.old trees.old }
+    requires may { MayKeep clause clauses.old.items known.old trees.old }
+    requires rows { HaveRows (numbering known.old.signature) clauses.old.items
+        clauses.old.marks }
     ensures put { OnOk result (HasPut clause clauses.old.items clauses.new.items
         known.old.names known.new.names) }
     ensures handed_back { IfErr result (λ back. back ≡ clause) }
@@ -216,8 +238,11 @@ fn keep(
     ensures signature { known.new.signature ≡ known.old.signature }
     ensures entries { known.new.entries ≡ known.old.entries }
     ensures held { AreHeld clauses.new.items known.new trees.new }
+    ensures rows { HaveRows (numbering known.new.signature) clauses.new.items
+        clauses.new.marks }
 {
-    let key = put(alloc, clauses, &mut known.names, clause)?;
+    let row = literals_row(&known.signature, clause.literals.as_slice());
+    let key = put(alloc, clauses, &mut known.names, clause, row)?;
     let kept = clauses.get(key).unwrap();
     match trees.add_clause(alloc, &known.signature, key, kept) {
         Ok(()) => Ok(()),

@@ -1,13 +1,21 @@
 // The kept clauses that subsume a formula, and those that it subsumes.
-ghost use Rattle.std.specs.Prelude.{IfOk, OnOk, map};
+ghost use Rattle.std.specs.Prelude.{◌<◌, ◌≤◌, ◌-◌, ◌^◌, [], IfOk, OnOk, length, map};
+ghost use Rattle.std.specs.List.{AllByRecursion};
 ghost use Rattle.si_defs.specs.Clauses.{IsSoundClause, AreSoundLiterals};
 ghost use Rattle.si_state.specs.Subsumption.{IsMap, AnswersLeast};
-ghost use Rattle.si_term.specs.Meaning.{literal_of, clause_of};
-ghost use Rattle.si_index.specs.Subsuming.{AreMappedFrom, IsMapIn, Tries};
+ghost use Rattle.si_term.specs.Meaning.{literal_of};
+ghost use Rattle.si_defs.specs.declared.TheConstants.{MOST_OCCURRENCES};
+ghost use Rattle.si_keyed.specs.Placed.{placed_items, PlacesRise};
+ghost use Rattle.si_lanes.specs.Rows.{AppendsPositions};
+ghost use Rattle.si_index.specs.Kept.{clauses_of};
+ghost use Rattle.si_index.specs.Subsuming.{AreMappedFrom, IsMapIn, PassesIn, TriesSlot, TriesSlots};
 
 use crate::index::Index;
 use crate::screen::may_have_map;
 use si_flat::LitMap;
+use si_keyed::Places;
+use si_lanes::{Row, subset_rows, superset_rows};
+use si_screen::literals_row;
 use si_subsume::least_map;
 use si_term::list::Items;
 use si_term::{Clause, Literals};
@@ -66,41 +74,71 @@ impl<'a> Comparison<'a> {
         }
     }
 
-    /// Adds a clause, with its least map, if there is one.
-    fn try_clause(
+    /// Appends the slots whose rows allow a map.
+    fn pass(&self, row: &Row, rows: &[Row], slots: &mut Vec<u32>) -> Result<(), AllocError>
+        requires { length rows.now < 2 ^ 32 - 1 }
+        ensures { OnOk result (AppendsPositions (PassesIn self.now.direction row.now) rows.now
+            slots.old.items slots.new.items) }
+    {
+        match self.direction {
+            Direction::ToFormula => subset_rows(row, rows, slots),
+            Direction::FromFormula => superset_rows(row, rows, slots),
+        }
+    }
+
+    /// Adds the clause in a slot, with its least map, if there are any.
+    fn try_slot(
         &self,
-        position: u32,
-        clause: &Clause,
+        places: &Places<'_, Clause>,
+        slot: usize,
         mappeds: &mut Mappeds,
     ) -> Result<(), AllocError>
         requires formula { AreSoundLiterals (map literal_of self.now.formula.now) }
-        requires clause { IsSoundClause (clause_of clause.now) }
-        ensures { OnOk result (Tries (IsMapIn self.now.direction
-            (map literal_of self.now.formula.now)) position (clause_of clause.now)
-            mappeds.old mappeds.new) }
+        requires clauses { AllByRecursion IsSoundClause (clauses_of (placed_items places.now)) }
+        requires few { length places.now ≤ MOST_OCCURRENCES }
+        requires rise { PlacesRise places.now }
+        ensures { OnOk result (TriesSlot (IsMapIn self.now.direction
+            (map literal_of self.now.formula.now)) places.now slot mappeds.old mappeds.new) }
     {
+        let Some(clause) = places.get(slot) else {
+            return Ok(());
+        };
         let Some(map) = self.answer(&clause.literals)? else {
             return Ok(());
         };
+        let (position, _) = places.at(slot);
         mappeds.push(Mapped {
-            clause: position,
+            clause: position as u32,
             map,
         })
     }
 
-    /// The clauses that have a map, each with the least.
+    /// The clauses that have a map, each with the least. Only those are tried whose rows allow one;
+    /// no clause says so.
     fn mapped_clauses(&self, index: &Index) -> Result<Mappeds, AllocError>
         requires { AreSoundLiterals (map literal_of self.now.formula.now) }
         ensures { IfOk result (AreMappedFrom (IsMapIn self.now.direction
             (map literal_of self.now.formula.now)) 0 index.now.clauses) }
     {
+        let row = literals_row(index.signature(), self.formula.as_slice());
+        let (places, rows) = index.slots_and_rows();
+        let mut slots = Vec::new(self.alloc);
+        self.pass(&row, rows, &mut slots)?;
+        self.try_slots(&places, slots.as_slice())
+    }
+
+    /// The clauses in these slots that have a map, each with the least.
+    fn try_slots(&self, places: &Places<'_, Clause>, slots: &[u32]) -> Result<Mappeds, AllocError>
+        requires formula { AreSoundLiterals (map literal_of self.now.formula.now) }
+        requires clauses { AllByRecursion IsSoundClause (clauses_of (placed_items places.now)) }
+        requires few { length places.now ≤ MOST_OCCURRENCES }
+        requires rise { PlacesRise places.now }
+        ensures { IfOk result (TriesSlots (IsMapIn self.now.direction
+            (map literal_of self.now.formula.now)) places.now slots.now []) }
+    {
         let mut mappeds = Mappeds::new(self.alloc);
-        let mut left = index.kept();
-        for position in 0..index.stats().clauses {
-            let Some((_, clause)) = left.next() else {
-                unreachable!()
-            };
-            self.try_clause(position, clause, &mut mappeds)?;
+        for i in 0..slots.len() {
+            self.try_slot(places, slots[i] as usize, &mut mappeds)?;
         }
         Ok(mappeds)
     }

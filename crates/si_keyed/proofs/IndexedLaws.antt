@@ -6,8 +6,8 @@ use Rattle.std.proofs.lemmas.List.{get_or_read, length-append}
 use Rattle.slab.specs.Slab.{Slab, get, slab_len, Updates}
 use Rattle.si_defs.specs.Substitutions.{IsAmong}
 use Rattle.si_keyed.specs.Halves.{sum_of}
-use Rattle.si_keyed.specs.Keyed.{HasKey, HasKeyAt, IsTakenOut, HasFewHoles}
-use Rattle.si_keyed.specs.KeyedSlots.{kept, flags, seen, HoldsAt, IsLinked, KnowsKeys, IsIndexed}
+use Rattle.si_keyed.specs.Keyed.{HasKey, HasKeyAt, IsTakenOut}
+use Rattle.si_keyed.specs.KeyedSlots.{kept, flags, HaveFewHoles, HoldsAt, IsLinked, KnowsKeys, IsIndexed}
 use Rattle.si_keyed.specs.declared.keyed.Kept.{Kept}
 use Rattle.si_keyed.proofs.SlotLaws.{entry, stands_inside, kept_pushed, flags_pushed, taken_out, flag_there, flags_without, flags_length, flags_total, kept_bound, rank_there, found_there, among_there, kept_filtered}
 use Rattle.si_keyed.proofs.KeyLaws.{key_at}
@@ -88,9 +88,9 @@ module _ {T : Type 0} where
         counted = counts ∙ ap (λ l. l ++ 1 ∷ []) h.counted ∙ sym (flags_pushed slots k);
       })
 
-  pub few_pushed : (slots new : List (Option (Kept T))) (k : Kept T) → HasFewHoles (seen slots) → new ≡ slots ++ Some k ∷ [] → HasFewHoles (seen new)
+  pub few_pushed : (slots new : List (Option (Kept T))) (k : Kept T) → HaveFewHoles slots → new ≡ slots ++ Some k ∷ [] → HaveFewHoles new
   few_pushed slots new k few pushed =
-      subst (λ s. HasFewHoles (seen s)) (sym pushed)
+      subst (λ s. HaveFewHoles s) (sym pushed)
       (omega (arith, few, length-append slots (Some k ∷ []), ap length (kept_pushed slots k), length-append (kept slots) (entry k ∷ [])))
 
   -- ---- one fewer
@@ -151,7 +151,7 @@ module _ {T : Type 0} where
   closed_full (None ∷ slots) = closed_full slots
   closed_full (Some j ∷ slots) = ap suc (closed_full slots)
 
-  pub few_closed : (slots now : List (Option (Kept T))) → now ≡ filter is_some slots → HasFewHoles (seen now)
+  pub few_closed : (slots now : List (Option (Kept T))) → now ≡ filter is_some slots → HaveFewHoles now
   few_closed slots now closed =
       omega (arith, ap length closed, closed_full slots, ap length (closed_same slots now closed))
 

@@ -2,6 +2,7 @@ mod HalfLaws
 mod IndexedLaws
 pub mod KeyLaws
 mod LinkLaws
+mod MarkLaws
 pub mod PlacedLaws
 mod PutLaws
 pub mod Results

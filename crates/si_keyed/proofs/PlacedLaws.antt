@@ -7,8 +7,7 @@ use Rattle.std.proofs.lemmas.Option.{same_Some, none-some}
 use Rattle.si_defs.specs.Substitutions.{IsAmong}
 use Rattle.si_defs.proofs.ListLaws.{all_at, all_from, all_got, get_among}
 use Rattle.si_keyed.specs.Halves.{sum_of}
-use Rattle.si_keyed.specs.Keyed.{HasFewHoles}
-use Rattle.si_keyed.specs.KeyedSlots.{kept, flags, seen, HoldsAt}
+use Rattle.si_keyed.specs.KeyedSlots.{kept, flags, HaveFewHoles, HoldsAt}
 use Rattle.si_keyed.specs.Placed.{placed_from, placed_items, HasPlace, PlacesRise}
 use Rattle.si_keyed.specs.declared.keyed.Kept.{Kept}
 use Rattle.si_keyed.proofs.SlotLaws.{entry, get_next, stands_inside}
@@ -70,7 +69,7 @@ module _ {T : Type 0} where
       (h.item, subst (λ n. HoldsAt slots n h.item) same h.holds)
 
   -- places are few
-  pub few_places : (slots : List (Option (Kept T))) (placed : List (ℕ × (ℕ × T))) (place : ℕ) (k : Kept T) → placed_from 0 slots ≡ placed → HasFewHoles (seen slots) → HoldsAt slots place k
+  pub few_places : (slots : List (Option (Kept T))) (placed : List (ℕ × (ℕ × T))) (place : ℕ) (k : Kept T) → placed_from 0 slots ≡ placed → HaveFewHoles slots → HoldsAt slots place k
       → place ≤ 2 * length placed
   few_places slots placed place k are few h =
       omega (arith, few, stands_inside slots place k h, ap length (items_placed 0 slots), length-map (placed_from 0 slots) (λ p. p.1), ap length are)
@@ -113,3 +112,13 @@ module _ {T : Type 0} where
       let later : p.0 < place = all_at (λ (r : ℕ × (ℕ × T)). p.0 < r.0) placed (place, (key, item)) rise.0 a in
       let other : eqb p.0 place ≡ false = ne_eqb p.0 place (λ e. omega (arith, e, later)) in
       ap (λ b. if b then p.1.0 else key_there placed place) other ∙ key_is placed place key item rise.1 a
+
+  -- the item of a key at a place
+  pub held_as : (slots : List (Option (Kept T))) (place key : ℕ) (item : T) → IsAmong (placed_from 0 slots) (place, (key, item)) → (k : Kept T) × HoldsAt slots place k × (k.key ≡ key)
+  held_as slots place key item there =
+      let held = holds_place slots (placed_from 0 slots) place refl ((key, item), there) in
+      let rise = places_rise 0 slots in (
+        held.0,
+        held.1,
+        sym (key_is (placed_from 0 slots) place held.0.key held.0.item rise (among_placed slots place held.0 held.1)) ∙ key_is (placed_from 0 slots) place key item rise there,
+      )

@@ -3,28 +3,27 @@ use Rattle.std.specs.Prelude.{◌≡◌, ℕ, ◌+◌, ◌*◌, ◌≤◌, List,
 use Rattle.std.specs.Coded.{Coded, code_by, coded×, coded_ℕ, coded_list}
 use Rattle.si_defs.specs.Substitutions.{IsAmong}
 
--- the items in order, each with its key, and the number of slots for items and holes
-pub record Keyed (T : Type 0) : Type 0 where
+-- the items in order, each with its key, their marks in the same way, and the number of slots for
+-- items and holes
+pub record Keyed (T M : Type 0) : Type 0 where
   pub items : List (ℕ × T)
+  pub marks : List (ℕ × M)
   pub slots : ℕ
 
-abbrev pub keyed_code : {T : Type 0} → Coded T → Coded (Keyed T)
-keyed_code {T} code =
+abbrev pub keyed_code : {T M : Type 0} → Coded T → Coded M → Coded (Keyed T M)
+keyed_code {T} {M} code mark_code =
     code_by
-    (List (ℕ × T) × ℕ)
-    (coded× (coded_list (coded× coded_ℕ code)) coded_ℕ)
-    (λ l. (l.items, l.slots))
-    (λ p. record { items = p.0; slots = p.1 })
+    (List (ℕ × T) × (List (ℕ × M) × ℕ))
+    (coded× (coded_list (coded× coded_ℕ code))
+    (coded× (coded_list (coded× coded_ℕ mark_code)) coded_ℕ))
+    (λ l. (l.items, (l.marks, l.slots)))
+    (λ p. record { items = p.0; marks = p.1.0; slots = p.1.1 })
     (λ _. refl)
 
 module _ {T : Type 0} where
   -- the keys of the items, in order
   abbrev pub item_keys : List (ℕ × T) → List ℕ
   item_keys = map (λ e. e.0)
-
-  -- there is at most one hole more than there are items
-  abbrev pub HasFewHoles : Keyed T → Type 0
-  HasFewHoles l = l.slots ≤ 2 * length l.items + 1
 
   -- an item has this key
   abbrev pub HasKey : List (ℕ × T) → ℕ → Type 0
@@ -41,3 +40,8 @@ module _ {T : Type 0} where
     pub after : List (ℕ × T)
     pub whole : old ≡ before ++ (key, item) ∷ after
     pub rest : new ≡ before ++ after
+
+module _ {T M : Type 0} where
+  -- there is at most one hole more than there are items
+  abbrev pub HasFewHoles : Keyed T M → Type 0
+  HasFewHoles l = l.slots ≤ 2 * length l.items + 1

@@ -1,5 +1,5 @@
 -- How a list whose items go by keys is kept: slots with holes, and tables beside them.
-use Rattle.std.specs.Prelude.{◌≡◌, ℕ, List, [], ◌∷◌, Option, None, Some, length, slice_index_or}
+use Rattle.std.specs.Prelude.{◌≡◌, ℕ, ◌+◌, ◌*◌, ◌≤◌, List, [], ◌∷◌, Option, None, Some, length, slice_index_or}
 use Rattle.slab.specs.Slab.{Slab, get, slab_len}
 use Rattle.si_defs.specs.Substitutions.{AreDistinct}
 use Rattle.si_keyed.specs.Keyed.{Keyed, item_keys, HasKey}
@@ -12,9 +12,9 @@ module _ {T : Type 0} where
   kept (None ∷ slots) = kept slots
   kept (Some k ∷ slots) = (k.key, k.item) ∷ kept slots
 
-  -- what slots are seen as
-  abbrev pub seen : List (Option (Kept T)) → Keyed T
-  seen slots = record { items = kept slots; slots = length slots }
+  -- there is at most one hole more than there are items
+  abbrev pub HaveFewHoles : List (Option (Kept T)) → Type 0
+  HaveFewHoles slots = length slots ≤ 2 * length (kept slots) + 1
 
   -- 1 for an item, and 0 for a hole
   abbrev pub flags : List (Option (Kept T)) → List ℕ
@@ -44,3 +44,26 @@ module _ {T : Type 0} where
     pub linked : IsLinked slots (λ key. get places key)
     pub number : slab_len places ≡ length (kept slots)
     pub counted : ranks ≡ flags slots
+
+module _ {T M : Type 0} where
+  -- the marks of the items by their slots, each with the item's key; those of holes are passed over
+  abbrev pub marked : List (Option (Kept T)) → List M → List (ℕ × M)
+  marked [] marks = []
+  marked (slot ∷ slots) [] = []
+  marked (None ∷ slots) (m ∷ marks) = marked slots marks
+  marked (Some k ∷ slots) (m ∷ marks) = (k.key, m) ∷ marked slots marks
+
+  -- the marks of the items alone
+  abbrev pub without_holes : List (Option (Kept T)) → List M → List M
+  without_holes [] marks = []
+  without_holes (slot ∷ slots) [] = []
+  without_holes (None ∷ slots) (m ∷ marks) = without_holes slots marks
+  without_holes (Some k ∷ slots) (m ∷ marks) = m ∷ without_holes slots marks
+
+  -- what slots with marks are seen as
+  abbrev pub seen : List (Option (Kept T)) → List M → Keyed T M
+  seen slots marks = record {
+    items = kept slots;
+    marks = marked slots marks;
+    slots = length slots;
+  }

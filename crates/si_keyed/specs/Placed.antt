@@ -1,5 +1,5 @@
 -- The items of slots, each with its place among them.
-use Rattle.std.specs.Prelude.{ℕ, ◌<◌, List, [], ◌∷◌, Option, None, Some, map, suc}
+use Rattle.std.specs.Prelude.{◌≡◌, slice_get, ℕ, ◌<◌, List, [], ◌∷◌, Option, None, Some, map, suc}
 use Rattle.std.specs.List.{AllByRecursion}
 use Rattle.si_defs.specs.Substitutions.{IsAmong}
 use Rattle.si_keyed.specs.declared.keyed.Kept.{Kept}
@@ -23,3 +23,9 @@ module _ {T : Type 0} where
   abbrev pub PlacesRise : List (ℕ × (ℕ × T)) → Type 0
   PlacesRise [] = Unit {0}
   PlacesRise (p ∷ placed) = AllByRecursion (λ q. p.0 < q.0) placed × PlacesRise placed
+
+-- each of these items has its mark at its place in the other list
+abbrev pub HaveMarks : {T M : Type 0} → List (ℕ × (ℕ × T)) → List (ℕ × M) → List M → Type 0
+HaveMarks {T} {M} placed marks by_place = (place key : ℕ) (item : T)
+    → IsAmong placed (place, (key, item))
+    → (mark : M) × (slice_get by_place place ≡ Some mark) × IsAmong marks (key, mark)

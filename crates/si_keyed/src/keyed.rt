@@ -1,11 +1,11 @@
 // A list whose items are found by key and by position, and from which any item can be taken.
-ghost use Rattle.std.specs.Prelude.{◌≡◌, ◌<◌, ◌-◌, ◌^◌, [], ◌∷◌, ◌++◌, IfOk, IfErr, OnOk, OnErr, IfSome, IfNone, Some, length, slice_get, vec_capacity};
+ghost use Rattle.std.specs.Prelude.{◌≡◌, ◌<◌, ◌≤◌, ◌+◌, ◌*◌, ◌-◌, ◌^◌, [], ◌∷◌, ◌++◌, IfOk, IfErr, OnOk, OnErr, IfSome, IfNone, Some, length, slice_get, slice_set, vec_capacity};
 ghost use Rattle.slab.specs.Slab.{get, slab_len, ContainsKey, HasRoomFor, Updates};
 ghost use Rattle.si_defs.specs.Substitutions.{IsAmong, AreDistinct};
 ghost use Rattle.si_keyed.specs.Halves.{sum_of};
 ghost use Rattle.si_keyed.specs.Keyed.{item_keys, HasKey, HasKeyAt, IsTakenOut, HasFewHoles};
-ghost use Rattle.si_keyed.specs.Placed.{placed_items, PlacesRise};
-ghost use Rattle.si_keyed.specs.KeyedSlots.{kept, flags, seen, IsLinked, KnowsKeys, IsIndexed};
+ghost use Rattle.si_keyed.specs.Placed.{placed_items, PlacesRise, HaveMarks};
+ghost use Rattle.si_keyed.specs.KeyedSlots.{kept, flags, marked, without_holes, HaveFewHoles, IsLinked, KnowsKeys, IsIndexed};
 ghost use Rattle.std.specs.Iterator.{YieldsFirstBy, item_count};
 
 use crate::places::Places;
@@ -25,40 +25,48 @@ pub(crate) struct Kept<T> {
 /// can be taken from anywhere without a pass over the items after it: a hole is left, and where
 /// most slots are holes, they are closed.
 ///
-/// Contracts see the list of the keys and items, and the number of slots.
+/// Each item has a mark. The marks stand in one slice, by slot, so that all are read without the
+/// items.
+///
+/// Contracts see the list of the keys and items, that of the keys and marks, and the number of
+/// slots.
 #[derive(Drop)]
-pub struct KeyedList<T> {
+pub struct KeyedList<T, M: Copy> {
     alloc: Global,
     slots: Vec<Option<Kept<T>>>,
+    // The mark of the item in each slot. A hole still has that of the item that was there.
+    marks: Vec<M>,
     // The place of each key's item among the slots.
     places: Slab<usize>,
     // How many items stand at each place, so that positions are found.
     ranks: Ranks,
 }
 
-impl<T> Model for KeyedList<T> {
-    ghost use Rattle.si_keyed.specs.Keyed.{Keyed, keyed_code, HasFewHoles};
+impl<T, M: Copy> Model for KeyedList<T, M> {
+    ghost use Rattle.std.specs.Prelude.{◌≡◌, length};
+    ghost use Rattle.si_keyed.specs.Keyed.{Keyed, keyed_code};
 
-    ghost Value = { Keyed T };
+    ghost Value = { Keyed T M };
 
-    ghost coded = { keyed_code T.code };
+    ghost coded = { keyed_code T.code M.code };
 
-    ghost use Rattle.si_keyed.specs.KeyedSlots.{seen, IsIndexed};
+    ghost use Rattle.si_keyed.specs.KeyedSlots.{seen, HaveFewHoles, IsIndexed};
 
-    ghost view = { λ l. seen l.slots.items };
+    ghost view = { λ l. seen l.slots.items l.marks.items };
 
     ghost invariant = { λ l. IsIndexed l.slots.items l.places l.ranks
-        × HasFewHoles (seen l.slots.items) };
+        × HaveFewHoles l.slots.items × (length l.marks.items ≡ length l.slots.items) };
 }
 
-impl<T> KeyedList<T> {
+impl<T, M: Copy> KeyedList<T, M> {
     /// The empty list.
-    pub fn new(alloc: Global) -> KeyedList<T>
-        ensures { result ≡ record { items = []; slots = 0 } }
+    pub fn new(alloc: Global) -> KeyedList<T, M>
+        ensures { result ≡ record { items = []; marks = []; slots = 0 } }
     {
         KeyedList {
             alloc,
             slots: Vec::new(alloc),
+            marks: Vec::new(alloc),
             places: Slab::new(alloc),
             ranks: Ranks::new(alloc),
         }
@@ -115,11 +123,23 @@ impl<T> KeyedList<T> {
         ensures items { placed_items result ≡ self.now.items }
         ensures rise { PlacesRise result }
     {
-        Places {
+        self.marked_places().0
+    }
+
+    /// Where the items stand, and the marks by those places. A place without an item has some mark
+    /// too.
+    pub fn marked_places(&self) -> (Places<'_, T>, &[M])
+        ensures items { placed_items result.0 ≡ self.now.items }
+        ensures rise { PlacesRise result.0 }
+        ensures marks { HaveMarks result.0 self.now.marks result.1.now }
+        ensures few { length result.1.now ≤ 2 * length self.now.items + 1 }
+    {
+        let places = Places {
             slots: self.slots.as_slice(),
             places: &self.places,
             ranks: &self.ranks,
-        }
+        };
+        (places, self.marks.as_slice())
     }
 
     /// The keys and items, in order.
@@ -132,12 +152,14 @@ impl<T> KeyedList<T> {
     }
 }
 
-impl<T: Drop> KeyedList<T> {
-    /// Appends an item, and answers its key. Where memory runs out, the list is as before, and the
-    /// item is handed back.
-    pub fn push(&mut self, item: T) -> Result<usize, T>
+impl<T: Drop, M: Copy> KeyedList<T, M> {
+    /// Appends an item with its mark, and answers its key. Where memory runs out, the list is as
+    /// before, and the item is handed back.
+    pub fn push(&mut self, item: T, mark: M) -> Result<usize, T>
         ensures pushed { IfOk result (λ key. self.new.items ≡ self.old.items ++ (key, item) ∷ []) }
+        ensures marked { IfOk result (λ key. self.new.marks ≡ self.old.marks ++ (key, mark) ∷ []) }
         ensures fresh { IfOk result (λ key. HasKey self.old.items key → ⊥) }
+        ensures unmarked { IfOk result (λ key. HasKey self.old.marks key → ⊥) }
         ensures few_holes { HasFewHoles self.new }
         ensures handed_back { IfErr result (λ back. back ≡ item) }
         ensures err { OnErr result (self.new ≡ self.old) }
@@ -145,6 +167,7 @@ impl<T: Drop> KeyedList<T> {
         let room = make_room(
             self.alloc,
             &mut self.slots,
+            &mut self.marks,
             &mut self.places,
             &mut self.ranks,
         );
@@ -153,6 +176,7 @@ impl<T: Drop> KeyedList<T> {
         }
         let key = self.places.insert_reserved(self.slots.len());
         self.slots.push(Some(Kept { key, item })).unwrap();
+        self.marks.push(mark).unwrap();
         Ok(key)
     }
 
@@ -160,32 +184,42 @@ impl<T: Drop> KeyedList<T> {
     pub fn remove(&mut self, key: usize) -> T
         requires { HasKey self.old.items key }
         ensures taken { IsTakenOut self.old.items key result self.new.items }
+        ensures marks { (mark : M) × IsTakenOut self.old.marks key mark self.new.marks }
         ensures few_holes { HasFewHoles self.new }
     {
         let place = self.places.remove(key);
         self.ranks.lower(place);
         let taken = self.slots[place].take().unwrap();
-        close_if_sparse(&mut self.slots, &mut self.places, &mut self.ranks);
+        close_if_sparse(
+            &mut self.slots,
+            &mut self.marks,
+            &mut self.places,
+            &mut self.ranks,
+        );
         taken.item
     }
 }
 
 /// Makes room for one more item, and counts it already. At an error all is as before.
-fn make_room<T>(
+fn make_room<T, M: Copy>(
     alloc: Global,
     slots: &mut Vec<Option<Kept<T>>>,
+    marks: &mut Vec<M>,
     places: &mut Slab<usize>,
     ranks: &mut Ranks,
 ) -> Result<(), AllocError>
     requires { IsIndexed slots.old.items places.old ranks.old }
     ensures slots { OnOk result (length slots.old.items < vec_capacity slots.new) }
+    ensures marks { OnOk result (length marks.old.items < vec_capacity marks.new) }
     ensures places { OnOk result (HasRoomFor places.new 1) }
     ensures counted { OnOk result (ranks.new ≡ ranks.old ++ 1 ∷ []) }
     ensures err { OnErr result (ranks.new ≡ ranks.old) }
     ensures same_slots { slots.new.items ≡ slots.old.items }
+    ensures same_marks { marks.new.items ≡ marks.old.items }
     ensures same_places { places.new.slots ≡ places.old.slots }
 {
     slots.reserve(1)?;
+    marks.reserve(1)?;
     places.reserve(1)?;
     ranks.push(alloc)
 }
@@ -202,22 +236,52 @@ fn kept_at<'a, T>(slots: &'a [Option<Kept<T>>], ranks: &Ranks, position: usize) 
 }
 
 /// Closes the holes where they are more than the items.
-fn close_if_sparse<T: Drop>(
+fn close_if_sparse<T: Drop, M: Copy>(
     slots: &mut Vec<Option<Kept<T>>>,
+    marks: &mut Vec<M>,
     places: &mut Slab<usize>,
     ranks: &mut Ranks,
 )
-    requires { IsIndexed slots.old.items places.old ranks.old }
+    requires indexed { IsIndexed slots.old.items places.old ranks.old }
+    requires marked { length marks.old.items ≡ length slots.old.items }
     ensures same { kept slots.new.items ≡ kept slots.old.items }
+    ensures same_marks { marked slots.new.items marks.new.items
+        ≡ marked slots.old.items marks.old.items }
+    ensures marked { length marks.new.items ≡ length slots.new.items }
     ensures indexed { IsIndexed slots.new.items places.new ranks.new }
-    ensures few_holes { HasFewHoles (seen slots.new.items) }
+    ensures few_holes { HaveFewHoles slots.new.items }
 {
     if places.len() >= slots.len() / 2 {
         return;
     }
+    close_marks(slots.as_slice(), marks);
     slots.retain(|slot| slot.is_some());
     renumber(slots.as_slice(), places);
     ranks.refill(slots.len());
+}
+
+/// Leaves the marks of items alone.
+fn close_marks<T, M: Copy>(slots: &[Option<Kept<T>>], marks: &mut Vec<M>)
+    requires { length marks.old.items ≡ length slots.now }
+    ensures { marks.new.items ≡ without_holes slots.now marks.old.items }
+{
+    let mut count = 0;
+    for (place, slot) in slots.iter().enumerate() {
+        if slot.is_some() {
+            put_mark(marks, count, place);
+            count += 1;
+        }
+    }
+    marks.truncate(count);
+}
+
+/// Puts the mark of one place in the other.
+fn put_mark<M: Copy>(marks: &mut Vec<M>, to: usize, from: usize)
+    requires { to ≤ from × from < length marks.old.items }
+    ensures { (mark : M) × (slice_get marks.old.items from ≡ Some mark)
+        × (marks.new.items ≡ slice_set marks.old.items to mark) }
+{
+    marks[to] = marks[from];
 }
 
 /// Has the key of each item lead to its place.

@@ -1,5 +1,5 @@
 // Where the items of a list stand among its slots.
-ghost use Rattle.std.specs.Prelude.{◌≡◌, ◌≤◌, ◌*◌, ℕ, Some, length, slice_get};
+ghost use Rattle.std.specs.Prelude.{◌≡◌, ◌≤◌, ◌*◌, ℕ, IfSome, IfNone, Some, length, slice_get};
 ghost use Rattle.si_defs.specs.Substitutions.{IsAmong};
 ghost use Rattle.si_keyed.specs.Keyed.{HasKey};
 ghost use Rattle.si_keyed.specs.Placed.{placed_items, HasPlace};
@@ -25,14 +25,13 @@ impl<'a, T> Model for Places<'a, T> {
 
     ghost Value = { List (ℕ × (ℕ × T)) };
 
-    ghost use Rattle.si_keyed.specs.Keyed.{HasFewHoles};
-    ghost use Rattle.si_keyed.specs.KeyedSlots.{seen, IsIndexed};
+    ghost use Rattle.si_keyed.specs.KeyedSlots.{HaveFewHoles, IsIndexed};
     ghost use Rattle.si_keyed.specs.Placed.{placed_from};
 
     ghost view = { λ p. placed_from 0 p.slots.now };
 
     ghost invariant = { λ p. IsIndexed p.slots.now p.places.now p.ranks.now
-        × HasFewHoles (seen p.slots.now) × (length p.slots.now < 2 ^ 64) };
+        × HaveFewHoles p.slots.now × (length p.slots.now < 2 ^ 64) };
 }
 
 impl<'a, T> Places<'a, T> {
@@ -43,6 +42,18 @@ impl<'a, T> Places<'a, T> {
         ensures few { result ≤ 2 * length self.now }
     {
         self.places[key]
+    }
+
+    /// The item at this place, if there is one.
+    pub fn get(&self, place: usize) -> Option<&'a T>
+        ensures some { IfSome result (λ item. (key : ℕ)
+            × IsAmong self.now (place, (key, item.now))) }
+        ensures none { IfNone result (HasPlace self.now place → ⊥) }
+    {
+        let slots = self.slots;
+        let slot = slots.get(place)?;
+        let kept = slot.as_ref()?;
+        Some(&kept.item)
     }
 
     /// The position of the item at this place, and the item.

@@ -1,25 +1,30 @@
 use crate::keyed::KeyedList;
 use std::test::Fail;
 
-// The position and the item of a key, where there are any, and its place tells the same.
-fn found(list: &KeyedList<u32>, key: usize) -> Option<(usize, u32)> {
+// The position and the item of a key, where there are any, and its place tells the same, and the
+// mark, which is the item once more.
+fn found(list: &KeyedList<u32, u32>, key: usize) -> Option<(usize, u32)> {
     let item = *list.get(key)?;
     let position = list.position(key);
-    let places = list.places();
-    if places.at(places.place(key)) != (position, &item) {
+    let (places, marks) = list.marked_places();
+    let place = places.place(key);
+    if places.get(place)? != &item || places.at(place) != (position, &item) {
+        return None;
+    }
+    if *marks.get(place)? != item {
         return None;
     }
     Some((position, item))
 }
 
 // Takes out the item of a key, if there is one.
-fn taken(list: &mut KeyedList<u32>, key: usize) -> Option<u32> {
+fn taken(list: &mut KeyedList<u32, u32>, key: usize) -> Option<u32> {
     list.get(key)?;
     Some(list.remove(key))
 }
 
 // Whether all calls tell these keys and items.
-fn tells(list: &KeyedList<u32>, plain: &[(usize, u32)]) -> bool {
+fn tells(list: &KeyedList<u32, u32>, plain: &[(usize, u32)]) -> bool {
     if list.len() != plain.len() || list.last_key() != plain.last().map(|entry| entry.0) {
         return false;
     }
@@ -45,7 +50,7 @@ fn scattered(rt: HostRuntime) -> Result<(), Fail> {
     let mut list = KeyedList::new(rt.alloc());
     let mut plain = Vec::new(rt.alloc());
     for item in 0..100 {
-        plain.push((list.push(item).expect(&rt, "memory"), item))?;
+        plain.push((list.push(item, item).expect(&rt, "memory"), item))?;
     }
     assert!(rt; tells(&list, plain.as_slice()));
     for turn in 0..200 {
@@ -58,7 +63,7 @@ fn scattered(rt: HostRuntime) -> Result<(), Fail> {
         plain.retain(|entry| entry.0 != key);
         assert_eq!(rt; list.get(key), None, "turn {turn}");
         if turn % 5 == 0 && turn < 100 {
-            plain.push((list.push(1000).expect(&rt, "memory"), 1000))?;
+            plain.push((list.push(1000, 1000).expect(&rt, "memory"), 1000))?;
         }
         assert!(rt; tells(&list, plain.as_slice()), "turn {turn}");
     }

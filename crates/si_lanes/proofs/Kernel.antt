@@ -97,3 +97,9 @@ kernel (x0 ∷ x1 ∷ x2 ∷ x3 ∷ []) (y0 ∷ []) lx fx ly fy = absurd (omega 
 kernel (x0 ∷ x1 ∷ x2 ∷ x3 ∷ []) (y0 ∷ y1 ∷ []) lx fx ly fy = absurd (omega (arith, ly))
 kernel (x0 ∷ x1 ∷ x2 ∷ x3 ∷ []) (y0 ∷ y1 ∷ y2 ∷ []) lx fx ly fy = absurd (omega (arith, ly))
 kernel (x0 ∷ x1 ∷ x2 ∷ x3 ∷ []) (y0 ∷ y1 ∷ y2 ∷ y3 ∷ y4 ∷ ys) lx fx ly fy = absurd (omega (arith, ly))
+
+-- nothing of the first word stands outside
+pub first_within : (xs ys : List ℕ) → get_or xs 0 0 < 2 ^ 64 → get_or ys 0 0 < 2 ^ 64 → IsSubset xs ys
+    → bit_and (get_or xs 0 0) (complement (get_or ys 0 0)) ≡ 0
+first_within xs ys fx fy h =
+    and_comm (get_or xs 0 0) (complement (get_or ys 0 0)) ∙ none_outside (get_or xs 0 0) (get_or ys 0 0) fx fy (of_word xs ys 0 (omega arith) h)

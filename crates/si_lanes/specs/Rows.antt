@@ -1,9 +1,13 @@
 -- Rows of 256 bits, and the rows that a screen keeps (this project's profile).
-use Rattle.std.specs.Prelude.{◌≡◌, ◌⊎◌, ℕ, suc, ◌/◌, ◌%◌, ◌<◌, List, [], ◌∷◌, ◌++◌, get_or, IsBitSet}
+use Rattle.std.specs.Prelude.{◌≡◌, ◌⊎◌, ◌↔◌, ℕ, suc, ◌/◌, ◌%◌, ◌<◌, List, [], ◌∷◌, ◌++◌, get_or, IsBitSet}
 
 -- A row is four words of 64 bits. Bit b is the bit b mod 64 of the word b / 64.
 abbrev pub HasBit : List ℕ → ℕ → Type 0
 HasBit row b = IsBitSet (get_or row (b / 64) 0) (b % 64)
+
+-- the bit is set, and each other one is as before
+abbrev pub SetsBit : (old new : List ℕ) → ℕ → Type 0
+SetsBit old new bit = (b : ℕ) → b < 256 → HasBit new b ↔ (HasBit old b ⊎ (b ≡ bit))
 
 -- each bit that is set in the row is set in the other one
 abbrev pub IsSubset : (row other : List ℕ) → Type 0

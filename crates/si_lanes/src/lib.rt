@@ -6,7 +6,7 @@
 #![tactic(auto)]
 
 ghost use Rattle.std.specs.Prelude.{◌≡◌, ◌↔◌, ◌+◌, ◌-◌, ◌^◌, ◌<◌, ◌≤◌, [], ◌∷◌, ◌++◌, OnOk, OnErr, IsTrue, length, take, vec_len, vec_capacity};
-ghost use Rattle.si_lanes.specs.Rows.{IsSubset, AppendsPositions};
+ghost use Rattle.si_lanes.specs.Rows.{IsSubset, AppendsPositions, SetsBit};
 
 use std::alloc::AllocError;
 use std::simd::prelude::*;
@@ -16,6 +16,16 @@ mod tests;
 
 /// A row of 256 bits.
 pub type Row = [u64; 4];
+
+/// The row in which no bit is set.
+pub const EMPTY: Row = [0; 4];
+
+/// Sets a bit.
+pub fn set_bit(row: &mut Row, bit: u8)
+    ensures { SetsBit row.old row.new bit }
+{
+    row[(bit / 64) as usize] |= 1 << (bit % 64);
+}
 
 /// Appends the positions from 0 of exactly the rows whose set bits are all set in the mask, rising.
 ///
@@ -29,11 +39,9 @@ pub fn subset_rows(mask: &Row, rows: &[Row], out: &mut Vec<u32>) -> Result<(), A
     ensures err { OnErr result (out.new.items ≡ out.old.items) }
     ensures full { OnErr result (vec_capacity out.old < vec_len out.old + length rows.now) }
 {
-    let mask = u64x4::from_array(*mask);
     let mark = out.len();
     for position in 0..rows.len() {
-        let row = u64x4::from_array(rows[position]);
-        if is_subset(row, mask) {
+        if is_within(&rows[position], mask) {
             append(position as u32, mark, out)?;
         }
     }
@@ -53,11 +61,9 @@ pub fn superset_rows(mask: &Row, rows: &[Row], out: &mut Vec<u32>) -> Result<(),
     ensures err { OnErr result (out.new.items ≡ out.old.items) }
     ensures full { OnErr result (vec_capacity out.old < vec_len out.old + length rows.now) }
 {
-    let mask = u64x4::from_array(*mask);
     let mark = out.len();
     for position in 0..rows.len() {
-        let row = u64x4::from_array(rows[position]);
-        if is_subset(mask, row) {
+        if is_within(mask, &rows[position]) {
             append(position as u32, mark, out)?;
         }
     }
@@ -81,6 +87,18 @@ fn append(position: u32, mark: usize, out: &mut Vec<u32>) -> Result<(), AllocErr
             Err(AllocError)
         }
     }
+}
+
+/// Whether each bit that is set in the row is set in the other one. Most rows differ in the first
+/// word, so that is looked at before the lanes are.
+#[inline(always)]
+fn is_within(row: &Row, other: &Row) -> bool
+    ensures { IsTrue result ↔ IsSubset row.now other.now }
+{
+    if row[0] & !other[0] != 0 {
+        return false;
+    }
+    is_subset(u64x4::from_array(*row), u64x4::from_array(*other))
 }
 
 /// Whether each bit that is set in the row is set in the other one.

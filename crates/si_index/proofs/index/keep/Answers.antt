@@ -1,5 +1,7 @@
-use Rattle.std.proofs.Common.{sym, subst}
-use Rattle.si_term.specs.Meaning.{clause_of}
+use Rattle.std.proofs.Common.{map, sym, subst, subst₂}
+use Rattle.si_term.specs.Meaning.{clause_of, literal_of}
+use Rattle.si_flat.specs.Numbered.{number_in}
+use Rattle.si_screen.specs.ClauseRows.{IsRowOf}
 use Rattle.si_term.specs.declared.clause.Clause.{Clause}
 use Rattle.si_state.specs.Signatures.{numbering}
 use Rattle.si_held.specs.TwoTrees.{Hold, MayAddClause, AddsClause}
@@ -8,9 +10,10 @@ use Rattle.si_keyed.specs.Keyed.{HasKey, IsTakenOut}
 use Rattle.si_keyed.proofs.KeyLaws.{pushed_key, taken_back}
 use Rattle.si_keyed.proofs.Results.{some_unless}
 use Rattle.si_index.specs.Names.{key_of}
-use Rattle.si_index.specs.Stored.{keyed_clauses}
+use Rattle.si_index.specs.Stored.{keyed_clauses, HaveRows}
 use Rattle.si_index.proofs.HeldClauses.{may_add, held_more}
 use Rattle.si_index.proofs.NamedLaws.{put_item, put_taken, name_gone}
+use Rattle.si_index.proofs.RowsKept.{rows_more}
 use Rattle.si_index.proofs.index.keep.Goals as goal
 
 pub unwrap-kept-requires : goal.unwrap-kept-requires
@@ -25,7 +28,7 @@ add_clause-requires c =
     let put = c.in_ok-key.ensures.put in
     subst (λ (d : Clause). MayAddClause (numbering c.args.known.now.signature) key (clause_of d) c.args.trees.now)
     (sym (put_item c.args.clauses.now.items c.put.new.clauses.items key c.args.clause c.get.result c.unwrap-kept.result put.fresh put.pushed c.unwrap-kept.ensures c.get.ensures.some))
-    (may_add (numbering c.args.known.now.signature) c.args.clauses.now.items key c.args.clause c.args.trees.now c.args.trees.now c.requires.held put.fresh c.requires.sound c.requires.numbered)
+    (may_add (numbering c.args.known.now.signature) c.args.clauses.now.items key c.args.clause c.args.trees.now c.args.trees.now c.requires.may.held put.fresh c.requires.may.sound c.requires.may.numbered)
 
 pub returns-in-Ok-clause-held : goal.returns-in-Ok-clause-held
 returns-in-Ok-clause-held c =
@@ -34,7 +37,7 @@ returns-in-Ok-clause-held c =
     let numbers = numbering c.args.known.now.signature in
     let same = put_item c.args.clauses.now.items c.put.new.clauses.items key c.args.clause c.get.result c.unwrap-kept.result put.fresh put.pushed c.unwrap-kept.ensures c.get.ensures.some in
     subst (λ l. Hold numbers (keyed_clauses l) c.add_clause.new.self) (sym put.pushed)
-    (held_more numbers c.args.clauses.now.items key c.args.clause c.args.trees.now c.add_clause.new.self c.requires.held put.fresh c.requires.numbered
+    (held_more numbers c.args.clauses.now.items key c.args.clause c.args.trees.now c.add_clause.new.self c.requires.may.held put.fresh c.requires.may.numbered
     (subst (λ (d : Clause). AddsClause numbers key (clause_of d) c.args.trees.now c.add_clause.new.self) same c.in-Ok.ensures.ok) c.add_clause.ensures.legal)
 
 pub remove-requires-in-Err : goal.remove-requires-in-Err
@@ -55,9 +58,22 @@ returns-in-Err-clause-same_names c =
     let put = c.in_ok-key.ensures.put in
     name_gone c.args.clause c.unwrap-kept.result.now c.in_ok-key.key (key_of c.args.known.now.names) (key_of c.put.new.names) (key_of c.remove.new.self)
     (put_item c.args.clauses.now.items c.put.new.clauses.items c.in_ok-key.key c.args.clause c.get.result c.unwrap-kept.result put.fresh put.pushed c.unwrap-kept.ensures c.get.ensures.some)
-    c.requires.free put.name c.remove.ensures.gone
+    c.requires.may.free put.name c.remove.ensures.gone
 
 pub returns-in-Err-clause-held : goal.returns-in-Err-clause-held
 returns-in-Err-clause-held c =
     subst (λ l. Hold (numbering c.args.known.now.signature) (keyed_clauses l) c.add_clause.new.self) (sym (returns-in-Err-clause-err c))
-    (same_held (numbering c.args.known.now.signature) (keyed_clauses c.args.clauses.now.items) c.args.trees.now c.add_clause.new.self c.requires.held c.in-Err.ensures.err c.add_clause.ensures.legal)
+    (same_held (numbering c.args.known.now.signature) (keyed_clauses c.args.clauses.now.items) c.args.trees.now c.add_clause.new.self c.requires.may.held c.in-Err.ensures.err c.add_clause.ensures.legal)
+
+pub returns-in-Ok-clause-rows : goal.returns-in-Ok-clause-rows
+returns-in-Ok-clause-rows c =
+    let put = c.in_ok-key.ensures.put in
+    rows_more (numbering c.args.known.now.signature) c.args.clauses.now.items c.put.new.clauses.items c.args.clauses.now.marks c.put.new.clauses.marks c.in_ok-key.key c.args.clause c.literals_row-row.result
+    c.requires.rows (subst (λ ls. IsRowOf (number_in (numbering c.args.known.now.signature)) (map literal_of ls) c.literals_row-row.result) c.as_slice.ensures c.literals_row-row.ensures) put.fresh c.in_ok-key.ensures.no_row put.pushed c.in_ok-key.ensures.row
+
+pub returns-in-Err-clause-rows : goal.returns-in-Err-clause-rows
+returns-in-Err-clause-rows c =
+    let out = c.remove-in-Err.ensures.marks in
+    let same = taken_back c.args.clauses.now.marks c.in_ok-key.key c.literals_row-row.result out.0 c.remove-in-Err.new.self.marks c.in_ok-key.ensures.no_row
+    (subst (λ l. IsTakenOut l c.in_ok-key.key out.0 c.remove-in-Err.new.self.marks) c.in_ok-key.ensures.row out.1) in
+    subst₂ (HaveRows (numbering c.args.known.now.signature)) (sym (returns-in-Err-clause-err c)) (sym same) c.requires.rows

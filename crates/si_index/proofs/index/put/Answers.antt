@@ -34,6 +34,12 @@ returns-in-Err-clause-handed_back c =
     put_taken c.args.clauses.now.items c.push.new.self.items c.in_ok-key.key c.args.clause c.remove.result c.remove.new.self.items c.in_ok-key.ensures.fresh c.in_ok-key.ensures.pushed
     c.remove.ensures.taken
 
+pub returns-in-Err-clause-same_rows : goal.returns-in-Err-clause-same_rows
+returns-in-Err-clause-same_rows c =
+    let out = c.remove.ensures.marks in
+    taken_back c.args.clauses.now.marks c.in_ok-key.key c.args.row out.0 c.remove.new.self.marks c.in_ok-key.ensures.unmarked
+    (subst (λ l. IsTakenOut l c.in_ok-key.key out.0 c.remove.new.self.marks) c.in_ok-key.ensures.marked out.1)
+
 pub returns-in-Err-clause-err : goal.returns-in-Err-clause-err
 returns-in-Err-clause-err c =
     taken_back c.args.clauses.now.items c.in_ok-key.key c.args.clause c.remove.result c.remove.new.self.items c.in_ok-key.ensures.fresh

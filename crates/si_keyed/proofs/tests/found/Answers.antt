@@ -6,8 +6,8 @@ use Rattle.si_keyed.proofs.tests.found.Goals as goal
 pub position-position-requires : goal.position-position-requires
 position-position-requires c = key_among _ _ c.in_ok-item.ensures.some
 
-pub place-requires : goal.place-requires
-place-requires c = subst (λ l. HasKey l c.args.key) (sym c.places-places.ensures.items) (key_among _ _ c.in_ok-item.ensures.some)
+pub place-place-requires : goal.place-place-requires
+place-place-requires c = subst (λ l. HasKey l c.args.key) (sym c.marked_places-places.ensures.items) (key_among _ _ c.in_ok-item.ensures.some)
 
 pub at-requires : goal.at-requires
-at-requires c = ((c.args.key, c.place.ensures.there.0), c.place.ensures.there.1)
+at-requires c = ((c.args.key, c.place-place.ensures.there.0), c.place-place.ensures.there.1)

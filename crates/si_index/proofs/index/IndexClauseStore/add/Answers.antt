@@ -12,10 +12,11 @@ use Rattle.si_sign.specs.Stores.{Rejects}
 use Rattle.si_index.specs.Kept.{Kept, KeysStay, NumbersStay, clauses_of}
 use Rattle.si_index.specs.Known.{Uncounts}
 use Rattle.si_index.specs.Names.{key_of}
-use Rattle.si_index.specs.Stored.{IsKept, AreHeld, keyed_clauses}
+use Rattle.si_index.specs.Stored.{IsKept, AreHeld, HaveRows, keyed_clauses}
 use Rattle.si_index.proofs.KeyStays.{kept_as, keys_same, no_trees}
 use Rattle.si_index.proofs.KnownLaws.{room_for, counted_few, rejects, kept_stays, kept_more, known_with, keys_more, accepts_more, entered_back, uncounted_as, numbers_through}
 use Rattle.si_index.proofs.HeldClauses.{entered_held, entered_numbers, uncounted_held, stays_held, trees_hold}
+use Rattle.si_index.proofs.RowsKept.{entered_rows, uncounted_rows, stays_rows}
 use Rattle.si_index.proofs.StoreLaws.{few_entries}
 use Rattle.si_index.proofs.index.IndexClauseStore.add.Goals as goal
 
@@ -31,6 +32,7 @@ pub invariant_of-self : goal.invariant_of-self
 invariant_of-self c = (
   kept_stays (limited_to c.self.inside.limit) c.self.inside.known c.enter.new.self c.self.inside.clauses.items c.self.invariant.0 c.in-Err.ensures.err,
   stays_held c.self.inside.clauses.items c.self.inside.known c.self.inside.trees c.self.invariant.0.is_known c.self.invariant.1 c.enter.new.self c.in-Err.ensures.err,
+  stays_rows c.self.inside.clauses.items c.self.inside.clauses.marks c.self.inside.known c.self.invariant.0.is_known c.self.invariant.2 c.enter.new.self c.in-Err.ensures.err,
 )
 
 pub returns-in-Err-clause-trees : goal.returns-in-Err-clause-trees
@@ -38,8 +40,12 @@ returns-in-Err-clause-trees c =
     trees_hold c.self.inside.clauses.items c.enter.new.self c.self.inside.trees
     (stays_held c.self.inside.clauses.items c.self.inside.known c.self.inside.trees c.self.invariant.0.is_known c.self.invariant.1 c.enter.new.self c.in-Err.ensures.err)
 
-pub keep-requires : goal.keep-requires
-keep-requires c =
+pub keep-requires-clause-rows : goal.keep-requires-clause-rows
+keep-requires-clause-rows c =
+    entered_rows c.self.inside.clauses.items c.self.inside.clauses.marks c.self.inside.known c.self.invariant.0.is_known c.self.invariant.2 (clause_of c.args.clause) c.enter.new.self c.in-Ok.ensures.enters
+
+pub keep-requires-clause-may : goal.keep-requires-clause-may
+keep-requires-clause-may c =
     let items = c.self.inside.clauses.items in
     let is = c.self.invariant.0.is_known in
     let enters = c.in-Ok.ensures.enters in
@@ -62,6 +68,7 @@ invariant_of-self-in-Ok-keep c = (
       (kept_more (limited_to c.self.inside.limit) c.self.inside.known c.enter.new.self c.self.inside.clauses.items c.keep.new.clauses.items c.args.clause c.keep.new.known.names
       c.self.invariant.0.is_known.signature c.self.invariant.0 c.requires.sound c.in-Ok.ensures.admits c.in-Ok.ensures.enters c.in-Ok-keep.ensures.put),
   c.keep.ensures.held,
+  c.keep.ensures.rows,
 )
 
 pub returns-in-Ok-keep-clause-trees : goal.returns-in-Ok-keep-clause-trees
@@ -102,6 +109,10 @@ invariant_of-self-in-Err-keep c =
           (uncounted_held items known c.self.inside.trees c.self.invariant.0.is_known c.self.invariant.1 (clause_of c.args.clause) between new c.keep.new.trees enters
           (subst (λ l. AreHeld l between c.keep.new.trees) c.in-Err-keep.ensures.err
           (subst (λ g. Hold (numbering g) (keyed_clauses c.keep.new.clauses.items) c.keep.new.trees) c.keep.ensures.signature c.keep.ensures.held)) undone),
+      subst (λ l. HaveRows (numbering new.signature) l c.keep.new.clauses.marks) (sym c.in-Err-keep.ensures.err)
+          (uncounted_rows items c.keep.new.clauses.marks known (clause_of c.args.clause) between new c.self.invariant.0.is_known enters undone
+          (subst (λ l. HaveRows (numbering between.signature) l c.keep.new.clauses.marks) c.in-Err-keep.ensures.err
+          (subst (λ g. HaveRows (numbering g) c.keep.new.clauses.items c.keep.new.clauses.marks) c.keep.ensures.signature c.keep.ensures.rows))),
     )
 
 pub returns-in-Err-keep-clause-trees : goal.returns-in-Err-keep-clause-trees

@@ -6,6 +6,7 @@ use Rattle.si_keyed.specs.Keyed.{item_keys}
 use Rattle.si_index.specs.Kept.{Kept, KeysStay, clauses_of}
 use Rattle.si_index.proofs.KeyStays.{kept_as}
 use Rattle.si_index.proofs.HeldClauses.{left_held, trees_hold}
+use Rattle.si_index.proofs.RowsKept.{left_rows}
 use Rattle.si_index.proofs.KnownLaws.{keys_less, uses_few, entries_counted, entries_there, kept_less, last_taken}
 use Rattle.si_index.proofs.index.IndexClauseStore.remove_last.Goals as goal
 
@@ -30,6 +31,8 @@ invariant_of-self c =
       kept,
       left_held c.self.inside.clauses.items c.self.inside.known c.self.inside.trees c.self.invariant.0.is_known c.self.invariant.1 c.in_ok-key.key c.remove-clause.result c.remove-clause.new.self.items
           c.leave.new.self c.remove_clause.new.self c.remove-clause.ensures.taken c.remove_clause.ensures.removes c.remove_clause.ensures.legal kept.is_known c.leave.ensures.leaves,
+      left_rows c.self.inside.clauses.items c.self.inside.clauses.marks c.self.inside.known c.self.invariant.0.is_known c.self.invariant.2 c.in_ok-key.key c.remove-clause.result c.remove-clause.new.self.items
+          c.remove-clause.ensures.marks.0 c.remove-clause.new.self.marks c.leave.new.self c.remove-clause.ensures.taken c.remove-clause.ensures.marks.1 kept.is_known c.leave.ensures.leaves,
     )
 
 pub returns-clause-trees : goal.returns-clause-trees

@@ -1,47 +1,33 @@
-use Rattle.std.proofs.Common.{◌≡◌, ◌∷◌, ◌≤◌, length, drop, map, sym, ◌∙◌, subst, arith}
+use Rattle.std.proofs.Common.{[], map, sym, subst, subst₂}
+use Rattle.std.specs.List.{AllByRecursion}
+use Rattle.std.proofs.lemmas.Result.{IfOk-weaker}
 use Rattle.si_defs.specs.Clauses.{IsSoundClause}
-use Rattle.si_defs.proofs.ListLaws.{all_got}
-use Rattle.si_term.specs.Meaning.{literal_of, clause_of}
-use Rattle.si_index.specs.Kept.{clauses_of}
-use Rattle.si_index.specs.Subsuming.{IsMapIn}
-use Rattle.si_index.proofs.KeptLaws.{kept_got, kept_rest, kept_some, kept_next, none_kept}
-use Rattle.si_index.proofs.SubsumingLaws.{AreMappedSoFar, mapped_next, mapped_end}
+use Rattle.si_term.specs.Meaning.{literal_of}
+use Rattle.si_lanes.specs.Rows.{AppendsPositions}
+use Rattle.si_flat.specs.Numbered.{number_in}
+use Rattle.si_screen.specs.ClauseRows.{IsRowOf}
+use Rattle.si_index.specs.Subsuming.{IsMapIn, PassesIn, AreMappedFrom, TriesSlots}
+use Rattle.si_index.proofs.ScreenedLaws.{all_named, are_screened}
 use Rattle.si_index.proofs.subsuming.Comparison.mapped_clauses.Goals as goal
 
-pub loop-position-init : goal.loop-position-init
-loop-position-init c =
-    let maps = IsMapIn c.args.self.now.direction (map literal_of c.args.self.now.formula.now) in
-    record {
-      so_far = subst (AreMappedSoFar maps 0 c.args.index.now.clauses c.args.index.now.clauses) (sym c.new-mappeds.ensures) (λ others h. h);
-      left = c.kept-left.ensures.clauses;
-    }
-
-pub unreachable-requires : goal.unreachable-requires
-unreachable-requires c =
-    kept_some c.args.index.now.clauses c.loop-position.position (omega (arith, c.loop-position-test.true, c.stats-position-end.ensures.clauses))
-    (none_kept (λ b. b.now) c.loop-position.left c.next.new.self c.next.result c.next.ensures.steps c.in_default.is ∙ c.loop-position.invariant.left)
-
-pub try_clause-requires-clause-clause : goal.try_clause-requires-clause-clause
-try_clause-requires-clause-clause c =
-    let first = kept_next (λ b. b.now) c.loop-position.left c.next.new.self c.next.result c.next.ensures.steps _ c.in-Some.is ∙ c.loop-position.invariant.left in
-    all_got IsSoundClause c.args.index.now.clauses c.loop-position.position (clause_of c.in-Some.clause.now) c.stats-position-end.ensures.stored.sound
-    (kept_got c.args.index.now.clauses c.loop-position.position (clause_of c.in-Some.clause.now) (clauses_of c.next.new.self) first)
-
-pub loop-position-preserved : goal.loop-position-preserved
-loop-position-preserved c =
-    let maps = IsMapIn c.args.self.now.direction (map literal_of c.args.self.now.formula.now) in
-    let first : clause_of c.in-Some.clause.now ∷ clauses_of c.next.new.self ≡ drop c.loop-position.position c.args.index.now.clauses =
-    kept_next (λ b. b.now) c.loop-position.left c.next.new.self c.next.result c.next.ensures.steps _ c.in-Some.is ∙ c.loop-position.invariant.left in
-    record {
-      so_far =
-          mapped_next maps c.args.index.now.clauses c.loop-position.position (clause_of c.in-Some.clause.now) c.loop-position.mappeds c.try_clause.new.mappeds
-          (kept_got c.args.index.now.clauses c.loop-position.position (clause_of c.in-Some.clause.now) (clauses_of c.next.new.self) first)
-          c.loop-position.invariant.so_far c.in_ok-try_clause.ensures;
-      left = kept_rest c.args.index.now.clauses c.loop-position.position (clause_of c.in-Some.clause.now) (clauses_of c.next.new.self) first;
-    }
+pub try_slots-requires-clause-clauses : goal.try_slots-requires-clause-clauses
+try_slots-requires-clause-clauses c = subst (AllByRecursion IsSoundClause) (sym c.slots_and_rows-places.ensures.slots.clauses) c.slots_and_rows-places.ensures.stored.sound
 
 pub returns : goal.returns
 returns c =
-    let maps = IsMapIn c.args.self.now.direction (map literal_of c.args.self.now.formula.now) in
-    let past : length c.args.index.now.clauses ≤ c.loop-position.position = omega (arith, c.loop-position-test.false, c.stats-position-end.ensures.clauses) in
-    mapped_end maps c.args.index.now.clauses c.loop-position.position c.loop-position.mappeds past c.loop-position.invariant.so_far
+    let formula = map literal_of c.args.self.now.formula.now in
+    let direction = c.args.self.now.direction in
+    let maps = IsMapIn direction formula in
+    let slots = c.slots_and_rows-places.result.0 in
+    let rows = c.slots_and_rows-places.result.1.now in
+    let is = c.slots_and_rows-places.ensures in
+    let row = c.literals_row-row.result in
+    let of_formula = subst₂ (λ numbers ls. IsRowOf (number_in numbers) (map literal_of ls) row) c.signature.ensures.numbers c.as_slice.ensures c.literals_row-row.ensures in
+    let screened = are_screened c.args.index.now.numbers direction formula slots rows row is.rows of_formula is.slots.rise in
+    let passed = subst (λ l. AppendsPositions (PassesIn direction row) rows l c.pass.new.slots.items) c.new-slots.ensures.items c.in_ok-pass.ensures in
+    IfOk-weaker c.try_slots.result _ _
+    (λ mappeds tries.
+    subst (λ cs. AreMappedFrom maps 0 cs mappeds) is.slots.clauses
+    (all_named maps (PassesIn direction row) slots is.slots.rise rows screened c.pass.new.slots.items mappeds passed
+    (subst (λ qs. TriesSlots maps slots qs [] mappeds) c.as_slice-2.ensures.value tries)))
+    c.try_slots.ensures

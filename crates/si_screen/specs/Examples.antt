@@ -1,0 +1,65 @@
+-- Rows that clauses have, and rows that they don't.
+use Rattle.std.specs.Prelude.{◌≡◌, ℕ, true, false, List, [], ◌∷◌, codes}
+use Rattle.si_defs.specs.Bytes.{Bytes}
+use Rattle.si_defs.specs.Terms.{var, app, none, more}
+use Rattle.si_defs.specs.Symbols.{Symbol, Numbering}
+use Rattle.si_defs.specs.Clauses.{Term, Literal}
+use Rattle.si_defs.specs.Entries.{entries_from}
+use Rattle.si_defs.specs.declared.SymKind.TheVariants.{Word}
+use Rattle.si_defs.specs.declared.Side.{Side}
+use Rattle.si_defs.specs.declared.Side.TheVariants.{Predicate, Function}
+use Rattle.si_flat.specs.Numbered.{number_in}
+use Rattle.si_screen.specs.ClauseRows.{head_numbers, bit_of, IsRowOf}
+
+abbrev pub word : Bytes → Side → ℕ → Symbol
+word text side arity = record { kind = Word; text = text; side = side; arity = arity }
+
+abbrev pub p : Symbol
+p = word (codes "p") Predicate 1
+
+abbrev pub f : Symbol
+f = word (codes "f") Function 1
+
+abbrev pub a : Symbol
+a = word (codes "a") Function 0
+
+abbrev pub numbers : Numbering
+numbers = (p, 0) ∷ (f, 2) ∷ (a, 4) ∷ []
+
+-- ~p(f(X))
+abbrev pub negated : Literal
+negated = record {
+  positive = false;
+  atom = app p (more (app f (more (var (codes "X")) none)) none);
+}
+
+-- p(a)
+abbrev pub ground : Literal
+ground = record { positive = true; atom = app p (more (app a none) none) }
+
+abbrev pub heads_of : List Literal → List ℕ
+heads_of ls = head_numbers (number_in numbers) (entries_from 1 ls)
+
+-- the negation has the number above that of its symbol, and the variable has none
+abbrev pub HeadsOfNegation : Type 0
+HeadsOfNegation = heads_of (negated ∷ []) ≡ 1 ∷ 2 ∷ []
+
+-- a literal and its negation have different numbers
+abbrev pub HeadsOfTwo : Type 0
+HeadsOfTwo = heads_of (ground ∷ negated ∷ []) ≡ 0 ∷ 4 ∷ 1 ∷ 2 ∷ []
+
+-- numbers meet at 256
+abbrev pub SameBit : Type 0
+SameBit = bit_of 258 ≡ bit_of 2
+
+-- no literal, and no bit
+abbrev pub NoBit : Type 0
+NoBit = IsRowOf (number_in numbers) [] (0 ∷ 0 ∷ 0 ∷ 0 ∷ [])
+
+-- the bit of the negation alone isn't the row, since that of the function is lacking
+abbrev pub LackingBit : Type 0
+LackingBit = IsRowOf (number_in numbers) (negated ∷ []) (2 ∷ 0 ∷ 0 ∷ 0 ∷ []) → ⊥
+
+-- nor may a bit stand there that is no symbol's
+abbrev pub StrayBit : Type 0
+StrayBit = IsRowOf (number_in numbers) [] (1 ∷ 0 ∷ 0 ∷ 0 ∷ []) → ⊥

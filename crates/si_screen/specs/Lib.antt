@@ -1,0 +1,3 @@
+pub mod ClauseRows
+pub mod Examples
+pub mod Walks

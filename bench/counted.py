@@ -4,6 +4,7 @@ import os
 import re
 import subprocess
 import sys
+from collections import Counter
 from pathlib import Path
 
 BUILT = Path(__file__).parent / "../crates/stindex/out/stindex"
@@ -17,8 +18,8 @@ def replies(lines, folder):
     return ran.stdout.decode().splitlines()
 
 
-def instructions(parts, folder):
-    """What callgrind counts for each part of a session, which are lists of lines (parts.c)."""
+def counted(parts, folder):
+    """What callgrind writes of a session, part by part, which are lists of lines (parts.c)."""
     library, out = Path(folder, "parts.so"), Path(folder, "counted")
     if not library.exists():
         source = Path(__file__).parent / "parts.c"
@@ -29,6 +30,32 @@ def instructions(parts, folder):
     with session.open() as data:
         environment = os.environ | {"LD_PRELOAD": str(library)}
         subprocess.run(tool, stdin=data, capture_output=True, cwd=folder, env=environment, check=True)
-    _, *counts, _ = re.findall(r"^totals: (\d+)", out.read_text(), re.MULTILINE)
+    written = out.read_text()
     out.unlink()
+    return written
+
+
+def instructions(parts, folder):
+    """The instructions of each part of a session."""
+    _, *counts, _ = re.findall(r"^totals: (\d+)", counted(parts, folder), re.MULTILINE)
     return list(map(int, counts))
+
+
+def functions(parts, folder):
+    """The instructions of each function by itself, for each part of a session."""
+    names, name, called = {}, None, False
+    spent = []
+    for line in counted(parts, folder).splitlines():
+        if line.startswith("part: "):
+            spent.append(Counter())
+        elif named := re.match(r"c?fn=\((\d+)\)(?: (.+))?", line):
+            names.setdefault(named[1], named[2])
+            if line.startswith("fn="):
+                name = names[named[1]]
+        elif line.startswith("calls="):
+            called = True
+        elif re.match(r"[-+*\d]\S* \d+$", line):
+            if not called:
+                spent[-1][re.sub(r"::<.*|'\d+$", "", name)] += int(line.split()[1])
+            called = False
+    return spent[1:-1]

@@ -28,6 +28,7 @@ pub(crate) struct Attempts<'a> {
 
 /// What is tried below a node. Where it has more children than there are heads that can meet what
 /// is wanted, they are looked up by these heads.
+#[inline(always)]
 pub(crate) fn attempts_at<'a>(
     search: &Search<'a>,
     node: NodeId,
@@ -67,6 +68,7 @@ pub(crate) fn attempts_at<'a>(
 
 // How many heads can meet a term that begins with this cell, if not all can: its own, and where
 // these can be bound, the variables of an entry.
+#[inline(always)]
 fn heads_for(slots: &Slots, vars: u32, first: Cell) -> Option<usize>
     ensures { IfSome result (AreHeadsFor slots.now vars first) }
 {

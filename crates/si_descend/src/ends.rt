@@ -73,6 +73,7 @@ impl Ends {
 
 /// The ends of the indicators that are open at a node, where these are few different variables that
 /// can still be anything. It looks at the first nodes down to a leaf, which bind all of them.
+#[inline(never)]
 pub(crate) fn ends_below<'a>(
     search: &Search<'a>,
     node: NodeId,
@@ -146,6 +147,7 @@ fn free_end<'a>(trail: &Trail<&'a [Cell]>, slots: &Slots, indicator: &'a [Cell])
 
 /// Whether what the entry's variables are bound to holds no bound variable and none of the ends. So
 /// no circle goes through an end, once it is bound to a term of such variables.
+#[inline(never)]
 pub(crate) fn are_clear(trail: &Trail<&[Cell]>, slots: &Slots, ends: &Ends) -> bool
     requires solving { AllowsSolving slots.now trail.now.pairs trail.now.slots }
     ensures clear { IsTrue result → AreClear slots.now trail.now.pairs ends.now }

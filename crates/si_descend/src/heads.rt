@@ -20,6 +20,7 @@ pub(crate) struct Wanted {
 }
 
 /// What the children of a node are asked for, if it has a split and that is bound.
+#[inline(always)]
 pub(crate) fn asked_of<'a>(
     search: &Search<'a>,
     node: NodeId,
@@ -52,6 +53,7 @@ fn first(cells: &[Cell]) -> Cell
 }
 
 /// Whether a child binds the split to a term with another head than the one that is wanted.
+#[inline(always)]
 pub(crate) fn is_unwanted(search: &Search<'_>, wanted: Option<Wanted>, child: NodeId) -> bool
     requires { IsNode search.now.tree.now child }
     ensures { IsTrue result → RulesOut search.now wanted child }
@@ -63,6 +65,7 @@ pub(crate) fn is_unwanted(search: &Search<'_>, wanted: Option<Wanted>, child: No
 }
 
 // Whether one of the bindings is of the split, and can't have what is wanted.
+#[inline(always)]
 fn rules_out(slots: &Slots, wanted: Wanted, bindings: &Bindings) -> bool
     ensures { IsTrue result → IsKnownSplit slots.now wanted bindings.now }
 {
@@ -75,6 +78,7 @@ fn rules_out(slots: &Slots, wanted: Wanted, bindings: &Bindings) -> bool
 }
 
 // Whether terms that begin with these cells have different heads, whatever is bound.
+#[inline(always)]
 fn clash(slots: &Slots, one: Cell, other: Cell) -> bool
     ensures { IsTrue result → CannotMeet slots.now one other }
 {

@@ -52,6 +52,7 @@ impl<'a> Search<'a> {
 }
 
 /// Makes the bindings of a node fit, and tells whether it is open.
+#[inline(always)]
 pub(crate) fn enter<'a>(
     search: &Search<'a>,
     node: NodeId,

@@ -23,6 +23,7 @@ use std::alloc::AllocError;
 /// Whether all nodes below an open node are known to be open: it is a leaf, or instances or
 /// unifiable terms are sought, and all open indicators stand for different variables of which
 /// nothing else is told.
+#[inline(always)]
 pub(crate) fn is_open_below<'a>(
     search: &Search<'a>,
     node: NodeId,

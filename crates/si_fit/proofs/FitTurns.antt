@@ -1,5 +1,5 @@
 -- The turns of a loop that makes bindings fit.
-use Rattle.std.proofs.Common.{◌≡◌, ◌↔◌, ℕ, Bool, true, false, List, [], ◌∷◌, get_or, sym, ◌∙◌, ap, subst, append-nil}
+use Rattle.std.proofs.Common.{◌≡◌, ◌↔◌, ℕ, Bool, true, false, List, [], ◌∷◌, sym, subst, append-nil}
 use Rattle.si_defs.specs.Substitutions.{Substitution, image, Grows}
 use Rattle.si_flat.specs.declared.Cell.{Cell}
 use Rattle.si_flat.specs.declared.Cell.TheVariants as cell
@@ -10,8 +10,6 @@ use Rattle.si_unify.specs.declared.slots.Slots.{Slots}
 use Rattle.si_unify.specs.Solving.{Pairs, CellIsInRange, AreInRange, IsSolution, HasSolved}
 use Rattle.si_unify.proofs.Comparing.{grows_on}
 use Rattle.si_fit.specs.Fitting.{AllowsSolving, AreRowsInRange, EqualizesRows, HasSolution, HasFitted}
-use Rattle.si_fit.specs.Meeting.{same_symbol}
-use Rattle.si_fit.proofs.EndLaws.{no_cell}
 
 pub no_more : {X : Type 0} (xs : List X) → Grows xs xs
 no_more xs = ([], sym (append-nil xs))
@@ -22,11 +20,6 @@ indicator_whole cells n e = (terms.var (ind n), record { cells_are = e; sound = 
 
 pub indicator_range : (slots : Slots) (cells : List Cell) (n : ℕ) → cells ≡ cell.Ind n ∷ [] → CellIsInRange slots (cell.Ind n) → AreInRange slots cells
 indicator_range slots cells n e h = subst (AreInRange slots) (sym e) (h, tt)
-
--- its head is no symbol
-pub indicator_differs : (cells : List Cell) (n : ℕ) (c : Cell) → cells ≡ cell.Ind n ∷ [] → same_symbol (get_or cells 0 no_cell) c ≡ true → ⊥
-indicator_differs cells n c e same =
-    let bad : false ≡ true = ap (λ l. same_symbol (get_or l 0 no_cell) c) (sym e) ∙ same in cc
 
 module _ (slots : Slots) (old : Pairs) (rows : List CellPair) (count : ℕ) where
   -- with the bindings that are left, the solutions are those of the old list with all of them

@@ -15,6 +15,7 @@ use Rattle.si_unify.proofs.Places.{all_at, first_cell, whole_at, cell-at, inside
 use Rattle.si_unify.proofs.Reading.{one_term}
 use Rattle.si_unify.proofs.Weights.{fits_all}
 use Rattle.si_unify.proofs.Meeting.{free_variable, frozen_variable}
+use Rattle.si_fit.specs.Ends.{EndsAt}
 use Rattle.si_fit.specs.Meeting.{IsOpenSlot, IsSameVariable, slot_cells, same_symbol, HasMet, LeavesFrozen}
 use Rattle.si_fit.specs.declared.meeting.Met.{Met}
 use Rattle.si_fit.specs.declared.meeting.Met.TheVariants.{Equal, Clash, Unknown}
@@ -54,6 +55,25 @@ value_met slots old new slot v term m bindings e h = go m h where
     λ both. (k f).1 (both.0, to_value f both.0 both.1),
   )
   go Clash k = λ f solved equal. k f solved (to_value f solved equal)
+
+-- where the chain of a term's variable ends
+pub end_met : (slots : Slots) (old new : Pairs) (start end right : List Cell) (m : Met) → EndsAt slots old start end → HasMet slots old new end right m → HasMet slots old new start right m
+end_met slots old new start end right m e h = go m h where
+  from_end : (f : Variable → Term) → IsSolvedBy slots old f → Equalizes f end right → Equalizes f start right
+  from_end f is equal t u left_stands right_stands =
+      ap (terms.substitute f) (one_term start t e.first left_stands e.first_stands) ∙ e.same f is ∙ equal e.last u e.last_stands right_stands
+
+  to_end : (f : Variable → Term) → IsSolvedBy slots old f → Equalizes f start right → Equalizes f end right
+  to_end f is equal t u left_stands right_stands =
+      ap (terms.substitute f) (one_term end t e.last left_stands e.last_stands) ∙ sym (e.same f is) ∙ equal e.first u e.first_stands right_stands
+
+  go : (n : Met) → HasMet slots old new end right n → HasMet slots old new start right n
+  go Unknown k = tt
+  go Equal k = λ f. (
+    λ solved. let both = (k f).0 solved in (both.0, from_end f both.0 both.1),
+    λ both. (k f).1 (both.0, to_end f both.0 both.1),
+  )
+  go Clash k = λ f solved equal. k f solved (to_end f solved equal)
 
 -- ---- turned
 equal_turned : (f : Variable → Term) (left right : List Cell) → Equalizes f left right → Equalizes f right left

@@ -9,6 +9,7 @@ use si_trail::Trail;
 use si_unify::Slots;
 
 /// The term that stands at the end of the chain: while it is a bound variable, its value is next.
+#[inline(always)]
 pub fn end_of<'a>(trail: &Trail<&'a [Cell]>, slots: &Slots, start: &'a [Cell]) -> &'a [Cell]
     requires whole { IsWhole start.now }
     requires range { AreInRange slots.now start.now }

@@ -1,14 +1,13 @@
 // Bindings that are made to fit those of a trail.
-ghost use Rattle.std.specs.Prelude.{◌≡◌, IfOk, IsTrue, get_or};
+ghost use Rattle.std.specs.Prelude.{◌≡◌, IfOk};
 ghost use Rattle.si_defs.specs.Substitutions.{Grows};
-ghost use Rattle.si_flat.specs.declared.Cell.TheVariants.{App};
 ghost use Rattle.si_flat.specs.Cells.{IsWhole};
 ghost use Rattle.si_unify.specs.Solving.{AreInRange, HasSolved};
 ghost use Rattle.si_fit.specs.Fitting.{AllowsSolving, AreRowsInRange, HasFitted, HasSolution};
-ghost use Rattle.si_fit.specs.Meeting.{same_symbol};
 
+use crate::ends::end_of;
 use crate::meeting::Met;
-use crate::walking::meet;
+use crate::walking::meet_any;
 use si_flat::{Bindings, Cell};
 use si_trail::Trail;
 use si_unify::{Scratch, Slots, solve_with};
@@ -17,8 +16,8 @@ use std::alloc::AllocError;
 // So many bound variables are followed before the solver is asked.
 const MOST_FOLLOWED: u32 = 64;
 
-// Makes two terms equal that don't have the same symbol at the head, over the bindings that are
-// there: by a walk over both, and by the solver where the walk doesn't tell.
+// Makes two terms equal over the bindings that are there: by a walk over both, and by the solver
+// where the walk doesn't tell.
 fn fit_pair<'a>(
     scratch: &mut Scratch,
     trail: &mut Trail<&'a [Cell]>,
@@ -30,8 +29,6 @@ fn fit_pair<'a>(
     requires right { IsWhole right.now }
     requires left_range { AreInRange slots.now left.now }
     requires right_range { AreInRange slots.now right.now }
-    requires differ { IsTrue (same_symbol (get_or left.now 0 (App 0 0 0))
-        (get_or right.now 0 (App 0 0 0))) → ⊥ }
     requires ready { AllowsSolving slots.now trail.old.pairs trail.old.slots }
     ensures solved { IfOk result (HasSolved slots.now trail.old.pairs trail.new.pairs left.now
         right.now) }
@@ -40,8 +37,9 @@ fn fit_pair<'a>(
     ensures slots { trail.new.slots ≡ trail.old.slots }
 {
     let mark = trail.mark();
+    let end = end_of(trail, slots, left);
     let mut budget = MOST_FOLLOWED;
-    match meet(trail, slots, left, right, &mut budget) {
+    match meet_any(trail, slots, end, right, &mut budget) {
         Met::Equal => {
             // So no slot of the trail is known to be bound twice.
             trail.mark();

@@ -1,14 +1,10 @@
-use Rattle.std.proofs.Common.{get_or, ◌∙◌, subst}
+use Rattle.std.proofs.Common.{◌∙◌, subst}
 use Rattle.si_fit.specs.Fitting.{AllowsSolving}
-use Rattle.si_fit.proofs.EndLaws.{no_cell}
-use Rattle.si_fit.proofs.FitTurns.{indicator_whole, indicator_differs, fits_more, fits_not, fits_end}
+use Rattle.si_fit.proofs.FitTurns.{indicator_whole, fits_more, fits_not, fits_end}
 use Rattle.si_fit.proofs.fitting.fit.Goals as goal
 
 pub fit_pair-requires-clause-left : goal.fit_pair-requires-clause-left
 fit_pair-requires-clause-left c = indicator_whole c.left_cells-left.result.now c.in-Some.pair.0 c.left_cells-left.ensures
-
-pub fit_pair-requires-clause-differ : goal.fit_pair-requires-clause-differ
-fit_pair-requires-clause-differ c = indicator_differs c.left_cells-left.result.now c.in-Some.pair.0 (get_or c.right-right.result.now 0 no_cell) c.left_cells-left.ensures
 
 pub returns-then-not-branch-clause-fits : goal.returns-then-not-branch-clause-fits
 returns-then-not-branch-clause-fits c =

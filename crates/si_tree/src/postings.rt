@@ -1,5 +1,5 @@
 // The postings of a leaf.
-ghost use Rattle.std.specs.Prelude.{◌≡◌, ◌<◌, ◌≤◌, [], ◌∷◌, ◌++◌, ◌==◌, IfOk, IsFalse, IsTrue, OnErr, OnOk, Some, length, slice_get};
+ghost use Rattle.std.specs.Prelude.{◌≡◌, ◌<◌, ◌≤◌, [], ◌∷◌, ◌++◌, ◌==◌, IfOk, IsFalse, IsTrue, OnErr, OnOk, Some, length, slice_get, vec_capacity};
 ghost use Rattle.si_defs.specs.Substitutions.{IsAmong};
 ghost use Rattle.si_legal.specs.declared.Posting as posting;
 ghost use Rattle.si_tree.specs.Changes.{IsWithout};
@@ -9,10 +9,13 @@ use si_legal::Posting;
 use std::alloc::{AllocError, Global};
 use std::marker::Model;
 
+// A list that is full gets room for a quarter more, and for so many at least.
+const LEAST_ROOM: usize = 2;
+
 /// A posting, and whether it stands there still.
 #[derive(Clone, Copy)]
 pub(crate) struct Slot {
-    clause: usize,
+    clause: u32,
     entry: u32,
     stands: bool,
 }
@@ -64,8 +67,9 @@ impl PostingList {
     pub(crate) fn one(alloc: Global, posting: Posting) -> Result<PostingList, AllocError>
         ensures { IfOk result (λ postings. postings ≡ posting ∷ []) }
     {
-        let mut slots = Vec::with_capacity(alloc, 1)?;
-        slots.push_reserved(Slot::of(posting));
+        let slot = Slot::of(posting)?;
+        let mut slots = Vec::with_capacity(alloc, LEAST_ROOM)?;
+        slots.push_reserved(slot);
         Ok(PostingList {
             slots,
             count: 1,
@@ -89,8 +93,10 @@ impl PostingList {
         ensures ok { OnOk result (self.new ≡ self.old ++ posting ∷ []) }
         ensures err { OnErr result (self.new ≡ self.old) }
     {
+        let slot = Slot::of(posting)?;
+        make_room(&mut self.slots)?;
         let place = self.slots.len();
-        self.slots.push(Slot::of(posting))?;
+        self.slots.push_reserved(slot);
         self.count += 1;
         self.last = place;
         Ok(())
@@ -175,15 +181,19 @@ impl<'a> Postings<'a> {
 }
 
 impl Slot {
-    // The slot in which the posting stands.
-    fn of(posting: Posting) -> Slot
-        ensures { result ≡ filled posting }
+    // The slot in which the posting stands. A clause whose key hasn't 32 bits is answered as want of
+    // memory.
+    fn of(posting: Posting) -> Result<Slot, AllocError>
+        ensures { IfOk result (λ slot. slot ≡ filled posting) }
     {
-        Slot {
-            clause: posting.clause,
+        let Ok(clause) = u32::try_from(posting.clause) else {
+            return Err(AllocError);
+        };
+        Ok(Slot {
+            clause,
             entry: posting.entry,
             stands: true,
-        }
+        })
     }
 
     // The posting that stands there, or stood there.
@@ -192,10 +202,22 @@ impl Slot {
         ensures entry { result.entry ≡ self.now.entry }
     {
         Posting {
-            clause: self.clause,
+            clause: self.clause as usize,
             entry: self.entry,
         }
     }
+}
+
+// Makes room for one more.
+fn make_room(slots: &mut Vec<Slot>) -> Result<(), AllocError>
+    ensures same { slots.new.items ≡ slots.old.items }
+    ensures room { OnOk result (length slots.new.items < vec_capacity slots.new) }
+{
+    let len = slots.len();
+    if len < slots.capacity() {
+        return Ok(());
+    }
+    slots.reserve_exact(len / 4 + LEAST_ROOM)
 }
 
 // Empties a slot.
@@ -234,7 +256,7 @@ fn is_at(slots: &[Slot], place: usize, posting: Posting) -> bool
     let Some(slot) = slots.get(place) else {
         return false;
     };
-    slot.clause == posting.clause && slot.entry == posting.entry && slot.stands
+    slot.clause as usize == posting.clause && slot.entry == posting.entry && slot.stands
 }
 
 // The place of a posting among slots that rise. Among others it is some place.
@@ -244,9 +266,8 @@ fn place_if_rising(slots: &[Slot], posting: Posting) -> usize {
     while count > 1 {
         let half = count / 2;
         let slot = slots[low + half];
-        if slot.clause < posting.clause
-            || slot.clause == posting.clause && slot.entry <= posting.entry
-        {
+        let clause = slot.clause as usize;
+        if clause < posting.clause || clause == posting.clause && slot.entry <= posting.entry {
             low += half;
         }
         count -= half;

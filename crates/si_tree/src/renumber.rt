@@ -85,7 +85,7 @@ impl Tree {
         let mut nodes = Vec::with_capacity(alloc, self.nodes.len())?;
         let mut next: u32 = 1;
         while let Some(visit) = left.pop() {
-            let node = &self.nodes[visit.node.key];
+            let node = &self.nodes[visit.node.key as usize];
             let opened = note_rights(&mut numbers, &node.bindings, visit.opened);
             nodes.push(Renumbered {
                 node: visit.node,
@@ -144,7 +144,7 @@ fn exchange(nodes: &mut Slab<TreeNode>, all: Vec<Renumbered>)
             bindings,
             split,
         } = one;
-        let there = &mut nodes[node.key];
+        let there = &mut nodes[node.key as usize];
         there.renumber(bindings, split);
     }
 }

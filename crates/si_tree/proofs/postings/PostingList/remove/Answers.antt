@@ -1,4 +1,4 @@
-use Rattle.std.proofs.Common.{◌≡◌, Some, sym, ◌∙◌, subst, arith}
+use Rattle.std.proofs.Common.{◌≡◌, Some, subst, arith}
 use Rattle.std.specs.Prelude.{slice_get}
 use Rattle.si_tree.specs.Slots.{filled}
 use Rattle.si_tree.proofs.StandingLaws.{one_fewer}

@@ -1,5 +1,5 @@
 use Rattle.std.proofs.Common.{◌≡◌, ◌+◌, ◌∷◌, ◌++◌, [], drop, length, append_assoc, append-nil, drop_of_length-le, sym, ◌∙◌, ap, arith}
-use Rattle.si_tree.specs.Slots.{posting_in, standing}
+use Rattle.si_tree.specs.Slots.{standing}
 use Rattle.si_tree.proofs.StandingLaws.{met}
 use Rattle.si_tree.proofs.postings.Postings.append_to.Goals as goal
 

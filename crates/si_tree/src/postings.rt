@@ -1,23 +1,25 @@
 // The postings of a leaf.
-ghost use Rattle.std.specs.Prelude.{◌≡◌, ◌<◌, ◌≤◌, [], ◌∷◌, ◌++◌, ◌==◌, IfOk, IsFalse, IsTrue, OnErr, OnOk, Some, length, slice_get, vec_capacity};
+ghost use Rattle.std.specs.Prelude.{◌≡◌, ◌<◌, ◌≤◌, [], ◌∷◌, ◌++◌, ◌==◌, IfOk, IsFalse, IsTrue, OnErr, OnOk, length, true, vec_capacity};
 ghost use Rattle.si_defs.specs.Substitutions.{IsAmong};
 ghost use Rattle.si_legal.specs.declared.Posting as posting;
 ghost use Rattle.si_tree.specs.Changes.{IsWithout};
-ghost use Rattle.si_tree.specs.Slots.{filled, standing};
+ghost use Rattle.si_tree.specs.Slots.{filled, standing, stands, StandsAt};
 
 use si_legal::Posting;
 use std::alloc::{AllocError, Global};
 use std::marker::Model;
 
 // A list that is full gets room for a quarter more, and for so many at least.
-const LEAST_ROOM: usize = 2;
+const LEAST_ROOM: usize = 3;
 
-/// A posting, and whether it stands there still.
+// Stands for the entry in a slot whose posting went. No posting has an entry of this number.
+const GONE: u32 = u32::MAX;
+
+/// A posting, or the place of one that went.
 #[derive(Clone, Copy)]
 pub(crate) struct Slot {
     clause: u32,
     entry: u32,
-    stands: bool,
 }
 
 /// The postings of a leaf, in order. Contracts see the list. One that goes leaves its slot empty, so
@@ -133,7 +135,7 @@ impl PostingList {
         if self.slots.len() / 2 <= self.count {
             return;
         }
-        self.slots.retain(|slot| slot.stands);
+        self.slots.retain(|slot| slot.entry != GONE);
         self.first = 0;
         self.last = self.count.saturating_sub(1);
     }
@@ -171,7 +173,7 @@ impl<'a> Postings<'a> {
     {
         others.reserve(self.count)?;
         for slot in self.slots {
-            if !slot.stands {
+            if slot.entry == GONE {
                 continue;
             }
             others.push_reserved(slot.posting());
@@ -181,18 +183,21 @@ impl<'a> Postings<'a> {
 }
 
 impl Slot {
-    // The slot in which the posting stands. A clause whose key hasn't 32 bits is answered as want of
-    // memory.
+    // The slot in which the posting stands. A posting that no slot can hold is answered as want of
+    // memory: its clause has a key beyond 32 bits, or its entry the number of those that went.
     fn of(posting: Posting) -> Result<Slot, AllocError>
-        ensures { IfOk result (λ slot. slot ≡ filled posting) }
+        ensures is { IfOk result (λ slot. slot ≡ filled posting) }
+        ensures stands { IfOk result (λ slot. stands slot ≡ true) }
     {
         let Ok(clause) = u32::try_from(posting.clause) else {
             return Err(AllocError);
         };
+        if posting.entry == GONE {
+            return Err(AllocError);
+        }
         Ok(Slot {
             clause,
             entry: posting.entry,
-            stands: true,
         })
     }
 
@@ -223,17 +228,17 @@ fn make_room(slots: &mut Vec<Slot>) -> Result<(), AllocError>
 // Empties a slot.
 fn empty(slots: &mut Vec<Slot>, place: usize)
     requires { place < length slots.old.items }
-    ensures { (p : posting.Posting) → slice_get slots.old.items place ≡ Some (filled p)
+    ensures { (p : posting.Posting) → StandsAt slots.old.items place p
         → IsWithout (standing slots.old.items) p (standing slots.new.items) }
 {
-    slots[place].stands = false;
+    slots[place].entry = GONE;
 }
 
 // The place of a posting. Most lists rise, as keys do, and often the oldest or the newest clause goes
 // first. So it is sought at both ends, then by halves, and only then at each place.
 fn place_of(slots: &[Slot], first: usize, last: usize, posting: Posting) -> usize
     requires { IsAmong (standing slots.now) posting }
-    ensures { slice_get slots.now result ≡ Some (filled posting) }
+    ensures { StandsAt slots.now result posting }
 {
     if is_at(slots, first, posting) {
         return first;
@@ -250,13 +255,13 @@ fn place_of(slots: &[Slot], first: usize, last: usize, posting: Posting) -> usiz
 
 // Whether the posting stands at this place.
 fn is_at(slots: &[Slot], place: usize, posting: Posting) -> bool
-    ensures yes { IsTrue result → slice_get slots.now place ≡ Some (filled posting) }
-    ensures no { IsFalse result → slice_get slots.now place ≡ Some (filled posting) → ⊥ }
+    ensures yes { IsTrue result → StandsAt slots.now place posting }
+    ensures no { IsFalse result → StandsAt slots.now place posting → ⊥ }
 {
     let Some(slot) = slots.get(place) else {
         return false;
     };
-    slot.clause as usize == posting.clause && slot.entry == posting.entry && slot.stands
+    slot.clause as usize == posting.clause && slot.entry == posting.entry && slot.entry != GONE
 }
 
 // The place of a posting among slots that rise. Among others it is some place.
@@ -278,7 +283,7 @@ fn place_if_rising(slots: &[Slot], posting: Posting) -> usize {
 // The place of a posting, sought from both ends.
 fn place_from_ends(slots: &[Slot], posting: Posting) -> usize
     requires { IsAmong (standing slots.now) posting }
-    ensures { slice_get slots.now result ≡ Some (filled posting) }
+    ensures { StandsAt slots.now result posting }
 {
     for place in 0..slots.len() {
         if is_at(slots, place, posting) {

@@ -1,10 +1,7 @@
-use Rattle.std.proofs.Common.{◌≡◌, ◌∷◌, ◌++◌, [], length, ◌∙◌, ap, arith}
-use Rattle.si_tree.specs.Slots.{filled}
+use Rattle.std.proofs.Common.{◌∷◌, ◌++◌, [], length, sym, ◌∙◌, ap, arith}
+use Rattle.si_tree.specs.Slots.{stands}
 use Rattle.si_tree.proofs.StandingLaws.{standing_pushed, pushed_length, few_standing}
 use Rattle.si_tree.proofs.postings.PostingList.push.Goals as goal
-
-pushed : (c : goal.After-push_reserved) → c.push_reserved.new.self.items ≡ c.self.inside.slots.items ++ filled c.args.posting ∷ []
-pushed c = c.push_reserved.ensures.items ∙ (λ i. c.make_room.ensures.same i ++ c.in_ok-slot.ensures i ∷ [])
 
 pub overflow_add-self : goal.overflow_add-self
 overflow_add-self c =
@@ -12,9 +9,11 @@ overflow_add-self c =
 
 pub invariant_of-self-2 : goal.invariant_of-self-2
 invariant_of-self-2 c =
-    omega (arith, c.self.invariant, pushed_length c.self.inside.slots.items c.args.posting c.push_reserved.new.self.items (c.push_reserved.ensures.items ∙ (λ i. c.make_room.ensures.same i ++ c.in_ok-slot.ensures i ∷ [])))
+    let there = sym (ap stands c.in_ok-slot.ensures.is) ∙ c.in_ok-slot.ensures.stands in
+    omega (arith, c.self.invariant, pushed_length c.self.inside.slots.items c.args.posting c.push_reserved.new.self.items (c.push_reserved.ensures.items ∙ (λ i. c.make_room.ensures.same i ++ c.in_ok-slot.ensures.is i ∷ [])) there)
 
 pub returns-clause-ok : goal.returns-clause-ok
 returns-clause-ok c =
-    standing_pushed c.self.inside.slots.items c.args.posting c.push_reserved.new.self.items (c.push_reserved.ensures.items ∙ (λ i. c.make_room.ensures.same i ++ c.in_ok-slot.ensures i ∷ []))
+    let there = sym (ap stands c.in_ok-slot.ensures.is) ∙ c.in_ok-slot.ensures.stands in
+    standing_pushed c.self.inside.slots.items c.args.posting c.push_reserved.new.self.items (c.push_reserved.ensures.items ∙ (λ i. c.make_room.ensures.same i ++ c.in_ok-slot.ensures.is i ∷ [])) there
     ∙ ap (λ ps. ps ++ c.args.posting ∷ []) c.self.view_is

@@ -1,5 +1,5 @@
 -- The postings that stand in slots.
-use Rattle.std.specs.Prelude.{◌≡◌, ℕ, Bool, true, false, not, ◌==◌, List, [], ◌∷◌, Some, slice_get}
+use Rattle.std.specs.Prelude.{◌≡◌, ℕ, Bool, true, false, nat_lt, List, [], ◌∷◌, Some, slice_get}
 use Rattle.si_legal.specs.declared.Posting.{Posting}
 use Rattle.si_tree.specs.declared.postings.Slot.{Slot}
 use Rattle.si_tree.specs.declared.postings.TheConstants.{GONE}
@@ -10,7 +10,7 @@ filled p = record { clause = p.clause; entry = p.entry }
 
 -- a posting stands there still
 abbrev pub stands : Slot → Bool
-stands s = not (s.entry == GONE)
+stands s = nat_lt s.entry GONE
 
 -- the posting that stands in a slot, or stood there
 abbrev pub posting_in : Slot → Posting

@@ -12,8 +12,9 @@ use std::marker::Model;
 // A list that is full gets room for a quarter more, and for so many at least.
 const LEAST_ROOM: usize = 3;
 
-// Stands for the entry in a slot whose posting went. No posting has an entry of this number.
-const GONE: u32 = u32::MAX;
+// What is added to the entry of a posting that goes, so that its slot keeps its order. No entry of
+// a posting that stands has so great a number.
+const GONE: u32 = 1 << 31;
 
 /// A posting, or the place of one that went.
 #[derive(Clone, Copy)]
@@ -135,7 +136,7 @@ impl PostingList {
         if self.slots.len() / 2 <= self.count {
             return;
         }
-        self.slots.retain(|slot| slot.entry != GONE);
+        self.slots.retain(|slot| slot.entry < GONE);
         self.first = 0;
         self.last = self.count.saturating_sub(1);
     }
@@ -173,7 +174,7 @@ impl<'a> Postings<'a> {
     {
         others.reserve(self.count)?;
         for slot in self.slots {
-            if slot.entry == GONE {
+            if slot.entry >= GONE {
                 continue;
             }
             others.push_reserved(slot.posting());
@@ -184,7 +185,7 @@ impl<'a> Postings<'a> {
 
 impl Slot {
     // The slot in which the posting stands. A posting that no slot can hold is answered as want of
-    // memory: its clause has a key beyond 32 bits, or its entry the number of those that went.
+    // memory: its clause has a key beyond 32 bits, or its entry a number beyond 31.
     fn of(posting: Posting) -> Result<Slot, AllocError>
         ensures is { IfOk result (λ slot. slot ≡ filled posting) }
         ensures stands { IfOk result (λ slot. stands slot ≡ true) }
@@ -192,7 +193,7 @@ impl Slot {
         let Ok(clause) = u32::try_from(posting.clause) else {
             return Err(AllocError);
         };
-        if posting.entry == GONE {
+        if posting.entry >= GONE {
             return Err(AllocError);
         }
         Ok(Slot {
@@ -231,7 +232,7 @@ fn empty(slots: &mut Vec<Slot>, place: usize)
     ensures { (p : posting.Posting) → StandsAt slots.old.items place p
         → IsWithout (standing slots.old.items) p (standing slots.new.items) }
 {
-    slots[place].entry = GONE;
+    slots[place].entry = slots[place].entry.saturating_add(GONE);
 }
 
 // The place of a posting. Most lists rise, as keys do, and often the oldest or the newest clause goes
@@ -261,7 +262,7 @@ fn is_at(slots: &[Slot], place: usize, posting: Posting) -> bool
     let Some(slot) = slots.get(place) else {
         return false;
     };
-    slot.clause as usize == posting.clause && slot.entry == posting.entry && slot.entry != GONE
+    slot.clause as usize == posting.clause && slot.entry == posting.entry && slot.entry < GONE
 }
 
 // The place of a posting among slots that rise. Among others it is some place.
@@ -272,7 +273,8 @@ fn place_if_rising(slots: &[Slot], posting: Posting) -> usize {
         let half = count / 2;
         let slot = slots[low + half];
         let clause = slot.clause as usize;
-        if clause < posting.clause || clause == posting.clause && slot.entry <= posting.entry {
+        let entry = slot.entry % GONE;
+        if clause < posting.clause || clause == posting.clause && entry <= posting.entry {
             low += half;
         }
         count -= half;

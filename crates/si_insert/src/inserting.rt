@@ -15,7 +15,6 @@ use std::alloc::{AllocError, Global};
 /// numbers for them.
 pub fn insert(
     alloc: Global,
-    openings: &mut Openings,
     tree: &mut Tree,
     term: &Flat,
     posting: Posting,
@@ -24,10 +23,12 @@ pub fn insert(
     ensures ok { IfOk result (λ leaf. Inserts tree.old tree.new term.now posting leaf) }
     ensures err { OnErr result (KeepsAll tree.old tree.new) }
 {
-    insert_cells(alloc, openings, tree, term.cells(), posting)
+    let mut openings = Openings::new(alloc);
+    insert_cells(alloc, &mut openings, tree, term.cells(), posting)
 }
 
-/// As [`insert`], for a term whose cells are lent.
+/// As [`insert`], for a term whose cells are lent, over memory that serves from one insertion to the
+/// next.
 pub fn insert_cells(
     alloc: Global,
     openings: &mut Openings,

@@ -16,7 +16,7 @@ use Rattle.si_tree.specs.declared.node.Head.{Head}
 use Rattle.si_tree.specs.declared.node.TreeNode.{TreeNode}
 use Rattle.si_tree.specs.declared.tree.Tree.TheInside.{Inside}
 use Rattle.si_tree.specs.Decoding.{term_of, bindings_of}
-use Rattle.si_tree.specs.KeptNodes.{tree_of, heads_of, IsKept, IsBelow, MayPutBetween, HasRoomForChild}
+use Rattle.si_tree.specs.KeptNodes.{tree_of, heads_of, IsKept, IsBelow, MayPutBetween, HasRoomForChild, HaveShortKeys}
 use Rattle.si_tree.specs.Reading.{AtNode}
 use Rattle.si_tree.proofs.SlotLaws.{stood}
 use Rattle.si_tree.proofs.BelowLaws.{is_below}
@@ -40,8 +40,8 @@ pub parent_known : (tree : Tree Term) (key : ℕ) (parts : Parts) (others : List
 parent_known tree key parts others p may r parent told is =
     same_Some may.parent parent (sym may.reached.2.0 ∙ sym (told may.node may.reached.1) ∙ is)
 
-pub may_put : (old : Inside) (key parent : ℕ) (parts : Parts) (others : List Binding) (p : Posting) (fork : TreeNode) (head : Head) → IsKept old → (may : MaySplitNode (tree_of old) key parts others p) → may.parent ≡ parent → HasRoomFor old.nodes 2 → HasRoomForChild fork → (IsAmong (heads_of fork.content) head → ⊥) → MayPutBetween old.nodes key parent fork head
-may_put old key parent parts others p fork head kept may is room below new =
+pub may_put : (old : Inside) (key parent : ℕ) (parts : Parts) (others : List Binding) (p : Posting) (fork : TreeNode) (head : Head) → IsKept old → (may : MaySplitNode (tree_of old) key parts others p) → may.parent ≡ parent → HasRoomFor old.nodes 2 → HaveShortKeys old.nodes → HasRoomForChild fork → (IsAmong (heads_of fork.content) head → ⊥) → MayPutBetween old.nodes key parent fork head
+may_put old key parent parts others p fork head kept may is room named below new =
     let at_key = stood old.nodes.slots key may.node may.reached.1 in
     let at_parent = stood old.nodes.slots may.parent may.parent_node may.reached.2.1 in
     let h = kept.legal.nodes may.parent may.parent_node may.reached.2.1 in
@@ -49,6 +49,7 @@ may_put old key parent parts others p fork head kept may is room below new =
     let content = ap (λ n. n.content) at_parent.read ∙ may.inner_node in
     record {
       room = room;
+      named = named;
       room_below = below;
       new_head = new;
       below = subst (IsBelow old.nodes key) is (is_below old kept may.parent at_parent.kept may.split may.children at_parent.got content key at_key.kept at_key.got ((children key).1 (may.node, may.reached.1, may.reached.2.0)));

@@ -1,5 +1,5 @@
 -- How a tree is kept, and which tree that is.
-use Rattle.std.specs.Prelude.{◌≡◌, ◌≢◌, ℕ, ◌+◌, ◌<◌, List, [], ◌∷◌, ◌++◌, Option, None, Some, map, length, slice_set, vec_capacity}
+use Rattle.std.specs.Prelude.{◌≡◌, ◌≢◌, ℕ, ◌+◌, ◌^◌, ◌<◌, List, [], ◌∷◌, ◌++◌, Option, None, Some, map, length, slice_set, vec_capacity}
 use Rattle.slab.specs.Slab.{Slab, get, slab_len, HasRoomFor}
 use Rattle.si_defs.specs.Substitutions.{IsAmong, AreDistinct}
 use Rattle.si_flat.specs.Cells.{Term}
@@ -177,15 +177,21 @@ pub record StaySame (old new : Slab TreeNode) (key : ℕ) : Type 0 where
   pub slots : new.slots ≡ slice_set old.slots key (Some after)
   pub same : IsSameNode before after
 
+-- the keys of all nodes there is room for are numbers of 32 bits
+abbrev pub HaveShortKeys : Slab TreeNode → Type 0
+HaveShortKeys nodes = nodes.capacity < 2 ^ 32
+
 -- there is room for one more node, and for one more child of this one
 pub record HasRoomBelow (nodes : Slab TreeNode) (key : ℕ) : Type 0 where
   pub node : HasRoomFor nodes 1
+  pub named : HaveShortKeys nodes
   pub child : (n : TreeNode) → get nodes key ≡ Some n → HasRoomForChild n
 
 -- what an inner node between a node and its parent needs, with another child by this head
 pub record MayPutBetween (nodes : Slab TreeNode) (key parent : ℕ) (fork : TreeNode) (head : Head)
     : Type 0 where
   pub room : HasRoomFor nodes 2
+  pub named : HaveShortKeys nodes
   pub room_below : HasRoomForChild fork
   pub new_head : IsAmong (heads_of fork.content) head → ⊥
   pub below : IsBelow nodes key parent

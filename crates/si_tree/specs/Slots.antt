@@ -1,11 +1,16 @@
 -- The postings that stand in slots.
-use Rattle.std.specs.Prelude.{Bool, true, false, List, [], ◌∷◌}
+use Rattle.std.specs.Prelude.{◌≡◌, ℕ, Bool, true, false, nat_lt, List, [], ◌∷◌, Some, slice_get}
 use Rattle.si_legal.specs.declared.Posting.{Posting}
 use Rattle.si_tree.specs.declared.postings.Slot.{Slot}
+use Rattle.si_tree.specs.declared.postings.TheConstants.{GONE}
 
 -- the slot in which a posting stands
 abbrev pub filled : Posting → Slot
-filled p = record { clause = p.clause; entry = p.entry; stands = true }
+filled p = record { clause = p.clause; entry = p.entry }
+
+-- a posting stands there still
+abbrev pub stands : Slot → Bool
+stands s = nat_lt s.entry GONE
 
 -- the posting that stands in a slot, or stood there
 abbrev pub posting_in : Slot → Posting
@@ -18,4 +23,8 @@ put_if false p ps = ps
 -- those that stand there still, in order
 abbrev pub standing : List Slot → List Posting
 standing [] = []
-standing (s ∷ ss) = put_if s.stands (posting_in s) (standing ss)
+standing (s ∷ ss) = put_if (stands s) (posting_in s) (standing ss)
+
+-- the posting stands in the slot at this place
+abbrev pub StandsAt : List Slot → ℕ → Posting → Type 0
+StandsAt ss place p = (slice_get ss place ≡ Some (filled p)) × (stands (filled p) ≡ true)

@@ -49,12 +49,12 @@ fn take_out(nodes: &mut Slab<TreeNode>, leaf: NodeId)
     requires { MayTakeOut nodes.old leaf }
     ensures { IsTakenOut nodes.old nodes.new leaf }
 {
-    let Some(parent) = nodes[leaf.key].parent else {
+    let Some(parent) = nodes[leaf.key as usize].parent else {
         unreachable!()
     };
     let head = head_below(nodes, leaf, parent);
-    vacate(nodes, leaf.key);
-    let above = &mut nodes[parent.key];
+    vacate(nodes, leaf.key as usize);
+    let above = &mut nodes[parent.key as usize];
     above.drop_child(head);
 }
 
@@ -64,19 +64,19 @@ fn take_both(nodes: &mut Slab<TreeNode>, leaf: NodeId, bindings: Bindings)
     ensures { (may : MayTakeBoth nodes.old leaf)
         → AreTakenOut nodes.old nodes.new leaf bindings may }
 {
-    let Some(parent) = nodes[leaf.key].parent else {
+    let Some(parent) = nodes[leaf.key as usize].parent else {
         unreachable!()
     };
-    let Some(upper) = nodes[parent.key].parent else {
+    let Some(upper) = nodes[parent.key as usize].parent else {
         unreachable!()
     };
-    let other = nodes[parent.key].child_besides(leaf);
+    let other = nodes[parent.key as usize].child_besides(leaf);
     let head = head_below(nodes, parent, upper);
-    vacate(nodes, leaf.key);
-    vacate(nodes, parent.key);
-    let below = &mut nodes[other.key];
+    vacate(nodes, leaf.key as usize);
+    vacate(nodes, parent.key as usize);
+    let below = &mut nodes[other.key as usize];
     below.move_below(upper, bindings);
-    let above = &mut nodes[upper.key];
+    let above = &mut nodes[upper.key as usize];
     above.relink(head, other);
 }
 

@@ -22,7 +22,7 @@ use std::marker::Model;
 /// Names a node of a tree. Contracts see its key.
 #[derive(Clone, Copy, Debug, PartialEq, Eq)]
 pub struct NodeId {
-    pub(crate) key: usize,
+    pub(crate) key: u32,
 }
 
 impl Model for NodeId {
@@ -168,7 +168,7 @@ impl TreeNode {
         ensures { IfOk result (IsLeafWith (first ++ others.now) posting) }
     {
         let content = Content::leaf(alloc, posting)?;
-        let bindings = joined(first, others)?;
+        let bindings = joined(alloc, first, others)?;
         Ok(TreeNode {
             parent: None,
             bindings,

@@ -1,20 +1,26 @@
 // The postings of a leaf.
-ghost use Rattle.std.specs.Prelude.{◌≡◌, ◌<◌, ◌≤◌, [], ◌∷◌, ◌++◌, ◌==◌, IfOk, IsFalse, IsTrue, OnErr, OnOk, Some, length, slice_get};
+ghost use Rattle.std.specs.Prelude.{◌≡◌, ◌<◌, ◌≤◌, [], ◌∷◌, ◌++◌, ◌==◌, IfOk, IsFalse, IsTrue, OnErr, OnOk, length, true, vec_capacity};
 ghost use Rattle.si_defs.specs.Substitutions.{IsAmong};
 ghost use Rattle.si_legal.specs.declared.Posting as posting;
 ghost use Rattle.si_tree.specs.Changes.{IsWithout};
-ghost use Rattle.si_tree.specs.Slots.{filled, standing};
+ghost use Rattle.si_tree.specs.Slots.{filled, standing, stands, StandsAt};
 
 use si_legal::Posting;
 use std::alloc::{AllocError, Global};
 use std::marker::Model;
 
-/// A posting, and whether it stands there still.
+// A list that is full gets room for a quarter more, and for so many at least.
+const LEAST_ROOM: usize = 3;
+
+// What is added to the entry of a posting that goes, so that its slot keeps its order. No entry of
+// a posting that stands has so great a number.
+const GONE: u32 = 1 << 31;
+
+/// A posting, or the place of one that went.
 #[derive(Clone, Copy)]
 pub(crate) struct Slot {
-    clause: usize,
+    clause: u32,
     entry: u32,
-    stands: bool,
 }
 
 /// The postings of a leaf, in order. Contracts see the list. One that goes leaves its slot empty, so
@@ -64,8 +70,9 @@ impl PostingList {
     pub(crate) fn one(alloc: Global, posting: Posting) -> Result<PostingList, AllocError>
         ensures { IfOk result (λ postings. postings ≡ posting ∷ []) }
     {
-        let mut slots = Vec::with_capacity(alloc, 1)?;
-        slots.push_reserved(Slot::of(posting));
+        let slot = Slot::of(posting)?;
+        let mut slots = Vec::with_capacity(alloc, LEAST_ROOM)?;
+        slots.push_reserved(slot);
         Ok(PostingList {
             slots,
             count: 1,
@@ -89,8 +96,10 @@ impl PostingList {
         ensures ok { OnOk result (self.new ≡ self.old ++ posting ∷ []) }
         ensures err { OnErr result (self.new ≡ self.old) }
     {
+        let slot = Slot::of(posting)?;
+        make_room(&mut self.slots)?;
         let place = self.slots.len();
-        self.slots.push(Slot::of(posting))?;
+        self.slots.push_reserved(slot);
         self.count += 1;
         self.last = place;
         Ok(())
@@ -127,7 +136,7 @@ impl PostingList {
         if self.slots.len() / 2 <= self.count {
             return;
         }
-        self.slots.retain(|slot| slot.stands);
+        self.slots.retain(|slot| slot.entry < GONE);
         self.first = 0;
         self.last = self.count.saturating_sub(1);
     }
@@ -165,7 +174,7 @@ impl<'a> Postings<'a> {
     {
         others.reserve(self.count)?;
         for slot in self.slots {
-            if !slot.stands {
+            if slot.entry >= GONE {
                 continue;
             }
             others.push_reserved(slot.posting());
@@ -175,15 +184,22 @@ impl<'a> Postings<'a> {
 }
 
 impl Slot {
-    // The slot in which the posting stands.
-    fn of(posting: Posting) -> Slot
-        ensures { result ≡ filled posting }
+    // The slot in which the posting stands. A posting that no slot can hold is answered as want of
+    // memory: its clause has a key beyond 32 bits, or its entry a number beyond 31.
+    fn of(posting: Posting) -> Result<Slot, AllocError>
+        ensures is { IfOk result (λ slot. slot ≡ filled posting) }
+        ensures stands { IfOk result (λ slot. stands slot ≡ true) }
     {
-        Slot {
-            clause: posting.clause,
-            entry: posting.entry,
-            stands: true,
+        let Ok(clause) = u32::try_from(posting.clause) else {
+            return Err(AllocError);
+        };
+        if posting.entry >= GONE {
+            return Err(AllocError);
         }
+        Ok(Slot {
+            clause,
+            entry: posting.entry,
+        })
     }
 
     // The posting that stands there, or stood there.
@@ -192,26 +208,38 @@ impl Slot {
         ensures entry { result.entry ≡ self.now.entry }
     {
         Posting {
-            clause: self.clause,
+            clause: self.clause as usize,
             entry: self.entry,
         }
     }
 }
 
+// Makes room for one more.
+fn make_room(slots: &mut Vec<Slot>) -> Result<(), AllocError>
+    ensures same { slots.new.items ≡ slots.old.items }
+    ensures room { OnOk result (length slots.new.items < vec_capacity slots.new) }
+{
+    let len = slots.len();
+    if len < slots.capacity() {
+        return Ok(());
+    }
+    slots.reserve_exact(len / 4 + LEAST_ROOM)
+}
+
 // Empties a slot.
 fn empty(slots: &mut Vec<Slot>, place: usize)
     requires { place < length slots.old.items }
-    ensures { (p : posting.Posting) → slice_get slots.old.items place ≡ Some (filled p)
+    ensures { (p : posting.Posting) → StandsAt slots.old.items place p
         → IsWithout (standing slots.old.items) p (standing slots.new.items) }
 {
-    slots[place].stands = false;
+    slots[place].entry = slots[place].entry.saturating_add(GONE);
 }
 
 // The place of a posting. Most lists rise, as keys do, and often the oldest or the newest clause goes
 // first. So it is sought at both ends, then by halves, and only then at each place.
 fn place_of(slots: &[Slot], first: usize, last: usize, posting: Posting) -> usize
     requires { IsAmong (standing slots.now) posting }
-    ensures { slice_get slots.now result ≡ Some (filled posting) }
+    ensures { StandsAt slots.now result posting }
 {
     if is_at(slots, first, posting) {
         return first;
@@ -228,13 +256,13 @@ fn place_of(slots: &[Slot], first: usize, last: usize, posting: Posting) -> usiz
 
 // Whether the posting stands at this place.
 fn is_at(slots: &[Slot], place: usize, posting: Posting) -> bool
-    ensures yes { IsTrue result → slice_get slots.now place ≡ Some (filled posting) }
-    ensures no { IsFalse result → slice_get slots.now place ≡ Some (filled posting) → ⊥ }
+    ensures yes { IsTrue result → StandsAt slots.now place posting }
+    ensures no { IsFalse result → StandsAt slots.now place posting → ⊥ }
 {
     let Some(slot) = slots.get(place) else {
         return false;
     };
-    slot.clause == posting.clause && slot.entry == posting.entry && slot.stands
+    slot.clause as usize == posting.clause && slot.entry == posting.entry && slot.entry < GONE
 }
 
 // The place of a posting among slots that rise. Among others it is some place.
@@ -244,9 +272,9 @@ fn place_if_rising(slots: &[Slot], posting: Posting) -> usize {
     while count > 1 {
         let half = count / 2;
         let slot = slots[low + half];
-        if slot.clause < posting.clause
-            || slot.clause == posting.clause && slot.entry <= posting.entry
-        {
+        let clause = slot.clause as usize;
+        let entry = slot.entry % GONE;
+        if clause < posting.clause || clause == posting.clause && entry <= posting.entry {
             low += half;
         }
         count -= half;
@@ -257,7 +285,7 @@ fn place_if_rising(slots: &[Slot], posting: Posting) -> usize {
 // The place of a posting, sought from both ends.
 fn place_from_ends(slots: &[Slot], posting: Posting) -> usize
     requires { IsAmong (standing slots.now) posting }
-    ensures { slice_get slots.now result ≡ Some (filled posting) }
+    ensures { StandsAt slots.now result posting }
 {
     for place in 0..slots.len() {
         if is_at(slots, place, posting) {

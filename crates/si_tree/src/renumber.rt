@@ -1,5 +1,7 @@
 // Indicators numbered anew, along each path in the order in which they are opened.
-ghost use Rattle.std.specs.Prelude.{◌≡◌, ◌++◌, IfOk, OnErr, OnOk};
+ghost use Rattle.std.specs.Prelude.{◌≡◌, ◌+◌, ◌<◌, ◌++◌, IfOk, IsTrue, OnErr, OnOk};
+ghost use Rattle.si_legal.specs.Counts.{node_count};
+ghost use Rattle.si_tree.specs.declared.renumber.TheConstants.{SPARE_NUMBERS};
 ghost use Rattle.si_tree.specs.KeptNodes.{content_of};
 ghost use Rattle.si_tree.specs.Reading.{children_of};
 ghost use Rattle.si_tree.specs.Renumbers.{HasNotedSplit, split_in, with_numbers, visits, AreKeysOf, exchanged, IsRenumbering, Renumbers};
@@ -65,9 +67,11 @@ impl Tree {
         Ok(())
     }
 
-    /// Whether so many numbers were given since the last renumbering that the next one costs but a
-    /// constant for each of them.
-    pub fn should_renumber(&self) -> bool {
+    /// Whether so many numbers were given since the last renumbering that the next one, which visits
+    /// each node once, has fewer nodes to visit than that.
+    pub fn should_renumber(&self) -> bool
+        ensures { IsTrue result → node_count self.now + SPARE_NUMBERS < self.now.next }
+    {
         let spare = 2 * u64::from(self.renumbered_next) + SPARE_NUMBERS;
         u64::from(self.next) > spare.saturating_add(self.nodes.len() as u64)
     }
@@ -85,7 +89,7 @@ impl Tree {
         let mut nodes = Vec::with_capacity(alloc, self.nodes.len())?;
         let mut next: u32 = 1;
         while let Some(visit) = left.pop() {
-            let node = &self.nodes[visit.node.key];
+            let node = &self.nodes[visit.node.key as usize];
             let opened = note_rights(&mut numbers, &node.bindings, visit.opened);
             nodes.push(Renumbered {
                 node: visit.node,
@@ -144,7 +148,7 @@ fn exchange(nodes: &mut Slab<TreeNode>, all: Vec<Renumbered>)
             bindings,
             split,
         } = one;
-        let there = &mut nodes[node.key];
+        let there = &mut nodes[node.key as usize];
         there.renumber(bindings, split);
     }
 }

@@ -9,7 +9,7 @@ ghost use Rattle.si_tree.specs.Rights.{beyond, beyond_all, beyond_rights, cell_h
 use crate::node::{Content, Head, NodeId, TreeNode};
 use si_flat::{Bindings, Cell};
 use slab::Slab;
-use std::alloc::AllocError;
+use std::alloc::{AllocError, Global};
 
 /// The head of what the bindings give an indicator.
 pub(crate) fn head_at(bindings: &Bindings, indicator: u32) -> Option<Head>
@@ -29,10 +29,10 @@ pub(crate) fn head_below(nodes: &Slab<TreeNode>, node: NodeId, parent: NodeId) -
     requires { IsBelow nodes.now node parent }
     ensures { IsBelowBy nodes.now node parent result }
 {
-    let Content::Inner(branches) = &nodes[parent.key].content else {
+    let Content::Inner(branches) = &nodes[parent.key as usize].content else {
         unreachable!()
     };
-    let Some(head) = head_at(&nodes[node.key].bindings, branches.split) else {
+    let Some(head) = head_at(&nodes[node.key as usize].bindings, branches.split) else {
         unreachable!()
     };
     head
@@ -100,14 +100,21 @@ pub(crate) fn next_after(bindings: &Bindings, next: u32) -> u32
     after
 }
 
-/// The bindings of both lists, in order.
-pub(crate) fn joined(first: Bindings, second: &Bindings) -> Result<Bindings, AllocError>
+/// The bindings of both lists, in order, with no room behind the last one where any was appended.
+pub(crate) fn joined(
+    alloc: Global,
+    first: Bindings,
+    second: &Bindings,
+) -> Result<Bindings, AllocError>
     requires { AreDistinct (left_sides (first ++ second.now)) }
     ensures { IfOk result (λ both. both ≡ first ++ second.now) }
 {
+    if second.len() == 0 {
+        return Ok(first);
+    }
     let mut both = first;
     for pair in second.pairs() {
         both.push(pair.left(), pair.right())?;
     }
-    Ok(both)
+    both.copy(alloc)
 }

@@ -1,10 +1,11 @@
 // A tree as its nodes in a slab.
 ghost use Rattle.std.specs.Prelude.{◌≡◌, ℕ, IfOk, IfSome, IfNone, OnErr, OnOk};
+ghost use Rattle.slab.specs.Slab.{HasRoomFor};
 ghost use Rattle.si_flat.specs.Rows.{AreWhole};
 ghost use Rattle.si_legal.specs.Bindings.{StandForBindings};
 ghost use Rattle.si_legal.specs.Legal.{IsLegal};
 ghost use Rattle.si_tree.specs.NewTrees.{IsRootAlone};
-ghost use Rattle.si_tree.specs.KeptNodes.{HasRoomBelow, IsInnerAt, IsPutBetween, MayPutBetween, StaySame};
+ghost use Rattle.si_tree.specs.KeptNodes.{HasRoomBelow, HaveShortKeys, IsInnerAt, IsPutBetween, MayPutBetween, StaySame};
 ghost use Rattle.si_tree.specs.Changes.{AreWholeParts, HasNewLeaf, HasSplitLeaf, parts_of, MayAddPosting, AddsPosting, HasPosting, DropsPosting};
 ghost use Rattle.si_changes.specs.Leaves.{MayAddLeaf};
 ghost use Rattle.si_changes.specs.Splits.{MaySplitNode};
@@ -63,7 +64,7 @@ impl Tree {
         });
         Ok(Tree {
             nodes,
-            root: NodeId { key: root },
+            root: NodeId { key: root as u32 },
             next: 1,
             vars: 0,
             leaves: 0,
@@ -110,7 +111,7 @@ impl Tree {
         requires { IsNode self.now node }
         ensures { AtNode self.now node (λ n. result ≡ n.parent) }
     {
-        self.nodes[node.key].parent
+        self.nodes[node.key as usize].parent
     }
 
     /// The node's bindings.
@@ -118,7 +119,7 @@ impl Tree {
         requires { IsNode self.now node }
         ensures { AtNode self.now node (λ n. StandForBindings result.now n.bindings) }
     {
-        &self.nodes[node.key].bindings
+        &self.nodes[node.key as usize].bindings
     }
 
     /// The indicator by which the node's children differ, and none at a leaf.
@@ -126,7 +127,7 @@ impl Tree {
         requires { IsNode self.now node }
         ensures { AtNode self.now node (λ n. result ≡ split_of n.content) }
     {
-        match &self.nodes[node.key].content {
+        match &self.nodes[node.key as usize].content {
             Content::Inner(branches) => Some(branches.split),
             Content::Leaf(_) => None,
         }
@@ -137,7 +138,7 @@ impl Tree {
         requires { IsNode self.now node }
         ensures { AtNode self.now node (λ n. result.now ≡ children_of n.content) }
     {
-        match &self.nodes[node.key].content {
+        match &self.nodes[node.key as usize].content {
             Content::Inner(branches) => branches.children.as_slice(),
             Content::Leaf(_) => Default::default(),
         }
@@ -148,7 +149,7 @@ impl Tree {
         requires { IsNode self.now node }
         ensures { AtNode self.now node (λ n. result ≡ postings_of n.content) }
     {
-        match &self.nodes[node.key].content {
+        match &self.nodes[node.key as usize].content {
             Content::Inner(_) => Postings::none(),
             Content::Leaf(postings) => postings.all(),
         }
@@ -160,7 +161,7 @@ impl Tree {
         ensures some { IfSome result (λ child. IsChildBy self.now node head child) }
         ensures none { IfNone result ((child : ℕ) → IsChildBy self.now node head child → ⊥) }
     {
-        match &self.nodes[node.key].content {
+        match &self.nodes[node.key as usize].content {
             Content::Inner(branches) => branches.child(head),
             Content::Leaf(_) => None,
         }
@@ -172,7 +173,7 @@ impl Tree {
         ensures ok { OnOk result (AddsPosting self.old self.new leaf posting) }
         ensures err { OnErr result (self.new ≡ self.old) }
     {
-        let node = &mut self.nodes[leaf.key];
+        let node = &mut self.nodes[leaf.key as usize];
         let before = node.unmerged();
         node.add_posting(posting)?;
         self.unmerged -= before;
@@ -184,7 +185,7 @@ impl Tree {
         requires { HasPosting self.old leaf posting }
         ensures { DropsPosting self.old self.new leaf posting }
     {
-        let node = &mut self.nodes[leaf.key];
+        let node = &mut self.nodes[leaf.key as usize];
         node.drop_posting(posting);
         let after = node.unmerged();
         self.unmerged += after;
@@ -212,19 +213,20 @@ impl Tree {
         };
         let vars = self.vars.max(beyond_entries(&bindings));
         let content = Content::leaf(alloc, posting)?;
-        make_room(alloc, &mut self.nodes, parent.key)?;
+        make_room(alloc, &mut self.nodes, parent.key as usize)?;
         let key = self.nodes.insert_reserved(TreeNode {
             parent: Some(parent),
             bindings,
             content,
         });
+        let leaf = NodeId { key: key as u32 };
         let nodes = self.nodes.len() as u64;
         prove!(self.leaves < nodes);
-        let node = &mut self.nodes[parent.key];
-        node.push_child(head, NodeId { key });
+        let node = &mut self.nodes[parent.key as usize];
+        node.push_child(head, leaf);
         self.vars = vars;
         self.leaves += 1;
-        Ok(NodeId { key })
+        Ok(leaf)
     }
 
     /// Splits a node against a new leaf: what both have in common becomes an inner node in the
@@ -263,7 +265,7 @@ impl Tree {
         let leaf = TreeNode::leaf(alloc, rest_new, &others, posting)?;
         let vars = self.vars.max(beyond_entries(&leaf.bindings));
         let fork = TreeNode::fork(alloc, parent, common, first, head, node)?;
-        self.nodes.reserve(2)?;
+        reserve_nodes(&mut self.nodes, 2)?;
         let (_, added) = put_between(
             &mut self.nodes,
             node,
@@ -290,7 +292,21 @@ fn make_room(alloc: Global, nodes: &mut Slab<TreeNode>, parent: usize) -> Result
 {
     let node = &mut nodes[parent];
     node.reserve_child(alloc)?;
-    nodes.reserve(1)
+    reserve_nodes(nodes, 1)
+}
+
+// Makes room for so many more nodes. Their keys are kept in 32 bits each, so room for more nodes
+// than these can name is answered as want of memory.
+fn reserve_nodes(nodes: &mut Slab<TreeNode>, more: usize) -> Result<(), AllocError>
+    ensures room { OnOk result (HasRoomFor nodes.new more) }
+    ensures named { OnOk result (HaveShortKeys nodes.new) }
+    ensures rest_kept { nodes.new ≡ record nodes.old { capacity = nodes.new.capacity } }
+{
+    nodes.reserve(more)?;
+    if nodes.capacity() > u32::MAX as usize {
+        return Err(AllocError);
+    }
+    Ok(())
 }
 
 // Puts an inner node between a node and its parent, and a new leaf below it. The inner node has the
@@ -310,7 +326,9 @@ fn put_between(
 {
     let node_head = head_below(nodes, node, parent);
     let fork_key = nodes.insert_reserved(fork);
-    let fork_id = NodeId { key: fork_key };
+    let fork_id = NodeId {
+        key: fork_key as u32,
+    };
     let TreeNode {
         parent: _,
         bindings,
@@ -321,12 +339,14 @@ fn put_between(
         bindings,
         content,
     });
-    let leaf_id = NodeId { key: leaf_key };
+    let leaf_id = NodeId {
+        key: leaf_key as u32,
+    };
     let forked = &mut nodes[fork_key];
     forked.push_child(head, leaf_id);
-    let below = &mut nodes[node.key];
+    let below = &mut nodes[node.key as usize];
     below.move_below(fork_id, rest);
-    let above = &mut nodes[parent.key];
+    let above = &mut nodes[parent.key as usize];
     above.relink(node_head, fork_id);
     (fork_id, leaf_id)
 }

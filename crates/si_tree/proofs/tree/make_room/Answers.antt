@@ -6,6 +6,6 @@ returns-clause-same c = record {
   before = c.index_mut-node.result.now;
   after = c.reserve_child.new.self;
   had = c.index_mut-node.ensures.value;
-  slots = ap (λ s. s.slots) c.reserve.ensures.rest_kept;
+  slots = ap (λ s. s.slots) c.reserve_nodes.ensures.rest_kept;
   same = c.reserve_child.ensures.same;
 }

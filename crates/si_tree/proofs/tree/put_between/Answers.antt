@@ -1,4 +1,4 @@
-use Rattle.std.proofs.Common.{◌≡◌, Some, ap, subst}
+use Rattle.std.proofs.Common.{◌≡◌, Some, ap, subst, arith}
 use Rattle.std.specs.Prelude.{is_some}
 use Rattle.slab.specs.Slab.{get, Updates, with_value}
 use Rattle.slab.proofs.SlabLemmas.{Updates-with_value}
@@ -51,3 +51,10 @@ returns c =
       above_changed = subst (λ k. Updates s4 s5 k (Some c.relink.new.self)) c.parent.view_is (Updates-with_value s4 c.parent.inside.key c.relink.new.self (ap is_some c.index_mut-above.ensures.value));
       relinks = c.relink.ensures;
     })
+
+pub overflow_cast-fork_id : goal.overflow_cast-fork_id
+overflow_cast-fork_id c = omega (arith, c.insert_reserved-fork_key.ensures.key_in_range, c.insert_reserved-fork_key.ensures.capacity, c.requires.named)
+
+pub overflow_cast-leaf_id : goal.overflow_cast-leaf_id
+overflow_cast-leaf_id c =
+    omega (arith, c.insert_reserved-leaf_key.ensures.key_in_range, c.insert_reserved-leaf_key.ensures.capacity, c.insert_reserved-fork_key.ensures.capacity, c.requires.named)

@@ -1,5 +1,6 @@
 use Rattle.std.proofs.Common.{◌≡◌, ◌+◌, ◌∷◌, ◌++◌, [], drop, length, append_assoc, append-nil, drop_of_length-le, sym, ◌∙◌, ap, arith}
-use Rattle.si_tree.specs.Slots.{posting_in, standing}
+use Rattle.std.proofs.lemmas.Bool.{lt-ltb}
+use Rattle.si_tree.specs.Slots.{standing}
 use Rattle.si_tree.proofs.StandingLaws.{met}
 use Rattle.si_tree.proofs.postings.Postings.append_to.Goals as goal
 
@@ -11,12 +12,12 @@ loop-slot-init c = (
 
 pub push_reserved-requires : goal.push_reserved-requires
 push_reserved-requires c =
-    omega (arith, c.loop-slot.invariant.1, ap length (met c.self.inside.slots.now c.loop-slot.slot-index _ c.loop-slot-test.true c.if-not-slot.false))
+    omega (arith, c.loop-slot.invariant.1, ap length (met c.self.inside.slots.now c.loop-slot.slot-index _ c.loop-slot-test.true (lt-ltb _ _ c.if-slot-ge-GONE.false)))
 
 pub loop-slot-preserved : goal.loop-slot-preserved
 loop-slot-preserved c =
     let rest = standing (drop (c.loop-slot.slot-index + 1) c.self.inside.slots.now) in
-    let one = met c.self.inside.slots.now c.loop-slot.slot-index _ c.loop-slot-test.true c.if-not-slot.false in (
+    let one = met c.self.inside.slots.now c.loop-slot.slot-index _ c.loop-slot-test.true (lt-ltb _ _ c.if-slot-ge-GONE.false) in (
       ap (λ items. items ++ rest) c.push_reserved.ensures.items
           ∙ append_assoc c.loop-slot.others.items (c.posting.result ∷ []) rest
           ∙ (λ i. c.loop-slot.others.items ++ record { clause = c.posting.ensures.clause i; entry = c.posting.ensures.entry i } ∷ rest)

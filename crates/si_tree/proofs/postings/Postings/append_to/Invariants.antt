@@ -1,4 +1,4 @@
-use Rattle.std.proofs.Common.{◌≡◌, ◌≤◌, ◌+◌, ◌++◌, length, take, drop}
+use Rattle.std.proofs.Common.{◌≡◌, ◌≤◌, ◌+◌, ◌++◌, length, drop}
 use Rattle.std.specs.Vec.{vec_len, vec_capacity}
 use Rattle.si_tree.specs.Slots.{standing}
 use Rattle.si_tree.proofs.postings.Postings.append_to.Given as goal

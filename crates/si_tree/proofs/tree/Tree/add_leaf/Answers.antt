@@ -48,6 +48,9 @@ invariant_of-self c = room_kept c.self.inside c.make_room.new.nodes _ c.self.inv
 pub returns-in_err-make_room-clause-err : goal.returns-in_err-make_room-clause-err
 returns-in_err-make_room-clause-err c = on_err _ (room_tree c.self.inside c.make_room.new.nodes _ c.make_room.ensures.same ∙ c.self.view_is)
 
+pub overflow_cast-leaf : goal.overflow_cast-leaf
+overflow_cast-leaf c = omega (arith, c.insert_reserved-key.ensures.key_in_range, c.insert_reserved-key.ensures.capacity, c.in_ok-make_room.ensures.room.named)
+
 pub prove-unreachable-requires : goal.prove-unreachable-requires
 prove-unreachable-requires c =
     let more = fewer_leaves c.self.inside c.make_room.new.nodes c.len-nodes.result c.self.invariant (same_slots c.self.inside.nodes c.make_room.new.nodes _ c.make_room.ensures.same) (c.len-nodes.ensures ∙ c.insert_reserved-key.ensures.len) in

@@ -1,4 +1,4 @@
-use Rattle.std.proofs.Common.{None, refl}
+use Rattle.std.proofs.Common.{None, refl, arith}
 use Rattle.si_tree.specs.declared.node.Content.TheVariants.{Inner}
 use Rattle.si_tree.specs.declared.node.TreeNode.{TreeNode}
 use Rattle.si_tree.specs.declared.tree.Tree.TheInside.{Inside}
@@ -27,6 +27,9 @@ is_first c = record {
   leaves = refl;
   unmerged = refl;
 }
+
+pub overflow_cast-result : goal.overflow_cast-result
+overflow_cast-result c = omega (arith, c.insert_reserved-root.ensures.key, c.in_ok-nodes.ensures.first_key)
 
 pub invariant_of-result : goal.invariant_of-result
 invariant_of-result c = new_kept _ _ _ (is_first c)

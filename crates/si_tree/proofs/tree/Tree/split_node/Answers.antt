@@ -53,14 +53,14 @@ leaf-requires c =
     (leaf_distinct _ _ _ _ _ c.self.invariant.legal may)))
 
 pub invariant_of-self : goal.invariant_of-self
-invariant_of-self c = reserved_kept c.self.inside c.reserve.new.self _ c.self.invariant c.reserve.ensures.rest_kept
+invariant_of-self c = reserved_kept c.self.inside c.reserve_nodes.new.nodes _ c.self.invariant c.reserve_nodes.ensures.rest_kept
 
 pub put_between-added-requires : goal.put_between-added-requires
 put_between-added-requires c =
-    let nodes = c.reserve.new.self in
+    let nodes = c.reserve_nodes.new.nodes in
     let old = with_nodes c.self.inside nodes in
-    let same = reserved_tree c.self.inside nodes _ c.reserve.ensures.rest_kept ∙ c.self.view_is in
-    let kept = reserved_kept c.self.inside nodes _ c.self.invariant c.reserve.ensures.rest_kept in
+    let same = reserved_tree c.self.inside nodes _ c.reserve_nodes.ensures.rest_kept ∙ c.self.view_is in
+    let kept = reserved_kept c.self.inside nodes _ c.self.invariant c.reserve_nodes.ensures.rest_kept in
     let may = subst (λ t. MaySplitNode t c.args.node (parts_of c.args.split) (bindings_of c.args.others) c.args.posting) (sym same) c.requires.may in
     let first = c.left-first.result in
     let head = c.in-Some-head_at.head in
@@ -69,24 +69,24 @@ put_between-added-requires c =
     let two = head_told c.args.split.rest_new first new_head c.requires.whole.rest_new (sym c.head_at-2.ensures ∙ c.in-Some-head_at-2.is) in
     may_put old c.args.node c.in-Some.parent _ _ _ c.in_ok-fork.fork new_head kept may
     (parent_known _ _ _ _ _ may c.parent.result c.in-Some.parent (subst (λ t. AtNode t c.args.node (λ n. c.parent.result ≡ n.parent)) (sym same) c.parent.ensures) c.in-Some.is)
-    c.in_ok-reserve.ensures.room c.in_ok-fork.ensures.room
+    c.in_ok-reserve_nodes.ensures.room c.in_ok-reserve_nodes.ensures.named c.in_ok-fork.ensures.room
     (λ a. heads_apart _ _ _ _ _ kept.legal may first head new_head one.0 two.0 one.1 one.2 two.1 two.2 (subst (λ hs. IsAmong hs new_head) c.in_ok-fork.ensures.heads a))
 
 pub prove-unreachable-requires : goal.prove-unreachable-requires
 prove-unreachable-requires c =
-    let nodes = c.reserve.new.self in
-    let more = fewer_leaves c.self.inside nodes (slab_len nodes + 1) c.self.invariant (ap (λ s. map slot_of s.slots) c.reserve.ensures.rest_kept) refl in
+    let nodes = c.reserve_nodes.new.nodes in
+    let more = fewer_leaves c.self.inside nodes (slab_len nodes + 1) c.self.invariant (ap (λ s. map slot_of s.slots) c.reserve_nodes.ensures.rest_kept) refl in
     absurd (omega (arith, more, c.if-prove.true, c.len-nodes.ensures, c.put_between-added.ensures.number))
 
 -- ---- at the end
 abbrev before : goal.After-drop-others-inside-2 → Inside
-before c = with_nodes c.self.inside c.reserve.new.self
+before c = with_nodes c.self.inside c.reserve_nodes.new.nodes
 
 abbrev after : goal.After-drop-others-inside-2 → Inside
 after c = made_split c.self.inside c.put_between-added.new.nodes c.next_after-next.result c.max-vars.result
 
 same_tree : (c : goal.After-drop-others-inside-2) → tree_of (before c) ≡ c.args.self.now
-same_tree c = reserved_tree c.self.inside c.reserve.new.self _ c.reserve.ensures.rest_kept ∙ c.self.view_is
+same_tree c = reserved_tree c.self.inside c.reserve_nodes.new.nodes _ c.reserve_nodes.ensures.rest_kept ∙ c.self.view_is
 
 is_split : (c : goal.After-drop-others-inside-2) → IsSplit (before c) (after c) c.args.node c.in-Some.parent c.left-first.result c.args.split c.args.others c.args.posting c.put_between-added.result.0 c.put_between-added.result.1
 is_split c =
@@ -99,7 +99,7 @@ is_split c =
       new_head = c.in-Some-head_at-2.new_head;
       right = left.right;
       more = left.more;
-      kept = reserved_kept c.self.inside c.reserve.new.self _ c.self.invariant c.reserve.ensures.rest_kept;
+      kept = reserved_kept c.self.inside c.reserve_nodes.new.nodes _ c.self.invariant c.reserve_nodes.ensures.rest_kept;
       whole = c.requires.whole;
       may = may;
       put = c.put_between-added.ensures;

@@ -7,3 +7,4 @@ pub mod Texts
 pub mod ClauseMaps
 pub mod HeadLaws
 pub mod Seeking
+pub mod PartLaws

@@ -1,0 +1,30 @@
+-- Literals that share no variable are separate questions. Each has a label: that of its part.
+use Rattle.std.specs.Prelude.{◌≡◌, ℕ, ◌==◌, cond, List, [], ◌∷◌, Option, None, Some}
+use Rattle.std.specs.List.{AllByRecursion}
+use Rattle.std.specs.Borrow.{Bor}
+use Rattle.si_flat.specs.declared.Cell.{Cell}
+use Rattle.si_unify.specs.declared.slots.Slots.{Slots}
+use Rattle.si_unify.specs.Spots.{free_slot}
+use Rattle.si_subsume.specs.Search.{Slices}
+
+-- the items with this label
+abbrev pub select : {A : Type 0} → (labels : List ℕ) (label : ℕ) → List A → List A
+select [] q xs = []
+select (l ∷ ls) q [] = []
+select (l ∷ ls) q (x ∷ xs) = cond (l == q) (x ∷ select ls q xs) (select ls q xs)
+
+-- a variable that may be bound belongs to the part with this label
+abbrev pub BelongsTo : Slots → (owner : ℕ → ℕ) → (label : ℕ) → Cell → Type 0
+BelongsTo slots owner label cell = (slot : ℕ) → free_slot slots cell ≡ Some slot → owner slot ≡ label
+
+-- the variables of each literal belong to its part, so literals of two parts share none
+abbrev pub AreApart : Slots → (owner : ℕ → ℕ) → (labels : List ℕ) → Slices → Type 0
+AreApart slots owner [] [] = Unit {0}
+AreApart slots owner [] (b ∷ bs) = ⊥
+AreApart slots owner (l ∷ ls) [] = ⊥
+AreApart slots owner (l ∷ ls) (b ∷ bs) =
+    AllByRecursion (BelongsTo slots owner l) b.now × AreApart slots owner ls bs
+
+-- no variable of these can be bound
+abbrev pub AreFixed : Slots → List Cell → Type 0
+AreFixed slots = AllByRecursion (λ cell. free_slot slots cell ≡ None)

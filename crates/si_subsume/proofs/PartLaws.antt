@@ -1,7 +1,7 @@
 -- The least map of parts that share no variable is made of the least map of each.
-use Rattle.std.proofs.Common.{◌≡◌, ◌⊎◌, ℕ, zero, suc, ◌<◌, ◌==◌, Bool, true, false, cond, List, [], ◌∷◌, ◌++◌, length, refl, ap, sym, ◌∙◌, subst, arith, None, Some, inl, inr}
+use Rattle.std.proofs.Common.{◌≡◌, ◌⊎◌, ℕ, zero, suc, ◌+◌, ◌<◌, ◌≤◌, get_or, take, ◌==◌, Bool, true, false, cond, List, [], ◌∷◌, ◌++◌, length, refl, ap, sym, ◌∙◌, subst, arith, None, Some, inl, inr}
 use Rattle.std.proofs.lemmas.Bool.{eq-eqb}
-use Rattle.std.specs.Prelude.{slice_get, Option}
+use Rattle.std.specs.Prelude.{slice_get, replicate, Option}
 use Rattle.std.specs.List.{AllByRecursion}
 use Rattle.std.specs.Borrow.{Bor}
 use Rattle.si_defs.specs.Terms as terms
@@ -292,3 +292,32 @@ pub part_without_map : (slots : Slots) (labels : List ℕ) (literals targets : S
     → (ms : List ℕ) → CanEnd slots targets [] literals ms → ⊥
 part_without_map slots labels literals targets q none ms p =
     none (select labels q ms) (p.0, p.1, selected_images (λ l k. Equalizes (image same_variable p.0) l.now k.now) targets labels literals ms q p.2)
+
+-- ---- labels that were looked at
+module _ (slots : Slots) (owner : ℕ → ℕ) where
+  -- one literal more
+  pub apart_more : (labels : List ℕ) (bs : Slices) (d : Bor (List Cell)) (e i : ℕ) → length labels ≡ length bs → i < length bs → AreApart slots owner (take i labels) (take i bs)
+      → AllByRecursion (BelongsTo slots owner (get_or labels i e)) (get_or bs i d).now → AreApart slots owner (take (suc i) labels) (take (suc i) bs)
+  apart_more [] [] d e i size within apart own = absurd (omega (arith, within))
+  apart_more [] (b ∷ bs) d e i size within apart own = absurd (omega (arith, size))
+  apart_more (l ∷ labels) [] d e i size within apart own = absurd (omega (arith, within))
+  apart_more (l ∷ labels) (b ∷ bs) d e zero size within apart own = (own, tt)
+  apart_more (l ∷ labels) (b ∷ bs) d e (suc i) size within apart own = (apart.0, apart_more labels bs d e i (omega (arith, size)) (omega (arith, within)) apart.1 own)
+
+  -- all are one part
+  pub one_part : (bs : Slices) → (λ (k : ℕ). 0) ≡ owner → AreApart slots owner (replicate (length bs) 0) bs
+  one_part [] all = tt
+  one_part (b ∷ bs) all = (of_one b.now, one_part bs all)
+    where
+      of_one : (cs : List Cell) → AllByRecursion (BelongsTo slots owner 0) cs
+      of_one [] = tt
+      of_one (c ∷ cs) = (λ slot is. sym (ap (λ f. f slot) all), of_one cs)
+
+pub all_taken_more : {A : Type 0} (P : A → Type 0) (xs : List A) (e : A) (i : ℕ) → i < length xs → AllByRecursion P (take i xs) → P (get_or xs i e) → AllByRecursion P (take (suc i) xs)
+all_taken_more P [] e i within h own = absurd (omega (arith, within))
+all_taken_more P (x ∷ xs) e zero within h own = (own, tt)
+all_taken_more P (x ∷ xs) e (suc i) within h own = (h.0, all_taken_more P xs e i (omega (arith, within)) h.1 own)
+
+pub all_below_one : (A : Type 0) (bs : List A) (n : ℕ) → n ≤ length bs → AllByRecursion (λ l. l < length bs) (replicate n 0)
+all_below_one A bs zero h = tt
+all_below_one A bs (suc n) h = (omega (arith, h), all_below_one A bs n (omega (arith, h)))

@@ -1,5 +1,5 @@
 -- Literals that share no variable are separate questions. Each has a label: that of its part.
-use Rattle.std.specs.Prelude.{◌≡◌, ℕ, ◌==◌, cond, List, [], ◌∷◌, Option, None, Some}
+use Rattle.std.specs.Prelude.{◌≡◌, ℕ, zero, suc, ◌-◌, ◌<◌, ◌^◌, ◌==◌, cond, List, [], ◌∷◌, length, drop, slice_index_or as get_or, Option, None, Some}
 use Rattle.std.specs.List.{AllByRecursion}
 use Rattle.std.specs.Borrow.{Bor}
 use Rattle.si_flat.specs.declared.Cell.{Cell}
@@ -28,3 +28,13 @@ AreApart slots owner (l ∷ ls) (b ∷ bs) =
 -- no variable of these can be bound
 abbrev pub AreFixed : Slots → List Cell → Type 0
 AreFixed slots = AllByRecursion (λ cell. free_slot slots cell ≡ None)
+
+-- the owner of a slot: the label of the literal in which its variable stands first
+abbrev pub owner_in : (owners labels : List ℕ) → ℕ → ℕ
+owner_in owners labels slot = get_or labels (get_or owners slot (2 ^ 64 - 1)) 0
+
+-- the labels are numbers of literals, and tell parts that share no variable
+pub record AreParts (slots : Slots) (literals : Slices) (labels : List ℕ) : Type 0 where
+  pub owner : ℕ → ℕ
+  pub apart : AreApart slots owner labels literals
+  pub below : AllByRecursion (λ l. l < length literals) labels

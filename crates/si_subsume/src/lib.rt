@@ -9,6 +9,7 @@ mod cut;
 mod flat;
 mod heads;
 mod literals;
+mod parts;
 mod search;
 mod variables;
 

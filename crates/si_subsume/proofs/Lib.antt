@@ -8,3 +8,4 @@ pub mod ClauseMaps
 pub mod HeadLaws
 pub mod Seeking
 pub mod PartLaws
+pub mod ChainLaws

@@ -38,3 +38,21 @@ pub record AreParts (slots : Slots) (literals : Slices) (labels : List ℕ) : Ty
   pub owner : ℕ → ℕ
   pub apart : AreApart slots owner labels literals
   pub below : AllByRecursion (λ l. l < length literals) labels
+
+-- ---- the literals with a label, one after the other
+-- the number of the first of these labels, numbered from k on, that is this one; else the end
+abbrev pub first_same : (end k : ℕ) → List ℕ → ℕ → ℕ
+first_same end k [] q = end
+first_same end k (l ∷ ls) q = cond (l == q) k (first_same end (suc k) ls q)
+
+-- for each the number of the next one that is the same
+abbrev pub nexts_same : (end k : ℕ) → List ℕ → List ℕ
+nexts_same end k [] = []
+nexts_same end k (l ∷ ls) = first_same end (suc k) ls l ∷ nexts_same end (suc k) ls
+
+-- for each label the first literal that has it, and for each literal the next one with its label
+pub record AreChained (first next labels : List ℕ) : Type 0 where
+  pub size : length first ≡ length labels
+  pub firsts_are : (q : ℕ) → q < length labels
+      → get_or first q 0 ≡ first_same (length labels) 0 labels q
+  pub nexts_are : next ≡ nexts_same (length labels) 0 labels

@@ -3,7 +3,7 @@ use Rattle.std.proofs.Common.{◌≡◌, ℕ, zero, suc, ◌+◌, ◌-◌, ◌<�
 use Rattle.std.proofs.Math.ListN.{drop_of_length-le}
 use Rattle.std.proofs.lemmas.List.{reverse-append, append_cancel_right}
 use Rattle.std.proofs.lemmas.Bool.{eqb-true, eq-eqb}
-use Rattle.si_subsume.specs.Parts.{select, first_same, nexts_same, AreChained}
+use Rattle.si_subsume.specs.Parts.{select, parts_from, first_same, nexts_same, AreChained}
 
 -- ---- built from the last one on
 pub record IsChaining (first next labels : List ℕ) (behind : ℕ) : Type 0 where
@@ -293,9 +293,9 @@ module _ (first next labels : List ℕ) (chained : AreChained first next labels)
 
   pub place_inside : (values old now : List ℕ) (at i : ℕ) → IsWriting labels q values old now at i → i < length values → at < length labels
   place_inside values old now at i w less = lt_of_not-le (λ past.
-    let none : select (drop w.from labels) q (drop w.from now) ≡ [] =
-    none_in_any (length labels) w.from (drop w.from labels) (drop w.from now) q (write_whole values old now at i w) (subst (λ n. length labels ≤ n) w.place past) in
-    omega (arith, less, w.count, ap length none))
+      let none : select (drop w.from labels) q (drop w.from now) ≡ [] =
+      none_in_any (length labels) w.from (drop w.from labels) (drop w.from now) q (write_whole values old now at i w) (subst (λ n. length labels ≤ n) w.place past) in
+      omega (arith, less, w.count, ap length none))
 
   pub write_on : (values old now after : List ℕ) (at i step : ℕ) → IsWriting labels q values old now at i → i < length values → after ≡ slice_set now at (get_or values i 0) → step ≡ get_or next at 0
       → IsWriting labels q values old after step (i + 1)
@@ -342,3 +342,39 @@ module _ (first next labels : List ℕ) (chained : AreChained first next labels)
       nothing : (xs : List ℕ) → length xs ≡ 0 → xs ≡ []
       nothing [] h = refl
       nothing (x ∷ xs) h = absurd (omega (arith, h))
+
+-- ---- one part after the other
+-- so many labels were passed
+pub record ArePassed {A : Type 0} (labels : List ℕ) (n : ℕ) (xs whole so_far : List A) (label : ℕ) : Type 0 where
+  pub within : label ≤ n
+  pub left : whole ≡ so_far ++ parts_from labels label (n - label) xs
+
+all_of : (n : ℕ) → n ≡ n - 0
+all_of n = omega arith
+
+pub passed_start : {A : Type 0} (labels : List ℕ) (n : ℕ) (xs so_far : List A) → so_far ≡ [] → ArePassed labels n xs (parts_from labels 0 n xs) so_far 0
+passed_start labels n xs so_far none = record {
+  within = omega arith;
+  left = ap (λ k. parts_from labels 0 k xs) (all_of n) ∙ ap (λ l. l ++ parts_from labels 0 (n - 0) xs) (sym none);
+}
+
+-- what is left begins with the next part
+pub next_part : {A : Type 0} (labels : List ℕ) (n : ℕ) (xs : List A) (label : ℕ) → label < n
+    → parts_from labels label (n - label) xs ≡ select labels label xs ++ parts_from labels (label + 1) (n - (label + 1)) xs
+next_part labels n xs label less =
+    let count : n - label ≡ suc (n - (label + 1)) = omega (arith, less) in
+    let on : suc label ≡ label + 1 = omega arith in
+    ap (λ k. parts_from labels label k xs) count ∙ ap (λ k. select labels label xs ++ parts_from labels k (n - (label + 1)) xs) on
+
+pub passed_more : {A : Type 0} (labels : List ℕ) (n : ℕ) (xs whole so_far more : List A) (label : ℕ) → ArePassed labels n xs whole so_far label → label < n → more ≡ so_far ++ select labels label xs
+    → ArePassed labels n xs whole more (label + 1)
+passed_more labels n xs whole so_far more label h less pushed = record {
+  within = omega (arith, less);
+  left = h.left ∙ ap (λ l. so_far ++ l) (next_part labels n xs label less) ∙ sym (append_assoc so_far (select labels label xs) (parts_from labels (label + 1) (n - (label + 1)) xs))
+      ∙ ap (λ l. l ++ parts_from labels (label + 1) (n - (label + 1)) xs) (sym pushed);
+}
+
+pub passed_all : {A : Type 0} (labels : List ℕ) (n : ℕ) (xs whole so_far : List A) → ArePassed labels n xs whole so_far n → so_far ≡ whole
+passed_all labels n xs whole so_far h =
+    let none : n - n ≡ 0 = omega arith in
+    sym (h.left ∙ ap (λ k. so_far ++ parts_from labels n k xs) none ∙ append-nil so_far)

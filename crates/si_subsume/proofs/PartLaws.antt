@@ -1,7 +1,7 @@
 -- The least map of parts that share no variable is made of the least map of each.
 use Rattle.std.proofs.Common.{◌≡◌, ◌⊎◌, ℕ, zero, suc, ◌+◌, ◌<◌, ◌≤◌, get_or, take, ◌==◌, Bool, true, false, cond, List, [], ◌∷◌, ◌++◌, length, refl, ap, sym, ◌∙◌, subst, arith, None, Some, inl, inr}
-use Rattle.std.proofs.lemmas.Bool.{eq-eqb}
-use Rattle.std.specs.Prelude.{slice_get, replicate, Option}
+use Rattle.std.proofs.lemmas.Bool.{eq-eqb, eqb-true}
+use Rattle.std.specs.Prelude.{replicate}
 use Rattle.std.specs.List.{AllByRecursion}
 use Rattle.std.specs.Borrow.{Bor}
 use Rattle.si_defs.specs.Terms as terms
@@ -10,7 +10,7 @@ use Rattle.si_defs.proofs.ListLaws.{all_front, all_back, among_front, among_back
 use Rattle.si_state.specs.Subsumption.{AreImages, IsNoLater, IsLeast, item_at}
 use Rattle.si_flat.specs.declared.Cell.{Cell}
 use Rattle.si_flat.specs.declared.Cell.TheVariants as cell
-use Rattle.si_flat.specs.Cells.{Symbol, Variable, query, entry, ind, same_variable, Term, Terms, variable_cell, cells_of, cells_of_all, StandsFor}
+use Rattle.si_flat.specs.Cells.{Symbol, Variable, query, entry, ind, same_variable, Term, Terms, variable_cell, cells_of, cells_of_all}
 use Rattle.si_flat.proofs.VariableLaws.{variable_is, variable_self}
 use Rattle.si_unify.specs.declared.slots.Slots.{Slots}
 use Rattle.si_unify.specs.Solving.{slot_of, is_frozen, Equalizes, IsSolution}
@@ -52,7 +52,7 @@ selected_images P ks (l ∷ labels) (x ∷ ls) (n ∷ ns) q h =
     by true rest = (h.0, rest)
     by false rest = rest
 
-images_length : {L K : Type 0} (P : L → K → Type 0) (ks : List K) (ls : List L) (ns : List ℕ) → AreImages P ks ls ns → length ns ≡ length ls
+pub images_length : {L K : Type 0} (P : L → K → Type 0) (ks : List K) (ls : List L) (ns : List ℕ) → AreImages P ks ls ns → length ns ≡ length ls
 images_length P ks [] [] h = refl
 images_length P ks [] (n ∷ ns) h = absurd h
 images_length P ks (l ∷ ls) [] h = absurd h
@@ -247,11 +247,10 @@ module _ (slots : Slots) where
       images_joined [] (b ∷ bs) ns size apart covered h = absurd apart
       images_joined (l ∷ labels) [] ns size apart covered h = absurd apart
       images_joined (l ∷ labels) (b ∷ bs) [] size apart covered h = absurd (omega (arith, size))
-      images_joined (l ∷ labels) (b ∷ bs) (n ∷ ns) size apart covered h =
-          (
-            (own.0.0, own.0.1, equalizes_as (image same_variable joined) (image same_variable (part l)) b.now own.0.0.now (at_cells l b.now covered.0 apart.0) (at_fixed l own.0.0.now (fixed_item targets n own.0.0 fixed own.0.1)) own.0.2),
-            images_joined labels bs ns (omega (arith, size)) apart.1 covered.1 (λ q. rest q (l == q) (h q)),
-          )
+      images_joined (l ∷ labels) (b ∷ bs) (n ∷ ns) size apart covered h = (
+        (own.0.0, own.0.1, equalizes_as (image same_variable joined) (image same_variable (part l)) b.now own.0.0.now (at_cells l b.now covered.0 apart.0) (at_fixed l own.0.0.now (fixed_item targets n own.0.0 fixed own.0.1)) own.0.2),
+        images_joined labels bs ns (omega (arith, size)) apart.1 covered.1 (λ q. rest q (l == q) (h q)),
+      )
         where
           own : AreImages (Takes (part l)) targets (b ∷ select labels l bs) (n ∷ select labels l ns)
           own = subst (λ (c : Bool). AreImages (Takes (part l)) targets (cond c (b ∷ select labels l bs) (select labels l bs)) (cond c (n ∷ select labels l ns) (select labels l ns))) (eq-eqb l l refl) (h l)
@@ -321,3 +320,65 @@ all_taken_more P (x ∷ xs) e (suc i) within h own = (h.0, all_taken_more P xs e
 pub all_below_one : (A : Type 0) (bs : List A) (n : ℕ) → n ≤ length bs → AllByRecursion (λ l. l < length bs) (replicate n 0)
 all_below_one A bs zero h = tt
 all_below_one A bs (suc n) h = (omega (arith, h), all_below_one A bs n (omega (arith, h)))
+
+-- ---- labels that no literal has
+none_selected : {A : Type 0} (n q : ℕ) (labels : List ℕ) (xs : List A) → AllByRecursion (λ l. l < n) labels → n ≤ q → select labels q xs ≡ []
+none_selected n q [] xs below h = refl
+none_selected n q (l ∷ labels) [] below h = refl
+none_selected n q (l ∷ labels) (x ∷ xs) below h = by (l == q) refl (none_selected n q labels xs below.1 h)
+  where
+    by : (b : Bool) → (l == q) ≡ b → select labels q xs ≡ [] → cond b (x ∷ select labels q xs) (select labels q xs) ≡ []
+    by true is rest = absurd (omega (arith, below.0, h, eqb-true l q is))
+    by false is rest = rest
+
+nothing_least : (slots : Slots) (targets : Slices) → IsLeast (CanEnd slots targets [] []) []
+nothing_least slots targets = record {
+  is_one = ([], record { frozen = λ x h. refl; equal = tt }, tt);
+  no_later = λ ms p. tt;
+}
+
+pub without_literal : (slots : Slots) (targets literals : Slices) (labels ns : List ℕ) (n q : ℕ) → AllByRecursion (λ l. l < n) labels → n ≤ q
+    → IsLeast (CanEnd slots targets [] (select labels q literals)) (select labels q ns)
+without_literal slots targets literals labels ns n q below h =
+    subst (λ bs. IsLeast (CanEnd slots targets [] bs) (select labels q ns)) (sym (none_selected n q labels literals below h))
+    (subst (IsLeast (CanEnd slots targets [] [])) (sym (none_selected n q labels ns below h)) (nothing_least slots targets))
+
+pub apart_size : (slots : Slots) (owner : ℕ → ℕ) (labels : List ℕ) (bs : Slices) → AreApart slots owner labels bs → length bs ≡ length labels
+apart_size slots owner [] [] h = refl
+apart_size slots owner [] (b ∷ bs) h = absurd h
+apart_size slots owner (l ∷ labels) [] h = absurd h
+apart_size slots owner (l ∷ labels) (b ∷ bs) h = ap suc (apart_size slots owner labels bs h.1)
+
+pub select_size : {A B : Type 0} (labels : List ℕ) (q : ℕ) (xs : List A) (ys : List B) → length xs ≡ length ys → length (select labels q xs) ≡ length (select labels q ys)
+select_size [] q xs ys h = refl
+select_size (l ∷ labels) q [] [] h = refl
+select_size (l ∷ labels) q [] (y ∷ ys) h = absurd (omega (arith, h))
+select_size (l ∷ labels) q (x ∷ xs) [] h = absurd (omega (arith, h))
+select_size (l ∷ labels) q (x ∷ xs) (y ∷ ys) h = by (l == q) (select_size labels q xs ys (omega (arith, h)))
+  where
+    by : (b : Bool) → length (select labels q xs) ≡ length (select labels q ys) → length (cond b (x ∷ select labels q xs) (select labels q xs)) ≡ length (cond b (y ∷ select labels q ys) (select labels q ys))
+    by true rest = ap suc rest
+    by false rest = rest
+
+pub all_selected : {A : Type 0} (P : A → Type 0) (labels : List ℕ) (q : ℕ) (xs : List A) → AllByRecursion P xs → AllByRecursion P (select labels q xs)
+all_selected P [] q xs h = tt
+all_selected P (l ∷ labels) q [] h = tt
+all_selected P (l ∷ labels) q (x ∷ xs) h = by (l == q) (all_selected P labels q xs h.1)
+  where
+    by : (b : Bool) → AllByRecursion P (select labels q xs) → AllByRecursion P (cond b (x ∷ select labels q xs) (select labels q xs))
+    by true rest = (h.0, rest)
+    by false rest = rest
+
+-- one part more has its least map
+pub least_more : (slots : Slots) (targets literals : Slices) (labels old new : List ℕ) (label : ℕ)
+    → ((q : ℕ) → q < label → IsLeast (CanEnd slots targets [] (select labels q literals)) (select labels q old))
+    → IsLeast (CanEnd slots targets [] (select labels label literals)) (select labels label new)
+    → ((p : ℕ) → (p ≡ label → ⊥) → select labels p new ≡ select labels p old)
+    → (q : ℕ) → q < label + 1 → IsLeast (CanEnd slots targets [] (select labels q literals)) (select labels q new)
+least_more slots targets literals labels old new label before own others q less = by (q == label) refl
+  where
+    by : (b : Bool) → (q == label) ≡ b → IsLeast (CanEnd slots targets [] (select labels q literals)) (select labels q new)
+    by true is = subst (λ k. IsLeast (CanEnd slots targets [] (select labels k literals)) (select labels k new)) (sym (eqb-true q label is)) own
+    by false is =
+        let apart : q ≡ label → ⊥ = λ same. let bad : true ≡ false = sym (eq-eqb q label same) ∙ is in cc in
+        subst (IsLeast (CanEnd slots targets [] (select labels q literals))) (sym (others q apart)) (before q (omega (arith, less, apart)))

@@ -1,11 +1,11 @@
 -- Literals that share no variable are separate questions. Each has a label: that of its part.
-use Rattle.std.specs.Prelude.{◌≡◌, ℕ, zero, suc, ◌-◌, ◌<◌, ◌^◌, ◌==◌, cond, List, [], ◌∷◌, length, drop, slice_index_or as get_or, Option, None, Some}
+use Rattle.std.specs.Prelude.{Bool, true, false, ◌≡◌, ℕ, zero, suc, ◌-◌, ◌<◌, ◌^◌, ◌==◌, cond, List, [], ◌∷◌, ◌++◌, length, slice_index_or as get_or, None, Some}
 use Rattle.std.specs.List.{AllByRecursion}
-use Rattle.std.specs.Borrow.{Bor}
 use Rattle.si_flat.specs.declared.Cell.{Cell}
 use Rattle.si_unify.specs.declared.slots.Slots.{Slots}
 use Rattle.si_unify.specs.Spots.{free_slot}
-use Rattle.si_subsume.specs.Search.{Slices}
+use Rattle.si_state.specs.Subsumption.{IsLeast}
+use Rattle.si_subsume.specs.Search.{Slices, CanEnd}
 
 -- the items with this label
 abbrev pub select : {A : Type 0} → (labels : List ℕ) (label : ℕ) → List A → List A
@@ -39,6 +39,11 @@ pub record AreParts (slots : Slots) (literals : Slices) (labels : List ℕ) : Ty
   pub apart : AreApart slots owner labels literals
   pub below : AllByRecursion (λ l. l < length literals) labels
 
+-- the items with so many labels from this one on, those of each label one after the other
+abbrev pub parts_from : {A : Type 0} → (labels : List ℕ) (label count : ℕ) → List A → List A
+parts_from labels q zero xs = []
+parts_from labels q (suc n) xs = select labels q xs ++ parts_from labels (suc q) n xs
+
 -- ---- the literals with a label, one after the other
 -- the number of the first of these labels, numbered from k on, that is this one; else the end
 abbrev pub first_same : (end k : ℕ) → List ℕ → ℕ → ℕ
@@ -56,3 +61,10 @@ pub record AreChained (first next labels : List ℕ) : Type 0 where
   pub firsts_are : (q : ℕ) → q < length labels
       → get_or first q 0 ≡ first_same (length labels) 0 labels q
   pub nexts_are : next ≡ nexts_same (length labels) 0 labels
+
+-- each part has its least map among these numbers, or one has none
+abbrev pub AnswersParts : Slots → (literals targets : Slices) → (labels numbers : List ℕ) → Bool → Type 0
+AnswersParts slots literals targets labels numbers true = (q : ℕ) → q < length labels
+    → IsLeast (CanEnd slots targets [] (select labels q literals)) (select labels q numbers)
+AnswersParts slots literals targets labels numbers false = (ms : List ℕ)
+    → CanEnd slots targets [] literals ms → ⊥

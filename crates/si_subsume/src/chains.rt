@@ -1,8 +1,10 @@
 // The literals of each part, found one after the other.
-ghost use Rattle.std.specs.Prelude.{◌≡◌, ◌<◌, ◌++◌, IfOk, OnOk, length};
+ghost use Rattle.std.specs.Prelude.{◌≡◌, ◌<◌, ◌-◌, ◌^◌, ◌++◌, ℕ, IfOk, OnOk, length, map};
 ghost use Rattle.std.specs.List.{AllByRecursion};
-ghost use Rattle.si_subsume.specs.Parts.{AreChained, select};
+ghost use Rattle.si_subsume.specs.Parts.{AreChained, select, parts_from};
+ghost use Rattle.si_subsume.specs.Search.{number_of};
 
+use crate::search::Choice;
 use si_flat::Cell;
 use std::alloc::{AllocError, Global};
 
@@ -69,5 +71,64 @@ impl Chains {
             at = self.next[at];
         }
         Ok(())
+    }
+
+    /// How many literals have a label.
+    pub(crate) fn part_len(&self, label: usize, literals: &[&[Cell]]) -> usize
+        requires chained { AreChained self.now.first.items self.now.next.items
+            self.now.labels.items }
+        requires sizes { length literals.now ≡ length self.now.labels.items }
+        requires label { label < length self.now.labels.items }
+        ensures { result ≡ length (select self.now.labels.items label literals.now) }
+    {
+        let mut count = 0;
+        let mut at = self.first[label];
+        while at < literals.len() {
+            count += 1;
+            at = self.next[at];
+        }
+        count
+    }
+
+    /// The literals, those of each part one after the other, by rising labels.
+    pub(crate) fn grouped<'a>(
+        &self,
+        alloc: Global,
+        literals: &[&'a [Cell]],
+    ) -> Result<Vec<&'a [Cell]>, AllocError>
+        requires chained { AreChained self.now.first.items self.now.next.items
+            self.now.labels.items }
+        requires sizes { length literals.now ≡ length self.now.labels.items }
+        ensures { IfOk result (λ g. g.items
+            ≡ parts_from self.now.labels.items 0 (length literals.now) literals.now) }
+    {
+        let mut grouped = Vec::with_capacity(alloc, literals.len())?;
+        for label in 0..literals.len() {
+            self.append_part(label, literals, &mut grouped)?;
+        }
+        Ok(grouped)
+    }
+
+    /// Writes the numbers of the targets that were chosen for the literals with a label.
+    pub(crate) fn write(&self, label: usize, choices: &[Choice], numbers: &mut Vec<u32>)
+        requires chained { AreChained self.now.first.items self.now.next.items
+            self.now.labels.items }
+        requires sizes { length numbers.old.items ≡ length self.now.labels.items }
+        requires label { label < length self.now.labels.items }
+        requires count { length choices.now
+            ≡ length (select self.now.labels.items label numbers.old.items) }
+        requires small { AllByRecursion (λ choice. choice.number < 2 ^ 32 - 1) choices.now }
+        ensures own { select self.now.labels.items label numbers.new.items
+            ≡ map number_of choices.now }
+        ensures others { (p : ℕ) → (p ≡ label → ⊥)
+            → select self.now.labels.items p numbers.new.items
+            ≡ select self.now.labels.items p numbers.old.items }
+        ensures size { length numbers.new.items ≡ length self.now.labels.items }
+    {
+        let mut at = self.first[label];
+        for i in 0..choices.len() {
+            numbers[at] = choices[i].number as u32 + 1;
+            at = self.next[at];
+        }
     }
 }

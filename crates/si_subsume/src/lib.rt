@@ -5,6 +5,7 @@
 //! last one where no target is left. No term is copied.
 #![tactic(auto)]
 
+mod apart;
 mod chains;
 mod cut;
 mod flat;

@@ -15,7 +15,8 @@ select (l ∷ ls) q (x ∷ xs) = cond (l == q) (x ∷ select ls q xs) (select ls
 
 -- a variable that may be bound belongs to the part with this label
 abbrev pub BelongsTo : Slots → (owner : ℕ → ℕ) → (label : ℕ) → Cell → Type 0
-BelongsTo slots owner label cell = (slot : ℕ) → free_slot slots cell ≡ Some slot → owner slot ≡ label
+BelongsTo slots owner label cell =
+    (slot : ℕ) → free_slot slots cell ≡ Some slot → owner slot ≡ label
 
 -- the variables of each literal belong to its part, so literals of two parts share none
 abbrev pub AreApart : Slots → (owner : ℕ → ℕ) → (labels : List ℕ) → Slices → Type 0
@@ -63,7 +64,8 @@ pub record AreChained (first next labels : List ℕ) : Type 0 where
   pub nexts_are : next ≡ nexts_same (length labels) 0 labels
 
 -- each part has its least map among these numbers, or one has none
-abbrev pub AnswersParts : Slots → (literals targets : Slices) → (labels numbers : List ℕ) → Bool → Type 0
+abbrev pub AnswersParts : Slots → (literals targets : Slices) → (labels numbers : List ℕ) → Bool
+    → Type 0
 AnswersParts slots literals targets labels numbers true = (q : ℕ) → q < length labels
     → IsLeast (CanEnd slots targets [] (select labels q literals)) (select labels q numbers)
 AnswersParts slots literals targets labels numbers false = (ms : List ℕ)

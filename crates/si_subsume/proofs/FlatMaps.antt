@@ -1,5 +1,5 @@
 -- Maps between slices are maps between the terms that they stand for.
-use Rattle.std.proofs.Common.{◌≡◌, ℕ, zero, suc, true, false, List, [], ◌∷◌, refl, ap, sym, ◌∙◌, subst, None, Some}
+use Rattle.std.proofs.Common.{◌≡◌, Bool, if◌then◌else◌, ℕ, zero, suc, true, false, List, [], ◌∷◌, refl, ap, sym, ◌∙◌, subst, None, Some}
 use Rattle.std.specs.Prelude.{slice_get, Option}
 use Rattle.std.specs.List.{AllByRecursion}
 use Rattle.std.specs.Borrow.{Bor}
@@ -8,12 +8,14 @@ use Rattle.si_defs.specs.Substitutions.{Substitution, image, apply}
 use Rattle.si_defs.proofs.ListLaws.{all_front, all_back}
 use Rattle.si_state.specs.Subsumption.{AreImages, AnswersLeast}
 use Rattle.si_flat.specs.declared.Cell.{Cell}
+use Rattle.si_flat.specs.declared.Cell.TheVariants as cell
 use Rattle.si_flat.specs.declared.Owner.TheVariants.{Entry}
 use Rattle.si_flat.specs.Cells.{Symbol, Variable, query, entry, ind, same_variable, Term, Terms, cells_of, cells_of_all, StandsFor}
 use Rattle.si_unify.specs.declared.slots.Slots.{Slots}
-use Rattle.si_unify.specs.Solving.{is_frozen, Equalizes}
+use Rattle.si_unify.specs.Solving.{slot_of, is_frozen, Equalizes}
 use Rattle.si_unify.proofs.Reading.{one_term}
 use Rattle.si_subsume.specs.Maps.{arguments, IsFlatMap, AnswersFlat, AreOf, StandForAll}
+use Rattle.si_subsume.specs.Parts.{AreFixed}
 use Rattle.si_subsume.specs.Search.{Slices, CanEnd, AnswersSlices}
 
 -- ---- entries stay
@@ -40,6 +42,23 @@ arguments_of_entry (terms.more u us) h = (all_front _ (cells_of u) (cells_of_all
 entry_arguments : (u : Term) → AreOf Entry (cells_of u) → AllByRecursion IsOfEntry (terms.list (arguments u))
 entry_arguments (terms.var x) h = tt
 entry_arguments (terms.app s us) h = arguments_of_entry us h.1
+
+-- ---- no variable of an entry may be bound where these are constants
+fixed_cells : (slots : Slots) → slots.freeze_entry ≡ true → (cs : List Cell) → AreOf Entry cs → AreFixed slots cs
+fixed_cells slots frozen [] h = tt
+fixed_cells slots frozen (cell.App s a n ∷ cs) h = (refl, fixed_cells slots frozen cs h.1)
+fixed_cells slots frozen (cell.Query n ∷ cs) h = absurd h.0
+fixed_cells slots frozen (cell.Entry n ∷ cs) h = (ap (λ (b : Bool). if b then None else Some (slot_of slots (entry n))) frozen, fixed_cells slots frozen cs h.1)
+fixed_cells slots frozen (cell.Ind n ∷ cs) h = absurd h.0
+
+fixed_slices : (slots : Slots) → slots.freeze_entry ≡ true → (bs : Slices) (us : Terms) → StandForAll bs us → AllByRecursion IsOfEntry (terms.list us) → AllByRecursion (λ b. AreFixed slots b.now) bs
+fixed_slices slots frozen [] us stand of = tt
+fixed_slices slots frozen (b ∷ bs) terms.none stand of = absurd stand
+fixed_slices slots frozen (b ∷ bs) (terms.more u us) stand of =
+    (fixed_cells slots frozen b.now (subst (AreOf Entry) (sym stand.0.cells_are) of.0), fixed_slices slots frozen bs us stand.1 of.1)
+
+pub fixed_targets : (slots : Slots) → slots.freeze_entry ≡ true → (bs : Slices) (u : Term) → StandForAll bs (arguments u) → AreOf Entry (cells_of u) → AllByRecursion (λ b. AreFixed slots b.now) bs
+fixed_targets slots frozen bs u stand of = fixed_slices slots frozen bs (arguments u) stand (entry_arguments u of)
 
 -- ---- items
 record IsItem (us : Terms) (n : ℕ) (b : Bor (List Cell)) : Type 0 where

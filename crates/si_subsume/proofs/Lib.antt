@@ -7,3 +7,5 @@ pub mod Texts
 pub mod ClauseMaps
 pub mod HeadLaws
 pub mod Seeking
+pub mod PartLaws
+pub mod ChainLaws

@@ -1,3 +1,4 @@
 pub mod Maps
 pub mod Search
 pub mod Heads
+pub mod Parts

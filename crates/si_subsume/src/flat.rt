@@ -4,10 +4,13 @@ ghost use Rattle.std.specs.List.{AllByRecursion};
 ghost use Rattle.si_flat.specs.declared.Owner.TheVariants.{Query, Entry};
 ghost use Rattle.si_subsume.specs.Maps.{AreOf, HasHeads, AnswersFlat};
 ghost use Rattle.si_subsume.specs.Heads.{IsIndexOf};
+ghost use Rattle.si_subsume.specs.Parts.{AreFixed};
 ghost use Rattle.si_subsume.specs.Search.{AreFlatLiterals, AnswersSlices, number_of};
 
+use crate::apart::least_of_parts;
 use crate::cut::arguments;
 use crate::heads::Heads;
+use crate::parts::part_labels;
 use crate::search::{Choice, Task, each_has_target, search};
 use crate::variables::slots_of;
 use si_flat::{Cell, Flat, LitMap};
@@ -27,8 +30,8 @@ fn numbers(alloc: Global, choices: &[Choice]) -> Result<LitMap, AllocError>
     Ok(list)
 }
 
-// The least map from literals to targets; `None` where there is none.
-fn least<'a>(alloc: Global, task: &Task<'a>) -> Result<Option<LitMap>, AllocError>
+// The least map from literals to targets, over all literals at once; `None` where there is none.
+fn least_of_one<'a>(alloc: Global, task: &Task<'a>) -> Result<Option<LitMap>, AllocError>
     requires literals { AreFlatLiterals task.now.slots task.now.literals.now }
     requires targets { AreFlatLiterals task.now.slots task.now.targets.now }
     requires index { IsIndexOf task.now.heads.now task.now.targets.now }
@@ -36,15 +39,38 @@ fn least<'a>(alloc: Global, task: &Task<'a>) -> Result<Option<LitMap>, AllocErro
     ensures { IfOk result (AnswersSlices task.now.slots task.now.literals.now
         task.now.targets.now) }
 {
-    if !each_has_target(task) {
-        return Ok(None);
-    }
     let mut trail = Trail::with_slots(alloc, task.slots.count())?;
     let Some(choices) = search(alloc, &mut trail, task)? else {
         return Ok(None);
     };
     let list = numbers(alloc, &choices)?;
     Ok(Some(list))
+}
+
+// Whether all literals have the label of one part.
+fn is_one_part(labels: &[usize]) -> bool {
+    labels.iter().all(|label| *label == 0)
+}
+
+// The least map from literals to targets; `None` where there is none. No variable of a target may
+// be bound, so literals that share no variable are separate questions.
+fn least<'a>(alloc: Global, task: &Task<'a>) -> Result<Option<LitMap>, AllocError>
+    requires literals { AreFlatLiterals task.now.slots task.now.literals.now }
+    requires targets { AreFlatLiterals task.now.slots task.now.targets.now }
+    requires index { IsIndexOf task.now.heads.now task.now.targets.now }
+    requires few { length task.now.targets.now < 2 ^ 32 }
+    requires fixed { AllByRecursion (λ b. AreFixed task.now.slots b.now) task.now.targets.now }
+    ensures { IfOk result (AnswersSlices task.now.slots task.now.literals.now
+        task.now.targets.now) }
+{
+    if !each_has_target(task) {
+        return Ok(None);
+    }
+    let labels = part_labels(alloc, &task.slots, task.literals)?;
+    if is_one_part(&labels) {
+        return least_of_one(alloc, task);
+    }
+    least_of_parts(alloc, task, labels)
 }
 
 // The same, with an index of the targets by their heads.
@@ -57,6 +83,7 @@ fn least_by_heads<'a>(
     requires literals { AreFlatLiterals slots literals.now }
     requires targets { AreFlatLiterals slots targets.now }
     requires few { length targets.now < 2 ^ 32 }
+    requires fixed { AllByRecursion (λ b. AreFixed slots b.now) targets.now }
     ensures { IfOk result (AnswersSlices slots literals.now targets.now) }
 {
     let heads = Heads::of(alloc, targets)?;

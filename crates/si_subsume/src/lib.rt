@@ -5,10 +5,13 @@
 //! last one where no target is left. No term is copied.
 #![tactic(auto)]
 
+mod apart;
+mod chains;
 mod cut;
 mod flat;
 mod heads;
 mod literals;
+mod parts;
 mod search;
 mod variables;
 

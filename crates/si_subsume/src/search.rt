@@ -198,8 +198,10 @@ pub(crate) fn search<'a>(
     requires index { IsIndexOf task.now.heads.now task.now.targets.now }
     requires ready { AllowsSolving task.now.slots trail.old.pairs trail.old.slots }
     requires unbound { trail.old.pairs ≡ [] }
-    ensures { IfOk result (AnswersSearch task.now.slots task.now.literals.now
+    ensures answers { IfOk result (AnswersSearch task.now.slots task.now.literals.now
         task.now.targets.now) }
+    ensures ready { IfOk result
+        (λ found. AllowsSolving task.now.slots trail.new.pairs trail.new.slots) }
 {
     let mut scratch = Scratch::new(alloc);
     let mut choices = Vec::new(alloc);

@@ -1,11 +1,16 @@
-use Rattle.std.proofs.Common.{◌∙◌, sym, subst}
+use Rattle.std.proofs.Common.{◌∙◌, List, sym, subst}
+use Rattle.std.specs.List.{AllByRecursion}
+use Rattle.std.specs.Borrow.{Bor}
+use Rattle.si_flat.specs.declared.Cell.{Cell}
+use Rattle.si_flat.specs.declared.Owner.TheVariants.{Entry}
 use Rattle.std.proofs.lemmas.Result.{IfOk-weaker}
 use Rattle.si_flat.specs.Cells.{StandsFor}
 use Rattle.si_unify.specs.Solving.{AreInRange}
-use Rattle.si_subsume.specs.Maps.{arguments, StandForAll, AnswersFlat, HasHeads}
+use Rattle.si_subsume.specs.Maps.{arguments, AreOf, StandForAll, AnswersFlat, HasHeads}
+use Rattle.si_subsume.specs.Parts.{AreFixed}
 use Rattle.si_subsume.specs.Search.{AreFlatLiterals, AnswersSlices}
 use Rattle.si_subsume.proofs.Arguments.{arguments_are_terms}
-use Rattle.si_subsume.proofs.FlatMaps.{flat_answer}
+use Rattle.si_subsume.proofs.FlatMaps.{fixed_targets, flat_answer}
 use Rattle.si_subsume.proofs.flat.least_map_of.Goals as goal
 
 pub least_by_heads-requires-clause-literals : goal.least_by_heads-requires-clause-literals
@@ -17,6 +22,12 @@ pub least_by_heads-requires-clause-targets : goal.least_by_heads-requires-clause
 least_by_heads-requires-clause-targets c =
     subst (AreFlatLiterals c.slots_of-slots.result) (sym c.deref-2.ensures.value)
     (arguments_are_terms c.slots_of-slots.result c.cells-2.result.now c.in_ok-targets.targets.items c.cells-2.ensures.whole.0 c.cells-2.ensures.whole.1 (c.in_ok-targets.ensures.arguments c.cells-2.ensures.whole.0 c.cells-2.ensures.whole.1) (subst HasHeads (sym c.cells-2.ensures.cells) c.requires.d_heads) (subst (AreInRange c.slots_of-slots.result) (c.cells-4.ensures.cells ∙ sym c.cells-2.ensures.cells) c.slots_of-slots.ensures.d))
+
+pub least_by_heads-requires-clause-fixed : goal.least_by_heads-requires-clause-fixed
+least_by_heads-requires-clause-fixed c =
+    subst (AllByRecursion (λ (b : Bor (List Cell)). AreFixed c.slots_of-slots.result b.now)) (sym c.deref-2.ensures.value)
+    (fixed_targets c.slots_of-slots.result c.slots_of-slots.ensures.frozen c.in_ok-targets.targets.items c.cells-2.ensures.whole.0 (c.in_ok-targets.ensures.arguments c.cells-2.ensures.whole.0 c.cells-2.ensures.whole.1)
+    (subst (AreOf Entry) (sym c.cells-2.ensures.cells ∙ c.cells-2.ensures.whole.1.cells_are) c.requires.d))
 
 pub returns : goal.returns
 returns c =

@@ -2,7 +2,7 @@
 ghost use Rattle.std.specs.Prelude.{◌≡◌, ◌+◌, ◌<◌, ◌≤◌, ◌^◌, [], IfOk, length, take, drop};
 ghost use Rattle.std.specs.List.{AllByRecursion};
 ghost use Rattle.si_subsume.specs.Heads.{IsIndexOf};
-ghost use Rattle.si_subsume.specs.Parts.{AreChained, AreFixed, AreParts, parts_from, AnswersParts};
+ghost use Rattle.si_subsume.specs.Parts.{AreFixed, AreParts, parts_from, AnswersParts};
 ghost use Rattle.si_subsume.specs.Search.{AllowsSolving, AreFlatLiterals, AnswersSearch, AnswersSlices};
 
 use crate::chains::Chains;
@@ -64,19 +64,17 @@ fn search_parts<'a>(
     requires few { length task.now.targets.now < 2 ^ 32 }
     requires ready { AllowsSolving task.now.slots trail.old.pairs trail.old.slots }
     requires unbound { trail.old.pairs ≡ [] }
-    requires chained { AreChained chains.now.first.items chains.now.next.items
-        chains.now.labels.items }
-    requires sizes { length task.now.literals.now ≡ length chains.now.labels.items }
-    requires grouped { grouped.now ≡ parts_from chains.now.labels.items 0
+    requires sizes { length task.now.literals.now ≡ length chains.now }
+    requires grouped { grouped.now ≡ parts_from chains.now 0
         (length task.now.literals.now) task.now.literals.now }
-    requires numbers { length numbers.old.items ≡ length chains.now.labels.items }
+    requires numbers { length numbers.old.items ≡ length chains.now }
     ensures answers { IfOk result (AnswersParts task.now.slots task.now.literals.now
-        task.now.targets.now chains.now.labels.items numbers.new.items) }
-    ensures sizes { IfOk result (λ all. length numbers.new.items ≡ length chains.now.labels.items) }
+        task.now.targets.now chains.now numbers.new.items) }
+    ensures sizes { IfOk result (λ all. length numbers.new.items ≡ length chains.now) }
 {
     let mut left = grouped.len();
     for label in 0..task.literals.len() {
-        let count = chains.part_len(label, task.literals);
+        let count = chains.part_len(label);
         let part = part_at(grouped, grouped.len() - left, count);
         match search_part(alloc, trail, task, part)? {
             Some(choices) => chains.write(label, &choices, numbers),
@@ -116,8 +114,7 @@ pub(crate) fn least_of_parts<'a>(
 {
     let chains = Chains::of(alloc, labels)?;
     let grouped = chains.grouped(alloc, task.literals)?;
-    let mut numbers = Vec::with_capacity(alloc, grouped.len())?;
-    numbers.resize(task.literals.len(), 0)?;
+    let mut numbers = vec![in alloc; 0; task.literals.len()]?;
     let mut trail = Trail::with_slots(alloc, task.slots.count())?;
     if !search_parts(alloc, &mut trail, task, &chains, &grouped, &mut numbers)? {
         return Ok(None);

@@ -1,5 +1,5 @@
 // The least map between flat terms.
-ghost use Rattle.std.specs.Prelude.{◌≡◌, ◌<◌, ◌-◌, ◌^◌, IfOk, length, map, true, false};
+ghost use Rattle.std.specs.Prelude.{◌≡◌, ◌↔◌, ◌<◌, ◌-◌, ◌^◌, IsTrue, IfOk, length, map, true, false};
 ghost use Rattle.std.specs.List.{AllByRecursion};
 ghost use Rattle.si_flat.specs.declared.Owner.TheVariants.{Query, Entry};
 ghost use Rattle.si_subsume.specs.Maps.{AreOf, HasHeads, AnswersFlat};
@@ -48,7 +48,9 @@ fn least_of_one<'a>(alloc: Global, task: &Task<'a>) -> Result<Option<LitMap>, Al
 }
 
 // Whether all literals have the label of one part.
-fn is_one_part(labels: &[usize]) -> bool {
+fn is_one_part(labels: &[usize]) -> bool
+    ensures { IsTrue result ↔ AllByRecursion (λ label. label ≡ 0) labels.now }
+{
     labels.iter().all(|label| *label == 0)
 }
 
@@ -65,6 +67,9 @@ fn least<'a>(alloc: Global, task: &Task<'a>) -> Result<Option<LitMap>, AllocErro
 {
     if !each_has_target(task) {
         return Ok(None);
+    }
+    if task.literals.len() < 2 {
+        return least_of_one(alloc, task);
     }
     let labels = part_labels(alloc, &task.slots, task.literals)?;
     if is_one_part(&labels) {

@@ -27,8 +27,7 @@ impl Joining {
         for literal in 0..literals {
             leaders.push(literal)?;
         }
-        let mut owners = Vec::with_capacity(alloc, slots)?;
-        owners.resize(slots, NONE)?;
+        let owners = vec![in alloc; NONE; slots]?;
         Ok(Joining { leaders, owners })
     }
 
@@ -172,7 +171,5 @@ pub(crate) fn part_labels(
 fn one_part(alloc: Global, literals: usize) -> Result<Vec<usize>, AllocError>
     ensures { IfOk result (λ labels. labels.items ≡ replicate literals 0) }
 {
-    let mut labels = Vec::with_capacity(alloc, literals)?;
-    labels.resize(literals, 0)?;
-    Ok(labels)
+    Ok(vec![in alloc; 0; literals]?)
 }

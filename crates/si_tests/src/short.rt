@@ -30,7 +30,7 @@ const LIMITS: HarvestLimits = HarvestLimits {
 /// An empty store, whose call of `add` with this number finds no memory.
 fn store_short_at(alloc: Global, call: u32) -> Result<ShortStore, AllocError>
     requires { call < 9 }
-    ensures { IfOk result (λ s. s.list.0.entries ≤ MOST_OCCURRENCES) }
+    ensures { IfOk result (λ s. s.rules.entries ≤ MOST_OCCURRENCES) }
 {
     let failing = vec![in alloc; call]?;
     Ok(ShortStore::new(alloc, 30, failing))
@@ -52,7 +52,11 @@ const LOADS: [Row; 4] = [
 ];
 
 /// The same of the text of two clauses that are drawn.
-const TEXTS: [Row; 2] = [(1, Answer::Memory, &[]), (2, Answer::Memory, &[])];
+const TEXTS: [Row; 3] = [
+    (1, Answer::Memory, &[]),
+    (2, Answer::Memory, &[]),
+    (3, Answer::Gained(2, 5), &[b"s1", b"s2"]),
+];
 
 fn assert_loads(
     rt: &impl Abort,
@@ -60,7 +64,7 @@ fn assert_loads(
     row: &Row,
     store: &mut ShortStore,
 ) -> Result<(), AllocError>
-    requires { store.old.list.0.entries ≤ MOST_OCCURRENCES }
+    requires { store.old.rules.entries ≤ MOST_OCCURRENCES }
 {
     let mut library = library_of(alloc, FILES, 0)?;
     let loaded = expand(alloc, &mut library, b"main.p", &LIMITS, store);
@@ -75,7 +79,7 @@ fn assert_takes(
     row: &Row,
     store: &mut ShortStore,
 ) -> Result<(), AllocError>
-    requires { store.old.list.0.entries ≤ MOST_OCCURRENCES }
+    requires { store.old.rules.entries ≤ MOST_OCCURRENCES }
 {
     let text = si_sample::sample(alloc, 1, 2)?;
     let taken = take_text(alloc, text.as_slice(), store);

@@ -15,26 +15,26 @@ pub of-requires : goal.of-requires
 of-requires c =
     subst (λ n. AllByRecursion (λ l. l < n) c.args.labels.items) (apart_size c.args.task.now.slots c.requires.parts.owner c.args.labels.items c.args.task.now.literals.now c.requires.parts.apart) c.requires.parts.below
 
-pub grouped-requires-clause-sizes : goal.grouped-requires-clause-sizes
-grouped-requires-clause-sizes c =
-    apart_size c.args.task.now.slots c.requires.parts.owner c.args.labels.items c.args.task.now.literals.now c.requires.parts.apart ∙ ap length (sym c.in_ok-chains.ensures.labels)
+pub grouped-requires : goal.grouped-requires
+grouped-requires c =
+    apart_size c.args.task.now.slots c.requires.parts.owner c.args.labels.items c.args.task.now.literals.now c.requires.parts.apart ∙ ap length (sym c.in_ok-chains.ensures)
 
 pub search_parts-requires-clause-sizes : goal.search_parts-requires-clause-sizes
 search_parts-requires-clause-sizes c =
-    apart_size c.args.task.now.slots c.requires.parts.owner c.args.labels.items c.args.task.now.literals.now c.requires.parts.apart ∙ ap length (sym c.in_ok-chains.ensures.labels)
+    apart_size c.args.task.now.slots c.requires.parts.owner c.args.labels.items c.args.task.now.literals.now c.requires.parts.apart ∙ ap length (sym c.in_ok-chains.ensures)
 
 pub search_parts-requires-clause-numbers : goal.search_parts-requires-clause-numbers
 search_parts-requires-clause-numbers c =
-    omega (arith, c.in_ok-resize.ensures.len, c.resize.new.self.ok.0, apart_size c.args.task.now.slots c.requires.parts.owner c.args.labels.items c.args.task.now.literals.now c.requires.parts.apart, ap length c.in_ok-chains.ensures.labels)
+    omega (arith, c.in_ok-numbers.ensures.len, c.in_ok-numbers.numbers.ok.0, apart_size c.args.task.now.slots c.requires.parts.owner c.args.labels.items c.args.task.now.literals.now c.requires.parts.apart, ap length c.in_ok-chains.ensures)
 
 pub returns : goal.returns
 returns c =
     let slots = c.args.task.now.slots in
     let targets = c.args.task.now.targets.now in
     let literals = c.args.task.now.literals.now in
-    let labels = c.in_ok-chains.chains.labels.items in
+    let labels = c.in_ok-chains.chains in
     let numbers = c.search_parts.new.numbers.items in
-    let same : labels ≡ c.args.labels.items = c.in_ok-chains.ensures.labels in
+    let same : labels ≡ c.args.labels.items = c.in_ok-chains.ensures in
     let size = apart_size slots c.requires.parts.owner c.args.labels.items literals c.requires.parts.apart in
     let found = subst (AnswersParts slots literals targets labels numbers) c.if-not-branch.false c.in_ok-search_parts.ensures.answers in
     let least : IsLeast (CanEnd slots targets [] literals) numbers =

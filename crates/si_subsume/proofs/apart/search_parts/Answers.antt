@@ -29,26 +29,26 @@ inside grouped part rest left count whole within size =
 
 pub part_at-part-requires : goal.part_at-part-requires
 part_at-part-requires c =
-    let labels = c.args.chains.now.labels.items in
+    let labels = c.args.chains.now in
     let literals = c.args.task.now.literals.now in
     let whole = c.loop-label.invariant.0 ∙ next_part labels (length literals) literals c.loop-label.label c.loop-label-test.true in
-    omega (arith, inside c.args.grouped.now _ _ c.loop-label.left c.part_len-count.result whole c.loop-label.invariant.1 c.part_len-count.ensures, c.loop-label.invariant.1)
+    omega (arith, inside c.args.grouped.now _ _ c.loop-label.left c.part_len-count.result whole c.loop-label.invariant.1 (c.part_len-count.ensures ∙ select_size labels c.loop-label.label labels literals (sym c.requires.sizes)), c.loop-label.invariant.1)
 
 pub search_part-requires-clause-literals : goal.search_part-requires-clause-literals
 search_part-requires-clause-literals c =
-    let labels = c.args.chains.now.labels.items in
+    let labels = c.args.chains.now in
     let literals = c.args.task.now.literals.now in
     let whole = c.loop-label.invariant.0 ∙ next_part labels (length literals) literals c.loop-label.label c.loop-label-test.true in
-    let part_is = c.part_at-part.ensures ∙ begins _ _ _ c.part_len-count.result whole c.part_len-count.ensures in
+    let part_is = c.part_at-part.ensures ∙ begins _ _ _ c.part_len-count.result whole (c.part_len-count.ensures ∙ select_size labels c.loop-label.label labels literals (sym c.requires.sizes)) in
     subst (AreFlatLiterals c.args.task.now.slots) (sym part_is) (all_selected (λ (b : Bor (List Cell)). IsFlatLiteral c.args.task.now.slots b.now) labels c.loop-label.label literals c.requires.literals)
 
 pub write-requires-clause-count : goal.write-requires-clause-count
 write-requires-clause-count c =
-    let labels = c.args.chains.now.labels.items in
+    let labels = c.args.chains.now in
     let literals = c.args.task.now.literals.now in
     let targets = c.args.task.now.targets.now in
     let whole = c.loop-label.invariant.0 ∙ next_part labels (length literals) literals c.loop-label.label c.loop-label-test.true in
-    let part_is = c.part_at-part.ensures ∙ begins _ _ _ c.part_len-count.result whole c.part_len-count.ensures in
+    let part_is = c.part_at-part.ensures ∙ begins _ _ _ c.part_len-count.result whole (c.part_len-count.ensures ∙ select_size labels c.loop-label.label labels literals (sym c.requires.sizes)) in
     let found = subst (AnswersSearch c.args.task.now.slots c.part_at-part.result.now targets) c.in-Some.is c.in_ok-choices.ensures.answers in
     ap length c.deref.ensures.value
     ∙ sym (length-map c.in-Some.choices.items number_of)
@@ -65,37 +65,37 @@ write-requires-clause-small c =
 
 pub returns-in-None-clause-answers : goal.returns-in-None-clause-answers
 returns-in-None-clause-answers c =
-    let labels = c.args.chains.now.labels.items in
+    let labels = c.args.chains.now in
     let literals = c.args.task.now.literals.now in
     let targets = c.args.task.now.targets.now in
     let whole = c.loop-label.invariant.0 ∙ next_part labels (length literals) literals c.loop-label.label c.loop-label-test.true in
-    let part_is = c.part_at-part.ensures ∙ begins _ _ _ c.part_len-count.result whole c.part_len-count.ensures in
+    let part_is = c.part_at-part.ensures ∙ begins _ _ _ c.part_len-count.result whole (c.part_len-count.ensures ∙ select_size labels c.loop-label.label labels literals (sym c.requires.sizes)) in
     let none = subst (AnswersSearch c.args.task.now.slots c.part_at-part.result.now targets) c.in-None.is c.in_ok-choices.ensures.answers in
     part_without_map c.args.task.now.slots labels literals targets c.loop-label.label (λ ms p. none ms (subst (λ bs. CanEnd c.args.task.now.slots targets [] bs ms) (sym part_is) p))
 
 pub overflow_sub-left : goal.overflow_sub-left
 overflow_sub-left c =
-    let labels = c.args.chains.now.labels.items in
+    let labels = c.args.chains.now in
     let literals = c.args.task.now.literals.now in
     let whole = c.loop-label.invariant.0 ∙ next_part labels (length literals) literals c.loop-label.label c.loop-label-test.true in
-    inside c.args.grouped.now _ _ c.loop-label.left c.part_len-count.result whole c.loop-label.invariant.1 c.part_len-count.ensures
+    inside c.args.grouped.now _ _ c.loop-label.left c.part_len-count.result whole c.loop-label.invariant.1 (c.part_len-count.ensures ∙ select_size labels c.loop-label.label labels literals (sym c.requires.sizes))
 
 pub loop-label-preserved : goal.loop-label-preserved
 loop-label-preserved c =
-    let labels = c.args.chains.now.labels.items in
+    let labels = c.args.chains.now in
     let literals = c.args.task.now.literals.now in
     let targets = c.args.task.now.targets.now in
     let grouped = c.args.grouped.now in
     let count = c.part_len-count.result in
     let whole = c.loop-label.invariant.0 ∙ next_part labels (length literals) literals c.loop-label.label c.loop-label-test.true in
-    let part_is = c.part_at-part.ensures ∙ begins _ _ _ count whole c.part_len-count.ensures in
-    let fewer = inside grouped _ _ c.loop-label.left count whole c.loop-label.invariant.1 c.part_len-count.ensures in
+    let part_is = c.part_at-part.ensures ∙ begins _ _ _ count whole (c.part_len-count.ensures ∙ select_size labels c.loop-label.label labels literals (sym c.requires.sizes)) in
+    let fewer = inside grouped _ _ c.loop-label.left count whole c.loop-label.invariant.1 (c.part_len-count.ensures ∙ select_size labels c.loop-label.label labels literals (sym c.requires.sizes)) in
     let on : length grouped - (c.loop-label.left - count) ≡ length grouped - c.loop-label.left + count = omega (arith, fewer, c.loop-label.invariant.1) in
     let found = subst (AnswersSearch c.args.task.now.slots c.part_at-part.result.now targets) c.in-Some.is c.in_ok-choices.ensures.answers in
     let own : IsLeast (CanEnd c.args.task.now.slots targets [] (select labels c.loop-label.label literals)) (select labels c.loop-label.label c.write.new.numbers.items) =
     subst (IsLeast (CanEnd c.args.task.now.slots targets [] (select labels c.loop-label.label literals))) (ap (map number_of) (sym c.deref.ensures.value) ∙ sym c.write.ensures.own)
     (subst (λ bs. IsLeast (CanEnd c.args.task.now.slots targets [] bs) (map number_of c.in-Some.choices.items)) part_is found.least) in (
-      ap (λ n. drop n grouped) on ∙ sym (drop-drop count (length grouped - c.loop-label.left) grouped) ∙ ends _ _ _ count whole c.part_len-count.ensures,
+      ap (λ n. drop n grouped) on ∙ sym (drop-drop count (length grouped - c.loop-label.left) grouped) ∙ ends _ _ _ count whole (c.part_len-count.ensures ∙ select_size labels c.loop-label.label labels literals (sym c.requires.sizes)),
       omega (arith, c.loop-label.invariant.1),
       c.in_ok-choices.ensures.ready,
       c.in_ok-choices.ensures.unbound,

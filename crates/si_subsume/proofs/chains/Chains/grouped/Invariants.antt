@@ -5,4 +5,4 @@ use Rattle.si_subsume.proofs.chains.Chains.grouped.Given as goal
 
 abbrev pub invariant-loop-label : goal.invariant-loop-label
 invariant-loop-label l =
-    ArePassed l.self.labels.items (length l.literals) l.literals (parts_from l.self.labels.items 0 (length l.literals) l.literals) l.grouped.items l.label
+    ArePassed l.self (length l.literals) l.literals (parts_from l.self 0 (length l.literals) l.literals) l.grouped.items l.label

@@ -4,4 +4,4 @@ use Rattle.si_subsume.proofs.ChainLaws.{IsWriting}
 use Rattle.si_subsume.proofs.chains.Chains.write.Given as goal
 
 abbrev pub invariant-loop-i : goal.invariant-loop-i
-invariant-loop-i l = IsWriting l.self.labels.items l.label (map number_of l.choices) l.fn.numbers.items l.numbers.items l.at l.i
+invariant-loop-i l = IsWriting l.self l.label (map number_of l.choices) l.fn.numbers.items l.numbers.items l.at l.i

@@ -25,7 +25,7 @@ fn assert_rows(rt: &impl Abort, alloc: Global, rows: &[Row]) -> Result<(), Alloc
     Ok(())
 }
 
-const LEAST: [Row; 11] = [
+const LEAST: [Row; 13] = [
     (b"p(a)|p(b)", b"p(X)|p(Y)", &[]),
     (b"p(a)|q(b)|~r(X)", b"~r(c)|q(b)|p(a)", &[3, 2, 1]),
     (b"p(X)|~p(X)", b"p(a)|p(b)|~p(b)", &[2, 3]),
@@ -52,6 +52,17 @@ const LEAST: [Row; 11] = [
         b"p(X)|p(Y)|q(X)|q(Y)",
         b"p(a)|p(b)|p(c)|q(c)",
         &[3, 3, 4, 4],
+    ),
+    // Parts that share no variable, one of which has no map in the second row.
+    (
+        b"p(X,Y)|p(Z,W)|p(Y,b)|p(W,a)",
+        b"p(a,a)|p(a,b)|p(b,a)|p(b,b)",
+        &[1, 1, 2, 1],
+    ),
+    (
+        b"p(X,Y)|p(Z,W)|p(Y,b)|p(W,c)",
+        b"p(a,a)|p(a,b)|p(b,a)|p(b,b)",
+        &[],
     ),
 ];
 

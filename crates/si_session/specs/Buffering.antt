@@ -1,5 +1,5 @@
 -- What a sink tells that holds bytes, and what the sink below was given since a start.
-use Rattle.std.specs.Prelude.{◌≡◌, ℕ, ◌-◌, List, Option, None, Some, length, drop, replicate, take}
+use Rattle.std.specs.Prelude.{◌≡◌, ℕ, ◌-◌, ◌==◌, List, Option, None, Some, length, drop, filter, replicate, take}
 use Rattle.si_io.specs.Content.{Told, bytes_then, append_told}
 use Rattle.si_io.specs.Counts.{raised_by}
 use Rattle.si_io.specs.Shown.{SinkShown}
@@ -7,6 +7,10 @@ use Rattle.si_io.specs.Shown.{SinkShown}
 -- the bytes from one place up to another
 abbrev pub held : List ℕ → ℕ → ℕ → List ℕ
 held bytes start end = drop start (take end bytes)
+
+-- the last byte, where it is a line feed
+abbrev pub last_line_feed : List ℕ → List ℕ
+last_line_feed bytes = filter (λ byte. byte == 10) (drop (length bytes - 1) bytes)
 
 -- what is told of them, behind what the sink below was given
 abbrev pub told_with : Told → List ℕ → ℕ → ℕ → Told

@@ -7,7 +7,7 @@ ghost use Rattle.si_io.specs.Counts.{raised_by, write_counted};
 ghost use Rattle.si_io.specs.Faults.{HasCause};
 ghost use Rattle.si_io.specs.Sends.{WritesFew, Sends};
 ghost use Rattle.si_io.specs.Shown.{SinkShown};
-ghost use Rattle.si_session.specs.Buffering.{held, told_with, gathered, begun, HasBytesSince, HasRoomSince};
+ghost use Rattle.si_session.specs.Buffering.{held, last_line_feed, told_with, gathered, begun, HasBytesSince, HasRoomSince};
 
 use si_io::{Failed, Sink};
 use std::marker::{Brand, PhantomData};
@@ -206,6 +206,8 @@ impl<S: Borrowed, B: Origin> Buffered<S, B> {
         ensures from { self.now.start ≤ result }
         ensures within { result ≤ self.now.end }
         ensures near { self.now.end ≤ result + 1 }
+        ensures line_feed { held self.now.bytes result self.now.end
+            ≡ last_line_feed (held self.now.bytes self.now.start self.now.end) }
     {
         if self.start < self.end && self.bytes[self.end - 1] == LINE_FEED {
             return self.end - 1;
@@ -226,6 +228,8 @@ impl<S: Borrowed, B: Origin> Buffered<S, B> {
             (S.shown self.old.sink).counts.bytes }
         ensures calls { self.new.calls ≡ self.old.calls }
         ensures few { OnOk result (self.new.end ≤ 1) }
+        ensures left { OnOk result (held self.new.bytes self.new.start self.new.end
+            ≡ last_line_feed (held self.old.bytes self.old.start self.old.end)) }
         ensures full { OnErr result ((S.shown self.old.sink).told.room
             < length (held self.old.bytes self.old.start self.old.end)) }
         ensures cause { HasCause (S.shown self.old.sink).counts.faults

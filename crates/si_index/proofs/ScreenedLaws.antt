@@ -12,10 +12,13 @@ use Rattle.si_keyed.specs.Placed.{placed_items, HasPlace, PlacesRise}
 use Rattle.si_keyed.proofs.PlacedLaws.{same_position}
 use Rattle.si_lanes.specs.Rows.{ArePositions, AppendsPositions}
 use Rattle.si_index.specs.Kept.{clauses_of}
-use Rattle.si_defs.specs.Symbols.{Numbering}
+use Rattle.si_defs.specs.Symbols.{Symbol, Numbering}
 use Rattle.si_flat.specs.Numbered.{number_in}
-use Rattle.si_screen.specs.ClauseRows.{IsRowOf}
+use Rattle.si_screen.specs.ClauseRows.{IsRowOf, with_extra}
 use Rattle.si_screen.proofs.MapLaws.{rows_follow}
+use Rattle.si_screen.proofs.RowLaws.{row_with}
+use Rattle.si_index.specs.Searching.{IsKnownClause}
+use Rattle.si_index.proofs.SlotLaws.{clause_among}
 use Rattle.si_index.specs.declared.subsuming.Direction.{Direction}
 use Rattle.si_index.specs.declared.subsuming.Direction.TheVariants.{ToFormula, FromFormula}
 use Rattle.si_index.specs.Slots.{Slots, HaveSlotRows}
@@ -190,12 +193,17 @@ module _ (P : List Literal → List ℕ → Type 0) (Passes : List ℕ → Type 
         let named = settled 0 rows [] slots appends.0 [] new refl at appends.1 (subst (λ l. TriesSlots P slots l [] new) appends.2 tries) in
         subst (AreMappedFrom P 0 (clauses_of (placed_items slots))) (sym named.2) named.1
 
--- the rows are those of the clauses
-pub are_screened : (numbers : Numbering) (direction : Direction) (formula : List Literal) (slots : Slots) (rows : List (List ℕ)) (row : List ℕ) → HaveSlotRows numbers slots rows
-    → IsRowOf (number_in numbers) formula row → (rise : PlacesRise slots) → AreScreened (IsMapIn direction formula) (PassesIn direction row) slots rise rows
-are_screened numbers direction formula slots rows row have of_formula rise (slot, (key, c)) there =
+-- the rows are those of the clauses, whose symbols all have numbers in the table
+pub are_screened : (numbers : Numbering) (extra : List Symbol) (direction : Direction) (formula : List Literal) (slots : Slots) (rows : List (List ℕ)) (row : List ℕ) → HaveSlotRows numbers slots rows
+    → AllByRecursion (IsKnownClause numbers) (clauses_of (placed_items slots)) → IsRowOf (number_in (with_extra numbers extra)) formula row
+    → (rise : PlacesRise slots) → AreScreened (IsMapIn direction formula) (PassesIn direction row) slots rise rows
+are_screened numbers extra direction formula slots rows row have known of_formula rise (slot, (key, c)) there =
     let own = have slot key c there in
-    (own.0, own.1, passes direction own.0 own.2) where
-      passes : (d : Direction) (other : List ℕ) → IsRowOf (number_in numbers) (clause_of c).literals other → (ns : List ℕ) → IsMapIn d formula (clause_of c).literals ns → PassesIn d row other
-      passes ToFormula other of_clause ns is = rows_follow (number_in numbers) (clause_of c).literals formula other row (ns, is) of_clause of_formula
-      passes FromFormula other of_clause ns is = rows_follow (number_in numbers) formula (clause_of c).literals row other (ns, is) of_formula of_clause
+    let numbered = (all_at (IsKnownClause numbers) (clauses_of (placed_items slots)) (clause_of c) known (clause_among slots slot key c there)).numbered in
+    (own.0, own.1, passes direction own.0 (row_with numbers extra (clause_of c).literals own.0 numbered own.2)) where
+      number : Symbol → ℕ
+      number = number_in (with_extra numbers extra)
+
+      passes : (d : Direction) (other : List ℕ) → IsRowOf number (clause_of c).literals other → (ns : List ℕ) → IsMapIn d formula (clause_of c).literals ns → PassesIn d row other
+      passes ToFormula other of_clause ns is = rows_follow number (clause_of c).literals formula other row (ns, is) of_clause of_formula
+      passes FromFormula other of_clause ns is = rows_follow number formula (clause_of c).literals row other (ns, is) of_formula of_clause

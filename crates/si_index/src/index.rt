@@ -24,7 +24,7 @@ use crate::names::Names;
 use si_forest::Trees;
 use si_keyed::{Items, KeyedList, Places};
 use si_lanes::Row;
-use si_screen::literals_row;
+use si_screen::{Extra, literals_row};
 use si_sign::{AddFault, ClauseStore, Rejected, Signature};
 use si_term::{Clause, Name};
 use si_tree::Counts;
@@ -241,7 +241,11 @@ fn keep(
     ensures rows { HaveRows (numbering known.new.signature) clauses.new.items
         clauses.new.marks }
 {
-    let row = literals_row(&known.signature, clause.literals.as_slice());
+    let row = literals_row(
+        &known.signature,
+        &Extra::new(alloc),
+        clause.literals.as_slice(),
+    );
     let key = put(alloc, clauses, &mut known.names, clause, row)?;
     let kept = clauses.get(key).unwrap();
     match trees.add_clause(alloc, &known.signature, key, kept) {

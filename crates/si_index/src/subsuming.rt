@@ -15,7 +15,7 @@ use crate::screen::may_have_map;
 use si_flat::LitMap;
 use si_keyed::Places;
 use si_lanes::{Row, subset_rows, superset_rows};
-use si_screen::literals_row;
+use si_screen::{Extra, literals_row};
 use si_subsume::least_map;
 use si_term::list::Items;
 use si_term::{Clause, Literals};
@@ -120,7 +120,10 @@ impl<'a> Comparison<'a> {
         ensures { IfOk result (AreMappedFrom (IsMapIn self.now.direction
             (map literal_of self.now.formula.now)) 0 index.now.clauses) }
     {
-        let row = literals_row(index.signature(), self.formula.as_slice());
+        let signature = index.signature();
+        let literals = self.formula.as_slice();
+        let extra = Extra::of(self.alloc, signature, literals)?;
+        let row = literals_row(signature, &extra, literals);
         let (places, rows) = index.slots_and_rows();
         let mut slots = Vec::new(self.alloc);
         self.pass(&row, rows, &mut slots)?;

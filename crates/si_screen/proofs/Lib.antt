@@ -1,2 +1,3 @@
+pub mod ExtraLaws
 pub mod MapLaws
 pub mod RowLaws

@@ -1,19 +1,20 @@
 -- Laws of rows of clauses.
-use Rattle.std.proofs.Common.{◌≡◌, ◌⊎◌, inl, inr, ℕ, zero, suc, ◌+◌, ◌/◌, ◌%◌, ◌^◌, Bool, true, false, true≢false, cond, ◌||◌, List, [], ◌∷◌, ◌++◌, map, get_or, refl, sym, ap, ◌∙◌, subst, append_assoc}
+use Rattle.std.proofs.Common.{◌≡◌, ◌⊎◌, inl, inr, ℕ, zero, suc, ◌+◌, ◌/◌, ◌%◌, ◌^◌, Bool, cond, List, [], ◌∷◌, ◌++◌, map, get_or, refl, sym, ap, ◌∙◌, subst, append_assoc, append-nil}
 use Rattle.std.specs.Int.Bits.{and_zero_l}
 use Rattle.std.specs.Prelude.{IsBitSet}
 use Rattle.std.proofs.lemmas.List.{map-append}
 use Rattle.si_defs.specs.Terms.{Term, Terms, var, app, none, more, head, symbols, symbols_of_all, occurrences, occurrences_from, below}
-use Rattle.si_defs.specs.Symbols.{Symbol, Numbering, same_symbol}
+use Rattle.si_defs.specs.Symbols.{Symbol, Numbering}
 use Rattle.si_defs.specs.Clauses as clauses
 use Rattle.si_defs.specs.Clauses.{Literal}
 use Rattle.si_defs.specs.Entries.{Placed, entries_from, literal_entries, placed_term, literals_symbols}
 use Rattle.si_defs.specs.Substitutions.{IsAmong}
 use Rattle.si_defs.proofs.ListLaws.{among_front, among_back, among_parts}
 use Rattle.si_flat.specs.Numbered.{number_in}
-use Rattle.si_flat.specs.Flattened.{has_number}
+use Rattle.si_flat.specs.Flattened.{extra_numbers}
+use Rattle.si_flat.proofs.Numbers.{has-among, number-append}
 use Rattle.si_lanes.specs.Rows.{HasBit}
-use Rattle.si_screen.specs.ClauseRows.{above, number_at, head_number, head_numbers, bit_of, HasNumbers, IsRowOf}
+use Rattle.si_screen.specs.ClauseRows.{above, number_at, head_number, head_numbers, bit_of, HasNumbers, IsRowOf, with_extra}
 use Rattle.si_screen.specs.Walks.{AddsNumbers, atom_numbers, literal_numbers, literals_numbers}
 
 -- ---- what is added to a row
@@ -79,14 +80,6 @@ module _ (number : Symbol → ℕ) where
   pub adds_literal : (l : Literal) (ls : List Literal) (a b c : List ℕ) → AddsNumbers (literal_numbers number l) a b → AddsNumbers (literals_numbers number ls) b c
       → AddsNumbers (literals_numbers number (l ∷ ls)) a c
   adds_literal l ls a b c first second = adds_then (literal_numbers number l) (literals_numbers number ls) a b c first second
-
--- a symbol without a number goes by 0
-pub lacks_number : (pairs : Numbering) (s : Symbol) → has_number pairs s ≡ false → number_in pairs s ≡ 0
-lacks_number [] s h = refl
-lacks_number (pair ∷ pairs) s h = by (same_symbol pair.0 s) h (lacks_number pairs s) where
-  by : (b : Bool) → (b || has_number pairs s) ≡ false → (has_number pairs s ≡ false → number_in pairs s ≡ 0) → cond b pair.1 (number_in pairs s) ≡ 0
-  by true e later = absurd (true≢false e)
-  by false e later = later e
 
 -- ---- the heads of entries, in the order of a walk
 module _ (number : Symbol → ℕ) where
@@ -160,3 +153,19 @@ module _ (number other : Symbol → ℕ) where
   pub row_stays : (ls : List Literal) (bits : List ℕ) → ((s : Symbol) → IsAmong (literals_symbols ls) s → number s ≡ other s) → IsRowOf number ls bits → IsRowOf other ls bits
   row_stays ls bits same h =
       subst (λ ns. HasNumbers ns bits) (of_literals number 1 ls ∙ literals_same ls same ∙ sym (of_literals other 1 ls)) h
+
+-- no other symbols
+pub no_extra : (pairs : Numbering) (extra : List Symbol) (ls : List Literal) (bits : List ℕ) → extra ≡ [] → IsRowOf (number_in (with_extra pairs extra)) ls bits → IsRowOf (number_in pairs) ls bits
+no_extra pairs extra ls bits empty h = subst (λ numbers. IsRowOf (number_in numbers) ls bits) (ap (with_extra pairs) empty ∙ append-nil pairs) h
+
+-- the row of a clause whose symbols the table has is the same beside others
+pub row_with : (pairs : Numbering) (extra : List Symbol) (ls : List Literal) (bits : List ℕ) → ((s : Symbol) → IsAmong (literals_symbols ls) s → (n : ℕ) × IsAmong pairs (s, n))
+    → IsRowOf (number_in pairs) ls bits → IsRowOf (number_in (with_extra pairs extra)) ls bits
+row_with pairs extra ls bits have h = row_stays (number_in pairs) (number_in (with_extra pairs extra)) ls bits same h where
+  others : Numbering
+  others = extra_numbers extra
+
+  same : (s : Symbol) → IsAmong (literals_symbols ls) s → number_in pairs s ≡ number_in (with_extra pairs extra) s
+  same s a =
+      let there = have s a in
+      sym (number-append pairs others s ∙ ap (λ b. cond b (number_in pairs s) (number_in others s)) (has-among pairs s there.0 there.1))

@@ -3,13 +3,13 @@ use Rattle.std.specs.Prelude.{◌≡◌, ℕ, true, false, List, [], ◌∷◌, 
 use Rattle.si_defs.specs.Bytes.{Bytes}
 use Rattle.si_defs.specs.Terms.{var, app, none, more}
 use Rattle.si_defs.specs.Symbols.{Symbol, Numbering}
-use Rattle.si_defs.specs.Clauses.{Term, Literal}
+use Rattle.si_defs.specs.Clauses.{Literal}
 use Rattle.si_defs.specs.Entries.{entries_from}
 use Rattle.si_defs.specs.declared.SymKind.TheVariants.{Word}
 use Rattle.si_defs.specs.declared.Side.{Side}
 use Rattle.si_defs.specs.declared.Side.TheVariants.{Predicate, Function}
 use Rattle.si_flat.specs.Numbered.{number_in}
-use Rattle.si_screen.specs.ClauseRows.{head_numbers, bit_of, IsRowOf}
+use Rattle.si_screen.specs.ClauseRows.{head_numbers, bit_of, IsRowOf, lacking, with_extra}
 
 abbrev pub word : Bytes → Side → ℕ → Symbol
 word text side arity = record { kind = Word; text = text; side = side; arity = arity }
@@ -51,6 +51,26 @@ HeadsOfTwo = heads_of (ground ∷ negated ∷ []) ≡ 0 ∷ 4 ∷ 1 ∷ 2 ∷ []
 -- numbers meet at 256
 abbrev pub SameBit : Type 0
 SameBit = bit_of 258 ≡ bit_of 2
+
+-- q(b, f(b)), of whose symbols only f has a number
+abbrev pub q : Symbol
+q = word (codes "q") Predicate 2
+
+abbrev pub b : Symbol
+b = word (codes "b") Function 0
+
+abbrev pub lacked : Literal
+lacked = record {
+  positive = false;
+  atom = app q (more (app b none) (more (app f (more (app b none) none)) none));
+}
+
+-- the others have numbers from 2^31 on, by their first occurrence
+abbrev pub HeadsOfLacked : Type 0
+HeadsOfLacked =
+    head_numbers (number_in (with_extra numbers (lacking numbers (lacked ∷ []))))
+    (entries_from 1 (lacked ∷ []))
+    ≡ 2147483649 ∷ 2147483650 ∷ 2 ∷ 2147483650 ∷ []
 
 -- no literal, and no bit
 abbrev pub NoBit : Type 0

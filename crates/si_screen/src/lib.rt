@@ -6,9 +6,11 @@
 #![tactic(auto)]
 
 mod examples;
+mod extra;
 mod laws;
 mod rows;
 
 pub use examples::rows_of_clauses;
+pub use extra::Extra;
 pub use laws::rows_follow_maps;
 pub use rows::literals_row;

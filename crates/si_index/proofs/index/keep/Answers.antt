@@ -1,7 +1,8 @@
 use Rattle.std.proofs.Common.{map, sym, subst, subst₂}
 use Rattle.si_term.specs.Meaning.{clause_of, literal_of}
 use Rattle.si_flat.specs.Numbered.{number_in}
-use Rattle.si_screen.specs.ClauseRows.{IsRowOf}
+use Rattle.si_screen.specs.ClauseRows.{IsRowOf, with_extra}
+use Rattle.si_screen.proofs.RowLaws.{no_extra}
 use Rattle.si_term.specs.declared.clause.Clause.{Clause}
 use Rattle.si_state.specs.Signatures.{numbering}
 use Rattle.si_held.specs.TwoTrees.{Hold, MayAddClause, AddsClause}
@@ -68,8 +69,12 @@ returns-in-Err-clause-held c =
 pub returns-in-Ok-clause-rows : goal.returns-in-Ok-clause-rows
 returns-in-Ok-clause-rows c =
     let put = c.in_ok-key.ensures.put in
+    let numbers = numbering c.args.known.now.signature in
+    let row =
+    no_extra numbers c.new.result (map literal_of c.args.clause.literals) c.literals_row-row.result c.new.ensures
+    (subst (λ ls. IsRowOf (number_in (with_extra numbers c.new.result)) (map literal_of ls) c.literals_row-row.result) c.as_slice.ensures c.literals_row-row.ensures) in
     rows_more (numbering c.args.known.now.signature) c.args.clauses.now.items c.put.new.clauses.items c.args.clauses.now.marks c.put.new.clauses.marks c.in_ok-key.key c.args.clause c.literals_row-row.result
-    c.requires.rows (subst (λ ls. IsRowOf (number_in (numbering c.args.known.now.signature)) (map literal_of ls) c.literals_row-row.result) c.as_slice.ensures c.literals_row-row.ensures) put.fresh c.in_ok-key.ensures.no_row put.pushed c.in_ok-key.ensures.row
+    c.requires.rows row put.fresh c.in_ok-key.ensures.no_row put.pushed c.in_ok-key.ensures.row
 
 pub returns-in-Err-clause-rows : goal.returns-in-Err-clause-rows
 returns-in-Err-clause-rows c =

@@ -8,6 +8,9 @@ returns-clause-heads_of_negation c = refl
 pub returns-clause-heads_of_two : goal.returns-clause-heads_of_two
 returns-clause-heads_of_two c = refl
 
+pub returns-clause-heads_of_lacked : goal.returns-clause-heads_of_lacked
+returns-clause-heads_of_lacked c = refl
+
 pub returns-clause-same_bit : goal.returns-clause-same_bit
 returns-clause-same_bit c = refl
 

@@ -3,6 +3,7 @@ pub mod EngineLaws
 pub mod EntryLaws
 pub mod LeafLaws
 mod SolvedLaws
+mod HoldingLaws
 mod FittingLaws
 pub mod FlatLaws
 mod FoundLaws

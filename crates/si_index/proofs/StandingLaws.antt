@@ -194,15 +194,24 @@ by_terms k stored held literal kind query q = (
 )
 
 -- ---- the trees
+trees_wanted : (k : Kept) → TreesHold k → AnswersWanted (IsStoredFor k.trees) k
+trees_wanted k hold =
+    by_terms k (λ literal kind t q. IsStoredAnswer (tree_for literal k.trees) kind t q)
+    (λ literal kind t q. answers_held k.numbers (kept_clauses k) k.trees hold literal kind t q)
+
 pub trees_answer : (k : Kept) → IsOrderly k → TreesHold k → TreesAnswer k
 trees_answer k orderly hold =
-    let wanted : AnswersWanted (IsStoredFor k.trees) k =
-    by_terms k (λ literal kind t q. IsStoredAnswer (tree_for literal k.trees) kind t q)
-    (λ literal kind t q. answers_held k.numbers (kept_clauses k) k.trees hold literal kind t q) in
+    let wanted = trees_wanted k hold in
     record {
       standing = λ relation p sound. answers_stand (IsStoredFor k.trees) k relation p orderly sound wanted;
       complete = λ relation p hits passed sound h. finds_all (IsStoredFor k.trees) (CountsNodes k.trees) k relation p hits passed orderly sound wanted h;
     }
+
+-- an entry in the relation is among what they answer
+pub standing_answered : (k : Kept) (kind : Relation) (p : Pattern) (query : List Cell) (q : Posting) (e : Entry) → IsOrderly k → TreesHold k → IsSoundPattern p → AreAsked k.numbers p query
+    → IsPostingOf (kept_clauses k) q e → Stands kind p e → IsStoredFor k.trees (asks_literals p) kind query q
+standing_answered k kind p query q e orderly hold sound asked own stands =
+    (answers_standing (IsStoredFor k.trees) k kind p query q orderly sound (trees_wanted k hold) asked).1 (e, own, stands)
 
 -- what a search of a tree appends
 pub trees_append : (trees : TwoTrees) (literal : Bool) (kind : Relation) (query : List Cell) (q : cells.Term) (old new : List Posting) → StandsFor query q

@@ -3,6 +3,7 @@ pub mod Engines
 pub mod Finding
 pub mod Fitting
 pub mod Gathering
+pub mod Holding
 pub mod Kept
 pub mod Known
 pub mod Leaves

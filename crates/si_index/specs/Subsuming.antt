@@ -34,6 +34,9 @@ Tries P k c old new =
     ((m : Mapped) × (m.clause ≡ k) × IsLeast (P c.literals) m.map × (new ≡ old ++ m ∷ []))
     ⊎ (((ns : List ℕ) → P c.literals ns → ⊥) × (new ≡ old))
 
+abbrev pub HasMap : (List Literal → List ℕ → Type 0) → Clause → Type 0
+HasMap P c = (ns : List ℕ) × P c.literals ns
+
 -- A clause whose row doesn't stand in this relation to the formula's has no map.
 abbrev pub PassesIn : Direction → (formula : List ℕ) → (row : List ℕ) → Type 0
 PassesIn ToFormula formula row = IsSubset row formula

@@ -6,6 +6,7 @@ mod explain;
 mod fitting;
 mod found;
 mod gather;
+mod holding;
 mod index;
 mod known;
 mod names;

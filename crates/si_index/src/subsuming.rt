@@ -1,15 +1,18 @@
 // The kept clauses that subsume a formula, and those that it subsumes.
-ghost use Rattle.std.specs.Prelude.{◌<◌, ◌≤◌, ◌-◌, ◌^◌, [], IfOk, OnOk, length, map};
+ghost use Rattle.std.specs.Prelude.{◌<◌, ◌≤◌, ◌-◌, ◌^◌, ℕ, [], IfOk, OnOk, length, map};
 ghost use Rattle.std.specs.List.{AllByRecursion};
 ghost use Rattle.si_defs.specs.Clauses.{IsSoundClause, AreSoundLiterals};
 ghost use Rattle.si_state.specs.Subsumption.{IsMap, AnswersLeast};
 ghost use Rattle.si_term.specs.Meaning.{literal_of};
 ghost use Rattle.si_defs.specs.declared.TheConstants.{MOST_OCCURRENCES};
-ghost use Rattle.si_keyed.specs.Placed.{placed_items, PlacesRise};
+ghost use Rattle.si_keyed.specs.Placed.{placed_items, HasPlace, PlacesRise};
 ghost use Rattle.si_lanes.specs.Rows.{AppendsPositions};
+ghost use Rattle.si_index.specs.Holding.{Spares};
 ghost use Rattle.si_index.specs.Kept.{clauses_of};
-ghost use Rattle.si_index.specs.Subsuming.{AreMappedFrom, IsMapIn, PassesIn, TriesSlot, TriesSlots};
+ghost use Rattle.si_index.specs.Slots.{HasSlots};
+ghost use Rattle.si_index.specs.Subsuming.{AreMappedFrom, HasMap, IsMapIn, PassesIn, TriesSlot, TriesSlots};
 
+use crate::holding::Holders;
 use crate::index::Index;
 use crate::screen::may_have_map;
 use si_flat::LitMap;
@@ -113,8 +116,33 @@ impl<'a> Comparison<'a> {
         })
     }
 
-    /// The clauses that have a map, each with the least. Only those are tried whose rows allow one;
-    /// no clause says so.
+    /// The slots whose clauses may have a map, as far as the tree of literals tells. It isn't asked
+    /// where none passed the screen.
+    fn holders(
+        &self,
+        index: &Index,
+        places: &Places<'_, Clause>,
+        slots: usize,
+        passed: usize,
+    ) -> Result<Holders, AllocError>
+        requires formula { AreSoundLiterals (map literal_of self.now.formula.now) }
+        requires clauses { AllByRecursion IsSoundClause index.now.clauses }
+        requires places { HasSlots index.now places.now }
+        requires all { (slot : ℕ) → HasPlace places.now slot → slot < slots }
+        ensures { IfOk result (Spares (HasMap (IsMapIn self.now.direction
+            (map literal_of self.now.formula.now))) places.now) }
+    {
+        if passed == 0 || self.formula.len() == 0 {
+            return Ok(Holders::all(self.alloc));
+        }
+        match self.direction {
+            Direction::ToFormula => Ok(Holders::all(self.alloc)),
+            Direction::FromFormula => Holders::of(index, places, slots, self.formula.at(0)),
+        }
+    }
+
+    /// The clauses that have a map, each with the least. Only those are tried whose rows and
+    /// literals allow one; no clause says so.
     fn mapped_clauses(&self, index: &Index) -> Result<Mappeds, AllocError>
         requires { AreSoundLiterals (map literal_of self.now.formula.now) }
         ensures { IfOk result (AreMappedFrom (IsMapIn self.now.direction
@@ -127,21 +155,33 @@ impl<'a> Comparison<'a> {
         let (places, rows) = index.slots_and_rows();
         let mut slots = Vec::new(self.alloc);
         self.pass(&row, rows, &mut slots)?;
-        self.try_slots(&places, slots.as_slice())
+        let holders = self.holders(index, &places, rows.len(), slots.len())?;
+        self.try_slots(&places, &holders, slots.as_slice())
     }
 
     /// The clauses in these slots that have a map, each with the least.
-    fn try_slots(&self, places: &Places<'_, Clause>, slots: &[u32]) -> Result<Mappeds, AllocError>
+    fn try_slots(
+        &self,
+        places: &Places<'_, Clause>,
+        holders: &Holders,
+        slots: &[u32],
+    ) -> Result<Mappeds, AllocError>
         requires formula { AreSoundLiterals (map literal_of self.now.formula.now) }
         requires clauses { AllByRecursion IsSoundClause (clauses_of (placed_items places.now)) }
         requires few { length places.now ≤ MOST_OCCURRENCES }
         requires rise { PlacesRise places.now }
+        requires spares { Spares (HasMap (IsMapIn self.now.direction
+            (map literal_of self.now.formula.now))) places.now holders.now }
         ensures { IfOk result (TriesSlots (IsMapIn self.now.direction
             (map literal_of self.now.formula.now)) places.now slots.now []) }
     {
         let mut mappeds = Mappeds::new(self.alloc);
         for i in 0..slots.len() {
-            self.try_slot(places, slots[i] as usize, &mut mappeds)?;
+            let slot = slots[i] as usize;
+            if holders.rules_out(slot) {
+                continue;
+            }
+            self.try_slot(places, slot, &mut mappeds)?;
         }
         Ok(mappeds)
     }

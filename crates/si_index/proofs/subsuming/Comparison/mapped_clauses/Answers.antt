@@ -1,5 +1,6 @@
 use Rattle.std.proofs.Common.{[], map, sym, subst, subst₂}
 use Rattle.std.specs.List.{AllByRecursion}
+use Rattle.std.proofs.lemmas.Option.{slice_get_within}
 use Rattle.std.proofs.lemmas.Result.{IfOk-weaker}
 use Rattle.si_defs.specs.Clauses.{AreSoundLiterals, IsSoundClause}
 use Rattle.si_term.specs.Meaning.{literal_of}
@@ -14,6 +15,11 @@ use Rattle.si_index.proofs.subsuming.Comparison.mapped_clauses.Goals as goal
 
 pub of-requires : goal.of-requires
 of-requires c = record { sound = subst (λ ls. AreSoundLiterals (map literal_of ls)) (sym c.as_slice-literals.ensures) c.requires }
+
+pub holders-requires-clause-all : goal.holders-requires-clause-all
+holders-requires-clause-all c slot there =
+    let own = c.slots_and_rows-places.ensures.rows slot there.0.0 there.0.1 there.1 in
+    slice_get_within c.slots_and_rows-places.result.1.now slot own.0 own.1
 
 pub try_slots-requires-clause-clauses : goal.try_slots-requires-clause-clauses
 try_slots-requires-clause-clauses c = subst (AllByRecursion IsSoundClause) (sym c.slots_and_rows-places.ensures.slots.clauses) c.slots_and_rows-places.ensures.stored.sound

@@ -6,6 +6,7 @@ pub mod ExactLists
 pub mod Below
 pub mod Finding
 pub mod Entering
+pub mod Opening
 pub mod Depths
 pub mod Visiting
 pub mod FreeLaws

@@ -37,28 +37,28 @@ ends_unbound slots pairs slot (terms.var x) bindings range h = subst (IsUnbound 
   ]
 
 -- ---- ranks by cells
-below_of : (slots : Slots) (rank : ℕ → ℕ) (k : ℕ) (c : Cell) → RanksBelow slots rank k c → IsBelow rank k (cell_slot slots c)
+pub below_of : (slots : Slots) (rank : ℕ → ℕ) (k : ℕ) (c : Cell) → RanksBelow slots rank k c → IsBelow rank k (cell_slot slots c)
 below_of slots rank k (cell.App s a n) h = tt
 below_of slots rank k (cell.Query n) h = h
 below_of slots rank k (cell.Entry n) h = h
 below_of slots rank k (cell.Ind n) h = h
 
-of_below : (slots : Slots) (rank : ℕ → ℕ) (k : ℕ) (c : Cell) → IsBelow rank k (cell_slot slots c) → RanksBelow slots rank k c
+pub of_below : (slots : Slots) (rank : ℕ → ℕ) (k : ℕ) (c : Cell) → IsBelow rank k (cell_slot slots c) → RanksBelow slots rank k c
 of_below slots rank k (cell.App s a n) h = tt
 of_below slots rank k (cell.Query n) h = h
 of_below slots rank k (cell.Entry n) h = h
 of_below slots rank k (cell.Ind n) h = h
 
 -- no cell's slot ranks higher
-abbrev slot_rank : (ℕ → ℕ) → Option ℕ → ℕ
+abbrev pub slot_rank : (ℕ → ℕ) → Option ℕ → ℕ
 slot_rank rank None = 0
 slot_rank rank (Some k) = rank k
 
-abbrev top_rank : Slots → (ℕ → ℕ) → List Cell → ℕ
+abbrev pub top_rank : Slots → (ℕ → ℕ) → List Cell → ℕ
 top_rank slots rank [] = 0
 top_rank slots rank (c ∷ cells) = slot_rank rank (cell_slot slots c) + top_rank slots rank cells
 
-none_higher : (slots : Slots) (rank : ℕ → ℕ) (cells : List Cell) → AllByRecursion (λ c. slot_rank rank (cell_slot slots c) ≤ top_rank slots rank cells) cells
+pub none_higher : (slots : Slots) (rank : ℕ → ℕ) (cells : List Cell) → AllByRecursion (λ c. slot_rank rank (cell_slot slots c) ≤ top_rank slots rank cells) cells
 none_higher slots rank [] = tt
 none_higher slots rank (c ∷ cells) = (
   omega arith,

@@ -1,5 +1,6 @@
 -- The turns of a loop that makes bindings fit.
-use Rattle.std.proofs.Common.{◌≡◌, ◌↔◌, ℕ, Bool, true, false, List, [], ◌∷◌, sym, subst, append-nil}
+use Rattle.std.proofs.Common.{◌≡◌, ◌↔◌, ℕ, Bool, true, false, List, [], ◌∷◌, ◌++◌, sym, subst, append-nil}
+use Rattle.std.specs.List.{AllByRecursion}
 use Rattle.si_defs.specs.Substitutions.{Substitution, image, Grows}
 use Rattle.si_flat.specs.declared.Cell.{Cell}
 use Rattle.si_flat.specs.declared.Cell.TheVariants as cell
@@ -9,6 +10,8 @@ use Rattle.si_defs.specs.Terms as terms
 use Rattle.si_unify.specs.declared.slots.Slots.{Slots}
 use Rattle.si_unify.specs.Solving.{Pairs, CellIsInRange, AreInRange, IsSolution, HasSolved}
 use Rattle.si_unify.proofs.Comparing.{grows_on}
+use Rattle.si_fit.specs.Fresh.{StandOnce, IsUntold, AreFresh}
+use Rattle.si_fit.proofs.FillTurns.{row_once, still_fresh}
 use Rattle.si_fit.specs.Fitting.{AllowsSolving, AreRowsInRange, EqualizesRows, HasSolution, HasFitted}
 
 pub no_more : {X : Type 0} (xs : List X) → Grows xs xs
@@ -29,19 +32,30 @@ module _ (slots : Slots) (old : Pairs) (rows : List CellPair) (count : ℕ) wher
     pub grows : Grows old pairs
     pub ready : AllowsSolving slots pairs count
     pub range : AreRowsInRange slots left
+    pub fresh : AreFresh slots pairs left
 
-  pub fits_start : (left : List CellPair) → left ≡ rows → HasSolution slots old → AllowsSolving slots old count → AreRowsInRange slots rows → FitsSoFar old left
-  fits_start left e some ready range = record {
+  pub fits_start : (left : List CellPair) → left ≡ rows → HasSolution slots old → AllowsSolving slots old count → AreRowsInRange slots rows → AreFresh slots old rows → FitsSoFar old left
+  fits_start left e some ready range fresh = record {
     so_far = subst (λ l. (s : Substitution Symbol Variable) → (IsSolution slots old s × EqualizesRows (image same_variable s) l) ↔ (IsSolution slots old s × EqualizesRows (image same_variable s) rows)) (sym e) (λ s. (λ h. h, λ h. h));
     some = some;
     grows = no_more old;
     ready = ready;
     range = subst (AreRowsInRange slots) (sym e) range;
+    fresh = subst (AreFresh slots old) (sym e) fresh;
   }
 
   module _ (pairs : Pairs) (left rest : List CellPair) (row : CellPair) (first : left ≡ row ∷ rest) (h : FitsSoFar pairs left) where
     pub row_range : CellIsInRange slots (cell.Ind row.0) × AreInRange slots row.1
     row_range = (subst (AreRowsInRange slots) first h.range).0
+
+    abbrev fresh : AreFresh slots pairs (row ∷ rest)
+    fresh = subst (AreFresh slots pairs) first h.fresh
+
+    pub row_fresh : (s t : List Cell) → s ≡ cell.Ind row.0 ∷ [] → t ≡ row.1 → StandOnce (s ++ t) × AllByRecursion (IsUntold slots pairs) t
+    row_fresh s t e f = (
+      subst (λ l. StandOnce (l ++ t)) (sym e) (subst (λ l. StandOnce (cell.Ind row.0 ∷ l)) (sym f) (row_once slots pairs row rest fresh)),
+      subst (AllByRecursion (IsUntold slots pairs)) (sym f) fresh.untold.0,
+    )
 
     so_far : (s : Substitution Symbol Variable) → (IsSolution slots pairs s × EqualizesRows (image same_variable s) (row ∷ rest)) ↔ (IsSolution slots old s × EqualizesRows (image same_variable s) rows)
     so_far = subst (λ l. (s : Substitution Symbol Variable) → (IsSolution slots pairs s × EqualizesRows (image same_variable s) l) ↔ (IsSolution slots old s × EqualizesRows (image same_variable s) rows)) first h.so_far
@@ -56,6 +70,7 @@ module _ (slots : Slots) (old : Pairs) (rows : List CellPair) (count : ℕ) wher
       grows = grows_on old pairs new h.grows grows;
       ready = ready;
       range = (subst (AreRowsInRange slots) first h.range).1;
+      fresh = still_fresh slots pairs row rest fresh new both;
     } where
       both : HasSolved slots pairs new (cell.Ind row.0 ∷ []) row.1 true
       both = subst (λ l. HasSolved slots pairs new l row.1 true) e (subst (λ l. HasSolved slots pairs new s l true) f (subst (HasSolved slots pairs new s t) is solved))

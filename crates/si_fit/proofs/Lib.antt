@@ -6,3 +6,5 @@ pub mod BindLaws
 pub mod MeetLaws
 pub mod WalkLaws
 pub mod PairLaws
+pub mod FreshLaws
+pub mod FillTurns

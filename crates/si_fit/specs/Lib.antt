@@ -2,3 +2,4 @@ pub mod Fitting
 pub mod Ends
 pub mod Meeting
 pub mod Occurring
+pub mod Fresh

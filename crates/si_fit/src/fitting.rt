@@ -1,13 +1,15 @@
 // Bindings that are made to fit those of a trail.
-ghost use Rattle.std.specs.Prelude.{◌≡◌, IfOk};
+ghost use Rattle.std.specs.Prelude.{◌≡◌, ◌++◌, IfOk};
+ghost use Rattle.std.specs.List.{AllByRecursion};
 ghost use Rattle.si_defs.specs.Substitutions.{Grows};
 ghost use Rattle.si_flat.specs.Cells.{IsWhole};
 ghost use Rattle.si_unify.specs.Solving.{AreInRange, HasSolved};
 ghost use Rattle.si_fit.specs.Fitting.{AllowsSolving, AreRowsInRange, HasFitted, HasSolution};
+ghost use Rattle.si_fit.specs.Fresh.{StandOnce, IsUntold, AreFresh};
 
 use crate::ends::end_of;
+use crate::filling::fill_any;
 use crate::meeting::Met;
-use crate::walking::meet_any;
 use si_flat::{Bindings, Cell};
 use si_trail::Trail;
 use si_unify::{Scratch, Slots, solve_with};
@@ -29,7 +31,10 @@ fn fit_pair<'a>(
     requires right { IsWhole right.now }
     requires left_range { AreInRange slots.now left.now }
     requires right_range { AreInRange slots.now right.now }
+    requires solution { HasSolution slots.now trail.old.pairs }
     requires ready { AllowsSolving slots.now trail.old.pairs trail.old.slots }
+    requires once { StandOnce (left.now ++ right.now) }
+    requires untold { AllByRecursion (IsUntold slots.now trail.old.pairs) right.now }
     ensures solved { IfOk result (HasSolved slots.now trail.old.pairs trail.new.pairs left.now
         right.now) }
     ensures grows { Grows trail.old.pairs trail.new.pairs }
@@ -39,7 +44,7 @@ fn fit_pair<'a>(
     let mark = trail.mark();
     let end = end_of(trail, slots, left);
     let mut budget = MOST_FOLLOWED;
-    match meet_any(trail, slots, end, right, &mut budget) {
+    match fill_any(trail, slots, end, right, &mut budget) {
         Met::Equal => {
             // So no slot of the trail is known to be bound twice.
             trail.mark();
@@ -66,6 +71,7 @@ pub fn fit<'a>(
     requires range { AreRowsInRange slots.now bindings.now }
     requires solution { HasSolution slots.now trail.old.pairs }
     requires ready { AllowsSolving slots.now trail.old.pairs trail.old.slots }
+    requires fresh { AreFresh slots.now trail.old.pairs bindings.now }
     ensures fits { IfOk result (HasFitted slots.now trail.old.pairs trail.new.pairs bindings.now) }
     ensures grows { Grows trail.old.pairs trail.new.pairs }
     ensures ready { AllowsSolving slots.now trail.new.pairs trail.new.slots }

@@ -2,6 +2,7 @@
 #![tactic(auto)]
 
 mod ends;
+mod filling;
 mod fitting;
 mod meeting;
 mod occurring;

@@ -165,31 +165,6 @@ fn meet_unbound<'a>(
     bind(trail, slots, slot, left, budget)
 }
 
-/// Makes two terms equal.
-#[inline(always)]
-pub(crate) fn meet_any<'a>(
-    trail: &mut Trail<&'a [Cell]>,
-    slots: &Slots,
-    left: &'a [Cell],
-    right: &'a [Cell],
-    budget: &mut u32,
-) -> Met
-    requires left { IsWhole left.now }
-    requires right { IsWhole right.now }
-    requires left_range { AreInRange slots.now left.now }
-    requires right_range { AreInRange slots.now right.now }
-    requires ready { AllowsSolving slots.now trail.old.pairs trail.old.slots }
-    ensures met { HasMet slots.now trail.old.pairs trail.new.pairs left.now right.now result }
-    ensures grows { Grows trail.old.pairs trail.new.pairs }
-    ensures ready { AllowsSolving slots.now trail.new.pairs trail.new.slots }
-    ensures slots { trail.new.slots ≡ trail.old.slots }
-{
-    if have_same_symbol(left[0], right[0]) {
-        return walk(trail, slots, left, right, budget);
-    }
-    meet(trail, slots, left, right, budget)
-}
-
 /// Makes two terms equal that don't have the same symbol at the head.
 #[cycle(walking)]
 #[inline(always)]

@@ -1,6 +1,7 @@
 use Rattle.std.proofs.Common.{subst, arith}
 use Rattle.si_fit.specs.Fitting.{HasFitted}
 use Rattle.si_descend.proofs.Entering.{entered_range, never_entered}
+use Rattle.si_descend.proofs.Opening.{entered_fresh}
 use Rattle.si_descend.proofs.Entered.{entered_plain, entered_variants, known_taken, notes_new, plain_notes, room_taken, instances_differ, generalizations_differ, unifiable_differ}
 use Rattle.si_descend.proofs.search.enter.Goals as goal
 
@@ -8,6 +9,11 @@ pub fit-requires-clause-range : goal.fit-requires-clause-range
 fit-requires-clause-range c =
     let node = c.requires.node in
     entered_range c.args.search.now c.requires.ready c.args.node node.0 node.1 c.bindings.result.now (c.bindings.ensures node.0 node.1) c.args.trail.now.pairs (c.requires.above node.0 node.1)
+
+pub fit-requires-clause-fresh : goal.fit-requires-clause-fresh
+fit-requires-clause-fresh c =
+    let node = c.requires.node in
+    entered_fresh c.args.search.now c.requires.ready c.args.node node.0 node.1 c.bindings.result.now (c.bindings.ensures node.0 node.1) c.args.trail.now.pairs (c.requires.above node.0 node.1)
 
 pub fit-requires-clause-solution : goal.fit-requires-clause-solution
 fit-requires-clause-solution c = (c.requires.above c.requires.node.0 c.requires.node.1).solution

@@ -1,6 +1,6 @@
 use Rattle.std.proofs.Common.{◌∙◌, subst}
 use Rattle.si_fit.specs.Fitting.{AllowsSolving}
-use Rattle.si_fit.proofs.FitTurns.{indicator_whole, fits_more, fits_not, fits_end}
+use Rattle.si_fit.proofs.FitTurns.{indicator_whole, row_fresh, fits_more, fits_not, fits_end}
 use Rattle.si_fit.proofs.fitting.fit.Goals as goal
 
 pub fit_pair-requires-clause-left : goal.fit_pair-requires-clause-left
@@ -24,3 +24,11 @@ loop-pair-preserved c = record {
 pub returns-clause-fits : goal.returns-clause-fits
 returns-clause-fits c =
     fits_end c.args.slots.now c.args.trail.now.pairs c.args.bindings.now c.args.trail.now.slots c.loop-pair.trail.pairs c.loop-pair.pair-iterator c.in-None.ensures.steps.0 c.loop-pair.invariant.fits_so_far
+
+pub fit_pair-requires-clause-once : goal.fit_pair-requires-clause-once
+fit_pair-requires-clause-once c =
+    (row_fresh c.args.slots.now c.args.trail.now.pairs c.args.bindings.now c.args.trail.now.slots c.loop-pair.trail.pairs c.loop-pair.pair-iterator c.next.new.self c.in-Some.pair c.in-Some.ensures.steps c.loop-pair.invariant.fits_so_far c.left_cells-left.result.now c.right-right.result.now c.left_cells-left.ensures c.right-right.ensures.cells).0
+
+pub fit_pair-requires-clause-untold : goal.fit_pair-requires-clause-untold
+fit_pair-requires-clause-untold c =
+    (row_fresh c.args.slots.now c.args.trail.now.pairs c.args.bindings.now c.args.trail.now.slots c.loop-pair.trail.pairs c.loop-pair.pair-iterator c.next.new.self c.in-Some.pair c.in-Some.ensures.steps c.loop-pair.invariant.fits_so_far c.left_cells-left.result.now c.right-right.result.now c.left_cells-left.ensures c.right-right.ensures.cells).1

@@ -6,31 +6,39 @@ use Rattle.si_unify.proofs.Answering.{front_of}
 use Rattle.si_fit.specs.declared.meeting.Met.TheVariants.{Equal, Clash}
 use Rattle.si_fit.proofs.MeetLaws.{end_met}
 use Rattle.si_fit.proofs.PairLaws.{met_solved, clash_unsolved, still_grows}
+use Rattle.si_fit.proofs.FillTurns.{once_back, end_new}
 use Rattle.si_fit.proofs.fitting.fit_pair.Goals as goal
 
 pub returns-in-Equal-clause-solved : goal.returns-in-Equal-clause-solved
 returns-in-Equal-clause-solved c =
-    met_solved c.args.slots.now c.args.trail.now.pairs c.meet_any.new.trail.pairs c.args.left.now c.args.right.now
-    c.meet_any.new.trail.slots
-    (end_met c.args.slots.now c.args.trail.now.pairs c.meet_any.new.trail.pairs c.args.left.now c.end_of-end.result.now c.args.right.now Equal c.end_of-end.ensures.ends c.in-Equal.ensures.met)
-    c.meet_any.ensures.ready c.mark.ensures.distinct
+    met_solved c.args.slots.now c.args.trail.now.pairs c.fill_any.new.trail.pairs c.args.left.now c.args.right.now
+    c.fill_any.new.trail.slots
+    (end_met c.args.slots.now c.args.trail.now.pairs c.fill_any.new.trail.pairs c.args.left.now c.end_of-end.result.now c.args.right.now Equal c.end_of-end.ensures.ends c.in-Equal.ensures.met)
+    c.fill_any.ensures.ready c.mark.ensures.distinct
 
-pub meet_any-requires-clause-left : goal.meet_any-requires-clause-left
-meet_any-requires-clause-left c = (c.end_of-end.ensures.ends.last, c.end_of-end.ensures.ends.last_stands)
+pub fill_any-requires-clause-left : goal.fill_any-requires-clause-left
+fill_any-requires-clause-left c = (c.end_of-end.ensures.ends.last, c.end_of-end.ensures.ends.last_stands)
+
+pub fill_any-requires-clause-once : goal.fill_any-requires-clause-once
+fill_any-requires-clause-once c = once_back c.args.left.now c.args.right.now c.requires.once
+
+pub fill_any-requires-clause-fresh : goal.fill_any-requires-clause-fresh
+fill_any-requires-clause-fresh c =
+    end_new c.args.slots.now c.args.trail.now.pairs c.args.left.now c.end_of-end.result.now c.args.right.now c.args.trail.now.slots c.requires.solution c.requires.ready c.requires.once c.requires.untold c.end_of-end.ensures.ends
 
 pub returns-in-Clash-clause-solved : goal.returns-in-Clash-clause-solved
 returns-in-Clash-clause-solved c =
-    clash_unsolved c.args.slots.now c.args.trail.now.pairs c.meet_any.new.trail.pairs c.args.left.now c.args.right.now
-    (end_met c.args.slots.now c.args.trail.now.pairs c.meet_any.new.trail.pairs c.args.left.now c.end_of-end.result.now c.args.right.now Clash c.end_of-end.ensures.ends c.in-Clash.ensures.met)
+    clash_unsolved c.args.slots.now c.args.trail.now.pairs c.fill_any.new.trail.pairs c.args.left.now c.args.right.now
+    (end_met c.args.slots.now c.args.trail.now.pairs c.fill_any.new.trail.pairs c.args.left.now c.end_of-end.result.now c.args.right.now Clash c.end_of-end.ensures.ends c.in-Clash.ensures.met)
 
 pub returns-in-Unknown-clause-solved : goal.returns-in-Unknown-clause-solved
 returns-in-Unknown-clause-solved c =
     subst (λ l. IfOk c.solve_with.result (HasSolved c.args.slots.now l c.solve_with.new.trail.pairs c.args.left.now c.args.right.now))
-    (c.undo.ensures.pairs ∙ ap (λ n. take n c.meet_any.new.trail.pairs) c.mark-mark.ensures.number ∙ front_of c.args.trail.now.pairs c.meet_any.new.trail.pairs c.meet_any.ensures.grows)
+    (c.undo.ensures.pairs ∙ ap (λ n. take n c.fill_any.new.trail.pairs) c.mark-mark.ensures.number ∙ front_of c.args.trail.now.pairs c.fill_any.new.trail.pairs c.fill_any.ensures.grows)
     c.solve_with.ensures.solved
 
 pub returns-in-Unknown-clause-grows : goal.returns-in-Unknown-clause-grows
 returns-in-Unknown-clause-grows c =
     subst (λ l. Grows l c.solve_with.new.trail.pairs)
-    (c.undo.ensures.pairs ∙ ap (λ n. take n c.meet_any.new.trail.pairs) c.mark-mark.ensures.number ∙ front_of c.args.trail.now.pairs c.meet_any.new.trail.pairs c.meet_any.ensures.grows)
+    (c.undo.ensures.pairs ∙ ap (λ n. take n c.fill_any.new.trail.pairs) c.mark-mark.ensures.number ∙ front_of c.args.trail.now.pairs c.fill_any.new.trail.pairs c.fill_any.ensures.grows)
     (still_grows c.undo.new.self.pairs c.solve_with.new.trail.pairs c.solve_with.result c.solve_with.ensures.grows c.solve_with.ensures.no c.solve_with.ensures.err)

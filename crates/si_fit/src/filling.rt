@@ -1,0 +1,125 @@
+// The walk over a term and a right side whose indicators are fresh.
+ghost use Rattle.std.specs.Prelude.{◌≡◌, IsTrue, get_or};
+ghost use Rattle.std.specs.List.{AllByRecursion};
+ghost use Rattle.si_defs.specs.Substitutions.{Grows};
+ghost use Rattle.si_flat.specs.declared.Cell.TheVariants.{App};
+ghost use Rattle.si_flat.specs.Cells.{IsWhole};
+ghost use Rattle.si_unify.specs.Solving.{AreInRange};
+ghost use Rattle.si_fit.specs.Fitting.{AllowsSolving};
+ghost use Rattle.si_fit.specs.Fresh.{StandOnce, IsNew};
+ghost use Rattle.si_fit.specs.Meeting.{same_symbol, HasMet};
+
+use crate::ends::end_of;
+use crate::meeting::{Met, have_same_symbol};
+use crate::walking::meet;
+use si_flat::{Cell, sub};
+use si_trail::Trail;
+use si_unify::Slots;
+
+// Makes a term equal to a right side, each indicator of which is bound to what stands in its place
+// without a look at the trail.
+#[inline(never)]
+fn fill<'a>(
+    trail: &mut Trail<&'a [Cell]>,
+    slots: &Slots,
+    left: &'a [Cell],
+    right: &'a [Cell],
+    budget: &mut u32,
+) -> Met
+    requires left { IsWhole left.now }
+    requires right { IsWhole right.now }
+    requires left_range { AreInRange slots.now left.now }
+    requires right_range { AreInRange slots.now right.now }
+    requires ready { AllowsSolving slots.now trail.old.pairs trail.old.slots }
+    requires once { StandOnce right.now }
+    requires fresh { AllByRecursion (IsNew slots.now trail.old.pairs left.now) right.now }
+    ensures met { HasMet slots.now trail.old.pairs trail.new.pairs left.now right.now result }
+    ensures grows { Grows trail.old.pairs trail.new.pairs }
+    ensures ready { AllowsSolving slots.now trail.new.pairs trail.new.slots }
+    ensures slots { trail.new.slots ≡ trail.old.slots }
+{
+    let mut i = 0;
+    let mut j = 0;
+    while j < right.len() {
+        if have_same_symbol(left[i], right[j]) {
+            i += 1;
+            j += 1;
+            continue;
+        }
+        let one = sub(left, i);
+        let other = sub(right, j);
+        match fill_one(trail, slots, one, other, budget) {
+            Met::Equal => {
+                // So no slot of the trail is known to be bound twice.
+                trail.mark();
+                i += one.len();
+                j += other.len();
+            }
+            Met::Clash => return Met::Clash,
+            Met::Unknown => return Met::Unknown,
+        }
+    }
+    Met::Equal
+}
+
+// Makes two terms equal that don't have the same symbol at the head, and of which the second may be
+// a fresh indicator.
+#[inline(always)]
+fn fill_one<'a>(
+    trail: &mut Trail<&'a [Cell]>,
+    slots: &Slots,
+    left: &'a [Cell],
+    right: &'a [Cell],
+    budget: &mut u32,
+) -> Met
+    requires left { IsWhole left.now }
+    requires right { IsWhole right.now }
+    requires left_range { AreInRange slots.now left.now }
+    requires right_range { AreInRange slots.now right.now }
+    requires ready { AllowsSolving slots.now trail.old.pairs trail.old.slots }
+    requires differ { IsTrue (same_symbol (get_or left.now 0 (App 0 0 0))
+        (get_or right.now 0 (App 0 0 0))) → ⊥ }
+    requires fresh { IsNew slots.now trail.old.pairs left.now (get_or right.now 0 (App 0 0 0)) }
+    ensures met { HasMet slots.now trail.old.pairs trail.new.pairs left.now right.now result }
+    ensures grows { Grows trail.old.pairs trail.new.pairs }
+    ensures ready { AllowsSolving slots.now trail.new.pairs trail.new.slots }
+    ensures slots { trail.new.slots ≡ trail.old.slots }
+{
+    let first = right[0];
+    if let Cell::Ind(number) = first {
+        // So no slot of the trail is known to be bound twice.
+        trail.mark();
+        let end = end_of(trail, slots, left);
+        let slot = slots.query as usize + slots.entry as usize + number as usize;
+        trail.bind(slot, end);
+        return Met::Equal;
+    }
+    meet(trail, slots, left, right, budget)
+}
+
+/// Makes a term equal to a right side.
+#[inline(always)]
+pub(crate) fn fill_any<'a>(
+    trail: &mut Trail<&'a [Cell]>,
+    slots: &Slots,
+    left: &'a [Cell],
+    right: &'a [Cell],
+    budget: &mut u32,
+) -> Met
+    requires left { IsWhole left.now }
+    requires right { IsWhole right.now }
+    requires left_range { AreInRange slots.now left.now }
+    requires right_range { AreInRange slots.now right.now }
+    requires ready { AllowsSolving slots.now trail.old.pairs trail.old.slots }
+    requires once { StandOnce right.now }
+    requires fresh { AllByRecursion (IsNew slots.now trail.old.pairs left.now) right.now }
+    ensures met { HasMet slots.now trail.old.pairs trail.new.pairs left.now right.now result }
+    ensures grows { Grows trail.old.pairs trail.new.pairs }
+    ensures ready { AllowsSolving slots.now trail.new.pairs trail.new.slots }
+    ensures slots { trail.new.slots ≡ trail.old.slots }
+{
+    if have_same_symbol(left[0], right[0]) {
+        return fill(trail, slots, left, right, budget);
+    }
+    fill_one(trail, slots, left, right, budget)
+}

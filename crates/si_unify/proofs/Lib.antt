@@ -1,6 +1,7 @@
 pub mod Reading
 pub mod Lists
 pub mod StateLaws
+pub mod HeightLaws
 pub mod Places
 pub mod Chains
 pub mod Pieces

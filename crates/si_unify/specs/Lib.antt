@@ -2,4 +2,5 @@ pub mod Solving
 pub mod Spots
 pub mod Circles
 pub mod States
+pub mod Heights
 pub mod Scratch

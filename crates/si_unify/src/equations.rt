@@ -1,5 +1,6 @@
 // One equation: between the heads at two spots.
 ghost use Rattle.std.specs.Prelude.{◌≡◌, ◌≤◌, false, Ok, IfOk, OnErr};
+ghost use Rattle.si_unify.specs.Heights.{is_right_lower};
 ghost use Rattle.si_unify.specs.Solving.{slot_count};
 ghost use Rattle.si_unify.specs.Spots.{same_slot, common_arity, IsLegal, IsSubterm, IsEnd, ArePairs, HasMet};
 
@@ -43,7 +44,9 @@ fn turns(
     question: &Question<'_>,
     left: Option<usize>,
     right: Option<usize>,
-) -> Result<bool, AllocError> {
+) -> Result<bool, AllocError>
+    ensures { IfOk result (λ turned. turned ≡ is_right_lower heights.old left right) }
+{
     match (left, right) {
         (Some(left), Some(right)) => heights.turns(question.slots.count(), left, right),
         _ => Ok(false),

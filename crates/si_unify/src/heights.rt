@@ -1,5 +1,6 @@
 // How long the chains of variables are that end at each slot.
-ghost use Rattle.std.specs.Prelude.{◌≡◌, []};
+ghost use Rattle.std.specs.Prelude.{◌≡◌, [], IfOk, OnOk};
+ghost use Rattle.si_unify.specs.Heights.{height, is_lower, IsRaised, HaveMet};
 
 use std::alloc::{AllocError, Global};
 use std::marker::Model;
@@ -33,12 +34,16 @@ impl Heights {
         }
     }
 
-    fn height(&self, slot: usize) -> u8 {
+    fn height(&self, slot: usize) -> u8
+        ensures { result ≡ height self.now slot }
+    {
         *self.heights.get(slot).unwrap_or(&0)
     }
 
     // Makes a slot, of so many, higher by one.
-    fn raise(&mut self, count: usize, slot: usize) -> Result<(), AllocError> {
+    fn raise(&mut self, count: usize, slot: usize) -> Result<(), AllocError>
+        ensures { OnOk result (IsRaised count slot self.old self.new) }
+    {
         if self.heights.len() < count {
             self.heights.resize(count, 0)?;
         }
@@ -55,7 +60,10 @@ impl Heights {
         count: usize,
         left: usize,
         right: usize,
-    ) -> Result<bool, AllocError> {
+    ) -> Result<bool, AllocError>
+        ensures turned { IfOk result (λ turned. turned ≡ is_lower self.old right left) }
+        ensures met { OnOk result (HaveMet count left right self.old self.new) }
+    {
         let left_height = self.height(left);
         let right_height = self.height(right);
         if left_height == right_height {

@@ -1,5 +1,8 @@
 // Tasks, and how they are written.
-ghost use Rattle.std.specs.Prelude.{◌≤◌, IfSome};
+ghost use Rattle.std.specs.Prelude.{◌≡◌, ◌≤◌, IfSome, IfNone};
+ghost use Rattle.si_measure.specs.declared.task.Kind.{Kind};
+ghost use Rattle.si_measure.specs.declared.task.Task.{Task};
+ghost use Rattle.si_measure.specs.Tasks.{kind_text, IsNamedBy};
 
 /// No terms of more equations or cells are made.
 pub(crate) const LARGEST: u32 = 1_000_000;
@@ -33,21 +36,40 @@ pub(crate) struct Task {
     pub(crate) times: u32,
 }
 
+impl Kind {
+    /// The kind with this word.
+    fn named(word: &str) -> Option<Kind>
+        ensures found { IfSome result (λ kind. word.now ≡ kind_text kind) }
+        ensures none { IfNone result ((kind : Kind) → word.now ≡ kind_text kind → ⊥) }
+    {
+        match word {
+            "one" => Some(Kind::Towers(Shape::One)),
+            "both" => Some(Kind::Towers(Shape::Both)),
+            "shifted" => Some(Kind::Towers(Shape::Shifted)),
+            "pair" => Some(Kind::Pair),
+            _ => None,
+        }
+    }
+}
+
 impl Task {
-    /// The task that a line names by three words.
+    /// The task that the first three words of a line name.
     pub(crate) fn read(line: &str) -> Option<Task>
-        ensures { IfSome result (λ t. t.size ≤ LARGEST) }
+        ensures { IfSome result (λ task. task.size ≤ LARGEST) }
     {
         let mut words = line.split_whitespace();
-        let kind = match words.next()? {
-            "one" => Kind::Towers(Shape::One),
-            "both" => Kind::Towers(Shape::Both),
-            "shifted" => Kind::Towers(Shape::Shifted),
-            "pair" => Kind::Pair,
-            _ => return None,
-        };
-        let size = words.next()?.parse::<u32>().ok()?;
-        let times = words.next()?.parse::<u32>().ok()?;
+        Task::named(words.next()?, words.next()?, words.next()?)
+    }
+
+    /// The task with these words.
+    fn named(kind: &str, size: &str, times: &str) -> Option<Task>
+        ensures found { IfSome result (IsNamedBy kind.now size.now times.now) }
+        ensures none { IfNone result ((task : Task)
+            → IsNamedBy kind.now size.now times.now task → ⊥) }
+    {
+        let kind = Kind::named(kind)?;
+        let size = size.parse::<u32>().ok()?;
+        let times = times.parse::<u32>().ok()?;
         if size > LARGEST {
             return None;
         }

@@ -18,11 +18,11 @@ use Rattle.si_trail.specs.Trails.{value_at}
 use Rattle.si_unify.specs.declared.slots.Slots.{Slots}
 use Rattle.si_unify.specs.declared.states.State.{State}
 use Rattle.si_unify.specs.declared.states.State.TheVariants.{New, Open, Done}
-use Rattle.si_unify.specs.declared.circles.Task.{Task}
-use Rattle.si_unify.specs.declared.circles.Task.TheVariants.{Enter, Leave}
+use Rattle.si_unify.specs.declared.circles.Visit.{Visit}
+use Rattle.si_unify.specs.declared.circles.Visit.TheVariants.{Enter, Leave}
 use Rattle.si_unify.specs.Solving.{Pairs, slot_count, IsTriangularBy, RanksBelow, IsBinding}
 use Rattle.si_unify.specs.Spots.{cell_slot}
-use Rattle.si_unify.specs.Circles.{if_value, if_bound, with_slot, bound_slots, weight, HasStepped, HasDone, enter_each, pile, tasks_of, AreEntered, below_value, slots_below, task_slot, task_slots, IsDone, AreCovered, RanksUnder, ComeDown, AreRanked, leave_slots, IsSearching, StayDone, HasSearched}
+use Rattle.si_unify.specs.Circles.{if_value, if_bound, with_slot, bound_slots, weight, HasStepped, HasDone, enter_each, pile, visits_of, AreEntered, below_value, slots_below, visit_slot, visit_slots, IsDone, AreCovered, RanksUnder, ComeDown, AreRanked, leave_slots, IsSearching, StayDone, HasSearched}
 use Rattle.si_unify.proofs.Places.{all_at}
 
 -- ---- states of slots
@@ -47,7 +47,7 @@ done_before_open states slot other less done =
       | inr h ↦ sym (set_other states slot other Open h.1) ∙ done
     ]
 
--- ---- covered tasks
+-- ---- covered visits
 still_among : (states : List State) (one two : List ℕ) (x : ℕ) → ((z : ℕ) → IsAmong one z → IsDone states z ⊎ IsAmong two z) → (z : ℕ) → IsAmong (x ∷ one) z → IsDone states z ⊎ IsAmong (x ∷ two) z
 still_among states one two x give z h =
     elim h [
@@ -56,23 +56,23 @@ still_among states one two x give z h =
     ]
 
 covered_still :
-    (slots : Slots) (pairs : Pairs) (states new : List State) (one two : List ℕ) (tasks : List Task)
+    (slots : Slots) (pairs : Pairs) (states new : List State) (one two : List ℕ) (visits : List Visit)
     → StayDone states new
     → ((z : ℕ) → IsAmong one z → IsDone new z ⊎ IsAmong two z)
-    → AreCovered slots pairs states one tasks
-    → AreCovered slots pairs new two tasks
+    → AreCovered slots pairs states one visits
+    → AreCovered slots pairs new two visits
 covered_still slots pairs states new one two [] stay give h = tt
-covered_still slots pairs states new one two (Enter slot ∷ tasks) stay give h =
-    (tt, covered_still slots pairs states new (slot ∷ one) (slot ∷ two) tasks stay (still_among new one two slot give) h.1)
-covered_still slots pairs states new one two (Leave slot ∷ tasks) stay give h = (
+covered_still slots pairs states new one two (Enter slot ∷ visits) stay give h =
+    (tt, covered_still slots pairs states new (slot ∷ one) (slot ∷ two) visits stay (still_among new one two slot give) h.1)
+covered_still slots pairs states new one two (Leave slot ∷ visits) stay give h = (
   all_weaker (λ c. IsDone states c ⊎ IsAmong one c) (λ c. IsDone new c ⊎ IsAmong two c) (slots_below slots pairs slot)
       (λ c k. elim k [ inl d ↦ inl (stay c d) | inr a ↦ give c a ]) h.0,
-  covered_still slots pairs states new (slot ∷ one) (slot ∷ two) tasks stay (still_among new one two slot give) h.1,
+  covered_still slots pairs states new (slot ∷ one) (slot ∷ two) visits stay (still_among new one two slot give) h.1,
 )
 
-covered_entries : (slots : Slots) (pairs : Pairs) (states : List State) (before xs : List ℕ) (tasks : List Task) → AreCovered slots pairs states (pile xs before) tasks → AreCovered slots pairs states before (enter_each xs ++ tasks)
-covered_entries slots pairs states before [] tasks h = h
-covered_entries slots pairs states before (x ∷ xs) tasks h = (tt, covered_entries slots pairs states (x ∷ before) xs tasks h)
+covered_entries : (slots : Slots) (pairs : Pairs) (states : List State) (before xs : List ℕ) (visits : List Visit) → AreCovered slots pairs states (pile xs before) visits → AreCovered slots pairs states before (enter_each xs ++ visits)
+covered_entries slots pairs states before [] visits h = h
+covered_entries slots pairs states before (x ∷ xs) visits h = (tt, covered_entries slots pairs states (x ∷ before) xs visits h)
 
 among_pile : (xs before : List ℕ) (z : ℕ) → IsAmong before z → IsAmong (pile xs before) z
 among_pile [] before z h = h
@@ -142,15 +142,15 @@ ordered_more slots pairs states slot less h not_done children =
     }
 
 -- ---- the steps
-pub leave_step : (slots : Slots) (pairs : Pairs) (states : List State) (slot : ℕ) (tasks : List Task) → IsSearching slots pairs states (Leave slot ∷ tasks) → IsSearching slots pairs (set states slot Done) tasks
-leave_step slots pairs states slot tasks h =
+pub leave_step : (slots : Slots) (pairs : Pairs) (states : List State) (slot : ℕ) (visits : List Visit) → IsSearching slots pairs states (Leave slot ∷ visits) → IsSearching slots pairs (set states slot Done) visits
+leave_step slots pairs states slot visits h =
     let less : slot < length states = omega (arith, h.valid.0, h.long) in
     record {
       bindings = h.bindings;
       long = omega (arith, length-set states slot Done, h.long);
       ordered = ordered_left (slice_get states slot) refl;
       covered =
-          covered_still slots pairs states (set states slot Done) (slot ∷ []) [] tasks (done_stays_at_done states slot less)
+          covered_still slots pairs states (set states slot Done) (slot ∷ []) [] visits (done_stays_at_done states slot less)
           (λ z a. elim a [ inl e ↦ inl (subst (IsDone (set states slot Done)) e (set_same states slot Done less)) | inr n ↦ elim n [ ] ]) h.covered.1;
       come_down = λ rank t. (h.come_down rank t).1;
       opened = λ z e.
@@ -175,13 +175,13 @@ leave_step slots pairs states slot tasks h =
     ordered_left None e = ordered_more slots pairs states slot (omega (arith, h.valid.0, h.long)) h.ordered (λ d. let bad : None ≡ Some Done = sym e ∙ d in cc) children_done
 
 -- a slot that is done isn't searched again
-pub done_step : (slots : Slots) (pairs : Pairs) (states : List State) (slot : ℕ) (tasks : List Task) → IsSearching slots pairs states (Enter slot ∷ tasks) → IsDone states slot → IsSearching slots pairs states tasks
-done_step slots pairs states slot tasks h done = record {
+pub done_step : (slots : Slots) (pairs : Pairs) (states : List State) (slot : ℕ) (visits : List Visit) → IsSearching slots pairs states (Enter slot ∷ visits) → IsDone states slot → IsSearching slots pairs states visits
+done_step slots pairs states slot visits h done = record {
   bindings = h.bindings;
   long = h.long;
   ordered = h.ordered;
   covered =
-      covered_still slots pairs states states (slot ∷ []) [] tasks (λ z d. d)
+      covered_still slots pairs states states (slot ∷ []) [] visits (λ z d. d)
       (λ z a. elim a [ inl e ↦ inl (subst (IsDone states) e done) | inr n ↦ elim n [ ] ]) h.covered.1;
   come_down = λ rank t. (h.come_down rank t).1;
   opened = h.opened;
@@ -189,17 +189,17 @@ done_step slots pairs states slot tasks h done = record {
 }
 
 -- a slot that is met while it is being searched closes a circle
-under_itself : (rank : ℕ → ℕ) (slot : ℕ) (tasks : List Task) → IsAmong (leave_slots tasks) slot → AllByRecursion (RanksUnder rank slot) tasks → ⊥
+under_itself : (rank : ℕ → ℕ) (slot : ℕ) (visits : List Visit) → IsAmong (leave_slots visits) slot → AllByRecursion (RanksUnder rank slot) visits → ⊥
 under_itself rank slot [] among under = elim among [ ]
-under_itself rank slot (Enter other ∷ tasks) among under = under_itself rank slot tasks among under.1
-under_itself rank slot (Leave other ∷ tasks) among under =
+under_itself rank slot (Enter other ∷ visits) among under = under_itself rank slot visits among under.1
+under_itself rank slot (Leave other ∷ visits) among under =
     elim among [
       | inl e ↦ let less : rank slot < rank other = under.0 in absurd (omega (arith, ap rank e))
-      | inr a ↦ under_itself rank slot tasks a under.1
+      | inr a ↦ under_itself rank slot visits a under.1
     ]
 
-pub circle_found : (slots : Slots) (pairs : Pairs) (states new : List State) (slot : ℕ) (tasks first : List Task) → IsSearching slots pairs states (Enter slot ∷ tasks) → slice_get states slot ≡ Some Open → HasSearched slots pairs states new first false
-circle_found slots pairs states new slot tasks first h is_open rank t = under_itself rank slot tasks (h.opened slot is_open) (h.come_down rank t).0
+pub circle_found : (slots : Slots) (pairs : Pairs) (states new : List State) (slot : ℕ) (visits first : List Visit) → IsSearching slots pairs states (Enter slot ∷ visits) → slice_get states slot ≡ Some Open → HasSearched slots pairs states new first false
+circle_found slots pairs states new slot visits first h is_open rank t = under_itself rank slot visits (h.opened slot is_open) (h.come_down rank t).0
 
 -- the bound variables of a value have smaller ranks
 pub ranks_below_cell : (slots : Slots) (rank : ℕ → ℕ) (slot next : ℕ) (c : Cell) → RanksBelow slots rank slot c → cell_slot slots c ≡ Some next → rank next < rank slot
@@ -237,11 +237,11 @@ one_entry_more slots pairs xs c o e =
     one None = refl
     one (Some x) = refl
 
-pub none_entered : (slots : Slots) (pairs : Pairs) (cells : List Cell) (i : ℕ) (d : Cell) (old new : List Task) → i < length cells → AreEntered slots pairs (take i cells) old new → None ≡ if_bound pairs (cell_slot slots (get_or cells i d)) → AreEntered slots pairs (take (i + 1) cells) old new
+pub none_entered : (slots : Slots) (pairs : Pairs) (cells : List Cell) (i : ℕ) (d : Cell) (old new : List Visit) → i < length cells → AreEntered slots pairs (take i cells) old new → None ≡ if_bound pairs (cell_slot slots (get_or cells i d)) → AreEntered slots pairs (take (i + 1) cells) old new
 none_entered slots pairs cells i d old new less h e =
     h ∙ ap (λ l. enter_each l ++ old) (sym (ap (λ l. pile (bound_slots slots pairs l) []) (take_more cells i d less) ∙ one_entry_more slots pairs (take i cells) (get_or cells i d) None e))
 
-pub one_entered : (slots : Slots) (pairs : Pairs) (cells : List Cell) (i next : ℕ) (d : Cell) (old before new : List Task) → i < length cells → AreEntered slots pairs (take i cells) old before → Some next ≡ if_bound pairs (cell_slot slots (get_or cells i d)) → new ≡ Enter next ∷ before → AreEntered slots pairs (take (i + 1) cells) old new
+pub one_entered : (slots : Slots) (pairs : Pairs) (cells : List Cell) (i next : ℕ) (d : Cell) (old before new : List Visit) → i < length cells → AreEntered slots pairs (take i cells) old before → Some next ≡ if_bound pairs (cell_slot slots (get_or cells i d)) → new ≡ Enter next ∷ before → AreEntered slots pairs (take (i + 1) cells) old new
 one_entered slots pairs cells i next d old before new less h e is =
     is
     ∙ ap (λ l. Enter next ∷ l) h
@@ -311,36 +311,36 @@ below_ranks slots pairs rank slot t = go (value_at pairs slot) refl
     go None e = tt
     go (Some v) e = bound_ranks slots pairs rank slot v.now (all_at (λ pair. AllByRecursion (RanksBelow slots rank pair.0) pair.1.now) pairs slot v t e)
 
-under_further : (rank : ℕ → ℕ) (x slot : ℕ) (t : Task) → rank x < rank slot → RanksUnder rank slot t → RanksUnder rank x t
+under_further : (rank : ℕ → ℕ) (x slot : ℕ) (t : Visit) → rank x < rank slot → RanksUnder rank slot t → RanksUnder rank x t
 under_further rank x slot (Enter other) less h = tt
 under_further rank x slot (Leave other) less h = omega (arith, less, h)
 
-under_entries : (rank : ℕ → ℕ) (x : ℕ) (xs : List ℕ) (tasks : List Task) → AllByRecursion (RanksUnder rank x) tasks → AllByRecursion (RanksUnder rank x) (enter_each xs ++ tasks)
-under_entries rank x [] tasks h = h
-under_entries rank x (y ∷ xs) tasks h = (tt, under_entries rank x xs tasks h)
+under_entries : (rank : ℕ → ℕ) (x : ℕ) (xs : List ℕ) (visits : List Visit) → AllByRecursion (RanksUnder rank x) visits → AllByRecursion (RanksUnder rank x) (enter_each xs ++ visits)
+under_entries rank x [] visits h = h
+under_entries rank x (y ∷ xs) visits h = (tt, under_entries rank x xs visits h)
 
-come_down_entries : (rank : ℕ → ℕ) (slot : ℕ) (xs : List ℕ) (tasks : List Task) → AllByRecursion (λ z. rank z < rank slot) xs → AllByRecursion (RanksUnder rank slot) tasks → ComeDown rank tasks → ComeDown rank (enter_each xs ++ Leave slot ∷ tasks)
-come_down_entries rank slot [] tasks h under down = (under, down)
-come_down_entries rank slot (x ∷ xs) tasks h under down = (
-  under_entries rank x xs (Leave slot ∷ tasks)
-      (h.0, all_weaker (RanksUnder rank slot) (RanksUnder rank x) tasks (λ t k. under_further rank x slot t h.0 k) under),
-  come_down_entries rank slot xs tasks h.1 under down,
+come_down_entries : (rank : ℕ → ℕ) (slot : ℕ) (xs : List ℕ) (visits : List Visit) → AllByRecursion (λ z. rank z < rank slot) xs → AllByRecursion (RanksUnder rank slot) visits → ComeDown rank visits → ComeDown rank (enter_each xs ++ Leave slot ∷ visits)
+come_down_entries rank slot [] visits h under down = (under, down)
+come_down_entries rank slot (x ∷ xs) visits h under down = (
+  under_entries rank x xs (Leave slot ∷ visits)
+      (h.0, all_weaker (RanksUnder rank slot) (RanksUnder rank x) visits (λ t k. under_further rank x slot t h.0 k) under),
+  come_down_entries rank slot xs visits h.1 under down,
 )
 
-leaves-entries : (xs : List ℕ) (tasks : List Task) → leave_slots (enter_each xs ++ tasks) ≡ leave_slots tasks
-leaves-entries [] tasks = refl
-leaves-entries (x ∷ xs) tasks = leaves-entries xs tasks
+leaves-entries : (xs : List ℕ) (visits : List Visit) → leave_slots (enter_each xs ++ visits) ≡ leave_slots visits
+leaves-entries [] visits = refl
+leaves-entries (x ∷ xs) visits = leaves-entries xs visits
 
-valid_entries : (slots : Slots) (xs : List ℕ) (tasks : List Task) → AllByRecursion (λ z. z < slot_count slots) xs → AllByRecursion (λ t. task_slot t < slot_count slots) tasks → AllByRecursion (λ t. task_slot t < slot_count slots) (enter_each xs ++ tasks)
-valid_entries slots [] tasks h k = k
-valid_entries slots (x ∷ xs) tasks h k = (h.0, valid_entries slots xs tasks h.1 k)
+valid_entries : (slots : Slots) (xs : List ℕ) (visits : List Visit) → AllByRecursion (λ z. z < slot_count slots) xs → AllByRecursion (λ t. visit_slot t < slot_count slots) visits → AllByRecursion (λ t. visit_slot t < slot_count slots) (enter_each xs ++ visits)
+valid_entries slots [] visits h k = k
+valid_entries slots (x ∷ xs) visits h k = (h.0, valid_entries slots xs visits h.1 k)
 
-among_behind : (xs : List ℕ) (tasks : List Task) (z : ℕ) → IsAmong (task_slots tasks) z → IsAmong (task_slots (enter_each xs ++ tasks)) z
-among_behind [] tasks z h = h
-among_behind (x ∷ xs) tasks z h = inr (among_behind xs tasks z h)
+among_behind : (xs : List ℕ) (visits : List Visit) (z : ℕ) → IsAmong (visit_slots visits) z → IsAmong (visit_slots (enter_each xs ++ visits)) z
+among_behind [] visits z h = h
+among_behind (x ∷ xs) visits z h = inr (among_behind xs visits z h)
 
-pub open_step : (slots : Slots) (pairs : Pairs) (states : List State) (slot : ℕ) (tasks : List Task) → IsSearching slots pairs states (Enter slot ∷ tasks) → slice_get states slot ≡ Some New → IsSearching slots pairs (set states slot Open) (tasks_of slots pairs slot ++ Leave slot ∷ tasks)
-open_step slots pairs states slot tasks h is_new =
+pub open_step : (slots : Slots) (pairs : Pairs) (states : List State) (slot : ℕ) (visits : List Visit) → IsSearching slots pairs states (Enter slot ∷ visits) → slice_get states slot ≡ Some New → IsSearching slots pairs (set states slot Open) (visits_of slots pairs slot ++ Leave slot ∷ visits)
+open_step slots pairs states slot visits h is_new =
     let less : slot < length states = slice_get_within states slot New is_new in
     let xs : List ℕ = pile (slots_below slots pairs slot) [] in
     record {
@@ -355,17 +355,17 @@ open_step slots pairs states slot tasks h is_new =
             (λ c k. (done_stays_at_open states slot is_new c k.0, k.1)) (h.ordered.down z (done_before_open states slot z less d));
       };
       covered =
-          covered_entries slots pairs (set states slot Open) [] xs (Leave slot ∷ tasks) (
+          covered_entries slots pairs (set states slot Open) [] xs (Leave slot ∷ visits) (
             all_from (λ c. IsDone (set states slot Open) c ⊎ IsAmong (pile xs []) c) (slots_below slots pairs slot)
                 (λ c a. inr (among_piled xs [] c (among_piled (slots_below slots pairs slot) [] c a))),
-            covered_still slots pairs states (set states slot Open) (slot ∷ []) (slot ∷ pile xs []) tasks (done_stays_at_open states slot is_new)
+            covered_still slots pairs states (set states slot Open) (slot ∷ []) (slot ∷ pile xs []) visits (done_stays_at_open states slot is_new)
                 (λ z a. elim a [ inl e ↦ inr (inl e) | inr n ↦ elim n [ ] ]) h.covered.1,
           );
       come_down = λ rank t.
           let k = h.come_down rank t in
-          come_down_entries rank slot xs tasks (all_pile (λ z. rank z < rank slot) (slots_below slots pairs slot) [] (below_ranks slots pairs rank slot t) tt) k.0 k.1;
+          come_down_entries rank slot xs visits (all_pile (λ z. rank z < rank slot) (slots_below slots pairs slot) [] (below_ranks slots pairs rank slot t) tt) k.0 k.1;
       opened = λ z e.
-          subst (λ l. IsAmong l z) (sym (leaves-entries xs (Leave slot ∷ tasks)))
+          subst (λ l. IsAmong l z) (sym (leaves-entries xs (Leave slot ∷ visits)))
           (
           elim (eqb_tells z slot) [
             | inl k ↦ inl (sym k.1)
@@ -373,7 +373,7 @@ open_step slots pairs states slot tasks h is_new =
           ]
           );
       valid =
-          valid_entries slots xs (Leave slot ∷ tasks)
+          valid_entries slots xs (Leave slot ∷ visits)
           (all_pile (λ z. z < slot_count slots) (slots_below slots pairs slot) [] (below_valid slots pairs slot h.bindings) tt)
           (h.valid.0, h.valid.1);
     }
@@ -382,90 +382,90 @@ open_step slots pairs states slot tasks h is_new =
 weight_less : (states : List State) (slot : ℕ) (s : State) → slot < length states → weight s ≤ weight (get_or states slot s) → sum_by weight (set states slot s) ≤ sum_by weight states
 weight_less states slot s less h = let e = sum_by-set weight states slot s s less in omega (arith, e, h)
 
-pub left_done : (slots : Slots) (pairs : Pairs) (states : List State) (slot : ℕ) (tasks : List Task) → IsSearching slots pairs states (Leave slot ∷ tasks) → HasDone slots pairs states (set states slot Done) (Leave slot ∷ tasks) tasks true
-left_done slots pairs states slot tasks h =
+pub left_done : (slots : Slots) (pairs : Pairs) (states : List State) (slot : ℕ) (visits : List Visit) → IsSearching slots pairs states (Leave slot ∷ visits) → HasDone slots pairs states (set states slot Done) (Leave slot ∷ visits) visits true
+left_done slots pairs states slot visits h =
     let less : slot < length states = omega (arith, h.valid.0, h.long) in
     let fewer = weight_less states slot Done less (omega arith) in
     record {
-      searching = leave_step slots pairs states slot tasks h;
+      searching = leave_step slots pairs states slot visits h;
       stay = done_stays_at_done states slot less;
       kept = λ z a. elim a [ inl e ↦ inl (subst (IsDone (set states slot Done)) e (set_same states slot Done less)) | inr k ↦ inr k ];
       less = omega (arith, fewer);
     }
 
-pub done_done : (slots : Slots) (pairs : Pairs) (states : List State) (slot : ℕ) (tasks : List Task) → IsSearching slots pairs states (Enter slot ∷ tasks) → IsDone states slot → HasDone slots pairs states states (Enter slot ∷ tasks) tasks true
-done_done slots pairs states slot tasks h done = record {
-  searching = done_step slots pairs states slot tasks h done;
+pub done_done : (slots : Slots) (pairs : Pairs) (states : List State) (slot : ℕ) (visits : List Visit) → IsSearching slots pairs states (Enter slot ∷ visits) → IsDone states slot → HasDone slots pairs states states (Enter slot ∷ visits) visits true
+done_done slots pairs states slot visits h done = record {
+  searching = done_step slots pairs states slot visits h done;
   stay = λ z d. d;
   kept = λ z a. elim a [ inl e ↦ inl (subst (IsDone states) e done) | inr k ↦ inr k ];
   less = omega arith;
 }
 
-pub circle_done : (slots : Slots) (pairs : Pairs) (states new : List State) (slot : ℕ) (tasks new_tasks : List Task) → IsSearching slots pairs states (Enter slot ∷ tasks) → slice_get states slot ≡ Some Open → HasDone slots pairs states new (Enter slot ∷ tasks) new_tasks false
-circle_done slots pairs states new slot tasks new_tasks h is_open rank t = under_itself rank slot tasks (h.opened slot is_open) (h.come_down rank t).0
+pub circle_done : (slots : Slots) (pairs : Pairs) (states new : List State) (slot : ℕ) (visits new_visits : List Visit) → IsSearching slots pairs states (Enter slot ∷ visits) → slice_get states slot ≡ Some Open → HasDone slots pairs states new (Enter slot ∷ visits) new_visits false
+circle_done slots pairs states new slot visits new_visits h is_open rank t = under_itself rank slot visits (h.opened slot is_open) (h.come_down rank t).0
 
 pub open_done :
-    (slots : Slots) (pairs : Pairs) (states : List State) (slot : ℕ) (tasks new_tasks : List Task)
-    → IsSearching slots pairs states (Enter slot ∷ tasks)
+    (slots : Slots) (pairs : Pairs) (states : List State) (slot : ℕ) (visits new_visits : List Visit)
+    → IsSearching slots pairs states (Enter slot ∷ visits)
     → slice_get states slot ≡ Some New
-    → new_tasks ≡ tasks_of slots pairs slot ++ Leave slot ∷ tasks
-    → length new_tasks < 2 ^ 64
-    → HasDone slots pairs states (set states slot Open) (Enter slot ∷ tasks) new_tasks true
-open_done slots pairs states slot tasks new_tasks h is_new e few =
+    → new_visits ≡ visits_of slots pairs slot ++ Leave slot ∷ visits
+    → length new_visits < 2 ^ 64
+    → HasDone slots pairs states (set states slot Open) (Enter slot ∷ visits) new_visits true
+open_done slots pairs states slot visits new_visits h is_new e few =
     let less : slot < length states = slice_get_within states slot New is_new in
     let was : get_or states slot Open ≡ New = get_or_from_slice_get states slot New Open is_new in
     let one_less = sum_by-set weight states slot Open Open less in
     let weighs : weight (get_or states slot Open) ≡ 1 = ap weight was in
     let fewer : sum_by weight (set states slot Open) + 1 ≡ sum_by weight states = omega (arith, one_less, weighs) in
     record {
-      searching = subst (IsSearching slots pairs (set states slot Open)) (sym e) (open_step slots pairs states slot tasks h is_new);
+      searching = subst (IsSearching slots pairs (set states slot Open)) (sym e) (open_step slots pairs states slot visits h is_new);
       stay = done_stays_at_open states slot is_new;
-      kept = λ z a. inr (subst (λ l. IsAmong (task_slots l) z) (sym e) (among_behind (pile (slots_below slots pairs slot) []) (Leave slot ∷ tasks) z a));
+      kept = λ z a. inr (subst (λ l. IsAmong (visit_slots l) z) (sym e) (among_behind (pile (slots_below slots pairs slot) []) (Leave slot ∷ visits) z a));
       less = omega (arith, fewer, few);
     }
 
 -- ---- the whole search
-pub record IsUnderWay (slots : Slots) (pairs : Pairs) (old states : List State) (old_tasks tasks : List Task) : Type 0 where
-  pub searching : IsSearching slots pairs states tasks
+pub record IsUnderWay (slots : Slots) (pairs : Pairs) (old states : List State) (old_visits visits : List Visit) : Type 0 where
+  pub searching : IsSearching slots pairs states visits
   pub stay : StayDone old states
-  pub kept : (slot : ℕ) → IsAmong (task_slots old_tasks) slot → IsDone states slot ⊎ IsAmong (task_slots tasks) slot
+  pub kept : (slot : ℕ) → IsAmong (visit_slots old_visits) slot → IsDone states slot ⊎ IsAmong (visit_slots visits) slot
 
-pub search_starts : (slots : Slots) (pairs : Pairs) (states : List State) (tasks : List Task) → IsSearching slots pairs states tasks → IsUnderWay slots pairs states states tasks tasks
-search_starts slots pairs states tasks h = record { searching = h; stay = λ z d. d; kept = λ z a. inr a }
+pub search_starts : (slots : Slots) (pairs : Pairs) (states : List State) (visits : List Visit) → IsSearching slots pairs states visits → IsUnderWay slots pairs states states visits visits
+search_starts slots pairs states visits h = record { searching = h; stay = λ z d. d; kept = λ z a. inr a }
 
-pub search_goes_on : (slots : Slots) (pairs : Pairs) (old states new : List State) (old_tasks tasks new_tasks : List Task) → IsUnderWay slots pairs old states old_tasks tasks → HasStepped slots pairs states new tasks new_tasks → IsUnderWay slots pairs old new old_tasks new_tasks
-search_goes_on slots pairs old states new old_tasks tasks new_tasks h s = record {
+pub search_goes_on : (slots : Slots) (pairs : Pairs) (old states new : List State) (old_visits visits new_visits : List Visit) → IsUnderWay slots pairs old states old_visits visits → HasStepped slots pairs states new visits new_visits → IsUnderWay slots pairs old new old_visits new_visits
+search_goes_on slots pairs old states new old_visits visits new_visits h s = record {
   searching = s.searching;
   stay = λ z d. s.stay z (h.stay z d);
   kept = λ z a. elim (h.kept z a) [ inl d ↦ inl (s.stay z d) | inr k ↦ s.kept z k ];
 }
 
-pub search_ends : (slots : Slots) (pairs : Pairs) (old states : List State) (old_tasks : List Task) → IsUnderWay slots pairs old states old_tasks [] → HasSearched slots pairs old states old_tasks true
-search_ends slots pairs old states old_tasks h = (h.searching, h.stay, λ z a. elim (h.kept z a) [ inl d ↦ d | inr n ↦ elim n [ ] ])
+pub search_ends : (slots : Slots) (pairs : Pairs) (old states : List State) (old_visits : List Visit) → IsUnderWay slots pairs old states old_visits [] → HasSearched slots pairs old states old_visits true
+search_ends slots pairs old states old_visits h = (h.searching, h.stay, λ z a. elim (h.kept z a) [ inl d ↦ d | inr n ↦ elim n [ ] ])
 
--- ---- the same, where the task is told by an equation
-pub left_told : (slots : Slots) (pairs : Pairs) (states : List State) (slot : ℕ) (task : Task) (tasks : List Task) → task ≡ Leave slot → IsSearching slots pairs states (task ∷ tasks) → HasDone slots pairs states (set states slot Done) (task ∷ tasks) tasks true
-left_told slots pairs states slot task tasks e h =
-    subst (λ t. HasDone slots pairs states (set states slot Done) (t ∷ tasks) tasks true) (sym e)
-    (left_done slots pairs states slot tasks (subst (λ t. IsSearching slots pairs states (t ∷ tasks)) e h))
+-- ---- the same, where the visit is told by an equation
+pub left_told : (slots : Slots) (pairs : Pairs) (states : List State) (slot : ℕ) (visit : Visit) (visits : List Visit) → visit ≡ Leave slot → IsSearching slots pairs states (visit ∷ visits) → HasDone slots pairs states (set states slot Done) (visit ∷ visits) visits true
+left_told slots pairs states slot visit visits e h =
+    subst (λ t. HasDone slots pairs states (set states slot Done) (t ∷ visits) visits true) (sym e)
+    (left_done slots pairs states slot visits (subst (λ t. IsSearching slots pairs states (t ∷ visits)) e h))
 
-pub done_told : (slots : Slots) (pairs : Pairs) (states : List State) (slot : ℕ) (task : Task) (tasks : List Task) → task ≡ Enter slot → IsSearching slots pairs states (task ∷ tasks) → IsDone states slot → HasDone slots pairs states states (task ∷ tasks) tasks true
-done_told slots pairs states slot task tasks e h done =
-    subst (λ t. HasDone slots pairs states states (t ∷ tasks) tasks true) (sym e)
-    (done_done slots pairs states slot tasks (subst (λ t. IsSearching slots pairs states (t ∷ tasks)) e h) done)
+pub done_told : (slots : Slots) (pairs : Pairs) (states : List State) (slot : ℕ) (visit : Visit) (visits : List Visit) → visit ≡ Enter slot → IsSearching slots pairs states (visit ∷ visits) → IsDone states slot → HasDone slots pairs states states (visit ∷ visits) visits true
+done_told slots pairs states slot visit visits e h done =
+    subst (λ t. HasDone slots pairs states states (t ∷ visits) visits true) (sym e)
+    (done_done slots pairs states slot visits (subst (λ t. IsSearching slots pairs states (t ∷ visits)) e h) done)
 
-pub circle_told : (slots : Slots) (pairs : Pairs) (states new : List State) (slot : ℕ) (task : Task) (tasks new_tasks : List Task) → task ≡ Enter slot → IsSearching slots pairs states (task ∷ tasks) → slice_get states slot ≡ Some Open → HasDone slots pairs states new (task ∷ tasks) new_tasks false
-circle_told slots pairs states new slot task tasks new_tasks e h is_open =
-    circle_done slots pairs states new slot tasks new_tasks (subst (λ t. IsSearching slots pairs states (t ∷ tasks)) e h) is_open
+pub circle_told : (slots : Slots) (pairs : Pairs) (states new : List State) (slot : ℕ) (visit : Visit) (visits new_visits : List Visit) → visit ≡ Enter slot → IsSearching slots pairs states (visit ∷ visits) → slice_get states slot ≡ Some Open → HasDone slots pairs states new (visit ∷ visits) new_visits false
+circle_told slots pairs states new slot visit visits new_visits e h is_open =
+    circle_done slots pairs states new slot visits new_visits (subst (λ t. IsSearching slots pairs states (t ∷ visits)) e h) is_open
 
 pub open_told :
-    (slots : Slots) (pairs : Pairs) (states : List State) (slot : ℕ) (task : Task) (tasks new_tasks : List Task)
-    → task ≡ Enter slot
-    → IsSearching slots pairs states (task ∷ tasks)
+    (slots : Slots) (pairs : Pairs) (states : List State) (slot : ℕ) (visit : Visit) (visits new_visits : List Visit)
+    → visit ≡ Enter slot
+    → IsSearching slots pairs states (visit ∷ visits)
     → slice_get states slot ≡ Some New
-    → new_tasks ≡ tasks_of slots pairs slot ++ Leave slot ∷ tasks
-    → length new_tasks < 2 ^ 64
-    → HasDone slots pairs states (set states slot Open) (task ∷ tasks) new_tasks true
-open_told slots pairs states slot task tasks new_tasks e h is_new is few =
-    subst (λ t. HasDone slots pairs states (set states slot Open) (t ∷ tasks) new_tasks true) (sym e)
-    (open_done slots pairs states slot tasks new_tasks (subst (λ t. IsSearching slots pairs states (t ∷ tasks)) e h) is_new is few)
+    → new_visits ≡ visits_of slots pairs slot ++ Leave slot ∷ visits
+    → length new_visits < 2 ^ 64
+    → HasDone slots pairs states (set states slot Open) (visit ∷ visits) new_visits true
+open_told slots pairs states slot visit visits new_visits e h is_new is few =
+    subst (λ t. HasDone slots pairs states (set states slot Open) (t ∷ visits) new_visits true) (sym e)
+    (open_done slots pairs states slot visits new_visits (subst (λ t. IsSearching slots pairs states (t ∷ visits)) e h) is_new is few)

@@ -17,16 +17,16 @@ use Rattle.si_trail.specs.Trails.{value_at, HasDistinctSlots, IsSlotOf}
 use Rattle.si_unify.specs.declared.slots.Slots.{Slots}
 use Rattle.si_unify.specs.declared.states.State.{State}
 use Rattle.si_unify.specs.declared.states.State.TheVariants.{New, Open, Done}
-use Rattle.si_unify.specs.declared.circles.Task.{Task}
-use Rattle.si_unify.specs.declared.circles.Task.TheVariants.{Enter}
+use Rattle.si_unify.specs.declared.circles.Visit.{Visit}
+use Rattle.si_unify.specs.declared.circles.Visit.TheVariants.{Enter}
 use Rattle.si_unify.specs.Solving.{Pairs, slot_count, slot_of, IsTriangularBy, IsAcyclic, RanksBelow, IsBinding}
 use Rattle.si_unify.specs.Spots.{cell_slot}
-use Rattle.si_unify.specs.Circles.{if_value, if_bound, with_slot, bound_slots, below_value, enter_each, task_slot, task_slots, IsDone, AreCovered, RanksUnder, ComeDown, slots_below, AreRanked, IsSearching, HasSearched, AreEntries, IsResolved, AreResolved, IsTold}
+use Rattle.si_unify.specs.Circles.{if_value, if_bound, with_slot, bound_slots, below_value, enter_each, visit_slot, visit_slots, IsDone, AreCovered, RanksUnder, ComeDown, slots_below, AreRanked, IsSearching, HasSearched, AreEntries, IsResolved, AreResolved, IsTold}
 use Rattle.si_unify.proofs.StateLaws.{new_at}
 use Rattle.si_unify.proofs.Searching.{ranks_below_cell}
 use Rattle.si_unify.specs.States.{AreNew}
 
--- ---- tasks that enter slots
+-- ---- visits that enter slots
 covered_alone : (slots : Slots) (pairs : Pairs) (states : List State) (before xs : List ℕ) → AreCovered slots pairs states before (enter_each xs)
 covered_alone slots pairs states before [] = tt
 covered_alone slots pairs states before (x ∷ xs) = (tt, covered_alone slots pairs states (x ∷ before) xs)
@@ -39,11 +39,11 @@ down_alone : (rank : ℕ → ℕ) (xs : List ℕ) → ComeDown rank (enter_each 
 down_alone rank [] = tt
 down_alone rank (x ∷ xs) = (under_alone rank x xs, down_alone rank xs)
 
-valid_alone : (slots : Slots) (xs : List ℕ) → AllByRecursion (λ z. z < slot_count slots) xs → AllByRecursion (λ t. task_slot t < slot_count slots) (enter_each xs)
+valid_alone : (slots : Slots) (xs : List ℕ) → AllByRecursion (λ z. z < slot_count slots) xs → AllByRecursion (λ t. visit_slot t < slot_count slots) (enter_each xs)
 valid_alone slots [] h = tt
 valid_alone slots (x ∷ xs) h = (h.0, valid_alone slots xs h.1)
 
-among_alone : (xs : List ℕ) (z : ℕ) → IsAmong xs z → IsAmong (task_slots (enter_each xs)) z
+among_alone : (xs : List ℕ) (z : ℕ) → IsAmong xs z → IsAmong (visit_slots (enter_each xs)) z
 among_alone [] z h = h
 among_alone (x ∷ xs) z h = elim h [ inl e ↦ inl e | inr k ↦ inr (among_alone xs z k) ]
 
@@ -103,16 +103,16 @@ before m n less differs = omega (arith, less, differs)
 pub entries_none : (pairs : Pairs) (mark : ℕ) → HasDistinctSlots pairs → AreEntries pairs mark mark []
 entries_none pairs mark distinct = record {
   slots = [];
-  tasks_are = refl;
+  visits_are = refl;
   sound = tt;
   complete = λ m slot a b s. absurd (omega (arith, a, b));
   distinct = distinct;
 }
 
-pub entries_more : (pairs : Pairs) (mark n slot : ℕ) (tasks new : List Task) → AreEntries pairs mark n tasks → IsSlotOf pairs n slot → new ≡ Enter slot ∷ tasks → AreEntries pairs mark (n + 1) new
-entries_more pairs mark n slot tasks new h s is = record {
+pub entries_more : (pairs : Pairs) (mark n slot : ℕ) (visits new : List Visit) → AreEntries pairs mark n visits → IsSlotOf pairs n slot → new ≡ Enter slot ∷ visits → AreEntries pairs mark (n + 1) new
+entries_more pairs mark n slot visits new h s is = record {
   slots = slot ∷ h.slots;
-  tasks_are = is ∙ ap (λ l. Enter slot ∷ l) h.tasks_are;
+  visits_are = is ∙ ap (λ l. Enter slot ∷ l) h.visits_are;
   sound = ((n, s), h.sound);
   complete = λ m other a b o.
       elim (eqb_tells m n) [
@@ -122,8 +122,8 @@ entries_more pairs mark n slot tasks new h s is = record {
   distinct = h.distinct;
 }
 
-pub search_begins : (slots : Slots) (pairs : Pairs) (states : List State) (tasks : List Task) (mark n : ℕ) → AllByRecursion (IsBinding slots) pairs → slot_count slots ≤ length states → AreNew states → AreEntries pairs mark n tasks → IsSearching slots pairs states tasks
-search_begins slots pairs states tasks mark n bindings long fresh e = record {
+pub search_begins : (slots : Slots) (pairs : Pairs) (states : List State) (visits : List Visit) (mark n : ℕ) → AllByRecursion (IsBinding slots) pairs → slot_count slots ≤ length states → AreNew states → AreEntries pairs mark n visits → IsSearching slots pairs states visits
+search_begins slots pairs states visits mark n bindings long fresh e = record {
   bindings = bindings;
   long = long;
   ordered = record {
@@ -132,11 +132,11 @@ search_begins slots pairs states tasks mark n bindings long fresh e = record {
     few = λ z d. not_done states z fresh d;
     down = λ z d. not_done states z fresh d;
   };
-  covered = subst (AreCovered slots pairs states []) (sym e.tasks_are) (covered_alone slots pairs states [] e.slots);
-  come_down = λ rank t. subst (ComeDown rank) (sym e.tasks_are) (down_alone rank e.slots);
+  covered = subst (AreCovered slots pairs states []) (sym e.visits_are) (covered_alone slots pairs states [] e.slots);
+  come_down = λ rank t. subst (ComeDown rank) (sym e.visits_are) (down_alone rank e.slots);
   opened = λ z is_open. not_open states z fresh is_open;
   valid =
-      subst (AllByRecursion (λ t. task_slot t < slot_count slots)) (sym e.tasks_are)
+      subst (AllByRecursion (λ t. visit_slot t < slot_count slots)) (sym e.visits_are)
       (
       valid_alone slots e.slots
       (
@@ -262,17 +262,17 @@ done_tested states = record {
 }
 
 pub search_tells :
-    (slots : Slots) (pairs : Pairs) (states new : List State) (tasks : List Task) (mark : ℕ) (b : Bool)
-    → AreEntries pairs mark (length pairs) tasks
+    (slots : Slots) (pairs : Pairs) (states new : List State) (visits : List Visit) (mark : ℕ) (b : Bool)
+    → AreEntries pairs mark (length pairs) visits
     → IsAcyclic slots (take mark pairs)
-    → HasSearched slots pairs states new tasks b
+    → HasSearched slots pairs states new visits b
     → IsTold slots pairs b
-search_tells slots pairs states new tasks mark false e old h = λ t. h t.0 t.1
-search_tells slots pairs states new tasks mark true e old h = (
+search_tells slots pairs states new visits mark false e old h = λ t. h t.0 t.1
+search_tells slots pairs states new visits mark true e old h = (
   triangular_behind slots pairs (IsDone new) (done_tested new) h.0.ordered old.0 mark e.distinct old.1
       (
       all_behind (IsDone new) pairs mark
-      (λ m slot a b s. h.2 slot (subst (λ l. IsAmong (task_slots l) slot) (sym e.tasks_are) (among_alone e.slots slot (e.complete m slot a b s))))
+      (λ m slot a b s. h.2 slot (subst (λ l. IsAmong (visit_slots l) slot) (sym e.visits_are) (among_alone e.slots slot (e.complete m slot a b s))))
       ),
   e.distinct,
 )

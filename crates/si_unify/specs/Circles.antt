@@ -9,8 +9,8 @@ use Rattle.si_trail.specs.Trails.{value_at, HasDistinctSlots, IsSlotOf}
 use Rattle.si_unify.specs.declared.slots.Slots.{Slots}
 use Rattle.si_unify.specs.declared.states.State.{State}
 use Rattle.si_unify.specs.declared.states.State.TheVariants.{New, Open, Done}
-use Rattle.si_unify.specs.declared.circles.Task.{Task}
-use Rattle.si_unify.specs.declared.circles.Task.TheVariants.{Enter, Leave}
+use Rattle.si_unify.specs.declared.circles.Visit.{Visit}
+use Rattle.si_unify.specs.declared.circles.Visit.TheVariants.{Enter, Leave}
 use Rattle.si_unify.specs.Solving.{Pairs, slot_count, IsTriangularBy, IsAcyclic, IsBinding}
 use Rattle.si_unify.specs.Spots.{cell_slot}
 
@@ -33,8 +33,8 @@ bound_slots slots pairs [] = []
 bound_slots slots pairs (c ∷ cells) =
     with_slot (if_bound pairs (cell_slot slots c)) (bound_slots slots pairs cells)
 
--- tasks, the next one first
-abbrev pub enter_each : List ℕ → List Task
+-- visits, the next one first
+abbrev pub enter_each : List ℕ → List Visit
 enter_each [] = []
 enter_each (slot ∷ slots) = Enter slot ∷ enter_each slots
 
@@ -51,46 +51,46 @@ below_value slots pairs (Some v) = bound_slots slots pairs v.now
 abbrev pub slots_below : Slots → Pairs → ℕ → List ℕ
 slots_below slots pairs slot = below_value slots pairs (value_at pairs slot)
 
--- the tasks that come up for a slot, the next one first
-abbrev pub tasks_of : Slots → Pairs → ℕ → List Task
-tasks_of slots pairs slot = enter_each (pile (slots_below slots pairs slot) [])
+-- the visits that come up for a slot, the next one first
+abbrev pub visits_of : Slots → Pairs → ℕ → List Visit
+visits_of slots pairs slot = enter_each (pile (slots_below slots pairs slot) [])
 
--- the tasks that come up for these cells stand before the others
-abbrev pub AreEntered : Slots → Pairs → List Cell → List Task → List Task → Type 0
+-- the visits that come up for these cells stand before the others
+abbrev pub AreEntered : Slots → Pairs → List Cell → List Visit → List Visit → Type 0
 AreEntered slots pairs cells old new =
     new ≡ enter_each (pile (bound_slots slots pairs cells) []) ++ old
 
-abbrev pub task_slot : Task → ℕ
-task_slot (Enter slot) = slot
-task_slot (Leave slot) = slot
+abbrev pub visit_slot : Visit → ℕ
+visit_slot (Enter slot) = slot
+visit_slot (Leave slot) = slot
 
-abbrev pub task_slots : List Task → List ℕ
-task_slots [] = []
-task_slots (t ∷ ts) = task_slot t ∷ task_slots ts
+abbrev pub visit_slots : List Visit → List ℕ
+visit_slots [] = []
+visit_slots (t ∷ ts) = visit_slot t ∷ visit_slots ts
 
 abbrev pub IsDone : List State → ℕ → Type 0
 IsDone states slot = slice_get states slot ≡ Some Done
 
--- The tasks, the next one first. What a slot that is being searched leads to is done, or stands
--- among the tasks before it.
-abbrev pub IsCovered : Slots → Pairs → List State → List ℕ → Task → Type 0
+-- The visits, the next one first. What a slot that is being searched leads to is done, or stands
+-- among the visits before it.
+abbrev pub IsCovered : Slots → Pairs → List State → List ℕ → Visit → Type 0
 IsCovered slots pairs states before (Enter slot) = Unit {0}
 IsCovered slots pairs states before (Leave slot) =
     AllByRecursion (λ c. IsDone states c ⊎ IsAmong before c) (slots_below slots pairs slot)
 
-abbrev pub AreCovered : Slots → Pairs → List State → List ℕ → List Task → Type 0
+abbrev pub AreCovered : Slots → Pairs → List State → List ℕ → List Visit → Type 0
 AreCovered slots pairs states before [] = Unit {0}
 AreCovered slots pairs states before (t ∷ ts) =
-    IsCovered slots pairs states before t × AreCovered slots pairs states (task_slot t ∷ before) ts
+    IsCovered slots pairs states before t × AreCovered slots pairs states (visit_slot t ∷ before) ts
 
--- each task's slot has a smaller rank than the slots being searched behind it
-abbrev pub RanksUnder : (ℕ → ℕ) → ℕ → Task → Type 0
+-- each visit's slot has a smaller rank than the slots being searched behind it
+abbrev pub RanksUnder : (ℕ → ℕ) → ℕ → Visit → Type 0
 RanksUnder rank slot (Enter other) = Unit {0}
 RanksUnder rank slot (Leave other) = rank slot < rank other
 
-abbrev pub ComeDown : (ℕ → ℕ) → List Task → Type 0
+abbrev pub ComeDown : (ℕ → ℕ) → List Visit → Type 0
 ComeDown rank [] = Unit {0}
-ComeDown rank (t ∷ ts) = AllByRecursion (RanksUnder rank (task_slot t)) ts × ComeDown rank ts
+ComeDown rank (t ∷ ts) = AllByRecursion (RanksUnder rank (visit_slot t)) ts × ComeDown rank ts
 
 -- slots of which it is known that no circle goes through them
 pub record AreRanked (slots : Slots) (pairs : Pairs) (Known : ℕ → Type 0) : Type 0 where
@@ -101,34 +101,34 @@ pub record AreRanked (slots : Slots) (pairs : Pairs) (Known : ℕ → Type 0) : 
       → AllByRecursion (λ c. Known c × (rank c < rank slot)) (slots_below slots pairs slot)
 
 -- the slots that are being searched
-abbrev pub leave_slot : Task → List ℕ → List ℕ
+abbrev pub leave_slot : Visit → List ℕ → List ℕ
 leave_slot (Enter slot) rest = rest
 leave_slot (Leave slot) rest = slot ∷ rest
 
-abbrev pub leave_slots : List Task → List ℕ
+abbrev pub leave_slots : List Visit → List ℕ
 leave_slots [] = []
 leave_slots (t ∷ ts) = leave_slot t (leave_slots ts)
 
--- what is known of the slots and the tasks, the next one first
+-- what is known of the slots and the visits, the next one first
 pub record IsSearching (slots : Slots) (pairs : Pairs) (states : List State)
-    (tasks : List Task) : Type 0 where
+    (visits : List Visit) : Type 0 where
   pub bindings : AllByRecursion (IsBinding slots) pairs
   pub long : slot_count slots ≤ length states
   pub ordered : AreRanked slots pairs (IsDone states)
-  pub covered : AreCovered slots pairs states [] tasks
-  pub come_down : (rank : ℕ → ℕ) → IsTriangularBy slots rank pairs → ComeDown rank tasks
-  pub opened : (slot : ℕ) → slice_get states slot ≡ Some Open → IsAmong (leave_slots tasks) slot
-  pub valid : AllByRecursion (λ t. task_slot t < slot_count slots) tasks
+  pub covered : AreCovered slots pairs states [] visits
+  pub come_down : (rank : ℕ → ℕ) → IsTriangularBy slots rank pairs → ComeDown rank visits
+  pub opened : (slot : ℕ) → slice_get states slot ≡ Some Open → IsAmong (leave_slots visits) slot
+  pub valid : AllByRecursion (λ t. visit_slot t < slot_count slots) visits
 
 -- the slots that were done stay done
 abbrev pub StayDone : List State → List State → Type 0
 StayDone old new = (slot : ℕ) → IsDone old slot → IsDone new slot
 
-abbrev pub HasSearched : Slots → Pairs → List State → List State → List Task → Bool → Type 0
-HasSearched slots pairs old new tasks true =
+abbrev pub HasSearched : Slots → Pairs → List State → List State → List Visit → Bool → Type 0
+HasSearched slots pairs old new visits true =
     IsSearching slots pairs new [] × StayDone old new
-    × ((slot : ℕ) → IsAmong (task_slots tasks) slot → IsDone new slot)
-HasSearched slots pairs old new tasks false = (rank : ℕ → ℕ) → IsTriangularBy slots rank pairs → ⊥
+    × ((slot : ℕ) → IsAmong (visit_slots visits) slot → IsDone new slot)
+HasSearched slots pairs old new visits false = (rank : ℕ → ℕ) → IsTriangularBy slots rank pairs → ⊥
 
 -- how much is left to do
 abbrev pub weight : State → ℕ
@@ -136,28 +136,29 @@ weight New = 1
 weight Open = 0
 weight Done = 0
 
-abbrev pub work : List State → List Task → ℕ
-work states tasks = sum_by weight states * 2 ^ 64 + length tasks
+abbrev pub work : List State → List Visit → ℕ
+work states visits = sum_by weight states * 2 ^ 64 + length visits
 
--- one task has been done
+-- one visit has been made
 pub record HasStepped (slots : Slots) (pairs : Pairs) (old new : List State)
-    (old_tasks new_tasks : List Task) : Type 0 where
-  pub searching : IsSearching slots pairs new new_tasks
+    (old_visits new_visits : List Visit) : Type 0 where
+  pub searching : IsSearching slots pairs new new_visits
   pub stay : StayDone old new
-  pub kept : (slot : ℕ) → IsAmong (task_slots old_tasks) slot → IsDone new slot
-      ⊎ IsAmong (task_slots new_tasks) slot
-  pub less : work new new_tasks < work old old_tasks
+  pub kept : (slot : ℕ) → IsAmong (visit_slots old_visits) slot → IsDone new slot
+      ⊎ IsAmong (visit_slots new_visits) slot
+  pub less : work new new_visits < work old old_visits
 
-abbrev pub HasDone : Slots → Pairs → List State → List State → List Task → List Task → Bool → Type 0
-HasDone slots pairs old new old_tasks new_tasks true =
-    HasStepped slots pairs old new old_tasks new_tasks
-HasDone slots pairs old new old_tasks new_tasks false = (rank : ℕ → ℕ)
+abbrev pub HasDone : Slots → Pairs → List State → List State → List Visit → List Visit → Bool
+    → Type 0
+HasDone slots pairs old new old_visits new_visits true =
+    HasStepped slots pairs old new old_visits new_visits
+HasDone slots pairs old new old_visits new_visits false = (rank : ℕ → ℕ)
     → IsTriangularBy slots rank pairs → ⊥
 
--- the tasks enter the slots of the bindings from the mark on, up to this number
-pub record AreEntries (pairs : Pairs) (mark n : ℕ) (tasks : List Task) : Type 0 where
+-- the visits enter the slots of the bindings from the mark on, up to this number
+pub record AreEntries (pairs : Pairs) (mark n : ℕ) (visits : List Visit) : Type 0 where
   pub slots : List ℕ
-  pub tasks_are : tasks ≡ enter_each slots
+  pub visits_are : visits ≡ enter_each slots
   pub sound : AllByRecursion (λ slot. (m : ℕ) × IsSlotOf pairs m slot) slots
   pub complete : (m slot : ℕ) → mark ≤ m → m < n → IsSlotOf pairs m slot → IsAmong slots slot
   pub distinct : HasDistinctSlots pairs

@@ -8,4 +8,4 @@ pub record AreClear (buffers : Buffers) : Type 0 where
   pub keys : buffers.keys.keys ≡ []
   pub heights : buffers.heights ≡ []
   pub states : AreNew buffers.states
-  pub tasks : buffers.tasks.items ≡ []
+  pub visits : buffers.visits.items ≡ []

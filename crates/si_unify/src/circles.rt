@@ -1,7 +1,7 @@
 // The search for a circle through bound variables.
 ghost use Rattle.std.specs.Prelude.{◌≡◌, ◌≤◌, true, length, take, reverse, ◌++◌, ◌∷◌, [], IfOk, OnOk};
 ghost use Rattle.std.specs.List.{AllByRecursion};
-ghost use Rattle.si_unify.specs.Circles.{if_bound, bound_slots, slots_below, tasks_of, AreEntered, AreEntries, AreResolved, IsSearching, HasSearched, HasDone, IsTold};
+ghost use Rattle.si_unify.specs.Circles.{if_bound, bound_slots, slots_below, visits_of, AreEntered, AreEntries, AreResolved, IsSearching, HasSearched, HasDone, IsTold};
 ghost use Rattle.si_unify.specs.Solving.{IsAcyclic, IsBinding};
 ghost use Rattle.si_unify.specs.States.{AreNew};
 ghost use Rattle.si_unify.specs.Spots.{cell_slot};
@@ -12,9 +12,9 @@ use si_flat::Cell;
 use si_trail::Trail;
 use std::alloc::AllocError;
 
-/// What is left of the search for a circle.
+/// What is left to do with a slot in the search for a circle.
 #[derive(Clone, Copy)]
-pub(crate) enum Task {
+pub(crate) enum Visit {
     /// Search the value of a slot.
     Enter(usize),
     /// All that stands in the value of a slot has been searched.
@@ -32,104 +32,104 @@ fn bound_slot<'a>(trail: &Trail<&'a [Cell]>, slots: &Slots, cell: Cell) -> Optio
     }
 }
 
-// Puts the bound variables of a value among the tasks.
+// Puts the bound variables of a value among the visits.
 fn enter_cells<'a>(
     trail: &Trail<&'a [Cell]>,
     slots: &Slots,
-    tasks: &mut Vec<Task>,
+    visits: &mut Vec<Visit>,
     value: &[Cell],
 ) -> Result<(), AllocError>
-    ensures { OnOk result (AreEntered slots.now trail.now.pairs value.now (reverse tasks.old.items)
-        (reverse tasks.new.items)) }
+    ensures { OnOk result (AreEntered slots.now trail.now.pairs value.now (reverse visits.old.items)
+        (reverse visits.new.items)) }
 {
     for &cell in value {
         let Some(next) = bound_slot(trail, slots, cell) else {
             continue;
         };
-        tasks.push(Task::Enter(next))?;
+        visits.push(Visit::Enter(next))?;
     }
     Ok(())
 }
 
-// Puts the bound variables of a slot's value among the tasks.
+// Puts the bound variables of a slot's value among the visits.
 fn enter_all<'a>(
     trail: &Trail<&'a [Cell]>,
     slots: &Slots,
-    tasks: &mut Vec<Task>,
+    visits: &mut Vec<Visit>,
     slot: usize,
 ) -> Result<(), AllocError>
-    ensures { OnOk result (reverse tasks.new.items ≡ tasks_of slots.now trail.now.pairs slot ++
-        reverse tasks.old.items) }
+    ensures { OnOk result (reverse visits.new.items ≡ visits_of slots.now trail.now.pairs slot ++
+        reverse visits.old.items) }
 {
     match trail.get(slot) {
-        Some(value) => enter_cells(trail, slots, tasks, value),
+        Some(value) => enter_cells(trail, slots, visits, value),
         None => Ok(()),
     }
 }
 
-// Does one task. It tells whether no circle was found.
+// Makes one visit. It tells whether no circle was found.
 fn step<'a>(
     trail: &Trail<&'a [Cell]>,
     slots: &Slots,
     states: &mut States,
-    tasks: &mut Vec<Task>,
-    task: Task,
+    visits: &mut Vec<Visit>,
+    visit: Visit,
 ) -> Result<bool, AllocError>
     requires { IsSearching slots.now trail.now.pairs states.old
-        (task ∷ reverse tasks.old.items) }
+        (visit ∷ reverse visits.old.items) }
     ensures { IfOk result (HasDone slots.now trail.now.pairs states.old states.new
-        (task ∷ reverse tasks.old.items) (reverse tasks.new.items)) }
+        (visit ∷ reverse visits.old.items) (reverse visits.new.items)) }
 {
-    match task {
-        Task::Leave(slot) => {
+    match visit {
+        Visit::Leave(slot) => {
             states.change(slot, State::Done)?;
             Ok(true)
         }
-        Task::Enter(slot) => match states.at(slot) {
+        Visit::Enter(slot) => match states.at(slot) {
             State::Done => Ok(true),
             State::Open => Ok(false),
             State::New => {
                 states.change(slot, State::Open)?;
-                tasks.push(Task::Leave(slot))?;
-                enter_all(trail, slots, tasks, slot)?;
+                visits.push(Visit::Leave(slot))?;
+                enter_all(trail, slots, visits, slot)?;
                 Ok(true)
             }
         },
     }
 }
 
-// Searches for a circle from the tasks on. It tells whether there is none.
+// Searches for a circle from the visits on. It tells whether there is none.
 fn search<'a>(
     trail: &Trail<&'a [Cell]>,
     slots: &Slots,
     states: &mut States,
-    tasks: &mut Vec<Task>,
+    visits: &mut Vec<Visit>,
 ) -> Result<bool, AllocError>
-    requires { IsSearching slots.now trail.now.pairs states.old (reverse tasks.old.items) }
+    requires { IsSearching slots.now trail.now.pairs states.old (reverse visits.old.items) }
     ensures { IfOk result (HasSearched slots.now trail.now.pairs states.old states.new
-        (reverse tasks.old.items)) }
+        (reverse visits.old.items)) }
 {
-    while let Some(task) = tasks.pop() {
-        if !step(trail, slots, states, tasks, task)? {
+    while let Some(visit) = visits.pop() {
+        if !step(trail, slots, states, visits, visit)? {
             return Ok(false);
         }
     }
     Ok(true)
 }
 
-// Puts the slots of the bindings from the mark on among the tasks.
+// Puts the slots of the bindings from the mark on among the visits.
 fn enter_bound<'a>(
     trail: &Trail<&'a [Cell]>,
     mark: usize,
-    tasks: &mut Vec<Task>,
+    visits: &mut Vec<Visit>,
 ) -> Result<(), AllocError>
-    requires none { tasks.old.items ≡ [] }
+    requires none { visits.old.items ≡ [] }
     requires within { mark ≤ length trail.now.pairs }
     ensures { OnOk result (AreEntries trail.now.pairs mark (length trail.now.pairs)
-        (reverse tasks.new.items)) }
+        (reverse visits.new.items)) }
 {
     for n in mark..trail.mark() {
-        tasks.push(Task::Enter(trail.slot(n)))?;
+        visits.push(Visit::Enter(trail.slot(n)))?;
     }
     Ok(())
 }
@@ -173,13 +173,13 @@ fn are_resolved<'a>(trail: &Trail<&'a [Cell]>, slots: &Slots, mark: usize) -> bo
 // whose variables are unbound, so most lists need no search.
 pub(crate) fn is_triangular<'a>(
     states: &mut States,
-    tasks: &mut Vec<Task>,
+    visits: &mut Vec<Visit>,
     trail: &Trail<&'a [Cell]>,
     slots: &Slots,
     mark: usize,
 ) -> Result<bool, AllocError>
     requires fresh { AreNew states.old }
-    requires none { tasks.old.items ≡ [] }
+    requires none { visits.old.items ≡ [] }
     requires bindings { AllByRecursion (IsBinding slots.now) trail.now.pairs }
     requires within { mark ≤ length trail.now.pairs }
     requires before { IsAcyclic slots.now (take mark trail.now.pairs) }
@@ -189,6 +189,6 @@ pub(crate) fn is_triangular<'a>(
         return Ok(true);
     }
     states.make_room(slots.count())?;
-    enter_bound(trail, mark, tasks)?;
-    search(trail, slots, states, tasks)
+    enter_bound(trail, mark, visits)?;
+    search(trail, slots, states, visits)
 }

@@ -2,7 +2,7 @@
 ghost use Rattle.std.specs.Prelude.{◌≡◌, []};
 ghost use Rattle.si_unify.specs.States.{AreNew};
 
-use crate::circles::Task;
+use crate::circles::Visit;
 use crate::heights::Heights;
 use crate::spots::SpotPair;
 use crate::states::States;
@@ -20,7 +20,7 @@ pub(crate) struct Buffers {
     /// How far the search for a circle has come with each slot.
     pub(crate) states: States,
     /// What is left of that search.
-    pub(crate) tasks: Vec<Task>,
+    pub(crate) visits: Vec<Visit>,
 }
 
 impl Buffers {
@@ -29,7 +29,7 @@ impl Buffers {
         ensures keys { self.new.keys.keys ≡ [] }
         ensures heights { self.new.heights ≡ [] }
         ensures states { AreNew self.new.states }
-        ensures tasks { self.new.tasks.items ≡ [] }
+        ensures visits { self.new.visits.items ≡ [] }
     {
         // Clearing the set costs as much as it ever held.
         if !self.keys.is_empty() {
@@ -37,7 +37,7 @@ impl Buffers {
         }
         self.heights.reset();
         self.states.reset();
-        self.tasks.clear();
+        self.visits.clear();
     }
 }
 
@@ -68,7 +68,7 @@ impl Scratch {
                 keys: IndexSet::new(alloc),
                 heights: Heights::new(alloc),
                 states: States::new(alloc),
-                tasks: Vec::new(alloc),
+                visits: Vec::new(alloc),
             },
         }
     }

@@ -45,7 +45,7 @@ fn attempt<'a>(
     }
     is_triangular(
         &mut buffers.states,
-        &mut buffers.tasks,
+        &mut buffers.visits,
         trail,
         &question.slots,
         mark,

@@ -7,4 +7,4 @@ pub record Invariant (entered within : Type 0) : Type 0 where
   pub still_within : within
 
 abbrev pub invariant-loop-n : goal.invariant-loop-n
-invariant-loop-n l = Invariant (AreEntries l.trail.pairs l.mark l.n (reverse l.tasks.items)) (l.n ≤ length l.trail.pairs)
+invariant-loop-n l = Invariant (AreEntries l.trail.pairs l.mark l.n (reverse l.visits.items)) (l.n ≤ length l.trail.pairs)

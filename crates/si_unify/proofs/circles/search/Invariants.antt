@@ -3,8 +3,8 @@ use Rattle.si_unify.specs.Circles.{work}
 use Rattle.si_unify.proofs.Searching.{IsUnderWay}
 use Rattle.si_unify.proofs.circles.search.Given as goal
 
-abbrev pub invariant-loop-task : goal.invariant-loop-task
-invariant-loop-task l = IsUnderWay l.slots l.trail.pairs l.fn.states l.states (reverse l.fn.tasks.items) (reverse l.tasks.items)
+abbrev pub invariant-loop-visit : goal.invariant-loop-visit
+invariant-loop-visit l = IsUnderWay l.slots l.trail.pairs l.fn.states l.states (reverse l.fn.visits.items) (reverse l.visits.items)
 
-abbrev pub decreases-loop-task : goal.decreases-loop-task
-decreases-loop-task l = work l.states (reverse l.tasks.items)
+abbrev pub decreases-loop-visit : goal.decreases-loop-visit
+decreases-loop-visit l = work l.states (reverse l.visits.items)

@@ -1,13 +1,13 @@
 use Rattle.std.proofs.Common.{[], ◌∷◌, ◌++◌, reverse, sym, ◌∙◌, ap, subst, arith}
-use Rattle.si_unify.specs.Circles.{tasks_of, HasStepped}
+use Rattle.si_unify.specs.Circles.{visits_of, HasStepped}
 use Rattle.std.proofs.lemmas.List.{reverse-append, length-reverse}
-use Rattle.si_unify.specs.declared.circles.Task.TheVariants.{Leave}
+use Rattle.si_unify.specs.declared.circles.Visit.TheVariants.{Leave}
 use Rattle.si_unify.proofs.Searching.{left_told, done_told, circle_told, open_told}
 use Rattle.si_unify.proofs.circles.step.Goals as goal
 
 pub returns-in_ok-change-in-Leave : goal.returns-in_ok-change-in-Leave
 returns-in_ok-change-in-Leave c =
-    subst (λ states. HasStepped c.args.slots.now c.args.trail.now.pairs c.args.states.now states (c.args.task ∷ reverse c.args.tasks.now.items) (reverse c.args.tasks.now.items))
+    subst (λ states. HasStepped c.args.slots.now c.args.trail.now.pairs c.args.states.now states (c.args.visit ∷ reverse c.args.visits.now.items) (reverse c.args.visits.now.items))
     (sym c.in_ok-change-in-Leave.ensures)
     (left_told _ _ _ _ _ _ c.in-Leave.is c.requires)
 
@@ -16,19 +16,19 @@ returns-in-Done c = done_told _ _ _ _ _ _ c.in-Enter.is c.requires c.in-Done.ens
 
 pub returns-in-Open : goal.returns-in-Open
 returns-in-Open c =
-    circle_told _ _ _ c.args.states.now _ _ _ (reverse c.args.tasks.now.items) c.in-Enter.is c.requires c.in-Open.ensures
+    circle_told _ _ _ c.args.states.now _ _ _ (reverse c.args.visits.now.items) c.in-Enter.is c.requires c.in-Open.ensures
 
 pub returns-in_ok-enter_all-in-New : goal.returns-in_ok-enter_all-in-New
 returns-in_ok-enter_all-in-New c =
-    let few = c.enter_all.new.tasks.small in
-    subst (λ states. HasStepped c.args.slots.now c.args.trail.now.pairs c.args.states.now states (c.args.task ∷ reverse c.args.tasks.now.items) (reverse c.enter_all.new.tasks.items))
+    let few = c.enter_all.new.visits.small in
+    subst (λ states. HasStepped c.args.slots.now c.args.trail.now.pairs c.args.states.now states (c.args.visit ∷ reverse c.args.visits.now.items) (reverse c.enter_all.new.visits.items))
     (sym c.in_ok-change-in-New.ensures)
     (
     open_told _ _ _ _ _ _ _ c.in-Enter.is c.requires c.in-New.ensures
     (
     c.in_ok-enter_all-in-New.ensures
-    ∙ ap (λ l. tasks_of c.args.slots.now c.args.trail.now.pairs c.in-Enter.slot ++ l)
-    (ap reverse c.in_ok-push-in-New.ensures.items ∙ reverse-append c.args.tasks.now.items (Leave c.in-Enter.slot ∷ []))
+    ∙ ap (λ l. visits_of c.args.slots.now c.args.trail.now.pairs c.in-Enter.slot ++ l)
+    (ap reverse c.in_ok-push-in-New.ensures.items ∙ reverse-append c.args.visits.now.items (Leave c.in-Enter.slot ∷ []))
     )
-    (omega (arith, length-reverse c.enter_all.new.tasks.items, few))
+    (omega (arith, length-reverse c.enter_all.new.visits.items, few))
     )

@@ -176,7 +176,7 @@ module _ (slots : Slots) (left right : List Cell) (old : Pairs) (count : ℕ) wh
     one_head : get_or one 0 no_cell ≡ get_or left i no_cell
     one_head = cell-at one 0 next.t no_cell (record { after = []; from = one_stands.cells_are ∙ sym (append-nil (cells_of next.t)); sound = one_stands.sound }) ∙ sym (cell-at left i next.t no_cell next.left_at)
 
-    pub other_head : get_or other 0 no_cell ≡ get_or right j no_cell
+    other_head : get_or other 0 no_cell ≡ get_or right j no_cell
     other_head = cell-at other 0 next.u no_cell (record { after = []; from = other_stands.cells_are ∙ sym (append-nil (cells_of next.u)); sound = other_stands.sound }) ∙ sym (cell-at right j next.u no_cell next.right_at)
 
     pub heads_differ : same_symbol (get_or left i no_cell) (get_or right j no_cell) ≡ false → same_symbol (get_or one 0 no_cell) (get_or other 0 no_cell) ≡ true → ⊥

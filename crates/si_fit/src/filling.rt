@@ -17,7 +17,7 @@ use si_trail::Trail;
 use si_unify::Slots;
 
 // Makes a term equal to a right side, each indicator of which is bound to what stands in its place
-// without a look at the trail.
+// without a search, and without a look at its slot.
 #[inline(never)]
 fn fill<'a>(
     trail: &mut Trail<&'a [Cell]>,

@@ -9,10 +9,8 @@ ghost use Rattle.si_unify.specs.Solving.{slot_count, variable_of, AreInRange, Is
 ghost use Rattle.si_form.specs.Direct.{CellIsUnbound, StandsApart, head_slot, IsDirect, AreDirect, AreApplied, CanBeReadOff, BecomesThat, IsFirst, AreRenamed};
 ghost use Rattle.si_form.specs.Unifying.{HasRightSide, ListsAllBindings, AreFree};
 
-use crate::folding::variable;
 use crate::matching::are_same;
 use crate::solution::{Binding, Solution};
-use crate::uses::slot_of;
 use si_flat::{Cell, Flat, Owner};
 use si_trail::Trail;
 use si_unify::Slots;
@@ -107,7 +105,7 @@ fn are_unbound<'a>(slots: &Slots, trail: &Trail<&'a [Cell]>, cells: &[Cell]) -> 
     ensures { IsTrue result → AllByRecursion (CellIsUnbound slots.now trail.now.pairs) cells.now }
 {
     for &cell in cells {
-        let Some(slot) = slot_of(slots, cell) else {
+        let Some(slot) = slots.slot_of(cell) else {
             continue;
         };
         if trail.get(slot).is_some() {
@@ -126,7 +124,7 @@ fn is_direct<'a>(slots: &Slots, trail: &Trail<&'a [Cell]>, slot: usize, value: &
     if !are_unbound(slots, trail, value) {
         return false;
     }
-    let Some(_) = slot_of(slots, value[0]) else {
+    let Some(_) = slots.slot_of(value[0]) else {
         return stands_apart(trail, slot, value);
     };
     true
@@ -163,7 +161,7 @@ fn first_of<'a>(slots: &Slots, trail: &Trail<&'a [Cell]>, slot: usize) -> usize
         let Some(value) = trail.get(other) else {
             continue;
         };
-        let Some(next) = slot_of(slots, value[0]) else {
+        let Some(next) = slots.slot_of(value[0]) else {
             continue;
         };
         if next != slot {
@@ -189,12 +187,12 @@ fn renamed<'a>(
 {
     let mut new = Vec::with_capacity(alloc, cells.len())?;
     for &cell in cells {
-        let Some(slot) = slot_of(slots, cell) else {
+        let Some(slot) = slots.slot_of(cell) else {
             new.push(cell)?;
             continue;
         };
         let first = first_of(slots, trail, slot);
-        new.push(variable(*slots, first))?;
+        new.push(slots.cell_of(first))?;
     }
     Ok(new)
 }
@@ -234,7 +232,7 @@ fn variable_side<'a>(
     if first == slot {
         return Ok(None);
     }
-    let side = Flat::from_cells(alloc, &[variable(*slots, first)])?;
+    let side = Flat::from_cells(alloc, &[slots.cell_of(first)])?;
     Ok(Some(side))
 }
 
@@ -252,7 +250,7 @@ fn side<'a>(
     let Some(value) = trail.get(slot) else {
         return variable_side(alloc, slots, trail, slot, slot);
     };
-    let Some(next) = slot_of(slots, value[0]) else {
+    let Some(next) = slots.slot_of(value[0]) else {
         let side = application_side(alloc, slots, trail, slot, value)?;
         return Ok(Some(side));
     };
@@ -268,7 +266,7 @@ fn are_applied<'a>(slots: &Slots, trail: &Trail<&'a [Cell]>) -> bool
         let Some(value) = trail.get(trail.slot(n)) else {
             return false;
         };
-        if slot_of(slots, value[0]).is_some() {
+        if slots.slot_of(value[0]).is_some() {
             return false;
         }
     }

@@ -1,8 +1,7 @@
 // Folded terms, from the numbers of classes.
 ghost use Rattle.std.specs.Prelude.{◌≡◌, ◌<◌, ◌≤◌, List, None, length, slice_index_or, reverse};
 ghost use Rattle.std.specs.Prelude.{IfOk, OnOk};
-ghost use Rattle.si_flat.specs.Cells.{Variable, Term, variable_cell};
-ghost use Rattle.si_unify.specs.Solving.{slot_count, variable_of};
+ghost use Rattle.si_flat.specs.Cells.{Variable, Term};
 ghost use Rattle.si_form.specs.Folding.{HasTerms, Descends, part_size, node_size, IsBefore};
 ghost use Rattle.si_form.specs.Folding.{AreSizes, WritesCells, CanFold, HasFolded};
 
@@ -92,19 +91,6 @@ pub(crate) fn sizes(
     Ok(sizes)
 }
 
-// The cell of the variable of a slot.
-pub(crate) fn variable(slots: Slots, slot: usize) -> Cell
-    requires none { slots.inds ≡ 0 }
-    requires inside { slot < slot_count slots }
-    ensures { result ≡ variable_cell (variable_of slots slot) }
-{
-    let queries = slots.query as usize;
-    if slot < queries {
-        return Cell::Query(slot as u32);
-    }
-    Cell::Entry((slot - queries) as u32)
-}
-
 // Writes the symbol of a class, and piles up the classes of its arguments.
 fn write_symbol(
     nodes: &IndexSet<Node>,
@@ -161,7 +147,7 @@ pub(crate) fn fold(
             write_symbol(nodes, sizes, &mut left, &mut cells, next)?;
             continue;
         };
-        cells.push(variable(*slots, slot))?;
+        cells.push(slots.cell_of(slot))?;
     }
     Ok(cells)
 }

@@ -13,11 +13,11 @@ ghost use Rattle.si_form.specs.Unifying.{IsBoundTo, AreFound, HasGeneral, HasRig
 
 use crate::classes::{Classes, find_classes};
 use crate::direct::{binding, direct_list};
-use crate::folding::{fold, leader_of, sizes, variable};
+use crate::folding::{fold, leader_of, sizes};
 use crate::leaders::leaders;
 use crate::order::order;
 use crate::solution::Solution;
-use crate::uses::{slot_of, slots_of};
+use crate::uses::slots_of;
 use crate::variables::{count_variables, size};
 use si_flat::{Cell, Flat, Owner};
 use si_trail::Trail;
@@ -36,7 +36,7 @@ fn application_size<'a>(slots: &Slots, trail: &Trail<&'a [Cell]>, slot: usize) -
         let Some(value) = trail.get(at) else {
             return None;
         };
-        let Some(next) = slot_of(slots, value[0]) else {
+        let Some(next) = slots.slot_of(value[0]) else {
             return Some(size(value));
         };
         at = next;
@@ -68,7 +68,7 @@ fn right_side<'a>(
         return Ok(None);
     };
     if leader != slot {
-        let cells = Vec::from_slice(alloc, &[variable(*slots, leader)])?;
+        let cells = Vec::from_slice(alloc, &[slots.cell_of(leader)])?;
         return Ok(Some(cells));
     }
     let Some(_) = application_size(slots, trail, slot) else {

@@ -1,7 +1,6 @@
 // Which slots the values of bindings use.
 ghost use Rattle.std.specs.Prelude.{◌≡◌, ℕ, length, IfOk, OnOk};
 ghost use Rattle.si_unify.specs.Solving.{slot_count};
-ghost use Rattle.si_unify.specs.Spots.{cell_slot};
 ghost use Rattle.si_form.specs.Classes.{slots_of};
 ghost use Rattle.si_form.specs.Ordering.{list_of};
 ghost use Rattle.si_form.specs.Uses.{used_by, UsesBelow};
@@ -10,18 +9,6 @@ use si_flat::Cell;
 use si_trail::Trail;
 use si_unify::Slots;
 use std::alloc::{AllocError, Global};
-
-// The slot of a variable's cell.
-pub(crate) fn slot_of(slots: &Slots, cell: Cell) -> Option<usize>
-    ensures { result ≡ cell_slot slots.now cell }
-{
-    match cell {
-        Cell::App { .. } => None,
-        Cell::Query(number) => Some(number as usize),
-        Cell::Entry(number) => Some(slots.query as usize + number as usize),
-        Cell::Ind(number) => Some(slots.query as usize + slots.entry as usize + number as usize),
-    }
-}
 
 /// The slots of the variables among the cells, in order.
 pub(crate) fn slots_of(
@@ -33,7 +20,7 @@ pub(crate) fn slots_of(
 {
     let mut used = Vec::new(alloc);
     for &cell in cells {
-        let Some(slot) = slot_of(slots, cell) else {
+        let Some(slot) = slots.slot_of(cell) else {
             continue;
         };
         used.push(slot)?;

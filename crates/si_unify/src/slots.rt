@@ -1,6 +1,7 @@
 // Variables and their slots.
 ghost use Rattle.std.specs.Prelude.{◌≡◌, ◌<◌, ◌^◌, ◌↔◌, IsTrue};
-ghost use Rattle.si_unify.specs.Solving.{slot_count, CellIsInRange, AreInRange};
+ghost use Rattle.si_flat.specs.Cells.{variable_cell};
+ghost use Rattle.si_unify.specs.Solving.{slot_count, variable_of, CellIsInRange, AreInRange};
 ghost use Rattle.si_unify.specs.Spots.{cell_slot, free_slot};
 
 use si_flat::Cell;
@@ -61,6 +62,22 @@ impl Slots {
                 Some(self.query as usize + self.entry as usize + number as usize)
             }
         }
+    }
+
+    /// The cell of the variable of a slot.
+    pub fn cell_of(&self, slot: usize) -> Cell
+        requires { slot < slot_count self.now }
+        ensures { result ≡ variable_cell (variable_of self.now slot) }
+    {
+        let queries = self.query as usize;
+        let entries = self.entry as usize;
+        if slot < queries {
+            return Cell::Query(slot as u32);
+        }
+        if slot < queries + entries {
+            return Cell::Entry((slot - queries) as u32);
+        }
+        Cell::Ind((slot - queries - entries) as u32)
     }
 
     /// The slot of the cell of a variable that isn't frozen.

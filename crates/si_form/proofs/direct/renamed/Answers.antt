@@ -12,16 +12,16 @@ loop-cell-preserved-in_default c =
     (λ f general. symbol_stays c.args.slots.now c.args.trail.now.pairs c.requires.can (get_or c.args.cells.now c.loop-cell.cell-index no_cell) (sym c.in_default.is ∙ c.slot_of.ensures) f)
     c.in_ok-push.ensures.items
 
-pub variable-requires-clause-inside : goal.variable-requires-clause-inside
-variable-requires-clause-inside c =
+pub cell_of-requires : goal.cell_of-requires
+cell_of-requires c =
     first_inside c.args.slots.now c.args.trail.now.pairs c.requires.can c.args.cells.now c.requires.range c.requires.unbound c.loop-cell.cell-index c.in-Some.slot c.first_of-first.result
     c.loop-cell-test.true (sym c.in-Some.is ∙ c.slot_of.ensures) c.first_of-first.ensures
 
 pub loop-cell-preserved : goal.loop-cell-preserved
 loop-cell-preserved c =
-    renamed_more c.args.slots.now c.args.trail.now.pairs c.requires.can c.args.cells.now c.loop-cell.new.items _ c.loop-cell.cell-index c.variable.result c.loop-cell-test.true c.loop-cell.invariant
+    renamed_more c.args.slots.now c.args.trail.now.pairs c.requires.can c.args.cells.now c.loop-cell.new.items _ c.loop-cell.cell-index c.cell_of.result c.loop-cell-test.true c.loop-cell.invariant
     (λ f general.
-    c.variable.ensures
+    c.cell_of.ensures
     ∙ variable_changes c.args.slots.now c.args.trail.now.pairs c.requires.can c.args.cells.now c.requires.range c.requires.unbound c.loop-cell.cell-index c.in-Some.slot c.first_of-first.result
     c.loop-cell-test.true (sym c.in-Some.is ∙ c.slot_of.ensures) c.first_of-first.ensures f general)
     c.in_ok-push-2.ensures.items

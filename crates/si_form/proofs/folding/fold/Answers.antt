@@ -25,8 +25,8 @@ pub write_symbol-requires-in_default-leader_of-clause-sized : goal.write_symbol-
 write_symbol-requires-in_default-leader_of-clause-sized c =
     (asked_of c.args.slots.now _ _ _ _ c.in-Some.next _ (reverse c.pop.new.self.items) _ _ (ap reverse c.in-Some.ensures.items ∙ reverse-append c.pop.new.self.items (c.in-Some.next ∷ [])) c.loop.invariant c.requires.folds).sized
 
-pub variable-requires-clause-inside : goal.variable-requires-clause-inside
-variable-requires-clause-inside c =
+pub cell_of-requires : goal.cell_of-requires
+cell_of-requires c =
     (asked_of c.args.slots.now _ _ _ _ c.in-Some.next _ (reverse c.pop.new.self.items) _ _ (ap reverse c.in-Some.ensures.items ∙ reverse-append c.pop.new.self.items (c.in-Some.next ∷ [])) c.loop.invariant c.requires.folds).slot_inside c.in-Some-leader_of.slot (sym c.leader_of.ensures ∙ c.in-Some-leader_of.is)
 
 pub loop-preserved-in_default-leader_of : goal.loop-preserved-in_default-leader_of
@@ -37,7 +37,7 @@ loop-preserved-in_default-leader_of c =
 pub loop-preserved : goal.loop-preserved
 loop-preserved c =
     writes_variable c.args.slots.now _ _ _ _ c.in-Some.next _ (reverse c.pop.new.self.items) c.loop.cells.items c.loop.counter (ap reverse c.in-Some.ensures.items ∙ reverse-append c.pop.new.self.items (c.in-Some.next ∷ [])) c.loop.invariant
-    c.in-Some-leader_of.slot _ (sym c.leader_of.ensures ∙ c.in-Some-leader_of.is) (c.in_ok-push.ensures.items ∙ ap (λ x. c.loop.cells.items ++ x ∷ []) c.variable.ensures)
+    c.in-Some-leader_of.slot _ (sym c.leader_of.ensures ∙ c.in-Some-leader_of.is) (c.in_ok-push.ensures.items ∙ ap (λ x. c.loop.cells.items ++ x ∷ []) c.cell_of.ensures)
 
 pub returns : goal.returns
 returns c =

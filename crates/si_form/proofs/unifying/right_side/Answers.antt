@@ -15,8 +15,8 @@ returns-in_default c =
     (slice_get_read c.args.classes.now.of_slots.items _ c.args.slot _ refl (omega (arith, c.requires.inside, c.requires.found.classes_are.long)) c.index-class.ensures)
     (sym c.in_default.is ∙ c.leader_of.ensures)
 
-pub variable-requires-clause-inside : goal.variable-requires-clause-inside
-variable-requires-clause-inside c =
+pub cell_of-requires : goal.cell_of-requires
+cell_of-requires c =
     leader_inside c.args.slots.now c.args.trail.now.pairs _ c.args.classes.now.of_slots.items _ _ c.requires.found c.args.slot c.index-class.result.now c.requires.inside
     (slice_get_read c.args.classes.now.of_slots.items _ c.args.slot _ refl (omega (arith, c.requires.inside, c.requires.found.classes_are.long)) c.index-class.ensures)
     c.in-Some.leader (sym c.in-Some.is ∙ c.leader_of.ensures)
@@ -25,7 +25,7 @@ pub returns-then-leader-slot : goal.returns-then-leader-slot
 returns-then-leader-slot c =
     follower_side c.args.slots.now c.args.trail.now.pairs _ c.args.classes.now.of_slots.items _ _ c.requires.found c.args.slot c.index-class.result.now c.requires.inside
     (slice_get_read c.args.classes.now.of_slots.items _ c.args.slot _ refl (omega (arith, c.requires.inside, c.requires.found.classes_are.long)) c.index-class.ensures)
-    c.in-Some.leader c.in_ok-cells.cells.items (sym c.in-Some.is ∙ c.leader_of.ensures) c.if-leader-slot.true (c.in_ok-cells.ensures.items ∙ ap (λ x. x ∷ []) c.variable.ensures)
+    c.in-Some.leader c.in_ok-cells.cells.items (sym c.in-Some.is ∙ c.leader_of.ensures) c.if-leader-slot.true (c.in_ok-cells.ensures.items ∙ ap (λ x. x ∷ []) c.cell_of.ensures)
 
 pub returns-in_default-application_size : goal.returns-in_default-application_size
 returns-in_default-application_size c =

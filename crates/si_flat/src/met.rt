@@ -8,7 +8,7 @@ ghost use Rattle.si_flat.specs.Numbered.{one_above};
 ghost use Rattle.si_flat.specs.Flattened.{unnumbered};
 ghost use Rattle.si_flat.specs.Flattening.{met_names, symbol_of_key, met_extra, IsIndex, IsSymbolNumber};
 
-use crate::names::Names;
+use crate::names::NameSet;
 use crate::walk::Scheme;
 use indexmap::IndexSet;
 use si_defs::{Side, SymKind};
@@ -48,7 +48,7 @@ impl SymbolKey<'_> {
 /// which they came.
 #[derive(Drop)]
 pub(crate) struct Met<'a> {
-    names: Names<'a>,
+    names: NameSet<'a>,
     extra: IndexSet<SymbolKey<'a>>,
 }
 
@@ -58,7 +58,7 @@ impl<'a> Met<'a> {
         ensures extra { met_extra result ≡ [] }
     {
         Met {
-            names: Names::new(alloc),
+            names: NameSet::new(alloc),
             extra: IndexSet::new(alloc),
         }
     }

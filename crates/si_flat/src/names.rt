@@ -14,13 +14,13 @@ const FEW: usize = 8;
 /// Names, each once, in the order in which they came. The first few are found by comparing them,
 /// and those behind them by a hash.
 #[derive(Drop)]
-pub(crate) struct Names<'a> {
+pub(crate) struct NameSet<'a> {
     all: Vec<&'a [u8]>,
     // Those behind the first few.
     hashed: IndexSet<&'a [u8]>,
 }
 
-impl<'a> Model for Names<'a> {
+impl<'a> Model for NameSet<'a> {
     ghost use Rattle.std.specs.Prelude.{◌≡◌, List, map, drop};
     ghost use Rattle.si_defs.specs.Bytes.{Bytes};
     ghost use Rattle.si_flat.specs.declared.names.TheConstants.{FEW};
@@ -32,11 +32,11 @@ impl<'a> Model for Names<'a> {
     ghost invariant = { λ n. n.hashed.keys ≡ drop FEW n.all.items };
 }
 
-impl<'a> Names<'a> {
-    pub(crate) fn new(alloc: Global) -> Names<'a>
+impl<'a> NameSet<'a> {
+    pub(crate) fn new(alloc: Global) -> NameSet<'a>
         ensures { result ≡ [] }
     {
-        Names {
+        NameSet {
             all: Vec::new(alloc),
             hashed: IndexSet::new(alloc),
         }

@@ -5,8 +5,8 @@ use Rattle.std.proofs.lemmas.List.Sums.{prefix_len-le-length}
 use Rattle.indexmap.specs.IndexSet.{insert_key}
 use Rattle.si_term.proofs.Inserted.{lent_eq, shown}
 use Rattle.si_flat.proofs.NameLaws.{later_place, later_known, later_new}
-use Rattle.si_flat.proofs.names.Names.insert.Goals as goal
-use Rattle.si_flat.proofs.names.Names.insert.Goals.{then-is_new, else-is_new}
+use Rattle.si_flat.proofs.names.NameSet.insert.Goals as goal
+use Rattle.si_flat.proofs.names.NameSet.insert.Goals.{then-is_new, else-is_new}
 
 long : (c : goal.Joined-is_new) → 8 ≤ length c.self.inside.all.items
 long c = omega (arith, c.len-count.ensures, c.if-count-lt-FEW.false)

@@ -27,7 +27,7 @@ pub use terms::term;
 
 /// What was read at the front of some tokens, and the tokens behind it. Nothing where the tokens
 /// begin with no such thing.
-pub type Found<'t, 'b, T> = Option<(T, &'t [Lexeme<'b>])>;
+pub type Parsed<'t, 'b, T> = Option<(T, &'t [Lexeme<'b>])>;
 
 /// The tokens behind a mark, if it stands in front of them.
 fn mark_at<'t, 'b>(tokens: &'t [Lexeme<'b>], c: u8) -> Option<&'t [Lexeme<'b>]>

@@ -11,7 +11,7 @@ ghost use Rattle.si_term.specs.Meaning.{clause_of};
 use crate::grammar::annotations::annotations;
 use crate::grammar::formulas::formula;
 use crate::grammar::names::{name, role};
-use crate::grammar::{Found, mark_at, opening};
+use crate::grammar::{Parsed, mark_at, opening};
 use si_lex::Lexeme;
 use si_term::{Clause, Name, Text};
 use std::alloc::{AllocError, Global};
@@ -24,7 +24,7 @@ use std::alloc::{AllocError, Global};
 pub fn clause<'t, 'b>(
     alloc: Global,
     tokens: &'t [Lexeme<'b>],
-) -> Result<Found<'t, 'b, Clause>, AllocError>
+) -> Result<Parsed<'t, 'b, Clause>, AllocError>
     requires { length tokens.now ≤ MOST_BYTES }
     ensures read { IfOk result (Reads clause_of IsClause Anything tokens.now) }
     ensures sound { IfOk result (IfFound (λ c. IsSoundClause (clause_of c))) }
@@ -58,7 +58,7 @@ pub fn clause<'t, 'b>(
 fn heading<'t, 'b>(
     alloc: Global,
     tokens: &'t [Lexeme<'b>],
-) -> Result<Found<'t, 'b, (Name, Text)>, AllocError>
+) -> Result<Parsed<'t, 'b, (Name, Text)>, AllocError>
     ensures { IfOk result (Reads heading_of IsHeading Anything tokens.now) }
 {
     let Some((name, rest)) = name(alloc, tokens)? else {

@@ -9,7 +9,7 @@ ghost use Rattle.si_parse.specs.Parsing.{IfFound, NoBracket, NoLiteral, Passes, 
 ghost use Rattle.si_defs.specs.declared.TheConstants.{MOST_BYTES};
 
 use crate::grammar::literals::front_literal;
-use crate::grammar::{Found, mark_at};
+use crate::grammar::{Parsed, mark_at};
 use si_lex::Lexeme;
 use si_term::{Literal, Literals};
 use std::alloc::{AllocError, Global};
@@ -21,7 +21,7 @@ use std::alloc::{AllocError, Global};
 pub fn formula<'t, 'b>(
     alloc: Global,
     tokens: &'t [Lexeme<'b>],
-) -> Result<Found<'t, 'b, Literals>, AllocError>
+) -> Result<Parsed<'t, 'b, Literals>, AllocError>
     requires { length tokens.now ≤ MOST_BYTES }
     ensures read { IfOk result (Reads literals_of IsFormula NoLiteral tokens.now) }
     ensures sound { IfOk result (IfFound (λ ls. AreSoundLiterals (literals_of ls))) }
@@ -41,7 +41,7 @@ pub fn formula<'t, 'b>(
 fn disjunction<'t, 'b>(
     alloc: Global,
     tokens: &'t [Lexeme<'b>],
-) -> Result<Found<'t, 'b, Literals>, AllocError>
+) -> Result<Parsed<'t, 'b, Literals>, AllocError>
     requires { length tokens.now ≤ MOST_BYTES }
     ensures { IfOk result (Reads literals_of AreLiterals NoLiteral tokens.now) }
 {

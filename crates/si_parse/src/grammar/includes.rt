@@ -6,7 +6,7 @@ ghost use Rattle.si_parse.specs.Meaning.{include_of, names_of, selection_of};
 ghost use Rattle.si_parse.specs.Parsing.{Anything, NoName, Passes, Reads};
 
 use crate::grammar::names::{file, names};
-use crate::grammar::{Found, mark_at, opening};
+use crate::grammar::{Parsed, mark_at, opening};
 use si_lex::Lexeme;
 use si_term::{Names, Text};
 use std::alloc::{AllocError, Global};
@@ -28,7 +28,7 @@ pub enum Selection {
 pub fn include<'t, 'b>(
     alloc: Global,
     tokens: &'t [Lexeme<'b>],
-) -> Result<Found<'t, 'b, (Text, Selection)>, AllocError>
+) -> Result<Parsed<'t, 'b, (Text, Selection)>, AllocError>
     ensures { IfOk result (Reads include_of IsInclude Anything tokens.now) }
 {
     let Some(rest) = opening(tokens, b"include".as_slice()) else {
@@ -60,7 +60,7 @@ fn last<'t, 'b>(tokens: &'t [Lexeme<'b>]) -> Option<&'t [Lexeme<'b>]>
 fn selected<'t, 'b>(
     alloc: Global,
     tokens: &'t [Lexeme<'b>],
-) -> Result<Found<'t, 'b, Selection>, AllocError>
+) -> Result<Parsed<'t, 'b, Selection>, AllocError>
     ensures { IfOk result (Reads selection_of IsSelection NoName tokens.now) }
 {
     let Some(behind) = mark_at(tokens, b',') else {
@@ -76,7 +76,7 @@ fn selected<'t, 'b>(
 fn chosen<'t, 'b>(
     alloc: Global,
     tokens: &'t [Lexeme<'b>],
-) -> Result<Found<'t, 'b, Names>, AllocError>
+) -> Result<Parsed<'t, 'b, Names>, AllocError>
     ensures { IfOk result (Reads names_of AreChosen Anything tokens.now) }
 {
     let Some(inside) = mark_at(tokens, b'[') else {

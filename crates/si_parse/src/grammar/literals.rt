@@ -11,7 +11,7 @@ ghost use Rattle.si_term.specs.Meaning.{literal_of};
 ghost use Rattle.si_term.specs.Terms.{term_of};
 
 use crate::grammar::terms::front_term;
-use crate::grammar::{Found, bracket_follows, mark_at};
+use crate::grammar::{Parsed, bracket_follows, mark_at};
 use si_defs::{Side, SymKind, TokenKind};
 use si_lex::Lexeme;
 use si_term::{Literal, Sym, Term, Terms, Text};
@@ -25,7 +25,7 @@ use std::alloc::{AllocError, Global};
 pub fn literal<'t, 'b>(
     alloc: Global,
     tokens: &'t [Lexeme<'b>],
-) -> Result<Found<'t, 'b, Literal>, AllocError>
+) -> Result<Parsed<'t, 'b, Literal>, AllocError>
     requires { length tokens.now ≤ MOST_BYTES }
     ensures read { IfOk result (Reads literal_of IsLiteral NoSign tokens.now) }
     ensures ends { IfOk result (IfLeft NoSign) }
@@ -44,7 +44,7 @@ pub fn literal<'t, 'b>(
 pub(crate) fn front_literal<'t, 'b>(
     alloc: Global,
     tokens: &'t [Lexeme<'b>],
-) -> Result<Found<'t, 'b, Literal>, AllocError>
+) -> Result<Parsed<'t, 'b, Literal>, AllocError>
     requires { length tokens.now ≤ MOST_BYTES }
     ensures { IfOk result (Reads literal_of IsLiteral NoSign tokens.now) }
 {
@@ -67,7 +67,7 @@ pub(crate) fn front_literal<'t, 'b>(
 fn negated<'t, 'b>(
     alloc: Global,
     tokens: &'t [Lexeme<'b>],
-) -> Result<Found<'t, 'b, Term>, AllocError>
+) -> Result<Parsed<'t, 'b, Term>, AllocError>
     requires { length tokens.now ≤ MOST_BYTES }
     ensures { IfOk result (Reads term_of IsNegated NoSign tokens.now) }
 {
@@ -84,7 +84,7 @@ fn negated<'t, 'b>(
 }
 
 /// The atom at the front: a predicate with its arguments, or two terms with `=` between them.
-fn atom<'t, 'b>(alloc: Global, tokens: &'t [Lexeme<'b>]) -> Result<Found<'t, 'b, Term>, AllocError>
+fn atom<'t, 'b>(alloc: Global, tokens: &'t [Lexeme<'b>]) -> Result<Parsed<'t, 'b, Term>, AllocError>
     requires { length tokens.now ≤ MOST_BYTES }
     ensures { IfOk result (Reads term_of IsAtom NoSign tokens.now) }
 {
@@ -103,7 +103,7 @@ fn atom<'t, 'b>(alloc: Global, tokens: &'t [Lexeme<'b>]) -> Result<Found<'t, 'b,
 fn statement<'t, 'b>(
     alloc: Global,
     tokens: &'t [Lexeme<'b>],
-) -> Result<Found<'t, 'b, Literal>, AllocError>
+) -> Result<Parsed<'t, 'b, Literal>, AllocError>
     requires { length tokens.now ≤ MOST_BYTES }
     ensures { IfOk result (Reads literal_of IsStatement NoSign tokens.now) }
 {
@@ -138,7 +138,7 @@ fn sign_follows(tokens: &[Lexeme]) -> bool
 }
 
 /// The sign of an equation at the front: `=`, or `!=` for its negation.
-fn sign<'t, 'b>(tokens: &'t [Lexeme<'b>]) -> Found<'t, 'b, bool>
+fn sign<'t, 'b>(tokens: &'t [Lexeme<'b>]) -> Parsed<'t, 'b, bool>
     ensures { Reads (λ b. b) IsSign Anything tokens.now result }
 {
     match tokens {

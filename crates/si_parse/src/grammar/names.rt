@@ -5,7 +5,7 @@ ghost use Rattle.si_parse.specs.Meaning.{names_of};
 ghost use Rattle.si_parse.specs.Parsing.{Anything, NoName, Reads};
 ghost use Rattle.si_term.specs.Meaning.{name_of};
 
-use crate::grammar::{Found, mark_at};
+use crate::grammar::{Parsed, mark_at};
 use si_defs::{NameKind, TokenKind};
 use si_lex::Lexeme;
 use si_term::{Name, Names, Text};
@@ -18,7 +18,7 @@ use std::alloc::{AllocError, Global};
 pub fn name<'t, 'b>(
     alloc: Global,
     tokens: &'t [Lexeme<'b>],
-) -> Result<Found<'t, 'b, Name>, AllocError>
+) -> Result<Parsed<'t, 'b, Name>, AllocError>
     ensures { IfOk result (Reads name_of IsNameToken Anything tokens.now) }
 {
     match tokens {
@@ -40,7 +40,7 @@ pub fn name<'t, 'b>(
 pub(crate) fn names<'t, 'b>(
     alloc: Global,
     tokens: &'t [Lexeme<'b>],
-) -> Result<Found<'t, 'b, Names>, AllocError>
+) -> Result<Parsed<'t, 'b, Names>, AllocError>
     ensures { IfOk result (Reads names_of AreNames NoName tokens.now) }
 {
     let Some((first, behind)) = name(alloc, tokens)? else {
@@ -64,7 +64,7 @@ pub(crate) fn names<'t, 'b>(
 pub(crate) fn role<'t, 'b>(
     alloc: Global,
     tokens: &'t [Lexeme<'b>],
-) -> Result<Found<'t, 'b, Text>, AllocError>
+) -> Result<Parsed<'t, 'b, Text>, AllocError>
     ensures { IfOk result (Reads (λ t. t) IsRole Anything tokens.now) }
 {
     match tokens {
@@ -83,7 +83,7 @@ pub(crate) fn role<'t, 'b>(
 pub fn file<'t, 'b>(
     alloc: Global,
     tokens: &'t [Lexeme<'b>],
-) -> Result<Found<'t, 'b, Text>, AllocError>
+) -> Result<Parsed<'t, 'b, Text>, AllocError>
     ensures { IfOk result (Reads (λ t. t) IsFileToken Anything tokens.now) }
 {
     match tokens {

@@ -9,7 +9,7 @@ ghost use Rattle.si_parse.specs.Parsing.{IfFound, IfLeft, NoBracket, NoTerm, Rea
 ghost use Rattle.si_defs.specs.declared.TheConstants.{MOST_BYTES};
 ghost use Rattle.si_term.specs.Terms.{symbol_of, term_of};
 
-use crate::grammar::{Found, bracket_follows, mark_at};
+use crate::grammar::{Parsed, bracket_follows, mark_at};
 use si_defs::{Side, SymKind, TokenKind};
 use si_lex::Lexeme;
 use si_term::{Sym, Term, Terms, Text};
@@ -23,7 +23,7 @@ use std::alloc::{AllocError, Global};
 pub fn term<'t, 'b>(
     alloc: Global,
     tokens: &'t [Lexeme<'b>],
-) -> Result<Found<'t, 'b, Term>, AllocError>
+) -> Result<Parsed<'t, 'b, Term>, AllocError>
     requires { length tokens.now ≤ MOST_BYTES }
     ensures read { IfOk result (Reads term_of IsTerm NoBracket tokens.now) }
     ensures ends { IfOk result (IfLeft NoBracket) }
@@ -43,7 +43,7 @@ pub fn term<'t, 'b>(
 pub(crate) fn front_term<'t, 'b>(
     alloc: Global,
     tokens: &'t [Lexeme<'b>],
-) -> Result<Found<'t, 'b, Term>, AllocError>
+) -> Result<Parsed<'t, 'b, Term>, AllocError>
     requires { length tokens.now ≤ MOST_BYTES }
     ensures { IfOk result (Reads term_of IsTerm NoBracket tokens.now) }
 {
@@ -75,7 +75,7 @@ fn application<'t, 'b>(
     kind: SymKind,
     head: &Lexeme<'b>,
     tokens: &'t [Lexeme<'b>],
-) -> Result<Found<'t, 'b, Term>, AllocError>
+) -> Result<Parsed<'t, 'b, Term>, AllocError>
     requires { length tokens.now ≤ MOST_BYTES }
     ensures { IfOk result (Reads term_of (IsApplied kind (token_of head.now).text) NoBracket
         tokens.now) }
@@ -102,7 +102,7 @@ fn application<'t, 'b>(
 fn arguments<'t, 'b>(
     alloc: Global,
     tokens: &'t [Lexeme<'b>],
-) -> Result<Found<'t, 'b, Terms>, AllocError>
+) -> Result<Parsed<'t, 'b, Terms>, AllocError>
     requires { length tokens.now ≤ MOST_BYTES }
     ensures { IfOk result (Reads (λ ts. ts) AreTerms NoTerm tokens.now) }
 {

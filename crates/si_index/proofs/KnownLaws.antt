@@ -27,7 +27,7 @@ use Rattle.si_index.specs.Names.{key_of, ChangesName}
 use Rattle.si_index.specs.Known.{AreNamed, IsKnownOf, HasPut, Admits, Enters, Uncounts, Leaves, Stays, Bars}
 use Rattle.si_index.specs.Stored.{IsKept}
 use Rattle.si_index.specs.declared.known.Known.{Known}
-use Rattle.si_index.specs.declared.names.Names.{Names}
+use Rattle.si_index.specs.declared.names.ClauseNames.{ClauseNames}
 use Rattle.si_keyed.proofs.KeyLaws.{item_of, key_taken, last_behind}
 use Rattle.si_index.proofs.NamedLaws.{among_taken, leads_taken, unknown_free, named_more, named_less, named_stays}
 use Rattle.si_index.proofs.KeyStays.{kept_as, keys_stay, keys_through}
@@ -89,7 +89,7 @@ kept_stays rules old new items kept same = record {
 }
 
 -- a clause that is put last
-module _ (rules : Rules) (old between : Known) (items more : List (ℕ × term.Clause)) (c : term.Clause) (names : Names) (good : IsSignature old.signature)
+module _ (rules : Rules) (old between : Known) (items more : List (ℕ × term.Clause)) (c : term.Clause) (names : ClauseNames) (good : IsSignature old.signature)
     (kept : IsKept rules items old) (sound : IsSoundClause (clause_of c)) (admits : Admits rules.entries old (clause_of c)) (enters : Enters (clause_of c) old between)
     (put : HasPut c items more between.names names) where
   clauses_more : clauses_of more ≡ clauses_of items ++ clause_of c ∷ []
@@ -235,7 +235,7 @@ module _ (rules : Rules) (old : Known) (items : List (ℕ × term.Clause)) (key 
   names_there : AreNamed (out.before ++ (key, c) ∷ out.after) old.names
   names_there = subst (λ l. AreNamed l old.names) out.whole kept.is_known.names
 
-  names_less : (new : Names) → ChangesName (name_of c.name) None (key_of old.names) (key_of new) → AreNamed rest new
+  names_less : (new : ClauseNames) → ChangesName (name_of c.name) None (key_of old.names) (key_of new) → AreNamed rest new
   names_less new change =
       subst (λ l. AreNamed l new) (sym out.rest) (named_less out.before key c out.after old.names new names_there free_without change)
 
@@ -275,7 +275,7 @@ module _ (rules : Rules) (old : Known) (items : List (ℕ × term.Clause)) (key 
     };
   }
 
-  pub keys_less : (new : Names) → ChangesName (name_of c.name) None (key_of old.names) (key_of new) → KeysStay (kept_as items) (kept_as rest)
+  pub keys_less : (new : ClauseNames) → ChangesName (name_of c.name) None (key_of old.names) (key_of new) → KeysStay (kept_as items) (kept_as rest)
   keys_less new change =
       keys_stay items rest old.names new kept.is_known.names (names_less new change)
       (keys_through (name_of c.name) None (key_of old.names) (key_of new) change (inr refl))

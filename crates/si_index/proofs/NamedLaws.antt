@@ -12,7 +12,7 @@ use Rattle.si_keyed.specs.Keyed.{HasKey, IsTakenOut}
 use Rattle.si_index.specs.Kept.{clauses_of}
 use Rattle.si_index.specs.Known.{AreNamed}
 use Rattle.si_index.specs.Names.{key_of, ChangesName}
-use Rattle.si_index.specs.declared.names.Names.{Names}
+use Rattle.si_index.specs.declared.names.ClauseNames.{ClauseNames}
 use Rattle.si_index.proofs.NameLaws.{name_either}
 use Rattle.si_keyed.proofs.KeyLaws.{item_of, key_taken, pushed_item, pushed_key, key_among}
 
@@ -27,7 +27,7 @@ taken_among [] n h = absurd h
 taken_among (x ∷ items) n (inl e) = (x, inl refl, e)
 taken_among (x ∷ items) n (inr h) = let found = taken_among items n h in (found.0, inr found.1, found.2)
 
-module _ (items : List (ℕ × Clause)) (names : Names) (are : AreNamed items names) where
+module _ (items : List (ℕ × Clause)) (names : ClauseNames) (are : AreNamed items names) where
   pub leads_taken : (n : defs.Name) (key : ℕ) → key_of names n ≡ Some key → IsTaken (clauses_of items) n
   leads_taken n key h =
       let found = item_of items key (are.there n key h) in
@@ -39,7 +39,7 @@ module _ (items : List (ℕ × Clause)) (names : Names) (are : AreNamed items na
       none-some _ (sym h ∙ ap (key_of names) (sym found.2) ∙ are.listed found.0.0 found.0.1 found.1)
 
 -- ---- a clause more
-module _ (items : List (ℕ × Clause)) (key : ℕ) (c : Clause) (old new : Names) (are : AreNamed items old) (fresh : HasKey items key → ⊥)
+module _ (items : List (ℕ × Clause)) (key : ℕ) (c : Clause) (old new : ClauseNames) (are : AreNamed items old) (fresh : HasKey items key → ⊥)
     (free : key_of old (name_of c.name) ≡ None) (change : ChangesName (name_of c.name) (Some key) (key_of old) (key_of new)) where
   own_key : (n : defs.Name) (k : ℕ) → key_of new n ≡ Some k → n ≡ name_of c.name → key ≡ k
   own_key n k h e = same_Some _ _ (sym change.here ∙ ap (key_of new) (sym e) ∙ h)
@@ -78,7 +78,7 @@ module _ (items : List (ℕ × Clause)) (key : ℕ) (c : Clause) (old new : Name
   }
 
 -- ---- a clause less
-module _ (before : List (ℕ × Clause)) (key : ℕ) (c : Clause) (after : List (ℕ × Clause)) (old new : Names) (are : AreNamed (before ++ (key, c) ∷ after) old)
+module _ (before : List (ℕ × Clause)) (key : ℕ) (c : Clause) (after : List (ℕ × Clause)) (old new : ClauseNames) (are : AreNamed (before ++ (key, c) ∷ after) old)
     (free : IsTaken (clauses_of (before ++ after)) (name_of c.name) → ⊥) (change : ChangesName (name_of c.name) None (key_of old) (key_of new)) where
   still : (n : defs.Name) (k : ℕ) → key_of new n ≡ Some k → (n ≡ name_of c.name) ⊎ (n ≡ name_of c.name → ⊥) → (key_of old n ≡ Some k) × (n ≡ name_of c.name → ⊥)
   still n k h (inl e) = absurd (none-some _ (sym change.here ∙ ap (key_of new) (sym e) ∙ h))
@@ -112,7 +112,7 @@ module _ (before : List (ℕ × Clause)) (key : ℕ) (c : Clause) (after : List 
   }
 
 -- ---- as many as before
-pub named_stays : (items : List (ℕ × Clause)) (old new : Names) → AreNamed items old → ((n : defs.Name) → key_of new n ≡ key_of old n) → AreNamed items new
+pub named_stays : (items : List (ℕ × Clause)) (old new : ClauseNames) → AreNamed items old → ((n : defs.Name) → key_of new n ≡ key_of old n) → AreNamed items new
 named_stays items old new are same = record {
   there = λ n k h. are.there n k (sym (same n) ∙ h);
   named = λ n k h. are.named n k (sym (same n) ∙ h);

@@ -16,10 +16,10 @@ use Rattle.si_keyed.specs.Keyed.{HasKey}
 use Rattle.si_index.specs.Kept.{clauses_of}
 use Rattle.si_index.specs.Names.{key_of, ChangesName}
 use Rattle.si_index.specs.declared.known.Known.{Known}
-use Rattle.si_index.specs.declared.names.Names.{Names}
+use Rattle.si_index.specs.declared.names.ClauseNames.{ClauseNames}
 
 -- the name of each of these clauses leads to its key, and no other name leads anywhere
-pub record AreNamed (items : List (ℕ × term.Clause)) (names : Names) : Type 0 where
+pub record AreNamed (items : List (ℕ × term.Clause)) (names : ClauseNames) : Type 0 where
   pub there : (name : Name) (key : ℕ) → key_of names name ≡ Some key → HasKey items key
   pub named : (name : Name) (key : ℕ) → key_of names name ≡ Some key
       → (c : term.Clause) → IsAmong items (key, c) → name_of c.name ≡ name
@@ -36,12 +36,12 @@ pub record IsKnownOf (items : List (ℕ × term.Clause)) (known : Known) : Type 
 
 -- the clause is put last by this key, and its name leads to it
 pub record IsPut (key : ℕ) (clause : term.Clause) (items new : List (ℕ × term.Clause))
-    (old names : Names) : Type 0 where
+    (old names : ClauseNames) : Type 0 where
   pub fresh : HasKey items key → ⊥
   pub pushed : new ≡ items ++ (key, clause) ∷ []
   pub name : ChangesName (name_of clause.name) (Some key) (key_of old) (key_of names)
 
-abbrev pub HasPut : term.Clause → (items new : List (ℕ × term.Clause)) → (old names : Names)
+abbrev pub HasPut : term.Clause → (items new : List (ℕ × term.Clause)) → (old names : ClauseNames)
     → Type 0
 HasPut clause items new old names = (key : ℕ) × IsPut key clause items new old names
 

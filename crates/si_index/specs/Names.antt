@@ -4,7 +4,7 @@ use Rattle.si_defs.specs.Clauses.{Name}
 use Rattle.si_defs.specs.declared.NameKind.{NameKind}
 use Rattle.si_defs.specs.declared.NameKind.TheVariants.{Word, Int}
 use Rattle.si_sign.specs.Keys.{text_key}
-use Rattle.si_index.specs.declared.names.Names.{Names}
+use Rattle.si_index.specs.declared.names.ClauseNames.{ClauseNames}
 
 -- the one for the kind
 abbrev pub of_name_kind : Option ℕ → Option ℕ → NameKind → Option ℕ
@@ -12,7 +12,7 @@ of_name_kind word integer Word = word
 of_name_kind word integer Int = integer
 
 -- the key of a name
-abbrev pub key_of : Names → Name → Option ℕ
+abbrev pub key_of : ClauseNames → Name → Option ℕ
 key_of names name =
     of_name_kind (text_key names.words name.text) (text_key names.integers name.text) name.kind
 

@@ -20,9 +20,9 @@ ghost use Rattle.si_index.specs.Names.{key_of};
 ghost use Rattle.si_index.specs.Slots.{HasSlots, HaveSlotRows};
 
 use crate::known::Known;
-use crate::names::Names;
+use crate::names::ClauseNames;
 use si_forest::Trees;
-use si_keyed::{Items, KeyedList, Places};
+use si_keyed::{KeyedItems, KeyedList, Places};
 use si_lanes::Row;
 use si_screen::{Extra, literals_row};
 use si_sign::{AddFault, ClauseStore, Rejected, Signature};
@@ -155,7 +155,7 @@ impl Index {
     }
 
     /// The clauses in order, each with its key.
-    pub fn kept(&self) -> Items<'_, Clause>
+    pub fn kept(&self) -> KeyedItems<'_, Clause>
         ensures clauses { clauses_of result ≡ self.now.clauses }
         ensures keys { item_keys result ≡ self.now.keys }
     {
@@ -195,7 +195,7 @@ impl Index {
 fn put(
     alloc: Global,
     clauses: &mut KeyedList<Clause, Row>,
-    names: &mut Names,
+    names: &mut ClauseNames,
     clause: Clause,
     row: Row,
 ) -> Result<usize, Clause>

@@ -12,7 +12,7 @@ ghost use Rattle.si_sign.specs.declared.uses.TheConstants.{MOST_USES};
 ghost use Rattle.si_index.specs.Names.{key_of};
 ghost use Rattle.si_index.specs.Known.{Admits, Enters, Uncounts, Leaves, Stays, Bars};
 
-use crate::names::Names;
+use crate::names::ClauseNames;
 use si_sign::{AddFault, Signature, TakeFault};
 use si_term::{Clause, entry_count};
 use std::alloc::Global;
@@ -20,7 +20,7 @@ use std::alloc::Global;
 /// The keys of some clauses by their names, their signature, and the number of their entries.
 #[derive(Drop)]
 pub struct Known {
-    pub names: Names,
+    pub names: ClauseNames,
     pub signature: Signature,
     pub entries: u64,
 }
@@ -33,7 +33,7 @@ impl Known {
         ensures entries { result.entries ≡ 0 }
     {
         Known {
-            names: Names::new(alloc),
+            names: ClauseNames::new(alloc),
             signature: Signature::new(alloc),
             entries: 0,
         }

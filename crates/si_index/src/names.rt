@@ -12,17 +12,17 @@ use std::alloc::{AllocError, Global};
 /// A finite map from names of clauses to keys: one from texts for each kind, so that a look-up
 /// takes no memory.
 #[derive(Drop)]
-pub struct Names {
+pub struct ClauseNames {
     words: TextKeys,
     integers: TextKeys,
 }
 
-impl Names {
+impl ClauseNames {
     /// The empty map.
-    pub fn new(alloc: Global) -> Names
+    pub fn new(alloc: Global) -> ClauseNames
         ensures { (name : defs.Name) → key_of result name ≡ None }
     {
-        Names {
+        ClauseNames {
             words: TextKeys::new(alloc),
             integers: TextKeys::new(alloc),
         }

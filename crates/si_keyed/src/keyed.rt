@@ -143,10 +143,10 @@ impl<T, M: Copy> KeyedList<T, M> {
     }
 
     /// The keys and items, in order.
-    pub fn iter(&self) -> Items<'_, T>
+    pub fn iter(&self) -> KeyedItems<'_, T>
         ensures { result ≡ self.now.items }
     {
-        Items {
+        KeyedItems {
             slots: self.slots.as_slice(),
         }
     }
@@ -310,11 +310,11 @@ fn lead(key: usize, place: usize, places: &mut Slab<usize>)
 
 /// The keys and items of a list, in order, seen as the list of those that are left.
 #[derive(Drop)]
-pub struct Items<'a, T> {
+pub struct KeyedItems<'a, T> {
     slots: &'a [Option<Kept<T>>],
 }
 
-impl<'a, T> Model for Items<'a, T> {
+impl<'a, T> Model for KeyedItems<'a, T> {
     ghost use Rattle.std.specs.Prelude.{List, ℕ};
 
     ghost Value = { List (ℕ × T) };
@@ -324,7 +324,7 @@ impl<'a, T> Model for Items<'a, T> {
     ghost view = { λ items. kept items.slots.now };
 }
 
-impl<'a, T> Iterator for Items<'a, T> {
+impl<'a, T> Iterator for KeyedItems<'a, T> {
     type Item = (usize, &'a T);
 
     ghost next_gives = { YieldsFirstBy (λ item. (item.0, item.1.now)) (λ rest. rest) };

@@ -7,5 +7,5 @@ mod ranks;
 #[cfg(test)]
 mod tests;
 
-pub use keyed::{Items, KeyedList};
+pub use keyed::{KeyedItems, KeyedList};
 pub use places::Places;

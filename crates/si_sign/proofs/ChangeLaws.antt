@@ -10,7 +10,7 @@ use Rattle.si_state.specs.Signatures.{uses_of, KeepsNumbers}
 use Rattle.si_term.specs.Terms.{symbol_of}
 use Rattle.si_sign.specs.Keys.{symbol_key}
 use Rattle.si_sign.specs.Uses.{seen, IsUses}
-use Rattle.si_sign.specs.declared.uses.Counted.{Counted}
+use Rattle.si_sign.specs.declared.uses.CountedSymbol.{CountedSymbol}
 use Rattle.si_sign.specs.declared.uses.Uses.{Uses}
 use Rattle.si_sign.specs.declared.uses.TheConstants.{MOST_USES}
 use Rattle.si_defs.proofs.SymbolLaws.{symbol_is, name_either}
@@ -18,16 +18,16 @@ use Rattle.si_sign.proofs.SeenLaws.{uses_in, total_changes}
 use Rattle.si_sign.proofs.KeptLaws.{slot_key, slot_of, uses_for, uses_unknown, uses_known}
 
 -- the key, where the slot has a symbol
-abbrev pub key_if : ℕ → Option Counted → Option ℕ
+abbrev pub key_if : ℕ → Option CountedSymbol → Option ℕ
 key_if k None = None
 key_if k (Some c) = Some k
 
-record IsKeyOf (k : ℕ) (o : Option Counted) (key : ℕ) : Type 0 where
-  counted : Counted
+record IsKeyOf (k : ℕ) (o : Option CountedSymbol) (key : ℕ) : Type 0 where
+  counted : CountedSymbol
   there : o ≡ Some counted
   same : key ≡ k
 
-key_if_some : (k : ℕ) (o : Option Counted) (key : ℕ) → key_if k o ≡ Some key → IsKeyOf k o key
+key_if_some : (k : ℕ) (o : Option CountedSymbol) (key : ℕ) → key_if k o ≡ Some key → IsKeyOf k o key
 key_if_some k None key h = cc
 key_if_some k (Some c) key h = record { counted = c; there = refl; same = sym (same_Some k key h) }
 
@@ -37,18 +37,18 @@ pub record Changes (t v : Uses) (kind : SymKind) (text : Bytes) (k : ℕ) : Type
   pub keys : (l : SymKind) (x : Bytes) → (l ≡ kind → x ≡ text → ⊥) → symbol_key v.keys l x ≡ symbol_key t.keys l x
   pub was : symbol_key t.keys kind text ≡ key_if k (get t.slots k)
   pub is : symbol_key v.keys kind text ≡ key_if k (get v.slots k)
-  pub before : (c : Counted) → get t.slots k ≡ Some c → (c.sym.kind ≡ kind) × (c.sym.text ≡ text)
-  pub after : (c : Counted) → get v.slots k ≡ Some c → (c.sym.kind ≡ kind) × (c.sym.text ≡ text)
-  pub used : (c : Counted) → get v.slots k ≡ Some c → 1 ≤ c.uses
+  pub before : (c : CountedSymbol) → get t.slots k ≡ Some c → (c.sym.kind ≡ kind) × (c.sym.text ≡ text)
+  pub after : (c : CountedSymbol) → get v.slots k ≡ Some c → (c.sym.kind ≡ kind) × (c.sym.text ≡ text)
+  pub used : (c : CountedSymbol) → get v.slots k ≡ Some c → 1 ≤ c.uses
   pub small : k < MOST_USES
   pub sum : v.total + uses_in (get t.slots k) ≡ t.total + uses_in (get v.slots k)
   pub few : v.total ≤ MOST_USES
 
-uses_here : (u : Uses) → IsUses u → (s : Symbol) (k : ℕ) (o : Option Counted) → get u.slots k ≡ o → symbol_key u.keys s.kind s.text ≡ key_if k o → uses_of (seen u) s ≡ uses_for o s
+uses_here : (u : Uses) → IsUses u → (s : Symbol) (k : ℕ) (o : Option CountedSymbol) → get u.slots k ≡ o → symbol_key u.keys s.kind s.text ≡ key_if k o → uses_of (seen u) s ≡ uses_for o s
 uses_here u facts s k None there key = uses_unknown u facts s key
 uses_here u facts s k (Some c) there key = uses_known u facts s k c key there
 
-uses_apart : (o : Option Counted) (s : Symbol) (kind : SymKind) (text : Bytes) → ((c : Counted) → o ≡ Some c → (c.sym.kind ≡ kind) × (c.sym.text ≡ text))
+uses_apart : (o : Option CountedSymbol) (s : Symbol) (kind : SymKind) (text : Bytes) → ((c : CountedSymbol) → o ≡ Some c → (c.sym.kind ≡ kind) × (c.sym.text ≡ text))
     → (s.kind ≡ kind → s.text ≡ text → ⊥) → uses_for o s ≡ 0
 uses_apart None s kind text of apart = refl
 uses_apart (Some c) s kind text of apart = by (same_symbol (symbol_of c.sym) s) refl where
@@ -67,11 +67,11 @@ module _ (t v : Uses) (kind : SymKind) (text : Bytes) (k : ℕ) (facts : IsUses 
       apart (sym r.2 ∙ b.0) (sym r.3 ∙ b.1)
 
   -- what stands in another slot is of another kind or text
-  other_name : (j : ℕ) (c : Counted) → get t.slots j ≡ Some c → (j ≡ k → ⊥) → c.sym.kind ≡ kind → c.sym.text ≡ text → ⊥
+  other_name : (j : ℕ) (c : CountedSymbol) → get t.slots j ≡ Some c → (j ≡ k → ⊥) → c.sym.kind ≡ kind → c.sym.text ≡ text → ⊥
   other_name j c there apart e f =
       apart (key_if_some k (get t.slots k) j (sym change.was ∙ (λ n. symbol_key t.keys (sym e n) (sym f n)) ∙ facts.held j c there)).same
 
-  held : (j : ℕ) (c : Counted) → get v.slots j ≡ Some c → symbol_key v.keys c.sym.kind c.sym.text ≡ Some j
+  held : (j : ℕ) (c : CountedSymbol) → get v.slots j ≡ Some c → symbol_key v.keys c.sym.kind c.sym.text ≡ Some j
   held j c there =
       elim (eqb_tells j k) [
         | inl e ↦
@@ -83,9 +83,9 @@ module _ (t v : Uses) (kind : SymKind) (text : Bytes) (k : ℕ) (facts : IsUses 
             change.keys c.sym.kind c.sym.text (other_name j c before e.1) ∙ facts.held j c before
       ]
 
-  found : (l : SymKind) (x : Bytes) (j : ℕ) → symbol_key v.keys l x ≡ Some j → (c : Counted) × (get v.slots j ≡ Some c) × (c.sym.kind ≡ l) × (c.sym.text ≡ x)
+  found : (l : SymKind) (x : Bytes) (j : ℕ) → symbol_key v.keys l x ≡ Some j → (c : CountedSymbol) × (get v.slots j ≡ Some c) × (c.sym.kind ≡ l) × (c.sym.text ≡ x)
   found l x j known = by (name_either l kind x text) where
-    by : ((l ≡ kind) × (x ≡ text)) ⊎ (l ≡ kind → x ≡ text → ⊥) → (c : Counted) × (get v.slots j ≡ Some c) × (c.sym.kind ≡ l) × (c.sym.text ≡ x)
+    by : ((l ≡ kind) × (x ≡ text)) ⊎ (l ≡ kind → x ≡ text → ⊥) → (c : CountedSymbol) × (get v.slots j ≡ Some c) × (c.sym.kind ≡ l) × (c.sym.text ≡ x)
     by (inl e) =
         let r = key_if_some k (get v.slots k) j (sym change.is ∙ (λ n. symbol_key v.keys (sym e.0 n) (sym e.1 n)) ∙ known) in
         let a = change.after r.counted r.there in
@@ -95,14 +95,14 @@ module _ (t v : Uses) (kind : SymKind) (text : Bytes) (k : ℕ) (facts : IsUses 
         let r = facts.found l x j before in
         (r.0, change.others j (other_slot l x j before apart) ∙ r.1, r.2, r.3)
 
-  used : (j : ℕ) (c : Counted) → get v.slots j ≡ Some c → 1 ≤ c.uses
+  used : (j : ℕ) (c : CountedSymbol) → get v.slots j ≡ Some c → 1 ≤ c.uses
   used j c there =
       elim (eqb_tells j k) [
         | inl e ↦ change.used c (ap (get v.slots) (sym e.1) ∙ there)
         | inr e ↦ facts.used j c (sym (change.others j e.1) ∙ there)
       ]
 
-  below : (j : ℕ) (c : Counted) → get v.slots j ≡ Some c → j < MOST_USES
+  below : (j : ℕ) (c : CountedSymbol) → get v.slots j ≡ Some c → j < MOST_USES
   below j c there =
       elim (eqb_tells j k) [
         | inl e ↦ omega (arith, e.1, change.small)

@@ -14,7 +14,7 @@ use Rattle.si_state.specs.Signatures.{Used, Signature, IsSignature, keys, number
 use Rattle.si_term.specs.Terms.{symbol_of}
 use Rattle.si_sign.specs.Keys.{symbol_key}
 use Rattle.si_sign.specs.Uses.{used_at, seen_from, seen, IsUses}
-use Rattle.si_sign.specs.declared.uses.Counted.{Counted}
+use Rattle.si_sign.specs.declared.uses.CountedSymbol.{CountedSymbol}
 use Rattle.si_sign.specs.declared.uses.Uses.{Uses}
 use Rattle.si_defs.proofs.SymbolLaws.{symbol_is, symbol_same}
 use Rattle.si_defs.proofs.ListLaws.{all_from}
@@ -23,7 +23,7 @@ use Rattle.si_sign.proofs.UsesOf.{key, keys_among, symbols_among, numbering_amon
 
 -- no two slots have a symbol of one kind and text
 abbrev IsOneShape : Slots → Type 0
-IsOneShape xs = (i j : ℕ) (c d : Counted) → at xs i ≡ Some c → at xs j ≡ Some d → c.sym.kind ≡ d.sym.kind → c.sym.text ≡ d.sym.text → i ≡ j
+IsOneShape xs = (i j : ℕ) (c d : CountedSymbol) → at xs i ≡ Some c → at xs j ≡ Some d → c.sym.kind ≡ d.sym.kind → c.sym.text ≡ d.sym.text → i ≡ j
 
 distinct : (n : ℕ) (xs : Slots) → IsOneShape xs → AreDistinct (keys (seen_from n xs))
 distinct n [] one = tt
@@ -46,20 +46,20 @@ module _ (u : Uses) (facts : IsUses u) where
   -- the slot of a symbol in use
   pub record Kept (s : Symbol) : Type 0 where
     pub slot : ℕ
-    pub counted : Counted
+    pub counted : CountedSymbol
     pub there : get u.slots slot ≡ Some counted
     pub is : symbol_of counted.sym ≡ s
 
-  pub slot_key : (k : ℕ) (c : Counted) (s : Symbol) → get u.slots k ≡ Some c → symbol_of c.sym ≡ s → symbol_key u.keys s.kind s.text ≡ Some k
+  pub slot_key : (k : ℕ) (c : CountedSymbol) (s : Symbol) → get u.slots k ≡ Some c → symbol_of c.sym ≡ s → symbol_key u.keys s.kind s.text ≡ Some k
   slot_key k c s there e = (λ n. symbol_key u.keys (sym e n).kind (sym e n).text) ∙ facts.held k c there
 
   -- a symbol has one slot
-  pub one_slot : (i j : ℕ) (c d : Counted) (s : Symbol) → get u.slots i ≡ Some c → get u.slots j ≡ Some d → symbol_of c.sym ≡ s → symbol_of d.sym ≡ s → i ≡ j
+  pub one_slot : (i j : ℕ) (c d : CountedSymbol) (s : Symbol) → get u.slots i ≡ Some c → get u.slots j ≡ Some d → symbol_of c.sym ≡ s → symbol_of d.sym ≡ s → i ≡ j
   one_slot i j c d s a b e f = same_Some i j (sym (slot_key i c s a e) ∙ slot_key j d s b f)
 
   pub record Numbered (s : Symbol) (m : ℕ) : Type 0 where
     pub slot : ℕ
-    pub counted : Counted
+    pub counted : CountedSymbol
     pub there : get u.slots slot ≡ Some counted
     pub is : symbol_of counted.sym ≡ s
     pub twice : 2 * slot ≡ m
@@ -72,12 +72,12 @@ module _ (u : Uses) (facts : IsUses u) where
       let number : 2 * (0 + t.key) ≡ m = ap (λ p. p.1) pair in
       record { slot = t.key; counted = t.counted; there = t.there; is = ap (λ p. p.0) pair; twice = omega (arith, number) }
 
-  pub in_seen : (k : ℕ) (c : Counted) → get u.slots k ≡ Some c → IsAmong (seen u) (used_at k c)
+  pub in_seen : (k : ℕ) (c : CountedSymbol) → get u.slots k ≡ Some c → IsAmong (seen u) (used_at k c)
   in_seen k c there =
       let e : 0 + k ≡ k = omega arith in
       subst (λ m. IsAmong (seen u) (used_at m c)) e (among_seen 0 u.slots.slots k c there)
 
-  pub number_of : (k : ℕ) (c : Counted) → get u.slots k ≡ Some c → IsAmong (numbering (seen u)) (symbol_of c.sym, 2 * k)
+  pub number_of : (k : ℕ) (c : CountedSymbol) → get u.slots k ≡ Some c → IsAmong (numbering (seen u)) (symbol_of c.sym, 2 * k)
   number_of k c there = among_numbering (seen u) (used_at k c) (in_seen k c there)
 
   pub kept_of : (s : Symbol) → IsAmong (known_symbols (seen u)) s → Kept s
@@ -98,7 +98,7 @@ module _ (u : Uses) (facts : IsUses u) where
         let y = slot_of r n b in
         let e : x.slot ≡ y.slot = omega (arith, x.twice, y.twice) in
         let c = same_Some x.counted y.counted (sym x.there ∙ ap (get u.slots) e ∙ y.there) in
-        sym x.is ∙ ap (λ (d : Counted). symbol_of d.sym) c ∙ y.is;
+        sym x.is ∙ ap (λ (d : CountedSymbol). symbol_of d.sym) c ∙ y.is;
     even = λ s n a. let x = slot_of s n a in (x.slot, sym x.twice);
     small = λ s n a.
         let x = slot_of s n a in
@@ -130,11 +130,11 @@ module _ (u : Uses) (facts : IsUses u) where
       cc
 
   -- ---- uses by slots
-  pub uses_at : (k : ℕ) (c : Counted) → get u.slots k ≡ Some c → uses_of (seen u) (symbol_of c.sym) ≡ c.uses
+  pub uses_at : (k : ℕ) (c : CountedSymbol) → get u.slots k ≡ Some c → uses_of (seen u) (symbol_of c.sym) ≡ c.uses
   uses_at k c there = uses_among (seen u) (used_at k c) one_shape (in_seen k c there)
 
 -- how often a slot's symbol is used as this one
-abbrev pub uses_for : Option Counted → Symbol → ℕ
+abbrev pub uses_for : Option CountedSymbol → Symbol → ℕ
 uses_for None s = 0
 uses_for (Some c) s = cond (same_symbol (symbol_of c.sym) s) c.uses 0
 
@@ -145,7 +145,7 @@ module _ (u : Uses) (facts : IsUses u) (s : Symbol) where
       let clash : None ≡ Some k.slot = sym none ∙ slot_key u facts k.slot k.counted s k.there k.is in
       cc)
 
-  pub uses_known : (k : ℕ) (c : Counted) → symbol_key u.keys s.kind s.text ≡ Some k → get u.slots k ≡ Some c → uses_of (seen u) s ≡ uses_for (Some c) s
+  pub uses_known : (k : ℕ) (c : CountedSymbol) → symbol_key u.keys s.kind s.text ≡ Some k → get u.slots k ≡ Some c → uses_of (seen u) s ≡ uses_for (Some c) s
   uses_known k c known there = by (same_symbol (symbol_of c.sym) s) refl where
     by : (b : Bool) → same_symbol (symbol_of c.sym) s ≡ b → uses_of (seen u) s ≡ cond b c.uses 0
     by true e = ap (uses_of (seen u)) (sym (symbol_is (symbol_of c.sym) s e)) ∙ uses_at u facts k c there
@@ -153,13 +153,13 @@ module _ (u : Uses) (facts : IsUses u) (s : Symbol) where
         let t = kept_of u facts s (subst (IsAmong (known_symbols (seen u))) f (among_symbols (seen u) v h)) in
         let slot = same_Some t.slot k (sym (slot_key u facts t.slot t.counted s t.there t.is) ∙ known) in
         let same = same_Some t.counted c (sym t.there ∙ ap (get u.slots) slot ∙ there) in
-        absurd (false≢true (sym e ∙ symbol_same (symbol_of c.sym) s (ap (λ (d : Counted). symbol_of d.sym) (sym same) ∙ t.is))))
+        absurd (false≢true (sym e ∙ symbol_same (symbol_of c.sym) s (ap (λ (d : CountedSymbol). symbol_of d.sym) (sym same) ∙ t.is))))
 
 -- ---- how many
 count_seen : (n : ℕ) (xs : Slots) → length (seen_from n xs) ≡ count_by is_some xs
 count_seen n [] = refl
-count_seen n (None ∷ xs) = omega (arith, count_seen (1 + n) xs, sum_by-cons (λ (o : Option Counted). cond (is_some o) 1 0) None xs)
-count_seen n (Some c ∷ xs) = omega (arith, count_seen (1 + n) xs, sum_by-cons (λ (o : Option Counted). cond (is_some o) 1 0) (Some c) xs)
+count_seen n (None ∷ xs) = omega (arith, count_seen (1 + n) xs, sum_by-cons (λ (o : Option CountedSymbol). cond (is_some o) 1 0) None xs)
+count_seen n (Some c ∷ xs) = omega (arith, count_seen (1 + n) xs, sum_by-cons (λ (o : Option CountedSymbol). cond (is_some o) 1 0) (Some c) xs)
 
 pub length_seen : (u : Uses) → length (seen u) ≡ slab_len u.slots
 length_seen u = count_seen 0 u.slots.slots

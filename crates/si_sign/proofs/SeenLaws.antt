@@ -4,16 +4,16 @@ use Rattle.std.specs.Prelude.{slice_index_or}
 use Rattle.si_defs.specs.Substitutions.{IsAmong}
 use Rattle.si_state.specs.Signatures.{Used, Signature, total}
 use Rattle.si_sign.specs.Uses.{used_at, seen_from}
-use Rattle.si_sign.specs.declared.uses.Counted.{Counted}
+use Rattle.si_sign.specs.declared.uses.CountedSymbol.{CountedSymbol}
 
 abbrev pub Slots : Type 0
-Slots = List (Option Counted)
+Slots = List (Option CountedSymbol)
 
-abbrev pub at : Slots → ℕ → Option Counted
+abbrev pub at : Slots → ℕ → Option CountedSymbol
 at xs k = slice_index_or xs k None
 
 -- ---- its members are the slots' symbols
-pub among_seen : (n : ℕ) (xs : Slots) (k : ℕ) (c : Counted) → at xs k ≡ Some c → IsAmong (seen_from n xs) (used_at (n + k) c)
+pub among_seen : (n : ℕ) (xs : Slots) (k : ℕ) (c : CountedSymbol) → at xs k ≡ Some c → IsAmong (seen_from n xs) (used_at (n + k) c)
 among_seen n [] k c h = cc
 among_seen n (None ∷ xs) zero c h = cc
 among_seen n (None ∷ xs) (suc k) c h =
@@ -29,11 +29,11 @@ among_seen n (Some d ∷ xs) (suc k) c h =
 
 pub record Slot (n : ℕ) (xs : Slots) (u : Used) : Type 0 where
   pub key : ℕ
-  pub counted : Counted
+  pub counted : CountedSymbol
   pub there : at xs key ≡ Some counted
   pub is : used_at (n + key) counted ≡ u
 
-later : (n : ℕ) (x : Option Counted) (xs : Slots) (u : Used) → Slot (1 + n) xs u → Slot n (x ∷ xs) u
+later : (n : ℕ) (x : Option CountedSymbol) (xs : Slots) (u : Used) → Slot (1 + n) xs u → Slot n (x ∷ xs) u
 later n x xs u s =
     let e : 1 + n + s.key ≡ n + suc s.key = omega arith in
     record { key = suc s.key; counted = s.counted; there = s.there; is = subst (λ m. used_at m s.counted ≡ u) e s.is }
@@ -86,7 +86,7 @@ same_rising m n (x ∷ xs) (y ∷ ys) r q f g =
       by (inr h) (inr k) rest = absurd (omega (arith, rising_above (1 + y.number) ys x q.1 h, rising_above (1 + x.number) xs y r.1 k))
 
 -- ---- all its uses, by the keys below a bound
-abbrev pub uses_in : Option Counted → ℕ
+abbrev pub uses_in : Option CountedSymbol → ℕ
 uses_in None = 0
 uses_in (Some c) = c.uses
 

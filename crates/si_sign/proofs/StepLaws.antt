@@ -14,7 +14,7 @@ use Rattle.si_sign.specs.Uses.{used_at, seen, IsUses}
 use Rattle.si_sign.specs.Taking.{TakesUses, GivesBack, RefusesFrom}
 use Rattle.si_sign.specs.declared.faults.Clash.{Clash}
 use Rattle.si_sign.specs.declared.faults.TakeFault.TheVariants as take_fault
-use Rattle.si_sign.specs.declared.uses.Counted.{Counted}
+use Rattle.si_sign.specs.declared.uses.CountedSymbol.{CountedSymbol}
 use Rattle.si_sign.specs.declared.uses.Uses.{Uses}
 use Rattle.si_sign.specs.declared.uses.TheConstants.{MOST_USES}
 use Rattle.si_defs.proofs.SymbolLaws.{symbol_is, symbol_same, symbol_either, side_self}
@@ -25,21 +25,21 @@ use Rattle.si_sign.proofs.KeptLaws.{slot_key, kept_of, in_seen, uses_for}
 use Rattle.si_sign.proofs.ChangeLaws.{Changes, changed, uses_change, keeps_numbers, key_if}
 use Rattle.si_sign.proofs.TakeLaws.{used_symbols}
 
-within : (xs : Slots) (k : ℕ) (c : Counted) → at xs k ≡ Some c → k < length xs
+within : (xs : Slots) (k : ℕ) (c : CountedSymbol) → at xs k ≡ Some c → k < length xs
 within [] k c h = cc
 within (x ∷ xs) zero c h = omega arith
 within (x ∷ xs) (suc k) c h = omega (arith, within xs k c h)
 
 -- ---- the slot of a symbol that has a key
-pub known_slot : (t : Uses) → IsUses t → (s : Symbol) (k : ℕ) (c : Counted) → symbol_key t.keys s.kind s.text ≡ Some k → get t.slots k ≡ Some c → (c.sym.kind ≡ s.kind) × (c.sym.text ≡ s.text)
+pub known_slot : (t : Uses) → IsUses t → (s : Symbol) (k : ℕ) (c : CountedSymbol) → symbol_key t.keys s.kind s.text ≡ Some k → get t.slots k ≡ Some c → (c.sym.kind ≡ s.kind) × (c.sym.text ≡ s.text)
 known_slot t facts s k c known there =
     let r = facts.found s.kind s.text k known in
     let same = same_Some r.0 c (sym r.1 ∙ there) in
-    (ap (λ (d : Counted). d.sym.kind) (sym same) ∙ r.2, ap (λ (d : Counted). d.sym.text) (sym same) ∙ r.3)
+    (ap (λ (d : CountedSymbol). d.sym.kind) (sym same) ∙ r.2, ap (λ (d : CountedSymbol). d.sym.text) (sym same) ∙ r.3)
 
 pub record UsedSlot (t : Uses) (s : Symbol) : Type 0 where
   pub slot : ℕ
-  pub counted : Counted
+  pub counted : CountedSymbol
   pub known : symbol_key t.keys s.kind s.text ≡ Some slot
   pub there : get t.slots slot ≡ Some counted
   pub is : symbol_of counted.sym ≡ s
@@ -57,13 +57,13 @@ uses_total (u ∷ us) s = by (same_symbol u.symbol s) (uses_total us s) where
   by false h = omega (arith, h)
 
 -- ---- changes of one slot
-abbrev pub recount : Uses → ℕ → Counted → ℕ → Uses
+abbrev pub recount : Uses → ℕ → CountedSymbol → ℕ → Uses
 recount t k d n = record { keys = t.keys; slots = with_value t.slots k d; total = n; recent = tt }
 
-pub recounted_there : (t : Uses) (k : ℕ) (c d : Counted) (n : ℕ) → get t.slots k ≡ Some c → get (recount t k d n).slots k ≡ Some d
+pub recounted_there : (t : Uses) (k : ℕ) (c d : CountedSymbol) (n : ℕ) → get t.slots k ≡ Some c → get (recount t k d n).slots k ≡ Some d
 recounted_there t k c d n there = get_or-set_same t.slots.slots k (Some d) None (within t.slots.slots k c there)
 
-pub recounted : (t : Uses) → IsUses t → (s : Symbol) (k : ℕ) (c d : Counted) (n : ℕ) → symbol_key t.keys s.kind s.text ≡ Some k → get t.slots k ≡ Some c
+pub recounted : (t : Uses) → IsUses t → (s : Symbol) (k : ℕ) (c d : CountedSymbol) (n : ℕ) → symbol_key t.keys s.kind s.text ≡ Some k → get t.slots k ≡ Some c
     → d.sym ≡ c.sym → 1 ≤ d.uses → n + c.uses ≡ t.total + d.uses → n ≤ MOST_USES → Changes t (recount t k d n) s.kind s.text k
 recounted t facts s k c d n known there same one sum few =
     let here = recounted_there t k c d n there in
@@ -76,14 +76,14 @@ recounted t facts s k c d n known there same one sum few =
       before = λ e h. known_slot t facts s k e known h;
       after = λ e h.
           let f = same_Some d e (sym here ∙ h) in
-          (ap (λ (g : Counted). g.sym.kind) (sym f) ∙ ap (λ y. y.kind) same ∙ of.0, ap (λ (g : Counted). g.sym.text) (sym f) ∙ ap (λ y. y.text) same ∙ of.1);
-      used = λ e h. omega (arith, one, ap (λ (g : Counted). g.uses) (same_Some d e (sym here ∙ h)));
+          (ap (λ (g : CountedSymbol). g.sym.kind) (sym f) ∙ ap (λ y. y.kind) same ∙ of.0, ap (λ (g : CountedSymbol). g.sym.text) (sym f) ∙ ap (λ y. y.text) same ∙ of.1);
+      used = λ e h. omega (arith, one, ap (λ (g : CountedSymbol). g.uses) (same_Some d e (sym here ∙ h)));
       small = facts.below k c there;
       sum = omega (arith, sum, ap uses_in there, ap uses_in here);
       few = few;
     }
 
-pub admitted : (t v : Uses) → IsUses t → (s : Symbol) (k : ℕ) (d : Counted) → symbol_of d.sym ≡ s → d.uses ≡ 1 → symbol_key t.keys s.kind s.text ≡ None
+pub admitted : (t v : Uses) → IsUses t → (s : Symbol) (k : ℕ) (d : CountedSymbol) → symbol_of d.sym ≡ s → d.uses ≡ 1 → symbol_key t.keys s.kind s.text ≡ None
     → get t.slots k ≡ None → k < MOST_USES → HasAtKind s.kind s.text (Some k) (symbol_key t.keys) (symbol_key v.keys)
     → get v.slots k ≡ Some d → ((j : ℕ) → (j ≡ k → ⊥) → get v.slots j ≡ get t.slots j) → v.total ≡ t.total + 1 → t.total < MOST_USES → Changes t v s.kind s.text k
 admitted t v facts s k d is one none vacant small keyed here others sum room = record {
@@ -94,14 +94,14 @@ admitted t v facts s k d is one none vacant small keyed here others sum room = r
   before = λ e h. let clash : None ≡ Some e = sym vacant ∙ h in cc;
   after = λ e h.
       let f = same_Some d e (sym here ∙ h) in
-      (ap (λ (g : Counted). g.sym.kind) (sym f) ∙ ap (λ (r : Symbol). r.kind) is, ap (λ (g : Counted). g.sym.text) (sym f) ∙ ap (λ (r : Symbol). r.text) is);
-  used = λ e h. omega (arith, one, ap (λ (g : Counted). g.uses) (same_Some d e (sym here ∙ h)));
+      (ap (λ (g : CountedSymbol). g.sym.kind) (sym f) ∙ ap (λ (r : Symbol). r.kind) is, ap (λ (g : CountedSymbol). g.sym.text) (sym f) ∙ ap (λ (r : Symbol). r.text) is);
+  used = λ e h. omega (arith, one, ap (λ (g : CountedSymbol). g.uses) (same_Some d e (sym here ∙ h)));
   small = small;
   sum = omega (arith, sum, one, ap uses_in vacant, ap uses_in here);
   few = omega (arith, sum, room);
 }
 
-pub removed : (t v : Uses) → IsUses t → (s : Symbol) (k : ℕ) (c : Counted) → symbol_key t.keys s.kind s.text ≡ Some k → get t.slots k ≡ Some c → c.uses ≡ 1
+pub removed : (t v : Uses) → IsUses t → (s : Symbol) (k : ℕ) (c : CountedSymbol) → symbol_key t.keys s.kind s.text ≡ Some k → get t.slots k ≡ Some c → c.uses ≡ 1
     → HasAtKind s.kind s.text None (symbol_key t.keys) (symbol_key v.keys)
     → get v.slots k ≡ None → ((j : ℕ) → (j ≡ k → ⊥) → get v.slots j ≡ get t.slots j) → v.total + 1 ≡ t.total → Changes t v s.kind s.text k
 removed t v facts s k c known there one keyed gone others sum = record {
@@ -130,29 +130,29 @@ other_symbol s r apart = by (same_symbol s r) refl where
 times_zero : (s r : Symbol) → (s ≡ r → ⊥) → times s (r ∷ []) ≡ 0
 times_zero s r apart = omega (arith, times_cons s r [], ap {B = ℕ} (λ b. cond b 1 0) (other_symbol s r apart))
 
-uses_for_same : (c : Counted) (s : Symbol) → symbol_of c.sym ≡ s → uses_for (Some c) s ≡ c.uses
+uses_for_same : (c : CountedSymbol) (s : Symbol) → symbol_of c.sym ≡ s → uses_for (Some c) s ≡ c.uses
 uses_for_same c s e = ap {B = ℕ} (λ b. cond b c.uses 0) (symbol_same (symbol_of c.sym) s e)
 
-uses_for_other : (c : Counted) (s : Symbol) → (symbol_of c.sym ≡ s → ⊥) → uses_for (Some c) s ≡ 0
+uses_for_other : (c : CountedSymbol) (s : Symbol) → (symbol_of c.sym ≡ s → ⊥) → uses_for (Some c) s ≡ 0
 uses_for_other c s apart = ap {B = ℕ} (λ b. cond b c.uses 0) (other_symbol (symbol_of c.sym) s apart)
 
 -- the slot's symbol is used once more in o than in b
-abbrev pub IsOneMore : Symbol → Option Counted → Option Counted → Type 0
+abbrev pub IsOneMore : Symbol → Option CountedSymbol → Option CountedSymbol → Type 0
 IsOneMore s b o = (r : Symbol) → uses_for o r ≡ uses_for b r + times r (s ∷ [])
 
-pub first_use : (s : Symbol) (d : Counted) → symbol_of d.sym ≡ s → d.uses ≡ 1 → IsOneMore s None (Some d)
+pub first_use : (s : Symbol) (d : CountedSymbol) → symbol_of d.sym ≡ s → d.uses ≡ 1 → IsOneMore s None (Some d)
 first_use s d is one r = by (symbol_either r s) where
   by : (r ≡ s) ⊎ (r ≡ s → ⊥) → uses_for (Some d) r ≡ 0 + times r (s ∷ [])
   by (inl e) = omega (arith, uses_for_same d r (is ∙ sym e), times_one r s e, one)
   by (inr apart) = omega (arith, uses_for_other d r (λ e. apart (sym e ∙ is)), times_zero r s apart)
 
-pub another_use : (s : Symbol) (c d : Counted) → symbol_of c.sym ≡ s → symbol_of d.sym ≡ s → d.uses ≡ c.uses + 1 → IsOneMore s (Some c) (Some d)
+pub another_use : (s : Symbol) (c d : CountedSymbol) → symbol_of c.sym ≡ s → symbol_of d.sym ≡ s → d.uses ≡ c.uses + 1 → IsOneMore s (Some c) (Some d)
 another_use s c d is is_too more r = by (symbol_either r s) where
   by : (r ≡ s) ⊎ (r ≡ s → ⊥) → uses_for (Some d) r ≡ uses_for (Some c) r + times r (s ∷ [])
   by (inl e) = omega (arith, uses_for_same c r (is ∙ sym e), uses_for_same d r (is_too ∙ sym e), times_one r s e, more)
   by (inr apart) = omega (arith, uses_for_other c r (λ e. apart (sym e ∙ is)), uses_for_other d r (λ e. apart (sym e ∙ is_too)), times_zero r s apart)
 
-module _ (t v : Uses) (s : Symbol) (k : ℕ) (b o : Option Counted) (facts : IsUses t) (change : Changes t v s.kind s.text k) (was : get t.slots k ≡ b) (is : get v.slots k ≡ o) where
+module _ (t v : Uses) (s : Symbol) (k : ℕ) (b o : Option CountedSymbol) (facts : IsUses t) (change : Changes t v s.kind s.text k) (was : get t.slots k ≡ b) (is : get v.slots k ≡ o) where
   now : IsUses v
   now = changed t v s.kind s.text k facts change
 
@@ -187,15 +187,15 @@ agrees_new t facts s none = all_from (λ r. Clashes s r → ⊥) (known_symbols 
     let e : None ≡ Some k.slot = sym none ∙ (λ n. symbol_key t.keys (clash.kind n) (clash.text n)) ∙ slot_key t facts k.slot k.counted r k.there k.is in
     cc)
 
-pub agrees_known : (t : Uses) → IsUses t → (s : Symbol) (k : ℕ) (c : Counted) → symbol_key t.keys s.kind s.text ≡ Some k → get t.slots k ≡ Some c → symbol_of c.sym ≡ s → Agrees (known_symbols (seen t)) s
+pub agrees_known : (t : Uses) → IsUses t → (s : Symbol) (k : ℕ) (c : CountedSymbol) → symbol_key t.keys s.kind s.text ≡ Some k → get t.slots k ≡ Some c → symbol_of c.sym ≡ s → Agrees (known_symbols (seen t)) s
 agrees_known t facts s k c known there is = all_from (λ r. Clashes s r → ⊥) (known_symbols (seen t)) (λ r h clash.
     let m = kept_of t facts r h in
     let slot = same_Some m.slot k (sym (slot_key t facts m.slot m.counted r m.there m.is) ∙ (λ n. symbol_key t.keys (sym clash.kind n) (sym clash.text n)) ∙ known) in
     let same = same_Some m.counted c (sym m.there ∙ ap (get t.slots) slot ∙ there) in
-    let e : s ≡ r = sym is ∙ ap (λ (d : Counted). symbol_of d.sym) (sym same) ∙ m.is in
+    let e : s ≡ r = sym is ∙ ap (λ (d : CountedSymbol). symbol_of d.sym) (sym same) ∙ m.is in
     clash.differ (ap (λ (q : Symbol). q.side) e) (ap (λ (q : Symbol). q.arity) e))
 
-pub refuses_known : (begin : ℕ) (t : Uses) → IsUses t → (s : Symbol) (k : ℕ) (c : Counted) (e : Clash) → symbol_key t.keys s.kind s.text ≡ Some k → get t.slots k ≡ Some c
+pub refuses_known : (begin : ℕ) (t : Uses) → IsUses t → (s : Symbol) (k : ℕ) (c : CountedSymbol) (e : Clash) → symbol_key t.keys s.kind s.text ≡ Some k → get t.slots k ≡ Some c
     → (same_side s.side c.sym.side && s.arity == c.sym.arity) ≡ false → e.found ≡ shape_of s → e.kept ≡ shape_of (symbol_of c.sym) → begin + e.entry ≡ t.total
     → RefusesFrom begin (seen t) (s ∷ []) (take_fault.Clash e)
 refuses_known begin t facts s k c e known there other found kept position =
@@ -221,13 +221,13 @@ refuses_known begin t facts s k c e known there other found kept position =
     )
 
 -- a symbol of the slot's kind and text, with its side and arity, is the slot's
-pub same_shape : (s : Symbol) (c : Counted) → (c.sym.kind ≡ s.kind) × (c.sym.text ≡ s.text) → s.side ≡ c.sym.side → s.arity ≡ c.sym.arity → symbol_of c.sym ≡ s
+pub same_shape : (s : Symbol) (c : CountedSymbol) → (c.sym.kind ≡ s.kind) × (c.sym.text ≡ s.text) → s.side ≡ c.sym.side → s.arity ≡ c.sym.arity → symbol_of c.sym ≡ s
 same_shape s c of side arity = λ n. record { kind = of.0 n; text = of.1 n; side = sym side n; arity = sym arity n }
 
 -- the slot that a used symbol's key names has that symbol
-pub slot_symbol : (t : Uses) → IsUses t → (s : Symbol) (k : ℕ) (c : Counted) → 1 ≤ uses_of (seen t) s → symbol_key t.keys s.kind s.text ≡ Some k → get t.slots k ≡ Some c → symbol_of c.sym ≡ s
+pub slot_symbol : (t : Uses) → IsUses t → (s : Symbol) (k : ℕ) (c : CountedSymbol) → 1 ≤ uses_of (seen t) s → symbol_key t.keys s.kind s.text ≡ Some k → get t.slots k ≡ Some c → symbol_of c.sym ≡ s
 slot_symbol t facts s k c h known there =
     let u = used_slot t facts s h in
     let slot = same_Some u.slot k (sym u.known ∙ known) in
     let same = same_Some u.counted c (sym u.there ∙ ap (get t.slots) slot ∙ there) in
-    ap (λ (d : Counted). symbol_of d.sym) (sym same) ∙ u.is
+    ap (λ (d : CountedSymbol). symbol_of d.sym) (sym same) ∙ u.is

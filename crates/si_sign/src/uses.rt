@@ -22,7 +22,7 @@ pub const MOST_USES: usize = 1_073_741_824;
 
 /// A symbol, and how often it occurs.
 #[derive(Drop)]
-pub struct Counted {
+pub struct CountedSymbol {
     pub sym: Sym,
     pub uses: u32,
 }
@@ -31,7 +31,7 @@ pub struct Counted {
 #[derive(Drop)]
 pub struct Uses {
     pub keys: SymbolKeys,
-    pub slots: Slab<Counted>,
+    pub slots: Slab<CountedSymbol>,
     pub total: u64,
     pub recent: Recent,
 }
@@ -65,7 +65,7 @@ impl Uses {
 
     /// Whether the symbol has this key.
     fn stands_at(&self, key: usize, symbol: &Sym) -> bool
-        ensures { IsTrue result → (c : Counted) × (get self.now.slots key ≡ Some c)
+        ensures { IsTrue result → (c : CountedSymbol) × (get self.now.slots key ≡ Some c)
             × (symbol_of c.sym ≡ symbol_of symbol.now) }
     {
         let Some(counted) = self.slots.get(key) else {
@@ -140,7 +140,7 @@ impl Uses {
         let text = symbol.text.copy(alloc)?;
         self.slots.reserve(1)?;
         self.keys.insert(symbol.kind, text, key)?;
-        self.slots.insert_reserved(Counted { sym, uses: 1 });
+        self.slots.insert_reserved(CountedSymbol { sym, uses: 1 });
         self.total += 1;
         self.recent.note(symbol.text.as_bytes(), key);
         Ok(())

@@ -8,7 +8,7 @@ use Rattle.si_state.specs.Signatures.{numbering}
 use Rattle.si_term.specs.Terms.{symbol_of}
 use Rattle.si_sign.specs.Keys.{symbol_key}
 use Rattle.si_sign.specs.Uses.{seen}
-use Rattle.si_sign.specs.declared.uses.Counted.{Counted}
+use Rattle.si_sign.specs.declared.uses.CountedSymbol.{CountedSymbol}
 use Rattle.si_defs.proofs.SymbolLaws.{side_is, side_self}
 use Rattle.si_sign.proofs.KeptLaws.{is_signature, no_symbol, number_of, slot_of, slot_key}
 use Rattle.si_sign.proofs.StepLaws.{known_slot, same_shape}
@@ -34,7 +34,7 @@ returns-then-not-has_shape_of-clause-none c =
     let x = slot_of u c.self.invariant s n h in
     let slot = same_Some x.slot c.in-Some.key (sym (slot_key u c.self.invariant x.slot x.counted s x.there x.is) ∙ known) in
     let same = same_Some x.counted w (sym x.there ∙ ap (λ j. get u.slots j) slot ∙ c.index-counted.ensures) in
-    let is : symbol_of w.sym ≡ s = ap (λ (d : Counted). symbol_of d.sym) (sym same) ∙ x.is in
+    let is : symbol_of w.sym ≡ s = ap (λ (d : CountedSymbol). symbol_of d.sym) (sym same) ∙ x.is in
     absurd (false≢true (sym c.if-not-has_shape_of.true ∙ c.has_shape_of.ensures ∙ (λ i. same_side s.side (is i).side && s.arity == (is i).arity) ∙ (λ i. side_self s.side i && eq-eqb s.arity s.arity refl i))) in
     subst (λ k. (n : ℕ) → IsAmong (numbering k) (s, n) → ⊥) c.self.view_is none
 

@@ -4,7 +4,7 @@ use Rattle.si_defs.specs.Symbols.{Symbol}
 use Rattle.si_term.specs.Terms.{symbol_of}
 use Rattle.si_sign.specs.Keys.{symbol_key, HasAtKind}
 use Rattle.si_sign.specs.Uses.{seen}
-use Rattle.si_sign.specs.declared.uses.Counted.{Counted}
+use Rattle.si_sign.specs.declared.uses.CountedSymbol.{CountedSymbol}
 use Rattle.si_sign.specs.declared.uses.Uses.{Uses}
 use Rattle.si_sign.proofs.ChangeLaws.{changed}
 use Rattle.si_sign.proofs.StepLaws.{used_slot, uses_total, slot_symbol, recounted, recounted_there, removed, another_use, first_use, gives_step}
@@ -32,8 +32,8 @@ returns-then-index-gt1-clause-uses c =
     let known : symbol_key t.keys s.kind s.text ≡ Some key = sym c.find.ensures ∙ c.in-Some.is in
     let w = c.index_mut.result.now in
     let there = c.index_mut.ensures.value in
-    let d : Counted = record { sym = w.sym; uses = w.uses - 1 } in
-    let same = ap (λ (x : Counted). x.uses) (same_Some c.index.result.now w (sym c.index.ensures ∙ there)) in
+    let d : CountedSymbol = record { sym = w.sym; uses = w.uses - 1 } in
+    let same = ap (λ (x : CountedSymbol). x.uses) (same_Some c.index.result.now w (sym c.index.ensures ∙ there)) in
     let two : 1 < w.uses = omega (arith, same, c.if-index-gt1.true) in
     let positive : 1 ≤ t.total = omega (arith, uses_total (seen t) s, c.requires.used, c.requires.uses.counted) in
     let change = recounted t c.requires.uses s key w d (t.total - 1) known there refl (omega arith) (omega arith) (omega (arith, c.requires.uses.few)) in
@@ -47,8 +47,8 @@ returns-then-index-gt1-clause-back c =
     let known : symbol_key t.keys s.kind s.text ≡ Some key = sym c.find.ensures ∙ c.in-Some.is in
     let w = c.index_mut.result.now in
     let there = c.index_mut.ensures.value in
-    let d : Counted = record { sym = w.sym; uses = w.uses - 1 } in
-    let same = ap (λ (x : Counted). x.uses) (same_Some c.index.result.now w (sym c.index.ensures ∙ there)) in
+    let d : CountedSymbol = record { sym = w.sym; uses = w.uses - 1 } in
+    let same = ap (λ (x : CountedSymbol). x.uses) (same_Some c.index.result.now w (sym c.index.ensures ∙ there)) in
     let two : 1 < w.uses = omega (arith, same, c.if-index-gt1.true) in
     let positive : 1 ≤ t.total = omega (arith, uses_total (seen t) s, c.requires.used, c.requires.uses.counted) in
     let change = recounted t c.requires.uses s key w d (t.total - 1) known there refl (omega arith) (omega arith) (omega (arith, c.requires.uses.few)) in

@@ -4,7 +4,7 @@ use Rattle.std.proofs.lemmas.Bool.{eqb-true, and_parts}
 use Rattle.si_defs.specs.Symbols.{Symbol, same_side}
 use Rattle.si_term.specs.Terms.{symbol_of}
 use Rattle.si_sign.specs.Uses.{seen}
-use Rattle.si_sign.specs.declared.uses.Counted.{Counted}
+use Rattle.si_sign.specs.declared.uses.CountedSymbol.{CountedSymbol}
 use Rattle.si_defs.proofs.SymbolLaws.{side_is}
 use Rattle.si_sign.proofs.KeptLaws.{uses_at}
 use Rattle.si_sign.proofs.ChangeLaws.{changed}
@@ -29,7 +29,7 @@ returns-clause-uses c =
     let t = c.args.self.now in
     let s = symbol_of c.args.symbol.now in
     let w = c.index_mut.result.now in
-    let d : Counted = record { sym = w.sym; uses = w.uses + 1 } in
+    let d : CountedSymbol = record { sym = w.sym; uses = w.uses + 1 } in
     let change = recounted t c.requires.uses s c.args.key w d (t.total + 1) c.requires.key c.index_mut.ensures.value refl (omega arith) (omega arith) (omega (arith, c.requires.room)) in
     changed t _ s.kind s.text c.args.key c.requires.uses change
 
@@ -39,11 +39,11 @@ returns-clause-ok c =
     let s : Symbol = symbol_of c.args.symbol.now in
     let w = c.index_mut.result.now in
     let there = c.index_mut.ensures.value in
-    let d : Counted = record { sym = w.sym; uses = w.uses + 1 } in
+    let d : CountedSymbol = record { sym = w.sym; uses = w.uses + 1 } in
     let change = recounted t c.requires.uses s c.args.key w d (t.total + 1) c.requires.key there refl (omega arith) (omega arith) (omega (arith, c.requires.room)) in
     let same : c.index.result.now ≡ w = same_Some _ _ (sym c.index.ensures ∙ there) in
     let shape = and_parts (same_side s.side w.sym.side) (s.arity == w.sym.arity)
-    (ap (λ (x : Counted). same_side s.side x.sym.side && s.arity == x.sym.arity) (sym same) ∙ sym c.has_shape_of.ensures ∙ c.if-not-has_shape_of.false) in
+    (ap (λ (x : CountedSymbol). same_side s.side x.sym.side && s.arity == x.sym.arity) (sym same) ∙ sym c.has_shape_of.ensures ∙ c.if-not-has_shape_of.false) in
     let is = same_shape s w (known_slot t c.requires.uses s c.args.key w c.requires.key there) (side_is s.side w.sym.side shape.0) (eqb-true s.arity w.sym.arity shape.1) in
     takes_step t _ s c.args.key (Some w) (Some d) c.requires.uses change there (recounted_there t c.args.key w d (t.total + 1) there)
     (another_use s w d is is refl) refl (agrees_known t c.requires.uses s c.args.key w c.requires.key there is)

@@ -3,7 +3,7 @@ use Rattle.slab.specs.Slab.{get}
 use Rattle.si_defs.specs.Symbols.{Symbol}
 use Rattle.si_term.specs.Terms.{symbol_of}
 use Rattle.si_sign.specs.Keys.{symbol_key, HasAtKind}
-use Rattle.si_sign.specs.declared.uses.Counted.{Counted}
+use Rattle.si_sign.specs.declared.uses.CountedSymbol.{CountedSymbol}
 use Rattle.si_sign.specs.declared.uses.Uses.{Uses}
 use Rattle.si_sign.proofs.ChangeLaws.{changed}
 use Rattle.si_sign.proofs.StepLaws.{admitted, first_use, takes_step, agrees_new}
@@ -14,7 +14,7 @@ returns-clause-uses c =
     let t = c.args.self.now in
     let s : Symbol = symbol_of c.args.symbol.now in
     let key = c.vacant_key-key.result in
-    let d : Counted = record { sym = c.in_ok-sym.sym; uses = 1 } in
+    let d : CountedSymbol = record { sym = c.in_ok-sym.sym; uses = 1 } in
     let v : Uses = record { keys = c.insert.new.self; slots = c.insert_reserved.new.self; total = t.total + 1; recent = tt } in
     let rest = c.in_ok-reserve.ensures.rest_kept in
     let key_is : c.insert_reserved.result ≡ key = c.insert_reserved.ensures.key ∙ ap (λ r. r.vacant_key) rest ∙ sym c.vacant_key-key.ensures.value in
@@ -31,7 +31,7 @@ returns-clause-ok c =
     let t = c.args.self.now in
     let s : Symbol = symbol_of c.args.symbol.now in
     let key = c.vacant_key-key.result in
-    let d : Counted = record { sym = c.in_ok-sym.sym; uses = 1 } in
+    let d : CountedSymbol = record { sym = c.in_ok-sym.sym; uses = 1 } in
     let v : Uses = record { keys = c.insert.new.self; slots = c.insert_reserved.new.self; total = t.total + 1; recent = tt } in
     let rest = c.in_ok-reserve.ensures.rest_kept in
     let key_is : c.insert_reserved.result ≡ key = c.insert_reserved.ensures.key ∙ ap (λ r. r.vacant_key) rest ∙ sym c.vacant_key-key.ensures.value in

@@ -7,3 +7,4 @@ pub mod Faultless
 pub mod Headline
 pub mod Rows
 pub mod PlainWords
+pub mod EmptyWord

@@ -1,4 +1,9 @@
 // Calls with words.
+ghost use Rattle.std.specs.Prelude.{◌≤◌, ℕ, [], ◌∷◌, Bool, Option, Some};
+ghost use Rattle.si_state.specs.Harvest.{Files};
+ghost use Rattle.si_steps.specs.declared.limits.Limits.{Limits};
+ghost use Rattle.stindex.specs.Serve.{HasRoomForOutputs};
+
 use super::{ROOM, WHOLE, call};
 use crate::serve::decline;
 use crate::status::Status;
@@ -189,3 +194,9 @@ fn words_that_are_no_text_are_no_call(rt: HostRuntime) -> Result<(), Fail> {
     }
     Ok(())
 }
+
+/// Nine bytes of room are enough where the one word is empty and there is no input.
+fn room_for_an_empty_word()
+    ensures { (limits : Limits) (told : Option Files) (may_fail : Bool) (room : ℕ) → 9 ≤ room
+        → HasRoomForOutputs limits told ([] ∷ []) may_fail (Some []) room }
+{}

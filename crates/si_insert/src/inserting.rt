@@ -27,8 +27,8 @@ pub fn insert(
     insert_cells(alloc, &mut openings, tree, term.cells(), posting)
 }
 
-/// As [`insert`], for a term whose cells are lent, over memory that serves from one insertion to the
-/// next.
+/// As [`insert`], for a term whose cells are lent, over memory that serves from one insertion to
+/// the next.
 pub fn insert_cells(
     alloc: Global,
     openings: &mut Openings,

@@ -167,7 +167,8 @@ fn scan_literal<'a>(
     gathered: &mut Gathered<'a>,
 ) -> Result<u32, AllocError>
     requires ready { IsReady question.now }
-    requires known { IsKnownEntry (numbers_of question.now) (literal_entry (literal_of literal.now)) }
+    requires known { IsKnownEntry (numbers_of question.now)
+        (literal_entry (literal_of literal.now)) }
     requires few { number + length (entries_alone (literal_of literal.now ∷ []))
         ≤ MOST_OCCURRENCES }
     ensures next { IfOk result (λ n. n

@@ -12,7 +12,7 @@ filled p = record { clause = p.clause; entry = p.entry }
 abbrev pub stands : Slot → Bool
 stands s = nat_lt s.entry GONE
 
--- the posting that stands in a slot, or stood there
+-- the posting that a slot is read as, which stands there where the slot isn't empty
 abbrev pub posting_in : Slot → Posting
 posting_in s = record { clause = s.clause; entry = s.entry }
 

@@ -9,7 +9,7 @@ use si_legal::Posting;
 use std::alloc::{AllocError, Global};
 use std::marker::Model;
 
-// A list that is full gets room for a quarter more, and for so many at least.
+// A list that is full gets room for a quarter more, and for so many besides.
 const LEAST_ROOM: usize = 3;
 
 // What is added to the entry of a posting that goes, so that its slot keeps its order. No entry of
@@ -23,8 +23,8 @@ pub(crate) struct Slot {
     entry: u32,
 }
 
-/// The postings of a leaf, in order. Contracts see the list. One that goes leaves its slot empty, so
-/// that no other is moved; where most slots are empty, they are closed.
+/// The postings of a leaf, in order. Contracts see the list. One that goes leaves its slot empty,
+/// so that no other is moved; where most slots are empty, they are closed.
 #[derive(Drop)]
 pub(crate) struct PostingList {
     slots: Vec<Slot>,
@@ -202,7 +202,7 @@ impl Slot {
         })
     }
 
-    // The posting that stands there, or stood there.
+    // The posting that the slot is read as, which stands there where the slot isn't empty.
     fn posting(&self) -> Posting
         ensures clause { result.clause ≡ self.now.clause }
         ensures entry { result.entry ≡ self.now.entry }
@@ -235,8 +235,8 @@ fn empty(slots: &mut Vec<Slot>, place: usize)
     slots[place].entry = slots[place].entry.saturating_add(GONE);
 }
 
-// The place of a posting. Most lists rise, as keys do, and often the oldest or the newest clause goes
-// first. So it is sought at both ends, then by halves, and only then at each place.
+// The place of a posting. Most lists rise, as keys do, and often the oldest or the newest clause
+// goes first. So it is sought at both ends, then by halves, and only then at each place.
 fn place_of(slots: &[Slot], first: usize, last: usize, posting: Posting) -> usize
     requires { IsAmong (standing slots.now) posting }
     ensures { StandsAt slots.now result posting }

@@ -67,8 +67,8 @@ impl Tree {
         Ok(())
     }
 
-    /// Whether so many numbers were given since the last renumbering that the next one, which visits
-    /// each node once, has fewer nodes to visit than that.
+    /// Whether so many numbers were given since the last renumbering that the next one, which
+    /// visits each node once, has fewer nodes to visit than that.
     pub fn should_renumber(&self) -> bool
         ensures { IsTrue result → node_count self.now + SPARE_NUMBERS < self.now.next }
     {

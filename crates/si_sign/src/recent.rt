@@ -6,8 +6,8 @@ use std::marker::Model;
 // So many keys are noted. Of few places too many texts would share one.
 const PLACES: usize = 128;
 
-/// The key that was found last for the texts that share a place, by their length and ends. Nothing is
-/// promised of it: who takes it looks whether the symbol has that key still.
+/// The key that was found last for the texts that share a place, by their length and ends. Nothing
+/// is promised of it: who takes it looks whether the symbol has that key still.
 #[derive(Drop)]
 pub struct Recent {
     keys: [usize; PLACES],

@@ -23,9 +23,9 @@ pub trait ClauseStore {
     /// Adds a clause, last, and answers the number of its entries. At an error the list is as
     /// before, and the clause is handed back.
     ///
-    /// `Taken`: its name is kept. `Clash`: else, one of its symbols stands elsewhere with another side
-    /// or arity: in front of it in the clause, or in one that is kept. `Full`: else, there would be
-    /// more entries than the rules allow.
+    /// `Taken`: its name is kept. `Clash`: else, one of its symbols stands elsewhere with another
+    /// side or arity: in front of it in the clause, or in one that is kept. `Full`: else, there
+    /// would be more entries than the rules allow.
     fn add(&mut self, clause: Clause) -> Result<u32, Rejected>
         requires sound { IsSoundClause (clause_of clause) }
         ensures added { IfOk result (λ n. Accepts (rules self.old) (clauses self.old)

@@ -1,5 +1,5 @@
-//! Tests of the trees, by the index that keeps them: which nodes there are, and what is found beside
-//! a scan. They stand in a crate of their own, for the reasons that si_tests has.
+//! Tests of the trees, by the index that keeps them: which nodes there are, and what is found
+//! beside a scan. They stand in a crate of their own, for the reasons that si_tests has.
 #![tactic(auto)]
 
 #[cfg(test)]

@@ -6,7 +6,7 @@ use Rattle.std.proofs.lemmas.Slice.Eq.{bytes_eq-Decides}
 use Rattle.indexmap.specs.IndexSet.{insert_all}
 use Rattle.si_defs.specs.Bytes.{Bytes}
 use Rattle.si_defs.specs.Terms as terms
-use Rattle.si_defs.specs.Symbols.{Symbol, same_symbol}
+use Rattle.si_defs.specs.Symbols.{Symbol, Numbering, same_symbol}
 use Rattle.si_defs.specs.Clauses.{Literal, IsSoundLiteral, AreSoundLiterals, literals_size}
 use Rattle.si_defs.specs.Entries.{literals_symbols, literals_variables}
 use Rattle.si_flat.specs.declared.Owner.{Owner}
@@ -15,7 +15,7 @@ use Rattle.si_flat.specs.Cells.{Variable, cells_of, AreSound, StandsFor}
 use Rattle.si_flat.specs.Numbered.{number_in, signed, place_in}
 use Rattle.si_flat.specs.Flattened.{numbers_from, unnumbered}
 use Rattle.si_flat.specs.Flattening.{owners_variable, WalkState, Flattens}
-use Rattle.si_flat.specs.FlatClauses.{numbered_atoms, numbered_clause, flat_clause, clause_scheme, clause_piece, FlattensClauses}
+use Rattle.si_flat.specs.FlatClauses.{lacked_by, numbered_atoms, numbered_clause, flat_clause, clause_scheme, clause_piece, FlattensClauses}
 use Rattle.si_term.proofs.Inserted.{inserted-append, inserted-firsts, inserted_extends, inserted_length}
 use Rattle.si_defs.proofs.SymbolLaws.{symbol-Decides}
 use Rattle.si_flat.proofs.FirstPlaces.{firsts_apart}
@@ -44,22 +44,30 @@ module _ (number : Symbol → ℕ) (variable : Bytes → Variable) where
   sound_atoms (l ∷ ls) h = (sound_atom (signed l.positive number) variable l.atom h.0, sound_atoms ls h.1)
 
 -- ---- one clause
-module _ (owner : Owner) (a b : WalkState) (ls : List Literal) (names : a.names ≡ []) (cells : a.cells ≡ []) (walked : Flattens [] (clause_scheme owner) a b (clause_piece ls)) where
+module _ (pairs : Numbering) (least : ℕ) (owner : Owner) (a b : WalkState) (ls : List Literal) (names : a.names ≡ []) (cells : a.cells ≡ []) (walked : Flattens pairs (clause_scheme owner least) a b (clause_piece ls)) where
   -- with the numbers for what is met in the end
-  pub clause_stands : (all : List Symbol) (more : List Symbol) → AreSoundLiterals ls → all ≡ b.extra ++ more → StandsFor b.cells (flat_clause (numbers_from 0 all) (owners_variable owner) ls)
+  pub clause_stands : (all : List Symbol) (more : List Symbol) → AreSoundLiterals ls → all ≡ b.extra ++ more → StandsFor b.cells (flat_clause (pairs ++ numbers_from least all) (owners_variable owner) ls)
   clause_stands all more sound is = record {
     cells_are =
         let met : b.names ++ [] ≡ terms.firsts bytes_eq (literals_variables ls) =
         append-nil b.names ∙ walked.names ∙ ap (λ l. insert_all bytes_eq l (literals_variables ls)) names ∙ inserted-firsts bytes_eq bytes_eq-Decides (literals_variables ls) in
         walked.cells [] more
-        ∙ λ i. cells i ++ cells_of (numbered_clause (λ s. number_in (numbers_from 0 (sym is i)) s) (λ x. owners_variable owner (place_in bytes_eq (met i) x)) ls);
+        ∙ λ i. cells i ++ cells_of (numbered_clause (λ s. number_in (pairs ++ numbers_from least (sym is i)) s) (λ x. owners_variable owner (place_in bytes_eq (met i) x)) ls);
     sound = (count-atoms _ _ ls, sound_atoms _ _ ls sound.each);
   }
+
+  -- and by itself
+  pub clause_by_table : (none : a.extra ≡ []) → AreSoundLiterals ls → (more : List Symbol)
+      → StandsFor b.cells (flat_clause (pairs ++ numbers_from least (lacked_by pairs ls ++ more)) (owners_variable owner) ls)
+  clause_by_table none sound more =
+      let met : b.extra ≡ lacked_by pairs ls =
+      walked.extra ∙ ap (λ l. insert_all same_symbol l (unnumbered pairs (literals_symbols ls))) none ∙ inserted-firsts same_symbol symbol-Decides (unnumbered pairs (literals_symbols ls)) in
+      clause_stands (lacked_by pairs ls ++ more) more sound (ap (λ l. l ++ more) (sym met))
 
 -- ---- two clauses
 module _ (c d : List Literal) (sound_c : AreSoundLiterals c) (sound_d : AreSoundLiterals d) (a b k e : WalkState)
     (none_met : a.names ≡ []) (none_known : a.extra ≡ []) (none_written : a.cells ≡ [])
-    (first : Flattens [] (clause_scheme Query) a b (clause_piece c))
+    (first : Flattens [] (clause_scheme Query 0) a b (clause_piece c))
     (forgotten : k.names ≡ []) (kept : k.extra ≡ b.extra) (begun : k.cells ≡ []) where
   symbols_met : b.extra ≡ insert_all same_symbol [] (literals_symbols c)
   symbols_met = first.extra ∙ λ i. insert_all same_symbol (none_known i) (all_lack (literals_symbols c) i)
@@ -81,7 +89,7 @@ module _ (c d : List Literal) (sound_c : AreSoundLiterals c) (sound_d : AreSound
         literals_symbols_few d,
       )
 
-  module _ (second : Flattens [] (clause_scheme Entry) k e (clause_piece d)) where
+  module _ (second : Flattens [] (clause_scheme Entry 0) k e (clause_piece d)) where
     all_met : e.extra ≡ terms.firsts same_symbol all_symbols
     all_met =
         second.extra
@@ -96,8 +104,8 @@ module _ (c d : List Literal) (sound_c : AreSoundLiterals c) (sound_d : AreSound
         let grown : terms.firsts same_symbol all_symbols ≡ b.extra ++ later.0 =
         sym all_met ∙ second.extra ∙ (λ i. insert_all same_symbol (kept i) (all_lack (literals_symbols d) i)) ∙ later.1 in
         record {
-          first = clause_stands Query a b c none_met none_written first (terms.firsts same_symbol all_symbols) later.0 sound_c grown;
-          second = clause_stands Entry k e d forgotten begun second (terms.firsts same_symbol all_symbols) [] sound_d (sym all_met ∙ sym (append-nil e.extra));
+          first = clause_stands [] 0 Query a b c none_met none_written first (terms.firsts same_symbol all_symbols) later.0 sound_c grown;
+          second = clause_stands [] 0 Entry k e d forgotten begun second (terms.firsts same_symbol all_symbols) [] sound_d (sym all_met ∙ sym (append-nil e.extra));
           complete =
               ap (λ ss. unnumbered (numbers_from 0 (terms.firsts same_symbol ss)) all_symbols) (sym (all_lack all_symbols))
               ∙ all_have_from 0 [] all_symbols;

@@ -4,7 +4,7 @@ use Rattle.std.specs.Prelude.{bytes_eq, slice_set}
 use Rattle.indexmap.specs.IndexSet.{insert_all}
 use Rattle.si_defs.specs.Bytes.{Bytes}
 use Rattle.si_defs.specs.Terms as terms
-use Rattle.si_defs.specs.Symbols.{Symbol, IsNumbering, same_symbol}
+use Rattle.si_defs.specs.Symbols.{Symbol, Numbering, IsNumbering, same_symbol}
 use Rattle.si_defs.specs.Clauses.{Literal, literals_size, literal_size}
 use Rattle.si_defs.specs.Entries.{literals_symbols, literals_variables}
 use Rattle.si_flat.specs.declared.Cell.{Cell}
@@ -34,8 +34,8 @@ signed_again : (positive : Bool) (number : Symbol → ℕ) → signed positive (
 signed_again true number = λ i s. number s
 signed_again false number = refl
 
-abbrev literal_scheme : Owner → Literal → Scheme
-literal_scheme owner l = record { positive = l.positive; owner = owner; first = 0 }
+abbrev literal_scheme : Owner → ℕ → Literal → Scheme
+literal_scheme owner least l = record { positive = l.positive; owner = owner; first = least }
 
 abbrev literal_piece : Literal → WalkPiece
 literal_piece l = record {
@@ -44,35 +44,35 @@ literal_piece l = record {
   cells = λ number variable. cells_of (numbered (signed l.positive number) variable l.atom);
 }
 
-module _ (owner : Owner) where
-  signed_literal : (a b : WalkState) (l : Literal) → Flattens [] (literal_scheme owner l) a b (term_piece l.atom) → Flattens [] (clause_scheme owner) a b (literal_piece l)
+module _ (pairs : Numbering) (owner : Owner) (least : ℕ) where
+  signed_literal : (a b : WalkState) (l : Literal) → Flattens pairs (literal_scheme owner least l) a b (term_piece l.atom) → Flattens pairs (clause_scheme owner least) a b (literal_piece l)
   signed_literal a b l h = record {
     names = h.names;
     extra = h.extra;
     cells = λ xs ss.
         h.cells xs ss
-        ∙ ap (λ f. a.cells ++ cells_of (numbered f (λ x. owners_variable owner (place_in bytes_eq (b.names ++ xs) x)) l.atom)) (sym (signed_again l.positive (number_in (numbers_from 0 (b.extra ++ ss)))));
+        ∙ ap (λ f. a.cells ++ cells_of (numbered f (λ x. owners_variable owner (place_in bytes_eq (b.names ++ xs) x)) l.atom)) (sym (signed_again l.positive (number_in (pairs ++ numbers_from least (b.extra ++ ss)))));
   }
 
-  pub literals_none : (a : WalkState) → Flattens [] (clause_scheme owner) a a (literals_piece [])
+  pub literals_none : (a : WalkState) → Flattens pairs (clause_scheme owner least) a a (literals_piece [])
   literals_none a = record { names = refl; extra = refl; cells = λ xs ss. sym (append-nil a.cells) }
 
   pub literals_more : (a b c : WalkState) (l : Literal) (ls : List Literal)
-      → Flattens [] (literal_scheme owner l) a b (term_piece l.atom)
-      → Flattens [] (clause_scheme owner) b c (literals_piece ls)
-      → Flattens [] (clause_scheme owner) a c (literals_piece (l ∷ ls))
-  literals_more a b c l ls first rest = flattens_then [] (clause_scheme owner) a b c (literal_piece l) (literals_piece ls) (signed_literal a b l first) rest
+      → Flattens pairs (literal_scheme owner least l) a b (term_piece l.atom)
+      → Flattens pairs (clause_scheme owner least) b c (literals_piece ls)
+      → Flattens pairs (clause_scheme owner least) a c (literals_piece (l ∷ ls))
+  literals_more a b c l ls first rest = flattens_then pairs (clause_scheme owner least) a b c (literal_piece l) (literals_piece ls) (signed_literal a b l first) rest
 
   -- ---- room
-  pub literal_room : (m : Met) (l : Literal) (k : ℕ) → MayMeet (clause_scheme owner) m (literal_size l + k) → MayMeet (literal_scheme owner l) m (literal_size l)
+  pub literal_room : (m : Met) (l : Literal) (k : ℕ) → MayMeet (clause_scheme owner least) m (literal_size l + k) → MayMeet (literal_scheme owner least l) m (literal_size l)
   literal_room m l k h = record { names = omega (arith, h.names); extra = omega (arith, h.extra) }
 
   pub room_left : (old new : Met) (cs ds : List Cell) (l : Literal) (k : ℕ)
-      → MayMeet (clause_scheme owner) old (literal_size l + k)
-      → Flattens [] (literal_scheme owner l) (walk_state old cs) (walk_state new ds) (term_piece l.atom)
-      → MayMeet (clause_scheme owner) new k
+      → MayMeet (clause_scheme owner least) old (literal_size l + k)
+      → Flattens pairs (literal_scheme owner least l) (walk_state old cs) (walk_state new ds) (term_piece l.atom)
+      → MayMeet (clause_scheme owner least) new k
   room_left old new cs ds l k room walked =
-      let after = room_after [] (literal_scheme owner l) old new cs ds l.atom k (record { names = room.names; extra = room.extra }) walked in
+      let after = room_after pairs (literal_scheme owner least l) old new cs ds l.atom k (record { names = room.names; extra = room.extra }) walked in
       record { names = after.names; extra = after.extra }
 
 -- ---- the head
@@ -80,10 +80,10 @@ numbered_atoms_sizes : (n : Symbol → ℕ) (v : Bytes → Variable) (ls : List 
 numbered_atoms_sizes n v [] = refl
 numbered_atoms_sizes n v (l ∷ ls) = λ i. numbered_size (signed l.positive n) v l.atom i + numbered_atoms_sizes n v ls i
 
-module _ (owner : Owner) (b c : WalkState) (first : Cell) (ls : List Literal) (begun : b.cells ≡ first ∷ []) (walked : Flattens [] (clause_scheme owner) b c (literals_piece ls)) where
+module _ (pairs : Numbering) (owner : Owner) (least : ℕ) (b c : WalkState) (first : Cell) (ls : List Literal) (begun : b.cells ≡ first ∷ []) (walked : Flattens pairs (clause_scheme owner least) b c (literals_piece ls)) where
   -- the atoms, whatever is met later
   abbrev atoms : List Bytes → List Symbol → Terms
-  atoms xs ss = numbered_atoms (number_by [] (clause_scheme owner) (c.extra ++ ss)) (λ x. owners_variable owner (place_in bytes_eq (c.names ++ xs) x)) ls
+  atoms xs ss = numbered_atoms (number_by pairs (clause_scheme owner least) (c.extra ++ ss)) (λ x. owners_variable owner (place_in bytes_eq (c.names ++ xs) x)) ls
 
   all_cells : (xs : List Bytes) (ss : List Symbol) → c.cells ≡ first ∷ cells_of_all (atoms xs ss)
   all_cells xs ss = walked.cells xs ss ∙ ap (λ l. l ++ cells_of_all (atoms xs ss)) begun
@@ -94,7 +94,7 @@ module _ (owner : Owner) (b c : WalkState) (first : Cell) (ls : List Literal) (b
         arith,
         ap length (all_cells [] []),
         length-cells_of_all (atoms [] []),
-        numbered_atoms_sizes (number_by [] (clause_scheme owner) (c.extra ++ [])) (λ x. owners_variable owner (place_in bytes_eq (c.names ++ []) x)) ls,
+        numbered_atoms_sizes (number_by pairs (clause_scheme owner least) (c.extra ++ [])) (λ x. owners_variable owner (place_in bytes_eq (c.names ++ []) x)) ls,
       )
 
   pub clause_closed : (a : WalkState) (n m : ℕ) (ds : List Cell)
@@ -104,12 +104,12 @@ module _ (owner : Owner) (b c : WalkState) (first : Cell) (ls : List Literal) (b
       → n ≡ length ls
       → m ≡ length c.cells - 0
       → ds ≡ slice_set c.cells 0 (cell.App (2 ^ 32 - 1) n m)
-      → Flattens [] (clause_scheme owner) a (record { names = c.names; extra = c.extra; cells = ds }) (clause_piece ls)
+      → Flattens pairs (clause_scheme owner least) a (record { names = c.names; extra = c.extra; cells = ds }) (clause_piece ls)
   clause_closed a n m ds none names extra count long placed = record {
     names = walked.names ∙ ap (λ l. insert_all bytes_eq l (literals_variables ls)) names;
-    extra = walked.extra ∙ ap (λ l. insert_all same_symbol l (unnumbered [] (literals_symbols ls))) extra;
+    extra = walked.extra ∙ ap (λ l. insert_all same_symbol l (unnumbered pairs (literals_symbols ls))) extra;
     cells = λ xs ss.
-        let size : m ≡ 1 + terms.sizes (atoms xs ss) = omega (arith, long, clause_length, numbered_atoms_sizes (number_by [] (clause_scheme owner) (c.extra ++ ss)) (λ x. owners_variable owner (place_in bytes_eq (c.names ++ xs) x)) ls) in
+        let size : m ≡ 1 + terms.sizes (atoms xs ss) = omega (arith, long, clause_length, numbered_atoms_sizes (number_by pairs (clause_scheme owner least) (c.extra ++ ss)) (λ x. owners_variable owner (place_in bytes_eq (c.names ++ xs) x)) ls) in
         placed
         ∙ (λ i. slice_set (all_cells xs ss i) 0 (cell.App (2 ^ 32 - 1) (count i) (size i)))
         ∙ ap (λ l. l ++ cell.App (2 ^ 32 - 1) (length ls) (1 + terms.sizes (atoms xs ss)) ∷ cells_of_all (atoms xs ss)) (sym none);

@@ -10,8 +10,8 @@ use Rattle.si_flat.specs.declared.Cell.{Cell}
 use Rattle.si_flat.specs.declared.Owner.{Owner}
 use Rattle.si_flat.specs.Cells.{Symbol, Variable, query, entry, Term, Terms, StandsFor, cells_of, cells_of_all}
 use Rattle.si_flat.specs.Numbered.{number_in, signed, place_in, numbered}
-use Rattle.si_flat.specs.Flattened.{numbers_from, unnumbered}
-use Rattle.si_flat.specs.Flattening.{WalkPiece}
+use Rattle.si_flat.specs.Flattened.{numbers_from, extra_numbers, unnumbered}
+use Rattle.si_flat.specs.Flattening.{WalkPiece, owners_variable}
 use Rattle.si_flat.specs.declared.walk.Scheme.{Scheme}
 
 -- ---- the terms
@@ -48,6 +48,18 @@ pub record FlattensClauses (c d : List Literal) (flat : List Cell × List Cell) 
   pub complete : unnumbered (clause_numbers c d) (literals_symbols c ++ literals_symbols d) ≡ []
   pub numbering : IsNumbering (clause_numbers c d)
 
+-- ---- one clause by a table
+-- those of its symbols that the table lacks, each once, in the order of their first occurrence
+abbrev pub lacked_by : Numbering → List Literal → List symbols.Symbol
+lacked_by pairs ls = terms.firsts same_symbol (unnumbered pairs (literals_symbols ls))
+
+-- The clause has the table's numbers for its symbols. Those that the table lacks are numbered
+-- behind these, whatever others follow them.
+abbrev pub FlattensClause : Numbering → Owner → List Literal → List Cell → Type 0
+FlattensClause pairs owner ls cells = (more : List symbols.Symbol)
+    → StandsFor cells
+    (flat_clause (pairs ++ extra_numbers (lacked_by pairs ls ++ more)) (owners_variable owner) ls)
+
 -- ---- a walk over literals
 abbrev pub literals_piece : List Literal → WalkPiece
 literals_piece ls = record {
@@ -56,9 +68,9 @@ literals_piece ls = record {
   cells = λ number variable. cells_of_all (numbered_atoms number variable ls);
 }
 
--- with numbers from 0, and each literal's own sign
-abbrev pub clause_scheme : Owner → Scheme
-clause_scheme owner = record { positive = true; owner = owner; first = 0 }
+-- the symbols outside the table have numbers from this one on, and each literal has its own sign
+abbrev pub clause_scheme : Owner → ℕ → Scheme
+clause_scheme owner first = record { positive = true; owner = owner; first = first }
 
 abbrev pub clause_piece : List Literal → WalkPiece
 clause_piece ls = record {

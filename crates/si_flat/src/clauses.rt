@@ -1,15 +1,16 @@
-// Two clauses as flat terms.
+// Clauses as flat terms.
 ghost use Rattle.std.specs.Prelude.{◌≡◌, [], IfOk, OnOk, map};
 ghost use Rattle.si_defs.specs.Clauses.{AreSoundLiterals, literals_size};
 ghost use Rattle.si_term.specs.Meaning.{literal_of};
 ghost use Rattle.si_flat.specs.Flattening.{MayMeet, Flattens, walk_state};
-ghost use Rattle.si_flat.specs.FlatClauses.{FlattensClauses, clause_scheme, literals_piece, clause_piece};
+ghost use Rattle.si_flat.specs.FlatClauses.{FlattensClause, FlattensClauses, clause_scheme, literals_piece, clause_piece};
 
-use crate::met::Met;
-use crate::walk::{Scheme, close, write_term};
+use crate::met::{FIRST_EXTRA, Met};
+use crate::walk::{Scheme, WrittenEntry, close, write_term};
 use crate::{Cell, Flat, Owner};
 use si_term::{Literal, Literals, Sym, SymTable};
 use std::alloc::{AllocError, Global};
+use std::marker::Model;
 
 /// The number of the head of a clause. It is odd, and no symbol's.
 const CLAUSE_HEAD: u32 = 4_294_967_295;
@@ -45,55 +46,140 @@ pub fn flatten_clauses<'a>(
     ensures { IfOk result (FlattensClauses (map literal_of c.now) (map literal_of d.now)) }
 {
     let mut met = Met::new(alloc);
-    let first = write_clause(alloc, Owner::Query, c.as_slice(), &mut met)?;
+    let mut first = Vec::new(alloc);
+    write_clause(
+        &NoSymbols,
+        Owner::Query,
+        0,
+        c.as_slice(),
+        &mut met,
+        &mut first,
+    )?;
     met.forget_variables();
-    let second = write_clause(alloc, Owner::Entry, d.as_slice(), &mut met)?;
+    let mut second = Vec::new(alloc);
+    write_clause(
+        &NoSymbols,
+        Owner::Entry,
+        0,
+        d.as_slice(),
+        &mut met,
+        &mut second,
+    )?;
     Ok((Flat::from_vec(first), Flat::from_vec(second)))
 }
 
-// The cells of a clause.
-fn write_clause<'a>(
-    alloc: Global,
+/// Memory in which clauses are made flat one after the other, each as one term: the atoms of its
+/// literals in order below a head that is no symbol. It keeps what it grew to, so a call that needs
+/// no more takes no memory. Contracts see the cells.
+#[derive(Drop)]
+pub struct ClauseBuffer<'a> {
+    written: WrittenEntry<'a>,
+}
+
+impl<'a> Model for ClauseBuffer<'a> {
+    ghost use Rattle.std.specs.Prelude.{List};
+    ghost use Rattle.si_flat.specs.declared.Cell.{Cell};
+
+    ghost Value = { List Cell };
+
+    ghost view = { λ b. b.written.cells.items };
+}
+
+impl<'a> ClauseBuffer<'a> {
+    /// An empty buffer. It takes no memory.
+    pub fn new(alloc: Global) -> ClauseBuffer<'a>
+        ensures { result ≡ [] }
+    {
+        ClauseBuffer {
+            written: WrittenEntry::new(alloc),
+        }
+    }
+
+    /// Puts the flat term of a clause or formula in place of what the buffer held, with the
+    /// table's numbers for its symbols. Its variables are the owner's, numbered from 0 in the
+    /// order of their first occurrence. Symbols that the table lacks are numbered from
+    /// `FIRST_EXTRA` on, so clauses of which at most one has such symbols are flat by one
+    /// numbering.
+    pub fn fill<T: SymTable>(
+        &mut self,
+        table: &T,
+        owner: Owner,
+        literals: &'a [Literal],
+    ) -> Result<(), AllocError>
+        requires { AreSoundLiterals (map literal_of literals.now) }
+        ensures { OnOk result (FlattensClause (T.pairs table.now) owner
+            (map literal_of literals.now) self.new) }
+    {
+        let written = &mut self.written;
+        written.met.clear();
+        written.cells.clear();
+        write_clause(
+            table,
+            owner,
+            FIRST_EXTRA,
+            literals,
+            &mut written.met,
+            &mut written.cells,
+        )
+    }
+
+    /// The cells.
+    pub fn cells(&self) -> &[Cell]
+        ensures { result.now ≡ self.now }
+    {
+        self.written.cells.as_slice()
+    }
+}
+
+// Writes the cells of a clause. The symbols outside the table are numbered from `first` on.
+fn write_clause<'a, T: SymTable>(
+    table: &T,
     owner: Owner,
+    first: u32,
     literals: &'a [Literal],
     met: &mut Met<'a>,
-) -> Result<Vec<Cell>, AllocError>
-    requires room { MayMeet (clause_scheme owner) met.old (literals_size
+    cells: &mut Vec<Cell>,
+) -> Result<(), AllocError>
+    requires empty { cells.old.items ≡ [] }
+    requires room { MayMeet (clause_scheme owner first) met.old (literals_size
         (map literal_of literals.now)) }
-    ensures { IfOk result (λ cells. Flattens [] (clause_scheme owner) (walk_state met.old [])
-        (walk_state met.new cells.items) (clause_piece (map literal_of literals.now))) }
+    ensures { OnOk result (Flattens (T.pairs table.now) (clause_scheme owner first)
+        (walk_state met.old []) (walk_state met.new cells.new.items)
+        (clause_piece (map literal_of literals.now))) }
 {
-    let mut cells = Vec::new(alloc);
     cells.push(Cell::App {
         sym: CLAUSE_HEAD,
         arity: 0,
         len: 1,
     })?;
-    write_literals(owner, literals, met, &mut cells)?;
-    close(&mut cells, 0, CLAUSE_HEAD, literals.len() as u32);
-    Ok(cells)
+    write_literals(table, owner, first, literals, met, cells)?;
+    close(cells, 0, CLAUSE_HEAD, literals.len() as u32);
+    Ok(())
 }
 
 // Appends the cells of the atoms.
-fn write_literals<'a>(
+fn write_literals<'a, T: SymTable>(
+    table: &T,
     owner: Owner,
+    first: u32,
     literals: &'a [Literal],
     met: &mut Met<'a>,
     cells: &mut Vec<Cell>,
 ) -> Result<(), AllocError>
-    requires room { MayMeet (clause_scheme owner) met.old (literals_size
+    requires room { MayMeet (clause_scheme owner first) met.old (literals_size
         (map literal_of literals.now)) }
-    ensures { OnOk result (Flattens [] (clause_scheme owner) (walk_state met.old cells.old.items)
-        (walk_state met.new cells.new.items) (literals_piece (map literal_of literals.now))) }
+    ensures { OnOk result (Flattens (T.pairs table.now) (clause_scheme owner first)
+        (walk_state met.old cells.old.items) (walk_state met.new cells.new.items)
+        (literals_piece (map literal_of literals.now))) }
 {
     for i in 0..literals.len() {
         let literal = &literals[i];
         let scheme = Scheme {
             positive: literal.positive,
             owner,
-            first: 0,
+            first,
         };
-        write_term(&NoSymbols, scheme, &literal.atom, met, cells)?;
+        write_term(table, scheme, &literal.atom, met, cells)?;
     }
     Ok(())
 }

@@ -18,7 +18,7 @@ mod names;
 mod walk;
 
 pub use bindings::{Bindings, Pair, Pairs, Split};
-pub use clauses::flatten_clauses;
+pub use clauses::{ClauseBuffer, flatten_clauses};
 pub use flatten::{EntryBuffer, FlatQuery, flatten_entry, flatten_pattern};
 pub use met::FIRST_EXTRA;
 pub use si_defs::Relation as Kind;

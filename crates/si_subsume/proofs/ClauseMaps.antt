@@ -6,7 +6,7 @@ use Rattle.std.specs.List.{AllByRecursion}
 use Rattle.si_defs.specs.Bytes.{Bytes}
 use Rattle.si_defs.specs.Terms as terms
 use Rattle.si_defs.specs.Symbols as texts
-use Rattle.si_defs.specs.Symbols.{Numbering, IsNumbering}
+use Rattle.si_defs.specs.Symbols.{Numbering}
 use Rattle.si_defs.specs.Clauses as clauses
 use Rattle.si_defs.specs.Clauses.{Literal, IsSoundAtom, IsSoundLiteral, AreSoundLiterals, literals_size}
 use Rattle.si_defs.specs.Entries.{literals_symbols, literals_variables}
@@ -20,7 +20,7 @@ use Rattle.si_flat.specs.declared.Owner.{Owner}
 use Rattle.si_flat.specs.declared.Owner.TheVariants.{Query, Entry}
 use Rattle.si_flat.specs.Cells.{Variable, query, entry, same_variable, Term, Terms, variable_cell, cells_of, cells_of_all, StandsFor}
 use Rattle.si_flat.specs.Numbered.{number_in, signed, place_in, numbered, all_numbered}
-use Rattle.si_flat.specs.Flattened.{has_number, unnumbered}
+use Rattle.si_flat.specs.Flattened.{has_number, unnumbered, IsQueryNumbering}
 use Rattle.si_flat.specs.FlatClauses.{numbered_atoms, flat_clause, clause_numbers, FlattensClauses}
 use Rattle.si_flat.proofs.FirstPlaces.{among_firsts, firsts_among}
 use Rattle.si_term.proofs.Inserted.{inserted-firsts, inserted_length}
@@ -108,7 +108,7 @@ module _ (pairs : Numbering) (v : Bytes → Variable) where
   item_down (l ∷ ls) (suc n) u e = let r = item_down ls n u e in record { literal = r.literal; is = r.is; stands = r.stands }
 
 -- ---- maps
-module _ (pairs : Numbering) (numbering : IsNumbering pairs) (xs ys : List Bytes) (d : List Literal) (placed_d : AllByRecursion (IsPlaced pairs numbering xs ys ys) d) where
+module _ (pairs : Numbering) (numbering : IsQueryNumbering pairs) (xs ys : List Bytes) (d : List Literal) (placed_d : AllByRecursion (IsPlaced pairs numbering xs ys ys) d) where
   abbrev pattern_atoms : List Literal → Terms
   pattern_atoms ls = numbered_atoms (number_in pairs) (pattern_variable pairs numbering xs ys) ls
 
@@ -154,7 +154,7 @@ all_patterns [] vars give = tt
 all_patterns (z ∷ zs) vars give = (among_map vars z (give z (inl refl)), all_patterns zs vars (λ y a. give y (inr a)))
 
 -- ---- literals of clauses that were made flat
-known_all : (pairs : Numbering) (ss : List texts.Symbol) → unnumbered pairs ss ≡ [] → AllByRecursion (λ s. has_number pairs s ≡ true) ss
+pub known_all : (pairs : Numbering) (ss : List texts.Symbol) → unnumbered pairs ss ≡ [] → AllByRecursion (λ s. has_number pairs s ≡ true) ss
 known_all pairs [] e = tt
 known_all pairs (s ∷ ss) e = by (has_number pairs s) refl e (known_all pairs ss)
   where
@@ -162,7 +162,7 @@ known_all pairs (s ∷ ss) e = by (has_number pairs s) refl e (known_all pairs s
     by true is e rest = (is, rest e)
     by false is e rest = cc
 
-placed_all : (pairs : Numbering) (numbering : IsNumbering pairs) (xs ys zs : List Bytes) (ls : List Literal)
+placed_all : (pairs : Numbering) (numbering : IsQueryNumbering pairs) (xs ys zs : List Bytes) (ls : List Literal)
     → AllByRecursion IsSoundLiteral ls
     → AllByRecursion (λ s. has_number pairs s ≡ true) (literals_symbols ls)
     → AllByRecursion (IsAmong zs) (literals_variables ls)
@@ -180,56 +180,83 @@ placed_all pairs numbering xs ys zs (l ∷ ls) sound known placed = (
 all_placed : (ls : List Literal) → AllByRecursion (IsAmong (terms.firsts bytes_eq (literals_variables ls))) (literals_variables ls)
 all_placed ls = all_from (IsAmong (terms.firsts bytes_eq (literals_variables ls))) (literals_variables ls) (λ x a. among_firsts bytes_eq text_is (literals_variables ls) x a)
 
-module _ (c d : List Literal) (flat : List Cell × List Cell) (sound_c : AreSoundLiterals c) (sound_d : AreSoundLiterals d) (h : FlattensClauses c d flat) where
-  abbrev pairs : Numbering
-  pairs = clause_numbers c d
+-- A clause was made flat by these numbers, which all of its symbols have.
+pub record IsFlatBy (pairs : Numbering) (variable : ℕ → Variable) (ls : List Literal) (cells : List Cell) : Type 0 where
+  pub sound : AreSoundLiterals ls
+  pub stands : StandsFor cells (flat_clause pairs variable ls)
+  pub known : AllByRecursion (λ s. has_number pairs s ≡ true) (literals_symbols ls)
 
+pub has_heads : (pairs : Numbering) (variable : ℕ → Variable) (ls : List Literal) (cells : List Cell) → IsFlatBy pairs variable ls cells → HasHeads cells
+has_heads pairs variable ls cells h = clause_heads pairs variable ls cells h.sound h.stands
+
+pub is_of_query : (pairs : Numbering) (ls : List Literal) (cells : List Cell) → IsFlatBy pairs query ls cells → AreOf Query cells
+is_of_query pairs ls cells h = subst (AreOf Query) (sym h.stands.cells_are) (query_clause pairs ls h.sound)
+
+pub is_of_entry : (pairs : Numbering) (ls : List Literal) (cells : List Cell) → IsFlatBy pairs entry ls cells → AreOf Entry cells
+is_of_entry pairs ls cells h = subst (AreOf Entry) (sym h.stands.cells_are) (entry_clause pairs ls h.sound)
+
+module _ (pairs : Numbering) (numbering : IsQueryNumbering pairs) (c d : List Literal) (cells_c cells_d : List Cell) (flat_c : IsFlatBy pairs query c cells_c) (flat_d : IsFlatBy pairs entry d cells_d) where
   abbrev xs : List Bytes
   xs = terms.firsts bytes_eq (literals_variables c)
 
   abbrev ys : List Bytes
   ys = terms.firsts bytes_eq (literals_variables d)
 
-  known : AllByRecursion (λ s. has_number pairs s ≡ true) (literals_symbols c ++ literals_symbols d)
-  known = known_all pairs (literals_symbols c ++ literals_symbols d) h.complete
+  placed_c : AllByRecursion (IsPlaced pairs numbering xs ys xs) c
+  placed_c = placed_all pairs numbering xs ys xs c flat_c.sound.each flat_c.known (all_placed c)
 
-  placed_c : AllByRecursion (IsPlaced pairs h.numbering xs ys xs) c
-  placed_c = placed_all pairs h.numbering xs ys xs c sound_c.each (all_front (λ s. has_number pairs s ≡ true) (literals_symbols c) (literals_symbols d) known) (all_placed c)
-
-  placed_d : AllByRecursion (IsPlaced pairs h.numbering xs ys ys) d
-  placed_d = placed_all pairs h.numbering xs ys ys d sound_d.each (all_back (λ s. has_number pairs s ≡ true) (literals_symbols c) (literals_symbols d) known) (all_placed d)
+  placed_d : AllByRecursion (IsPlaced pairs numbering xs ys ys) d
+  placed_d = placed_all pairs numbering xs ys ys d flat_d.sound.each flat_d.known (all_placed d)
 
   abbrev FlatMap : List ℕ → Type 0
-  FlatMap = IsFlatMap (terms.list (pattern_atoms pairs h.numbering xs ys d placed_d c)) (terms.list (entry_atoms pairs h.numbering xs ys d placed_d d))
+  FlatMap = IsFlatMap (terms.list (pattern_atoms pairs numbering xs ys d placed_d c)) (terms.list (entry_atoms pairs numbering xs ys d placed_d d))
 
   map_up : (ns : List ℕ) → IsMap c d ns → FlatMap ns
   map_up ns m = (
-    raise pairs h.numbering xs ys m.0,
-    record { stay = raised_stays pairs h.numbering xs ys m.0 xs; taken = taken_up pairs h.numbering xs ys d placed_d m.0 c ns placed_c m.1.taken },
+    raise pairs numbering xs ys m.0,
+    record { stay = raised_stays pairs numbering xs ys m.0 xs; taken = taken_up pairs numbering xs ys d placed_d m.0 c ns placed_c m.1.taken },
   )
 
   map_down : (ns : List ℕ) → FlatMap ns → IsMap c d ns
   map_down ns m = (
-    lower pairs h.numbering xs ys (image same_variable m.0),
+    lower pairs numbering xs ys (image same_variable m.0),
     record {
       on =
-          subst (AllByRecursion (IsAmong (map of_pattern (literals_variables c)))) (sym (lefts_lowered pairs h.numbering xs ys (image same_variable m.0) xs))
+          subst (AllByRecursion (IsAmong (map of_pattern (literals_variables c)))) (sym (lefts_lowered pairs numbering xs ys (image same_variable m.0) xs))
           (all_patterns xs (literals_variables c) (λ z a. firsts_among bytes_eq (literals_variables c) z a));
-      taken = taken_down pairs h.numbering xs ys d placed_d (image same_variable m.0) c ns placed_c m.1.taken;
+      taken = taken_down pairs numbering xs ys d placed_d (image same_variable m.0) c ns placed_c m.1.taken;
     },
   )
 
-  pub clause_answer : (answer : Option (List ℕ)) → AnswersFlat flat.0 flat.1 answer → AnswersLeast (IsMap c d) answer
-  clause_answer answer told = least_same FlatMap (IsMap c d) map_down map_up answer (told (flat_clause pairs query c) (flat_clause pairs entry d) h.first h.second)
+  -- what is answered of the flat clauses holds of the clauses
+  pub clause_answer : (answer : Option (List ℕ)) → AnswersFlat cells_c cells_d answer → AnswersLeast (IsMap c d) answer
+  clause_answer answer told = least_same FlatMap (IsMap c d) map_down map_up answer (told (flat_clause pairs query c) (flat_clause pairs entry d) flat_c.stands flat_d.stands)
 
-  pub first_of_query : AreOf Query flat.0
-  first_of_query = subst (AreOf Query) (sym h.first.cells_are) (query_clause pairs c sound_c)
+-- ---- two clauses that were numbered together
+module _ (c d : List Literal) (flat : List Cell × List Cell) (sound_c : AreSoundLiterals c) (sound_d : AreSoundLiterals d) (h : FlattensClauses c d flat) where
+  abbrev pairs : Numbering
+  pairs = clause_numbers c d
 
-  pub second_of_entry : AreOf Entry flat.1
-  second_of_entry = subst (AreOf Entry) (sym h.second.cells_are) (entry_clause pairs d sound_d)
+  known : AllByRecursion (λ s. has_number pairs s ≡ true) (literals_symbols c ++ literals_symbols d)
+  known = known_all pairs (literals_symbols c ++ literals_symbols d) h.complete
 
-  pub first_has_heads : HasHeads flat.0
-  first_has_heads = clause_heads pairs query c flat.0 sound_c h.first
+  pub numbering_together : IsQueryNumbering pairs
+  numbering_together = record {
+    one_number = h.numbering.one_number;
+    one_symbol = h.numbering.one_symbol;
+    even = h.numbering.even;
+  }
 
-  pub second_has_heads : HasHeads flat.1
-  second_has_heads = clause_heads pairs entry d flat.1 sound_d h.second
+  pub first_flat : IsFlatBy pairs query c flat.0
+  first_flat = record {
+    sound = sound_c;
+    stands = h.first;
+    known = all_front (λ s. has_number pairs s ≡ true) (literals_symbols c) (literals_symbols d) known;
+  }
+
+  pub second_flat : IsFlatBy pairs entry d flat.1
+  second_flat = record {
+    sound = sound_d;
+    stands = h.second;
+    known = all_back (λ s. has_number pairs s ≡ true) (literals_symbols c) (literals_symbols d) known;
+  }

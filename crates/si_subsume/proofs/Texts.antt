@@ -8,7 +8,7 @@ use Rattle.si_defs.specs.Bytes.{Bytes}
 use Rattle.si_defs.specs.Terms as terms
 use Rattle.si_defs.specs.Terms.{var, app, none, more, rename_all, substitute, substitute_all, variables, variables_of_all, symbols, symbols_of_all}
 use Rattle.si_defs.specs.Symbols as texts
-use Rattle.si_defs.specs.Symbols.{Numbering, IsNumbering}
+use Rattle.si_defs.specs.Symbols.{Numbering}
 use Rattle.si_defs.specs.Clauses as clauses
 use Rattle.si_defs.specs.Clauses.{Literal, IsSoundTerm, AreSoundTerms, IsSoundAtom, IsSoundLiteral}
 use Rattle.si_defs.specs.Substitutions.{Substitution, image, IsAmong, lefts}
@@ -19,7 +19,7 @@ use Rattle.si_defs.specs.declared.Side.TheVariants.{Predicate, Function}
 use Rattle.si_defs.proofs.ListLaws.{all_front, all_back}
 use Rattle.si_flat.specs.Cells.{Symbol, Variable, query, entry, ind, same_variable, Term, Terms}
 use Rattle.si_flat.specs.Numbered.{number_in, signed, one_above, place_in, numbered, all_numbered}
-use Rattle.si_flat.specs.Flattened.{has_number}
+use Rattle.si_flat.specs.Flattened.{has_number, IsQueryNumbering}
 use Rattle.si_flat.proofs.Numbers.{among-number}
 use Rattle.si_flat.proofs.FirstPlaces.{at_place, text_at, place_one}
 
@@ -43,7 +43,7 @@ symbol_with (pair ∷ pairs) s n a one =
           )
     ]
 
-module _ (pairs : Numbering) (numbering : IsNumbering pairs) (xs ys : List Bytes) where
+module _ (pairs : Numbering) (numbering : IsQueryNumbering pairs) (xs ys : List Bytes) where
   abbrev number : texts.Symbol → ℕ
   number s = number_in pairs s
 

@@ -2,6 +2,7 @@
 ghost use Rattle.std.specs.Prelude.{◌≡◌, ◌↔◌, ◌<◌, ◌-◌, ◌^◌, IsTrue, IfOk, length, map, true, false};
 ghost use Rattle.std.specs.List.{AllByRecursion};
 ghost use Rattle.si_flat.specs.declared.Owner.TheVariants.{Query, Entry};
+ghost use Rattle.si_flat.specs.Cells.{IsWhole};
 ghost use Rattle.si_subsume.specs.Maps.{AreOf, HasHeads, AnswersFlat};
 ghost use Rattle.si_subsume.specs.Heads.{IsIndexOf};
 ghost use Rattle.si_subsume.specs.Parts.{AreFixed};
@@ -13,7 +14,7 @@ use crate::heads::Heads;
 use crate::parts::part_labels;
 use crate::search::{Choice, Task, each_has_target, search};
 use crate::variables::slots_of;
-use si_flat::{Cell, Flat, LitMap};
+use si_flat::{Cell, LitMap};
 use si_trail::Trail;
 use si_unify::Slots;
 use std::alloc::{AllocError, Global};
@@ -102,17 +103,20 @@ fn least_by_heads<'a>(
 }
 
 /// The least map from the arguments of `c` to those of `d`, over substitutions that leave the
-/// variables of `d`; `None` where there is none. Of two clauses made flat by
-/// [`flatten_clauses`](si_flat::flatten_clauses) the arguments are the literals.
-pub fn least_map_of(alloc: Global, c: &Flat, d: &Flat) -> Result<Option<LitMap>, AllocError>
+/// variables of `d`; `None` where there is none. Of two clauses made flat by one numbering, as by
+/// [`flatten_clauses`](si_flat::flatten_clauses) or in a [`ClauseBuffer`](si_flat::ClauseBuffer),
+/// the arguments are the literals.
+pub fn least_map_of(alloc: Global, c: &[Cell], d: &[Cell]) -> Result<Option<LitMap>, AllocError>
     requires c { AreOf Query c.now }
     requires d { AreOf Entry d.now }
+    requires c_whole { IsWhole c.now }
+    requires d_whole { IsWhole d.now }
     requires c_heads { HasHeads c.now }
     requires d_heads { HasHeads d.now }
     ensures { IfOk result (AnswersFlat c.now d.now) }
 {
-    let literals = arguments(alloc, c.cells())?;
-    let targets = arguments(alloc, d.cells())?;
-    let slots = slots_of(c.cells(), d.cells());
+    let literals = arguments(alloc, c)?;
+    let targets = arguments(alloc, d)?;
+    let slots = slots_of(c, d);
     least_by_heads(alloc, slots, &literals, &targets)
 }

@@ -17,5 +17,5 @@ pub fn least_map(alloc: Global, c: &Literals, d: &Literals) -> Result<Option<Lit
     ensures { IfOk result (AnswersLeast (IsMap (map literal_of c.now) (map literal_of d.now))) }
 {
     let (flat_c, flat_d) = flatten_clauses(alloc, c, d)?;
-    least_map_of(alloc, &flat_c, &flat_d)
+    least_map_of(alloc, flat_c.cells(), flat_d.cells())
 }

@@ -1,4 +1,4 @@
-use Rattle.std.proofs.Common.{[], map}
+use Rattle.std.proofs.Common.{map}
 use Rattle.si_defs.specs.Clauses.{literals_size}
 use Rattle.si_term.specs.Meaning.{literal_of}
 use Rattle.si_term.proofs.Literals.{later}
@@ -8,8 +8,8 @@ use Rattle.si_flat.proofs.clauses.write_literals.Given as goal
 
 -- what follows from here, with what is left, follows from the start
 abbrev pub invariant-loop-i : goal.invariant-loop-i
-invariant-loop-i l =
+invariant-loop-i g l =
     ((new : WalkState)
-    → Flattens [] (clause_scheme l.owner) (walk_state l.met l.cells.items) new (literals_piece (later l.literals l.i))
-    → Flattens [] (clause_scheme l.owner) (walk_state l.fn.met l.fn.cells.items) new (literals_piece (map literal_of l.literals)))
-    × MayMeet (clause_scheme l.owner) l.met (literals_size (later l.literals l.i))
+    → Flattens (g.T.SymTable.pairs l.table) (clause_scheme l.owner l.first) (walk_state l.met l.cells.items) new (literals_piece (later l.literals l.i))
+    → Flattens (g.T.SymTable.pairs l.table) (clause_scheme l.owner l.first) (walk_state l.fn.met l.fn.cells.items) new (literals_piece (map literal_of l.literals)))
+    × MayMeet (clause_scheme l.owner l.first) l.met (literals_size (later l.literals l.i))

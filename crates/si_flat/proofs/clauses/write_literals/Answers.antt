@@ -25,8 +25,8 @@ loop-i-preserved c =
     let here = walk_state c.loop-i.met c.loop-i.cells.items in
     let next = walk_state c.write_term.new.met c.write_term.new.cells.items in
     let room : MayMeet (clause_scheme c.args.owner) c.loop-i.met (literal_size l + literals_size rest) = subst (λ ls. MayMeet (clause_scheme c.args.owner) c.loop-i.met (literals_size ls)) split c.loop-i.invariant.1 in (
-      λ new h. c.loop-i.invariant.0 new (subst (λ ls. Flattens [] (clause_scheme c.args.owner) here new (literals_piece ls)) (sym split) (literals_more c.args.owner here next new l rest c.in_ok-write_term.ensures h)),
-      room_left c.args.owner c.loop-i.met c.write_term.new.met c.loop-i.cells.items c.write_term.new.cells.items l (literals_size rest) room c.in_ok-write_term.ensures,
+      λ new h. c.loop-i.invariant.0 new (subst (λ ls. Flattens [] (clause_scheme c.args.owner) here new (literals_piece ls)) (sym split) (literals_more c.args.owner here next new l rest c.in_ok-write_term.ensures.flat h)),
+      room_left c.args.owner c.loop-i.met c.write_term.new.met c.loop-i.cells.items c.write_term.new.cells.items l (literals_size rest) room c.in_ok-write_term.ensures.flat,
     )
 
 pub returns : goal.returns

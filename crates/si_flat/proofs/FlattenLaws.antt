@@ -45,16 +45,16 @@ sound_whole n v (entries.literal_entry l) h = sound_atom n v l.atom h.0
 sound_whole n v (entries.term_entry t) h = sound_numbered n v t h.0
 
 -- ---- variables
-variables-whole : (e : entries.Entry) → terms.variables (whole_of e) ≡ entries.entry_variables e
-variables-whole (entries.literal_entry l) = refl
-variables-whole (entries.term_entry t) = refl
+pub variables_whole : (e : entries.Entry) → terms.variables (whole_of e) ≡ entries.entry_variables e
+variables_whole (entries.literal_entry l) = refl
+variables_whole (entries.term_entry t) = refl
 
 -- ---- what was written
 pub extra_written : (pairs : Numbering) (owner : Owner) (e : entries.Entry) (w : WrittenEntry) → WritesEntry pairs owner e w → met_extra w.met ≡ terms.firsts same_symbol (unnumbered pairs (terms.symbols (whole_of e)))
 extra_written pairs owner e w h = h.extra ∙ inserted-firsts same_symbol symbol-Decides (unnumbered pairs (terms.symbols (whole_of e)))
 
-names_written : (pairs : Numbering) (owner : Owner) (e : entries.Entry) (w : WrittenEntry) → WritesEntry pairs owner e w → met_names w.met ≡ terms.firsts bytes_eq (entries.entry_variables e)
-names_written pairs owner e w h = h.names ∙ inserted-firsts bytes_eq bytes_eq-Decides (terms.variables (whole_of e)) ∙ ap (terms.firsts bytes_eq) (variables-whole e)
+pub names_written : (pairs : Numbering) (owner : Owner) (e : entries.Entry) (w : WrittenEntry) → WritesEntry pairs owner e w → met_names w.met ≡ terms.firsts bytes_eq (entries.entry_variables e)
+names_written pairs owner e w h = h.names ∙ inserted-firsts bytes_eq bytes_eq-Decides (terms.variables (whole_of e)) ∙ ap (terms.firsts bytes_eq) (variables_whole e)
 
 cells_written : (pairs : Numbering) (owner : Owner) (e : entries.Entry) (w : WrittenEntry) → WritesEntry pairs owner e w → w.cells.items ≡ cells_of (numbered_entry (pairs ++ extra_numbers (met_extra w.met)) (owners_variable owner) e)
 cells_written pairs owner e w h =

@@ -1,6 +1,7 @@
 -- The place of a member that was inserted.
-use Rattle.std.proofs.Common.{◌≡◌, ◌+◌, Bool, true, false, cond, not, ◌||◌, List, [], ◌∷◌, ◌++◌, refl, ap, ◌∙◌, Decides}
+use Rattle.std.proofs.Common.{◌≡◌, ◌+◌, Bool, true, false, cond, not, ◌||◌, List, [], ◌∷◌, ◌++◌, refl, ap, ◌∙◌, Decides, sym, ℕ, Some, None}
 use Rattle.std.specs.List.{list_any, position_or_len}
+use Rattle.std.proofs.lemmas.Option.{same_Some, none-some}
 use Rattle.indexmap.specs.IndexSet.{insert_key}
 use Rattle.si_term.proofs.Inserted.{swapped}
 use Rattle.si_flat.specs.Numbered.{place_in}
@@ -22,3 +23,8 @@ module _ {V : Type 0} (same : V → V → Bool) (decides : (x y : V) → Decides
             → cond b 0 (1 + place_in same (cond (b || k) known (known ++ x ∷ []) ++ more) x) ≡ cond (not b) (1 + position_or_len (same x) known) 0
         by true k h = refl
         by false k h = ap (λ n. 1 + n) h
+
+-- the place that a look for one gives
+pub found_place : (b : Bool) (n place : ℕ) → Some place ≡ cond b (Some n) None → place ≡ n
+found_place true n place e = same_Some place n e
+found_place false n place e = absurd (none-some place (sym e))

@@ -1,10 +1,11 @@
 -- Names of which the first few are compared one by one, and the others are in a set.
-use Rattle.std.proofs.Common.{◌≡◌, ℕ, suc, ◌+◌, ◌≤◌, ◌<◌, Bool, true, false, true≢false, cond, not, ◌||◌, List, [], ◌∷◌, ◌++◌, length, take, drop, get_or, Some, refl, ap, sym, ◌∙◌, arith, length-append}
+use Rattle.std.proofs.Common.{◌≡◌, ℕ, suc, ◌+◌, ◌≤◌, ◌<◌, Bool, true, false, true≢false, cond, not, ◌||◌, List, [], ◌∷◌, ◌++◌, length, take, drop, get_or, Some, refl, ap, subst, sym, ◌∙◌, arith, length-append}
 use Rattle.std.specs.Prelude.{bytes_eq}
 use Rattle.std.specs.List.{list_any, position_or_len}
-use Rattle.std.proofs.lemmas.List.{map-append, drop_more, drop_all, take-append-drop, length-take-le}
+use Rattle.std.proofs.lemmas.List.{map-append, length-map, drop_more, drop_all, take-append-drop, length-take-le}
 use Rattle.std.proofs.lemmas.List.Folds.{list_any-append}
 use Rattle.indexmap.specs.IndexSet.{insert_key}
+use Rattle.si_flat.specs.Rooms.{GatheredNames, names_room}
 use Rattle.si_flat.specs.Flattening.{FindsPlace}
 use Rattle.si_term.proofs.Inserted.{Lent, lent_eq, shown, any-shown, place-shown}
 
@@ -40,7 +41,7 @@ module _ {V : Type 0} (p : V → Bool) where
   pub left_none : (xs : List V) (i : ℕ) → length xs ≤ i → IsLeft xs i → list_any p xs ≡ false
   left_none xs i ended left = left.any ∙ ap (list_any p) (drop_all i xs ended)
 
-  none_behind : (xs : List V) → list_any p xs ≡ false → position_or_len p xs ≡ length xs
+  pub none_behind : (xs : List V) → list_any p xs ≡ false → position_or_len p xs ≡ length xs
   none_behind [] h = refl
   none_behind (x ∷ xs) h = by (p x) h (none_behind xs) where
     by : (b : Bool) → (b || list_any p xs) ≡ false → (list_any p xs ≡ false → position_or_len p xs ≡ length xs)
@@ -99,6 +100,17 @@ module _ (names : List Lent) (x : Lent) where
     sym (none_behind (lent_eq x) names none) ∙ place_is,
   )
 
+-- a new name for which there is no room
+pub name_refused : (names : List Lent) (x : Lent) (spare : ℕ) (n : GatheredNames)
+    → record { items = shown names; spare = spare } ≡ n
+    → list_any (lent_eq x) names ≡ false
+    → spare ≤ 0
+    → names_room n < length (insert_key bytes_eq n.items x.now)
+name_refused names x spare n is none full =
+    let longer : length (insert_key bytes_eq (shown names) x.now) ≡ length names + 1 =
+    ap length (sym (new_name names x none).0) ∙ length-map (names ++ x ∷ []) (λ k. k.now) ∙ length-append names (x ∷ []) in
+    subst (λ (m : GatheredNames). names_room m < length (insert_key bytes_eq m.items x.now)) is (omega (arith, longer, length-map names (λ k. k.now), full))
+
 -- a name that isn't among the first few: the others are in a set
 module _ (names : List Lent) (x : Lent) (few : ℕ) (long : few ≤ length names) (other : list_any (lent_eq x) (take few names) ≡ false) where
   parts : take few names ++ drop few names ≡ names
@@ -120,3 +132,9 @@ module _ (names : List Lent) (x : Lent) (few : ℕ) (long : few ≤ length names
 
   pub later_new : list_any (lent_eq x) (drop few names) ≡ false → shown (names ++ x ∷ []) ≡ insert_key bytes_eq (shown names) x.now
   later_new none = (new_name names x (later.0 ∙ none)).0
+
+  pub later_none : list_any (lent_eq x) (drop few names) ≡ false → list_any (lent_eq x) names ≡ false
+  later_none none = later.0 ∙ none
+
+  pub later_behind : list_any (lent_eq x) (drop few names) ≡ false → length names ≡ position_or_len (bytes_eq x.now) (shown names)
+  later_behind none = (new_name names x (later.0 ∙ none)).1

@@ -82,7 +82,7 @@ room_symbol pairs scheme old new s k room names extra = record {
 }
 
 -- ---- one after the other
-unnumbered-append : (pairs : Numbering) (ss rs : List Symbol) → unnumbered pairs (ss ++ rs) ≡ unnumbered pairs ss ++ unnumbered pairs rs
+pub unnumbered-append : (pairs : Numbering) (ss rs : List Symbol) → unnumbered pairs (ss ++ rs) ≡ unnumbered pairs ss ++ unnumbered pairs rs
 unnumbered-append pairs [] rs = refl
 unnumbered-append pairs (s ∷ ss) rs = by (has_number pairs s) (unnumbered-append pairs ss rs) where
   by : (b : Bool) → unnumbered pairs (ss ++ rs) ≡ unnumbered pairs ss ++ unnumbered pairs rs

@@ -1,5 +1,5 @@
 -- What the flat terms of entries and of patterns stand for.
-use Rattle.std.specs.Prelude.{◌≡◌, ℕ, zero, suc, ◌+◌, ◌*◌, ◌^◌, ◌≤◌, Bool, true, false, not, ◌||◌, List, [], ◌∷◌, ◌++◌, map, filter, bytes_eq, Option, Some, None}
+use Rattle.std.specs.Prelude.{◌≡◌, ℕ, zero, suc, ◌+◌, ◌*◌, ◌^◌, ◌≤◌, Bool, true, false, not, ◌||◌, List, [], ◌∷◌, ◌++◌, length, map, filter, bytes_eq, Option, Some, None}
 use Rattle.si_defs.specs.Bytes.{Bytes}
 use Rattle.si_defs.specs.Terms.{size, variables, symbols, firsts}
 use Rattle.si_defs.specs.Symbols.{Symbol, Numbering, IsNumbering, same_symbol}
@@ -12,6 +12,8 @@ use Rattle.si_term.specs.Terms.{symbol_of}
 use Rattle.si_term.specs.declared.term.Sym.{Sym}
 use Rattle.si_flat.specs.declared.Cell.{Cell}
 use Rattle.si_flat.specs.declared.flatten.FlatQuery.{FlatQuery}
+use Rattle.si_flat.specs.declared.walk.TheConstants.{FEW_CELLS}
+use Rattle.si_flat.specs.Rooms.{Room}
 use Rattle.si_flat.specs.Cells.{Variable, query, entry, same_variable, Term, StandsFor}
 use Rattle.si_flat.specs.Numbered.{number_in, signed, place_in, numbered}
 
@@ -93,6 +95,21 @@ pub record HoldsEntry (pairs : Numbering) (e : Entry) (cells : List Cell)
 abbrev pub FillsEntry : Numbering → Entry → List Cell → List Bytes → Bool → Type 0
 FillsEntry pairs e cells names false = unnumbered pairs (symbols (whole_of e)) ≡ [] → ⊥
 FillsEntry pairs e cells names true = HoldsEntry pairs e cells names
+
+-- what a buffer shows
+pub record Buffer : Type 0 where
+  pub cells : List Cell
+  pub names : List Bytes
+  pub room : Room
+
+-- The room is enough for the entry's cells, and for a few at least; for its variables, and for its
+-- symbols that have no number, each once.
+pub record IsEnoughFor (pairs : Numbering) (e : Entry) (room : Room) : Type 0 where
+  pub few : FEW_CELLS ≤ room.cells
+  pub cells : size (whole_of e) ≤ room.cells
+  pub names : length (distinct_variables e) ≤ room.names
+  pub symbols : length (firsts same_symbol (unnumbered pairs (symbols (whole_of e))))
+      ≤ room.symbols
 
 -- a table's pairs, and then those of the symbols that it lacks
 abbrev pub query_numbers : Numbering → List Sym → Numbering

@@ -1,7 +1,7 @@
 -- What a walk over terms of the program has met and written.
 use Rattle.std.specs.Prelude.{◌≡◌, ℕ, ◌+◌, ◌*◌, ◌^◌, ◌<◌, ◌≤◌, Bool, true, false, List, [], ◌++◌, length, map, Option, None, Some, bytes_eq}
 use Rattle.std.specs.List.{list_any, position_or_len}
-use Rattle.indexmap.specs.IndexSet.{insert_all}
+use Rattle.indexmap.specs.IndexSet.{index_set_len, insert_all, spare}
 use Rattle.si_defs.specs.Bytes.{Bytes}
 use Rattle.si_defs.specs.Terms as terms
 use Rattle.si_defs.specs.Symbols.{Symbol, Numbering, same_symbol}
@@ -17,6 +17,7 @@ use Rattle.si_flat.specs.declared.met.Met.{Met}
 use Rattle.si_flat.specs.declared.met.SymbolKey.{SymbolKey}
 use Rattle.si_flat.specs.Cells.{Variable, query, entry, cells_of, cells_of_all}
 use Rattle.si_flat.specs.Flattened.{numbers_from, unnumbered, is_positive, whole_of}
+use Rattle.si_flat.specs.Rooms.{Room, names_room}
 use Rattle.si_flat.specs.Numbered.{number_in, signed, place_in, numbered, all_numbered}
 
 -- ---- a walk over terms that has met some variables and symbols, and has written some cells
@@ -28,10 +29,18 @@ abbrev pub symbol_of_key : SymbolKey → Symbol
 symbol_of_key k = record { kind = k.kind; text = k.text.now; side = k.side; arity = k.arity }
 
 abbrev pub met_names : Met → List Bytes
-met_names m = m.names
+met_names m = m.names.items
 
 abbrev pub met_extra : Met → List Symbol
 met_extra m = map symbol_of_key m.extra.keys
+
+-- how much fits in its memory, and in a list of cells that has room for so many
+abbrev pub room_of : Met → ℕ → Room
+room_of m cells = record {
+  cells = cells;
+  names = names_room m.names;
+  symbols = index_set_len m.extra + spare m.extra;
+}
 
 -- it may meet so many more, and there are numbers for them
 pub record MayMeet (scheme : Scheme) (m : Met) (n : ℕ) : Type 0 where
@@ -104,6 +113,14 @@ pub record Flattens (pairs : Numbering) (scheme : Scheme) (old new : WalkState)
       ++ piece.cells
       (number_by pairs scheme (new.extra ++ ss))
       (λ x. owners_variable scheme.owner (place_in bytes_eq (new.names ++ xs) x))
+
+-- Once so many cells are written, and what is met is met, there is no more than fits.
+pub record Fits (pairs : Numbering) (room : Room) (old : WalkState) (piece : WalkPiece)
+    (size : ℕ) : Type 0 where
+  pub cells : length old.cells + size ≤ room.cells
+  pub names : length (insert_all bytes_eq old.names piece.variables) ≤ room.names
+  pub symbols : length (insert_all same_symbol old.extra (unnumbered pairs piece.symbols))
+      ≤ room.symbols
 
 -- ---- an entry by itself
 abbrev pub empty_walk : WalkState

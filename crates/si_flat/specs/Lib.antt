@@ -1,4 +1,5 @@
 pub mod Cells
+pub mod Rooms
 pub mod Numbered
 pub mod Flattened
 pub mod Flattening

@@ -1,8 +1,9 @@
 // Entries and patterns as flat terms.
-ghost use Rattle.std.specs.Prelude.{◌≡◌, [], IfOk, map};
+ghost use Rattle.std.specs.Prelude.{◌≡◌, [], IfOk, OnOk, OnErr, map};
 ghost use Rattle.si_defs.specs.Clauses.{IsSoundPattern};
 ghost use Rattle.si_term.specs.Meaning.{entry_of, pattern_of};
-ghost use Rattle.si_flat.specs.Flattened.{IsSoundEntry, FillsEntry, FlattensEntry, FlattensPattern};
+ghost use Rattle.si_flat.specs.Rooms.{IsNoLess};
+ghost use Rattle.si_flat.specs.Flattened.{IsSoundEntry, IsEnoughFor, FillsEntry, FlattensEntry, FlattensPattern};
 
 use crate::walk::WrittenEntry;
 use crate::{Cell, Flat, Owner};
@@ -58,28 +59,32 @@ pub fn flatten_pattern<T: SymTable>(
     })
 }
 
-/// Memory in which entries are made flat one after the other: for scans. It keeps what it grew to,
-/// so a call that needs no more takes no memory. Contracts see the cells and the names.
+/// Memory in which entries are made flat one after the other: for scans. Contracts see the cells and
+/// the names, and how much fits in the memory that it grew to.
 #[derive(Drop)]
 pub struct EntryBuffer<'a> {
     written: WrittenEntry<'a>,
 }
 
 impl<'a> Model for EntryBuffer<'a> {
-    ghost use Rattle.std.specs.Prelude.{List};
-    ghost use Rattle.si_defs.specs.Bytes.{Bytes};
-    ghost use Rattle.si_flat.specs.declared.Cell.{Cell};
-    ghost use Rattle.si_flat.specs.Flattening.{met_names};
+    ghost use Rattle.std.specs.Prelude.{vec_capacity};
+    ghost use Rattle.si_flat.specs.Flattened.{Buffer};
+    ghost use Rattle.si_flat.specs.Flattening.{met_names, room_of};
 
-    ghost Value = { List Cell × List Bytes };
+    ghost Value = { Buffer };
 
-    ghost view = { λ b. (b.written.cells.items, met_names b.written.met) };
+    ghost view = { λ b. record {
+      cells = b.written.cells.items;
+      names = met_names b.written.met;
+      room = room_of b.written.met (vec_capacity b.written.cells);
+    } };
 }
 
 impl<'a> EntryBuffer<'a> {
     /// An empty buffer. It takes no memory.
     pub fn new(alloc: Global) -> EntryBuffer<'a>
-        ensures { result ≡ ([], []) }
+        ensures cells { result.cells ≡ [] }
+        ensures names { result.names ≡ [] }
     {
         EntryBuffer {
             written: WrittenEntry::new(alloc),
@@ -88,27 +93,43 @@ impl<'a> EntryBuffer<'a> {
 
     /// Puts the flat term of an entry in place of what the buffer held: the cells that
     /// [`flatten_entry`] gives, and the names of the entry's variables in the order of their
-    /// numbers. It tells whether the table has each of the symbols. Where it lacks one, and behind
-    /// an error, what the buffer shows is no entry's; the next call puts one in its place.
+    /// numbers. It tells whether the table has each of the symbols. Where it lacks one, what the
+    /// buffer shows is no entry's.
+    ///
+    /// # Errors
+    ///
+    /// `AllocError` where there is no memory, but never where what the buffer grew to is enough for
+    /// the entry, as it is once the entry was filled in. The buffer is empty then.
     pub fn fill<T: SymTable>(&mut self, table: &T, entry: Entry<'a>) -> Result<bool, AllocError>
         requires { IsSoundEntry (entry_of entry) }
-        ensures { IfOk result (FillsEntry (T.pairs table.now) (entry_of entry.entry) self.new.0
-            self.new.1) }
+        ensures filled { IfOk result (FillsEntry (T.pairs table.now) (entry_of entry.entry)
+            self.new.cells self.new.names) }
+        ensures err { OnErr result ((self.new.cells ≡ []) × (self.new.names ≡ [])) }
+        ensures full { OnErr result (IsEnoughFor (T.pairs table.now) (entry_of entry.entry)
+            self.old.room → ⊥) }
+        ensures enough { OnOk result (IsEnoughFor (T.pairs table.now) (entry_of entry.entry)
+            self.new.room) }
+        ensures keeps { IsNoLess self.old.room self.new.room }
     {
-        self.written.write(table, Owner::Entry, entry)?;
-        Ok(!self.written.met.has_extra())
+        match self.written.write(table, Owner::Entry, entry) {
+            Ok(()) => Ok(!self.written.met.has_extra()),
+            Err(refused) => {
+                self.written.clear();
+                Err(refused)
+            }
+        }
     }
 
     /// The cells.
     pub fn cells(&self) -> &[Cell]
-        ensures { result.now ≡ self.now.0 }
+        ensures { result.now ≡ self.now.cells }
     {
         self.written.cells.as_slice()
     }
 
     /// The names of the variables, in the order of their numbers.
     pub fn names(&self) -> &[&'a [u8]]
-        ensures { map (λ name. name.now) result.now ≡ self.now.1 }
+        ensures { map (λ name. name.now) result.now ≡ self.now.names }
     {
         self.written.met.names()
     }

@@ -1,12 +1,13 @@
 // The variables and symbols that a walk has met.
-ghost use Rattle.std.specs.Prelude.{◌≡◌, ◌<◌, ◌≤◌, ◌+◌, ◌-◌, ◌*◌, ◌^◌, ◌↔◌, [], ◌∷◌, IfOk, OnOk, IsFalse, length, map, cond, bytes_eq};
+ghost use Rattle.std.specs.Prelude.{◌≡◌, ◌<◌, ◌≤◌, ◌+◌, ◌-◌, ◌*◌, ◌^◌, ◌↔◌, [], ◌∷◌, IfOk, OnOk, OnErr, IsFalse, length, map, cond, bytes_eq};
 ghost use Rattle.indexmap.specs.IndexSet.{insert_all};
 ghost use Rattle.si_defs.specs.Symbols.{same_symbol};
 ghost use Rattle.si_defs.specs.declared.TheConstants.{MOST_OCCURRENCES};
 ghost use Rattle.si_term.specs.Terms.{symbol_of};
 ghost use Rattle.si_flat.specs.Numbered.{one_above};
 ghost use Rattle.si_flat.specs.Flattened.{unnumbered};
-ghost use Rattle.si_flat.specs.Flattening.{met_names, symbol_of_key, met_extra, IsIndex, IsSymbolNumber};
+ghost use Rattle.si_flat.specs.Rooms.{IsNoLess};
+ghost use Rattle.si_flat.specs.Flattening.{met_names, symbol_of_key, met_extra, room_of, IsIndex, IsSymbolNumber};
 
 use crate::names::NameSet;
 use crate::walk::Scheme;
@@ -71,10 +72,11 @@ impl<'a> Met<'a> {
         self.names.clear();
     }
 
-    // Forgets all.
+    // Forgets all, and keeps the room.
     pub(crate) fn clear(&mut self)
         ensures names { met_names self.new ≡ [] }
         ensures extra { met_extra self.new ≡ [] }
+        ensures keeps { IsNoLess (room_of self.old 0) (room_of self.new 0) }
     {
         self.names.clear();
         if self.has_extra() {
@@ -114,6 +116,9 @@ impl<'a> Met<'a> {
             ≡ insert_all bytes_eq (met_names self.old) (name.now ∷ [])) }
         ensures extra { OnOk result (met_extra self.new ≡ met_extra self.old) }
         ensures number { IfOk result (λ n. IsIndex bytes_eq (met_names self.new) name.now n) }
+        ensures full { OnErr result ((room_of self.old 0).names
+            < length (insert_all bytes_eq (met_names self.old) (name.now ∷ []))) }
+        ensures keeps { IsNoLess (room_of self.old 0) (room_of self.new 0) }
     {
         let number = self.names.insert(name)?;
         Ok(number as u32)
@@ -133,6 +138,10 @@ impl<'a> Met<'a> {
             (unnumbered (T.pairs table.now) (symbol_of symbol.now ∷ []))) }
         ensures number { IfOk result (IsSymbolNumber (T.pairs table.now) scheme
             (met_extra self.new) (symbol_of symbol.now)) }
+        ensures full { OnErr result ((room_of self.old 0).symbols
+            < length (insert_all same_symbol (met_extra self.old)
+            (unnumbered (T.pairs table.now) (symbol_of symbol.now ∷ [])))) }
+        ensures keeps { IsNoLess (room_of self.old 0) (room_of self.new 0) }
     {
         match table.id_of(symbol) {
             Some(number) => Ok(with_sign(number, scheme.positive, symbol.side)),
@@ -143,7 +152,8 @@ impl<'a> Met<'a> {
         }
     }
 
-    // The place of a symbol among those outside the table.
+    // The place of a symbol among those outside the table. Only a new one may be refused, and only
+    // where there is no room for it.
     fn outside(&mut self, symbol: &'a Sym) -> Result<u32, AllocError>
         requires { length (met_extra self.old) < 2 ^ 31 }
         ensures names { OnOk result (met_names self.new ≡ met_names self.old) }
@@ -152,13 +162,21 @@ impl<'a> Met<'a> {
         ensures place { IfOk result (λ n. IsIndex same_symbol (met_extra self.new)
             (symbol_of symbol.now) n) }
         ensures small { IfOk result (λ n. n ≤ length (met_extra self.old)) }
+        ensures full { OnErr result ((room_of self.old 0).symbols
+            < length (insert_all same_symbol (met_extra self.old) (symbol_of symbol.now ∷ []))) }
+        ensures keeps { IsNoLess (room_of self.old 0) (room_of self.new 0) }
     {
-        let (place, _) = self.extra.insert_full(SymbolKey {
+        let key = SymbolKey {
             kind: symbol.kind,
             side: symbol.side,
             arity: symbol.arity,
             text: symbol.text.as_bytes(),
-        })?;
+        };
+        if let Some(place) = self.extra.get_index_of(&key) {
+            return Ok(place as u32);
+        }
+        let place = self.extra.len();
+        self.extra.insert(key)?;
         Ok(place as u32)
     }
 }

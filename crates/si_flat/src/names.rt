@@ -1,7 +1,8 @@
 // Names, each once.
-ghost use Rattle.std.specs.Prelude.{◌≡◌, ◌≤◌, [], IfOk, OnOk, length, map, bytes_eq};
+ghost use Rattle.std.specs.Prelude.{◌≡◌, ◌<◌, ◌≤◌, [], IfOk, OnOk, OnErr, length, map, bytes_eq};
 ghost use Rattle.std.specs.List.{position_or_len};
 ghost use Rattle.indexmap.specs.IndexSet.{insert_key};
+ghost use Rattle.si_flat.specs.Rooms.{names_room};
 ghost use Rattle.si_flat.specs.Flattening.{FindsPlace};
 
 use indexmap::IndexSet;
@@ -21,20 +22,25 @@ pub(crate) struct NameSet<'a> {
 }
 
 impl<'a> Model for NameSet<'a> {
-    ghost use Rattle.std.specs.Prelude.{◌≡◌, List, map, drop};
-    ghost use Rattle.si_defs.specs.Bytes.{Bytes};
+    ghost use Rattle.std.specs.Prelude.{◌≡◌, ◌+◌, ◌-◌, min, map, drop, length, vec_capacity};
+    ghost use Rattle.indexmap.specs.IndexSet.{spare as set_spare};
     ghost use Rattle.si_flat.specs.declared.names.TheConstants.{FEW};
+    ghost use Rattle.si_flat.specs.Rooms.{GatheredNames};
 
-    ghost Value = { List Bytes };
+    ghost Value = { GatheredNames };
 
-    ghost view = { λ n. map (λ name. name.now) n.all.items };
+    ghost view = { λ n. record {
+      items = map (λ name. name.now) n.all.items;
+      spare = min (vec_capacity n.all - length n.all.items)
+          ((FEW - length n.all.items) + set_spare n.hashed);
+    } };
 
     ghost invariant = { λ n. n.hashed.keys ≡ drop FEW n.all.items };
 }
 
 impl<'a> NameSet<'a> {
     pub(crate) fn new(alloc: Global) -> NameSet<'a>
-        ensures { result ≡ [] }
+        ensures { result.items ≡ [] }
     {
         NameSet {
             all: Vec::new(alloc),
@@ -42,9 +48,10 @@ impl<'a> NameSet<'a> {
         }
     }
 
-    // Forgets all.
+    // Forgets all, and keeps the room.
     pub(crate) fn clear(&mut self)
-        ensures { self.new ≡ [] }
+        ensures items { self.new.items ≡ [] }
+        ensures keeps { names_room self.old ≤ names_room self.new }
     {
         if self.all.len() > FEW {
             self.hashed.clear();
@@ -54,16 +61,22 @@ impl<'a> NameSet<'a> {
 
     // The names.
     pub(crate) fn as_slice(&self) -> &[&'a [u8]]
-        ensures { map (λ name. name.now) result.now ≡ self.now }
+        ensures { map (λ name. name.now) result.now ≡ self.now.items }
     {
         self.all.as_slice()
     }
 
-    // The place of a name, which is put behind the others where it isn't among them.
+    // The place of a name, which is put behind the others where it isn't among them. Only a new
+    // name may be refused, and only where there is no room for it.
     pub(crate) fn insert(&mut self, name: &'a [u8]) -> Result<usize, AllocError>
-        ensures names { OnOk result (self.new ≡ insert_key bytes_eq self.old name.now) }
-        ensures place { IfOk result (λ n. n ≡ position_or_len (bytes_eq name.now) self.old) }
-        ensures within { IfOk result (λ n. n ≤ length self.old) }
+        ensures names { OnOk result (self.new.items
+            ≡ insert_key bytes_eq self.old.items name.now) }
+        ensures place { IfOk result (λ n. n
+            ≡ position_or_len (bytes_eq name.now) self.old.items) }
+        ensures within { IfOk result (λ n. n ≤ length self.old.items) }
+        ensures full { OnErr result (names_room self.old
+            < length (insert_key bytes_eq self.old.items name.now)) }
+        ensures keeps { names_room self.old ≤ names_room self.new }
     {
         let count = self.all.len();
         if count < FEW {
@@ -76,12 +89,13 @@ impl<'a> NameSet<'a> {
         if let Some(place) = place_among(&self.all[..FEW], name) {
             return Ok(place);
         }
-        self.all.reserve(1)?;
-        let (place, is_new) = self.hashed.insert_full(name)?;
-        if is_new {
-            self.all.push_reserved(name);
+        if let Some(place) = self.hashed.get_index_of(&name) {
+            return Ok(FEW + place);
         }
-        Ok(FEW + place)
+        self.all.reserve(1)?;
+        self.hashed.insert(name)?;
+        self.all.push_reserved(name);
+        Ok(count)
     }
 }
 

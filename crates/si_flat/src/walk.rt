@@ -1,13 +1,14 @@
 // A walk over a term of the program, which writes its cells.
-ghost use Rattle.std.specs.Prelude.{◌≡◌, ◌<◌, ◌≤◌, ◌-◌, ◌^◌, [], OnOk, length, map, slice_set};
+ghost use Rattle.std.specs.Prelude.{◌≡◌, ◌<◌, ◌≤◌, ◌-◌, ◌^◌, [], OnOk, OnErr, length, map, slice_set, vec_capacity};
 ghost use Rattle.si_defs.specs.Terms.{row, size, sizes};
 ghost use Rattle.si_defs.specs.declared.TheConstants.{MOST_OCCURRENCES};
 ghost use Rattle.si_term.specs.Terms.{term_of};
 ghost use Rattle.si_term.specs.Meaning.{entry_of};
 ghost use Rattle.si_flat.specs.declared.Cell.TheVariants.{App};
 ghost use Rattle.si_flat.specs.Cells.{variable_cell};
-ghost use Rattle.si_flat.specs.Flattened.{whole_of};
-ghost use Rattle.si_flat.specs.Flattening.{owners_variable, met_names, walk_state, MayMeet, Flattens, WritesEntry, term_piece, terms_piece};
+ghost use Rattle.si_flat.specs.Rooms.{IsNoLess};
+ghost use Rattle.si_flat.specs.Flattened.{whole_of, is_positive, IsEnoughFor};
+ghost use Rattle.si_flat.specs.Flattening.{owners_variable, met_names, met_extra, room_of, walk_state, MayMeet, Flattens, Fits, WritesEntry, term_piece, terms_piece};
 
 use crate::met::{FIRST_EXTRA, Met};
 use crate::{Cell, Owner};
@@ -46,6 +47,18 @@ impl<'a> WrittenEntry<'a> {
         }
     }
 
+    // Forgets what was met and written, and keeps the room.
+    pub(crate) fn clear(&mut self)
+        ensures names { met_names self.new.met ≡ [] }
+        ensures extra { met_extra self.new.met ≡ [] }
+        ensures cells { self.new.cells.items ≡ [] }
+        ensures keeps { IsNoLess (room_of self.old.met (vec_capacity self.old.cells))
+            (room_of self.new.met (vec_capacity self.new.cells)) }
+    {
+        self.met.clear();
+        self.cells.clear();
+    }
+
     // Writes the cells of an entry, in place of what was written.
     pub(crate) fn write<T: SymTable>(
         &mut self,
@@ -54,22 +67,33 @@ impl<'a> WrittenEntry<'a> {
         entry: Entry<'a>,
     ) -> Result<(), AllocError>
         requires { size (whole_of (entry_of entry)) ≤ MOST_OCCURRENCES }
-        ensures { OnOk result (WritesEntry (T.pairs table.now) owner (entry_of entry.entry)
+        ensures flat { OnOk result (WritesEntry (T.pairs table.now) owner (entry_of entry.entry)
             self.new) }
+        ensures full { OnErr result (IsEnoughFor (T.pairs table.now) (entry_of entry.entry)
+            (room_of self.old.met (vec_capacity self.old.cells)) → ⊥) }
+        ensures enough { OnOk result (IsEnoughFor (T.pairs table.now) (entry_of entry.entry)
+            (room_of self.new.met (vec_capacity self.new.cells))) }
+        ensures keeps { IsNoLess (room_of self.old.met (vec_capacity self.old.cells))
+            (room_of self.new.met (vec_capacity self.new.cells)) }
     {
-        let (positive, term) = match entry {
-            Entry::Lit(literal) => (literal.positive, &literal.atom),
-            Entry::Sub(term) => (true, term),
-        };
         let scheme = Scheme {
-            positive,
+            positive: is_positive(entry),
             owner,
             first: FIRST_EXTRA,
         };
-        self.met.clear();
-        self.cells.clear();
+        self.clear();
         self.cells.reserve(FEW_CELLS)?;
-        write_term(table, scheme, term, &mut self.met, &mut self.cells)
+        write_term(table, scheme, entry.whole(), &mut self.met, &mut self.cells)
+    }
+}
+
+// Whether it is a positive literal, or a term by itself.
+fn is_positive(entry: Entry<'_>) -> bool
+    ensures { result ≡ is_positive (entry_of entry.entry) }
+{
+    match entry {
+        Entry::Lit(literal) => literal.positive,
+        Entry::Sub(_) => true,
     }
 }
 
@@ -95,8 +119,14 @@ pub(crate) fn write_term<'a, T: SymTable>(
     cells: &mut Vec<Cell>,
 ) -> Result<(), AllocError>
     requires room { MayMeet scheme met.old (size (term_of term.now)) }
-    ensures { OnOk result (Flattens (T.pairs table.now) scheme (walk_state met.old cells.old.items)
-        (walk_state met.new cells.new.items) (term_piece (term_of term.now))) }
+    ensures flat { OnOk result (Flattens (T.pairs table.now) scheme
+        (walk_state met.old cells.old.items) (walk_state met.new cells.new.items)
+        (term_piece (term_of term.now))) }
+    ensures full { OnErr result (Fits (T.pairs table.now)
+        (room_of met.old (vec_capacity cells.old)) (walk_state met.old cells.old.items)
+        (term_piece (term_of term.now)) (size (term_of term.now)) → ⊥) }
+    ensures keeps { IsNoLess (room_of met.old (vec_capacity cells.old))
+        (room_of met.new (vec_capacity cells.new)) }
 {
     match term {
         Term::Var(name) => {
@@ -124,8 +154,9 @@ pub(crate) fn write_term<'a, T: SymTable>(
 pub(crate) fn close(cells: &mut Vec<Cell>, at: usize, number: u32, arity: u32)
     requires inside { at < length cells.old.items }
     requires short { length cells.old.items - at < 2 ^ 32 }
-    ensures { cells.new.items ≡ slice_set cells.old.items at
+    ensures cells { cells.new.items ≡ slice_set cells.old.items at
         (App number arity (length cells.old.items - at)) }
+    ensures capacity { vec_capacity cells.new ≡ vec_capacity cells.old }
 {
     let len = (cells.len() - at) as u32;
     cells[at] = Cell::App {
@@ -144,8 +175,14 @@ fn write_terms<'a, T: SymTable>(
     cells: &mut Vec<Cell>,
 ) -> Result<(), AllocError>
     requires room { MayMeet scheme met.old (sizes (row (map term_of terms.now))) }
-    ensures { OnOk result (Flattens (T.pairs table.now) scheme (walk_state met.old cells.old.items)
-        (walk_state met.new cells.new.items) (terms_piece (row (map term_of terms.now)))) }
+    ensures flat { OnOk result (Flattens (T.pairs table.now) scheme
+        (walk_state met.old cells.old.items) (walk_state met.new cells.new.items)
+        (terms_piece (row (map term_of terms.now)))) }
+    ensures full { OnErr result (Fits (T.pairs table.now)
+        (room_of met.old (vec_capacity cells.old)) (walk_state met.old cells.old.items)
+        (terms_piece (row (map term_of terms.now))) (sizes (row (map term_of terms.now))) → ⊥) }
+    ensures keeps { IsNoLess (room_of met.old (vec_capacity cells.old))
+        (room_of met.new (vec_capacity cells.new)) }
 {
     for i in 0..terms.len() {
         write_term(table, scheme, &terms[i], met, cells)?;

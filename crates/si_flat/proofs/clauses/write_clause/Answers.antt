@@ -23,4 +23,4 @@ close-requires-clause-short g c =
 pub returns : goal.returns
 returns g c =
     clause_closed (g.T.SymTable.pairs c.args.table.now) c.args.owner c.args.first (walk_state c.args.met.now c.push.new.self.items) (walk_state c.write_literals.new.met c.write_literals.new.cells.items) (cell.App 4294967295 0 1) (map literal_of c.args.literals.now) (c.in_ok-push.ensures.items ∙ λ i. c.requires.empty i ++ cell.App 4294967295 0 1 ∷ []) c.in_ok-write_literals.ensures
-    (walk_state c.args.met.now []) (length c.args.literals.now) (length c.write_literals.new.cells.items - 0) c.close.new.cells.items refl refl refl (sym (length-map c.args.literals.now literal_of)) refl c.close.ensures
+    (walk_state c.args.met.now []) (length c.args.literals.now) (length c.write_literals.new.cells.items - 0) c.close.new.cells.items refl refl refl (sym (length-map c.args.literals.now literal_of)) refl c.close.ensures.cells

@@ -25,8 +25,8 @@ loop-i-preserved g c =
     let here = walk_state c.loop-i.met c.loop-i.cells.items in
     let next = walk_state c.write_term.new.met c.write_term.new.cells.items in
     let room : MayMeet (clause_scheme c.args.owner c.args.first) c.loop-i.met (literal_size l + literals_size rest) = subst (λ ls. MayMeet (clause_scheme c.args.owner c.args.first) c.loop-i.met (literals_size ls)) split c.loop-i.invariant.1 in (
-      λ new h. c.loop-i.invariant.0 new (subst (λ ls. Flattens (g.T.SymTable.pairs c.args.table.now) (clause_scheme c.args.owner c.args.first) here new (literals_piece ls)) (sym split) (literals_more (g.T.SymTable.pairs c.args.table.now) c.args.owner c.args.first here next new l rest c.in_ok-write_term.ensures h)),
-      room_left (g.T.SymTable.pairs c.args.table.now) c.args.owner c.args.first c.loop-i.met c.write_term.new.met c.loop-i.cells.items c.write_term.new.cells.items l (literals_size rest) room c.in_ok-write_term.ensures,
+      λ new h. c.loop-i.invariant.0 new (subst (λ ls. Flattens (g.T.SymTable.pairs c.args.table.now) (clause_scheme c.args.owner c.args.first) here new (literals_piece ls)) (sym split) (literals_more (g.T.SymTable.pairs c.args.table.now) c.args.owner c.args.first here next new l rest c.in_ok-write_term.ensures.flat h)),
+      room_left (g.T.SymTable.pairs c.args.table.now) c.args.owner c.args.first c.loop-i.met c.write_term.new.met c.loop-i.cells.items c.write_term.new.cells.items l (literals_size rest) room c.in_ok-write_term.ensures.flat,
     )
 
 pub returns : goal.returns

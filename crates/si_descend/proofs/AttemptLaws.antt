@@ -27,7 +27,7 @@ use Rattle.si_descend.specs.declared.attempts.Attempts.{Attempts}
 use Rattle.si_descend.specs.declared.heads.Wanted.{Wanted}
 use Rattle.si_descend.specs.declared.search.Search.{Search}
 use Rattle.si_descend.specs.Attempts.{head_at, HasHeadBelow, AreHeadsFor, IsAt, HasRoomForPlaces, IsTried, IsTriedBefore, AreAttempts}
-use Rattle.si_descend.specs.Heads.{IsWanted, RulesOut}
+use Rattle.si_descend.specs.Heads.{SplitsBy, IsWanted, RulesOut}
 use Rattle.si_descend.specs.Searching.{IsReady, HasComeTo, IsClosedAt, HasFound, HasFoundBelow}
 use Rattle.si_descend.proofs.ExactLists.{distinct_both}
 use Rattle.si_descend.proofs.Below.{IsChildOf}
@@ -68,13 +68,18 @@ headed tree (terms.var (ind n)) bare within = bare tt
 
 module _ (search : Search) (ready : IsReady search) (key : ℕ) (node : Node Term) (has : HasNode search.tree.now key node) where
   -- ---- all children in order
-  pub scanned : (children : Bor (List ℕ)) (w : Option Wanted) → AtNode search.tree.now key (λ n. children.now ≡ children_of n.content) → AreAttempts search key (record { children = children; wanted = w; by_head = None; end = length children.now })
-  scanned children w are = record {
+  pub scanned : (children : Bor (List ℕ)) (w : Option Wanted) (pairs : Pairs) → AtNode search.tree.now key (λ n. children.now ≡ children_of n.content) → IsWanted search key pairs w → AreAttempts search key (record { children = children; wanted = w; by_head = None; end = length children.now })
+  scanned children w pairs are wanted = record {
     children = are;
+    splits = splits w wanted;
     room = omega arith;
     one = λ i j child p q e f. one_index children.now i j child distinct e f;
     all = λ child a. inl (some_index children.now child a);
   } where
+    splits : (w : Option Wanted) → IsWanted search key pairs w → SplitsBy search key w
+    splits None wanted = tt
+    splits (Some w) wanted = wanted.0
+
     distinct : AreDistinct children.now
     distinct = subst AreDistinct (sym (are node has)) (siblings search ready key node has).distinct
 
@@ -98,9 +103,10 @@ module _ (search : Search) (ready : IsReady search) (key : ℕ) (node : Node Ter
   ]
 
   -- a child binds the split to a term that has a head, or isn't open
-  pub by_heads : (children : Bor (List ℕ)) (w : Wanted) (end : ℕ) → AtNode search.tree.now key (λ n. children.now ≡ children_of n.content) → AtNode search.tree.now key (λ n. split_of n.content ≡ Some w.split) → AreHeadsFor search.slots search.tree.now.vars w.first end → AreAttempts search key (record { children = children; wanted = Some w; by_head = Some w.first; end = end })
+  pub by_heads : (children : Bor (List ℕ)) (w : Wanted) (end : ℕ) → AtNode search.tree.now key (λ n. children.now ≡ children_of n.content) → AtNode search.tree.now key (λ n. split_of n.content ≡ Some w.split) → AreHeadsFor search.kind search.slots search.tree.now.vars w.first end → AreAttempts search key (record { children = children; wanted = Some w; by_head = Some w.first; end = end })
   by_heads children w end are splits heads = record {
     children = are;
+    splits = splits;
     room = omega (arith, heads.few, ready.legal.few_variables);
     one = λ i j child p q e f. heads.one i j e.0 p q e.1 (f.1 ∙ ap Some (sym (same_child child e.0 f.0 e.2 f.2)));
     all = λ child a. found child (subst (λ l. IsAmong l child) (are node has) a);
@@ -256,11 +262,6 @@ room_for_head children by_head first end place e room less =
 module _ (tree : Tree Term) (key : ℕ) (children : List ℕ) (by_head : Option Cell) (place : ℕ) where
   pub child_here : (d : ℕ) → by_head ≡ None → place < length children → IsAt tree key children by_head place (get_or children place d)
   child_here d e less = subst (λ b. IsAt tree key children b place (get_or children place d)) (sym e) (slice_get-get_or children place d less)
-
-  pub no_other_here : (d child : ℕ) → by_head ≡ None → IsAt tree key children by_head place child → get_or children place d ≡ child
-  no_other_here d child e t =
-      let at : slice_get children place ≡ Some child = subst (λ b. IsAt tree key children b place child) e t in
-      get_or_from_slice_get children place child d at
 
   module _ (first : Cell) (r : Option Head) (is : by_head ≡ Some first) (told : r ≡ head_at first place) where
     pub head_here : (h : Head) (child : ℕ) → r ≡ Some h → IsChildBy tree key h child → IsAt tree key children by_head place child

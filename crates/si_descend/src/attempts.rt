@@ -7,9 +7,9 @@ ghost use Rattle.si_fit.specs.Fitting.{AllowsSolving};
 ghost use Rattle.si_descend.specs.Heads.{IsWanted, RulesOut};
 ghost use Rattle.si_descend.specs.Searching.{IsReady};
 
-use crate::heads::{Wanted, asked_of, is_unwanted};
+use crate::heads::{Wanted, asked_of, is_unwanted, keeps_variables};
 use crate::search::Search;
-use si_flat::Cell;
+use si_flat::{Cell, Kind};
 use si_trail::Trail;
 use si_tree::{Head, NodeId, head_of};
 use si_unify::Slots;
@@ -52,7 +52,7 @@ pub(crate) fn attempts_at<'a>(
     let Some(asked) = wanted else {
         return all;
     };
-    let Some(end) = heads_for(&search.slots, vars, asked.first) else {
+    let Some(end) = heads_for(search.kind, &search.slots, vars, asked.first) else {
         return all;
     };
     if children.len() <= end {
@@ -69,12 +69,12 @@ pub(crate) fn attempts_at<'a>(
 // How many heads can meet a term that begins with this cell, if not all can: its own, and where
 // these can be bound, the variables of an entry.
 #[inline(always)]
-fn heads_for(slots: &Slots, vars: u32, first: Cell) -> Option<usize>
-    ensures { IfSome result (AreHeadsFor slots.now vars first) }
+fn heads_for(kind: Kind, slots: &Slots, vars: u32, first: Cell) -> Option<usize>
+    ensures { IfSome result (AreHeadsFor kind slots.now vars first) }
 {
     let all = 1 + vars as usize;
     match first {
-        Cell::App { .. } => Some(if slots.freeze_entry { 1 } else { all }),
+        Cell::App { .. } => Some(if keeps_variables(kind, slots) { 1 } else { all }),
         Cell::Entry(_) => if slots.freeze_entry { Some(1) } else { None },
         Cell::Query(_) => if slots.freeze_query { Some(all) } else { None },
         Cell::Ind(_) => None,
@@ -99,11 +99,10 @@ pub(crate) fn attempt(
         → RulesOut search.now attempts.entry.wanted child) }
 {
     let Some(first) = attempts.by_head else {
-        let child = attempts.children[place];
-        if is_unwanted(search, attempts.wanted, child) {
+        if is_unwanted(search, attempts.wanted, search.tree.head(node, place)) {
             return None;
         }
-        return Some(child);
+        return Some(attempts.children[place]);
     };
     let Some(head) = head_at(first, place) else {
         return None;

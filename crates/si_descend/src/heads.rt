@@ -3,13 +3,13 @@ ghost use Rattle.std.specs.Prelude.{◌≡◌, ◌↔◌, Some, IsTrue, length};
 ghost use Rattle.si_flat.specs.Cells.{IsWhole};
 ghost use Rattle.si_tree.specs.Reading.{IsNode};
 ghost use Rattle.si_fit.specs.Fitting.{AllowsSolving};
-ghost use Rattle.si_descend.specs.Heads.{first_of, CannotMeet, IsWanted, IsKnownSplit, RulesOut};
+ghost use Rattle.si_descend.specs.Heads.{first_of, CannotHave, IsUnwanted, IsWanted, KeepsVariables};
 
 use crate::search::Search;
 use si_fit::end_of;
-use si_flat::{Bindings, Cell};
+use si_flat::{Cell, Kind};
 use si_trail::Trail;
-use si_tree::NodeId;
+use si_tree::{Head, NodeId};
 use si_unify::Slots;
 
 /// The split of a node, and the first cell of what the trail gives it.
@@ -52,58 +52,47 @@ fn first(cells: &[Cell]) -> Cell
     cells[0]
 }
 
-/// Whether a child binds the split to a term with another head than the one that is wanted.
+/// Whether a child gives the split a term with another head than the one that is wanted.
 #[inline(always)]
-pub(crate) fn is_unwanted(search: &Search<'_>, wanted: Option<Wanted>, child: NodeId) -> bool
-    requires { IsNode search.now.tree.now child }
-    ensures { IsTrue result → RulesOut search.now wanted child }
+pub(crate) fn is_unwanted(search: &Search<'_>, wanted: Option<Wanted>, head: Head) -> bool
+    ensures { IsTrue result → IsUnwanted search.now wanted head }
 {
     match wanted {
-        Some(head) => rules_out(&search.slots, head, search.tree.bindings(child)),
+        Some(asked) => clash(search.kind, &search.slots, asked.first, head),
         None => false,
     }
 }
 
-// Whether one of the bindings is of the split, and can't have what is wanted.
+/// Whether no variable of an entry can become a term that begins with a symbol.
 #[inline(always)]
-fn rules_out(slots: &Slots, wanted: Wanted, bindings: &Bindings) -> bool
-    ensures { IsTrue result → IsKnownSplit slots.now wanted bindings.now }
+pub(crate) fn keeps_variables(kind: Kind, slots: &Slots) -> bool
+    ensures { IsTrue result → KeepsVariables kind slots.now }
 {
-    for pair in bindings.pairs() {
-        if pair.left() == wanted.split {
-            return clash(slots, wanted.first, first(pair.right()));
-        }
+    match kind {
+        Kind::Variants => true,
+        Kind::Instances => slots.freeze_entry,
+        Kind::Generalizations => slots.freeze_entry,
+        Kind::Unifiable => slots.freeze_entry,
     }
-    false
 }
 
-// Whether terms that begin with these cells have different heads, whatever is bound.
+// Whether a term that begins with this cell can't meet one with this head.
 #[inline(always)]
-fn clash(slots: &Slots, one: Cell, other: Cell) -> bool
-    ensures { IsTrue result → CannotMeet slots.now one other }
+fn clash(kind: Kind, slots: &Slots, first: Cell, head: Head) -> bool
+    ensures { IsTrue result → CannotHave kind slots.now first head }
 {
-    match one {
-        Cell::App { sym, arity, .. } => match other {
-            Cell::App {
-                sym: s,
-                arity: a,
-                ..
-            } => !are_same(sym, s, arity, a),
-            Cell::Entry(_) => slots.freeze_entry,
-            Cell::Query(_) => false,
-            Cell::Ind(_) => false,
+    match first {
+        Cell::App { sym, arity, .. } => match head {
+            Head::Sym { sym: s, arity: a } => !are_same(sym, s, arity, a),
+            Head::Var(_) => keeps_variables(kind, slots),
         },
-        Cell::Query(_) => match other {
-            Cell::App { .. } => slots.freeze_query,
-            Cell::Entry(_) => false,
-            Cell::Query(_) => false,
-            Cell::Ind(_) => false,
+        Cell::Query(_) => match head {
+            Head::Sym { .. } => slots.freeze_query,
+            Head::Var(_) => false,
         },
-        Cell::Entry(m) => match other {
-            Cell::App { .. } => slots.freeze_entry,
-            Cell::Entry(n) => !are_same(m, n, 0, 0) && slots.freeze_entry,
-            Cell::Query(_) => false,
-            Cell::Ind(_) => false,
+        Cell::Entry(m) => match head {
+            Head::Sym { .. } => slots.freeze_entry,
+            Head::Var(n) => !are_same(m, n, 0, 0) && slots.freeze_entry,
         },
         Cell::Ind(_) => false,
     }

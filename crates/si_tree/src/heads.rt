@@ -1,5 +1,5 @@
 // The heads of a node's children.
-ghost use Rattle.std.specs.Prelude.{◌≡◌, ◌<◌, [], ◌∷◌, ◌++◌, IfOk, IfSome, IfNone, OnOk, Some, slice_get};
+ghost use Rattle.std.specs.Prelude.{◌≡◌, ◌<◌, [], ◌∷◌, ◌++◌, IfOk, IfSome, IfNone, OnOk, Some, length, slice_get};
 ghost use Rattle.std.specs.List.{swap_remove};
 ghost use Rattle.indexmap.specs.IndexSet.{spare};
 ghost use Rattle.si_defs.specs.Substitutions.{AreDistinct, IsAmong};
@@ -67,6 +67,17 @@ impl Heads {
             Heads::Many(heads) => {
                 heads.insert(head).unwrap();
             }
+        }
+    }
+
+    /// The head at this place.
+    pub(crate) fn at(&self, place: usize) -> Head
+        requires { place < length (heads_in self.now) }
+        ensures { slice_get (heads_in self.now) place ≡ Some result }
+    {
+        match self {
+            Heads::Few(heads) => heads[place],
+            Heads::Many(heads) => heads.as_slice()[place],
         }
     }
 

@@ -1,5 +1,5 @@
 // A tree as its nodes in a slab.
-ghost use Rattle.std.specs.Prelude.{◌≡◌, ℕ, IfOk, IfSome, IfNone, OnErr, OnOk};
+ghost use Rattle.std.specs.Prelude.{◌≡◌, ◌<◌, ℕ, IfOk, IfSome, IfNone, OnErr, OnOk, Some, length, slice_get};
 ghost use Rattle.slab.specs.Slab.{HasRoomFor};
 ghost use Rattle.si_flat.specs.Rows.{AreWhole};
 ghost use Rattle.si_legal.specs.Bindings.{StandForBindings};
@@ -141,6 +141,20 @@ impl Tree {
         match &self.nodes[node.key as usize].content {
             Content::Inner(branches) => branches.children.as_slice(),
             Content::Leaf(_) => Default::default(),
+        }
+    }
+
+    /// The head of the node's child at this place.
+    pub fn head(&self, node: NodeId, place: usize) -> Head
+        requires node { IsNode self.now node }
+        requires within { AtNode self.now node (λ n. place < length (children_of n.content)) }
+        ensures { (child : ℕ)
+            → AtNode self.now node (λ n. slice_get (children_of n.content) place ≡ Some child)
+            → IsChildBy self.now node result child }
+    {
+        match &self.nodes[node.key as usize].content {
+            Content::Inner(branches) => branches.heads.at(place),
+            Content::Leaf(_) => unreachable!(),
         }
     }
 

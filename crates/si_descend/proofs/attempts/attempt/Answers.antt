@@ -1,8 +1,9 @@
-use Rattle.std.proofs.Common.{get_or, subst, arith}
+use Rattle.std.proofs.Common.{◌≡◌, ◌<◌, Some, length, slice_get, subst, arith}
 use Rattle.std.proofs.lemmas.Option.{IfSome_then}
 use Rattle.si_tree.proofs.ChildLaws.{none_weaker}
-use Rattle.si_descend.specs.Heads.{RulesOut}
-use Rattle.si_descend.proofs.AttemptLaws.{room_for_child, room_for_head, child_here, no_other_here, head_here, none_here, here_has_head, tried_child}
+use Rattle.si_descend.specs.Attempts.{IsAt}
+use Rattle.si_descend.proofs.HeadLaws.{unwanted_out}
+use Rattle.si_descend.proofs.AttemptLaws.{room_for_child, room_for_head, child_here, head_here, none_here, here_has_head}
 use Rattle.si_descend.proofs.attempts.attempt.Goals as goal
 
 pub offset_bounds-attempts-place : goal.offset_bounds-attempts-place
@@ -11,18 +12,21 @@ offset_bounds-attempts-place c = omega (arith, c.well_formed, room_for_child c.a
 pub bounds-attempts-place : goal.bounds-attempts-place
 bounds-attempts-place c = room_for_child c.args.attempts.children.now c.args.attempts.by_head c.args.attempts.end c.args.place c.in_default.is c.requires.attempts.room c.requires.within
 
-pub is_unwanted-requires : goal.is_unwanted-requires
-is_unwanted-requires c =
+pub head-requires-clause-node : goal.head-requires-clause-node
+head-requires-clause-node c = c.requires.node
+
+pub head-requires-clause-within : goal.head-requires-clause-within
+head-requires-clause-within c n has =
     let a = c.args.attempts in
-    let is =
-    tried_child c.args.search.now c.requires.ready c.args.node c.requires.node.0 c.requires.node.1 a c.requires.attempts c.args.place (get_or a.children.now c.args.place c.index-attempts-place.result)
-    (child_here c.args.search.now.tree.now c.args.node a.children.now a.by_head c.args.place c.index-attempts-place.result c.in_default.is (room_for_child a.children.now a.by_head a.end c.args.place c.in_default.is c.requires.attempts.room c.requires.within)) in
-    (is.0, is.1)
+    subst (λ l. c.args.place < length l) (c.requires.attempts.children n has)
+    (room_for_child a.children.now a.by_head a.end c.args.place c.in_default.is c.requires.attempts.room c.requires.within)
 
 pub returns-then-is_unwanted-clause-none : goal.returns-then-is_unwanted-clause-none
 returns-then-is_unwanted-clause-none c child tried =
     let a = c.args.attempts in
-    subst (RulesOut c.args.search.now a.wanted) (no_other_here c.args.search.now.tree.now c.args.node a.children.now a.by_head c.args.place c.index-attempts-place.result child c.in_default.is tried) (c.is_unwanted.ensures c.if-is_unwanted.true)
+    let at = subst (λ b. IsAt c.args.search.now.tree.now c.args.node a.children.now b c.args.place child) c.in_default.is tried in
+    unwanted_out c.args.search.now c.args.node child a.wanted c.head.result c.requires.attempts.splits (c.is_unwanted.ensures c.if-is_unwanted.true)
+    (c.head.ensures child (λ n has. subst (λ l. slice_get l c.args.place ≡ Some child) (c.requires.attempts.children n has) at))
 
 pub returns-in_default-clause-some : goal.returns-in_default-clause-some
 returns-in_default-clause-some c =

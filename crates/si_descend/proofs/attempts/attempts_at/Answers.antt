@@ -16,19 +16,19 @@ pub returns-in_default-clause-wanted : goal.returns-in_default-clause-wanted
 returns-in_default-clause-wanted c = c.asked_of-wanted.ensures
 
 pub returns-in_default-clause-attempts : goal.returns-in_default-clause-attempts
-returns-in_default-clause-attempts c = scanned c.args.search.now c.requires.ready c.args.node c.requires.node.0 c.requires.node.1 c.children-children.result c.asked_of-wanted.result c.children-children.ensures
+returns-in_default-clause-attempts c = scanned c.args.search.now c.requires.ready c.args.node c.requires.node.0 c.requires.node.1 c.children-children.result c.asked_of-wanted.result c.args.trail.now.pairs c.children-children.ensures c.asked_of-wanted.ensures
 
 pub returns-in_default-heads_for-clause-wanted : goal.returns-in_default-heads_for-clause-wanted
 returns-in_default-heads_for-clause-wanted c = c.asked_of-wanted.ensures
 
 pub returns-in_default-heads_for-clause-attempts : goal.returns-in_default-heads_for-clause-attempts
-returns-in_default-heads_for-clause-attempts c = scanned c.args.search.now c.requires.ready c.args.node c.requires.node.0 c.requires.node.1 c.children-children.result c.asked_of-wanted.result c.children-children.ensures
+returns-in_default-heads_for-clause-attempts c = scanned c.args.search.now c.requires.ready c.args.node c.requires.node.0 c.requires.node.1 c.children-children.result c.asked_of-wanted.result c.args.trail.now.pairs c.children-children.ensures c.asked_of-wanted.ensures
 
 pub returns-then-children-end-clause-wanted : goal.returns-then-children-end-clause-wanted
 returns-then-children-end-clause-wanted c = c.asked_of-wanted.ensures
 
 pub returns-then-children-end-clause-attempts : goal.returns-then-children-end-clause-attempts
-returns-then-children-end-clause-attempts c = scanned c.args.search.now c.requires.ready c.args.node c.requires.node.0 c.requires.node.1 c.children-children.result c.asked_of-wanted.result c.children-children.ensures
+returns-then-children-end-clause-attempts c = scanned c.args.search.now c.requires.ready c.args.node c.requires.node.0 c.requires.node.1 c.children-children.result c.asked_of-wanted.result c.args.trail.now.pairs c.children-children.ensures c.asked_of-wanted.ensures
 
 pub returns-clause-wanted : goal.returns-clause-wanted
 returns-clause-wanted c = c.in-Some.ensures
@@ -36,4 +36,4 @@ returns-clause-wanted c = c.in-Some.ensures
 pub returns-clause-attempts : goal.returns-clause-attempts
 returns-clause-attempts c =
     by_heads c.args.search.now c.requires.ready c.args.node c.requires.node.0 c.requires.node.1 c.children-children.result c.in-Some.asked c.in-Some-heads_for.end c.children-children.ensures c.in-Some.ensures.0
-    (subst (λ n. AreHeadsFor c.args.search.now.slots n c.in-Some.asked.first c.in-Some-heads_for.end) c.vars-vars.ensures c.in-Some-heads_for.ensures)
+    (subst (λ n. AreHeadsFor c.args.search.now.kind c.args.search.now.slots n c.in-Some.asked.first c.in-Some-heads_for.end) c.vars-vars.ensures c.in-Some-heads_for.ensures)

@@ -1,29 +1,40 @@
 use Rattle.std.proofs.Common.{refl}
 use Rattle.si_flat.specs.declared.Cell.TheVariants as cell
-use Rattle.si_descend.proofs.HeadLaws.{symbols_apart, symbol_entry, entry_symbol, query_symbol, entries_apart, cannot, not_told, left_out}
+use Rattle.si_tree.specs.declared.node.Head.TheVariants as head
+use Rattle.si_descend.proofs.HeadLaws.{symbols_apart, symbol_entry, entry_symbol, query_symbol, entries_apart, cannot_have, cannot_have_symbol, cannot_have_entry, not_told, left_out}
 use Rattle.si_descend.proofs.heads.clash.Goals as goal
 
-pub returns-in-App-other : goal.returns-in-App-other
-returns-in-App-other c e =
-    cannot c.args.slots.now (cell.App c.in-App.sym c.in-App.arity c.in-App.len) (cell.App c.in-App-other.s c.in-App-other.a c.in-App-other.len) c.args.one c.args.other c.in-App.is c.in-App-other.is
-    (symbols_apart c.args.slots.now c.in-App.sym c.in-App.arity c.in-App.len c.in-App-other.s c.in-App-other.a c.in-App-other.len (not_told c.are_same.result c.are_same.ensures e))
+pub returns-in-Sym : goal.returns-in-Sym
+returns-in-Sym c e =
+    let first = cell.App c.in-App.sym c.in-App.arity c.in-App.len in
+    cannot_have c.args.kind c.args.slots.now c.args.first first c.args.head (head.Sym c.in-Sym.s c.in-Sym.a) c.in-App.is c.in-Sym.is
+    (cannot_have_symbol c.args.kind c.args.slots.now first c.in-Sym.s c.in-Sym.a
+    (λ n. symbols_apart c.args.kind c.args.slots.now c.in-App.sym c.in-App.arity c.in-App.len c.in-Sym.s c.in-Sym.a n (not_told c.are_same.result c.are_same.ensures e)))
 
-pub returns-in-Entry-other : goal.returns-in-Entry-other
-returns-in-Entry-other c e =
-    cannot c.args.slots.now (cell.App c.in-App.sym c.in-App.arity c.in-App.len) (cell.Entry c.in-Entry-other.field-0) c.args.one c.args.other c.in-App.is c.in-Entry-other.is
-    (symbol_entry c.args.slots.now c.in-App.sym c.in-App.arity c.in-App.len c.in-Entry-other.field-0 e)
+pub returns-in-Var : goal.returns-in-Var
+returns-in-Var c e =
+    let first = cell.App c.in-App.sym c.in-App.arity c.in-App.len in
+    cannot_have c.args.kind c.args.slots.now c.args.first first c.args.head (head.Var c.in-Var.field-0) c.in-App.is c.in-Var.is
+    (cannot_have_entry c.args.kind c.args.slots.now first c.in-Var.field-0
+    (symbol_entry c.args.kind c.args.slots.now c.in-App.sym c.in-App.arity c.in-App.len c.in-Var.field-0 (c.keeps_variables.ensures e)))
 
-pub returns-in-App-other-2 : goal.returns-in-App-other-2
-returns-in-App-other-2 c e =
-    cannot c.args.slots.now (cell.Query c.in-Query.field-0) (cell.App c.in-App-other-2.sym c.in-App-other-2.arity c.in-App-other-2.len) c.args.one c.args.other c.in-Query.is c.in-App-other-2.is
-    (query_symbol c.args.slots.now c.in-App-other-2.sym c.in-App-other-2.arity c.in-App-other-2.len c.in-Query.field-0 e)
+pub returns-in-Sym-head : goal.returns-in-Sym-head
+returns-in-Sym-head c e =
+    let first = cell.Query c.in-Query.field-0 in
+    cannot_have c.args.kind c.args.slots.now c.args.first first c.args.head (head.Sym c.in-Sym-head.sym c.in-Sym-head.arity) c.in-Query.is c.in-Sym-head.is
+    (cannot_have_symbol c.args.kind c.args.slots.now first c.in-Sym-head.sym c.in-Sym-head.arity
+    (λ n. query_symbol c.args.kind c.args.slots.now c.in-Sym-head.sym c.in-Sym-head.arity n c.in-Query.field-0 e))
 
-pub returns-in-App-other-3 : goal.returns-in-App-other-3
-returns-in-App-other-3 c e =
-    cannot c.args.slots.now (cell.Entry c.in-Entry.m) (cell.App c.in-App-other-3.sym c.in-App-other-3.arity c.in-App-other-3.len) c.args.one c.args.other c.in-Entry.is c.in-App-other-3.is
-    (entry_symbol c.args.slots.now c.in-App-other-3.sym c.in-App-other-3.arity c.in-App-other-3.len c.in-Entry.m e)
+pub returns-in-Sym-head-2 : goal.returns-in-Sym-head-2
+returns-in-Sym-head-2 c e =
+    let first = cell.Entry c.in-Entry.m in
+    cannot_have c.args.kind c.args.slots.now c.args.first first c.args.head (head.Sym c.in-Sym-head-2.sym c.in-Sym-head-2.arity) c.in-Entry.is c.in-Sym-head-2.is
+    (cannot_have_symbol c.args.kind c.args.slots.now first c.in-Sym-head-2.sym c.in-Sym-head-2.arity
+    (λ n. entry_symbol c.args.kind c.args.slots.now c.in-Sym-head-2.sym c.in-Sym-head-2.arity n c.in-Entry.m e))
 
 pub returns-then-not-are_same : goal.returns-then-not-are_same
 returns-then-not-are_same c e =
-    cannot c.args.slots.now (cell.Entry c.in-Entry.m) (cell.Entry c.in-Entry-other-3.n) c.args.one c.args.other c.in-Entry.is c.in-Entry-other-3.is
-    (entries_apart c.args.slots.now c.in-Entry.m c.in-Entry-other-3.n e (λ p. left_out c.are_same-in-Entry-other-3.result c.are_same-in-Entry-other-3.ensures c.if-not-are_same.true (p, refl)))
+    let first = cell.Entry c.in-Entry.m in
+    cannot_have c.args.kind c.args.slots.now c.args.first first c.args.head (head.Var c.in-Var-head-2.n) c.in-Entry.is c.in-Var-head-2.is
+    (cannot_have_entry c.args.kind c.args.slots.now first c.in-Var-head-2.n
+    (entries_apart c.args.kind c.args.slots.now c.in-Entry.m c.in-Var-head-2.n e (λ p. left_out c.are_same-in-Var-head-2.result c.are_same-in-Var-head-2.ensures c.if-not-are_same.true (p, refl))))

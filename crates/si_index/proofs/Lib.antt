@@ -13,6 +13,7 @@ mod KnownLaws
 mod NameLaws
 mod NamedLaws
 mod ScreenLaws
+mod ComparedLaws
 pub mod SlotLaws
 mod RowsKept
 mod ScreenedLaws

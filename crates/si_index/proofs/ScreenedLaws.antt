@@ -207,3 +207,11 @@ are_screened numbers extra direction formula slots rows row have known of_formul
       passes : (d : Direction) (other : List ℕ) → IsRowOf number (clause_of c).literals other → (ns : List ℕ) → IsMapIn d formula (clause_of c).literals ns → PassesIn d row other
       passes ToFormula other of_clause ns is = rows_follow number (clause_of c).literals formula other row (ns, is) of_clause of_formula
       passes FromFormula other of_clause ns is = rows_follow number formula (clause_of c).literals row other (ns, is) of_formula of_clause
+
+-- Where the clauses in the slots that passed were tried, all that have a map are named.
+pub screened_named : (numbers : Numbering) (extra : List Symbol) (direction : Direction) (formula : List Literal) (clauses : List Clause) (slots : Slots) (rows : List (List ℕ)) (row qs : List ℕ) (new : List Mapped) → HaveSlotRows numbers slots rows
+    → AllByRecursion (IsKnownClause numbers) clauses → clauses_of (placed_items slots) ≡ clauses → IsRowOf (number_in (with_extra numbers extra)) formula row → PlacesRise slots
+    → AppendsPositions (PassesIn direction row) rows [] qs → TriesSlots (IsMapIn direction formula) slots qs [] new → AreMappedFrom (IsMapIn direction formula) 0 clauses new
+screened_named numbers extra direction formula clauses slots rows row qs new have known same of_formula rise passed tries =
+    let screened = are_screened numbers extra direction formula slots rows row have (subst (AllByRecursion (IsKnownClause numbers)) (sym same) known) of_formula rise in
+    subst (λ cs. AreMappedFrom (IsMapIn direction formula) 0 cs new) same (all_named (IsMapIn direction formula) (PassesIn direction row) slots rise rows screened qs new passed tries)

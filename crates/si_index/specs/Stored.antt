@@ -32,7 +32,7 @@ keyed_clauses items = map (λ p. (p.0, clause_of p.1)) items
 abbrev pub AreHeld : List (ℕ × term.Clause) → Known → TwoTrees → Type 0
 AreHeld items known trees = Hold (numbering known.signature) (keyed_clauses items) trees
 
--- each of these clauses has its row, by these numbers
+-- a row that stands under the key of one of these clauses is the clause's, by these numbers
 abbrev pub HaveRows : Numbering → List (ℕ × term.Clause) → List (ℕ × List ℕ) → Type 0
 HaveRows numbers items rows = (key : ℕ) (c : term.Clause) (row : List ℕ) → IsAmong items (key, c)
     → IsAmong rows (key, row) → IsRowOf (number_in numbers) (clause_of c).literals row

@@ -2,7 +2,12 @@
 -- map.
 use Rattle.std.specs.Prelude.{◌≡◌, ◌⊎◌, ℕ, suc, List, [], ◌∷◌, ◌++◌, slice_get, Some}
 use Rattle.si_defs.specs.Clauses.{Literal, Clause}
+use Rattle.si_defs.specs.Symbols.{IsNumbering}
+use Rattle.si_state.specs.Signatures.{numbering}
 use Rattle.si_state.specs.Subsumption.{IsMap, IsLeast}
+use Rattle.si_flat.specs.declared.Owner.{Owner}
+use Rattle.si_flat.specs.declared.Owner.TheVariants.{Query, Entry}
+use Rattle.si_flat.specs.FlatClauses.{FlattensClause}
 use Rattle.si_term.specs.Meaning.{clause_of}
 use Rattle.si_term.specs.declared.clause.Clause as term
 use Rattle.si_keyed.specs.Placed.{HasPlace}
@@ -10,6 +15,7 @@ use Rattle.si_lanes.specs.Rows.{IsSubset}
 use Rattle.si_index.specs.Slots.{Slots}
 use Rattle.si_index.specs.declared.subsuming.Direction.{Direction}
 use Rattle.si_index.specs.declared.subsuming.Direction.TheVariants.{ToFormula, FromFormula}
+use Rattle.si_index.specs.declared.subsuming.FlatFormula.{FlatFormula}
 use Rattle.si_index.specs.declared.subsuming.Mapped.{Mapped}
 
 -- From this position on, of these clauses exactly those whose literals have a map are named, each
@@ -26,6 +32,18 @@ abbrev pub IsMapIn : Direction → List Literal → List Literal → List ℕ �
 IsMapIn ToFormula formula ls = IsMap ls formula
 IsMapIn FromFormula formula ls = IsMap formula ls
 
+-- The formula's variables are an entry's where clauses are taken to it, and else a query's.
+abbrev pub formula_owner : Direction → Owner
+formula_owner ToFormula = Entry
+formula_owner FromFormula = Query
+
+-- the cells are the formula's, by the numbers of the signature
+pub record IsFlatFormula (direction : Direction) (formula : List Literal)
+    (flat : FlatFormula) : Type 0 where
+  pub cells_are : FlattensClause (numbering flat.signature.now) (formula_owner direction) formula
+      flat.cells.now
+  pub numbered : IsNumbering (numbering flat.signature.now)
+
 -- The clause at this position was tried: it is named behind the others if it has a map, and with
 -- the least.
 abbrev pub Tries : (List Literal → List ℕ → Type 0) → ℕ → Clause → List Mapped
@@ -37,7 +55,8 @@ Tries P k c old new =
 abbrev pub HasMap : (List Literal → List ℕ → Type 0) → Clause → Type 0
 HasMap P c = (ns : List ℕ) × P c.literals ns
 
--- A clause whose row doesn't stand in this relation to the formula's has no map.
+-- The clause's row is a subset of the formula's, or the other way round. Where it isn't, the clause
+-- has no map.
 abbrev pub PassesIn : Direction → (formula : List ℕ) → (row : List ℕ) → Type 0
 PassesIn ToFormula formula row = IsSubset row formula
 PassesIn FromFormula formula row = IsSubset formula row

@@ -150,6 +150,7 @@ impl Index {
     pub fn signature(&self) -> &Signature
         ensures signature { IsSignatureOf self.now.clauses result.now }
         ensures numbers { numbering result.now ≡ self.now.numbers }
+        ensures numbering { IsNumbering self.now.numbers }
     {
         &self.known.signature
     }

@@ -1,25 +1,31 @@
 // The kept clauses that subsume a formula, and those that it subsumes.
-ghost use Rattle.std.specs.Prelude.{◌<◌, ◌≤◌, ◌-◌, ◌^◌, ℕ, [], IfOk, OnOk, length, map};
+ghost use Rattle.std.specs.Prelude.{◌≡◌, ◌<◌, ◌≤◌, ◌-◌, ◌^◌, ℕ, [], IfOk, OnOk, length, map};
 ghost use Rattle.std.specs.List.{AllByRecursion};
 ghost use Rattle.si_defs.specs.Clauses.{IsSoundClause, AreSoundLiterals};
+ghost use Rattle.si_form.specs.TableNumbers.{HaveNumbers};
 ghost use Rattle.si_state.specs.Subsumption.{IsMap, AnswersLeast};
+ghost use Rattle.si_defs.specs.Entries.{literals_symbols};
 ghost use Rattle.si_term.specs.Meaning.{literal_of};
+ghost use Rattle.si_state.specs.Signatures.{numbering};
 ghost use Rattle.si_defs.specs.declared.TheConstants.{MOST_OCCURRENCES};
 ghost use Rattle.si_keyed.specs.Placed.{placed_items, HasPlace, PlacesRise};
 ghost use Rattle.si_lanes.specs.Rows.{AppendsPositions};
 ghost use Rattle.si_index.specs.Holding.{Spares};
 ghost use Rattle.si_index.specs.Kept.{clauses_of};
 ghost use Rattle.si_index.specs.Slots.{HasSlots};
-ghost use Rattle.si_index.specs.Subsuming.{AreMappedFrom, HasMap, IsMapIn, PassesIn, TriesSlot, TriesSlots};
+ghost use Rattle.si_index.specs.Searching.{IsKnownClause};
+ghost use Rattle.si_index.specs.declared.subsuming.Direction.TheVariants.{ToFormula, FromFormula};
+ghost use Rattle.si_index.specs.Subsuming.{AreMappedFrom, HasMap, IsFlatFormula, IsMapIn, PassesIn, TriesSlot, TriesSlots, formula_owner};
 
 use crate::holding::Holders;
 use crate::index::Index;
 use crate::screen::may_have_map;
-use si_flat::LitMap;
+use si_flat::{Cell, ClauseBuffer, LitMap, Owner};
 use si_keyed::Places;
 use si_lanes::{Row, subset_rows, superset_rows};
 use si_screen::{Extra, literals_row};
-use si_subsume::least_map;
+use si_sign::Signature;
+use si_subsume::least_map_of;
 use si_term::list::Items;
 use si_term::{Clause, Literals};
 use std::alloc::{AllocError, Global};
@@ -41,6 +47,18 @@ enum Direction {
     FromFormula,
 }
 
+impl Direction {
+    /// Whose variables those of the formula are. A query's are bound, and an entry's are not.
+    fn formula_owner(self) -> Owner
+        ensures { result ≡ formula_owner self }
+    {
+        match self {
+            Direction::ToFormula => Owner::Entry,
+            Direction::FromFormula => Owner::Query,
+        }
+    }
+}
+
 /// A formula, and what is asked of it and each clause.
 #[derive(Clone, Copy)]
 struct Comparison<'a> {
@@ -49,31 +67,79 @@ struct Comparison<'a> {
     formula: &'a Literals,
 }
 
-/// The least map from the literals of `c` to those of `d`; `None` where there is none. Memory is
-/// taken only where signs and symbols allow a map.
-fn screened_map(alloc: Global, c: &Literals, d: &Literals) -> Result<Option<LitMap>, AllocError>
-    requires c { AreSoundLiterals (map literal_of c.now) }
-    requires d { AreSoundLiterals (map literal_of d.now) }
-    ensures { IfOk result (AnswersLeast (IsMap (map literal_of c.now) (map literal_of d.now))) }
-{
-    if !may_have_map(c, d) {
-        return Ok(None);
-    }
-    least_map(alloc, c, d)
+/// The cells of a formula, and the signature by whose numbers it and the clauses are made flat.
+#[derive(Clone, Copy)]
+struct FlatFormula<'a> {
+    signature: &'a Signature,
+    cells: &'a [Cell],
 }
 
 impl<'a> Comparison<'a> {
-    /// The least map between the formula and a clause with these literals; `None` where there is
-    /// none.
-    fn answer(&self, literals: &Literals) -> Result<Option<LitMap>, AllocError>
+    /// The least map from a clause with these literals to the formula; `None` where there is none.
+    /// The clause is made flat only where signs and symbols allow a map.
+    fn map_to_formula<'b>(
+        &self,
+        flat: &FlatFormula<'_>,
+        literals: &'b Literals,
+        clause: &mut ClauseBuffer<'b>,
+    ) -> Result<Option<LitMap>, AllocError>
         requires formula { AreSoundLiterals (map literal_of self.now.formula.now) }
         requires literals { AreSoundLiterals (map literal_of literals.now) }
+        requires known { HaveNumbers (numbering flat.now.signature.now)
+            (literals_symbols (map literal_of literals.now)) }
+        requires flat { IsFlatFormula ToFormula (map literal_of self.now.formula.now) flat.now }
+        ensures { IfOk result (AnswersLeast (IsMap (map literal_of literals.now)
+            (map literal_of self.now.formula.now))) }
+    {
+        if !may_have_map(literals, self.formula) {
+            return Ok(None);
+        }
+        clause.fill(flat.signature, Owner::Query, literals.as_slice())?;
+        least_map_of(self.alloc, clause.cells(), flat.cells)
+    }
+
+    /// The least map from the formula to a clause, likewise.
+    fn map_from_formula<'b>(
+        &self,
+        flat: &FlatFormula<'_>,
+        literals: &'b Literals,
+        clause: &mut ClauseBuffer<'b>,
+    ) -> Result<Option<LitMap>, AllocError>
+        requires formula { AreSoundLiterals (map literal_of self.now.formula.now) }
+        requires literals { AreSoundLiterals (map literal_of literals.now) }
+        requires known { HaveNumbers (numbering flat.now.signature.now)
+            (literals_symbols (map literal_of literals.now)) }
+        requires flat { IsFlatFormula FromFormula (map literal_of self.now.formula.now) flat.now }
+        ensures { IfOk result (AnswersLeast (IsMap (map literal_of self.now.formula.now)
+            (map literal_of literals.now))) }
+    {
+        if !may_have_map(self.formula, literals) {
+            return Ok(None);
+        }
+        clause.fill(flat.signature, Owner::Entry, literals.as_slice())?;
+        least_map_of(self.alloc, flat.cells, clause.cells())
+    }
+
+    /// The least map between the formula and a clause with these literals; `None` where there is
+    /// none.
+    fn answer<'b>(
+        &self,
+        flat: &FlatFormula<'_>,
+        literals: &'b Literals,
+        clause: &mut ClauseBuffer<'b>,
+    ) -> Result<Option<LitMap>, AllocError>
+        requires formula { AreSoundLiterals (map literal_of self.now.formula.now) }
+        requires literals { AreSoundLiterals (map literal_of literals.now) }
+        requires known { HaveNumbers (numbering flat.now.signature.now)
+            (literals_symbols (map literal_of literals.now)) }
+        requires flat { IsFlatFormula self.now.direction (map literal_of self.now.formula.now)
+            flat.now }
         ensures { IfOk result (AnswersLeast (IsMapIn self.now.direction
             (map literal_of self.now.formula.now) (map literal_of literals.now))) }
     {
         match self.direction {
-            Direction::ToFormula => screened_map(self.alloc, literals, self.formula),
-            Direction::FromFormula => screened_map(self.alloc, self.formula, literals),
+            Direction::ToFormula => self.map_to_formula(flat, literals, clause),
+            Direction::FromFormula => self.map_from_formula(flat, literals, clause),
         }
     }
 
@@ -90,14 +156,19 @@ impl<'a> Comparison<'a> {
     }
 
     /// Adds the clause in a slot, with its least map, if there are any.
-    fn try_slot(
+    fn try_slot<'b>(
         &self,
-        places: &Places<'_, Clause>,
+        flat: &FlatFormula<'_>,
+        places: &Places<'b, Clause>,
         slot: usize,
+        buffer: &mut ClauseBuffer<'b>,
         mappeds: &mut Mappeds,
     ) -> Result<(), AllocError>
         requires formula { AreSoundLiterals (map literal_of self.now.formula.now) }
-        requires clauses { AllByRecursion IsSoundClause (clauses_of (placed_items places.now)) }
+        requires flat { IsFlatFormula self.now.direction (map literal_of self.now.formula.now)
+            flat.now }
+        requires clauses { AllByRecursion (IsKnownClause (numbering flat.now.signature.now))
+            (clauses_of (placed_items places.now)) }
         requires few { length places.now ≤ MOST_OCCURRENCES }
         requires rise { PlacesRise places.now }
         ensures { OnOk result (TriesSlot (IsMapIn self.now.direction
@@ -106,7 +177,7 @@ impl<'a> Comparison<'a> {
         let Some(clause) = places.get(slot) else {
             return Ok(());
         };
-        let Some(map) = self.answer(&clause.literals)? else {
+        let Some(map) = self.answer(flat, &clause.literals, buffer)? else {
             return Ok(());
         };
         let (position, _) = places.at(slot);
@@ -116,14 +187,12 @@ impl<'a> Comparison<'a> {
         })
     }
 
-    /// The slots whose clauses may have a map, as far as the tree of literals tells. It isn't asked
-    /// where none passed the screen.
+    /// The slots whose clauses may have a map, as far as the tree of literals tells.
     fn holders(
         &self,
         index: &Index,
         places: &Places<'_, Clause>,
         slots: usize,
-        passed: usize,
     ) -> Result<Holders, AllocError>
         requires formula { AreSoundLiterals (map literal_of self.now.formula.now) }
         requires clauses { AllByRecursion IsSoundClause index.now.clauses }
@@ -132,7 +201,7 @@ impl<'a> Comparison<'a> {
         ensures { IfOk result (Spares (HasMap (IsMapIn self.now.direction
             (map literal_of self.now.formula.now))) places.now) }
     {
-        if passed == 0 || self.formula.len() == 0 {
+        if self.formula.len() == 0 {
             return Ok(Holders::all(self.alloc));
         }
         match self.direction {
@@ -142,7 +211,8 @@ impl<'a> Comparison<'a> {
     }
 
     /// The clauses that have a map, each with the least. Only those are tried whose rows and
-    /// literals allow one; no clause says so.
+    /// literals allow one, and where no row does, neither is the tree of literals asked nor the
+    /// formula made flat; no clause says so.
     fn mapped_clauses(&self, index: &Index) -> Result<Mappeds, AllocError>
         requires { AreSoundLiterals (map literal_of self.now.formula.now) }
         ensures { IfOk result (AreMappedFrom (IsMapIn self.now.direction
@@ -155,19 +225,32 @@ impl<'a> Comparison<'a> {
         let (places, rows) = index.slots_and_rows();
         let mut slots = Vec::new(self.alloc);
         self.pass(&row, rows, &mut slots)?;
-        let holders = self.holders(index, &places, rows.len(), slots.len())?;
-        self.try_slots(&places, &holders, slots.as_slice())
+        if slots.is_empty() {
+            return Ok(Mappeds::new(self.alloc));
+        }
+        let holders = self.holders(index, &places, rows.len())?;
+        let mut buffer = ClauseBuffer::new(self.alloc);
+        buffer.fill(signature, self.direction.formula_owner(), literals)?;
+        let flat = FlatFormula {
+            signature,
+            cells: buffer.cells(),
+        };
+        self.try_slots(&flat, &places, &holders, slots.as_slice())
     }
 
     /// The clauses in these slots that have a map, each with the least.
-    fn try_slots(
+    fn try_slots<'b>(
         &self,
-        places: &Places<'_, Clause>,
+        flat: &FlatFormula<'_>,
+        places: &Places<'b, Clause>,
         holders: &Holders,
         slots: &[u32],
     ) -> Result<Mappeds, AllocError>
         requires formula { AreSoundLiterals (map literal_of self.now.formula.now) }
-        requires clauses { AllByRecursion IsSoundClause (clauses_of (placed_items places.now)) }
+        requires flat { IsFlatFormula self.now.direction (map literal_of self.now.formula.now)
+            flat.now }
+        requires clauses { AllByRecursion (IsKnownClause (numbering flat.now.signature.now))
+            (clauses_of (placed_items places.now)) }
         requires few { length places.now ≤ MOST_OCCURRENCES }
         requires rise { PlacesRise places.now }
         requires spares { Spares (HasMap (IsMapIn self.now.direction
@@ -175,13 +258,14 @@ impl<'a> Comparison<'a> {
         ensures { IfOk result (TriesSlots (IsMapIn self.now.direction
             (map literal_of self.now.formula.now)) places.now slots.now []) }
     {
+        let mut buffer = ClauseBuffer::new(self.alloc);
         let mut mappeds = Mappeds::new(self.alloc);
         for i in 0..slots.len() {
             let slot = slots[i] as usize;
             if holders.rules_out(slot) {
                 continue;
             }
-            self.try_slot(places, slot, &mut mappeds)?;
+            self.try_slot(flat, places, slot, &mut buffer, &mut mappeds)?;
         }
         Ok(mappeds)
     }

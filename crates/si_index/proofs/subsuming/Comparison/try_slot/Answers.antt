@@ -1,13 +1,14 @@
 use Rattle.std.proofs.Common.{◌≡◌, inl, inr, map, refl, subst, arith}
 use Rattle.std.proofs.lemmas.Option.{slice_get_within}
 use Rattle.std.proofs.lemmas.Result.{on_ok_weaker}
-use Rattle.si_defs.specs.Clauses.{IsSoundClause}
+use Rattle.si_state.specs.Signatures.{numbering}
 use Rattle.si_defs.proofs.ListLaws.{all_at}
 use Rattle.si_state.specs.Subsumption.{AnswersLeast}
 use Rattle.si_term.specs.Meaning.{literal_of, clause_of}
 use Rattle.si_keyed.specs.Placed.{placed_items}
 use Rattle.si_keyed.proofs.PlacedLaws.{same_position}
 use Rattle.si_index.specs.Kept.{clauses_of}
+use Rattle.si_index.specs.Searching.{IsKnownClause}
 use Rattle.si_index.specs.Subsuming.{IsMapIn}
 use Rattle.si_index.proofs.SlotLaws.{place_among, clause_among}
 use Rattle.si_index.proofs.subsuming.Comparison.try_slot.Goals as goal
@@ -16,7 +17,13 @@ pub answer-requires-clause-literals : goal.answer-requires-clause-literals
 answer-requires-clause-literals c =
     let there = c.in-Some.ensures.some in
     let clause = c.in-Some.clause.now in
-    (all_at IsSoundClause (clauses_of (placed_items c.args.places.now)) (clause_of clause) c.requires.clauses (clause_among c.args.places.now c.args.slot there.0 clause there.1)).sound
+    (all_at (IsKnownClause (numbering c.args.flat.now.signature.now)) (clauses_of (placed_items c.args.places.now)) (clause_of clause) c.requires.clauses (clause_among c.args.places.now c.args.slot there.0 clause there.1)).sound.sound
+
+pub answer-requires-clause-known : goal.answer-requires-clause-known
+answer-requires-clause-known c =
+    let there = c.in-Some.ensures.some in
+    let clause = c.in-Some.clause.now in
+    (all_at (IsKnownClause (numbering c.args.flat.now.signature.now)) (clauses_of (placed_items c.args.places.now)) (clause_of clause) c.requires.clauses (clause_among c.args.places.now c.args.slot there.0 clause there.1)).numbered
 
 pub returns-in_default-2 : goal.returns-in_default-2
 returns-in_default-2 c =

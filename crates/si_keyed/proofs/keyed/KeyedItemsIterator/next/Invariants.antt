@@ -1,6 +1,6 @@
 use Rattle.std.proofs.Common.{◌≡◌, length}
 use Rattle.si_keyed.specs.KeyedSlots.{kept}
-use Rattle.si_keyed.proofs.keyed.ItemsIterator.next.Given as goal
+use Rattle.si_keyed.proofs.keyed.KeyedItemsIterator.next.Given as goal
 
 -- only holes were passed over
 abbrev pub invariant-loop-slot : goal.invariant-loop-slot

@@ -25,7 +25,7 @@ use Rattle.si_flat.specs.declared.Cell.TheVariants as cell
 use Rattle.si_flat.specs.Cells.{Variable, entry, cells_of, cells_of_all, IsSound, IsWhole}
 use Rattle.si_flat.specs.Cells as cells
 use Rattle.si_flat.specs.Numbered.{number_in, signed, numbered, all_numbered}
-use Rattle.si_flat.specs.Flattened.{unnumbered, HoldsEntry}
+use Rattle.si_flat.specs.Flattened.{unnumbered, Buffer, HoldsEntry}
 use Rattle.si_flat.proofs.Subterms.{length-cells_of}
 use Rattle.si_flat.proofs.Walking.{numbered_size}
 use Rattle.si_flat.proofs.RowLaws.{span_told}
@@ -247,9 +247,8 @@ first_literal numbers l ls h =
     }
 
 -- ---- the walk
-pub all_left : (numbers : Numbering) (f : FlatEntries) (c : Clause) → IsSoundClause c → unnumbered numbers (clause_symbols c) ≡ [] → f.literal ≡ ([], []) → f.at ≡ 0 → literals_left f ≡ c.literals → AreLeft numbers f (entries_alone c.literals)
-all_left numbers f c sound numbered empty start literals =
-    let none : f.literal.0 ≡ [] = ap (λ p. p.0) empty in
+pub all_left : (numbers : Numbering) (f : FlatEntries) (c : Clause) → IsSoundClause c → unnumbered numbers (clause_symbols c) ≡ [] → f.literal.cells ≡ [] → f.at ≡ 0 → literals_left f ≡ c.literals → AreLeft numbers f (entries_alone c.literals)
+all_left numbers f c sound numbered none start literals =
     record {
       positive = true;
       terms = terms.none;
@@ -269,8 +268,8 @@ all_left numbers f c sound numbered empty start literals =
     }
 
 -- the next literal is given
-pub literal_given : (numbers : Numbering) (old new : FlatEntries) (l : program.Literal) (left : List Entry) → old.literals.now ≡ l ∷ new.literals.now → new.at ≡ 1 → new.cells.items ≡ new.literal.0
-    → HoldsEntry numbers (literal_entry (literal_of l)) new.literal.0 new.literal.1
+pub literal_given : (numbers : Numbering) (old new : FlatEntries) (l : program.Literal) (left : List Entry) → old.literals.now ≡ l ∷ new.literals.now → new.at ≡ 1 → new.cells.items ≡ new.literal.cells
+    → HoldsEntry numbers (literal_entry (literal_of l)) new.literal.cells new.literal.names
     → IsAtLiteralEnd numbers old left → GivesFirst numbers new true left
 literal_given numbers old new l left literals start copied holds end =
     let is : literals_left old ≡ literal_of l ∷ literals_left new = ap (map literal_of) literals in
@@ -283,38 +282,38 @@ literal_given numbers old new l left literals start copied holds end =
       are_left = record {
         positive = l.positive;
         terms = arguments atom;
-        terms_left = subst (AreTermsLeft numbers l.positive (arguments atom) new.literal.0 new.literal.1) (sym start) (literal_terms numbers l.positive new.literal.0 new.literal.1 atom one.sound one.small holds);
+        terms_left = subst (AreTermsLeft numbers l.positive (arguments atom) new.literal.cells new.literal.names) (sym start) (literal_terms numbers l.positive new.literal.cells new.literal.names atom one.sound one.small holds);
         literals_are_left = one.others;
         entries = refl;
       };
       kind = refl;
-      flat = subst (IsFlatEntry numbers (literal_entry (literal_of l))) (sym copied) (literal_leaf numbers l.positive new.literal.0 new.literal.1 atom one.small holds);
+      flat = subst (IsFlatEntry numbers (literal_entry (literal_of l))) (sym copied) (literal_leaf numbers l.positive new.literal.cells new.literal.names atom one.small holds);
     }
 
 -- the place is moved to the next symbol
-module _ (numbers : Numbering) (old : FlatEntries) (left : List Entry) (h : AreLeft numbers old left) (at : ℕ) (within : at ≤ length old.literal.0)
-    (symbol : drop at old.literal.0 ≡ from_symbol (drop old.at old.literal.0)) where
-  here : AreTermsLeft numbers h.positive (past_variables h.terms) old.literal.0 old.literal.1 at
-  here = moved numbers h.positive old.literal.0 old.literal.1 h.terms old.at at h.terms_left within symbol
+module _ (numbers : Numbering) (old : FlatEntries) (left : List Entry) (h : AreLeft numbers old left) (at : ℕ) (within : at ≤ length old.literal.cells)
+    (symbol : drop at old.literal.cells ≡ from_symbol (drop old.at old.literal.cells)) where
+  here : AreTermsLeft numbers h.positive (past_variables h.terms) old.literal.cells old.literal.names at
+  here = moved numbers h.positive old.literal.cells old.literal.names h.terms old.at at h.terms_left within symbol
 
   -- no subterm was left
-  pub literal_ended : (new : FlatEntries) → new.literals.now ≡ old.literals.now → at ≡ length old.literal.0 → IsAtLiteralEnd numbers new left
+  pub literal_ended : (new : FlatEntries) → new.literals.now ≡ old.literals.now → at ≡ length old.literal.cells → IsAtLiteralEnd numbers new left
   literal_ended new same end =
       let stay : literals_left new ≡ literals_left old = ap (map literal_of) same in (
         subst (AreLiteralsLeft numbers) (sym stay) h.literals_are_left,
         h.entries
-            ∙ ap (λ ts. map term_entry ts ++ entries_alone (literals_left old)) (none_left numbers h.positive old.literal.0 old.literal.1 h.terms at here end)
+            ∙ ap (λ ts. map term_entry ts ++ entries_alone (literals_left old)) (none_left numbers h.positive old.literal.cells old.literal.names h.terms at here end)
             ∙ ap entries_alone (sym stay),
       )
 
   -- the next subterm is given
-  pub subterm_given : (new : FlatEntries) (part : List Cell) → (at ≡ length old.literal.0 → ⊥) → IsWhole part → part ≡ take (length part) (drop at old.literal.0)
+  pub subterm_given : (new : FlatEntries) (part : List Cell) → (at ≡ length old.literal.cells → ⊥) → IsWhole part → part ≡ take (length part) (drop at old.literal.cells)
       → new.cells.items ≡ numbered_anew part → new.literals.now ≡ old.literals.now → new.literal ≡ old.literal → new.at ≡ at + 1
       → GivesFirst numbers new false left
-  subterm_given new part some whole taken written same buffer next = by (some_left numbers h.positive old.literal.0 old.literal.1 h.terms at here some) where
+  subterm_given new part some whole taken written same buffer next = by (some_left numbers h.positive old.literal.cells old.literal.names h.terms at here some) where
     by : (s : Symbol) × (us : Terms) × (rest : Terms) × (past_variables h.terms ≡ terms.more (terms.app s us) rest) → GivesFirst numbers new false left
     by (s, us, rest, is) =
-        let there = subst (λ ts. AreTermsLeft numbers h.positive ts old.literal.0 old.literal.1 at) is here in
+        let there = subst (λ ts. AreTermsLeft numbers h.positive ts old.literal.cells old.literal.names at) is here in
         let stay : literals_left new ≡ literals_left old = ap (map literal_of) same in
         record {
           given = term_entry (terms.app s us);
@@ -326,10 +325,10 @@ module _ (numbers : Numbering) (old : FlatEntries) (left : List Entry) (h : AreL
           are_left = record {
             positive = h.positive;
             terms = join us rest;
-            terms_left = subst (λ b. AreTermsLeft numbers h.positive (join us rest) b.0 b.1 new.at) (sym buffer) (passed numbers h.positive old.literal.0 old.literal.1 s us rest at there new.at next);
+            terms_left = subst (λ (b : Buffer). AreTermsLeft numbers h.positive (join us rest) b.cells b.names new.at) (sym buffer) (passed numbers h.positive old.literal.cells old.literal.names s us rest at there new.at next);
             literals_are_left = subst (AreLiteralsLeft numbers) (sym stay) h.literals_are_left;
             entries = refl;
           };
           kind = refl;
-          flat = part_flat numbers h.positive old.literal.0 old.literal.1 s us rest at there part new.cells.items whole taken written;
+          flat = part_flat numbers h.positive old.literal.cells old.literal.names s us rest at there part new.cells.items whole taken written;
         }

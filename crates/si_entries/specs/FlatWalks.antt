@@ -56,7 +56,7 @@ pub record AreLiteralsLeft (numbers : Numbering) (literals : List Literal) : Typ
 pub record AreLeft (numbers : Numbering) (f : FlatEntries) (left : List Entry) : Type 0 where
   pub positive : Bool
   pub terms : Terms
-  pub terms_left : AreTermsLeft numbers positive terms f.literal.0 f.literal.1 f.at
+  pub terms_left : AreTermsLeft numbers positive terms f.literal.cells f.literal.names f.at
   pub literals_are_left : AreLiteralsLeft numbers (literals_left f)
   pub entries : left ≡ map term_entry (subterms_of_all terms) ++ entries_alone (literals_left f)
 

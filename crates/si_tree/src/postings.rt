@@ -1,5 +1,5 @@
 // The postings of a leaf.
-ghost use Rattle.std.specs.Prelude.{◌≡◌, ◌<◌, ◌≤◌, [], ◌∷◌, ◌++◌, ◌==◌, IfOk, IsFalse, IsTrue, OnErr, OnOk, length, true, vec_capacity};
+ghost use Rattle.std.specs.Prelude.{◌≡◌, ◌<◌, ◌≤◌, [], ◌∷◌, ◌++◌, ◌+◌, ◌==◌, IfOk, IsFalse, IsTrue, OnErr, OnOk, length, true, vec_capacity, vec_len};
 ghost use Rattle.si_defs.specs.Substitutions.{IsAmong};
 ghost use Rattle.si_legal.specs.declared.Posting as posting;
 ghost use Rattle.si_tree.specs.Changes.{IsWithout};
@@ -167,10 +167,12 @@ impl<'a> Postings<'a> {
         self.count == 0
     }
 
-    /// Appends them to others. At an error these are as before.
+    /// Appends them to others. At an error these are as before, and there was no room for them.
     pub fn append_to(&self, others: &mut Vec<Posting>) -> Result<(), AllocError>
         ensures ok { OnOk result (others.new.items ≡ others.old.items ++ self.now) }
         ensures err { OnErr result (others.new.items ≡ others.old.items) }
+        ensures full { OnErr result (vec_capacity others.old
+            < vec_len others.old + length self.now) }
     {
         others.reserve(self.count)?;
         for slot in self.slots {

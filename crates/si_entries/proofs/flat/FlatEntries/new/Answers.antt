@@ -5,4 +5,4 @@ use Rattle.si_entries.proofs.FlatLaws.{all_left}
 use Rattle.si_entries.proofs.flat.FlatEntries.new.Goals as goal
 
 pub returns : goal.returns
-returns c numbers numbered = all_left numbers _ (clause_of c.args.clause.now) c.requires numbered c.new.ensures refl (ap (map literal_of) c.as_slice.ensures)
+returns c numbers numbered = all_left numbers _ (clause_of c.args.clause.now) c.requires numbered c.new.ensures.cells refl (ap (map literal_of) c.as_slice.ensures)

@@ -17,7 +17,7 @@ unreachable-requires g c =
     let pairs = g.T.SymTable.pairs c.args.table.now in
     let l = literal_of c.in-Some.literal.now in
     let one = first_literal pairs l (map literal_of c.in-Some.others.now) (subst (AreLiteralsLeft pairs) (ap (map literal_of) c.in-Some.ensures.cases.0) c.requires.1.0) in
-    subst (FillsEntry pairs (literal_entry l) c.fill.new.self.0 c.fill.new.self.1) c.if-not-branch.true c.in_ok-fill.ensures one.known
+    subst (FillsEntry pairs (literal_entry l) c.fill.new.self.cells c.fill.new.self.names) c.if-not-branch.true c.in_ok-fill.ensures.filled one.known
 
 pub returns : goal.returns
 returns g c left end =
@@ -27,5 +27,5 @@ returns g c left end =
     (record { literals = c.in-Some.others; literal = c.fill.new.self; at = 1; met = c.args.self.now.met; cells = c.extend_from_slice.new.self })
     c.in-Some.literal.now left c.in-Some.ensures.cases.0 refl
     (copied _ _ _ _ c.in_ok-extend_from_slice.ensures.items c.clear.ensures.items c.cells.ensures)
-    (subst (FillsEntry pairs (literal_entry l) c.fill.new.self.0 c.fill.new.self.1) c.if-not-branch.false c.in_ok-fill.ensures)
+    (subst (FillsEntry pairs (literal_entry l) c.fill.new.self.cells c.fill.new.self.names) c.if-not-branch.false c.in_ok-fill.ensures.filled)
     end

@@ -19,8 +19,8 @@ returns-then-at-cells c numbers left h =
 pub sub-requires-clause-whole : goal.sub-requires-clause-whole
 sub-requires-clause-whole c =
     let same = c.cells-cells.ensures in
-    let some : 0 < length c.args.self.now.literal.0 =
-    elim (cases_lt 0 (length c.args.self.now.literal.0)) [
+    let some : 0 < length c.args.self.now.literal.cells =
+    elim (cases_lt 0 (length c.args.self.now.literal.cells)) [
       | inl less ↦ less
       | inr none ↦ absurd (c.if-at-cells.false (omega (arith, none, c.next_symbol-at.ensures.within, ap length same)))
     ] in

@@ -27,5 +27,5 @@ returns-then-branch c =
 
 pub unreachable-requires : goal.unreachable-requires
 unreachable-requires c =
-    subst (FillsEntry (numbers_of c.args.self.now) (entry_of c.args.entry) _ _) c.if-not-branch.true c.in_ok-fill.ensures
+    subst (FillsEntry (numbers_of c.args.self.now) (entry_of c.args.entry) _ _) c.if-not-branch.true c.in_ok-fill.ensures.filled
     (none_lacks (numbers_of c.args.self.now) _ c.requires.numbered)

@@ -13,7 +13,7 @@ use Rattle.si_index.proofs.search.Search.solve.Goals as goal
 
 pub unreachable-requires : goal.unreachable-requires
 unreachable-requires c =
-    subst (FillsEntry (numbers_of c.args.self.now) (entry_of c.args.entry) _ _) c.if-not-branch.true c.in_ok-fill.ensures
+    subst (FillsEntry (numbers_of c.args.self.now) (entry_of c.args.entry) _ _) c.if-not-branch.true c.in_ok-fill.ensures.filled
     (none_lacks (numbers_of c.args.self.now) _ c.requires.known.numbered)
 
 pub canonical_with-requires-clause-query : goal.canonical_with-requires-clause-query
@@ -23,23 +23,23 @@ canonical_with-requires-clause-query c =
 
 pub canonical_with-requires-clause-whole_entry : goal.canonical_with-requires-clause-whole_entry
 canonical_with-requires-clause-whole_entry c =
-    let holds : HoldsEntry (numbers_of c.args.self.now) (entry_of c.args.entry) c.fill.new.self.0 c.fill.new.self.1 =
-    subst (FillsEntry (numbers_of c.args.self.now) (entry_of c.args.entry) c.fill.new.self.0 c.fill.new.self.1) c.if-not-branch.false c.in_ok-fill.ensures in
+    let holds : HoldsEntry (numbers_of c.args.self.now) (entry_of c.args.entry) c.fill.new.self.cells c.fill.new.self.names =
+    subst (FillsEntry (numbers_of c.args.self.now) (entry_of c.args.entry) c.fill.new.self.cells c.fill.new.self.names) c.if-not-branch.false c.in_ok-fill.ensures.filled in
     subst IsWhole (sym c.cells-2.ensures) (_, holds.flat.stands)
 
 pub canonical_with-requires-clause-entry : goal.canonical_with-requires-clause-entry
 canonical_with-requires-clause-entry c =
-    let holds : HoldsEntry (numbers_of c.args.self.now) (entry_of c.args.entry) c.fill.new.self.0 c.fill.new.self.1 =
-    subst (FillsEntry (numbers_of c.args.self.now) (entry_of c.args.entry) c.fill.new.self.0 c.fill.new.self.1) c.if-not-branch.false c.in_ok-fill.ensures in
-    subst (AreNumbered Entry) (sym c.cells-2.ensures) (flat_is_numbered (numbers_of c.args.self.now) Entry (entry_of c.args.entry) c.fill.new.self.0 holds.flat)
+    let holds : HoldsEntry (numbers_of c.args.self.now) (entry_of c.args.entry) c.fill.new.self.cells c.fill.new.self.names =
+    subst (FillsEntry (numbers_of c.args.self.now) (entry_of c.args.entry) c.fill.new.self.cells c.fill.new.self.names) c.if-not-branch.false c.in_ok-fill.ensures.filled in
+    subst (AreNumbered Entry) (sym c.cells-2.ensures) (flat_is_numbered (numbers_of c.args.self.now) Entry (entry_of c.args.entry) c.fill.new.self.cells holds.flat)
 
 pub unreachable-requires-in_default : goal.unreachable-requires-in_default
 unreachable-requires-in_default c =
     let s = c.args.self.now in
     let e = entry_of c.args.entry in
-    let holds : HoldsEntry (numbers_of s) e c.fill.new.self.0 c.fill.new.self.1 =
-    subst (FillsEntry (numbers_of s) e c.fill.new.self.0 c.fill.new.self.1) c.if-not-branch.false c.in_ok-fill.ensures in
-    solved_in s e c.cells.result.now c.cells-2.result.now c.fill.new.self.0 c.fill.new.self.1 c.cells.ensures.cells c.cells-2.ensures c.requires.ready c.requires.known (alike_standing s.relation (pattern_in s) e c.requires.stands) holds None
+    let holds : HoldsEntry (numbers_of s) e c.fill.new.self.cells c.fill.new.self.names =
+    subst (FillsEntry (numbers_of s) e c.fill.new.self.cells c.fill.new.self.names) c.if-not-branch.false c.in_ok-fill.ensures.filled in
+    solved_in s e c.cells.result.now c.cells-2.result.now c.fill.new.self.cells c.fill.new.self.names c.cells.ensures.cells c.cells-2.ensures c.requires.ready c.requires.known (alike_standing s.relation (pattern_in s) e c.requires.stands) holds None
     (subst (Answers s.relation c.cells.result.now c.cells-2.result.now) c.in_default.is c.in_ok-solution.ensures.answers)
     c.requires.stands
 
@@ -47,8 +47,8 @@ pub returns : goal.returns
 returns c =
     let s = c.args.self.now in
     let e = entry_of c.args.entry in
-    let holds : HoldsEntry (numbers_of s) e c.fill.new.self.0 c.fill.new.self.1 =
-    subst (FillsEntry (numbers_of s) e c.fill.new.self.0 c.fill.new.self.1) c.if-not-branch.false c.in_ok-fill.ensures in
+    let holds : HoldsEntry (numbers_of s) e c.fill.new.self.cells c.fill.new.self.names =
+    subst (FillsEntry (numbers_of s) e c.fill.new.self.cells c.fill.new.self.names) c.if-not-branch.false c.in_ok-fill.ensures.filled in
     record {
       flat = c.cells-2.result.now;
       stands = subst (λ l. StandsFor l (term_in s e)) (sym c.cells-2.ensures) holds.flat.stands;

@@ -14,6 +14,16 @@ raised_by n count = max count (min (count + n) (2 ^ 64 - 1))
 abbrev pub raised : ℕ → ℕ
 raised count = raised_by 1 count
 
+-- what a device counted that wasn't called yet: a source, a sink, a library
+abbrev pub nothing_read : SourceCounts
+nothing_read = record { calls = 0; bytes = 0; ends = 0; empty = 0; faults = 0 }
+
+abbrev pub nothing_written : SinkCounts
+nothing_written = record { calls = 0; bytes = 0; faults = 0 }
+
+abbrev pub nothing_fetched : LibraryCounts
+nothing_fetched = record { calls = 0; faults = 0; misses = 0; bigs = 0 }
+
 -- None of some bytes: so a source tells its end, and so a sink fails that answers a number.
 abbrev pub none_of_some : (count size : ℕ) → Bool
 none_of_some count size = nat_eq count 0 && nat_lt 0 size

@@ -15,7 +15,7 @@ pub record ReadsFew (before after : SourceCounts) : Type 0 where
       → after.calls + before.bytes + before.ends + before.faults
       ≤ before.calls + after.bytes + after.ends + after.faults
 
--- The source gave these bytes, in few reads, none of them into an empty slice.
+-- The source gave these bytes, in few reads. It counted none of them as one into an empty slice.
 pub record Gives (before : SourceShown) (bs : List ℕ) (after : SourceShown) : Type 0 where
   pub left : Takes before.left bs after.left
   pub bytes : after.counts.bytes ≡ raised_by (length bs) before.counts.bytes

@@ -1,6 +1,6 @@
 // What devices count. Each count stands still at the largest `u64`.
 ghost use Rattle.std.specs.Prelude.{◌≡◌};
-ghost use Rattle.si_io.specs.Counts.{none_of_some, empty_slices, raised_by, read_counted, write_counted, fetch_counted};
+ghost use Rattle.si_io.specs.Counts.{nothing_read, nothing_written, nothing_fetched, none_of_some, empty_slices, raised_by, read_counted, write_counted, fetch_counted};
 
 use crate::{Failed, Fetched};
 
@@ -46,7 +46,7 @@ pub struct LibraryCounts {
 impl SourceCounts {
     /// Nothing is counted yet.
     pub fn new() -> SourceCounts
-        ensures { result ≡ record { calls = 0; bytes = 0; ends = 0; empty = 0; faults = 0 } }
+        ensures { result ≡ nothing_read }
     {
         SourceCounts {
             calls: 0,
@@ -83,7 +83,7 @@ impl SourceCounts {
 impl SinkCounts {
     /// Nothing is counted yet.
     pub fn new() -> SinkCounts
-        ensures { result ≡ record { calls = 0; bytes = 0; faults = 0 } }
+        ensures { result ≡ nothing_written }
     {
         SinkCounts {
             calls: 0,
@@ -117,7 +117,7 @@ impl SinkCounts {
 impl LibraryCounts {
     /// Nothing is counted yet.
     pub fn new() -> LibraryCounts
-        ensures { result ≡ record { calls = 0; faults = 0; misses = 0; bigs = 0 } }
+        ensures { result ≡ nothing_fetched }
     {
         LibraryCounts {
             calls: 0,

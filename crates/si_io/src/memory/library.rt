@@ -16,13 +16,14 @@ pub struct MemoryLibrary {
 }
 
 impl MemoryLibrary {
+    ghost use Rattle.si_io.specs.Counts.{nothing_fetched};
     ghost use Rattle.si_io.specs.Memory.{library_files, library_counts, library_failing, has_no_file, PutsFile, SameLibrary};
 
     /// A library without files. `failing` lists the fetches that fail, by their numbers from 1.
     pub fn new(alloc: Global, failing: Vec<u32>) -> MemoryLibrary
         ensures files { library_files result ≡ has_no_file }
         ensures counts { library_counts result
-            ≡ record { calls = 0; faults = 0; misses = 0; bigs = 0 } }
+            ≡ nothing_fetched }
         ensures failing { library_failing result ≡ failing.items }
     {
         MemoryLibrary {

@@ -21,6 +21,7 @@ pub struct MemorySink {
 }
 
 impl MemorySink {
+    ghost use Rattle.si_io.specs.Counts.{nothing_written};
     ghost use Rattle.si_io.specs.Memory.{sink_bytes, sink_room, sink_chunk, sink_failing, sink_counts};
 
     /// A sink with room for `room` bytes. A call takes at most `chunk` of them, and a `chunk` of 0
@@ -38,7 +39,7 @@ impl MemorySink {
         ensures chunk { IfOk result (λ sink. sink_chunk sink ≡ max chunk 1) }
         ensures failing { IfOk result (λ sink. sink_failing sink ≡ failing.items) }
         ensures counts { IfOk result (λ sink. sink_counts sink
-            ≡ record { calls = 0; bytes = 0; faults = 0 }) }
+            ≡ nothing_written) }
     {
         let buffer = Vec::with_capacity(alloc, room)?;
         Ok(MemorySink {

@@ -19,6 +19,7 @@ pub struct MemorySource {
 }
 
 impl MemorySource {
+    ghost use Rattle.si_io.specs.Counts.{nothing_read};
     ghost use Rattle.si_io.specs.Memory.{source_left, source_chunk, source_failing, source_counts};
 
     /// A source of these bytes. A call gives at most `chunk` of them, and a `chunk` of 0 is one of
@@ -28,7 +29,7 @@ impl MemorySource {
         ensures chunk { source_chunk result ≡ max chunk 1 }
         ensures failing { source_failing result ≡ failing.items }
         ensures counts { source_counts result
-            ≡ record { calls = 0; bytes = 0; ends = 0; empty = 0; faults = 0 } }
+            ≡ nothing_read }
     {
         MemorySource {
             bytes,

@@ -27,24 +27,26 @@ pub struct RealLibrary<D> {
 }
 
 impl<R: Files> RealLibrary<System<R>> {
+    ghost use Rattle.si_io.specs.Counts.{nothing_fetched};
     ghost use Rattle.si_io.specs.Real.{fetches_of};
 
     /// A library over the files of this runtime, which has counted nothing yet.
     pub fn new(rt: R) -> RealLibrary<System<R>>
-        ensures { fetches_of result ≡ record { calls = 0; faults = 0; misses = 0; bigs = 0 } }
+        ensures { fetches_of result ≡ nothing_fetched }
     {
         RealLibrary::over(System(rt))
     }
 }
 
 impl<D> RealLibrary<D> {
+    ghost use Rattle.si_io.specs.Counts.{nothing_fetched};
     ghost use Rattle.si_io.specs.Real.{disk_of, fetches_of};
 
     /// A library over this disk, which has counted nothing yet.
     pub fn over(disk: D) -> RealLibrary<D>
         ensures disk { disk_of result ≡ disk }
         ensures counts { fetches_of result
-            ≡ record { calls = 0; faults = 0; misses = 0; bigs = 0 } }
+            ≡ nothing_fetched }
     {
         RealLibrary {
             disk,

@@ -22,12 +22,13 @@ pub struct RealSink<W> {
 }
 
 impl<W> RealSink<W> {
+    ghost use Rattle.si_io.specs.Counts.{nothing_written};
     ghost use Rattle.si_io.specs.Real.{writer_of, writes_of};
 
     /// A sink over this writer, which has counted nothing yet.
     pub fn new(writer: W) -> RealSink<W>
         ensures writer { writer_of result ≡ writer }
-        ensures counts { writes_of result ≡ record { calls = 0; bytes = 0; faults = 0 } }
+        ensures counts { writes_of result ≡ nothing_written }
     {
         RealSink {
             writer,

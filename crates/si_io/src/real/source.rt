@@ -19,12 +19,13 @@ pub struct RealSource<R> {
 }
 
 impl<R> RealSource<R> {
+    ghost use Rattle.si_io.specs.Counts.{nothing_read};
     ghost use Rattle.si_io.specs.Real.{reader_of, reads_of};
 
     /// A source over this reader, which has counted nothing yet.
     pub fn new(reader: R) -> RealSource<R>
         ensures reader { reader_of result ≡ reader }
-        ensures counts { reads_of result ≡ record { calls = 0; bytes = 0; ends = 0; empty = 0; faults = 0 } }
+        ensures counts { reads_of result ≡ nothing_read }
     {
         RealSource {
             reader,

@@ -237,7 +237,7 @@ serves_said setting told words rows status source now before after same read s =
     subst (λ (a : Asked). Serves setting told a.strict a.files status source now before after) (ap asked_in same ∙ read.1) s
 
 pub answers_usage : (limits : Limits) (told : Option Files) (words : List Bytes) (status : Status) (source : SourceShown) (before after : Around)
-    → takes program words ≡ false → after.counts ≡ before.counts → WritesUsage status before.sink after.sink → DeclinesOrServes limits told words status source source before after
+    → takes program words ≡ false → after.library.counts ≡ before.library.counts → WritesUsage status before.sink after.sink → DeclinesOrServes limits told words status source source before after
 answers_usage limits told words status source before after refused unfetched written = inl (record { refused = refused; unread = refl; unfetched = unfetched; written = written })
 
 pub answers_memory : (limits : Limits) (told : Option Files) (words : List Bytes) (source : SourceShown) (before : Around) → DeclinesOrServes limits told words Memory source source before before

@@ -24,7 +24,8 @@ use Rattle.si_steps.specs.Loads.{Owed, nothing, PerformsLoad, gained_line, load_
 use Rattle.si_steps.specs.Steps.{Performs, IsNoCommand, RightStep, right, long, memory_at_once, memory_behind, performed, loaded}
 use Rattle.si_steps.specs.FileWords.{names_file, nameless, named, right_word, no_memory}
 use Rattle.si_steps.specs.Runs.{a_line, a_word, ended}
-use Rattle.si_io.specs.Shown.{SinkShown}
+use Rattle.si_io.specs.Shown.{SinkShown, LibraryShown}
+use Rattle.si_io.specs.Counts.{raised}
 use Rattle.si_io.specs.Sends.{SendsAll, SendsPart}
 use Rattle.si_session.specs.Commands.{IsPerformed}
 use Rattle.si_term.specs.Meaning.{clause_of}
@@ -46,16 +47,18 @@ use Rattle.si_session.proofs.Standing.{hits_standing}
 use Rattle.si_session.specs.declared.reply.ReplyLine as reply
 use Rattle.si_session.specs.Replies.{reply_line, misused_text, counts_text, counts_reply}
 use Rattle.si_session.specs.Rejections.{HasHead, NamesEntry, TellsFault, TellsWhy}
-use Rattle.si_io.specs.declared.counts.LibraryCounts.{LibraryCounts}
 use Rattle.si_session.specs.ShownTrees.{nodes_of, Asks, ShowsTrees}
-use Rattle.si_session.specs.Session.{Around, Steps, HoldsTrees, GoesByTrees, ChangesKept, Writes, HasPerformed, ActsOn, rightly, at_once, behind, HasLoaded, LoadsInto, rightly_loaded, ran_out, view_of, holding}
+use Rattle.si_session.specs.Session.{Around, around, KeepsFiles, CountsSinkFault, Steps, HoldsTrees, GoesByTrees, ChangesKept, Writes, HasPerformed, ActsOn, rightly, at_once, behind, HasLoaded, LoadsInto, rightly_loaded, ran_out, view_of, holding}
 use Rattle.si_session.specs.declared.stepped.Stepped.{Stepped}
-use Rattle.si_session.proofs.Owing.{counts_nothing}
+use Rattle.si_session.proofs.Owing.{counts_nothing, same_files}
 use Rattle.si_session.specs.declared.stepped.Stepped.TheVariants.{Answered, Refused, Silent, SinkFailed}
 
--- what is known of a sink, and of a library beside it
-abbrev pub beside : SinkShown → LibraryCounts → Bool → Around
-beside sink counts may_fail = record { sink = sink; counts = counts; may_fail = may_fail }
+-- ---- the sink's count of faults
+pub faults_stand : (o : Stepped) (a b : SinkShown) → (o ≡ SinkFailed → ⊥) → b.counts.faults ≡ a.counts.faults → CountsSinkFault o a b
+faults_stand o a b other e = record { later = omega (arith, e); kept = λ _. e; failed = λ f. absurd (other f) }
+
+pub faults_rise : (a b : SinkShown) → b.counts.faults ≡ raised a.counts.faults → CountsSinkFault SinkFailed a b
+faults_rise a b e = record { later = omega (arith, e); kept = λ other. absurd (other refl); failed = λ _. e }
 
 -- ---- the last line of a reply
 refusal-last : (lines : List Bytes) (line : Bytes) → is_refusal (lines ++ line ∷ []) ≡ begins_with 33 line
@@ -217,11 +220,11 @@ by_trees limits old new line command short means reply shows stays = record {
   by (inl changes) = inl (command, (short, means), changes)
   by (inr same) = inr same
 
-pub stepped : (limits : Limits) (told : Option Files) (old new : Kept) (line : Bytes) (command : Command) (o : Stepped) (a b : SinkShown) (counts : LibraryCounts) (may_fail : Bool)
+pub stepped : (limits : Limits) (library : LibraryShown) (old new : Kept) (line : Bytes) (command : Command) (o : Stepped) (a b : SinkShown)
     → HoldsTrees (view_of limits old) → new.rules ≡ old.rules → IsShort limits line → IsPerformed command line → ActsOn command old new o a b
     → ((reply : Reply) → ShowsTrees old.numbers old.trees command reply) → ChangesKept command ⊎ (new.trees ≡ old.trees)
-    → Steps told (view_of limits old) (view_of limits new) (a_line line) o (beside a counts may_fail) (beside b counts may_fail)
-stepped limits told old new line command o a b counts may_fail held rules short performs acts shows stays = by (acts (view_of limits old).setting (view_of limits old).state) where
+    → Steps (view_of limits old) (view_of limits new) (a_line line) o (around a library) (around b library)
+stepped limits library old new line command o a b held rules short performs acts shows stays = by (acts (view_of limits old).setting (view_of limits old).state) where
   loud : IsSilent limits line → ⊥
   loud h = performs.0 h.1
 
@@ -232,9 +235,9 @@ stepped limits told old new line command o a b counts may_fail held rules short 
   same_setting = setting_stays limits old new rules
 
   by : HasPerformed (Performs (view_of limits old).setting command (view_of limits old).state) (view_of limits old).state (view_of limits new).state o a b
-      → Steps told (view_of limits old) (view_of limits new) (a_line line) o (beside a counts may_fail) (beside b counts may_fail)
-  by (rightly reply p w) = record { reply = reply; owed = nothing; step = right (performed short command performs.1 p refl); setting = same_setting; held = held; own_trees = own _; written = w; counted = counts_nothing counts may_fail }
-  by (at_once same w) = record { reply = memory_line ∷ []; owed = nothing; step = memory_at_once loud short refl (inl refl) same; setting = same_setting; held = held; own_trees = own _; written = w; counted = counts_nothing counts may_fail }
+      → Steps (view_of limits old) (view_of limits new) (a_line line) o (around a library) (around b library)
+  by (rightly reply p w) = record { reply = reply; owed = nothing; step = right (performed short command performs.1 p refl); setting = same_setting; held = held; own_trees = own _; written = w; counted = counts_nothing library.counts library.may_fail; library = same_files library }
+  by (at_once same w) = record { reply = memory_line ∷ []; owed = nothing; step = memory_at_once loud short refl (inl refl) same; setting = same_setting; held = held; own_trees = own _; written = w; counted = counts_nothing library.counts library.may_fail; library = same_files library }
   by (behind whole next p written left split rest same w) = record {
     reply = written ++ memory_line ∷ [];
     owed = nothing;
@@ -243,9 +246,10 @@ stepped limits told old new line command o a b counts may_fail held rules short 
     held = held;
     own_trees = own _;
     written = w;
-    counted = counts_nothing counts may_fail;
+    counted = counts_nothing library.counts library.may_fail;
+    library = same_files library;
   } where
-    right_of : Performs (view_of limits old).setting command (view_of limits old).state whole next → RightStep (view_of limits old).setting told (view_of limits old).state line whole nothing next
+    right_of : Performs (view_of limits old).setting command (view_of limits old).state whole next → RightStep (view_of limits old).setting library.files (view_of limits old).state line whole nothing next
     right_of p = performed short command performs.1 p refl
 
 -- ---- lines that are no command
@@ -255,10 +259,10 @@ blanks_no_command line blanks c means =
     let b = subst (λ ts. Begins line ts means.consists.rest) means.spelled.whole means.consists.begins in
     blanks_none line blanks (lower (command_text (command_word c))) b.0 b.1
 
-pub line_stepped : (limits : Limits) (told : Option Files) (index : Kept) (line : Bytes) (reply : Reply) (o : Stepped) (a b : SinkShown) (tally : LibraryCounts) (may_fail : Bool) → HoldsTrees (view_of limits index) → IsNoCommand line
-    → RightStep (view_of limits index).setting told (view_of limits index).state line reply nothing (view_of limits index).state → Writes o reply a b
-    → Steps told (view_of limits index) (view_of limits index) (a_line line) o (beside a tally may_fail) (beside b tally may_fail)
-line_stepped limits told index line reply o a b tally may_fail held none step w = record {
+pub line_stepped : (limits : Limits) (library : LibraryShown) (index : Kept) (line : Bytes) (reply : Reply) (o : Stepped) (a b : SinkShown) → HoldsTrees (view_of limits index) → IsNoCommand line
+    → RightStep (view_of limits index).setting library.files (view_of limits index).state line reply nothing (view_of limits index).state → Writes o reply a b
+    → Steps (view_of limits index) (view_of limits index) (a_line line) o (around a library) (around b library)
+line_stepped limits library index line reply o a b held none step w = record {
   reply = reply;
   owed = nothing;
   step = right step;
@@ -266,13 +270,14 @@ line_stepped limits told index line reply o a b tally may_fail held none step w 
   held = held;
   own_trees = record { shown = inr (inl (λ c asks. none c asks.1)); stay = inr refl };
   written = w;
-  counted = counts_nothing tally may_fail;
+  counted = counts_nothing library.counts library.may_fail;
+  library = same_files library;
 }
 
 -- a line that is too long
-pub long_stepped : (limits : Limits) (told : Option Files) (index : Kept) (line : Bytes) (o : Stepped) (a b : SinkShown) (tally : LibraryCounts) (may_fail : Bool) → HoldsTrees (view_of limits index) → IsLong limits line
-    → Writes o (long_line ∷ []) a b → Steps told (view_of limits index) (view_of limits index) (a_line line) o (beside a tally may_fail) (beside b tally may_fail)
-long_stepped limits told index line o a b tally may_fail held more w = record {
+pub long_stepped : (limits : Limits) (library : LibraryShown) (index : Kept) (line : Bytes) (o : Stepped) (a b : SinkShown) → HoldsTrees (view_of limits index) → IsLong limits line
+    → Writes o (long_line ∷ []) a b → Steps (view_of limits index) (view_of limits index) (a_line line) o (around a library) (around b library)
+long_stepped limits library index line o a b held more w = record {
   reply = long_line ∷ [];
   owed = nothing;
   step = right (long more refl refl refl);
@@ -280,13 +285,14 @@ long_stepped limits told index line o a b tally may_fail held more w = record {
   held = held;
   own_trees = record { shown = inr (inl (λ c asks. absurd (omega (arith, more, asks.0)))); stay = inr refl };
   written = w;
-  counted = counts_nothing tally may_fail;
+  counted = counts_nothing library.counts library.may_fail;
+  library = same_files library;
 }
 
 -- no memory for what a line says
-pub unread_stepped : (limits : Limits) (told : Option Files) (index : Kept) (line : Bytes) (o : Stepped) (a b : SinkShown) (tally : LibraryCounts) (may_fail : Bool) → HoldsTrees (view_of limits index) → IsShort limits line
-    → (AreBlanks line → ⊥) → Writes o (memory_line ∷ []) a b → Steps told (view_of limits index) (view_of limits index) (a_line line) o (beside a tally may_fail) (beside b tally may_fail)
-unread_stepped limits told index line o a b tally may_fail held short some w = record {
+pub unread_stepped : (limits : Limits) (library : LibraryShown) (index : Kept) (line : Bytes) (o : Stepped) (a b : SinkShown) → HoldsTrees (view_of limits index) → IsShort limits line
+    → (AreBlanks line → ⊥) → Writes o (memory_line ∷ []) a b → Steps (view_of limits index) (view_of limits index) (a_line line) o (around a library) (around b library)
+unread_stepped limits library index line o a b held short some w = record {
   reply = memory_line ∷ [];
   owed = nothing;
   step = memory_at_once (λ h. some h.1) short refl (inl refl) refl;
@@ -294,14 +300,15 @@ unread_stepped limits told index line o a b tally may_fail held short some w = r
   held = held;
   own_trees = record { shown = inl refl; stay = inr refl };
   written = w;
-  counted = counts_nothing tally may_fail;
+  counted = counts_nothing library.counts library.may_fail;
+  library = same_files library;
 }
 
 -- a word that can't name a file
-pub nameless_stepped : (limits : Limits) (told : Option Files) (index : Kept) (word : Bytes) (o : Stepped) (a b : SinkShown) (tally : LibraryCounts) (may_fail : Bool) → HoldsTrees (view_of limits index) → IsFalse (names_file word)
-    → Writes o (syntax_line ∷ []) a b → Steps told (view_of limits index) (view_of limits index) (a_word word) o (beside a tally may_fail) (beside b tally may_fail)
-nameless_stepped limits told index word o a b tally may_fail held none w =
-    record { reply = syntax_line ∷ []; owed = nothing; step = right_word (nameless none refl refl refl); setting = refl; held = held; own_trees = tt; written = w; counted = counts_nothing tally may_fail }
+pub nameless_stepped : (limits : Limits) (library : LibraryShown) (index : Kept) (word : Bytes) (o : Stepped) (a b : SinkShown) → HoldsTrees (view_of limits index) → IsFalse (names_file word)
+    → Writes o (syntax_line ∷ []) a b → Steps (view_of limits index) (view_of limits index) (a_word word) o (around a library) (around b library)
+nameless_stepped limits library index word o a b held none w =
+    record { reply = syntax_line ∷ []; owed = nothing; step = right_word (nameless none refl refl refl); setting = refl; held = held; own_trees = tt; written = w; counted = counts_nothing library.counts library.may_fail; library = same_files library }
 
 -- what is known of an index's trees
 pub holds_trees : (limits : Limits) (index : Kept) → AreKeyed index → NumbersExactly index.numbers index.clauses → TreesHold index → HoldsTrees (view_of limits index)
@@ -309,10 +316,10 @@ holds_trees limits index keyed exactly hold = record { number = keyed.number; nu
 
 -- ---- the trees
 -- how many nodes they have
-pub trees_stepped : (limits : Limits) (told : Option Files) (index : Kept) (line : Bytes) (shown : TreeCounts) (o : Stepped) (a b : SinkShown) (tally : LibraryCounts) (may_fail : Bool)
+pub trees_stepped : (limits : Limits) (library : LibraryShown) (index : Kept) (line : Bytes) (shown : TreeCounts) (o : Stepped) (a b : SinkShown)
     → HoldsTrees (view_of limits index) → IsShort limits line → IsPerformed tree line → shown.literals ≡ counts_of index.trees.literals → shown.terms ≡ counts_of index.trees.subterms → Writes o (counts_reply shown) a b
-    → Steps told (view_of limits index) (view_of limits index) (a_line line) o (beside a tally may_fail) (beside b tally may_fail)
-trees_stepped limits told index line shown o a b tally may_fail held short performs literals terms w =
+    → Steps (view_of limits index) (view_of limits index) (a_line line) o (around a library) (around b library)
+trees_stepped limits library index line shown o a b held short performs literals terms w =
     let whole : counts_reply shown ≡ tree_reply (nodes_of index.trees.literals) (nodes_of index.trees.subterms) =
     ap₂ (λ (x y : node_counts.Counts). counts_text (codes "literals") x ∷ counts_text (codes "terms") y ∷ []) literals terms in
     record {
@@ -323,14 +330,15 @@ trees_stepped limits told index line shown o a b tally may_fail held short perfo
       held = held;
       own_trees = by_trees limits index index line tree short performs.1 (counts_reply shown) whole (inr refl);
       written = w;
-      counted = counts_nothing tally may_fail;
+      counted = counts_nothing library.counts library.may_fail;
+      library = same_files library;
     }
 
 -- what a query passes
-pub explain_stepped : (limits : Limits) (told : Option Files) (index : Kept) (line : Bytes) (relation : Relation) (p : Pattern) (o : Stepped) (a b : SinkShown) (tally : LibraryCounts) (may_fail : Bool)
+pub explain_stepped : (limits : Limits) (library : LibraryShown) (index : Kept) (line : Bytes) (relation : Relation) (p : Pattern) (o : Stepped) (a b : SinkShown)
     → HoldsTrees (view_of limits index) → IsShort limits line → IsPerformed (explain relation p) line → TellsExplained index relation p o a b
-    → Steps told (view_of limits index) (view_of limits index) (a_line line) o (beside a tally may_fail) (beside b tally may_fail)
-explain_stepped limits told index line relation p o a b tally may_fail held short performs (inl (e, explains, w)) =
+    → Steps (view_of limits index) (view_of limits index) (a_line line) o (around a library) (around b library)
+explain_stepped limits library index line relation p o a b held short performs (inl (e, explains, w)) =
     let same : explain_line e.passed e.nodes e.answers ∷ [] ≡ explain_line e.passed (node_count (asked_tree p index.trees)) e.answers ∷ [] =
     ap (λ n. explain_line e.passed n e.answers ∷ []) explains.nodes in
     record {
@@ -343,9 +351,10 @@ explain_stepped limits told index line relation p o a b tally may_fail held shor
       held = held;
       own_trees = by_trees limits index index line (explain relation p) short performs.1 _ (e.passed, e.answers, explains.passed, same) (inr refl);
       written = w;
-      counted = counts_nothing tally may_fail;
+      counted = counts_nothing library.counts library.may_fail;
+      library = same_files library;
     }
-explain_stepped limits told index line relation p o a b tally may_fail held short performs (inr w) = record {
+explain_stepped limits library index line relation p o a b held short performs (inr w) = record {
   reply = memory_line ∷ [];
   owed = nothing;
   step = memory_at_once (λ h. performs.0 h.1) short refl (inl refl) refl;
@@ -353,7 +362,8 @@ explain_stepped limits told index line relation p o a b tally may_fail held shor
   held = held;
   own_trees = record { shown = inl refl; stay = inr refl };
   written = w;
-  counted = counts_nothing tally may_fail;
+  counted = counts_nothing library.counts library.may_fail;
+  library = same_files library;
 }
 
 -- ---- a load
@@ -374,38 +384,38 @@ load_stays setting (Some files) file state new reply owed h t = by h.1 h.3 h.5 w
   by None e s = absurd (not_gained (tried h.0) reply e t)
   by (Some f) e s = s
 
-module _ (limits : Limits) (told : Option Files) (file : Bytes) (old new : Kept) (o : Stepped) (a b : Around) (loads : LoadsInto limits told file old new o a b) where
+module _ (limits : Limits) (file : Bytes) (old new : Kept) (o : Stepped) (a b : Around) (loads : LoadsInto limits file old new o a b) where
   -- the load of a session with this index
-  own : HasLoaded (view_of limits old).setting told file (view_of limits old).state (view_of limits new).state o a b
+  own : HasLoaded (view_of limits old).setting file (view_of limits old).state (view_of limits new).state o a b
   own = loads (view_of limits old).state
 
   pub load_not_silent : o ≡ Silent → ⊥
   load_not_silent = by own where
-    by : HasLoaded (view_of limits old).setting told file (view_of limits old).state (view_of limits new).state o a b → o ≡ Silent → ⊥
+    by : HasLoaded (view_of limits old).setting file (view_of limits old).state (view_of limits new).state o a b → o ≡ Silent → ⊥
     by (rightly_loaded reply owed p w h) e =
         let v : Writes Silent reply a.sink b.sink = subst (λ x. Writes x reply a.sink b.sink) e w in
-        load_some (view_of limits old).setting told file (view_of limits old).state (view_of limits new).state reply owed p v.1
+        load_some (view_of limits old).setting a.library.files file (view_of limits old).state (view_of limits new).state reply owed p v.1
     by (ran_out owed owes same w h) e = line_not_silent o memory_line a.sink b.sink w e
 
   pub load_keeps : o ≡ Refused → (view_of limits new).state ≡ (view_of limits old).state
   load_keeps = by own where
-    by : HasLoaded (view_of limits old).setting told file (view_of limits old).state (view_of limits new).state o a b → o ≡ Refused → (view_of limits new).state ≡ (view_of limits old).state
+    by : HasLoaded (view_of limits old).setting file (view_of limits old).state (view_of limits new).state o a b → o ≡ Refused → (view_of limits new).state ≡ (view_of limits old).state
     by (rightly_loaded reply owed p w h) e =
         let v : Writes Refused reply a.sink b.sink = subst (λ x. Writes x reply a.sink b.sink) e w in
-        load_stays (view_of limits old).setting told file (view_of limits old).state (view_of limits new).state reply owed p v.1
+        load_stays (view_of limits old).setting a.library.files file (view_of limits old).state (view_of limits new).state reply owed p v.1
     by (ran_out owed owes same w h) e = same
 
-  pub load_stepped : (line : Bytes) → HoldsTrees (view_of limits old) → new.rules ≡ old.rules → IsShort limits line → IsPerformed (load file) line
-      → Steps told (view_of limits old) (view_of limits new) (a_line line) o a b
-  load_stepped line held rules short performs = by own where
+  pub load_stepped : (line : Bytes) → KeepsFiles a.library b.library → HoldsTrees (view_of limits old) → new.rules ≡ old.rules → IsShort limits line → IsPerformed (load file) line
+      → Steps (view_of limits old) (view_of limits new) (a_line line) o a b
+  load_stepped line keeps held rules short performs = by own where
     loud : IsSilent limits line → ⊥
     loud h = performs.0 h.1
 
     own_trees : (reply : Reply) → GoesByTrees (view_of limits old) (view_of limits new) line reply
     own_trees reply = by_trees limits old new line (load file) short performs.1 reply tt (inl tt)
 
-    by : HasLoaded (view_of limits old).setting told file (view_of limits old).state (view_of limits new).state o a b
-        → Steps told (view_of limits old) (view_of limits new) (a_line line) o a b
+    by : HasLoaded (view_of limits old).setting file (view_of limits old).state (view_of limits new).state o a b
+        → Steps (view_of limits old) (view_of limits new) (a_line line) o a b
     by (rightly_loaded reply owed p w h) = record {
       reply = reply;
       owed = owed;
@@ -415,15 +425,16 @@ module _ (limits : Limits) (told : Option Files) (file : Bytes) (old new : Kept)
       own_trees = own_trees reply;
       written = w;
       counted = h;
+      library = keeps;
     }
     by (ran_out owed owes same w h) =
-        record { reply = memory_line ∷ []; owed = owed; step = memory_at_once loud short refl (inr (file, performs.1, owes)) same; setting = setting_stays limits old new rules; held = held; own_trees = own_trees (memory_line ∷ []); written = w; counted = h }
+        record { reply = memory_line ∷ []; owed = owed; step = memory_at_once loud short refl (inr (file, performs.1, owes)) same; setting = setting_stays limits old new rules; held = held; own_trees = own_trees (memory_line ∷ []); written = w; counted = h; library = keeps }
 
   -- a word that names the file
-  pub word_stepped : HoldsTrees (view_of limits old) → new.rules ≡ old.rules → IsTrue (names_file file) → Steps told (view_of limits old) (view_of limits new) (a_word file) o a b
-  word_stepped held rules names = by own where
-    by : HasLoaded (view_of limits old).setting told file (view_of limits old).state (view_of limits new).state o a b
-        → Steps told (view_of limits old) (view_of limits new) (a_word file) o a b
+  pub word_stepped : KeepsFiles a.library b.library → HoldsTrees (view_of limits old) → new.rules ≡ old.rules → IsTrue (names_file file) → Steps (view_of limits old) (view_of limits new) (a_word file) o a b
+  word_stepped keeps held rules names = by own where
+    by : HasLoaded (view_of limits old).setting file (view_of limits old).state (view_of limits new).state o a b
+        → Steps (view_of limits old) (view_of limits new) (a_word file) o a b
     by (rightly_loaded reply owed p w h) = record {
       reply = reply;
       owed = owed;
@@ -433,6 +444,7 @@ module _ (limits : Limits) (told : Option Files) (file : Bytes) (old new : Kept)
       own_trees = tt;
       written = w;
       counted = h;
+      library = keeps;
     }
     by (ran_out owed owes same w h) =
-        record { reply = memory_line ∷ []; owed = owed; step = no_memory names refl owes same; setting = setting_stays limits old new rules; held = held; own_trees = tt; written = w; counted = h }
+        record { reply = memory_line ∷ []; owed = owed; step = no_memory names refl owes same; setting = setting_stays limits old new rules; held = held; own_trees = tt; written = w; counted = h; library = keeps }

@@ -12,7 +12,7 @@ use Rattle.si_steps.specs.Replies.{refusal_line, misused_line, full_line, fault_
 use Rattle.si_steps.specs.Loads.{misses_in, bigs_in, failures_in, owed_for, MayFetch, load_bounds, gained_line, PerformsLoad}
 use Rattle.si_term.proofs.EntryHeads.{symbol_placed}
 use Rattle.si_term.specs.Meaning.{name_of, clause_of}
-use Rattle.si_io.specs.Shown.{SinkShown}
+use Rattle.si_io.specs.Shown.{SinkShown, LibraryShown}
 use Rattle.si_io.specs.Library.{Counts, faults_in}
 use Rattle.si_io.specs.declared.counts.LibraryCounts.{LibraryCounts}
 use Rattle.si_io.specs.Counts.{raised_by}
@@ -33,8 +33,8 @@ use Rattle.si_session.specs.declared.reply.ReplyLine as program
 use Rattle.si_session.specs.declared.stepped.Stepped.{Stepped}
 use Rattle.si_session.specs.Replies.{reply_line, misused_text}
 use Rattle.si_session.specs.Rejections.{TellsFault, IsTellable, TellsFaultOfLoad}
-use Rattle.si_session.specs.Session.{behind_owed, IsCounted, Writes, HasLoaded, LoadsInto, rightly_loaded, ran_out, view_of, holding}
-use Rattle.si_session.proofs.Acting.{beside, holds_same, at_seam, has_head}
+use Rattle.si_session.specs.Session.{around, behind_owed, IsCounted, Writes, HasLoaded, LoadsInto, rightly_loaded, ran_out, view_of, holding}
+use Rattle.si_session.proofs.Acting.{holds_same, at_seam, has_head}
 
 -- ---- a clause that is refused
 rejects : (rules : Rules) (state : List Clause) (clause : Clause) (refusal : Refusal) (why : AddFault) → IsReason rules why refusal
@@ -138,7 +138,7 @@ module _ (rules : Rules) (made : ℕ) (fault : Fault) (may_fail : Bool) (before 
   fault_counted harvest_fault.Memory n h = absurd n
 
 -- ---- the load
-module _ (limits : Limits) (told : Option Files) (file : Bytes) (old new : Kept) (o : Stepped) (a b : SinkShown) (x y : LibraryCounts) (may_fail now : Bool) where
+module _ (limits : Limits) (file : Bytes) (old new : Kept) (o : Stepped) (a b : SinkShown) (x y : LibraryShown) where
   refused_where : (told : Option Files) (fault : Fault) (made : ℕ) (state : State) → MayFetch (load_bounds limits) file made → HasFault told (load_bounds limits) old.rules old.clauses file made fault
       → new.clauses ≡ old.clauses
       → PerformsLoad (view_of limits old).setting told file (holding state old) (fault_line old.rules.entries fault ∷ []) (owed_for made (Some fault)) (holding state new)
@@ -158,20 +158,20 @@ module _ (limits : Limits) (told : Option Files) (file : Bytes) (old new : Kept)
             (refused_where told (failed name) made state may h e),
       )
 
-  pub load_refused : (e : HarvestFault) (line : program.ReplyLine) → ReadsFiles {T = Loaded} told (load_bounds limits) old.rules file (Err e) old.clauses new.clauses x.calls y.calls
-      → TellsFaultOfLoad e line → HasFaultCause may_fail (faults_in x) (faults_in y) e → new.clauses ≡ old.clauses → Writes o (reply_line line ∷ []) a b
-      → LoadsInto limits told file old new o (beside a x may_fail) (beside b y now)
+  pub load_refused : (e : HarvestFault) (line : program.ReplyLine) → ReadsFiles {T = Loaded} x.files (load_bounds limits) old.rules file (Err e) old.clauses new.clauses x.counts.calls y.counts.calls
+      → TellsFaultOfLoad e line → HasFaultCause x.may_fail (faults_in x.counts) (faults_in y.counts) e → new.clauses ≡ old.clauses → Writes o (reply_line line ∷ []) a b
+      → LoadsInto limits file old new o (around a x) (around b y)
   load_refused e line reads t h same w state = by reads.fault where
-    by : Explains old.rules e (HasFault told (load_bounds limits) old.rules old.clauses file reads.made)
-        → HasLoaded (view_of limits old).setting told file (holding state old) (holding state new) o (beside a x may_fail) (beside b y now)
+    by : Explains old.rules e (HasFault x.files (load_bounds limits) old.rules old.clauses file reads.made)
+        → HasLoaded (view_of limits old).setting file (holding state old) (holding state new) o (around a x) (around b y)
     by (inl m) =
         let out : reply_line line ≡ memory_line = subst (λ f. TellsFaultOfLoad f line) m t in
-        ran_out (owed_for reads.made None) (reads.may, refl, first_made told reads.made state reads.may reads.first same) (holds_same old new state same) (subst (λ l. Writes o (l ∷ []) a b) out w)
-        (gained_counted reads.made may_fail x y reads.counted (subst (HasFaultCause may_fail (faults_in x) (faults_in y)) m h))
+        ran_out (owed_for reads.made None) (reads.may, refl, first_made x.files reads.made state reads.may reads.first same) (holds_same old new state same) (subst (λ l. Writes o (l ∷ []) a b) out w)
+        (gained_counted reads.made x.may_fail x.counts y.counts reads.counted (subst (HasFaultCause x.may_fail (faults_in x.counts) (faults_in y.counts)) m h))
     by (inr r) =
-        rightly_loaded (fault_line old.rules.entries r.fault ∷ []) (owed_for reads.made (Some r.fault)) (refused_where told r.fault reads.made state reads.may r.holds same)
+        rightly_loaded (fault_line old.rules.entries r.fault ∷ []) (owed_for reads.made (Some r.fault)) (refused_where x.files r.fault reads.made state reads.may r.holds same)
         (subst (λ l. Writes o (l ∷ []) a b) (fault_told old.rules e r.fault line r.told t) w)
-        (fault_counted old.rules reads.made r.fault may_fail x y reads.counted e r.told h)
+        (fault_counted old.rules reads.made r.fault x.may_fail x.counts y.counts reads.counted e r.told h)
 
   gained_where : (told : Option Files) (loaded : Loaded) (made : ℕ) (state : State) → Gained old.rules old.clauses loaded new.clauses
       → MayFetch (load_bounds limits) file made → GainsByLoad told (load_bounds limits) old.rules old.clauses file made new.clauses
@@ -192,8 +192,8 @@ module _ (limits : Limits) (told : Option Files) (file : Bytes) (old new : Kept)
         front (c ∷ cs) ys zs e = let f : cs ++ ys ≡ cs ++ zs = cc in front cs ys zs f
 
   pub load_gained : (loaded : Loaded) (clauses entries : ℕ) → clauses ≡ loaded.clauses → entries ≡ loaded.entries → Gained old.rules old.clauses loaded new.clauses
-      → ReadsFiles {T = Loaded} told (load_bounds limits) old.rules file (Ok loaded) old.clauses new.clauses x.calls y.calls
-      → faults_in y ≡ faults_in x → Writes o (ok_line clauses entries ∷ []) a b → LoadsInto limits told file old new o (beside a x may_fail) (beside b y now)
+      → ReadsFiles {T = Loaded} x.files (load_bounds limits) old.rules file (Ok loaded) old.clauses new.clauses x.counts.calls y.counts.calls
+      → faults_in y.counts ≡ faults_in x.counts → Writes o (ok_line clauses entries ∷ []) a b → LoadsInto limits file old new o (around a x) (around b y)
   load_gained loaded clauses entries many more g reads same w state =
-      rightly_loaded (ok_line loaded.clauses loaded.entries ∷ []) (owed_for reads.made None) (gained_where told loaded reads.made state g reads.may reads.right)
-      (subst (λ r. Writes o r a b) (ap₂ (λ m n. ok_line m n ∷ []) many more) w) (gained_counted reads.made may_fail x y reads.counted same)
+      rightly_loaded (ok_line loaded.clauses loaded.entries ∷ []) (owed_for reads.made None) (gained_where x.files loaded reads.made state g reads.may reads.right)
+      (subst (λ r. Writes o r a b) (ap₂ (λ m n. ok_line m n ∷ []) many more) w) (gained_counted reads.made x.may_fail x.counts y.counts reads.counted same)

@@ -1,9 +1,10 @@
--- What a library counts behind nothing, and behind what two replies owe.
+-- What a library counts behind nothing, and behind what two replies owe; and that its files stay.
 use Rattle.std.proofs.Common.{◌≡◌, ℕ, ◌+◌, Bool, refl, ap, ◌∙◌, arith}
 use Rattle.si_steps.specs.Loads.{Owed, nothing, together}
 use Rattle.si_io.specs.declared.counts.LibraryCounts.{LibraryCounts}
 use Rattle.si_io.specs.Counts.{raised_by}
-use Rattle.si_session.specs.Session.{behind_owed, IsCounted}
+use Rattle.si_io.specs.Shown.{LibraryShown}
+use Rattle.si_session.specs.Session.{behind_owed, IsCounted, KeepsFiles}
 
 pub counts_nothing : (counts : LibraryCounts) (may_fail : Bool) → IsCounted may_fail nothing counts counts
 counts_nothing counts may_fail = record {
@@ -30,3 +31,10 @@ counts_then may_fail before middle now one other h k = record {
   counts = k.counts ∙ ap (behind_owed other) h.counts ∙ behind_both one other before;
   sure = λ never. omega (arith, h.sure never, k.sure never);
 }
+
+-- ---- its files
+pub same_files : (library : LibraryShown) → KeepsFiles library library
+same_files library = record { told = refl; same = refl }
+
+pub files_then : (x y z : LibraryShown) → KeepsFiles x y → KeepsFiles y z → KeepsFiles x z
+files_then x y z h k = record { told = k.told ∙ h.told; same = k.same ∙ h.same }

@@ -1,5 +1,5 @@
 -- What a session is seen as, and what one step does.
-use Rattle.std.specs.Prelude.{◌≡◌, ◌⊎◌, ℕ, Bool, List, [], ◌∷◌, ◌++◌, length, Option, IsTrue, IsFalse, refl}
+use Rattle.std.specs.Prelude.{◌≡◌, ◌≤◌, ◌⊎◌, ℕ, Bool, List, [], ◌∷◌, ◌++◌, length, IsTrue, IsFalse, refl}
 use Rattle.std.specs.Coded.{Coded, code_by, coded×, coded_ℕ, coded_list}
 use Rattle.si_defs.specs.Bytes.{Bytes}
 use Rattle.si_state.specs.States.{State, Rules, state_code, rules_code, empty_state}
@@ -13,14 +13,13 @@ use Rattle.si_held.specs.TwoTrees.{TwoTrees, Hold}
 use Rattle.si_forest.specs.Codes.{two_trees_code}
 use Rattle.si_steps.specs.Commands.{Command, add, load, remove, sample}
 use Rattle.si_steps.specs.Replies.{Reply, is_refusal, memory_line}
-use Rattle.si_state.specs.Harvest.{Files}
 use Rattle.si_steps.specs.Loads.{Owed, OwesFetches, PerformsLoad}
 use Rattle.si_steps.specs.Steps.{Performs}
 use Rattle.si_steps.specs.Runs.{Request, a_word, a_line, Acts, ended}
 use Rattle.si_io.specs.Shown.{SinkShown, LibraryShown}
 use Rattle.si_io.specs.Sends.{SendsAll, SendsPart}
 use Rattle.si_io.specs.declared.counts.LibraryCounts.{LibraryCounts}
-use Rattle.si_io.specs.Counts.{raised_by}
+use Rattle.si_io.specs.Counts.{raised, raised_by}
 use Rattle.si_index.specs.Kept.{Kept, NumbersExactly, paired}
 use Rattle.si_session.specs.ShownTrees.{Asks, IsShownBy}
 use Rattle.si_session.specs.declared.stepped.Stepped.{Stepped}
@@ -125,31 +124,40 @@ pub record IsCounted (may_fail : Bool) (owed : Owed) (before now : LibraryCounts
   pub counts : now ≡ behind_owed owed before
   pub sure : IsFalse may_fail → owed.failures ≡ 0
 
--- what is known of the sink, of the library's counts and of whether the library may fail, before a
--- step or behind it
+-- The library tells the same files as before, and may fail where it might before.
+pub record KeepsFiles (before after : LibraryShown) : Type 0 where
+  pub told : after.files ≡ before.files
+  pub same : after.may_fail ≡ before.may_fail
+
+-- what a sink and a library show before a call, or after it
 pub record Around : Type 0 where
   pub sink : SinkShown
-  pub counts : LibraryCounts
-  pub may_fail : Bool
+  pub library : LibraryShown
 
--- the same of a sink and a library that show this
 abbrev pub around : SinkShown → LibraryShown → Around
-around sink library =
-    record { sink = sink; counts = library.counts; may_fail = library.may_fail }
+around sink library = record { sink = sink; library = library }
+
+-- The sink's count of faults is one more where the step failed at the sink, and else as before.
+pub record CountsSinkFault (outcome : Stepped) (before after : SinkShown) : Type 0 where
+  pub later : before.counts.faults ≤ after.counts.faults
+  pub kept : (outcome ≡ SinkFailed → ⊥) → after.counts.faults ≡ before.counts.faults
+  pub failed : outcome ≡ SinkFailed → after.counts.faults ≡ raised before.counts.faults
 
 -- The call went one step over a library: the state is the one behind it, its reply was written, or
 -- at a sink's fault a prefix of it, and what the reply owes to the library was counted. The setting
--- stays.
-pub record Steps (told : Option Files) (old new : View) (request : Request) (outcome : Stepped)
+-- stays, and so do the library's files.
+pub record Steps (old new : View) (request : Request) (outcome : Stepped)
     (before after : Around) : Type 0 where
   pub reply : Reply
   pub owed : Owed
-  pub step : Acts old.setting told old.state request reply owed new.state
+  pub step : Acts old.setting before.library.files old.state request reply owed new.state
   pub setting : new.setting ≡ old.setting
   pub held : HoldsTrees old
   pub own_trees : KeepsToTrees old new request reply
   pub written : Writes outcome reply before.sink after.sink
-  pub counted : IsCounted before.may_fail owed before.counts after.counts
+  pub counted :
+      IsCounted before.library.may_fail owed before.library.counts after.library.counts
+  pub library : KeepsFiles before.library after.library
 
 -- ---- parts of a step
 -- What a command did: its reply P was right, and so is the state behind it; or memory ran out, at
@@ -182,21 +190,22 @@ ActsOn command old new outcome before after =
 
 -- What a load did: its reply was right, what it owes was counted, and the state is the one behind
 -- it; or memory ran out, its fetches were counted, and the state stayed.
-pub data HasLoaded (setting : Setting) (told : Option Files) (file : Bytes) (old new : State)
-    (outcome : Stepped) (before after : Around) : Type 0 where
-  rightly_loaded : (reply : Reply) (owed : Owed) → PerformsLoad setting told file old reply owed new
+pub data HasLoaded (setting : Setting) (file : Bytes) (old new : State) (outcome : Stepped)
+    (before after : Around) : Type 0 where
+  rightly_loaded : (reply : Reply) (owed : Owed)
+      → PerformsLoad setting before.library.files file old reply owed new
       → Writes outcome reply before.sink after.sink
-      → IsCounted before.may_fail owed before.counts after.counts
-      → HasLoaded setting told file old new outcome before after
-  ran_out : (owed : Owed) → OwesFetches setting told file old owed → new ≡ old
+      → IsCounted before.library.may_fail owed before.library.counts after.library.counts
+      → HasLoaded setting file old new outcome before after
+  ran_out : (owed : Owed) → OwesFetches setting before.library.files file old owed → new ≡ old
       → Writes outcome (memory_line ∷ []) before.sink after.sink
-      → IsCounted before.may_fail owed before.counts after.counts
-      → HasLoaded setting told file old new outcome before after
+      → IsCounted before.library.may_fail owed before.library.counts after.library.counts
+      → HasLoaded setting file old new outcome before after
 
 -- the same of an index, under these limits
-abbrev pub LoadsInto : Limits → Option Files → (file : Bytes) → Kept → Kept → Stepped
-    → Around → Around → Type 0
-LoadsInto limits told file old new outcome before after =
+abbrev pub LoadsInto : Limits → (file : Bytes) → Kept → Kept → Stepped → Around → Around
+    → Type 0
+LoadsInto limits file old new outcome before after =
     (state : State)
-    → HasLoaded (view_of limits old).setting told file (holding state old) (holding state new)
-    outcome before after
+    → HasLoaded (view_of limits old).setting file (holding state old) (holding state new) outcome
+    before after

@@ -15,7 +15,7 @@ use Rattle.si_steps.specs.Replies.{Reply, NodeCounts, tree_reply, explain_line, 
 abbrev pub nodes_of : Tree Term → NodeCounts
 nodes_of t = record { nodes = node_count t; leaves = leaf_count t; unmerged = unmerged_count t }
 
--- what the reply to a command shows of trees, it shows of these, in which symbols have these numbers
+-- what the reply to a command shows of trees, it shows of these, where symbols have these numbers
 abbrev pub ShowsTrees : Numbering → TwoTrees → Command → Reply → Type 0
 ShowsTrees numbers trees tree reply =
     reply ≡ tree_reply (nodes_of trees.literals) (nodes_of trees.subterms)
@@ -28,8 +28,8 @@ ShowsTrees numbers trees command reply = Unit {0}
 abbrev pub Asks : Limits → Bytes → Command → Type 0
 Asks limits line command = IsShort limits line × Means command line
 
--- Memory ran out at once, or the line is no command, or the reply is to a command that it means, and
--- shows these trees.
+-- Memory ran out at once, or the line is no command, or the reply is to a command that it means,
+-- and shows these trees.
 abbrev pub IsShownBy : Limits → Numbering → TwoTrees → Bytes → Reply → Type 0
 IsShownBy limits numbers trees line reply =
     (reply ≡ memory_line ∷ []) ⊎ ((command : Command) → Asks limits line command → ⊥)

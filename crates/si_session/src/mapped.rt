@@ -1,5 +1,5 @@
 // The answer to a question of subsumption: a line for each clause.
-ghost use Rattle.std.specs.Prelude.{◌≡◌, ◌≤◌, map};
+ghost use Rattle.std.specs.Prelude.{◌≡◌, map};
 ghost use Rattle.std.specs.List.{AllByRecursion};
 ghost use Rattle.si_defs.specs.Clauses.{AreSoundLiterals};
 ghost use Rattle.si_state.specs.Subsumption.{mapped_text};
@@ -7,11 +7,9 @@ ghost use Rattle.si_steps.specs.Commands as command;
 ghost use Rattle.si_steps.specs.Replies.{mapped_reply};
 ghost use Rattle.si_steps.specs.Runs.{ended};
 ghost use Rattle.si_io.specs.Sends.{Sends};
-ghost use Rattle.si_io.specs.Counts.{raised};
 ghost use Rattle.si_term.specs.Meaning.{name_of, literal_of};
 ghost use Rattle.si_session.specs.MappedClauses.{IsKeptAt, all_mapped, mapped_line, unended_mapped};
-ghost use Rattle.si_session.specs.Session.{Writes, ActsOn};
-ghost use Rattle.si_session.specs.declared.stepped.Stepped.TheVariants.{SinkFailed};
+ghost use Rattle.si_session.specs.Session.{Writes, ActsOn, CountsSinkFault};
 
 use crate::buffered::{Borrowed, Buffered, Origin};
 use crate::reply::{ReplyLine, put_end, tell};
@@ -90,11 +88,7 @@ fn tell_mapped<K: Sink>(index: &Index, found: &Mappeds, sink: &mut K) -> Stepped
     requires { AllByRecursion (IsKeptAt index.now.clauses) found.now }
     ensures written { Writes result (mapped_reply (all_mapped index.now.clauses found.now))
         (K.shown sink.old) (K.shown sink.new) }
-    ensures later { (K.shown sink.old).counts.faults ≤ (K.shown sink.new).counts.faults }
-    ensures kept { (result ≡ SinkFailed → ⊥) → (K.shown sink.new).counts.faults ≡
-        (K.shown sink.old).counts.faults }
-    ensures failed { result ≡ SinkFailed → (K.shown sink.new).counts.faults
-        ≡ raised (K.shown sink.old).counts.faults }
+    ensures faults { CountsSinkFault result (K.shown sink.old) (K.shown sink.new) }
 {
     match put_answer(index, found, sink) {
         Ok(()) => Stepped::Answered,
@@ -107,11 +101,7 @@ pub fn subsumers<K: Sink>(index: &Index, formula: &Literals, sink: &mut K) -> St
     requires { AreSoundLiterals (map literal_of formula.now) }
     ensures acts { ActsOn (command.subsumers (map literal_of formula.now)) index.now index.now
         result (K.shown sink.old) (K.shown sink.new) }
-    ensures later { (K.shown sink.old).counts.faults ≤ (K.shown sink.new).counts.faults }
-    ensures kept { (result ≡ SinkFailed → ⊥) → (K.shown sink.new).counts.faults ≡
-        (K.shown sink.old).counts.faults }
-    ensures failed { result ≡ SinkFailed → (K.shown sink.new).counts.faults
-        ≡ raised (K.shown sink.old).counts.faults }
+    ensures faults { CountsSinkFault result (K.shown sink.old) (K.shown sink.new) }
 {
     match index.subsumers(formula) {
         Ok(found) => tell_mapped(index, &found, sink),
@@ -124,11 +114,7 @@ pub fn subsumed<K: Sink>(index: &Index, formula: &Literals, sink: &mut K) -> Ste
     requires { AreSoundLiterals (map literal_of formula.now) }
     ensures acts { ActsOn (command.subsumed (map literal_of formula.now)) index.now index.now result
         (K.shown sink.old) (K.shown sink.new) }
-    ensures later { (K.shown sink.old).counts.faults ≤ (K.shown sink.new).counts.faults }
-    ensures kept { (result ≡ SinkFailed → ⊥) → (K.shown sink.new).counts.faults ≡
-        (K.shown sink.old).counts.faults }
-    ensures failed { result ≡ SinkFailed → (K.shown sink.new).counts.faults
-        ≡ raised (K.shown sink.old).counts.faults }
+    ensures faults { CountsSinkFault result (K.shown sink.old) (K.shown sink.new) }
 {
     match index.subsumed(formula) {
         Ok(found) => tell_mapped(index, &found, sink),

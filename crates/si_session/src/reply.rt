@@ -1,16 +1,14 @@
 // Replies of one line, written to a sink.
-ghost use Rattle.std.specs.Prelude.{◌≡◌, ◌≤◌, ◌++◌, [], ◌∷◌, decimal};
+ghost use Rattle.std.specs.Prelude.{◌≡◌, ◌++◌, [], ◌∷◌, decimal};
 ghost use Rattle.si_defs.specs.Printing.{name_text, file_text, symbol_text};
 ghost use Rattle.si_steps.specs.Replies.{is_refusal, end_line};
-ghost use Rattle.si_io.specs.Counts.{raised};
 ghost use Rattle.si_io.specs.Sends.{Sends};
 ghost use Rattle.si_term.specs.Terms.{symbol_of};
 ghost use Rattle.si_term.specs.Meaning.{name_of};
 ghost use Rattle.si_session.specs.Signs.{sign_text};
 ghost use Rattle.si_session.specs.declared.sign.Sign.TheVariants.{Space};
 ghost use Rattle.si_session.specs.Replies.{reply_line, closed_line, stats_text, closed_shape, file_word, line_word};
-ghost use Rattle.si_session.specs.Session.{Writes};
-ghost use Rattle.si_session.specs.declared.stepped.Stepped.TheVariants.{SinkFailed};
+ghost use Rattle.si_session.specs.Session.{Writes, CountsSinkFault};
 
 use crate::buffered::{Borrowed, Buffered, Origin};
 use crate::sign::{Sign, put_sign};
@@ -340,11 +338,7 @@ fn refuses(reply: ReplyLine<'_>) -> bool
 pub fn tell<K: Sink>(sink: &mut K, reply: ReplyLine<'_>) -> Stepped
     ensures written { Writes result (reply_line reply.entry ∷ []) (K.shown sink.old)
         (K.shown sink.new) }
-    ensures later { (K.shown sink.old).counts.faults ≤ (K.shown sink.new).counts.faults }
-    ensures kept { (result ≡ SinkFailed → ⊥) → (K.shown sink.new).counts.faults ≡
-        (K.shown sink.old).counts.faults }
-    ensures failed { result ≡ SinkFailed → (K.shown sink.new).counts.faults
-        ≡ raised (K.shown sink.old).counts.faults }
+    ensures faults { CountsSinkFault result (K.shown sink.old) (K.shown sink.new) }
 {
     match put_at_once(sink, reply) {
         Ok(()) if refuses(reply) => Stepped::Refused,

@@ -5,13 +5,11 @@ ghost use Rattle.si_defs.specs.Entries.{entries, placed_in, state_entries};
 ghost use Rattle.si_defs.specs.declared.TheConstants.{MOST_OCCURRENCES};
 ghost use Rattle.si_state.specs.Samples.{AllowsSample, SumsAnswers};
 ghost use Rattle.si_steps.specs.Commands.{sample};
-ghost use Rattle.si_io.specs.Counts.{raised};
 ghost use Rattle.si_term.specs.Meaning.{clause_of, entry_of, pattern_of};
 ghost use Rattle.si_flat.specs.Flattened.{IsSoundEntry};
 ghost use Rattle.si_harvest.specs.Faults.{Explains};
-ghost use Rattle.si_session.specs.Session.{ActsOn};
+ghost use Rattle.si_session.specs.Session.{ActsOn, CountsSinkFault};
 ghost use Rattle.si_session.specs.Sums.{GainsSample, RefusesSample, CountsUnifiable, CountsAnswers, SumsLast, TellsSum};
-ghost use Rattle.si_session.specs.declared.stepped.Stepped.TheVariants.{SinkFailed};
 
 use crate::refusals::load_refusal;
 use crate::reply::{ReplyLine, tell};
@@ -36,11 +34,7 @@ pub fn sample<K: Sink>(
     ensures acts { ActsOn (sample start count) index.old index.new result
         (K.shown sink.old) (K.shown sink.new) }
     ensures rules { index.new.rules ≡ index.old.rules }
-    ensures later { (K.shown sink.old).counts.faults ≤ (K.shown sink.new).counts.faults }
-    ensures kept { (result ≡ SinkFailed → ⊥) → (K.shown sink.new).counts.faults ≡
-        (K.shown sink.old).counts.faults }
-    ensures failed { result ≡ SinkFailed → (K.shown sink.new).counts.faults
-        ≡ raised (K.shown sink.old).counts.faults }
+    ensures faults { CountsSinkFault result (K.shown sink.old) (K.shown sink.new) }
 {
     match take_sample(alloc, index, start, count) {
         Ok(gained) => tell_sum(alloc, index, gained, sink),
@@ -75,11 +69,7 @@ fn tell_sum<K: Sink>(alloc: Global, index: &mut Index, gained: Loaded, sink: &mu
     ensures told { TellsSum gained index.old.clauses index.new.clauses result
         (K.shown sink.old) (K.shown sink.new) }
     ensures rules { index.new.rules ≡ index.old.rules }
-    ensures later { (K.shown sink.old).counts.faults ≤ (K.shown sink.new).counts.faults }
-    ensures kept { (result ≡ SinkFailed → ⊥) → (K.shown sink.new).counts.faults ≡
-        (K.shown sink.old).counts.faults }
-    ensures failed { result ≡ SinkFailed → (K.shown sink.new).counts.faults
-        ≡ raised (K.shown sink.old).counts.faults }
+    ensures faults { CountsSinkFault result (K.shown sink.old) (K.shown sink.new) }
 {
     match sum_last(alloc, index, gained.clauses) {
         Ok(sum) => tell(

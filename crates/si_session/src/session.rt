@@ -8,9 +8,8 @@ ghost use Rattle.si_steps.specs.Settings.{setting_of};
 ghost use Rattle.si_steps.specs.Commands.{IsSilent, add, remove, query};
 ghost use Rattle.si_steps.specs.FileWords.{names_file};
 ghost use Rattle.si_steps.specs.Runs.{a_word, a_line};
-ghost use Rattle.si_session.specs.Session.{IsFresh, Steps, ActsOn, LoadsInto, around};
-ghost use Rattle.si_session.specs.declared.stepped.Stepped.TheVariants.{Silent, Refused, SinkFailed};
-ghost use Rattle.si_io.specs.Counts.{raised};
+ghost use Rattle.si_session.specs.Session.{IsFresh, Steps, KeepsFiles, CountsSinkFault, ActsOn, LoadsInto, around};
+ghost use Rattle.si_session.specs.declared.stepped.Stepped.TheVariants.{Silent, Refused};
 ghost use Rattle.si_defs.specs.Clauses.{IsSoundClause, IsSoundPattern};
 ghost use Rattle.si_term.specs.Meaning.{name_of, clause_of, pattern_of};
 
@@ -75,18 +74,16 @@ impl Session {
         library: &mut L,
         sink: &mut K,
     ) -> Stepped
-        ensures step { Steps (L.shown library.old).files self.old self.new (a_line line.now) result
+        // The session went one step: its state is the next one, and the reply was written.
+        ensures step { Steps self.old self.new (a_line line.now) result
             (around (K.shown sink.old) (L.shown library.old))
             (around (K.shown sink.new) (L.shown library.new)) }
-        ensures told { (L.shown library.new).files ≡ (L.shown library.old).files }
-        ensures same { (L.shown library.new).may_fail ≡ (L.shown library.old).may_fail }
+        // It answers that a line has no reply exactly where the line is silent.
         ensures silent { (result ≡ Silent) ↔ IsSilent self.old.setting.limits line.now }
+        // A refusal changes nothing.
         ensures refused { result ≡ Refused → self.new.state ≡ self.old.state }
-        ensures later { (K.shown sink.old).counts.faults ≤ (K.shown sink.new).counts.faults }
-        ensures kept { (result ≡ SinkFailed → ⊥) → (K.shown sink.new).counts.faults ≡
-            (K.shown sink.old).counts.faults }
-        ensures failed { result ≡ SinkFailed → (K.shown sink.new).counts.faults
-            ≡ raised (K.shown sink.old).counts.faults }
+        // It answers a fault of the sink exactly where the sink counted one.
+        ensures faults { CountsSinkFault result (K.shown sink.old) (K.shown sink.new) }
     {
         // So the trees are known to hold the entries of what is kept.
         self.index.trees();
@@ -132,18 +129,16 @@ impl Session {
         library: &mut L,
         sink: &mut K,
     ) -> Stepped
-        ensures step { Steps (L.shown library.old).files self.old self.new (a_word word.now) result
+        // The session went one step: its state is the next one, and the reply was written.
+        ensures step { Steps self.old self.new (a_word word.now) result
             (around (K.shown sink.old) (L.shown library.old))
             (around (K.shown sink.new) (L.shown library.new)) }
-        ensures told { (L.shown library.new).files ≡ (L.shown library.old).files }
-        ensures same { (L.shown library.new).may_fail ≡ (L.shown library.old).may_fail }
+        // A word has a reply.
         ensures loud { result ≡ Silent → ⊥ }
+        // A refusal changes nothing.
         ensures refused { result ≡ Refused → self.new.state ≡ self.old.state }
-        ensures later { (K.shown sink.old).counts.faults ≤ (K.shown sink.new).counts.faults }
-        ensures kept { (result ≡ SinkFailed → ⊥) → (K.shown sink.new).counts.faults ≡
-            (K.shown sink.old).counts.faults }
-        ensures failed { result ≡ SinkFailed → (K.shown sink.new).counts.faults
-            ≡ raised (K.shown sink.old).counts.faults }
+        // It answers a fault of the sink exactly where the sink counted one.
+        ensures faults { CountsSinkFault result (K.shown sink.old) (K.shown sink.new) }
     {
         // As in a step.
         self.index.trees();
@@ -181,11 +176,7 @@ fn add<K: Sink>(index: &mut Index, clause: Clause, sink: &mut K) -> Stepped
     ensures acts { ActsOn (add (clause_of clause)) index.old index.new result
         (K.shown sink.old) (K.shown sink.new) }
     ensures rules { index.new.rules ≡ index.old.rules }
-    ensures later { (K.shown sink.old).counts.faults ≤ (K.shown sink.new).counts.faults }
-    ensures kept { (result ≡ SinkFailed → ⊥) → (K.shown sink.new).counts.faults ≡
-        (K.shown sink.old).counts.faults }
-    ensures failed { result ≡ SinkFailed → (K.shown sink.new).counts.faults
-        ≡ raised (K.shown sink.old).counts.faults }
+    ensures faults { CountsSinkFault result (K.shown sink.old) (K.shown sink.new) }
 {
     match index.add(clause) {
         Ok(gained) => tell(
@@ -210,17 +201,12 @@ fn load_named<L: Library, K: Sink>(
 ) -> Stepped
     requires allows { AllowsLimits limits.now }
     requires limit { index.old.rules.entries ≤ MOST_OCCURRENCES }
-    ensures loads { LoadsInto limits.now (L.shown library.old).files name index.old index.new result
+    ensures loads { LoadsInto limits.now name index.old index.new result
         (around (K.shown sink.old) (L.shown library.old))
         (around (K.shown sink.new) (L.shown library.new)) }
     ensures rules { index.new.rules ≡ index.old.rules }
-    ensures told { (L.shown library.new).files ≡ (L.shown library.old).files }
-    ensures same { (L.shown library.new).may_fail ≡ (L.shown library.old).may_fail }
-    ensures later { (K.shown sink.old).counts.faults ≤ (K.shown sink.new).counts.faults }
-    ensures kept { (result ≡ SinkFailed → ⊥) → (K.shown sink.new).counts.faults ≡
-        (K.shown sink.old).counts.faults }
-    ensures failed { result ≡ SinkFailed → (K.shown sink.new).counts.faults
-        ≡ raised (K.shown sink.old).counts.faults }
+    ensures library { KeepsFiles (L.shown library.old) (L.shown library.new) }
+    ensures faults { CountsSinkFault result (K.shown sink.old) (K.shown sink.new) }
 {
     load(alloc, limits, index, name.as_bytes(), library, sink)
 }
@@ -236,18 +222,12 @@ fn load<L: Library, K: Sink>(
 ) -> Stepped
     requires allows { AllowsLimits limits.now }
     requires limit { index.old.rules.entries ≤ MOST_OCCURRENCES }
-    ensures loads { LoadsInto limits.now (L.shown library.old).files name.now index.old index.new
-        result
+    ensures loads { LoadsInto limits.now name.now index.old index.new result
         (around (K.shown sink.old) (L.shown library.old))
         (around (K.shown sink.new) (L.shown library.new)) }
     ensures rules { index.new.rules ≡ index.old.rules }
-    ensures told { (L.shown library.new).files ≡ (L.shown library.old).files }
-    ensures same { (L.shown library.new).may_fail ≡ (L.shown library.old).may_fail }
-    ensures later { (K.shown sink.old).counts.faults ≤ (K.shown sink.new).counts.faults }
-    ensures kept { (result ≡ SinkFailed → ⊥) → (K.shown sink.new).counts.faults ≡
-        (K.shown sink.old).counts.faults }
-    ensures failed { result ≡ SinkFailed → (K.shown sink.new).counts.faults
-        ≡ raised (K.shown sink.old).counts.faults }
+    ensures library { KeepsFiles (L.shown library.old) (L.shown library.new) }
+    ensures faults { CountsSinkFault result (K.shown sink.old) (K.shown sink.new) }
 {
     let bounds = HarvestLimits {
         file: limits.file,
@@ -271,11 +251,7 @@ fn remove<K: Sink>(index: &mut Index, name: Name, sink: &mut K) -> Stepped
     ensures acts { ActsOn (remove (name_of name)) index.old index.new result
         (K.shown sink.old) (K.shown sink.new) }
     ensures rules { index.new.rules ≡ index.old.rules }
-    ensures later { (K.shown sink.old).counts.faults ≤ (K.shown sink.new).counts.faults }
-    ensures kept { (result ≡ SinkFailed → ⊥) → (K.shown sink.new).counts.faults ≡
-        (K.shown sink.old).counts.faults }
-    ensures failed { result ≡ SinkFailed → (K.shown sink.new).counts.faults
-        ≡ raised (K.shown sink.old).counts.faults }
+    ensures faults { CountsSinkFault result (K.shown sink.old) (K.shown sink.new) }
 {
     match index.remove(&name) {
         Some(gone) => tell(
@@ -294,11 +270,7 @@ fn answer<K: Sink>(index: &Index, relation: Relation, pattern: &Pattern, sink: &
     requires { IsSoundPattern (pattern_of pattern.now) }
     ensures acts { ActsOn (query relation (pattern_of pattern.now)) index.now index.now result
         (K.shown sink.old) (K.shown sink.new) }
-    ensures later { (K.shown sink.old).counts.faults ≤ (K.shown sink.new).counts.faults }
-    ensures kept { (result ≡ SinkFailed → ⊥) → (K.shown sink.new).counts.faults ≡
-        (K.shown sink.old).counts.faults }
-    ensures failed { result ≡ SinkFailed → (K.shown sink.new).counts.faults
-        ≡ raised (K.shown sink.old).counts.faults }
+    ensures faults { CountsSinkFault result (K.shown sink.old) (K.shown sink.new) }
 {
     let found = match index.find(index.trees(), relation, pattern) {
         Ok(found) => found,

@@ -1,16 +1,14 @@
 // The replies that show the trees.
-ghost use Rattle.std.specs.Prelude.{◌≡◌, ◌≤◌, ◌++◌, codes, decimal};
+ghost use Rattle.std.specs.Prelude.{◌≡◌, ◌++◌, codes, decimal};
 ghost use Rattle.si_defs.specs.Clauses.{IsSoundPattern};
 ghost use Rattle.si_steps.specs.Runs.{ended};
-ghost use Rattle.si_io.specs.Counts.{raised};
 ghost use Rattle.si_io.specs.Sends.{Sends};
 ghost use Rattle.si_term.specs.Meaning.{pattern_of};
-ghost use Rattle.si_session.specs.Session.{Writes};
+ghost use Rattle.si_session.specs.Session.{Writes, CountsSinkFault};
 ghost use Rattle.si_session.specs.Explained.{TellsExplained};
 ghost use Rattle.si_session.specs.Replies.{counts_reply};
 ghost use Rattle.si_session.specs.Signs.{sign_text};
 ghost use Rattle.si_session.specs.declared.sign.Sign.TheVariants.{LineFeed};
-ghost use Rattle.si_session.specs.declared.stepped.Stepped.TheVariants.{SinkFailed};
 
 use crate::reply::{ReplyLine, put_three, tell};
 use crate::sign::{Sign, put_sign};
@@ -24,11 +22,7 @@ use si_tree::Counts;
 /// Writes the numbers of nodes of both trees, a line each.
 pub fn tell_trees<K: Sink>(sink: &mut K, counts: TreeCounts) -> Stepped
     ensures written { Writes result (counts_reply counts) (K.shown sink.old) (K.shown sink.new) }
-    ensures later { (K.shown sink.old).counts.faults ≤ (K.shown sink.new).counts.faults }
-    ensures kept { (result ≡ SinkFailed → ⊥) → (K.shown sink.new).counts.faults ≡
-        (K.shown sink.old).counts.faults }
-    ensures failed { result ≡ SinkFailed → (K.shown sink.new).counts.faults
-        ≡ raised (K.shown sink.old).counts.faults }
+    ensures faults { CountsSinkFault result (K.shown sink.old) (K.shown sink.new) }
 {
     match put_trees(sink, counts) {
         Ok(()) => Stepped::Answered,
@@ -73,11 +67,7 @@ pub fn explain<K: Sink>(
     requires { IsSoundPattern (pattern_of pattern.now) }
     ensures tells { TellsExplained index.now relation (pattern_of pattern.now) result
         (K.shown sink.old) (K.shown sink.new) }
-    ensures later { (K.shown sink.old).counts.faults ≤ (K.shown sink.new).counts.faults }
-    ensures kept { (result ≡ SinkFailed → ⊥) → (K.shown sink.new).counts.faults ≡
-        (K.shown sink.old).counts.faults }
-    ensures failed { result ≡ SinkFailed → (K.shown sink.new).counts.faults
-        ≡ raised (K.shown sink.old).counts.faults }
+    ensures faults { CountsSinkFault result (K.shown sink.old) (K.shown sink.new) }
 {
     match index.explain(relation, pattern) {
         Ok(explained) => tell(sink, ReplyLine::Explained(explained)),

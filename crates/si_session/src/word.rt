@@ -24,7 +24,8 @@ pub fn word_of(token: &Lexeme<'_>) -> Option<Word>
 
 /// The relation whose word a token is.
 pub fn relation_of(token: &Lexeme<'_>) -> Option<Relation>
-    ensures found { IfSome result (λ relation. token_of token.now ≡ lower (relation_text relation)) }
+    ensures found { IfSome result
+        (λ relation. token_of token.now ≡ lower (relation_text relation)) }
     ensures none { IfNone result ((relation : Relation)
         → token_of token.now ≡ lower (relation_text relation) → ⊥) }
 {

@@ -9,20 +9,21 @@ use Rattle.si_session.specs.Session.{Around}
 use Rattle.si_io.specs.Content.{prepend_told, Takes}
 use Rattle.si_io.specs.Counts.{raised}
 use Rattle.si_io.specs.Gives.{Gives}
-use Rattle.si_io.specs.Shown.{SourceShown}
+use Rattle.si_io.specs.Shown.{SourceShown, SinkShown}
+use Rattle.std.specs.Prelude.{IsTrue, Err}
 use Rattle.std.specs.Io.KnownBytes.{IsAtEnd}
 use Rattle.si_io.proofs.Gives.{Gives-nil, Gives_then, Gives_last}
 use Rattle.si_io.proofs.Content.{prepend_told-nil}
 use Rattle.stindex.specs.declared.status.Status.{Status}
-use Rattle.stindex.specs.declared.status.Status.TheVariants.{Ended, SourceFault, Memory, SessionLimit}
+use Rattle.stindex.specs.declared.status.Status.TheVariants.{Ended, Refused, SourceFault, SinkFault, Memory, SessionLimit}
 use Rattle.si_steps.specs.Runs.{lines_at_end, requests}
 use Rattle.stindex.specs.declared.status.Stop.{Stop}
 use Rattle.stindex.specs.declared.status.Stop.TheVariants as stop
 use Rattle.stindex.specs.Status.{status_of}
 use Rattle.clap.specs.Words.{Row, matches_of, takes}
 use Rattle.stindex.specs.Words.{Asked, IsReadAsSaid, program, asked_in, asked_by, HasNoFault, has_strict, files_in}
-use Rattle.stindex.specs.Serve.{DeclinesOrServes, WritesUsage, WritesTo, MetEnd, TellsEnd, TellsNoEnd, ReadsNoFurther, Ends, Serves, CountsFaults, BlamesSink}
-use Rattle.stindex.specs.Progress.{Advances, Fails, Closes, Cuts, HasProgressed}
+use Rattle.stindex.specs.Serve.{DeclinesOrServes, WritesUsage, WritesTo, MetEnd, TellsEnd, TellsNoEnd, ReadsNoFurther, Ends, Serves, CountsFaults, HasCauses, BlamesSink}
+use Rattle.stindex.specs.Progress.{Advances, Fails, Closes, Cuts, CountsStop, HasProgressed}
 use Rattle.stindex.proofs.Splitting.{Splits_none}
 
 -- ---- how it stands
@@ -114,11 +115,7 @@ pub Serves_as : (setting : Setting) (told : Option Files) (s strict : Bool) (fil
 Serves_as setting told s strict files status own source now before after same is h =
     subst (λ (b : Bool). Serves setting told b files status source now before after) same (subst (λ (o : Status). Serves setting told s files o source now before after) (sym is) h)
 
--- ---- what such an end owes
-pub counts_stop : (halt : Stop) (source sink sink_now : ℕ) → BlamesSink halt sink sink_now → CountsFaults (status_of halt) source source sink sink_now
-counts_stop stop.Refused source sink sink_now h = (refl, h)
-counts_stop stop.SinkFault source sink sink_now h = (refl, h)
-
+-- ---- what such a status isn't
 pub stop_not_source : (halt : Stop) → status_of halt ≡ SourceFault → ⊥
 stop_not_source stop.Refused e = cc
 stop_not_source stop.SinkFault e = cc
@@ -126,6 +123,33 @@ stop_not_source stop.SinkFault e = cc
 pub stop_not_memory : (halt : Stop) → status_of halt ≡ Memory → ⊥
 stop_not_memory stop.Refused e = cc
 stop_not_memory stop.SinkFault e = cc
+
+-- ---- the cause of such an end
+-- the run ends by no device's fault
+pub causes_none : (status : Status) (source now : SourceShown) (before after : SinkShown) → (status ≡ SourceFault → ⊥) → now.counts.faults ≡ source.counts.faults → after.counts.faults ≡ before.counts.faults
+    → CountsFaults status source.counts.faults now.counts.faults before.counts.faults after.counts.faults → HasCauses status source now before after
+causes_none status source now before after other same still counts = record { source_later = omega (arith, same); sink_later = omega (arith, still); counts = counts; source_sure = λ e. absurd (other e) }
+
+-- memory ran out before a device was asked
+pub causes_memory : (source : SourceShown) (sink : SinkShown) → HasCauses Memory source source sink sink
+causes_memory source sink = causes_none Memory source source sink sink (λ e. cc) refl refl (refl, refl)
+
+pub causes_source : (source now : SourceShown) (before after : SinkShown) → now.counts.faults ≡ raised source.counts.faults → after.counts.faults ≡ before.counts.faults → IsTrue source.may_fail → HasCauses SourceFault source now before after
+causes_source source now before after rose still may = record { source_later = omega (arith, rose); sink_later = omega (arith, still); counts = (rose, still); source_sure = λ e. may }
+
+pub causes_sink : (source now : SourceShown) (before after : SinkShown) → now.counts.faults ≡ source.counts.faults → after.counts.faults ≡ raised before.counts.faults → HasCauses SinkFault source now before after
+causes_sink source now before after same rose = record { source_later = omega (arith, same); sink_later = omega (arith, rose); counts = (same, rose); source_sure = λ e. absurd (stop_not_source stop.SinkFault e) }
+
+stopped_by : (halt : Stop) (source now : SourceShown) (before after : SinkShown) → now.counts.faults ≡ source.counts.faults → BlamesSink halt before.counts.faults after.counts.faults → HasCauses (status_of halt) source now before after
+stopped_by stop.Refused source now before after same h = causes_none Refused source now before after (stop_not_source stop.Refused) same h (same, h)
+stopped_by stop.SinkFault source now before after same h = causes_sink source now before after same h
+
+-- the run stopped at a reply
+pub causes_stop : (halt : Stop) (status : Status) (source now : SourceShown) (before mid after : SinkShown) → status ≡ status_of halt → now.counts.faults ≡ source.counts.faults → mid.counts.faults ≡ before.counts.faults
+    → CountsStop (Err halt) mid after → HasCauses status source now before after
+causes_stop halt status source now before mid after is same still counts =
+    subst (λ (s : Status). HasCauses s source now before after) (sym is)
+    (stopped_by halt source now before after same (subst (λ (n : ℕ). BlamesSink halt n after.counts.faults) still counts.blames))
 
 -- the run stopped at a line that is whole in the bytes of the last read
 pub Serves_sink : (halt : Stop) (setting : Setting) (told : Option Files) (strict : Bool) (files : List Bytes) (given : Setting) (tell : Option Files) (n m : ℕ) (bytes fed : Bytes) (source now next : SourceShown) (before : Around) (state : State) (held : Bytes) (x after : Around)
@@ -213,7 +237,7 @@ serves_said setting told words rows status source now before after same read s =
     subst (λ (a : Asked). Serves setting told a.strict a.files status source now before after) (ap asked_in same ∙ read.1) s
 
 pub answers_usage : (limits : Limits) (told : Option Files) (words : List Bytes) (status : Status) (source : SourceShown) (before after : Around)
-    → takes program words ≡ false → after.counts ≡ before.counts → WritesUsage status before.sink after.sink → DeclinesOrServes limits told words status source source before after
+    → takes program words ≡ false → after.library.counts ≡ before.library.counts → WritesUsage status before.sink after.sink → DeclinesOrServes limits told words status source source before after
 answers_usage limits told words status source before after refused unfetched written = inl (record { refused = refused; unread = refl; unfetched = unfetched; written = written })
 
 pub answers_memory : (limits : Limits) (told : Option Files) (words : List Bytes) (source : SourceShown) (before : Around) → DeclinesOrServes limits told words Memory source source before before

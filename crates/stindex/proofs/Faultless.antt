@@ -21,17 +21,17 @@ past : (old now : Told) (front last whole : Bytes) → Receives old front now �
 past old now front last whole given parts fits beyond = omega (arith, fits, beyond, ap (λ (t : Told). t.room) given, ap length parts, length-append front last)
 
 module _ (limits : Limits) (told : Option Files) (words : List Bytes) (source now : SourceShown) (before after : Around)
-    (room : HasRoomForOutputs limits told words before.may_fail source.left before.sink.told.room) where
+    (room : HasRoomForOutputs limits told words before.library.may_fail source.left before.sink.told.room) where
   no_sink_fault : Serves (setting_of limits) told (asked_by words).strict (asked_by words).files SinkFault source now before after → ⊥
   no_sink_fault s = elim s.ends [
     | inl stop ↦
         let part = stop.1 in
         let fits : length part.output ≤ before.sink.told.room = room.outputs s.taken now.left s.lines s.rest part.reply part.output part.owed s.gives.left s.within s.splits (inl part.right) part.counted.counts.sure in
-        past before.sink.told part.now.told part.right.before (ended part.reply) part.output part.written.told part.right.whole fits part.stopped.told.past_room
+        past before.sink.told part.middle.told part.right.before (ended part.reply) part.output part.written.told part.right.whole fits part.stopped.told.past_room
     | inr end ↦
         let part = end.2 in
         let fits : length part.output ≤ before.sink.told.room = room.outputs s.taken now.left s.lines s.rest part.reply part.output part.owed s.gives.left s.within s.splits (inr (end.1, part.right)) part.counted.counts.sure in
-        past before.sink.told part.now.told part.right.before (ended part.reply) part.output part.written.told part.right.whole fits part.stopped.told.past_room
+        past before.sink.told part.middle.told part.right.before (ended part.reply) part.output part.written.told part.right.whole fits part.stopped.told.past_room
   ]
 
   no_usage_fault : Declines words SinkFault source now before after → ⊥

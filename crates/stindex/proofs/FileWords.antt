@@ -70,7 +70,7 @@ words_stop halt setting told strict words others files word old new before now a
     counted = refl;
   };
   shown = (l.run.1, breaks.shows);
-  now = now.sink;
+  middle = now.sink;
   written = l.written;
   stopped = breaks.written;
   counted = owed_then before now after l.owed breaks.owed l.counted breaks.counted;

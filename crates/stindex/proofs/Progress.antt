@@ -15,28 +15,29 @@ use Rattle.si_io.specs.Counts.{raised}
 use Rattle.si_io.specs.Shown.{SinkShown}
 use Rattle.si_io.specs.Sends.{SendsAll}
 use Rattle.si_io.proofs.Sends.{SendsAll_then}
-use Rattle.si_session.specs.Session.{View, Around, Writes, Steps, IsCounted}
+use Rattle.si_session.specs.Session.{View, Around, Writes, Steps, CountsSinkFault, IsCounted}
 use Rattle.si_session.proofs.Owing.{counts_nothing, counts_then}
 use Rattle.si_session.specs.declared.stepped.Stepped.{Stepped}
 use Rattle.si_session.specs.declared.stepped.Stepped.TheVariants.{Answered, Refused, Silent, SinkFailed}
-use Rattle.stindex.specs.Progress.{shown, Judges, ActsOnRequest, Breaks, Progress, Advances, Feeds, BrokenOff, Fails, Closes, Cuts}
+use Rattle.stindex.specs.Progress.{shown, Judges, ActsOnRequest, Breaks, Progress, Advances, Feeds, Fails, Closes, Cuts, CountsStop, ActsOrStops}
 use Rattle.stindex.specs.declared.status.Stop.{Stop}
 use Rattle.stindex.specs.declared.status.Stop.TheVariants as stop
 use Rattle.stindex.specs.Serve.{CountsOwed, StopsAt, WritesTo, BlamesSink}
 use Rattle.si_session.specs.ShownTrees.{ShowsSome}
 use Rattle.stindex.specs.Shown.{ShowsAt, ShownRun}
 use Rattle.stindex.proofs.Steps.{shown_step, shown_shows, step_shows}
-use Rattle.std.specs.Prelude.{◌==◌, Bool, Some, None, IsTrue, IsFalse, Result, Ok, Err, OnOk, IfErr}
+use Rattle.std.specs.Prelude.{◌==◌, Bool, Some, None, IsTrue, IsFalse, Result, Ok, Err, OnOk, IfErr, IsErrAnd}
 use Rattle.std.specs.List.{position}
 use Rattle.stindex.proofs.Splitting.{line_end, line_without_end, Splits_more, Splits_line, Splits_any, Splits_one, lines_at_end-none, lines_at_end-some, requests-append, requests-more, requests-split, Run_line}
 
 -- ---- what is owed to the library
 pub owed_none : (now : Around) → CountsOwed nothing now now
-owed_none now = record { counts = counts_nothing now.counts now.may_fail; same = refl }
+owed_none now = record { counts = counts_nothing now.library.counts now.library.may_fail; same = refl }
 
 pub owed_then : (x y z : Around) (one other : Owed) → CountsOwed one x y → CountsOwed other y z → CountsOwed (together one other) x z
 owed_then x y z one other h k = record {
-  counts = counts_then x.may_fail x.counts y.counts z.counts one other h.counts (subst (λ b. IsCounted b other y.counts z.counts) h.same k.counts);
+  counts = counts_then x.library.may_fail x.library.counts y.library.counts z.library.counts one other h.counts
+      (subst (λ b. IsCounted b other y.library.counts z.library.counts) h.same k.counts);
   same = k.same ∙ h.same;
 }
 
@@ -121,7 +122,7 @@ stops_at halt setting told strict old new files lines whole line others output o
       counted = refl;
     };
     shown = (run.1, shows);
-    now = now.sink;
+    middle = now.sink;
     written = written;
     stopped = breaks.written;
     counted = owed_then before now after owed breaks.owed counted breaks.counted;
@@ -278,11 +279,11 @@ written_whole SinkFailed reply now after whole w = absurd (whole refl)
 -- ---- the sink's faults
 module _ (strict : Bool) (outcome : Stepped) (old new : ℕ)
     (kept : (outcome ≡ SinkFailed → ⊥) → new ≡ old) (failed : outcome ≡ SinkFailed → new ≡ raised old) where
-  pub faults_kept : (r : Result (Unit {0}) Stop) → Judges strict outcome r → OnOk r (new ≡ old)
+  faults_kept : (r : Result (Unit {0}) Stop) → Judges strict outcome r → OnOk r (new ≡ old)
   faults_kept (Ok done) h = kept h.0
   faults_kept (Err halt) h = tt
 
-  pub faults_blamed : (r : Result (Unit {0}) Stop) → Judges strict outcome r → IfErr r (λ halt. BlamesSink halt old new)
+  faults_blamed : (r : Result (Unit {0}) Stop) → Judges strict outcome r → IfErr r (λ halt. BlamesSink halt old new)
   faults_blamed (Ok done) h = tt
   faults_blamed (Err stop.Refused) h = kept (λ e. cc)
   faults_blamed (Err stop.SinkFault) h = failed h
@@ -298,31 +299,63 @@ stopped : (halt : Stop) (strict : Bool) (outcome : Stepped) (reply : Reply) (now
 stopped stop.Refused strict outcome reply now after h w = let v : Writes Refused reply now after = subst (λ (o : Stepped). Writes o reply now after) h.0 w in (v.0, h.1, v.1)
 stopped stop.SinkFault strict outcome reply now after h w = subst (λ (o : Stepped). Writes o reply now after) h w
 
-pub steps_at : (told : Option Files) (old new : View) (line held : Bytes) (outcome : Stepped) (now after : Around) → line ≡ held
-    → Steps told old new (a_line line) outcome now after → Steps told old new (a_line held) outcome now after
-steps_at told old new line held outcome now after same s = subst (λ (l : Bytes). Steps told old new (a_line l) outcome now after) same s
+pub steps_at : (old new : View) (line held : Bytes) (outcome : Stepped) (now after : Around) → line ≡ held
+    → Steps old new (a_line line) outcome now after → Steps old new (a_line held) outcome now after
+steps_at old new line held outcome now after same s = subst (λ (l : Bytes). Steps old new (a_line l) outcome now after) same s
 
-module _ (told : Option Files) (strict : Bool) (old new : View) (request : Request) (outcome : Stepped) (now after : Around)
-    (kept : after.may_fail ≡ now.may_fail) (s : Steps told old new request outcome now after) where
-  pub acted : (r : Result (Unit {0}) Stop) → Judges strict outcome r → OnOk r (ActsOnRequest old.setting told strict old.state new.state request now after)
+module _ (strict : Bool) (old new : View) (request : Request) (outcome : Stepped) (now after : Around)
+    (s : Steps old new request outcome now after) (faults : CountsSinkFault outcome now.sink after.sink) where
+  acted : (r : Result (Unit {0}) Stop) → Judges strict outcome r → OnOk r (ActsOnRequest old.setting now.library.files strict old.state new.state request now after)
   acted (Ok done) h = record {
     reply = s.reply;
     owed = s.owed;
     step = s.step;
-    shows = step_shows told old new request outcome now after s;
+    shows = step_shows old new request outcome now after s;
     goes = goes_on strict outcome s.reply now.sink after.sink h.0 h.1 s.written;
     written = written_whole outcome s.reply now.sink after.sink h.0 s.written;
-    counted = record { counts = s.counted; same = kept };
+    counted = record { counts = s.counted; same = s.library.same };
   }
   acted (Err halt) h = tt
 
-  pub broken : (r : Result (Unit {0}) Stop) → Judges strict outcome r → IfErr r (λ halt. Breaks halt old.setting told strict old.state new.state request now after)
+  broken : (r : Result (Unit {0}) Stop) → Judges strict outcome r → IfErr r (λ halt. Breaks halt old.setting now.library.files strict old.state new.state request now after)
   broken (Ok done) h = tt
   broken (Err halt) h = record {
     reply = s.reply;
     owed = s.owed;
     step = s.step;
-    shows = step_shows told old new request outcome now after s;
+    shows = step_shows old new request outcome now after s;
     written = stopped halt strict outcome s.reply now.sink after.sink h s.written;
-    counted = record { counts = s.counted; same = kept };
+    counted = record { counts = s.counted; same = s.library.same };
   }
+
+  pub acts_or_stops : (r : Result (Unit {0}) Stop) → Judges strict outcome r → ActsOrStops strict r old new request now after
+  acts_or_stops r h = record {
+    acted = acted r h;
+    broken = broken r h;
+    rest = record {
+      setting = s.setting;
+      library = s.library;
+      faults = record {
+        later = faults.later;
+        kept = faults_kept strict outcome now.sink.counts.faults after.sink.counts.faults faults.kept faults.failed r h;
+        blames = faults_blamed strict outcome now.sink.counts.faults after.sink.counts.faults faults.kept faults.failed r h;
+      };
+    };
+  }
+
+-- ---- to the end, or to a stop
+pub counts_on : (a b : SinkShown) → b.counts.faults ≡ a.counts.faults → CountsStop (Ok (tt {0})) a b
+counts_on a b same = record { later = omega (arith, same); kept = same; blames = tt }
+
+-- a stop is passed up
+pub counts_passed : (r : Result (Unit {0}) Stop) (halt : Stop) (a b c : SinkShown) → IsErrAnd r (λ x. x ≡ halt) → b.counts.faults ≡ a.counts.faults → CountsStop (Err halt) b c → CountsStop r a c
+counts_passed (Ok done) halt a b c is same h = absurd is
+counts_passed (Err x) halt a b c is same h = record {
+  later = omega (arith, same, h.later);
+  kept = tt;
+  blames = subst (λ (s : Stop). BlamesSink s a.counts.faults c.counts.faults) (sym is) (subst (λ (n : ℕ). BlamesSink halt n c.counts.faults) same h.blames);
+}
+
+pub stop_not_ok : (r : Result (Unit {0}) Stop) (halt : Stop) (P : Type 0) → IsErrAnd r (λ x. x ≡ halt) → OnOk r P
+stop_not_ok (Ok done) halt P is = absurd is
+stop_not_ok (Err x) halt P is = tt

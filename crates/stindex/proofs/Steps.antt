@@ -76,7 +76,7 @@ have_trees session h = record {
 }
 
 -- what a step shows
-pub step_shows : (told : Option Files) (old new : View) (request : Request) (outcome : Stepped) (before after : Around) (s : Steps told old new request outcome before after)
+pub step_shows : (old new : View) (request : Request) (outcome : Stepped) (before after : Around) (s : Steps old new request outcome before after)
     → ShowsAt old.setting old.state request s.reply
-step_shows told old new (a_word word) outcome before after s = tt
-step_shows told old new (a_line line) outcome before after s = (have_trees old s.held, s.own_trees.shown)
+step_shows old new (a_word word) outcome before after s = tt
+step_shows old new (a_line line) outcome before after s = (have_trees old s.held, s.own_trees.shown)

@@ -1,5 +1,5 @@
 -- How far a run has come: the bytes that were acted on, and what stands behind them.
-use Rattle.std.specs.Prelude.{◌≡◌, ℕ, ◌+◌, Bool, List, ◌++◌, Option, length, map, take, IsTrue, Result, Ok, Err}
+use Rattle.std.specs.Prelude.{◌≡◌, ℕ, ◌+◌, ◌≤◌, Bool, List, [], ◌++◌, Option, length, map, take, IsTrue, Result, Ok, Err, OnOk, IfErr}
 use Rattle.si_defs.specs.Bytes.{Bytes}
 use Rattle.si_steps.specs.declared.limits.Limits.{Limits}
 use Rattle.si_steps.specs.Settings.{Setting}
@@ -7,17 +7,17 @@ use Rattle.si_steps.specs.Replies.{Reply}
 use Rattle.si_state.specs.States.{State, empty_state}
 use Rattle.si_state.specs.Harvest.{Files}
 use Rattle.si_steps.specs.Loads.{Owed}
-use Rattle.si_session.specs.Session.{Around}
+use Rattle.si_session.specs.Session.{View, Around, KeepsFiles}
 use Rattle.si_steps.specs.Runs.{ended, Splits, lines_at_end, Request, a_word, requests, Acts, GoesOn}
 use Rattle.si_session.specs.declared.stepped.Stepped.{Stepped}
 use Rattle.si_session.specs.declared.stepped.Stepped.TheVariants.{Refused, SinkFailed}
 use Rattle.si_io.specs.Sends.{SendsAll}
 use Rattle.si_io.specs.Gives.{Gives}
-use Rattle.si_io.specs.Shown.{SourceShown}
+use Rattle.si_io.specs.Shown.{SourceShown, SinkShown}
 use Rattle.stindex.specs.declared.status.Stop.{Stop}
 use Rattle.stindex.specs.declared.status.Stop.TheVariants as stop
 use Rattle.stindex.specs.Shown.{ShowsAt, ShownRun}
-use Rattle.stindex.specs.Serve.{WritesAll, WritesTo, StopsAt, BeginWith, CountsOwed, TellsNoEnd}
+use Rattle.stindex.specs.Serve.{WritesAll, WritesTo, StopsAt, BeginWith, CountsOwed, BlamesSink, TellsNoEnd}
 
 -- What is held of a line that was begun: its bytes up to one more than a line may have.
 abbrev pub shown : Limits → Bytes → Bytes
@@ -156,3 +156,55 @@ pub record HasProgressed (setting : Setting) (told : Option Files) (strict : Boo
   pub gives : Gives source taken now
   pub unended : TellsNoEnd source now
   pub progress : Progress setting told strict files before taken state held after
+
+-- ---- what the parts of a run did, each to its end or to a stop
+-- The sink's count of faults is one more where the run stops by its fault, and else as before.
+pub record CountsStop (result : Result (Unit {0}) Stop) (before after : SinkShown) : Type 0 where
+  pub later : before.counts.faults ≤ after.counts.faults
+  pub kept : OnOk result (after.counts.faults ≡ before.counts.faults)
+  pub blames : IfErr result
+      (λ halt. BlamesSink halt before.counts.faults after.counts.faults)
+
+-- Beside what was acted on, the setting stays and so do the library's files, and a fault of the
+-- sink is counted where it stops the run.
+pub record KeepsRest (result : Result (Unit {0}) Stop) (old new : View) (before after : Around)
+    : Type 0 where
+  pub setting : new.setting ≡ old.setting
+  pub library : KeepsFiles before.library after.library
+  pub faults : CountsStop result before.sink after.sink
+
+-- A request was acted on, or the run stopped at its reply.
+pub record ActsOrStops (strict : Bool) (result : Result (Unit {0}) Stop) (old new : View)
+    (request : Request) (before after : Around) : Type 0 where
+  pub acted : OnOk result (ActsOnRequest old.setting before.library.files strict old.state
+      new.state request before after)
+  pub broken : IfErr result (λ halt. Breaks halt old.setting before.library.files strict
+      old.state new.state request before after)
+  pub rest : KeepsRest result old new before after
+
+-- These words were acted on from the start on, or the run stopped at the reply to one of them.
+pub record LoadsOrStops (strict : Bool) (result : Result (Unit {0}) Stop) (old new : View)
+    (words : List Bytes) (before after : Around) : Type 0 where
+  pub loaded : OnOk result (LoadsWords old.setting before.library.files strict words before
+      new.state after)
+  pub broken : IfErr result (λ halt. WritesTo halt old.setting before.library.files strict words
+      [] before after)
+  pub rest : KeepsRest result old new before after
+
+-- The lines that end in these bytes were acted on, or the run stopped at the reply to one of them.
+pub record FeedsOrStops (strict : Bool) (result : Result (Unit {0}) Stop) (old new : View)
+    (bytes held holds : Bytes) (before after : Around) : Type 0 where
+  pub fed : OnOk result (Advances old.setting before.library.files strict bytes old.state held
+      before new.state holds after)
+  pub broken : IfErr result (λ halt. Fails halt old.setting before.library.files strict bytes
+      old.state held before after)
+  pub rest : KeepsRest result old new before after
+
+-- The last line was acted on, if one was begun, or the run stopped at its reply.
+pub record ClosesOrStops (strict : Bool) (result : Result (Unit {0}) Stop) (old new : View)
+    (held : Bytes) (before after : Around) : Type 0 where
+  pub closed : OnOk result (Closes old.setting before.library.files strict old.state held before
+      after)
+  pub cut : IfErr result (λ halt. Cuts halt old.setting before.library.files strict old.state
+      held before after)
+  pub rest : KeepsRest result old new before after

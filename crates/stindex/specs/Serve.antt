@@ -8,14 +8,15 @@ use Rattle.si_steps.specs.Replies.{Reply, is_refusal}
 use Rattle.si_steps.specs.Runs.{ended, Splits, lines_at_end, Request, requests, IsOutput, IsOutputTo}
 use Rattle.si_state.specs.Harvest.{Files}
 use Rattle.si_steps.specs.Loads.{Owed}
-use Rattle.si_session.specs.Session.{Around, IsCounted}
+use Rattle.si_session.specs.Session.{Around, around, IsCounted}
 use Rattle.si_io.specs.Counts.{raised}
+use Rattle.si_io.specs.Faults.{Rose}
 use Rattle.si_io.specs.Gives.{Gives}
-use Rattle.si_io.specs.Shown.{SourceShown, SinkShown}
+use Rattle.si_io.specs.Shown.{SourceShown, SinkShown, LibraryShown}
 use Rattle.si_io.specs.Sends.{SendsAll, SendsPart}
 use Rattle.si_io.specs.Content.{Takes}
 use Rattle.clap.specs.Words.{takes}
-use Rattle.stindex.specs.Words.{program, usage_line, asked_by, HasNoFault}
+use Rattle.stindex.specs.Words.{program, usage_line, Asked, asked_by, HasNoFault, IsPlain, has_strict, files_in}
 use Rattle.std.specs.Io.KnownBytes.{IsAtEnd}
 use Rattle.stindex.specs.Shown.{OutputShows, OutputToShows}
 use Rattle.stindex.specs.declared.status.Status.{Status}
@@ -26,8 +27,9 @@ use Rattle.stindex.specs.declared.status.Status.TheVariants.{Ended, Refused, Usa
 -- Exactly what is owed to the library was counted there, and no failure is owed to one that can't
 -- fail.
 pub record CountsOwed (owed : Owed) (before after : Around) : Type 0 where
-  pub counts : IsCounted before.may_fail owed before.counts after.counts
-  pub same : after.may_fail ≡ before.may_fail
+  pub counts :
+      IsCounted before.library.may_fail owed before.library.counts after.library.counts
+  pub same : after.library.may_fail ≡ before.library.may_fail
 
 -- An output of these words and lines was written whole, the trees that it shows are such as hold
 -- the kept entries, and what it owes to the library was counted.
@@ -56,9 +58,9 @@ pub record WritesTo (stop : Stop) (setting : Setting) (told : Option Files) (str
   pub owed : Owed
   pub right : IsOutputTo setting told strict (requests files lines) reply output owed
   pub shown : OutputToShows setting told strict (requests files lines) reply output owed right
-  pub now : SinkShown
-  pub written : SendsAll before.sink right.before now
-  pub stopped : StopsAt stop strict reply now after.sink
+  pub middle : SinkShown
+  pub written : SendsAll before.sink right.before middle
+  pub stopped : StopsAt stop strict reply middle after.sink
   pub counted : CountsOwed owed before after
 
 -- The input ended, before as many bytes were taken as a session may have.
@@ -158,7 +160,7 @@ pub record Declines (words : List Bytes) (status : Status) (source now : SourceS
     (before after : Around) : Type 0 where
   pub refused : takes program words ≡ false
   pub unread : now ≡ source
-  pub unfetched : after.counts ≡ before.counts
+  pub unfetched : after.library.counts ≡ before.library.counts
   pub written : WritesUsage status before.sink after.sink
 
 -- The run did what the words ask for. They have no fault, or memory ran out before that was known.
@@ -199,6 +201,16 @@ CountsFaults Memory source source_now sink sink_now = (source_now ≡ source) ×
 CountsFaults SessionLimit source source_now sink sink_now =
     (source_now ≡ source) × (sink_now ≡ sink)
 
+-- Where the run ends by a device's fault, the device's count of faults is one more, and else as
+-- before; and where by the source's, the source may fail.
+pub record HasCauses (status : Status) (source source_now : SourceShown) (sink sink_now : SinkShown)
+    : Type 0 where
+  pub source_later : source.counts.faults ≤ source_now.counts.faults
+  pub sink_later : sink.counts.faults ≤ sink_now.counts.faults
+  pub counts : CountsFaults status source.counts.faults source_now.counts.faults
+      sink.counts.faults sink_now.counts.faults
+  pub source_sure : status ≡ SourceFault → IsTrue source.may_fail
+
 -- the sink's count of faults is one more where the run stops by its fault, and as before where it
 -- stops at a refusal
 abbrev pub BlamesSink : Stop → (sink sink_now : ℕ) → Type 0
@@ -227,3 +239,53 @@ pub record HasRoomForOutputs (limits : Limits) (told : Option Files) (words : Li
       → MayWrite (setting_of limits) told (asked_by words).strict
       (asked_by words).files taken lines rest now reply output owed
       → (IsFalse may_fail → owed.failures ≡ 0) → length output ≤ room
+
+-- ---- between the devices before a run and after it
+-- what the devices of a run show at one moment
+pub record Devices : Type 0 where
+  pub source : SourceShown
+  pub sink : SinkShown
+  pub library : LibraryShown
+
+abbrev pub devices : SourceShown → SinkShown → LibraryShown → Devices
+devices source sink library = record { source = source; sink = sink; library = library }
+
+-- those that a step has
+abbrev pub but_source : Devices → Around
+but_source d = around d.sink d.library
+
+-- The run did what was asked for, over the files that the library tells.
+abbrev pub ServesAsked : Setting → Asked → Status → (before after : Devices) → Type 0
+ServesAsked setting asked status before after =
+    Serves setting before.library.files asked.strict asked.files status before.source after.source
+    (but_source before) (but_source after)
+
+-- The words were declined, or served.
+abbrev pub AnswersWords : Limits → (words : List Bytes) → Status → (before after : Devices)
+    → Type 0
+AnswersWords limits words status before after =
+    DeclinesOrServes limits before.library.files words status before.source after.source
+    (but_source before) (but_source after)
+
+-- Words are served as they read, if `--strict` stands among them at most once, and none of the
+-- others begins with `-`.
+abbrev pub ServesAsSaid : Limits → (words : List Bytes) → Status → (before after : Devices)
+    → Type 0
+ServesAsSaid limits words status before after = IsPlain words
+    → ServesAsked (setting_of limits)
+    (record { strict = has_strict words; files = files_in words }) status before after
+
+-- No device's fault ends a run whose source can't fail, and whose sink has room for all that may be
+-- written.
+abbrev pub IsSureWithRoom : Limits → (words : List Bytes) → Status → Devices → Type 0
+IsSureWithRoom limits words status before = IsFalse before.source.may_fail
+    → HasRoomForOutputs limits before.library.files words before.library.may_fail
+    before.source.left before.sink.told.room
+    → IsFaultless status
+
+-- No device's fault ends a run in which no count of faults rose.
+abbrev pub IsFaultlessUnlessRose : Status → (before after : Devices) → Type 0
+IsFaultlessUnlessRose status before after =
+    (Rose before.source.counts.faults after.source.counts.faults → ⊥)
+    → (Rose before.sink.counts.faults after.sink.counts.faults → ⊥)
+    → IsFaultless status

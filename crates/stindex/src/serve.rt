@@ -1,18 +1,18 @@
 // The run over the words of the call and the whole input: lines in, replies out.
-ghost use Rattle.std.specs.Prelude.{◌≡◌, ◌+◌, ◌<◌, ◌≤◌, ℕ, [], map, string_bytes, OnOk, IfErr, IsTrue, IsFalse};
+ghost use Rattle.std.specs.Prelude.{◌≡◌, [], map, string_bytes};
 ghost use Rattle.std.specs.IoError.{error_kind};
 ghost use Rattle.std.specs.declared.io.ErrorKind.TheVariants.{OutOfMemory};
 ghost use Rattle.si_steps.specs.Runs.{a_word, a_line};
 ghost use Rattle.si_state.specs.States.{empty_state};
 ghost use Rattle.si_steps.specs.Limits.{AllowsLimits};
 ghost use Rattle.si_steps.specs.Settings.{setting_of};
-ghost use Rattle.si_io.specs.Faults.{Rose};
-ghost use Rattle.si_session.specs.Session.{IsFresh, around};
+ghost use Rattle.si_io.specs.Shown.{SourceShown};
+ghost use Rattle.si_session.specs.Session.{IsFresh, KeepsFiles, around};
 ghost use Rattle.stindex.specs.Lines.{held_of, limit_of};
-ghost use Rattle.stindex.specs.Serve.{DeclinesOrServes, Serves, WritesTo, WritesUsage, BlamesSink, IsFaultless, CountsFaults, HasRoomForOutputs};
-ghost use Rattle.stindex.specs.Words.{asked_of, IsPlain, has_strict, files_in};
-ghost use Rattle.stindex.specs.declared.status.Status.TheVariants.{SourceFault, SinkFault, Memory};
-ghost use Rattle.stindex.specs.Progress.{Judges, ActsOnRequest, Breaks, LoadsWords, Advances, Fails, Closes, Cuts};
+ghost use Rattle.stindex.specs.Serve.{AnswersWords, ServesAsSaid, ServesAsked, IsSureWithRoom, IsFaultlessUnlessRose, HasCauses, WritesUsage, devices};
+ghost use Rattle.stindex.specs.Words.{asked_of};
+ghost use Rattle.stindex.specs.declared.status.Status.TheVariants.{Memory};
+ghost use Rattle.stindex.specs.Progress.{Judges, ActsOrStops, LoadsOrStops, FeedsOrStops, ClosesOrStops};
 
 use crate::lines::{Pending, line_feed};
 use crate::status::{Status, Stop};
@@ -40,35 +40,26 @@ pub fn serve<S: Source, K: Sink, L: Library>(
     library: &mut L,
 ) -> Status
     requires { AllowsLimits limits.now }
-    ensures answers { DeclinesOrServes limits.now (L.shown library.old).files
-        (map string_bytes words.entry.now)
-        result (S.shown source.old) (S.shown source.new)
-        (around (K.shown sink.old) (L.shown library.old))
-        (around (K.shown sink.new) (L.shown library.new)) }
-    ensures plain { IsPlain (map string_bytes words.entry.now)
-        → Serves (setting_of limits.now) (L.shown library.old).files
-        (has_strict (map string_bytes words.entry.now))
-        (files_in (map string_bytes words.entry.now)) result
-        (S.shown source.old) (S.shown source.new)
-        (around (K.shown sink.old) (L.shown library.old))
-        (around (K.shown sink.new) (L.shown library.new)) }
-    ensures told { (L.shown library.new).files ≡ (L.shown library.old).files }
-    ensures same { (L.shown library.new).may_fail ≡ (L.shown library.old).may_fail }
-    ensures source_later { (S.shown source.old).counts.faults ≤ (S.shown source.new).counts.faults }
-    ensures sink_later { (K.shown sink.old).counts.faults ≤ (K.shown sink.new).counts.faults }
-    ensures counts { CountsFaults result (S.shown source.old).counts.faults
-        (S.shown source.new).counts.faults
-        (K.shown sink.old).counts.faults (K.shown sink.new).counts.faults }
-    ensures source_sure { result ≡ SourceFault → IsTrue (S.shown source.old).may_fail }
-    ensures sure { IsFalse (S.shown source.old).may_fail
-        → HasRoomForOutputs limits.now (L.shown library.old).files
-        (map string_bytes words.entry.now)
-        (L.shown library.old).may_fail (S.shown source.old).left (K.shown sink.old).told.room
-        → IsFaultless result }
-    ensures faultless { (Rose (S.shown source.old).counts.faults
-        (S.shown source.new).counts.faults → ⊥)
-        → (Rose (K.shown sink.old).counts.faults (K.shown sink.new).counts.faults → ⊥)
-        → IsFaultless result }
+    // The words were declined, or served.
+    ensures answers { AnswersWords limits.now (map string_bytes words.entry.now) result
+        (devices (S.shown source.old) (K.shown sink.old) (L.shown library.old))
+        (devices (S.shown source.new) (K.shown sink.new) (L.shown library.new)) }
+    // Words as said above are served as they read.
+    ensures plain { ServesAsSaid limits.now (map string_bytes words.entry.now) result
+        (devices (S.shown source.old) (K.shown sink.old) (L.shown library.old))
+        (devices (S.shown source.new) (K.shown sink.new) (L.shown library.new)) }
+    // The library's files stay.
+    ensures library { KeepsFiles (L.shown library.old) (L.shown library.new) }
+    // A fault that ends the run was counted, and no other.
+    ensures causes { HasCauses result (S.shown source.old) (S.shown source.new)
+        (K.shown sink.old) (K.shown sink.new) }
+    // Devices that can't fail, and have room, bring no fault.
+    ensures sure { IsSureWithRoom limits.now (map string_bytes words.entry.now) result
+        (devices (S.shown source.old) (K.shown sink.old) (L.shown library.old)) }
+    // Nor do those whose counts of faults didn't rise.
+    ensures faultless { IsFaultlessUnlessRose result
+        (devices (S.shown source.old) (K.shown sink.old) (L.shown library.old))
+        (devices (S.shown source.new) (K.shown sink.new) (L.shown library.new)) }
 {
     match read_words(alloc, words) {
         Ok(matches) => start(alloc, &matches, limits, source, sink, library),
@@ -83,10 +74,8 @@ pub fn decline<K: Sink>(error: &Error, sink: &mut K) -> Status
     ensures usage { (error_kind error.now ≡ OutOfMemory → ⊥)
         → WritesUsage result (K.shown sink.old) (K.shown sink.new) }
     ensures unwritten { result ≡ Memory → K.shown sink.new ≡ K.shown sink.old }
-    ensures later { (K.shown sink.old).counts.faults ≤ (K.shown sink.new).counts.faults }
-    ensures counts { (source : ℕ) → CountsFaults result source source
-        (K.shown sink.old).counts.faults
-        (K.shown sink.new).counts.faults }
+    ensures causes { (source : SourceShown)
+        → HasCauses result source source (K.shown sink.old) (K.shown sink.new) }
 {
     match error.kind() {
         ErrorKind::OutOfMemory => Status::Memory,
@@ -95,14 +84,10 @@ pub fn decline<K: Sink>(error: &Error, sink: &mut K) -> Status
 }
 
 /// Says how to call the program.
-#[tactic(auto, using(si_io::proofs::Sends::Sends_cause))]
 fn tell_usage<K: Sink>(sink: &mut K) -> Status
     ensures written { WritesUsage result (K.shown sink.old) (K.shown sink.new) }
-    ensures later { (K.shown sink.old).counts.faults ≤ (K.shown sink.new).counts.faults }
-    ensures counts { (source : ℕ) → CountsFaults result source source
-        (K.shown sink.old).counts.faults
-        (K.shown sink.new).counts.faults }
-    ensures source_sure { result ≡ SourceFault → ⊥ }
+    ensures causes { (source : SourceShown)
+        → HasCauses result source source (K.shown sink.old) (K.shown sink.new) }
 {
     match write_all(sink, b"usage: stindex [--strict] [FILE]...\n") {
         Ok(()) => Status::Usage,
@@ -120,19 +105,12 @@ fn start<S: Source, K: Sink, L: Library>(
     library: &mut L,
 ) -> Status
     requires { AllowsLimits limits.now }
-    ensures serves { Serves (setting_of limits.now) (L.shown library.old).files
-        (asked_of matches.now).strict (asked_of matches.now).files result
-        (S.shown source.old) (S.shown source.new)
-        (around (K.shown sink.old) (L.shown library.old))
-        (around (K.shown sink.new) (L.shown library.new)) }
-    ensures told { (L.shown library.new).files ≡ (L.shown library.old).files }
-    ensures same { (L.shown library.new).may_fail ≡ (L.shown library.old).may_fail }
-    ensures source_later { (S.shown source.old).counts.faults ≤ (S.shown source.new).counts.faults }
-    ensures sink_later { (K.shown sink.old).counts.faults ≤ (K.shown sink.new).counts.faults }
-    ensures counts { CountsFaults result (S.shown source.old).counts.faults
-        (S.shown source.new).counts.faults
-        (K.shown sink.old).counts.faults (K.shown sink.new).counts.faults }
-    ensures source_sure { result ≡ SourceFault → IsTrue (S.shown source.old).may_fail }
+    ensures serves { ServesAsked (setting_of limits.now) (asked_of matches.now) result
+        (devices (S.shown source.old) (K.shown sink.old) (L.shown library.old))
+        (devices (S.shown source.new) (K.shown sink.new) (L.shown library.new)) }
+    ensures library { KeepsFiles (L.shown library.old) (L.shown library.new) }
+    ensures causes { HasCauses result (S.shown source.old) (S.shown source.new)
+        (K.shown sink.old) (K.shown sink.new) }
 {
     let Ok(mut session) = Session::new(alloc, limits) else {
         return Status::Memory;
@@ -165,19 +143,12 @@ fn run<S: Source, K: Sink, L: Library>(
     requires start { IsFresh (setting_of limits.now) session.old }
     requires held { held_of pending.old ≡ [] }
     requires limit { limit_of pending.old ≡ limits.now.line }
-    ensures serves { Serves (setting_of limits.now) (L.shown library.old).files
-        (asked_of matches.now).strict (asked_of matches.now).files result
-        (S.shown source.old) (S.shown source.new)
-        (around (K.shown sink.old) (L.shown library.old))
-        (around (K.shown sink.new) (L.shown library.new)) }
-    ensures told { (L.shown library.new).files ≡ (L.shown library.old).files }
-    ensures same { (L.shown library.new).may_fail ≡ (L.shown library.old).may_fail }
-    ensures source_later { (S.shown source.old).counts.faults ≤ (S.shown source.new).counts.faults }
-    ensures sink_later { (K.shown sink.old).counts.faults ≤ (K.shown sink.new).counts.faults }
-    ensures counts { CountsFaults result (S.shown source.old).counts.faults
-        (S.shown source.new).counts.faults
-        (K.shown sink.old).counts.faults (K.shown sink.new).counts.faults }
-    ensures source_sure { result ≡ SourceFault → IsTrue (S.shown source.old).may_fail }
+    ensures serves { ServesAsked (setting_of limits.now) (asked_of matches.now) result
+        (devices (S.shown source.old) (K.shown sink.old) (L.shown library.old))
+        (devices (S.shown source.new) (K.shown sink.new) (L.shown library.new)) }
+    ensures library { KeepsFiles (L.shown library.old) (L.shown library.new) }
+    ensures causes { HasCauses result (S.shown source.old) (S.shown source.new)
+        (K.shown sink.old) (K.shown sink.new) }
     ensures begun { result ≡ Memory → ⊥ }
 {
     let strict = is_strict(matches);
@@ -216,24 +187,9 @@ fn load_files<K: Sink, L: Library>(
     library: &mut L,
 ) -> Result<(), Stop>
     requires { session.old.state ≡ empty_state }
-    ensures loaded { OnOk result (LoadsWords session.old.setting (L.shown library.old).files strict
-        (asked_of matches.now).files
+    ensures { LoadsOrStops strict result session.old session.new (asked_of matches.now).files
         (around (K.shown sink.old) (L.shown library.old))
-        session.new.state
-        (around (K.shown sink.new) (L.shown library.new))) }
-    ensures broken { IfErr result
-        (λ halt. WritesTo halt session.old.setting (L.shown library.old).files
-        strict (asked_of matches.now).files []
-        (around (K.shown sink.old) (L.shown library.old))
-        (around (K.shown sink.new) (L.shown library.new))) }
-    ensures told { (L.shown library.new).files ≡ (L.shown library.old).files }
-    ensures same { (L.shown library.new).may_fail ≡ (L.shown library.old).may_fail }
-    ensures setting { session.new.setting ≡ session.old.setting }
-    ensures later { (K.shown sink.old).counts.faults ≤ (K.shown sink.new).counts.faults }
-    ensures kept { OnOk result ((K.shown sink.new).counts.faults
-        ≡ (K.shown sink.old).counts.faults) }
-    ensures blames { IfErr result (λ halt. BlamesSink halt (K.shown sink.old).counts.faults
-        (K.shown sink.new).counts.faults) }
+        (around (K.shown sink.new) (L.shown library.new)) }
 {
     let Some(files) = matches.get_strs("FILE") else {
         return Ok(());
@@ -252,24 +208,9 @@ fn load<K: Sink, L: Library>(
     sink: &mut K,
     library: &mut L,
 ) -> Result<(), Stop>
-    ensures acted { OnOk result
-        (ActsOnRequest session.old.setting (L.shown library.old).files strict
-        session.old.state session.new.state (a_word word.now)
+    ensures { ActsOrStops strict result session.old session.new (a_word word.now)
         (around (K.shown sink.old) (L.shown library.old))
-        (around (K.shown sink.new) (L.shown library.new))) }
-    ensures broken { IfErr result
-        (λ halt. Breaks halt session.old.setting (L.shown library.old).files
-        strict session.old.state session.new.state (a_word word.now)
-        (around (K.shown sink.old) (L.shown library.old))
-        (around (K.shown sink.new) (L.shown library.new))) }
-    ensures told { (L.shown library.new).files ≡ (L.shown library.old).files }
-    ensures same { (L.shown library.new).may_fail ≡ (L.shown library.old).may_fail }
-    ensures setting { session.new.setting ≡ session.old.setting }
-    ensures later { (K.shown sink.old).counts.faults ≤ (K.shown sink.new).counts.faults }
-    ensures kept { OnOk result ((K.shown sink.new).counts.faults
-        ≡ (K.shown sink.old).counts.faults) }
-    ensures blames { IfErr result (λ halt. BlamesSink halt (K.shown sink.old).counts.faults
-        (K.shown sink.new).counts.faults) }
+        (around (K.shown sink.new) (L.shown library.new)) }
 {
     let outcome = session.load(word, library, sink);
     judge(strict, outcome)
@@ -283,26 +224,11 @@ fn act<K: Sink, L: Library>(
     sink: &mut K,
     library: &mut L,
 ) -> Result<(), Stop>
-    ensures acted { OnOk result
-        (ActsOnRequest session.old.setting (L.shown library.old).files strict
-        session.old.state session.new.state (a_line (held_of pending.old))
+    ensures acts { ActsOrStops strict result session.old session.new (a_line (held_of pending.old))
         (around (K.shown sink.old) (L.shown library.old))
-        (around (K.shown sink.new) (L.shown library.new))) }
-    ensures broken { IfErr result
-        (λ halt. Breaks halt session.old.setting (L.shown library.old).files
-        strict session.old.state session.new.state (a_line (held_of pending.old))
-        (around (K.shown sink.old) (L.shown library.old))
-        (around (K.shown sink.new) (L.shown library.new))) }
-    ensures told { (L.shown library.new).files ≡ (L.shown library.old).files }
-    ensures same { (L.shown library.new).may_fail ≡ (L.shown library.old).may_fail }
-    ensures setting { session.new.setting ≡ session.old.setting }
+        (around (K.shown sink.new) (L.shown library.new)) }
     ensures held { held_of pending.new ≡ [] }
     ensures limit { limit_of pending.new ≡ limit_of pending.old }
-    ensures later { (K.shown sink.old).counts.faults ≤ (K.shown sink.new).counts.faults }
-    ensures kept { OnOk result ((K.shown sink.new).counts.faults
-        ≡ (K.shown sink.old).counts.faults) }
-    ensures blames { IfErr result (λ halt. BlamesSink halt (K.shown sink.old).counts.faults
-        (K.shown sink.new).counts.faults) }
 {
     let outcome = session.step(pending.bytes(), library, sink);
     pending.clear();
@@ -330,27 +256,11 @@ fn feed<K: Sink, L: Library>(
     library: &mut L,
 ) -> Result<(), Stop>
     requires { limit_of pending.old ≡ session.old.setting.limits.line }
-    ensures fed { OnOk result
-        (Advances session.old.setting (L.shown library.old).files strict bytes.now
-        session.old.state (held_of pending.old)
+    ensures feeds { FeedsOrStops strict result session.old session.new bytes.now
+        (held_of pending.old) (held_of pending.new)
         (around (K.shown sink.old) (L.shown library.old))
-        session.new.state
-        (held_of pending.new)
-        (around (K.shown sink.new) (L.shown library.new))) }
-    ensures broken { IfErr result
-        (λ halt. Fails halt session.old.setting (L.shown library.old).files
-        strict bytes.now session.old.state (held_of pending.old)
-        (around (K.shown sink.old) (L.shown library.old))
-        (around (K.shown sink.new) (L.shown library.new))) }
-    ensures told { (L.shown library.new).files ≡ (L.shown library.old).files }
-    ensures same { (L.shown library.new).may_fail ≡ (L.shown library.old).may_fail }
-    ensures setting { session.new.setting ≡ session.old.setting }
+        (around (K.shown sink.new) (L.shown library.new)) }
     ensures limit { limit_of pending.new ≡ limit_of pending.old }
-    ensures later { (K.shown sink.old).counts.faults ≤ (K.shown sink.new).counts.faults }
-    ensures kept { OnOk result ((K.shown sink.new).counts.faults
-        ≡ (K.shown sink.old).counts.faults) }
-    ensures blames { IfErr result (λ halt. BlamesSink halt (K.shown sink.old).counts.faults
-        (K.shown sink.new).counts.faults) }
 {
     let mut rest = bytes;
     while let Some(end) = line_feed(rest) {
@@ -370,22 +280,9 @@ fn close<K: Sink, L: Library>(
     sink: &mut K,
     library: &mut L,
 ) -> Result<(), Stop>
-    ensures closed { OnOk result (Closes session.old.setting (L.shown library.old).files strict
-        session.old.state (held_of pending.old)
+    ensures { ClosesOrStops strict result session.old session.new (held_of pending.old)
         (around (K.shown sink.old) (L.shown library.old))
-        (around (K.shown sink.new) (L.shown library.new))) }
-    ensures cut { IfErr result
-        (λ halt. Cuts halt session.old.setting (L.shown library.old).files strict
-        session.old.state (held_of pending.old)
-        (around (K.shown sink.old) (L.shown library.old))
-        (around (K.shown sink.new) (L.shown library.new))) }
-    ensures told { (L.shown library.new).files ≡ (L.shown library.old).files }
-    ensures same { (L.shown library.new).may_fail ≡ (L.shown library.old).may_fail }
-    ensures later { (K.shown sink.old).counts.faults ≤ (K.shown sink.new).counts.faults }
-    ensures kept { OnOk result ((K.shown sink.new).counts.faults
-        ≡ (K.shown sink.old).counts.faults) }
-    ensures blames { IfErr result (λ halt. BlamesSink halt (K.shown sink.old).counts.faults
-        (K.shown sink.new).counts.faults) }
+        (around (K.shown sink.new) (L.shown library.new)) }
 {
     if pending.bytes().is_empty() {
         return Ok(());

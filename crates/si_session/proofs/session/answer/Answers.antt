@@ -3,7 +3,8 @@ use Rattle.std.specs.List.{AllByRecursion}
 use Rattle.si_defs.specs.Entries.{Placed}
 use Rattle.si_term.specs.Meaning.{pattern_of}
 use Rattle.si_index.specs.Searching.{HasSolution}
-use Rattle.si_session.proofs.Acting.{answers, fails}
+use Rattle.si_session.specs.declared.stepped.Stepped.TheVariants.{Answered}
+use Rattle.si_session.proofs.Acting.{answers, fails, faults_stand, faults_rise}
 use Rattle.si_index.proofs.StandingLaws.{trees_stand, trees_find}
 use Rattle.si_session.proofs.Answering.{are_inside, whole_answer}
 use Rattle.si_session.proofs.session.answer.Goals as goal
@@ -36,3 +37,9 @@ returns-clause-acts g c =
     let answer = whole_answer f c.args.index.now c.args.relation (pattern_of c.args.pattern.now) c.in-Ok.ensures.index c.in-Ok.ensures.relation c.in-Ok.ensures.pattern
     (trees_find c.args.index.now c.trees.result.now c.args.relation (pattern_of c.args.pattern.now) c.trees.ensures.answer c.trees.ensures.trees c.requires c.in-Ok.found.hits c.in-Ok.found.passed c.in-Ok.ensures.hits) told.0 told.1 in
     fails c.args.relation (pattern_of c.args.pattern.now) c.args.index.now told.0 answer (g.K.Sink.shown c.args.sink.now) (g.K.Sink.shown c.tell_answer.new.sink) told.2.part
+
+pub returns-in-Ok-tell_answer-clause-faults : goal.returns-in-Ok-tell_answer-clause-faults
+returns-in-Ok-tell_answer-clause-faults g c = faults_stand Answered _ _ (λ e. cc) c.in-Ok-tell_answer.ensures.2.all.faults
+
+pub returns-clause-faults : goal.returns-clause-faults
+returns-clause-faults g c = faults_rise _ _ c.in-Err-tell_answer.ensures.2.part.faults

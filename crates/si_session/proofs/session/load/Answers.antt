@@ -7,22 +7,24 @@ load_refusal-requires g c = tellable _ c.in-Err.fault _ c.in-Err.ensures.reads.f
 pub returns-in-Ok-clause-loads : goal.returns-in-Ok-clause-loads
 returns-in-Ok-clause-loads g c =
     let limits = c.args.limits.now in
-    let told = (g.L.Library.shown c.args.library.now).files in
     let old = c.args.index.now in
     let new = c.expand.new.store in
-    load_gained limits told c.args.name.now old new c.tell.result (g.K.Sink.shown c.args.sink.now) (g.K.Sink.shown c.tell.new.sink)
-    (g.L.Library.shown c.args.library.now).counts (g.L.Library.shown c.expand.new.library).counts
-    (g.L.Library.shown c.args.library.now).may_fail (g.L.Library.shown c.expand.new.library).may_fail c.in-Ok.gained
+    load_gained limits c.args.name.now old new c.tell.result (g.K.Sink.shown c.args.sink.now) (g.K.Sink.shown c.tell.new.sink)
+    (g.L.Library.shown c.args.library.now) (g.L.Library.shown c.expand.new.library) c.in-Ok.gained
     c.from.result c.from-in-Ok.result c.from.ensures c.from-in-Ok.ensures
     c.in-Ok.ensures.loaded c.in-Ok.ensures.reads c.in-Ok.ensures.cause c.tell.ensures.written
 
 pub returns-in-Err-clause-loads : goal.returns-in-Err-clause-loads
 returns-in-Err-clause-loads g c =
     let limits = c.args.limits.now in
-    let told = (g.L.Library.shown c.args.library.now).files in
     let old = c.args.index.now in
     let new = c.expand.new.store in
-    load_refused limits told c.args.name.now old new c.tell-in-Err.result (g.K.Sink.shown c.args.sink.now) ((g.K.Sink.shown c.tell-in-Err.new.sink))
-    (g.L.Library.shown c.args.library.now).counts (g.L.Library.shown c.expand.new.library).counts
-    (g.L.Library.shown c.args.library.now).may_fail (g.L.Library.shown c.expand.new.library).may_fail c.in-Err.fault c.load_refusal.result
+    load_refused limits c.args.name.now old new c.tell-in-Err.result (g.K.Sink.shown c.args.sink.now) ((g.K.Sink.shown c.tell-in-Err.new.sink))
+    (g.L.Library.shown c.args.library.now) (g.L.Library.shown c.expand.new.library) c.in-Err.fault c.load_refusal.result
     c.in-Err.ensures.reads c.load_refusal.ensures c.in-Err.ensures.cause c.in-Err.ensures.err c.tell-in-Err.ensures.written
+
+pub returns-in-Ok-clause-library : goal.returns-in-Ok-clause-library
+returns-in-Ok-clause-library g c = record { told = c.in-Ok.ensures.told; same = c.in-Ok.ensures.same }
+
+pub returns-in-Err-clause-library : goal.returns-in-Err-clause-library
+returns-in-Err-clause-library g c = record { told = c.in-Err.ensures.told; same = c.in-Err.ensures.same }

@@ -4,7 +4,8 @@ use Rattle.std.proofs.lemmas.Bool.Decides.{nat_tests}
 use Rattle.std.specs.Prelude.{◌==◌}
 use Rattle.std.proofs.lemmas.Result.{on_ok_weaker, IfErr-weaker}
 use Rattle.stindex.specs.Lines.{held_of}
-use Rattle.stindex.proofs.Progress.{Closes_none, Closes_line, Cuts_line}
+use Rattle.si_session.proofs.Owing.{same_files}
+use Rattle.stindex.proofs.Progress.{Closes_none, Closes_line, Cuts_line, counts_on}
 use Rattle.stindex.proofs.serve.close.Goals as goal
 
 empty_not : (held bytes : List ℕ) (b : Bool) → held ≡ [] → bytes ≡ held → b ≡ (length bytes == 0) → b ≡ false → ⊥
@@ -19,16 +20,19 @@ empty_is (x ∷ held) bytes b same by_length is_true =
     let zero : length bytes ≡ 0 = grind (arith, nat_tests, by_length, is_true) in
     absurd (omega (arith, zero, ap length same))
 
-pub returns-then-is_empty-clause-closed : goal.returns-then-is_empty-clause-closed
-returns-then-is_empty-clause-closed g c =
-    Closes_none _ _ _ _ _ _ (empty_is _ _ _ c.bytes.ensures c.is_empty.ensures c.if-is_empty.true)
+pub returns-then-is_empty : goal.returns-then-is_empty
+returns-then-is_empty g c = record {
+  closed = Closes_none _ _ _ _ _ _ (empty_is _ _ _ c.bytes.ensures c.is_empty.ensures c.if-is_empty.true);
+  cut = tt;
+  rest = record { setting = refl; library = same_files _; faults = counts_on _ _ refl };
+}
 
-pub returns-clause-closed : goal.returns-clause-closed
-returns-clause-closed g c =
+pub returns : goal.returns
+returns g c =
     let some : held_of c.args.pending.now ≡ [] → ⊥ = λ e. empty_not _ _ _ e c.bytes.ensures c.is_empty.ensures c.if-is_empty.false in
-    on_ok_weaker _ (Closes_line _ _ _ _ _ _ _ _ some) c.act.ensures.acted
-
-pub returns-clause-cut : goal.returns-clause-cut
-returns-clause-cut g c =
-    let some : held_of c.args.pending.now ≡ [] → ⊥ = λ e. empty_not _ _ _ e c.bytes.ensures c.is_empty.ensures c.if-is_empty.false in
-    IfErr-weaker c.act.result _ _ (λ halt. Cuts_line halt _ _ _ _ _ _ _ _ some) c.act.ensures.broken
+    let did = c.act.ensures.acts in
+    record {
+      closed = on_ok_weaker _ (Closes_line _ _ _ _ _ _ _ _ some) did.acted;
+      cut = IfErr-weaker c.act.result _ _ (λ halt. Cuts_line halt _ _ _ _ _ _ _ _ some) did.broken;
+      rest = did.rest;
+    }

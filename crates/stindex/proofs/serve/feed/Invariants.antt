@@ -1,6 +1,6 @@
 use Rattle.std.proofs.Common.{◌≡◌, length}
 use Rattle.stindex.specs.Lines.{held_of, limit_of}
-use Rattle.si_session.specs.Session.{around}
+use Rattle.si_session.specs.Session.{KeepsFiles, around}
 use Rattle.stindex.specs.Progress.{Feeds}
 use Rattle.stindex.proofs.serve.feed.Given as goal
 
@@ -12,8 +12,7 @@ invariant-loop-end g l = record {
   setting : l.session.setting ≡ l.fn.session.setting;
   limit : limit_of l.pending ≡ limit_of l.fn.pending;
   kept : (g.K.Sink.shown l.sink).counts.faults ≡ (g.K.Sink.shown l.fn.sink).counts.faults;
-  told : (g.L.Library.shown l.library).files ≡ (g.L.Library.shown l.fn.library).files;
-  same : (g.L.Library.shown l.library).may_fail ≡ (g.L.Library.shown l.fn.library).may_fail;
+  library : KeepsFiles (g.L.Library.shown l.fn.library) (g.L.Library.shown l.library);
 }
 
 abbrev pub decreases-loop-end : goal.decreases-loop-end

@@ -1,5 +1,5 @@
 use Rattle.std.proofs.Common.{◌≡◌, map, take}
-use Rattle.si_session.specs.Session.{around}
+use Rattle.si_session.specs.Session.{KeepsFiles, around}
 use Rattle.stindex.specs.Progress.{LoadsWords}
 use Rattle.stindex.proofs.serve.load_files.Given as goal
 
@@ -10,6 +10,5 @@ invariant-loop-file g l = record {
       l.session.state (around (g.K.Sink.shown l.sink) (g.L.Library.shown l.library));
   setting : l.session.setting ≡ l.fn.session.setting;
   kept : (g.K.Sink.shown l.sink).counts.faults ≡ (g.K.Sink.shown l.fn.sink).counts.faults;
-  told : (g.L.Library.shown l.library).files ≡ (g.L.Library.shown l.fn.library).files;
-  same : (g.L.Library.shown l.library).may_fail ≡ (g.L.Library.shown l.fn.library).may_fail;
+  library : KeepsFiles (g.L.Library.shown l.fn.library) (g.L.Library.shown l.library);
 }

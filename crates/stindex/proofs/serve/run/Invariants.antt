@@ -1,6 +1,6 @@
 use Rattle.std.proofs.Common.{◌≡◌, ◌≤◌, ◌-◌}
 use Rattle.si_steps.specs.Settings.{setting_of}
-use Rattle.si_session.specs.Session.{around}
+use Rattle.si_session.specs.Session.{KeepsFiles, around}
 use Rattle.stindex.specs.Lines.{held_of, limit_of}
 use Rattle.stindex.specs.Words.{asked_of}
 use Rattle.stindex.specs.Progress.{HasProgressed}
@@ -17,8 +17,7 @@ invariant-loop-taken g l = record {
   sure : (g.S.Source.shown l.source).may_fail ≡ (g.S.Source.shown l.fn.source).may_fail;
   source_kept : (g.S.Source.shown l.source).counts.faults ≡ (g.S.Source.shown l.fn.source).counts.faults;
   sink_kept : (g.K.Sink.shown l.sink).counts.faults ≡ (g.K.Sink.shown l.fn.sink).counts.faults;
-  told : (g.L.Library.shown l.library).files ≡ (g.L.Library.shown l.fn.library).files;
-  same : (g.L.Library.shown l.library).may_fail ≡ (g.L.Library.shown l.fn.library).may_fail;
+  library : KeepsFiles (g.L.Library.shown l.fn.library) (g.L.Library.shown l.library);
 }
 
 abbrev pub decreases-loop-taken : goal.decreases-loop-taken

@@ -9,7 +9,7 @@ use Rattle.si_session.specs.declared.stepped.Stepped.TheVariants.{Silent}
 use Rattle.si_session.specs.Session.{Steps, around, view_of}
 use Rattle.si_session.specs.Commands.{ReadsCommand}
 use Rattle.si_session.specs.declared.command.Command.TheVariants as command
-use Rattle.si_session.proofs.Acting.{beside, stepped, not_silent, keeps_state, counts, trees_stepped, explain_stepped, blanks_no_command, line_stepped, long_stepped, unread_stepped, holds_trees, load_stepped, load_not_silent, load_keeps}
+use Rattle.si_session.proofs.Acting.{faults_stand, stepped, not_silent, keeps_state, counts, trees_stepped, explain_stepped, blanks_no_command, line_stepped, long_stepped, unread_stepped, holds_trees, load_stepped, load_not_silent, load_keeps}
 use Rattle.si_session.proofs.session.Session.step.Goals as goal
 
 pub returns-in-Ok-Add-clause-step : goal.returns-in-Ok-Add-clause-step
@@ -17,39 +17,33 @@ returns-in-Ok-Add-clause-step g c =
     let a = (g.K.Sink.shown c.args.sink.now) in
     let b = (g.K.Sink.shown c.add.new.sink) in
     let limits = c.self.inside.limits in
-    let told = (g.L.Library.shown c.args.library.now).files in
-    let tally = (g.L.Library.shown c.args.library.now).counts in
-    let may_fail = (g.L.Library.shown c.args.library.now).may_fail in
+    let library = g.L.Library.shown c.args.library.now in
     let read : ReadsCommand c.args.line.now (command.Add c.in-Ok-Add.clause) = subst (ReadsCommand c.args.line.now) c.in-Ok-Add.field-0-is c.in-Ok-Add.ensures.read in
     let short : length c.args.line.now ≤ limits.line = omega (arith, c.if-line-self.false) in
-    subst (λ s. Steps told s (view_of limits c.add.new.index) (a_line c.args.line.now) c.add.result (beside a tally may_fail) (beside b tally may_fail)) c.self.view_is
-    (stepped limits told c.self.inside.index c.add.new.index c.args.line.now (add (clause_of c.in-Ok-Add.clause)) c.add.result a b tally may_fail (holds_trees limits c.self.inside.index c.trees.ensures.keyed c.trees.ensures.exactly c.trees.ensures.hold) c.add.ensures.rules short read.0 c.add.ensures.acts (λ reply. tt) (inl tt))
+    subst (λ s. Steps s (view_of limits c.add.new.index) (a_line c.args.line.now) c.add.result (around a library) (around b library)) c.self.view_is
+    (stepped limits library c.self.inside.index c.add.new.index c.args.line.now (add (clause_of c.in-Ok-Add.clause)) c.add.result a b (holds_trees limits c.self.inside.index c.trees.ensures.keyed c.trees.ensures.exactly c.trees.ensures.hold) c.add.ensures.rules short read.0 c.add.ensures.acts (λ reply. tt) (inl tt))
 
 pub returns-in-Ok-Query-clause-step : goal.returns-in-Ok-Query-clause-step
 returns-in-Ok-Query-clause-step g c =
     let a = (g.K.Sink.shown c.args.sink.now) in
     let b = (g.K.Sink.shown c.answer.new.sink) in
     let limits = c.self.inside.limits in
-    let told = (g.L.Library.shown c.args.library.now).files in
-    let tally = (g.L.Library.shown c.args.library.now).counts in
-    let may_fail = (g.L.Library.shown c.args.library.now).may_fail in
+    let library = g.L.Library.shown c.args.library.now in
     let read : ReadsCommand c.args.line.now (command.Query c.in-Ok-Query.relation c.in-Ok-Query.pattern) = subst (ReadsCommand c.args.line.now) c.in-Ok-Query.field-0-is c.in-Ok-Query.ensures.read in
     let short : length c.args.line.now ≤ limits.line = omega (arith, c.if-line-self.false) in
-    subst (λ s. Steps told s s (a_line c.args.line.now) c.answer.result (beside a tally may_fail) (beside b tally may_fail)) c.self.view_is
-    (stepped limits told c.self.inside.index c.self.inside.index c.args.line.now (query c.in-Ok-Query.relation (pattern_of c.in-Ok-Query.pattern)) c.answer.result a b tally may_fail (holds_trees limits c.self.inside.index c.trees.ensures.keyed c.trees.ensures.exactly c.trees.ensures.hold) refl short read.0 c.answer.ensures.acts (λ reply. tt) (inr refl))
+    subst (λ s. Steps s s (a_line c.args.line.now) c.answer.result (around a library) (around b library)) c.self.view_is
+    (stepped limits library c.self.inside.index c.self.inside.index c.args.line.now (query c.in-Ok-Query.relation (pattern_of c.in-Ok-Query.pattern)) c.answer.result a b (holds_trees limits c.self.inside.index c.trees.ensures.keyed c.trees.ensures.exactly c.trees.ensures.hold) refl short read.0 c.answer.ensures.acts (λ reply. tt) (inr refl))
 
 pub returns-in-Ok-Remove-clause-step : goal.returns-in-Ok-Remove-clause-step
 returns-in-Ok-Remove-clause-step g c =
     let a = (g.K.Sink.shown c.args.sink.now) in
     let b = (g.K.Sink.shown c.remove.new.sink) in
     let limits = c.self.inside.limits in
-    let told = (g.L.Library.shown c.args.library.now).files in
-    let tally = (g.L.Library.shown c.args.library.now).counts in
-    let may_fail = (g.L.Library.shown c.args.library.now).may_fail in
+    let library = g.L.Library.shown c.args.library.now in
     let read : ReadsCommand c.args.line.now (command.Remove c.in-Ok-Remove.name) = subst (ReadsCommand c.args.line.now) c.in-Ok-Remove.field-0-is c.in-Ok-Remove.ensures.read in
     let short : length c.args.line.now ≤ limits.line = omega (arith, c.if-line-self.false) in
-    subst (λ s. Steps told s (view_of limits c.remove.new.index) (a_line c.args.line.now) c.remove.result (beside a tally may_fail) (beside b tally may_fail)) c.self.view_is
-    (stepped limits told c.self.inside.index c.remove.new.index c.args.line.now (remove (name_of c.in-Ok-Remove.name)) c.remove.result a b tally may_fail (holds_trees limits c.self.inside.index c.trees.ensures.keyed c.trees.ensures.exactly c.trees.ensures.hold) c.remove.ensures.rules short read
+    subst (λ s. Steps s (view_of limits c.remove.new.index) (a_line c.args.line.now) c.remove.result (around a library) (around b library)) c.self.view_is
+    (stepped limits library c.self.inside.index c.remove.new.index c.args.line.now (remove (name_of c.in-Ok-Remove.name)) c.remove.result a b (holds_trees limits c.self.inside.index c.trees.ensures.keyed c.trees.ensures.exactly c.trees.ensures.hold) c.remove.ensures.rules short read
     c.remove.ensures.acts (λ reply. tt) (inl tt))
 
 pub returns-in-Ok-Add-clause-silent : goal.returns-in-Ok-Add-clause-silent
@@ -101,13 +95,11 @@ returns-in-Ok-Stats-clause-step g c =
     let a = (g.K.Sink.shown c.args.sink.now) in
     let b = (g.K.Sink.shown c.tell-in-Ok-Stats.new.sink) in
     let limits = c.self.inside.limits in
-    let told = (g.L.Library.shown c.args.library.now).files in
-    let tally = (g.L.Library.shown c.args.library.now).counts in
-    let may_fail = (g.L.Library.shown c.args.library.now).may_fail in
+    let library = g.L.Library.shown c.args.library.now in
     let read : ReadsCommand c.args.line.now command.Stats = subst (ReadsCommand c.args.line.now) c.in-Ok-Stats.field-0-is c.in-Ok-Stats.ensures.read in
     let short : length c.args.line.now ≤ limits.line = omega (arith, c.if-line-self.false) in
-    subst (λ s. Steps told s s (a_line c.args.line.now) c.tell-in-Ok-Stats.result (beside a tally may_fail) (beside b tally may_fail)) c.self.view_is
-    (stepped limits told c.self.inside.index c.self.inside.index c.args.line.now stats c.tell-in-Ok-Stats.result a b tally may_fail (holds_trees limits c.self.inside.index c.trees.ensures.keyed c.trees.ensures.exactly c.trees.ensures.hold) refl short read
+    subst (λ s. Steps s s (a_line c.args.line.now) c.tell-in-Ok-Stats.result (around a library) (around b library)) c.self.view_is
+    (stepped limits library c.self.inside.index c.self.inside.index c.args.line.now stats c.tell-in-Ok-Stats.result a b (holds_trees limits c.self.inside.index c.trees.ensures.keyed c.trees.ensures.exactly c.trees.ensures.hold) refl short read
     (counts c.self.inside.index c.stats.result c.tell-in-Ok-Stats.result a b c.stats.ensures.clauses c.stats.ensures.entries c.stats.ensures.symbols
     c.tell-in-Ok-Stats.ensures.written) (λ reply. tt) (inr refl))
 
@@ -117,25 +109,24 @@ load_named-requires-clause-limit g c = omega (arith, c.self.invariant.0, c.self.
 
 pub returns-in-Ok-Load-clause-step : goal.returns-in-Ok-Load-clause-step
 returns-in-Ok-Load-clause-step g c =
-    let told = (g.L.Library.shown c.args.library.now).files in
     let before = around (g.K.Sink.shown c.args.sink.now) (g.L.Library.shown c.args.library.now) in
     let after = around (g.K.Sink.shown c.load_named.new.sink) (g.L.Library.shown c.load_named.new.library) in
     let limits = c.self.inside.limits in
     let read : ReadsCommand c.args.line.now (command.Load c.in-Ok-Load.name) = subst (ReadsCommand c.args.line.now) c.in-Ok-Load.field-0-is c.in-Ok-Load.ensures.read in
     let short : length c.args.line.now ≤ limits.line = omega (arith, c.if-line-self.false) in
-    subst (λ s. Steps told s (view_of limits c.load_named.new.index) (a_line c.args.line.now) c.load_named.result before after) c.self.view_is
-    (load_stepped limits told c.in-Ok-Load.name c.self.inside.index c.load_named.new.index c.load_named.result before after c.load_named.ensures.loads c.args.line.now (holds_trees limits c.self.inside.index c.trees.ensures.keyed c.trees.ensures.exactly c.trees.ensures.hold) c.load_named.ensures.rules short read)
+    subst (λ s. Steps s (view_of limits c.load_named.new.index) (a_line c.args.line.now) c.load_named.result before after) c.self.view_is
+    (load_stepped limits c.in-Ok-Load.name c.self.inside.index c.load_named.new.index c.load_named.result before after c.load_named.ensures.loads c.args.line.now c.load_named.ensures.library (holds_trees limits c.self.inside.index c.trees.ensures.keyed c.trees.ensures.exactly c.trees.ensures.hold) c.load_named.ensures.rules short read)
 
 pub returns-in-Ok-Load-clause-silent : goal.returns-in-Ok-Load-clause-silent
 returns-in-Ok-Load-clause-silent g c =
     let read : ReadsCommand c.args.line.now (command.Load c.in-Ok-Load.name) = subst (ReadsCommand c.args.line.now) c.in-Ok-Load.field-0-is c.in-Ok-Load.ensures.read in (
-      λ e. absurd (load_not_silent c.self.inside.limits (g.L.Library.shown c.args.library.now).files c.in-Ok-Load.name c.self.inside.index c.load_named.new.index c.load_named.result _ _ c.load_named.ensures.loads e),
+      λ e. absurd (load_not_silent c.self.inside.limits c.in-Ok-Load.name c.self.inside.index c.load_named.new.index c.load_named.result _ _ c.load_named.ensures.loads e),
       λ h. absurd (read.0 h.1),
     )
 
 pub returns-in-Ok-Load-clause-refused : goal.returns-in-Ok-Load-clause-refused
 returns-in-Ok-Load-clause-refused g c =
-    λ e. load_keeps c.self.inside.limits (g.L.Library.shown c.args.library.now).files c.in-Ok-Load.name c.self.inside.index c.load_named.new.index c.load_named.result _ _ c.load_named.ensures.loads e
+    λ e. load_keeps c.self.inside.limits c.in-Ok-Load.name c.self.inside.index c.load_named.new.index c.load_named.result _ _ c.load_named.ensures.loads e
     ∙ ap (λ s. s.state) c.self.view_is
 
 -- ---- subsumption
@@ -144,13 +135,11 @@ returns-in-Ok-Subsumers-clause-step g c =
     let a = (g.K.Sink.shown c.args.sink.now) in
     let b = (g.K.Sink.shown c.subsumers.new.sink) in
     let limits = c.self.inside.limits in
-    let told = (g.L.Library.shown c.args.library.now).files in
-    let tally = (g.L.Library.shown c.args.library.now).counts in
-    let may_fail = (g.L.Library.shown c.args.library.now).may_fail in
+    let library = g.L.Library.shown c.args.library.now in
     let read : ReadsCommand c.args.line.now (command.Subsumers c.in-Ok-Subsumers.formula) = subst (ReadsCommand c.args.line.now) c.in-Ok-Subsumers.field-0-is c.in-Ok-Subsumers.ensures.read in
     let short : length c.args.line.now ≤ limits.line = omega (arith, c.if-line-self.false) in
-    subst (λ s. Steps told s s (a_line c.args.line.now) c.subsumers.result (beside a tally may_fail) (beside b tally may_fail)) c.self.view_is
-    (stepped limits told c.self.inside.index c.self.inside.index c.args.line.now (subsumers (map literal_of c.in-Ok-Subsumers.formula)) c.subsumers.result a b tally may_fail (holds_trees limits c.self.inside.index c.trees.ensures.keyed c.trees.ensures.exactly c.trees.ensures.hold) refl short read.0 c.subsumers.ensures.acts (λ reply. tt) (inr refl))
+    subst (λ s. Steps s s (a_line c.args.line.now) c.subsumers.result (around a library) (around b library)) c.self.view_is
+    (stepped limits library c.self.inside.index c.self.inside.index c.args.line.now (subsumers (map literal_of c.in-Ok-Subsumers.formula)) c.subsumers.result a b (holds_trees limits c.self.inside.index c.trees.ensures.keyed c.trees.ensures.exactly c.trees.ensures.hold) refl short read.0 c.subsumers.ensures.acts (λ reply. tt) (inr refl))
 
 pub returns-in-Ok-Subsumers-clause-silent : goal.returns-in-Ok-Subsumers-clause-silent
 returns-in-Ok-Subsumers-clause-silent g c =
@@ -167,13 +156,11 @@ returns-in-Ok-Subsumed-clause-step g c =
     let a = (g.K.Sink.shown c.args.sink.now) in
     let b = (g.K.Sink.shown c.subsumed.new.sink) in
     let limits = c.self.inside.limits in
-    let told = (g.L.Library.shown c.args.library.now).files in
-    let tally = (g.L.Library.shown c.args.library.now).counts in
-    let may_fail = (g.L.Library.shown c.args.library.now).may_fail in
+    let library = g.L.Library.shown c.args.library.now in
     let read : ReadsCommand c.args.line.now (command.Subsumed c.in-Ok-Subsumed.formula) = subst (ReadsCommand c.args.line.now) c.in-Ok-Subsumed.field-0-is c.in-Ok-Subsumed.ensures.read in
     let short : length c.args.line.now ≤ limits.line = omega (arith, c.if-line-self.false) in
-    subst (λ s. Steps told s s (a_line c.args.line.now) c.subsumed.result (beside a tally may_fail) (beside b tally may_fail)) c.self.view_is
-    (stepped limits told c.self.inside.index c.self.inside.index c.args.line.now (subsumed (map literal_of c.in-Ok-Subsumed.formula)) c.subsumed.result a b tally may_fail (holds_trees limits c.self.inside.index c.trees.ensures.keyed c.trees.ensures.exactly c.trees.ensures.hold) refl short read.0 c.subsumed.ensures.acts (λ reply. tt) (inr refl))
+    subst (λ s. Steps s s (a_line c.args.line.now) c.subsumed.result (around a library) (around b library)) c.self.view_is
+    (stepped limits library c.self.inside.index c.self.inside.index c.args.line.now (subsumed (map literal_of c.in-Ok-Subsumed.formula)) c.subsumed.result a b (holds_trees limits c.self.inside.index c.trees.ensures.keyed c.trees.ensures.exactly c.trees.ensures.hold) refl short read.0 c.subsumed.ensures.acts (λ reply. tt) (inr refl))
 
 pub returns-in-Ok-Subsumed-clause-silent : goal.returns-in-Ok-Subsumed-clause-silent
 returns-in-Ok-Subsumed-clause-silent g c =
@@ -194,15 +181,13 @@ returns-in-Ok-Sample-clause-step g c =
     let a = (g.K.Sink.shown c.args.sink.now) in
     let b = (g.K.Sink.shown c.sample.new.sink) in
     let limits = c.self.inside.limits in
-    let told = (g.L.Library.shown c.args.library.now).files in
-    let tally = (g.L.Library.shown c.args.library.now).counts in
-    let may_fail = (g.L.Library.shown c.args.library.now).may_fail in
+    let library = g.L.Library.shown c.args.library.now in
     let start = c.in-Ok-Sample.start in
     let count = c.in-Ok-Sample.count in
     let read : ReadsCommand c.args.line.now (command.Sample start count) = subst (ReadsCommand c.args.line.now) c.in-Ok-Sample.field-0-is c.in-Ok-Sample.ensures.read in
     let short : length c.args.line.now ≤ limits.line = omega (arith, c.if-line-self.false) in
-    subst (λ s. Steps told s (view_of limits c.sample.new.index) (a_line c.args.line.now) c.sample.result (beside a tally may_fail) (beside b tally may_fail)) c.self.view_is
-    (stepped limits told c.self.inside.index c.sample.new.index c.args.line.now (sample start count) c.sample.result a b tally may_fail (holds_trees limits c.self.inside.index c.trees.ensures.keyed c.trees.ensures.exactly c.trees.ensures.hold) c.sample.ensures.rules short read.0 c.sample.ensures.acts (λ reply. tt) (inl tt))
+    subst (λ s. Steps s (view_of limits c.sample.new.index) (a_line c.args.line.now) c.sample.result (around a library) (around b library)) c.self.view_is
+    (stepped limits library c.self.inside.index c.sample.new.index c.args.line.now (sample start count) c.sample.result a b (holds_trees limits c.self.inside.index c.trees.ensures.keyed c.trees.ensures.exactly c.trees.ensures.hold) c.sample.ensures.rules short read.0 c.sample.ensures.acts (λ reply. tt) (inl tt))
 
 pub returns-in-Ok-Sample-clause-silent : goal.returns-in-Ok-Sample-clause-silent
 returns-in-Ok-Sample-clause-silent g c =
@@ -229,26 +214,22 @@ returns-in-Ok-Tree-clause-step g c =
     let a = (g.K.Sink.shown c.args.sink.now) in
     let b = (g.K.Sink.shown c.tell_trees.new.sink) in
     let limits = c.self.inside.limits in
-    let told = (g.L.Library.shown c.args.library.now).files in
-    let tally = (g.L.Library.shown c.args.library.now).counts in
-    let may_fail = (g.L.Library.shown c.args.library.now).may_fail in
+    let library = g.L.Library.shown c.args.library.now in
     let read : ReadsCommand c.args.line.now command.Tree = subst (ReadsCommand c.args.line.now) c.in-Ok-Tree.field-0-is c.in-Ok-Tree.ensures.read in
     let short : length c.args.line.now ≤ limits.line = omega (arith, c.if-line-self.false) in
-    subst (λ s. Steps told s s (a_line c.args.line.now) c.tell_trees.result (beside a tally may_fail) (beside b tally may_fail)) c.self.view_is
-    (trees_stepped limits told c.self.inside.index c.args.line.now c.counts.result c.tell_trees.result a b tally may_fail (holds_trees limits c.self.inside.index c.trees.ensures.keyed c.trees.ensures.exactly c.trees.ensures.hold) short read c.counts.ensures.literals c.counts.ensures.terms c.tell_trees.ensures.written)
+    subst (λ s. Steps s s (a_line c.args.line.now) c.tell_trees.result (around a library) (around b library)) c.self.view_is
+    (trees_stepped limits library c.self.inside.index c.args.line.now c.counts.result c.tell_trees.result a b (holds_trees limits c.self.inside.index c.trees.ensures.keyed c.trees.ensures.exactly c.trees.ensures.hold) short read c.counts.ensures.literals c.counts.ensures.terms c.tell_trees.ensures.written)
 
 pub returns-in-Ok-Explain-clause-step : goal.returns-in-Ok-Explain-clause-step
 returns-in-Ok-Explain-clause-step g c =
     let a = (g.K.Sink.shown c.args.sink.now) in
     let b = (g.K.Sink.shown c.explain.new.sink) in
     let limits = c.self.inside.limits in
-    let told = (g.L.Library.shown c.args.library.now).files in
-    let tally = (g.L.Library.shown c.args.library.now).counts in
-    let may_fail = (g.L.Library.shown c.args.library.now).may_fail in
+    let library = g.L.Library.shown c.args.library.now in
     let read : ReadsCommand c.args.line.now (command.Explain c.in-Ok-Explain.relation c.in-Ok-Explain.pattern) = subst (ReadsCommand c.args.line.now) c.in-Ok-Explain.field-0-is c.in-Ok-Explain.ensures.read in
     let short : length c.args.line.now ≤ limits.line = omega (arith, c.if-line-self.false) in
-    subst (λ s. Steps told s s (a_line c.args.line.now) c.explain.result (beside a tally may_fail) (beside b tally may_fail)) c.self.view_is
-    (explain_stepped limits told c.self.inside.index c.args.line.now c.in-Ok-Explain.relation (pattern_of c.in-Ok-Explain.pattern) c.explain.result a b tally may_fail (holds_trees limits c.self.inside.index c.trees.ensures.keyed c.trees.ensures.exactly c.trees.ensures.hold) short read.0 c.explain.ensures.tells)
+    subst (λ s. Steps s s (a_line c.args.line.now) c.explain.result (around a library) (around b library)) c.self.view_is
+    (explain_stepped limits library c.self.inside.index c.args.line.now c.in-Ok-Explain.relation (pattern_of c.in-Ok-Explain.pattern) c.explain.result a b (holds_trees limits c.self.inside.index c.trees.ensures.keyed c.trees.ensures.exactly c.trees.ensures.hold) short read.0 c.explain.ensures.tells)
 
 -- ---- lines that are no command
 pub returns-in-Ok-Blank-clause-step : goal.returns-in-Ok-Blank-clause-step
@@ -256,64 +237,59 @@ returns-in-Ok-Blank-clause-step g c =
     let limits = c.self.inside.limits in
     let index = c.self.inside.index in
     let line = c.args.line.now in
-    let told = (g.L.Library.shown c.args.library.now).files in
+    let library = g.L.Library.shown c.args.library.now in
     let a = g.K.Sink.shown c.args.sink.now in
     let b = a in
-    let tally = (g.L.Library.shown c.args.library.now).counts in
-    let may_fail = (g.L.Library.shown c.args.library.now).may_fail in
     let read : ReadsCommand line command.Blank = subst (ReadsCommand line) c.in-Ok-Blank.field-0-is c.in-Ok-Blank.ensures.read in
     let short : length line ≤ limits.line = omega (arith, c.if-line-self.false) in
-    subst (λ s. Steps told s s (a_line line) Silent (beside a tally may_fail) (beside b tally may_fail)) c.self.view_is
-    (line_stepped limits told index line [] Silent a b tally may_fail (holds_trees limits c.self.inside.index c.trees.ensures.keyed c.trees.ensures.exactly c.trees.ensures.hold) (blanks_no_command line read) (silent (short, read) refl refl refl) (SendsAll-nil a, refl))
+    subst (λ s. Steps s s (a_line line) Silent (around a library) (around b library)) c.self.view_is
+    (line_stepped limits library index line [] Silent a b (holds_trees limits c.self.inside.index c.trees.ensures.keyed c.trees.ensures.exactly c.trees.ensures.hold) (blanks_no_command line read) (silent (short, read) refl refl refl) (SendsAll-nil a, refl))
+
+pub returns-in-Ok-Blank-clause-faults : goal.returns-in-Ok-Blank-clause-faults
+returns-in-Ok-Blank-clause-faults g c = faults_stand Silent _ _ (λ e. cc) refl
 
 pub returns-in-Ok-Foreign-clause-step : goal.returns-in-Ok-Foreign-clause-step
 returns-in-Ok-Foreign-clause-step g c =
     let limits = c.self.inside.limits in
     let index = c.self.inside.index in
     let line = c.args.line.now in
-    let told = (g.L.Library.shown c.args.library.now).files in
+    let library = g.L.Library.shown c.args.library.now in
     let a = g.K.Sink.shown c.args.sink.now in
     let b = g.K.Sink.shown c.tell-in-Ok-Foreign.new.sink in
-    let tally = (g.L.Library.shown c.args.library.now).counts in
-    let may_fail = (g.L.Library.shown c.args.library.now).may_fail in
     let read : ReadsCommand line command.Foreign = subst (ReadsCommand line) c.in-Ok-Foreign.field-0-is c.in-Ok-Foreign.ensures.read in
     let short : length line ≤ limits.line = omega (arith, c.if-line-self.false) in
-    subst (λ s. Steps told s s (a_line line) c.tell-in-Ok-Foreign.result (beside a tally may_fail) (beside b tally may_fail)) c.self.view_is
-    (line_stepped limits told index line (language_line ∷ []) c.tell-in-Ok-Foreign.result a b tally may_fail (holds_trees limits c.self.inside.index c.trees.ensures.keyed c.trees.ensures.exactly c.trees.ensures.hold) read.2 (foreign short read.1 read.2 refl refl refl) c.tell-in-Ok-Foreign.ensures.written)
+    subst (λ s. Steps s s (a_line line) c.tell-in-Ok-Foreign.result (around a library) (around b library)) c.self.view_is
+    (line_stepped limits library index line (language_line ∷ []) c.tell-in-Ok-Foreign.result a b (holds_trees limits c.self.inside.index c.trees.ensures.keyed c.trees.ensures.exactly c.trees.ensures.hold) read.2 (foreign short read.1 read.2 refl refl refl) c.tell-in-Ok-Foreign.ensures.written)
 
 pub returns-in-Ok-Wrong-clause-step : goal.returns-in-Ok-Wrong-clause-step
 returns-in-Ok-Wrong-clause-step g c =
     let limits = c.self.inside.limits in
     let index = c.self.inside.index in
     let line = c.args.line.now in
-    let told = (g.L.Library.shown c.args.library.now).files in
+    let library = g.L.Library.shown c.args.library.now in
     let a = g.K.Sink.shown c.args.sink.now in
     let b = g.K.Sink.shown c.tell-in-Ok-Wrong.new.sink in
-    let tally = (g.L.Library.shown c.args.library.now).counts in
-    let may_fail = (g.L.Library.shown c.args.library.now).may_fail in
     let read : ReadsCommand line command.Wrong = subst (ReadsCommand line) c.in-Ok-Wrong.field-0-is c.in-Ok-Wrong.ensures.read in
     let short : length line ≤ limits.line = omega (arith, c.if-line-self.false) in
-    subst (λ s. Steps told s s (a_line line) c.tell-in-Ok-Wrong.result (beside a tally may_fail) (beside b tally may_fail)) c.self.view_is
-    (line_stepped limits told index line (syntax_line ∷ []) c.tell-in-Ok-Wrong.result a b tally may_fail (holds_trees limits c.self.inside.index c.trees.ensures.keyed c.trees.ensures.exactly c.trees.ensures.hold) read.none (wrong short (λ h. read.some h.1) read.own read.none refl refl refl) c.tell-in-Ok-Wrong.ensures.written)
+    subst (λ s. Steps s s (a_line line) c.tell-in-Ok-Wrong.result (around a library) (around b library)) c.self.view_is
+    (line_stepped limits library index line (syntax_line ∷ []) c.tell-in-Ok-Wrong.result a b (holds_trees limits c.self.inside.index c.trees.ensures.keyed c.trees.ensures.exactly c.trees.ensures.hold) read.none (wrong short (λ h. read.some h.1) read.own read.none refl refl refl) c.tell-in-Ok-Wrong.ensures.written)
 
 pub returns-in-Err-clause-step : goal.returns-in-Err-clause-step
 returns-in-Err-clause-step g c =
     let limits = c.self.inside.limits in
+    let library = g.L.Library.shown c.args.library.now in
     let a = g.K.Sink.shown c.args.sink.now in
     let b = g.K.Sink.shown c.tell-in-Err.new.sink in
     let short : length c.args.line.now ≤ limits.line = omega (arith, c.if-line-self.false) in
-    subst (λ s. Steps (g.L.Library.shown c.args.library.now).files s s (a_line c.args.line.now) c.tell-in-Err.result
-    (beside a ((g.L.Library.shown c.args.library.now).counts) (g.L.Library.shown c.args.library.now).may_fail)
-    (beside b ((g.L.Library.shown c.args.library.now).counts) (g.L.Library.shown c.args.library.now).may_fail)) c.self.view_is
-    (unread_stepped limits (g.L.Library.shown c.args.library.now).files c.self.inside.index c.args.line.now c.tell-in-Err.result a b _ _ (holds_trees limits c.self.inside.index c.trees.ensures.keyed c.trees.ensures.exactly c.trees.ensures.hold) short c.in-Err.ensures.refused c.tell-in-Err.ensures.written)
+    subst (λ s. Steps s s (a_line c.args.line.now) c.tell-in-Err.result (around a library) (around b library)) c.self.view_is
+    (unread_stepped limits library c.self.inside.index c.args.line.now c.tell-in-Err.result a b (holds_trees limits c.self.inside.index c.trees.ensures.keyed c.trees.ensures.exactly c.trees.ensures.hold) short c.in-Err.ensures.refused c.tell-in-Err.ensures.written)
 
 pub returns-then-line-self-clause-step : goal.returns-then-line-self-clause-step
 returns-then-line-self-clause-step g c =
-    let tally = (g.L.Library.shown c.args.library.now).counts in
-    let may_fail = (g.L.Library.shown c.args.library.now).may_fail in
+    let library = g.L.Library.shown c.args.library.now in
     let a = g.K.Sink.shown c.args.sink.now in
     let b = g.K.Sink.shown c.tell.new.sink in
     let limits = c.self.inside.limits in
-    subst (λ s. Steps (g.L.Library.shown c.args.library.now).files s s (a_line c.args.line.now) c.tell.result (beside a tally may_fail) (beside b tally may_fail)) c.self.view_is
-    (long_stepped limits (g.L.Library.shown c.args.library.now).files c.self.inside.index c.args.line.now c.tell.result a b tally may_fail
+    subst (λ s. Steps s s (a_line c.args.line.now) c.tell.result (around a library) (around b library)) c.self.view_is
+    (long_stepped limits library c.self.inside.index c.args.line.now c.tell.result a b
     (holds_trees limits c.self.inside.index c.trees.ensures.keyed c.trees.ensures.exactly c.trees.ensures.hold) (omega (arith, c.if-line-self.true)) c.tell.ensures.written)

@@ -1,4 +1,4 @@
--- A formula and a clause whose symbols all have numbers in a table are flat by one numbering.
+-- A formula, and a clause whose symbols all have numbers in a table, are flat by one numbering.
 use Rattle.std.proofs.Common.{◌≡◌, ℕ, List, [], ◌++◌, ap, subst, append-nil}
 use Rattle.std.specs.Prelude.{Option}
 use Rattle.si_defs.specs.Terms.{firsts}

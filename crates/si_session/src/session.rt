@@ -74,13 +74,14 @@ impl Session {
         library: &mut L,
         sink: &mut K,
     ) -> Stepped
-        // The session went one step: its state is the next one, and the reply was written.
+        // The session went one step: its state is the next one, and the reply was written, or the
+        // front of it that the sink took before it failed.
         ensures step { Steps self.old self.new (a_line line.now) result
             (around (K.shown sink.old) (L.shown library.old))
             (around (K.shown sink.new) (L.shown library.new)) }
         // It answers that a line has no reply exactly where the line is silent.
         ensures silent { (result ≡ Silent) ↔ IsSilent self.old.setting.limits line.now }
-        // A refusal changes nothing.
+        // A refusal leaves the state.
         ensures refused { result ≡ Refused → self.new.state ≡ self.old.state }
         // It answers a fault of the sink exactly where the sink counted one.
         ensures faults { CountsSinkFault result (K.shown sink.old) (K.shown sink.new) }
@@ -129,13 +130,14 @@ impl Session {
         library: &mut L,
         sink: &mut K,
     ) -> Stepped
-        // The session went one step: its state is the next one, and the reply was written.
+        // The session went one step: its state is the next one, and the reply was written, or the
+        // front of it that the sink took before it failed.
         ensures step { Steps self.old self.new (a_word word.now) result
             (around (K.shown sink.old) (L.shown library.old))
             (around (K.shown sink.new) (L.shown library.new)) }
         // A word has a reply.
         ensures loud { result ≡ Silent → ⊥ }
-        // A refusal changes nothing.
+        // A refusal leaves the state.
         ensures refused { result ≡ Refused → self.new.state ≡ self.old.state }
         // It answers a fault of the sink exactly where the sink counted one.
         ensures faults { CountsSinkFault result (K.shown sink.old) (K.shown sink.new) }

@@ -283,7 +283,7 @@ IsSureWithRoom limits words status before = IsFalse before.source.may_fail
     before.source.left before.sink.told.room
     → IsFaultless status
 
--- No device's fault ends a run in which no count of faults rose.
+-- No device's fault ends a run in which neither the source's nor the sink's count of faults rose.
 abbrev pub IsFaultlessUnlessRose : Status → (before after : Devices) → Type 0
 IsFaultlessUnlessRose status before after =
     (Rose before.source.counts.faults after.source.counts.faults → ⊥)

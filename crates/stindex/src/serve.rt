@@ -50,10 +50,10 @@ pub fn serve<S: Source, K: Sink, L: Library>(
         (devices (S.shown source.new) (K.shown sink.new) (L.shown library.new)) }
     // The library's files stay.
     ensures library { KeepsFiles (L.shown library.old) (L.shown library.new) }
-    // A fault that ends the run was counted, and no other.
+    // A fault that ends the run was counted, and no other one of the source or the sink.
     ensures causes { HasCauses result (S.shown source.old) (S.shown source.new)
         (K.shown sink.old) (K.shown sink.new) }
-    // Devices that can't fail, and have room, bring no fault.
+    // A source that can't fail, and a sink that has room, bring no fault.
     ensures sure { IsSureWithRoom limits.now (map string_bytes words.entry.now) result
         (devices (S.shown source.old) (K.shown sink.old) (L.shown library.old)) }
     // Nor do those whose counts of faults didn't rise.

@@ -191,8 +191,8 @@ pub record LoadsOrStops (strict : Bool) (result : Result (Unit {0}) Stop) (old n
       [] before after)
   pub rest : KeepsRest result old new before after
 
--- The lines that end in these bytes were acted on, and the front of one that doesn't is held; or the
--- run stopped at the reply to one of them.
+-- The lines that end in these bytes were acted on, and the front of one that doesn't is held; or
+-- the run stopped at the reply to one of them.
 pub record FeedsOrStops (strict : Bool) (result : Result (Unit {0}) Stop) (old new : View)
     (bytes held holds : Bytes) (before after : Around) : Type 0 where
   pub fed : OnOk result (Advances old.setting before.library.files strict bytes old.state held

@@ -14,7 +14,7 @@ pub begins_append : (ts us : List Token) (bytes middle rest : Bytes) → Begins 
 begins_append [] us bytes middle rest a b = subst (λ x. Begins x us rest) (sym a) b
 begins_append (t ∷ ts) us bytes middle rest a b = (a.0, a.1, begins_append ts us a.0 middle rest a.2 b)
 
--- the bytes behind some tokens and before others
+-- the bytes after some tokens and before others
 pub begins_split : (ts us : List Token) (bytes rest : Bytes) → Begins bytes (ts ++ us) rest → (middle : Bytes) × Begins bytes ts middle × Begins middle us rest
 begins_split [] us bytes rest b = (bytes, refl, b)
 begins_split (t ∷ ts) us bytes rest b = let s = begins_split ts us b.0 rest b.2 in (s.0, (b.0, b.1, s.1), s.2)

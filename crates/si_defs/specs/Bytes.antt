@@ -46,12 +46,12 @@ is_decimal [] = false
 is_decimal (c ∷ []) = is_digit c
 is_decimal (c ∷ d ∷ ds) = is_between 49 57 c && list_all is_digit (d ∷ ds)
 
--- TPTP's integer: a decimal behind an optional sign, `+` or `-`
+-- TPTP's integer: a decimal after an optional sign, `+` or `-`
 abbrev pub is_integer : Bytes → Bool
 is_integer [] = false
 is_integer (c ∷ cs) = is_decimal (c ∷ cs) || ((c == 43 || c == 45) && is_decimal cs)
 
--- TPTP's dollar_word and dollar_dollar_word, a lower word behind one `$` or two
+-- TPTP's dollar_word and dollar_dollar_word, a lower word after one `$` or two
 abbrev pub is_dollar_word : Bytes → Bool
 is_dollar_word [] = false
 is_dollar_word (c ∷ []) = false

@@ -5,16 +5,16 @@ use Rattle.std.specs.Prelude.{◌≡◌, ℕ, zero, suc, ◌+◌, ◌*◌, ◌/�
 use Rattle.si_defs.specs.Bytes.{Bytes}
 
 -- ---- draws
--- the state behind a state
+-- the state after a state
 abbrev pub next : ℕ → ℕ
 next state = (1103515245 * state + 12345) % 2147483648
 
--- what is drawn below a bound, by the state behind the draw: its high bits
+-- what is drawn below a bound, by the state after the draw: its high bits
 abbrev pub drawn : ℕ → ℕ → ℕ
 drawn bound state = state / 65536 % bound
 
 -- ---- rules
--- which text is drawn from a state, and which state stands behind it
+-- which text is drawn from a state, and which state stands after it
 abbrev pub Rule : Type 1
 Rule = ℕ → Bytes → ℕ → Type 0
 

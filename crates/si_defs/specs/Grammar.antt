@@ -68,7 +68,7 @@ abbrev mutual
       × IsTerm u first × AreMoreTerms us others
       × (ts ≡ t ∷ left_bracket ∷ first ++ others ++ right_bracket ∷ []))
 
-  -- each behind a comma
+  -- each after a comma
   pub AreMoreTerms : Terms → List Token → Type 0
   AreMoreTerms terms.none ts = ts ≡ []
   AreMoreTerms (terms.more u us) ts = (first : List Token) × (others : List Token) × IsTerm u first
@@ -115,7 +115,7 @@ IsSignedAtom false atom ts =
 abbrev pub IsLiteral : Literal → List Token → Type 0
 IsLiteral l ts = IsSignedAtom l.positive l.atom ts
 
--- each behind a bar
+-- each after a bar
 abbrev pub AreMoreLiterals : List Literal → List Token → Type 0
 AreMoreLiterals [] ts = ts ≡ []
 AreMoreLiterals (l ∷ ls) ts = (first : List Token) × (others : List Token) × IsLiteral l first
@@ -147,7 +147,7 @@ closing_of t = of t.kind t.text where
   of token.Mark (c ∷ []) = cond (c == 41) round (cond (c == 93) square neither)
   of kind text = neither
 
--- the brackets open behind a token, the last one first; none where it closes another than the last
+-- the brackets open after a token, the last one first; none where it closes another than the last
 abbrev pub closed : Bracket → List Bracket → Option (List Bracket)
 closed neither pending = Some pending
 closed round (round ∷ pending) = Some pending
@@ -206,7 +206,7 @@ IsClause c ts =
     × (ts ≡ lower (codes "cnf") ∷ left_bracket ∷ name ∷ comma ∷ lower c.role ∷ comma ∷ formula
     ++ extra ++ right_bracket ∷ full_stop ∷ [])
 
--- each behind a comma
+-- each after a comma
 abbrev pub AreMoreNames : List Name → List Token → Type 0
 AreMoreNames [] ts = ts ≡ []
 AreMoreNames (n ∷ ns) ts = (t : Token) × (others : List Token) × IsName n t × AreMoreNames ns others

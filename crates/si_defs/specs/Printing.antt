@@ -50,7 +50,7 @@ abbrev mutual
   term_text f (terms.app s (terms.more t ts)) =
       symbol_text s ++ codes "(" ++ term_text f t ++ more_texts f ts ++ codes ")"
 
-  -- each behind a comma
+  -- each after a comma
   pub more_texts : {V : Type 0} → (V → Bytes) → terms.Terms Symbol V → Bytes
   more_texts f terms.none = []
   more_texts f (terms.more t ts) = codes "," ++ term_text f t ++ more_texts f ts
@@ -59,7 +59,7 @@ abbrev pub decimals : List ℕ → List Bytes
 decimals [] = []
 decimals (n ∷ ns) = decimal n ∷ decimals ns
 
--- the path behind the literal's number, where there is one
+-- the path after the literal's number, where there is one
 abbrev pub path_text : List ℕ → Bytes
 path_text [] = []
 path_text (n ∷ ns) = codes ":" ++ separated (codes ".") (decimals (n ∷ ns))

@@ -13,7 +13,7 @@ abbrev pub AreDistinct : {V : Type 0} → List V → Type 0
 AreDistinct [] = Unit {0}
 AreDistinct (x ∷ xs) = (IsAmong xs x → ⊥) × AreDistinct xs
 
--- the list is the old one with others behind it
+-- the list is the old one with others after it
 abbrev pub Grows : {V : Type 0} → List V → List V → Type 0
 Grows {V} old new = (more : List V) × (new ≡ old ++ more)
 

@@ -9,7 +9,7 @@ use Rattle.si_defs.specs.Substitutions.{IsAmong}
 use Rattle.si_defs.specs.declared.TokenKind.TheVariants as token
 use Rattle.si_defs.specs.declared.TheConstants.{DEEPEST_NESTING}
 
--- The bytes begin with blanks and this item, and rest stands behind its full stop.
+-- The bytes begin with blanks and this item, and rest stands after its full stop.
 pub record BeginsWithItem (bytes : Bytes) (item : Item) (rest : Bytes) : Type 0 where
   pub tokens : List Token
   pub begins : Begins bytes tokens rest
@@ -40,7 +40,7 @@ abbrev pub IsFileText : Bytes → Bytes → Type 0
 IsFileText file bytes = IsText (λ ts. ts ≡ record { kind = token.Single; text = file } ∷ []) bytes
 
 -- ---- faults
--- place is what stands behind the longest blanks
+-- place is what stands after the longest blanks
 pub record IsPlace (bytes place : Bytes) : Type 0 where
   pub skips : Skips bytes place
   pub longest : (other : Bytes) → Skips bytes other → length place ≤ length other

@@ -57,7 +57,7 @@ abbrev pub joined : List Bytes → Bytes
 joined [] = []
 joined (text ∷ texts) = text ++ joined texts
 
--- rest is what stands in the bytes behind some blanks
+-- rest is what stands in the bytes after some blanks
 pub record Skips (bytes rest : Bytes) : Type 0 where
   pub blanks : List Bytes
   pub each : AllByRecursion IsBlank blanks
@@ -73,7 +73,7 @@ pub record AreBlanks (bytes : Bytes) : Type 0 where
 abbrev pub is_mark : ℕ → Bool
 is_mark c = list_any (λ m. m == c) (codes "()[],.=~|!?&<>@*+-^;/:#{}")
 
--- a character of a quoted text: the quote and the backslash stand behind a backslash
+-- a character of a quoted text: the quote and the backslash stand after a backslash
 abbrev pub escaped : ℕ → ℕ → Bytes
 escaped quote c = cond (c == quote || c == 92) (92 ∷ c ∷ []) (c ∷ [])
 
@@ -92,7 +92,7 @@ Spells Double text bytes = (bytes ≡ quoted 34 text) × IsTrue (list_all is_pri
 Spells NotEqual text bytes = (bytes ≡ text) × (text ≡ codes "!=")
 Spells Mark text bytes = (bytes ≡ text) × ((c : ℕ) × (text ≡ c ∷ []) × IsTrue (is_mark c))
 
--- The bytes begin with this token, and rest stands behind it: no token at this place is longer, and
+-- The bytes begin with this token, and rest stands after it: no token at this place is longer, and
 -- no comment opens here.
 pub record TokenAt (bytes : Bytes) (token : Token) (rest : Bytes) : Type 0 where
   pub spelling : Bytes
@@ -102,19 +102,19 @@ pub record TokenAt (bytes : Bytes) (token : Token) (rest : Bytes) : Type 0 where
       → bytes ≡ other ++ behind → length other ≤ length spelling
   pub no_comment : IsFalse (opens_comment bytes)
 
--- the token stands behind some blanks
+-- the token stands after some blanks
 pub record NextToken (bytes : Bytes) (token : Token) (rest : Bytes) : Type 0 where
   pub place : Bytes
   pub skips : Skips bytes place
   pub stands : TokenAt place token rest
 
--- the bytes begin with these tokens, each behind some blanks, and rest stands behind the last
+-- the bytes begin with these tokens, each after some blanks, and rest stands after the last
 abbrev pub Begins : Bytes → List Token → Bytes → Type 0
 Begins bytes [] rest = bytes ≡ rest
 Begins bytes (token ∷ tokens) rest = (after : Bytes) × NextToken bytes token after
     × Begins after tokens rest
 
--- the bytes are these tokens, with blanks before, between and behind them
+-- the bytes are these tokens, with blanks before, between and after them
 pub record Consists (bytes : Bytes) (tokens : List Token) : Type 0 where
   pub rest : Bytes
   pub begins : Begins bytes tokens rest

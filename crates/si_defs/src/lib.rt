@@ -28,7 +28,7 @@ pub enum NameKind {
 pub enum SymKind {
     /// A lower word, or any text in single quotes.
     Word,
-    /// A word behind one or two dollar signs.
+    /// A word after one or two dollar signs.
     Dollar,
     /// An integer, by its spelling.
     Number,
@@ -54,7 +54,7 @@ pub enum TokenKind {
     Lower,
     /// A word that begins with a capital letter.
     Upper,
-    /// A word behind one or two dollar signs.
+    /// A word after one or two dollar signs.
     Dollar,
     /// An integer with an optional sign.
     Int,

@@ -24,7 +24,7 @@ use Rattle.si_changes.proofs.Borrowed.{occurs, occurs_not}
 use Rattle.si_descend.specs.Subtrees.{EndsFree, AreEndsOf, IsClear, AreClear}
 use Rattle.si_descend.proofs.FreeLaws.{slot_below}
 
--- ---- pairs behind others
+-- ---- pairs after others
 module _ {X : Type 0} where
   value_none : (pairs : List (ℕ × X)) (slot : ℕ) → AllByRecursion (λ p. p.0 ≢ slot) pairs → value_at pairs slot ≡ None
   value_none [] slot h = refl

@@ -103,7 +103,7 @@ module _ (search : Search) (ready : IsReady search) (key : ℕ) (node : Node Ter
   ]
 
   -- a child binds the split to a term that has a head, or isn't open
-  pub by_heads : (children : Bor (List ℕ)) (w : Wanted) (end : ℕ) → AtNode search.tree.now key (λ n. children.now ≡ children_of n.content) → AtNode search.tree.now key (λ n. split_of n.content ≡ Some w.split) → AreHeadsFor search.kind search.slots search.tree.now.vars w.first end → AreAttempts search key (record { children = children; wanted = Some w; by_head = Some w.first; end = end })
+  pub by_heads : (children : Bor (List ℕ)) (w : Wanted) (end : ℕ) → AtNode search.tree.now key (λ n. children.now ≡ children_of n.content) → AtNode search.tree.now key (λ n. split_of n.content ≡ Some w.split) → AreHeadsFor search.relation search.slots search.tree.now.vars w.first end → AreAttempts search key (record { children = children; wanted = Some w; by_head = Some w.first; end = end })
   by_heads children w end are splits heads = record {
     children = are;
     splits = splits;

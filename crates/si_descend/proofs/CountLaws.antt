@@ -23,7 +23,7 @@ use Rattle.si_descend.specs.Attempts.{IsTried, AreAttempts}
 use Rattle.si_descend.specs.declared.attempts.Attempts.{Attempts}
 use Rattle.si_unify.specs.Solving.{Pairs}
 
--- the same answers behind others
+-- the same answers after others
 behind : {P : Posting → Type 0} (front new : List Posting) → AppendsAnswers P [] new → AppendsAnswers P front (front ++ new)
 behind front new h = record { answers = h.answers; appended = ap (λ l. front ++ l) h.appended; are = h.are }
 
@@ -99,11 +99,11 @@ module _ (s : Search) (ready : IsReady s) (key : ℕ) (node : Node Term) (has : 
   few_counted_at top c (found, h, e) = few_found s ready top [] found c.passed h
 
 -- ---- the whole tree
-pub counted_answers : (s : Search) (tree : Tree Term) (kind : Relation) (cells : List Cell) (root : ℕ) (c : Counted) → IsLegal tree → s.tree.now ≡ tree → s.kind ≡ kind → s.query.now ≡ cells → root ≡ tree.root → HasCounted s root c → CountsAnswers tree kind cells c
-counted_answers s tree kind cells root c legal e f g r (found, h, n) =
-    let finds = subst (λ k. Finds tree k kind cells [] found c.passed) r (subst (λ t. Finds t root kind cells [] found c.passed) e (subst (λ k. Finds s.tree.now root k cells [] found c.passed) f (subst (λ l. Finds s.tree.now root s.kind l [] found c.passed) g h))) in
-    let all = found_retrieves tree kind cells [] found c.passed legal finds in
+pub counted_answers : (s : Search) (tree : Tree Term) (relation : Relation) (cells : List Cell) (root : ℕ) (c : Counted) → IsLegal tree → s.tree.now ≡ tree → s.relation ≡ relation → s.query.now ≡ cells → root ≡ tree.root → HasCounted s root c → CountsAnswers tree relation cells c
+counted_answers s tree relation cells root c legal e f g r (found, h, n) =
+    let finds = subst (λ k. Finds tree k relation cells [] found c.passed) r (subst (λ t. Finds t root relation cells [] found c.passed) e (subst (λ k. Finds s.tree.now root k cells [] found c.passed) f (subst (λ l. Finds s.tree.now root s.relation l [] found c.passed) g h))) in
+    let all = found_retrieves tree relation cells [] found c.passed legal finds in
     record {
       passed = all.counts;
-      answers = λ q stands. (found, (let a = all.appends q stands in subst (AreAnswers (IsStoredAnswer tree kind q)) (sym a.appended) a.are), n);
+      answers = λ q stands. (found, (let a = all.appends q stands in subst (AreAnswers (IsStoredAnswer tree relation q)) (sym a.appended) a.are), n);
     }

@@ -90,17 +90,17 @@ module _ (search : Search) (ready : IsReady search) (key : ℕ) (node : Node Ter
     )) path
 
     -- a solution that renames what it has to opens the node
-    pub entered_open : (s : Substitution Symbol Variable) → IsSolution search.slots new s → ((path : Path) → IsPath search.tree.now (Some key) path → Renames search.kind (path_term path) s) → IsOpenAt search key
+    pub entered_open : (s : Substitution Symbol Variable) → IsSolution search.slots new s → ((path : Path) → IsPath search.tree.now (Some key) path → Renames search.relation (path_term path) s) → IsOpenAt search key
     entered_open s is renames = λ q path h reached.
-        solved_open search.tree.now (legal_nodes search.tree.now ready.legal) search.slots q (numbered q h) (Some key) path reached search.kind ready.freezes s ((entered_shows q path h reached s).0 is) (renames path reached)
+        solved_open search.tree.now (legal_nodes search.tree.now ready.legal) search.slots q (numbered q h) (Some key) path reached search.relation ready.freezes s ((entered_shows q path h reached s).0 is) (renames path reached)
 
     -- and an open node has one
-    pub open_entered : (q : Term) (path : Path) → StandsFor search.query.now q → IsPath search.tree.now (Some key) path → IsOpen search.kind q (path_term path) → (s : Substitution Symbol Variable) × IsSolution search.slots new s × Renames search.kind (path_term path) s
+    pub open_entered : (q : Term) (path : Path) → StandsFor search.query.now q → IsPath search.tree.now (Some key) path → IsOpen search.relation q (path_term path) → (s : Substitution Symbol Variable) × IsSolution search.slots new s × Renames search.relation (path_term path) s
     open_entered q path h reached is =
-        let e = open_solved search.tree.now (legal_nodes search.tree.now ready.legal) search.slots q (numbered q h) (Some key) path reached search.kind ready.freezes is in
+        let e = open_solved search.tree.now (legal_nodes search.tree.now ready.legal) search.slots q (numbered q h) (Some key) path reached search.relation ready.freezes is in
         (e.map, (entered_shows q path h reached e.map).1 e.solves, e.renames)
 
   pub never_entered : (new : Pairs) → HasFitted search.slots old new rows false → IsClosedAt search key
-  never_entered new fitted = λ q path h. on_path (λ p. IsOpen search.kind q (path_term p) → ⊥) (λ up reached is.
-      let e = open_solved search.tree.now (legal_nodes search.tree.now ready.legal) search.slots q (numbered q h) (Some key) ((key, node) ∷ up) (refl, has, reached) search.kind ready.freezes is in
+  never_entered new fitted = λ q path h. on_path (λ p. IsOpen search.relation q (path_term p) → ⊥) (λ up reached is.
+      let e = open_solved search.tree.now (legal_nodes search.tree.now ready.legal) search.slots q (numbered q h) (Some key) ((key, node) ∷ up) (refl, has, reached) search.relation ready.freezes is in
       fitted e.map ((above.shows q up h reached e.map).1 (record { frozen = e.solves.frozen; zero = e.solves.zero; bindings = e.solves.bindings.1 })) ((rows_solved e.map rows node.bindings stand).1 e.solves.bindings.0)) path

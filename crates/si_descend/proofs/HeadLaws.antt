@@ -169,7 +169,7 @@ ruled_out search ready key child is pairs there None wanted out = absurd out
 ruled_out search ready key child is pairs there (Some w) wanted out = λ q path h reached is_open.
     let start = path_start search.tree.now child is.0 path is.1 reached in
     let here : IsPath search.tree.now (Some child) ((child, is.0) ∷ start.0) = subst (IsPath search.tree.now (Some child)) start.1 reached in
-    let s = open_solved search.tree.now (legal_nodes search.tree.now ready.legal) search.slots q (query_numbered search ready q h) (Some child) ((child, is.0) ∷ start.0) here search.kind ready.freezes (subst (λ p. IsOpen search.kind q (path_term p)) start.1 is_open) in
+    let s = open_solved search.tree.now (legal_nodes search.tree.now ready.legal) search.slots q (query_numbered search ready q h) (Some child) ((child, is.0) ∷ start.0) here search.relation ready.freezes (subst (λ p. IsOpen search.relation q (path_term p)) start.1 is_open) in
     let up : IsPath search.tree.now (Some key) start.0 = subst (λ k. IsPath search.tree.now k start.0) is.2 here.2 in
     let solution = (there.shows q start.0 h up s.map).1 (record { frozen = s.solves.frozen; zero = s.solves.zero; bindings = s.solves.bindings.1 }) in
     let bound = all_at (λ b. apply same_variable s.map (indicator b.0) ≡ apply same_variable s.map b.1) is.0.bindings (w.split, out.0) s.solves.bindings.0 (subst (λ n. IsAmong n.bindings (w.split, out.0)) (one_node search.tree.now child out.1.0 is.0 out.1.1 is.1) out.1.2) in
@@ -178,7 +178,7 @@ ruled_out search ready key child is pairs there (Some w) wanted out = λ q path 
     let binds = (is_step search.tree.now (legal_nodes search.tree.now ready.legal) (child, is.0) start.0 is.1 here.2).binds in
     let below = all_at (IsOpenBelow start.0) (left_sides is.0.bindings) w.split binds.lefts (binding_left is.0.bindings w.split out.0 among) in
     let renames =
-    renames_fewer search.kind out.0 (path_term ((child, is.0) ∷ start.0)) s.map (λ m a. right_applied is.0.bindings (path_term start.0) (w.split, out.0) (entry m) binds.distinct among below a) s.renames in
+    renames_fewer search.relation out.0 (path_term ((child, is.0) ∷ start.0)) s.map (λ m a. right_applied is.0.bindings (path_term start.0) (w.split, out.0) (entry m) binds.distinct among below a) s.renames in
     out.2 s.map wanted.1.0 out.0 s.solves.frozen renames wanted.1.1 refl (sym (wanted.1.2 s.map solution) ∙ bound)
 
 -- a child with a head that can't have what is wanted

@@ -134,14 +134,14 @@ entry_in_range tree legal slots q room from (step ∷ above) reached m a =
     ]
 
 -- where the query's variables aren't constants
-pub has_kind : (search : Search) → IsReady search → search.slots.freeze_query ≡ false → (search.kind ≡ Instances) ⊎ (search.kind ≡ Unifiable)
-has_kind search ready free = by search.kind refl where
+pub has_kind : (search : Search) → IsReady search → search.slots.freeze_query ≡ false → (search.relation ≡ Instances) ⊎ (search.relation ≡ Unifiable)
+has_kind search ready free = by search.relation refl where
   no_both : search.slots.freeze_query ≡ true → ⊥
   no_both e = bad (sym free ∙ e) where
     bad : false ≡ true → ⊥
     bad p = cc
 
-  by : (kind : Relation) → search.kind ≡ kind → (search.kind ≡ Instances) ⊎ (search.kind ≡ Unifiable)
+  by : (relation : Relation) → search.relation ≡ relation → (search.relation ≡ Instances) ⊎ (search.relation ≡ Unifiable)
   by Variants e = absurd (no_both (subst (λ k. Freezes k search.slots) e ready.freezes).0)
   by Instances e = inl e
   by Generalizations e = absurd (no_both (subst (λ k. Freezes k search.slots) e ready.freezes).0)
@@ -231,7 +231,7 @@ module _ (search : Search) (ready : IsReady search) (top : ℕ) (pairs : Pairs) 
         by (entry m) a = inr (gives.solution.frozen (entry m) frozen)
         by (ind n) a = inl (among_back (terms.variables q) (map ind (indicators (path_term p))) (ind n) (map_among (indicators (path_term p)) n (indicator_in (terms.variables (path_term p)) n a)))
 
-    pub leaf_open : (search.kind ≡ Instances) ⊎ (search.kind ≡ Unifiable) → IsOpen search.kind q (path_term p)
+    pub leaf_open : (search.relation ≡ Instances) ⊎ (search.relation ≡ Unifiable) → IsOpen search.relation q (path_term p)
     leaf_open (inl e) = subst (λ k. IsOpen k q (path_term p)) (sym e) (leaf_instance (subst (λ k. Freezes k search.slots) e ready.freezes).1)
     leaf_open (inr e) = subst (λ k. IsOpen k q (path_term p)) (sym e) (s, sym equal)
 
@@ -254,13 +254,13 @@ module _ (search : Search) (ready : IsReady search) (top : ℕ) (pairs : Pairs) 
     none : None ≡ Some next.0 → ⊥
     none p = cc
 
-  pub open_below : (search.kind ≡ Instances) ⊎ (search.kind ≡ Unifiable) → IsOpenAt search top → AreOpenBelow search top
-  open_below kind here q key path stands reached passes = elim (cases_eq search.tree.now.root key) as (λ _. IsOpen search.kind q (path_term path)) [
+  pub open_below : (search.relation ≡ Instances) ⊎ (search.relation ≡ Unifiable) → IsOpenAt search top → AreOpenBelow search top
+  open_below relation here q key path stands reached passes = elim (cases_eq search.tree.now.root key) as (λ _. IsOpen search.relation q (path_term path)) [
     | inl e ↦ here q path stands (subst (λ k. IsPath search.tree.now (Some k) path) (path_of_root key path reached e passes) reached)
     | inr other ↦
         let node = path_node search.tree.now key path reached in
         let low = leaf_below search.tree.now ready.legal (node_count search.tree.now) key node.0 node.1 other (omega arith) in
         let up = path_to search.tree.now (Some key) path top reached passes in
-        passed_open search.tree.now ready.legal search.kind q (query_numbered search ready q stands) (Some low.leaf) low.path key path low.reached reached low.passes
-        (leaf_open q stands (Some low.leaf) low.path low.reached (passes_on search.tree.now (Some low.leaf) low.path key path top low.reached reached low.passes passes) low.term up.0 up.1 kind)
+        passed_open search.tree.now ready.legal search.relation q (query_numbered search ready q stands) (Some low.leaf) low.path key path low.reached reached low.passes
+        (leaf_open q stands (Some low.leaf) low.path low.reached (passes_on search.tree.now (Some low.leaf) low.path key path top low.reached reached low.passes passes) low.term up.0 up.1 relation)
   ]

@@ -41,10 +41,10 @@ map_among [] n a = absurd a
 map_among (m ∷ ns) n (inl e) = inl (ap ind e)
 map_among (m ∷ ns) n (inr a) = inr (map_among ns n a)
 
-mapped_kind : (ns : List ℕ) (x : Variable) → IsAmong (map ind ns) x → (n : ℕ) × (ind n ≡ x)
-mapped_kind [] x a = absurd a
-mapped_kind (m ∷ ns) x (inl e) = (m, e)
-mapped_kind (m ∷ ns) x (inr a) = mapped_kind ns x a
+mapped_relation : (ns : List ℕ) (x : Variable) → IsAmong (map ind ns) x → (n : ℕ) × (ind n ≡ x)
+mapped_relation [] x a = absurd a
+mapped_relation (m ∷ ns) x (inl e) = (m, e)
+mapped_relation (m ∷ ns) x (inr a) = mapped_relation ns x a
 
 pub query_no_entry : (m n : ℕ) → query m ≡ entry n → ⊥
 query_no_entry m n e = cc
@@ -165,7 +165,7 @@ module _ (tree : Tree Term) (legal : HasLegalNodes tree) where
       by : IsAmong (terms.variables q ++ map ind (indicators (path_term p))) (entry n) → ⊥
       by i = elim (among_parts (terms.variables q) (map ind (indicators (path_term p))) (entry n) i) as (λ _. ⊥) [
         | inl b ↦ (let k = of_kind query q (entry n) numbered b in query_no_entry k.0 n k.1)
-        | inr b ↦ (let k = mapped_kind (indicators (path_term p)) (entry n) b in ind_no_entry k.0 n k.1)
+        | inr b ↦ (let k = mapped_relation (indicators (path_term p)) (entry n) b in ind_no_entry k.0 n k.1)
       ]
     entry_left a s on (ind n) h = absurd (frozen_or_not false refl h)
 

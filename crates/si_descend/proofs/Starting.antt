@@ -24,7 +24,7 @@ use Rattle.si_descend.proofs.Openness.{open_solved, renames_fewer, entry_kept}
 use Rattle.si_descend.proofs.VariantLaws.{open_renaming}
 
 module _ (search : Search) (ready : IsReady search) (key : ℕ) (node : Node Term) (has : HasNode search.tree.now key node) (pairs : Pairs) (count : ℕ) (solving : AllowsSolving search.slots pairs count) (distinct : HasDistinctSlots pairs) (above : ShowsAbove search.slots pairs search.tree.now key search.query.now) where
-  pub comes_to : KeepsApart search.kind search.slots pairs → HasComeTo search node.parent pairs
+  pub comes_to : KeepsApart search.relation search.slots pairs → HasComeTo search node.parent pairs
   comes_to apart = record {
     shows = λ q path h reached. above node path q has reached h;
     solution = some_solution search.slots pairs solving.bindings distinct solving.triangular;
@@ -32,18 +32,18 @@ module _ (search : Search) (ready : IsReady search) (key : ℕ) (node : Node Ter
   }
 
   -- where the bindings above don't keep the entry's variables apart, the node is closed
-  pub closed_above : (KeepsApart search.kind search.slots pairs → ⊥) → IsClosedAt search key
-  closed_above none = by search.kind refl where
+  pub closed_above : (KeepsApart search.relation search.slots pairs → ⊥) → IsClosedAt search key
+  closed_above none = by search.relation refl where
     numbered : (q : Term) → StandsFor search.query.now q → IsNumberedBy query q
     numbered q h = subst (IsNumberedBy query) (one_term search.query.now ready.term q ready.query.stands h) ready.query.numbered
 
-    by : (kind : Relation) → search.kind ≡ kind → IsClosedAt search key
+    by : (relation : Relation) → search.relation ≡ relation → IsClosedAt search key
     by Variants e q path h reached is =
         let start = path_start search.tree.now key node path has reached in
         let here : IsPath search.tree.now (Some key) ((key, node) ∷ start.0) = subst (IsPath search.tree.now (Some key)) start.1 reached in
-        let is_open : IsOpen search.kind q (path_term ((key, node) ∷ start.0)) = subst (λ p. IsOpen search.kind q (path_term p)) start.1 is in
+        let is_open : IsOpen search.relation q (path_term ((key, node) ∷ start.0)) = subst (λ p. IsOpen search.relation q (path_term p)) start.1 is in
         let legal = legal_nodes search.tree.now ready.legal in
-        let s = open_solved search.tree.now legal search.slots q (numbered q h) (Some key) ((key, node) ∷ start.0) here search.kind ready.freezes is_open in
+        let s = open_solved search.tree.now legal search.slots q (numbered q h) (Some key) ((key, node) ∷ start.0) here search.relation ready.freezes is_open in
         let shows = above node start.0 q has here.2 h in
         let solved = (shows s.map).1 (record { frozen = s.solves.frozen; zero = s.solves.zero; bindings = s.solves.bindings.1 }) in
         let fewer = renames_fewer Variants (path_term start.0) (path_term ((key, node) ∷ start.0)) s.map (λ m a. entry_kept node.bindings (path_term start.0) m a) (subst (λ k. Renames k (path_term ((key, node) ∷ start.0)) s.map) e s.renames) in

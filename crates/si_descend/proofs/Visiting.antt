@@ -33,16 +33,16 @@ module _ (search : Search) (ready : IsReady search) where
 
     pub found_closed : (old : List Posting) → IsClosedAt search key → HasFound search key old old 0
     found_closed old closed = record {
-      counts = λ q h. counts_closed search.tree.now ready.legal search.kind q (query_numbered q h) key node up reached (closed q ((key, node) ∷ up) h reached);
-      appends = λ q h. appends_closed search.tree.now ready.legal search.kind q (query_numbered q h) key node up reached (closed q ((key, node) ∷ up) h reached) old;
+      counts = λ q h. counts_closed search.tree.now ready.legal search.relation q (query_numbered q h) key node up reached (closed q ((key, node) ∷ up) h reached);
+      appends = λ q h. appends_closed search.tree.now ready.legal search.relation q (query_numbered q h) key node up reached (closed q ((key, node) ∷ up) h reached) old;
     }
 
     -- ---- an open node
-    none_counted : (q : Term) (n : ℕ) → CountsBelow search.tree.now [] search.kind q n → n ≡ 0
+    none_counted : (q : Term) (n : ℕ) → CountsBelow search.tree.now [] search.relation q n → n ≡ 0
     none_counted q n ([], distinct, exact, e) = e
     none_counted q n (k ∷ keys, distinct, exact, e) = absurd ((exact k).0 (inl refl)).1
 
-    none_appended : (q : Term) (old last : List Posting) → AppendsAnswers (IsAnswerBelow search.tree.now [] search.kind q) old last → last ≡ old
+    none_appended : (q : Term) (old last : List Posting) → AppendsAnswers (IsAnswerBelow search.tree.now [] search.relation q) old last → last ≡ old
     none_appended q old last h = by h.answers h.appended (λ p a. ((h.are.exact p).0 a).1) where
       by : (ps : List Posting) → last ≡ old ++ ps → ((p : Posting) → IsAmong ps p → ⊥) → last ≡ old
       by [] e none = e ∙ append-nil old
@@ -56,14 +56,14 @@ module _ (search : Search) (ready : IsReady search) where
     found_open old mid last n is e below = by node.content refl e below where
       by : (content : Content) → node.content ≡ content → mid ≡ old ++ postings_of content → HasFoundBelow search (children_of content) mid last n → HasFound search key old last (1 + n)
       by (leaf ps) c m b = record {
-        counts = λ q h. subst (CountsOpen search.tree.now key search.kind q) (one_more (none_counted q n (b.counts q h))) (counts_leaf search.tree.now ready.legal search.kind q (query_numbered q h) key node up reached ps c (is q ((key, node) ∷ up) h reached));
-        appends = λ q h. appends_leaf search.tree.now ready.legal search.kind q (query_numbered q h) key node up reached ps c (is q ((key, node) ∷ up) h reached) old last (none_appended q mid last (b.appends q h) ∙ m);
+        counts = λ q h. subst (CountsOpen search.tree.now key search.relation q) (one_more (none_counted q n (b.counts q h))) (counts_leaf search.tree.now ready.legal search.relation q (query_numbered q h) key node up reached ps c (is q ((key, node) ∷ up) h reached));
+        appends = λ q h. appends_leaf search.tree.now ready.legal search.relation q (query_numbered q h) key node up reached ps c (is q ((key, node) ∷ up) h reached) old last (none_appended q mid last (b.appends q h) ∙ m);
       } where
         one_more : n ≡ 0 → 1 ≡ 1 + n
         one_more z = omega (arith, z)
       by (inner split children) c m b = record {
-        counts = λ q h. counts_inner search.tree.now ready.legal search.kind q (query_numbered q h) key node up reached split children c n (is q ((key, node) ∷ up) h reached) (b.counts q h);
-        appends = λ q h. appends_inner search.tree.now ready.legal search.kind q (query_numbered q h) key node up reached split children c old last (subst (λ l. AppendsAnswers (IsAnswerBelow search.tree.now children search.kind q) l last) (m ∙ append-nil old) (b.appends q h));
+        counts = λ q h. counts_inner search.tree.now ready.legal search.relation q (query_numbered q h) key node up reached split children c n (is q ((key, node) ∷ up) h reached) (b.counts q h);
+        appends = λ q h. appends_inner search.tree.now ready.legal search.relation q (query_numbered q h) key node up reached split children c old last (subst (λ l. AppendsAnswers (IsAnswerBelow search.tree.now children search.relation q) l last) (m ∙ append-nil old) (b.appends q h));
       }
 
     -- ---- its children
@@ -76,46 +76,46 @@ module _ (search : Search) (ready : IsReady search) where
       by : (content : Content) → node.content ≡ content → AreSiblings (children_of content)
       by (leaf ps) c = record { are = λ child a. absurd a; distinct = tt }
       by (inner split children) c = record {
-        are = children_are search.tree.now ready.legal search.kind ready.term ready.query.numbered key node up reached split children c;
-        distinct = children_distinct search.tree.now ready.legal search.kind ready.term ready.query.numbered key node up reached split children c;
+        are = children_are search.tree.now ready.legal search.relation ready.term ready.query.numbered key node up reached split children c;
+        distinct = children_distinct search.tree.now ready.legal search.relation ready.term ready.query.numbered key node up reached split children c;
       }
 
     pub one_child_more : (tops : List ℕ) (child : ℕ) (old mid last : List Posting) (m n : ℕ) → AreSiblings (tops ++ child ∷ []) → (IsAmong tops child → ⊥) → HasFoundBelow search tops old mid m → HasFound search child mid last n → HasFoundBelow search (tops ++ child ∷ []) old last (m + n)
     one_child_more tops child old mid last m n are new before found = record {
-      counts = λ q h. counts_more search.tree.now ready.legal search.kind q (query_numbered q h) key tops child are.are new m n (before.counts q h) (found.counts q h);
-      appends = λ q h. appends_more search.tree.now ready.legal search.kind q (query_numbered q h) key tops child are.are new old mid last (before.appends q h) (found.appends q h);
+      counts = λ q h. counts_more search.tree.now ready.legal search.relation q (query_numbered q h) key tops child are.are new m n (before.counts q h) (found.counts q h);
+      appends = λ q h. appends_more search.tree.now ready.legal search.relation q (query_numbered q h) key tops child are.are new old mid last (before.appends q h) (found.appends q h);
     }
 
     -- where those left out are closed
     pub all_children : (tops children : List ℕ) (old last : List Posting) (n : ℕ) → AreSiblings children → ((child : ℕ) → IsAmong tops child → IsAmong children child) → ((child : ℕ) → IsAmong children child → IsAmong tops child ⊎ IsClosedAt search child) → HasFoundBelow search tops old last n → HasFoundBelow search children old last n
     all_children tops children old last n are within others found = record {
-      counts = λ q h. counts_wider search.tree.now ready.legal search.kind q (query_numbered q h) tops children within (closed q h) n (found.counts q h);
-      appends = λ q h. appends_wider search.tree.now ready.legal search.kind q (query_numbered q h) tops children within (closed q h) old last (found.appends q h);
+      counts = λ q h. counts_wider search.tree.now ready.legal search.relation q (query_numbered q h) tops children within (closed q h) n (found.counts q h);
+      appends = λ q h. appends_wider search.tree.now ready.legal search.relation q (query_numbered q h) tops children within (closed q h) old last (found.appends q h);
     } where
-      closed : (q : Term) (h : StandsFor search.query.now q) (child : ℕ) → IsAmong children child → IsAmong tops child ⊎ IsClosedNode search.tree.now ready.legal search.kind q (query_numbered q h) child
+      closed : (q : Term) (h : StandsFor search.query.now q) (child : ℕ) → IsAmong children child → IsAmong tops child ⊎ IsClosedNode search.tree.now ready.legal search.relation q (query_numbered q h) child
       closed q h child a =
           let is = are.are child a in
           let path : Path = (child, is.0) ∷ (ready.legal.nodes child is.0 is.1).above in
           let there : IsPath search.tree.now (Some child) path = (refl, is.1, (ready.legal.nodes child is.0 is.1).reached) in
-          elim (others child a) as (λ _. IsAmong tops child ⊎ IsClosedNode search.tree.now ready.legal search.kind q (query_numbered q h) child) [
+          elim (others child a) as (λ _. IsAmong tops child ⊎ IsClosedNode search.tree.now ready.legal search.relation q (query_numbered q h) child) [
             | inl b ↦ inl b
             | inr c ↦ inr (path, there, c q path h there)
           ]
 
   pub none_yet : (old : List Posting) → HasFoundBelow search [] old old 0
   none_yet old = record {
-    counts = λ q h. counts_none search.tree.now ready.legal search.kind q (query_numbered q h);
-    appends = λ q h. appends_none search.tree.now ready.legal search.kind q (query_numbered q h) old;
+    counts = λ q h. counts_none search.tree.now ready.legal search.relation q (query_numbered q h);
+    appends = λ q h. appends_none search.tree.now ready.legal search.relation q (query_numbered q h) old;
   }
 
   -- ---- bounds
   pub few_below : (tops : List ℕ) (old last : List Posting) (n : ℕ) → HasFoundBelow search tops old last n → n < 2 ^ 64
   few_below tops old last n h =
-      omega (arith, ready.small, few_open search.tree.now ready.legal search.kind ready.term ready.query.numbered tops n (h.counts ready.term ready.query.stands))
+      omega (arith, ready.small, few_open search.tree.now ready.legal search.relation ready.term ready.query.numbered tops n (h.counts ready.term ready.query.stands))
 
   pub few_found : (top : ℕ) (old last : List Posting) (n : ℕ) → HasFound search top old last n → n < 2 ^ 64
   few_found top old last n h =
-      omega (arith, ready.small, few_open_one search.tree.now ready.legal search.kind ready.term ready.query.numbered top n (h.counts ready.term ready.query.stands))
+      omega (arith, ready.small, few_open_one search.tree.now ready.legal search.relation ready.term ready.query.numbered top n (h.counts ready.term ready.query.stands))
 
   pub found_grows : (tops : List ℕ) (old last : List Posting) (n : ℕ) → HasFoundBelow search tops old last n → Grows old last
   found_grows tops old last n h = let a = h.appends ready.term ready.query.stands in (a.answers, a.appended)

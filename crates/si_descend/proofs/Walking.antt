@@ -26,7 +26,7 @@ open_child search key child is all q low path stands reached passes = all q low 
 -- below a leaf there is no other node
 pub leaf_below : (search : Search) → IsReady search → (key : ℕ) (node : Node Term) → HasNode search.tree.now key node → (o : Option ℕ) → o ≡ split_of node.content → is_some o ≡ false → IsOpenAt search key → AreOpenBelow search key
 leaf_below search ready key node has o is none here q low path stands reached passes =
-    elim (passes_child search.tree.now (Some low) path key reached passes) as (λ _. IsOpen search.kind q (path_term path)) [
+    elim (passes_child search.tree.now (Some low) path key reached passes) as (λ _. IsOpen search.relation q (path_term path)) [
       | inl e ↦ here q path stands (subst (λ k. IsPath search.tree.now k path) e reached)
       | inr h ↦ absurd (no_child (ready.legal.nodes key node has) node.content refl h.0 h.1)
     ]

@@ -58,11 +58,11 @@ IsWanted search key pairs (Some w) = IsSplitOf search key pairs w.split w.first
 -- a child with this head can't have what is wanted
 abbrev pub IsUnwanted : Search → Option Wanted → Head → Type 0
 IsUnwanted search None head = ⊥
-IsUnwanted search (Some w) head = CannotHave search.kind search.slots w.first head
+IsUnwanted search (Some w) head = CannotHave search.relation search.slots w.first head
 
 -- the child gives the split a term that can't meet what is wanted
 abbrev pub RulesOut : Search → Option Wanted → ℕ → Type 0
 RulesOut search None child = ⊥
 RulesOut search (Some w) child =
     (t : Term) × ChildBinds search.tree.now child w.split t
-    × CannotMeet search.kind search.slots w.first (first_of (cells_of t))
+    × CannotMeet search.relation search.slots w.first (first_of (cells_of t))

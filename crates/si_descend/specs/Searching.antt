@@ -24,7 +24,7 @@ pub record IsReady (search : Search) : Type 0 where
   pub small : node_count search.tree.now < 2 ^ 64
   pub term : Term
   pub query : IsQueryTerm search.query.now term
-  pub freezes : Freezes search.kind search.slots
+  pub freezes : Freezes search.relation search.slots
   pub room : HasRoom search.slots search.tree.now term
 
 -- ---- at a node
@@ -50,26 +50,26 @@ pub record HasComeTo (search : Search) (key : Option ℕ) (pairs : Pairs) : Type
       → StandsFor search.query.now q → IsPath search.tree.now key path
       → ShowsPath search.slots pairs q path
   pub solution : HasSolution search.slots pairs
-  pub apart : KeepsApart search.kind search.slots pairs
+  pub apart : KeepsApart search.relation search.slots pairs
 
 abbrev pub IsOpenAt : Search → ℕ → Type 0
 IsOpenAt search key =
     (q : Term) (path : Path)
     → StandsFor search.query.now q → IsPath search.tree.now (Some key) path
-    → IsOpen search.kind q (path_term path)
+    → IsOpen search.relation q (path_term path)
 
 abbrev pub IsClosedAt : Search → ℕ → Type 0
 IsClosedAt search key =
     (q : Term) (path : Path)
     → StandsFor search.query.now q → IsPath search.tree.now (Some key) path
-    → IsOpen search.kind q (path_term path) → ⊥
+    → IsOpen search.relation q (path_term path) → ⊥
 
 -- all nodes that stand below this one or at it
 abbrev pub AreOpenBelow : Search → ℕ → Type 0
 AreOpenBelow search top =
     (q : Term) (key : ℕ) (path : Path)
     → StandsFor search.query.now q → IsPath search.tree.now (Some key) path → PassesBy path top
-    → IsOpen search.kind q (path_term path)
+    → IsOpen search.relation q (path_term path)
 
 abbrev pub HasEntered : Search → ℕ → Pairs → Bool → Type 0
 HasEntered search key pairs true = HasComeTo search (Some key) pairs × IsOpenAt search key
@@ -77,14 +77,14 @@ HasEntered search key pairs false = IsClosedAt search key
 
 -- ---- what is found
 abbrev pub HasFound : Search → ℕ → List Posting → List Posting → ℕ → Type 0
-HasFound search top = Finds search.tree.now top search.kind search.query.now
+HasFound search top = Finds search.tree.now top search.relation search.query.now
 
 pub record HasFoundBelow (search : Search) (tops : List ℕ) (old new : List Posting) (n : ℕ)
     : Type 0 where
   pub counts : (q : Term) → StandsFor search.query.now q
-      → CountsBelow search.tree.now tops search.kind q n
+      → CountsBelow search.tree.now tops search.relation q n
   pub appends : (q : Term) → StandsFor search.query.now q
-      → AppendsAnswers (IsAnswerBelow search.tree.now tops search.kind q) old new
+      → AppendsAnswers (IsAnswerBelow search.tree.now tops search.relation q) old new
 
 -- ---- how far down a node stands
 abbrev pub one_deeper : (Option ℕ → ℕ) → Option (Node Term) → ℕ

@@ -9,7 +9,8 @@ ghost use Rattle.si_descend.specs.Searching.{IsReady};
 
 use crate::heads::{Wanted, asked_of, is_unwanted, keeps_variables};
 use crate::search::Search;
-use si_flat::{Cell, Kind};
+use si_defs::Relation;
+use si_flat::Cell;
 use si_trail::Trail;
 use si_tree::{Head, NodeId, head_of};
 use si_unify::Slots;
@@ -52,7 +53,7 @@ pub(crate) fn attempts_at<'a>(
     let Some(asked) = wanted else {
         return all;
     };
-    let Some(end) = heads_for(search.kind, &search.slots, vars, asked.first) else {
+    let Some(end) = heads_for(search.relation, &search.slots, vars, asked.first) else {
         return all;
     };
     if children.len() <= end {
@@ -69,12 +70,16 @@ pub(crate) fn attempts_at<'a>(
 // How many heads can meet a term that begins with this cell, if not all can: its own, and where
 // these can be bound, the variables of an entry.
 #[inline(always)]
-fn heads_for(kind: Kind, slots: &Slots, vars: u32, first: Cell) -> Option<usize>
-    ensures { IfSome result (AreHeadsFor kind slots.now vars first) }
+fn heads_for(relation: Relation, slots: &Slots, vars: u32, first: Cell) -> Option<usize>
+    ensures { IfSome result (AreHeadsFor relation slots.now vars first) }
 {
     let all = 1 + vars as usize;
     match first {
-        Cell::App { .. } => Some(if keeps_variables(kind, slots) { 1 } else { all }),
+        Cell::App { .. } => Some(if keeps_variables(relation, slots) {
+            1
+        } else {
+            all
+        }),
         Cell::Entry(_) => if slots.freeze_entry { Some(1) } else { None },
         Cell::Query(_) => if slots.freeze_query { Some(all) } else { None },
         Cell::Ind(_) => None,

@@ -26,7 +26,7 @@ pub struct Counted {
 
 /// Counts the open nodes below a node or at it, and the answers there.
 ///
-/// Where memory runs out, bindings may be left behind the old ones.
+/// Where memory runs out, bindings may be left after the old ones.
 #[cycle(counting)]
 pub(crate) fn count_at<'a>(
     search: &Search<'a>,
@@ -40,7 +40,7 @@ pub(crate) fn count_at<'a>(
     requires solving { AllowsSolving search.now.slots trail.old.pairs trail.old.slots }
     requires above { AtNode search.now.tree.now node
         (λ n. HasComeTo search.now n.parent trail.old.pairs) }
-    requires taken { NotesTaken search.now.kind search.now.slots trail.old.pairs taken.old }
+    requires taken { NotesTaken search.now.relation search.now.slots trail.old.pairs taken.old }
     ensures counted { IfOk result (HasCounted search.now node) }
     ensures same { OnOk result (trail.new.pairs ≡ trail.old.pairs) }
     ensures slots { trail.new.slots ≡ trail.old.slots }
@@ -84,7 +84,7 @@ fn count_children<'a>(
     requires ready { IsReady search.now }
     requires solving { AllowsSolving search.now.slots trail.old.pairs trail.old.slots }
     requires there { HasComeTo search.now (Some node) trail.old.pairs }
-    requires taken { NotesTaken search.now.kind search.now.slots trail.old.pairs taken.old }
+    requires taken { NotesTaken search.now.relation search.now.slots trail.old.pairs taken.old }
     ensures counted { IfOk result (λ c. AtNode search.now.tree.now node (λ parent.
         HasCountedBelow search.now (children_of parent.content) c)) }
     ensures same { OnOk result (trail.new.pairs ≡ trail.old.pairs) }

@@ -14,7 +14,8 @@ use crate::counting::{Counted, count_at};
 use crate::search::{Search, visit};
 use crate::taken::Taken;
 use crate::variants::is_renaming;
-use si_flat::{Cell, Flat, Kind};
+use si_defs::Relation;
+use si_flat::{Cell, Flat};
 use si_legal::Posting;
 use si_trail::Trail;
 use si_tree::{NodeId, Tree};
@@ -30,7 +31,7 @@ pub fn descend<'a>(
     alloc: Global,
     tree: &'a Tree,
     node: NodeId,
-    kind: Kind,
+    relation: Relation,
     query: &'a Flat,
     slots: &Slots,
     trail: &mut Trail<&'a [Cell]>,
@@ -38,16 +39,17 @@ pub fn descend<'a>(
 ) -> Result<u64, AllocError>
     requires node { IsNode tree.now node }
     requires query { IsQuery query.now }
-    requires freezes { Freezes kind slots.now }
+    requires freezes { Freezes relation slots.now }
     requires room { HasRoomFor slots.now tree.now query.now }
     requires solving { AllowsSolving slots.now trail.old.pairs trail.old.slots }
     requires above { ShowsAbove slots.now trail.old.pairs tree.now node query.now }
-    ensures finds { IfOk result (Finds tree.now node kind query.now out.old.items out.new.items) }
+    ensures finds { IfOk result (Finds tree.now node relation query.now
+        out.old.items out.new.items) }
     ensures err { OnErr result (out.new.items ≡ out.old.items) }
     ensures pairs { trail.new.pairs ≡ trail.old.pairs }
     ensures slots { trail.new.slots ≡ trail.old.slots }
 {
-    let search = Search::new(tree, kind, query, *slots);
+    let search = Search::new(tree, relation, query, *slots);
     let mark = trail.mark();
     let before = out.len();
     match search_below(alloc, &search, node, trail, out) {
@@ -65,34 +67,39 @@ pub fn descend<'a>(
 pub fn retrieve(
     alloc: Global,
     tree: &Tree,
-    kind: Kind,
+    relation: Relation,
     query: &Flat,
     out: &mut Vec<Posting>,
 ) -> Result<u64, AllocError>
     requires { IsQuery query.now }
-    ensures retrieves { IfOk result (Retrieves tree.now kind query.now
+    ensures retrieves { IfOk result (Retrieves tree.now relation query.now
         out.old.items out.new.items) }
     ensures err { OnErr result (out.new.items ≡ out.old.items) }
 {
     let root = tree.root();
     let cells = query.cells();
-    let slots = slots_for(tree, kind, cells);
+    let slots = slots_for(tree, relation, cells);
     let mut trail = Trail::with_slots(alloc, slots.count())?;
     trail.bind(slots.query as usize + slots.entry as usize, cells);
-    descend(alloc, tree, root, kind, query, &slots, &mut trail, out)
+    descend(alloc, tree, root, relation, query, &slots, &mut trail, out)
 }
 
 /// Counts the postings that [`retrieve`] would append, and the open nodes. It copies no posting.
-pub fn count(alloc: Global, tree: &Tree, kind: Kind, query: &Flat) -> Result<Counted, AllocError>
+pub fn count(
+    alloc: Global,
+    tree: &Tree,
+    relation: Relation,
+    query: &Flat,
+) -> Result<Counted, AllocError>
     requires { IsQuery query.now }
-    ensures { IfOk result (CountsAnswers tree.now kind query.now) }
+    ensures { IfOk result (CountsAnswers tree.now relation query.now) }
 {
     let root = tree.root();
     let cells = query.cells();
-    let slots = slots_for(tree, kind, cells);
+    let slots = slots_for(tree, relation, cells);
     let mut trail = Trail::with_slots(alloc, slots.count())?;
     trail.bind(slots.query as usize + slots.entry as usize, cells);
-    let search = Search::new(tree, kind, query, slots);
+    let search = Search::new(tree, relation, query, slots);
     count_below(alloc, &search, root, &mut trail)
 }
 
@@ -112,7 +119,7 @@ fn count_below<'a>(
 {
     // So no slot of the trail is known to be bound twice.
     trail.mark();
-    let mut taken = Taken::none(alloc, search.kind, &search.slots)?;
+    let mut taken = Taken::none(alloc, search.relation, &search.slots)?;
     if !keeps_apart(search, trail, &mut taken) {
         return Ok(Counted {
             passed: 0,
@@ -124,18 +131,18 @@ fn count_below<'a>(
 }
 
 // Slots for the query, and for all numbers of the tree. A query has no more variables than cells.
-fn slots_for(tree: &Tree, kind: Kind, query: &[Cell]) -> Slots
+fn slots_for(tree: &Tree, relation: Relation, query: &[Cell]) -> Slots
     requires { IsWhole query.now }
     ensures query { result.query ≡ length query.now }
     ensures entry { result.entry ≡ tree.now.vars }
     ensures inds { result.inds ≡ tree.now.next }
-    ensures freezes { Freezes kind result }
+    ensures freezes { Freezes relation result }
 {
-    let (freeze_query, freeze_entry) = match kind {
-        Kind::Variants => (true, false),
-        Kind::Instances => (false, true),
-        Kind::Generalizations => (true, false),
-        Kind::Unifiable => (false, false),
+    let (freeze_query, freeze_entry) = match relation {
+        Relation::Variants => (true, false),
+        Relation::Instances => (false, true),
+        Relation::Generalizations => (true, false),
+        Relation::Unifiable => (false, false),
     };
     Slots {
         query: length_of(query),
@@ -179,7 +186,7 @@ fn search_below<'a>(
     ensures out_grows { Grows out.old.items out.new.items }
     ensures slots { trail.new.slots ≡ trail.old.slots }
 {
-    let mut taken = Taken::none(alloc, search.kind, &search.slots)?;
+    let mut taken = Taken::none(alloc, search.relation, &search.slots)?;
     if !keeps_apart(search, trail, &mut taken) {
         return Ok(0);
     }
@@ -192,16 +199,16 @@ fn search_below<'a>(
 fn keeps_apart(search: &Search<'_>, trail: &Trail<&[Cell]>, taken: &mut Taken) -> bool
     requires ready { IsReady search.now }
     requires solving { AllowsSolving search.now.slots trail.now.pairs trail.now.slots }
-    requires none { HasNoneTaken search.now.kind search.now.slots taken.old }
+    requires none { HasNoneTaken search.now.relation search.now.slots taken.old }
     ensures apart { IsTrue result
-        ↔ KeepsApart search.now.kind search.now.slots trail.now.pairs }
+        ↔ KeepsApart search.now.relation search.now.slots trail.now.pairs }
     ensures taken { IsTrue result
-        → NotesTaken search.now.kind search.now.slots trail.now.pairs taken.new }
+        → NotesTaken search.now.relation search.now.slots trail.now.pairs taken.new }
 {
-    match search.kind {
-        Kind::Variants => is_renaming(trail, &search.slots, 0, taken),
-        Kind::Instances => true,
-        Kind::Generalizations => true,
-        Kind::Unifiable => true,
+    match search.relation {
+        Relation::Variants => is_renaming(trail, &search.slots, 0, taken),
+        Relation::Instances => true,
+        Relation::Generalizations => true,
+        Relation::Unifiable => true,
     }
 }

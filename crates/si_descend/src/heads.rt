@@ -6,8 +6,9 @@ ghost use Rattle.si_fit.specs.Fitting.{AllowsSolving};
 ghost use Rattle.si_descend.specs.Heads.{first_of, CannotHave, IsUnwanted, IsWanted, KeepsVariables};
 
 use crate::search::Search;
+use si_defs::Relation;
 use si_fit::end_of;
-use si_flat::{Cell, Kind};
+use si_flat::Cell;
 use si_trail::Trail;
 use si_tree::{Head, NodeId};
 use si_unify::Slots;
@@ -58,33 +59,33 @@ pub(crate) fn is_unwanted(search: &Search<'_>, wanted: Option<Wanted>, head: Hea
     ensures { IsTrue result → IsUnwanted search.now wanted head }
 {
     match wanted {
-        Some(asked) => clash(search.kind, &search.slots, asked.first, head),
+        Some(asked) => clash(search.relation, &search.slots, asked.first, head),
         None => false,
     }
 }
 
 /// Whether no variable of an entry can become a term that begins with a symbol.
 #[inline(always)]
-pub(crate) fn keeps_variables(kind: Kind, slots: &Slots) -> bool
-    ensures { IsTrue result → KeepsVariables kind slots.now }
+pub(crate) fn keeps_variables(relation: Relation, slots: &Slots) -> bool
+    ensures { IsTrue result → KeepsVariables relation slots.now }
 {
-    match kind {
-        Kind::Variants => true,
-        Kind::Instances => slots.freeze_entry,
-        Kind::Generalizations => slots.freeze_entry,
-        Kind::Unifiable => slots.freeze_entry,
+    match relation {
+        Relation::Variants => true,
+        Relation::Instances => slots.freeze_entry,
+        Relation::Generalizations => slots.freeze_entry,
+        Relation::Unifiable => slots.freeze_entry,
     }
 }
 
 // Whether a term that begins with this cell can't meet one with this head.
 #[inline(always)]
-fn clash(kind: Kind, slots: &Slots, first: Cell, head: Head) -> bool
-    ensures { IsTrue result → CannotHave kind slots.now first head }
+fn clash(relation: Relation, slots: &Slots, first: Cell, head: Head) -> bool
+    ensures { IsTrue result → CannotHave relation slots.now first head }
 {
     match first {
         Cell::App { sym, arity, .. } => match head {
             Head::Sym { sym: s, arity: a } => !are_same(sym, s, arity, a),
-            Head::Var(_) => keeps_variables(kind, slots),
+            Head::Var(_) => keeps_variables(relation, slots),
         },
         Cell::Query(_) => match head {
             Head::Sym { .. } => slots.freeze_query,

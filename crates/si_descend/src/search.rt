@@ -10,8 +10,9 @@ use crate::attempts::{attempt, attempts_at};
 use crate::subtrees::{append_all, is_open_below};
 use crate::taken::Taken;
 use crate::variants::is_renaming;
+use si_defs::Relation;
 use si_fit::fit;
-use si_flat::{Cell, Flat, Kind};
+use si_flat::{Cell, Flat};
 use si_legal::Posting;
 use si_trail::Trail;
 use si_tree::{NodeId, Tree};
@@ -22,20 +23,25 @@ use std::alloc::AllocError;
 #[derive(Clone, Copy)]
 pub(crate) struct Search<'a> {
     pub(crate) tree: &'a Tree,
-    pub(crate) kind: Kind,
+    pub(crate) relation: Relation,
     pub(crate) query: &'a Flat,
     pub(crate) slots: Slots,
 }
 
 impl<'a> Search<'a> {
     /// A search by slots that are right for it.
-    pub(crate) fn new(tree: &'a Tree, kind: Kind, query: &'a Flat, slots: Slots) -> Search<'a>
+    pub(crate) fn new(
+        tree: &'a Tree,
+        relation: Relation,
+        query: &'a Flat,
+        slots: Slots,
+    ) -> Search<'a>
         requires query { IsQuery query.now }
-        requires freezes { Freezes kind slots }
+        requires freezes { Freezes relation slots }
         requires room { HasRoomFor slots tree.now query.now }
         ensures ready { IsReady result }
         ensures tree { result.tree ≡ tree.entry }
-        ensures kind { result.kind ≡ kind }
+        ensures relation { result.relation ≡ relation }
         ensures query { result.query ≡ query.entry }
         ensures slots { result.slots ≡ slots }
     {
@@ -44,7 +50,7 @@ impl<'a> Search<'a> {
         tree.counts();
         Search {
             tree,
-            kind,
+            relation,
             query,
             slots,
         }
@@ -65,13 +71,13 @@ pub(crate) fn enter<'a>(
     requires solving { AllowsSolving search.now.slots trail.old.pairs trail.old.slots }
     requires above { AtNode search.now.tree.now node
         (λ n. HasComeTo search.now n.parent trail.old.pairs) }
-    requires taken { NotesTaken search.now.kind search.now.slots trail.old.pairs taken.old }
+    requires taken { NotesTaken search.now.relation search.now.slots trail.old.pairs taken.old }
     ensures enters { IfOk result (HasEntered search.now node trail.new.pairs) }
     ensures grows { Grows trail.old.pairs trail.new.pairs }
     ensures solving { AllowsSolving search.now.slots trail.new.pairs trail.new.slots }
     ensures slots { trail.new.slots ≡ trail.old.slots }
     ensures taken { IfOk result (λ is_open. IsTrue is_open
-        → NotesTaken search.now.kind search.now.slots trail.new.pairs taken.new) }
+        → NotesTaken search.now.relation search.now.slots trail.new.pairs taken.new) }
     ensures taken_grows { Grows taken.old.pairs taken.new.pairs }
     ensures taken_slots { taken.new.slots ≡ taken.old.slots }
 {
@@ -79,18 +85,18 @@ pub(crate) fn enter<'a>(
     if !fit(scratch, trail, &search.slots, search.tree.bindings(node))? {
         return Ok(false);
     }
-    match search.kind {
-        Kind::Variants => Ok(is_renaming(trail, &search.slots, known, taken)),
-        Kind::Instances => Ok(true),
-        Kind::Generalizations => Ok(true),
-        Kind::Unifiable => Ok(true),
+    match search.relation {
+        Relation::Variants => Ok(is_renaming(trail, &search.slots, known, taken)),
+        Relation::Instances => Ok(true),
+        Relation::Generalizations => Ok(true),
+        Relation::Unifiable => Ok(true),
     }
 }
 
 /// Appends what is stored below a node or at it and stands in the relation, and counts the open
 /// nodes there.
 ///
-/// Where memory runs out, bindings and postings may be left behind the old ones.
+/// Where memory runs out, bindings and postings may be left after the old ones.
 #[cycle(searching)]
 pub(crate) fn visit<'a>(
     search: &Search<'a>,
@@ -105,7 +111,7 @@ pub(crate) fn visit<'a>(
     requires solving { AllowsSolving search.now.slots trail.old.pairs trail.old.slots }
     requires above { AtNode search.now.tree.now node
         (λ n. HasComeTo search.now n.parent trail.old.pairs) }
-    requires taken { NotesTaken search.now.kind search.now.slots trail.old.pairs taken.old }
+    requires taken { NotesTaken search.now.relation search.now.slots trail.old.pairs taken.old }
     ensures found { IfOk result (HasFound search.now node out.old.items out.new.items) }
     ensures same { OnOk result (trail.new.pairs ≡ trail.old.pairs) }
     ensures grows { Grows trail.old.pairs trail.new.pairs }
@@ -146,7 +152,7 @@ fn visit_children<'a>(
     requires ready { IsReady search.now }
     requires solving { AllowsSolving search.now.slots trail.old.pairs trail.old.slots }
     requires there { HasComeTo search.now (Some node) trail.old.pairs }
-    requires taken { NotesTaken search.now.kind search.now.slots trail.old.pairs taken.old }
+    requires taken { NotesTaken search.now.relation search.now.slots trail.old.pairs taken.old }
     ensures found { IfOk result (λ n. AtNode search.now.tree.now node (λ parent.
         HasFoundBelow search.now (children_of parent.content) out.old.items out.new.items n)) }
     ensures same { OnOk result (trail.new.pairs ≡ trail.old.pairs) }

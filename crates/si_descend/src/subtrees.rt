@@ -65,7 +65,7 @@ fn has_symbol(trail: &Trail<&[Cell]>, slots: &Slots, indicator: u32) -> bool
 /// Appends all postings below a node or at it, where all nodes there are open, and counts these
 /// nodes.
 ///
-/// Where memory runs out, postings may be left behind the old ones.
+/// Where memory runs out, postings may be left after the old ones.
 pub(crate) fn append_all(
     search: &Search<'_>,
     node: NodeId,

@@ -4,7 +4,7 @@ ghost use Rattle.si_trail.specs.Trails.{value_at};
 ghost use Rattle.si_descend.specs.Renaming.{Takes};
 ghost use Rattle.si_descend.specs.Searching.{HasNoneTaken};
 
-use si_flat::Kind;
+use si_defs::Relation;
 use si_trail::Trail;
 use si_unify::Slots;
 use std::alloc::{AllocError, Global};
@@ -28,17 +28,21 @@ impl Model for Taken {
 
 impl Taken {
     /// None is taken yet.
-    pub(crate) fn none(alloc: Global, kind: Kind, slots: &Slots) -> Result<Taken, AllocError>
-        ensures { IfOk result (HasNoneTaken kind slots.now) }
+    pub(crate) fn none(
+        alloc: Global,
+        relation: Relation,
+        slots: &Slots,
+    ) -> Result<Taken, AllocError>
+        ensures { IfOk result (HasNoneTaken relation slots.now) }
     {
-        match kind {
-            Kind::Variants => {
+        match relation {
+            Relation::Variants => {
                 let trail = Trail::with_slots(alloc, slots.query as usize)?;
                 Ok(Taken { trail: Some(trail) })
             }
-            Kind::Instances => Ok(Taken { trail: None }),
-            Kind::Generalizations => Ok(Taken { trail: None }),
-            Kind::Unifiable => Ok(Taken { trail: None }),
+            Relation::Instances => Ok(Taken { trail: None }),
+            Relation::Generalizations => Ok(Taken { trail: None }),
+            Relation::Unifiable => Ok(Taken { trail: None }),
         }
     }
 

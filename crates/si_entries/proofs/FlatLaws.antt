@@ -36,7 +36,7 @@ use Rattle.si_entries.specs.Numbers.{numbered_anew}
 use Rattle.si_entries.specs.FlatWalks.{from_symbol, variable_in, literals_left, AreTermsLeft, AreLiteralsLeft, AreLeft, IsFlatEntry, GivesFirst, IsAtLiteralEnd}
 use Rattle.si_entries.proofs.AnewLaws.{part_anew}
 
--- ---- rows of terms, one behind the other
+-- ---- rows of terms, one after the other
 abbrev pub join : Terms → Terms → Terms
 join terms.none us = us
 join (terms.more t ts) us = terms.more t (join ts us)
@@ -124,7 +124,7 @@ module _ (numbers : Numbering) (positive : Bool) (cells : List Cell) (names : Li
     few = h.few;
   }
 
-  -- behind the last cell no term is left
+  -- after the last cell no term is left
   pub none_left : (ts : Terms) (at : ℕ) → AreTermsLeft numbers positive (past_variables ts) cells names at → at ≡ length cells → subterms_of_all ts ≡ []
   none_left ts at h end =
       let none : drop at cells ≡ [] = drop_all at cells (omega (arith, end)) in

@@ -31,7 +31,7 @@ from_symbol (c ∷ cells) = from_symbol cells
 abbrev pub variable_in : List Bytes → Bytes → Variable
 variable_in names x = entry (place_in bytes_eq names x)
 
--- the literals behind the one that it is in
+-- the literals after the one that it is in
 abbrev pub literals_left : FlatEntries → List Literal
 literals_left f = map literal_of f.literals.now
 

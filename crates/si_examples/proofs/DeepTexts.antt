@@ -46,7 +46,7 @@ rights : (n : ℕ) → Begins (replicate n 41) (replicate n right_bracket) []
 rights zero = refl
 rights (suc n) = (replicate n 41, next Mark (codes ")") (replicate n 41) refl, rights n)
 
--- behind the word stands a bracket or nothing
+-- after the word stands a bracket or nothing
 word_next : (n : ℕ) → Begins (codes "p" ++ replicate n 41) (lower (codes "p") ∷ []) (replicate n 41)
 word_next zero = ([], next Lower (codes "p") [] refl, refl)
 word_next (suc n) = (replicate (suc n) 41, next Lower (codes "p") (replicate (suc n) 41) refl, refl)

@@ -25,7 +25,7 @@ is_no_mark t = of t.kind where
 abbrev BeginsBare : List Token → Type 0
 BeginsBare ts = (t : Token) × (us : List Token) × (is_no_mark t ≡ true) × (ts ≡ t ∷ us)
 
--- or with such a one, or a bracket, behind a sign, or with a bracket
+-- or with such a one, or a bracket, after a sign, or with a bracket
 abbrev pub Opens : List Token → Type 0
 Opens ts =
     BeginsBare ts

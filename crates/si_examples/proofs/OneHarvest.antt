@@ -98,7 +98,7 @@ late_include =
 abbrev second : Bytes
 second = codes "\nfof(d,axiom,q)."
 
--- the first token, behind one blank
+-- the first token, after one blank
 abbrev behind_blank : (blank : ℕ) (text rest : Bytes) → IsTrue (is_white blank) → IsTrue (stands_first Lower text rest) → NextToken (blank ∷ text ++ rest) (lower text) rest
 behind_blank blank text rest w h = record {
   place = text ++ rest;

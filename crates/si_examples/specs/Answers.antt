@@ -45,7 +45,7 @@ ExplainedPattern = (setting : Setting)
     → Performs setting (explain Instances pattern) state
     (codes "passed 2 nodes 3 answers 1" ∷ []) state
 
--- that there is none is wrong, whatever the state behind it
+-- that there is none is wrong, whatever the state after it
 abbrev pub NoAnswerUntold : Type 0
 NoAnswerUntold = (setting : Setting) (new : State)
     → Performs setting (explain Instances pattern) state

@@ -95,7 +95,7 @@ LateInclude =
     Loads (includes (codes "b")) (bounds 15 1 2) (limited_to 2) [] (codes "a")
     (ask (codes "a") ∷ ask (codes "b") ∷ []) (Some too_many)
 
--- a formula of another language stands on the second line, behind a clause
+-- a formula of another language stands on the second line, after a clause
 abbrev pub SecondLine : Type 0
 SecondLine =
     Loads (files_of ((codes "a", codes "cnf(c,axiom,p).\nfof(d,axiom,q).") ∷ []))

@@ -35,7 +35,7 @@ NoKindOfPattern = (command : Command)
 abbrev pub TreeLine : Type 0
 TreeLine = Means tree (codes "tree")
 
--- behind the word stand a relation and a pattern, as in a query
+-- after the word stand a relation and a pattern, as in a query
 abbrev pub ExplainedQuery : Type 0
 ExplainedQuery =
     Means (explain Unifiable (literal_pattern (record { positive = true; atom = p_of y z })))

@@ -1,4 +1,4 @@
--- Loads, their replies and the state behind them.
+-- Loads, their replies and the state after them.
 use Rattle.std.specs.Prelude.{◌≡◌, ◌≤◌, [], ◌∷◌, None, Some, codes}
 use Rattle.si_state.specs.States.{State, empty_state, limited_to}
 use Rattle.si_state.specs.Harvest.{cycle}
@@ -25,7 +25,7 @@ OwnIncludeOwed = (setting : Setting) → load_bounds setting.limits ≡ bounds 1
     (fault_line setting.rules.entries (cycle (codes "a")) ∷ [])
     (record { fetches = 1; misses = 0; bigs = 0; failures = 0 }) empty_state
 
--- no file has the name, so the reply that nothing was gained is wrong, whatever the state behind it
+-- no file has the name, so the reply that nothing was gained is wrong, whatever the state after it
 abbrev pub NoGainWithoutFile : Type 0
 NoGainWithoutFile = (setting : Setting) (kept new : State) (owed : Owed)
     → PerformsLoad setting (Some plain) (codes "b") kept (codes "ok 0 0" ∷ []) owed new → ⊥

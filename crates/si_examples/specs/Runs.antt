@@ -30,7 +30,7 @@ EmptyWordEnds = (setting : Setting) (told : Option Files)
     → IsOutputTo setting told true (requests ([] ∷ codes "a.p" ∷ []) (codes "stats" ∷ []))
     (codes "! syntax" ∷ []) (codes "! syntax\n") nothing
 
--- and doesn't go on behind it
+-- and doesn't go on after it
 abbrev pub EmptyWordGoesNotOn : Type 0
 EmptyWordGoesNotOn = (setting : Setting) (told : Option Files) (output : Bytes) (owed : Owed)
     → IsOutput setting told true (requests ([] ∷ []) []) output owed → ⊥

@@ -19,7 +19,7 @@ LowerWord = Spells Lower (codes "aB_1") (codes "aB_1")
 abbrev pub NoCapital : Type 0
 NoCapital = Spells Lower (codes "Ab") (codes "Ab") → ⊥
 
--- in single quotes a quote stands behind a backslash
+-- in single quotes a quote stands after a backslash
 abbrev pub QuoteInQuotes : Type 0
 QuoteInQuotes = Spells Single (codes "it's") (codes "'it\\'s'")
 

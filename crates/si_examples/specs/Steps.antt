@@ -1,4 +1,4 @@
--- Lines, their replies and the state behind them.
+-- Lines, their replies and the state after them.
 use Rattle.std.specs.Prelude.{◌≡◌, ◌≤◌, ◌<◌, length, true, List, [], ◌∷◌, codes, Option}
 use Rattle.si_defs.specs.Bytes.{Bytes}
 use Rattle.si_defs.specs.Clauses.{Clause}
@@ -124,7 +124,7 @@ NoOtherReply = (setting : Setting) (new : State)
     → Performs setting (add of_taken_name) (keeping (kept_clause ∷ []))
     (codes "ok 1 3" ∷ []) new → ⊥
 
--- it is never accepted, whatever the state behind it
+-- it is never accepted, whatever the state after it
 abbrev pub NoSecondClause : Type 0
 NoSecondClause = (rules : Rules) (new : List Clause)
     → Accepts rules (kept_clause ∷ []) of_taken_name new → ⊥

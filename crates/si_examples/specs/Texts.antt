@@ -6,7 +6,7 @@ use Rattle.si_defs.specs.Grammar.{Item}
 use Rattle.si_defs.specs.Texts.{BeginsWithItem, IsFormulaText, IsForeign, line_of}
 use Rattle.si_examples.specs.Entries.{predicate}
 
--- a place behind two line feeds is in the third line
+-- a place after two line feeds is in the third line
 abbrev pub ThirdLine : Type 0
 ThirdLine = line_of (codes "p\n\nq") ≡ 3
 

@@ -1,4 +1,4 @@
-// Lines, their replies and the state behind them.
+// Lines, their replies and the state after them.
 ghost use Rattle.si_examples.specs.Steps.{SilentLine, SilentComment, SilentOnly, OpenComment, UnknownWord, WordInQuotes, JoinedWord, WordAlone, OtherLanguageAdded, LanguageAlone, TooLong, TooLongBlank, NoMemoryWhereTooLong, AddedClause, TakenName, NoOtherReply, NoSecondClause, FullIndex, NoClauseTooMany, ClashingSymbol, NoClash, NoAgreement, RemovedClause, UnknownName, NoUnknownName, NothingCounted, NoneUncounted, ShownTrees, NoTreeAlone, TwoNames, RefusalBeginsSo, LateRefusal, NoRefusal, SilenceIsNoRefusal};
 
 /// Which lines have no reply.

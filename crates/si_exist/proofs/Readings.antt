@@ -1,5 +1,5 @@
 -- Each file has a reading that tells no failure of the library: files are open at most as deep as
--- may be, and behind each item fewer bytes are left.
+-- may be, and after each item fewer bytes are left.
 use Rattle.std.proofs.Common.{◌≡◌, ℕ, zero, suc, ◌+◌, ◌≤◌, ◌<◌, List, [], ◌∷◌, ◌++◌, length, Option, None, Some, codes, inl, inr, refl, sym, ◌∙◌, ap, subst, arith, append_assoc, length-append}
 use Rattle.std.proofs.lemmas.Bool.{cases_lt}
 use Rattle.si_defs.specs.Bytes.{Bytes}
@@ -14,7 +14,7 @@ use Rattle.si_lex.specs.Blanks.{NoBlankAt}
 use Rattle.si_lex.proofs.BlankLaws.{skips_first, blank_some, place_where}
 use Rattle.si_lex.proofs.SpellingLaws.{spelling_some}
 use Rattle.si_state.specs.States.{State, Rules}
-use Rattle.si_state.specs.Harvest.{Files, Bounds, Event, ask, attempt, tried, fetches, Fault, cycle, too_deep, too_many, missing, too_big, foreign, malformed, rejected, MayAsk, narrowed, IsSelected, Spot, IsOnLine, Harvests, barred, withheld, fetched, Continues, ended, stuck, passed_over, accepted, refused, expanded, broken_off, clauses_behind}
+use Rattle.si_state.specs.Harvest.{Files, Bounds, Event, ask, attempt, tried, fetches, Fault, cycle, too_deep, too_many, missing, too_big, foreign, malformed, rejected, MayAsk, narrowed, IsSelected, ReadingPoint, IsOnLine, Harvests, barred, withheld, fetched, Continues, ended, stuck, passed_over, accepted, refused, expanded, broken_off, clauses_behind}
 use Rattle.si_steps.specs.Settings.{Setting}
 use Rattle.si_steps.specs.Loads.{nothing, owed_for, owed_by, MayFetch, gained_line, load_line, load_bounds, PerformsLoad}
 use Rattle.si_laws.specs.OneReply.{TellsNoFailure}
@@ -28,7 +28,7 @@ pub owes_nothing : TellsNoFailure nothing
 owes_nothing = refl
 
 -- ---- places
--- rest stands behind some bytes
+-- rest stands after some bytes
 record IsBehind (bytes rest : Bytes) : Type 0 where
   front : Bytes
   whole : bytes ≡ front ++ rest
@@ -84,97 +84,97 @@ module _ (files : Files) (bounds : Bounds) (rules : Rules) where
   IsRead opened around made clauses file =
       IsNotAbsent ((events : List Event) × (fault : Option Fault) × Harvests files bounds rules opened around made clauses file events fault × TellsNoFailure (owed_for 0 fault))
 
-  abbrev IsReadOn : Spot → ℕ → List Clause → Type 0
-  IsReadOn spot made clauses =
-      IsNotAbsent ((events : List Event) × (fault : Option Fault) × Continues files bounds rules spot made clauses events fault × TellsNoFailure (owed_for 0 fault))
+  abbrev IsReadOn : ReadingPoint → ℕ → List Clause → Type 0
+  IsReadOn point made clauses =
+      IsNotAbsent ((events : List Event) × (fault : Option Fault) × Continues files bounds rules point made clauses events fault × TellsNoFailure (owed_for 0 fault))
 
-  -- files are read behind so many open ones that no more than d may be opened
+  -- files are read after so many open ones that no more than d may be opened
   abbrev AreReadBehind : ℕ → Type 0
   AreReadBehind d = (opened : List Bytes) (around : List (List Name)) (made : ℕ) (clauses : List Clause) (file : Bytes) → bounds.depth ≤ length opened + d → IsRead opened around made clauses file
 
-  faulty_here : (spot : Spot) (made : ℕ) (clauses : List Clause) (read : Bytes) → spot.bytes ≡ read ++ spot.rest → IsFaulty spot.rest → IsReadOn spot made clauses
-  faulty_here spot made clauses read whole faulty =
-      and_then (behind_blanks (suc (length spot.rest)) spot.rest (omega arith))
+  faulty_here : (point : ReadingPoint) (made : ℕ) (clauses : List Clause) (read : Bytes) → point.bytes ≡ read ++ point.rest → IsFaulty point.rest → IsReadOn point made clauses
+  faulty_here point made clauses read whole faulty =
+      and_then (behind_blanks (suc (length point.rest)) point.rest (omega arith))
       (λ p.
       let before = read ++ joined p.1.blanks in
-      let on_line : IsOnLine spot (line_of before) =
-      (before, p.0, place_where spot.rest p.0 p.1 p.2, whole ∙ ap (λ l. read ++ l) p.1.whole ∙ sym (append_assoc read (joined p.1.blanks) p.0), refl) in
-      either_way (IsForeign spot.rest)
+      let on_line : IsOnLine point (line_of before) =
+      (before, p.0, place_where point.rest p.0 p.1 p.2, whole ∙ ap (λ l. read ++ l) p.1.whole ∙ sym (append_assoc read (joined p.1.blanks) p.0), refl) in
+      either_way (IsForeign point.rest)
       (λ other.
       elim other [
         | inl f ↦
-            there ([], Some (foreign spot.file (line_of before)), stuck spot made clauses (foreign spot.file (line_of before)) (refl, faulty, on_line, f), owes_nothing)
+            there ([], Some (foreign point.file (line_of before)), stuck point made clauses (foreign point.file (line_of before)) (refl, faulty, on_line, f), owes_nothing)
         | inr own ↦
-            there ([], Some (malformed spot.file (line_of before)), stuck spot made clauses (malformed spot.file (line_of before)) (refl, faulty, on_line, own), owes_nothing)
+            there ([], Some (malformed point.file (line_of before)), stuck point made clauses (malformed point.file (line_of before)) (refl, faulty, on_line, own), owes_nothing)
       ]))
 
   module _ (d : ℕ) (inner : AreReadBehind d) where
     -- so are files from here on where less is left
     abbrev AreReadOnBelow : ℕ → Type 0
-    AreReadOnBelow n = (spot : Spot) (made : ℕ) (clauses : List Clause) → length spot.rest < n → bounds.depth ≤ length spot.opened + d → (read : Bytes) → spot.bytes ≡ read ++ spot.rest → IsReadOn spot made clauses
+    AreReadOnBelow n = (point : ReadingPoint) (made : ℕ) (clauses : List Clause) → length point.rest < n → bounds.depth ≤ length point.opened + d → (read : Bytes) → point.bytes ≡ read ++ point.rest → IsReadOn point made clauses
 
-    module _ (n : ℕ) (below : AreReadOnBelow n) (spot : Spot) (made : ℕ) (clauses : List Clause) (short : length spot.rest < suc n) (deep : bounds.depth ≤ length spot.opened + d) (read : Bytes) (whole : spot.bytes ≡ read ++ spot.rest) where
-      go_on : (item : Item) (after : Bytes) → BeginsWithItem spot.rest item after → (more : ℕ) (kept : List Clause) → IsReadOn (record spot { rest = after }) more kept
+    module _ (n : ℕ) (below : AreReadOnBelow n) (point : ReadingPoint) (made : ℕ) (clauses : List Clause) (short : length point.rest < suc n) (deep : bounds.depth ≤ length point.opened + d) (read : Bytes) (whole : point.bytes ≡ read ++ point.rest) where
+      go_on : (item : Item) (after : Bytes) → BeginsWithItem point.rest item after → (more : ℕ) (kept : List Clause) → IsReadOn (record point { rest = after }) more kept
       go_on item after begins more kept =
-          let b = behind_item spot.rest item after begins in
-          below (record spot { rest = after }) more kept
+          let b = behind_item point.rest item after begins in
+          below (record point { rest = after }) more kept
           (let some = b.some in omega (arith, short, some, ap length b.whole, length-append b.front after))
           deep
           (read ++ b.front)
           (whole ∙ ap (λ l. read ++ l) b.whole ∙ sym (append_assoc read b.front after))
 
-      clause_here : (c : Clause) (after : Bytes) → BeginsWithItem spot.rest (clause_item c) after → IsReadOn spot made clauses
+      clause_here : (c : Clause) (after : Bytes) → BeginsWithItem point.rest (clause_item c) after → IsReadOn point made clauses
       clause_here c after begins =
-          either_way (IsSelected spot.around c.name)
+          either_way (IsSelected point.around c.name)
           (λ chosen.
           elim chosen [
             | inr out ↦
                 and_then (go_on (clause_item c) after begins made clauses)
-                (λ r. there (r.0, r.1, passed_over spot made clauses c after begins out r.0 r.1 r.2, r.3))
+                (λ r. there (r.0, r.1, passed_over point made clauses c after begins out r.0 r.1 r.2, r.3))
             | inl selected ↦
                 and_then (accepted_or_refused rules clauses c)
                 (λ here.
                 elim here [
                   | inl a ↦
                       and_then (go_on (clause_item c) after begins made (clauses ++ c ∷ []))
-                      (λ r. there (attempt c ∷ r.0, r.1, accepted spot made clauses c after begins selected a r.0 r.1 r.2, r.3))
+                      (λ r. there (attempt c ∷ r.0, r.1, accepted point made clauses c after begins selected a r.0 r.1 r.2, r.3))
                   | inr w ↦
-                      there (attempt c ∷ [], Some (rejected c w.0), refused spot made clauses c after begins selected w.0 w.1, owes_nothing)
+                      there (attempt c ∷ [], Some (rejected c w.0), refused point made clauses c after begins selected w.0 w.1, owes_nothing)
                 ])
           ])
 
-      include_here : (file : Bytes) (selection : Selection) (after : Bytes) → BeginsWithItem spot.rest (include_item file selection) after → IsReadOn spot made clauses
+      include_here : (file : Bytes) (selection : Selection) (after : Bytes) → BeginsWithItem point.rest (include_item file selection) after → IsReadOn point made clauses
       include_here file selection after begins =
-          and_then (inner spot.opened (narrowed selection spot.around) made clauses file deep) (λ h. by h.0 h.1 h.2 h.3)
+          and_then (inner point.opened (narrowed selection point.around) made clauses file deep) (λ h. by h.0 h.1 h.2 h.3)
         where
-          by : (inside : List Event) (fault : Option Fault) → Harvests files bounds rules spot.opened (narrowed selection spot.around) made clauses file inside fault → TellsNoFailure (owed_for 0 fault) → IsReadOn spot made clauses
+          by : (inside : List Event) (fault : Option Fault) → Harvests files bounds rules point.opened (narrowed selection point.around) made clauses file inside fault → TellsNoFailure (owed_for 0 fault) → IsReadOn point made clauses
           by inside None h quiet =
               and_then (go_on (include_item file selection) after begins (made + fetches inside) (clauses ++ tried inside))
-              (λ r. there (inside ++ r.0, r.1, expanded spot made clauses file selection after begins inside r.0 (inside ++ r.0) r.1 h r.2 refl, r.3))
-          by inside (Some fault) h quiet = there (inside, Some fault, broken_off spot made clauses file selection after begins inside fault h, quiet)
+              (λ r. there (inside ++ r.0, r.1, expanded point made clauses file selection after begins inside r.0 (inside ++ r.0) r.1 h r.2 refl, r.3))
+          by inside (Some fault) h quiet = there (inside, Some fault, broken_off point made clauses file selection after begins inside fault h, quiet)
 
-      item_here : (item : Item) (after : Bytes) → BeginsWithItem spot.rest item after → IsReadOn spot made clauses
+      item_here : (item : Item) (after : Bytes) → BeginsWithItem point.rest item after → IsReadOn point made clauses
       item_here (clause_item c) after begins = clause_here c after begins
       item_here (include_item file selection) after begins = include_here file selection after begins
 
-      read_here : IsReadOn spot made clauses
+      read_here : IsReadOn point made clauses
       read_here =
-          either_way (AreBlanks spot.rest)
+          either_way (AreBlanks point.rest)
           (λ at_end.
           elim at_end [
-            | inl blanks ↦ there ([], None, ended spot made clauses blanks, owes_nothing)
+            | inl blanks ↦ there ([], None, ended point made clauses blanks, owes_nothing)
             | inr more ↦
-                either_way ((item : Item) × (after : Bytes) × BeginsWithItem spot.rest item after)
+                either_way ((item : Item) × (after : Bytes) × BeginsWithItem point.rest item after)
                 (λ here.
                 elim here [
                   | inl i ↦ item_here i.0 i.1 i.2
-                  | inr gone ↦ faulty_here spot made clauses read whole (record { more = more; no_item = λ item rest b. gone (item, rest, b) })
+                  | inr gone ↦ faulty_here point made clauses read whole (record { more = more; no_item = λ item rest b. gone (item, rest, b) })
                 ])
           ])
 
     read_on_below : (n : ℕ) → AreReadOnBelow n
-    read_on_below zero spot made clauses short deep read whole = absurd (omega (arith, short))
-    read_on_below (suc n) spot made clauses short deep read whole = read_here n (read_on_below n) spot made clauses short deep read whole
+    read_on_below zero point made clauses short deep read whole = absurd (omega (arith, short))
+    read_on_below (suc n) point made clauses short deep read whole = read_here n (read_on_below n) point made clauses short deep read whole
 
   -- a file that may be asked for
   asked : (d : ℕ) → AreReadBehind d → (opened : List Bytes) (around : List (List Name)) (made : ℕ) (clauses : List Clause) (file : Bytes) → bounds.depth ≤ length opened + suc d → MayAsk bounds opened made file → IsRead opened around made clauses file
@@ -192,8 +192,8 @@ module _ (files : Files) (bounds : Bounds) (rules : Rules) where
                   refl,
                 )
             | inr fits ↦
-                (let spot : Spot = record { file = file; bytes = bytes; opened = file ∷ opened; around = around; rest = bytes } in
-                and_then (read_on_below d inner (suc (length bytes)) spot (made + 1) clauses (omega arith) (omega (arith, deep)) [] refl)
+                (let point : ReadingPoint = record { file = file; bytes = bytes; opened = file ∷ opened; around = around; rest = bytes } in
+                and_then (read_on_below d inner (suc (length bytes)) point (made + 1) clauses (omega arith) (omega (arith, deep)) [] refl)
                 (λ r. there (ask file ∷ r.0, r.1, fetched opened around made clauses file bytes may e fits r.0 r.1 r.2, r.3)))
           ]
 

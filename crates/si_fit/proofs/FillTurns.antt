@@ -60,7 +60,7 @@ module _ (slots : Slots) (pairs : Pairs) (left right : List Cell) (i j : ℕ) (o
         let new = all_at (IsNew slots pairs left) (drop j right) (get_or other 0 no_cell) fresh h n e in
         (new.0, λ a. new.1 (among_cut (length one) i left one (cell.Ind n) one_cut a))
 
-    -- behind two terms that were made equal
+    -- after two terms that were made equal
     pub new_on : (new : Pairs) (count : ℕ) → StandOnce right → HasMet slots pairs new one other Equal → AllowsSolving slots new count → HasDistinctSlots new → AllByRecursion (IsNew slots new left) (drop (j + length other) right)
     new_on new count once met ready distinct =
         all_from (IsNew slots new left) (drop (j + length other) right)

@@ -26,7 +26,7 @@ use Rattle.si_fit.proofs.EndLaws.{no_cell}
 use Rattle.si_fit.proofs.FitTurns.{no_more}
 
 -- ---- cells
--- behind so many cells
+-- after so many cells
 behind : (cells : List Cell) (at : ℕ) (front back : List Cell) (n : ℕ) → drop at cells ≡ front ++ back → n ≡ length front → drop (at + n) cells ≡ back
 behind cells at front back n e long =
     sym (drop-drop n at cells) ∙ ap (drop n) e ∙ ap (λ k. drop k (front ++ back)) long ∙ drop-append_seam front back

@@ -8,7 +8,7 @@ use Rattle.si_flat.specs.Numbered.{place_in}
 use Rattle.si_flat.specs.Flattening.{IsIndex}
 
 module _ {V : Type 0} (same : V → V → Bool) (decides : (x y : V) → Decides (same x y) (x ≡ y)) where
-  -- the place of the one that was inserted, whatever comes behind
+  -- the place of the one that was inserted, whatever comes after
   pub inserted-place : (known : List V) (x : V) → IsIndex same (insert_key same known x) x (position_or_len (same x) known)
   inserted-place [] x more = rw ((decides x x).1 refl) refl
   inserted-place (y ∷ known) x more =

@@ -49,7 +49,7 @@ module _ {V : Type 0} (p : V → Bool) where
     by true h rest = absurd (true≢false h)
     by false h rest = omega (arith, rest h)
 
-  -- found among the first, or behind them
+  -- found among the first, or after them
   found_in_front : (xs ys : List V) → list_any p xs ≡ true → position_or_len p (xs ++ ys) ≡ position_or_len p xs
   found_in_front [] ys h = absurd (true≢false (sym h))
   found_in_front (x ∷ xs) ys h = by (p x) h (found_in_front xs ys) where

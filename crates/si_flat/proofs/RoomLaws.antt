@@ -51,7 +51,7 @@ module _ (pairs : Numbering) where
     symbols = omega (arith, fits.symbols, ap length (symbols_joined a p q), no_fewer same_symbol (insert_all same_symbol a.extra (unnumbered pairs p.symbols)) (unnumbered pairs q.symbols));
   }
 
-  -- and behind it the second one, where the room isn't less
+  -- and after it the second one, where the room isn't less
   pub fits_second : (room more : Room) (a b : WalkState) (p q : WalkPiece) (m n : ℕ)
       → b.names ≡ insert_all bytes_eq a.names p.variables
       → b.extra ≡ insert_all same_symbol a.extra (unnumbered pairs p.symbols)
@@ -99,7 +99,7 @@ module _ (pairs : Numbering) where
       ∙ length-append a.cells (cells_of (numbered n v t))
       ∙ ap (λ k. length a.cells + k) (length-cells_of (numbered n v t) ∙ numbered_size n v t)
 
-  -- the first of some terms, and the others behind it
+  -- the first of some terms, and the others after it
   pub fits_head : (room : Room) (a : WalkState) (t : clauses.Term) (ts : clauses.Terms)
       → Fits pairs room a (terms_piece (terms.more t ts)) (terms.size t + terms.sizes ts)
       → Fits pairs room a (term_piece t) (terms.size t)

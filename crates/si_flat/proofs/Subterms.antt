@@ -40,7 +40,7 @@ span-first (terms.var (ind n)) rest d = refl
 span-first (terms.app s ts) rest d = refl
 
 -- a term that stands among the cells at a place, between others
-pub record Found (cells : List Cell) (at : ℕ) : Type 0 where
+pub record StandsAmong (cells : List Cell) (at : ℕ) : Type 0 where
   pub before : List Cell
   pub term : Term
   pub after : List Cell
@@ -48,8 +48,8 @@ pub record Found (cells : List Cell) (at : ℕ) : Type 0 where
   pub parts : cells ≡ before ++ (cells_of term ++ after)
   pub place : length before ≡ at
 
-found_behind : (front cells : List Cell) (at : ℕ) → Found cells at → Found (front ++ cells) (length front + at)
-found_behind front cells at f = record {
+stands_after : (front cells : List Cell) (at : ℕ) → StandsAmong cells at → StandsAmong (front ++ cells) (length front + at)
+stands_after front cells at f = record {
   before = front ++ f.before;
   term = f.term;
   after = f.after;
@@ -58,8 +58,8 @@ found_behind front cells at f = record {
   place = length-append front f.before ∙ ap (λ n. length front + n) f.place;
 }
 
-found_before : (cells back : List Cell) (at : ℕ) → Found cells at → Found (cells ++ back) at
-found_before cells back at f = record {
+stands_before : (cells back : List Cell) (at : ℕ) → StandsAmong cells at → StandsAmong (cells ++ back) at
+stands_before cells back at f = record {
   before = f.before;
   term = f.term;
   after = f.after ++ back;
@@ -71,7 +71,7 @@ found_before cells back at f = record {
   place = f.place;
 }
 
-at_start : (t : Term) → IsSound t → Found (cells_of t) 0
+at_start : (t : Term) → IsSound t → StandsAmong (cells_of t) 0
 at_start t sound = record {
   before = [];
   term = t;
@@ -81,48 +81,48 @@ at_start t sound = record {
   place = refl;
 }
 
--- behind the first cell of a symbol stand its arguments, and behind the first argument the others
-behind_head : (s : Symbol) (ts : Terms) (at : ℕ) → Found (cells_of_all ts) at → Found (cells_of (terms.app s ts)) (suc at)
-behind_head s ts at f = subst (Found (cells_of (terms.app s ts))) (omega arith) (found_behind (cell.App s.number s.arity (1 + terms.sizes ts) ∷ []) (cells_of_all ts) at f)
+-- after the first cell of a symbol stand its arguments, and after the first argument the others
+behind_head : (s : Symbol) (ts : Terms) (at : ℕ) → StandsAmong (cells_of_all ts) at → StandsAmong (cells_of (terms.app s ts)) (suc at)
+behind_head s ts at f = subst (StandsAmong (cells_of (terms.app s ts))) (omega arith) (stands_after (cell.App s.number s.arity (1 + terms.sizes ts) ∷ []) (cells_of_all ts) at f)
 
-behind_first : (t : Term) (ts : Terms) (at : ℕ) → terms.size t ≤ at → Found (cells_of_all ts) (at - terms.size t) → Found (cells_of_all (terms.more t ts)) at
-behind_first t ts at less f = subst (Found (cells_of_all (terms.more t ts))) (omega (arith, length-cells_of t)) (found_behind (cells_of t) (cells_of_all ts) (at - terms.size t) f)
+behind_first : (t : Term) (ts : Terms) (at : ℕ) → terms.size t ≤ at → StandsAmong (cells_of_all ts) (at - terms.size t) → StandsAmong (cells_of_all (terms.more t ts)) at
+behind_first t ts at less f = subst (StandsAmong (cells_of_all (terms.more t ts))) (omega (arith, length-cells_of t)) (stands_after (cells_of t) (cells_of_all ts) (at - terms.size t) f)
 
 mutual
-  pub found : (t : Term) (at : ℕ) → IsSound t → at < terms.size t → Found (cells_of t) at
-  found (terms.var x) at sound less = subst (Found (cells_of (terms.var x))) (omega arith) (at_start (terms.var x) sound)
+  pub found : (t : Term) (at : ℕ) → IsSound t → at < terms.size t → StandsAmong (cells_of t) at
+  found (terms.var x) at sound less = subst (StandsAmong (cells_of (terms.var x))) (omega arith) (at_start (terms.var x) sound)
   found (terms.app s ts) zero sound less = at_start (terms.app s ts) sound
   found (terms.app s ts) (suc at) sound less = behind_head s ts at (found_all ts at sound.1 (omega arith))
 
-  pub found_all : (ts : Terms) (at : ℕ) → AreSound ts → at < terms.sizes ts → Found (cells_of_all ts) at
+  pub found_all : (ts : Terms) (at : ℕ) → AreSound ts → at < terms.sizes ts → StandsAmong (cells_of_all ts) at
   found_all terms.none at sound less = absurd (omega arith)
   found_all (terms.more t ts) at sound less =
       elim (cases_lt at (terms.size t)) [
-        | inl first ↦ found_before (cells_of t) (cells_of_all ts) at (found t at sound.0 first)
+        | inl first ↦ stands_before (cells_of t) (cells_of_all ts) at (found t at sound.0 first)
         | inr later ↦ behind_first t ts at later (found_all ts (at - terms.size t) sound.1 (omega arith))
       ]
 
-pub found_in : (cells : List Cell) (at : ℕ) → IsWhole cells → at < length cells → Found cells at
+pub found_in : (cells : List Cell) (at : ℕ) → IsWhole cells → at < length cells → StandsAmong cells at
 found_in cells at whole less =
     subst
-    (λ l. Found l at)
+    (λ l. StandsAmong l at)
     (sym whole.1.cells_are)
     (found whole.0 at whole.1.sound (omega (arith, ap length whole.1.cells_are, length-cells_of whole.0)))
 
--- what was found, as the cells behind the place
-pub from_place : (cells : List Cell) (at : ℕ) (f : Found cells at) → drop at cells ≡ cells_of f.term ++ f.after
+-- what was found, as the cells after the place
+pub from_place : (cells : List Cell) (at : ℕ) (f : StandsAmong cells at) → drop at cells ≡ cells_of f.term ++ f.after
 from_place cells at f =
     subst
     (λ n. drop n cells ≡ cells_of f.term ++ f.after)
     f.place
     (ap (drop (length f.before)) f.parts ∙ drop-append_seam f.before (cells_of f.term ++ f.after))
 
-pub span-found : (cells : List Cell) (at : ℕ) (d : Cell) (f : Found cells at) → span (get_or cells at d) ≡ terms.size f.term
+pub span-found : (cells : List Cell) (at : ℕ) (d : Cell) (f : StandsAmong cells at) → span (get_or cells at d) ≡ terms.size f.term
 span-found cells at d f =
     ap span (ap (λ n. get_or cells n d) (sym (add-zero at)) ∙ sym (get_or-drop at cells 0 d) ∙ ap (λ l. get_or l 0 d) (from_place cells at f))
     ∙ span-first f.term f.after d
 
-pub ends_inside : (cells : List Cell) (at : ℕ) (f : Found cells at) → at + terms.size f.term ≤ length cells
+pub ends_inside : (cells : List Cell) (at : ℕ) (f : StandsAmong cells at) → at + terms.size f.term ≤ length cells
 ends_inside cells at f =
     omega (
       arith,
@@ -134,7 +134,7 @@ ends_inside cells at f =
     )
 
 -- so many cells from the place on are the term that was found
-pub sub-found : (cells : List Cell) (at : ℕ) (f : Found cells at) → StandsFor (take (terms.size f.term) (drop at cells)) f.term
+pub sub-found : (cells : List Cell) (at : ℕ) (f : StandsAmong cells at) → StandsFor (take (terms.size f.term) (drop at cells)) f.term
 sub-found cells at f = record {
   cells_are =
       ap (take (terms.size f.term)) (from_place cells at f)

@@ -164,7 +164,7 @@ module _ (pairs : Numbering) (scheme : Scheme) where
       ∙ length-append b.cells (cells_of_all (all_numbered n v ts))
       ∙ ap (λ k. length b.cells + k) (length-cells_of_all (all_numbered n v ts) ∙ numbered_sizes n v ts)
 
-  -- behind the cell of a symbol, its arguments
+  -- after the cell of a symbol, its arguments
   pub length_behind : (cs : List Cell) (first : Cell) (b c : WalkState) (ts : clauses.Terms)
       → b.cells ≡ cs ++ first ∷ []
       → Flattens pairs scheme b c (terms_piece ts)

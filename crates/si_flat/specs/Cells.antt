@@ -25,7 +25,7 @@ Term = terms.Term Symbol Variable
 abbrev pub Terms : Type 0
 Terms = terms.Terms Symbol Variable
 
--- rows of terms, one behind the other
+-- rows of terms, one after the other
 abbrev pub join : Terms → Terms → Terms
 join terms.none us = us
 join (terms.more t ts) us = terms.more t (join ts us)

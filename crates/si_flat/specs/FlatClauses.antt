@@ -54,7 +54,7 @@ abbrev pub lacked_by : Numbering → List Literal → List symbols.Symbol
 lacked_by pairs ls = terms.firsts same_symbol (unnumbered pairs (literals_symbols ls))
 
 -- The clause has the table's numbers for its symbols. Those that the table lacks are numbered
--- behind these, whatever others follow them.
+-- after these, whatever others follow them.
 abbrev pub FlattensClause : Numbering → Owner → List Literal → List Cell → Type 0
 FlattensClause pairs owner ls cells = (more : List symbols.Symbol)
     → StandsFor cells

@@ -115,7 +115,7 @@ pub record IsEnoughFor (pairs : Numbering) (e : Entry) (room : Room) : Type 0 wh
 abbrev pub query_numbers : Numbering → List Sym → Numbering
 query_numbers pairs extra = pairs ++ extra_numbers (map symbol_of extra)
 
--- Each of the symbols that have no number comes once, and they are numbered behind the others. All
+-- Each of the symbols that have no number comes once, and they are numbered after the others. All
 -- symbols have numbers then.
 pub record FlattensPattern (pairs : Numbering) (p : clauses.Pattern) (q : FlatQuery) : Type 0 where
   pub extra : map symbol_of q.extra

@@ -61,7 +61,7 @@ FindsPlace test xs None = list_any test xs ≡ false
 FindsPlace test xs (Some n) = (list_any test xs ≡ true) × (position_or_len test xs ≡ n)
     × (n < length xs)
 
--- so many stand before x, whatever comes behind
+-- so many stand before x, whatever comes after
 abbrev pub IsIndex : {V : Type 0} → (V → V → Bool) → List V → V → ℕ → Type 0
 IsIndex {V} same xs x n = (more : List V) → place_in same (xs ++ more) x ≡ n
 
@@ -94,7 +94,7 @@ terms_piece ts = record {
   cells = λ number variable. cells_of_all (all_numbered number variable ts);
 }
 
--- one behind the other
+-- one after the other
 abbrev pub piece_then : WalkPiece → WalkPiece → WalkPiece
 piece_then p q = record {
   variables = p.variables ++ q.variables;
@@ -126,7 +126,7 @@ pub record Fits (pairs : Numbering) (room : Room) (old : WalkState) (piece : Wal
 abbrev pub empty_walk : WalkState
 empty_walk = record { names = []; extra = []; cells = [] }
 
--- the symbols outside the table come behind those in it
+-- the symbols outside the table come after those in it
 abbrev pub entry_scheme : Owner → Bool → Scheme
 entry_scheme owner positive = record { positive = positive; owner = owner; first = 2 ^ 31 }
 

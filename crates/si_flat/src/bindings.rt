@@ -97,7 +97,7 @@ impl Bindings {
         })
     }
 
-    /// A copy, with no room behind the last binding.
+    /// A copy, with no room after the last binding.
     pub fn copy(&self, alloc: Global) -> Result<Bindings, AllocError>
         ensures { IfOk result (λ bindings. bindings ≡ self.now) }
     {

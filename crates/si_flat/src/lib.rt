@@ -21,7 +21,6 @@ pub use bindings::{Bindings, Pair, Pairs, Split};
 pub use clauses::{ClauseBuffer, flatten_clauses};
 pub use flatten::{EntryBuffer, FlatQuery, flatten_entry, flatten_pattern};
 pub use met::FIRST_EXTRA;
-pub use si_defs::Relation as Kind;
 use si_term::list::Items;
 use smallvec::SmallVec;
 use std::alloc::{AllocError, Global};

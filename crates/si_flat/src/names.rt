@@ -13,11 +13,11 @@ use std::marker::Model;
 const FEW: usize = 8;
 
 /// Names, each once, in the order in which they came. The first few are found by comparing them,
-/// and those behind them by a hash.
+/// and those after them by a hash.
 #[derive(Drop)]
 pub(crate) struct NameSet<'a> {
     all: Vec<&'a [u8]>,
-    // Those behind the first few.
+    // Those after the first few.
     hashed: IndexSet<&'a [u8]>,
 }
 
@@ -66,7 +66,7 @@ impl<'a> NameSet<'a> {
         self.all.as_slice()
     }
 
-    // The place of a name, which is put behind the others where it isn't among them. Only a new
+    // The place of a name, which is put after the others where it isn't among them. Only a new
     // name may be refused, and only where there is no room for it.
     pub(crate) fn insert(&mut self, name: &'a [u8]) -> Result<usize, AllocError>
         ensures names { OnOk result (self.new.items

@@ -13,8 +13,9 @@ ghost use Rattle.si_forest.specs.Pairs.{AreAlone};
 ghost use Rattle.si_forest.specs.Kept.{AreNoted};
 
 use crate::pair::{Location, Pair};
+use si_defs::Relation;
 use si_descend::Counted;
-use si_flat::{Flat, Kind};
+use si_flat::Flat;
 use si_legal::Posting;
 use si_term::{Clause, SymTable};
 use si_tree::{NodeId, Tree};
@@ -129,25 +130,30 @@ impl Trees {
     pub fn retrieve(
         &self,
         literal: bool,
-        kind: Kind,
+        relation: Relation,
         query: &Flat,
         out: &mut Vec<Posting>,
     ) -> Result<u64, AllocError>
         requires { IsQuery query.now }
-        ensures retrieves { IfOk result (Retrieves (tree_for literal self.now) kind query.now
+        ensures retrieves { IfOk result (Retrieves (tree_for literal self.now) relation query.now
             out.old.items out.new.items) }
         ensures err { OnErr result (out.new.items ≡ out.old.items) }
     {
-        si_descend::retrieve(self.alloc, self.pair.tree(literal), kind, query, out)
+        si_descend::retrieve(self.alloc, self.pair.tree(literal), relation, query, out)
     }
 
     /// Counts the postings that [`Trees::retrieve`] would append, and the open nodes. It copies no
     /// posting.
-    pub fn count(&self, literal: bool, kind: Kind, query: &Flat) -> Result<Counted, AllocError>
+    pub fn count(
+        &self,
+        literal: bool,
+        relation: Relation,
+        query: &Flat,
+    ) -> Result<Counted, AllocError>
         requires { IsQuery query.now }
-        ensures { IfOk result (CountsAnswers (tree_for literal self.now) kind query.now) }
+        ensures { IfOk result (CountsAnswers (tree_for literal self.now) relation query.now) }
     {
-        si_descend::count(self.alloc, self.pair.tree(literal), kind, query)
+        si_descend::count(self.alloc, self.pair.tree(literal), relation, query)
     }
 }
 

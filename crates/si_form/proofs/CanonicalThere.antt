@@ -106,29 +106,29 @@ module _ {S V R W : Type 0} (A : Vocabulary S V) (B : Vocabulary R W) (k : Trans
         }
 
   -- ---- each relation
-  canonical_there : (kind : Relation) (q e : Term S V) (bs : List (V × Term S V)) → Returns k q → Returns k e → IsCanonical A.same kind q e bs → IsCanonical B.same kind (translated k q) (translated k e) (translated_list k bs)
+  canonical_there : (relation : Relation) (q e : Term S V) (bs : List (V × Term S V)) → Returns k q → Returns k e → IsCanonical A.same relation q e bs → IsCanonical B.same relation (translated k q) (translated k e) (translated_list k bs)
   canonical_there Unifiable q e bs q_returns e_returns h = unifier_there q e q_returns e_returns bs h
   canonical_there Instances q e bs q_returns e_returns h = match_there q e q_returns e_returns bs h
   canonical_there Generalizations q e bs q_returns e_returns h = match_there e q e_returns q_returns bs h
   canonical_there Variants q e bs q_returns e_returns h = (relates_there A B k Variants q e q_returns e_returns h.0, match_there q e q_returns e_returns bs h.1)
 
 -- ---- from the translated terms
-module _ {S V R W : Type 0} (A : Vocabulary S V) (B : Vocabulary R W) (k : Translation S V R W) (kind : Relation) (q e : Term S V) (q_returns : Returns k q) (e_returns : Returns k e) where
-  pub relates_before : Relates B.same kind (translated k q) (translated k e) → Relates A.same kind q e
+module _ {S V R W : Type 0} (A : Vocabulary S V) (B : Vocabulary R W) (k : Translation S V R W) (relation : Relation) (q e : Term S V) (q_returns : Returns k q) (e_returns : Returns k e) where
+  pub relates_before : Relates B.same relation (translated k q) (translated k e) → Relates A.same relation q e
   relates_before h =
-      subst (λ t. Relates A.same kind t e) (returned k q q_returns)
+      subst (λ t. Relates A.same relation t e) (returned k q q_returns)
       (
-      subst (λ t. Relates A.same kind (translated (back k) (translated k q)) t) (returned k e e_returns)
-      (relates_there B A (back k) kind (translated k q) (translated k e) (returns_there k q q_returns) (returns_there k e e_returns) h)
+      subst (λ t. Relates A.same relation (translated (back k) (translated k q)) t) (returned k e e_returns)
+      (relates_there B A (back k) relation (translated k q) (translated k e) (returns_there k q q_returns) (returns_there k e e_returns) h)
       )
 
-  pub canonical_before : (bs : List (W × Term R W)) → IsCanonical B.same kind (translated k q) (translated k e) bs → (list : List (V × Term S V)) × (translated_list k list ≡ bs) × IsCanonical A.same kind q e list
+  pub canonical_before : (bs : List (W × Term R W)) → IsCanonical B.same relation (translated k q) (translated k e) bs → (list : List (V × Term S V)) × (translated_list k list ≡ bs) × IsCanonical A.same relation q e list
   canonical_before bs h = (
     translated_list (back k) bs,
-    list_returned (back k) bs (canonical_made B (symbol_returns (back k)) (variable_returns (back k)) (returns_or_not B (back k)) kind (translated k q) (translated k e) bs (returns_there k q q_returns) (returns_there k e e_returns) h),
-    subst (λ t. IsCanonical A.same kind t e (translated_list (back k) bs)) (returned k q q_returns)
+    list_returned (back k) bs (canonical_made B (symbol_returns (back k)) (variable_returns (back k)) (returns_or_not B (back k)) relation (translated k q) (translated k e) bs (returns_there k q q_returns) (returns_there k e e_returns) h),
+    subst (λ t. IsCanonical A.same relation t e (translated_list (back k) bs)) (returned k q q_returns)
         (
-        subst (λ t. IsCanonical A.same kind (translated (back k) (translated k q)) t (translated_list (back k) bs)) (returned k e e_returns)
-        (canonical_there B A (back k) kind (translated k q) (translated k e) bs (returns_there k q q_returns) (returns_there k e e_returns) h)
+        subst (λ t. IsCanonical A.same relation (translated (back k) (translated k q)) t (translated_list (back k) bs)) (returned k e e_returns)
+        (canonical_there B A (back k) relation (translated k q) (translated k e) bs (returns_there k q q_returns) (returns_there k e e_returns) h)
         ),
   )

@@ -106,7 +106,7 @@ module _ {S V R W : Type 0} (A : Vocabulary S V) (B : Vocabulary R W) (k : Trans
         },
       )
 
-  pub relates_there : (kind : Relation) (q e : Term S V) → Returns k q → Returns k e → Relates A.same kind q e → Relates B.same kind (translated k q) (translated k e)
+  pub relates_there : (relation : Relation) (q e : Term S V) → Returns k q → Returns k e → Relates A.same relation q e → Relates B.same relation (translated k q) (translated k e)
   relates_there Unifiable q e h m r = unifiable_there q e h m r
   relates_there Instances q e h m r = instance_there q e h r
   relates_there Generalizations q e h m r = instance_there e q m r

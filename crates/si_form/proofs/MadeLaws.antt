@@ -181,7 +181,7 @@ module _ {S V : Type 0} (A : Vocabulary S V) (P : S → Type 0) (Q : V → Type 
     matched : (bs : List (V × Term S V)) → IsCanonicalMatch A.same q e bs → IsListOf P Q bs
     matched bs h = match_made q e bs h (λ x a. (variable_made P Q q x q_made a, image_made P Q (image A.same bs) q x (subst (IsMadeOf P Q) (sym h.matches.takes) e_made) a))
 
-  pub canonical_made : (kind : Relation) (q e : Term S V) (bs : List (V × Term S V)) → IsMadeOf P Q q → IsMadeOf P Q e → IsCanonical A.same kind q e bs → IsListOf P Q bs
+  pub canonical_made : (relation : Relation) (q e : Term S V) (bs : List (V × Term S V)) → IsMadeOf P Q q → IsMadeOf P Q e → IsCanonical A.same relation q e bs → IsListOf P Q bs
   canonical_made Unifiable q e bs q_made e_made h = unifier_made q e (order_made q e q_made e_made) (lasting q e q_made e_made) bs h
   canonical_made Instances q e bs q_made e_made h = matched q e q_made e_made bs h
   canonical_made Generalizations q e bs q_made e_made h = matched e q e_made q_made bs h
@@ -215,7 +215,7 @@ module _ {S V : Type 0} (A : Vocabulary S V) (P : S → Type 0) (Q : V → Type 
         arguments : app s (substitute_all (image A.same bs) ts) ≡ app r us → substitute_all (image A.same bs) ts ≡ us
         arguments e = cc
 
-  pub canonical_made_inside : (kind : Relation) (s r : S) (ts us : Terms S V) (bs : List (V × Term S V)) → AreMadeOf P Q ts → AreMadeOf P Q us → IsCanonical A.same kind (app s ts) (app r us) bs → IsListOf P Q bs
+  pub canonical_made_inside : (relation : Relation) (s r : S) (ts us : Terms S V) (bs : List (V × Term S V)) → AreMadeOf P Q ts → AreMadeOf P Q us → IsCanonical A.same relation (app s ts) (app r us) bs → IsListOf P Q bs
   canonical_made_inside Unifiable s r ts us bs ts_made us_made h =
       unifier_made (app s ts) (app r us) (of_both (app s ts) (app r us) (λ x a. variables_made P Q ts x ts_made a) (λ x a. variables_made P Q us x us_made a))
       (lasting_inside s r ts us ts_made us_made) bs h

@@ -109,31 +109,31 @@ module _
       entry_there : entry_by number ys u ≡ translated numbering (entry_term u)
       entry_there = numbered_is number (λ x. variable_by xs ys (of_entry x)) u ∙ translate_renamed (number_symbol number) (variable_by xs ys) of_entry u
 
-      relation_kept : (kind : Relation) → TextsRelate kind p u → NumbersRelate kind p u number xs ys
-      relation_kept kind r =
-          subst (λ t. Relates cells.same_variable kind (query_by number xs p) t) (sym entry_there)
+      relation_kept : (relation : Relation) → TextsRelate relation p u → NumbersRelate relation p u number xs ys
+      relation_kept relation r =
+          subst (λ t. Relates cells.same_variable relation (query_by number xs p) t) (sym entry_there)
           (
-          subst (λ t. Relates cells.same_variable kind t (translated numbering (entry_term u))) (sym pattern_there)
-          (relates_there with_texts with_numbers numbering kind (pattern_term p) (entry_term u) pattern_returns entry_returns r)
+          subst (λ t. Relates cells.same_variable relation t (translated numbering (entry_term u))) (sym pattern_there)
+          (relates_there with_texts with_numbers numbering relation (pattern_term p) (entry_term u) pattern_returns entry_returns r)
           )
 
-      relation_before : (kind : Relation) → NumbersRelate kind p u number xs ys → TextsRelate kind p u
-      relation_before kind r =
-          relates_before with_texts with_numbers numbering kind (pattern_term p) (entry_term u) pattern_returns entry_returns
+      relation_before : (relation : Relation) → NumbersRelate relation p u number xs ys → TextsRelate relation p u
+      relation_before relation r =
+          relates_before with_texts with_numbers numbering relation (pattern_term p) (entry_term u) pattern_returns entry_returns
           (
-          subst (λ t. Relates cells.same_variable kind (translated numbering (pattern_term p)) t) entry_there
-          (subst (λ t. Relates cells.same_variable kind t (entry_by number ys u)) pattern_there r)
+          subst (λ t. Relates cells.same_variable relation (translated numbering (pattern_term p)) t) entry_there
+          (subst (λ t. Relates cells.same_variable relation t (entry_by number ys u)) pattern_there r)
           )
 
-      keep : (kind : Relation) (answer : Option (List Binding)) → AnswersTo kind (query_by number xs p) (entry_by number ys u) answer → AnswersToTexts kind p u number (variable_by xs ys) answer
-      keep kind None h = λ r. h (relation_kept kind r)
-      keep kind (Some bindings) h =
-          let canonical : IsCanonical cells.same_variable kind (translated numbering (pattern_term p)) (translated numbering (entry_term u)) h.0 =
-          subst (λ t. IsCanonical cells.same_variable kind (translated numbering (pattern_term p)) t h.0) entry_there
-          (subst (λ t. IsCanonical cells.same_variable kind t (entry_by number ys u) h.0) pattern_there h.2.canonical) in
-          let found = canonical_before with_texts with_numbers numbering kind (pattern_term p) (entry_term u) pattern_returns entry_returns h.0 canonical in
+      keep : (relation : Relation) (answer : Option (List Binding)) → AnswersTo relation (query_by number xs p) (entry_by number ys u) answer → AnswersToTexts relation p u number (variable_by xs ys) answer
+      keep relation None h = λ r. h (relation_kept relation r)
+      keep relation (Some bindings) h =
+          let canonical : IsCanonical cells.same_variable relation (translated numbering (pattern_term p)) (translated numbering (entry_term u)) h.0 =
+          subst (λ t. IsCanonical cells.same_variable relation (translated numbering (pattern_term p)) t h.0) entry_there
+          (subst (λ t. IsCanonical cells.same_variable relation t (entry_by number ys u) h.0) pattern_there h.2.canonical) in
+          let found = canonical_before with_texts with_numbers numbering relation (pattern_term p) (entry_term u) pattern_returns entry_returns h.0 canonical in
           record {
-            relates = relates_of_canonical with_texts kind (pattern_term p) (entry_term u) found.0 found.2;
+            relates = relates_of_canonical with_texts relation (pattern_term p) (entry_term u) found.0 found.2;
             solution = found.0;
             canonical = found.2;
             stands = subst (StandsForList bindings) (sym found.1 ∙ list_numbered found.0) h.1;
@@ -150,20 +150,20 @@ module _ (p u : Term) (number : Symbol → ℕ) (xs ys : List Bytes) (positive :
   in_entry : (s : Symbol) → IsAmong (symbols u) s → IsAmong (symbols_of p u) s
   in_entry s a = among_back (symbols p) (symbols u) s a
 
-  texts_of_numbers : (kind : Relation) → NumbersRelate kind p u (signed positive number) xs ys → TextsRelate kind p u
-  texts_of_numbers kind r = relation_before (signed positive number) (symbols_of p u) xs ys signed_one p u in_pattern in_entry h.pattern_variables h.entry_variables kind r
+  texts_of_numbers : (relation : Relation) → NumbersRelate relation p u (signed positive number) xs ys → TextsRelate relation p u
+  texts_of_numbers relation r = relation_before (signed positive number) (symbols_of p u) xs ys signed_one p u in_pattern in_entry h.pattern_variables h.entry_variables relation r
 
-  numbers_of_texts : (kind : Relation) → TextsRelate kind p u → NumbersRelate kind p u (signed positive number) xs ys
-  numbers_of_texts kind r = relation_kept (signed positive number) (symbols_of p u) xs ys signed_one p u in_pattern in_entry h.pattern_variables h.entry_variables kind r
+  numbers_of_texts : (relation : Relation) → TextsRelate relation p u → NumbersRelate relation p u (signed positive number) xs ys
+  numbers_of_texts relation r = relation_kept (signed positive number) (symbols_of p u) xs ys signed_one p u in_pattern in_entry h.pattern_variables h.entry_variables relation r
 
-  answer_kept : (kind : Relation) (answer : Option (List Binding)) → AnswersTo kind (query_by (signed positive number) xs p) (entry_by (signed positive number) ys u) answer → AnswersToTexts kind p u (signed positive number) (variable_by xs ys) answer
-  answer_kept kind answer told = keep (signed positive number) (symbols_of p u) xs ys signed_one p u in_pattern in_entry h.pattern_variables h.entry_variables kind answer told
+  answer_kept : (relation : Relation) (answer : Option (List Binding)) → AnswersTo relation (query_by (signed positive number) xs p) (entry_by (signed positive number) ys u) answer → AnswersToTexts relation p u (signed positive number) (variable_by xs ys) answer
+  answer_kept relation answer told = keep (signed positive number) (symbols_of p u) xs ys signed_one p u in_pattern in_entry h.pattern_variables h.entry_variables relation answer told
 
 pub relations_are_kept : RelationsAreKept
-relations_are_kept kind p u number xs ys positive h = (numbers_of_texts p u number xs ys positive h kind, texts_of_numbers p u number xs ys positive h kind)
+relations_are_kept relation p u number xs ys positive h = (numbers_of_texts p u number xs ys positive h relation, texts_of_numbers p u number xs ys positive h relation)
 
 pub places_are_free : PlacesAreFree
-places_are_free kind p u number xs ys xs' ys' positive h h' r = numbers_of_texts p u number xs' ys' positive h' kind (texts_of_numbers p u number xs ys positive h kind r)
+places_are_free relation p u number xs ys xs' ys' positive h h' r = numbers_of_texts p u number xs' ys' positive h' relation (texts_of_numbers p u number xs ys positive h relation r)
 
 pub answers_are_kept : AnswersAreKept
-answers_are_kept kind p u number xs ys positive answer h told = answer_kept p u number xs ys positive h kind answer told
+answers_are_kept relation p u number xs ys positive answer h told = answer_kept p u number xs ys positive h relation answer told

@@ -18,7 +18,7 @@ abbrev pub variables_of_slots : Slots → ℕ → ℕ → List Variable
 variables_of_slots slots k zero = []
 variables_of_slots slots k (suc n) = variable_of slots k ∷ variables_of_slots slots (suc k) n
 
--- the variables before a slot, and those behind it
+-- the variables before a slot, and those after it
 pub record Parts (slots : Slots) (k n i : ℕ) : Type 0 where
   pub before : List Variable
   pub after : List Variable

@@ -24,7 +24,7 @@ use Rattle.si_form.proofs.Carrying.{Vocabulary}
 use Rattle.si_form.proofs.Vocabularies.{with_numbers}
 
 -- where there is a canonical list, the relation holds
-pub relates_of_canonical : {S V : Type 0} (A : Vocabulary S V) (kind : Relation) (q e : terms.Term S V) (bs : Substitution S V) → IsCanonical A.same kind q e bs → Relates A.same kind q e
+pub relates_of_canonical : {S V : Type 0} (A : Vocabulary S V) (relation : Relation) (q e : terms.Term S V) (bs : Substitution S V) → IsCanonical A.same relation q e bs → Relates A.same relation q e
 relates_of_canonical A Unifiable q e bs h = (
   sequence_map A.same A.tells A.itself bs,
   sym (sequence_is A.same A.tells A.itself bs q) ∙ h.achieves ∙ sequence_is A.same A.tells A.itself bs e,
@@ -66,7 +66,7 @@ one_number number s r one other h k e =
 
 -- ---- heads
 module _ {S V : Type 0} (A : Vocabulary S V) (s r : S) (ts us : terms.Terms S V) where
-  pub relates_heads : (kind : Relation) → Relates A.same kind (app s ts) (app r us) → s ≡ r
+  pub relates_heads : (relation : Relation) → Relates A.same relation (app s ts) (app r us) → s ≡ r
   relates_heads Unifiable h = (same_app s r _ _ h.1).0
   relates_heads Instances h = (same_app s r _ _ h.1.takes).0
   relates_heads Generalizations h = (same_app s r _ _ (sym h.1.takes)).0
@@ -74,15 +74,15 @@ module _ {S V : Type 0} (A : Vocabulary S V) (s r : S) (ts us : terms.Terms S V)
 
 -- what is answered has one head
 one_head :
-    (kind : Relation) (s r : Symbol) (ts us : Terms) (number : Symbol → ℕ) (xs ys : List Bytes) (one other : Bool) (answer : Option (List Binding))
-    → AnswersTo kind (query_by (signed one number) xs (app s ts)) (entry_by (signed other number) ys (app r us)) answer
+    (relation : Relation) (s r : Symbol) (ts us : Terms) (number : Symbol → ℕ) (xs ys : List Bytes) (one other : Bool) (answer : Option (List Binding))
+    → AnswersTo relation (query_by (signed one number) xs (app s ts)) (entry_by (signed other number) ys (app r us)) answer
     → (signed one number s ≡ signed other number r → ⊥)
     → answer ≡ None
-one_head kind s r ts us number xs ys one other None told apart = refl
-one_head kind s r ts us number xs ys one other (Some bindings) told apart =
+one_head relation s r ts us number xs ys one other None told apart = refl
+one_head relation s r ts us number xs ys one other (Some bindings) told apart =
     let q = query_by (signed one number) xs (app s ts) in
     let e = entry_by (signed other number) ys (app r us) in
-    absurd (apart (ap (λ (z : cells.Symbol). z.number) (relates_heads with_numbers _ _ _ _ kind (relates_of_canonical with_numbers kind q e told.0 told.2.canonical))))
+    absurd (apart (ap (λ (z : cells.Symbol). z.number) (relates_heads with_numbers _ _ _ _ relation (relates_of_canonical with_numbers relation q e told.0 told.2.canonical))))
 
 -- ---- signs
 pub signs_apart : (number : Symbol → ℕ) (s r : Symbol) (one other : Bool) → s.side ≡ Predicate → r.side ≡ Predicate → IsEven (number s) → IsEven (number r) → (one ≡ other → ⊥) → signed one number s ≡ signed other number r → ⊥
@@ -96,10 +96,10 @@ signs_apart number s r false true at_s at_r h k distinct e =
     omega (arith, is, h.1, k.1)
 
 pub signs_are_told : SignsAreTold
-signs_are_told kind (var x) u number xs ys one other answer p_sound u_sound h distinct told = elim p_sound [ ]
-signs_are_told kind (app s ts) (var x) number xs ys one other answer p_sound u_sound h distinct told = elim u_sound [ ]
-signs_are_told kind (app s ts) (app r us) number xs ys one other answer p_sound u_sound h distinct told =
-    one_head kind s r ts us number xs ys one other answer told
+signs_are_told relation (var x) u number xs ys one other answer p_sound u_sound h distinct told = elim p_sound [ ]
+signs_are_told relation (app s ts) (var x) number xs ys one other answer p_sound u_sound h distinct told = elim u_sound [ ]
+signs_are_told relation (app s ts) (app r us) number xs ys one other answer p_sound u_sound h distinct told =
+    one_head relation s r ts us number xs ys one other answer told
     (
     signs_apart number s r one other p_sound.0.on_side u_sound.0.on_side (h.even s (inl refl))
     (h.even r (among_back (symbols (app s ts)) (symbols (app r us)) r (inl refl))) distinct
@@ -107,7 +107,7 @@ signs_are_told kind (app s ts) (app r us) number xs ys one other answer p_sound 
 
 -- ---- sides
 pub sides_are_told : SidesAreTold
-sides_are_told kind s r ts us number xs ys one other answer h distinct told =
+sides_are_told relation s r ts us number xs ys one other answer h distinct told =
     let in_entry : IsAmong (symbols_of (app s ts) (app r us)) r = among_back (symbols (app s ts)) (symbols (app r us)) r (inl refl) in
-    one_head kind s r ts us number xs ys one other answer told
+    one_head relation s r ts us number xs ys one other answer told
     (λ e. distinct (ap (λ (z : Symbol). z.side) (h.one_symbol s r (inl refl) in_entry (one_number number s r one other (h.even s (inl refl)) (h.even r in_entry) e))))

@@ -37,12 +37,12 @@ bindings_of p u (b ∷ bs) h =
     )
 
 pub solutions_are_of_terms : SolutionsAreOfTerms
-solutions_are_of_terms kind p u solution h =
+solutions_are_of_terms relation p u solution h =
     let P = IsAmong (symbols_of p u) in
     let Q = IsVariableOf p u in
     bindings_of p u solution
     (
-    canonical_made with_texts P Q (among_tells same_symbol symbol_is symbol_self (symbols_of p u)) kind (pattern_term p) (entry_term u) solution
+    canonical_made with_texts P Q (among_tells same_symbol symbol_is symbol_self (symbols_of p u)) relation (pattern_term p) (entry_term u) solution
     (renamed_made P Q of_pattern p (all_from P (symbols p) (λ s a. among_front (symbols p) (symbols u) s a)) (all_from (λ x. Q (of_pattern x)) (variables p) (λ x a. a)))
     (renamed_made P Q of_entry u (all_from P (symbols u) (λ s a. among_back (symbols p) (symbols u) s a)) (all_from (λ y. Q (of_entry y)) (variables u) (λ y a. a)))
     h
@@ -77,12 +77,12 @@ functions_of [] h = tt
 functions_of (b ∷ bs) h = (symbols_made IsFunction IsAny b.1 h.0.1, functions_of bs h.1)
 
 pub predicates_stay_out : PredicatesStayOut
-predicates_stay_out kind (var x) u solution p_sound u_sound h = elim p_sound [ ]
-predicates_stay_out kind (app s ts) (var y) solution p_sound u_sound h = elim u_sound [ ]
-predicates_stay_out kind (app s ts) (app r us) solution p_sound u_sound h =
+predicates_stay_out relation (var x) u solution p_sound u_sound h = elim p_sound [ ]
+predicates_stay_out relation (app s ts) (var y) solution p_sound u_sound h = elim u_sound [ ]
+predicates_stay_out relation (app s ts) (app r us) solution p_sound u_sound h =
     functions_of solution
     (
-    canonical_made_inside with_texts IsFunction IsAny function_or_not kind s r (rename_all of_pattern ts) (rename_all of_entry us) solution
+    canonical_made_inside with_texts IsFunction IsAny function_or_not relation s r (rename_all of_pattern ts) (rename_all of_entry us) solution
     (all_sound_made of_pattern ts p_sound.1) (all_sound_made of_entry us u_sound.1) h
     )
 
@@ -116,10 +116,10 @@ signs_stay_out number variable positive (b ∷ bs) h =
     ∙ ap (λ l. (variable b.0, numbered number variable b.1) ∷ l) (signs_stay_out number variable positive bs h.1)
 
 pub atoms_are_answered : AtomsAreAnswered
-atoms_are_answered kind p u number variable positive None p_sound u_sound h = h
-atoms_are_answered kind p u number variable positive (Some bindings) p_sound u_sound h = record {
+atoms_are_answered relation p u number variable positive None p_sound u_sound h = h
+atoms_are_answered relation p u number variable positive (Some bindings) p_sound u_sound h = record {
   relates = h.relates;
   solution = h.solution;
   canonical = h.canonical;
-  stands = subst (StandsForList bindings) (signs_stay_out number variable positive h.solution (predicates_stay_out kind p u h.solution p_sound u_sound h.canonical)) h.stands;
+  stands = subst (StandsForList bindings) (signs_stay_out number variable positive h.solution (predicates_stay_out relation p u h.solution p_sound u_sound h.canonical)) h.stands;
 }

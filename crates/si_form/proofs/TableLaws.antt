@@ -1,4 +1,4 @@
--- Numbers of a table, and of a query behind them.
+-- Numbers of a table, and of a query after them.
 use Rattle.std.proofs.Common.{◌≡◌, ℕ, ◌*◌, Bool, true, false, cond, [], ◌∷◌, ◌++◌, inl, inr, refl, sym, ◌∙◌, ap, subst, arith}
 use Rattle.si_defs.specs.Terms.{symbols}
 use Rattle.si_defs.specs.Symbols.{Symbol, Numbering, IsNumbering, same_symbol}

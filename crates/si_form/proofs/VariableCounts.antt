@@ -83,7 +83,7 @@ next_met owner n m x xs h =
       )
     ]
 
--- what a cell tells of the variables behind it
+-- what a cell tells of the variables after it
 abbrev CellCounts : Owner → ℕ → ℕ → List Variable → Option ℕ → Type 0
 CellCounts owner n m xs None = NumberedTo owner n xs m
 CellCounts owner n m xs (Some k) = CountsOn owner n m xs k

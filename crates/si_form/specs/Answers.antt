@@ -35,42 +35,42 @@ StandsForList (b ∷ bs) [] = ⊥
 StandsForList (b ∷ bs) (pair ∷ pairs) = StandsForPair b pair × StandsForList bs pairs
 
 -- the list is canonical, and no other one is
-pub record IsTheCanonical (kind : Relation) (q e : Term)
+pub record IsTheCanonical (relation : Relation) (q e : Term)
     (list : List (Variable × Term)) : Type 0 where
-  pub canonical : IsCanonical same_variable kind q e list
-  pub only : (other : List (Variable × Term)) → IsCanonical same_variable kind q e other
+  pub canonical : IsCanonical same_variable relation q e list
+  pub only : (other : List (Variable × Term)) → IsCanonical same_variable relation q e other
       → other ≡ list
 
 -- Where the relation holds, the canonical list is found; else none is, and then only.
 abbrev pub AnswersTo : Relation → Term → Term → Option (List Binding) → Type 0
-AnswersTo kind q e None = Relates same_variable kind q e → ⊥
-AnswersTo kind q e (Some bindings) =
-    (list : List (Variable × Term)) × StandsForList bindings list × IsTheCanonical kind q e list
+AnswersTo relation q e None = Relates same_variable relation q e → ⊥
+AnswersTo relation q e (Some bindings) =
+    (list : List (Variable × Term)) × StandsForList bindings list × IsTheCanonical relation q e list
 
 abbrev pub Answers : Relation → List Cell → List Cell → Option (List Binding) → Type 0
-Answers kind query_cells entry_cells answer =
-    (q e : Term) → StandsFor query_cells q → StandsFor entry_cells e → AnswersTo kind q e answer
+Answers relation query_cells entry_cells answer =
+    (q e : Term) → StandsFor query_cells q → StandsFor entry_cells e → AnswersTo relation q e answer
 
 -- no two lists are canonical for one query and one entry
 abbrev pub HasOneCanonicalList : Relation → Type 0
-HasOneCanonicalList kind =
+HasOneCanonicalList relation =
     (q e : Term) (one other : List (Variable × Term))
-    → IsCanonical same_variable kind q e one
-    → IsCanonical same_variable kind q e other
+    → IsCanonical same_variable relation q e one
+    → IsCanonical same_variable relation q e other
     → one ≡ other
 
 -- ---- terms with texts
 -- no two lists are canonical for one pattern and one entry
 abbrev pub HasOneSolution : Relation → Type 0
-HasOneSolution kind =
+HasOneSolution relation =
     (p e : variables.Apart) (one other : variables.Solution)
-    → IsCanonical variables.same_variable kind p e one
-    → IsCanonical variables.same_variable kind p e other
+    → IsCanonical variables.same_variable relation p e one
+    → IsCanonical variables.same_variable relation p e other
     → one ≡ other
 
 -- where a list is canonical, the relation holds
 abbrev pub HasSolutionsOfRelated : Relation → Type 0
-HasSolutionsOfRelated kind =
+HasSolutionsOfRelated relation =
     (p e : variables.Apart) (list : variables.Solution)
-    → IsCanonical variables.same_variable kind p e list
-    → Relates variables.same_variable kind p e
+    → IsCanonical variables.same_variable relation p e list
+    → Relates variables.same_variable relation p e

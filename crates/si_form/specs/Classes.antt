@@ -78,7 +78,7 @@ Applies nodes nodes' numbers numbers' s n =
     × HaveClasses f known' numbers' rest
 
 -- ---- how far an application has come
--- so many arguments stand behind the symbol
+-- so many arguments stand after the symbol
 pub record HasApplied (slots : Slots) (f : Variable → Term) (known : List Term) (nodes : List Node)
     (numbers : List ℕ) (s : Symbol) (us rest : Terms) (k n : ℕ) : Type 0 where
   pub known' : List Term

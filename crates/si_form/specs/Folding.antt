@@ -91,7 +91,7 @@ Descends nodes left left' class answer =
     → HaveKnown known left rest
     → (answer ≡ Some (s.number, s.arity)) × HaveKnown known left' (join ts rest)
 
--- so far the arguments behind a front have been piled up
+-- so far the arguments after a front have been piled up
 pub record HasDescended (known : List Term) (left : List ℕ) (s : Symbol) (ts rest : Terms)
     (front : ℕ) : Type 0 where
   pub before : Terms

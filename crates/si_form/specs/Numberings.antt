@@ -55,78 +55,78 @@ pub record IsFor (p u : Term) (number : Symbol → ℕ) (xs ys : List Bytes) : T
 
 -- ---- relations and answers
 abbrev pub TextsRelate : Relation → Term → Term → Type 0
-TextsRelate kind p u = Relates same_variable kind (pattern_term p) (entry_term u)
+TextsRelate relation p u = Relates same_variable relation (pattern_term p) (entry_term u)
 
 abbrev pub NumbersRelate : Relation → Term → Term → (Symbol → ℕ) → List Bytes → List Bytes → Type 0
-NumbersRelate kind p u number xs ys =
-    Relates cells.same_variable kind (query_by number xs p) (entry_by number ys u)
+NumbersRelate relation p u number xs ys =
+    Relates cells.same_variable relation (query_by number xs p) (entry_by number ys u)
 
 -- terms with texts stand in a relation exactly where those with numbers do
 abbrev pub RelationsAreKept : Type 0
 RelationsAreKept =
-    (kind : Relation) (p u : Term) (number : Symbol → ℕ) (xs ys : List Bytes) (positive : Bool)
+    (relation : Relation) (p u : Term) (number : Symbol → ℕ) (xs ys : List Bytes) (positive : Bool)
     → IsFor p u number xs ys
-    → (TextsRelate kind p u → NumbersRelate kind p u (signed positive number) xs ys)
-    × (NumbersRelate kind p u (signed positive number) xs ys → TextsRelate kind p u)
+    → (TextsRelate relation p u → NumbersRelate relation p u (signed positive number) xs ys)
+    × (NumbersRelate relation p u (signed positive number) xs ys → TextsRelate relation p u)
 
 -- it doesn't matter in which lists the variables have their places
 abbrev pub PlacesAreFree : Type 0
 PlacesAreFree =
-    (kind : Relation) (p u : Term) (number : Symbol → ℕ) (xs ys xs' ys' : List Bytes)
+    (relation : Relation) (p u : Term) (number : Symbol → ℕ) (xs ys xs' ys' : List Bytes)
     (positive : Bool)
     → IsFor p u number xs ys
     → IsFor p u number xs' ys'
-    → NumbersRelate kind p u (signed positive number) xs ys
-    → NumbersRelate kind p u (signed positive number) xs' ys'
+    → NumbersRelate relation p u (signed positive number) xs ys
+    → NumbersRelate relation p u (signed positive number) xs' ys'
 
 abbrev pub IsCanonicalFor : Relation → Term → Term → Solution → Type 0
-IsCanonicalFor kind p u solution =
-    IsCanonical same_variable kind (pattern_term p) (entry_term u) solution
+IsCanonicalFor relation p u solution =
+    IsCanonical same_variable relation (pattern_term p) (entry_term u) solution
 
 -- the terms stand in the relation, and the bindings stand for a canonical list of theirs
-pub record StandForSolution (kind : Relation) (p u : Term) (number : Symbol → ℕ)
+pub record StandForSolution (relation : Relation) (p u : Term) (number : Symbol → ℕ)
     (variable : Variable → cells.Variable) (bindings : List Binding) : Type 0 where
-  pub relates : TextsRelate kind p u
+  pub relates : TextsRelate relation p u
   pub solution : Solution
-  pub canonical : IsCanonicalFor kind p u solution
+  pub canonical : IsCanonicalFor relation p u solution
   pub stands : StandsForList bindings (list_by number variable solution)
 
 abbrev pub AnswersToTexts : Relation → Term → Term → (Symbol → ℕ) → (Variable → cells.Variable)
     → Option (List Binding) → Type 0
-AnswersToTexts kind p u number variable None = TextsRelate kind p u → ⊥
-AnswersToTexts kind p u number variable (Some bindings) =
-    StandForSolution kind p u number variable bindings
+AnswersToTexts relation p u number variable None = TextsRelate relation p u → ⊥
+AnswersToTexts relation p u number variable (Some bindings) =
+    StandForSolution relation p u number variable bindings
 
 -- what answers to terms with numbers says, it says of the terms with texts
 abbrev pub AnswersAreKept : Type 0
 AnswersAreKept =
-    (kind : Relation) (p u : Term) (number : Symbol → ℕ) (xs ys : List Bytes) (positive : Bool)
+    (relation : Relation) (p u : Term) (number : Symbol → ℕ) (xs ys : List Bytes) (positive : Bool)
     (answer : Option (List Binding))
     → IsFor p u number xs ys
-    → AnswersTo kind (query_by (signed positive number) xs p)
+    → AnswersTo relation (query_by (signed positive number) xs p)
     (entry_by (signed positive number) ys u) answer
-    → AnswersToTexts kind p u (signed positive number) (variable_by xs ys) answer
+    → AnswersToTexts relation p u (signed positive number) (variable_by xs ys) answer
 
 -- atoms of literals with different signs are never answered
 abbrev pub SignsAreTold : Type 0
 SignsAreTold =
-    (kind : Relation) (p u : Term) (number : Symbol → ℕ) (xs ys : List Bytes) (one other : Bool)
+    (relation : Relation) (p u : Term) (number : Symbol → ℕ) (xs ys : List Bytes) (one other : Bool)
     (answer : Option (List Binding))
     → IsSoundAtom p
     → IsSoundAtom u
     → TellsApart number (symbols_of p u)
     → (one ≡ other → ⊥)
-    → AnswersTo kind (query_by (signed one number) xs p)
+    → AnswersTo relation (query_by (signed one number) xs p)
     (entry_by (signed other number) ys u) answer
     → answer ≡ None
 
 -- nor are terms whose heads stand on different sides, as an atom and a term inside one
 abbrev pub SidesAreTold : Type 0
 SidesAreTold =
-    (kind : Relation) (s r : Symbol) (ts us : Terms) (number : Symbol → ℕ) (xs ys : List Bytes)
+    (relation : Relation) (s r : Symbol) (ts us : Terms) (number : Symbol → ℕ) (xs ys : List Bytes)
     (one other : Bool) (answer : Option (List Binding))
     → TellsApart number (symbols_of (app s ts) (app r us))
     → (s.side ≡ r.side → ⊥)
-    → AnswersTo kind (query_by (signed one number) xs (app s ts))
+    → AnswersTo relation (query_by (signed one number) xs (app s ts))
     (entry_by (signed other number) ys (app r us)) answer
     → answer ≡ None

@@ -21,8 +21,8 @@ pub record IsBindingOf (p u : Term) (b : Variable × Apart) : Type 0 where
 
 abbrev pub SolutionsAreOfTerms : Type 0
 SolutionsAreOfTerms =
-    (kind : Relation) (p u : Term) (solution : Solution)
-    → IsCanonicalFor kind p u solution
+    (relation : Relation) (p u : Term) (solution : Solution)
+    → IsCanonicalFor relation p u solution
     → AllByRecursion (IsBindingOf p u) solution
 
 -- that of two atoms has no predicate
@@ -32,10 +32,10 @@ HasFunctionsAlone solution =
 
 abbrev pub PredicatesStayOut : Type 0
 PredicatesStayOut =
-    (kind : Relation) (p u : Term) (solution : Solution)
+    (relation : Relation) (p u : Term) (solution : Solution)
     → IsSoundAtom p
     → IsSoundAtom u
-    → IsCanonicalFor kind p u solution
+    → IsCanonicalFor relation p u solution
     → HasFunctionsAlone solution
 
 -- so its numbers don't depend on the sign
@@ -49,12 +49,12 @@ SignsStayOut =
 -- So bindings of atoms stand for a solution with numbers that have no sign.
 abbrev pub AtomsAreAnswered : Type 0
 AtomsAreAnswered =
-    (kind : Relation) (p u : Term) (number : Symbol → ℕ) (variable : Variable → cells.Variable)
+    (relation : Relation) (p u : Term) (number : Symbol → ℕ) (variable : Variable → cells.Variable)
     (positive : Bool) (answer : Option (List Binding))
     → IsSoundAtom p
     → IsSoundAtom u
-    → AnswersToTexts kind p u (signed positive number) variable answer
-    → AnswersToTexts kind p u number variable answer
+    → AnswersToTexts relation p u (signed positive number) variable answer
+    → AnswersToTexts relation p u number variable answer
 
 -- each right side has at most so many cells
 abbrev pub AreNoLonger : ℕ → List Binding → Type 0

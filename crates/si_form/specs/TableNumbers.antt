@@ -1,4 +1,4 @@
--- The numbers of a table, and behind them those of a query.
+-- The numbers of a table, and after them those of a query.
 use Rattle.std.specs.Prelude.{◌≡◌, ℕ, ◌≤◌, ◌*◌, ◌^◌, Bool, List, ◌++◌}
 use Rattle.si_defs.specs.Bytes.{Bytes}
 use Rattle.si_defs.specs.Terms.{symbols}

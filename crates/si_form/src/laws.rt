@@ -19,8 +19,8 @@ pub fn canonical_lists_are_unique()
 /// Of a pattern and an entry there is one canonical list at most, and none where the relation
 /// fails.
 pub fn solutions_are_unique()
-    ensures one { (kind : Relation) → HasOneSolution kind }
-    ensures related { (kind : Relation) → HasSolutionsOfRelated kind }
+    ensures one { (relation : Relation) → HasOneSolution relation }
+    ensures related { (relation : Relation) → HasSolutionsOfRelated relation }
 {}
 
 /// Terms with numbers stand in the relations in which the terms with texts stand.
@@ -44,7 +44,7 @@ pub fn solutions_are_of_their_terms()
     ensures signs { SignsStayOut }
 {}
 
-/// The numbers of a table, and those of a query behind them, tell symbols apart.
+/// The numbers of a table, and those of a query after them, tell symbols apart.
 pub fn numbers_tell_symbols_apart()
     ensures apart { NumbersTellApart }
     ensures entries { EntriesNeedTheTableAlone }

@@ -1,4 +1,4 @@
-// Numbers in an order in which none stands behind one that it uses.
+// Numbers in an order in which none stands after one that it uses.
 ghost use Rattle.std.specs.Prelude.{◌≡◌, ℕ, ◌+◌, ◌<◌, ◌^◌, ◌↔◌, [], List, length, set, slice_index_or, IfOk, OnOk};
 ghost use Rattle.std.specs.List.{AllByRecursion};
 ghost use Rattle.si_defs.specs.Substitutions.{IsAmong};

@@ -1,4 +1,4 @@
-// The canonical solution list of each kind of matching.
+// The canonical solution list of each relation.
 ghost use Rattle.std.specs.Prelude.{◌≡◌, max, IfOk, IfSome, length, map};
 ghost use Rattle.si_flat.specs.Cells.{IsWhole};
 ghost use Rattle.si_defs.specs.declared.Relation.TheVariants.{Variants, Instances, Generalizations};
@@ -99,20 +99,20 @@ fn variant(alloc: Global, query: &[Cell], entry: &[Cell]) -> Result<Option<Solut
 /// The canonical list of a relation; `None` where the query and the entry don't stand in it.
 pub fn canonical(
     alloc: Global,
-    kind: Relation,
+    relation: Relation,
     query: &Flat,
     entry: &Flat,
 ) -> Result<Option<Solution>, AllocError>
     requires query { AreNumbered Query query.now }
     requires entry { AreNumbered Entry entry.now }
-    ensures answers { IfOk result (Answers kind query.now entry.now) }
+    ensures answers { IfOk result (Answers relation query.now entry.now) }
     ensures short { IfOk result (λ list. IfSome list (AreNoLonger (max (length query.now)
         (length entry.now)))) }
 {
     canonical_with(
         &mut Scratch::new(alloc),
         alloc,
-        kind,
+        relation,
         query.cells(),
         entry.cells(),
     )
@@ -123,7 +123,7 @@ pub fn canonical(
 pub fn canonical_with(
     scratch: &mut Scratch,
     alloc: Global,
-    kind: Relation,
+    relation: Relation,
     query: &[Cell],
     entry: &[Cell],
 ) -> Result<Option<Solution>, AllocError>
@@ -131,11 +131,11 @@ pub fn canonical_with(
     requires whole_entry { IsWhole entry.now }
     requires query { AreNumbered Query query.now }
     requires entry { AreNumbered Entry entry.now }
-    ensures answers { IfOk result (Answers kind query.now entry.now) }
+    ensures answers { IfOk result (Answers relation query.now entry.now) }
     ensures short { IfOk result (λ list. IfSome list (AreNoLonger (max (length query.now)
         (length entry.now)))) }
 {
-    match kind {
+    match relation {
         Relation::Variants => variant(alloc, query, entry),
         Relation::Instances => instance(alloc, query, entry),
         Relation::Generalizations => generalization(alloc, query, entry),

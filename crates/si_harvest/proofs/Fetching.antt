@@ -50,7 +50,7 @@ fetches_from most made middle now calls calls_now same h = subst (λ n. FetchesO
 pub none_counted : (made first : ℕ) → made ≡ 0 → first ≡ raised_by made first
 none_counted made first none = omega (arith, none)
 
--- behind the fetch of the first file
+-- after the fetch of the first file
 pub first_fetch : (bounds : Bounds) (file : Bytes) (old new : Reading) → old.files.items ≡ [] → old.fetches ≡ 0 → (old.fetches ≤ bounds.fetches → new.fetches ≤ bounds.fetches)
     → FetchesOnce bounds file old.files.items old.fetches new.fetches → MayFetch bounds file new.fetches
 first_fetch bounds file old new none zero few once = record { most = few (omega (arith, zero)); none = λ never. by never once } where
@@ -58,7 +58,7 @@ first_fetch bounds file old new none zero few once = record { most = few (omega 
   by never (inl same) = same ∙ zero
   by never (inr (may, one_more)) = absurd (never (subst (λ n. MayAsk bounds [] n file) zero (subst (λ fs. MayAsk bounds (opened fs) old.fetches file) none may)))
 
--- and behind others
+-- and after others
 pub further_fetch : (bounds : Bounds) (file : Bytes) (made : ℕ) → MayAsk bounds [] 0 file → made ≤ bounds.fetches → MayFetch bounds file made
 further_fetch bounds file made may few = record { most = few; none = λ never. absurd (never may) }
 

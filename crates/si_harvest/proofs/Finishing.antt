@@ -7,7 +7,7 @@ use Rattle.si_defs.specs.Grammar.{Selection, clause_item, include_item}
 use Rattle.si_defs.specs.Texts.{BeginsWithItem}
 use Rattle.si_state.specs.States.{Rules}
 use Rattle.si_state.specs.Acceptance.{Refusal, Accepts, Refuses}
-use Rattle.si_state.specs.Harvest.{Files, Bounds, Event, ask, attempt, Fault, rejected, fetches, tried, MayAsk, IsBarred, IsWithheld, narrowed, IsSelected, Spot, IsStuck, Harvests, barred, withheld, fetched, Continues, ended, stuck, passed_over, accepted, refused, expanded, broken_off, Loads}
+use Rattle.si_state.specs.Harvest.{Files, Bounds, Event, ask, attempt, Fault, rejected, fetches, tried, MayAsk, IsBarred, IsWithheld, narrowed, IsSelected, ReadingPoint, IsStuck, Harvests, barred, withheld, fetched, Continues, ended, stuck, passed_over, accepted, refused, expanded, broken_off, Loads}
 use Rattle.std.specs.Prelude.{length, ◌≤◌}
 use Rattle.si_state.proofs.HarvestLaws.{tried-append}
 use Rattle.si_steps.proofs.FetchLaws.{fetches-append}
@@ -15,26 +15,26 @@ use Rattle.si_harvest.specs.Underway.{Finishes}
 
 module _ (files : Files) (bounds : Bounds) (rules : Rules) where
   -- the count and the state may be written in another way
-  finishes_as : (ss : List Spot) (made made' : ℕ) (state state' : List Clause) (es : List Event) (fault : Option Fault) → made ≡ made' → state ≡ state'
+  finishes_as : (ss : List ReadingPoint) (made made' : ℕ) (state state' : List Clause) (es : List Event) (fault : Option Fault) → made ≡ made' → state ≡ state'
       → Finishes files bounds rules ss made state es fault → Finishes files bounds rules ss made' state' es fault
   finishes_as ss made made' state state' es fault m s h =
       subst (λ t. Finishes files bounds rules ss made' t es fault) s (subst (λ n. Finishes files bounds rules ss n state es fault) m h)
 
   -- the file is at its end
-  pub finishes_end : (s : Spot) (ss : List Spot) (made : ℕ) (state : List Clause) (es : List Event) (fault : Option Fault) → AreBlanks s.rest
+  pub finishes_end : (s : ReadingPoint) (ss : List ReadingPoint) (made : ℕ) (state : List Clause) (es : List Event) (fault : Option Fault) → AreBlanks s.rest
       → Finishes files bounds rules ss made state es fault → Finishes files bounds rules (s ∷ ss) made state es fault
   finishes_end s ss made state es fault b h =
       inl ([], es, ended s made state b, finishes_as ss made (made + 0) state (state ++ []) es fault (omega arith) (sym (append-nil state)) h, refl)
 
   -- a clause that isn't selected
-  pub finishes_over : (s : Spot) (ss : List Spot) (made : ℕ) (state : List Clause) (clause : Clause) (after : Bytes) (es : List Event) (fault : Option Fault)
+  pub finishes_over : (s : ReadingPoint) (ss : List ReadingPoint) (made : ℕ) (state : List Clause) (clause : Clause) (after : Bytes) (es : List Event) (fault : Option Fault)
       → BeginsWithItem s.rest (clause_item clause) after → (IsSelected s.around clause.name → ⊥)
       → Finishes files bounds rules (record s { rest = after } ∷ ss) made state es fault → Finishes files bounds rules (s ∷ ss) made state es fault
   finishes_over s ss made state clause after es fault b n (inl (own, others, c, f, e)) = inl (own, others, passed_over s made state clause after b n own None c, f, e)
   finishes_over s ss made state clause after es fault b n (inr (early, c, e)) = inr (early, passed_over s made state clause after b n es (Some early) c, e)
 
   -- a clause that is accepted
-  pub finishes_accepted : (s : Spot) (ss : List Spot) (made : ℕ) (state : List Clause) (clause : Clause) (after : Bytes) (es : List Event) (fault : Option Fault)
+  pub finishes_accepted : (s : ReadingPoint) (ss : List ReadingPoint) (made : ℕ) (state : List Clause) (clause : Clause) (after : Bytes) (es : List Event) (fault : Option Fault)
       → BeginsWithItem s.rest (clause_item clause) after → IsSelected s.around clause.name → Accepts rules state clause (state ++ clause ∷ [])
       → Finishes files bounds rules (record s { rest = after } ∷ ss) made (state ++ clause ∷ []) es fault
       → Finishes files bounds rules (s ∷ ss) made state (attempt clause ∷ es) fault
@@ -49,7 +49,7 @@ module _ (files : Files) (bounds : Bounds) (rules : Rules) where
   finishes_accepted s ss made state clause after es fault b n a (inr (early, c, e)) = inr (early, accepted s made state clause after b n a es (Some early) c, e)
 
   -- a file that is included
-  pub finishes_opened : (s : Spot) (ss : List Spot) (made : ℕ) (state : List Clause) (file bytes : Bytes) (selection : Selection) (after : Bytes) (es : List Event) (fault : Option Fault)
+  pub finishes_opened : (s : ReadingPoint) (ss : List ReadingPoint) (made : ℕ) (state : List Clause) (file bytes : Bytes) (selection : Selection) (after : Bytes) (es : List Event) (fault : Option Fault)
       → BeginsWithItem s.rest (include_item file selection) after → MayAsk bounds s.opened made file → files file ≡ Some bytes → length bytes ≤ bounds.file
       → Finishes files bounds rules
       (record { file = file; bytes = bytes; opened = file ∷ s.opened; around = narrowed selection s.around; rest = bytes } ∷ record s { rest = after } ∷ ss) (made + 1) state es fault
@@ -92,22 +92,22 @@ module _ (files : Files) (bounds : Bounds) (rules : Rules) where
           tried_all = append_assoc state (tried own) (tried mine) ∙ ap (λ l. state ++ l) (sym (tried-append own mine))
 
   -- ---- faults
-  pub finishes_stuck : (s : Spot) (ss : List Spot) (made : ℕ) (state : List Clause) (early : Fault) → IsStuck s early
+  pub finishes_stuck : (s : ReadingPoint) (ss : List ReadingPoint) (made : ℕ) (state : List Clause) (early : Fault) → IsStuck s early
       → Finishes files bounds rules (s ∷ ss) made state [] (Some early)
   finishes_stuck s ss made state early h = inr (early, stuck s made state early h, refl)
 
-  pub finishes_refused : (s : Spot) (ss : List Spot) (made : ℕ) (state : List Clause) (clause : Clause) (after : Bytes) (refusal : Refusal)
+  pub finishes_refused : (s : ReadingPoint) (ss : List ReadingPoint) (made : ℕ) (state : List Clause) (clause : Clause) (after : Bytes) (refusal : Refusal)
       → BeginsWithItem s.rest (clause_item clause) after → IsSelected s.around clause.name → Refuses rules state clause refusal
       → Finishes files bounds rules (s ∷ ss) made state (attempt clause ∷ []) (Some (rejected clause refusal))
   finishes_refused s ss made state clause after refusal b n r = inr (rejected clause refusal, refused s made state clause after b n refusal r, refl)
 
-  pub finishes_barred : (s : Spot) (ss : List Spot) (made : ℕ) (state : List Clause) (file : Bytes) (selection : Selection) (after : Bytes) (early : Fault)
+  pub finishes_barred : (s : ReadingPoint) (ss : List ReadingPoint) (made : ℕ) (state : List Clause) (file : Bytes) (selection : Selection) (after : Bytes) (early : Fault)
       → BeginsWithItem s.rest (include_item file selection) after → IsBarred bounds s.opened made file early
       → Finishes files bounds rules (s ∷ ss) made state (ask file ∷ []) (Some early)
   finishes_barred s ss made state file selection after early b h =
       inr (early, broken_off s made state file selection after b (ask file ∷ []) early (barred s.opened (narrowed selection s.around) made state file early h), refl)
 
-  pub finishes_withheld : (s : Spot) (ss : List Spot) (made : ℕ) (state : List Clause) (file : Bytes) (selection : Selection) (after : Bytes) (early : Fault)
+  pub finishes_withheld : (s : ReadingPoint) (ss : List ReadingPoint) (made : ℕ) (state : List Clause) (file : Bytes) (selection : Selection) (after : Bytes) (early : Fault)
       → BeginsWithItem s.rest (include_item file selection) after → MayAsk bounds s.opened made file → IsWithheld files bounds file early
       → Finishes files bounds rules (s ∷ ss) made state (ask file ∷ []) (Some early)
   finishes_withheld s ss made state file selection after early b may h =

@@ -8,7 +8,7 @@ use Rattle.si_defs.specs.Grammar.{Selection, all, only, clause_item, include_ite
 use Rattle.si_defs.specs.Texts.{BeginsWithItem}
 use Rattle.si_state.specs.States.{Rules}
 use Rattle.si_state.specs.Acceptance.{Accepts}
-use Rattle.si_state.specs.Harvest.{Files, Bounds, Event, ask, attempt, Fault, cycle, too_deep, too_many, missing, too_big, failed, foreign, malformed, rejected, tried, fetches, MayAsk, IsBarred, IsWithheld, narrowed, IsSelected, Spot, IsStuck, IsRejected, Loads, barred, withheld}
+use Rattle.si_state.specs.Harvest.{Files, Bounds, Event, ask, attempt, Fault, cycle, too_deep, too_many, missing, too_big, failed, foreign, malformed, rejected, tried, fetches, MayAsk, IsBarred, IsWithheld, narrowed, IsSelected, ReadingPoint, IsStuck, IsRejected, Loads, barred, withheld}
 use Rattle.si_state.proofs.HarvestLaws.{tried-append}
 use Rattle.si_steps.specs.Loads.{fetches_made}
 use Rattle.si_steps.proofs.FetchLaws.{fetches-append, barred_no_ask, made_barred, made_withheld, made_stuck}
@@ -16,22 +16,22 @@ use Rattle.si_harvest.specs.declared.files.OpenFile.{OpenFile}
 use Rattle.si_harvest.specs.declared.names.NameSet.{NameSet}
 use Rattle.si_harvest.specs.declared.reading.Reading.{Reading}
 use Rattle.si_harvest.specs.Opened.{opened, is_selected, OpensInside, IsUnopened, FetchesOnce, TriesClause, HasFault, HasFetched}
-use Rattle.si_harvest.specs.Underway.{Lists, Narrows, IsAtSpot, Stand, Finishes, IsUnderway}
+use Rattle.si_harvest.specs.Underway.{Lists, Narrows, IsAtPoint, Stand, Finishes, IsUnderway}
 use Rattle.si_harvest.specs.Gains.{GainsByLoad}
 use Rattle.si_harvest.proofs.Stands.{innermost, stand_names, stand_selected, stand_unselected, selected-reverse}
 use Rattle.si_harvest.proofs.Finishing.{finishes_end, finishes_over, finishes_accepted, finishes_opened, finishes_stuck, finishes_refused, finishes_barred, finishes_withheld, loads_opened}
 
--- the spot of the innermost file, and those of the others
-pub record Front (f : OpenFile) (fs : List OpenFile) (ss : List Spot) : Type 0 where
-  pub spot : Spot
-  pub outer : List Spot
-  pub first : ss ≡ spot ∷ outer
-  pub own : IsAtSpot f outer spot
+-- the point of the innermost file, and those of the others
+pub record Front (f : OpenFile) (fs : List OpenFile) (ss : List ReadingPoint) : Type 0 where
+  pub point : ReadingPoint
+  pub outer : List ReadingPoint
+  pub first : ss ≡ point ∷ outer
+  pub own : IsAtPoint f outer point
   pub others : Stand fs outer
 
-front : (f : OpenFile) (fs : List OpenFile) (ss : List Spot) → Stand (f ∷ fs) ss → Front f fs ss
+front : (f : OpenFile) (fs : List OpenFile) (ss : List ReadingPoint) → Stand (f ∷ fs) ss → Front f fs ss
 front f fs [] h = absurd h
-front f fs (s ∷ ss) h = record { spot = s; outer = ss; first = refl; own = h.0; others = h.1 }
+front f fs (s ∷ ss) h = record { point = s; outer = ss; first = refl; own = h.0; others = h.1 }
 
 module _ (told : Option Files) (bounds : Bounds) (rules : Rules) (start : List Clause) (file : Bytes) where
   Now : Reading → List Clause → Type 0
@@ -39,18 +39,18 @@ module _ (told : Option Files) (bounds : Bounds) (rules : Rules) (start : List C
 
   -- the innermost file of a load that is under way
   pub now_front : (old : Reading) (state : List Clause) (items : List OpenFile) (f : OpenFile) → old.files.items ≡ items ++ f ∷ []
-      → (u : IsUnderway told bounds rules start file old state) → Front f (reverse items) u.spots
+      → (u : IsUnderway told bounds rules start file old state) → Front f (reverse items) u.points
   now_front old state items f e u =
-      front f (reverse items) u.spots (subst (λ fs. Stand fs u.spots) (ap (λ l. reverse l) e ∙ innermost items f) u.stand)
+      front f (reverse items) u.points (subst (λ fs. Stand fs u.points) (ap (λ l. reverse l) e ∙ innermost items f) u.stand)
 
-  -- The load goes on behind these events.
-  pub goes_on : (old new : Reading) (state state' : List Clause) (gained : List Event) (spots : List Spot) (u : IsUnderway told bounds rules start file old state)
-      → Stand (reverse new.files.items) spots → state' ≡ state ++ tried gained → new.fetches ≡ old.fetches + fetches gained → HasFetched told bounds rules start file new.fetches
-      → ((files : Files) → told ≡ Some files → (es : List Event) (fault : Option Fault) → Finishes files bounds rules spots new.fetches state' es fault
-      → Finishes files bounds rules u.spots old.fetches state (gained ++ es) fault)
+  -- The load goes on after these events.
+  pub goes_on : (old new : Reading) (state state' : List Clause) (gained : List Event) (points : List ReadingPoint) (u : IsUnderway told bounds rules start file old state)
+      → Stand (reverse new.files.items) points → state' ≡ state ++ tried gained → new.fetches ≡ old.fetches + fetches gained → HasFetched told bounds rules start file new.fetches
+      → ((files : Files) → told ≡ Some files → (es : List Event) (fault : Option Fault) → Finishes files bounds rules points new.fetches state' es fault
+      → Finishes files bounds rules u.points old.fetches state (gained ++ es) fault)
       → IsUnderway told bounds rules start file new state'
-  goes_on old new state state' gained spots u stand whole made fetched finishes = record {
-    spots = spots;
+  goes_on old new state state' gained points u stand whole made fetched finishes = record {
+    points = points;
     stand = stand;
     events = u.events ++ gained;
     gained = whole ∙ ap (λ l. l ++ tried gained) u.gained ∙ append_assoc start (tried u.events) (tried gained) ∙ ap (λ l. start ++ l) (sym (tried-append u.events gained));
@@ -67,7 +67,7 @@ module _ (told : Option Files) (bounds : Bounds) (rules : Rules) (start : List C
   -- or it ends with a fault
   pub has_fault : (old : Reading) (state : List Clause) (gained : List Event) (made : ℕ) (fault : Fault) (u : IsUnderway told bounds rules start file old state) → old.fetches ≤ made
       → ((files : Files) → told ≡ Some files
-      → Finishes files bounds rules u.spots old.fetches state gained (Some fault) × (made ≡ fetches_made (u.events ++ gained) (Some fault)))
+      → Finishes files bounds rules u.points old.fetches state gained (Some fault) × (made ≡ fetches_made (u.events ++ gained) (Some fault)))
       → HasFault told bounds rules start file made fault
   has_fault old state gained made fault u later finishes = (λ may. omega (arith, u.begun, later), by told refl) where
     by : (t : Option Files) → told ≡ t → IfSome t (λ files. (events : List Event) × Loads files bounds rules start file events (Some fault) × (made ≡ fetches_made events (Some fault)))
@@ -81,11 +81,11 @@ module _ (told : Option Files) (bounds : Bounds) (rules : Rules) (start : List C
       let w = now_front old state items f e u in
       goes_on old new state state [] w.outer u (subst (λ fs. Stand (reverse fs) w.outer) (sym same) w.others) (sym (append-nil state)) (omega (arith, made)) (still_fetched old state new.fetches made u)
       (λ files t es fault h. subst (λ ss. Finishes files bounds rules ss old.fetches state es fault) (sym w.first)
-      (finishes_end files bounds rules w.spot w.outer old.fetches state es fault (subst AreBlanks (sym w.own.left) b)
+      (finishes_end files bounds rules w.point w.outer old.fetches state es fault (subst AreBlanks (sym w.own.left) b)
       (subst (λ n. Finishes files bounds rules w.outer n state es fault) made h)))
 
-  -- the spot behind an item
-  behind : (f : OpenFile) (outer : List Spot) (s : Spot) (end : ℕ) → IsAtSpot f outer s → IsAtSpot (record f { at = end }) outer (record s { rest = drop end f.bytes.items })
+  -- the point after an item
+  behind : (f : OpenFile) (outer : List ReadingPoint) (s : ReadingPoint) (end : ℕ) → IsAtPoint f outer s → IsAtPoint (record f { at = end }) outer (record s { rest = drop end f.bytes.items })
   behind f outer s end h = record { named = h.named; whole = h.whole; among = h.among; selects = h.selects; left = refl }
 
   -- a clause is passed over, or accepted
@@ -94,32 +94,32 @@ module _ (told : Option Files) (bounds : Bounds) (rules : Rules) (start : List C
       → new.files.items ≡ items ++ record f { at = end } ∷ [] → new.fetches ≡ old.fetches → TriesClause rules new.files.items clause state state'
       → IsUnderway told bounds rules start file old state → IsUnderway told bounds rules start file new state'
   takes old new state state' items f end clause e b same made t u = by t where
-    w : Front f (reverse items) u.spots
+    w : Front f (reverse items) u.points
     w = now_front old state items f e u
 
-    next : Spot
-    next = record w.spot { rest = drop end f.bytes.items }
+    next : ReadingPoint
+    next = record w.point { rest = drop end f.bytes.items }
 
     stands : Stand (reverse new.files.items) (next ∷ w.outer)
-    stands = subst (λ fs. Stand fs (next ∷ w.outer)) (sym (ap (λ l. reverse l) same ∙ innermost items (record f { at = end }))) (behind f w.outer w.spot end w.own, w.others)
+    stands = subst (λ fs. Stand fs (next ∷ w.outer)) (sym (ap (λ l. reverse l) same ∙ innermost items (record f { at = end }))) (behind f w.outer w.point end w.own, w.others)
 
-    item : BeginsWithItem w.spot.rest (clause_item clause) (drop end f.bytes.items)
+    item : BeginsWithItem w.point.rest (clause_item clause) (drop end f.bytes.items)
     item = subst (λ l. BeginsWithItem l (clause_item clause) (drop end f.bytes.items)) (sym w.own.left) b
 
     by : ((is_selected new.files.items clause.name ≡ false) × (state' ≡ state)) ⊎ ((is_selected new.files.items clause.name ≡ true) × Accepts rules state clause state')
         → IsUnderway told bounds rules start file new state'
     by (inl (no_one, stays)) =
-        let unselected : IsSelected w.spot.around clause.name → ⊥ = stand_unselected (reverse new.files.items) (next ∷ w.outer) clause.name stands (selected-reverse new.files.items clause.name ∙ no_one) in
+        let unselected : IsSelected w.point.around clause.name → ⊥ = stand_unselected (reverse new.files.items) (next ∷ w.outer) clause.name stands (selected-reverse new.files.items clause.name ∙ no_one) in
         goes_on old new state state' [] (next ∷ w.outer) u stands (stays ∙ sym (append-nil state)) (omega (arith, made)) (still_fetched old state new.fetches made u)
         (λ files t es fault h. subst (λ ss. Finishes files bounds rules ss old.fetches state es fault) (sym w.first)
-        (finishes_over files bounds rules w.spot w.outer old.fetches state clause (drop end f.bytes.items) es fault item unselected
+        (finishes_over files bounds rules w.point w.outer old.fetches state clause (drop end f.bytes.items) es fault item unselected
         (subst (λ n. Finishes files bounds rules (next ∷ w.outer) n state es fault) made (subst (λ l. Finishes files bounds rules (next ∷ w.outer) new.fetches l es fault) stays h))))
     by (inr (each, accepts)) =
-        let selected : IsSelected w.spot.around clause.name = stand_selected (reverse new.files.items) (next ∷ w.outer) clause.name stands (selected-reverse new.files.items clause.name ∙ each) in
+        let selected : IsSelected w.point.around clause.name = stand_selected (reverse new.files.items) (next ∷ w.outer) clause.name stands (selected-reverse new.files.items clause.name ∙ each) in
         let added : Accepts rules state clause (state ++ clause ∷ []) = subst (Accepts rules state clause) accepts.added accepts in
         goes_on old new state state' (attempt clause ∷ []) (next ∷ w.outer) u stands accepts.added (omega (arith, made)) (still_fetched old state new.fetches made u)
         (λ files t es fault h. subst (λ ss. Finishes files bounds rules ss old.fetches state (attempt clause ∷ es) fault) (sym w.first)
-        (finishes_accepted files bounds rules w.spot w.outer old.fetches state clause (drop end f.bytes.items) es fault item selected added
+        (finishes_accepted files bounds rules w.point w.outer old.fetches state clause (drop end f.bytes.items) es fault item selected added
         (subst (λ n. Finishes files bounds rules (next ∷ w.outer) n (state ++ clause ∷ []) es fault) made (subst (λ l. Finishes files bounds rules (next ∷ w.outer) new.fetches l es fault) accepts.added h))))
 
   -- a clause is refused
@@ -128,22 +128,22 @@ module _ (told : Option Files) (bounds : Bounds) (rules : Rules) (start : List C
       → is_selected (items ++ record f { at = end } ∷ []) clause.name ≡ true → IsRejected rules state clause fault → made ≡ old.fetches
       → IsUnderway told bounds rules start file old state → HasFault told bounds rules start file made fault
   is_refused old state items f end clause made fault e b each r same_made u = by fault r where
-    w : Front f (reverse items) u.spots
+    w : Front f (reverse items) u.points
     w = now_front old state items f e u
 
-    next : Spot
-    next = record w.spot { rest = drop end f.bytes.items }
+    next : ReadingPoint
+    next = record w.point { rest = drop end f.bytes.items }
 
     moved : List OpenFile
     moved = items ++ record f { at = end } ∷ []
 
     stands : Stand (reverse moved) (next ∷ w.outer)
-    stands = subst (λ fs. Stand fs (next ∷ w.outer)) (sym (innermost items (record f { at = end }))) (behind f w.outer w.spot end w.own, w.others)
+    stands = subst (λ fs. Stand fs (next ∷ w.outer)) (sym (innermost items (record f { at = end }))) (behind f w.outer w.point end w.own, w.others)
 
-    item : BeginsWithItem w.spot.rest (clause_item clause) (drop end f.bytes.items)
+    item : BeginsWithItem w.point.rest (clause_item clause) (drop end f.bytes.items)
     item = subst (λ l. BeginsWithItem l (clause_item clause) (drop end f.bytes.items)) (sym w.own.left) b
 
-    selected : IsSelected w.spot.around clause.name
+    selected : IsSelected w.point.around clause.name
     selected = stand_selected (reverse moved) (next ∷ w.outer) clause.name stands (selected-reverse moved clause.name ∙ each)
 
     by : (x : Fault) → IsRejected rules state clause x → HasFault told bounds rules start file made x
@@ -151,8 +151,8 @@ module _ (told : Option Files) (bounds : Bounds) (rules : Rules) (start : List C
         has_fault old state (attempt clause ∷ []) made (rejected c refusal) u (omega (arith, same_made))
         (λ files t. (
           subst (λ ss. Finishes files bounds rules ss old.fetches state (attempt clause ∷ []) (Some (rejected c refusal))) (sym w.first)
-              (subst (λ d. Finishes files bounds rules (w.spot ∷ w.outer) old.fetches state (attempt clause ∷ []) (Some (rejected d refusal))) (sym same)
-              (finishes_refused files bounds rules w.spot w.outer old.fetches state clause (drop end f.bytes.items) refusal item selected refuses)),
+              (subst (λ d. Finishes files bounds rules (w.point ∷ w.outer) old.fetches state (attempt clause ∷ []) (Some (rejected d refusal))) (sym same)
+              (finishes_refused files bounds rules w.point w.outer old.fetches state clause (drop end f.bytes.items) refusal item selected refuses)),
           omega (arith, same_made, u.asked, fetches-append u.events (attempt clause ∷ [])),
         ))
     by (cycle x) h = absurd h
@@ -166,14 +166,14 @@ module _ (told : Option Files) (bounds : Bounds) (rules : Rules) (start : List C
 
   -- no item stands there
   pub is_stuck : (old : Reading) (state : List Clause) (items : List OpenFile) (f : OpenFile) (fault : Fault) → old.files.items ≡ items ++ f ∷ []
-      → ((s : Spot) (outer : List Spot) → IsAtSpot f outer s → IsStuck s fault) → IsUnderway told bounds rules start file old state → HasFault told bounds rules start file old.fetches fault
+      → ((s : ReadingPoint) (outer : List ReadingPoint) → IsAtPoint f outer s → IsStuck s fault) → IsUnderway told bounds rules start file old state → HasFault told bounds rules start file old.fetches fault
   is_stuck old state items f fault e h u =
       let w = now_front old state items f e u in
       has_fault old state [] old.fetches fault u (omega arith)
       (λ files t. (
         subst (λ ss. Finishes files bounds rules ss old.fetches state [] (Some fault)) (sym w.first)
-            (finishes_stuck files bounds rules w.spot w.outer old.fetches state fault (h w.spot w.outer w.own)),
-        u.asked ∙ made_stuck w.spot fault u.events (h w.spot w.outer w.own) ∙ ap (λ es. fetches_made es (Some fault)) (sym (append-nil u.events)),
+            (finishes_stuck files bounds rules w.point w.outer old.fetches state fault (h w.point w.outer w.own)),
+        u.asked ∙ made_stuck w.point fault u.events (h w.point w.outer w.own) ∙ ap (λ es. fetches_made es (Some fault)) (sym (append-nil u.events)),
       ))
 
   -- ---- includes
@@ -198,28 +198,28 @@ module _ (told : Option Files) (bounds : Bounds) (rules : Rules) (start : List C
         counted files t (inr (may, no_file, one_more)) =
             one_more ∙ ap (λ n. n + 1) u.asked ∙ made_withheld files bounds name fault u.events (subst (λ x. IfSome x (λ fs. IsWithheld fs bounds name fault)) t no_file)
 
-        w : Front f (reverse items) u.spots
+        w : Front f (reverse items) u.points
         w = now_front old state items f e u
 
-        next : Spot
-        next = record w.spot { rest = drop end f.bytes.items }
+        next : ReadingPoint
+        next = record w.point { rest = drop end f.bytes.items }
 
         stands : Stand (reverse moved) (next ∷ w.outer)
-        stands = subst (λ fs. Stand fs (next ∷ w.outer)) (sym (innermost items (record f { at = end }))) (behind f w.outer w.spot end w.own, w.others)
+        stands = subst (λ fs. Stand fs (next ∷ w.outer)) (sym (innermost items (record f { at = end }))) (behind f w.outer w.point end w.own, w.others)
 
-        names : opened moved ≡ w.spot.opened
+        names : opened moved ≡ w.point.opened
         names = sym (stand_names (reverse moved) (next ∷ w.outer) stands)
 
-        item : BeginsWithItem w.spot.rest (include_item name selection) (drop end f.bytes.items)
+        item : BeginsWithItem w.point.rest (include_item name selection) (drop end f.bytes.items)
         item = subst (λ l. BeginsWithItem l (include_item name selection) (drop end f.bytes.items)) (sym w.own.left) b
 
         by : (files : Files) → told ≡ Some files → IsUnopened told bounds name moved old.fetches count fault
-            → Finishes files bounds rules (w.spot ∷ w.outer) old.fetches state (ask name ∷ []) (Some fault)
+            → Finishes files bounds rules (w.point ∷ w.outer) old.fetches state (ask name ∷ []) (Some fault)
         by files t (inl (no_one, same_count)) =
-            finishes_barred files bounds rules w.spot w.outer old.fetches state name selection (drop end f.bytes.items) fault item
+            finishes_barred files bounds rules w.point w.outer old.fetches state name selection (drop end f.bytes.items) fault item
             (subst (λ l. IsBarred bounds l old.fetches name fault) names no_one)
         by files t (inr (may, no_file, one_more)) =
-            finishes_withheld files bounds rules w.spot w.outer old.fetches state name selection (drop end f.bytes.items) fault item
+            finishes_withheld files bounds rules w.point w.outer old.fetches state name selection (drop end f.bytes.items) fault item
             (subst (λ l. MayAsk bounds l old.fetches name) names may)
             (subst (λ x. IfSome x (λ fs. IsWithheld fs bounds name fault)) t no_file)
 
@@ -250,30 +250,30 @@ module _ (told : Option Files) (bounds : Bounds) (rules : Rules) (start : List C
       → Lists selection chosen → middle.files.items ≡ items ++ record f { at = end } ∷ [] → middle.fetches ≡ old.fetches → OpensInside told bounds name chosen middle new
       → IsUnderway told bounds rules start file old state → IsUnderway told bounds rules start file new state
   enters old middle new state items f end name selection chosen e b lists same made h u = by told refl where
-    w : Front f (reverse items) u.spots
+    w : Front f (reverse items) u.points
     w = now_front old state items f e u
 
-    next : Spot
-    next = record w.spot { rest = drop end f.bytes.items }
+    next : ReadingPoint
+    next = record w.point { rest = drop end f.bytes.items }
 
     stands : Stand (reverse middle.files.items) (next ∷ w.outer)
-    stands = subst (λ fs. Stand fs (next ∷ w.outer)) (sym (ap (λ l. reverse l) same ∙ innermost items (record f { at = end }))) (behind f w.outer w.spot end w.own, w.others)
+    stands = subst (λ fs. Stand fs (next ∷ w.outer)) (sym (ap (λ l. reverse l) same ∙ innermost items (record f { at = end }))) (behind f w.outer w.point end w.own, w.others)
 
-    names : w.spot.opened ≡ opened middle.files.items
+    names : w.point.opened ≡ opened middle.files.items
     names = stand_names (reverse middle.files.items) (next ∷ w.outer) stands
 
-    item : BeginsWithItem w.spot.rest (include_item name selection) (drop end f.bytes.items)
+    item : BeginsWithItem w.point.rest (include_item name selection) (drop end f.bytes.items)
     item = subst (λ l. BeginsWithItem l (include_item name selection) (drop end f.bytes.items)) (sym w.own.left) b
 
-    inner : Spot
-    inner = record { file = name; bytes = h.file.bytes.items; opened = name ∷ w.spot.opened; around = narrowed selection w.spot.around; rest = h.file.bytes.items }
+    inner : ReadingPoint
+    inner = record { file = name; bytes = h.file.bytes.items; opened = name ∷ w.point.opened; around = narrowed selection w.point.around; rest = h.file.bytes.items }
 
-    own : IsAtSpot h.file (next ∷ w.outer) inner
+    own : IsAtPoint h.file (next ∷ w.outer) inner
     own = record {
       named = sym h.given.named;
       whole = refl;
-      among = ap (λ n. n ∷ w.spot.opened) (sym h.given.named);
-      selects = subst (λ c. Narrows c w.spot.around (narrowed selection w.spot.around)) (sym h.given.selects) (narrows selection chosen w.spot.around lists);
+      among = ap (λ n. n ∷ w.point.opened) (sym h.given.named);
+      selects = subst (λ c. Narrows c w.point.around (narrowed selection w.point.around)) (sym h.given.selects) (narrows selection chosen w.point.around lists);
       left = ap (λ n. drop n h.file.bytes.items) (sym h.given.front);
     }
 
@@ -283,7 +283,7 @@ module _ (told : Option Files) (bounds : Bounds) (rules : Rules) (start : List C
     count : new.fetches ≡ old.fetches + 1
     count = h.counted ∙ ap (λ n. n + 1) made
 
-    may : MayAsk bounds w.spot.opened old.fetches name
+    may : MayAsk bounds w.point.opened old.fetches name
     may = subst (λ l. MayAsk bounds l old.fetches name) (sym names) (subst (λ n. MayAsk bounds (opened middle.files.items) n name) made h.may)
 
     by : (t : Option Files) → told ≡ t → IsUnderway told bounds rules start file new state
@@ -291,7 +291,7 @@ module _ (told : Option Files) (bounds : Bounds) (rules : Rules) (start : List C
         goes_on old new state state (ask name ∷ []) (inner ∷ next ∷ w.outer) u all_stand (sym (append-nil state)) (omega (arith, count))
         (once_fetched old state items f end name selection new.fetches e b (inr (subst (λ fs. MayAsk bounds (opened fs) old.fetches name) same (subst (λ n. MayAsk bounds (opened middle.files.items) n name) made h.may), count)) u)
         (λ files q es fault k. subst (λ ss. Finishes files bounds rules ss old.fetches state (ask name ∷ es) fault) (sym w.first)
-        (finishes_opened files bounds rules w.spot w.outer old.fetches state name h.file.bytes.items selection (drop end f.bytes.items) es fault item may
+        (finishes_opened files bounds rules w.point w.outer old.fetches state name h.file.bytes.items selection (drop end f.bytes.items) es fault item may
         (given files q) h.given.small
         (subst (λ n. Finishes files bounds rules (inner ∷ next ∷ w.outer) n state es fault) count k))) where
           given : (files : Files) → told ≡ Some files → files name ≡ Some h.file.bytes.items
@@ -328,7 +328,7 @@ module _ (told : Option Files) (bounds : Bounds) (rules : Rules) (start : List C
 
   pub begins : (old new : Reading) → old.files.items ≡ [] → old.fetches ≡ 0 → OpensInside told bounds file None old new → IsUnderway told bounds rules start file new start
   begins old new none zero h = record {
-    spots = inner ∷ [];
+    points = inner ∷ [];
     stand = subst (λ fs. Stand fs (inner ∷ [])) (sym (ap (λ l. reverse l) (h.inside ∙ ap (λ l. l ++ h.file ∷ []) none))) (own, tt);
     events = ask file ∷ [];
     gained = sym (append-nil start);
@@ -339,10 +339,10 @@ module _ (told : Option Files) (bounds : Bounds) (rules : Rules) (start : List C
         (subst (λ x. IfSome x (λ fs. fs file ≡ Some h.file.bytes.items)) q h.given.given) h.given.small
         (subst (λ n. Finishes files bounds rules (inner ∷ []) n start es fault) (h.counted ∙ ap (λ n. n + 1) zero) k);
   } where
-    inner : Spot
+    inner : ReadingPoint
     inner = record { file = file; bytes = h.file.bytes.items; opened = file ∷ []; around = []; rest = h.file.bytes.items }
 
-    own : IsAtSpot h.file [] inner
+    own : IsAtPoint h.file [] inner
     own = record {
       named = sym h.given.named;
       whole = refl;
@@ -362,14 +362,14 @@ module _ (told : Option Files) (bounds : Bounds) (rules : Rules) (start : List C
   pub is_over : (old : Reading) (state : List Clause) → old.files.items ≡ [] → IsUnderway told bounds rules start file old state
       → GainsByLoad told bounds rules start file old.fetches state
   is_over old state none u = (u.begun, by told refl) where
-    no_spots : (ss : List Spot) → Stand [] ss → ss ≡ []
-    no_spots [] h = refl
-    no_spots (s ∷ ss) h = absurd h
+    no_points : (ss : List ReadingPoint) → Stand [] ss → ss ≡ []
+    no_points [] h = refl
+    no_points (s ∷ ss) h = absurd h
 
     by : (t : Option Files) → told ≡ t → IfSome t (λ files. (events : List Event) × Loads files bounds rules start file events None × (old.fetches ≡ fetches events) × (state ≡ start ++ tried events))
     by None e = tt
     by (Some files) e =
-        let empty : u.spots ≡ [] = no_spots u.spots (subst (λ fs. Stand (reverse fs) u.spots) none u.stand) in (
+        let empty : u.points ≡ [] = no_points u.points (subst (λ fs. Stand (reverse fs) u.points) none u.stand) in (
           u.events,
           subst (λ l. Loads files bounds rules start file l None) (append-nil u.events)
               (u.goes_on files e [] None (subst (λ ss. Finishes files bounds rules ss old.fetches state [] None) (sym empty) (refl, refl))),

@@ -24,7 +24,7 @@ module _ {K : Type 0} (items : K → Bytes) where
   abbrev pub has_key : List K → Bytes → Bool
   has_key keys text = list_any (λ k. bytes_eq text (items k)) keys
 
-  -- the keys behind the insertion of one
+  -- the keys after the insertion of one
   abbrev pub inserted : List K → K → List K
   inserted keys key = cond (has_key keys (items key)) keys (keys ++ key ∷ [])
 

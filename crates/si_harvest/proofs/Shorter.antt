@@ -1,4 +1,4 @@
--- Behind an item fewer bytes are left.
+-- After an item fewer bytes are left.
 use Rattle.std.proofs.Common.{◌≡◌, ◌≤◌, ◌<◌, List, [], ◌∷◌, codes, length, length-append, refl, sym, ap, ◌∙◌, subst, arith}
 use Rattle.std.proofs.lemmas.Bool.{false≢true}
 use Rattle.si_defs.specs.Bytes.{Bytes}

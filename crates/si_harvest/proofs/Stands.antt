@@ -1,4 +1,4 @@
--- The spots of the files that are open.
+-- The points of the files that are open.
 use Rattle.std.proofs.Common.{◌≡◌, Bool, true, false, ◌&&◌, ◌||◌, List, [], ◌∷◌, ◌++◌, length, reverse, refl, sym, ap, ◌∙◌, subst, Option, None, Some, inl, inr}
 use Rattle.std.proofs.lemmas.Bool.{and_parts, false≢true}
 use Rattle.std.specs.Prelude.{bytes_eq}
@@ -8,7 +8,7 @@ use Rattle.si_defs.specs.Bytes.{Bytes}
 use Rattle.si_defs.specs.Clauses.{Name}
 use Rattle.si_defs.specs.Substitutions.{IsAmong}
 use Rattle.si_defs.proofs.SymbolLaws.{text_is}
-use Rattle.si_state.specs.Harvest.{Spot, IsSelected}
+use Rattle.si_state.specs.Harvest.{ReadingPoint, IsSelected}
 use Rattle.si_harvest.specs.declared.files.OpenFile.{OpenFile}
 use Rattle.si_harvest.specs.declared.names.NameSet.{NameSet}
 use Rattle.si_harvest.specs.Opened.{file_names, opened, has_open, lists, is_selected}
@@ -19,7 +19,7 @@ use Rattle.si_harvest.proofs.AnyLaws.{any_last}
 pub innermost : (fs : List OpenFile) (f : OpenFile) → reverse (fs ++ f ∷ []) ≡ f ∷ reverse fs
 innermost fs f = reverse-append fs (f ∷ [])
 
-pub stand_names : (fs : List OpenFile) (ss : List Spot) → Stand fs ss → opened_at ss ≡ file_names fs
+pub stand_names : (fs : List OpenFile) (ss : List ReadingPoint) → Stand fs ss → opened_at ss ≡ file_names fs
 stand_names [] [] h = refl
 stand_names [] (s ∷ ss) h = absurd h
 stand_names (f ∷ fs) [] h = absurd h
@@ -43,7 +43,7 @@ narrows_outer : (chosen : Option NameSet) (outer around : List (List Name)) (nam
 narrows_outer None outer around name n s = subst (λ a. IsSelected a name) n s
 narrows_outer (Some set) outer around name n s = let both : IsSelected (n.0 ∷ outer) name = subst (λ a. IsSelected a name) n.2 s in both.1
 
-pub stand_selected : (fs : List OpenFile) (ss : List Spot) (name : Name) → Stand fs ss → is_selected fs name ≡ true → IsSelected (around_at ss) name
+pub stand_selected : (fs : List OpenFile) (ss : List ReadingPoint) (name : Name) → Stand fs ss → is_selected fs name ≡ true → IsSelected (around_at ss) name
 stand_selected [] [] name h e = tt
 stand_selected [] (s ∷ ss) name h e = absurd h
 stand_selected (f ∷ fs) [] name h e = absurd h
@@ -51,7 +51,7 @@ stand_selected (f ∷ fs) (s ∷ ss) name h e =
     let w = and_parts (lists f.chosen name) (is_selected fs name) e in
     narrows_yes f.chosen (around_at ss) s.around name h.0.selects w.0 (stand_selected fs ss name h.1 w.1)
 
-pub stand_unselected : (fs : List OpenFile) (ss : List Spot) (name : Name) → Stand fs ss → is_selected fs name ≡ false → IsSelected (around_at ss) name → ⊥
+pub stand_unselected : (fs : List OpenFile) (ss : List ReadingPoint) (name : Name) → Stand fs ss → is_selected fs name ≡ false → IsSelected (around_at ss) name → ⊥
 stand_unselected [] [] name h e s = false≢true (sym e)
 stand_unselected [] (s ∷ ss) name h e k = h
 stand_unselected (f ∷ fs) [] name h e k = h

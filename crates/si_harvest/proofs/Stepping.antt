@@ -9,7 +9,7 @@ use Rattle.si_defs.specs.Grammar.{Selection, clause_item, include_item}
 use Rattle.si_defs.specs.Texts.{IsFaulty, IsForeign, IsPlace, line_of}
 use Rattle.si_defs.specs.declared.TheConstants.{MOST_OCCURRENCES}
 use Rattle.si_state.specs.States.{Rules}
-use Rattle.si_state.specs.Harvest.{Files, Bounds, foreign, malformed, Spot, IsStuck, IsRejected}
+use Rattle.si_state.specs.Harvest.{Files, Bounds, foreign, malformed, ReadingPoint, IsStuck, IsRejected}
 use Rattle.si_parse.specs.Reading.{IsItemRead, IsFault, IsRead}
 use Rattle.si_parse.specs.declared.item.Read.{Read}
 use Rattle.si_harvest.specs.declared.files.OpenFile.{OpenFile}
@@ -19,7 +19,7 @@ use Rattle.si_harvest.specs.declared.faults.HarvestFault.{HarvestFault}
 use Rattle.si_harvest.specs.declared.faults.HarvestFault.TheVariants.{Memory, Syntax, Language}
 use Rattle.si_harvest.specs.Faults.{Explains}
 use Rattle.si_harvest.specs.Opened.{is_selected, OpensInside, IsUnopened, FetchesOnce, TriesClause, HasFault, HasFetched}
-use Rattle.si_harvest.specs.Underway.{IsAtSpot, IsUnderway, AreWithin, Lists}
+use Rattle.si_harvest.specs.Underway.{IsAtPoint, IsUnderway, AreWithin, Lists}
 use Rattle.si_harvest.specs.Stepping.{StepsOn, StepsReading}
 use Rattle.si_harvest.proofs.Errors.{blames_weaker}
 use Rattle.si_harvest.proofs.Moves.{at_end, takes, is_refused, is_stuck, enters, is_unopened, still_fetched, once_fetched}
@@ -90,9 +90,9 @@ module _ (told : Option Files) (bounds : Bounds) (rules : Rules) where
   )
 
   -- ---- where no item stands
-  spot_stuck : (f : OpenFile) (place : ℕ) (outer : List Spot) (s : Spot) → IsFault f.bytes.items f.at place → IsAtSpot f outer s
+  point_stuck : (f : OpenFile) (place : ℕ) (outer : List ReadingPoint) (s : ReadingPoint) → IsFault f.bytes.items f.at place → IsAtPoint f outer s
       → IsForeign s.rest → IsStuck s (foreign f.name (line_of (take place f.bytes.items)))
-  spot_stuck f place outer s r h k = (
+  point_stuck f place outer s r h k = (
     sym h.named,
     subst (λ l. IsFaulty l) (sym h.left) r.faulty,
     (
@@ -105,9 +105,9 @@ module _ (told : Option Files) (bounds : Bounds) (rules : Rules) where
     k,
   )
 
-  spot_malformed : (f : OpenFile) (place : ℕ) (outer : List Spot) (s : Spot) → IsFault f.bytes.items f.at place → IsAtSpot f outer s
+  point_malformed : (f : OpenFile) (place : ℕ) (outer : List ReadingPoint) (s : ReadingPoint) → IsFault f.bytes.items f.at place → IsAtPoint f outer s
       → (IsForeign s.rest → ⊥) → IsStuck s (malformed f.name (line_of (take place f.bytes.items)))
-  spot_malformed f place outer s r h k = (
+  point_malformed f place outer s r h k = (
     sym h.named,
     subst (λ l. IsFaulty l) (sym h.left) r.faulty,
     (
@@ -129,7 +129,7 @@ module _ (told : Option Files) (bounds : Bounds) (rules : Rules) where
       fault = foreign f.name line;
       told = refl;
       holds = is_stuck told bounds rules start file old state items f (foreign f.name line) e
-          (λ s outer h. subst (λ n. IsStuck s (foreign f.name n)) (sym l) (spot_stuck f place outer s r.0 h (subst IsForeign (sym h.left) r.1))) u;
+          (λ s outer h. subst (λ n. IsStuck s (foreign f.name n)) (sym l) (point_stuck f place outer s r.0 h (subst IsForeign (sym h.left) r.1))) u;
     }),
     u.fetched,
   )
@@ -143,7 +143,7 @@ module _ (told : Option Files) (bounds : Bounds) (rules : Rules) where
       fault = malformed f.name line;
       told = refl;
       holds = is_stuck told bounds rules start file old state items f (malformed f.name line) e
-          (λ s outer h. subst (λ n. IsStuck s (malformed f.name n)) (sym l) (spot_malformed f place outer s r.0 h (λ k. r.1 (subst IsForeign h.left k)))) u;
+          (λ s outer h. subst (λ n. IsStuck s (malformed f.name n)) (sym l) (point_malformed f place outer s r.0 h (λ k. r.1 (subst IsForeign h.left k)))) u;
     }),
     u.fetched,
   )

@@ -20,7 +20,7 @@ use Rattle.si_harvest.proofs.Errors.{blames_weaker}
 use Rattle.si_harvest.proofs.Shorter.{item_shorter}
 
 -- ---- what stands in front of a text of clauses
--- the clauses that are left behind the first
+-- the clauses that are left after the first
 pub record Behind (clauses : List Clause) (bytes : Bytes) (end : ℕ) (first : Clause) : Type 0 where
   pub others : List Clause
   pub split : clauses ≡ first ∷ others

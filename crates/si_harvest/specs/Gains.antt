@@ -22,7 +22,7 @@ pub record Gained (rules : Rules) (start : List Clause) (loaded : Loaded)
   pub clauses : loaded.clauses ≡ length gained
   pub entries : loaded.entries ≡ length (state_entries gained)
 
--- behind a load of the file and so many fetches these clauses are kept, and there is no fault
+-- after a load of the file and so many fetches these clauses are kept, and there is no fault
 abbrev pub GainsByLoad : Option Files → Bounds → Rules → List Clause → Bytes → (made : ℕ)
     → List Clause → Type 0
 GainsByLoad told bounds rules start file made kept =

@@ -40,7 +40,7 @@ pub record HasOpened (told : Option Files) (bounds : Bounds) (name : Bytes)
   pub front : file.at ≡ 0
   pub selects : file.chosen ≡ chosen
 
--- a file is open inside the others, behind one fetch more
+-- a file is open inside the others, after one fetch more
 pub record OpensInside (told : Option Files) (bounds : Bounds) (name : Bytes)
     (chosen : Option NameSet) (before after : Reading) : Type 0 where
   pub may : MayAsk bounds (opened before.files.items) before.fetches name
@@ -49,7 +49,7 @@ pub record OpensInside (told : Option Files) (bounds : Bounds) (name : Bytes)
   pub inside : after.files.items ≡ before.files.items ++ file ∷ []
   pub counted : after.fetches ≡ before.fetches + 1
 
--- Why it can't be opened inside these, behind so many fetches: it may not be asked for, or one more
+-- Why it can't be opened inside these, after so many fetches: it may not be asked for, or one more
 -- was made.
 abbrev pub IsUnopened : Option Files → Bounds → Bytes → List OpenFile → (before made : ℕ) → Fault
     → Type 0
@@ -69,7 +69,7 @@ TriesClause rules files clause before after =
     ((is_selected files clause.name ≡ false) × (after ≡ before))
     ⊎ ((is_selected files clause.name ≡ true) × Accepts rules before clause after)
 
--- A load of the file has this fault, behind so many fetches: at least one, if the file may be asked
+-- A load of the file has this fault, after so many fetches: at least one, if the file may be asked
 -- for.
 abbrev pub HasFault : Option Files → Bounds → Rules → List Clause → Bytes → (made : ℕ) → Fault
     → Type 0

@@ -27,7 +27,7 @@ RefusesText rules start bytes fault = (clauses : List Clause) → AreClauses cla
     → RefusesFirst rules start clauses fault
 
 -- ---- one clause of a text
--- the clause behind a place was accepted
+-- the clause after a place was accepted
 pub record TakesNext (rules : Rules) (bytes : Bytes) (at end : ℕ)
     (before after : List Clause) : Type 0 where
   pub clause : Clause

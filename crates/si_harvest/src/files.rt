@@ -52,7 +52,7 @@ pub fn select(files: &[OpenFile], name: &Name) -> bool
     files.iter().all(|file| file.lists(name))
 }
 
-/// Whether a file may be asked for while these are open and behind so many fetches, and else why
+/// Whether a file may be asked for while these are open and after so many fetches, and else why
 /// not.
 pub fn may_ask(
     alloc: Global,

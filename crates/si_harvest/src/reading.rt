@@ -87,7 +87,7 @@ impl Reading {
         Ok(())
     }
 
-    /// Adds a clause that the selections list, and reads on behind it.
+    /// Adds a clause that the selections list, and reads on after it.
     fn take<T: ClauseStore>(
         &mut self,
         file: OpenFile,
@@ -118,7 +118,7 @@ impl Reading {
         add(store, clause, loaded)
     }
 
-    /// Opens a file that is included, and reads on behind the include later.
+    /// Opens a file that is included, and reads on after the include later.
     #[tactic(auto, using(crate::proofs::Fetching::counted))]
     fn include<L: Library>(
         &mut self,

@@ -76,7 +76,7 @@ fn take_all<T: ClauseStore>(
     Ok(())
 }
 
-/// Adds the clause behind a place of a text, and answers the place behind it. `None`: only blanks
+/// Adds the clause after a place of a text, and answers the place after it. `None`: only blanks
 /// are left.
 fn take_next<T: ClauseStore>(
     alloc: Global,

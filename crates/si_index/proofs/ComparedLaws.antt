@@ -20,7 +20,7 @@ use Rattle.si_subsume.proofs.ClauseMaps.{IsFlatBy, known_all, clause_answer}
 use Rattle.si_index.proofs.FlatLaws.{none_lacks, more_numbers}
 
 module _ (numbers : Numbering) (formula : List Literal) where
-  -- the table's numbers, and behind them those of the formula's further symbols
+  -- the table's numbers, and after them those of the formula's further symbols
   abbrev pub formula_numbers : Numbering
   formula_numbers = numbers ++ extra_numbers (lacked_by numbers formula)
 

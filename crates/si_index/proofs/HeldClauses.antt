@@ -37,8 +37,8 @@ use Rattle.si_sign.proofs.StoreLaws.{stored_none}
 use Rattle.std.proofs.lemmas.Option.{none-some}
 use Rattle.si_index.specs.Names.{key_of}
 use Rattle.si_index.specs.Stored.{keyed_clauses, IsKept, AreHeld}
-use Rattle.si_index.specs.Known.{IsKnownOf, Enters, Uncounts, Leaves, Stays}
-use Rattle.si_index.specs.declared.known.Known.{Known}
+use Rattle.si_index.specs.Register.{IsKnownOf, Enters, Uncounts, Leaves, Stays}
+use Rattle.si_index.specs.declared.register.Register.{Register}
 
 -- ---- the clauses with their keys
 pub paired_keyed : (items : List (ℕ × term.Clause)) → keyed_clauses items ≡ paired (item_keys items) (clauses_of items)
@@ -92,7 +92,7 @@ none_lacking known ss used = lacks_none (numbering known) ss (used_in known ss u
 
 -- ---- the numbers change
 -- Those of symbols that are used stay.
-pub still_held : (old new : Known) (items : List (ℕ × term.Clause)) (trees : TwoTrees) → AreHeld items old trees → IsSignature new.signature → KeepsNumbers old.signature new.signature
+pub still_held : (old new : Register) (items : List (ℕ × term.Clause)) (trees : TwoTrees) → AreHeld items old trees → IsSignature new.signature → KeepsNumbers old.signature new.signature
     → AreUsed new.signature (state_symbols (clauses_of items)) → AreHeld items new trees
 still_held old new items trees held good keeps used =
     renumbered_held (numbering old.signature) (numbering new.signature) (keyed_clauses items) trees held good.numbered (numbers_all new.signature items used) keeps
@@ -122,29 +122,29 @@ held_less numbers items rest key c old new held out removes legal =
 
 -- ---- what is known of the clauses
 -- the clause's symbols are counted, and the others' numbers stay
-module _ (items : List (ℕ × term.Clause)) (known : Known) (trees : TwoTrees) (is : IsKnownOf items known) (held : AreHeld items known trees) where
-  pub entered_held : (c : Clause) (between : Known) → Enters c known between → AreHeld items between trees
+module _ (items : List (ℕ × term.Clause)) (known : Register) (trees : TwoTrees) (is : IsKnownOf items known) (held : AreHeld items known trees) where
+  pub entered_held : (c : Clause) (between : Register) → Enters c known between → AreHeld items between trees
   entered_held c between enters = still_held known between items trees held enters.signature enters.numbers (λ s. omega (arith, enters.uses s, is.signed s))
 
-  pub entered_numbers : (c : Clause) (between : Known) → Enters c known between → unnumbered (numbering between.signature) (clause_symbols c) ≡ []
+  pub entered_numbers : (c : Clause) (between : Register) → Enters c known between → unnumbered (numbering between.signature) (clause_symbols c) ≡ []
   entered_numbers c between enters = none_lacking between.signature (clause_symbols c) (λ s. omega (arith, enters.uses s))
 
   -- and counted no more
-  pub uncounted_held : (c : Clause) (between new : Known) (after : TwoTrees) → Enters c known between → AreHeld items between after → Uncounts c between new → AreHeld items new after
+  pub uncounted_held : (c : Clause) (between new : Register) (after : TwoTrees) → Enters c known between → AreHeld items between after → Uncounts c between new → AreHeld items new after
   uncounted_held c between new after enters now undone =
       still_held between new items after now undone.signature undone.numbers (λ s. omega (arith, enters.uses s, is.signed s, undone.uses s))
 
-  pub stays_held : (new : Known) → Stays known new → AreHeld items new trees
+  pub stays_held : (new : Register) → Stays known new → AreHeld items new trees
   stays_held new same = still_held known new items trees held same.signature same.numbers (λ s. omega (arith, same.uses s, is.signed s))
 
   -- a clause goes from the trees, and then from what is known
-  pub left_held : (key : ℕ) (c : term.Clause) (rest : List (ℕ × term.Clause)) (new : Known) (after : TwoTrees) → IsTakenOut items key c rest → RemovesClause key trees after → AreLegal after
+  pub left_held : (key : ℕ) (c : term.Clause) (rest : List (ℕ × term.Clause)) (new : Register) (after : TwoTrees) → IsTakenOut items key c rest → RemovesClause key trees after → AreLegal after
       → IsKnownOf rest new → Leaves (clause_of c) known new → AreHeld rest new after
   left_held key c rest new after out removes legal is_new leaves =
       still_held known new rest after (held_less (numbering known.signature) items rest key c trees after held out removes legal) leaves.counts.signature leaves.counts.numbers (λ s. omega (arith, is_new.signed s))
 
 -- ---- as an index shows them
-pub trees_hold : (items : List (ℕ × term.Clause)) (known : Known) (trees : TwoTrees) → AreHeld items known trees → Hold (numbering known.signature) (paired (item_keys items) (clauses_of items)) trees
+pub trees_hold : (items : List (ℕ × term.Clause)) (known : Register) (trees : TwoTrees) → AreHeld items known trees → Hold (numbering known.signature) (paired (item_keys items) (clauses_of items)) trees
 trees_hold items known trees held = subst (λ l. Hold (numbering known.signature) l trees) (paired_keyed items) held
 
 -- exactly the symbols of the clauses have numbers
@@ -155,7 +155,7 @@ numbers_exactly items known good signed s = (
 )
 
 -- ---- no clause
-pub none_held : (items : List (ℕ × term.Clause)) (known : Known) (trees : TwoTrees) → items ≡ [] → known.signature ≡ [] → AreAlone trees → AreHeld items known trees
+pub none_held : (items : List (ℕ × term.Clause)) (known : Register) (trees : TwoTrees) → items ≡ [] → known.signature ≡ [] → AreAlone trees → AreHeld items known trees
 none_held items known trees none unknown alone =
     subst (λ l. AreHeld l known trees) (sym none)
     (subst (λ g. Hold (numbering g) [] trees) (sym unknown)
@@ -164,7 +164,7 @@ none_held items known trees none unknown alone =
       vacant true key other = alone.0.others key other
       vacant false key other = alone.1.others key other
 
-pub none_kept : (rules : Rules) (items : List (ℕ × term.Clause)) (known : Known) → rules.entries ≤ MOST_OCCURRENCES → items ≡ [] → ((name : Name) → key_of known.names name ≡ None) → known.signature ≡ []
+pub none_kept : (rules : Rules) (items : List (ℕ × term.Clause)) (known : Register) → rules.entries ≤ MOST_OCCURRENCES → items ≡ [] → ((name : Name) → key_of known.names name ≡ None) → known.signature ≡ []
     → known.entries ≡ 0 → IsKept rules items known
 none_kept rules items known small none unnamed unknown uncounted =
     subst (λ l. IsKept rules l known) (sym none)

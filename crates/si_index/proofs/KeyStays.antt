@@ -12,7 +12,7 @@ use Rattle.si_term.specs.Meaning.{clause_of}
 use Rattle.si_term.specs.declared.clause.Clause as term
 use Rattle.si_keyed.specs.Keyed.{item_keys}
 use Rattle.si_index.specs.Kept.{Kept, AreKeyed, KeysStay, clauses_of}
-use Rattle.si_index.specs.Known.{AreNamed}
+use Rattle.si_index.specs.Register.{AreNamed}
 use Rattle.si_index.specs.Names.{key_of, ChangesName}
 use Rattle.si_index.specs.declared.names.ClauseNames.{ClauseNames}
 use Rattle.si_index.proofs.NameLaws.{name_either}

@@ -9,7 +9,7 @@ pub mod FlatLaws
 mod FoundLaws
 pub mod GatherLaws
 mod KeyStays
-mod KnownLaws
+mod RegisterLaws
 mod NameLaws
 mod NamedLaws
 mod ScreenLaws

@@ -10,7 +10,7 @@ use Rattle.si_term.specs.Meaning.{name_of}
 use Rattle.si_term.specs.declared.clause.Clause.{Clause}
 use Rattle.si_keyed.specs.Keyed.{HasKey, IsTakenOut}
 use Rattle.si_index.specs.Kept.{clauses_of}
-use Rattle.si_index.specs.Known.{AreNamed}
+use Rattle.si_index.specs.Register.{AreNamed}
 use Rattle.si_index.specs.Names.{key_of, ChangesName}
 use Rattle.si_index.specs.declared.names.ClauseNames.{ClauseNames}
 use Rattle.si_index.proofs.NameLaws.{name_either}

@@ -25,7 +25,7 @@ use Rattle.si_index.specs.Slots.{Slots, HaveSlotRows}
 use Rattle.si_index.specs.Subsuming.{AreMappedFrom, IsMapIn, PassesIn, Tries, TriesSlot, TriesSlots}
 use Rattle.si_index.specs.declared.subsuming.Mapped.{Mapped}
 
--- what is left of a list behind its first
+-- what is left of a list after its first
 rest_of : {X : Type 0} (xs : List X) (n : ℕ) (x : X) (rest : List X) → x ∷ rest ≡ drop n xs → (slice_get xs n ≡ Some x) × (rest ≡ drop (suc n) xs)
 rest_of [] zero x rest e = absurd cc
 rest_of [] (suc n) x rest e = absurd cc
@@ -55,7 +55,7 @@ module _ (P : List Literal → List ℕ → Type 0) (Passes : List ℕ → Type 
   abbrev pub AreScreened : Type 0
   AreScreened = (x : ℕ × (ℕ × term.Clause)) → IsAmong slots x → (row : List ℕ) × (slice_get rows x.0 ≡ Some row) × ((ns : List ℕ) → P (clause_of x.1.1).literals ns → Passes row)
 
-  -- the clauses from here on are named, behind those that were
+  -- the clauses from here on are named, after those that were
   abbrev AreNamedFrom : ℕ → Slots → List Mapped → List Mapped → Type 0
   AreNamedFrom k rest ms new = (others : List Mapped) × AreMappedFrom P k (clauses_of (placed_items rest)) others × (new ≡ ms ++ others)
 
@@ -75,7 +75,7 @@ module _ (P : List Literal → List ℕ → Type 0) (Passes : List ℕ → Type 
   unmapped_then k c cs ms new none later = (later.0, inr (none, later.1), later.2)
 
   module _ (screened : AreScreened) where
-    -- those before the place were settled, and the others stand there or behind it
+    -- those before the place were settled, and the others stand there or after it
     record IsAt (n : ℕ) (before rest : Slots) : Type 0 where
       pub whole : slots ≡ before ++ rest
       pub lower : AllByRecursion (λ (x : ℕ × (ℕ × term.Clause)). x.0 < n) before

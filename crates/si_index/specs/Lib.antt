@@ -5,7 +5,7 @@ pub mod Fitting
 pub mod Gathering
 pub mod Holding
 pub mod Kept
-pub mod Known
+pub mod Register
 pub mod Leaves
 pub mod Names
 pub mod Searching

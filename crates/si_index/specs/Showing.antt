@@ -20,7 +20,7 @@ use Rattle.si_index.specs.declared.found.Lent.{Lent}
 use Rattle.si_index.specs.declared.found.Shown.{Shown}
 
 -- The names are those of the variables, and the bindings stand for the canonical list, with the
--- numbers of the index and behind them those of the symbols that it lacks. Nothing else stands in
+-- numbers of the index and after them those of the symbols that it lacks. Nothing else stands in
 -- the list, and all symbols have numbers.
 pub record ShowsEntry (numbers : Numbering) (relation : Relation) (pattern : Pattern) (e : Entry)
     (s : Shown) : Type 0 where

@@ -16,11 +16,11 @@ use Rattle.si_term.specs.declared.clause.Clause as term
 use Rattle.si_held.specs.TwoTrees.{TwoTrees, Hold}
 use Rattle.si_sign.specs.Stores.{IsStored}
 use Rattle.si_index.specs.Kept.{clauses_of}
-use Rattle.si_index.specs.Known.{IsKnownOf}
+use Rattle.si_index.specs.Register.{IsKnownOf}
 use Rattle.si_index.specs.Names.{key_of}
-use Rattle.si_index.specs.declared.known.Known.{Known}
+use Rattle.si_index.specs.declared.register.Register.{Register}
 
-pub record IsKept (rules : Rules) (items : List (ℕ × term.Clause)) (known : Known) : Type 0 where
+pub record IsKept (rules : Rules) (items : List (ℕ × term.Clause)) (known : Register) : Type 0 where
   pub small : rules.entries ≤ MOST_OCCURRENCES
   pub stored : IsStored rules (clauses_of items)
   pub is_known : IsKnownOf items known
@@ -29,7 +29,7 @@ pub record IsKept (rules : Rules) (items : List (ℕ × term.Clause)) (known : K
 abbrev pub keyed_clauses : List (ℕ × term.Clause) → List (ℕ × Clause)
 keyed_clauses items = map (λ p. (p.0, clause_of p.1)) items
 
-abbrev pub AreHeld : List (ℕ × term.Clause) → Known → TwoTrees → Type 0
+abbrev pub AreHeld : List (ℕ × term.Clause) → Register → TwoTrees → Type 0
 AreHeld items known trees = Hold (numbering known.signature) (keyed_clauses items) trees
 
 -- a row that stands under the key of one of these clauses is the clause's, by these numbers
@@ -39,7 +39,7 @@ HaveRows numbers items rows = (key : ℕ) (c : term.Clause) (row : List ℕ) →
 
 -- The clause may be put beside these: its symbols have numbers, its name is free, and two trees hold
 -- the others' entries.
-pub record MayKeep (clause : term.Clause) (items : List (ℕ × term.Clause)) (known : Known)
+pub record MayKeep (clause : term.Clause) (items : List (ℕ × term.Clause)) (known : Register)
     (trees : TwoTrees) : Type 0 where
   pub sound : IsSoundClause (clause_of clause)
   pub numbered : unnumbered (numbering known.signature) (clause_symbols (clause_of clause)) ≡ []

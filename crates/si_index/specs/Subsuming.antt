@@ -44,7 +44,7 @@ pub record IsFlatFormula (direction : Direction) (formula : List Literal)
       flat.cells.now
   pub numbered : IsNumbering (numbering flat.signature.now)
 
--- The clause at this position was tried: it is named behind the others if it has a map, and with
+-- The clause at this position was tried: it is named after the others if it has a map, and with
 -- the least.
 abbrev pub Tries : (List Literal → List ℕ → Type 0) → ℕ → Clause → List Mapped
     → List Mapped → Type 0

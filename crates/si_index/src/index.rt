@@ -14,13 +14,13 @@ ghost use Rattle.si_keyed.specs.Keyed.{item_keys, HasKey};
 ghost use Rattle.si_tree.specs.Reading.{counts_of};
 ghost use Rattle.si_index.specs.Kept.{AreKeyed, IsEmpty, KeysStay, NumbersExactly, NumbersStay, TreesHold, clauses_of};
 ghost use Rattle.si_index.specs.Engines.{TreesAnswer};
-ghost use Rattle.si_index.specs.Known.{IsPut, HasPut};
+ghost use Rattle.si_index.specs.Register.{IsPut, HasPut};
 ghost use Rattle.si_index.specs.Stored.{AreHeld, HaveRows, MayKeep};
 ghost use Rattle.si_index.specs.Names.{key_of};
 ghost use Rattle.si_index.specs.Slots.{HasSlots, HaveSlotRows};
 
-use crate::known::Known;
 use crate::names::ClauseNames;
+use crate::register::Register;
 use si_forest::Trees;
 use si_keyed::{KeyedItems, KeyedList, Places};
 use si_lanes::Row;
@@ -59,7 +59,7 @@ pub struct Index {
     limit: u64,
     // Each with its row, so that a screen reads the rows one after the other.
     clauses: KeyedList<Clause, Row>,
-    known: Known,
+    known: Register,
     trees: Trees,
 }
 
@@ -98,7 +98,7 @@ impl Index {
             alloc,
             limit,
             clauses: KeyedList::new(alloc),
-            known: Known::new(alloc),
+            known: Register::new(alloc),
             trees: Trees::new(alloc)?,
         })
     }
@@ -223,7 +223,7 @@ fn put(
 fn keep(
     alloc: Global,
     clauses: &mut KeyedList<Clause, Row>,
-    known: &mut Known,
+    known: &mut Register,
     trees: &mut Trees,
     clause: Clause,
 ) -> Result<(), Clause>

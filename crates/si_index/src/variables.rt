@@ -42,7 +42,7 @@ impl<'a> Search<'a> {
     }
 }
 
-/// Puts the variables of a term behind those that were met, each once. `false` where there are more
+/// Puts the variables of a term after those that were met, each once. `false` where there are more
 /// than a few.
 #[cycle(meeting)]
 fn meet_term<'a>(term: &'a Term, met: &mut Vec<&'a [u8]>) -> Result<bool, AllocError>
@@ -70,7 +70,7 @@ fn meet_all<'a>(terms: &'a [Term], met: &mut Vec<&'a [u8]>) -> Result<bool, Allo
     Ok(true)
 }
 
-/// Puts a name behind those that were met, where it isn't among them. `false` where it would be one
+/// Puts a name after those that were met, where it isn't among them. `false` where it would be one
 /// too many.
 fn meet<'a>(name: &'a [u8], met: &mut Vec<&'a [u8]>) -> Result<bool, AllocError>
     ensures { IfOk result (λ all. IsTrue all → map (λ name. name.now) met.new.items

@@ -89,7 +89,7 @@ fn put_in_order(places: &mut Vec<Wanted>, leaves: usize) -> Result<(), AllocErro
     Ok(())
 }
 
-/// The number of a leaf, which is put behind the others where it isn't the last.
+/// The number of a leaf, which is put after the others where it isn't the last.
 fn number_of(leaves: &mut Vec<Leaf>, node: NodeId) -> Result<usize, AllocError>
     requires { AreUnmade leaves.old.items }
     ensures kept { OnOk result (StayMade leaves.old.items leaves.new.items) }

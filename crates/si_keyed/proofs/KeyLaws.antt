@@ -50,7 +50,7 @@ module _ {T : Type 0} where
   taken_back items key c d new fresh out =
       out.rest ∙ split_last items out.before out.after (key, c) (key, d) (λ h. fresh (key_among items (key, d) h)) out.whole
 
-  -- the key at the last position stands behind each item that isn't the last
+  -- the key at the last position stands after each item that isn't the last
   pub last_behind : (before : List (ℕ × T)) (x : ℕ × T) (after : List (ℕ × T)) (n key : ℕ) → slice_get (item_keys (before ++ x ∷ after)) n ≡ Some key
       → n + 1 ≡ length (before ++ x ∷ after) → 1 ≤ length after → HasKey after key
   last_behind [] x after zero key h last some = absurd (omega (arith, last, some))

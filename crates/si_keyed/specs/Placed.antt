@@ -5,7 +5,7 @@ use Rattle.si_defs.specs.Substitutions.{IsAmong}
 use Rattle.si_keyed.specs.declared.keyed.Kept.{Kept}
 
 module _ {T : Type 0} where
-  -- the keys and items in order, each behind its place; the first slot has the place n
+  -- the keys and items in order, each after its place; the first slot has the place n
   abbrev pub placed_from : ℕ → List (Option (Kept T)) → List (ℕ × (ℕ × T))
   placed_from n [] = []
   placed_from n (None ∷ slots) = placed_from (suc n) slots
@@ -19,7 +19,7 @@ module _ {T : Type 0} where
   abbrev pub HasPlace : List (ℕ × (ℕ × T)) → ℕ → Type 0
   HasPlace placed place = (x : ℕ × T) × IsAmong placed (place, x)
 
-  -- an item behind another one has a higher place
+  -- an item after another one has a higher place
   abbrev pub PlacesRise : List (ℕ × (ℕ × T)) → Type 0
   PlacesRise [] = Unit {0}
   PlacesRise (p ∷ placed) = AllByRecursion (λ q. p.0 < q.0) placed × PlacesRise placed

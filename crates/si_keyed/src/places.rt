@@ -12,7 +12,7 @@ use std::marker::Model;
 /// Where the items of a list stand among its slots. Places rise as positions do, and the place of a
 /// key is found by one read. So keys are put in order by their places.
 ///
-/// Contracts see the keys and items, in order, each behind its place.
+/// Contracts see the keys and items, in order, each after its place.
 #[derive(Drop)]
 pub struct Places<'a, T> {
     pub(crate) slots: &'a [Option<Kept<T>>],

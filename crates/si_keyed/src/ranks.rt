@@ -197,7 +197,7 @@ fn put_halves(counts: &[usize], sums: &mut Vec<usize>)
     }
 }
 
-/// The sum of the first two counts, or the only one, and the counts behind.
+/// The sum of the first two counts, or the only one, and the counts after.
 fn next_sum(counts: &[usize]) -> Option<(usize, &[usize])>
     requires { sum_of counts.now < 2 ^ 64 }
     ensures some { IfSome result (λ next. halves counts.now ≡ next.0 ∷ halves next.1.now) }

@@ -20,7 +20,7 @@ fronts : (us vs xs ys : List Token) (t u : Token) (ps qs : List Token) → us ++
 fronts us vs xs ys t u ps qs e f g = sym (ap (λ l. l ++ xs) f) ∙ e ∙ ap (λ l. l ++ ys) g
 
 -- ---- terms
--- the arguments behind the first are followed by no bracket
+-- the arguments after the first are followed by no bracket
 more_bare : (us : Terms) (ts rest : List Token) → AreMoreTerms us ts → NoBracket (ts ++ right_bracket ∷ rest)
 more_bare terms.none ts rest e = subst (λ l. NoBracket (l ++ right_bracket ∷ rest)) (sym e) (marks_apart 41 40 (λ f. absurd (omega (arith, f))), tt)
 more_bare (terms.more u us) ts rest (first, others, one, all, e) =

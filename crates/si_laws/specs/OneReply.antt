@@ -105,7 +105,7 @@ RightlyActs setting files state (a_line line) reply owed new =
     RightStep setting (Some files) state line reply owed new
 
 -- From this state on the requests have these right replies, of which none tells a failure, and the
--- new state stands behind them.
+-- new state stands after them.
 abbrev pub RightRun : Setting → Files → State → List Request → List Reply → State → Type 0
 RightRun setting files state [] replies new = (replies ≡ []) × (new ≡ state)
 RightRun setting files state (request ∷ requests) replies new =

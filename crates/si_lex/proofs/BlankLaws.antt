@@ -1,4 +1,4 @@
--- Blanks are found in one way only, so that the place behind the longest of them is one.
+-- Blanks are found in one way only, so that the place after the longest of them is one.
 use Rattle.std.proofs.Common.{◌≡◌, ◌≤◌, ◌<◌, Bool, true, false, cond, ◌&&◌, ◌||◌, ◌==◌, List, [], ◌∷◌, ◌++◌, length, drop, refl, ap, sym, ◌∙◌, subst, arith, append_assoc, length-append}
 use Rattle.std.specs.List.{list_any, AllByRecursion}
 use Rattle.std.proofs.lemmas.Bool.{or_parts, false≢true}
@@ -8,7 +8,7 @@ use Rattle.si_defs.specs.Texts.{IsPlace}
 use Rattle.si_defs.proofs.TokenLaws.{skips_nothing}
 use Rattle.si_lex.specs.Blanks.{NoBlankAt}
 
--- ---- what stands behind the blank at the front
+-- ---- what stands after the blank at the front
 abbrev behind_line : Bytes → Bytes
 behind_line [] = []
 behind_line (c ∷ cs) = cond (c == 10) cs (behind_line cs)
@@ -27,7 +27,7 @@ line_ends (c ∷ body) rest h =
     let k = or_parts (c == 10) (list_any (λ d. d == 10) body) h in
     rw k.0 (line_ends body rest k.1)
 
--- the first byte behind some bytes, with more behind it or not
+-- the first byte after some bytes, with more after it or not
 pub begins_same : (body rest : Bytes) → begins_with 47 (body ++ 42 ∷ []) ≡ begins_with 47 (body ++ 42 ∷ rest)
 begins_same [] rest = refl
 begins_same (c ∷ body) rest = refl
@@ -47,11 +47,11 @@ behind_blank_is blank rest (line_comment comment e c) =
 behind_blank_is blank rest (block_comment c) =
     subst (λ b. behind_blank (b ++ rest) ≡ rest) (sym c.1) (ap behind_close (append_assoc c.0 (42 ∷ 47 ∷ []) rest) ∙ comment_closes c.0 rest c.2)
 
--- two blanks at one place have the same bytes behind them
+-- two blanks at one place have the same bytes after them
 pub blank_unique : (a b r s : Bytes) → IsBlank a → IsBlank b → a ++ r ≡ b ++ s → r ≡ s
 blank_unique a b r s p q e = sym (behind_blank_is a r p) ∙ ap behind_blank e ∙ behind_blank_is b s q
 
--- ---- blanks behind blanks
+-- ---- blanks after blanks
 pub skips_first : (bytes blank rest place : Bytes) → IsBlank blank → bytes ≡ blank ++ rest → Skips rest place → Skips bytes place
 skips_first bytes blank rest place b e s = record {
   blanks = blank ∷ s.blanks;
@@ -73,7 +73,7 @@ skips_none bytes place n s = at s.blanks s.each s.whole where
   at [] each e = sym e
   at (b ∷ bs) each e = absurd (n b (joined bs ++ place) each.0 (e ∙ append_assoc b (joined bs) place))
 
--- blanks that end where no blank stands are the longest: behind any others the rest of them stands
+-- blanks that end where no blank stands are the longest: after any others the rest of them stands
 pub skips_further : (bytes place other : Bytes) → Skips bytes place → NoBlankAt place → Skips bytes other → Skips other place
 skips_further bytes place other s n t = walk s.blanks s.each t.blanks t.each bytes s.whole t.whole where
   walk : (ps : List Bytes) → AllByRecursion IsBlank ps → (qs : List Bytes) → AllByRecursion IsBlank qs
@@ -89,7 +89,7 @@ skips_further bytes place other s n t = walk s.blanks s.each t.blanks t.each byt
 pub skips_shorter : (bytes place : Bytes) → Skips bytes place → length place ≤ length bytes
 skips_shorter bytes place s = let e = ap length s.whole ∙ length-append (joined s.blanks) place in omega arith
 
--- so they end at the place behind the longest blanks
+-- so they end at the place after the longest blanks
 pub place_where : (bytes place : Bytes) → Skips bytes place → NoBlankAt place → IsPlace bytes place
 place_where bytes place s n = record {
   skips = s;
@@ -110,12 +110,12 @@ place_no_blank bytes place p blank rest b e =
     let s = blank_some blank b in
     omega arith
 
--- the place behind the longest blanks is the only one
+-- the place after the longest blanks is the only one
 pub place_unique : (bytes place other : Bytes) → IsPlace bytes place → IsPlace bytes other → place ≡ other
 place_unique bytes place other p q =
     skips_none other place (place_no_blank bytes other q) (skips_further bytes place other p.skips (place_no_blank bytes place p) q.skips)
 
--- nothing stands behind the end
+-- nothing stands after the end
 pub skips_nil : (place : Bytes) → Skips [] place → place ≡ []
 skips_nil place s = at_end s.blanks place s.whole where
   at_end : (blanks : List Bytes) (p : Bytes) → [] ≡ joined blanks ++ p → p ≡ []

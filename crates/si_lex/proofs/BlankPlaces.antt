@@ -21,7 +21,7 @@ one_white bytes at l h = record {
   blank = inl (get_or bytes at 0 ∷ [], white (get_or bytes at 0) refl h, drop_more bytes at 0 l);
 }
 
--- the bytes behind a place
+-- the bytes after a place
 behind_place : (bytes : Bytes) (at end n : ℕ) → end ≡ at + n → drop end bytes ≡ drop n (drop at bytes)
 behind_place bytes at end n e = ap (λ k. drop k bytes) e ∙ sym (drop-drop n at bytes)
 
@@ -80,7 +80,7 @@ one_comment bytes at close l g b m e h =
       );
     }
 
--- behind a slash no blank stands but a closed comment
+-- after a slash no blank stands but a closed comment
 no_blank_slash : (cs : Bytes) → ((body rest : Bytes) → cs ≡ 42 ∷ (body ++ 42 ∷ 47 ∷ rest) → ⊥) → NothingBlankAt (47 ∷ cs)
 no_blank_slash cs n = (none, λ k. false≢true (ap (begins_with 37) k.1)) where
   none : NoBlankAt (47 ∷ cs)
@@ -127,7 +127,7 @@ no_blank_other bytes at l p q w = (none, λ k. p (let f = here ∙ k.1 in cc)) w
       p (let g = here ∙ e ∙ ap (λ x. x ++ rest) f ∙ ap (λ x. x ++ 10 ∷ [] ++ rest) k.1 in cc)
   none blank rest (block_comment k) e = q (let g = here ∙ e ∙ ap (λ x. x ++ rest) k.1 in cc)
 
--- what goes on behind blanks is not blanks alone
+-- what goes on after blanks is not blanks alone
 not_blanks : (bytes place : Bytes) → Skips bytes place → NothingBlankAt place → (place ≡ [] → ⊥) → AreBlanks bytes → ⊥
 not_blanks bytes place s n some a = at a.ends where
   further : Skips a.rest place

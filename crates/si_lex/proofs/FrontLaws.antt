@@ -87,7 +87,7 @@ token_upper c cs h =
           let r : length o ≤ prefix_len is_word_byte cs = rw f (run_longest is_word_byte o behind w.1) in
           rw (length-prefix_len is_word_byte cs) r
 
--- ---- words behind dollar signs
+-- ---- words after dollar signs
 -- a spelling that begins with a dollar sign is such a word
 dollar_spelling : (k : TokenKind) (text o : Bytes) → Spells k text (36 ∷ o) → is_dollar_word (36 ∷ o) ≡ true
 dollar_spelling k text o s = by o s (sym (kind_of-spelling k text (36 ∷ o) s)) where
@@ -98,7 +98,7 @@ dollar_spelling k text o s = by o s (sym (kind_of-spelling k text (36 ∷ o) s))
   by [] s e = mark k s e
   by (d ∷ ds) s e = let t : Spells Dollar text (36 ∷ d ∷ ds) = subst (λ x. Spells x text (36 ∷ d ∷ ds)) e s in subst (λ x. is_dollar_word x ≡ true) (sym t.0) t.1
 
--- behind one dollar sign stands a lower word, or another dollar sign
+-- after one dollar sign stands a lower word, or another dollar sign
 one_dollar : (o : Bytes) → is_dollar_word (36 ∷ o) ≡ true → (is_lower_word o ≡ true) ⊎ ((ds : Bytes) × (o ≡ 36 ∷ ds) × (is_lower_word ds ≡ true))
 one_dollar [] h = absurd (false≢true h)
 one_dollar (d ∷ ds) h = by (or_cases (is_lower_word (d ∷ ds)) (d == 36 && is_lower_word ds) h) where
@@ -232,7 +232,7 @@ sign_alone : (c : ℕ) → is_sign c ≡ true
 sign_alone c h =
     (grind (arith, nat_tests), grind (arith, nat_tests), grind (arith, nat_tests), grind (arith, nat_tests), grind (arith, nat_tests), grind (arith, nat_tests), grind (arith, nat_tests), grind (arith, nat_tests))
 
--- a spelling that begins with a sign is the sign, or a decimal stands behind it
+-- a spelling that begins with a sign is the sign, or a decimal stands after it
 sign_spelling : (c : ℕ) → is_sign c ≡ true → (k : TokenKind) (text o : Bytes) → Spells k text (c ∷ o) → (o ≡ []) ⊎ (is_decimal o ≡ true)
 sign_spelling c h k text [] s = inl refl
 sign_spelling c h k text (d ∷ ds) s =
@@ -247,7 +247,7 @@ sign_spelling c h k text (d ∷ ds) s =
 signed_integer : (c : ℕ) (o : Bytes) → is_sign c ≡ true → is_decimal o ≡ true → is_integer (c ∷ o) ≡ true
 signed_integer c o h k = or_right (is_decimal (c ∷ o)) (is_sign c && is_decimal o) (and_from (is_sign c) (is_decimal o) h k)
 
--- no spelling that begins with a sign is longer than the decimal behind it
+-- no spelling that begins with a sign is longer than the decimal after it
 sign_longest : (c : ℕ) (cs : Bytes) → is_sign c ≡ true → EachFrom c cs (λ k text o. length o ≤ decimal_len cs)
 sign_longest c cs h k text o behind s f = by (sign_spelling c h k text o s) where
   by : (o ≡ []) ⊎ (is_decimal o ≡ true) → length o ≤ decimal_len cs
@@ -353,7 +353,7 @@ double_spelling k text o s = by o s (sym (kind_of-spelling k text (34 ∷ o) s))
   by [] s e = let t : Spells Mark text (34 ∷ []) = subst (λ x. Spells x text (34 ∷ [])) e s in absurd (false≢true (spelling_leads Mark text 34 [] t))
   by (d ∷ ds) s e = subst (λ x. Spells x text (34 ∷ d ∷ ds)) e s
 
--- what stands behind a quoted text is what the search finds
+-- what stands after a quoted text is what the search finds
 quoted_rest : (quote : ℕ) (cs text o behind : Bytes) → (92 == quote) ≡ false → quote ∷ o ≡ quoted quote text → list_all is_printable text ≡ true → cs ≡ o ++ behind
     → behind_quote quote false cs ≡ Some behind
 quoted_rest quote cs text o behind q s p f =
@@ -369,7 +369,7 @@ quoted_longest cs o behind other rest f g e =
     let n = ap length e in
     omega arith
 
--- some characters and the quote behind them
+-- some characters and the quote after them
 abbrev pub closed_text : ℕ → Bytes → Bytes
 closed_text quote text = flat_map (escaped quote) text ++ quote ∷ []
 

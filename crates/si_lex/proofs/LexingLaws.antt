@@ -10,8 +10,8 @@ use Rattle.si_defs.specs.Texts.{IsPlace}
 use Rattle.si_defs.proofs.TokenLaws.{begins_append, begins_split}
 use Rattle.si_lex.specs.declared.lexeme.Lexeme.{Lexeme}
 use Rattle.si_lex.specs.declared.lexing.Lexing.{Lexing}
-use Rattle.si_lex.specs.declared.lexing.Stop.{Stop}
-use Rattle.si_lex.specs.declared.lexing.Stop.TheVariants.{End, Bad, FullStop}
+use Rattle.si_lex.specs.declared.lexing.TokensEnd.{TokensEnd}
+use Rattle.si_lex.specs.declared.lexing.TokensEnd.TheVariants.{End, Bad, FullStop}
 use Rattle.si_lex.specs.Lexemes.{token_of, tokens_of}
 use Rattle.si_lex.specs.Places.{IsBehindBlanks, IsLexemeAt, NoTokenWithin}
 use Rattle.si_lex.specs.FullStops.{IsStop, HasNoStop, GoesToStop, EndsAtStop}
@@ -20,7 +20,7 @@ use Rattle.si_lex.proofs.BlankLaws.{place_unique}
 use Rattle.si_lex.proofs.TokenLaws.{next_place, blanks_none, begins_unique, begins_prefix}
 
 -- ---- open brackets
--- the number of brackets that are open behind some tokens
+-- the number of brackets that are open after some tokens
 abbrev pub depth_from : ℕ → List Token → ℕ
 depth_from d [] = d
 depth_from d (t ∷ ts) = depth_from (open_behind d t) ts
@@ -35,7 +35,7 @@ pub nesting_from-append : (d : ℕ) (ts us : List Token) → nesting_from d (ts 
 nesting_from-append d [] us = omega (arith, depth-le-nesting d us)
 nesting_from-append d (t ∷ ts) us = omega (arith, nesting_from-append (open_behind d t) ts us)
 
--- the number of open brackets behind one more token
+-- the number of open brackets after one more token
 pub depth_push : (d : ℕ) (ts : List Token) (t : Token) → depth_from d (ts ++ t ∷ []) ≡ open_behind (depth_from d ts) t
 depth_push d [] t = refl
 depth_push d (u ∷ us) t = depth_push (open_behind d u) us t
@@ -51,7 +51,7 @@ ends_push : (d : ℕ) (ts : List Token) (t : Token) → HasNoStop d ts → IsSto
 ends_push d [] t h s = inl (s, refl)
 ends_push d (u ∷ us) t h s = inr (h.0, ends_push (open_behind d u) us t h.1 s)
 
--- behind the end of an item nothing stands
+-- after the end of an item nothing stands
 nothing_behind_stop : (d : ℕ) (ts : List Token) (u : Token) (us : List Token) → EndsAtStop d ts → GoesToStop d (ts ++ u ∷ us) → ⊥
 nothing_behind_stop d [] u us e g = e
 nothing_behind_stop d (t ∷ ts) u us (inl e) g = nothing ts (g.0 e.0) where
@@ -61,7 +61,7 @@ nothing_behind_stop d (t ∷ ts) u us (inl e) g = nothing ts (g.0 e.0) where
 nothing_behind_stop d (t ∷ ts) u us (inr e) g = nothing_behind_stop (open_behind d t) ts u us e.1 g.1
 
 -- ---- the tokens so far
--- the tokens up to the place behind the blanks behind them, and the number of brackets that are
+-- the tokens up to the place after the blanks after them, and the number of brackets that are
 -- open there
 pub record IsSoFar (item : Bool) (bytes : Bytes) (at start : ℕ) (tokens : List Lexeme) (depth place : ℕ) : Type 0 where
   pub rest : Bytes
@@ -131,7 +131,7 @@ so_far_more item bytes at start tokens depth place next l s w k d n m b =
     }
 
 -- ---- where they stop
--- the first place behind blanks
+-- the first place after blanks
 pub first_place : (bytes : Bytes) (at start : ℕ) → IsBehindBlanks bytes (drop at bytes) start → (AreBlanks (drop at bytes) → ⊥) → IsPlace (drop at bytes) (drop start bytes)
 first_place bytes at start b n =
     elim (cases_lt start (length bytes)) [
@@ -144,7 +144,7 @@ first_no_blanks : (bytes rest : Bytes) (ts : List Token) → Begins bytes ts res
 first_no_blanks bytes rest [] b n a = n refl
 first_no_blanks bytes rest (t ∷ ts) b n a = blanks_none bytes a t b.0 b.1
 
--- nor are they where one stands behind those so far
+-- nor are they where one stands after those so far
 pub so_far_some : (item : Bool) (bytes : Bytes) (at start : ℕ) (tokens : List Lexeme) (depth place : ℕ) (l : Lexeme) → IsSoFar item bytes at start tokens depth place
     → place < length bytes → IsLexemeAt bytes place l → AreBlanks (drop at bytes) → ⊥
 so_far_some item bytes at start tokens depth place l s w k a =
@@ -157,14 +157,14 @@ so_far_some item bytes at start tokens depth place l s w k a =
 
 -- why no more tokens are taken, but for a full stop: only blanks follow, or no token, or brackets
 -- would nest too deep
-pub record IsOver (rest : Bytes) (depth : ℕ) (stop : Stop) : Type 0 where
+pub record IsOver (rest : Bytes) (depth : ℕ) (stop : TokensEnd) : Type 0 where
   pub no_stop : stop ≡ FullStop → ⊥
   pub blanks : stop ≡ End → AreBlanks rest
   pub more : (stop ≡ End → ⊥) → AreBlanks rest → ⊥
   pub deep : (u : Token) (after : Bytes) → NextToken rest u after → DEEPEST_NESTING < open_behind depth u
 
 -- no longer list of tokens is nested so that it could go on
-too_deep : (ts : List Token) (bytes rest behind : Bytes) (u : Token) (us : List Token) (stop : Stop) → Begins bytes ts rest → IsOver rest (depth_from 0 ts) stop
+too_deep : (ts : List Token) (bytes rest behind : Bytes) (u : Token) (us : List Token) (stop : TokensEnd) → Begins bytes ts rest → IsOver rest (depth_from 0 ts) stop
     → Begins bytes (ts ++ u ∷ us) behind → nesting (ts ++ u ∷ us) ≤ DEEPEST_NESTING → ⊥
 too_deep ts bytes rest behind u us stop b o g n =
     let s = begins_split ts (u ∷ us) bytes behind g in
@@ -174,7 +174,7 @@ too_deep ts bytes rest behind u us stop b o g n =
     let least = depth-le-nesting (open_behind (depth_from 0 ts) u) us in
     omega arith
 
-over_every : (tokens : List Token) (bytes rest : Bytes) (stop : Stop) → Begins bytes tokens rest → IsOver rest (depth_from 0 tokens) stop
+over_every : (tokens : List Token) (bytes rest : Bytes) (stop : TokensEnd) → Begins bytes tokens rest → IsOver rest (depth_from 0 tokens) stop
     → (ts : List Token) (behind : Bytes) → Begins bytes ts behind → nesting ts ≤ DEEPEST_NESTING → (others : List Token) × (tokens ≡ ts ++ others)
 over_every tokens bytes rest stop b o ts behind g n = by (begins_prefix tokens ts bytes rest behind b g) where
   longer : (more : List Token) → ts ≡ tokens ++ more → (others : List Token) × (tokens ≡ ts ++ others)
@@ -186,7 +186,7 @@ over_every tokens bytes rest stop b o ts behind g n = by (begins_prefix tokens t
   by (inl m) = m
   by (inr m) = longer m.0 m.1
 
-over_whole : (tokens : List Token) (bytes rest : Bytes) (stop : Stop) → ((stop ≡ End) ⊎ (stop ≡ End → ⊥)) → Begins bytes tokens rest → IsOver rest (depth_from 0 tokens) stop
+over_whole : (tokens : List Token) (bytes rest : Bytes) (stop : TokensEnd) → ((stop ≡ End) ⊎ (stop ≡ End → ⊥)) → Begins bytes tokens rest → IsOver rest (depth_from 0 tokens) stop
     → (ts : List Token) → Consists bytes ts → nesting ts ≤ DEEPEST_NESTING → (stop ≡ End) × (tokens ≡ ts)
 over_whole tokens bytes rest stop d b o ts c n = by d (over_every tokens bytes rest stop b o ts c.rest c.begins n) where
   none : (others : List Token) → tokens ≡ ts ++ others → tokens ≡ ts
@@ -283,7 +283,7 @@ lexing_bad item bytes at l depth s w n e =
           n u after (subst (λ p. TokenAt p u after) same k.stands);
     })
 
--- behind a full stop outside brackets
+-- after a full stop outside brackets
 pub lexing_stop : (bytes : Bytes) (at : ℕ) (l : Lexing) (tokens : List Lexeme) (depth place : ℕ) (t : Lexeme) → IsSoFar true bytes at l.start tokens depth place
     → place < length bytes → IsLexemeAt bytes place t → open_behind depth (token_of t) ≤ DEEPEST_NESTING → IsStop depth (token_of t)
     → l.tokens.items ≡ tokens ++ t ∷ [] → l.end ≡ place + length t.spelling.now → l.stop ≡ FullStop → IsItemLexing bytes at l

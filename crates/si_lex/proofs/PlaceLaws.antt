@@ -31,7 +31,7 @@ token_to bytes at end kind spelling rest l w f e t =
       stands = subst (λ x. TokenAt (drop at bytes) (token_by kind x) (drop end bytes)) (sym s.0) (subst (λ r. TokenAt (drop at bytes) (token_by kind spelling) r) (sym s.1) t);
     }
 
--- a byte and a run behind it
+-- a byte and a run after it
 pub token_run : (bytes : Bytes) (at end : ℕ) (kind : TokenKind) (c n : ℕ) → at < length bytes → end ≡ at + 1 + n → end ≤ length bytes → get_or bytes at 0 ≡ c
     → TokenAt (c ∷ drop (at + 1) bytes) (token_by kind (c ∷ take n (drop (at + 1) bytes))) (drop n (drop (at + 1) bytes)) → IsTokenTo bytes at kind end
 token_run bytes at end kind c n l e w g t =

@@ -1,4 +1,4 @@
--- Which token stands at the front of a text, by its spelling and the first byte behind it.
+-- Which token stands at the front of a text, by its spelling and the first byte after it.
 use Rattle.std.proofs.Common.{◌≡◌, ℕ, ◌≤◌, Bool, true, false, cond, not, ◌&&◌, ◌||◌, ◌==◌, [], ◌∷◌, ◌++◌, length, codes, Some, refl, ap, sym, ◌∙◌, subst, ◌⊎◌, inl, inr, arith, append_assoc, length-append}
 use Rattle.std.specs.List.{list_all, flat_map}
 use Rattle.std.proofs.lemmas.Bool.{and_parts, or_cases, false≢true, not-true, eqb-true, eq-eqb}
@@ -80,7 +80,7 @@ lower_bytes (c ∷ o) h =
     let b : is_word_byte c ≡ true = rw w.0 refl in
     rw b w.1
 
--- all but the first of those behind a dollar sign
+-- all but the first of those after a dollar sign
 dollar_bytes : (d : ℕ) (ds : Bytes) → is_dollar_word (36 ∷ d ∷ ds) ≡ true → list_all is_word_byte ds ≡ true
 dollar_bytes d ds h = by (or_cases (is_lower_word (d ∷ ds)) (d == 36 && is_lower_word ds) h) where
   by : (is_lower_word (d ∷ ds) ≡ true) ⊎ ((d == 36 && is_lower_word ds) ≡ true) → list_all is_word_byte ds ≡ true
@@ -106,7 +106,7 @@ decimal_digits (c ∷ d ∷ o) h =
       digit : (c : ℕ) → is_between 49 57 c ≡ true → is_digit c ≡ true
       digit c h = grind (arith, nat_tests)
 
--- behind the first byte of an integer stand digits
+-- after the first byte of an integer stand digits
 integer_digits : (c d : ℕ) (ds : Bytes) → is_integer (c ∷ d ∷ ds) ≡ true → list_all is_digit (d ∷ ds) ≡ true
 integer_digits c d ds h = by (or_cases (is_decimal (c ∷ d ∷ ds)) ((c == 43 || c == 45) && is_decimal (d ∷ ds)) h) where
   by : (is_decimal (c ∷ d ∷ ds) ≡ true) ⊎ (((c == 43 || c == 45) && is_decimal (d ∷ ds)) ≡ true) → list_all is_digit (d ∷ ds) ≡ true
@@ -125,7 +125,7 @@ integer_longest c cs rest h n k text (d ∷ ds) behind s e =
     let t = of_kind k Int text (c ∷ d ∷ ds) (integer_kind c d ds h) s in
     run_stops is_digit cs rest (d ∷ ds) behind n e (integer_digits c d ds (subst (λ x. is_integer x ≡ true) (sym t.0) t.1))
 
--- behind a zero an integer ends
+-- after a zero an integer ends
 zero_longest : (rest : Bytes) → IsLongestFrom 48 [] rest
 zero_longest rest k text [] behind s e = omega arith
 zero_longest rest k text (d ∷ ds) behind s e =
@@ -133,7 +133,7 @@ zero_longest rest k text (d ∷ ds) behind s e =
     absurd (false≢true (subst (λ x. is_integer x ≡ true) (sym t.0) t.1))
 
 -- ---- quoted texts
--- what the search behind the quote finds, in a quoted text with more behind it
+-- what the search after the quote finds, in a quoted text with more after it
 closed : (quote : ℕ) (text rest : Bytes) → (92 == quote) ≡ false → list_all is_printable text ≡ true
     → behind_quote quote false ((flat_map (escaped quote) text ++ quote ∷ []) ++ rest) ≡ Some rest
 closed quote text rest q p =

@@ -160,7 +160,7 @@ lower_within (c ∷ cs) =
     elim (is_small_letter c) as (λ v. cond v (1 + prefix_len is_word_byte cs) 0 ≤ length (c ∷ cs)) [ true ↦ omega arith | false ↦ omega arith ]
 
 -- ---- quoted texts
--- the search finds the quote behind the characters
+-- the search finds the quote after the characters
 pub quote_found : (quote : ℕ) (text rest : Bytes) → (92 == quote) ≡ false → list_all is_printable text ≡ true
     → behind_quote quote false (flat_map (escaped quote) text ++ quote ∷ rest) ≡ Some rest
 quote_found quote [] rest q h = rw (eq-eqb quote quote refl) refl
@@ -172,7 +172,7 @@ quote_found quote (c ∷ cs) rest q h =
       step more r k true e = rw (q, e) r
       step more r k false e = let n = or_parts (c == quote) (c == 92) e in rw (n.0, n.1, k) r
 
--- bytes behind a backslash, if one stands before
+-- bytes after a backslash, if one stands before
 abbrev with_backslash : Bool → Bytes → Bytes
 with_backslash true bytes = 92 ∷ bytes
 with_backslash false bytes = bytes
@@ -181,7 +181,7 @@ with_backslash false bytes = bytes
 abbrev pub AreCharacters : ℕ → Bytes → Bytes → Type 0
 AreCharacters quote bytes rest = (text : Bytes) × (list_all is_printable text ≡ true) × (bytes ≡ flat_map (escaped quote) text ++ quote ∷ rest)
 
--- a byte that stands behind a backslash is a character
+-- a byte that stands after a backslash is a character
 escaped_printable : (quote c : ℕ) → is_printable quote ≡ true → (c == quote || c == 92) ≡ true → is_printable c ≡ true
 escaped_printable quote c q e =
     elim (or_cases (c == quote) (c == 92) e) [ inl h ↦ rw (eqb-true c quote h) q | inr h ↦ rw (eqb-true c 92 h) refl ]

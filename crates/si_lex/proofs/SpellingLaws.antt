@@ -131,7 +131,7 @@ mark_other c h = (
 mark_kind : (c : ℕ) → is_mark c ≡ true → kind_of (c ∷ []) ≡ Mark
 mark_kind c h = let n = mark_other c h in rw (n.0, n.1, n.2) refl
 
--- behind the quote that opens something stands
+-- after the quote that opens something stands
 quoted_more : (quote : ℕ) (text : Bytes) → (c : ℕ) × (cs : Bytes) × (flat_map (escaped quote) text ++ quote ∷ [] ≡ c ∷ cs)
 quoted_more quote [] = (quote, [], refl)
 quoted_more quote (d ∷ ds) = by (d == quote || d == 92) where
@@ -157,7 +157,7 @@ kind_of-spelling NotEqual text (c ∷ o) s = ap kind_of (s.0 ∙ s.1)
 kind_of-spelling Mark text (c ∷ o) s = ap kind_of (s.0 ∙ s.1.1) ∙ mark_kind s.1.0 s.1.2
 
 -- ---- the text
--- a character that is no backslash, or stands behind one, is kept
+-- a character that is no backslash, or stands after one, is kept
 unescaped_one : (quote c : ℕ) (rest : Bytes) → unescaped_behind false (escaped quote c ++ rest) ≡ c ∷ unescaped_behind false rest
 unescaped_one quote c rest = by (c == quote || c == 92) refl where
   by : (b : Bool) → (c == quote || c == 92) ≡ b → unescaped_behind false (cond b (92 ∷ c ∷ []) (c ∷ []) ++ rest) ≡ c ∷ unescaped_behind false rest

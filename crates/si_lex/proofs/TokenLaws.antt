@@ -87,7 +87,7 @@ blanks_none bytes b t r n = at b.ends where
   at (inr k) = token_no_line b.rest t r (subst (λ p. TokenAt p t r) (skips_none b.rest n.place (line_open b.rest k) further) n.stands) k
 
 -- ---- lists of tokens
--- the same tokens have the same bytes behind them
+-- the same tokens have the same bytes after them
 pub begins_unique : (ts : List Token) (bytes r s : Bytes) → Begins bytes ts r → Begins bytes ts s → r ≡ s
 begins_unique [] bytes r s a b = sym a ∙ b
 begins_unique (t ∷ ts) bytes r s a b =

@@ -71,7 +71,7 @@ not_equal_to bytes at l g b m =
     token_to bytes at (at + 2) NotEqual (33 ∷ 61 ∷ []) (drop (at + 2) bytes) (omega arith) (omega arith) f refl
     (subst (λ x. TokenAt x (FrontLaws.token_by NotEqual (33 ∷ 61 ∷ [])) (drop (at + 2) bytes)) (sym f) (FrontLaws.token_not_equal (drop (at + 2) bytes)))
 
--- ---- words behind dollar signs
+-- ---- words after dollar signs
 pub dollar_to : (bytes : Bytes) (at end : ℕ) → at < length bytes → get_or bytes at 0 ≡ 36 → begins_with 36 (drop (at + 1) bytes) ≡ false
     → end ≡ at + 1 + lower_len (drop (at + 1) bytes) → end ≤ length bytes → at + 1 < end → IsTokenTo bytes at Dollar end
 dollar_to bytes at end l g b e w m =

@@ -39,7 +39,7 @@ is_in_words Small = true
 is_in_words Underscore = true
 is_in_words first = false
 
--- the number of brackets that are open behind what begins so, where this many are open before
+-- the number of brackets that are open after what begins so, where this many are open before
 abbrev pub depth_behind : ℕ → First → ℕ
 depth_behind depth Opening = depth + 1
 depth_behind depth Closing = depth - 1

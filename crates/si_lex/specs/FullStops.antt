@@ -12,7 +12,7 @@ abbrev pub HasNoStop : ℕ → List Token → Type 0
 HasNoStop depth [] = Unit {0}
 HasNoStop depth (t ∷ ts) = (IsStop depth t → ⊥) × HasNoStop (open_behind depth t) ts
 
--- behind a full stop outside brackets nothing stands
+-- after a full stop outside brackets nothing stands
 abbrev pub GoesToStop : ℕ → List Token → Type 0
 GoesToStop depth [] = Unit {0}
 GoesToStop depth (t ∷ ts) = (IsStop depth t → ts ≡ []) × GoesToStop (open_behind depth t) ts

@@ -5,13 +5,13 @@ use Rattle.si_defs.specs.Tokens.{Token, Begins, Consists, AreBlanks}
 use Rattle.si_defs.specs.Grammar.{nesting}
 use Rattle.si_defs.specs.declared.TheConstants.{DEEPEST_NESTING}
 use Rattle.si_lex.specs.declared.lexing.Lexing.{Lexing}
-use Rattle.si_lex.specs.declared.lexing.Stop.TheVariants.{End, Bad, FullStop}
+use Rattle.si_lex.specs.declared.lexing.TokensEnd.TheVariants.{End, Bad, FullStop}
 use Rattle.si_lex.specs.Lexemes.{tokens_of}
 use Rattle.si_lex.specs.Places.{IsBehindBlanks}
 use Rattle.si_lex.specs.FullStops.{HasNoStop, GoesToStop, EndsAtStop}
 
--- What was read, whichever tokens are wanted: `start` is the place behind the longest blanks, and
--- so is `end` behind what was read, but where a full stop ends it.
+-- What was read, whichever tokens are wanted: `start` is the place after the longest blanks, and
+-- so is `end` after what was read, but where a full stop ends it.
 pub record IsLexed (bytes : Bytes) (at : ℕ) (l : Lexing) (rest : Bytes) : Type 0 where
   pub from : at ≤ l.start
   pub onward : l.start ≤ l.end
@@ -30,7 +30,7 @@ pub record IsLexed (bytes : Bytes) (at : ℕ) (l : Lexing) (rest : Bytes) : Type
 
 -- All tokens, up to the first place where none stands or where brackets would nest too deep.
 pub record IsLexing (bytes : Bytes) (at : ℕ) (l : Lexing) : Type 0 where
-  -- what stands behind the last token
+  -- what stands after the last token
   pub rest : Bytes
   pub read : IsLexed bytes at l rest
   pub no_stop : l.stop ≡ FullStop → ⊥
@@ -46,7 +46,7 @@ pub record IsLexing (bytes : Bytes) (at : ℕ) (l : Lexing) : Type 0 where
 pub record IsItemLexing (bytes : Bytes) (at : ℕ) (l : Lexing) : Type 0 where
   pub rest : Bytes
   pub read : IsLexed bytes at l rest
-  -- behind a full stop nothing was read
+  -- after a full stop nothing was read
   pub stop : l.stop ≡ FullStop → EndsAtStop 0 (tokens_of l.tokens.items) × (rest ≡ drop l.end bytes)
   pub no_stop : (l.stop ≡ FullStop → ⊥) → HasNoStop 0 (tokens_of l.tokens.items)
   -- whatever tokens the bytes begin with, nested no deeper and up to a full stop at most, they are

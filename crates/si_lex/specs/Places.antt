@@ -1,4 +1,4 @@
--- What stands at a place of some bytes: the place behind the blanks, and the token there.
+-- What stands at a place of some bytes: the place after the blanks, and the token there.
 use Rattle.std.specs.Prelude.{◌≡◌, ℕ, ◌+◌, ◌<◌, ◌≤◌, length, drop}
 use Rattle.std.specs.List.{slice_range}
 use Rattle.si_defs.specs.Bytes.{Bytes}
@@ -15,7 +15,7 @@ use Rattle.si_lex.specs.declared.token.Lexed.TheVariants as lexed
 use Rattle.si_lex.specs.Texts.{text_of}
 use Rattle.si_lex.specs.Lexemes.{token_of}
 
--- the place behind the longest blanks, or the end where nothing but blanks stands
+-- the place after the longest blanks, or the end where nothing but blanks stands
 pub record IsBehindBlanks (bytes : Bytes) (rest : Bytes) (place : ℕ) : Type 0 where
   pub within : place ≤ length bytes
   pub more : place < length bytes → IsPlace rest (drop place bytes)
@@ -37,7 +37,7 @@ abbrev pub NoTokenWithin : Bytes → ℕ → ℕ → Type 0
 NoTokenWithin bytes at depth = (t : defs.Token) (rest : Bytes) → TokenAt (drop at bytes) t rest
     → DEEPEST_NESTING < open_behind depth t
 
--- this is the token at the place, and so many brackets are open behind it, which is not too deep
+-- this is the token at the place, and so many brackets are open after it, which is not too deep
 pub record IsLexemeWithin (bytes : Bytes) (at depth : ℕ) (l : Lexeme) (behind : ℕ) : Type 0 where
   pub stands : IsLexemeAt bytes at l
   pub opened : behind ≡ open_behind depth (token_of l)
@@ -51,7 +51,7 @@ pub record IsTokenTo (bytes : Bytes) (at : ℕ) (kind : TokenKind) (end : ℕ) :
       (record { kind = kind; text = text_of kind (slice_range bytes at end) }) (drop end bytes)
 
 -- ---- with its text
--- the token behind the blanks
+-- the token after the blanks
 pub record IsNextToken (bytes : Bytes) (at : ℕ) (t : Token) : Type 0 where
   pub from : at ≤ t.start
   pub some : t.start < t.end
@@ -61,7 +61,7 @@ pub record IsNextToken (bytes : Bytes) (at : ℕ) (t : Token) : Type 0 where
       (drop t.end bytes)
   pub more : AreBlanks (drop at bytes) → ⊥
 
--- behind the longest blanks, at this place, no token stands, and the bytes go on
+-- after the longest blanks, at this place, no token stands, and the bytes go on
 pub record IsNextBad (bytes : Bytes) (at place : ℕ) : Type 0 where
   pub from : at ≤ place
   pub within : place < length bytes
@@ -69,12 +69,12 @@ pub record IsNextBad (bytes : Bytes) (at place : ℕ) : Type 0 where
   pub none : NoTokenAt (drop place bytes)
   pub more : AreBlanks (drop at bytes) → ⊥
 
--- what stands behind the blanks from a place on
+-- what stands after the blanks from a place on
 abbrev pub IsNext : Bytes → ℕ → Lexed → Type 0
 IsNext bytes at (lexed.Token t) = IsNextToken bytes at t
 IsNext bytes at lexed.End = AreBlanks (drop at bytes)
 IsNext bytes at (lexed.Bad place) = IsNextBad bytes at place
 
--- a token stands behind the blanks
+-- a token stands after the blanks
 abbrev pub TokenStands : Bytes → ℕ → Type 0
 TokenStands bytes at = (t : defs.Token) × (rest : Bytes) × NextToken (drop at bytes) t rest

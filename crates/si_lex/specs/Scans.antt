@@ -22,7 +22,7 @@ abbrev pub lower_len : Bytes → ℕ
 lower_len [] = 0
 lower_len (c ∷ cs) = cond (is_small_letter c) (1 + prefix_len is_word_byte cs) 0
 
--- What stands behind the quote that closes a quoted text; none where the text is not closed, or
+-- What stands after the quote that closes a quoted text; none where the text is not closed, or
 -- something stands in it that is no character. The flag says that a backslash stands before.
 abbrev pub behind_quote : ℕ → Bool → Bytes → Option Bytes
 behind_quote quote backslash [] = None

@@ -4,7 +4,7 @@ use Rattle.si_defs.specs.Bytes.{Bytes}
 use Rattle.si_defs.specs.declared.TokenKind.{TokenKind}
 use Rattle.si_defs.specs.declared.TokenKind.TheVariants.{Single, Double}
 
--- The characters of a quoted text: a backslash goes, and the byte behind it stays, whatever it is.
+-- The characters of a quoted text: a backslash goes, and the byte after it stays, whatever it is.
 -- The flag says that such a backslash stands before.
 abbrev pub unescaped_behind : Bool → Bytes → Bytes
 unescaped_behind backslash [] = []

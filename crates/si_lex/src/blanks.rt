@@ -7,7 +7,7 @@ ghost use Rattle.si_lex.specs.Scans.{before_close, is_in_line};
 
 use crate::bytes::{First, begins_blank, first_of, stands_at};
 
-/// The place behind the longest blanks at a place: the end of the bytes, where nothing else stands.
+/// The place after the longest blanks at a place: the end of the bytes, where nothing else stands.
 #[inline(always)]
 pub fn skip_blanks(bytes: &[u8], at: usize) -> usize
     requires { at ≤ length bytes.now }
@@ -24,7 +24,7 @@ pub fn skip_blanks(bytes: &[u8], at: usize) -> usize
     bytes.len()
 }
 
-// The place behind the white space or the comment at a place, if one stands there. Most bytes begin
+// The place after the white space or the comment at a place, if one stands there. Most bytes begin
 // none, so that is asked first, by one comparison.
 #[inline(always)]
 fn blank_end(bytes: &[u8], at: usize) -> Option<usize>
@@ -43,7 +43,7 @@ fn blank_end(bytes: &[u8], at: usize) -> Option<usize>
     }
 }
 
-// The place behind the line feed that follows, or the end.
+// The place after the line feed that follows, or the end.
 fn line_end(bytes: &[u8], at: usize) -> usize
     requires { at ≤ length bytes.now }
     ensures { result
@@ -57,7 +57,7 @@ fn line_end(bytes: &[u8], at: usize) -> usize
     bytes.len()
 }
 
-// The place behind the comment that a slash at a place begins, if it does and is closed.
+// The place after the comment that a slash at a place begins, if it does and is closed.
 fn comment_end(bytes: &[u8], at: usize) -> Option<usize>
     requires within { at < length bytes.now }
     requires slash { slice_index bytes.now at ≡ 47 }

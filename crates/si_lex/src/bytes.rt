@@ -30,7 +30,7 @@ pub enum First {
     Closing,
     /// A number with a sign, or a mark.
     Sign,
-    /// A word behind dollar signs.
+    /// A word after dollar signs.
     Dollar,
     /// A text in single quotes.
     SingleQuote,

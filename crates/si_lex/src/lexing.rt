@@ -18,10 +18,10 @@ use std::alloc::{AllocError, Global};
 
 /// Why a list of tokens ends where it does.
 #[derive(Clone, Copy, Debug, PartialEq, Eq)]
-pub enum Stop {
-    /// Nothing but blanks stands behind it.
+pub enum TokensEnd {
+    /// Nothing but blanks stands after it.
     End,
-    /// No token stands behind it, or one that nests too deep.
+    /// No token stands after it, or one that nests too deep.
     Bad,
     /// Its last token is a full stop outside brackets, which ends an item.
     FullStop,
@@ -32,13 +32,13 @@ pub enum Stop {
 pub struct Lexing<'a> {
     /// The tokens in order.
     pub tokens: Vec<Lexeme<'a>>,
-    /// The place behind the blanks before the first token, in bytes from their start.
+    /// The place after the blanks before the first token, in bytes from their start.
     pub start: usize,
-    /// The place behind what was read: behind a full stop that ends an item, else behind the blanks
+    /// The place after what was read: after a full stop that ends an item, else after the blanks
     /// that follow the last token.
     pub end: usize,
     /// Why there are no more.
-    pub stop: Stop,
+    pub stop: TokensEnd,
 }
 
 /// All tokens from a place on, up to the first place where none stands, or where more than 512
@@ -59,7 +59,7 @@ pub fn lex<'a>(alloc: Global, bytes: &'a [u8], at: usize) -> Result<Lexing<'a>, 
 /// The tokens of one item from a place on: as [`lex`], but up to the first full stop outside
 /// brackets.
 ///
-/// Behind that full stop no byte is looked at.
+/// After that full stop no byte is looked at.
 ///
 /// # Errors
 ///
@@ -96,7 +96,7 @@ fn lex_up_to<'a>(
                 tokens,
                 start,
                 end: place,
-                stop: Stop::Bad,
+                stop: TokensEnd::Bad,
             });
         };
         let end = place + lexeme.spelling.len();
@@ -107,7 +107,7 @@ fn lex_up_to<'a>(
                 tokens,
                 start,
                 end,
-                stop: Stop::FullStop,
+                stop: TokensEnd::FullStop,
             });
         }
         depth = behind;
@@ -117,11 +117,11 @@ fn lex_up_to<'a>(
         tokens,
         start,
         end: place,
-        stop: Stop::End,
+        stop: TokensEnd::End,
     })
 }
 
-// The token at a place and the number of brackets that are open behind it, where this many are open
+// The token at a place and the number of brackets that are open after it, where this many are open
 // before. Nothing where no token stands, or one that nests too deep.
 fn lexeme_within<'a>(bytes: &'a [u8], at: usize, depth: usize) -> Option<(Lexeme<'a>, usize)>
     requires place { at < length bytes.now }
@@ -154,7 +154,7 @@ fn is_stop(depth: usize, lexeme: &Lexeme) -> bool
     depth == 0 && lexeme.is_mark(b'.')
 }
 
-// The number of brackets that are open behind a token, by its first byte, where this many are open
+// The number of brackets that are open after a token, by its first byte, where this many are open
 // before. Nothing where they are too many.
 fn depth_behind(depth: usize, first: First) -> Option<usize>
     requires { depth ≤ DEEPEST_NESTING }

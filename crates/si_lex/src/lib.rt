@@ -10,5 +10,5 @@ mod spellings;
 mod token;
 
 pub use lexeme::Lexeme;
-pub use lexing::{Lexing, Stop, lex, lex_item};
+pub use lexing::{Lexing, TokensEnd, lex, lex_item};
 pub use token::{Lexed, Token, next_token};

@@ -7,7 +7,7 @@ ghost use Rattle.si_lex.specs.Scans.{behind_quote, decimal_len, lower_len};
 
 use crate::bytes::{is_printable, is_word_byte};
 
-/// The place behind the word bytes at a place.
+/// The place after the word bytes at a place.
 pub fn word_end(bytes: &[u8], at: usize) -> usize
     requires { at ≤ length bytes.now }
     ensures within { result ≤ length bytes.now }
@@ -21,7 +21,7 @@ pub fn word_end(bytes: &[u8], at: usize) -> usize
     bytes.len()
 }
 
-/// The place behind the lower word at a place, or the place itself where none stands.
+/// The place after the lower word at a place, or the place itself where none stands.
 pub fn lower_end(bytes: &[u8], at: usize) -> usize
     requires { at ≤ length bytes.now }
     ensures within { result ≤ length bytes.now }
@@ -34,7 +34,7 @@ pub fn lower_end(bytes: &[u8], at: usize) -> usize
     }
 }
 
-/// The place behind the digits at a place.
+/// The place after the digits at a place.
 fn digits_end(bytes: &[u8], at: usize) -> usize
     requires { at ≤ length bytes.now }
     ensures within { result ≤ length bytes.now }
@@ -48,7 +48,7 @@ fn digits_end(bytes: &[u8], at: usize) -> usize
     bytes.len()
 }
 
-/// The place behind the decimal at a place, or the place itself where none stands.
+/// The place after the decimal at a place, or the place itself where none stands.
 pub fn decimal_end(bytes: &[u8], at: usize) -> usize
     requires { at ≤ length bytes.now }
     ensures within { result ≤ length bytes.now }
@@ -64,7 +64,7 @@ pub fn decimal_end(bytes: &[u8], at: usize) -> usize
     }
 }
 
-/// The place behind the quote that closes the quoted text at a place, if one stands there.
+/// The place after the quote that closes the quoted text at a place, if one stands there.
 pub fn quoted_end(bytes: &[u8], at: usize, quote: u8) -> Option<usize>
     requires { at ≤ length bytes.now }
     ensures { let inner = drop at bytes.now in
@@ -85,7 +85,7 @@ pub fn quoted_end(bytes: &[u8], at: usize, quote: u8) -> Option<usize>
     None
 }
 
-/// The place behind the character at a place, with the backslash before it, if one stands there.
+/// The place after the character at a place, with the backslash before it, if one stands there.
 fn character_end(bytes: &[u8], at: usize, quote: u8) -> Option<usize>
     requires within { at < length bytes.now }
     requires inner { slice_index bytes.now at ≢ quote }

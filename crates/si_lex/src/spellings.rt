@@ -21,7 +21,7 @@ pub fn lexeme_at<'a>(bytes: &'a [u8], at: usize) -> Option<Lexeme<'a>>
     }
 }
 
-// The kind of the token at a place, and the place behind it.
+// The kind of the token at a place, and the place after it.
 fn token_end(bytes: &[u8], at: usize) -> Option<(TokenKind, usize)>
     requires { at < length bytes.now }
     ensures { MatchOption result (NoTokenAt (drop at bytes.now))
@@ -47,7 +47,7 @@ fn token_end(bytes: &[u8], at: usize) -> Option<(TokenKind, usize)>
     }
 }
 
-// A sign, or an integer behind it.
+// A sign, or an integer after it.
 fn signed_end(bytes: &[u8], at: usize) -> (TokenKind, usize)
     requires within { at < length bytes.now }
     requires sign { (slice_index bytes.now at ≡ 43) ⊎ (slice_index bytes.now at ≡ 45) }
@@ -61,7 +61,7 @@ fn signed_end(bytes: &[u8], at: usize) -> (TokenKind, usize)
     }
 }
 
-// A word behind one dollar sign or two.
+// A word after one dollar sign or two.
 fn dollar_end(bytes: &[u8], at: usize) -> Option<(TokenKind, usize)>
     requires within { at < length bytes.now }
     requires dollar { slice_index bytes.now at ≡ 36 }

@@ -15,24 +15,24 @@ pub struct Token {
     pub kind: TokenKind,
     /// The place of its first byte, in bytes from their start.
     pub start: usize,
-    /// The place behind its last byte.
+    /// The place after its last byte.
     pub end: usize,
     /// Its spelling, but for quotes and escapes.
     pub text: Text,
 }
 
-/// What stands behind the blanks from a place on.
+/// What stands after the blanks from a place on.
 #[derive(Drop)]
 pub enum Lexed {
     /// A token, with its place.
     Token(Token),
     /// Nothing: the bytes end.
     End,
-    /// No token, and not the end. This is the place, the first behind the blanks.
+    /// No token, and not the end. This is the place, the first after the blanks.
     Bad(usize),
 }
 
-/// The longest token behind the longest blanks from a place on.
+/// The longest token after the longest blanks from a place on.
 ///
 /// `at` and all places count bytes from the start of `bytes`. Blanks are white space and closed
 /// comments; a comment that isn't closed is bad at its first byte.

@@ -11,8 +11,8 @@ use Rattle.si_unify.specs.declared.slots.Slots.{Slots}
 use Rattle.si_unify.specs.Solving.{CellIsInRange, AreInRange}
 use Rattle.si_measure.specs.Systems.{Equation, variable, doubled, tower, two_towers, equations_of, AreSides}
 use Rattle.si_measure.specs.Answers.{slots_for, HaveSlots}
-use Rattle.si_measure.specs.declared.task.Shape.{Shape}
-use Rattle.si_measure.specs.declared.task.Shape.TheVariants.{One, Both, Shifted}
+use Rattle.si_measure.specs.declared.measurement.Shape.{Shape}
+use Rattle.si_measure.specs.declared.measurement.Shape.TheVariants.{One, Both, Shifted}
 
 variable_in_range : (owner : Owner) (n m : ℕ) → n < m → AreInRange (slots_for m) (cells_of (variable owner n))
 variable_in_range Query n m less = (less, tt)

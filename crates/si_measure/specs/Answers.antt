@@ -6,7 +6,7 @@ use Rattle.si_unify.specs.declared.slots.Slots.{Slots}
 use Rattle.si_unify.specs.Solving.{Pairs, AreInRange, HaveCommon, HasSolved}
 use Rattle.si_measure.specs.Systems.{equations_of, AreSides}
 use Rattle.si_measure.specs.declared.solving.Measured.{Measured}
-use Rattle.si_measure.specs.declared.task.Shape.{Shape}
+use Rattle.si_measure.specs.declared.measurement.Shape.{Shape}
 
 -- so many variables of the query, and as many of the entry
 abbrev pub slots_for : ℕ → Slots

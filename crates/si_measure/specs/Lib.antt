@@ -1,4 +1,4 @@
 pub mod Rows
 pub mod Systems
 pub mod Answers
-pub mod Tasks
+pub mod Measurements

@@ -8,8 +8,8 @@ use Rattle.si_flat.specs.Cells.{Term, cells_of, cells_of_all}
 use Rattle.si_flat.specs.Flattening.{owners_variable}
 use Rattle.si_measure.specs.Rows.{Arguments}
 use Rattle.si_measure.specs.declared.towers.Sides.{Sides}
-use Rattle.si_measure.specs.declared.task.Shape.{Shape}
-use Rattle.si_measure.specs.declared.task.Shape.TheVariants.{One, Both, Shifted}
+use Rattle.si_measure.specs.declared.measurement.Shape.{Shape}
+use Rattle.si_measure.specs.declared.measurement.Shape.TheVariants.{One, Both, Shifted}
 
 pub record Equation : Type 0 where
   pub left : Term
@@ -63,7 +63,7 @@ with_terms arguments ts =
       count = arguments.count + length ts;
     }
 
--- the sides of the equations come behind the others
+-- the sides of the equations come after the others
 pub record Adds (old new : Sides) (equations : List Equation) : Type 0 where
   pub left : new.left ≡ with_terms old.left (map (λ e. e.left) equations)
   pub right : new.right ≡ with_terms old.right (map (λ e. e.right) equations)

@@ -1,19 +1,19 @@
 //! Measurements of the solver by itself, without index, reader and printing of terms.
 //!
-//! Each line of the input is a task such as `shifted 64 100`: two terms of a shape and of a size,
-//! which are solved so many times. The answer tells their cells and the bindings that solve them.
-//! Times are taken from outside.
+//! Each line of the input is a measurement such as `shifted 64 100`: two terms of a shape and of a
+//! size, which are solved so many times. The answer tells their cells and the bindings that solve
+//! them. Times are taken from outside.
 #![tactic(auto)]
 
+mod measurement;
 mod random;
 mod row;
 mod solving;
-mod task;
 mod towers;
 
+use measurement::{Kind, Measurement};
 use std::alloc::{AllocError, Global};
 use std::io;
-use task::{Kind, Task};
 
 fn main(rt: HostRuntime) -> io::Result<()> {
     for line in rt.lines(rt.alloc()) {
@@ -25,12 +25,12 @@ fn main(rt: HostRuntime) -> io::Result<()> {
 
 /// What is printed for a line.
 fn answer(alloc: Global, line: &str) -> Result<String, AllocError> {
-    let Some(task) = Task::read(line) else {
-        return format!(in alloc; "no task in {line:?}");
+    let Some(measurement) = Measurement::read(line) else {
+        return format!(in alloc; "no measurement in {line:?}");
     };
-    let measured = match task.kind {
-        Kind::Towers(shape) => towers::measure(alloc, shape, task.size, task.times)?,
-        Kind::Pair => random::measure(alloc, task.size, task.times)?,
+    let measured = match measurement.kind {
+        Kind::Towers(shape) => towers::measure(alloc, shape, measurement.size, measurement.times)?,
+        Kind::Pair => random::measure(alloc, measurement.size, measurement.times)?,
     };
     let left = measured.left;
     let right = measured.right;

@@ -12,7 +12,7 @@ use std::marker::Model;
 /// The number of the symbol f, which has two arguments.
 const PAIR: u32 = 1;
 
-/// Arguments, one behind the other.
+/// Arguments, one after the other.
 #[derive(Drop)]
 pub(crate) struct Row {
     alloc: Global,
@@ -42,7 +42,7 @@ impl Row {
         }
     }
 
-    /// Puts one argument behind the others. More of them than have a number are answered like want
+    /// Puts one argument after the others. More of them than have a number are answered like want
     /// of memory.
     pub(crate) fn add(&mut self, term: &Flat) -> Result<(), AllocError>
         ensures { OnOk result (self.new ≡ with_argument self.old term.now) }

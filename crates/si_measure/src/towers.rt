@@ -5,9 +5,9 @@ ghost use Rattle.si_measure.specs.Rows.{with_argument};
 ghost use Rattle.si_measure.specs.Systems.{variable as variable_term, doubled as doubled_term, tower, two_towers, equations_of, Adds};
 ghost use Rattle.si_measure.specs.Answers.{SolvesShape};
 
+use crate::measurement::{LARGEST, Shape};
 use crate::row::{Row, pair, variable};
 use crate::solving::{Measured, solve_often};
-use crate::task::{LARGEST, Shape};
 use si_flat::{Flat, Owner};
 use std::alloc::{AllocError, Global};
 

@@ -41,7 +41,7 @@ impl Walk {
         })
     }
 
-    /// The parts, with no room behind their last cells.
+    /// The parts, with no room after their last cells.
     pub(crate) fn finish(&self, alloc: Global) -> Result<Split, AllocError>
         ensures { IfOk result (λ split. split ≡ self.now.split) }
     {

@@ -75,7 +75,7 @@ Ending = Then (λ (u : Unit {0}) used. IsClosed used) (Mark 46)
 abbrev pub Body : List Literal × (Unit {0} × Unit {0}) → List Token → Type 0
 Body = Then IsFormula Ending
 
--- the heading and what stands behind it
+-- the heading and what stands after it
 abbrev pub FromHeading : (Name × Bytes) × (List Literal × (Unit {0} × Unit {0})) → List Token → Type 0
 FromHeading = Then IsHeading Body
 

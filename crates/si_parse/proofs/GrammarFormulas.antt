@@ -20,7 +20,7 @@ literal_last (t ∷ ts) h = (h.0, (h.1.0, (h.1.1.0, tt)))
 pub bar_no_sign : (rest : List Token) → NoSign (mark 124 ∷ rest)
 bar_no_sign rest = (marks_apart 124 40 (λ e. absurd (omega (arith, e))), (marks_apart 124 61 (λ e. absurd (omega (arith, e))), (mark_unequal 124, tt)))
 
--- the last literal has no bar behind it
+-- the last literal has no bar after it
 pub bar_stops : (rest : List Token) → NoLiteral (mark 124 ∷ rest) → ⊥
 bar_stops rest h = h.1.1.1.0 refl
 
@@ -83,7 +83,7 @@ replicate_more n t rest = by n ∙ ap (λ k. replicate k t ++ rest) counted wher
   counted = omega arith
 
 -- ---- formulas
--- A formula with its brackets: so many opening ones, what stands behind them, and so many closing
+-- A formula with its brackets: so many opening ones, what stands after them, and so many closing
 -- ones.
 module _ {tokens inner : List Token} (n : ℕ) (opened : tokens ≡ replicate n left_bracket ++ inner) (bare : NoBracket inner) where
   formula_by : (R : List Literal → List Token → Type 0) → ((ls : List Literal) (front after : List Token) → AreLiterals ls front → inner ≡ front ++ (replicate n right_bracket ++ after) → NoLiteral (replicate n right_bracket ++ after) → R ls after)

@@ -23,11 +23,11 @@ names_more : (ns : List Name) (ts : List Token) → AreMore IsNameToken comma ns
 names_more [] ts h = h
 names_more (n ∷ ns) ts (first, others, (t, is, one), all, e) = (t, others, is, names_more ns others all, e ∙ ap (λ x. comma ∷ x ++ others) one)
 
--- a closing bracket stands behind the last name
+-- a closing bracket stands after the last name
 bracket_ends : (rest : List Token) → NoName (mark 93 ∷ rest)
 bracket_ends rest = (marks_apart 93 44 (λ e. absurd (omega (arith, e))), tt)
 
--- names in square brackets, by what stands behind the opening one
+-- names in square brackets, by what stands after the opening one
 module _ (rest : List Token) where
   chosen_inside : (used inner after : List Token) → mark 91 ∷ rest ≡ used ++ after → used ≡ mark 91 ∷ inner ++ mark 93 ∷ [] → rest ≡ inner ++ mark 93 ∷ after
   chosen_inside used inner after e f = front_tails after e f ∙ append_assoc inner (mark 93 ∷ []) after
@@ -57,7 +57,7 @@ chosen_bare {tokens = tokens} none = parses_none never where
   never ns used after e (inner, all, f) any = none _ (e ∙ ap (λ x. x ++ after) f)
 
 -- ---- selections
--- names behind a comma
+-- names after a comma
 only_of : (ns : List Name) (used : List Token) → AreChosen ns used → IsSelection (selected.only ns) (comma ∷ used)
 only_of [] used (inner, all, e) = all
 only_of (n ∷ ns) used (inner, (first, others, (t, is, one), all, f), e) =
@@ -80,7 +80,7 @@ selection_all tokens none = parses_some selected.all [] tokens refl refl unique 
   unique selected.all used after e h follows = (refl, e ∙ ap (λ x. x ++ after) h)
   unique (selected.only ns) used after e h follows = let k = chosen_of ns used h in absurd (none _ (e ∙ ap (λ x. x ++ after) k.2))
 
--- names behind a comma
+-- names after a comma
 module _ (rest : List Token) where
   pub selection_none : ReadsTokens AreChosen Anything rest None → ReadsTokens IsSelection NoName (comma ∷ rest) None
   selection_none p = parses_none never where
@@ -104,7 +104,7 @@ module _ (rest : List Token) where
 abbrev pub Tail : Selection × Unit {0} → List Token → Type 0
 Tail = Then IsSelection (λ (u : Unit {0}) used. AreLast used)
 
--- the file and what stands behind it
+-- the file and what stands after it
 abbrev pub FromFile : Bytes × (Selection × Unit {0}) → List Token → Type 0
 FromFile = Then IsFileToken Tail
 
@@ -153,7 +153,7 @@ last_follows u used rest e follows = subst NoName (ap (λ x. x ++ rest) (sym e))
 pub last_none : {tokens : List Token} → ((rest : List Token) → tokens ≡ right_bracket ∷ rest → ⊥) → ReadsTokens (λ (u : Unit {0}) used. AreLast used) Anything tokens None
 last_none none = parses_none (λ u used behind e means follows. none (full_stop ∷ behind) (e ∙ ap (λ x. x ++ behind) means))
 
--- behind one the full stop is left to read
+-- after one the full stop is left to read
 pub last_behind : {tokens rest : List Token} {result : Option (Unit {0} × List Token)} → tokens ≡ right_bracket ∷ rest → ReadsTokens (λ (u : Unit {0}) used. IsMark 46 used) Anything rest result
     → ReadsTokens (λ (u : Unit {0}) used. AreLast used) Anything tokens result
 last_behind {tokens = tokens} {rest = rest} {result = result} begins p = record {

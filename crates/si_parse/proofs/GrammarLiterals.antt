@@ -118,7 +118,7 @@ signs_apart false false e = refl
 signs_apart true false e = absurd (mark_unequal 61 e)
 signs_apart false true e = absurd (mark_unequal 61 (sym e))
 
--- what stands behind a sign
+-- what stands after a sign
 sign_front : {positive : Bool} {ts rest : List Token} → ReadsTokens IsSign Anything ts (Some (positive, rest)) → ts ≡ equality_sign positive ∷ rest
 sign_front {positive = positive} {rest = rest} p = let h = parses_uses positive rest p in h.1 ∙ ap (λ x. x ++ rest) h.2
 
@@ -142,7 +142,7 @@ module _ {tokens behind : List Token} {left : Term} (p : ReadsTokens IsTerm NoBr
       parses_one p l front (equality_sign positive ∷ back ++ after) (e ∙ ap (λ x. x ++ after) g ∙ append_assoc front (equality_sign positive ∷ back) after) one (sign_no_bracket positive (back ++ after))
 
   module _ {positive : Bool} {next : List Token} (s : ReadsTokens IsSign Anything behind (Some (positive, next))) where
-    -- how every other statement goes on behind the sign
+    -- how every other statement goes on after the sign
     sided_by : (R : Literal → List Token → Type 0) → ((l : Literal) (right : Term) (back after : List Token) → IsTerm right back → next ≡ back ++ after → NoSign after → equation left right ≡ l.atom → positive ≡ l.positive → R l after)
         → (l : Literal) (used after : List Token) → tokens ≡ used ++ after → IsStatement l used → NoSign after → R l after
     sided_by R k l used after e means follows = by (spelled_of l used means) where
@@ -153,7 +153,7 @@ module _ {tokens behind : List Token} {left : Term} (p : ReadsTokens IsTerm NoBr
           let same = sym (sign_front s) ∙ h.1 in
           k l right back after two (same_tail same) follows (ap (λ x. equation x right) h.0 ∙ f) (signs_apart positive l.positive (same_head same))
 
-    -- no term behind the sign
+    -- no term after the sign
     pub statement_stop : ReadsTokens IsTerm NoBracket next None → ReadsTokens IsStatement NoSign tokens None
     statement_stop q = parses_none (sided_by (λ l after. ⊥) (λ l right back after two e follows f g. parses_never q right back after e two (no_sign-bracket after follows)))
 
@@ -170,7 +170,7 @@ module _ {tokens behind : List Token} {left : Term} (p : ReadsTokens IsTerm NoBr
         let same = parses_one q other back after e two (no_sign-bracket after follows) in
         (ap (λ x. record { positive = positive; atom = equation left x }) same.0 ∙ (λ i. record { positive = g i; atom = f i }), same.1)))
 
-  -- no sign behind the term
+  -- no sign after the term
   module _ (s : ReadsTokens IsSign Anything behind None) where
     headed_by : (R : Literal → List Token → Type 0) → ((l : Literal) (after : List Token) → behind ≡ after → as_atom left ≡ Some l.atom → l.positive ≡ true → R l after)
         → (l : Literal) (used after : List Token) → tokens ≡ used ++ after → IsStatement l used → NoSign after → R l after
@@ -232,7 +232,7 @@ right_no_sign rest =
     (marks_apart 41 40 (λ e. absurd (omega (arith, e))), (marks_apart 41 61 (λ e. absurd (omega (arith, e))), (mark_unequal 41, tt)))
 
 module _ (rest : List Token) where
-  -- an atom behind a bracket
+  -- an atom after a bracket
   round_by : (R : Term → List Token → Type 0) → ((m : Term) (inner after : List Token) → IsAtom m inner → rest ≡ inner ++ right_bracket ∷ after → R m after)
       → (m : Term) (used after : List Token) → left_bracket ∷ rest ≡ used ++ after → IsNegated m used → NoSign after → R m after
   round_by R k m used after e (inl h) follows = absurd (statement_no_mark 40 (positively m) used rest after (left_bracket ∷ rest) refl e h)
@@ -271,7 +271,7 @@ negated_literal m us (inl h) = inl (us, h, refl)
 negated_literal m us (inr (inner, h, e)) = inr (inl (inner, h, ap (λ x. mark 126 ∷ x) e))
 
 module _ (rest : List Token) where
-  -- behind a tilde every literal is a negation
+  -- after a tilde every literal is a negation
   tilde_of : (positive : Bool) (m : Term) (used after : List Token) → mark 126 ∷ rest ≡ used ++ after → IsSignedAtom positive m used
       → (false ≡ positive) × ((us : List Token) × IsNegated m us × (rest ≡ us ++ after))
   tilde_of true m used after e h = absurd (statement_no_mark 126 (positively m) used rest after (mark 126 ∷ rest) refl e h)

@@ -86,7 +86,7 @@ pub kind_empty : (kind : TokenKind) → ReadsTokens (IsKind kind) Anything [] No
 kind_empty kind = parses_none (λ text used behind e means follows. cc (e ∙ ap (λ x. x ++ behind) means))
 
 -- ---- openings
--- behind the word of an item the bracket is left to read
+-- after the word of an item the bracket is left to read
 pub opening_behind : (word : Bytes) (rest : List Token) (result : Option (Unit {0} × List Token)) → ReadsTokens (λ (u : Unit {0}) used. IsMark 40 used) Anything rest result
     → ReadsTokens (λ (u : Unit {0}) used. IsOpening word used) Anything (lower word ∷ rest) result
 opening_behind word rest result p = record {

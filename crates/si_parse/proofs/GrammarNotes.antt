@@ -20,13 +20,13 @@ abbrev pub and_then : (List Bracket → Option (List Bracket)) → Option (List 
 and_then f None = None
 and_then f (Some next) = f next
 
--- the brackets that are open behind some tokens, the last one first; none where one closes another
+-- the brackets that are open after some tokens, the last one first; none where one closes another
 -- than the last
 abbrev pub open_after : List Token → List Bracket → Option (List Bracket)
 open_after [] pending = Some pending
 open_after (t ∷ ts) pending = and_then (open_after ts) (brackets_behind t pending)
 
--- behind one more token
+-- after one more token
 pub open_more : (ts : List Token) (t : Token) (pending next : List Bracket) → open_after ts pending ≡ Some next → open_after (ts ++ t ∷ []) pending ≡ brackets_behind t next
 open_more [] t pending next e = by (brackets_behind t pending) ∙ ap (brackets_behind t) (same_Some pending next e) where
   by : (o : Option (List Bracket)) → and_then Some o ≡ o
@@ -38,7 +38,7 @@ open_more (u ∷ us) t pending next e = by (λ p f. open_more us t p next f) (br
   by again None f = absurd (none-some next f)
   by again (Some p) f = again p f
 
--- tokens balance where no bracket is open behind them
+-- tokens balance where no bracket is open after them
 pub balanced_open : (ts : List Token) (pending : List Bracket) → IsTrue (balances ts pending) → open_after ts pending ≡ Some []
 balanced_open [] [] h = refl
 balanced_open [] (b ∷ bs) h = absurd (false≢true h)
@@ -82,7 +82,7 @@ beside (f ∷ fs) (u ∷ us) t pending stack rest behind h k e =
       by again None g l = absurd (none-some stack g)
       by again (Some p) g l = beside_more f u fs us t stack rest behind (same_head e) (again p g l)
 
--- behind annotations and their bracket nothing balances
+-- after annotations and their bracket nothing balances
 overrun : (notes behind : List Token) (pending stack : List Bracket) → open_after notes pending ≡ Some [] → open_after (notes ++ right_bracket ∷ behind) pending ≡ Some stack → ⊥
 overrun [] behind pending stack h k = none-some stack (sym (ap (λ p. and_then (open_after behind) (brackets_behind right_bracket p)) (same_Some pending [] h)) ∙ k)
 overrun (u ∷ us) behind pending stack h k = by (λ p f g. overrun us behind p stack f g) (brackets_behind u pending) h k where
@@ -173,7 +173,7 @@ closes_nothing t not_round not_square = by t.kind t.text (λ k e. not_round (λ 
   by token.Mark (c ∷ d ∷ ds) h k = refl
 
 -- ---- the end of a clause
--- behind a comma it goes on with annotations
+-- after a comma it goes on with annotations
 pub closed_noted : (tokens rest : List Token) → tokens ≡ comma ∷ rest → (result : Option (Unit {0} × List Token)) → ReadsTokens Notes Anything rest result → ReadsTokens (λ (u : Unit {0}) used. IsClosed used) Anything tokens result
 closed_noted tokens rest begins result p = record {
   found = λ u behind e. let h = p.found u behind e in found u behind h.0 h.1 h.2;

@@ -52,7 +52,7 @@ mutual
       let k = sound_more us others all in
       ((record { on_side = on_side; with_arity = with_arity; of_kind = head_sound s.kind s.text s.side s.arity t head }, (h.0, k.0)), omega (arith, slack t first others ts (terms.size u) (terms.sizes us) e h.1 k.1))
 
-  -- terms behind commas
+  -- terms after commas
   pub sound_more : (us : Terms) (ts : List defs.Token) → AreMoreTerms us ts → AreSoundTerms us × (terms.sizes us ≤ length ts)
   sound_more terms.none ts e = (tt, omega arith)
   sound_more (terms.more u us) ts (first, others, one, all, e) =
@@ -100,7 +100,7 @@ sound_signed false m ts (inr (inr h)) = sound_inequation m ts h
 pub sound_literal : (l : Literal) (ts : List defs.Token) → IsLiteral l ts → IsSoundLiteral l × (literal_size l ≤ length ts)
 sound_literal l ts h = sound_signed l.positive l.atom ts h
 
--- literals behind bars
+-- literals after bars
 sound_more_literals : (ls : List Literal) (ts : List defs.Token) → AreMoreLiterals ls ts → AllByRecursion IsSoundLiteral ls × (literals_size ls ≤ length ts)
 sound_more_literals [] ts e = (tt, omega arith)
 sound_more_literals (l ∷ ls) ts (first, others, one, all, e) =
@@ -200,7 +200,7 @@ found_term tokens few t used l h = ((sound_term t used h).0, small_term t used h
 pub found_literal : (tokens : List Lexeme) → length tokens ≤ MOST_BYTES → (l : Literal) (used : List defs.Token) → length used ≤ length tokens → IsLiteral l used → IsSoundPattern (literal_pattern l)
 found_literal tokens few l used n h = ((sound_literal l used h).0, small_signed l.positive l.atom used h (omega (arith, n, few)))
 
--- literals behind a bar have fewer occurrences than there are tokens
+-- literals after a bar have fewer occurrences than there are tokens
 small_more_literals : (ls : List Literal) (ts : List defs.Token) → (ls ≡ [] → ⊥) → AreMoreLiterals ls ts → literals_size ls + 1 ≤ length ts
 small_more_literals [] ts some h = absurd (some refl)
 small_more_literals (l ∷ ls) ts some (first, others, one, all, e) =

@@ -110,7 +110,7 @@ flat_constant Number text t e = flat_at e (refl, refl)
 flat_constant Distinct text t e = flat_at e (refl, refl)
 flat_constant Equal text t e = absurd e
 
--- arguments in brackets behind a head
+-- arguments in brackets after a head
 level_applied : (kind : SymKind) (text : Bytes) (t : Token) (first others ts : List Token) → IsHead kind text t → Level first → Level others → ts ≡ t ∷ left_bracket ∷ first ++ others ++ right_bracket ∷ [] → Level ts
 level_applied kind text t first others ts head h k e =
     level_at e (level_flat t (left_bracket ∷ (first ++ others) ++ right_bracket ∷ []) (flat_constant kind text t (head_constant kind text t head)) (level_round (first ++ others) (level_append first others h k)))
@@ -282,7 +282,7 @@ ends_goes d [] h = absurd h
 ends_goes d (t ∷ ts) (inl (s, e)) = (λ _. e, subst (λ x. GoesToStop (open_behind d t) x) (sym e) tt)
 ends_goes d (t ∷ ts) (inr (s, h)) = (λ k. absurd (s k), ends_goes (open_behind d t) ts h)
 
--- behind tokens that end with one nothing stands in those that do
+-- after tokens that end with one nothing stands in those that do
 pub ends_all : (d : ℕ) (ts us : List Token) → EndsAtStop d ts → EndsAtStop d (ts ++ us) → us ≡ []
 ends_all d [] us h k = absurd h
 ends_all d (t ∷ ts) us (inl (s, e)) (inl (r, f)) = ap (λ x. x ++ us) (sym e) ∙ f

@@ -83,7 +83,7 @@ pub count_row : (us : List Term) → terms.count (terms.row us) ≡ length us
 count_row [] = refl
 count_row (u ∷ us) = omega (arith, count_row us)
 
--- terms behind commas, as arguments and as a list
+-- terms after commas, as arguments and as a list
 pub more_terms : (us : Terms) (ts : List Token) → AreMoreTerms us ts → AreMore IsTerm comma (terms.list us) ts
 more_terms terms.none ts h = h
 more_terms (terms.more u us) ts (first, others, one, all, e) = (first, others, one, more_terms us others all, e)
@@ -162,7 +162,7 @@ module _ (t : Token) (rest : List Token) (kind : SymKind) (is_kind : symbol_kind
       subst (λ x. IsTerm (terms.app x (terms.more u us)) (t ∷ tail)) (sym e)
       (refl, refl, (t, first, others, head, one, terms_more us others all, ap (λ x. t ∷ x) (g ∙ ap (λ x. left_bracket ∷ x ++ right_bracket ∷ []) h)))
 
-  -- a term with this head, by what is behind it
+  -- a term with this head, by what is after it
   applied_back : (m : Term) (used behind : List Token) → t ∷ rest ≡ used ++ behind → IsTerm m used → (tail : List Token) × (used ≡ t ∷ tail) × IsApplied kind t.text m tail
   applied_back (terms.var x) used behind e means = absurd (not_variable x (front_heads behind e means))
   applied_back (terms.app s terms.none) used behind e (side, arity, (u, constant, g)) =
@@ -177,14 +177,14 @@ module _ (t : Token) (rest : List Token) (kind : SymKind) (is_kind : symbol_kind
         (symbol_is s kind t.text (1 + terms.count us) k.0 k.1 side arity, (first ++ others, (first, others, one, more_terms us others all, refl), refl)),
       )
 
-  -- a symbol that takes arguments, by what stands behind it
+  -- a symbol that takes arguments, by what stands after it
   pub term_head : IsHead kind t.text t → (result : Option (Term × List Token)) → ReadsTokens (IsApplied kind t.text) NoBracket rest result → ReadsTokens IsTerm NoBracket (t ∷ rest) result
   term_head head result p = record {
     found = λ m behind e. let h = p.found m behind e in (t ∷ h.0, ap (λ x. t ∷ x) h.1, applied_term head m h.0 h.2);
     every = λ m used behind e means follows. let h = applied_back m used behind e means in p.every m h.0 behind (front_tails {ys = h.0} behind e h.1) h.2 follows;
   }
 
--- ---- what stands behind a head
+-- ---- what stands after a head
 -- nothing
 pub applied_bare : (kind : SymKind) (text : Bytes) (rest : List Token) → NoBracket rest → ReadsTokens (IsApplied kind text) NoBracket rest (Some (terms.app (function_symbol kind text 0) terms.none, rest))
 applied_bare kind text rest none = parses_some (terms.app (function_symbol kind text 0) terms.none) [] rest refl (refl, refl) (λ m used behind e means follows. unique m used behind e means) where
@@ -193,7 +193,7 @@ applied_bare kind text rest none = parses_some (terms.app (function_symbol kind 
   unique (terms.app s terms.none) used behind e (is, g) = (ap (λ x. terms.app x terms.none) (sym is), e ∙ ap (λ x. x ++ behind) g)
   unique (terms.app s (terms.more u us)) used behind e (is, (inner, all, g)) = absurd (opens rest ((inner ++ right_bracket ∷ []) ++ behind) none (e ∙ ap (λ x. x ++ behind) g))
 
--- a term that is read up to a bracket may not go on behind it
+-- a term that is read up to a bracket may not go on after it
 pub right_ends : (rest : List Token) → NoTerm (right_bracket ∷ rest)
 right_ends rest = (marks_apart 41 40 (λ e. absurd (omega (arith, e))), (marks_apart 41 44 (λ e. absurd (omega (arith, e))), tt))
 
@@ -202,18 +202,18 @@ inside : {used rest : List Token} (inner after : List Token) → left_bracket �
 inside inner after e g = front_tails after e g ∙ append_assoc inner (right_bracket ∷ []) after
 
 module _ (kind : SymKind) (text : Bytes) (rest : List Token) where
-  -- a second term behind the head, by its arguments
+  -- a second term after the head, by its arguments
   applied_by : {R : Type 0} → ((args : List Term) (inner after : List Token) → AreTerms args inner → rest ≡ inner ++ right_bracket ∷ after → R)
       → (m : Term) (used after : List Token) → left_bracket ∷ rest ≡ used ++ after → IsApplied kind text m used → NoBracket after → R
   applied_by k (terms.var x) used after e means follows = absurd means
   applied_by k (terms.app s terms.none) used after e (is, g) follows = absurd (opens after rest follows (sym (e ∙ ap (λ x. x ++ after) g)))
   applied_by k (terms.app s (terms.more u us)) used after e (is, (inner, all, g)) follows = k (u ∷ terms.list us) inner after all (inside inner after e g)
 
-  -- a bracket without arguments behind it
+  -- a bracket without arguments after it
   pub applied_none : ReadsTokens AreTerms NoTerm rest None → ReadsTokens (IsApplied kind text) NoBracket (left_bracket ∷ rest) None
   applied_none p = parses_none (applied_by (λ args inner after all e. parses_never p args inner (right_bracket ∷ after) e all (right_ends after)))
 
-  -- arguments without a bracket behind them
+  -- arguments without a bracket after them
   pub applied_stop : {args : List Term} {behind : List Token} → ReadsTokens AreTerms NoTerm rest (Some (args, behind)) → ((after : List Token) → behind ≡ right_bracket ∷ after → ⊥)
       → ReadsTokens (IsApplied kind text) NoBracket (left_bracket ∷ rest) None
   applied_stop p none = parses_none (applied_by (λ args inner after all e. none after (parses_one p args inner (right_bracket ∷ after) e all (right_ends after)).1))

@@ -16,7 +16,7 @@ no_lexeme = record { kind = Lower; spelling = record { ref_ptr = (0, 0); now = [
 abbrev pub token_at : List Lexeme → ℕ → Lexeme
 token_at ts n = get_or ts n no_lexeme
 
--- the others behind the first
+-- the others after the first
 abbrev pub others_of : List Lexeme → List Lexeme
 others_of ts = take (length ts - 1) (drop 1 ts)
 
@@ -46,7 +46,7 @@ module _ {X M : Type 0} (view : X → M) {Means : M → List Token → Type 0} {
       → ReadsTokens Means Follows (tokens_of tokens) None
   reads_none p e = subst (λ r. Reads view Means Follows tokens r) e p
 
--- what is left behind what was passed
+-- what is left after what was passed
 pub passes_some : {Spelled : List Token → Type 0} {result : Option (Bor (List Lexeme))} {behind : Bor (List Lexeme)} (tokens : List Lexeme) → Passes Spelled tokens result → result ≡ Some behind
     → ReadsTokens (λ (u : Unit {0}) used. Spelled used) Anything (tokens_of tokens) (Some (tt {0}, tokens_of behind.now))
 passes_some {Spelled = Spelled} tokens p e = subst (λ r. Passes Spelled tokens r) e p
@@ -63,7 +63,7 @@ left_shorter {m = m} tokens behind p =
     let h = p.found m (tokens_of behind) refl in
     omega (arith, ap length h.1 ∙ length-append h.0 (tokens_of behind), length-map tokens token_of, length-map behind token_of)
 
--- what stands behind a mark
+-- what stands after a mark
 pub mark_front : {c : ℕ} {ts rest : List Token} → ReadsTokens (λ (u : Unit {0}) used. used ≡ mark c ∷ []) Anything ts (Some (tt {0}, rest)) → ts ≡ mark c ∷ rest
 mark_front {rest = rest} p = let h = p.found tt rest refl in h.1 ∙ ap (λ x. x ++ rest) h.2
 
@@ -71,12 +71,12 @@ mark_front {rest = rest} p = let h = p.found tt rest refl in h.1 ∙ ap (λ x. x
 pub mark_none : {c : ℕ} {ts : List Token} → ReadsTokens (λ (u : Unit {0}) used. used ≡ mark c ∷ []) Anything ts None → (rest : List Token) → ts ≡ mark c ∷ rest → ⊥
 mark_none {c = c} p rest e = parses_never p tt (mark c ∷ []) rest e refl tt
 
--- what is left behind a mark is shorter by one
+-- what is left after a mark is shorter by one
 pub mark_shorter : {c : ℕ} (tokens behind : List Lexeme) → ReadsTokens (λ (u : Unit {0}) used. used ≡ mark c ∷ []) Anything (tokens_of tokens) (Some (tt {0}, tokens_of behind))
     → length behind < length tokens
 mark_shorter tokens behind p = omega (arith, ap length (mark_front p), length-map tokens token_of, length-map behind token_of)
 
--- what two lists of tokens stand for, one behind the other
+-- what two lists of tokens stand for, one after the other
 pub tokens_append : (ts us : List Lexeme) → tokens_of (ts ++ us) ≡ tokens_of ts ++ tokens_of us
 tokens_append [] us = refl
 tokens_append (t ∷ ts) us = ap (λ x. token_of t ∷ x) (tokens_append ts us)
@@ -85,7 +85,7 @@ tokens_append (t ∷ ts) us = ap (λ x. token_of t ∷ x) (tokens_append ts us)
 pub tokens_more : (ts : List Lexeme) (n : ℕ) → n < length ts → tokens_of (take (n + 1) ts) ≡ tokens_of (take n ts) ++ token_of (token_at ts n) ∷ []
 tokens_more ts n h = ap tokens_of (take_more ts n no_lexeme h) ∙ tokens_append (take n ts) (token_at ts n ∷ [])
 
--- the tokens before a place, the one at it, and those behind it
+-- the tokens before a place, the one at it, and those after it
 pub tokens_split : (ts : List Lexeme) (n : ℕ) → n < length ts → tokens_of ts ≡ tokens_of (take n ts) ++ token_of (token_at ts n) ∷ tokens_of (take (length ts - (n + 1)) (drop (n + 1) ts))
 tokens_split ts n h =
     ap tokens_of (sym (take-append-drop n ts) ∙ ap (λ x. take n ts ++ x) (drop-cons ts n no_lexeme h ∙ ap (λ x. token_at ts n ∷ x) behind))

@@ -33,7 +33,7 @@ row_few {M = M} {Means = Means} {sign = sign} {tokens = tokens} {rest = rest} ms
 
 module _ {M : Type 0} (Means : M → List Token → Type 0) {sign : Token} {Follows Ends : List Token → Type 0}
     (last : (rest : List Token) → Ends rest → Follows rest) (goes_on : (rest : List Token) → Follows (sign ∷ rest)) (stops : (rest : List Token) → Ends (sign ∷ rest) → ⊥) where
-  -- what may stand behind one item of a row may follow it
+  -- what may stand after one item of a row may follow it
   behind_one : (ms : List M) (others rest : List Token) → AreMore Means sign ms others → Ends rest → Follows (others ++ rest)
   behind_one [] others rest e ends = subst Follows (ap (λ x. x ++ rest) (sym e)) (last rest ends)
   behind_one (m ∷ ms) others rest (first, more, one, all, e) ends = subst Follows (ap (λ x. x ++ rest) (sym e)) (goes_on ((first ++ more) ++ rest))
@@ -68,7 +68,7 @@ module _ {M : Type 0} (Means : M → List Token → Type 0) {sign : Token} {Foll
         (us, more, ap (λ x. x ∷ us) (sym same.0), same.1, all)
 
   module _ {tokens left : List Token} {done : List M} (along : Along Means sign Ends tokens done left) where
-    -- no sign behind the items: they are the whole row
+    -- no sign after the items: they are the whole row
     pub row_some : ((rest : List Token) → left ≡ sign ∷ rest → ⊥) → ReadsTokens (IsRow Means sign) Ends tokens (Some (done, left))
     row_some none = parses_some done along.found.0 left along.found.1 along.found.2 (λ ms used rest e row ends.
         let o = along.every ms used rest e row ends in unique ms o.0 o.1 rest o.2 o.3 o.4) where
@@ -76,16 +76,16 @@ module _ {M : Type 0} (Means : M → List Token → Type 0) {sign : Token} {Foll
           unique ms [] behind rest e f all = (sym (e ∙ append-nil done), f ∙ ap (λ x. x ++ rest) all)
           unique ms (u ∷ us) behind rest e f (first, more, one, all, g) = absurd (none _ (f ∙ ap (λ x. x ++ rest) g))
 
-    -- a sign behind the items
+    -- a sign after the items
     module _ {next : List Token} (goes : left ≡ sign ∷ next) where
-      -- how every row goes on behind the sign
+      -- how every row goes on after the sign
       row_goes : (others : List M) (behind rest : List Token) → left ≡ behind ++ rest → AreMore Means sign others behind → Ends rest
           → (u : M) × (us : List M) × (first : List Token) × (more : List Token) × (others ≡ u ∷ us) × Means u first × AreMore Means sign us more × (next ≡ first ++ (more ++ rest)) × Follows (more ++ rest)
       row_goes [] behind rest e all ends = absurd (stops next (subst Ends (sym e ∙ goes) (subst (λ x. Ends (x ++ rest)) (sym all) ends)))
       row_goes (u ∷ us) behind rest e (first, more, one, all, f) ends =
           (u, us, first, more, refl, one, all, same_tail (sym goes ∙ e ∙ ap (λ x. x ++ rest) f) ∙ append_assoc first more rest, behind_one us more rest all ends)
 
-      -- without an item behind it there is no row
+      -- without an item after it there is no row
       pub row_stop : ReadsTokens Means Follows next None → ReadsTokens (IsRow Means sign) Ends tokens None
       row_stop p = parses_none (λ ms used rest e row ends.
           let o = along.every ms used rest e row ends in

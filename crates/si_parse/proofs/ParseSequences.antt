@@ -4,7 +4,7 @@ use Rattle.si_defs.specs.Tokens.{Token}
 use Rattle.si_parse.specs.Parsing.{ReadsTokens}
 use Rattle.si_parse.proofs.ParseSteps.{parses_none, parses_some, parses_uses, parses_one, parses_never}
 
--- two meanings, one behind the other
+-- two meanings, one after the other
 abbrev pub Then : {M N : Type 0} → (M → List Token → Type 0) → (N → List Token → Type 0) → M × N → List Token → Type 0
 Then A B p ts = (front : List Token) × (back : List Token) × A p.0 front × B p.1 back × (ts ≡ front ++ back)
 

@@ -54,7 +54,7 @@ pub parses_never : {M : Type 0} {Means : M → List Token → Type 0} {Follows :
     → (m : M) (used rest : List Token) → tokens ≡ used ++ rest → Means m used → Follows rest → ⊥
 parses_never p m used rest e means follows = none-some _ (p.every m used rest e means follows)
 
--- where what follows is not allowed, no front has a meaning with what is allowed behind it
+-- where what follows is not allowed, no front has a meaning with what is allowed after it
 pub parses_refused : {M : Type 0} {Means : M → List Token → Type 0} {Follows : List Token → Type 0} {tokens : List Token}
     {m : M} {rest : List Token} → ReadsTokens Means Follows tokens (Some (m, rest)) → (Follows rest → ⊥) → ReadsTokens Means Follows tokens None
 parses_refused {Follows = Follows} p refused = parses_none (λ other used behind e means follows.
@@ -65,7 +65,7 @@ parses_refused {Follows = Follows} p refused = parses_none (λ other used behind
 pub front_heads : {x y : Token} {xs used ys : List Token} (rest : List Token) → x ∷ xs ≡ used ++ rest → used ≡ y ∷ ys → x ≡ y
 front_heads rest e f = same_head (e ∙ ap (λ u. u ++ rest) f)
 
--- and what stands behind it
+-- and what stands after it
 pub front_tails : {x y : Token} {xs used ys : List Token} (rest : List Token) → x ∷ xs ≡ used ++ rest → used ≡ y ∷ ys → xs ≡ ys ++ rest
 front_tails rest e f = same_tail (e ∙ ap (λ u. u ++ rest) f)
 

@@ -19,7 +19,7 @@ use Rattle.si_parse.proofs.ParseWhole.{whole_means, whole_only, whole_none}
 use Rattle.si_parse.specs.Reading.{IsOfKind, ReadsPattern, IsWholePattern, ReadsWhole}
 use Rattle.si_lex.specs.declared.lexeme.Lexeme.{Lexeme}
 use Rattle.si_lex.specs.declared.lexing.Lexing.{Lexing}
-use Rattle.si_lex.specs.declared.lexing.Stop.TheVariants.{End}
+use Rattle.si_lex.specs.declared.lexing.TokensEnd.TheVariants.{End}
 use Rattle.si_parse.specs.declared.pattern.PatternKind.{PatternKind}
 use Rattle.si_parse.specs.declared.pattern.PatternKind.TheVariants as kind
 

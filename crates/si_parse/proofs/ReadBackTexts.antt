@@ -66,7 +66,7 @@ bare_stops Double spelling rest b h = refl
 bare_stops NotEqual spelling rest b h = absurd (false≢true b)
 bare_stops Mark spelling rest b h = absurd (false≢true b)
 
--- a word, an integer or a quoted text is the next token where no word goes on behind it
+-- a word, an integer or a quoted text is the next token where no word goes on after it
 pub bare_next : (t : Token) (spelling rest : Bytes) → is_bare t.kind ≡ true → Spells t.kind t.text spelling → EndsWord rest → NextToken (spelling ++ rest) t rest
 bare_next t spelling rest b s h = next_where t.kind t.text spelling rest s (bare_stops t.kind spelling rest b h) (no_comment spelling s) where
   no_comment : (spelling : Bytes) → Spells t.kind t.text spelling → opens_comment (spelling ++ rest) ≡ false

@@ -16,8 +16,8 @@ use Rattle.si_lex.specs.Lexing.{IsLexing, IsItemLexing}
 use Rattle.si_lex.specs.FullStops.{HasNoStop, EndsAtStop}
 use Rattle.si_lex.specs.declared.lexeme.Lexeme.{Lexeme}
 use Rattle.si_lex.specs.declared.lexing.Lexing.{Lexing}
-use Rattle.si_lex.specs.declared.lexing.Stop.{Stop}
-use Rattle.si_lex.specs.declared.lexing.Stop.TheVariants.{End, Bad, FullStop}
+use Rattle.si_lex.specs.declared.lexing.TokensEnd.{TokensEnd}
+use Rattle.si_lex.specs.declared.lexing.TokensEnd.TheVariants.{End, Bad, FullStop}
 use Rattle.si_lex.proofs.LexingLaws.{first_place}
 use Rattle.si_lex.proofs.TokenLaws.{begins_unique, blanks_none}
 use Rattle.si_parse.specs.Parsing.{ReadsTokens, Anything}
@@ -86,12 +86,12 @@ module _ (bytes : Bytes) (at : ℕ) (l : Lexing) (h : IsItemLexing bytes at l) w
     other : (l.stop ≡ FullStop → ⊥) → ⊥
     other f = ends_never 0 used others ends (subst (HasNoStop 0) e (h.no_stop f))
 
-    by : (s : Stop) → l.stop ≡ s → (others ≡ []) × (l.stop ≡ FullStop)
+    by : (s : TokensEnd) → l.stop ≡ s → (others ≡ []) × (l.stop ≡ FullStop)
     by FullStop f = (ends_all 0 used others ends (subst (EndsAtStop 0) e (h.stop f).0), f)
     by End f = absurd (other (λ g. let k : End ≡ FullStop = sym f ∙ g in cc))
     by Bad f = absurd (other (λ g. let k : Bad ≡ FullStop = sym f ∙ g in cc))
 
-  -- every item that the bytes begin with is spelled by all the tokens, and what stands behind it
+  -- every item that the bytes begin with is spelled by all the tokens, and what stands after it
   -- was not read
   item_all : (item : Item) (rest : Bytes) → BeginsWithItem (drop at bytes) item rest → IsItem item (tokens_of l.tokens.items) × (rest ≡ drop l.end bytes)
   item_all item rest b =
@@ -186,10 +186,10 @@ no_item_read bytes at l h p q result f = by l.tokens.items refl l.stop refl f wh
   fault : (AreBlanks (drop at bytes) → ⊥) → IsFaultAt (tokens_of l.tokens.items) l.start result → IsRead bytes at result
   fault more g = fault_read bytes at l h p q more result g
 
-  other : (s : Stop) → l.stop ≡ s → (s ≡ End → ⊥) → l.stop ≡ End → ⊥
+  other : (s : TokensEnd) → l.stop ≡ s → (s ≡ End → ⊥) → l.stop ≡ End → ⊥
   other s e g k = g (sym e ∙ k)
 
-  by : (ts : List Lexeme) → l.tokens.items ≡ ts → (s : Stop) → l.stop ≡ s → IsNoItem (tokens_of ts) l.start s result → IsRead bytes at result
+  by : (ts : List Lexeme) → l.tokens.items ≡ ts → (s : TokensEnd) → l.stop ≡ s → IsNoItem (tokens_of ts) l.start s result → IsRead bytes at result
   by [] e End k g = subst (IsRead bytes at) (sym g) (end_read bytes at l h k e)
   by [] e Bad k g = fault (h.read.faulty (other Bad k (λ j. cc))) (subst (λ ts. IsFaultAt (tokens_of ts) l.start result) (sym e) g)
   by [] e FullStop k g = fault (h.read.faulty (other FullStop k (λ j. cc))) (subst (λ ts. IsFaultAt (tokens_of ts) l.start result) (sym e) g)

@@ -24,7 +24,7 @@ IsEdge t None = (opening_of t ≡ neither) × (closing_of t ≡ neither)
 IsEdge t (Some (Opens b)) = opening_of t ≡ bracket_of b
 IsEdge t (Some (Closes b)) = (opening_of t ≡ neither) × (closing_of t ≡ bracket_of b)
 
--- what a token does to the brackets that are open: others are open behind it, it closes one more
+-- what a token does to the brackets that are open: others are open after it, it closes one more
 -- than was opened as the end of annotations does, or it closes another than the last
 abbrev pub IsTurn : Token → List grammar.Bracket → List grammar.Bracket → Turn → Type 0
 IsTurn t before behind GoesOn = brackets_behind t before ≡ Some behind

@@ -12,7 +12,7 @@ use Rattle.si_defs.specs.declared.Side.TheVariants.{Predicate, Function}
 use Rattle.si_defs.specs.declared.TokenKind.TheVariants as token
 
 -- ---- rows
--- each behind a sign
+-- each after a sign
 abbrev pub AreMore : {M : Type 0} → (M → List Token → Type 0) → Token → List M → List Token → Type 0
 AreMore Means sign [] ts = ts ≡ []
 AreMore Means sign (m ∷ ms) ts =
@@ -40,7 +40,7 @@ function_symbol kind text arity =
 abbrev pub AreTerms : List Term → List Token → Type 0
 AreTerms us ts = IsRow IsTerm comma us ts
 
--- what stands behind the head of a term: nothing, or arguments in brackets
+-- what stands after the head of a term: nothing, or arguments in brackets
 abbrev pub IsApplied : SymKind → Bytes → Term → List Token → Type 0
 IsApplied kind text (terms.var x) ts = ⊥
 IsApplied kind text (terms.app s terms.none) ts = (s ≡ function_symbol kind text 0) × (ts ≡ [])
@@ -123,13 +123,13 @@ IsRole text ts = ts ≡ lower text ∷ []
 abbrev pub IsHeading : Name × Bytes → List Token → Type 0
 IsHeading h ts = (t : Token) × IsName h.0 t × (ts ≡ t ∷ comma ∷ lower h.1 ∷ comma ∷ [])
 
--- annotations behind their comma, up to and with the closing bracket of the clause
+-- annotations after their comma, up to and with the closing bracket of the clause
 abbrev pub AreAnnotations : List Token → Type 0
 AreAnnotations ts =
     (notes : List Token) × (notes ≢ []) × IsTrue (balances notes [])
     × (ts ≡ notes ++ right_bracket ∷ [])
 
--- what stands behind the formula of a clause, up to and with its closing bracket
+-- what stands after the formula of a clause, up to and with its closing bracket
 abbrev pub IsClosed : List Token → Type 0
 IsClosed ts = (extra : List Token) × IsExtra extra × (ts ≡ extra ++ right_bracket ∷ [])
 

@@ -58,7 +58,7 @@ Passes Spelled tokens result =
     ReadsTokens (λ (u : Unit {0}) used. Spelled used) Anything (tokens_of tokens)
     (option_map (λ r. (tt {0}, tokens_of r.now)) result)
 
--- what is left behind what was found, if anything was, is this
+-- what is left after what was found, if anything was, is this
 abbrev pub IfLeft : {X : Type 0} → (List Token → Type 0) → Option (X × Bor (List Lexeme)) → Type 0
 IfLeft P result = IfSome result (λ r. P (tokens_of r.1.now))
 

@@ -10,8 +10,8 @@ use Rattle.si_defs.specs.Substitutions.{IsAmong}
 use Rattle.si_defs.specs.declared.TokenKind.TheVariants.{Lower}
 use Rattle.si_term.specs.Meaning.{clause_of, pattern_of}
 use Rattle.si_term.specs.declared.clause.Pattern.{Pattern}
-use Rattle.si_lex.specs.declared.lexing.Stop.{Stop}
-use Rattle.si_lex.specs.declared.lexing.Stop.TheVariants.{End}
+use Rattle.si_lex.specs.declared.lexing.TokensEnd.{TokensEnd}
+use Rattle.si_lex.specs.declared.lexing.TokensEnd.TheVariants.{End}
 use Rattle.si_parse.specs.Meaning.{selection_of}
 use Rattle.si_parse.specs.declared.item.Read.{Read}
 use Rattle.si_parse.specs.declared.item.Read.TheVariants as read
@@ -29,14 +29,14 @@ AreForeign [] = ⊥
 AreForeign (t ∷ []) = ⊥
 AreForeign (t ∷ u ∷ us) = IsLanguage t × (u ≡ left_bracket)
 
--- the fault at a place where no item begins, by the tokens behind it
+-- the fault at a place where no item begins, by the tokens after it
 abbrev pub IsFaultAt : List Token → ℕ → Read → Type 0
 IsFaultAt ts place (read.Language p) = (p ≡ place) × AreForeign ts
 IsFaultAt ts place (read.Syntax p) = (p ≡ place) × (AreForeign ts → ⊥)
 IsFaultAt ts place result = ⊥
 
 -- what stands where the tokens begin with no item: nothing but blanks, or a fault
-abbrev pub IsNoItem : List Token → ℕ → Stop → Read → Type 0
+abbrev pub IsNoItem : List Token → ℕ → TokensEnd → Read → Type 0
 IsNoItem [] start End result = result ≡ read.End
 IsNoItem ts start stop result = IsFaultAt ts start result
 
@@ -48,7 +48,7 @@ pub record IsItemRead (bytes : Bytes) (at : ℕ) (item : Item) (end : ℕ) : Typ
   pub only : (other : Item) (rest : Bytes) → BeginsWithItem (drop at bytes) other rest
       → (other ≡ item) × (rest ≡ drop end bytes)
 
--- neither the end nor an item stands behind the blanks, and this is the place behind them
+-- neither the end nor an item stands after the blanks, and this is the place after them
 pub record IsFault (bytes : Bytes) (at place : ℕ) : Type 0 where
   pub from : at ≤ place
   pub within : place ≤ length bytes

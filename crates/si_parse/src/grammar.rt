@@ -1,6 +1,6 @@
 // From tokens to meanings: TPTP's cnf_annotated and include, cut to this project's profile.
 //
-// Each reader answers what it read at the front of some tokens, and the tokens behind it. Terms are
+// Each reader answers what it read at the front of some tokens, and the tokens after it. Terms are
 // read by recursion, as deep as their brackets nest; the lexer bounds that. What may be long, as
 // arguments, literals, names and annotations, is read by loops.
 ghost use Rattle.std.specs.Prelude.{◌↔◌, IsFalse};
@@ -25,11 +25,11 @@ pub use literals::literal;
 pub use names::{file, name};
 pub use terms::term;
 
-/// What was read at the front of some tokens, and the tokens behind it. Nothing where the tokens
+/// What was read at the front of some tokens, and the tokens after it. Nothing where the tokens
 /// begin with no such thing.
 pub type Parsed<'t, 'b, T> = Option<(T, &'t [Lexeme<'b>])>;
 
-/// The tokens behind a mark, if it stands in front of them.
+/// The tokens after a mark, if it stands in front of them.
 fn mark_at<'t, 'b>(tokens: &'t [Lexeme<'b>], c: u8) -> Option<&'t [Lexeme<'b>]>
     ensures { Passes (IsMark c) tokens.now result }
 {
@@ -46,7 +46,7 @@ fn bracket_follows(tokens: &[Lexeme]) -> bool
     mark_at(tokens, b'(').is_some()
 }
 
-/// The tokens behind a word and a bracket, as items begin.
+/// The tokens after a word and a bracket, as items begin.
 fn opening<'t, 'b>(tokens: &'t [Lexeme<'b>], word: &[u8]) -> Option<&'t [Lexeme<'b>]>
     ensures { Passes (IsOpening word.now) tokens.now result }
 {

@@ -6,27 +6,27 @@ ghost use Rattle.si_parse.specs.Reading.{AreForeign, IsFaultAt, IsLanguage, IsNo
 
 use crate::grammar::{Selection, clause, include};
 use si_defs::TokenKind;
-use si_lex::{Lexeme, Stop, lex_item};
+use si_lex::{Lexeme, TokensEnd, lex_item};
 use si_term::{Clause, Text};
 use std::alloc::{AllocError, Global};
 
 /// What stands at a place of a file (TPTP's `TPTP_file`, the CNF part).
 #[derive(Drop)]
 pub enum Read {
-    /// A clause, and the place behind its full stop.
+    /// A clause, and the place after its full stop.
     Cnf(Clause, usize),
-    /// The name of a file whose clauses are kept, which of them, and the place behind the full
+    /// The name of a file whose clauses are kept, which of them, and the place after the full
     /// stop.
     Include(Text, Selection, usize),
     /// Nothing but blanks.
     End,
-    /// No item, at this place behind the blanks.
+    /// No item, at this place after the blanks.
     Syntax(usize),
-    /// A formula of another TPTP language, at this place behind the blanks.
+    /// A formula of another TPTP language, at this place after the blanks.
     Language(usize),
 }
 
-/// The item behind the blanks from a place on. The bytes behind an item are not looked at.
+/// The item after the blanks from a place on. The bytes after an item are not looked at.
 ///
 /// # Errors
 /// `AllocError` where memory runs out.
@@ -48,11 +48,11 @@ pub fn next_item(alloc: Global, bytes: &[u8], at: usize) -> Result<Read, AllocEr
 }
 
 /// What stands where the tokens begin with no item: nothing but blanks, or a fault.
-fn no_item(tokens: &[Lexeme], start: usize, stop: Stop) -> Read
+fn no_item(tokens: &[Lexeme], start: usize, stop: TokensEnd) -> Read
     ensures { IsNoItem (tokens_of tokens.now) start stop result }
 {
     match stop {
-        Stop::End => {
+        TokensEnd::End => {
             if tokens.is_empty() {
                 Read::End
             } else {
@@ -63,7 +63,7 @@ fn no_item(tokens: &[Lexeme], start: usize, stop: Stop) -> Read
     }
 }
 
-/// The fault at a place where no item begins, by the tokens behind it.
+/// The fault at a place where no item begins, by the tokens after it.
 fn fault_at(tokens: &[Lexeme], place: usize) -> Read
     ensures { IsFaultAt (tokens_of tokens.now) place result }
 {

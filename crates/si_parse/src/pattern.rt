@@ -8,7 +8,7 @@ ghost use Rattle.si_parse.specs.Reading.{ReadsPattern, ReadsWhole};
 ghost use Rattle.si_parse.specs.declared.pattern.PatternKind.TheVariants.{Lit, Term};
 
 use crate::grammar::{literal, term};
-use si_lex::{Lexeme, Stop, lex};
+use si_lex::{Lexeme, TokensEnd, lex};
 use si_term::Pattern;
 use std::alloc::{AllocError, Global};
 
@@ -38,7 +38,7 @@ pub fn read_pattern(
 {
     let lexing = lex(alloc, bytes, 0)?;
     match lexing.stop {
-        Stop::End => whole_pattern(alloc, lexing.tokens.as_slice(), kind),
+        TokensEnd::End => whole_pattern(alloc, lexing.tokens.as_slice(), kind),
         _ => Ok(None),
     }
 }

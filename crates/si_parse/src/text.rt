@@ -11,7 +11,7 @@ ghost use Rattle.si_parse.specs.Reading.{ReadsAll, ReadsText};
 ghost use Rattle.si_term.specs.Meaning.{name_of};
 
 use crate::grammar::{file, formula, name};
-use si_lex::{Lexeme, Stop, lex};
+use si_lex::{Lexeme, TokensEnd, lex};
 use si_term::{Literals, Name, Text};
 use std::alloc::{AllocError, Global};
 
@@ -27,7 +27,7 @@ pub fn read_formula(alloc: Global, bytes: &[u8]) -> Result<Option<Literals>, All
 {
     let lexing = lex(alloc, bytes, 0)?;
     match lexing.stop {
-        Stop::End => whole_formula(alloc, lexing.tokens.as_slice()),
+        TokensEnd::End => whole_formula(alloc, lexing.tokens.as_slice()),
         _ => Ok(None),
     }
 }
@@ -43,7 +43,7 @@ pub fn read_name(alloc: Global, bytes: &[u8]) -> Result<Option<Name>, AllocError
 {
     let lexing = lex(alloc, bytes, 0)?;
     match lexing.stop {
-        Stop::End => whole_name(alloc, lexing.tokens.as_slice()),
+        TokensEnd::End => whole_name(alloc, lexing.tokens.as_slice()),
         _ => Ok(None),
     }
 }
@@ -59,7 +59,7 @@ pub fn read_file(alloc: Global, bytes: &[u8]) -> Result<Option<Text>, AllocError
 {
     let lexing = lex(alloc, bytes, 0)?;
     match lexing.stop {
-        Stop::End => whole_file(alloc, lexing.tokens.as_slice()),
+        TokensEnd::End => whole_file(alloc, lexing.tokens.as_slice()),
         _ => Ok(None),
     }
 }

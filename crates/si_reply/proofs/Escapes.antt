@@ -28,7 +28,7 @@ module _ (quote : ℕ) where
       ap (λ l. l ++ flat_map (escaped quote) xs) (escaped_plain x (f 0 (omega arith)))
       ∙ ap (λ l. x ∷ l) (run i xs (omega arith) (λ k j. f (suc k) (omega arith)))
 
-  -- the first run with the character behind it, and what follows
+  -- the first run with the character after it, and what follows
   pub first_run : (xs : Bytes) (i c : ℕ) → Some i ≡ position (λ c. c == quote || c == 92) xs → get_or xs i 0 ≡ c
       → flat_map (escaped quote) xs ≡ (take i xs ++ 92 ∷ c ∷ []) ++ flat_map (escaped quote) (drop (i + 1) xs)
   first_run xs i c e g =

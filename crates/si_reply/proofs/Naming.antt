@@ -166,7 +166,7 @@ pub some_cells : (n : Naming) (cs : List Cell) (t : Apart) → ShowsTerm n cs t 
 some_cells n cs (terms.var x) h = omega (arith, ap length h.stands.cells_are, length-cells_of (numbered (symbol_number n) (numbered_variable n) (terms.var x)))
 some_cells n cs (terms.app s ts) h = omega (arith, ap length h.stands.cells_are)
 
--- ---- terms one behind the other
+-- ---- terms one after the other
 -- the first of them, and the others
 pub record Begins (n : Naming) (cs : List Cell) (k : ℕ) (ts : terms.Terms Symbol Variable) : Type 0 where
   pub term : Apart
@@ -213,13 +213,13 @@ none_left n cs terms.none h none = refl
 none_left n cs (terms.more t ts) h none =
     absurd (omega (arith, none, ap length h.cells_are, length-append (cells_of (numbered (symbol_number n) (numbered_variable n) t)) (cells_of_all (all_numbered (symbol_number n) (numbered_variable n) ts)), length-cells_of (numbered (symbol_number n) (numbered_variable n) t), positive n t))
 
--- ---- terms of which some are written, each behind a comma
+-- ---- terms of which some are written, each after a comma
 pub record LeftToPut (n : Naming) (rest : List Cell) (old now : SinkShown) (ts : terms.Terms Symbol Variable) : Type 0 where
   pub left : terms.Terms Symbol Variable
   pub shows : ShowAll n rest left
   pub wrote : Wrote old now (more_texts variable_text ts) (more_texts variable_text left)
 
--- terms that were split behind the first
+-- terms that were split after the first
 pub record Halves (n : Naming) (first others : List Cell) (ts : terms.Terms Symbol Variable) : Type 0 where
   pub term : Apart
   pub behind : terms.Terms Symbol Variable
@@ -246,7 +246,7 @@ arguments_apart n first others ts h =
     ap (arguments_text variable_text) h.is
     ∙ four_apart (codes "(") (term_text variable_text h.term) (more_texts variable_text h.behind) (codes ")")
 
--- the same behind a comma
+-- the same after a comma
 pub more_apart : (n : Naming) (first others : List Cell) (ts : terms.Terms Symbol Variable) (h : Halves n first others ts)
     → more_texts variable_text ts ≡ codes "," ++ (term_text variable_text h.term ++ more_texts variable_text h.behind)
 more_apart n first others ts h =
@@ -282,7 +282,7 @@ pair_at n (c ∷ bs) (pair ∷ pairs) (suc i) b h is =
     let next : suc (i + 1) ≡ suc i + 1 = omega arith in
     record { pair = r.pair; from = r.from ∙ ap (λ k. r.pair ∷ drop k (pair ∷ pairs)) next; shows = r.shows }
 
--- the first, and the others behind semicolons
+-- the first, and the others after semicolons
 pub bindings_begin : (list : Solution) (b : Variable × Apart) → list ≡ b ∷ drop 1 list → bindings_text list ≡ binding_text b ++ more_bindings_text (drop 1 list)
 unfolding bindings_text
 bindings_begin [] b e = absurd (let bad = e in cc)

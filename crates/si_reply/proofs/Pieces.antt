@@ -10,7 +10,7 @@ use Rattle.si_term.specs.declared.term.Term.{Term}
 use Rattle.si_term.proofs.Rows.{from, from-read, positive}
 use Rattle.si_reply.specs.PrintedParts.{arguments_text, numbers_behind, number_list}
 
--- the items of a list behind the first
+-- the items of a list after the first
 pub tail_is : {A : Type 0} (xs : List A) → take (length xs - 1) (drop 1 xs) ≡ drop 1 xs
 tail_is xs = take_all _ _ (omega (arith, length-drop 1 xs))
 
@@ -81,7 +81,7 @@ pub sizes_tail : (ts : List Term) → 0 < length ts → terms.sizes (terms.row (
 sizes_tail [] h = absurd (omega arith)
 sizes_tail (t ∷ ts) h = omega (arith, positive (term_of t), ap (λ us. terms.sizes (terms.row (map term_of us))) (tail_is (t ∷ ts)))
 
--- what stands behind the first mark
+-- what stands after the first mark
 module _ (f : Bytes → Bytes) where
   pub some_arguments : (ts : List Term) → 0 < length ts → (rest : Bytes) × (arguments_text f (terms.row (map term_of ts)) ≡ codes "(" ++ rest)
   some_arguments [] h = absurd (omega arith)

@@ -22,7 +22,7 @@ pub record Naming : Type 0 where
   pub query_names : List Bytes
   pub entry_names : List Bytes
 
--- the numbers of a table, and behind them those of the extra symbols
+-- the numbers of a table, and after them those of the extra symbols
 abbrev pub naming : Numbering → List Sym → List Bytes → List Bytes → Naming
 naming pairs extra query_names entry_names =
     record {
@@ -61,7 +61,7 @@ pub record ShowsTerm (n : Naming) (cs : List Cell) (t : Apart) : Type 0 where
   pub stands : StandsFor cs (numbered (symbol_number n) (numbered_variable n) t)
   pub known : IsKnown n t
 
--- the same of terms one behind the other
+-- the same of terms one after the other
 pub record ShowAll (n : Naming) (cs : List Cell) (ts : terms.Terms Symbol Variable) : Type 0 where
   pub cells_are : cs ≡ cells_of_all (all_numbered (symbol_number n) (numbered_variable n) ts)
   pub sound : AreSound (all_numbered (symbol_number n) (numbered_variable n) ts)

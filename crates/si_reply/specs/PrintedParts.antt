@@ -11,7 +11,7 @@ abbrev pub arguments_text : {V : Type 0} → (V → Bytes) → terms.Terms Symbo
 arguments_text f terms.none = []
 arguments_text f (terms.more t ts) = codes "(" ++ term_text f t ++ more_texts f ts ++ codes ")"
 
--- numbers, each behind a mark
+-- numbers, each after a mark
 abbrev pub numbers_behind : Bytes → List ℕ → Bytes
 numbers_behind mark [] = []
 numbers_behind mark (n ∷ ns) = mark ++ decimal n ++ numbers_behind mark ns
@@ -24,7 +24,7 @@ number_list ns = separated (codes ",") (decimals ns)
 unfoldable pub binding_text : Variable × Apart → Bytes
 binding_text b = variable_text b.0 ++ codes " -> " ++ term_text variable_text b.1
 
--- bindings, each behind a semicolon
+-- bindings, each after a semicolon
 unfoldable pub more_bindings_text : Solution → Bytes
 more_bindings_text [] = []
 more_bindings_text (b ∷ bs) = codes "; " ++ binding_text b ++ more_bindings_text bs

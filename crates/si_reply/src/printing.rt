@@ -235,7 +235,7 @@ fn put_arguments<K: Sink>(sink: &mut K, terms: &[Term], mark: &[u8]) -> Result<(
     put_bytes(sink, b")")
 }
 
-/// Writes terms, each behind a comma.
+/// Writes terms, each after a comma.
 #[cycle(put)]
 fn put_others<K: Sink>(sink: &mut K, terms: &[Term], mark: &[u8]) -> Result<(), Failed>
     ensures { Sends result (more_texts (λ x. mark.now ++ x) (row (map term_of terms.now)))
@@ -248,7 +248,7 @@ fn put_others<K: Sink>(sink: &mut K, terms: &[Term], mark: &[u8]) -> Result<(), 
     Ok(())
 }
 
-/// Writes a path behind a colon, where there is one.
+/// Writes a path after a colon, where there is one.
 #[tactic(auto, using(si_io::proofs::Sends::sends))]
 fn put_path<K: Sink>(sink: &mut K, path: &[u32]) -> Result<(), Failed>
     ensures { Sends result (path_text path.now) (K.shown sink.old) (K.shown sink.new) }
@@ -260,7 +260,7 @@ fn put_path<K: Sink>(sink: &mut K, path: &[u32]) -> Result<(), Failed>
     put_numbers(sink, b".", &path[1..])
 }
 
-/// Writes numbers, each behind a mark.
+/// Writes numbers, each after a mark.
 fn put_numbers<K: Sink>(sink: &mut K, mark: &[u8], numbers: &[u32]) -> Result<(), Failed>
     ensures { Sends result (numbers_behind mark.now numbers.now) (K.shown sink.old)
         (K.shown sink.new) }

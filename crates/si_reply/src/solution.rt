@@ -184,7 +184,7 @@ fn put_flat_arguments<K: Sink, T: SymTable, N: NameList>(
     put_bytes(sink, b")")
 }
 
-/// Writes the terms of these cells, each behind a comma.
+/// Writes the terms of these cells, each after a comma.
 #[cycle(put_terms)]
 fn put_flat_others<'a, K: Sink, T: SymTable, N: NameList>(
     sink: &mut K,

@@ -17,7 +17,7 @@ use Rattle.si_defs.specs.declared.TokenKind.TheVariants.{Lower, Upper, Mark}
 use Rattle.si_defs.proofs.TokenLaws.{begins_append}
 use Rattle.si_sample.proofs.Tokens.{is_letter, continues_word, is_plain, next_token}
 
--- The text is tokens of which this holds, whatever stands behind it that no word goes on in. No
+-- The text is tokens of which this holds, whatever stands after it that no word goes on in. No
 -- more brackets than this are open at once in it.
 pub record IsPhrase (P : List Token → Type 0) (deep : ℕ) (text : Bytes) : Type 0 where
   pub tokens : List Token
@@ -132,7 +132,7 @@ compound_phrase c deep u us text w p a = record {
   back depth = omega arith
 
 -- ---- rules
--- what was drawn by a rule before these bytes, and behind these
+-- what was drawn by a rule before these bytes, and after these
 pub before_bytes : (P : Rule) (bytes : Bytes) (first : ℕ) (text : Bytes) (last : ℕ) → (P before exactly bytes) first text last
     → (left : Bytes) × P first left last × (text ≡ left ++ bytes)
 unfolding ◌before◌ exactly

@@ -42,7 +42,7 @@ decimal_goes_on n = are_word_bytes 64 n [] refl
 drawn_clause : ℕ → List Literal → Clause
 drawn_clause number ls = record { name = record { kind = named.Word; text = 115 ∷ decimal number }; role = codes "axiom"; literals = ls }
 
--- the bytes behind the first of the name
+-- the bytes after the first of the name
 behind_name : (digits body rest : Bytes) → (((digits ++ codes ",axiom,") ++ body) ++ codes ").\n") ++ rest ≡ digits ++ (codes ",axiom," ++ (body ++ (codes ").\n" ++ rest)))
 behind_name digits body rest =
     append_assoc ((digits ++ codes ",axiom,") ++ body) (codes ").\n") rest
@@ -109,7 +109,7 @@ line_reads number first text last r =
       λ rest. subst (λ x. BeginsWithItem (x ++ rest) (clause_item (drawn_clause number m.0)) (10 ∷ rest)) (sym e) (line_begins number m.0 b.0 rest m.1),
     )
 
--- ---- behind a line feed
+-- ---- after a line feed
 -- the blank at the end of a line is one before the next item
 skips_feed : (bytes rest : Bytes) → Skips bytes rest → Skips (10 ∷ bytes) rest
 skips_feed bytes rest s = record { blanks = (10 ∷ []) ∷ s.blanks; each = (white 10 refl refl, s.each); whole = ap (λ x. 10 ∷ x) s.whole }
@@ -132,7 +132,7 @@ clauses_feed (c ∷ cs) bytes (after, item, more) = (
 )
 
 -- ---- all lines
--- the text is so many clauses, whichever stand behind it
+-- the text is so many clauses, whichever stand after it
 record AreRead (count : ℕ) (text : Bytes) : Type 0 where
   read : List Clause
   many : length read ≡ count
@@ -155,7 +155,7 @@ all_read (suc count) first text last (left, middle, right, l, r, whole) =
     let line = line_reads (count + 1) middle right last r in
     subst (AreRead (suc count)) (sym whole) (one_line_more count left right line.0 (all_read count first left middle l) line.1)
 
--- nothing stands behind the last
+-- nothing stands after the last
 pub sample_is_clauses : (start count : ℕ) (text : Bytes) → IsSample start count text → (cs : List Clause) × (length cs ≡ count) × AreClauses cs text
 sample_is_clauses start count text (last, drawn) =
     let r = all_read count start text last drawn in

@@ -26,7 +26,7 @@ abbrev pub is_plain : ℕ → Bool
 is_plain c = not (is_special c) && not (c == 47)
 
 -- ---- what a token is that begins with such a byte
--- behind the first byte of a word stand bytes of words, and nothing behind a mark
+-- after the first byte of a word stand bytes of words, and nothing after a mark
 abbrev MayFollow : ℕ → Bytes → Type 0
 MayFollow c o = (o ≡ []) ⊎ ((is_letter c ≡ true) × (list_all is_word_byte o ≡ true))
 

@@ -10,7 +10,7 @@ pub record Draws (bound number : ℕ) (before after : Sampler) : Type 0 where
   pub state : after.state ≡ next before.state
   pub text : after.text.items ≡ before.text.items
 
--- what is drawn by the rule stands behind the text
+-- what is drawn by the rule stands after the text
 pub record Gains (rule : Rule) (before after : Sampler) : Type 0 where
   pub piece : Bytes
   pub drawn : rule before.state piece after.state

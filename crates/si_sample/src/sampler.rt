@@ -104,7 +104,7 @@ impl Sampler {
         }
     }
 
-    /// Draws a term behind a symbol and its bracket, and closes the bracket.
+    /// Draws a term after a symbol and its bracket, and closes the bracket.
     #[cycle(terms)]
     fn unary(&mut self, head: &[u8], depth: u32) -> Result<(), AllocError>
         ensures { OnOk result (Gains
@@ -115,7 +115,7 @@ impl Sampler {
         self.put(b")")
     }
 
-    /// Draws two terms behind a symbol and its bracket, and closes the bracket.
+    /// Draws two terms after a symbol and its bracket, and closes the bracket.
     #[cycle(terms)]
     fn binary(&mut self, head: &[u8], depth: u32) -> Result<(), AllocError>
         ensures { OnOk result (Gains
@@ -137,7 +137,7 @@ impl Sampler {
         self.put(&[LEAVES[number as usize]])
     }
 
-    /// Writes the bytes behind what was drawn.
+    /// Writes the bytes after what was drawn.
     fn put(&mut self, bytes: &[u8]) -> Result<(), AllocError>
         ensures { OnOk result (Gains (exactly bytes.now) self.old self.new) }
     {

@@ -46,7 +46,7 @@ IsRowOf number ls row = HasNumbers (head_numbers number (entries_from 1 ls)) row
 abbrev pub lacking : Numbering → List Literal → List Symbol
 lacking pairs ls = firsts same_symbol (unnumbered pairs (literals_symbols ls))
 
--- the numbers of the table, and behind them those of the others
+-- the numbers of the table, and after them those of the others
 abbrev pub with_extra : Numbering → List Symbol → Numbering
 with_extra pairs extra = pairs ++ extra_numbers extra
 

@@ -138,7 +138,7 @@ pub record ToldTo (f : Finding) (n : ℕ) (before now : SinkShown) : Type 0 wher
   pub given : SendsAll before (ended (hit_texts hits)) now
 
 module _ (f : Finding) (before : SinkShown) where
-  -- with the hit behind them
+  -- with the hit after them
   with_this : (n : ℕ) (hits : List Hit) (g : ℕ × Placed) (x : Hit) → AreHitsOf f.relation f.pattern f.index.clauses (take n f.hits) hits → slice_get f.hits n ≡ Some g
       → IsHitOf f.relation f.pattern f.index.clauses g x → AreHitsOf f.relation f.pattern f.index.clauses (take (n + 1) f.hits) (hits ++ x ∷ [])
   with_this n hits g x are there of =
@@ -208,7 +208,7 @@ pub hits_again : (f : Finding) (r : Result (Unit {0}) Failed) (e : Failed) (a b 
 hits_again f (Ok done) e a b is h = absurd is
 hits_again f (Err x) e a b is h = (h.0, h.1, record { all = tt; part = h.2.part })
 
--- the number was written behind them, or the sink failed before
+-- the number was written after them, or the sink failed before
 pub unended_told : (f : Finding) (r : Result (Unit {0}) Failed) (n : ℕ) (a b c : SinkShown) → n ≡ length f.hits → TellsHits f (Ok (tt {0})) a b → Sends r (end_line n) b c → TellsUnended f r a c
 unended_told f r n a b c is h p =
     let count : n ≡ length h.0 = is ∙ length-hits f.relation f.pattern f.index.clauses f.hits h.0 h.1 in

@@ -54,7 +54,7 @@ told_apart : (start now : Told) → now ≡ append_told start (since start now) 
 told_apart start now h = (ap (λ (t : Told). t.bytes) h, ap (λ (t : Told). t.room) h)
 
 -- ---- what is held
--- a piece that was copied behind it
+-- a piece that was copied after it
 pub held_more : (bytes copy piece : List ℕ) (start end n : ℕ) → copy ≡ piece → length piece ≡ n → start ≤ end → end ≤ length bytes
     → held (put_mid end (end + n - end) bytes copy) start (end + n) ≡ held bytes start end ++ piece
 held_more bytes copy piece start end n same size order within =
@@ -67,7 +67,7 @@ set_front [] end byte within = absurd (omega (arith, within))
 set_front (b ∷ bytes) zero byte within = refl
 set_front (b ∷ bytes) (suc end) byte within = ap (λ (l : List ℕ). b ∷ l) (set_front bytes end byte (omega (arith, within)))
 
--- and one byte behind it
+-- and one byte after it
 pub held_ended : (bytes : List ℕ) (start end byte : ℕ) → start ≤ end → end < length bytes → held (slice_set bytes end byte) start (end + 1) ≡ held bytes start end ++ byte ∷ []
 held_ended bytes start end byte order within =
     let next : end + 1 ≡ suc end = omega arith in
@@ -75,7 +75,7 @@ held_ended bytes start end byte order within =
     ap (drop start) front ∙ drop-append-le start (take end bytes) (byte ∷ []) (omega (arith, order, length-take-le end bytes (omega (arith, within))))
 
 -- ---- handed on, call by call
--- what is left behind the bytes between two places, once these were taken
+-- what is left after the bytes between two places, once these were taken
 pub left_behind : (now after : Told) (bytes : List ℕ) (from at : ℕ) → from ≤ at → Receives now (take (at - from) (drop from bytes)) after
     → append_told after (drop at bytes) ≡ append_told now (drop from bytes)
 left_behind now after bytes from at on h =

@@ -19,8 +19,8 @@ use Rattle.si_steps.specs.Commands.{Command, add, load, remove, query, subsumers
 use Rattle.si_steps.proofs.WordLaws.{same_word}
 use Rattle.si_lex.specs.declared.lexeme.Lexeme.{Lexeme}
 use Rattle.si_lex.specs.declared.lexing.Lexing.{Lexing}
-use Rattle.si_lex.specs.declared.lexing.Stop.{Stop}
-use Rattle.si_lex.specs.declared.lexing.Stop.TheVariants.{End}
+use Rattle.si_lex.specs.declared.lexing.TokensEnd.{TokensEnd}
+use Rattle.si_lex.specs.declared.lexing.TokensEnd.TheVariants.{End}
 use Rattle.si_lex.specs.Lexemes.{tokens_of}
 use Rattle.si_lex.specs.Lexing.{IsLexing}
 use Rattle.si_parse.specs.GrammarRules.{IsFileToken, IsNameToken}
@@ -95,7 +95,7 @@ command_is c t ts h = (ap head h.whole, subst (AreOperands c) (sym (ap others h.
 word_is : (c : Command) (w : Word) (ts : List Token) → IsCommand c (lower (command_text w) ∷ ts) → w ≡ command_word c
 word_is c w ts h = same_word w (command_word c) (same_text (command_text w) (command_text (command_word c)) (command_is c (lower (command_text w)) ts h).0)
 
--- what stands behind a word, one row a word
+-- what stands after a word, one row a word
 abbrev OperandsOf : Word → Type 0
 OperandsOf Add = Clause
 OperandsOf Load = Bytes
@@ -131,7 +131,7 @@ own tree ts h = (tt, h)
 own (explain r p) ts h = ((r, p), h)
 own (sample start count) ts h = ((start, count), h)
 
--- what stands behind the word in any command that begins with it
+-- what stands after the word in any command that begins with it
 only : (w : Word) (c : Command) (ts : List Token) → IsCommand c (lower (command_text w) ∷ ts) → (o : OperandsOf w) × AreSpelled w o ts
 only w c ts h =
     subst (λ v. (o : OperandsOf v) × AreSpelled v o ts) (sym (word_is c w ts h)) (own c ts (command_is c (lower (command_text w)) ts h).1)
@@ -140,8 +140,8 @@ only w c ts h =
 other_than_add : (w : Word) (ts : List Token) → (w ≡ Add → ⊥) → AddForeign (lower (command_text w) ∷ ts) → ⊥
 other_than_add w ts n f = n (same_word w Add (same_text (command_text w) (command_text Add) f.0))
 
--- tokens behind another word than `add` that are no command
-other_wrong : (w : Word) (ts : List Token) (stop : Stop) → (w ≡ Add → ⊥)
+-- tokens after another word than `add` that are no command
+other_wrong : (w : Word) (ts : List Token) (stop : TokensEnd) → (w ≡ Add → ⊥)
     → (stop ≡ End → (c : Command) → IsCommand c (lower (command_text w) ∷ ts) → ⊥) → Commands (lower (command_text w) ∷ ts) stop command.Wrong
 other_wrong w ts stop other none = (
   other_than_add w ts other,
@@ -150,7 +150,7 @@ other_wrong w ts stop other none = (
 )
 
 -- no word of a command
-pub no_word : (t : Token) (ts : List Token) (stop : Stop) → ((w : Word) → t ≡ lower (command_text w) → ⊥) → Commands (t ∷ ts) stop command.Wrong
+pub no_word : (t : Token) (ts : List Token) (stop : TokensEnd) → ((w : Word) → t ≡ lower (command_text w) → ⊥) → Commands (t ∷ ts) stop command.Wrong
 no_word t ts stop n = (
   λ f. n Add f.0,
   λ e s. some_tokens t ts s,
@@ -159,7 +159,7 @@ no_word t ts stop n = (
 
 -- ---- `add`
 -- where no clause was read of all the tokens
-pub add_wrong : (tokens : List Lexeme) (stop : Stop) (found : Option (program_clause.Clause × Bor (List Lexeme))) → reads.Reads clause_of IsClause Anything tokens found
+pub add_wrong : (tokens : List Lexeme) (stop : TokensEnd) (found : Option (program_clause.Clause × Bor (List Lexeme))) → reads.Reads clause_of IsClause Anything tokens found
     → (AreForeign (tokens_of tokens) → ⊥) → (stop ≡ End → (x : program_clause.Clause) (r : Bor (List Lexeme)) → found ≡ Some (x, r) → r.now ≡ [] → ⊥)
     → Commands (lower (command_text Add) ∷ tokens_of tokens) stop command.Wrong
 add_wrong tokens stop found p own left = (
@@ -175,54 +175,54 @@ found_not_foreign tokens x r p f =
     let s = u.2 in
     cnf_not_foreign (tokens_of tokens) _ (u.1 ∙ ap (λ ts. ts ++ tokens_of r.now) s.6) f
 
-pub add_read : (tokens : List Lexeme) (stop : Stop) (x : program_clause.Clause) (r : Bor (List Lexeme)) → stop ≡ End → r.now ≡ [] → reads.Reads clause_of IsClause Anything tokens (Some (x, r))
+pub add_read : (tokens : List Lexeme) (stop : TokensEnd) (x : program_clause.Clause) (r : Bor (List Lexeme)) → stop ≡ End → r.now ≡ [] → reads.Reads clause_of IsClause Anything tokens (Some (x, r))
     → IsSoundClause (clause_of x) → Commands (lower (command_text Add) ∷ tokens_of tokens) stop (command.Add x)
 add_read tokens stop x r e none p sound =
     (e, record { operands = tokens_of tokens; spelled = whole_means clause_of tokens tt x r none p; whole = refl }, sound)
 
 -- a formula of another language
-pub add_foreign : (ts : List Token) (stop : Stop) → AreForeign ts → Commands (lower (command_text Add) ∷ ts) stop command.Foreign
+pub add_foreign : (ts : List Token) (stop : TokensEnd) → AreForeign ts → Commands (lower (command_text Add) ∷ ts) stop command.Foreign
 add_foreign ts stop f = ((refl, f), λ c h. let d = only Add c ts h in clause_not_foreign d.0 ts d.1 f)
 
 -- ---- `remove`
 -- where no name was read of all the tokens
-pub remove_wrong : (tokens : List Lexeme) (stop : Stop) (found : Option (program_name.Name × Bor (List Lexeme))) → reads.Reads name_of IsNameToken Anything tokens found
+pub remove_wrong : (tokens : List Lexeme) (stop : TokensEnd) (found : Option (program_name.Name × Bor (List Lexeme))) → reads.Reads name_of IsNameToken Anything tokens found
     → (stop ≡ End → (x : program_name.Name) (r : Bor (List Lexeme)) → found ≡ Some (x, r) → r.now ≡ [] → ⊥)
     → Commands (lower (command_text Remove) ∷ tokens_of tokens) stop command.Wrong
 remove_wrong tokens stop found p left =
     other_wrong Remove (tokens_of tokens) stop (λ e. cc)
     (λ e c h. let n = only Remove c (tokens_of tokens) h in whole_none name_of tokens tt found p (left e) n.0 n.1)
 
-pub remove_read : (tokens : List Lexeme) (stop : Stop) (x : program_name.Name) (r : Bor (List Lexeme)) → stop ≡ End → r.now ≡ []
+pub remove_read : (tokens : List Lexeme) (stop : TokensEnd) (x : program_name.Name) (r : Bor (List Lexeme)) → stop ≡ End → r.now ≡ []
     → reads.Reads name_of IsNameToken Anything tokens (Some (x, r)) → Commands (lower (command_text Remove) ∷ tokens_of tokens) stop (command.Remove x)
 remove_read tokens stop x r e none p =
     (e, record { operands = tokens_of tokens; spelled = whole_means name_of tokens tt x r none p; whole = refl })
 
 -- ---- `load`
--- no file's name stands behind the word, or something else than blanks behind it
-pub load_wrong : (ts : List Token) (stop : Stop) → (stop ≡ End → (file : Bytes) → IsFileToken file ts → ⊥) → Commands (lower (command_text Load) ∷ ts) stop command.Wrong
+-- no file's name stands after the word, or something else than blanks after it
+pub load_wrong : (ts : List Token) (stop : TokensEnd) → (stop ≡ End → (file : Bytes) → IsFileToken file ts → ⊥) → Commands (lower (command_text Load) ∷ ts) stop command.Wrong
 load_wrong ts stop none = other_wrong Load ts stop (λ e. cc) (λ e c h. let f = only Load c ts h in none e f.0 f.1)
 
-pub load_read : (ts : List Token) (stop : Stop) (file : Bytes) → stop ≡ End → IsFileToken file ts → Commands (lower (command_text Load) ∷ ts) stop (command.Load file)
+pub load_read : (ts : List Token) (stop : TokensEnd) (file : Bytes) → stop ≡ End → IsFileToken file ts → Commands (lower (command_text Load) ∷ ts) stop (command.Load file)
 load_read ts stop file e h = (e, record { operands = ts; spelled = h; whole = refl })
 
 -- ---- `stats`
--- something stands behind the word
-pub stats_wrong : (ts : List Token) (stop : Stop) → (stop ≡ End → ts ≡ [] → ⊥) → Commands (lower (command_text Stats) ∷ ts) stop command.Wrong
+-- something stands after the word
+pub stats_wrong : (ts : List Token) (stop : TokensEnd) → (stop ≡ End → ts ≡ [] → ⊥) → Commands (lower (command_text Stats) ∷ ts) stop command.Wrong
 stats_wrong ts stop some = other_wrong Stats ts stop (λ e. cc) (λ e c h. some e (only Stats c ts h).1)
 
-pub stats_read : (ts : List Token) (stop : Stop) → stop ≡ End → ts ≡ [] → Commands (lower (command_text Stats) ∷ ts) stop command.Stats
+pub stats_read : (ts : List Token) (stop : TokensEnd) → stop ≡ End → ts ≡ [] → Commands (lower (command_text Stats) ∷ ts) stop command.Stats
 stats_read ts stop e none = (e, record { operands = ts; spelled = none; whole = refl })
 
 -- ---- `sample`
--- no start and count stand behind the word
-pub sample_wrong : (ts : List Token) (stop : Stop) → (stop ≡ End → (start count : ℕ) → AllowsSample start count → ts ≡ numeral start ∷ numeral count ∷ [] → ⊥)
+-- no start and count stand after the word
+pub sample_wrong : (ts : List Token) (stop : TokensEnd) → (stop ≡ End → (start count : ℕ) → AllowsSample start count → ts ≡ numeral start ∷ numeral count ∷ [] → ⊥)
     → Commands (lower (command_text Sample) ∷ ts) stop command.Wrong
 sample_wrong ts stop none =
     other_wrong Sample ts stop (λ e. cc) (λ e c h. let numbers = only Sample c ts h in none e numbers.0.0 numbers.0.1 numbers.1.0 numbers.1.1)
 
 -- the count is 0
-pub sample_none : (whole : List Token) (stop : Stop) (t u : Token) (ts : List Token) (n : ℕ) → whole ≡ t ∷ u ∷ ts → u ≡ numeral n → n ≤ 0
+pub sample_none : (whole : List Token) (stop : TokensEnd) (t u : Token) (ts : List Token) (n : ℕ) → whole ≡ t ∷ u ∷ ts → u ≡ numeral n → n ≤ 0
     → Commands (lower (command_text Sample) ∷ whole) stop command.Wrong
 sample_none whole stop t u ts n front word none =
     sample_wrong whole stop
@@ -231,7 +231,7 @@ sample_none whole stop t u ts n front word none =
     let zero : n ≡ count = decimal_injective n count (omega (arith, none)) (omega (arith, drawable.count_fits)) (ap (λ (k : Token). k.text) same) in
     absurd (omega (arith, zero, none, drawable.some)))
 
-pub sample_read : (ts : List Token) (stop : Stop) (start count : ℕ) → stop ≡ End → AllowsSample start count → ts ≡ numeral start ∷ numeral count ∷ []
+pub sample_read : (ts : List Token) (stop : TokensEnd) (start count : ℕ) → stop ≡ End → AllowsSample start count → ts ≡ numeral start ∷ numeral count ∷ []
     → Commands (lower (command_text Sample) ∷ ts) stop (command.Sample start count)
 sample_read ts stop start count e drawable is = (e, record { operands = ts; spelled = (drawable, is); whole = refl }, drawable)
 
@@ -270,19 +270,19 @@ nothing_asked (literal_pattern l) h = let e = h.2 in cc
 nothing_asked (term_pattern t) h = let e = h.2 in cc
 
 -- nothing stands there
-pub query_empty : (ts : List Token) (stop : Stop) → ts ≡ [] → ReadsQuery ts stop None
+pub query_empty : (ts : List Token) (stop : TokensEnd) → ts ≡ [] → ReadsQuery ts stop None
 query_empty ts stop none e p q = nothing_asked p (subst (IsQuery p) none q)
 
 -- another word than that of a kind does
-pub query_other : (whole : List Token) (stop : Stop) (t : Token) (ts : List Token) → whole ≡ t ∷ ts → ((k : PatternKind) → t ≡ lower (kind_word k) → ⊥) → ReadsQuery whole stop None
+pub query_other : (whole : List Token) (stop : TokensEnd) (t : Token) (ts : List Token) → whole ≡ t ∷ ts → ((k : PatternKind) → t ≡ lower (kind_word k) → ⊥) → ReadsQuery whole stop None
 query_other whole stop t ts front other e p q = let a = asks p t ts (subst (IsQuery p) front q) in other a.kind a.word
 
--- something else than blanks stands behind the last token
-pub query_bad : (ts : List Token) (stop : Stop) → (stop ≡ End → ⊥) → ReadsQuery ts stop None
+-- something else than blanks stands after the last token
+pub query_bad : (ts : List Token) (stop : TokensEnd) → (stop ≡ End → ⊥) → ReadsQuery ts stop None
 query_bad ts stop bad e p q = bad e
 
 -- the rest is what is read of the pattern's tokens
-pub query_rest : (whole : List Token) (stop : Stop) (t : Token) (ts : List Token) (k : PatternKind) (read : Option program_pattern.Pattern) → stop ≡ End → whole ≡ t ∷ ts → t ≡ lower (kind_word k)
+pub query_rest : (whole : List Token) (stop : TokensEnd) (t : Token) (ts : List Token) (k : PatternKind) (read : Option program_pattern.Pattern) → stop ≡ End → whole ≡ t ∷ ts → t ≡ lower (kind_word k)
     → ReadsWhole ts k read → ReadsQuery whole stop read
 query_rest whole stop t ts k None e front word none = λ end p q.
     let a = asks p t ts (subst (IsQuery p) front q) in
@@ -290,60 +290,60 @@ query_rest whole stop t ts k None e front word none = λ end p q.
 query_rest whole stop t ts k (Some p) e front word read =
     (e, subst (IsQuery (pattern_of p)) (sym front) (asks_query k (pattern_of p) t ts word read.of_kind read.spelled), read.sound)
 
-pub query_wrong : (r : Relation) (ts : List Token) (stop : Stop) → ReadsQuery ts stop None → Commands (lower (command_text (Ask r)) ∷ ts) stop command.Wrong
+pub query_wrong : (r : Relation) (ts : List Token) (stop : TokensEnd) → ReadsQuery ts stop None → Commands (lower (command_text (Ask r)) ∷ ts) stop command.Wrong
 query_wrong r ts stop none = other_wrong (Ask r) ts stop (λ e. cc) (λ e c h. let q = only (Ask r) c ts h in none e q.0 q.1)
 
-pub query_read : (r : Relation) (ts : List Token) (stop : Stop) (p : program_pattern.Pattern) → ReadsQuery ts stop (Some p) → Commands (lower (command_text (Ask r)) ∷ ts) stop (command.Query r p)
+pub query_read : (r : Relation) (ts : List Token) (stop : TokensEnd) (p : program_pattern.Pattern) → ReadsQuery ts stop (Some p) → Commands (lower (command_text (Ask r)) ∷ ts) stop (command.Query r p)
 query_read r ts stop p h = (h.0, record { operands = ts; spelled = h.1; whole = refl }, h.2)
 
 -- ---- `tree`
-pub tree_wrong : (ts : List Token) (stop : Stop) → (stop ≡ End → ts ≡ [] → ⊥) → Commands (lower (command_text Tree) ∷ ts) stop command.Wrong
+pub tree_wrong : (ts : List Token) (stop : TokensEnd) → (stop ≡ End → ts ≡ [] → ⊥) → Commands (lower (command_text Tree) ∷ ts) stop command.Wrong
 tree_wrong ts stop some = other_wrong Tree ts stop (λ e. cc) (λ e c h. some e (only Tree c ts h).1)
 
-pub tree_read : (ts : List Token) (stop : Stop) → stop ≡ End → ts ≡ [] → Commands (lower (command_text Tree) ∷ ts) stop command.Tree
+pub tree_read : (ts : List Token) (stop : TokensEnd) → stop ≡ End → ts ≡ [] → Commands (lower (command_text Tree) ∷ ts) stop command.Tree
 tree_read ts stop e none = (e, record { operands = ts; spelled = none; whole = refl })
 
 -- ---- `explain`
--- no word of a relation stands behind the word
-pub explain_empty : (ts : List Token) (stop : Stop) → ts ≡ [] → Commands (lower (command_text Explain) ∷ ts) stop command.Wrong
+-- no word of a relation stands after the word
+pub explain_empty : (ts : List Token) (stop : TokensEnd) → ts ≡ [] → Commands (lower (command_text Explain) ∷ ts) stop command.Wrong
 explain_empty ts stop none =
     other_wrong Explain ts stop (λ e. cc) (λ e c h. let x = only Explain c ts h in some_tokens (lower (relation_text x.0.0)) x.1.0 (sym x.1.2 ∙ none))
 
-pub explain_other : (whole : List Token) (stop : Stop) (t : Token) (ts : List Token) → whole ≡ t ∷ ts → ((r : Relation) → t ≡ lower (relation_text r) → ⊥)
+pub explain_other : (whole : List Token) (stop : TokensEnd) (t : Token) (ts : List Token) → whole ≡ t ∷ ts → ((r : Relation) → t ≡ lower (relation_text r) → ⊥)
     → Commands (lower (command_text Explain) ∷ whole) stop command.Wrong
 explain_other whole stop t ts front other =
     other_wrong Explain whole stop (λ e. cc) (λ e c h. let x = only Explain c whole h in other x.0.0 (ap head (sym front ∙ x.1.2)))
 
--- or no query behind that
-pub explain_wrong : (whole : List Token) (stop : Stop) (t : Token) (ts : List Token) → whole ≡ t ∷ ts → ReadsQuery ts stop None → Commands (lower (command_text Explain) ∷ whole) stop command.Wrong
+-- or no query after that
+pub explain_wrong : (whole : List Token) (stop : TokensEnd) (t : Token) (ts : List Token) → whole ≡ t ∷ ts → ReadsQuery ts stop None → Commands (lower (command_text Explain) ∷ whole) stop command.Wrong
 explain_wrong whole stop t ts front none =
     other_wrong Explain whole stop (λ e. cc)
     (λ e c h. let x = only Explain c whole h in none e x.0.1 (subst (IsQuery x.0.1) (ap others (sym x.1.2 ∙ front)) x.1.1))
 
-pub explain_read : (whole : List Token) (stop : Stop) (t : Token) (ts : List Token) (r : Relation) (p : program_pattern.Pattern) → whole ≡ t ∷ ts → t ≡ lower (relation_text r) → ReadsQuery ts stop (Some p)
+pub explain_read : (whole : List Token) (stop : TokensEnd) (t : Token) (ts : List Token) (r : Relation) (p : program_pattern.Pattern) → whole ≡ t ∷ ts → t ≡ lower (relation_text r) → ReadsQuery ts stop (Some p)
     → Commands (lower (command_text Explain) ∷ whole) stop (command.Explain r p)
 explain_read whole stop t ts r p front word h =
     (h.0, record { operands = whole; spelled = (ts, h.1, front ∙ ap (λ u. u ∷ ts) word); whole = refl }, h.2)
 
 -- ---- formulas
--- what is read of the tokens behind a word
-pub operand_read : {E : Type 0} (ts : List Token) (stop : Stop) (r : Result (Option (List program_literal.Literal)) E) → stop ≡ End → IfOk r (ReadsAll literals_of IsFormula ts)
+-- what is read of the tokens after a word
+pub operand_read : {E : Type 0} (ts : List Token) (stop : TokensEnd) (r : Result (Option (List program_literal.Literal)) E) → stop ≡ End → IfOk r (ReadsAll literals_of IsFormula ts)
     → IfOk r (λ read. IfSome read (λ ls. AreSoundLiterals (literals_of ls))) → IfOk r (ReadsOperand ts stop)
 operand_read ts stop (Ok (Some ls)) e h sound = (e, h.0, sound)
 operand_read ts stop (Ok None) e h sound = λ end. h
 operand_read ts stop (Err why) e h sound = tt
 
-pub subsumers_wrong : (ts : List Token) (stop : Stop) → ReadsOperand ts stop None → Commands (lower (command_text Subsumers) ∷ ts) stop command.Wrong
+pub subsumers_wrong : (ts : List Token) (stop : TokensEnd) → ReadsOperand ts stop None → Commands (lower (command_text Subsumers) ∷ ts) stop command.Wrong
 subsumers_wrong ts stop none = other_wrong Subsumers ts stop (λ e. cc) (λ e c h. let f = only Subsumers c ts h in none e f.0 f.1)
 
-pub subsumers_read : (ts : List Token) (stop : Stop) (ls : List program_literal.Literal) → ReadsOperand ts stop (Some ls)
+pub subsumers_read : (ts : List Token) (stop : TokensEnd) (ls : List program_literal.Literal) → ReadsOperand ts stop (Some ls)
     → Commands (lower (command_text Subsumers) ∷ ts) stop (command.Subsumers ls)
 subsumers_read ts stop ls h = (h.0, record { operands = ts; spelled = h.1; whole = refl }, h.2)
 
-pub subsumed_wrong : (ts : List Token) (stop : Stop) → ReadsOperand ts stop None → Commands (lower (command_text Subsumed) ∷ ts) stop command.Wrong
+pub subsumed_wrong : (ts : List Token) (stop : TokensEnd) → ReadsOperand ts stop None → Commands (lower (command_text Subsumed) ∷ ts) stop command.Wrong
 subsumed_wrong ts stop none = other_wrong Subsumed ts stop (λ e. cc) (λ e c h. let f = only Subsumed c ts h in none e f.0 f.1)
 
-pub subsumed_read : (ts : List Token) (stop : Stop) (ls : List program_literal.Literal) → ReadsOperand ts stop (Some ls)
+pub subsumed_read : (ts : List Token) (stop : TokensEnd) (ls : List program_literal.Literal) → ReadsOperand ts stop (Some ls)
     → Commands (lower (command_text Subsumed) ∷ ts) stop (command.Subsumed ls)
 subsumed_read ts stop ls h = (h.0, record { operands = ts; spelled = h.1; whole = refl }, h.2)
 

@@ -58,7 +58,7 @@ line_parts name ns = four_apart (name_text name) (sign_text Space) (map_text ns)
 abbrev pub lines_of : List Clause → List Mapped → Bytes
 lines_of clauses found = ended (map mapped_text (all_mapped clauses found))
 
--- a line, and those behind it
+-- a line, and those after it
 pub next_line : (clauses : List Clause) (m : Mapped) (found : List Mapped) (c : Clause) → slice_get clauses m.clause ≡ Some c
     → lines_of clauses (m ∷ found) ≡ mapped_line c.name m.map ++ lines_of clauses found
 unfolding mapped_line sign_text
@@ -73,7 +73,7 @@ length-mapped clauses (m ∷ found) inside =
     ap suc (length-mapped clauses found inside.1) ∙ ap (λ o. length (mapped_at o m ++ all_mapped clauses found)) (sym there.1)
 
 -- ---- one after the other
--- the line of this one, and those behind it
+-- the line of this one, and those after it
 pub line_here : (clauses : List Clause) (found : List Mapped) (n : ℕ) (m : Mapped) (c : Clause) → n < length found → m ≡ get_or found n m → slice_get clauses m.clause ≡ Some c
     → lines_of clauses (drop n found) ≡ mapped_line c.name m.map ++ lines_of clauses (drop (n + 1) found)
 line_here clauses found n m c less at there =

@@ -44,7 +44,7 @@ unfolding sign_text
 feed_is = refl
 
 -- ---- counts and shapes
--- the counts with their words, one behind the other
+-- the counts with their words, one after the other
 abbrev pub counted : ℕ → ℕ → ℕ → Bytes
 counted clauses entries symbols =
     (codes "clauses " ++ decimal clauses) ++ ((codes " entries " ++ decimal entries) ++ (codes " symbols " ++ decimal symbols))

@@ -1,4 +1,4 @@
--- Lines that are written one behind the other.
+-- Lines that are written one after the other.
 use Rattle.std.proofs.Common.{◌≡◌, List, [], ◌∷◌, ◌++◌, Result, refl, ap, sym, subst, ◌∙◌, append_assoc}
 use Rattle.si_defs.specs.Bytes.{Bytes}
 use Rattle.si_steps.specs.Runs.{ended}

@@ -12,7 +12,7 @@ held bytes start end = drop start (take end bytes)
 abbrev pub last_line_feed : List ℕ → List ℕ
 last_line_feed bytes = filter (λ byte. byte == 10) (drop (length bytes - 1) bytes)
 
--- what is told of them, behind what the sink below was given
+-- what is told of them, after what the sink below was given
 abbrev pub told_with : Told → List ℕ → ℕ → ℕ → Told
 told_with below bytes start end = append_told below (held bytes start end)
 

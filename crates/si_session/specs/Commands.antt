@@ -10,8 +10,8 @@ use Rattle.si_steps.specs.Words.{command_text}
 use Rattle.si_steps.specs.Commands as defs
 use Rattle.si_steps.specs.Commands.{IsQuery, AddsForeign, IsCommand, Means}
 use Rattle.si_steps.specs.Steps.{IsNoCommand}
-use Rattle.si_lex.specs.declared.lexing.Stop.{Stop}
-use Rattle.si_lex.specs.declared.lexing.Stop.TheVariants.{End}
+use Rattle.si_lex.specs.declared.lexing.TokensEnd.{TokensEnd}
+use Rattle.si_lex.specs.declared.lexing.TokensEnd.TheVariants.{End}
 use Rattle.si_parse.specs.Reading.{AreForeign}
 use Rattle.si_parse.specs.declared.pattern.PatternKind.{PatternKind}
 use Rattle.si_parse.specs.declared.pattern.PatternKind.TheVariants as kind
@@ -59,8 +59,8 @@ abbrev pub AddForeign : List Token → Type 0
 AddForeign [] = ⊥
 AddForeign (t ∷ ts) = (t ≡ lower (command_text Add)) × AreForeign ts
 
--- the command that they are, by what stands behind them
-abbrev pub Commands : List Token → Stop → Command → Type 0
+-- the command that they are, by what stands after them
+abbrev pub Commands : List Token → TokensEnd → Command → Type 0
 Commands ts stop command.Blank = (stop ≡ End) × (ts ≡ [])
 Commands ts stop command.Foreign = AddForeign ts × ((c : defs.Command) → IsCommand c ts → ⊥)
 Commands ts stop command.Wrong =
@@ -90,14 +90,14 @@ abbrev pub kind_word : PatternKind → Bytes
 kind_word kind.Lit = codes "lit"
 kind_word kind.Term = codes "term"
 
--- the formula that all these tokens are, if nothing but blanks stands behind them
-abbrev pub ReadsOperand : List Token → Stop → Option (List term.Literal) → Type 0
+-- the formula that all these tokens are, if nothing but blanks stands after them
+abbrev pub ReadsOperand : List Token → TokensEnd → Option (List term.Literal) → Type 0
 ReadsOperand ts stop (Some ls) =
     (stop ≡ End) × IsFormula (map literal_of ls) ts × AreSoundLiterals (map literal_of ls)
 ReadsOperand ts stop None = stop ≡ End → (formula : List Literal) → IsFormula formula ts → ⊥
 
 -- the same of a word that says which kind of pattern is asked for, and the pattern
-abbrev pub ReadsQuery : List Token → Stop → Option program.Pattern → Type 0
+abbrev pub ReadsQuery : List Token → TokensEnd → Option program.Pattern → Type 0
 ReadsQuery ts stop (Some p) =
     (stop ≡ End) × IsQuery (pattern_of p) ts × IsSoundPattern (pattern_of p)
 ReadsQuery ts stop None = stop ≡ End → (p : Pattern) → IsQuery p ts → ⊥

@@ -69,7 +69,7 @@ closed_line r = reply_line r
 unfoldable pub stats_text : Stats → Bytes
 stats_text stats = stats_line stats.clauses stats.entries stats.symbols
 
--- the numbers of nodes of a tree, behind its name
+-- the numbers of nodes of a tree, after its name
 abbrev pub counts_text : Bytes → Counts → Bytes
 counts_text name counts =
     name ++ codes " nodes " ++ decimal counts.nodes ++ codes " leaves " ++ decimal counts.leaves

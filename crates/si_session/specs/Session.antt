@@ -110,7 +110,7 @@ Writes Refused reply before after = SendsAll before (ended reply) after × IsTru
 Writes Silent reply before after = SendsAll before (ended reply) after × (reply ≡ [])
 Writes SinkFailed reply before after = SendsPart before (ended reply) after
 
--- what a library counts behind what is owed to it
+-- what a library counts after what is owed to it
 abbrev pub behind_owed : Owed → LibraryCounts → LibraryCounts
 behind_owed owed counts = record {
   calls = raised_by owed.fetches counts.calls;
@@ -143,7 +143,7 @@ pub record CountsSinkFault (outcome : Stepped) (before after : SinkShown) : Type
   pub kept : (outcome ≡ SinkFailed → ⊥) → after.counts.faults ≡ before.counts.faults
   pub failed : outcome ≡ SinkFailed → after.counts.faults ≡ raised before.counts.faults
 
--- The call went one step over a library: the state is the one behind it, its reply was written, or
+-- The call went one step over a library: the state is the one after it, its reply was written, or
 -- at a sink's fault a prefix of it, and what the reply owes to the library was counted. The setting
 -- stays, and so do the library's files.
 pub record Steps (old new : View) (request : Request) (outcome : Stepped)
@@ -160,8 +160,8 @@ pub record Steps (old new : View) (request : Request) (outcome : Stepped)
   pub library : KeepsFiles before.library after.library
 
 -- ---- parts of a step
--- What a command did: its reply P was right, and so is the state behind it; or memory ran out, at
--- once or behind some of the lines of the right reply, and the state stayed.
+-- What a command did: its reply P was right, and so is the state after it; or memory ran out, at
+-- once or after some of the lines of the right reply, and the state stayed.
 pub data HasPerformed (P : Reply → State → Type 0) (old new : State) (outcome : Stepped)
     (before after : SinkShown) : Type 0 where
   rightly : (reply : Reply) → P reply new → Writes outcome reply before after
@@ -188,7 +188,7 @@ ActsOn command old new outcome before after =
     → HasPerformed (Performs (ruled_by setting old) command (holding state old))
     (holding state old) (holding state new) outcome before after
 
--- What a load did: its reply was right, what it owes was counted, and the state is the one behind
+-- What a load did: its reply was right, what it owes was counted, and the state is the one after
 -- it; or memory ran out, its fetches were counted, and the state stayed.
 pub data HasLoaded (setting : Setting) (file : Bytes) (old new : State) (outcome : Stepped)
     (before after : Around) : Type 0 where

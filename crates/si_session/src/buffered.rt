@@ -66,7 +66,7 @@ impl<K: Sink> Borrowed for &mut K {
 }
 
 /// Hands on the bytes from a place on, in as many calls as the sink needs, and moves the place
-/// behind those that were taken.
+/// after those that were taken.
 fn hand_on<S: Borrowed>(sink: &mut S, bytes: &[u8], from: &mut usize) -> Result<(), Failed>
     requires { from.old ≤ length bytes.now }
     ensures sends { Sends result (drop from.old bytes.now) (S.shown sink.old) (S.shown sink.new) }
@@ -243,7 +243,7 @@ impl<S: Borrowed, B: Origin> Buffered<S, B> {
         Ok(())
     }
 
-    /// Holds bytes behind those that are held.
+    /// Holds bytes after those that are held.
     #[inline(always)]
     fn hold(&mut self, bytes: &[u8])
         requires { self.old.end + length bytes.now ≤ 1023 }

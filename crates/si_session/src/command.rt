@@ -11,7 +11,7 @@ ghost use Rattle.si_session.specs.Commands.{Commands, ReadsCommand, ReadsOperand
 use crate::number::numeral_of;
 use crate::word::{relation_of, word_of};
 use si_defs::Relation;
-use si_lex::{Lexeme, Stop, lex};
+use si_lex::{Lexeme, TokensEnd, lex};
 use si_parse::grammar::{clause, name};
 use si_parse::item::is_foreign;
 use si_parse::pattern::{PatternKind, whole_pattern};
@@ -65,16 +65,16 @@ pub fn read_command(alloc: Global, line: &[u8]) -> Result<Command, AllocError>
     command_of(alloc, lexing.tokens.as_slice(), lexing.stop)
 }
 
-/// The command that the tokens of a line are, by what stands behind them.
-fn command_of(alloc: Global, tokens: &[Lexeme<'_>], stop: Stop) -> Result<Command, AllocError>
+/// The command that the tokens of a line are, by what stands after them.
+fn command_of(alloc: Global, tokens: &[Lexeme<'_>], stop: TokensEnd) -> Result<Command, AllocError>
     requires { length tokens.now ≤ MOST_BYTES }
     ensures read { IfOk result (Commands (tokens_of tokens.now) stop) }
     ensures refused { OnErr result (tokens_of tokens.now ≡ [] → ⊥) }
 {
     let Some((first, rest)) = tokens.split_first() else {
         return Ok(match stop {
-            Stop::End => Command::Blank,
-            Stop::Bad | Stop::FullStop => Command::Wrong,
+            TokensEnd::End => Command::Blank,
+            TokensEnd::Bad | TokensEnd::FullStop => Command::Wrong,
         });
     };
     match word_of(first) {
@@ -92,15 +92,15 @@ fn command_of(alloc: Global, tokens: &[Lexeme<'_>], stop: Stop) -> Result<Comman
     }
 }
 
-/// The command that the word `add` begins, by the tokens behind it.
-fn add_command(alloc: Global, tokens: &[Lexeme<'_>], stop: Stop) -> Result<Command, AllocError>
+/// The command that the word `add` begins, by the tokens after it.
+fn add_command(alloc: Global, tokens: &[Lexeme<'_>], stop: TokensEnd) -> Result<Command, AllocError>
     requires { length tokens.now ≤ MOST_BYTES }
     ensures { IfOk result (Commands (lower (command_text Add) ∷ tokens_of tokens.now) stop) }
 {
     match clause(alloc, tokens)? {
         Some((clause, rest)) if rest.is_empty() => match stop {
-            Stop::End => Ok(Command::Add(clause)),
-            Stop::Bad | Stop::FullStop => Ok(Command::Wrong),
+            TokensEnd::End => Ok(Command::Add(clause)),
+            TokensEnd::Bad | TokensEnd::FullStop => Ok(Command::Wrong),
         },
         Some(_) => Ok(Command::Wrong),
         None if is_foreign(tokens) => Ok(Command::Foreign),
@@ -108,11 +108,15 @@ fn add_command(alloc: Global, tokens: &[Lexeme<'_>], stop: Stop) -> Result<Comma
     }
 }
 
-/// The command that the word `load` begins, by the tokens behind it.
-fn load_command(alloc: Global, tokens: &[Lexeme<'_>], stop: Stop) -> Result<Command, AllocError>
+/// The command that the word `load` begins, by the tokens after it.
+fn load_command(
+    alloc: Global,
+    tokens: &[Lexeme<'_>],
+    stop: TokensEnd,
+) -> Result<Command, AllocError>
     ensures { IfOk result (Commands (lower (command_text Load) ∷ tokens_of tokens.now) stop) }
 {
-    if stop != Stop::End {
+    if stop != TokensEnd::End {
         return Ok(Command::Wrong);
     }
     match whole_file(alloc, tokens)? {
@@ -121,46 +125,50 @@ fn load_command(alloc: Global, tokens: &[Lexeme<'_>], stop: Stop) -> Result<Comm
     }
 }
 
-/// The command that the word `remove` begins, by the tokens behind it.
-fn remove_command(alloc: Global, tokens: &[Lexeme<'_>], stop: Stop) -> Result<Command, AllocError>
+/// The command that the word `remove` begins, by the tokens after it.
+fn remove_command(
+    alloc: Global,
+    tokens: &[Lexeme<'_>],
+    stop: TokensEnd,
+) -> Result<Command, AllocError>
     ensures { IfOk result (Commands (lower (command_text Remove) ∷ tokens_of tokens.now) stop) }
 {
     match name(alloc, tokens)? {
         Some((name, rest)) if rest.is_empty() => match stop {
-            Stop::End => Ok(Command::Remove(name)),
-            Stop::Bad | Stop::FullStop => Ok(Command::Wrong),
+            TokensEnd::End => Ok(Command::Remove(name)),
+            TokensEnd::Bad | TokensEnd::FullStop => Ok(Command::Wrong),
         },
         Some(_) => Ok(Command::Wrong),
         None => Ok(Command::Wrong),
     }
 }
 
-/// The command that the word `stats` begins, by the tokens behind it.
-fn stats_command(tokens: &[Lexeme<'_>], stop: Stop) -> Command
+/// The command that the word `stats` begins, by the tokens after it.
+fn stats_command(tokens: &[Lexeme<'_>], stop: TokensEnd) -> Command
     ensures { Commands (lower (command_text Stats) ∷ tokens_of tokens.now) stop result }
 {
     match stop {
-        Stop::End if tokens.is_empty() => Command::Stats,
-        Stop::End | Stop::Bad | Stop::FullStop => Command::Wrong,
+        TokensEnd::End if tokens.is_empty() => Command::Stats,
+        TokensEnd::End | TokensEnd::Bad | TokensEnd::FullStop => Command::Wrong,
     }
 }
 
-/// The command that the word `tree` begins, by the tokens behind it.
-fn tree_command(tokens: &[Lexeme<'_>], stop: Stop) -> Command
+/// The command that the word `tree` begins, by the tokens after it.
+fn tree_command(tokens: &[Lexeme<'_>], stop: TokensEnd) -> Command
     ensures { Commands (lower (command_text Tree) ∷ tokens_of tokens.now) stop result }
 {
     match stop {
-        Stop::End if tokens.is_empty() => Command::Tree,
-        Stop::End | Stop::Bad | Stop::FullStop => Command::Wrong,
+        TokensEnd::End if tokens.is_empty() => Command::Tree,
+        TokensEnd::End | TokensEnd::Bad | TokensEnd::FullStop => Command::Wrong,
     }
 }
 
-/// The command that the word of a relation begins, by the tokens behind it.
+/// The command that the word of a relation begins, by the tokens after it.
 fn query_command(
     alloc: Global,
     relation: Relation,
     tokens: &[Lexeme<'_>],
-    stop: Stop,
+    stop: TokensEnd,
 ) -> Result<Command, AllocError>
     requires { length tokens.now ≤ MOST_BYTES }
     ensures { IfOk result (Commands (lower (command_text (Ask relation)) ∷ tokens_of tokens.now)
@@ -172,8 +180,12 @@ fn query_command(
     }
 }
 
-/// The command that the word `explain` begins, by the tokens behind it.
-fn explain_command(alloc: Global, tokens: &[Lexeme<'_>], stop: Stop) -> Result<Command, AllocError>
+/// The command that the word `explain` begins, by the tokens after it.
+fn explain_command(
+    alloc: Global,
+    tokens: &[Lexeme<'_>],
+    stop: TokensEnd,
+) -> Result<Command, AllocError>
     requires { length tokens.now ≤ MOST_BYTES }
     ensures { IfOk result (Commands (lower (command_text Explain) ∷ tokens_of tokens.now) stop) }
 {
@@ -190,7 +202,11 @@ fn explain_command(alloc: Global, tokens: &[Lexeme<'_>], stop: Stop) -> Result<C
 }
 
 /// The pattern that is asked for by these tokens, of which the first says its kind.
-fn asked(alloc: Global, tokens: &[Lexeme<'_>], stop: Stop) -> Result<Option<Pattern>, AllocError>
+fn asked(
+    alloc: Global,
+    tokens: &[Lexeme<'_>],
+    stop: TokensEnd,
+) -> Result<Option<Pattern>, AllocError>
     requires { length tokens.now ≤ MOST_BYTES }
     ensures { IfOk result (ReadsQuery (tokens_of tokens.now) stop) }
 {
@@ -201,16 +217,16 @@ fn asked(alloc: Global, tokens: &[Lexeme<'_>], stop: Stop) -> Result<Option<Patt
         return Ok(None);
     };
     match stop {
-        Stop::End => whole_pattern(alloc, rest, kind),
-        Stop::Bad | Stop::FullStop => Ok(None),
+        TokensEnd::End => whole_pattern(alloc, rest, kind),
+        TokensEnd::Bad | TokensEnd::FullStop => Ok(None),
     }
 }
 
-/// The command that the word `subsumers` begins, by the tokens behind it.
+/// The command that the word `subsumers` begins, by the tokens after it.
 fn subsumers_command(
     alloc: Global,
     tokens: &[Lexeme<'_>],
-    stop: Stop,
+    stop: TokensEnd,
 ) -> Result<Command, AllocError>
     requires { length tokens.now ≤ MOST_BYTES }
     ensures { IfOk result (Commands (lower (command_text Subsumers) ∷ tokens_of tokens.now)
@@ -222,8 +238,12 @@ fn subsumers_command(
     }
 }
 
-/// The command that the word `subsumed` begins, by the tokens behind it.
-fn subsumed_command(alloc: Global, tokens: &[Lexeme<'_>], stop: Stop) -> Result<Command, AllocError>
+/// The command that the word `subsumed` begins, by the tokens after it.
+fn subsumed_command(
+    alloc: Global,
+    tokens: &[Lexeme<'_>],
+    stop: TokensEnd,
+) -> Result<Command, AllocError>
     requires { length tokens.now ≤ MOST_BYTES }
     ensures { IfOk result (Commands (lower (command_text Subsumed) ∷ tokens_of tokens.now) stop) }
 {
@@ -233,18 +253,18 @@ fn subsumed_command(alloc: Global, tokens: &[Lexeme<'_>], stop: Stop) -> Result<
     }
 }
 
-/// The formula that the tokens behind the word of a command are.
+/// The formula that the tokens after the word of a command are.
 fn formula_of(
     alloc: Global,
     tokens: &[Lexeme<'_>],
-    stop: Stop,
+    stop: TokensEnd,
 ) -> Result<Option<Literals>, AllocError>
     requires { length tokens.now ≤ MOST_BYTES }
     ensures { IfOk result (ReadsOperand (tokens_of tokens.now) stop) }
 {
     match stop {
-        Stop::End => whole_formula(alloc, tokens),
-        Stop::Bad | Stop::FullStop => Ok(None),
+        TokensEnd::End => whole_formula(alloc, tokens),
+        TokensEnd::Bad | TokensEnd::FullStop => Ok(None),
     }
 }
 
@@ -263,11 +283,11 @@ fn kind_of(word: &Lexeme<'_>) -> Option<PatternKind>
     }
 }
 
-/// The command that the word `sample` begins, by the tokens behind it.
-fn sample_command(tokens: &[Lexeme<'_>], stop: Stop) -> Command
+/// The command that the word `sample` begins, by the tokens after it.
+fn sample_command(tokens: &[Lexeme<'_>], stop: TokensEnd) -> Command
     ensures { Commands (lower (command_text Sample) ∷ tokens_of tokens.now) stop result }
 {
-    if stop != Stop::End {
+    if stop != TokensEnd::End {
         return Command::Wrong;
     }
     let Some((first, rest)) = tokens.split_first() else {

@@ -1,4 +1,4 @@
-//! Commands: one line of input, its reply, and the clauses behind it.
+//! Commands: one line of input, its reply, and the clauses after it.
 #![tactic(auto)]
 
 mod answer;

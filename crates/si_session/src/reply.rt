@@ -216,7 +216,7 @@ fn put_shape<K: Sink>(sink: &mut K, shape: Shape) -> Result<(), Failed>
     }
 }
 
-/// Writes two shapes, each behind a space.
+/// Writes two shapes, each after a space.
 #[tactic(auto, using(si_io::proofs::Sends::sends))]
 fn put_shapes<K: Sink>(sink: &mut K, found: Shape, kept: Shape) -> Result<(), Failed>
     ensures { Sends result (sign_text Space ++ (closed_shape found ++ (sign_text Space

@@ -9,7 +9,7 @@ use si_reply::put_bytes;
 /// A fixed sign between the parts of a printed text.
 #[derive(Clone, Copy, Debug, PartialEq, Eq)]
 pub enum Sign {
-    /// A space, behind a place.
+    /// A space, after a place.
     Space,
     /// The end of a line.
     LineFeed,

@@ -31,7 +31,7 @@ key_if_some : (k : ℕ) (o : Option CountedSymbol) (key : ℕ) → key_if k o �
 key_if_some k None key h = cc
 key_if_some k (Some c) key h = record { counted = c; there = refl; same = sym (same_Some k key h) }
 
--- The slot with the key k is one of this kind and text, or of no symbol, before and behind.
+-- The slot with the key k is one of this kind and text, or of no symbol, before and after.
 pub record Changes (t v : Uses) (kind : SymKind) (text : Bytes) (k : ℕ) : Type 0 where
   pub others : (j : ℕ) → (j ≡ k → ⊥) → get v.slots j ≡ get t.slots j
   pub keys : (l : SymKind) (x : Bytes) → (l ≡ kind → x ≡ text → ⊥) → symbol_key v.keys l x ≡ symbol_key t.keys l x

@@ -93,7 +93,7 @@ first_at ks os i one kept h read agree against clashes = record {
 pub clauses_all : (cs : List term.Clause) (i : ℕ) → length cs ≤ i → map clause_of (take i cs) ≡ map clause_of cs
 clauses_all cs i past = ap (map clause_of) (take_all i cs past)
 
--- one clause behind those in front of it
+-- one clause after those in front of it
 module _ (cs : List term.Clause) (i : ℕ) (one : term.Clause) (within : i < length cs) (read : one ≡ get_or cs i one) where
   pub clauses_next : map clause_of (take (i + 1) cs) ≡ map clause_of (take i cs) ++ clause_of one ∷ []
   clauses_next =

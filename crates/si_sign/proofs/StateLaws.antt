@@ -23,7 +23,7 @@ times_state s cs ds = ap (times s) (state_append cs ds) ∙ times_append s (stat
 pub signature_of_none : IsSignatureOf [] []
 signature_of_none s = refl
 
--- behind `take`
+-- after `take`
 pub signature_added : (state : List Clause) (c : Clause) (known new : Signature) → IsSignatureOf state known
     → ((s : Symbol) → uses_of new s ≡ uses_of known s + times s (clause_symbols c)) → IsSignatureOf (state ++ c ∷ []) new
 signature_added state c known new of uses s =
@@ -34,7 +34,7 @@ pub used_in_state : (before after : List Clause) (c : Clause) (known : Signature
 used_in_state before after c known of s =
     omega (arith, of s, times_state s before (c ∷ after), times_append s (clause_symbols c) (state_symbols after))
 
--- behind `give_back`
+-- after `give_back`
 pub signature_removed : (before after : List Clause) (c : Clause) (known new : Signature) → IsSignatureOf (before ++ c ∷ after) known
     → ((s : Symbol) → uses_of new s + times s (clause_symbols c) ≡ uses_of known s) → IsSignatureOf (before ++ after) new
 signature_removed before after c known new of uses s =

@@ -100,7 +100,7 @@ module _ (a b : Signature) (xs ys : List Symbol) (at_first : IsSignature a) (tak
     by (inl k) = of (positive_either (uses_of a r) (times r xs) (omega (arith, taken.uses r, symbols_used b now r k)))
     by (inr k) = among_back (known_symbols a) (xs ++ before) r (among_back xs before r k)
 
-  -- what is refused behind what was taken
+  -- what is refused after what was taken
   pub refuses_more : IsSignature b → (begin : ℕ) (f : TakeFault) → RefusesFrom begin b ys f → RefusesFrom begin a (xs ++ ys) f
   refuses_more now begin (take_fault.Clash c) (number, found, kept, first, shapes, position) = (
     length xs + number,

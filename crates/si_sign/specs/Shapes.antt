@@ -15,7 +15,7 @@ shape_of s = record { side = s.side; arity = s.arity }
 abbrev pub HasShapes : Clash → Symbol → Symbol → Type 0
 HasShapes c found kept = (c.found ≡ shape_of found) × (c.kept ≡ shape_of kept)
 
--- the first of these symbols that clashes, behind so many others, is the one that is named
+-- the first of these symbols that clashes, after so many others, is the one that is named
 abbrev pub NamesFirstClash : List Symbol → List Symbol → Clash → Type 0
 NamesFirstClash known own c =
     (found : Symbol) × (kept : Symbol)

@@ -110,7 +110,7 @@ impl ClauseStore for PlainStore {
     }
 }
 
-/// Tries a clause behind these ones, and answers the number of its entries.
+/// Tries a clause after these ones, and answers the number of its entries.
 fn try_clause(
     alloc: Global,
     clauses: &[Clause],

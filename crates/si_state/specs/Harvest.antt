@@ -55,7 +55,7 @@ pub data Fault : Type 0 where
   rejected : Clause → Refusal → Fault
 
 -- ---- opening a file
--- the file may be asked for, while these are open and behind so many fetches
+-- the file may be asked for, while these are open and after so many fetches
 pub record MayAsk (bounds : Bounds) (opened : List Bytes) (made : ℕ) (file : Bytes) : Type 0 where
   pub fresh : IsAmong opened file → ⊥
   pub shallow : length opened < bounds.depth
@@ -91,26 +91,26 @@ IsSelected around name = AllByRecursion (λ names. IsAmong names name) around
 -- ---- reading
 -- where a reading stands: the file, all its bytes, the names of the files that are open, this one
 -- first, the selections round it, and the bytes that are left
-pub record Spot : Type 0 where
+pub record ReadingPoint : Type 0 where
   pub file : Bytes
   pub bytes : Bytes
   pub opened : List Bytes
   pub around : List (List Name)
   pub rest : Bytes
 
--- the place behind the blanks is on this line of the file
-abbrev pub IsOnLine : Spot → ℕ → Type 0
-IsOnLine spot line =
-    (before : Bytes) × (place : Bytes) × IsPlace spot.rest place × (spot.bytes ≡ before ++ place)
+-- the place after the blanks is on this line of the file
+abbrev pub IsOnLine : ReadingPoint → ℕ → Type 0
+IsOnLine point line =
+    (before : Bytes) × (place : Bytes) × IsPlace point.rest place × (point.bytes ≡ before ++ place)
     × (line ≡ line_of before)
 
 -- no item stands here, nor the end of the file
-abbrev pub IsStuck : Spot → Fault → Type 0
-IsStuck spot (foreign file line) =
-    (file ≡ spot.file) × IsFaulty spot.rest × IsOnLine spot line × IsForeign spot.rest
-IsStuck spot (malformed file line) =
-    (file ≡ spot.file) × IsFaulty spot.rest × IsOnLine spot line × (IsForeign spot.rest → ⊥)
-IsStuck spot fault = ⊥
+abbrev pub IsStuck : ReadingPoint → Fault → Type 0
+IsStuck point (foreign file line) =
+    (file ≡ point.file) × IsFaulty point.rest × IsOnLine point line × IsForeign point.rest
+IsStuck point (malformed file line) =
+    (file ≡ point.file) × IsFaulty point.rest × IsOnLine point line × (IsForeign point.rest → ⊥)
+IsStuck point fault = ⊥
 
 -- ---- a clause that is refused
 -- the fault is that the clause is refused where these are kept
@@ -122,7 +122,7 @@ IsRejected rules clauses clause fault = ⊥
 -- ---- the reading of files
 module _ (files : Files) (bounds : Bounds) (rules : Rules) where
   mutual
-    -- While these files are open, with these selections round it, behind so many fetches and where
+    -- While these files are open, with these selections round it, after so many fetches and where
     -- these clauses are kept, the reading of a file gives these events, and a fault if it ends
     -- early.
     pub data Harvests : List Bytes → List (List Name) → ℕ → List Clause → Bytes → List Event
@@ -150,45 +150,45 @@ module _ (files : Files) (bounds : Bounds) (rules : Rules) where
           events fault
           → Harvests opened around made clauses file (ask file ∷ events) fault
 
-    -- From here to the end of the file, behind so many fetches and where these clauses are kept,
+    -- From here to the end of the file, after so many fetches and where these clauses are kept,
     -- the reading gives these events, and a fault if it ends early.
-    pub data Continues : Spot → ℕ → List Clause → List Event → Option Fault → Type 0 where
-      ended : (spot : Spot) (made : ℕ) (clauses : List Clause) → AreBlanks spot.rest
-          → Continues spot made clauses [] None
-      stuck : (spot : Spot) (made : ℕ) (clauses : List Clause) (fault : Fault) → IsStuck spot fault
-          → Continues spot made clauses [] (Some fault)
-      passed_over : (spot : Spot) (made : ℕ) (clauses : List Clause) (clause : Clause)
+    pub data Continues : ReadingPoint → ℕ → List Clause → List Event → Option Fault → Type 0 where
+      ended : (point : ReadingPoint) (made : ℕ) (clauses : List Clause) → AreBlanks point.rest
+          → Continues point made clauses [] None
+      stuck : (point : ReadingPoint) (made : ℕ) (clauses : List Clause) (fault : Fault) → IsStuck point fault
+          → Continues point made clauses [] (Some fault)
+      passed_over : (point : ReadingPoint) (made : ℕ) (clauses : List Clause) (clause : Clause)
           (after : Bytes)
-          → BeginsWithItem spot.rest (clause_item clause) after
-          → (IsSelected spot.around clause.name → ⊥)
+          → BeginsWithItem point.rest (clause_item clause) after
+          → (IsSelected point.around clause.name → ⊥)
           → (events : List Event) (fault : Option Fault)
-          → Continues (record spot { rest = after }) made clauses events fault
-          → Continues spot made clauses events fault
-      accepted : (spot : Spot) (made : ℕ) (clauses : List Clause) (clause : Clause) (after : Bytes)
-          → BeginsWithItem spot.rest (clause_item clause) after → IsSelected spot.around clause.name
+          → Continues (record point { rest = after }) made clauses events fault
+          → Continues point made clauses events fault
+      accepted : (point : ReadingPoint) (made : ℕ) (clauses : List Clause) (clause : Clause) (after : Bytes)
+          → BeginsWithItem point.rest (clause_item clause) after → IsSelected point.around clause.name
           → Accepts rules clauses clause (clauses ++ clause ∷ [])
           → (events : List Event) (fault : Option Fault)
-          → Continues (record spot { rest = after }) made (clauses ++ clause ∷ []) events fault
-          → Continues spot made clauses (attempt clause ∷ events) fault
-      refused : (spot : Spot) (made : ℕ) (clauses : List Clause) (clause : Clause) (after : Bytes)
-          → BeginsWithItem spot.rest (clause_item clause) after → IsSelected spot.around clause.name
+          → Continues (record point { rest = after }) made (clauses ++ clause ∷ []) events fault
+          → Continues point made clauses (attempt clause ∷ events) fault
+      refused : (point : ReadingPoint) (made : ℕ) (clauses : List Clause) (clause : Clause) (after : Bytes)
+          → BeginsWithItem point.rest (clause_item clause) after → IsSelected point.around clause.name
           → (refusal : Refusal) → Refuses rules clauses clause refusal
-          → Continues spot made clauses (attempt clause ∷ []) (Some (rejected clause refusal))
-      expanded : (spot : Spot) (made : ℕ) (clauses : List Clause) (file : Bytes)
+          → Continues point made clauses (attempt clause ∷ []) (Some (rejected clause refusal))
+      expanded : (point : ReadingPoint) (made : ℕ) (clauses : List Clause) (file : Bytes)
           (selection : Selection) (after : Bytes)
-          → BeginsWithItem spot.rest (include_item file selection) after
+          → BeginsWithItem point.rest (include_item file selection) after
           → (inside events whole : List Event) (fault : Option Fault)
-          → Harvests spot.opened (narrowed selection spot.around) made clauses file inside None
-          → Continues (record spot { rest = after }) (made + fetches inside)
+          → Harvests point.opened (narrowed selection point.around) made clauses file inside None
+          → Continues (record point { rest = after }) (made + fetches inside)
           (clauses ++ tried inside) events fault
-          → whole ≡ inside ++ events → Continues spot made clauses whole fault
-      broken_off : (spot : Spot) (made : ℕ) (clauses : List Clause) (file : Bytes)
+          → whole ≡ inside ++ events → Continues point made clauses whole fault
+      broken_off : (point : ReadingPoint) (made : ℕ) (clauses : List Clause) (file : Bytes)
           (selection : Selection) (after : Bytes)
-          → BeginsWithItem spot.rest (include_item file selection) after
+          → BeginsWithItem point.rest (include_item file selection) after
           → (events : List Event) (fault : Fault)
-          → Harvests spot.opened (narrowed selection spot.around) made clauses file events
+          → Harvests point.opened (narrowed selection point.around) made clauses file events
           (Some fault)
-          → Continues spot made clauses events (Some fault)
+          → Continues point made clauses events (Some fault)
 
 -- by these rules a load of the file gives these events, and a fault if it is refused
 abbrev pub Loads : Files → Bounds → Rules → List Clause → Bytes → List Event → Option Fault
@@ -196,7 +196,7 @@ abbrev pub Loads : Files → Bounds → Rules → List Clause → Bytes → List
 Loads files bounds rules clauses file events fault =
     Harvests files bounds rules [] [] 0 clauses file events fault
 
--- the clauses behind a load: those that were tried stand last, in order, or all is as it was
+-- the clauses after a load: those that were tried stand last, in order, or all is as it was
 abbrev pub clauses_behind : List Clause → List Event → Option Fault → List Clause
 clauses_behind clauses events None = clauses ++ tried events
 clauses_behind clauses events (Some fault) = clauses

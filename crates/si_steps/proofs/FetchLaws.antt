@@ -1,7 +1,7 @@
 -- Which of the files that a load asks for are fetched.
 use Rattle.std.proofs.Common.{◌≡◌, ℕ, ◌+◌, List, [], ◌∷◌, ◌++◌, refl, sym, Some, arith}
 use Rattle.si_defs.specs.Bytes.{Bytes}
-use Rattle.si_state.specs.Harvest.{Files, Bounds, Event, ask, attempt, fetches, Fault, cycle, too_deep, too_many, missing, too_big, failed, foreign, malformed, rejected, MayAsk, IsBarred, IsWithheld, Spot, IsStuck}
+use Rattle.si_state.specs.Harvest.{Files, Bounds, Event, ask, attempt, fetches, Fault, cycle, too_deep, too_many, missing, too_big, failed, foreign, malformed, rejected, MayAsk, IsBarred, IsWithheld, ReadingPoint, IsStuck}
 use Rattle.si_steps.specs.Loads.{fetches_made}
 
 pub fetches-append : (xs ys : List Event) → fetches (xs ++ ys) ≡ fetches xs + fetches ys
@@ -54,13 +54,13 @@ made_withheld files bounds file (malformed x n) events h = absurd h
 made_withheld files bounds file (rejected c why) events h = absurd h
 
 -- where no item stands, all that were asked for were fetched
-pub made_stuck : (spot : Spot) (fault : Fault) (events : List Event) → IsStuck spot fault → fetches events ≡ fetches_made events (Some fault)
-made_stuck spot (cycle x) events h = absurd h
-made_stuck spot (too_deep x) events h = absurd h
-made_stuck spot too_many events h = absurd h
-made_stuck spot (missing x) events h = absurd h
-made_stuck spot (too_big x) events h = absurd h
-made_stuck spot (failed x) events h = absurd h
-made_stuck spot (foreign x n) events h = refl
-made_stuck spot (malformed x n) events h = refl
-made_stuck spot (rejected c why) events h = absurd h
+pub made_stuck : (point : ReadingPoint) (fault : Fault) (events : List Event) → IsStuck point fault → fetches events ≡ fetches_made events (Some fault)
+made_stuck point (cycle x) events h = absurd h
+made_stuck point (too_deep x) events h = absurd h
+made_stuck point too_many events h = absurd h
+made_stuck point (missing x) events h = absurd h
+made_stuck point (too_big x) events h = absurd h
+made_stuck point (failed x) events h = absurd h
+made_stuck point (foreign x n) events h = refl
+made_stuck point (malformed x n) events h = refl
+made_stuck point (rejected c why) events h = absurd h

@@ -4,7 +4,7 @@ use Rattle.std.specs.Prelude.{decimal}
 use Rattle.si_defs.specs.Bytes.{Bytes}
 use Rattle.si_defs.specs.Generator.{Rule, exactly, ◌before◌, one_of, rule_at, drawn, next, leaves, term, sign, atom, literal, literals, clause, clauses, IsSample}
 
--- the one text that is drawn from a state, and the state behind it
+-- the one text that is drawn from a state, and the state after it
 pub record One (rule : Rule) (first : ℕ) : Type 0 where
   pub text : Bytes
   pub last : ℕ

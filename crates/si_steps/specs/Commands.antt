@@ -49,7 +49,7 @@ IsQuery (term_pattern t) ts = (us : List Token) × IsTerm t us × (ts ≡ lower 
 abbrev pub numeral : ℕ → Token
 numeral n = record { kind = Int; text = decimal n }
 
--- what stands behind the word
+-- what stands after the word
 abbrev pub AreOperands : Command → List Token → Type 0
 AreOperands (add c) ts = IsClause c ts
 AreOperands (load file) ts = ts ≡ record { kind = Single; text = file } ∷ []

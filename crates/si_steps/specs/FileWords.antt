@@ -1,4 +1,4 @@
--- A word of the program's call that names a file: its reply and the state behind it (this project's
+-- A word of the program's call that names a file: its reply and the state after it (this project's
 -- profile).
 use Rattle.std.specs.Prelude.{◌≡◌, ◌&&◌, ◌==◌, [], ◌∷◌, Bool, not, length, Option, IsTrue, IsFalse}
 use Rattle.std.specs.List.{list_all}
@@ -13,7 +13,7 @@ use Rattle.si_steps.specs.Loads.{Owed, nothing, OwesFetches, PerformsLoad}
 abbrev pub names_file : Bytes → Bool
 names_file word = not (length word == 0) && list_all is_printable word
 
--- The right reply to a word, what the reply owes to the library, and the right state behind it. A
+-- The right reply to a word, what the reply owes to the library, and the right state after it. A
 -- word that can't name a file is refused; any other is loaded.
 pub data RightWord (setting : Setting) (told : Option Files) (state : State) (word : Bytes)
     (reply : Reply) (owed : Owed) (new : State) : Type 0 where

@@ -1,4 +1,4 @@
--- One load: its reply, what it owes to the library, and the state behind it (TPTP's include
+-- One load: its reply, what it owes to the library, and the state after it (TPTP's include
 -- directive; the replies are this project's profile).
 use Rattle.std.specs.Prelude.{◌≡◌, ℕ, ◌+◌, ◌-◌, ◌≤◌, ◌⊎◌, List, [], ◌∷◌, ◌++◌, length, Option, None, Some}
 use Rattle.si_defs.specs.Bytes.{Bytes}

@@ -46,12 +46,12 @@ Acts setting told state (a_word word) reply owed new =
     WordStep setting told state word reply owed new
 Acts setting told state (a_line line) reply owed new = Step setting told state line reply owed new
 
--- a strict run goes on behind no refusal
+-- a strict run goes on after no refusal
 abbrev pub GoesOn : (strict : Bool) → Reply → Type 0
 GoesOn strict reply = IsTrue strict → IsFalse (is_refusal reply)
 
 -- From this state on the requests have this output, which owes so much to the library, and the new
--- state stands behind them. The run goes on behind each.
+-- state stands after them. The run goes on after each.
 abbrev pub Run : Setting → Option Files → (strict : Bool) → State → List Request → Bytes → Owed
     → State → Type 0
 Run setting told strict state [] output owed new =
@@ -69,7 +69,7 @@ abbrev pub IsOutput : Setting → Option Files → (strict : Bool) → List Requ
 IsOutput setting told strict requests output owed =
     (new : State) × Run setting told strict empty_state requests output owed new
 
--- The output of such a session over the first of these requests. It ends with this reply, behind
+-- The output of such a session over the first of these requests. It ends with this reply, after
 -- which the run need not go on.
 pub record IsOutputTo (setting : Setting) (told : Option Files) (strict : Bool)
     (requests : List Request) (reply : Reply) (output : Bytes) (owed : Owed) : Type 0 where

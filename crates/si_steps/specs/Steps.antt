@@ -1,4 +1,4 @@
--- One command line: its reply and the state behind it (this project's profile).
+-- One command line: its reply and the state after it (this project's profile).
 use Rattle.std.specs.Prelude.{◌≡◌, ℕ, ◌+◌, ◌⊎◌, List, [], ◌∷◌, ◌++◌, length, Option}
 use Rattle.si_defs.specs.Bytes.{Bytes}
 use Rattle.si_defs.specs.Clauses.{Clause, Pattern}
@@ -25,7 +25,7 @@ CountsStanding relation pattern ((c, e) ∷ es) n =
     × ((others : ℕ) × CountsStanding relation pattern es others × (n ≡ 1 + others)))
     ⊎ ((Stands relation pattern e.entry → ⊥) × CountsStanding relation pattern es n)
 
--- The command's reply and the state behind it. A load goes by `PerformsLoad`. Numbers of nodes are
+-- The command's reply and the state after it. A load goes by `PerformsLoad`. Numbers of nodes are
 -- free here: a plain list of clauses has none.
 abbrev pub Performs : Setting → Command → State → Reply → State → Type 0
 Performs setting (add c) state reply new =
@@ -75,7 +75,7 @@ abbrev pub IsNoCommand : Bytes → Type 0
 IsNoCommand line = (command : Command) → Means command line → ⊥
 
 -- The right reply to a line over a library that may tell its files, what the reply owes to it, and
--- the right state behind it. A library may fail at any fetch: that it did is a right reply too.
+-- the right state after it. A library may fail at any fetch: that it did is a right reply too.
 pub data RightStep (setting : Setting) (told : Option Files) (state : State) (line : Bytes)
     (reply : Reply) (owed : Owed) (new : State) : Type 0 where
   long : IsLong setting.limits line → reply ≡ long_line ∷ [] → owed ≡ nothing → new ≡ state
@@ -102,7 +102,7 @@ OwesAtOnce setting told state line owed = (owed ≡ nothing)
     ⊎ ((file : Bytes) × Means (load file) line × OwesFetches setting told file state owed)
 
 -- A step is right, or memory runs out, and the state stays: at once, whatever the right reply is,
--- or behind some lines of the right reply, but not all. That never happens at a line that is too
+-- or after some lines of the right reply, but not all. That never happens at a line that is too
 -- long, nor at one without a reply.
 pub data Step (setting : Setting) (told : Option Files) (state : State) (line : Bytes)
     (reply : Reply) (owed : Owed) (new : State) : Type 0 where

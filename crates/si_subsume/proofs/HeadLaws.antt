@@ -105,7 +105,7 @@ hit end k (c ∷ bs) h less = by (same_head h (slice_head c)) refl less (hit end
         let r = rest less in
         record { place = suc r.place; number = omega (arith, r.number); slice = r.slice; slice_is = r.slice_is; has = r.has }
 
--- the next one behind a slice
+-- the next one after a slice
 pub next_at : (end k : ℕ) (bs : Slices) (i : ℕ) (b : Bor (List Cell)) → slice_get bs i ≡ Some b → get_or (nexts end k bs) i 0 ≡ first_in end (suc (k + i)) (drop (suc i) bs) (slice_head b)
 next_at end k [] i b e = cc
 next_at end k (c ∷ bs) zero b e =

@@ -54,7 +54,7 @@ first_of_all targets h from number is = record {
       ap (λ (z : Bor (List Cell)). same_head h (slice_head z)) slice ∙ there.has;
 }
 
--- the next one behind a target with the head
+-- the next one after a target with the head
 pub first_behind : (targets : Slices) (h : Head) (before next : ℕ) (here : Bor (List Cell)) → slice_get targets before ≡ Some here
     → h ≡ slice_head here → next ≡ get_or (nexts (length targets) 0 targets) before 0 → IsFirstToTry targets h (suc before) next
 first_behind targets h before next here got_here head is =

@@ -6,7 +6,7 @@ ghost use Rattle.si_subsume.specs.Maps.{arguments, arity_of, StandForAll};
 use si_flat::{Cell, sub};
 use std::alloc::{AllocError, Global};
 
-// The number of arguments behind a cell.
+// The number of arguments after a cell.
 fn argument_count(cell: Cell) -> u32
     ensures { result ≡ arity_of cell }
 {

@@ -28,7 +28,7 @@ pub(crate) fn head_of(cell: Cell) -> Head
     }
 }
 
-/// Where each head stands first among the targets, and next behind each target.
+/// Where each head stands first among the targets, and next after each target.
 #[derive(Drop)]
 pub(crate) struct Heads {
     first: IndexMap<Head, usize>,

@@ -51,7 +51,7 @@ fn take_from<'a>(
     solve_with(scratch, trail, &task.slots, literal, task.targets[number])
 }
 
-// The target to begin with, where none below `from` is of use. Behind a target with the literal's
+// The target to begin with, where none below `from` is of use. After a target with the literal's
 // head, as where the search goes on, the next one is known; else it is the first with that head.
 fn first_to_try(task: &Task<'_>, literal: &[Cell], from: usize) -> usize
     requires literal { 0 < length literal.now }

@@ -31,7 +31,7 @@ module _ {V : Type 0} (same : V → V → Bool) where
   pub inserted-append : (known xs ys : List V) → insert_all same known (xs ++ ys) ≡ insert_all same (insert_all same known xs) ys
   inserted-append known xs ys = fold-append (insert_key same) known xs ys
 
-  -- what is inserted comes behind what was there
+  -- what is inserted comes after what was there
   key_extends : (known : List V) (x : V) → Grows known (insert_key same known x)
   key_extends known x = by (list_any (same x) known) where
     by : (b : Bool) → Grows known (cond b known (known ++ x ∷ []))

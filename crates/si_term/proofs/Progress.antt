@@ -32,7 +32,7 @@ module _ {A : Type 0} where
   pub ends : (all whole : List A) (number left : ℕ) → whole ≡ [] → Progress all whole number left → number ≡ length all + left
   ends all whole number left none p = omega (arith, p.passed, ap length none)
 
-  -- behind the first item
+  -- after the first item
   pub get-next : (y : A) (xs : List A) (n : ℕ) (x : A) → (n ≡ 0 → ⊥) → slice_get xs (n - 1) ≡ Some x → slice_get (y ∷ xs) n ≡ Some x
   get-next y xs zero x some h = absurd (some refl)
   get-next y xs (suc n) x some h = let e : n ≡ suc n - 1 = omega arith in ap (slice_get xs) e ∙ h

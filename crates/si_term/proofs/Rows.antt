@@ -25,7 +25,7 @@ row-drop ts i d h = ap (λ l. terms.row (map term_of l)) (drop-cons ts i d h)
 pub from-read : (ts : List Term) (i : ℕ) (t : Term) → i < length ts → t ≡ get_or ts i t → from ts i ≡ terms.more (term_of t) (from ts (i + 1))
 from-read ts i t h read = row-drop ts i t h ∙ λ j. terms.more (term_of (sym read j)) (from ts (sym (add-one i) j))
 
--- there is none behind the last
+-- there is none after the last
 pub from-end : (ts : List Term) (i : ℕ) → length ts ≤ i → from ts i ≡ terms.none
 from-end ts i h = ap (λ l. terms.row (map term_of l)) (drop_of_length-le ts h)
 

@@ -19,7 +19,7 @@ abbrev mutual
   subterms_of_all terms.none = []
   subterms_of_all (terms.more t ts) = subterms t ++ subterms_of_all ts
 
--- an argument's number behind a path that is written from its end
+-- an argument's number after a path that is written from its end
 abbrev pub under : ℕ → List ℕ → List ℕ
 under k path = path ++ k ∷ []
 

@@ -22,7 +22,7 @@ use std::alloc::{AllocError, Global};
 enum Walk<'a> {
     /// At the one that was sought.
     At(&'a Term),
-    /// Behind the last one, with this many more to pass.
+    /// After the last one, with this many more to pass.
     Past(u32),
 }
 
@@ -31,7 +31,7 @@ enum Walk<'a> {
 enum PathWalk {
     /// At the one that was sought. Its path is written from the end.
     At(Path),
-    /// Behind the last one, with this many more to pass.
+    /// After the last one, with this many more to pass.
     Past(u32),
 }
 

@@ -9,7 +9,7 @@ use std::alloc::{AllocError, Global};
 use std::marker::Model;
 
 /// A symbol: a function, a predicate or a constant. Two are the same where all four parts are. The
-/// fields lie in this order, so that small ones share the room behind a large one.
+/// fields lie in this order, so that small ones share the room after a large one.
 #[derive(Drop)]
 pub struct Sym {
     pub text: Text,

@@ -116,7 +116,7 @@ fn put_cells(signs: &mut Vec<u8>, cells: &[Cell]) -> Result<(), AllocError> {
     Ok(())
 }
 
-// The bindings in order, each with a blank behind it.
+// The bindings in order, each with a blank after it.
 fn listed<'a>(alloc: Global, trail: &Trail<&'a [Cell]>) -> Result<Vec<u8>, AllocError> {
     let mut signs = Vec::new(alloc);
     for n in 0..trail.mark() {

@@ -257,7 +257,7 @@ fn files(rt: HostRuntime) -> Result<(), Fail> {
     Ok(())
 }
 
-/// A text with so many brackets inside each other: between a front and a back, and each behind
+/// A text with so many brackets inside each other: between a front and a back, and each after
 /// what opens it.
 fn nested(
     alloc: Global,

@@ -107,7 +107,7 @@ const GAINS: [Row; 16] = [
         b"",
         &[b"k"],
     ),
-    // No item, no line feed at the end, and blanks before, between and behind.
+    // No item, no line feed at the end, and blanks before, between and after.
     (
         &[(b"m", b" \t\n% x\n/* y */")],
         Bound::Wide,
@@ -370,7 +370,7 @@ const FAULTS: [Row; 17] = [
         b"i",
         &[b"k"],
     ),
-    // Behind an include that was read well.
+    // After an include that was read well.
     (
         &[
             (b"m", b"include('i').cnf(k,axiom,q)."),

@@ -1,6 +1,6 @@
 // The lexer at texts that were read by hand.
 use si_defs::TokenKind;
-use si_lex::{Lexed, Lexeme, Stop, Token, lex, lex_item, next_token};
+use si_lex::{Lexed, Lexeme, Token, TokensEnd, lex, lex_item, next_token};
 use std::alloc::{AllocError, Global};
 use std::process::Abort;
 use std::test::Fail;
@@ -8,7 +8,7 @@ use std::test::Fail;
 /// Some bytes, and their first token: its kind, places and text.
 type Row = (&'static [u8], TokenKind, usize, usize, &'static [u8]);
 
-/// What stands behind the blanks: a token, or the place where there is none.
+/// What stands after the blanks: a token, or the place where there is none.
 fn seen(lexed: &Lexed) -> (Option<&Token>, Option<usize>) {
     match lexed {
         Lexed::Token(token) => (Some(token), None),
@@ -17,7 +17,7 @@ fn seen(lexed: &Lexed) -> (Option<&Token>, Option<usize>) {
     }
 }
 
-/// The token behind the blanks from a place on.
+/// The token after the blanks from a place on.
 fn assert_token(rt: &impl Abort, alloc: Global, at: usize, row: &Row) -> Result<(), AllocError> {
     if at > row.0.len() {
         return Err(AllocError);
@@ -127,7 +127,7 @@ fn assert_list(
     rt: &impl Abort,
     alloc: Global,
     text: &[u8],
-    due: (usize, Stop),
+    due: (usize, TokensEnd),
 ) -> Result<(), AllocError> {
     let lexing = lex(alloc, text, 0)?;
     assert_eq!(rt; (lexing.tokens.len(), lexing.stop), due);
@@ -139,7 +139,7 @@ fn assert_item(
     rt: &impl Abort,
     alloc: Global,
     text: &[u8],
-    due: (usize, usize, usize, Stop),
+    due: (usize, usize, usize, TokensEnd),
 ) -> Result<(), AllocError> {
     let item = lex_item(alloc, text, 0)?;
     let seen = (item.tokens.len(), item.start, item.end, item.stop);
@@ -157,8 +157,8 @@ fn assert_word(rt: &impl Abort, alloc: Global, word: &Lexeme) -> Result<(), Allo
 #[test]
 fn lists_of_tokens(rt: HostRuntime) -> Result<(), Fail> {
     let text = b" cnf(a.b). q";
-    assert_item(&rt, rt.alloc(), text, (7, 1, 10, Stop::FullStop))?;
-    assert_list(&rt, rt.alloc(), text, (8, Stop::End))?;
+    assert_item(&rt, rt.alloc(), text, (7, 1, 10, TokensEnd::FullStop))?;
+    assert_list(&rt, rt.alloc(), text, (8, TokensEnd::End))?;
     let word = Lexeme {
         kind: TokenKind::Lower,
         spelling: b"cnf",
@@ -191,8 +191,8 @@ fn tokens_side_by_side(rt: HostRuntime) -> Result<(), Fail> {
 
 #[test]
 fn nesting(rt: HostRuntime) -> Result<(), Fail> {
-    assert_list(&rt, rt.alloc(), &[b'['; 512], (512, Stop::End))?;
+    assert_list(&rt, rt.alloc(), &[b'['; 512], (512, TokensEnd::End))?;
     let deeper = lex_item(rt.alloc(), &[b'('; 513], 0)?;
-    assert_eq!(rt; (deeper.tokens.len(), deeper.stop), (512, Stop::Bad));
+    assert_eq!(rt; (deeper.tokens.len(), deeper.stop), (512, TokensEnd::Bad));
     Ok(())
 }

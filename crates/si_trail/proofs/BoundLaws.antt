@@ -56,7 +56,7 @@ module _ {T : Type 0} where
         | inr e ↦ ((sym (value_at-others ps slot p.0 x e.1) ∙ distinct.0, h.0), rw e.0 h.1)
       ]
 
-  -- what is bound behind a mark is unbound before it
+  -- what is bound after a mark is unbound before it
   behind : (ps qs : List (ℕ × T)) (slot : ℕ) → value_at (ps ++ qs) slot ≡ None → value_at ps slot ≡ None
   behind [] qs slot unbound = refl
   behind (p ∷ ps) qs slot unbound = let h = other_slot p (ps ++ qs) slot unbound in rw h.0 (behind ps qs slot h.1)

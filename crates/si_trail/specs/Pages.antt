@@ -1,5 +1,5 @@
 -- Places by slot, in pages: where the page of each 64 slots starts, 0 where it has none yet, and
--- the places of all pages one behind the other. Of a place that was not set, nothing is known.
+-- the places of all pages one after the other. Of a place that was not set, nothing is known.
 use Rattle.std.specs.Prelude.{◌≡◌, ◌≢◌, ℕ, ◌+◌, ◌*◌, ◌/◌, ◌%◌, ◌^◌, ◌<◌, ◌≤◌, ◌⊎◌, ◌==◌, if◌then◌else◌, List, length, sum_by, slice_index_or, vec_capacity}
 use Rattle.si_trail.specs.declared.pages.Pages.{Pages}
 

@@ -16,7 +16,7 @@ const MOST_SLOTS: usize = u32::MAX as usize - 2 * PAGE;
 pub(crate) struct Pages {
     // Where the page of each 64 slots starts: at 0, where no place is ever set, if it isn't made.
     starts: Vec<u32>,
-    // The pages, one behind the other.
+    // The pages, one after the other.
     places: Vec<u32>,
 }
 

@@ -2,7 +2,7 @@ use super::*;
 use std::test::Fail;
 
 // The slots of a trail in which slot 2 was bound first and slot 0 second, each by its value, before
-// and behind an `undo`.
+// and after an `undo`.
 #[test]
 fn undone_to_a_mark(rt: HostRuntime) -> Result<(), Fail> {
     let mut trail = Trail::with_slots(rt.alloc(), 3)?;

@@ -72,7 +72,7 @@ pub found_none : (hs : List Head) (h : Head) (r : Option ℕ) → is_some r ≡ 
 found_none hs h None e = place_none hs h None refl e
 found_none hs h (Some place) e = tt
 
--- ---- of different heads, each is new behind those before it
+-- ---- of different heads, each is new after those before it
 new_behind : (hs : List Head) (n : ℕ) (d : Head) → AreDistinct hs → n < length hs → IsAmong (take n hs) (get_or hs n d) → ⊥
 new_behind [] n d distinct inside a = absurd (omega (arith, inside))
 new_behind (k ∷ hs) zero d distinct inside a = absurd a

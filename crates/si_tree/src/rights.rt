@@ -100,7 +100,7 @@ pub(crate) fn next_after(bindings: &Bindings, next: u32) -> u32
     after
 }
 
-/// The bindings of both lists, in order, with no room behind the last one where any was appended.
+/// The bindings of both lists, in order, with no room after the last one where any was appended.
 pub(crate) fn joined(
     alloc: Global,
     first: Bindings,

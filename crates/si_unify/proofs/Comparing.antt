@@ -153,7 +153,7 @@ comparing_ends q old pairs old_keys keys pair left right i j h over =
     back_to before after spot stands k = stood q old h.going.grows.0 spot before after stands (subst (λ l. StandsAt q l spot after) h.going.grows.1 k)
 
 -- ---- one step
--- what stands at the two places, and what is left behind it
+-- what stands at the two places, and what is left after it
 pub record AreNext (left_rest right_rest : Terms) : Type 0 where
   pub left : Term
   pub left_others : Terms

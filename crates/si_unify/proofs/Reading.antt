@@ -5,7 +5,7 @@ use Rattle.si_flat.specs.declared.Cell.{Cell}
 use Rattle.si_flat.specs.declared.Cell.TheVariants as cell
 use Rattle.si_flat.specs.Cells.{Symbol, Variable, query, entry, ind, Term, Terms, variable_cell, cells_of, cells_of_all, IsSound, AreSound, StandsFor}
 
--- two terms and what stands behind each, of the same cells
+-- two terms and what stands after each, of the same cells
 pub record SameTerms (t u : Term) (xs ys : List Cell) : Type 0 where
   pub same : t ≡ u
   pub rest : xs ≡ ys

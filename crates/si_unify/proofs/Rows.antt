@@ -1,4 +1,4 @@
--- Rows of terms, one behind the other.
+-- Rows of terms, one after the other.
 use Rattle.std.proofs.Common.{◌≡◌, ◌+◌, ◌++◌, refl, sym, ◌∙◌, ap, arith, append_assoc}
 use Rattle.si_defs.specs.Terms as terms
 use Rattle.si_flat.specs.Cells.{Variable, Term, Terms, cells_of, cells_of_all, AreSound, join}

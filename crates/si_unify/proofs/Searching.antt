@@ -107,7 +107,7 @@ raised_other rank top slot z differs = elim (eqb_tells z slot) [ inl k ↦ absur
 raised_same : (rank : ℕ → ℕ) (top slot z : ℕ) → z ≡ slot → raised rank top slot z ≡ top
 raised_same rank top slot z e = rw (eq-eqb z slot e) refl
 
--- a slot comes behind all that were done before
+-- a slot comes after all that were done before
 ordered_more : (slots : Slots) (pairs : Pairs) (states : List State) (slot : ℕ) → slot < length states → AreRanked slots pairs (IsDone states) → (IsDone states slot → ⊥) → AllByRecursion (IsDone states) (slots_below slots pairs slot) → AreRanked slots pairs (IsDone (set states slot Done))
 ordered_more slots pairs states slot less h not_done children =
     let other : (c : ℕ) → IsDone states c → c ≢ slot = λ c d e. not_done (subst (IsDone states) e d) in

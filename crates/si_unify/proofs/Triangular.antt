@@ -1,4 +1,4 @@
--- A list is triangular where it was so up to a mark, and a search from the bindings behind the mark
+-- A list is triangular where it was so up to a mark, and a search from the bindings after the mark
 -- found no circle.
 use Rattle.std.proofs.Common.{◌≡◌, ◌≢◌, ℕ, ◌+◌, ◌<◌, ◌≤◌, ◌⊎◌, inl, inr, Bool, true, false, List, [], ◌∷◌, length, take, drop, refl, sym, ◌∙◌, ap, subst, arith, suc, zero, Option, None, Some}
 use Rattle.std.proofs.lemmas.Option.{same_Some}
@@ -241,7 +241,7 @@ module _ (slots : Slots) (pairs : Pairs) (Known : ℕ → Type 0) (known : AreTe
             ),
       )
 
--- ---- behind a search
+-- ---- after a search
 abbrev is_done : Option State → Bool
 is_done None = false
 is_done (Some New) = false

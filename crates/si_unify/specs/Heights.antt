@@ -1,7 +1,7 @@
 -- Heights of slots, by which one of two variables is bound to the other.
 use Rattle.std.specs.Prelude.{◌≡◌, ℕ, ◌+◌, ◌<◌, min, nat_lt, Bool, false, List, slice_index_or as get_or, Option, Some}
 
--- behind the end of the list they are 0
+-- after the end of the list they are 0
 abbrev pub height : List ℕ → ℕ → ℕ
 height heights slot = get_or heights slot 0
 

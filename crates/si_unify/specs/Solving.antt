@@ -65,7 +65,7 @@ pub record IsSolvedBy (slots : Slots) (pairs : Pairs) (f : Variable → Term) : 
 
 -- ---- legal lists of bindings
 -- each variable of a value has a smaller number than the slot of the value; so the pairs can be put
--- in an order in which no left side stands in its own right side or in one behind it
+-- in an order in which no left side stands in its own right side or in one after it
 abbrev pub RanksBelow : Slots → (ℕ → ℕ) → ℕ → Cell → Type 0
 RanksBelow slots rank slot (cell.App s arity n) = Unit {0}
 RanksBelow slots rank slot (cell.Query n) = rank (slot_of slots (query n)) < rank slot

@@ -6,7 +6,7 @@ use std::alloc::{AllocError, Global};
 use std::marker::Model;
 
 /// The heights of slots: no chain of variables that were bound to variables in this call, and that
-/// ends at a slot, is longer than its height. Contracts see them as a list; behind its end they are
+/// ends at a slot, is longer than its height. Contracts see them as a list; after its end they are
 /// 0.
 ///
 /// Of two variables the lower one is bound to the higher one. So as many variables as two to the

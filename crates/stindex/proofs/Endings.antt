@@ -84,7 +84,7 @@ pub stops_within : (halt : Stop) (setting : Setting) (told : Option Files) (stri
 stops_within stop.Refused setting told strict files taken lines rest source now before after unended part reads = inl (unended, part, reads)
 stops_within stop.SinkFault setting told strict files taken lines rest source now before after unended part reads = inl (unended, part, reads)
 
--- behind the end of the input
+-- after the end of the input
 stops_last : (halt : Stop) (setting : Setting) (told : Option Files) (strict : Bool) (files : List Bytes) (taken : Bytes) (lines : List Bytes) (rest : Bytes) (source now : SourceShown) (before after : Around)
     → TellsEnd source now → MetEnd setting.limits taken now.left → (part : WritesTo halt setting told strict files (lines_at_end lines rest) before after) → part.right.done ≡ requests files lines
     → Ends (status_of halt) setting told strict files taken lines rest source now before after

@@ -76,7 +76,7 @@ words_stop halt setting told strict words others files word old new before now a
   counted = owed_then before now after l.owed breaks.owed l.counted breaks.counted;
 }
 
--- behind the words nothing is taken yet
+-- after the words nothing is taken yet
 pub Stands_start : (setting : Setting) (told : Option Files) (strict : Bool) (files : List Bytes) (source : SourceShown) (before now : Around) (state : State) (held : Bytes)
     → LoadsWords setting told strict files before state now → held ≡ [] → HasProgressed setting told strict files 0 source source before state held now
 Stands_start setting told strict files source before now state held l empty = record {

@@ -16,7 +16,7 @@ use Rattle.stindex.specs.declared.status.Status.TheVariants.{Ended, Refused, Usa
 use Rattle.stindex.specs.Shown.{OutputShows}
 use Rattle.stindex.specs.Serve.{Ends, Serves, CountsOwed}
 
--- A run that ended wrote an output of all its words and of all the lines of its input, behind what
+-- A run that ended wrote an output of all its words and of all the lines of its input, after what
 -- the sink had, and what it owes to the library was counted.
 pub record WritesOutput (setting : Setting) (told : Option Files) (strict : Bool) (files : List Bytes) (input had : Bytes) (before after : Around) : Type 0 where
   pub lines : List Bytes

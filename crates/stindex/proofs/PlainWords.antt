@@ -115,7 +115,7 @@ names_pass rows words (name ∷ names) rest plain e =
 
 -- ---- `--strict`
 
--- the rows behind `--strict`, before which these words stood
+-- the rows after `--strict`, before which these words stood
 abbrev rows_behind : List Bytes → List Row
 rows_behind words = (reacted rules strict_built [] (held_at [] words)).rows
 

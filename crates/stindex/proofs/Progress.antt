@@ -94,7 +94,7 @@ Advances_line setting told strict old new held now after acts files before taken
     }
 
 -- ---- stops
--- a run stops at a line, behind which others stand
+-- a run stops at a line, after which others stand
 stops_at : (halt : Stop) (setting : Setting) (told : Option Files) (strict : Bool) (old new : State) (files lines whole : List Bytes) (line : Bytes) (others : List Request) (output : Bytes) (owed : Owed)
     (held : Bytes) (before now after : Around) (breaks : Breaks halt setting told strict old new (a_line held) now after)
     → ShownRun setting told strict empty_state (requests files lines) output owed old → Step setting told old line breaks.reply breaks.owed new → ShowsAt setting old (a_line line) breaks.reply

@@ -159,7 +159,7 @@ requests-append files lines others =
 pub requests-more : (files lines : List Bytes) (line : Bytes) → requests files (lines ++ line ∷ []) ≡ requests files lines ++ a_line line ∷ []
 requests-more files lines line = requests-append files lines (line ∷ [])
 
--- so are a line and those behind it
+-- so are a line and those after it
 pub requests-split : (files lines others : List Bytes) (line : Bytes) → requests files lines ++ a_line line ∷ map a_line others ≡ requests files ((lines ++ line ∷ []) ++ others)
 requests-split files lines others line =
     sym (requests-append files lines (line ∷ others)) ∙ ap (requests files) (sym (append_assoc lines (line ∷ []) others))

@@ -1,4 +1,4 @@
--- How far a run has come: the bytes that were acted on, and what stands behind them.
+-- How far a run has come: the bytes that were acted on, and what stands after them.
 use Rattle.std.specs.Prelude.{◌≡◌, ℕ, ◌+◌, ◌≤◌, Bool, List, [], ◌++◌, Option, length, map, take, IsTrue, Result, Ok, Err, OnOk, IfErr}
 use Rattle.si_defs.specs.Bytes.{Bytes}
 use Rattle.si_steps.specs.declared.limits.Limits.{Limits}
@@ -23,7 +23,7 @@ use Rattle.stindex.specs.Serve.{WritesAll, WritesTo, StopsAt, BeginWith, CountsO
 abbrev pub shown : Limits → Bytes → Bytes
 shown limits rest = take (limits.line + 1) rest
 
--- how a run goes on behind a step
+-- how a run goes on after a step
 abbrev pub Judges : (strict : Bool) → Stepped → Result (Unit {0}) Stop → Type 0
 Judges strict outcome (Ok done) =
     (outcome ≡ SinkFailed → ⊥) × (IsTrue strict → outcome ≡ Refused → ⊥)
@@ -94,7 +94,7 @@ pub record Feeds (setting : Setting) (told : Option Files) (strict : Bool) (byte
   pub whole : bytes ≡ done ++ rest
   pub advances : Advances setting told strict done old held now new holds after
 
--- The run stopped at one of the lines that are whole behind these bytes, and all that were whole
+-- The run stopped at one of the lines that are whole after these bytes, and all that were whole
 -- before them were done.
 pub record BrokenOff (halt : Stop) (setting : Setting) (told : Option Files) (strict : Bool)
     (files : List Bytes) (before : Around) (taken bytes : Bytes) (after : Around) : Type 0 where
@@ -113,7 +113,7 @@ Fails halt setting told strict bytes old held now after =
     → Progress setting told strict files before taken old held now
     → BrokenOff halt setting told strict files before taken bytes after
 
--- The input ended behind the bytes taken, and every line was acted on.
+-- The input ended after the bytes taken, and every line was acted on.
 pub record Closed (setting : Setting) (told : Option Files) (strict : Bool) (files : List Bytes)
     (before : Around) (taken : Bytes) (after : Around) : Type 0 where
   pub lines : List Bytes
@@ -121,7 +121,7 @@ pub record Closed (setting : Setting) (told : Option Files) (strict : Bool) (fil
   pub splits : Splits taken lines rest
   pub all : WritesAll setting told strict files (lines_at_end lines rest) before after
 
--- The input ended behind the bytes taken, and the run stopped at the last line.
+-- The input ended after the bytes taken, and the run stopped at the last line.
 pub record Cut (halt : Stop) (setting : Setting) (told : Option Files) (strict : Bool)
     (files : List Bytes) (before : Around) (taken : Bytes) (after : Around) : Type 0 where
   pub lines : List Bytes

@@ -95,7 +95,7 @@ pub record BringsLine (files : List Bytes) (taken : Bytes) (done : List Request)
   pub splits : Splits earlier lines rest
   pub acted : BeginWith files lines done
 
--- Behind the request at which the run stopped nothing was read: it is a word, before which nothing
+-- After the request at which the run stopped nothing was read: it is a word, before which nothing
 -- was read either, or a line that the last read brought.
 abbrev pub ReadsNoFurther : (files : List Bytes) (taken : Bytes) → List Request
     → (source now : SourceShown) → Type 0

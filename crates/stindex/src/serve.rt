@@ -235,7 +235,7 @@ fn act<K: Sink, L: Library>(
     judge(strict, outcome)
 }
 
-/// Whether the run goes on behind a step.
+/// Whether the run goes on after a step.
 fn judge(strict: bool, outcome: Stepped) -> Result<(), Stop>
     ensures { Judges strict outcome result }
 {

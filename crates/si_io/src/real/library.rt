@@ -154,7 +154,7 @@ fn read_after<F: Input>(file: &mut F, into: &mut [u8], filled: usize) -> io::Res
     read_again(file, &mut into[filled..])
 }
 
-/// Makes room behind the bytes that are filled: an eighth as many, but some at first, and no more
+/// Makes room after the bytes that are filled: an eighth as many, but some at first, and no more
 /// than `most` in all. Room is filled before it is read into, so all of it is resident.
 fn make_room(into: &mut Vec<u8>, filled: usize, most: usize) -> Result<(), AllocError>
     requires below { filled < most }

@@ -26,7 +26,7 @@ enum Edge {
 /// What a token does to the brackets that are open.
 #[derive(Clone, Copy, Debug, PartialEq, Eq)]
 enum Turn {
-    /// The annotations go on behind it.
+    /// The annotations go on after it.
     GoesOn,
     /// It is the round bracket that closes more than was opened.
     Ends,
@@ -34,7 +34,7 @@ enum Turn {
     Fails,
 }
 
-/// The tokens behind annotations and the bracket that ends them: the round one that closes more
+/// The tokens after annotations and the bracket that ends them: the round one that closes more
 /// than was opened.
 pub(crate) fn annotations<'t, 'b>(
     alloc: Global,

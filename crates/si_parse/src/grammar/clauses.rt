@@ -17,7 +17,7 @@ use si_term::{Clause, Name, Text};
 use std::alloc::{AllocError, Global};
 
 /// The clause at the front, up to and with its full stop: `cnf(name, role, formula).`, with
-/// annotations behind the formula if a comma stands there.
+/// annotations after the formula if a comma stands there.
 ///
 /// # Errors
 /// `AllocError` where memory runs out.
@@ -76,7 +76,7 @@ fn heading<'t, 'b>(
     }
 }
 
-/// The tokens behind what stands behind the formula of a clause: annotations behind a comma, if
+/// The tokens after what stands after the formula of a clause: annotations after a comma, if
 /// any, and the closing bracket.
 fn closed<'t, 'b>(
     alloc: Global,

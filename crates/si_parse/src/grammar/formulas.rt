@@ -92,7 +92,7 @@ fn growing(
     Ok(literals)
 }
 
-/// The number of opening round brackets at the front, and the tokens behind them.
+/// The number of opening round brackets at the front, and the tokens after them.
 fn opening_brackets<'t, 'b>(tokens: &'t [Lexeme<'b>]) -> (usize, &'t [Lexeme<'b>])
     ensures front { tokens_of tokens.now ≡ replicate result.0 left_bracket ++ tokens_of
         result.1.now }
@@ -110,7 +110,7 @@ fn opening_brackets<'t, 'b>(tokens: &'t [Lexeme<'b>]) -> (usize, &'t [Lexeme<'b>
     (depth, inner)
 }
 
-/// The tokens behind so many closing round brackets.
+/// The tokens after so many closing round brackets.
 fn closing_brackets<'t, 'b>(tokens: &'t [Lexeme<'b>], count: usize) -> Option<&'t [Lexeme<'b>]>
     ensures { Passes (AreClosing count) tokens.now result }
 {

@@ -46,7 +46,7 @@ pub fn include<'t, 'b>(
     }
 }
 
-/// The tokens behind a closing bracket and a full stop.
+/// The tokens after a closing bracket and a full stop.
 fn last<'t, 'b>(tokens: &'t [Lexeme<'b>]) -> Option<&'t [Lexeme<'b>]>
     ensures { Passes AreLast tokens.now result }
 {
@@ -56,7 +56,7 @@ fn last<'t, 'b>(tokens: &'t [Lexeme<'b>]) -> Option<&'t [Lexeme<'b>]>
     mark_at(rest, b'.')
 }
 
-/// What stands behind the file: names in square brackets behind a comma, or nothing.
+/// What stands after the file: names in square brackets after a comma, or nothing.
 fn selected<'t, 'b>(
     alloc: Global,
     tokens: &'t [Lexeme<'b>],

@@ -17,8 +17,8 @@ use si_lex::Lexeme;
 use si_term::{Literal, Sym, Term, Terms, Text};
 use std::alloc::{AllocError, Global};
 
-/// The literal at the front: an atom, one behind a tilde, or two terms with `!=` between them. No
-/// bracket opens behind a literal that is found, and neither `=` nor `!=` stands there.
+/// The literal at the front: an atom, one after a tilde, or two terms with `!=` between them. No
+/// bracket opens after a literal that is found, and neither `=` nor `!=` stands there.
 ///
 /// # Errors
 /// `AllocError` where memory runs out.
@@ -40,7 +40,7 @@ pub fn literal<'t, 'b>(
     Ok(Some((literal, rest)))
 }
 
-/// The same, whatever stands behind it.
+/// The same, whatever stands after it.
 pub(crate) fn front_literal<'t, 'b>(
     alloc: Global,
     tokens: &'t [Lexeme<'b>],
@@ -63,7 +63,7 @@ pub(crate) fn front_literal<'t, 'b>(
     }
 }
 
-/// The atom behind a tilde, bare or in round brackets.
+/// The atom after a tilde, bare or in round brackets.
 fn negated<'t, 'b>(
     alloc: Global,
     tokens: &'t [Lexeme<'b>],
@@ -99,7 +99,7 @@ fn atom<'t, 'b>(alloc: Global, tokens: &'t [Lexeme<'b>]) -> Result<Parsed<'t, 'b
 }
 
 /// The literal without a tilde at the front: one term that is an atom, or two with a sign between
-/// them. The first term is read once, and what stands behind it decides.
+/// them. The first term is read once, and what stands after it decides.
 fn statement<'t, 'b>(
     alloc: Global,
     tokens: &'t [Lexeme<'b>],

@@ -16,7 +16,7 @@ use si_term::{Sym, Term, Terms, Text};
 use std::alloc::{AllocError, Global};
 
 /// The term at the front: a variable, a number, a distinct object, or a word with its arguments if
-/// a bracket opens behind it. No bracket opens behind a term that is found.
+/// a bracket opens after it. No bracket opens after a term that is found.
 ///
 /// # Errors
 /// `AllocError` where memory runs out.
@@ -38,7 +38,7 @@ pub fn term<'t, 'b>(
     Ok(Some((term, rest)))
 }
 
-/// The same, whatever stands behind it.
+/// The same, whatever stands after it.
 #[cycle(reading)]
 pub(crate) fn front_term<'t, 'b>(
     alloc: Global,
@@ -68,7 +68,7 @@ pub(crate) fn front_term<'t, 'b>(
     }
 }
 
-/// A head with the arguments that stand behind it, if any do.
+/// A head with the arguments that stand after it, if any do.
 #[cycle(reading)]
 fn application<'t, 'b>(
     alloc: Global,

@@ -188,7 +188,7 @@ const ROWS: [(&[u8], &[u8], &[u8]); 69] = [
         b"p(Z,f(Z,Z))",
         b"{Z -> ?Y; ?Y -> f(?X,?X)}",
     ),
-    // What is used is bound behind what uses it, and else the pattern's variables come first.
+    // What is used is bound after what uses it, and else the pattern's variables come first.
     (
         b"unifiable lit p(X,Y)",
         b"p(g(Y),b)",

@@ -9,7 +9,7 @@ const ROWS: [(&[u8], &[u8]); 9] = [
         b"sample 1 2\ninstances lit q(X)\nsample 1 2\nstats\n",
         b"sample 2 5 7\ns1:1 {?X -> Y}\ns2:2 {?X -> f(X,X)}\nend 2\n! taken s1\nclauses 2 entries 5 symbols 4\n",
     ),
-    // One start gives one sample, also behind another command.
+    // One start gives one sample, also after another command.
     (
         b"sample 7 3\nremove s1\nremove s2\nremove s3\nsample 7 3\n",
         b"sample 3 16 36\nok 1 6\nok 1 8\nok 1 2\nsample 3 16 36\n",
@@ -24,7 +24,7 @@ const ROWS: [(&[u8], &[u8]); 9] = [
         b"sample 2147483648 1\nsample 4294967297 1\nsample 99999999999999999999999999 1\nsample 1 0\nsample 1 10001\nsample 1 99999999999999999999999999\n",
         b"! syntax\n! syntax\n! syntax\n! syntax\n! syntax\n! syntax\n",
     ),
-    // Other words behind the command's.
+    // Other words after the command's.
     (
         b"sample\nsample 1\nsample +1 2\nsample -1 2\nsample 1 2 3\nsample s 2\nsample 1 2.\nsample 1/2\nsample 01 2\nsample 1 2 '\n",
         b"! syntax\n! syntax\n! syntax\n! syntax\n! syntax\n! syntax\n! syntax\n! syntax\n! syntax\n! syntax\n",

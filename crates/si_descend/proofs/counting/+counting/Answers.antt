@@ -72,7 +72,7 @@ count_children-count_at-requires t c =
             still_solving c.args.search.now.slots c.args.trail.now.pairs c.loop-place.trail.pairs c.args.trail.now.slots c.loop-place.trail.slots c.loop-place.invariant.same_pairs c.loop-place.invariant.same_slots c.requires.solving,
             (
               come_down c.args.search.now c.args.node c.in-Some.child c.args.trail.now.pairs c.loop-place.trail.pairs is c.loop-place.invariant.same_pairs c.requires.there,
-              still_noted c.args.search.now.kind c.args.search.now.slots c.args.trail.now.pairs c.loop-place.trail.pairs c.args.taken.now c.loop-place.taken c.loop-place.invariant.same_pairs c.loop-place.invariant.same_taken c.requires.taken,
+              still_noted c.args.search.now.relation c.args.search.now.slots c.args.trail.now.pairs c.loop-place.trail.pairs c.args.taken.now c.loop-place.taken c.loop-place.invariant.same_pairs c.loop-place.invariant.same_taken c.requires.taken,
             ),
           ),
         ),

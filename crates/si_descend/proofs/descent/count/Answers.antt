@@ -43,4 +43,4 @@ count_below-requires-clause-above c =
 
 pub returns : goal.returns
 returns c =
-    IfOk-weaker c.count_below.result _ _ (λ n h. counted_answers c.new-search.result c.args.tree.now c.args.kind c.args.query.now c.root-root.result n c.root-root.ensures.legal (ap (λ b. b.now) c.new-search.ensures.tree) c.new-search.ensures.kind (ap (λ b. b.now) c.new-search.ensures.query) c.root-root.ensures.root h) c.count_below.ensures
+    IfOk-weaker c.count_below.result _ _ (λ n h. counted_answers c.new-search.result c.args.tree.now c.args.relation c.args.query.now c.root-root.result n c.root-root.ensures.legal (ap (λ b. b.now) c.new-search.ensures.tree) c.new-search.ensures.relation (ap (λ b. b.now) c.new-search.ensures.query) c.root-root.ensures.root h) c.count_below.ensures

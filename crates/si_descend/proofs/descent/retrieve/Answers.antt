@@ -34,4 +34,4 @@ descend-requires-clause-above c =
 
 pub returns-clause-retrieves : goal.returns-clause-retrieves
 returns-clause-retrieves c =
-    IfOk-weaker c.descend.result _ _ (λ n h. found_retrieves c.args.tree.now c.args.kind c.args.query.now c.args.out.now.items c.descend.new.out.items n c.root-root.ensures.legal (subst (λ k. Finds c.args.tree.now k c.args.kind c.args.query.now c.args.out.now.items c.descend.new.out.items n) c.root-root.ensures.root h)) c.descend.ensures.finds
+    IfOk-weaker c.descend.result _ _ (λ n h. found_retrieves c.args.tree.now c.args.relation c.args.query.now c.args.out.now.items c.descend.new.out.items n c.root-root.ensures.legal (subst (λ k. Finds c.args.tree.now k c.args.relation c.args.query.now c.args.out.now.items c.descend.new.out.items n) c.root-root.ensures.root h)) c.descend.ensures.finds

@@ -27,17 +27,17 @@ returns-then-not-branch-clause-enters c =
 pub returns-in-Instances-clause-enters : goal.returns-in-Instances-clause-enters
 returns-in-Instances-clause-enters c =
     let node = c.requires.node in
-    entered_plain c.args.search.now c.requires.ready c.args.node node.0 node.1 c.bindings.result.now (c.bindings.ensures node.0 node.1) c.args.trail.now.pairs (c.requires.above node.0 node.1) c.fit.new.trail.pairs c.in_ok-fit.field-0 c.in_ok-fit.ensures.fits c.if-not-branch.false (instances_differ c.args.search.now.kind c.in-Instances.is)
+    entered_plain c.args.search.now c.requires.ready c.args.node node.0 node.1 c.bindings.result.now (c.bindings.ensures node.0 node.1) c.args.trail.now.pairs (c.requires.above node.0 node.1) c.fit.new.trail.pairs c.in_ok-fit.field-0 c.in_ok-fit.ensures.fits c.if-not-branch.false (instances_differ c.args.search.now.relation c.in-Instances.is)
 
 pub returns-in-Generalizations-clause-enters : goal.returns-in-Generalizations-clause-enters
 returns-in-Generalizations-clause-enters c =
     let node = c.requires.node in
-    entered_plain c.args.search.now c.requires.ready c.args.node node.0 node.1 c.bindings.result.now (c.bindings.ensures node.0 node.1) c.args.trail.now.pairs (c.requires.above node.0 node.1) c.fit.new.trail.pairs c.in_ok-fit.field-0 c.in_ok-fit.ensures.fits c.if-not-branch.false (generalizations_differ c.args.search.now.kind c.in-Generalizations.is)
+    entered_plain c.args.search.now c.requires.ready c.args.node node.0 node.1 c.bindings.result.now (c.bindings.ensures node.0 node.1) c.args.trail.now.pairs (c.requires.above node.0 node.1) c.fit.new.trail.pairs c.in_ok-fit.field-0 c.in_ok-fit.ensures.fits c.if-not-branch.false (generalizations_differ c.args.search.now.relation c.in-Generalizations.is)
 
 pub returns-in-Unifiable-clause-enters : goal.returns-in-Unifiable-clause-enters
 returns-in-Unifiable-clause-enters c =
     let node = c.requires.node in
-    entered_plain c.args.search.now c.requires.ready c.args.node node.0 node.1 c.bindings.result.now (c.bindings.ensures node.0 node.1) c.args.trail.now.pairs (c.requires.above node.0 node.1) c.fit.new.trail.pairs c.in_ok-fit.field-0 c.in_ok-fit.ensures.fits c.if-not-branch.false (unifiable_differ c.args.search.now.kind c.in-Unifiable.is)
+    entered_plain c.args.search.now c.requires.ready c.args.node node.0 node.1 c.bindings.result.now (c.bindings.ensures node.0 node.1) c.args.trail.now.pairs (c.requires.above node.0 node.1) c.fit.new.trail.pairs c.in_ok-fit.field-0 c.in_ok-fit.ensures.fits c.if-not-branch.false (unifiable_differ c.args.search.now.relation c.in-Unifiable.is)
 
 pub returns-in-Variants-clause-enters : goal.returns-in-Variants-clause-enters
 returns-in-Variants-clause-enters c =
@@ -46,15 +46,15 @@ returns-in-Variants-clause-enters c =
 
 pub returns-in-Instances-clause-taken : goal.returns-in-Instances-clause-taken
 returns-in-Instances-clause-taken c told =
-    plain_notes c.args.search.now.kind c.args.search.now.slots c.fit.new.trail.pairs c.args.taken.now (instances_differ c.args.search.now.kind c.in-Instances.is)
+    plain_notes c.args.search.now.relation c.args.search.now.slots c.fit.new.trail.pairs c.args.taken.now (instances_differ c.args.search.now.relation c.in-Instances.is)
 
 pub returns-in-Generalizations-clause-taken : goal.returns-in-Generalizations-clause-taken
 returns-in-Generalizations-clause-taken c told =
-    plain_notes c.args.search.now.kind c.args.search.now.slots c.fit.new.trail.pairs c.args.taken.now (generalizations_differ c.args.search.now.kind c.in-Generalizations.is)
+    plain_notes c.args.search.now.relation c.args.search.now.slots c.fit.new.trail.pairs c.args.taken.now (generalizations_differ c.args.search.now.relation c.in-Generalizations.is)
 
 pub returns-in-Unifiable-clause-taken : goal.returns-in-Unifiable-clause-taken
 returns-in-Unifiable-clause-taken c told =
-    plain_notes c.args.search.now.kind c.args.search.now.slots c.fit.new.trail.pairs c.args.taken.now (unifiable_differ c.args.search.now.kind c.in-Unifiable.is)
+    plain_notes c.args.search.now.relation c.args.search.now.slots c.fit.new.trail.pairs c.args.taken.now (unifiable_differ c.args.search.now.relation c.in-Unifiable.is)
 
 pub is_renaming-requires-clause-taken : goal.is_renaming-requires-clause-taken
 is_renaming-requires-clause-taken c =
@@ -62,9 +62,9 @@ is_renaming-requires-clause-taken c =
     known_taken c.args.search.now c.requires.ready c.args.node node.0 node.1 c.bindings.result.now (c.bindings.ensures node.0 node.1) c.args.trail.now.pairs (c.requires.above node.0 node.1) c.fit.new.trail.pairs c.mark-known.result c.in_ok-fit.field-0 c.args.taken.now c.in_ok-fit.ensures.fits c.if-not-branch.false c.in-Variants.is c.mark-known.ensures.number c.fit.ensures.grows c.requires.taken
 
 pub is_renaming-requires-clause-room : goal.is_renaming-requires-clause-room
-is_renaming-requires-clause-room c = room_taken c.args.search.now.kind c.args.search.now.slots c.args.trail.now.pairs c.args.taken.now c.in-Variants.is c.requires.taken
+is_renaming-requires-clause-room c = room_taken c.args.search.now.relation c.args.search.now.slots c.args.trail.now.pairs c.args.taken.now c.in-Variants.is c.requires.taken
 
 pub returns-in-Variants-clause-taken : goal.returns-in-Variants-clause-taken
 returns-in-Variants-clause-taken c told =
-    notes_new c.args.search.now.kind c.args.search.now.slots c.fit.new.trail.pairs c.is_renaming.new.taken c.in-Variants.is (c.is_renaming.ensures.taken told)
-    (omega (arith, c.is_renaming.ensures.slots, room_taken c.args.search.now.kind c.args.search.now.slots c.args.trail.now.pairs c.args.taken.now c.in-Variants.is c.requires.taken))
+    notes_new c.args.search.now.relation c.args.search.now.slots c.fit.new.trail.pairs c.is_renaming.new.taken c.in-Variants.is (c.is_renaming.ensures.taken told)
+    (omega (arith, c.is_renaming.ensures.slots, room_taken c.args.search.now.relation c.args.search.now.slots c.args.trail.now.pairs c.args.taken.now c.in-Variants.is c.requires.taken))

@@ -6,8 +6,8 @@ use Rattle.si_form.proofs.relations.canonical.Goals as goal
 
 pub returns-clause-answers : goal.returns-clause-answers
 returns-clause-answers c =
-    subst (λ l. IfOk c.canonical_with.result (Answers c.args.kind l c.args.entry.now)) c.cells.ensures.cells
-    (subst (λ l. IfOk c.canonical_with.result (Answers c.args.kind c.cells.result.now l)) c.cells-2.ensures.cells c.canonical_with.ensures.answers)
+    subst (λ l. IfOk c.canonical_with.result (Answers c.args.relation l c.args.entry.now)) c.cells.ensures.cells
+    (subst (λ l. IfOk c.canonical_with.result (Answers c.args.relation c.cells.result.now l)) c.cells-2.ensures.cells c.canonical_with.ensures.answers)
 
 pub returns-clause-short : goal.returns-clause-short
 returns-clause-short c =

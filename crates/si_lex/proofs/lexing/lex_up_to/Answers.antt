@@ -5,7 +5,7 @@ use Rattle.si_lex.specs.FullStops.{IsStop}
 use Rattle.si_lex.specs.Lexemes.{token_of}
 use Rattle.si_lex.specs.Lexing.{IsLexingUpTo}
 use Rattle.si_lex.specs.declared.lexing.Lexing.{Lexing}
-use Rattle.si_lex.specs.declared.lexing.Stop.TheVariants.{End, Bad, FullStop}
+use Rattle.si_lex.specs.declared.lexing.TokensEnd.TheVariants.{End, Bad, FullStop}
 use Rattle.si_term.proofs.Results.{on_err}
 use Rattle.si_lex.proofs.LexingLaws.{IsSoFar, so_far_more, so_far_some, lexing_end, lexing_bad, lexing_stop}
 use Rattle.si_lex.proofs.lexing.lex_up_to.Goals as goal

@@ -150,7 +150,7 @@ put_flat_arguments-returns g t c = λ ts shown.
     let third = wrote_piece old mid later whole (more ++ codes ")") more (codes ")") refl second (c.in_ok-put_flat_others.ensures h.behind h.rest).all in
     puts_rest c.put_bytes-2.result old later last whole (codes ")") third c.put_bytes-2.ensures
 
--- ---- arguments behind the first
+-- ---- arguments after the first
 pub put_flat_others-split_at-requires : goal.put_flat_others-split_at-requires
 put_flat_others-split_at-requires g t c =
     let some : 0 < length c.loop-rest.rest.now = search rules in

@@ -1,4 +1,4 @@
--- The lines of the hits, and their number behind them.
+-- The lines of the hits, and their number after them.
 use Rattle.std.proofs.Common.{◌∙◌}
 use Rattle.si_session.proofs.Answering.{unended_told, unended_broken}
 use Rattle.si_session.proofs.answer.tell_unended.Goals as goal

@@ -1,4 +1,4 @@
--- Each piece was taken behind the one before it.
+-- Each piece was taken after the one before it.
 use Rattle.std.proofs.Common.{◌≡◌, ◌-◌, [], length, take, drop, arith, take_all, length-drop, ap, subst, ◌∙◌}
 use Rattle.si_io.specs.Content.{Told, Receives, append_told}
 use Rattle.si_io.proofs.Content.{append_told-nil}

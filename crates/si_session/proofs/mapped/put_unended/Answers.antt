@@ -1,4 +1,4 @@
--- The lines of the clauses, and their number behind them.
+-- The lines of the clauses, and their number after them.
 use Rattle.std.proofs.Common.{rules, ◌≡◌, length, map, subst, ◌∙◌}
 use Rattle.si_state.specs.Subsumption.{mapped_text}
 use Rattle.si_steps.specs.Replies.{end_line}

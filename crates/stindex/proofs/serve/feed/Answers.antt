@@ -1,4 +1,4 @@
--- Each turn goes to the next line feed, and what is left behind the last one belongs to a line that
+-- Each turn goes to the next line feed, and what is left after the last one belongs to a line that
 -- was begun.
 use Rattle.std.proofs.Common.{◌≡◌, ◌+◌, ◌<◌, ◌∙◌, ◌++◌, length, ap, refl, arith, take_all, length-drop, length-append}
 use Rattle.clap.proofs.TakesLemmas.{passed_up}

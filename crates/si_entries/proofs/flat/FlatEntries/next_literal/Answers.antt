@@ -8,7 +8,7 @@ use Rattle.si_entries.specs.FlatWalks.{AreLiteralsLeft}
 use Rattle.si_entries.proofs.FlatLaws.{first_literal, literal_given}
 use Rattle.si_entries.proofs.flat.FlatEntries.next_literal.Goals as goal
 
--- what is written behind nothing
+-- what is written after nothing
 copied : (new old cells held : List Cell) → new ≡ old ++ cells → old ≡ [] → cells ≡ held → new ≡ held
 copied new old cells held items none same = items ∙ (λ i. none i ++ same i)
 

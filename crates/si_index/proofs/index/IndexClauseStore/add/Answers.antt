@@ -10,11 +10,11 @@ use Rattle.si_term.specs.Meaning.{clause_of, name_of}
 use Rattle.si_term.specs.declared.clause.Clause.{Clause}
 use Rattle.si_sign.specs.Stores.{Rejects}
 use Rattle.si_index.specs.Kept.{Kept, KeysStay, NumbersStay, clauses_of}
-use Rattle.si_index.specs.Known.{Uncounts}
+use Rattle.si_index.specs.Register.{Uncounts}
 use Rattle.si_index.specs.Names.{key_of}
 use Rattle.si_index.specs.Stored.{IsKept, AreHeld, HaveRows, keyed_clauses}
 use Rattle.si_index.proofs.KeyStays.{kept_as, keys_same, no_trees}
-use Rattle.si_index.proofs.KnownLaws.{room_for, counted_few, rejects, kept_stays, kept_more, known_with, keys_more, accepts_more, entered_back, uncounted_as, numbers_through}
+use Rattle.si_index.proofs.RegisterLaws.{room_for, counted_few, rejects, kept_stays, kept_more, known_with, keys_more, accepts_more, entered_back, uncounted_as, numbers_through}
 use Rattle.si_index.proofs.HeldClauses.{entered_held, entered_numbers, uncounted_held, stays_held, trees_hold}
 use Rattle.si_index.proofs.RowsKept.{entered_rows, uncounted_rows, stays_rows}
 use Rattle.si_index.proofs.StoreLaws.{few_entries}

@@ -6,7 +6,7 @@ use Rattle.si_index.specs.Kept.{Kept, KeysStay, TreesHold, clauses_of}
 use Rattle.si_index.proofs.KeyStays.{kept_as}
 use Rattle.si_index.proofs.HeldClauses.{left_held, trees_hold}
 use Rattle.si_index.proofs.RowsKept.{left_rows}
-use Rattle.si_index.proofs.KnownLaws.{keys_less, splits, rest_is, uses_few, entries_counted, entries_there, kept_less, named_so}
+use Rattle.si_index.proofs.RegisterLaws.{keys_less, splits, rest_is, uses_few, entries_counted, entries_there, kept_less, named_so}
 use Rattle.si_index.proofs.NamedLaws.{unknown_free}
 use Rattle.si_keyed.proofs.Results.{if_none}
 use Rattle.si_index.proofs.index.IndexClauseStore.remove.Goals as goal

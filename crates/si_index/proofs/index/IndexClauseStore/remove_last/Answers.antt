@@ -7,7 +7,7 @@ use Rattle.si_index.specs.Kept.{Kept, KeysStay, clauses_of}
 use Rattle.si_index.proofs.KeyStays.{kept_as}
 use Rattle.si_index.proofs.HeldClauses.{left_held, trees_hold}
 use Rattle.si_index.proofs.RowsKept.{left_rows}
-use Rattle.si_index.proofs.KnownLaws.{keys_less, uses_few, entries_counted, entries_there, kept_less, last_taken}
+use Rattle.si_index.proofs.RegisterLaws.{keys_less, uses_few, entries_counted, entries_there, kept_less, last_taken}
 use Rattle.si_index.proofs.index.IndexClauseStore.remove_last.Goals as goal
 
 pub remove-clause-requires : goal.remove-clause-requires

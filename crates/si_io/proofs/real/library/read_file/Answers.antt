@@ -1,4 +1,4 @@
--- The piece that was read stands right behind what was filled before.
+-- The piece that was read stands right after what was filled before.
 use Rattle.std.proofs.Common.{◌≡◌, ℕ, ◌+◌, List, ◌++◌, Result, Ok, Err, OnOk, length, take, drop, ap, subst, sym, ◌∙◌, arith, take-add}
 use Rattle.std.specs.Prelude.{is_err, false}
 use Rattle.std.proofs.Math.Seq.{take-append_seam}

@@ -4,6 +4,6 @@ use Rattle.si_parse.specs.Brackets.{pending_of}
 use Rattle.si_parse.proofs.GrammarNotes.{open_after}
 use Rattle.si_parse.proofs.grammar.annotations.annotations.Given as goal
 
--- the brackets that are open behind the tokens so far
+-- the brackets that are open after the tokens so far
 abbrev pub invariant-loop-n : goal.invariant-loop-n
 invariant-loop-n l = open_after (tokens_of (take l.n l.tokens)) [] ≡ Some (pending_of l.pending.items)

@@ -172,7 +172,7 @@ front_term-returns-in_ok-text-in-Double t c =
     (ap (λ x. Some (x, rest)) (c.constant-in-Double.ensures ∙ ap (λ x. terms.app (function_symbol Distinct x 0) terms.none) c.in_ok-text-in-Double.ensures))
     (term_constant first rest Distinct (ap symbol_kind c.in-Double.is) (λ text u h. h) (λ i. record { kind = c.in-Double.is i; text = first.text }))
 
--- a head and what stands behind it
+-- a head and what stands after it
 headed : {E : Type 0} (kind : SymKind) (result : Result (Option (program.Term × Bor (List Lexeme))) E) (tokens : List Lexeme) → 1 ≤ length tokens
     → symbol_kind (token_at tokens 0).kind ≡ Some kind → IsHead kind (token_of (token_at tokens 0)).text (token_of (token_at tokens 0))
     → IfOk result (Reads term_of (IsApplied kind (token_of (token_at tokens 0)).text) NoBracket (others_of tokens)) → IfOk result (Reads term_of IsTerm NoBracket tokens)

@@ -1,4 +1,4 @@
--- What was copied stands behind what was held.
+-- What was copied stands after what was held.
 use Rattle.std.proofs.Common.{rules, ◌≡◌, length, arith, refl}
 use Rattle.si_session.proofs.Buffers.{held_more}
 use Rattle.si_session.proofs.buffered.Buffered.hold.Goals as goal

@@ -2,8 +2,8 @@ use Rattle.std.proofs.Common.{refl}
 use Rattle.si_term.specs.Meaning.{clause_of}
 use Rattle.si_defs.specs.Entries.{entries}
 use Rattle.std.specs.Prelude.{◌+◌, length}
-use Rattle.si_index.proofs.KnownLaws.{entered_back}
-use Rattle.si_index.proofs.known.Known.enter.Goals as goal
+use Rattle.si_index.proofs.RegisterLaws.{entered_back}
+use Rattle.si_index.proofs.register.Register.enter.Goals as goal
 
 pub returns-then-needed-limit-clause-err : goal.returns-then-needed-limit-clause-err
 returns-then-needed-limit-clause-err c =

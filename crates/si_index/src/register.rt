@@ -10,7 +10,7 @@ ghost use Rattle.si_state.specs.Signatures.{IsSignature, uses_of, known_symbols}
 ghost use Rattle.si_term.specs.Meaning.{clause_of};
 ghost use Rattle.si_sign.specs.declared.uses.TheConstants.{MOST_USES};
 ghost use Rattle.si_index.specs.Names.{key_of};
-ghost use Rattle.si_index.specs.Known.{Admits, Enters, Uncounts, Leaves, Stays, Bars};
+ghost use Rattle.si_index.specs.Register.{Admits, Enters, Uncounts, Leaves, Stays, Bars};
 
 use crate::names::ClauseNames;
 use si_sign::{AddFault, Signature, TakeFault};
@@ -19,20 +19,20 @@ use std::alloc::Global;
 
 /// The keys of some clauses by their names, their signature, and the number of their entries.
 #[derive(Drop)]
-pub struct Known {
+pub struct Register {
     pub names: ClauseNames,
     pub signature: Signature,
     pub entries: u64,
 }
 
-impl Known {
+impl Register {
     /// What is known of no clause.
-    pub fn new(alloc: Global) -> Known
+    pub fn new(alloc: Global) -> Register
         ensures names { (name : defs.Name) → key_of result.names name ≡ None }
         ensures signature { result.signature ≡ [] }
         ensures entries { result.entries ≡ 0 }
     {
-        Known {
+        Register {
             names: ClauseNames::new(alloc),
             signature: Signature::new(alloc),
             entries: 0,

@@ -24,9 +24,9 @@ use Rattle.si_sign.proofs.UsesOf.{among_numbering, numbering_among, uses_positiv
 use Rattle.si_keyed.specs.Keyed.{HasKey, HasKeyAt, IsTakenOut}
 use Rattle.si_index.specs.Kept.{KeysStay, clauses_of}
 use Rattle.si_index.specs.Names.{key_of, ChangesName}
-use Rattle.si_index.specs.Known.{AreNamed, IsKnownOf, HasPut, Admits, Enters, Uncounts, Leaves, Stays, Bars}
+use Rattle.si_index.specs.Register.{AreNamed, IsKnownOf, HasPut, Admits, Enters, Uncounts, Leaves, Stays, Bars}
 use Rattle.si_index.specs.Stored.{IsKept}
-use Rattle.si_index.specs.declared.known.Known.{Known}
+use Rattle.si_index.specs.declared.register.Register.{Register}
 use Rattle.si_index.specs.declared.names.ClauseNames.{ClauseNames}
 use Rattle.si_keyed.proofs.KeyLaws.{item_of, key_taken, last_behind}
 use Rattle.si_index.proofs.NamedLaws.{among_taken, leads_taken, unknown_free, named_more, named_less, named_stays}
@@ -38,7 +38,7 @@ some_is : {A : Type 0} (o : Option A) → IsSome o → (x : A) × (o ≡ Some x)
 some_is None h = absurd (false≢true h)
 some_is (Some x) h = (x, refl)
 
-module _ (rules : Rules) (items : List (ℕ × term.Clause)) (known : Known) (c : Clause) (is : IsKnownOf items known) (good : IsSignature known.signature) where
+module _ (rules : Rules) (items : List (ℕ × term.Clause)) (known : Register) (c : Clause) (is : IsKnownOf items known) (good : IsSignature known.signature) where
   pub name_free : key_of known.names c.name ≡ None → IsTaken (clauses_of items) c.name → ⊥
   name_free e = unknown_free items known.names is.names c.name e
 
@@ -66,16 +66,16 @@ module _ (rules : Rules) (items : List (ℕ × term.Clause)) (known : Known) (c 
     added = refl;
   }
 
--- ---- what is kept, before and behind a change
-pub room_for : (rules : Rules) (items : List (ℕ × term.Clause)) (known : Known) (c : Clause) → IsKept rules items known → IsSoundClause c
+-- ---- what is kept, before and after a change
+pub room_for : (rules : Rules) (items : List (ℕ × term.Clause)) (known : Register) (c : Clause) → IsKept rules items known → IsSoundClause c
     → total known.signature + length (clause_symbols c) ≤ MOST_USES
 room_for rules items known c kept sound =
     omega (arith, kept.is_known.used, as_many_symbols (clauses_of items) kept.stored.sound, kept.stored.few, kept.small, symbols_few c sound)
 
-pub counted_few : (rules : Rules) (items : List (ℕ × term.Clause)) (known : Known) → IsKept rules items known → known.entries ≤ MOST_OCCURRENCES
+pub counted_few : (rules : Rules) (items : List (ℕ × term.Clause)) (known : Register) → IsKept rules items known → known.entries ≤ MOST_OCCURRENCES
 counted_few rules items known kept = omega (arith, kept.is_known.counted, kept.stored.few, kept.small)
 
-pub kept_stays : (rules : Rules) (old new : Known) (items : List (ℕ × term.Clause)) → IsKept rules items old → Stays old new → IsKept rules items new
+pub kept_stays : (rules : Rules) (old new : Register) (items : List (ℕ × term.Clause)) → IsKept rules items old → Stays old new → IsKept rules items new
 kept_stays rules old new items kept same = record {
   small = kept.small;
   stored = kept.stored;
@@ -89,7 +89,7 @@ kept_stays rules old new items kept same = record {
 }
 
 -- a clause that is put last
-module _ (rules : Rules) (old between : Known) (items more : List (ℕ × term.Clause)) (c : term.Clause) (names : ClauseNames) (good : IsSignature old.signature)
+module _ (rules : Rules) (old between : Register) (items more : List (ℕ × term.Clause)) (c : term.Clause) (names : ClauseNames) (good : IsSignature old.signature)
     (kept : IsKept rules items old) (sound : IsSoundClause (clause_of c)) (admits : Admits rules.entries old (clause_of c)) (enters : Enters (clause_of c) old between)
     (put : HasPut c items more between.names names) where
   clauses_more : clauses_of more ≡ clauses_of items ++ clause_of c ∷ []
@@ -152,10 +152,10 @@ module _ (rules : Rules) (old between : Known) (items more : List (ℕ × term.C
       (keys_through (name_of c.name) (Some put.0) (key_of between.names) (key_of names) put.1.name (inl free))
 
 -- the same with other names
-pub known_with : (new between : Known) → new.signature ≡ between.signature → new.entries ≡ between.entries → record { names = new.names; signature = between.signature; entries = between.entries } ≡ new
+pub known_with : (new between : Register) → new.signature ≡ between.signature → new.entries ≡ between.entries → record { names = new.names; signature = between.signature; entries = between.entries } ≡ new
 known_with new between signature counted = λ i. record { names = new.names; signature = sym signature i; entries = sym counted i }
 
-pub uncounted_as : (c : Clause) (between middle new : Known) → middle.signature ≡ between.signature → middle.entries ≡ between.entries → Uncounts c middle new → Uncounts c between new
+pub uncounted_as : (c : Clause) (between middle new : Register) → middle.signature ≡ between.signature → middle.entries ≡ between.entries → Uncounts c middle new → Uncounts c between new
 uncounted_as c between middle new signature counted undone = record {
   uses = λ s. undone.uses s ∙ ap (λ g. uses_of g s) signature;
   sum = undone.sum ∙ ap total signature;
@@ -178,7 +178,7 @@ numbers_through old between new good more first second s m n a b =
     subst (λ r. IsAmong (numbering between) (r, here.used.number)) here.is (among_numbering between here.used here.among) in
     first s m here.used.number a middle ∙ second s here.used.number n middle b
 
-pub entered_back : (old between new : Known) (c : Clause) → IsSignature old.signature → Enters c old between
+pub entered_back : (old between new : Register) (c : Clause) → IsSignature old.signature → Enters c old between
     → ((name : Name) → key_of new.names name ≡ key_of between.names name)
     → ((s : Symbol) → uses_of new.signature s + times s (clause_symbols c) ≡ uses_of between.signature s)
     → total new.signature + length (clause_symbols c) ≡ total between.signature → new.entries ≡ old.entries
@@ -193,7 +193,7 @@ entered_back old between new c good enters same uses sum entered numbers signatu
 }
 
 -- a clause that stands between others
-module _ (rules : Rules) (old : Known) (items : List (ℕ × term.Clause)) (key : ℕ) (c : term.Clause) (rest : List (ℕ × term.Clause)) (kept : IsKept rules items old)
+module _ (rules : Rules) (old : Register) (items : List (ℕ × term.Clause)) (key : ℕ) (c : term.Clause) (rest : List (ℕ × term.Clause)) (kept : IsKept rules items old)
     (out : IsTakenOut items key c rest) where
   pub splits : clauses_of items ≡ clauses_of out.before ++ clause_of c ∷ clauses_of out.after
   splits = ap clauses_of out.whole ∙ map-append (λ p. clause_of p.1) out.before ((key, c) ∷ out.after)
@@ -239,7 +239,7 @@ module _ (rules : Rules) (old : Known) (items : List (ℕ × term.Clause)) (key 
   names_less new change =
       subst (λ l. AreNamed l new) (sym out.rest) (named_less out.before key c out.after old.names new names_there free_without change)
 
-  pub kept_less : (new : Known) → Leaves (clause_of c) old new → IsKept rules rest new
+  pub kept_less : (new : Register) → Leaves (clause_of c) old new → IsKept rules rest new
   kept_less new leaves = record {
     small = kept.small;
     stored = subst (IsStored rules) (sym rest_is) (stored_less rules (clauses_of out.before) (clause_of c) (clauses_of out.after) stored_there);

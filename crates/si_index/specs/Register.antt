@@ -15,7 +15,7 @@ use Rattle.si_sign.specs.declared.faults.AddFault.TheVariants as add_fault
 use Rattle.si_keyed.specs.Keyed.{HasKey}
 use Rattle.si_index.specs.Kept.{clauses_of}
 use Rattle.si_index.specs.Names.{key_of, ChangesName}
-use Rattle.si_index.specs.declared.known.Known.{Known}
+use Rattle.si_index.specs.declared.register.Register.{Register}
 use Rattle.si_index.specs.declared.names.ClauseNames.{ClauseNames}
 
 -- the name of each of these clauses leads to its key, and no other name leads anywhere
@@ -27,7 +27,7 @@ pub record AreNamed (items : List (ℕ × term.Clause)) (names : ClauseNames) : 
       → key_of names (name_of c.name) ≡ Some key
 
 -- it is what is known of these clauses
-pub record IsKnownOf (items : List (ℕ × term.Clause)) (known : Known) : Type 0 where
+pub record IsKnownOf (items : List (ℕ × term.Clause)) (known : Register) : Type 0 where
   pub names : AreNamed items known.names
   pub signature : IsSignature known.signature
   pub signed : IsSignatureOf (clauses_of items) known.signature
@@ -46,13 +46,13 @@ abbrev pub HasPut : term.Clause → (items new : List (ℕ × term.Clause)) → 
 HasPut clause items new old names = (key : ℕ) × IsPut key clause items new old names
 
 -- the clause may be entered, with this limit on entries
-pub record Admits (limit : ℕ) (known : Known) (clause : Clause) : Type 0 where
+pub record Admits (limit : ℕ) (known : Register) (clause : Clause) : Type 0 where
   pub free : key_of known.names clause.name ≡ None
   pub agree : AllAgree (known_symbols known.signature) (clause_symbols clause)
   pub room : known.entries + length (entries clause) ≤ limit
 
 -- the symbols and the entries of the clause are counted
-pub record Enters (clause : Clause) (old new : Known) : Type 0 where
+pub record Enters (clause : Clause) (old new : Register) : Type 0 where
   pub names : new.names ≡ old.names
   pub uses : (s : Symbol)
       → uses_of new.signature s ≡ uses_of old.signature s + times s (clause_symbols clause)
@@ -62,7 +62,7 @@ pub record Enters (clause : Clause) (old new : Known) : Type 0 where
   pub numbers : KeepsNumbers old.signature new.signature
 
 -- they are counted no more
-pub record Uncounts (clause : Clause) (old new : Known) : Type 0 where
+pub record Uncounts (clause : Clause) (old new : Register) : Type 0 where
   pub uses : (s : Symbol)
       → uses_of new.signature s + times s (clause_symbols clause) ≡ uses_of old.signature s
   pub sum : total new.signature + length (clause_symbols clause) ≡ total old.signature
@@ -71,12 +71,12 @@ pub record Uncounts (clause : Clause) (old new : Known) : Type 0 where
   pub numbers : KeepsNumbers old.signature new.signature
 
 -- the clause is struck out
-pub record Leaves (clause : Clause) (old new : Known) : Type 0 where
+pub record Leaves (clause : Clause) (old new : Register) : Type 0 where
   pub name : ChangesName clause.name None (key_of old.names) (key_of new.names)
   pub counts : Uncounts clause old new
 
 -- the same is known
-pub record Stays (old new : Known) : Type 0 where
+pub record Stays (old new : Register) : Type 0 where
   pub names : (name : Name) → key_of new.names name ≡ key_of old.names name
   pub uses : (s : Symbol) → uses_of new.signature s ≡ uses_of old.signature s
   pub sum : total new.signature ≡ total old.signature
@@ -85,7 +85,7 @@ pub record Stays (old new : Known) : Type 0 where
   pub numbers : KeepsNumbers old.signature new.signature
 
 -- why a clause isn't entered
-abbrev pub Bars : ℕ → Known → Clause → AddFault → Type 0
+abbrev pub Bars : ℕ → Register → Clause → AddFault → Type 0
 Bars limit known clause add_fault.Taken = IsSome (key_of known.names clause.name)
 Bars limit known clause (add_fault.Clash c) =
     (key_of known.names clause.name ≡ None)

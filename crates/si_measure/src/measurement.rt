@@ -1,8 +1,8 @@
-// Tasks, and how they are written.
+// Measurements, and how they are written.
 ghost use Rattle.std.specs.Prelude.{◌≡◌, ◌≤◌, IfSome, IfNone};
-ghost use Rattle.si_measure.specs.declared.task.Kind.{Kind};
-ghost use Rattle.si_measure.specs.declared.task.Task.{Task};
-ghost use Rattle.si_measure.specs.Tasks.{kind_text, IsNamedBy};
+ghost use Rattle.si_measure.specs.declared.measurement.Kind.{Kind};
+ghost use Rattle.si_measure.specs.declared.measurement.Measurement.{Measurement};
+ghost use Rattle.si_measure.specs.Measurements.{kind_text, IsNamedBy};
 
 /// No terms of more equations or cells are made.
 pub(crate) const LARGEST: u32 = 1_000_000;
@@ -30,7 +30,7 @@ pub(crate) enum Kind {
 
 /// One line of the input.
 #[derive(Clone, Copy, Debug)]
-pub(crate) struct Task {
+pub(crate) struct Measurement {
     pub(crate) kind: Kind,
     pub(crate) size: u32,
     pub(crate) times: u32,
@@ -52,20 +52,20 @@ impl Kind {
     }
 }
 
-impl Task {
-    /// The task that the first three words of a line name.
-    pub(crate) fn read(line: &str) -> Option<Task>
-        ensures { IfSome result (λ task. task.size ≤ LARGEST) }
+impl Measurement {
+    /// The measurement that the first three words of a line name.
+    pub(crate) fn read(line: &str) -> Option<Measurement>
+        ensures { IfSome result (λ measurement. measurement.size ≤ LARGEST) }
     {
         let mut words = line.split_whitespace();
-        Task::named(words.next()?, words.next()?, words.next()?)
+        Measurement::named(words.next()?, words.next()?, words.next()?)
     }
 
-    /// The task with these words.
-    fn named(kind: &str, size: &str, times: &str) -> Option<Task>
+    /// The measurement with these words.
+    fn named(kind: &str, size: &str, times: &str) -> Option<Measurement>
         ensures found { IfSome result (IsNamedBy kind.now size.now times.now) }
-        ensures none { IfNone result ((task : Task)
-            → IsNamedBy kind.now size.now times.now task → ⊥) }
+        ensures none { IfNone result ((measurement : Measurement)
+            → IsNamedBy kind.now size.now times.now measurement → ⊥) }
     {
         let kind = Kind::named(kind)?;
         let size = size.parse::<u32>().ok()?;
@@ -73,6 +73,6 @@ impl Task {
         if size > LARGEST {
             return None;
         }
-        Some(Task { kind, size, times })
+        Some(Measurement { kind, size, times })
     }
 }

@@ -1,10 +1,10 @@
--- The words that name a task.
+-- The words that name a measurement.
 use Rattle.std.specs.Prelude.{◌≡◌, ℕ, ◌<◌, ◌≤◌, ◌^◌, List, codes}
 use Rattle.std.specs.Str.Parse.{IsNumeral, digits_value, without_leading_plus}
-use Rattle.si_measure.specs.declared.task.Kind.{Kind}
-use Rattle.si_measure.specs.declared.task.Kind.TheVariants.{Towers, Pair}
-use Rattle.si_measure.specs.declared.task.Shape.TheVariants.{One, Both, Shifted}
-use Rattle.si_measure.specs.declared.task.Task.{Task}
+use Rattle.si_measure.specs.declared.measurement.Kind.{Kind}
+use Rattle.si_measure.specs.declared.measurement.Kind.TheVariants.{Towers, Pair}
+use Rattle.si_measure.specs.declared.measurement.Shape.TheVariants.{One, Both, Shifted}
+use Rattle.si_measure.specs.declared.measurement.Measurement.{Measurement}
 
 abbrev pub kind_text : Kind → List ℕ
 kind_text (Towers One) = codes "one"
@@ -18,8 +18,8 @@ pub record IsNumber (word : List ℕ) (n : ℕ) : Type 0 where
   pub number : n ≡ digits_value 10 (without_leading_plus word)
   pub small : n < 2 ^ 32
 
-pub record IsNamedBy (kind size times : List ℕ) (task : Task) : Type 0 where
-  pub kind_is : kind ≡ kind_text task.kind
-  pub size_is : IsNumber size task.size
-  pub times_is : IsNumber times task.times
-  pub within : task.size ≤ 1000000
+pub record IsNamedBy (kind size times : List ℕ) (measurement : Measurement) : Type 0 where
+  pub kind_is : kind ≡ kind_text measurement.kind
+  pub size_is : IsNumber size measurement.size
+  pub times_is : IsNumber times measurement.times
+  pub within : measurement.size ≤ 1000000

@@ -9,7 +9,7 @@ use Rattle.si_defs.proofs.ListLaws.{same_head, same_tail}
 use Rattle.si_flat.specs.declared.Cell.{Cell}
 use Rattle.si_flat.specs.declared.Cell.TheVariants as cell
 use Rattle.si_flat.specs.Cells.{Variable, query, entry, ind, Term, Terms, variable_cell, cells_of, cells_of_all, IsSound, AreSound, StandsFor, join}
-use Rattle.si_flat.proofs.Subterms.{Found, found_in, from_place}
+use Rattle.si_flat.proofs.Subterms.{StandsAmong, found_in, from_place}
 use Rattle.si_unify.specs.declared.slots.Slots.{Slots}
 use Rattle.si_unify.specs.Solving.{slot_of, AreInRange}
 use Rattle.si_unify.proofs.Places.{variable_of-slot_of, in_range-variable}
@@ -76,7 +76,7 @@ module _ (slots : Slots) (classes : List ℕ) (cells : List Cell) (nodes1 nodes2
       → HaveRow slots f known nodes2 cells at (n ∷ numbers2)
   row_more f known t stands less c_is knows h = by found.term (from_place cells at found) found.sound
     where
-      found : Found cells at
+      found : StandsAmong cells at
       found = found_in cells at (t, stands) less
 
       place : drop at cells ≡ c ∷ drop (at + 1) cells

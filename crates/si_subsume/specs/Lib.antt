@@ -2,3 +2,4 @@ pub mod Maps
 pub mod Search
 pub mod Heads
 pub mod Parts
+pub mod Tasks

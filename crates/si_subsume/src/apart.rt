@@ -1,9 +1,9 @@
 // The least map, part by part: literals that share no variable are separate questions.
 ghost use Rattle.std.specs.Prelude.{◌≡◌, ◌+◌, ◌<◌, ◌≤◌, ◌^◌, [], IfOk, length, take, drop};
 ghost use Rattle.std.specs.List.{AllByRecursion};
-ghost use Rattle.si_subsume.specs.Heads.{IsIndexOf};
 ghost use Rattle.si_subsume.specs.Parts.{AreFixed, AreParts, parts_from, AnswersParts};
-ghost use Rattle.si_subsume.specs.Search.{AllowsSolving, AreFlatLiterals, AnswersSearch, AnswersSlices};
+ghost use Rattle.si_subsume.specs.Search.{AllowsSolving, AreFlatLiterals, AnswersSearch};
+ghost use Rattle.si_subsume.specs.Tasks.{IsSearchable, FindsMap};
 
 use crate::chains::Chains;
 use crate::search::{Choice, Task, search};
@@ -18,9 +18,8 @@ fn search_part<'a>(
     task: &Task<'a>,
     part: &'a [&'a [Cell]],
 ) -> Result<Option<Vec<Choice>>, AllocError>
-    requires literals { AreFlatLiterals task.now.slots part.now }
-    requires targets { AreFlatLiterals task.now.slots task.now.targets.now }
-    requires index { IsIndexOf task.now.heads.now task.now.targets.now }
+    requires searchable { IsSearchable task.now }
+    requires part { AreFlatLiterals task.now.slots part.now }
     requires ready { AllowsSolving task.now.slots trail.old.pairs trail.old.slots }
     requires unbound { trail.old.pairs ≡ [] }
     ensures answers { IfOk result (AnswersSearch task.now.slots part.now task.now.targets.now) }
@@ -58,9 +57,7 @@ fn search_parts<'a>(
     grouped: &'a [&'a [Cell]],
     numbers: &mut Vec<u32>,
 ) -> Result<bool, AllocError>
-    requires literals { AreFlatLiterals task.now.slots task.now.literals.now }
-    requires targets { AreFlatLiterals task.now.slots task.now.targets.now }
-    requires index { IsIndexOf task.now.heads.now task.now.targets.now }
+    requires searchable { IsSearchable task.now }
     requires few { length task.now.targets.now < 2 ^ 32 }
     requires ready { AllowsSolving task.now.slots trail.old.pairs trail.old.slots }
     requires unbound { trail.old.pairs ≡ [] }
@@ -103,14 +100,11 @@ pub(crate) fn least_of_parts<'a>(
     task: &Task<'a>,
     labels: Vec<usize>,
 ) -> Result<Option<LitMap>, AllocError>
-    requires literals { AreFlatLiterals task.now.slots task.now.literals.now }
-    requires targets { AreFlatLiterals task.now.slots task.now.targets.now }
-    requires index { IsIndexOf task.now.heads.now task.now.targets.now }
+    requires searchable { IsSearchable task.now }
     requires few { length task.now.targets.now < 2 ^ 32 }
     requires parts { AreParts task.now.slots task.now.literals.now labels.items }
     requires fixed { AllByRecursion (λ b. AreFixed task.now.slots b.now) task.now.targets.now }
-    ensures { IfOk result (AnswersSlices task.now.slots task.now.literals.now
-        task.now.targets.now) }
+    ensures { IfOk result (FindsMap task.now) }
 {
     let chains = Chains::of(alloc, labels)?;
     let grouped = chains.grouped(alloc, task.literals)?;

@@ -4,9 +4,9 @@ ghost use Rattle.std.specs.List.{AllByRecursion};
 ghost use Rattle.si_flat.specs.declared.Owner.TheVariants.{Query, Entry};
 ghost use Rattle.si_flat.specs.Cells.{IsWhole};
 ghost use Rattle.si_subsume.specs.Maps.{AreOf, HasHeads, AnswersFlat};
-ghost use Rattle.si_subsume.specs.Heads.{IsIndexOf};
 ghost use Rattle.si_subsume.specs.Parts.{AreFixed};
 ghost use Rattle.si_subsume.specs.Search.{AreFlatLiterals, AnswersSlices, number_of};
+ghost use Rattle.si_subsume.specs.Tasks.{IsSearchable, FindsMap};
 
 use crate::apart::least_of_parts;
 use crate::cut::arguments;
@@ -33,12 +33,9 @@ fn numbers(alloc: Global, choices: &[Choice]) -> Result<LitMap, AllocError>
 
 // The least map from literals to targets, over all literals at once; `None` where there is none.
 fn least_of_one<'a>(alloc: Global, task: &Task<'a>) -> Result<Option<LitMap>, AllocError>
-    requires literals { AreFlatLiterals task.now.slots task.now.literals.now }
-    requires targets { AreFlatLiterals task.now.slots task.now.targets.now }
-    requires index { IsIndexOf task.now.heads.now task.now.targets.now }
+    requires searchable { IsSearchable task.now }
     requires few { length task.now.targets.now < 2 ^ 32 }
-    ensures { IfOk result (AnswersSlices task.now.slots task.now.literals.now
-        task.now.targets.now) }
+    ensures { IfOk result (FindsMap task.now) }
 {
     let mut trail = Trail::with_slots(alloc, task.slots.count())?;
     let Some(choices) = search(alloc, &mut trail, task)? else {
@@ -58,13 +55,10 @@ fn is_one_part(labels: &[usize]) -> bool
 // The least map from literals to targets; `None` where there is none. No variable of a target may
 // be bound, so literals that share no variable are separate questions.
 fn least<'a>(alloc: Global, task: &Task<'a>) -> Result<Option<LitMap>, AllocError>
-    requires literals { AreFlatLiterals task.now.slots task.now.literals.now }
-    requires targets { AreFlatLiterals task.now.slots task.now.targets.now }
-    requires index { IsIndexOf task.now.heads.now task.now.targets.now }
+    requires searchable { IsSearchable task.now }
     requires few { length task.now.targets.now < 2 ^ 32 }
     requires fixed { AllByRecursion (λ b. AreFixed task.now.slots b.now) task.now.targets.now }
-    ensures { IfOk result (AnswersSlices task.now.slots task.now.literals.now
-        task.now.targets.now) }
+    ensures { IfOk result (FindsMap task.now) }
 {
     if !each_has_target(task) {
         return Ok(None);

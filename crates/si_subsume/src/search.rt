@@ -1,7 +1,8 @@
 // The search for the least map.
-ghost use Rattle.std.specs.Prelude.{List, IsFalse, ◌≡◌, ℕ, ◌<◌, [], length, IfOk};
-ghost use Rattle.si_subsume.specs.Heads.{head_of, first_cell, IsIndexOf, IsFirstToTry, TakesFrom};
-ghost use Rattle.si_subsume.specs.Search.{CanEnd, IsFlatLiteral, AreFlatLiterals, AllowsSolving, AnswersSearch, IsUnderway, IsDead, turns_left, NextNumber, GoesOnFrom, FindsTarget};
+ghost use Rattle.std.specs.Prelude.{IsFalse, ◌≡◌, ℕ, ◌<◌, [], length, IfOk};
+ghost use Rattle.si_subsume.specs.Heads.{head_of, first_cell, IsFirstToTry};
+ghost use Rattle.si_subsume.specs.Search.{IsFlatLiteral, AllowsSolving, NextNumber};
+ghost use Rattle.si_subsume.specs.Tasks.{IsSearchable, Tries, Finds, StandsAt, CannotGoOn, Advances, HasNoMap, FindsChoices};
 
 use crate::heads::{Heads, head_of};
 use si_flat::Cell;
@@ -37,11 +38,11 @@ fn take_from<'a>(
     from: usize,
 ) -> Result<bool, AllocError>
     requires literal { IsFlatLiteral task.now.slots literal.now }
-    requires targets { AreFlatLiterals task.now.slots task.now.targets.now }
+    requires searchable { IsSearchable task.now }
     requires inside { number < length task.now.targets.now }
     requires ready { AllowsSolving task.now.slots trail.old.pairs trail.old.slots }
-    ensures takes { IfOk result (TakesFrom task.now.slots task.now.targets.now trail.old.pairs
-        trail.new.pairs literal.now from number) }
+    ensures tries { IfOk result (Tries task.now trail.old.pairs trail.new.pairs literal.now from
+        number) }
     ensures slots { trail.new.slots ≡ trail.old.slots }
     ensures ready { AllowsSolving task.now.slots trail.new.pairs trail.new.slots }
 {
@@ -55,8 +56,7 @@ fn take_from<'a>(
 // head, as where the search goes on, the next one is known; else it is the first with that head.
 fn first_to_try(task: &Task<'_>, literal: &[Cell], from: usize) -> usize
     requires literal { 0 < length literal.now }
-    requires targets { AreFlatLiterals task.now.slots task.now.targets.now }
-    requires index { IsIndexOf task.now.heads.now task.now.targets.now }
+    requires searchable { IsSearchable task.now }
     ensures { IsFirstToTry task.now.targets.now (head_of (first_cell literal.now)) from result }
 {
     let end = task.targets.len();
@@ -79,11 +79,9 @@ fn find<'a>(
     from: usize,
 ) -> Result<Option<usize>, AllocError>
     requires literal { IsFlatLiteral task.now.slots literal.now }
-    requires targets { AreFlatLiterals task.now.slots task.now.targets.now }
-    requires index { IsIndexOf task.now.heads.now task.now.targets.now }
+    requires searchable { IsSearchable task.now }
     requires ready { AllowsSolving task.now.slots trail.old.pairs trail.old.slots }
-    ensures finds { IfOk result (FindsTarget task.now.slots task.now.targets.now trail.old.pairs
-        trail.new.pairs literal.now from) }
+    ensures finds { IfOk result (Finds task.now trail.old.pairs trail.new.pairs literal.now from) }
     ensures ready { IfOk result
         (λ found. AllowsSolving task.now.slots trail.new.pairs trail.new.slots) }
 {
@@ -115,14 +113,11 @@ fn retreat<'a>(
     task: &Task<'a>,
     choices: &mut Vec<Choice>,
 ) -> Option<usize>
-    requires dead { IsDead task.now.slots task.now.targets.now task.now.literals.now
-        choices.old.items trail.old.pairs }
+    requires dead { CannotGoOn task.now choices.old.items trail.old.pairs }
     requires more { length choices.old.items < length task.now.literals.now }
     requires ready { AllowsSolving task.now.slots trail.old.pairs trail.old.slots }
-    ensures goes_on { (from : ℕ)
-        → GoesOnFrom task.now.slots task.now.literals.now task.now.targets.now
-        (turns_left (length task.now.targets.now) choices.old.items from
-        (length task.now.literals.now)) choices.new.items trail.new.pairs result }
+    ensures advances { (from : ℕ) → Advances task.now choices.old.items from choices.new.items
+        trail.new.pairs result }
     ensures ready { AllowsSolving task.now.slots trail.new.pairs trail.new.slots }
 {
     match choices.pop() {
@@ -144,17 +139,12 @@ fn turn<'a>(
     choices: &mut Vec<Choice>,
     from: usize,
 ) -> Result<Option<usize>, AllocError>
-    requires literals { AreFlatLiterals task.now.slots task.now.literals.now }
-    requires targets { AreFlatLiterals task.now.slots task.now.targets.now }
-    requires index { IsIndexOf task.now.heads.now task.now.targets.now }
+    requires searchable { IsSearchable task.now }
     requires ready { AllowsSolving task.now.slots trail.old.pairs trail.old.slots }
-    requires underway { IsUnderway task.now.slots task.now.targets.now task.now.literals.now
-        choices.old.items trail.old.pairs from }
+    requires stands { StandsAt task.now choices.old.items trail.old.pairs from }
     requires more { length choices.old.items < length task.now.literals.now }
-    ensures goes_on { IfOk result
-        (GoesOnFrom task.now.slots task.now.literals.now task.now.targets.now
-        (turns_left (length task.now.targets.now) choices.old.items from
-        (length task.now.literals.now)) choices.new.items trail.new.pairs) }
+    ensures advances { IfOk result (Advances task.now choices.old.items from choices.new.items
+        trail.new.pairs) }
     ensures ready { IfOk result
         (λ next. AllowsSolving task.now.slots trail.new.pairs trail.new.slots) }
 {
@@ -171,11 +161,8 @@ fn turn<'a>(
 
 /// Whether each literal has a target with its head. Otherwise there is no map.
 pub(crate) fn each_has_target(task: &Task<'_>) -> bool
-    requires literals { AreFlatLiterals task.now.slots task.now.literals.now }
-    requires targets { AreFlatLiterals task.now.slots task.now.targets.now }
-    requires index { IsIndexOf task.now.heads.now task.now.targets.now }
-    ensures { IsFalse result → (ns : List ℕ)
-        → CanEnd task.now.slots task.now.targets.now [] task.now.literals.now ns → ⊥ }
+    requires searchable { IsSearchable task.now }
+    ensures { IsFalse result → HasNoMap task.now }
 {
     let end = task.targets.len();
     for i in 0..task.literals.len() {
@@ -193,13 +180,10 @@ pub(crate) fn search<'a>(
     trail: &mut Trail<&'a [Cell]>,
     task: &Task<'a>,
 ) -> Result<Option<Vec<Choice>>, AllocError>
-    requires literals { AreFlatLiterals task.now.slots task.now.literals.now }
-    requires targets { AreFlatLiterals task.now.slots task.now.targets.now }
-    requires index { IsIndexOf task.now.heads.now task.now.targets.now }
+    requires searchable { IsSearchable task.now }
     requires ready { AllowsSolving task.now.slots trail.old.pairs trail.old.slots }
     requires unbound { trail.old.pairs ≡ [] }
-    ensures answers { IfOk result (AnswersSearch task.now.slots task.now.literals.now
-        task.now.targets.now) }
+    ensures finds { IfOk result (FindsChoices task.now) }
     ensures ready { IfOk result
         (λ found. AllowsSolving task.now.slots trail.new.pairs trail.new.slots) }
 {

@@ -34,13 +34,13 @@ part_at-part-requires c =
     let whole = c.loop-label.invariant.0 ∙ next_part labels (length literals) literals c.loop-label.label c.loop-label-test.true in
     omega (arith, inside c.args.grouped.now _ _ c.loop-label.left c.part_len-count.result whole c.loop-label.invariant.1 (c.part_len-count.ensures ∙ select_size labels c.loop-label.label labels literals (sym c.requires.sizes)), c.loop-label.invariant.1)
 
-pub search_part-requires-clause-literals : goal.search_part-requires-clause-literals
-search_part-requires-clause-literals c =
+pub search_part-requires-clause-part : goal.search_part-requires-clause-part
+search_part-requires-clause-part c =
     let labels = c.args.chains.now in
     let literals = c.args.task.now.literals.now in
     let whole = c.loop-label.invariant.0 ∙ next_part labels (length literals) literals c.loop-label.label c.loop-label-test.true in
     let part_is = c.part_at-part.ensures ∙ begins _ _ _ c.part_len-count.result whole (c.part_len-count.ensures ∙ select_size labels c.loop-label.label labels literals (sym c.requires.sizes)) in
-    subst (AreFlatLiterals c.args.task.now.slots) (sym part_is) (all_selected (λ (b : Bor (List Cell)). IsFlatLiteral c.args.task.now.slots b.now) labels c.loop-label.label literals c.requires.literals)
+    subst (AreFlatLiterals c.args.task.now.slots) (sym part_is) (all_selected (λ (b : Bor (List Cell)). IsFlatLiteral c.args.task.now.slots b.now) labels c.loop-label.label literals c.requires.searchable.literals)
 
 pub write-requires-clause-count : goal.write-requires-clause-count
 write-requires-clause-count c =

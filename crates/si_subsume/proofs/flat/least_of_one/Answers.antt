@@ -17,4 +17,4 @@ pub numbers-requires : goal.numbers-requires
 numbers-requires c =
     subst (AllByRecursion (λ (choice : Choice). choice.number < 2 ^ 32 - 1)) (sym c.deref.ensures.value)
     (all_weaker (λ choice. choice.number < length c.args.task.now.targets.now) (λ choice. choice.number < 2 ^ 32 - 1) c.in-Some.choices.items (λ choice below. omega (arith, below, c.requires.few))
-    (subst (AnswersSearch c.args.task.now.slots c.args.task.now.literals.now c.args.task.now.targets.now) c.in-Some.is c.in_ok-choices.ensures.answers).inside)
+    (subst (AnswersSearch c.args.task.now.slots c.args.task.now.literals.now c.args.task.now.targets.now) c.in-Some.is c.in_ok-choices.ensures.finds).inside)

@@ -10,28 +10,28 @@ first_to_try-number-requires-clause-literal c = some_cell c.args.literal.now c.r
 
 pub loop-number-init : goal.loop-number-init
 loop-number-init c =
-    seeking_start c.args.task.now.slots c.args.task.now.targets.now c.args.trail.now c.args.literal.now c.args.from c.first_to_try-number.result c.requires.literal c.requires.targets c.first_to_try-number.ensures
+    seeking_start c.args.task.now.slots c.args.task.now.targets.now c.args.trail.now c.args.literal.now c.args.from c.first_to_try-number.result c.requires.literal c.requires.searchable.targets c.first_to_try-number.ensures
 
 pub returns-then-branch-clause-finds : goal.returns-then-branch-clause-finds
 returns-then-branch-clause-finds c =
-    sought c.args.task.now.slots c.args.task.now.targets.now c.args.trail.now c.loop-number.trail c.args.literal.now c.args.from c.loop-number.number c.requires.literal c.requires.targets c.loop-number.invariant c.take_from.new.trail c.loop-number-test.true
-    (subst (TakesFrom c.args.task.now.slots c.args.task.now.targets.now c.loop-number.trail.pairs c.take_from.new.trail.pairs c.args.literal.now c.args.from c.loop-number.number) c.if-branch.true c.in_ok-take_from.ensures.takes)
+    sought c.args.task.now.slots c.args.task.now.targets.now c.args.trail.now c.loop-number.trail c.args.literal.now c.args.from c.loop-number.number c.requires.literal c.requires.searchable.targets c.loop-number.invariant c.take_from.new.trail c.loop-number-test.true
+    (subst (TakesFrom c.args.task.now.slots c.args.task.now.targets.now c.loop-number.trail.pairs c.take_from.new.trail.pairs c.args.literal.now c.args.from c.loop-number.number) c.if-branch.true c.in_ok-take_from.ensures.tries)
 
 pub next-number-requires : goal.next-number-requires
-next-number-requires c = omega (arith, c.loop-number-test.true, ap length c.requires.index.next, length-nexts (length c.args.task.now.targets.now) 0 c.args.task.now.targets.now)
+next-number-requires c = omega (arith, c.loop-number-test.true, ap length c.requires.searchable.index.next, length-nexts (length c.args.task.now.targets.now) 0 c.args.task.now.targets.now)
 
 next_is : (c : goal.After-next-number) → c.next-number.result ≡ get_or (nexts (length c.args.task.now.targets.now) 0 c.args.task.now.targets.now) c.loop-number.number 0
-next_is c = c.next-number.ensures ∙ ap (λ ns. get_or ns c.loop-number.number 0) c.requires.index.next
+next_is c = c.next-number.ensures ∙ ap (λ ns. get_or ns c.loop-number.number 0) c.requires.searchable.index.next
 
 pub loop-number-smaller : goal.loop-number-smaller
 loop-number-smaller c = omega (arith, next_is c, next_above c.args.task.now.targets.now c.loop-number.number c.loop-number-test.true, c.loop-number-test.true)
 
 pub loop-number-preserved : goal.loop-number-preserved
 loop-number-preserved c =
-    seeking_on c.args.task.now.slots c.args.task.now.targets.now c.args.trail.now c.loop-number.trail c.args.literal.now c.args.from c.loop-number.number c.requires.literal c.requires.targets c.loop-number.invariant c.take_from.new.trail c.next-number.result c.loop-number-test.true
-    (subst (TakesFrom c.args.task.now.slots c.args.task.now.targets.now c.loop-number.trail.pairs c.take_from.new.trail.pairs c.args.literal.now c.args.from c.loop-number.number) c.if-branch.false c.in_ok-take_from.ensures.takes)
-    c.in_ok-take_from.ensures.slots (c.next-number.ensures ∙ ap (λ ns. get_or ns c.loop-number.number 0) c.requires.index.next)
+    seeking_on c.args.task.now.slots c.args.task.now.targets.now c.args.trail.now c.loop-number.trail c.args.literal.now c.args.from c.loop-number.number c.requires.literal c.requires.searchable.targets c.loop-number.invariant c.take_from.new.trail c.next-number.result c.loop-number-test.true
+    (subst (TakesFrom c.args.task.now.slots c.args.task.now.targets.now c.loop-number.trail.pairs c.take_from.new.trail.pairs c.args.literal.now c.args.from c.loop-number.number) c.if-branch.false c.in_ok-take_from.ensures.tries)
+    c.in_ok-take_from.ensures.slots (c.next-number.ensures ∙ ap (λ ns. get_or ns c.loop-number.number 0) c.requires.searchable.index.next)
 
 pub returns-clause-finds : goal.returns-clause-finds
 returns-clause-finds c =
-    sought_all c.args.task.now.slots c.args.task.now.targets.now c.args.trail.now c.loop-number.trail c.args.literal.now c.args.from c.loop-number.number c.requires.literal c.requires.targets c.loop-number.invariant c.loop-number-test.false
+    sought_all c.args.task.now.slots c.args.task.now.targets.now c.args.trail.now c.loop-number.trail c.args.literal.now c.args.from c.loop-number.number c.requires.literal c.requires.searchable.targets c.loop-number.invariant c.loop-number-test.false

@@ -10,11 +10,11 @@ use Rattle.si_subsume.proofs.search.first_to_try.Goals as goal
 pub bounds-task-0 : goal.bounds-task-0
 bounds-task-0 c =
     let less : c.args.from - 1 < length c.args.task.now.targets.now = omega (arith, c.if-from-end.false, c.if-from-gt0.true) in
-    let read = term_read c.args.task.now.slots c.args.task.now.targets.now (c.args.from - 1) (record { ref_ptr = (0, 0); now = [] }) c.requires.targets less in
+    let read = term_read c.args.task.now.slots c.args.task.now.targets.now (c.args.from - 1) (record { ref_ptr = (0, 0); now = [] }) c.requires.searchable.targets less in
     some_cell _ read.whole
 
 pub next-requires : goal.next-requires
-next-requires c = omega (arith, c.if-from-end.false, c.if-from-gt0.true, ap length c.requires.index.next, length-nexts (length c.args.task.now.targets.now) 0 c.args.task.now.targets.now)
+next-requires c = omega (arith, c.if-from-end.false, c.if-from-gt0.true, ap length c.requires.searchable.index.next, length-nexts (length c.args.task.now.targets.now) 0 c.args.task.now.targets.now)
 
 pub returns-then-eq : goal.returns-then-eq
 returns-then-eq c =
@@ -27,7 +27,7 @@ returns-then-eq c =
     subst (λ n. IsFirstToTry targets head n c.next.result) behind
     (first_behind targets head (c.args.from - 1) c.next.result _ got
     (sym c.head_of-then-from-gt0.ensures ∙ sym same ∙ c.head_of.ensures)
-    (c.next.ensures ∙ ap (λ ns. get_or ns (c.args.from - 1) 0) c.requires.index.next))
+    (c.next.ensures ∙ ap (λ ns. get_or ns (c.args.from - 1) 0) c.requires.searchable.index.next))
 
 pub returns : goal.returns
-returns c = first_of_all c.args.task.now.targets.now (head_of (first_cell c.args.literal.now)) c.args.from c.first.result (c.first.ensures ∙ c.requires.index.first _)
+returns c = first_of_all c.args.task.now.targets.now (head_of (first_cell c.args.literal.now)) c.args.from c.first.result (c.first.ensures ∙ c.requires.searchable.index.first _)

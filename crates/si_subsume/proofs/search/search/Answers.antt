@@ -5,6 +5,6 @@ use Rattle.si_subsume.proofs.search.search.Goals as goal
 pub loop-scratch-init : goal.loop-scratch-init
 loop-scratch-init c = searching_start c.args.task.now.slots c.args.task.now.targets.now c.args.task.now.literals.now c.args.trail.now c.new-choices.result.items c.requires.unbound c.new-choices.ensures.items c.requires.ready
 
-pub returns-clause-answers : goal.returns-clause-answers
-returns-clause-answers c =
+pub returns-clause-finds : goal.returns-clause-finds
+returns-clause-finds c =
     least_found c.args.task.now.slots c.args.task.now.targets.now c.args.task.now.literals.now c.loop-scratch.choices.items c.loop-scratch.invariant.underway.0 c.loop-scratch.trail.pairs c.loop-scratch.invariant.underway.1 (omega (arith, c.loop-scratch-test.false, c.len.ensures, c.loop-scratch.choices.ok.0))

@@ -1,0 +1,47 @@
+-- Tasks: what is searched through, and what the parts of the search do by it.
+use Rattle.std.specs.Prelude.{ℕ, Bool, List, length, Option, [], Vec}
+use Rattle.std.specs.declared.alloc.Global.{Global}
+use Rattle.si_flat.specs.declared.Cell.{Cell}
+use Rattle.si_unify.specs.Solving.{Pairs}
+use Rattle.si_subsume.specs.declared.search.Choice.{Choice}
+use Rattle.si_subsume.specs.declared.search.Task.{Task}
+use Rattle.si_subsume.specs.Heads.{IsIndexOf, TakesFrom}
+use Rattle.si_subsume.specs.Search.{AreFlatLiterals, FindsTarget, IsUnderway, IsDead, turns_left, GoesOnFrom, CanEnd, AnswersSearch, AnswersSlices}
+
+-- the literals and the targets are flat, and the index is that of the targets by their heads
+pub record IsSearchable (task : Task) : Type 0 where
+  pub literals : AreFlatLiterals task.slots task.literals.now
+  pub targets : AreFlatLiterals task.slots task.targets.now
+  pub index : IsIndexOf task.heads.now task.targets.now
+
+-- a target is tried for a literal
+abbrev pub Tries : Task → Pairs → Pairs → List Cell → ℕ → ℕ → Bool → Type 0
+Tries task = TakesFrom task.slots task.targets.now
+
+-- the first target from a number on to which a literal can be taken
+abbrev pub Finds : Task → Pairs → Pairs → List Cell → ℕ → Option ℕ → Type 0
+Finds task = FindsTarget task.slots task.targets.now
+
+-- where the search stands: these choices were made, and the next literal goes on from this target
+abbrev pub StandsAt : Task → List Choice → Pairs → ℕ → Type 0
+StandsAt task = IsUnderway task.slots task.targets.now task.literals.now
+
+abbrev pub CannotGoOn : Task → List Choice → Pairs → Type 0
+CannotGoOn task = IsDead task.slots task.targets.now task.literals.now
+
+-- It stands further on than after these choices, at this target; or there is no map.
+abbrev pub Advances : Task → List Choice → ℕ → List Choice → Pairs → Option ℕ → Type 0
+Advances task choices from = GoesOnFrom task.slots task.literals.now task.targets.now
+    (turns_left (length task.targets.now) choices from (length task.literals.now))
+
+abbrev pub HasNoMap : Task → Type 0
+HasNoMap task = (ns : List ℕ)
+    → CanEnd task.slots task.targets.now [] task.literals.now ns → ⊥
+
+-- the choices of the least map
+abbrev pub FindsChoices : Task → Option (Vec Choice Global) → Type 0
+FindsChoices task = AnswersSearch task.slots task.literals.now task.targets.now
+
+-- the numbers of the least map
+abbrev pub FindsMap : Task → Option (List ℕ) → Type 0
+FindsMap task = AnswersSlices task.slots task.literals.now task.targets.now

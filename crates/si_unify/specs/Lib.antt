@@ -4,3 +4,4 @@ pub mod Circles
 pub mod States
 pub mod Heights
 pub mod Scratch
+pub mod Unifying

@@ -14,6 +14,7 @@ mod slots;
 mod solver;
 mod spots;
 mod states;
+mod unifier;
 
 pub use scratch::Scratch;
 pub use slots::Slots;

@@ -1,20 +1,49 @@
 // From two terms to the bindings that make them equal.
-ghost use Rattle.std.specs.Prelude.{◌≡◌, ◌<◌, ◌≤◌, ◌^◌, length, true, false, Ok, IfOk, OnErr};
+ghost use Rattle.std.specs.Prelude.{◌≡◌, ◌<◌, ◌≤◌, ◌^◌, [], length, true, false, Ok, IfOk, OnErr};
 ghost use Rattle.std.specs.List.{AllByRecursion};
 ghost use Rattle.si_defs.specs.Substitutions.{Grows};
 ghost use Rattle.si_flat.specs.Cells.{IsWhole};
 ghost use Rattle.si_unify.specs.Scratch.{AreClear};
 ghost use Rattle.si_unify.specs.Solving.{slot_count, AreInRange, IsAcyclic, IsBinding, AreHandedIn, HasSolved};
+ghost use Rattle.si_unify.specs.States.{AreNew};
 ghost use Rattle.si_unify.specs.Spots.{HasAnswered};
+ghost use Rattle.si_unify.specs.Unifying.{IsUnderWay, GoesOn};
 
-use crate::arguments::{close, meet_terms};
-use crate::circles::is_triangular;
+use crate::circles::{Visit, is_triangular};
 use crate::scratch::{Buffers, Scratch};
 use crate::slots::Slots;
 use crate::spots::Question;
+use crate::states::States;
+use crate::unifier::Unifier;
 use si_flat::Cell;
 use si_trail::Trail;
 use std::alloc::{AllocError, Global};
+
+impl<'s, 'a> Unifier<'s, 'a> {
+    // Makes the two terms equal, and leaves what it bound.
+    fn solve(&mut self, states: &mut States, visits: &mut Vec<Visit>) -> Result<bool, AllocError>
+        requires under_way { IsUnderWay self.old }
+        requires triangular { IsAcyclic self.old.question.slots self.old.trail.now.pairs }
+        requires left_small { length self.old.question.left.now < 2 ^ 64 }
+        requires right_small { length self.old.question.right.now < 2 ^ 64 }
+        requires no_keys { self.old.keys.now.keys ≡ [] }
+        requires fresh { AreNew states.old }
+        requires no_visits { visits.old.items ≡ [] }
+        ensures answered { IfOk result (HasAnswered self.old.question self.old.trail.now.pairs
+            self.new.trail.now.pairs) }
+        ensures grows { Grows self.old.trail.now.pairs self.new.trail.now.pairs }
+        ensures goes_on { GoesOn self.old self.new }
+    {
+        let mark = self.trail.mark();
+        if !self.meet_terms()? {
+            return Ok(false);
+        }
+        if !self.close()? {
+            return Ok(false);
+        }
+        is_triangular(states, visits, self.trail, &self.question.slots, mark)
+    }
+}
 
 // Makes two terms equal, and leaves what it bound.
 fn attempt<'a>(
@@ -36,20 +65,13 @@ fn attempt<'a>(
     ensures grows { Grows trail.old.pairs trail.new.pairs }
     ensures slots { trail.new.slots ≡ trail.old.slots }
 {
-    let mark = trail.mark();
-    if !meet_terms(trail, question, &mut buffers.keys, &mut buffers.heights)? {
-        return Ok(false);
-    }
-    if !close(trail, question, &mut buffers.keys, &mut buffers.heights)? {
-        return Ok(false);
-    }
-    is_triangular(
-        &mut buffers.states,
-        &mut buffers.visits,
+    let mut unifier = Unifier {
+        question: *question,
         trail,
-        &question.slots,
-        mark,
-    )
+        keys: &mut buffers.keys,
+        heights: &mut buffers.heights,
+    };
+    unifier.solve(&mut buffers.states, &mut buffers.visits)
 }
 
 /// Makes two terms equal by binding variables, over the bindings that are there.

@@ -1,6 +1,6 @@
 use Rattle.std.proofs.lemmas.Result.{IfOk-weaker}
 use Rattle.si_unify.proofs.Comparing.{end_of, met_through}
-use Rattle.si_unify.proofs.equations.meet.Goals as goal
+use Rattle.si_unify.proofs.unifier.Unifier.meet.Goals as goal
 
 pub meet_ends-requires-clause-left_end : goal.meet_ends-requires-clause-left_end
 meet_ends-requires-clause-left_end c = end_of _ _ _ _ (c.requires.left.term, c.requires.left.stands) c.follow-left_end.ensures.comes

@@ -1,17 +1,19 @@
-use Rattle.std.proofs.Common.{◌+◌, ◌-◌, ◌<◌, length, refl, sym, ◌∙◌, subst, arith}
-use Rattle.si_unify.specs.Spots.{spots_of, HasMet}
+use Rattle.std.proofs.Common.{◌+◌, ◌-◌, ◌<◌, true, false, length, sym, subst, arith}
+use Rattle.si_unify.specs.Spots.{spots_of}
+use Rattle.si_unify.specs.Unifying.{MakesMeet}
 use Rattle.si_unify.proofs.Chains.{no_cell, head_inside}
 use Rattle.si_unify.proofs.Pieces.{piece_ends}
 use Rattle.si_unify.proofs.Binding.{same_whole}
 use Rattle.si_unify.proofs.Comparing.{comparing_starts, comparing_ends, comparing_descends, comparing_goes_on, comparing_fails, right_inside, left_part, right_part, left_size, right_size, moved}
-use Rattle.si_unify.proofs.arguments.compare.Goals as goal
+use Rattle.si_unify.proofs.UnderWay.{stays, goes_further, under_way_still, subterm_still, met_by}
+use Rattle.si_unify.proofs.unifier.Unifier.compare.Goals as goal
 
 pub loop-i-init : goal.loop-i-init
 loop-i-init c = record {
   comparing_on =
-      comparing_starts _ _ _ (spots_of c.args.left c.args.right) c.args.left.cells.now c.args.right.cells.now c.requires.legal c.requires.keys c.requires.apart
+      comparing_starts _ _ _ (spots_of c.args.left c.args.right) c.args.left.cells.now c.args.right.cells.now c.requires.under_way.legal c.requires.under_way.keys c.requires.apart
       (same_whole _ _ _ _ c.requires.left c.requires.apart.left) (same_whole _ _ _ _ c.requires.right c.requires.apart.right);
-  slots_stay = refl;
+  going_on = stays _;
 }
 
 pub bounds-right-j : goal.bounds-right-j
@@ -20,30 +22,43 @@ bounds-right-j c = right_inside _ _ _ _ _ _ _ _ _ _ c.loop-i.invariant.comparing
 pub loop-i-preserved-in-Some : goal.loop-i-preserved-in-Some
 loop-i-preserved-in-Some c = record {
   comparing_on = comparing_descends _ _ _ _ _ _ _ _ _ _ c.in-Some.field-0 no_cell c.loop-i.invariant.comparing_on c.loop-i-test.true (sym c.in-Some.ensures);
-  slots_stay = c.loop-i.invariant.slots_stay;
+  going_on = c.loop-i.invariant.going_on;
 }
 
 pub sub-requires-in-None-clause-inside : goal.sub-requires-in-None-clause-inside
 sub-requires-in-None-clause-inside c = right_inside _ _ _ _ _ _ _ _ _ _ c.loop-i.invariant.comparing_on c.loop-i-test.true
 
+pub meet-requires-clause-under_way : goal.meet-requires-clause-under_way
+meet-requires-clause-under_way c =
+    under_way_still c.args.self.now c.loop-i.self c.loop-i.invariant.going_on c.requires.under_way c.loop-i.invariant.comparing_on.going
+
 pub meet-requires-clause-left : goal.meet-requires-clause-left
 meet-requires-clause-left c =
-    left_part _ _ _ _ _ _ _ _ _ _ c.sub.result c.loop-i.invariant.comparing_on c.loop-i-test.true c.sub.ensures.place c.sub.ensures.whole
+    subterm_still c.args.self.now c.loop-i.self c.loop-i.invariant.going_on _
+    (left_part _ _ _ _ _ _ _ _ _ _ c.sub.result c.loop-i.invariant.comparing_on c.loop-i-test.true c.sub.ensures.place c.sub.ensures.whole)
 
 pub meet-requires-clause-right : goal.meet-requires-clause-right
 meet-requires-clause-right c =
-    right_part _ _ _ _ _ _ _ _ _ _ c.sub-in-None.result c.loop-i.invariant.comparing_on c.loop-i-test.true c.sub-in-None.ensures.place c.sub-in-None.ensures.whole
+    subterm_still c.args.self.now c.loop-i.self c.loop-i.invariant.going_on _
+    (right_part _ _ _ _ _ _ _ _ _ _ c.sub-in-None.result c.loop-i.invariant.comparing_on c.loop-i-test.true c.sub-in-None.ensures.place c.sub-in-None.ensures.whole)
 
 pub returns-then-not-branch-clause-compared : goal.returns-then-not-branch-clause-compared
 returns-then-not-branch-clause-compared c =
-    comparing_fails c.args.question.now c.args.trail.now.pairs c.loop-i.trail.pairs c.meet.new.trail.pairs c.args.keys.now.keys c.loop-i.keys.keys c.meet.new.keys.keys (spots_of c.args.left c.args.right) c.args.left.cells.now c.args.right.cells.now c.loop-i.i c.loop-i.j
+    comparing_fails c.args.self.now.question c.args.self.now.trail.now.pairs c.loop-i.self.trail.now.pairs c.meet.new.self.trail.now.pairs c.args.self.now.keys.now.keys c.loop-i.self.keys.now.keys c.meet.new.self.keys.now.keys (spots_of c.args.left c.args.right) c.args.left.cells.now c.args.right.cells.now c.loop-i.i c.loop-i.j
     c.loop-i.invariant.comparing_on c.loop-i-test.true
     (
+    met_by c.args.self.now c.loop-i.self c.loop-i.invariant.going_on c.meet.new.self (moved c.args.left.spot c.loop-i.i) (moved c.args.right.spot c.loop-i.j) false
+    (
     subst
-    (HasMet c.args.question.now c.loop-i.trail.pairs c.meet.new.trail.pairs c.loop-i.keys.keys c.meet.new.keys.keys (moved c.args.left.spot c.loop-i.i) (moved c.args.right.spot c.loop-i.j))
+    (MakesMeet c.loop-i.self c.meet.new.self (moved c.args.left.spot c.loop-i.i) (moved c.args.right.spot c.loop-i.j))
     c.if-not-branch.true
     c.in_ok-meet-in-None.ensures.met
     )
+    )
+
+pub returns-then-not-branch-clause-goes_on : goal.returns-then-not-branch-clause-goes_on
+returns-then-not-branch-clause-goes_on c =
+    goes_further _ _ _ c.loop-i.invariant.going_on c.in_ok-meet-in-None.ensures.goes_on
 
 pub overflow_add-i-in-None : goal.overflow_add-i-in-None
 overflow_add-i-in-None c = omega (arith, piece_ends _ _ _ c.sub.ensures.place c.loop-i-test.true, c.requires.left_small)
@@ -64,18 +79,21 @@ loop-i-smaller c =
 pub loop-i-preserved : goal.loop-i-preserved
 loop-i-preserved c = record {
   comparing_on =
-      comparing_goes_on c.args.question.now c.args.trail.now.pairs c.loop-i.trail.pairs c.meet.new.trail.pairs c.args.keys.now.keys c.loop-i.keys.keys c.meet.new.keys.keys (spots_of c.args.left c.args.right) c.args.left.cells.now c.args.right.cells.now c.loop-i.i c.loop-i.j
+      comparing_goes_on c.args.self.now.question c.args.self.now.trail.now.pairs c.loop-i.self.trail.now.pairs c.meet.new.self.trail.now.pairs c.args.self.now.keys.now.keys c.loop-i.self.keys.now.keys c.meet.new.self.keys.now.keys (spots_of c.args.left c.args.right) c.args.left.cells.now c.args.right.cells.now c.loop-i.i c.loop-i.j
       (length c.sub.result.now) (length c.sub-in-None.result.now)
       c.loop-i.invariant.comparing_on c.loop-i-test.true
       (left_size _ _ _ _ _ _ _ _ _ _ _ c.loop-i.invariant.comparing_on c.loop-i-test.true c.sub.ensures.place c.sub.ensures.whole)
       (right_size _ _ _ _ _ _ _ _ _ _ _ c.loop-i.invariant.comparing_on c.loop-i-test.true c.sub-in-None.ensures.place c.sub-in-None.ensures.whole)
       (
+      met_by c.args.self.now c.loop-i.self c.loop-i.invariant.going_on c.meet.new.self (moved c.args.left.spot c.loop-i.i) (moved c.args.right.spot c.loop-i.j) true
+      (
       subst
-      (HasMet c.args.question.now c.loop-i.trail.pairs c.meet.new.trail.pairs c.loop-i.keys.keys c.meet.new.keys.keys (moved c.args.left.spot c.loop-i.i) (moved c.args.right.spot c.loop-i.j))
+      (MakesMeet c.loop-i.self c.meet.new.self (moved c.args.left.spot c.loop-i.i) (moved c.args.right.spot c.loop-i.j))
       c.if-not-branch.false
       c.in_ok-meet-in-None.ensures.met
+      )
       );
-  slots_stay = c.in_ok-meet-in-None.ensures.slots ∙ c.loop-i.invariant.slots_stay;
+  going_on = goes_further _ _ _ c.loop-i.invariant.going_on c.in_ok-meet-in-None.ensures.goes_on;
 }
 
 pub returns-clause-compared : goal.returns-clause-compared

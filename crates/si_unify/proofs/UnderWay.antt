@@ -1,0 +1,59 @@
+-- An attempt to make two terms equal, from step to step.
+use Rattle.std.proofs.Common.{Bool, refl, sym, ◌∙◌, ap, subst, arith}
+use Rattle.si_unify.specs.declared.spots.Spot.{Spot}
+use Rattle.si_unify.specs.declared.spots.SpotPair.{SpotPair}
+use Rattle.si_unify.specs.declared.spots.Subterm.{Subterm}
+use Rattle.si_unify.specs.declared.unifier.Unifier.{Unifier}
+use Rattle.si_unify.specs.Solving.{slot_count}
+use Rattle.si_unify.specs.Spots.{IsSpot, IsSubterm, IsApart, IsLegal, ArePairs, IsGoingOn, HasMet, HasCompared, HasClosed}
+use Rattle.si_unify.specs.Unifying.{HasSpot, HasSubterm, AreApart, IsUnderWay, GoesOn, MakesMeet, MakesCompared, MakesClosed}
+
+pub stays : (u : Unifier) → GoesOn u u
+stays u = record { question = refl; trail = refl; keys = refl; heights = refl; slots = refl }
+
+pub goes_further : (old mid new : Unifier) → GoesOn old mid → GoesOn mid new → GoesOn old new
+goes_further old mid new first then = record {
+  question = then.question ∙ first.question;
+  trail = then.trail ∙ first.trail;
+  keys = then.keys ∙ first.keys;
+  heights = then.heights ∙ first.heights;
+  slots = then.slots ∙ first.slots;
+}
+
+-- what was found out by the question as it was at first holds now, and the other way round
+module _ (old new : Unifier) (goes : GoesOn old new) where
+  pub under_way_still :
+      IsUnderWay old
+      → IsGoingOn old.question old.trail.now.pairs new.trail.now.pairs old.keys.now.keys new.keys.now.keys
+      → IsUnderWay new
+  under_way_still before going = record {
+    legal = subst (λ q. IsLegal q new.trail.now.pairs) (sym goes.question) going.legal;
+    keys = subst (λ q. ArePairs q new.trail.now.pairs new.keys.now.keys) (sym goes.question) going.keys;
+    room = omega (arith, before.room, ap (λ q. slot_count q.slots) goes.question, goes.slots);
+  }
+
+  pub spot_still : (spot : Spot) → IsSpot old.question new.trail.now.pairs spot → HasSpot new spot
+  spot_still spot h = subst (λ q. IsSpot q new.trail.now.pairs spot) (sym goes.question) h
+
+  pub subterm_still : (s : Subterm) → IsSubterm old.question new.trail.now.pairs s → HasSubterm new s
+  subterm_still s h = subst (λ q. IsSubterm q new.trail.now.pairs s) (sym goes.question) h
+
+  pub apart_still : (pair : SpotPair) → IsApart old.question new.trail.now.pairs pair → AreApart new pair
+  apart_still pair h = subst (λ q. IsApart q new.trail.now.pairs pair) (sym goes.question) h
+
+  pub met_by : (next : Unifier) (left right : Spot) (b : Bool)
+      → MakesMeet new next left right b
+      → HasMet old.question new.trail.now.pairs next.trail.now.pairs new.keys.now.keys next.keys.now.keys left right b
+  met_by next left right b h =
+      subst (λ q. HasMet q new.trail.now.pairs next.trail.now.pairs new.keys.now.keys next.keys.now.keys left right b) goes.question h
+
+  pub compared_by : (next : Unifier) (pair : SpotPair) (b : Bool)
+      → MakesCompared new next pair b
+      → HasCompared old.question new.trail.now.pairs next.trail.now.pairs new.keys.now.keys next.keys.now.keys pair b
+  compared_by next pair b h =
+      subst (λ q. HasCompared q new.trail.now.pairs next.trail.now.pairs new.keys.now.keys next.keys.now.keys pair b) goes.question h
+
+  pub closed_by : (next : Unifier) (b : Bool)
+      → MakesClosed new next b
+      → HasClosed old.question new.trail.now.pairs next.trail.now.pairs new.keys.now.keys b
+  closed_by next b h = subst (λ q. HasClosed q new.trail.now.pairs next.trail.now.pairs new.keys.now.keys b) goes.question h

@@ -1,0 +1,128 @@
+use Rattle.std.proofs.Common.{◌<◌, [], Some, sym, ap, ◌∙◌, arith}
+use Rattle.si_unify.specs.Solving.{slot_count}
+use Rattle.si_unify.specs.Spots.{free_slot}
+use Rattle.si_unify.proofs.Chains.{head_inside, head_is}
+use Rattle.si_unify.proofs.Binding.{binds_subterm}
+use Rattle.si_unify.proofs.Meeting.{same_variable_met, left_bound, right_bound, free_below, clash_met, constant_met, pair_met, either, same_pair, same_told, common_told}
+use Rattle.si_unify.proofs.unifier.Unifier.meet_ends.Goals as goal
+
+pub bounds-left-0 : goal.bounds-left-0
+bounds-left-0 c = head_inside _ _ _ c.requires.left
+
+pub bounds-right-0 : goal.bounds-right-0
+bounds-right-0 c = head_inside _ _ _ c.requires.right
+
+pub returns-then-same_slot-clause-met : goal.returns-then-same_slot-clause-met
+returns-then-same_slot-clause-met c =
+    same_variable_met _ _ _ _ _ c.requires.under_way.legal c.requires.under_way.keys
+    (same_told c.args.self.now.question.slots _ _ _ _ _ _ _ c.slot_of.ensures c.slot_of-2.ensures (head_is _ _ _ c.requires.left) (head_is _ _ _ c.requires.right) c.if-same_slot.ensures)
+
+pub bind-requires-clause-in_range : goal.bind-requires-clause-in_range
+bind-requires-clause-in_range c =
+    let free = sym (c.in-Some.ensures ∙ ap (free_slot c.args.self.now.question.slots) (head_is _ _ _ c.requires.right)) in
+    let below : c.in-Some.slot < slot_count c.args.self.now.question.slots = free_below _ _ _ _ c.requires.under_way.legal c.requires.right_end.spot_is free in
+    omega (arith, c.requires.under_way.room)
+
+pub returns-in-Some-clause-met : goal.returns-in-Some-clause-met
+returns-in-Some-clause-met c =
+    right_bound _ _ _ _ _ _ _
+    (
+    record {
+      legal = c.requires.under_way.legal;
+      apart = c.requires.under_way.keys;
+      left_end = c.requires.left_end;
+      right_end = c.requires.right_end;
+      differ = same_told c.args.self.now.question.slots _ _ _ _ _ _ _ c.slot_of.ensures c.slot_of-2.ensures (head_is _ _ _ c.requires.left) (head_is _ _ _ c.requires.right) c.if-same_slot.ensures;
+    }
+    )
+    (sym (c.in-Some.ensures ∙ ap (free_slot c.args.self.now.question.slots) (head_is _ _ _ c.requires.right)))
+    (binds_subterm _ _ _ _ _ c.requires.under_way.legal c.requires.left c.bind.ensures.pairs)
+
+pub bind-requires-in-Some-left_free-clause-in_range : goal.bind-requires-in-Some-left_free-clause-in_range
+bind-requires-in-Some-left_free-clause-in_range c =
+    let free = sym (c.in-Some-left_free.ensures ∙ ap (free_slot c.args.self.now.question.slots) (head_is _ _ _ c.requires.left)) in
+    let below : c.in-Some-left_free.slot < slot_count c.args.self.now.question.slots = free_below _ _ _ _ c.requires.under_way.legal c.requires.left_end.spot_is free in
+    omega (arith, c.requires.under_way.room)
+
+pub returns-in-Some-left_free-clause-met : goal.returns-in-Some-left_free-clause-met
+returns-in-Some-left_free-clause-met c =
+    left_bound _ _ _ _ _ _ _
+    (
+    record {
+      legal = c.requires.under_way.legal;
+      apart = c.requires.under_way.keys;
+      left_end = c.requires.left_end;
+      right_end = c.requires.right_end;
+      differ = same_told c.args.self.now.question.slots _ _ _ _ _ _ _ c.slot_of.ensures c.slot_of-2.ensures (head_is _ _ _ c.requires.left) (head_is _ _ _ c.requires.right) c.if-same_slot.ensures;
+    }
+    )
+    (sym (c.in-Some-left_free.ensures ∙ ap (free_slot c.args.self.now.question.slots) (head_is _ _ _ c.requires.left)))
+    (binds_subterm _ _ _ _ _ c.requires.under_way.legal c.requires.right c.bind-in-Some-left_free.ensures.pairs)
+
+pub bind-requires-in-Some-right_free-clause-in_range : goal.bind-requires-in-Some-right_free-clause-in_range
+bind-requires-in-Some-right_free-clause-in_range c =
+    let free = sym (c.in-Some-right_free.ensures ∙ ap (free_slot c.args.self.now.question.slots) (head_is _ _ _ c.requires.right)) in
+    let below : c.in-Some-right_free.slot < slot_count c.args.self.now.question.slots = free_below _ _ _ _ c.requires.under_way.legal c.requires.right_end.spot_is free in
+    omega (arith, c.requires.under_way.room)
+
+pub returns-in-Some-right_free-clause-met : goal.returns-in-Some-right_free-clause-met
+returns-in-Some-right_free-clause-met c =
+    right_bound _ _ _ _ _ _ _
+    (
+    record {
+      legal = c.requires.under_way.legal;
+      apart = c.requires.under_way.keys;
+      left_end = c.requires.left_end;
+      right_end = c.requires.right_end;
+      differ = same_told c.args.self.now.question.slots _ _ _ _ _ _ _ c.slot_of.ensures c.slot_of-2.ensures (head_is _ _ _ c.requires.left) (head_is _ _ _ c.requires.right) c.if-same_slot.ensures;
+    }
+    )
+    (sym (c.in-Some-right_free.ensures ∙ ap (free_slot c.args.self.now.question.slots) (head_is _ _ _ c.requires.right)))
+    (binds_subterm _ _ _ _ _ c.requires.under_way.legal c.requires.left c.bind-in-Some-right_free.ensures.pairs)
+
+pub returns-in-None-clause-met : goal.returns-in-None-clause-met
+returns-in-None-clause-met c =
+    clash_met _ _ c.args.self.now.trail.now.pairs _ [] _ _
+    (
+    record {
+      legal = c.requires.under_way.legal;
+      apart = c.requires.under_way.keys;
+      left_end = c.requires.left_end;
+      right_end = c.requires.right_end;
+      differ = same_told c.args.self.now.question.slots _ _ _ _ _ _ _ c.slot_of.ensures c.slot_of-2.ensures (head_is _ _ _ c.requires.left) (head_is _ _ _ c.requires.right) c.if-same_slot.ensures;
+    }
+    )
+    (sym (c.in_default-left_free.ensures ∙ ap (free_slot c.args.self.now.question.slots) (head_is _ _ _ c.requires.left)))
+    (sym (c.in_default-right_free.ensures ∙ ap (free_slot c.args.self.now.question.slots) (head_is _ _ _ c.requires.right)))
+    (common_told _ _ _ _ _ (head_is _ _ _ c.requires.left) (head_is _ _ _ c.requires.right) c.in-None.ensures)
+
+pub returns-in-Some-eq0-clause-met : goal.returns-in-Some-eq0-clause-met
+returns-in-Some-eq0-clause-met c =
+    constant_met _ _ _ _ _
+    (
+    record {
+      legal = c.requires.under_way.legal;
+      apart = c.requires.under_way.keys;
+      left_end = c.requires.left_end;
+      right_end = c.requires.right_end;
+      differ = same_told c.args.self.now.question.slots _ _ _ _ _ _ _ c.slot_of.ensures c.slot_of-2.ensures (head_is _ _ _ c.requires.left) (head_is _ _ _ c.requires.right) c.if-same_slot.ensures;
+    }
+    )
+    (common_told _ _ _ _ _ (head_is _ _ _ c.requires.left) (head_is _ _ _ c.requires.right) c.in-Some-eq0.ensures ∙ ap Some c.in-Some-eq0.field-0-test)
+
+pub returns-in_ok-insert_full-in-Some-common_arity-clause-met : goal.returns-in_ok-insert_full-in-Some-common_arity-clause-met
+returns-in_ok-insert_full-in-Some-common_arity-clause-met c =
+    let stored = c.in_ok-insert_full-in-Some-common_arity.ensures.stored in
+    pair_met _ _ _ _ _ _ _ c.in_ok-insert_full-in-Some-common_arity.field-0.0
+    (
+    record {
+      legal = c.requires.under_way.legal;
+      apart = c.requires.under_way.keys;
+      left_end = c.requires.left_end;
+      right_end = c.requires.right_end;
+      differ = same_told c.args.self.now.question.slots _ _ _ _ _ _ _ c.slot_of.ensures c.slot_of-2.ensures (head_is _ _ _ c.requires.left) (head_is _ _ _ c.requires.right) c.if-same_slot.ensures;
+    }
+    )
+    (common_told _ _ _ _ _ (head_is _ _ _ c.requires.left) (head_is _ _ _ c.requires.right) c.in-Some-common_arity.ensures)
+    (either _ _ _ _ c.in_ok-insert_full-in-Some-common_arity.ensures.keys)
+    (stored.1 ∙ ap Some (same_pair c.args.left.spot c.args.right.spot stored.0 stored.2))

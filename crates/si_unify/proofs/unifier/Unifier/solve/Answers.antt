@@ -1,0 +1,114 @@
+use Rattle.std.proofs.Common.{true, false, take, sym, ap, ◌∙◌, subst, arith}
+use Rattle.std.proofs.lemmas.Result.{IfOk-weaker}
+use Rattle.si_unify.specs.Solving.{IsAcyclic, IsBinding}
+use Rattle.std.specs.List.{AllByRecursion}
+use Rattle.si_unify.specs.Circles.{IsTold}
+use Rattle.si_unify.specs.Spots.{left_spot, right_spot}
+use Rattle.si_unify.specs.Unifying.{MakesMeet, MakesClosed}
+use Rattle.si_unify.proofs.Comparing.{grows_on}
+use Rattle.si_unify.proofs.Answering.{front_of, front_within, answered, answered_unclosed, answered_unmet}
+use Rattle.si_unify.proofs.UnderWay.{goes_further, under_way_still, closed_by}
+use Rattle.si_unify.proofs.unifier.Unifier.solve.Goals as goal
+
+pub returns-then-not-branch-clause-answered : goal.returns-then-not-branch-clause-answered
+returns-then-not-branch-clause-answered c =
+    answered_unmet c.args.self.now.question c.args.self.now.trail.now.pairs c.meet_terms.new.self.trail.now.pairs c.args.self.now.keys.now.keys c.meet_terms.new.self.keys.now.keys
+    c.requires.no_keys c.requires.under_way.legal c.meet_terms.new.self.trail.now.pairs
+    (
+    subst
+    (MakesMeet c.args.self.now c.meet_terms.new.self (left_spot c.args.self.now.question) (right_spot c.args.self.now.question))
+    c.if-not-branch.true
+    c.in_ok-meet_terms.ensures.met
+    )
+
+pub close-requires : goal.close-requires
+close-requires c = record {
+  under_way =
+      under_way_still c.args.self.now c.meet_terms.new.self c.in_ok-meet_terms.ensures.goes_on c.requires.under_way
+      (
+      subst
+      (MakesMeet c.args.self.now c.meet_terms.new.self (left_spot c.args.self.now.question) (right_spot c.args.self.now.question))
+      c.if-not-branch.false
+      c.in_ok-meet_terms.ensures.met
+      ).0;
+}
+
+pub returns-in_err-close-clause-grows : goal.returns-in_err-close-clause-grows
+returns-in_err-close-clause-grows c = grows_on _ _ _ c.in_ok-meet_terms.ensures.grows c.in_err-close.ensures.grows
+
+pub returns-in_err-close-clause-goes_on : goal.returns-in_err-close-clause-goes_on
+returns-in_err-close-clause-goes_on c = goes_further _ _ _ c.in_ok-meet_terms.ensures.goes_on c.in_err-close.ensures.goes_on
+
+pub returns-then-not-branch-2-clause-answered : goal.returns-then-not-branch-2-clause-answered
+returns-then-not-branch-2-clause-answered c =
+    answered_unclosed c.args.self.now.question c.args.self.now.trail.now.pairs c.meet_terms.new.self.trail.now.pairs c.args.self.now.keys.now.keys c.meet_terms.new.self.keys.now.keys
+    c.requires.no_keys c.requires.under_way.legal
+    (
+    subst
+    (MakesMeet c.args.self.now c.meet_terms.new.self (left_spot c.args.self.now.question) (right_spot c.args.self.now.question))
+    c.if-not-branch.false
+    c.in_ok-meet_terms.ensures.met
+    )
+    c.close.new.self.trail.now.pairs
+    (
+    closed_by c.args.self.now c.meet_terms.new.self c.in_ok-meet_terms.ensures.goes_on c.close.new.self false
+    (subst (MakesClosed c.meet_terms.new.self c.close.new.self) c.if-not-branch-2.true c.in_ok-close.ensures.closed)
+    )
+
+pub returns-then-not-branch-2-clause-grows : goal.returns-then-not-branch-2-clause-grows
+returns-then-not-branch-2-clause-grows c = grows_on _ _ _ c.in_ok-meet_terms.ensures.grows c.in_ok-close.ensures.grows
+
+pub returns-then-not-branch-2-clause-goes_on : goal.returns-then-not-branch-2-clause-goes_on
+returns-then-not-branch-2-clause-goes_on c = goes_further _ _ _ c.in_ok-meet_terms.ensures.goes_on c.in_ok-close.ensures.goes_on
+
+pub is_triangular-requires-clause-bindings : goal.is_triangular-requires-clause-bindings
+is_triangular-requires-clause-bindings c =
+    let goes = goes_further c.args.self.now c.meet_terms.new.self c.close.new.self c.in_ok-meet_terms.ensures.goes_on c.in_ok-close.ensures.goes_on in
+    let closed =
+    closed_by c.args.self.now c.meet_terms.new.self c.in_ok-meet_terms.ensures.goes_on c.close.new.self true
+    (subst (MakesClosed c.meet_terms.new.self c.close.new.self) c.if-not-branch-2.false c.in_ok-close.ensures.closed) in
+    subst (λ q. AllByRecursion (IsBinding q.slots) c.close.new.self.trail.now.pairs) (sym goes.question) closed.0.bindings
+
+pub is_triangular-requires-clause-before : goal.is_triangular-requires-clause-before
+is_triangular-requires-clause-before c =
+    let goes = goes_further c.args.self.now c.meet_terms.new.self c.close.new.self c.in_ok-meet_terms.ensures.goes_on c.in_ok-close.ensures.goes_on in
+    let grows = grows_on c.args.self.now.trail.now.pairs c.meet_terms.new.self.trail.now.pairs c.close.new.self.trail.now.pairs c.in_ok-meet_terms.ensures.grows c.in_ok-close.ensures.grows in
+    subst (λ q. IsAcyclic q.slots (take c.mark-mark.result c.close.new.self.trail.now.pairs)) (sym goes.question)
+    (
+    subst (IsAcyclic c.args.self.now.question.slots)
+    (sym (ap (λ n. take n c.close.new.self.trail.now.pairs) c.mark-mark.ensures.number ∙ front_of c.args.self.now.trail.now.pairs c.close.new.self.trail.now.pairs grows))
+    c.requires.triangular
+    )
+
+pub is_triangular-requires-clause-within : goal.is_triangular-requires-clause-within
+is_triangular-requires-clause-within c =
+    let grows = grows_on c.args.self.now.trail.now.pairs c.meet_terms.new.self.trail.now.pairs c.close.new.self.trail.now.pairs c.in_ok-meet_terms.ensures.grows c.in_ok-close.ensures.grows in
+    let within = front_within c.args.self.now.trail.now.pairs c.close.new.self.trail.now.pairs grows in
+    omega (arith, c.mark-mark.ensures.number, within)
+
+pub returns-clause-answered : goal.returns-clause-answered
+returns-clause-answered c =
+    let goes = goes_further c.args.self.now c.meet_terms.new.self c.close.new.self c.in_ok-meet_terms.ensures.goes_on c.in_ok-close.ensures.goes_on in
+    IfOk-weaker c.is_triangular.result _ _
+    (λ b told.
+    answered c.args.self.now.question c.args.self.now.trail.now.pairs c.meet_terms.new.self.trail.now.pairs c.args.self.now.keys.now.keys c.meet_terms.new.self.keys.now.keys
+    c.requires.no_keys c.requires.under_way.legal
+    (
+    subst
+    (MakesMeet c.args.self.now c.meet_terms.new.self (left_spot c.args.self.now.question) (right_spot c.args.self.now.question))
+    c.if-not-branch.false
+    c.in_ok-meet_terms.ensures.met
+    )
+    c.close.new.self.trail.now.pairs c.in_ok-close.ensures.grows
+    (
+    closed_by c.args.self.now c.meet_terms.new.self c.in_ok-meet_terms.ensures.goes_on c.close.new.self true
+    (subst (MakesClosed c.meet_terms.new.self c.close.new.self) c.if-not-branch-2.false c.in_ok-close.ensures.closed)
+    )
+    b (subst (λ q. IsTold q.slots c.close.new.self.trail.now.pairs b) goes.question told))
+    c.is_triangular.ensures
+
+pub returns-clause-grows : goal.returns-clause-grows
+returns-clause-grows c = grows_on _ _ _ c.in_ok-meet_terms.ensures.grows c.in_ok-close.ensures.grows
+
+pub returns-clause-goes_on : goal.returns-clause-goes_on
+returns-clause-goes_on c = goes_further _ _ _ c.in_ok-meet_terms.ensures.goes_on c.in_ok-close.ensures.goes_on

@@ -1,0 +1,49 @@
+-- What holds of an attempt to make two terms equal, and what its steps do.
+use Rattle.std.specs.Prelude.{◌≡◌, ◌≤◌, Bool}
+use Rattle.si_unify.specs.declared.spots.Spot.{Spot}
+use Rattle.si_unify.specs.declared.spots.SpotPair.{SpotPair}
+use Rattle.si_unify.specs.declared.spots.Subterm.{Subterm}
+use Rattle.si_unify.specs.declared.unifier.Unifier.{Unifier}
+use Rattle.si_unify.specs.Solving.{slot_count}
+use Rattle.si_unify.specs.Spots.{IsSpot, IsSubterm, IsEnd, IsApart, IsLegal, ArePairs, HasMet, HasCompared, HasClosed}
+
+-- ---- spots, over the bindings so far
+abbrev pub HasSpot : Unifier → Spot → Type 0
+HasSpot u = IsSpot u.question u.trail.now.pairs
+
+abbrev pub HasSubterm : Unifier → Subterm → Type 0
+HasSubterm u = IsSubterm u.question u.trail.now.pairs
+
+abbrev pub HasEnd : Unifier → Spot → Type 0
+HasEnd u = IsEnd u.question u.trail.now.pairs
+
+abbrev pub AreApart : Unifier → SpotPair → Type 0
+AreApart u = IsApart u.question u.trail.now.pairs
+
+-- what holds before each step
+pub record IsUnderWay (u : Unifier) : Type 0 where
+  pub legal : IsLegal u.question u.trail.now.pairs
+  pub keys : ArePairs u.question u.trail.now.pairs u.keys.now.keys
+  pub room : slot_count u.question.slots ≤ u.trail.now.slots
+
+-- it is the same question, in the same memory
+pub record GoesOn (old new : Unifier) : Type 0 where
+  pub question : new.question ≡ old.question
+  pub trail : new.trail.ghost_name ≡ old.trail.ghost_name
+  pub keys : new.keys.ghost_name ≡ old.keys.ghost_name
+  pub heights : new.heights.ghost_name ≡ old.heights.ghost_name
+  pub slots : new.trail.now.slots ≡ old.trail.now.slots
+
+-- ---- the outcomes
+abbrev pub MakesMeet : Unifier → Unifier → Spot → Spot → Bool → Type 0
+MakesMeet old new =
+    HasMet old.question old.trail.now.pairs new.trail.now.pairs old.keys.now.keys new.keys.now.keys
+
+abbrev pub MakesCompared : Unifier → Unifier → SpotPair → Bool → Type 0
+MakesCompared old new =
+    HasCompared old.question old.trail.now.pairs new.trail.now.pairs old.keys.now.keys
+    new.keys.now.keys
+
+abbrev pub MakesClosed : Unifier → Unifier → Bool → Type 0
+MakesClosed old new =
+    HasClosed old.question old.trail.now.pairs new.trail.now.pairs old.keys.now.keys

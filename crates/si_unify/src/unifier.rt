@@ -1,0 +1,79 @@
+// What works on a question: the bindings so far, and what is left to be made equal.
+ghost use Rattle.std.specs.Prelude.{◌≡◌, ◌+◌, ◌^◌, ◌<◌, length};
+ghost use Rattle.si_flat.specs.Cells.{Term};
+ghost use Rattle.si_unify.specs.Spots.{text, at_spot, StandsAt, ComesTo};
+ghost use Rattle.si_unify.specs.Unifying.{HasSpot, HasSubterm, IsUnderWay};
+
+use crate::heights::Heights;
+use crate::spots::{Question, Spot, SpotPair, Subterm};
+use indexmap::IndexSet;
+use si_flat::{Cell, sub};
+use si_trail::Trail;
+
+/// An attempt to make two terms equal, in memory that is lent.
+#[derive(Drop)]
+pub(crate) struct Unifier<'s, 'a> {
+    pub(crate) question: Question<'a>,
+    /// The bindings. What was bound before stands first.
+    pub(crate) trail: &'s mut Trail<&'a [Cell]>,
+    /// The pairs of spots whose arguments are made equal, in the order in which they came up.
+    pub(crate) keys: &'s mut IndexSet<SpotPair>,
+    /// Which of two variables is bound to the other.
+    pub(crate) heights: &'s mut Heights,
+}
+
+impl<'s, 'a> Unifier<'s, 'a> {
+    // The cells of a base: the first term, the second, or the value of a slot.
+    fn text(&self, base: usize) -> &'a [Cell]
+        ensures { result.now ≡ text self.now.question self.now.trail.now.pairs base }
+    {
+        let count = self.question.slots.count();
+        if base == count {
+            return self.question.left;
+        }
+        if base == count + 1 {
+            return self.question.right;
+        }
+        match self.trail.get(base) {
+            Some(value) => value,
+            None => &[],
+        }
+    }
+
+    // The cells of the term at a spot.
+    pub(crate) fn cells_at(&self, spot: Spot) -> &'a [Cell]
+        requires under_way { IsUnderWay self.now }
+        requires spot { HasSpot self.now spot }
+        ensures subterm { HasSubterm self.now (at_spot spot result) }
+        ensures small { spot.at + length result.now < 2 ^ 64 }
+    {
+        sub(self.text(spot.base), spot.at)
+    }
+
+    // Goes down a chain of variables that are bound to variables.
+    pub(crate) fn follow(&self, from: Subterm<'a>) -> Subterm<'a>
+        requires under_way { IsUnderWay self.now }
+        requires subterm { HasSubterm self.now from }
+        ensures comes { (t : Term) → StandsAt self.now.question self.now.trail.now.pairs
+            from.entry.spot t → ComesTo self.now.question self.now.trail.now.pairs t result.spot }
+        ensures subterm { HasSubterm self.now result }
+    {
+        let mut reached = from;
+        for _ in 0..self.trail.mark() {
+            let Some(slot) = self.question.slots.slot_of(reached.cells[0]) else {
+                return reached;
+            };
+            match self.trail.get(slot) {
+                Some(value) => {
+                    reached = Subterm {
+                        spot: Spot { base: slot, at: 0 },
+                        cells: value,
+                    }
+                }
+                None => return reached,
+            }
+        }
+        // Each binding was passed once, so none is left.
+        reached
+    }
+}

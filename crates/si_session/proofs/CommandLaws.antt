@@ -37,7 +37,7 @@ use Rattle.si_term.specs.declared.clause.Name as program_name
 use Rattle.si_term.specs.declared.clause.Literal as program_literal
 use Rattle.si_term.specs.declared.clause.Pattern as program_pattern
 use Rattle.si_term.specs.Meaning.{name_of, clause_of, pattern_of}
-use Rattle.si_session.specs.Commands.{ReadsCommand, ReadsOperand, ReadsQuery, AddForeign, Commands, kind_word}
+use Rattle.si_session.specs.Commands.{ReadsCommand, ReadsQuery, AddForeign, Commands, kind_word}
 use Rattle.si_session.specs.declared.command.Command as read
 use Rattle.si_session.specs.declared.command.Command.TheVariants as command
 
@@ -141,12 +141,11 @@ other_than_add : (w : Word) (ts : List Token) → (w ≡ Add → ⊥) → AddFor
 other_than_add w ts n f = n (same_word w Add (same_text (command_text w) (command_text Add) f.0))
 
 -- tokens after another word than `add` that are no command
-other_wrong : (w : Word) (ts : List Token) (stop : TokensEnd) → (w ≡ Add → ⊥)
-    → (stop ≡ End → (c : Command) → IsCommand c (lower (command_text w) ∷ ts) → ⊥) → Commands (lower (command_text w) ∷ ts) stop command.Wrong
-other_wrong w ts stop other none = (
+other_wrong : (w : Word) (ts : List Token) → (w ≡ Add → ⊥) → ((c : Command) → IsCommand c (lower (command_text w) ∷ ts) → ⊥) → Commands (lower (command_text w) ∷ ts) End command.Wrong
+other_wrong w ts other none = (
   other_than_add w ts other,
   λ e s. some_tokens (lower (command_text w)) ts s,
-  none,
+  λ e. none,
 )
 
 -- no word of a command
@@ -159,13 +158,13 @@ no_word t ts stop n = (
 
 -- ---- `add`
 -- where no clause was read of all the tokens
-pub add_wrong : (tokens : List Lexeme) (stop : TokensEnd) (found : Option (program_clause.Clause × Bor (List Lexeme))) → reads.Reads clause_of IsClause Anything tokens found
-    → (AreForeign (tokens_of tokens) → ⊥) → (stop ≡ End → (x : program_clause.Clause) (r : Bor (List Lexeme)) → found ≡ Some (x, r) → r.now ≡ [] → ⊥)
-    → Commands (lower (command_text Add) ∷ tokens_of tokens) stop command.Wrong
-add_wrong tokens stop found p own left = (
+pub add_wrong : (tokens : List Lexeme) (found : Option (program_clause.Clause × Bor (List Lexeme))) → reads.Reads clause_of IsClause Anything tokens found
+    → (AreForeign (tokens_of tokens) → ⊥) → ((x : program_clause.Clause) (r : Bor (List Lexeme)) → found ≡ Some (x, r) → r.now ≡ [] → ⊥)
+    → Commands (lower (command_text Add) ∷ tokens_of tokens) End command.Wrong
+add_wrong tokens found p own left = (
   λ f. own f.1,
   λ e s. some_tokens (lower (command_text Add)) (tokens_of tokens) s,
-  λ e c h. let d = only Add c (tokens_of tokens) h in whole_none clause_of tokens tt found p (left e) d.0 d.1,
+  λ e c h. let d = only Add c (tokens_of tokens) h in whole_none clause_of tokens tt found p left d.0 d.1,
 )
 
 -- where one was, no formula of another language stands
@@ -175,65 +174,65 @@ found_not_foreign tokens x r p f =
     let s = u.2 in
     cnf_not_foreign (tokens_of tokens) _ (u.1 ∙ ap (λ ts. ts ++ tokens_of r.now) s.6) f
 
-pub add_read : (tokens : List Lexeme) (stop : TokensEnd) (x : program_clause.Clause) (r : Bor (List Lexeme)) → stop ≡ End → r.now ≡ [] → reads.Reads clause_of IsClause Anything tokens (Some (x, r))
-    → IsSoundClause (clause_of x) → Commands (lower (command_text Add) ∷ tokens_of tokens) stop (command.Add x)
-add_read tokens stop x r e none p sound =
-    (e, record { operands = tokens_of tokens; spelled = whole_means clause_of tokens tt x r none p; whole = refl }, sound)
+pub add_read : (tokens : List Lexeme) (x : program_clause.Clause) (r : Bor (List Lexeme)) → r.now ≡ [] → reads.Reads clause_of IsClause Anything tokens (Some (x, r))
+    → IsSoundClause (clause_of x) → Commands (lower (command_text Add) ∷ tokens_of tokens) End (command.Add x)
+add_read tokens x r none p sound =
+    (refl, record { operands = tokens_of tokens; spelled = whole_means clause_of tokens tt x r none p; whole = refl }, sound)
 
--- a formula of another language
+-- a formula of another language, whatever stands after it
 pub add_foreign : (ts : List Token) (stop : TokensEnd) → AreForeign ts → Commands (lower (command_text Add) ∷ ts) stop command.Foreign
 add_foreign ts stop f = ((refl, f), λ c h. let d = only Add c ts h in clause_not_foreign d.0 ts d.1 f)
 
 -- ---- `remove`
 -- where no name was read of all the tokens
-pub remove_wrong : (tokens : List Lexeme) (stop : TokensEnd) (found : Option (program_name.Name × Bor (List Lexeme))) → reads.Reads name_of IsNameToken Anything tokens found
-    → (stop ≡ End → (x : program_name.Name) (r : Bor (List Lexeme)) → found ≡ Some (x, r) → r.now ≡ [] → ⊥)
-    → Commands (lower (command_text Remove) ∷ tokens_of tokens) stop command.Wrong
-remove_wrong tokens stop found p left =
-    other_wrong Remove (tokens_of tokens) stop (λ e. cc)
-    (λ e c h. let n = only Remove c (tokens_of tokens) h in whole_none name_of tokens tt found p (left e) n.0 n.1)
+pub remove_wrong : (tokens : List Lexeme) (found : Option (program_name.Name × Bor (List Lexeme))) → reads.Reads name_of IsNameToken Anything tokens found
+    → ((x : program_name.Name) (r : Bor (List Lexeme)) → found ≡ Some (x, r) → r.now ≡ [] → ⊥)
+    → Commands (lower (command_text Remove) ∷ tokens_of tokens) End command.Wrong
+remove_wrong tokens found p left =
+    other_wrong Remove (tokens_of tokens) (λ e. cc)
+    (λ c h. let n = only Remove c (tokens_of tokens) h in whole_none name_of tokens tt found p left n.0 n.1)
 
-pub remove_read : (tokens : List Lexeme) (stop : TokensEnd) (x : program_name.Name) (r : Bor (List Lexeme)) → stop ≡ End → r.now ≡ []
-    → reads.Reads name_of IsNameToken Anything tokens (Some (x, r)) → Commands (lower (command_text Remove) ∷ tokens_of tokens) stop (command.Remove x)
-remove_read tokens stop x r e none p =
-    (e, record { operands = tokens_of tokens; spelled = whole_means name_of tokens tt x r none p; whole = refl })
+pub remove_read : (tokens : List Lexeme) (x : program_name.Name) (r : Bor (List Lexeme)) → r.now ≡ []
+    → reads.Reads name_of IsNameToken Anything tokens (Some (x, r)) → Commands (lower (command_text Remove) ∷ tokens_of tokens) End (command.Remove x)
+remove_read tokens x r none p =
+    (refl, record { operands = tokens_of tokens; spelled = whole_means name_of tokens tt x r none p; whole = refl })
 
 -- ---- `load`
--- no file's name stands after the word, or something else than blanks after it
-pub load_wrong : (ts : List Token) (stop : TokensEnd) → (stop ≡ End → (file : Bytes) → IsFileToken file ts → ⊥) → Commands (lower (command_text Load) ∷ ts) stop command.Wrong
-load_wrong ts stop none = other_wrong Load ts stop (λ e. cc) (λ e c h. let f = only Load c ts h in none e f.0 f.1)
+-- no file's name stands after the word
+pub load_wrong : (ts : List Token) → ((file : Bytes) → IsFileToken file ts → ⊥) → Commands (lower (command_text Load) ∷ ts) End command.Wrong
+load_wrong ts none = other_wrong Load ts (λ e. cc) (λ c h. let f = only Load c ts h in none f.0 f.1)
 
-pub load_read : (ts : List Token) (stop : TokensEnd) (file : Bytes) → stop ≡ End → IsFileToken file ts → Commands (lower (command_text Load) ∷ ts) stop (command.Load file)
-load_read ts stop file e h = (e, record { operands = ts; spelled = h; whole = refl })
+pub load_read : (ts : List Token) (file : Bytes) → IsFileToken file ts → Commands (lower (command_text Load) ∷ ts) End (command.Load file)
+load_read ts file h = (refl, record { operands = ts; spelled = h; whole = refl })
 
 -- ---- `stats`
 -- something stands after the word
-pub stats_wrong : (ts : List Token) (stop : TokensEnd) → (stop ≡ End → ts ≡ [] → ⊥) → Commands (lower (command_text Stats) ∷ ts) stop command.Wrong
-stats_wrong ts stop some = other_wrong Stats ts stop (λ e. cc) (λ e c h. some e (only Stats c ts h).1)
+pub stats_wrong : (ts : List Token) → (ts ≡ [] → ⊥) → Commands (lower (command_text Stats) ∷ ts) End command.Wrong
+stats_wrong ts some = other_wrong Stats ts (λ e. cc) (λ c h. some (only Stats c ts h).1)
 
-pub stats_read : (ts : List Token) (stop : TokensEnd) → stop ≡ End → ts ≡ [] → Commands (lower (command_text Stats) ∷ ts) stop command.Stats
-stats_read ts stop e none = (e, record { operands = ts; spelled = none; whole = refl })
+pub stats_read : (ts : List Token) → ts ≡ [] → Commands (lower (command_text Stats) ∷ ts) End command.Stats
+stats_read ts none = (refl, record { operands = ts; spelled = none; whole = refl })
 
 -- ---- `sample`
 -- no start and count stand after the word
-pub sample_wrong : (ts : List Token) (stop : TokensEnd) → (stop ≡ End → (start count : ℕ) → AllowsSample start count → ts ≡ numeral start ∷ numeral count ∷ [] → ⊥)
-    → Commands (lower (command_text Sample) ∷ ts) stop command.Wrong
-sample_wrong ts stop none =
-    other_wrong Sample ts stop (λ e. cc) (λ e c h. let numbers = only Sample c ts h in none e numbers.0.0 numbers.0.1 numbers.1.0 numbers.1.1)
+pub sample_wrong : (ts : List Token) → ((start count : ℕ) → AllowsSample start count → ts ≡ numeral start ∷ numeral count ∷ [] → ⊥)
+    → Commands (lower (command_text Sample) ∷ ts) End command.Wrong
+sample_wrong ts none =
+    other_wrong Sample ts (λ e. cc) (λ c h. let numbers = only Sample c ts h in none numbers.0.0 numbers.0.1 numbers.1.0 numbers.1.1)
 
 -- the count is 0
-pub sample_none : (whole : List Token) (stop : TokensEnd) (t u : Token) (ts : List Token) (n : ℕ) → whole ≡ t ∷ u ∷ ts → u ≡ numeral n → n ≤ 0
-    → Commands (lower (command_text Sample) ∷ whole) stop command.Wrong
-sample_none whole stop t u ts n front word none =
-    sample_wrong whole stop
-    (λ e start count drawable is.
+pub sample_none : (whole : List Token) (t u : Token) (ts : List Token) (n : ℕ) → whole ≡ t ∷ u ∷ ts → u ≡ numeral n → n ≤ 0
+    → Commands (lower (command_text Sample) ∷ whole) End command.Wrong
+sample_none whole t u ts n front word none =
+    sample_wrong whole
+    (λ start count drawable is.
     let same : numeral n ≡ numeral count = sym word ∙ ap (λ l. head (others l)) (sym front ∙ is) in
     let zero : n ≡ count = decimal_injective n count (omega (arith, none)) (omega (arith, drawable.count_fits)) (ap (λ (k : Token). k.text) same) in
     absurd (omega (arith, zero, none, drawable.some)))
 
-pub sample_read : (ts : List Token) (stop : TokensEnd) (start count : ℕ) → stop ≡ End → AllowsSample start count → ts ≡ numeral start ∷ numeral count ∷ []
-    → Commands (lower (command_text Sample) ∷ ts) stop (command.Sample start count)
-sample_read ts stop start count e drawable is = (e, record { operands = ts; spelled = (drawable, is); whole = refl }, drawable)
+pub sample_read : (ts : List Token) (start count : ℕ) → AllowsSample start count → ts ≡ numeral start ∷ numeral count ∷ []
+    → Commands (lower (command_text Sample) ∷ ts) End (command.Sample start count)
+sample_read ts start count drawable is = (refl, record { operands = ts; spelled = (drawable, is); whole = refl }, drawable)
 
 -- ---- queries
 -- a query is the word of its kind, and the pattern
@@ -270,82 +269,79 @@ nothing_asked (literal_pattern l) h = let e = h.2 in cc
 nothing_asked (term_pattern t) h = let e = h.2 in cc
 
 -- nothing stands there
-pub query_empty : (ts : List Token) (stop : TokensEnd) → ts ≡ [] → ReadsQuery ts stop None
-query_empty ts stop none e p q = nothing_asked p (subst (IsQuery p) none q)
+pub query_empty : (ts : List Token) → ts ≡ [] → ReadsQuery ts None
+query_empty ts none p q = nothing_asked p (subst (IsQuery p) none q)
 
 -- another word than that of a kind does
-pub query_other : (whole : List Token) (stop : TokensEnd) (t : Token) (ts : List Token) → whole ≡ t ∷ ts → ((k : PatternKind) → t ≡ lower (kind_word k) → ⊥) → ReadsQuery whole stop None
-query_other whole stop t ts front other e p q = let a = asks p t ts (subst (IsQuery p) front q) in other a.kind a.word
-
--- something else than blanks stands after the last token
-pub query_bad : (ts : List Token) (stop : TokensEnd) → (stop ≡ End → ⊥) → ReadsQuery ts stop None
-query_bad ts stop bad e p q = bad e
+pub query_other : (whole : List Token) (t : Token) (ts : List Token) → whole ≡ t ∷ ts → ((k : PatternKind) → t ≡ lower (kind_word k) → ⊥) → ReadsQuery whole None
+query_other whole t ts front other p q = let a = asks p t ts (subst (IsQuery p) front q) in other a.kind a.word
 
 -- the rest is what is read of the pattern's tokens
-pub query_rest : (whole : List Token) (stop : TokensEnd) (t : Token) (ts : List Token) (k : PatternKind) (read : Option program_pattern.Pattern) → stop ≡ End → whole ≡ t ∷ ts → t ≡ lower (kind_word k)
-    → ReadsWhole ts k read → ReadsQuery whole stop read
-query_rest whole stop t ts k None e front word none = λ end p q.
+pub query_rest : (whole : List Token) (t : Token) (ts : List Token) (k : PatternKind) (read : Option program_pattern.Pattern) → whole ≡ t ∷ ts → t ≡ lower (kind_word k)
+    → ReadsWhole ts k read → ReadsQuery whole read
+query_rest whole t ts k None front word none = λ p q.
     let a = asks p t ts (subst (IsQuery p) front q) in
     none p (subst (λ j. IsOfKind j p) (same_kind a.kind k t a.word word) a.of_kind) a.spelled
-query_rest whole stop t ts k (Some p) e front word read =
-    (e, subst (IsQuery (pattern_of p)) (sym front) (asks_query k (pattern_of p) t ts word read.of_kind read.spelled), read.sound)
+query_rest whole t ts k (Some p) front word read =
+    (subst (IsQuery (pattern_of p)) (sym front) (asks_query k (pattern_of p) t ts word read.of_kind read.spelled), read.sound)
 
-pub query_wrong : (r : Relation) (ts : List Token) (stop : TokensEnd) → ReadsQuery ts stop None → Commands (lower (command_text (Ask r)) ∷ ts) stop command.Wrong
-query_wrong r ts stop none = other_wrong (Ask r) ts stop (λ e. cc) (λ e c h. let q = only (Ask r) c ts h in none e q.0 q.1)
+pub query_wrong : (r : Relation) (ts : List Token) → ReadsQuery ts None → Commands (lower (command_text (Ask r)) ∷ ts) End command.Wrong
+query_wrong r ts none = other_wrong (Ask r) ts (λ e. cc) (λ c h. let q = only (Ask r) c ts h in none q.0 q.1)
 
-pub query_read : (r : Relation) (ts : List Token) (stop : TokensEnd) (p : program_pattern.Pattern) → ReadsQuery ts stop (Some p) → Commands (lower (command_text (Ask r)) ∷ ts) stop (command.Query r p)
-query_read r ts stop p h = (h.0, record { operands = ts; spelled = h.1; whole = refl }, h.2)
+pub query_read : (r : Relation) (ts : List Token) (p : program_pattern.Pattern) → ReadsQuery ts (Some p) → Commands (lower (command_text (Ask r)) ∷ ts) End (command.Query r p)
+query_read r ts p h = (refl, record { operands = ts; spelled = h.0; whole = refl }, h.1)
 
 -- ---- `tree`
-pub tree_wrong : (ts : List Token) (stop : TokensEnd) → (stop ≡ End → ts ≡ [] → ⊥) → Commands (lower (command_text Tree) ∷ ts) stop command.Wrong
-tree_wrong ts stop some = other_wrong Tree ts stop (λ e. cc) (λ e c h. some e (only Tree c ts h).1)
+pub tree_wrong : (ts : List Token) → (ts ≡ [] → ⊥) → Commands (lower (command_text Tree) ∷ ts) End command.Wrong
+tree_wrong ts some = other_wrong Tree ts (λ e. cc) (λ c h. some (only Tree c ts h).1)
 
-pub tree_read : (ts : List Token) (stop : TokensEnd) → stop ≡ End → ts ≡ [] → Commands (lower (command_text Tree) ∷ ts) stop command.Tree
-tree_read ts stop e none = (e, record { operands = ts; spelled = none; whole = refl })
+pub tree_read : (ts : List Token) → ts ≡ [] → Commands (lower (command_text Tree) ∷ ts) End command.Tree
+tree_read ts none = (refl, record { operands = ts; spelled = none; whole = refl })
 
 -- ---- `explain`
 -- no word of a relation stands after the word
-pub explain_empty : (ts : List Token) (stop : TokensEnd) → ts ≡ [] → Commands (lower (command_text Explain) ∷ ts) stop command.Wrong
-explain_empty ts stop none =
-    other_wrong Explain ts stop (λ e. cc) (λ e c h. let x = only Explain c ts h in some_tokens (lower (relation_text x.0.0)) x.1.0 (sym x.1.2 ∙ none))
+pub explain_empty : (ts : List Token) → ts ≡ [] → Commands (lower (command_text Explain) ∷ ts) End command.Wrong
+explain_empty ts none =
+    other_wrong Explain ts (λ e. cc) (λ c h. let x = only Explain c ts h in some_tokens (lower (relation_text x.0.0)) x.1.0 (sym x.1.2 ∙ none))
 
-pub explain_other : (whole : List Token) (stop : TokensEnd) (t : Token) (ts : List Token) → whole ≡ t ∷ ts → ((r : Relation) → t ≡ lower (relation_text r) → ⊥)
-    → Commands (lower (command_text Explain) ∷ whole) stop command.Wrong
-explain_other whole stop t ts front other =
-    other_wrong Explain whole stop (λ e. cc) (λ e c h. let x = only Explain c whole h in other x.0.0 (ap head (sym front ∙ x.1.2)))
+pub explain_other : (whole : List Token) (t : Token) (ts : List Token) → whole ≡ t ∷ ts → ((r : Relation) → t ≡ lower (relation_text r) → ⊥)
+    → Commands (lower (command_text Explain) ∷ whole) End command.Wrong
+explain_other whole t ts front other =
+    other_wrong Explain whole (λ e. cc) (λ c h. let x = only Explain c whole h in other x.0.0 (ap head (sym front ∙ x.1.2)))
 
 -- or no query after that
-pub explain_wrong : (whole : List Token) (stop : TokensEnd) (t : Token) (ts : List Token) → whole ≡ t ∷ ts → ReadsQuery ts stop None → Commands (lower (command_text Explain) ∷ whole) stop command.Wrong
-explain_wrong whole stop t ts front none =
-    other_wrong Explain whole stop (λ e. cc)
-    (λ e c h. let x = only Explain c whole h in none e x.0.1 (subst (IsQuery x.0.1) (ap others (sym x.1.2 ∙ front)) x.1.1))
+pub explain_wrong : (whole : List Token) (t : Token) (ts : List Token) → whole ≡ t ∷ ts → ReadsQuery ts None → Commands (lower (command_text Explain) ∷ whole) End command.Wrong
+explain_wrong whole t ts front none =
+    other_wrong Explain whole (λ e. cc)
+    (λ c h. let x = only Explain c whole h in none x.0.1 (subst (IsQuery x.0.1) (ap others (sym x.1.2 ∙ front)) x.1.1))
 
-pub explain_read : (whole : List Token) (stop : TokensEnd) (t : Token) (ts : List Token) (r : Relation) (p : program_pattern.Pattern) → whole ≡ t ∷ ts → t ≡ lower (relation_text r) → ReadsQuery ts stop (Some p)
-    → Commands (lower (command_text Explain) ∷ whole) stop (command.Explain r p)
-explain_read whole stop t ts r p front word h =
-    (h.0, record { operands = whole; spelled = (ts, h.1, front ∙ ap (λ u. u ∷ ts) word); whole = refl }, h.2)
+pub explain_read : (whole : List Token) (t : Token) (ts : List Token) (r : Relation) (p : program_pattern.Pattern) → whole ≡ t ∷ ts → t ≡ lower (relation_text r) → ReadsQuery ts (Some p)
+    → Commands (lower (command_text Explain) ∷ whole) End (command.Explain r p)
+explain_read whole t ts r p front word h =
+    (refl, record { operands = whole; spelled = (ts, h.0, front ∙ ap (λ u. u ∷ ts) word); whole = refl }, h.1)
 
 -- ---- formulas
--- what is read of the tokens after a word
-pub operand_read : {E : Type 0} (ts : List Token) (stop : TokensEnd) (r : Result (Option (List program_literal.Literal)) E) → stop ≡ End → IfOk r (ReadsAll literals_of IsFormula ts)
-    → IfOk r (λ read. IfSome read (λ ls. AreSoundLiterals (literals_of ls))) → IfOk r (ReadsOperand ts stop)
-operand_read ts stop (Ok (Some ls)) e h sound = (e, h.0, sound)
-operand_read ts stop (Ok None) e h sound = λ end. h
-operand_read ts stop (Err why) e h sound = tt
+module _ (ts : List Token) where
+  -- what is read of the tokens after a word
+  abbrev Whole : Option (List program_literal.Literal) → Type 0
+  Whole = ReadsAll literals_of IsFormula ts
 
-pub subsumers_wrong : (ts : List Token) (stop : TokensEnd) → ReadsOperand ts stop None → Commands (lower (command_text Subsumers) ∷ ts) stop command.Wrong
-subsumers_wrong ts stop none = other_wrong Subsumers ts stop (λ e. cc) (λ e c h. let f = only Subsumers c ts h in none e f.0 f.1)
+  pub subsumers_wrong : Whole None → Commands (lower (command_text Subsumers) ∷ ts) End command.Wrong
+  subsumers_wrong none = other_wrong Subsumers ts (λ e. cc) (λ c h. let f = only Subsumers c ts h in none f.0 f.1)
 
-pub subsumers_read : (ts : List Token) (stop : TokensEnd) (ls : List program_literal.Literal) → ReadsOperand ts stop (Some ls)
-    → Commands (lower (command_text Subsumers) ∷ ts) stop (command.Subsumers ls)
-subsumers_read ts stop ls h = (h.0, record { operands = ts; spelled = h.1; whole = refl }, h.2)
+  pub subsumers_read : (ls : List program_literal.Literal) → Whole (Some ls) → AreSoundLiterals (literals_of ls) → Commands (lower (command_text Subsumers) ∷ ts) End (command.Subsumers ls)
+  subsumers_read ls h sound = (refl, record { operands = ts; spelled = h.0; whole = refl }, sound)
 
-pub subsumed_wrong : (ts : List Token) (stop : TokensEnd) → ReadsOperand ts stop None → Commands (lower (command_text Subsumed) ∷ ts) stop command.Wrong
-subsumed_wrong ts stop none = other_wrong Subsumed ts stop (λ e. cc) (λ e c h. let f = only Subsumed c ts h in none e f.0 f.1)
+  pub subsumed_wrong : Whole None → Commands (lower (command_text Subsumed) ∷ ts) End command.Wrong
+  subsumed_wrong none = other_wrong Subsumed ts (λ e. cc) (λ c h. let f = only Subsumed c ts h in none f.0 f.1)
 
-pub subsumed_read : (ts : List Token) (stop : TokensEnd) (ls : List program_literal.Literal) → ReadsOperand ts stop (Some ls)
-    → Commands (lower (command_text Subsumed) ∷ ts) stop (command.Subsumed ls)
-subsumed_read ts stop ls h = (h.0, record { operands = ts; spelled = h.1; whole = refl }, h.2)
+  pub subsumed_read : (ls : List program_literal.Literal) → Whole (Some ls) → AreSoundLiterals (literals_of ls) → Commands (lower (command_text Subsumed) ∷ ts) End (command.Subsumed ls)
+  subsumed_read ls h sound = (refl, record { operands = ts; spelled = h.0; whole = refl }, sound)
+
+-- ---- where something else than blanks stands after the tokens
+-- they are no command, whatever they are
+pub unended_wrong : (ts : List Token) (stop : TokensEnd) → (AddForeign ts → ⊥) → (stop ≡ End → ⊥) → Commands ts stop command.Wrong
+unended_wrong ts stop own more = (own, λ e s. more e, λ e c h. more e)
 
 -- ---- lines
 module _ (line : Bytes) (x : Lexing) (l : IsLexing line 0 x) where

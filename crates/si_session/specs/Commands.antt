@@ -1,9 +1,8 @@
 -- What the reader of command lines gives.
 use Rattle.std.specs.Prelude.{◌≡◌, List, [], ◌∷◌, Option, None, Some, codes, map}
 use Rattle.si_defs.specs.Bytes.{Bytes}
-use Rattle.si_defs.specs.Clauses.{Literal, Pattern, IsSoundClause, IsSoundPattern, AreSoundLiterals}
+use Rattle.si_defs.specs.Clauses.{Pattern, IsSoundClause, IsSoundPattern, AreSoundLiterals}
 use Rattle.si_defs.specs.Tokens.{Token, lower, AreBlanks}
-use Rattle.si_defs.specs.Grammar.{IsFormula}
 use Rattle.si_state.specs.Samples.{AllowsSample}
 use Rattle.si_steps.specs.declared.word.Word.TheVariants.{Add}
 use Rattle.si_steps.specs.Words.{command_text}
@@ -15,7 +14,6 @@ use Rattle.si_lex.specs.declared.lexing.TokensEnd.TheVariants.{End}
 use Rattle.si_parse.specs.Reading.{AreForeign}
 use Rattle.si_parse.specs.declared.pattern.PatternKind.{PatternKind}
 use Rattle.si_parse.specs.declared.pattern.PatternKind.TheVariants as kind
-use Rattle.si_term.specs.declared.clause.Literal as term
 use Rattle.si_term.specs.declared.clause.Pattern as program
 use Rattle.si_term.specs.Meaning.{name_of, literal_of, clause_of, pattern_of}
 use Rattle.si_session.specs.declared.command.Command.{Command}
@@ -90,14 +88,7 @@ abbrev pub kind_word : PatternKind → Bytes
 kind_word kind.Lit = codes "lit"
 kind_word kind.Term = codes "term"
 
--- the formula that all these tokens are, if nothing but blanks stands after them
-abbrev pub ReadsOperand : List Token → TokensEnd → Option (List term.Literal) → Type 0
-ReadsOperand ts stop (Some ls) =
-    (stop ≡ End) × IsFormula (map literal_of ls) ts × AreSoundLiterals (map literal_of ls)
-ReadsOperand ts stop None = stop ≡ End → (formula : List Literal) → IsFormula formula ts → ⊥
-
--- the same of a word that says which kind of pattern is asked for, and the pattern
-abbrev pub ReadsQuery : List Token → TokensEnd → Option program.Pattern → Type 0
-ReadsQuery ts stop (Some p) =
-    (stop ≡ End) × IsQuery (pattern_of p) ts × IsSoundPattern (pattern_of p)
-ReadsQuery ts stop None = stop ≡ End → (p : Pattern) → IsQuery p ts → ⊥
+-- a word that says which kind of pattern is asked for, and the pattern
+abbrev pub ReadsQuery : List Token → Option program.Pattern → Type 0
+ReadsQuery ts (Some p) = IsQuery (pattern_of p) ts × IsSoundPattern (pattern_of p)
+ReadsQuery ts None = (p : Pattern) → IsQuery p ts → ⊥

@@ -2,11 +2,13 @@
 ghost use Rattle.std.specs.Prelude.{◌≡◌, ◌≤◌, ◌∷◌, [], IfSome, IfNone, length, IfOk, OnErr};
 ghost use Rattle.si_defs.specs.Tokens.{lower, AreBlanks};
 ghost use Rattle.si_lex.specs.Lexemes.{token_of, tokens_of};
+ghost use Rattle.si_lex.specs.declared.lexing.TokensEnd.{TokensEnd};
+ghost use Rattle.si_lex.specs.declared.lexing.TokensEnd.TheVariants.{End};
 ghost use Rattle.si_defs.specs.declared.TheConstants.{MOST_BYTES};
 ghost use Rattle.si_parse.specs.declared.pattern.PatternKind.{PatternKind};
 ghost use Rattle.si_steps.specs.Words.{command_text};
 ghost use Rattle.si_steps.specs.declared.word.Word.TheVariants.{Add, Load, Remove, Ask, Subsumers, Subsumed, Stats, Tree, Explain, Sample};
-ghost use Rattle.si_session.specs.Commands.{Commands, ReadsCommand, ReadsOperand, ReadsQuery, kind_word};
+ghost use Rattle.si_session.specs.Commands.{Commands, ReadsCommand, ReadsQuery, kind_word};
 
 use crate::number::numeral_of;
 use crate::word::{relation_of, word_of};
@@ -71,37 +73,50 @@ fn command_of(alloc: Global, tokens: &[Lexeme<'_>], stop: TokensEnd) -> Result<C
     ensures read { IfOk result (Commands (tokens_of tokens.now) stop) }
     ensures refused { OnErr result (tokens_of tokens.now ≡ [] → ⊥) }
 {
+    if stop != TokensEnd::End {
+        return Ok(unended_command(tokens));
+    }
     let Some((first, rest)) = tokens.split_first() else {
-        return Ok(match stop {
-            TokensEnd::End => Command::Blank,
-            TokensEnd::Bad | TokensEnd::FullStop => Command::Wrong,
-        });
+        return Ok(Command::Blank);
     };
     match word_of(first) {
-        Some(Word::Add) => add_command(alloc, rest, stop),
-        Some(Word::Load) => load_command(alloc, rest, stop),
-        Some(Word::Remove) => remove_command(alloc, rest, stop),
-        Some(Word::Ask(relation)) => query_command(alloc, relation, rest, stop),
-        Some(Word::Subsumers) => subsumers_command(alloc, rest, stop),
-        Some(Word::Subsumed) => subsumed_command(alloc, rest, stop),
-        Some(Word::Stats) => Ok(stats_command(rest, stop)),
-        Some(Word::Tree) => Ok(tree_command(rest, stop)),
-        Some(Word::Explain) => explain_command(alloc, rest, stop),
-        Some(Word::Sample) => Ok(sample_command(rest, stop)),
+        Some(Word::Add) => add_command(alloc, rest),
+        Some(Word::Load) => load_command(alloc, rest),
+        Some(Word::Remove) => remove_command(alloc, rest),
+        Some(Word::Ask(relation)) => query_command(alloc, relation, rest),
+        Some(Word::Subsumers) => subsumers_command(alloc, rest),
+        Some(Word::Subsumed) => subsumed_command(alloc, rest),
+        Some(Word::Stats) => Ok(stats_command(rest)),
+        Some(Word::Tree) => Ok(tree_command(rest)),
+        Some(Word::Explain) => explain_command(alloc, rest),
+        Some(Word::Sample) => Ok(sample_command(rest)),
         None => Ok(Command::Wrong),
     }
 }
 
+/// The command that the tokens of a line are where something else than blanks stands after them:
+/// none, though they may add a formula of another language.
+fn unended_command(tokens: &[Lexeme<'_>]) -> Command
+    ensures { (stop : TokensEnd) → (stop ≡ End → ⊥)
+        → Commands (tokens_of tokens.now) stop result }
+{
+    let Some((first, rest)) = tokens.split_first() else {
+        return Command::Wrong;
+    };
+    match word_of(first) {
+        Some(Word::Add) if is_foreign(rest) => Command::Foreign,
+        Some(_) => Command::Wrong,
+        None => Command::Wrong,
+    }
+}
+
 /// The command that the word `add` begins, by the tokens after it.
-fn add_command(alloc: Global, tokens: &[Lexeme<'_>], stop: TokensEnd) -> Result<Command, AllocError>
+fn add_command(alloc: Global, tokens: &[Lexeme<'_>]) -> Result<Command, AllocError>
     requires { length tokens.now ≤ MOST_BYTES }
-    ensures { IfOk result (Commands (lower (command_text Add) ∷ tokens_of tokens.now) stop) }
+    ensures { IfOk result (Commands (lower (command_text Add) ∷ tokens_of tokens.now) End) }
 {
     match clause(alloc, tokens)? {
-        Some((clause, rest)) if rest.is_empty() => match stop {
-            TokensEnd::End => Ok(Command::Add(clause)),
-            TokensEnd::Bad | TokensEnd::FullStop => Ok(Command::Wrong),
-        },
+        Some((clause, rest)) if rest.is_empty() => Ok(Command::Add(clause)),
         Some(_) => Ok(Command::Wrong),
         None if is_foreign(tokens) => Ok(Command::Foreign),
         None => Ok(Command::Wrong),
@@ -109,16 +124,9 @@ fn add_command(alloc: Global, tokens: &[Lexeme<'_>], stop: TokensEnd) -> Result<
 }
 
 /// The command that the word `load` begins, by the tokens after it.
-fn load_command(
-    alloc: Global,
-    tokens: &[Lexeme<'_>],
-    stop: TokensEnd,
-) -> Result<Command, AllocError>
-    ensures { IfOk result (Commands (lower (command_text Load) ∷ tokens_of tokens.now) stop) }
+fn load_command(alloc: Global, tokens: &[Lexeme<'_>]) -> Result<Command, AllocError>
+    ensures { IfOk result (Commands (lower (command_text Load) ∷ tokens_of tokens.now) End) }
 {
-    if stop != TokensEnd::End {
-        return Ok(Command::Wrong);
-    }
     match whole_file(alloc, tokens)? {
         Some(file) => Ok(Command::Load(file)),
         None => Ok(Command::Wrong),
@@ -126,40 +134,35 @@ fn load_command(
 }
 
 /// The command that the word `remove` begins, by the tokens after it.
-fn remove_command(
-    alloc: Global,
-    tokens: &[Lexeme<'_>],
-    stop: TokensEnd,
-) -> Result<Command, AllocError>
-    ensures { IfOk result (Commands (lower (command_text Remove) ∷ tokens_of tokens.now) stop) }
+fn remove_command(alloc: Global, tokens: &[Lexeme<'_>]) -> Result<Command, AllocError>
+    ensures { IfOk result (Commands (lower (command_text Remove) ∷ tokens_of tokens.now) End) }
 {
     match name(alloc, tokens)? {
-        Some((name, rest)) if rest.is_empty() => match stop {
-            TokensEnd::End => Ok(Command::Remove(name)),
-            TokensEnd::Bad | TokensEnd::FullStop => Ok(Command::Wrong),
-        },
+        Some((name, rest)) if rest.is_empty() => Ok(Command::Remove(name)),
         Some(_) => Ok(Command::Wrong),
         None => Ok(Command::Wrong),
     }
 }
 
 /// The command that the word `stats` begins, by the tokens after it.
-fn stats_command(tokens: &[Lexeme<'_>], stop: TokensEnd) -> Command
-    ensures { Commands (lower (command_text Stats) ∷ tokens_of tokens.now) stop result }
+fn stats_command(tokens: &[Lexeme<'_>]) -> Command
+    ensures { Commands (lower (command_text Stats) ∷ tokens_of tokens.now) End result }
 {
-    match stop {
-        TokensEnd::End if tokens.is_empty() => Command::Stats,
-        TokensEnd::End | TokensEnd::Bad | TokensEnd::FullStop => Command::Wrong,
+    if tokens.is_empty() {
+        Command::Stats
+    } else {
+        Command::Wrong
     }
 }
 
 /// The command that the word `tree` begins, by the tokens after it.
-fn tree_command(tokens: &[Lexeme<'_>], stop: TokensEnd) -> Command
-    ensures { Commands (lower (command_text Tree) ∷ tokens_of tokens.now) stop result }
+fn tree_command(tokens: &[Lexeme<'_>]) -> Command
+    ensures { Commands (lower (command_text Tree) ∷ tokens_of tokens.now) End result }
 {
-    match stop {
-        TokensEnd::End if tokens.is_empty() => Command::Tree,
-        TokensEnd::End | TokensEnd::Bad | TokensEnd::FullStop => Command::Wrong,
+    if tokens.is_empty() {
+        Command::Tree
+    } else {
+        Command::Wrong
     }
 }
 
@@ -168,26 +171,21 @@ fn query_command(
     alloc: Global,
     relation: Relation,
     tokens: &[Lexeme<'_>],
-    stop: TokensEnd,
 ) -> Result<Command, AllocError>
     requires { length tokens.now ≤ MOST_BYTES }
     ensures { IfOk result (Commands (lower (command_text (Ask relation)) ∷ tokens_of tokens.now)
-        stop) }
+        End) }
 {
-    match asked(alloc, tokens, stop)? {
+    match asked(alloc, tokens)? {
         Some(pattern) => Ok(Command::Query(relation, pattern)),
         None => Ok(Command::Wrong),
     }
 }
 
 /// The command that the word `explain` begins, by the tokens after it.
-fn explain_command(
-    alloc: Global,
-    tokens: &[Lexeme<'_>],
-    stop: TokensEnd,
-) -> Result<Command, AllocError>
+fn explain_command(alloc: Global, tokens: &[Lexeme<'_>]) -> Result<Command, AllocError>
     requires { length tokens.now ≤ MOST_BYTES }
-    ensures { IfOk result (Commands (lower (command_text Explain) ∷ tokens_of tokens.now) stop) }
+    ensures { IfOk result (Commands (lower (command_text Explain) ∷ tokens_of tokens.now) End) }
 {
     let Some((word, rest)) = tokens.split_first() else {
         return Ok(Command::Wrong);
@@ -195,20 +193,16 @@ fn explain_command(
     let Some(relation) = relation_of(word) else {
         return Ok(Command::Wrong);
     };
-    match asked(alloc, rest, stop)? {
+    match asked(alloc, rest)? {
         Some(pattern) => Ok(Command::Explain(relation, pattern)),
         None => Ok(Command::Wrong),
     }
 }
 
 /// The pattern that is asked for by these tokens, of which the first says its kind.
-fn asked(
-    alloc: Global,
-    tokens: &[Lexeme<'_>],
-    stop: TokensEnd,
-) -> Result<Option<Pattern>, AllocError>
+fn asked(alloc: Global, tokens: &[Lexeme<'_>]) -> Result<Option<Pattern>, AllocError>
     requires { length tokens.now ≤ MOST_BYTES }
-    ensures { IfOk result (ReadsQuery (tokens_of tokens.now) stop) }
+    ensures { IfOk result (ReadsQuery (tokens_of tokens.now)) }
 {
     let Some((word, rest)) = tokens.split_first() else {
         return Ok(None);
@@ -216,55 +210,29 @@ fn asked(
     let Some(kind) = kind_of(word) else {
         return Ok(None);
     };
-    match stop {
-        TokensEnd::End => whole_pattern(alloc, rest, kind),
-        TokensEnd::Bad | TokensEnd::FullStop => Ok(None),
-    }
+    whole_pattern(alloc, rest, kind)
 }
 
 /// The command that the word `subsumers` begins, by the tokens after it.
-fn subsumers_command(
-    alloc: Global,
-    tokens: &[Lexeme<'_>],
-    stop: TokensEnd,
-) -> Result<Command, AllocError>
+fn subsumers_command(alloc: Global, tokens: &[Lexeme<'_>]) -> Result<Command, AllocError>
     requires { length tokens.now ≤ MOST_BYTES }
     ensures { IfOk result (Commands (lower (command_text Subsumers) ∷ tokens_of tokens.now)
-        stop) }
+        End) }
 {
-    match formula_of(alloc, tokens, stop)? {
+    match whole_formula(alloc, tokens)? {
         Some(formula) => Ok(Command::Subsumers(formula)),
         None => Ok(Command::Wrong),
     }
 }
 
 /// The command that the word `subsumed` begins, by the tokens after it.
-fn subsumed_command(
-    alloc: Global,
-    tokens: &[Lexeme<'_>],
-    stop: TokensEnd,
-) -> Result<Command, AllocError>
+fn subsumed_command(alloc: Global, tokens: &[Lexeme<'_>]) -> Result<Command, AllocError>
     requires { length tokens.now ≤ MOST_BYTES }
-    ensures { IfOk result (Commands (lower (command_text Subsumed) ∷ tokens_of tokens.now) stop) }
+    ensures { IfOk result (Commands (lower (command_text Subsumed) ∷ tokens_of tokens.now) End) }
 {
-    match formula_of(alloc, tokens, stop)? {
+    match whole_formula(alloc, tokens)? {
         Some(formula) => Ok(Command::Subsumed(formula)),
         None => Ok(Command::Wrong),
-    }
-}
-
-/// The formula that the tokens after the word of a command are.
-fn formula_of(
-    alloc: Global,
-    tokens: &[Lexeme<'_>],
-    stop: TokensEnd,
-) -> Result<Option<Literals>, AllocError>
-    requires { length tokens.now ≤ MOST_BYTES }
-    ensures { IfOk result (ReadsOperand (tokens_of tokens.now) stop) }
-{
-    match stop {
-        TokensEnd::End => whole_formula(alloc, tokens),
-        TokensEnd::Bad | TokensEnd::FullStop => Ok(None),
     }
 }
 
@@ -284,12 +252,9 @@ fn kind_of(word: &Lexeme<'_>) -> Option<PatternKind>
 }
 
 /// The command that the word `sample` begins, by the tokens after it.
-fn sample_command(tokens: &[Lexeme<'_>], stop: TokensEnd) -> Command
-    ensures { Commands (lower (command_text Sample) ∷ tokens_of tokens.now) stop result }
+fn sample_command(tokens: &[Lexeme<'_>]) -> Command
+    ensures { Commands (lower (command_text Sample) ∷ tokens_of tokens.now) End result }
 {
-    if stop != TokensEnd::End {
-        return Command::Wrong;
-    }
     let Some((first, rest)) = tokens.split_first() else {
         return Command::Wrong;
     };

@@ -6,11 +6,11 @@ use Rattle.si_session.proofs.command.asked.Goals as goal
 
 pub returns-in_default-kind_of : goal.returns-in_default-kind_of
 returns-in_default-kind_of c =
-    query_other (tokens_of c.args.tokens.now) c.args.stop (token_of c.in-Some.word.now) (tokens_of c.in-Some.rest.now) (ap tokens_of c.in-Some.ensures.cases.0) c.in_default-kind_of.ensures.none
+    query_other (tokens_of c.args.tokens.now) (token_of c.in-Some.word.now) (tokens_of c.in-Some.rest.now) (ap tokens_of c.in-Some.ensures.cases.0) c.in_default-kind_of.ensures.none
 
-pub returns-in-End : goal.returns-in-End
-returns-in-End c =
+pub returns : goal.returns
+returns c =
     IfOk-weaker c.whole_pattern.result _ _
-    (λ read. query_rest (tokens_of c.args.tokens.now) c.args.stop (token_of c.in-Some.word.now) (tokens_of c.in-Some.rest.now) c.in-Some-kind_of.kind read c.in-End.is
+    (λ read. query_rest (tokens_of c.args.tokens.now) (token_of c.in-Some.word.now) (tokens_of c.in-Some.rest.now) c.in-Some-kind_of.kind read
     (ap tokens_of c.in-Some.ensures.cases.0) c.in-Some-kind_of.ensures.found)
     c.whole_pattern.ensures

@@ -6,8 +6,8 @@ use Rattle.si_session.proofs.command.query_command.Goals as goal
 
 pub returns-in-Some : goal.returns-in-Some
 returns-in-Some c =
-    query_read c.args.relation (tokens_of c.args.tokens.now) c.args.stop c.in-Some.pattern (subst (ReadsQuery (tokens_of c.args.tokens.now) c.args.stop) c.in-Some.is c.in_ok-pattern.ensures)
+    query_read c.args.relation (tokens_of c.args.tokens.now) c.in-Some.pattern (subst (ReadsQuery (tokens_of c.args.tokens.now)) c.in-Some.is c.in_ok-pattern.ensures)
 
 pub returns-in-None : goal.returns-in-None
 returns-in-None c =
-    query_wrong c.args.relation (tokens_of c.args.tokens.now) c.args.stop (subst (ReadsQuery (tokens_of c.args.tokens.now) c.args.stop) c.in-None.is c.in_ok-pattern.ensures)
+    query_wrong c.args.relation (tokens_of c.args.tokens.now) (subst (ReadsQuery (tokens_of c.args.tokens.now)) c.in-None.is c.in_ok-pattern.ensures)

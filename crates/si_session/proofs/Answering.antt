@@ -5,8 +5,8 @@ use Rattle.std.specs.List.{AllByRecursion}
 use Rattle.si_defs.specs.Clauses.{Name, Clause, Pattern}
 use Rattle.si_defs.specs.Printing.{place_text, solution_text}
 use Rattle.si_reply.proofs.Pieces.{four_apart}
-use Rattle.si_session.specs.Signs.{sign_text}
-use Rattle.si_session.specs.declared.sign.Sign.TheVariants.{Space, LineFeed}
+use Rattle.si_session.specs.Separators.{separator_text}
+use Rattle.si_session.specs.declared.separator.Separator.TheVariants.{Space, LineFeed}
 use Rattle.si_defs.specs.Entries.{Place, Placed, entries, state_entries, placed_in}
 use Rattle.si_defs.specs.Variables.{Solution, variable_text}
 use Rattle.si_defs.specs.declared.Relation.{Relation}
@@ -184,13 +184,13 @@ module _ (f : Finding) (before : SinkShown) where
 
 -- ---- one line
 pub line_parts : (name : Name) (place : Place) (list : Solution)
-    → hit_line name place list ≡ place_text name place ++ (sign_text Space ++ (solution_text variable_text list ++ sign_text LineFeed))
+    → hit_line name place list ≡ place_text name place ++ (separator_text Space ++ (solution_text variable_text list ++ separator_text LineFeed))
 unfolding hit_line
-line_parts name place list = four_apart (place_text name place) (sign_text Space) (solution_text variable_text list) (sign_text LineFeed)
+line_parts name place list = four_apart (place_text name place) (separator_text Space) (solution_text variable_text list) (separator_text LineFeed)
 
 -- the line of a hit, with its end
 pub line_is : (hit : Hit) → hit_line hit.clause.name hit.placed.place hit.solution ≡ ended (hit_text hit ∷ [])
-unfolding hit_line sign_text
+unfolding hit_line separator_text
 line_is hit = refl
 
 -- ---- what a number finds

@@ -13,10 +13,10 @@ use Rattle.si_io.specs.Shown.{SinkShown}
 use Rattle.si_defs.proofs.ListLaws.{get_some, get_here}
 use Rattle.si_index.specs.declared.subsuming.Mapped.{Mapped}
 use Rattle.si_index.specs.Subsuming.{AreMappedFrom}
-use Rattle.si_session.specs.Signs.{sign_text}
+use Rattle.si_session.specs.Separators.{separator_text}
 use Rattle.si_session.specs.MappedClauses.{IsKeptAt, mapped_at, all_mapped, mapped_line}
 use Rattle.si_session.specs.Session.{Writes, HasPerformed, rightly}
-use Rattle.si_session.specs.declared.sign.Sign.TheVariants.{Space, LineFeed}
+use Rattle.si_session.specs.declared.separator.Separator.TheVariants.{Space, LineFeed}
 use Rattle.si_session.specs.declared.stepped.Stepped.{Stepped}
 use Rattle.si_reply.proofs.Pieces.{four_apart}
 
@@ -50,9 +50,9 @@ module _ (P : List Literal → List ℕ → Type 0) (clauses : List Clause) wher
   mapped found h o a b w state = rightly (mapped_reply (all_mapped clauses found)) (all_mapped clauses found, mapped_from [] clauses refl found h, refl, refl) w
 
 -- ---- lines
-pub line_parts : (name : Name) (ns : List ℕ) → mapped_line name ns ≡ name_text name ++ (sign_text Space ++ (map_text ns ++ sign_text LineFeed))
+pub line_parts : (name : Name) (ns : List ℕ) → mapped_line name ns ≡ name_text name ++ (separator_text Space ++ (map_text ns ++ separator_text LineFeed))
 unfolding mapped_line
-line_parts name ns = four_apart (name_text name) (sign_text Space) (map_text ns) (sign_text LineFeed)
+line_parts name ns = four_apart (name_text name) (separator_text Space) (map_text ns) (separator_text LineFeed)
 
 -- the lines of the answer
 abbrev pub lines_of : List Clause → List Mapped → Bytes
@@ -61,7 +61,7 @@ lines_of clauses found = ended (map mapped_text (all_mapped clauses found))
 -- a line, and those after it
 pub next_line : (clauses : List Clause) (m : Mapped) (found : List Mapped) (c : Clause) → slice_get clauses m.clause ≡ Some c
     → lines_of clauses (m ∷ found) ≡ mapped_line c.name m.map ++ lines_of clauses found
-unfolding mapped_line sign_text
+unfolding mapped_line separator_text
 next_line clauses m found c there =
     ap (λ o. ended (map mapped_text (mapped_at o m ++ all_mapped clauses found))) there
     ∙ sym (append_assoc (mapped_text (record { clause = c; numbers = m.map })) (10 ∷ []) (lines_of clauses found))

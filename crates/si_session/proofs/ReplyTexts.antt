@@ -17,8 +17,8 @@ use Rattle.si_defs.specs.Tokens.{begins_with}
 use Rattle.si_steps.specs.Replies.{file_line, spot_line}
 use Rattle.si_term.specs.Terms.{symbol_of}
 use Rattle.si_session.specs.Replies.{reply_line, closed_line, stats_text, counts_text, counts_reply, closed_shape, file_word, line_word}
-use Rattle.si_session.specs.Signs.{sign_text}
-use Rattle.si_session.specs.declared.sign.Sign.TheVariants.{Space, LineFeed}
+use Rattle.si_session.specs.Separators.{separator_text}
+use Rattle.si_session.specs.declared.separator.Separator.TheVariants.{Space, LineFeed}
 use Rattle.si_session.specs.declared.reply.FileFault.{FileFault}
 use Rattle.si_session.specs.declared.reply.FileFault.TheVariants as file_fault
 use Rattle.si_session.specs.declared.reply.LineFault.{LineFault}
@@ -39,8 +39,8 @@ pub ended_is : (r : ReplyLine) → closed_line r ++ 10 ∷ [] ≡ reply_line r +
 unfolding closed_line
 ended_is r = refl
 
-pub feed_is : sign_text LineFeed ≡ 10 ∷ []
-unfolding sign_text
+pub feed_is : separator_text LineFeed ≡ 10 ∷ []
+unfolding separator_text
 feed_is = refl
 
 -- ---- counts and shapes
@@ -75,9 +75,9 @@ six a b c d e f =
     ∙ sym (append_assoc (((a ++ b) ++ c) ++ d) e f)
 
 pub misused_is : (r : ReplyLine) (symbol : Bor Sym) (found kept : Shape) → r ≡ reply.Misused symbol found kept
-    → codes "! use " ++ (symbol_text (symbol_of symbol.now) ++ (sign_text Space ++ (closed_shape found ++ (sign_text Space ++ closed_shape kept))))
+    → codes "! use " ++ (symbol_text (symbol_of symbol.now) ++ (separator_text Space ++ (closed_shape found ++ (separator_text Space ++ closed_shape kept))))
     ≡ closed_line r
-unfolding sign_text closed_shape closed_line
+unfolding separator_text closed_shape closed_line
 misused_is r symbol found kept e =
     six (codes "! use ") (symbol_text (symbol_of symbol.now)) (codes " ") (shape_text found.side found.arity) (codes " ") (shape_text kept.side kept.arity)
     ∙ ap closed_line (sym e)
@@ -108,10 +108,10 @@ explained_told r x e = three (codes "passed ") (codes " nodes ") (codes " answer
 -- ---- the lines of trees
 abbrev pub tree_told : Bytes → Counts → Bytes
 tree_told word counts =
-    ((word ++ decimal counts.nodes) ++ ((codes " leaves " ++ decimal counts.leaves) ++ (codes " unmerged " ++ decimal counts.unmerged))) ++ sign_text LineFeed
+    ((word ++ decimal counts.nodes) ++ ((codes " leaves " ++ decimal counts.leaves) ++ (codes " unmerged " ++ decimal counts.unmerged))) ++ separator_text LineFeed
 
 tree_line : (word : Bytes) (counts : Counts) → tree_told word counts ≡ (((((word ++ decimal counts.nodes) ++ codes " leaves ") ++ decimal counts.leaves) ++ codes " unmerged ") ++ decimal counts.unmerged) ++ 10 ∷ []
-unfolding sign_text
+unfolding separator_text
 tree_line word counts = ap (λ l. l ++ 10 ∷ []) (three word (codes " leaves ") (codes " unmerged ") counts.nodes counts.leaves counts.unmerged)
 
 pub trees_told : (counts : TreeCounts) → tree_told (codes "literals nodes ") counts.literals ++ tree_told (codes "terms nodes ") counts.terms ≡ ended (counts_reply counts)

@@ -14,8 +14,8 @@ use Rattle.si_io.specs.Sends.{Sends}
 use Rattle.si_io.specs.declared.failed.Failed.{Failed}
 use Rattle.si_index.specs.Finding.{Finding}
 use Rattle.si_session.specs.Replies.{unended}
-use Rattle.si_session.specs.Signs.{sign_text}
-use Rattle.si_session.specs.declared.sign.Sign.TheVariants.{Space, LineFeed}
+use Rattle.si_session.specs.Separators.{separator_text}
+use Rattle.si_session.specs.declared.separator.Separator.TheVariants.{Space, LineFeed}
 
 -- the hit of what was found at a position among these clauses, with a canonical list
 pub record IsHitOf (relation : Relation) (pattern : Pattern) (clauses : List Clause)
@@ -63,5 +63,5 @@ TellsAnswer f result before after =
 -- a line of a place and a list, with its end
 unfoldable pub hit_line : Name → Place → Solution → Bytes
 hit_line name place solution =
-    place_text name place ++ sign_text Space ++ solution_text variable_text solution
-    ++ sign_text LineFeed
+    place_text name place ++ separator_text Space ++ solution_text variable_text solution
+    ++ separator_text LineFeed

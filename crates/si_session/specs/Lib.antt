@@ -1,7 +1,7 @@
 pub mod ShownTrees
 pub mod Explained
 pub mod Session
-pub mod Signs
+pub mod Separators
 pub mod Commands
 pub mod Replies
 pub mod Rejections

@@ -7,8 +7,8 @@ use Rattle.si_state.specs.Subsumption.{MappedClause, mapped_text}
 use Rattle.si_steps.specs.Replies.{end_line}
 use Rattle.si_index.specs.declared.subsuming.Mapped.{Mapped}
 use Rattle.si_session.specs.Replies.{unended}
-use Rattle.si_session.specs.Signs.{sign_text}
-use Rattle.si_session.specs.declared.sign.Sign.TheVariants.{Space, LineFeed}
+use Rattle.si_session.specs.Separators.{separator_text}
+use Rattle.si_session.specs.declared.separator.Separator.TheVariants.{Space, LineFeed}
 
 -- it is found at the position of a clause
 abbrev pub IsKeptAt : List Clause → Mapped → Type 0
@@ -26,7 +26,8 @@ all_mapped clauses (m ∷ ms) = mapped_at (slice_get clauses m.clause) m ++ all_
 
 -- a line of a name and a map, with its end
 unfoldable pub mapped_line : Name → List ℕ → Bytes
-mapped_line name ns = name_text name ++ sign_text Space ++ map_text ns ++ sign_text LineFeed
+mapped_line name ns =
+    name_text name ++ separator_text Space ++ map_text ns ++ separator_text LineFeed
 
 -- the lines of these and the one of their number, without its line feed
 abbrev pub unended_mapped : List MappedClause → Bytes

@@ -11,7 +11,7 @@ ghost use Rattle.si_session.specs.Answering.{IsInside, TellsHit, TellsHits, Tell
 
 use crate::buffered::{Borrowed, Buffered, Origin};
 use crate::reply::put_end;
-use crate::sign::{Sign, put_sign};
+use crate::separator::{Separator, put_separator};
 use si_index::{Found, Index, Lent};
 use si_io::{Failed, Sink};
 use si_reply::{put_place, put_solution};
@@ -37,7 +37,7 @@ fn put_hit<K: Sink>(
         (K.shown sink.old) (K.shown sink.new) }
 {
     put_place(sink, name, place)?;
-    put_sign(sink, Sign::Space)?;
+    put_separator(sink, Separator::Space)?;
     put_solution(
         sink,
         lent.solution,
@@ -46,7 +46,7 @@ fn put_hit<K: Sink>(
         lent.query_names,
         &lent.entry_names,
     )?;
-    put_sign(sink, Sign::LineFeed)
+    put_separator(sink, Separator::LineFeed)
 }
 
 /// Writes the line of the hit with this number from 0.

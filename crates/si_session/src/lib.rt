@@ -4,14 +4,14 @@
 mod answer;
 mod buffered;
 mod command;
-mod mapped;
 mod number;
 mod refusals;
 mod reply;
 mod sample;
+mod separator;
 mod session;
-mod sign;
 mod stepped;
+mod subsumption;
 mod trees;
 mod word;
 

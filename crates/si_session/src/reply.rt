@@ -5,13 +5,13 @@ ghost use Rattle.si_steps.specs.Replies.{is_refusal, end_line};
 ghost use Rattle.si_io.specs.Sends.{Sends};
 ghost use Rattle.si_term.specs.Terms.{symbol_of};
 ghost use Rattle.si_term.specs.Meaning.{name_of};
-ghost use Rattle.si_session.specs.Signs.{sign_text};
-ghost use Rattle.si_session.specs.declared.sign.Sign.TheVariants.{Space};
+ghost use Rattle.si_session.specs.Separators.{separator_text};
+ghost use Rattle.si_session.specs.declared.separator.Separator.TheVariants.{Space};
 ghost use Rattle.si_session.specs.Replies.{reply_line, closed_line, stats_text, closed_shape, file_word, line_word};
 ghost use Rattle.si_session.specs.Session.{Writes, CountsSinkFault};
 
 use crate::buffered::{Borrowed, Buffered, Origin};
-use crate::sign::{Sign, put_sign};
+use crate::separator::{Separator, put_separator};
 use crate::stepped::Stepped;
 use si_index::{Explained, Stats};
 use si_io::{Failed, Sink};
@@ -219,12 +219,12 @@ fn put_shape<K: Sink>(sink: &mut K, shape: Shape) -> Result<(), Failed>
 /// Writes two shapes, each after a space.
 #[tactic(auto, using(si_io::proofs::Sends::sends))]
 fn put_shapes<K: Sink>(sink: &mut K, found: Shape, kept: Shape) -> Result<(), Failed>
-    ensures { Sends result (sign_text Space ++ (closed_shape found ++ (sign_text Space
+    ensures { Sends result (separator_text Space ++ (closed_shape found ++ (separator_text Space
         ++ closed_shape kept))) (K.shown sink.old) (K.shown sink.new) }
 {
-    put_sign(sink, Sign::Space)?;
+    put_separator(sink, Separator::Space)?;
     put_shape(sink, found)?;
-    put_sign(sink, Sign::Space)?;
+    put_separator(sink, Separator::Space)?;
     put_shape(sink, kept)
 }
 
@@ -237,8 +237,8 @@ fn put_misused<K: Sink>(
     found: Shape,
     kept: Shape,
 ) -> Result<(), Failed>
-    ensures { Sends result (word.now ++ (symbol_text (symbol_of symbol.now) ++ (sign_text Space
-        ++ (closed_shape found ++ (sign_text Space ++ closed_shape kept))))) (K.shown sink.old)
+    ensures { Sends result (word.now ++ (symbol_text (symbol_of symbol.now) ++ (separator_text Space
+        ++ (closed_shape found ++ (separator_text Space ++ closed_shape kept))))) (K.shown sink.old)
         (K.shown sink.new) }
 {
     put_bytes(sink, word)?;

@@ -7,11 +7,11 @@ ghost use Rattle.si_term.specs.Meaning.{pattern_of};
 ghost use Rattle.si_session.specs.Session.{Writes, CountsSinkFault};
 ghost use Rattle.si_session.specs.Explained.{TellsExplained};
 ghost use Rattle.si_session.specs.Replies.{counts_reply};
-ghost use Rattle.si_session.specs.Signs.{sign_text};
-ghost use Rattle.si_session.specs.declared.sign.Sign.TheVariants.{LineFeed};
+ghost use Rattle.si_session.specs.Separators.{separator_text};
+ghost use Rattle.si_session.specs.declared.separator.Separator.TheVariants.{LineFeed};
 
 use crate::reply::{ReplyLine, put_three, tell};
-use crate::sign::{Sign, put_sign};
+use crate::separator::{Separator, put_separator};
 use crate::stepped::Stepped;
 use si_defs::Relation;
 use si_index::{Index, TreeCounts};
@@ -43,7 +43,7 @@ fn put_trees<K: Sink>(sink: &mut K, counts: TreeCounts) -> Result<(), Failed>
 fn put_tree<K: Sink>(sink: &mut K, word: &[u8], counts: Counts) -> Result<(), Failed>
     ensures { Sends result (((word.now ++ decimal counts.nodes) ++ ((codes " leaves "
         ++ decimal counts.leaves) ++ (codes " unmerged " ++ decimal counts.unmerged)))
-        ++ sign_text LineFeed) (K.shown sink.old) (K.shown sink.new) }
+        ++ separator_text LineFeed) (K.shown sink.old) (K.shown sink.new) }
 {
     put_three(
         sink,
@@ -54,7 +54,7 @@ fn put_tree<K: Sink>(sink: &mut K, word: &[u8], counts: Counts) -> Result<(), Fa
         b" unmerged ",
         counts.unmerged,
     )?;
-    put_sign(sink, Sign::LineFeed)
+    put_separator(sink, Separator::LineFeed)
 }
 
 /// Writes what a query passes in its tree, and how many answers it has.

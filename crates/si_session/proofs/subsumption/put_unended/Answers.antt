@@ -8,7 +8,7 @@ use Rattle.si_io.proofs.Sends.{SendsPart_more, Sends_then}
 use Rattle.si_term.proofs.Results.{on_err}
 use Rattle.si_session.specs.MappedClauses.{all_mapped}
 use Rattle.si_session.proofs.MappedLaws.{length-mapped}
-use Rattle.si_session.proofs.mapped.put_unended.Goals as goal
+use Rattle.si_session.proofs.subsumption.put_unended.Goals as goal
 
 pub returns-in_err-put_all_mapped : goal.returns-in_err-put_all_mapped
 returns-in_err-put_all_mapped g c =

@@ -1,7 +1,7 @@
 use Rattle.std.proofs.Common.{drop}
 use Rattle.si_reply.proofs.Writing.{Wrote}
 use Rattle.si_session.proofs.MappedLaws.{lines_of}
-use Rattle.si_session.proofs.mapped.put_all_mapped.Given as goal
+use Rattle.si_session.proofs.subsumption.put_all_mapped.Given as goal
 
 -- the lines of those before this one were written
 abbrev pub invariant-loop-mapped : goal.invariant-loop-mapped

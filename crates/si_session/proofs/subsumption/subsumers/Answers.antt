@@ -3,7 +3,7 @@ use Rattle.si_state.specs.Subsumption.{IsMap}
 use Rattle.si_term.specs.Meaning.{literal_of}
 use Rattle.si_session.specs.Session.{holding}
 use Rattle.si_session.proofs.MappedLaws.{are_kept, mapped}
-use Rattle.si_session.proofs.mapped.subsumers.Goals as goal
+use Rattle.si_session.proofs.subsumption.subsumers.Goals as goal
 
 pub tell_mapped-requires : goal.tell_mapped-requires
 tell_mapped-requires g c = are_kept (λ ls. IsMap ls (map literal_of c.args.formula.now)) c.args.index.now.clauses c.in-Ok.found c.in-Ok.ensures

@@ -13,7 +13,7 @@ ghost use Rattle.si_session.specs.Session.{Writes, ActsOn, CountsSinkFault};
 
 use crate::buffered::{Borrowed, Buffered, Origin};
 use crate::reply::{ReplyLine, put_end, tell};
-use crate::sign::{Sign, put_sign};
+use crate::separator::{Separator, put_separator};
 use crate::stepped::Stepped;
 use si_flat::LitMap;
 use si_index::{Index, Mappeds};
@@ -28,9 +28,9 @@ fn put_mapped<K: Sink>(sink: &mut K, name: &Name, map: &LitMap) -> Result<(), Fa
         (K.shown sink.new) }
 {
     put_name(sink, name)?;
-    put_sign(sink, Sign::Space)?;
+    put_separator(sink, Separator::Space)?;
     put_map(sink, map)?;
-    put_sign(sink, Sign::LineFeed)
+    put_separator(sink, Separator::LineFeed)
 }
 
 /// Writes the lines of the clauses.

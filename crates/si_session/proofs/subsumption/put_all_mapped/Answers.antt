@@ -4,7 +4,7 @@ use Rattle.si_term.proofs.Results.{on_err}
 use Rattle.si_reply.proofs.Writing.{wrote_piece, wrote_part}
 use Rattle.si_session.specs.MappedClauses.{mapped_line}
 use Rattle.si_session.proofs.MappedLaws.{lines_of, line_here}
-use Rattle.si_session.proofs.mapped.put_all_mapped.Goals as goal
+use Rattle.si_session.proofs.subsumption.put_all_mapped.Goals as goal
 
 pub returns-in_err-put_mapped : goal.returns-in_err-put_mapped
 returns-in_err-put_mapped g c =

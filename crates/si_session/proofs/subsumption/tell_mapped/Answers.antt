@@ -3,7 +3,7 @@ use Rattle.si_state.specs.Subsumption.{mapped_text}
 use Rattle.si_session.specs.MappedClauses.{all_mapped}
 use Rattle.si_session.specs.declared.stepped.Stepped.TheVariants.{Answered}
 use Rattle.si_session.proofs.Acting.{answered, faults_stand, faults_rise}
-use Rattle.si_session.proofs.mapped.tell_mapped.Goals as goal
+use Rattle.si_session.proofs.subsumption.tell_mapped.Goals as goal
 
 pub returns-in-Ok-clause-written : goal.returns-in-Ok-clause-written
 returns-in-Ok-clause-written g c =

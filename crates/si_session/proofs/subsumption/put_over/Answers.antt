@@ -7,7 +7,7 @@ use Rattle.si_session.specs.Buffering.{gathered, begun}
 use Rattle.si_session.specs.MappedClauses.{all_mapped, unended_mapped}
 use Rattle.si_session.proofs.Buffers.{nothing_held}
 use Rattle.si_session.proofs.Told.{puts_ended}
-use Rattle.si_session.proofs.mapped.put_over.Goals as goal
+use Rattle.si_session.proofs.subsumption.put_over.Goals as goal
 
 pub returns-clause-text : goal.returns-clause-text
 returns-clause-text g c =

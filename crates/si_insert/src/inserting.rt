@@ -88,7 +88,7 @@ fn place(
         }
         node = child;
     }
-    tree.add_posting(node, posting)?;
+    tree.add_posting(alloc, node, posting)?;
     Ok(Some(node))
 }
 

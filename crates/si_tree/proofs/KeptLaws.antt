@@ -16,7 +16,7 @@ use Rattle.si_changes.specs.Nodes.{with_content, OtherNodesStay, ChangesPostings
 use Rattle.si_tree.specs.declared.node.Head.{Head}
 use Rattle.si_tree.specs.declared.node.TreeNode.{TreeNode}
 use Rattle.si_tree.specs.declared.node.Content.{Content}
-use Rattle.si_tree.specs.declared.node.Content.TheVariants.{Inner, Leaf}
+use Rattle.si_tree.specs.declared.node.Content.TheVariants.{Inner, One, Many}
 use Rattle.si_tree.specs.declared.tree.Tree.TheInside.{Inside}
 use Rattle.si_tree.specs.Decoding.{bindings_of}
 use Rattle.si_tree.specs.KeptHeads.{heads_in}
@@ -45,11 +45,13 @@ heads_over old new split (h ∷ hs) (c ∷ cs) keeps are = (head_over old new sp
 
 pub known_over : (old new : Tree Term) (content : Content) → KeepsBindings old new → KnowsHeads old content → KnowsHeads new content
 known_over old new (Inner b) keeps known = heads_over old new b.split (heads_in b.heads) b.children.items keeps known
-known_over old new (Leaf postings) keeps known = tt
+known_over old new (One slot) keeps known = tt
+known_over old new (Many postings) keeps known = tt
 
 -- a leaf has no heads
 pub leaf_known : (tree : Tree Term) (content : Content) (postings : List Posting) → content_of content ≡ leaf postings → KnowsHeads tree content
-leaf_known tree (Leaf ps) postings e = tt
+leaf_known tree (One slot) postings e = tt
+leaf_known tree (Many ps) postings e = tt
 leaf_known tree (Inner b) postings e = absurd (differ e) where
   differ : inner b.split b.children.items ≡ leaf postings → ⊥
   differ f = cc

@@ -20,7 +20,7 @@ use Rattle.si_changes.proofs.PlacedLaws.{placed_renumbered}
 use Rattle.si_changes.proofs.RenamedTerms.{map_among}
 use Rattle.si_changes.proofs.RenumberLaws.{renumbered_legal, renumbered_stored, renumbered_leaves, binds_still}
 use Rattle.si_tree.specs.declared.node.Content.{Content}
-use Rattle.si_tree.specs.declared.node.Content.TheVariants.{Inner, Leaf}
+use Rattle.si_tree.specs.declared.node.Content.TheVariants.{Inner, One, Many}
 use Rattle.si_tree.specs.declared.node.Head.{Head}
 use Rattle.si_tree.specs.declared.node.Head.TheVariants.{Sym, Var}
 use Rattle.si_tree.specs.declared.node.TreeNode.{TreeNode}
@@ -60,7 +60,8 @@ heads_renamed old new split split' (h ∷ hs) (c ∷ cs) bind are =
 -- ---- contents
 split_replaced : (split : ℕ) (c : Content) → content_of (with_split split c) ≡ with_new_split split (content_of c)
 split_replaced split (Inner b) = refl
-split_replaced split (Leaf ps) = refl
+split_replaced split (One s) = refl
+split_replaced split (Many ps) = refl
 
 -- ---- counts
 module _ {R : Type 0} (count : trees.Content → ℕ) where
@@ -210,7 +211,8 @@ module _ (old : Inside) (kept : IsKept old) (r : Renumbering) (h : IsRenumbering
       subst (λ x. AreWhole x.bindings) (same_Some (with_numbers b.what.bindings b.what.split n.0) m (sym b.got ∙ got)) b.to_have.whole
 
   heads_at : (key : ℕ) (n : TreeNode) (x : Node Term) (split : ℕ) (c : Content) → get old.nodes key ≡ Some n → n.content ≡ c → HasNode (tree_of (renumbered_inside old r)) key x → x.content ≡ content_of (with_split split c) → KnowsHeads (tree_of old) c → KnowsHeads (tree_of (renumbered_inside old r)) (with_split split c)
-  heads_at key n x split (Leaf ps) got e there is known = tt
+  heads_at key n x split (One s) got e there is known = tt
+  heads_at key n x split (Many ps) got e there is known = tt
   heads_at key n x split (Inner b) got e there is known =
       heads_renamed (tree_of old) (tree_of (renumbered_inside old r)) b.split split (heads_in b.heads) b.children.items
       (λ child t a. binds_still (tree_of old) (tree_of (renumbered_inside old r)) kept.legal is_renumbered key child b.split split (node_of n) x b.children.items b.children.items t (node_read old.nodes.slots key n got) there (ap content_of e) is a)

@@ -53,6 +53,17 @@ emptied (x ∷ xs) (suc n) p s there f =
       new_is = ap (put_if (stands x) (posting_in x)) rest.new_is ∙ put_before (stands x) (posting_in x) rest.before rest.after;
     }
 
+-- ---- one slot
+pub one_stands : (p : Posting) (s : Slot) → s ≡ filled p → stands s ≡ true → standing (s ∷ []) ≡ p ∷ []
+one_stands p s is there = standing_pushed [] p (s ∷ []) (ap (λ x. x ∷ []) is) (sym (ap stands is) ∙ there)
+
+pub none_stands : (s : Slot) → stands s ≡ false → standing (s ∷ []) ≡ []
+none_stands s f = ap (λ b. put_if b (posting_in s) []) f
+
+pub two_stand : (s : Slot) (p : Posting) (new : List Slot) → new ≡ s ∷ filled p ∷ [] → stands s ≡ true → stands (filled p) ≡ true → standing new ≡ posting_in s ∷ p ∷ []
+two_stand s p new e first second =
+    standing_pushed (s ∷ []) p new e second ∙ ap (λ b. put_if b (posting_in s) [] ++ p ∷ []) first
+
 -- empty slots go
 closed_one : (b : Bool) (s : Slot) (left ss : List Slot) → (stands s) ≡ b → standing left ≡ standing ss → standing (cond (stands s) (s ∷ left) left) ≡ standing (s ∷ ss)
 closed_one true s left ss e rest = ap (λ b. standing (cond b (s ∷ left) left)) e ∙ ap (put_if (stands s) (posting_in s)) rest
@@ -76,6 +87,12 @@ stands_there true s p e (inl same) =
     (is, sym (ap stands is) ∙ e)
 stands_there true s p e (inr nothing) = absurd nothing
 stands_there false s p e nothing = absurd nothing
+
+-- the posting of the only slot goes
+pub only_emptied : (s new : Slot) (p : Posting) → IsAmong (standing (s ∷ [])) p → stands new ≡ false → IsWithout (standing (s ∷ [])) p (standing (new ∷ []))
+only_emptied s new p among f =
+    let there = stands_there (stands s) s p refl among in
+    emptied (s ∷ []) zero p new (ap Some there.0, there.1) f
 
 not_behind : (b : Bool) (q p : Posting) (xs ys : List Posting) → (IsAmong (put_if b q xs) p → ⊥) → ((IsAmong xs p → ⊥) → IsAmong ys p → ⊥) → IsAmong (put_if b q ys) p → ⊥
 not_behind true q p xs ys before later (inl same) = before (inl same)

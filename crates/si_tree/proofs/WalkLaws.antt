@@ -18,7 +18,7 @@ use Rattle.si_changes.proofs.OpenLaws.{open_opened, opened_low, path_opens_once}
 use Rattle.si_changes.proofs.PlacedLaws.{number_one, same_renamed}
 use Rattle.si_changes.proofs.RenamedTerms.{TellsApart, distinct_map}
 use Rattle.si_tree.specs.declared.node.Content.{Content}
-use Rattle.si_tree.specs.declared.node.Content.TheVariants.{Inner, Leaf}
+use Rattle.si_tree.specs.declared.node.Content.TheVariants.{Inner, One, Many}
 use Rattle.si_tree.specs.declared.node.TreeNode.{TreeNode}
 use Rattle.si_tree.specs.declared.renumber.Visit.{Visit}
 use Rattle.si_tree.specs.declared.tree.Tree.TheInside.{Inside}
@@ -173,13 +173,15 @@ module _ (t : Inside) (kept : IsKept t) (numbers : List ℕ) (v : Visit) (n : Tr
   split_known = by n.content content where
     by : (c : Content) → IsLegalContent (tree_of t) v.node ((v.node, node_of n) ∷ s.above) (content_of c) → HasNotedSplit c (noted numbers v.opened (rights_in n.bindings))
     by (Inner b) l = subst (λ m. b.split < m) (sym then_long) (low b.split (split_opened b.split l.0))
-    by (Leaf ps) l = tt
+    by (One slot) l = tt
+    by (Many ps) l = tt
 
   content_then : with_new_split (split_in n.content (noted numbers v.opened (rights_in n.bindings))) (content_of n.content) ≡ renamed_content (number_among (opened ((v.node, node_of n) ∷ s.above))) (content_of n.content)
   content_then = by n.content content where
     by : (c : Content) → IsLegalContent (tree_of t) v.node ((v.node, node_of n) ∷ s.above) (content_of c) → with_new_split (split_in c (noted numbers v.opened (rights_in n.bindings))) (content_of c) ≡ renamed_content (number_among (opened ((v.node, node_of n) ∷ s.above))) (content_of c)
     by (Inner b) l = ap (λ k. inner k b.children.items) (noted_then b.split (split_opened b.split l.0))
-    by (Leaf ps) l = refl
+    by (One slot) l = refl
+    by (Many ps) l = refl
 
   pub to_have : IsToHave (tree_of t) (record {
     node = v.node;
@@ -201,13 +203,15 @@ module _ (t : Inside) (kept : IsKept t) (numbers : List ℕ) (v : Visit) (n : Tr
   are_children = by n.content content where
     by : (c : Content) → IsLegalContent (tree_of t) v.node ((v.node, node_of n) ∷ s.above) (content_of c) → AreChildren (tree_of t) v.node (children_of (content_of c))
     by (Inner b) l = l.1
-    by (Leaf ps) l = l.0
+    by (One slot) l = l.0
+    by (Many ps) l = l.0
 
   pub children_distinct : AreDistinct (children_of (content_of n.content))
   children_distinct = by n.content content where
     by : (c : Content) → IsLegalContent (tree_of t) v.node ((v.node, node_of n) ∷ s.above) (content_of c) → AreDistinct (children_of (content_of c))
     by (Inner b) l = (differ_told (tree_of t) b.split b.children.items (legal_nodes (tree_of t) kept.legal) l.2).distinct
-    by (Leaf ps) l = tt
+    by (One slot) l = tt
+    by (Many ps) l = tt
 
   pub child_waits : (child : ℕ) → IsChild (tree_of t) v.node child → (w : Visit) → w.node ≡ child → w.opened ≡ v.opened + length (rights_in n.bindings) → Waits (tree_of t) (noted numbers v.opened (rights_in n.bindings)) w
   child_waits child c w key opened_is = record {

@@ -10,7 +10,7 @@ use Rattle.si_legal.specs.Trees.{inner, leaf, Node, Tree}
 use Rattle.si_legal.specs.Trees as trees
 use Rattle.si_legal.specs.Legal.{IsLegal}
 use Rattle.si_tree.specs.declared.node.Content.{Content}
-use Rattle.si_tree.specs.declared.node.Content.TheVariants.{Inner, Leaf}
+use Rattle.si_tree.specs.declared.node.Content.TheVariants.{Inner, One, Many}
 use Rattle.si_tree.specs.declared.node.Head.{Head}
 use Rattle.si_tree.specs.declared.node.TreeNode.{TreeNode}
 use Rattle.si_tree.specs.declared.tree.Tree.TheInside.{Inside}
@@ -19,10 +19,12 @@ use Rattle.si_tree.specs.Reading.{postings_of}
 use Rattle.si_tree.specs.Heads.{AreHeadsOf, StandTogether}
 use Rattle.si_tree.specs.KeptHeads.{heads_in, HasRoomForHead}
 use Rattle.si_tree.specs.Rights.{head_in}
+use Rattle.si_tree.specs.Slots.{standing}
 
 abbrev pub content_of : Content → trees.Content
 content_of (Inner branches) = inner branches.split branches.children.items
-content_of (Leaf postings) = leaf postings
+content_of (One slot) = leaf (standing (slot ∷ []))
+content_of (Many postings) = leaf postings
 
 abbrev pub node_of : TreeNode → Node Term
 node_of n = record {
@@ -47,7 +49,8 @@ tree_of t = record {
 abbrev pub KnowsHeads : Tree Term → Content → Type 0
 KnowsHeads tree (Inner branches) =
     AreHeadsOf tree branches.split (heads_in branches.heads) branches.children.items
-KnowsHeads tree (Leaf postings) = Unit {0}
+KnowsHeads tree (One slot) = Unit {0}
+KnowsHeads tree (Many postings) = Unit {0}
 
 pub record IsKept (t : Inside) : Type 0 where
   pub legal : IsLegal (tree_of t)
@@ -76,7 +79,8 @@ pub record IsSameBut (old new : TreeNode) : Type 0 where
 -- the heads beside the children
 abbrev pub heads_of : Content → List Head
 heads_of (Inner branches) = heads_in branches.heads
-heads_of (Leaf postings) = []
+heads_of (One slot) = []
+heads_of (Many postings) = []
 
 -- the same node, with other memory
 pub record IsSameNode (old new : TreeNode) : Type 0 where
@@ -89,7 +93,8 @@ pub record IsSameNode (old new : TreeNode) : Type 0 where
 abbrev pub HasRoomIn : Content → Type 0
 HasRoomIn (Inner b) =
     HasRoomForHead b.heads × (length b.children.items < vec_capacity b.children)
-HasRoomIn (Leaf postings) = ⊥
+HasRoomIn (One slot) = ⊥
+HasRoomIn (Many postings) = ⊥
 
 abbrev pub HasRoomForChild : TreeNode → Type 0
 HasRoomForChild n = HasRoomIn n.content

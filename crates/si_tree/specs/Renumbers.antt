@@ -12,7 +12,7 @@ use Rattle.si_legal.specs.Trees as trees
 use Rattle.si_legal.specs.StoredSets.{StaysStored, KeepsLeaves}
 use Rattle.si_changes.specs.Places.{renumbered_node}
 use Rattle.si_tree.specs.declared.node.Content.{Content}
-use Rattle.si_tree.specs.declared.node.Content.TheVariants.{Inner, Leaf}
+use Rattle.si_tree.specs.declared.node.Content.TheVariants.{Inner, One, Many}
 use Rattle.si_tree.specs.declared.node.TreeNode.{TreeNode}
 use Rattle.si_tree.specs.declared.renumber.Renumbered.{Renumbered}
 use Rattle.si_tree.specs.declared.renumber.Renumbering.{Renumbering}
@@ -24,7 +24,8 @@ use Rattle.si_tree.specs.Reading.{counts_of}
 -- ---- one node
 abbrev pub with_split : ℕ → Content → Content
 with_split split (Inner branches) = Inner (record branches { split = split })
-with_split split (Leaf postings) = Leaf postings
+with_split split (One slot) = One slot
+with_split split (Many postings) = Many postings
 
 abbrev pub with_numbers : List CellPair → ℕ → TreeNode → TreeNode
 with_numbers bindings split n = record {
@@ -35,11 +36,13 @@ with_numbers bindings split n = record {
 
 abbrev pub HasNotedSplit : Content → List ℕ → Type 0
 HasNotedSplit (Inner branches) numbers = branches.split < length numbers
-HasNotedSplit (Leaf postings) numbers = Unit {0}
+HasNotedSplit (One slot) numbers = Unit {0}
+HasNotedSplit (Many postings) numbers = Unit {0}
 
 abbrev pub split_in : Content → List ℕ → ℕ
 split_in (Inner branches) numbers = noted_number numbers branches.split
-split_in (Leaf postings) numbers = 0
+split_in (One slot) numbers = 0
+split_in (Many postings) numbers = 0
 
 -- ---- the walk
 abbrev pub visits : ℕ → List ℕ → List Visit

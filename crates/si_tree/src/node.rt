@@ -10,9 +10,11 @@ ghost use Rattle.si_tree.specs.KeptNodes.{content_of, heads_of, moved_below, Gai
 ghost use Rattle.si_tree.specs.Changes.{IsWithout};
 ghost use Rattle.si_tree.specs.Dropping.{HasBesides, LosesChild};
 ghost use Rattle.si_tree.specs.Heads.{StandTogether};
+ghost use Rattle.si_tree.specs.Reading.{postings_of};
+ghost use Rattle.si_tree.specs.Slots.{standing};
 
 use crate::heads::Heads;
-use crate::postings::PostingList;
+use crate::postings::{PostingList, Postings, Slot};
 use crate::rights::joined;
 use si_flat::Bindings;
 use si_legal::Posting;
@@ -68,11 +70,12 @@ pub(crate) struct TreeNode {
     pub(crate) content: Content,
 }
 
-/// What stands below a node.
+/// What stands below a node. A leaf has one slot for a posting, or a list.
 #[derive(Drop)]
 pub(crate) enum Content {
     Inner(Branches),
-    Leaf(PostingList),
+    One(Slot),
+    Many(PostingList),
 }
 
 /// The children of a node. They are told apart by their heads, which stand in the same order.
@@ -85,11 +88,34 @@ pub(crate) struct Branches {
 
 impl Content {
     /// A leaf with one posting.
-    pub(crate) fn leaf(alloc: Global, posting: Posting) -> Result<Content, AllocError>
+    pub(crate) fn leaf(posting: Posting) -> Result<Content, AllocError>
         ensures { IfOk result (λ content. content_of content ≡ leaf (posting ∷ [])) }
     {
-        let postings = PostingList::one(alloc, posting)?;
-        Ok(Content::Leaf(postings))
+        let slot = Slot::of(posting)?;
+        Ok(Content::One(slot))
+    }
+
+    // A leaf with the posting of a slot, where one stands there, and another.
+    fn with_another(alloc: Global, slot: Slot, posting: Posting) -> Result<Content, AllocError>
+        ensures { IfOk result (λ content. content_of content
+            ≡ leaf (standing (slot ∷ []) ++ posting ∷ [])) }
+    {
+        if !slot.stands() {
+            return Content::leaf(posting);
+        }
+        let postings = PostingList::two(alloc, slot, posting)?;
+        Ok(Content::Many(postings))
+    }
+
+    /// The postings of a leaf. An inner node has none.
+    pub(crate) fn postings(&self) -> Postings<'_>
+        ensures { result ≡ postings_of (content_of self.now) }
+    {
+        match self {
+            Content::Inner(_) => Postings::none(),
+            Content::One(slot) => slot.postings(),
+            Content::Many(postings) => postings.all(),
+        }
     }
 }
 
@@ -167,7 +193,7 @@ impl TreeNode {
         requires { AreDistinct (left_sides (first ++ others.now)) }
         ensures { IfOk result (IsLeafWith (first ++ others.now) posting) }
     {
-        let content = Content::leaf(alloc, posting)?;
+        let content = Content::leaf(posting)?;
         let bindings = joined(alloc, first, others)?;
         Ok(TreeNode {
             parent: None,
@@ -181,8 +207,9 @@ impl TreeNode {
         ensures { result ≡ unmerged_of (content_of self.now.content) }
     {
         match &self.content {
-            Content::Leaf(postings) => u64::from(postings.all().is_empty()),
             Content::Inner(_) => 0,
+            Content::One(slot) => u64::from(!slot.stands()),
+            Content::Many(postings) => u64::from(postings.all().is_empty()),
         }
     }
 
@@ -195,7 +222,8 @@ impl TreeNode {
     {
         match &mut self.content {
             Content::Inner(branches) => branches.reserve(alloc),
-            Content::Leaf(_) => unreachable!(),
+            Content::One(_) => unreachable!(),
+            Content::Many(_) => unreachable!(),
         }
     }
 
@@ -210,7 +238,8 @@ impl TreeNode {
                 branches.heads.push(head);
                 branches.children.push_reserved(child);
             }
-            Content::Leaf(_) => unreachable!(),
+            Content::One(_) => unreachable!(),
+            Content::Many(_) => unreachable!(),
         }
     }
 
@@ -235,7 +264,8 @@ impl TreeNode {
                 };
                 branches.children[place] = other;
             }
-            Content::Leaf(_) => unreachable!(),
+            Content::One(_) => unreachable!(),
+            Content::Many(_) => unreachable!(),
         }
     }
 
@@ -250,7 +280,8 @@ impl TreeNode {
                 let place = branches.heads.remove(head);
                 branches.children.swap_remove(place);
             }
-            Content::Leaf(_) => unreachable!(),
+            Content::One(_) => unreachable!(),
+            Content::Many(_) => unreachable!(),
         }
     }
 
@@ -261,21 +292,25 @@ impl TreeNode {
     {
         match &self.content {
             Content::Inner(branches) => besides(branches.children.as_slice(), child),
-            Content::Leaf(_) => unreachable!(),
+            Content::One(_) => unreachable!(),
+            Content::Many(_) => unreachable!(),
         }
     }
 
     /// Appends a posting to those of a leaf.
-    pub(crate) fn add_posting(&mut self, posting: Posting) -> Result<(), AllocError>
+    pub(crate) fn add_posting(&mut self, alloc: Global, posting: Posting) -> Result<(), AllocError>
         requires { IsLeafNode self.old }
         ensures stays { IsSameBut self.old self.new }
         ensures ok { OnOk result (postings_in self.new ≡ postings_in self.old ++ posting ∷ []) }
         ensures err { OnErr result (postings_in self.new ≡ postings_in self.old) }
     {
-        match &mut self.content {
-            Content::Leaf(postings) => postings.push(posting),
+        let content = match &mut self.content {
             Content::Inner(_) => unreachable!(),
-        }
+            Content::One(slot) => Content::with_another(alloc, *slot, posting)?,
+            Content::Many(postings) => return postings.push(posting),
+        };
+        self.content = content;
+        Ok(())
     }
 
     /// Takes a posting from those of a leaf.
@@ -286,8 +321,9 @@ impl TreeNode {
         ensures dropped { IsWithout (postings_in self.old) posting (postings_in self.new) }
     {
         match &mut self.content {
-            Content::Leaf(postings) => postings.remove(posting),
             Content::Inner(_) => unreachable!(),
+            Content::One(slot) => slot.empty(),
+            Content::Many(postings) => postings.remove(posting),
         }
     }
 }

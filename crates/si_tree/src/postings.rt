@@ -1,13 +1,14 @@
 // The postings of a leaf.
-ghost use Rattle.std.specs.Prelude.{◌≡◌, ◌<◌, ◌≤◌, [], ◌∷◌, ◌++◌, ◌+◌, ◌==◌, IfOk, IsFalse, IsTrue, OnErr, OnOk, length, true, vec_capacity, vec_len};
+ghost use Rattle.std.specs.Prelude.{◌≡◌, ◌<◌, ◌≤◌, [], ◌∷◌, ◌++◌, ◌+◌, ◌==◌, IfOk, IsFalse, IsTrue, OnErr, OnOk, false, length, true, vec_capacity, vec_len};
 ghost use Rattle.si_defs.specs.Substitutions.{IsAmong};
 ghost use Rattle.si_legal.specs.declared.Posting as posting;
 ghost use Rattle.si_tree.specs.Changes.{IsWithout};
-ghost use Rattle.si_tree.specs.Slots.{filled, standing, stands, StandsAt};
+ghost use Rattle.si_tree.specs.Slots.{filled, posting_in, standing, stands, StandsAt};
 
 use si_legal::Posting;
 use std::alloc::{AllocError, Global};
 use std::marker::Model;
+use std::slice;
 
 // A list that is full gets room for a quarter more, and for so many besides.
 const LEAST_ROOM: usize = 3;
@@ -66,18 +67,24 @@ impl<'a> Model for Postings<'a> {
 }
 
 impl PostingList {
-    /// One posting.
-    pub(crate) fn one(alloc: Global, posting: Posting) -> Result<PostingList, AllocError>
-        ensures { IfOk result (λ postings. postings ≡ posting ∷ []) }
+    /// The posting of a slot, which stands there, and another.
+    pub(crate) fn two(
+        alloc: Global,
+        first: Slot,
+        posting: Posting,
+    ) -> Result<PostingList, AllocError>
+        requires { stands first ≡ true }
+        ensures { IfOk result (λ postings. postings ≡ posting_in first ∷ posting ∷ []) }
     {
-        let slot = Slot::of(posting)?;
+        let second = Slot::of(posting)?;
         let mut slots = Vec::with_capacity(alloc, LEAST_ROOM)?;
-        slots.push_reserved(slot);
+        slots.push_reserved(first);
+        slots.push_reserved(second);
         Ok(PostingList {
             slots,
-            count: 1,
+            count: 2,
             first: 0,
-            last: 0,
+            last: 1,
         })
     }
 
@@ -186,9 +193,9 @@ impl<'a> Postings<'a> {
 }
 
 impl Slot {
-    // The slot in which the posting stands. A posting that no slot can hold is answered as want of
-    // memory: its clause has a key beyond 32 bits, or its entry a number beyond 31.
-    fn of(posting: Posting) -> Result<Slot, AllocError>
+    /// The slot in which the posting stands. A posting that no slot can hold is answered as want of
+    /// memory: its clause has a key beyond 32 bits, or its entry a number beyond 31.
+    pub(crate) fn of(posting: Posting) -> Result<Slot, AllocError>
         ensures is { IfOk result (λ slot. slot ≡ filled posting) }
         ensures stands { IfOk result (λ slot. stands slot ≡ true) }
     {
@@ -202,6 +209,30 @@ impl Slot {
             clause,
             entry: posting.entry,
         })
+    }
+
+    /// Whether a posting stands there still.
+    pub(crate) fn stands(&self) -> bool
+        ensures { result ≡ stands self.now }
+    {
+        self.entry < GONE
+    }
+
+    /// The posting that stands there, where one does.
+    pub(crate) fn postings(&self) -> Postings<'_>
+        ensures { result ≡ standing (self.now ∷ []) }
+    {
+        Postings {
+            slots: slice::from_ref(self),
+            count: usize::from(self.stands()),
+        }
+    }
+
+    /// Empties the slot.
+    pub(crate) fn empty(&mut self)
+        ensures { stands self.new ≡ false }
+    {
+        self.entry = self.entry.saturating_add(GONE);
     }
 
     // The posting that the slot is read as, which stands there where the slot isn't empty.

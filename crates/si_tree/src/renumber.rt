@@ -46,7 +46,8 @@ impl TreeNode {
         self.bindings = bindings;
         match &mut self.content {
             Content::Inner(branches) => branches.split = split,
-            Content::Leaf(_) => (),
+            Content::One(_) => (),
+            Content::Many(_) => (),
         }
     }
 }
@@ -110,7 +111,8 @@ fn split_in(content: &Content, numbers: &[u32]) -> u32
 {
     match content {
         Content::Inner(branches) => numbers[branches.split as usize],
-        Content::Leaf(_) => 0,
+        Content::One(_) => 0,
+        Content::Many(_) => 0,
     }
 }
 
@@ -121,7 +123,8 @@ fn stack_children(left: &mut Vec<Visit>, content: &Content, opened: u32) -> Resu
 {
     match content {
         Content::Inner(branches) => stack(left, branches.children.as_slice(), opened),
-        Content::Leaf(_) => Ok(()),
+        Content::One(_) => Ok(()),
+        Content::Many(_) => Ok(()),
     }
 }
 

@@ -129,7 +129,8 @@ impl Tree {
     {
         match &self.nodes[node.key as usize].content {
             Content::Inner(branches) => Some(branches.split),
-            Content::Leaf(_) => None,
+            Content::One(_) => None,
+            Content::Many(_) => None,
         }
     }
 
@@ -140,7 +141,8 @@ impl Tree {
     {
         match &self.nodes[node.key as usize].content {
             Content::Inner(branches) => branches.children.as_slice(),
-            Content::Leaf(_) => Default::default(),
+            Content::One(_) => Default::default(),
+            Content::Many(_) => Default::default(),
         }
     }
 
@@ -154,7 +156,8 @@ impl Tree {
     {
         match &self.nodes[node.key as usize].content {
             Content::Inner(branches) => branches.heads.at(place),
-            Content::Leaf(_) => unreachable!(),
+            Content::One(_) => unreachable!(),
+            Content::Many(_) => unreachable!(),
         }
     }
 
@@ -163,10 +166,7 @@ impl Tree {
         requires { IsNode self.now node }
         ensures { AtNode self.now node (λ n. result ≡ postings_of n.content) }
     {
-        match &self.nodes[node.key as usize].content {
-            Content::Inner(_) => Postings::none(),
-            Content::Leaf(postings) => postings.all(),
-        }
+        self.nodes[node.key as usize].content.postings()
     }
 
     /// The child that has this head.
@@ -177,19 +177,25 @@ impl Tree {
     {
         match &self.nodes[node.key as usize].content {
             Content::Inner(branches) => branches.child(head),
-            Content::Leaf(_) => None,
+            Content::One(_) => None,
+            Content::Many(_) => None,
         }
     }
 
     /// Appends a posting to those of a leaf. At an error the tree is as before.
-    pub fn add_posting(&mut self, leaf: NodeId, posting: Posting) -> Result<(), AllocError>
+    pub fn add_posting(
+        &mut self,
+        alloc: Global,
+        leaf: NodeId,
+        posting: Posting,
+    ) -> Result<(), AllocError>
         requires { MayAddPosting self.old leaf posting }
         ensures ok { OnOk result (AddsPosting self.old self.new leaf posting) }
         ensures err { OnErr result (self.new ≡ self.old) }
     {
         let node = &mut self.nodes[leaf.key as usize];
         let before = node.unmerged();
-        node.add_posting(posting)?;
+        node.add_posting(alloc, posting)?;
         self.unmerged -= before;
         Ok(())
     }
@@ -226,7 +232,7 @@ impl Tree {
             unreachable!()
         };
         let vars = self.vars.max(beyond_entries(&bindings));
-        let content = Content::leaf(alloc, posting)?;
+        let content = Content::leaf(posting)?;
         make_room(alloc, &mut self.nodes, parent.key as usize)?;
         let key = self.nodes.insert_reserved(TreeNode {
             parent: Some(parent),

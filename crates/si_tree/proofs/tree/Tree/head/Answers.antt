@@ -39,5 +39,13 @@ unreachable-requires c =
     let n = c.index.result.now in
     let got = subst (λ k. get c.self.inside.nodes k ≡ Some n) c.node.view_is c.index.ensures in
     let has = subst (λ t. HasNode t c.args.node (node_of n)) c.self.view_is (node_read c.self.inside.nodes.slots c.args.node n got) in
-    let less : c.args.place < 0 = subst (λ k. c.args.place < length (children_of (content_of k))) c.in-Leaf.is (c.requires.within (node_of n) has) in
+    let less : c.args.place < 0 = subst (λ k. c.args.place < length (children_of (content_of k))) c.in-One.is (c.requires.within (node_of n) has) in
+    omega (arith, less)
+
+pub unreachable-requires-in-Many : goal.unreachable-requires-in-Many
+unreachable-requires-in-Many c =
+    let n = c.index.result.now in
+    let got = subst (λ k. get c.self.inside.nodes k ≡ Some n) c.node.view_is c.index.ensures in
+    let has = subst (λ t. HasNode t c.args.node (node_of n)) c.self.view_is (node_read c.self.inside.nodes.slots c.args.node n got) in
+    let less : c.args.place < 0 = subst (λ k. c.args.place < length (children_of (content_of k))) c.in-Many.is (c.requires.within (node_of n) has) in
     omega (arith, less)

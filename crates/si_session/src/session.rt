@@ -15,11 +15,11 @@ ghost use Rattle.si_term.specs.Meaning.{name_of, clause_of, pattern_of};
 
 use crate::answer::tell_answer;
 use crate::command::{Command, read_command};
-use crate::mapped::{subsumed, subsumers};
 use crate::refusals::{load_refusal, refusal};
 use crate::reply::{ReplyLine, tell};
 use crate::sample::sample;
 use crate::stepped::Stepped;
+use crate::subsumption::{subsumed, subsumers};
 use crate::trees::{explain, tell_trees};
 use si_defs::Relation;
 use si_harvest::{HarvestLimits, expand};

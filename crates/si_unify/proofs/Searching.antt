@@ -22,7 +22,8 @@ use Rattle.si_unify.specs.declared.circles.Visit.{Visit}
 use Rattle.si_unify.specs.declared.circles.Visit.TheVariants.{Enter, Leave}
 use Rattle.si_unify.specs.Solving.{Pairs, slot_count, IsTriangularBy, RanksBelow, IsBinding}
 use Rattle.si_unify.specs.Spots.{cell_slot}
-use Rattle.si_unify.specs.Circles.{if_value, if_bound, with_slot, bound_slots, weight, HasStepped, HasDone, enter_each, pile, visits_of, AreEntered, below_value, slots_below, visit_slot, visit_slots, IsDone, AreCovered, RanksUnder, ComeDown, AreRanked, leave_slots, IsSearching, StayDone, HasSearched}
+use Rattle.si_unify.specs.Circles.{if_value, if_bound, with_slot, bound_slots, HasStepped, HasDone, enter_each, pile, visits_of, AreEntered, below_value, slots_below, visit_slot, visit_slots, IsDone, AreCovered, RanksUnder, ComeDown, AreRanked, leave_slots, IsSearching, StayDone, HasSearched}
+use Rattle.si_unify.specs.States.{weight}
 use Rattle.si_unify.proofs.Places.{all_at}
 
 -- ---- states of slots

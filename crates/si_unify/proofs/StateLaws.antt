@@ -1,16 +1,17 @@
 -- States of slots, and the slots whose state has changed.
-use Rattle.std.proofs.Common.{◌≡◌, ℕ, ◌<◌, inl, inr, List, [], ◌∷◌, ◌++◌, length, get_or, replicate, refl, sym, ◌∙◌, ap, subst, arith, suc, zero, Some}
+use Rattle.std.proofs.Common.{◌≡◌, ◌≢◌, ℕ, ◌<◌, ◌≤◌, inl, inr, List, [], ◌∷◌, ◌++◌, length, length-append, get_or, replicate, refl, sym, ◌∙◌, ap, subst, arith, suc, zero, Some}
 use Rattle.std.proofs.Math.ListN.{set}
 use Rattle.std.proofs.lemmas.List.{length-set}
 use Rattle.std.proofs.lemmas.Bool.Decides.{eqb_tells}
 use Rattle.std.proofs.lemmas.Option.{get_or_from_slice_get}
-use Rattle.std.specs.Prelude.{slice_get}
+use Rattle.std.proofs.lemmas.List.Sums.{sum_by-cons, sum_by-set, get_or-le-sum_by}
+use Rattle.std.specs.Prelude.{sum_by, slice_get, Bool, true, false, if◌then◌else◌, take}
 use Rattle.std.specs.List.{AllByRecursion}
 use Rattle.si_defs.specs.Substitutions.{IsAmong}
-use Rattle.si_defs.proofs.ListLaws.{all_weaker, all_append, all_front, all_back, among_front, among_either, set_same, set_other, among_back}
+use Rattle.si_defs.proofs.ListLaws.{all_weaker, all_take, all_append, all_front, all_back, among_front, among_either, set_same, set_other, among_back}
 use Rattle.si_unify.specs.declared.states.State.{State}
-use Rattle.si_unify.specs.declared.states.State.TheVariants.{New}
-use Rattle.si_unify.specs.States.{AreMet, AreNew}
+use Rattle.si_unify.specs.declared.states.State.TheVariants.{New, Open, Done}
+use Rattle.si_unify.specs.States.{weight, AreMet, AreNew, HasRoomFor}
 
 pub new_at : (states : List State) (slot : ℕ) (s : State) → AreNew states → slice_get states slot ≡ Some s → s ≡ New
 new_at [] slot s h e = cc
@@ -117,3 +118,90 @@ other_changed states now met now_met slot s d e f h less differs told =
       | inr a ↦ a
     ] in
     subst (λ l. AreMet (set l slot s) now_met) (sym e) (subst (AreMet (set states slot s)) (sym f) (met_changed states met slot s h less among))
+
+-- ---- the room for slots that are met
+weighs_little : (s : State) → weight s ≤ 1
+weighs_little New = omega arith
+weighs_little Open = omega arith
+weighs_little Done = omega arith
+
+weighs_nothing : (s : State) → s ≢ New → weight s ≡ 0
+weighs_nothing New differs = absurd (differs refl)
+weighs_nothing Open differs = refl
+weighs_nothing Done differs = refl
+
+few_new : (states : List State) → sum_by weight states ≤ length states
+few_new [] = omega arith
+few_new (s ∷ states) = omega (arith, weighs_little s, sum_by-cons weight s states, few_new states)
+
+all_weigh : (states : List State) → AreNew states → sum_by weight states ≡ length states
+all_weigh [] h = refl
+all_weigh (s ∷ states) h = omega (arith, ap weight h.0, sum_by-cons weight s states, all_weigh states h.1)
+
+-- where all are new, none has been met
+pub none_noted : (states : List State) (met : List ℕ) (capacity : ℕ) → AreNew states → HasRoomFor states met capacity → length met ≡ 0
+none_noted states met capacity new h = omega (arith, all_weigh states new, h.few)
+
+pub room_at_first : (states : List State) (met : List ℕ) (capacity : ℕ) → length met ≡ 0 → length states ≤ capacity → HasRoomFor states met capacity
+room_at_first states met capacity none fits = record { few = omega (arith, none, few_new states); fits = fits }
+
+-- a new slot finds room
+pub room_for_one : (states : List State) (met : List ℕ) (capacity slot : ℕ) (d : State) → HasRoomFor states met capacity → slot < length states → d ≡ New → d ≡ get_or states slot d → length met < capacity
+room_for_one states met capacity slot d h less is_new told =
+    omega (arith, h.few, h.fits, get_or-le-sum_by weight states slot d less, ap weight is_new, ap weight told)
+
+pub room_after_one :
+    (states now : List State) (met now_met : List ℕ) (capacity slot : ℕ) (s d : State)
+    → now ≡ states
+    → now_met ≡ met ++ slot ∷ []
+    → HasRoomFor states met capacity
+    → slot < length states
+    → d ≡ New
+    → d ≡ get_or states slot d
+    → s ≢ New
+    → HasRoomFor (set now slot s) now_met capacity
+room_after_one states now met now_met capacity slot s d e f h less is_new told differs =
+    subst (λ l. HasRoomFor (set l slot s) now_met capacity) (sym e)
+    (
+    record {
+      few =
+          omega (arith, h.few, sum_by-set weight states slot s d less, ap weight is_new, ap weight told, weighs_nothing s differs, length-set states slot s, ap length f, length-append met (slot ∷ []));
+      fits = omega (arith, h.fits, length-set states slot s);
+    }
+    )
+
+pub room_as_before :
+    (states now : List State) (met now_met : List ℕ) (capacity slot : ℕ) (s : State)
+    → now ≡ states
+    → now_met ≡ met
+    → HasRoomFor states met capacity
+    → slot < length states
+    → s ≢ New
+    → HasRoomFor (set now slot s) now_met capacity
+room_as_before states now met now_met capacity slot s e f h less differs =
+    subst (λ l. HasRoomFor (set l slot s) now_met capacity) (sym e)
+    (
+    record {
+      few = omega (arith, h.few, sum_by-set weight states slot s s less, weighs_nothing s differs, length-set states slot s, ap length f);
+      fits = omega (arith, h.fits, length-set states slot s);
+    }
+    )
+
+pub room_after_pop : (states : List State) (met front : List ℕ) (capacity slot : ℕ) → met ≡ front ++ slot ∷ [] → HasRoomFor states met capacity → slot < length states → HasRoomFor (set states slot New) front capacity
+room_after_pop states met front capacity slot e h less = record {
+  few = omega (arith, h.few, sum_by-set weight states slot New New less, weighs_little (get_or states slot New), length-set states slot New, ap length e, length-append front (slot ∷ []));
+  fits = omega (arith, h.fits, length-set states slot New);
+}
+
+-- ---- making room
+pub new_still : (b : Bool) (n k : ℕ) (old new : List State) → AreNew old → new ≡ (if b then take n old ++ replicate k New else old) → AreNew new
+new_still true n k old new h e = subst AreNew (sym e) (all_append (λ s. s ≡ New) (take n old) (replicate k New) (all_take (λ s. s ≡ New) n old h) (all_new k))
+new_still false n k old new h e = subst AreNew (sym e) h
+
+pub met_none : (states : List State) (met : List ℕ) → AreNew states → length met ≡ 0 → AreMet states met
+met_none states [] new e = record { inside = tt; others = λ z less. inl (get_new states z new less) }
+met_none states (z ∷ met) new e = absurd (omega (arith, e))
+
+pub fits_still : (b : Bool) (len old_len count capacity : ℕ) → len ≡ (if b then count else old_len) → count ≤ capacity → old_len ≤ capacity → len ≤ capacity
+fits_still true len old_len count capacity e h k = omega (arith, e, h)
+fits_still false len old_len count capacity e h k = omega (arith, e, k)

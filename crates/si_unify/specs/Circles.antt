@@ -8,11 +8,12 @@ use Rattle.si_flat.specs.declared.Cell.{Cell}
 use Rattle.si_trail.specs.Trails.{value_at, HasDistinctSlots, IsSlotOf}
 use Rattle.si_unify.specs.declared.slots.Slots.{Slots}
 use Rattle.si_unify.specs.declared.states.State.{State}
-use Rattle.si_unify.specs.declared.states.State.TheVariants.{New, Open, Done}
+use Rattle.si_unify.specs.declared.states.State.TheVariants.{Open, Done}
 use Rattle.si_unify.specs.declared.circles.Visit.{Visit}
 use Rattle.si_unify.specs.declared.circles.Visit.TheVariants.{Enter, Leave}
 use Rattle.si_unify.specs.Solving.{Pairs, slot_count, IsTriangularBy, IsAcyclic, IsBinding}
 use Rattle.si_unify.specs.Spots.{cell_slot}
+use Rattle.si_unify.specs.States.{weight}
 
 -- the slot, if it is bound
 abbrev pub if_value : Option (Bor (List Cell)) → ℕ → Option ℕ
@@ -131,11 +132,6 @@ HasSearched slots pairs old new visits true =
 HasSearched slots pairs old new visits false = (rank : ℕ → ℕ) → IsTriangularBy slots rank pairs → ⊥
 
 -- how much is left to do
-abbrev pub weight : State → ℕ
-weight New = 1
-weight Open = 0
-weight Done = 0
-
 abbrev pub work : List State → List Visit → ℕ
 work states visits = sum_by weight states * 2 ^ 64 + length visits
 

@@ -1,6 +1,11 @@
 -- Heights of slots, by which one of two variables is bound to the other.
 use Rattle.std.specs.Prelude.{◌≡◌, ℕ, ◌+◌, ◌<◌, min, nat_lt, Bool, false, List, slice_index_or as get_or, Option, Some}
 
+-- the heights of slots, and for how many slots there is room
+pub record SlotHeights : Type 0 where
+  pub items : List ℕ
+  pub room : ℕ
+
 -- after the end of the list they are 0
 abbrev pub height : List ℕ → ℕ → ℕ
 height heights slot = get_or heights slot 0

@@ -1,13 +1,29 @@
 -- How far the search for a circle has come with each slot.
-use Rattle.std.specs.Prelude.{◌≡◌, ℕ, ◌<◌, ◌⊎◌, List, length, slice_get, Some}
+use Rattle.std.specs.Prelude.{◌≡◌, ℕ, ◌+◌, ◌<◌, ◌≤◌, ◌⊎◌, sum_by, List, length, slice_get, Some}
 use Rattle.std.specs.List.{AllByRecursion}
 use Rattle.si_defs.specs.Substitutions.{IsAmong}
 use Rattle.si_unify.specs.declared.states.State.{State}
-use Rattle.si_unify.specs.declared.states.State.TheVariants.{New}
+use Rattle.si_unify.specs.declared.states.State.TheVariants.{New, Open, Done}
+
+-- the states of slots, and for how many slots there is room
+pub record SlotStates : Type 0 where
+  pub items : List State
+  pub room : ℕ
 
 -- no slot has been met
 abbrev pub AreNew : List State → Type 0
 AreNew = AllByRecursion (λ s. s ≡ New)
+
+-- how often a state is that of a new slot
+abbrev pub weight : State → ℕ
+weight New = 1
+weight Open = 0
+weight Done = 0
+
+-- each new slot still finds room among those that were met
+pub record HasRoomFor (states : List State) (met : List ℕ) (capacity : ℕ) : Type 0 where
+  pub few : length met + sum_by weight states ≤ length states
+  pub fits : length states ≤ capacity
 
 -- each slot that isn't new is one of these, which are slots
 pub record AreMet (states : List State) (met : List ℕ) : Type 0 where

@@ -75,21 +75,21 @@ fn step<'a>(
     visits: &mut Vec<Visit>,
     visit: Visit,
 ) -> Result<bool, AllocError>
-    requires { IsSearching slots.now trail.now.pairs states.old
+    requires { IsSearching slots.now trail.now.pairs states.old.items
         (visit ∷ reverse visits.old.items) }
-    ensures { IfOk result (HasDone slots.now trail.now.pairs states.old states.new
+    ensures { IfOk result (HasDone slots.now trail.now.pairs states.old.items states.new.items
         (visit ∷ reverse visits.old.items) (reverse visits.new.items)) }
 {
     match visit {
         Visit::Leave(slot) => {
-            states.change(slot, State::Done)?;
+            states.change(slot, State::Done);
             Ok(true)
         }
         Visit::Enter(slot) => match states.at(slot) {
             State::Done => Ok(true),
             State::Open => Ok(false),
             State::New => {
-                states.change(slot, State::Open)?;
+                states.change(slot, State::Open);
                 visits.push(Visit::Leave(slot))?;
                 enter_all(trail, slots, visits, slot)?;
                 Ok(true)
@@ -105,8 +105,8 @@ fn search<'a>(
     states: &mut States,
     visits: &mut Vec<Visit>,
 ) -> Result<bool, AllocError>
-    requires { IsSearching slots.now trail.now.pairs states.old (reverse visits.old.items) }
-    ensures { IfOk result (HasSearched slots.now trail.now.pairs states.old states.new
+    requires { IsSearching slots.now trail.now.pairs states.old.items (reverse visits.old.items) }
+    ensures { IfOk result (HasSearched slots.now trail.now.pairs states.old.items states.new.items
         (reverse visits.old.items)) }
 {
     while let Some(visit) = visits.pop() {
@@ -178,7 +178,7 @@ pub(crate) fn is_triangular<'a>(
     slots: &Slots,
     mark: usize,
 ) -> Result<bool, AllocError>
-    requires fresh { AreNew states.old }
+    requires fresh { AreNew states.old.items }
     requires none { visits.old.items ≡ [] }
     requires bindings { AllByRecursion (IsBinding slots.now) trail.now.pairs }
     requires within { mark ≤ length trail.now.pairs }

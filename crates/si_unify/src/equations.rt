@@ -45,7 +45,7 @@ fn turns(
     left: Option<usize>,
     right: Option<usize>,
 ) -> Result<bool, AllocError>
-    ensures { IfOk result (λ turned. turned ≡ is_right_lower heights.old left right) }
+    ensures { IfOk result (λ turned. turned ≡ is_right_lower heights.old.items left right) }
 {
     match (left, right) {
         (Some(left), Some(right)) => heights.turns(slots.count(), left, right),

@@ -1,13 +1,13 @@
 // How long the chains of variables are that end at each slot.
-ghost use Rattle.std.specs.Prelude.{◌≡◌, [], IfOk, OnOk};
+ghost use Rattle.std.specs.Prelude.{◌≡◌, ◌<◌, ◌≤◌, [], IfOk, OnOk, OnErr};
 ghost use Rattle.si_unify.specs.Heights.{height, is_lower, IsRaised, HaveMet};
 
 use std::alloc::{AllocError, Global};
 use std::marker::Model;
 
 /// The heights of slots: no chain of variables that were bound to variables in this call, and that
-/// ends at a slot, is longer than its height. Contracts see them as a list; after its end they are
-/// 0.
+/// ends at a slot, is longer than its height. Contracts see them as a list, after whose end they
+/// are 0, and for how many slots there is room.
 ///
 /// Of two variables the lower one is bound to the higher one. So as many variables as two to the
 /// power of its height come to a slot, and no chain is longer than a logarithm of their number.
@@ -17,17 +17,18 @@ pub(crate) struct Heights {
 }
 
 impl Model for Heights {
-    ghost use Rattle.std.specs.Prelude.{List, ℕ};
+    ghost use Rattle.std.specs.Prelude.{vec_capacity};
+    ghost use Rattle.si_unify.specs.Heights.{SlotHeights};
 
-    ghost Value = { List ℕ };
+    ghost Value = { SlotHeights };
 
-    ghost view = { λ h. h.heights.items };
+    ghost view = { λ h. record { items = h.heights.items; room = vec_capacity h.heights } };
 }
 
 impl Heights {
     /// All heights are 0. It takes no memory.
     pub(crate) fn new(alloc: Global) -> Heights
-        ensures { result ≡ [] }
+        ensures { result.items ≡ [] }
     {
         Heights {
             heights: Vec::new(alloc),
@@ -35,14 +36,16 @@ impl Heights {
     }
 
     fn height(&self, slot: usize) -> u8
-        ensures { result ≡ height self.now slot }
+        ensures { result ≡ height self.now.items slot }
     {
         *self.heights.get(slot).unwrap_or(&0)
     }
 
     // Makes a slot, of so many, higher by one.
     fn raise(&mut self, count: usize, slot: usize) -> Result<(), AllocError>
-        ensures { OnOk result (IsRaised count slot self.old self.new) }
+        ensures raised { OnOk result (IsRaised count slot self.old.items self.new.items) }
+        ensures full { OnErr result (self.old.room < count) }
+        ensures keeps { self.old.room ≤ self.new.room }
     {
         if self.heights.len() < count {
             self.heights.resize(count, 0)?;
@@ -61,8 +64,10 @@ impl Heights {
         left: usize,
         right: usize,
     ) -> Result<bool, AllocError>
-        ensures turned { IfOk result (λ turned. turned ≡ is_lower self.old right left) }
-        ensures met { OnOk result (HaveMet count left right self.old self.new) }
+        ensures turned { IfOk result (λ turned. turned ≡ is_lower self.old.items right left) }
+        ensures met { OnOk result (HaveMet count left right self.old.items self.new.items) }
+        ensures full { OnErr result (self.old.room < count) }
+        ensures keeps { self.old.room ≤ self.new.room }
     {
         let left_height = self.height(left);
         let right_height = self.height(right);
@@ -74,7 +79,8 @@ impl Heights {
 
     /// Makes all heights 0, and keeps the memory.
     pub(crate) fn reset(&mut self)
-        ensures { self.new ≡ [] }
+        ensures items { self.new.items ≡ [] }
+        ensures keeps { self.old.room ≤ self.new.room }
     {
         self.heights.clear();
     }

@@ -27,8 +27,8 @@ impl Buffers {
     /// Empties the buffers, and keeps their memory.
     pub(crate) fn clear(&mut self)
         ensures keys { self.new.keys.keys ≡ [] }
-        ensures heights { self.new.heights ≡ [] }
-        ensures states { AreNew self.new.states }
+        ensures heights { self.new.heights.items ≡ [] }
+        ensures states { AreNew self.new.states.items }
         ensures visits { self.new.visits.items ≡ [] }
     {
         // Clearing the set costs as much as it ever held.

@@ -27,7 +27,7 @@ impl<'s, 'a> Unifier<'s, 'a> {
         requires left_small { length self.old.question.left.now < 2 ^ 64 }
         requires right_small { length self.old.question.right.now < 2 ^ 64 }
         requires no_keys { self.old.keys.now.keys ≡ [] }
-        requires fresh { AreNew states.old }
+        requires fresh { AreNew states.old.items }
         requires no_visits { visits.old.items ≡ [] }
         ensures answered { IfOk result (HasAnswered self.old.question self.old.trail.now.pairs
             self.new.trail.now.pairs) }

@@ -1,5 +1,6 @@
 // How far the search for a circle has come with each slot.
-ghost use Rattle.std.specs.Prelude.{◌≡◌, ◌<◌, ◌≤◌, [], Some, length, set, slice_get, OnOk};
+ghost use Rattle.std.specs.Prelude.{◌≡◌, ◌≢◌, ◌<◌, ◌≤◌, [], Some, length, set, slice_get, OnOk, OnErr};
+ghost use Rattle.si_unify.specs.declared.states.State.TheVariants.{New};
 ghost use Rattle.si_unify.specs.States.{AreNew};
 
 use std::alloc::{AllocError, Global};
@@ -16,30 +17,33 @@ pub(crate) enum State {
     Done,
 }
 
-/// The states of slots. Contracts see them as a list.
+/// The states of slots. Contracts see them as a list, and for how many slots there is room.
 #[derive(Drop)]
 pub(crate) struct States {
     states: Vec<State>,
-    // The slots that aren't new.
+    // The slots that aren't new. There is room for all.
     met: Vec<usize>,
 }
 
 impl Model for States {
-    ghost use Rattle.std.specs.Prelude.{List};
-    ghost use Rattle.si_unify.specs.declared.states.State.{State};
-    ghost use Rattle.si_unify.specs.States.{AreMet};
+    ghost use Rattle.std.specs.Prelude.{min, vec_capacity};
+    ghost use Rattle.si_unify.specs.States.{SlotStates, AreMet, HasRoomFor};
 
-    ghost Value = { List State };
+    ghost Value = { SlotStates };
 
-    ghost view = { λ s. s.states.items };
+    ghost view = { λ s. record {
+      items = s.states.items;
+      room = min (vec_capacity s.states) (vec_capacity s.met);
+    } };
 
-    ghost invariant = { λ s. AreMet s.states.items s.met.items };
+    ghost invariant = { λ s. AreMet s.states.items s.met.items
+        × HasRoomFor s.states.items s.met.items (vec_capacity s.met) };
 }
 
 impl States {
     /// The states of no slot.
     pub(crate) fn new(alloc: Global) -> States
-        ensures { result ≡ [] }
+        ensures { result.items ≡ [] }
     {
         States {
             states: Vec::new(alloc),
@@ -47,13 +51,17 @@ impl States {
         }
     }
 
-    /// Makes room for so many slots.
+    /// Makes room for so many slots. No other call takes memory.
     pub(crate) fn make_room(&mut self, count: usize) -> Result<(), AllocError>
-        requires { AreNew self.old }
-        ensures fresh { AreNew self.new }
-        ensures long { OnOk result (count ≤ length self.new) }
+        requires { AreNew self.old.items }
+        ensures fresh { AreNew self.new.items }
+        ensures long { OnOk result (count ≤ length self.new.items) }
+        ensures full { OnErr result (self.old.room < count) }
+        ensures keeps { self.old.room ≤ self.new.room }
+        ensures enough { OnOk result (count ≤ self.new.room) }
     {
         if self.states.len() < count {
+            self.met.reserve(count)?;
             self.states.resize(count, State::New)?;
         }
         Ok(())
@@ -61,27 +69,29 @@ impl States {
 
     /// The state of a slot.
     pub(crate) fn at(&self, slot: usize) -> State
-        requires { slot < length self.now }
-        ensures { slice_get self.now slot ≡ Some result }
+        requires { slot < length self.now.items }
+        ensures { slice_get self.now.items slot ≡ Some result }
     {
         self.states[slot]
     }
 
-    /// Gives a slot this state.
-    pub(crate) fn change(&mut self, slot: usize, state: State) -> Result<(), AllocError>
-        requires { slot < length self.old }
-        ensures { OnOk result (self.new ≡ set self.old slot state) }
+    /// Gives a slot this state, which isn't new.
+    pub(crate) fn change(&mut self, slot: usize, state: State)
+        requires slot { slot < length self.old.items }
+        requires state { state ≢ New }
+        ensures items { self.new.items ≡ set self.old.items slot state }
+        ensures room { self.new.room ≡ self.old.room }
     {
         if let State::New = self.states[slot] {
-            self.met.push(slot)?;
+            self.met.push_reserved(slot);
         }
         self.states[slot] = state;
-        Ok(())
     }
 
     /// Makes all slots new.
     pub(crate) fn reset(&mut self)
-        ensures { AreNew self.new }
+        ensures items { AreNew self.new.items }
+        ensures room { self.new.room ≡ self.old.room }
     {
         while let Some(slot) = self.met.pop() {
             self.states[slot] = State::New;

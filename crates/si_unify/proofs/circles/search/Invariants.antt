@@ -4,7 +4,7 @@ use Rattle.si_unify.proofs.Searching.{IsUnderWay}
 use Rattle.si_unify.proofs.circles.search.Given as goal
 
 abbrev pub invariant-loop-visit : goal.invariant-loop-visit
-invariant-loop-visit l = IsUnderWay l.slots l.trail.pairs l.fn.states l.states (reverse l.fn.visits.items) (reverse l.visits.items)
+invariant-loop-visit l = IsUnderWay l.slots l.trail.pairs l.fn.states.items l.states.items (reverse l.fn.visits.items) (reverse l.visits.items)
 
 abbrev pub decreases-loop-visit : goal.decreases-loop-visit
-decreases-loop-visit l = work l.states (reverse l.visits.items)
+decreases-loop-visit l = work l.states.items (reverse l.visits.items)

@@ -7,8 +7,8 @@ use Rattle.si_unify.proofs.HeightLaws.{stay, raised}
 use Rattle.si_unify.proofs.heights.Heights.raise.Goals.{then-len-count+in_ok-resize, else-len-count}
 use Rattle.si_unify.proofs.heights.Heights.raise.Goals as goal
 
-pub returns-then-slot-len : goal.returns-then-slot-len
-returns-then-slot-len c =
+pub returns-then-slot-len-clause-raised : goal.returns-then-slot-len-clause-raised
+returns-then-slot-len-clause-raised c =
     let old = c.self.inside.heights.items in
     let grown = c.if-len-count.self-inside.heights.items in
     let less : c.args.slot < length grown =
@@ -24,6 +24,6 @@ returns-then-slot-len c =
           (λ past below. w.in_ok-resize.ensures.by_index.1 other 0 refl (omega (arith, past, c.self.inside.heights.ok)) (omega (arith, below, w.in_ok-resize.ensures.len, w.resize.new.self.ok))))
       | else-len-count w ↦ λ other. ap (λ i. height i.heights.items other) w.self-inside-is
     ] in
-    subst (λ l. IsRaised c.args.count c.args.slot l (set grown c.args.slot c.saturating_add.result)) c.self.view_is
+    subst (λ h. IsRaised c.args.count c.args.slot h.items (set grown c.args.slot c.saturating_add.result)) c.self.view_is
     (raised old grown c.args.count c.args.slot c.saturating_add.result same less
     (c.saturating_add.ensures ∙ ap (λ h. min (h + 1) 255) (c.index.ensures ∙ get_or_default_zero grown c.args.slot c.index.result.now less ∙ same c.args.slot)))

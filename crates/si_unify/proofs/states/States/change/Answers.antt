@@ -1,20 +1,38 @@
-use Rattle.std.proofs.Common.{◌<◌, length, sym, ap, ◌∙◌, subst}
-use Rattle.si_unify.proofs.StateLaws.{new_changed, other_changed}
-use Rattle.si_unify.proofs.states.States.change.Goals.{in-New+in_ok-push, in_default}
+use Rattle.std.proofs.Common.{◌≡◌, ◌<◌, length, sym, ap, ◌∙◌, subst, arith}
+use Rattle.std.proofs.Math.ListN.{set}
+use Rattle.std.specs.Prelude.{vec_capacity}
+use Rattle.si_unify.specs.States.{HasRoomFor}
+use Rattle.si_unify.proofs.StateLaws.{new_changed, other_changed, room_for_one, room_after_one, room_as_before}
+use Rattle.si_unify.proofs.states.States.change.Goals.{in-New, in_default}
 use Rattle.si_unify.proofs.states.States.change.Goals as goal
 
-pub invariant_of-self-2 : goal.invariant_of-self-2
-invariant_of-self-2 c =
-    let less : c.args.slot < length c.self.inside.states.items = subst (λ l. c.args.slot < length l) (sym c.self.view_is) c.requires in
+pub push_reserved-requires : goal.push_reserved-requires
+push_reserved-requires c =
+    let less : c.args.slot < length c.self.inside.states.items = subst (λ s. c.args.slot < length s.items) (sym c.self.view_is) c.requires.slot in
+    omega (arith, room_for_one _ _ _ c.args.slot c.index.result.now c.self.invariant.1 less c.in-New.is c.index.ensures, c.self.inside.met.ok)
+
+pub invariant_of-self : goal.invariant_of-self
+invariant_of-self c =
+    let states = c.self.inside.states.items in
+    let now = c.match-index.self-inside.states.items in
+    let met = c.self.inside.met.items in
+    let now_met = c.match-index.self-inside.met.items in
+    let less : c.args.slot < length c.self.inside.states.items = subst (λ s. c.args.slot < length s.items) (sym c.self.view_is) c.requires.slot in
     elim c.match-index.branch [
-      | in-New+in_ok-push w ↦
-          new_changed c.self.inside.states.items c.match-index.self-inside.states.items c.self.inside.met.items c.match-index.self-inside.met.items c.args.slot c.args.state
-          (ap (λ i. i.states.items) w.self-inside-is)
-          (ap (λ i. i.met.items) w.self-inside-is ∙ w.in_ok-push.ensures.items)
-          c.self.invariant less
+      | in-New w ↦
+          let states_are : now ≡ states = ap (λ i. i.states.items) w.self-inside-is in
+          let met_are = ap (λ i. i.met.items) w.self-inside-is ∙ w.push_reserved.ensures.items in
+          let capacity : vec_capacity c.match-index.self-inside.met ≡ vec_capacity c.self.inside.met = ap (λ i. vec_capacity i.met) w.self-inside-is ∙ w.push_reserved.ensures.capacity in (
+            new_changed states now met now_met c.args.slot c.args.state states_are met_are c.self.invariant.0 less,
+            subst (HasRoomFor (set now c.args.slot c.args.state) now_met) (sym capacity)
+                (room_after_one states now met now_met _ c.args.slot c.args.state c.index.result.now states_are met_are c.self.invariant.1 less w.in-New.is c.index.ensures c.requires.state),
+          )
       | in_default w ↦
-          other_changed c.self.inside.states.items c.match-index.self-inside.states.items c.self.inside.met.items c.match-index.self-inside.met.items c.args.slot c.args.state c.index.result.now
-          (ap (λ i. i.states.items) w.self-inside-is)
-          (ap (λ i. i.met.items) w.self-inside-is)
-          c.self.invariant less w.in_default.not-New c.index.ensures
+          let states_are : now ≡ states = ap (λ i. i.states.items) w.self-inside-is in
+          let met_are : now_met ≡ met = ap (λ i. i.met.items) w.self-inside-is in
+          let capacity : vec_capacity c.match-index.self-inside.met ≡ vec_capacity c.self.inside.met = ap (λ i. vec_capacity i.met) w.self-inside-is in (
+            other_changed states now met now_met c.args.slot c.args.state c.index.result.now states_are met_are c.self.invariant.0 less w.in_default.not-New c.index.ensures,
+            subst (HasRoomFor (set now c.args.slot c.args.state) now_met) (sym capacity)
+                (room_as_before states now met now_met _ c.args.slot c.args.state states_are met_are c.self.invariant.1 less c.requires.state),
+          )
     ]

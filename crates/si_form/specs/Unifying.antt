@@ -4,14 +4,14 @@ use Rattle.std.specs.List.{AllByRecursion}
 use Rattle.si_defs.specs.Substitutions.{IsAmong}
 use Rattle.si_defs.specs.Terms as terms
 use Rattle.si_flat.specs.declared.Cell.{Cell}
-use Rattle.si_flat.specs.Cells.{Symbol, Variable, same_variable, Term, Terms, IsSound, StandsFor}
+use Rattle.si_flat.specs.Cells.{Symbol, Variable, same_variable, Term, Terms, IsSound, IsWhole, StandsFor}
 use Rattle.si_flat.specs.declared.Owner.{Owner}
 use Rattle.si_flat.specs.declared.Owner.TheVariants.{Query, Entry}
 use Rattle.si_unify.specs.declared.slots.Slots.{Slots}
 use Rattle.si_unify.specs.Solving.{Pairs, slot_count, slot_of, variable_of, IsSolvedBy}
 use Rattle.si_form.specs.declared.classes.Node.{Node}
 use Rattle.si_form.specs.declared.solution.Binding.{Binding}
-use Rattle.si_form.specs.Answers.{owners_variables, StandsForList}
+use Rattle.si_form.specs.Answers.{AreNumbered, owners_variables, StandsForList}
 use Rattle.si_form.specs.Classes.{slots_of, LeavesUnbound, HasClasses}
 use Rattle.si_form.specs.Folding.{leader, folded, AreClasses, AreLeaders, AreSizes}
 use Rattle.si_form.specs.Ordering.{list_of, uses_at, list_or_none, IsListed, AreOrdered}
@@ -20,6 +20,12 @@ use Rattle.si_form.specs.Ordering.{list_of, uses_at, list_or_none, IsListed, Are
 abbrev pub HasVariables : Owner → List Cell → ℕ → Type 0
 HasVariables owner cells n = (t : Term) → StandsFor cells t
     → terms.firsts same_variable (terms.variables t) ≡ owners_variables owner 0 n
+
+-- a query whose variables are counted
+pub record IsCounted (cells : List Cell) (variables : ℕ) : Type 0 where
+  pub whole : IsWhole cells
+  pub numbered : AreNumbered Query cells
+  pub counted : HasVariables Query cells variables
 
 abbrev pub IsApplication : Term → Type 0
 IsApplication t = (s : Symbol) × (ts : Terms) × (t ≡ terms.app s ts)

@@ -18,6 +18,7 @@ mod laws;
 mod leaders;
 mod matching;
 mod order;
+mod query;
 mod relations;
 mod solution;
 mod unifying;
@@ -28,7 +29,8 @@ pub use laws::{
     canonical_lists_are_unique, numbers_keep_answers, numbers_keep_relations,
     numbers_tell_symbols_apart, solutions_are_of_their_terms,
 };
-pub use relations::{canonical, canonical_with};
+pub use query::CountedQuery;
+pub use relations::{canonical, canonical_counted, canonical_with};
 pub use si_flat::Owner;
 pub use si_unify::Scratch;
 pub use solution::{Binding, Solution};

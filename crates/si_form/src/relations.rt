@@ -8,6 +8,7 @@ ghost use Rattle.si_form.specs.Matching.{binding_of, AreWholeImages, MatchAnswer
 ghost use Rattle.si_form.specs.SolutionParts.{AreNoLonger};
 
 use crate::matching::{Image, Images, matches};
+use crate::query::CountedQuery;
 use crate::solution::{Binding, Solution};
 use crate::unifying::unifier;
 use si_defs::Relation;
@@ -135,10 +136,30 @@ pub fn canonical_with(
     ensures short { IfOk result (λ list. IfSome list (AreNoLonger (max (length query.now)
         (length entry.now)))) }
 {
+    let counted = CountedQuery::new(query);
+    canonical_counted(scratch, alloc, relation, &counted, entry)
+}
+
+/// Does the same as [`canonical_with`] with a query whose variables were counted: for callers that
+/// ask often for one query.
+pub fn canonical_counted(
+    scratch: &mut Scratch,
+    alloc: Global,
+    relation: Relation,
+    query: &CountedQuery<'_>,
+    entry: &[Cell],
+) -> Result<Option<Solution>, AllocError>
+    requires whole { IsWhole entry.now }
+    requires entry { AreNumbered Entry entry.now }
+    ensures answers { IfOk result (Answers relation query.now entry.now) }
+    ensures short { IfOk result (λ list. IfSome list (AreNoLonger (max (length query.now)
+        (length entry.now)))) }
+{
+    let cells = query.cells;
     match relation {
-        Relation::Variants => variant(alloc, query, entry),
-        Relation::Instances => instance(alloc, query, entry),
-        Relation::Generalizations => generalization(alloc, query, entry),
-        Relation::Unifiable => unifier(scratch, alloc, query, entry),
+        Relation::Variants => variant(alloc, cells, entry),
+        Relation::Instances => instance(alloc, cells, entry),
+        Relation::Generalizations => generalization(alloc, cells, entry),
+        Relation::Unifiable => unifier(scratch, alloc, &query.slots_with(entry), cells, entry),
     }
 }

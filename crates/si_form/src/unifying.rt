@@ -3,10 +3,9 @@ ghost use Rattle.std.specs.Prelude.{◌≡◌, ◌<◌, false, length, max, IfOk
 ghost use Rattle.std.specs.List.{AllByRecursion};
 ghost use Rattle.si_defs.specs.declared.Relation.TheVariants.{Unifiable};
 ghost use Rattle.si_flat.specs.Cells.{IsWhole};
-ghost use Rattle.si_flat.specs.declared.Owner.TheVariants.{Query as OfQuery, Entry as OfEntry};
 ghost use Rattle.si_trail.specs.Trails.{HasDistinctSlots};
 ghost use Rattle.si_unify.specs.Solving.{slot_count, IsAcyclic, IsBinding};
-ghost use Rattle.si_form.specs.Answers.{AreNumbered, Answers};
+ghost use Rattle.si_form.specs.Answers.{Answers};
 ghost use Rattle.si_form.specs.Ordering.{list_of};
 ghost use Rattle.si_form.specs.SolutionParts.{AreNoLonger};
 ghost use Rattle.si_form.specs.Unifying.{IsBoundTo, AreFound, HasGeneral, HasRightSide, HaveRightSides, AreUses, slots_among, AreListed, ListsBindings, ListsAllBindings, AreFree, AreSlotsOf};
@@ -18,8 +17,8 @@ use crate::leaders::leaders;
 use crate::order::order;
 use crate::solution::Solution;
 use crate::uses::slots_of;
-use crate::variables::{count_variables, size};
-use si_flat::{Cell, Flat, Owner};
+use crate::variables::size;
+use si_flat::{Cell, Flat};
 use si_trail::Trail;
 use si_unify::{Scratch, Slots, solve_with};
 use std::alloc::{AllocError, Global};
@@ -182,44 +181,26 @@ fn whole_list<'a>(
     list(alloc, slots, &rights, &order)
 }
 
-// The slots of the variables of a query and an entry, all of which may be bound.
-fn slots_for(query: &[Cell], entry: &[Cell]) -> Slots
-    requires whole_query { IsWhole query.now }
-    requires whole_entry { IsWhole entry.now }
-    requires query { AreNumbered OfQuery query.now }
-    requires entry { AreNumbered OfEntry entry.now }
-    ensures { AreSlotsOf query.now entry.now result }
-{
-    Slots {
-        query: count_variables(Owner::Query, query),
-        entry: count_variables(Owner::Entry, entry),
-        inds: 0,
-        freeze_query: false,
-        freeze_entry: false,
-    }
-}
-
 // The canonical list that makes the query and the entry equal; `None` where nothing does. It solves
 // in memory that is lent.
 pub(crate) fn unifier(
     scratch: &mut Scratch,
     alloc: Global,
+    slots: &Slots,
     query: &[Cell],
     entry: &[Cell],
 ) -> Result<Option<Solution>, AllocError>
     requires whole_query { IsWhole query.now }
     requires whole_entry { IsWhole entry.now }
-    requires query { AreNumbered OfQuery query.now }
-    requires entry { AreNumbered OfEntry entry.now }
+    requires slots { AreSlotsOf query.now entry.now slots.now }
     ensures answers { IfOk result (Answers Unifiable query.now entry.now) }
     ensures short { IfOk result (λ list. IfSome list (AreNoLonger (max (length query.now)
         (length entry.now)))) }
 {
-    let slots = slots_for(query, entry);
     let mut trail = Trail::with_slots(alloc, slots.count())?;
-    if !solve_with(scratch, &mut trail, &slots, query, entry)? {
+    if !solve_with(scratch, &mut trail, slots, query, entry)? {
         return Ok(None);
     }
-    let solution = whole_list(alloc, &slots, &trail)?;
+    let solution = whole_list(alloc, slots, &trail)?;
     Ok(Some(solution))
 }

@@ -12,7 +12,7 @@ use Rattle.si_unify.specs.declared.slots.Slots.{Slots}
 use Rattle.si_unify.specs.Solving.{Pairs, slot_count, variable_of}
 use Rattle.si_form.specs.declared.classes.Node.{Node}
 use Rattle.si_form.specs.Classes.{HasClasses}
-use Rattle.si_form.specs.Folding.{leader, variable_or, folded, folded_all, AreClasses, AreLeaders, LeadClasses, AreSizes, HasTerms, CanFold, HasFolded}
+use Rattle.si_form.specs.Folding.{leader, variable_or, folded, folded_all, AreClasses, AreLeaders, HasTerms, Folded, IsFolded, CanFold, HasFolded}
 use Rattle.si_form.specs.Unifying.{IsApplication, StaysFree, IsToBind, IsRightSide, IsGeneral, HasGeneral, AreFound, IsBoundTo, HasRightSide, HaveRightSides}
 use Rattle.si_form.specs.Ordering.{list_of}
 use Rattle.si_form.proofs.UsesLaws.{get_or_front, get_or_last}
@@ -51,54 +51,58 @@ module _ (slots : Slots) (f : Variable → Term) where
 
 -- ---- a slot and its class
 -- the class of the slot stands for its image, and has its leader
-pub record IsClassOf (slots : Slots) (f : Variable → Term) (nodes : List Node) (classes : List ℕ) (leaders : List (Option ℕ)) (slot class : ℕ) : Type 0 where
+pub record IsClassOf (slots : Slots) (f : Variable → Term) (folding : Folded) (slot class : ℕ) : Type 0 where
   pub known : List Term
-  pub are : AreClasses slots f nodes classes known
-  pub led : AreLeaders slots f (slot_count slots) known leaders
+  pub are : AreClasses slots f folding.nodes folding.classes known
+  pub led : AreLeaders slots f (slot_count slots) known folding.leaders
   pub image_is : slice_get known class ≡ Some (f (variable_of slots slot))
-  pub leader_is : slice_get leaders class ≡ Some (leader slots f (f (variable_of slots slot)))
+  pub leader_is : slice_get folding.leaders class ≡ Some (leader slots f (f (variable_of slots slot)))
 
-module _ (slots : Slots) (pairs : Pairs) (nodes : List Node) (classes : List ℕ) (leaders : List (Option ℕ)) (sizes : List ℕ) (found : AreFound slots pairs nodes classes leaders sizes) (slot class : ℕ) (inside : slot < slot_count slots) (class_is : slice_get classes slot ≡ Some class) where
-  class_of : (f : Variable → Term) → IsGeneral slots pairs f → IsClassOf slots f nodes classes leaders slot class
+module _ (slots : Slots) (pairs : Pairs) (folding : Folded) (folds : IsFolded folding) (found : AreFound slots pairs folding) (slot class : ℕ) (inside : slot < slot_count slots) (class_is : slice_get folding.classes slot ≡ Some class) where
+  class_of : (f : Variable → Term) → IsGeneral slots pairs f → IsClassOf slots f folding slot class
   class_of f general =
       let knows = found.classes_are.knows f general.solves general.leaves in
-      let are : AreClasses slots f nodes classes knows.0 = record { are = knows.1; long = found.classes_are.long; knows = λ j less. knows.2 j less tt } in
+      let are : AreClasses slots f folding.nodes folding.classes knows.0 = record { are = knows.1; long = found.classes_are.long; knows = λ j less. knows.2 j less tt } in
       let own = knows.2 slot inside tt in
       let image : slice_get knows.0 class ≡ Some (f (variable_of slots slot)) =
       ap (slice_get knows.0) (same_Some class own.number (sym class_is ∙ own.class_is)) ∙ own.image_is in
+      let leads : AreLeaders slots f (slot_count slots) knows.0 folding.leaders =
+      subst (λ k. AreLeaders slots f k knows.0 folding.leaders) found.classes_are.long (folds.leads slots f knows.0 are) in
       record {
         known = knows.0;
         are = are;
-        led = found.led f knows.0 are;
+        led = leads;
         image_is = image;
-        leader_is = found.led f knows.0 are class (f (variable_of slots slot)) image;
+        leader_is = leads class (f (variable_of slots slot)) image;
       }
 
-  pub class_inside : class < length leaders
-  class_inside = let c = class_of found.some.0 found.some.1 in slice_get_within leaders class (leader slots found.some.0 (found.some.0 (variable_of slots slot))) c.leader_is
+  pub class_inside : class < length folding.nodes
+  class_inside =
+      let c = class_of found.some.0 found.some.1 in
+      omega (arith, folds.long, slice_get_within folding.leaders class (leader slots found.some.0 (found.some.0 (variable_of slots slot))) c.leader_is)
 
-  leader_at : (f : Variable → Term) → IsGeneral slots pairs f → (o : Option ℕ) → o ≡ get_or leaders class None → leader slots f (f (variable_of slots slot)) ≡ o
-  leader_at f general o is = sym (is ∙ get_or_from_slice_get leaders class (leader slots f (f (variable_of slots slot))) None (class_of f general).leader_is)
+  leader_at : (f : Variable → Term) → IsGeneral slots pairs f → (o : Option ℕ) → o ≡ get_or folding.leaders class None → leader slots f (f (variable_of slots slot)) ≡ o
+  leader_at f general o is = sym (is ∙ get_or_from_slice_get folding.leaders class (leader slots f (f (variable_of slots slot))) None (class_of f general).leader_is)
 
-  pub leader_inside : (w : ℕ) → Some w ≡ get_or leaders class None → w < slot_count slots
+  pub leader_inside : (w : ℕ) → Some w ≡ get_or folding.leaders class None → w < slot_count slots
   leader_inside w is =
       (led slots found.some.0 (slot_count slots) w (found.some.0 (variable_of slots slot)) (leader_at found.some.0 found.some.1 (Some w) is)).below
 
-  pub unled : None ≡ get_or leaders class None → HasRightSide slots pairs slot None
+  pub unled : None ≡ get_or folding.leaders class None → HasRightSide slots pairs slot None
   unled is f general b = none_led slots f (slot_count slots) (f (variable_of slots slot)) (leader_at f general None is) slot inside refl
 
-  pub follower_side : (w : ℕ) (cells : List Cell) → Some w ≡ get_or leaders class None → w ≢ slot → cells ≡ variable_cell (variable_of slots w) ∷ [] → HasRightSide slots pairs slot (Some cells)
+  pub follower_side : (w : ℕ) (cells : List Cell) → Some w ≡ get_or folding.leaders class None → w ≢ slot → cells ≡ variable_cell (variable_of slots w) ∷ [] → HasRightSide slots pairs slot (Some cells)
   follower_side w cells is apart cells_are f general =
       let leads = leader_at f general (Some w) is in (
         (inside, inl (w, leads, apart)),
         subst (StandsFor cells) (sym (right_of_follower slots f slot w leads apart)) (record { cells_are = cells_are; sound = tt }),
       )
 
-  pub unbound_side : Some slot ≡ get_or leaders class None → IsBoundTo slots pairs slot None → HasRightSide slots pairs slot None
+  pub unbound_side : Some slot ≡ get_or folding.leaders class None → IsBoundTo slots pairs slot None → HasRightSide slots pairs slot None
   unbound_side is none f general = let y = none f general in none_to_bind slots f slot y.0 (leader_at f general (Some slot) is) y.1
 
   module _ (size : ℕ) (bound : IsBoundTo slots pairs slot (Some size)) where
-    can_fold : (f : Variable → Term) (general : IsGeneral slots pairs f) → CanFold slots nodes leaders sizes class f (class_of f general).known (f (variable_of slots slot))
+    can_fold : (f : Variable → Term) (general : IsGeneral slots pairs f) → CanFold slots folding class f (class_of f general).known (f (variable_of slots slot))
     can_fold f general =
         let c = class_of f general in
         let app = bound.1 f general in
@@ -108,7 +112,6 @@ module _ (slots : Slots) (pairs : Pairs) (nodes : List Node) (classes : List ℕ
         record {
           are = c.are.are;
           led = c.led;
-          sized = found.sized;
           class_is = c.image_is;
           symbol = app.symbol;
           arguments = terms.substitute_all f app.arguments;
@@ -119,7 +122,7 @@ module _ (slots : Slots) (pairs : Pairs) (nodes : List Node) (classes : List ℕ
           fits = omega (arith, size_is, least, app.size_is, bound.0);
         }
 
-    pub some_fold : (f : Variable → Term) × (known : List Term) × (t : Term) × CanFold slots nodes leaders sizes class f known t
+    pub some_fold : (f : Variable → Term) × (known : List Term) × (t : Term) × CanFold slots folding class f known t
     some_fold = (
       found.some.0,
       (class_of found.some.0 found.some.1).known,
@@ -127,7 +130,7 @@ module _ (slots : Slots) (pairs : Pairs) (nodes : List Node) (classes : List ℕ
       can_fold found.some.0 found.some.1,
     )
 
-    pub leader_side : (cells : List Cell) → Some slot ≡ get_or leaders class None → HasFolded slots nodes leaders sizes class cells → HasRightSide slots pairs slot (Some cells)
+    pub leader_side : (cells : List Cell) → Some slot ≡ get_or folding.leaders class None → HasFolded slots folding class cells → HasRightSide slots pairs slot (Some cells)
     leader_side cells is folded_is f general =
         let leads = leader_at f general (Some slot) is in
         let app = bound.1 f general in (
@@ -174,11 +177,3 @@ sides_more slots pairs rights new right k long h is side = subst (HaveRightSides
               let before : j < length rights = omega (arith, e.1, less, long, length-append rights (right ∷ [])) in
               subst (λ o. IsRightSide slots f j (list_of o)) (sym (get_or_front rights (right ∷ []) j None before)) (h f general j before)
         ]
-
-pub found_of : (slots : Slots) (pairs : Pairs) (nodes : List Node) (classes : List ℕ) (leaders : List (Option ℕ)) (sizes : List ℕ) → HasGeneral slots pairs → HasClasses slots pairs nodes classes → LeadClasses slots nodes classes (length classes) leaders → AreSizes nodes leaders (length nodes) sizes → AreFound slots pairs nodes classes leaders sizes
-found_of slots pairs nodes classes leaders sizes some h leads sized = record {
-  some = some;
-  classes_are = h;
-  led = λ f known are. subst (λ k. AreLeaders slots f k known leaders) h.long (leads f known are);
-  sized = sized;
-}

@@ -13,8 +13,7 @@ use Rattle.si_flat.proofs.Subterms.{length-cells_of, length-cells_of_all}
 use Rattle.si_unify.specs.declared.slots.Slots.{Slots}
 use Rattle.si_unify.specs.Solving.{slot_count, variable_of}
 use Rattle.si_unify.proofs.Rows.{cells-join}
-use Rattle.si_form.specs.declared.classes.Node.{Node}
-use Rattle.si_form.specs.Folding.{leader, variable_or, folded, folded_all, HaveKnown, CanFold, HasFolded, Descends, WritesCells, HasWritten, IsWriting}
+use Rattle.si_form.specs.Folding.{leader, variable_or, folded, folded_all, HaveKnown, Folded, IsFolded, CanFold, HasFolded, Descends, WritesCells, HasWritten, IsWriting}
 use Rattle.si_form.proofs.SizeLaws.{exact_sizes}
 use Rattle.si_form.proofs.RightSides.{led}
 
@@ -28,15 +27,15 @@ all_variables-join P (terms.more t ts) us h k =
     all_append P (terms.variables t) (terms.variables_of_all (join ts us)) (all_front P (terms.variables t) (terms.variables_of_all ts) h)
     (all_variables-join P ts us (all_back P (terms.variables t) (terms.variables_of_all ts) h) k)
 
-module _ (slots : Slots) (nodes : List Node) (leaders : List (Option ℕ)) (sizes : List ℕ) (class : ℕ) where
+module _ (slots : Slots) (folding : Folded) (folds : IsFolded folding) (class : ℕ) where
   abbrev IsLed : (Variable → Term) → Variable → Type 0
   IsLed f y = leader slots f (terms.var y) ≡ None → ⊥
 
-  size_at : (f : Variable → Term) (known : List Term) (t : Term) → CanFold slots nodes leaders sizes class f known t → (n : ℕ) (u : Term) → slice_get known n ≡ Some u → terms.size (folded slots f u) ≤ 2 ^ 32 - 1 → get_or sizes n 0 ≡ terms.size (folded slots f u)
-  size_at f known t can n u at fits = get_or_from_slice_get sizes n (terms.size (folded slots f u)) 0 (exact_sizes slots f nodes known leaders sizes can.are can.led can.sized n u at fits)
+  size_at : (f : Variable → Term) (known : List Term) (t : Term) → CanFold slots folding class f known t → (n : ℕ) (u : Term) → slice_get known n ≡ Some u → terms.size (folded slots f u) ≤ 2 ^ 32 - 1 → get_or folding.sizes n 0 ≡ terms.size (folded slots f u)
+  size_at f known t can n u at fits = get_or_from_slice_get folding.sizes n (terms.size (folded slots f u)) 0 (exact_sizes slots f folding.nodes known folding.leaders folding.sizes can.are can.led folds.sized n u at fits)
 
   -- the symbol has been written
-  pub writing_begins : (left : List ℕ) (cells : List Cell) → WritesCells nodes sizes [] left [] cells class → IsWriting slots nodes leaders sizes class cells left 1
+  pub writing_begins : (left : List ℕ) (cells : List Cell) → WritesCells folding [] left [] cells class → IsWriting slots folding class cells left 1
   writing_begins left cells h f known t can =
       let w = h slots known can.symbol can.arguments terms.none can.are (can.class_is ∙ ap Some can.term_is) tt in
       let size = size_at f known t can class t can.class_is can.fits in
@@ -56,7 +55,7 @@ module _ (slots : Slots) (nodes : List Node) (leaders : List (Option ℕ)) (size
         count_is = ap length w.0;
       }
 
-  module _ (f : Variable → Term) (known : List Term) (t : Term) (can : CanFold slots nodes leaders sizes class f known t) where
+  module _ (f : Variable → Term) (known : List Term) (t : Term) (can : CanFold slots folding class f known t) where
     -- nothing is left
     pub written_none : (cells : List Cell) (k : ℕ) → HasWritten slots f known t cells [] k → cells ≡ cells_of (folded slots f t)
     written_none cells k h = by h.rest h.piled h.whole
@@ -93,7 +92,7 @@ module _ (slots : Slots) (nodes : List Node) (leaders : List (Option ℕ)) (size
       pub leads : AllByRecursion (IsLed f) (terms.variables_of_all rest)
       pub whole : cells ++ (cells_of (variable_or slots f (leader slots f term) (folded slots f term)) ++ cells_of_all (folded_all slots f rest)) ≡ cells_of (folded slots f t)
       pub count_is : length cells ≡ k
-      pub leader_at : slice_get leaders next ≡ Some (leader slots f term)
+      pub leader_at : slice_get folding.leaders next ≡ Some (leader slots f term)
 
     pub next_of : (next : ℕ) (left : List ℕ) (cells : List Cell) (k : ℕ) → HasWritten slots f known t cells (next ∷ left) k → HasNext next left cells k
     next_of next left cells k h = by h.rest h.piled h.leads h.whole
@@ -112,9 +111,9 @@ module _ (slots : Slots) (nodes : List Node) (leaders : List (Option ℕ)) (size
           leader_at = can.led next u p.0;
         }
 
-    pub written_variable : (next slot : ℕ) (left : List ℕ) (cells cells' : List Cell) (k : ℕ) → HasNext next left cells k → get_or leaders next None ≡ Some slot → cells' ≡ cells ++ variable_cell (variable_of slots slot) ∷ [] → HasWritten slots f known t cells' left (k + 1)
+    pub written_variable : (next slot : ℕ) (left : List ℕ) (cells cells' : List Cell) (k : ℕ) → HasNext next left cells k → get_or folding.leaders next None ≡ Some slot → cells' ≡ cells ++ variable_cell (variable_of slots slot) ∷ [] → HasWritten slots f known t cells' left (k + 1)
     written_variable next slot left cells cells' k h led is =
-        let leader_is : leader slots f h.term ≡ Some slot = sym (get_or_from_slice_get leaders next (leader slots f h.term) None h.leader_at) ∙ led in
+        let leader_is : leader slots f h.term ≡ Some slot = sym (get_or_from_slice_get folding.leaders next (leader slots f h.term) None h.leader_at) ∙ led in
         record {
           rest = h.rest;
           piled = h.piled;
@@ -127,11 +126,11 @@ module _ (slots : Slots) (nodes : List Node) (leaders : List (Option ℕ)) (size
           count_is = ap length is ∙ length-append cells (variable_cell (variable_of slots slot) ∷ []) ∙ omega (arith, h.count_is);
         }
 
-    pub written_symbol : (next : ℕ) (left left' : List ℕ) (cells cells' : List Cell) (k : ℕ) → HasNext next left cells k → get_or leaders next None ≡ None → WritesCells nodes sizes left left' cells cells' next → HasWritten slots f known t cells' left' (k + 1)
+    pub written_symbol : (next : ℕ) (left left' : List ℕ) (cells cells' : List Cell) (k : ℕ) → HasNext next left cells k → get_or folding.leaders next None ≡ None → WritesCells folding left left' cells cells' next → HasWritten slots f known t cells' left' (k + 1)
     written_symbol next left left' cells cells' k h led writes = by h.term h.term_is h.term_leads (leader_none) (ap (λ o. cells ++ (cells_of (variable_or slots f o (folded slots f h.term)) ++ cells_of_all (folded_all slots f h.rest))) (sym leader_none) ∙ h.whole)
       where
         leader_none : leader slots f h.term ≡ None
-        leader_none = sym (get_or_from_slice_get leaders next (leader slots f h.term) None h.leader_at) ∙ led
+        leader_none = sym (get_or_from_slice_get folding.leaders next (leader slots f h.term) None h.leader_at) ∙ led
 
         by : (u : Term) → slice_get known next ≡ Some u → AllByRecursion (IsLed f) (terms.variables u) → leader slots f u ≡ None → cells ++ (cells_of (folded slots f u) ++ cells_of_all (folded_all slots f h.rest)) ≡ cells_of (folded slots f t) → HasWritten slots f known t cells' left' (k + 1)
         by (terms.var y) at l none whole = absurd (l.0 none)
@@ -154,63 +153,61 @@ module _ (slots : Slots) (nodes : List Node) (leaders : List (Option ℕ)) (size
               leads = all_variables-join (IsLed f) us h.rest l h.leads;
               whole =
                   ap (λ m. m ++ cells_of_all (folded_all slots f (join us h.rest))) w.0
-                  ∙ append_assoc cells (cell.App s.number s.arity (get_or sizes next 0) ∷ []) (cells_of_all (folded_all slots f (join us h.rest)))
+                  ∙ append_assoc cells (cell.App s.number s.arity (get_or folding.sizes next 0) ∷ []) (cells_of_all (folded_all slots f (join us h.rest)))
                   ∙ ap (λ n. cells ++ (cell.App s.number s.arity n ∷ cells_of_all (folded_all slots f (join us h.rest)))) size
                   ∙ ap (λ m. cells ++ (cell.App s.number s.arity (terms.size (folded slots f (terms.app s us))) ∷ m)) (ap cells_of_all (folded-join slots f us h.rest) ∙ cells-join (folded_all slots f us) (folded_all slots f h.rest))
                   ∙ whole;
-              count_is = ap length w.0 ∙ length-append cells (cell.App s.number s.arity (get_or sizes next 0) ∷ []) ∙ omega (arith, h.count_is);
+              count_is = ap length w.0 ∙ length-append cells (cell.App s.number s.arity (get_or folding.sizes next 0) ∷ []) ∙ omega (arith, h.count_is);
             }
 
 -- ---- a symbol
-pub symbol_refused : (nodes : List Node) (sizes left left' : List ℕ) (cells cells' : List Cell) (class : ℕ) → Descends nodes left left' class None → WritesCells nodes sizes left left' cells cells' class
-symbol_refused nodes sizes left left' cells cells' class h slots known s ts rest are at have =
+pub symbol_refused : (folding : Folded) (left left' : List ℕ) (cells cells' : List Cell) (class : ℕ) → Descends folding.nodes left left' class None → WritesCells folding left left' cells cells' class
+symbol_refused folding left left' cells cells' class h slots known s ts rest are at have =
     let bad : None ≡ Some (s.number, s.arity) = (h slots known s ts rest are at have).0 in absurd (none-some (s.number, s.arity) bad)
 
-pub symbol_written : (nodes : List Node) (sizes left left' : List ℕ) (cells cells' : List Cell) (class a b size : ℕ) → Descends nodes left left' class (Some (a, b)) → size ≡ get_or sizes class 0 → cells' ≡ cells ++ cell.App a b size ∷ [] → WritesCells nodes sizes left left' cells cells' class
-symbol_written nodes sizes left left' cells cells' class a b size h size_is is slots known s ts rest are at have =
+pub symbol_written : (folding : Folded) (left left' : List ℕ) (cells cells' : List Cell) (class a b size : ℕ) → Descends folding.nodes left left' class (Some (a, b)) → size ≡ get_or folding.sizes class 0 → cells' ≡ cells ++ cell.App a b size ∷ [] → WritesCells folding left left' cells cells' class
+symbol_written folding left left' cells cells' class a b size h size_is is slots known s ts rest are at have =
     let r = h slots known s ts rest are at have in
     let pair : (a, b) ≡ (s.number, s.arity) = same_Some (a, b) (s.number, s.arity) r.0 in (
       is
           ∙ ap (λ n. cells ++ cell.App a b n ∷ []) size_is
-          ∙ ap (λ p. cells ++ cell.App p.0 p.1 (get_or sizes class 0) ∷ []) pair,
+          ∙ ap (λ p. cells ++ cell.App p.0 p.1 (get_or folding.sizes class 0) ∷ []) pair,
       r.1,
     )
 
-pub none_left : (nodes : List Node) (slots : Slots) (leaders : List (Option ℕ)) (sizes : List ℕ) (class : ℕ) (left : List ℕ) (cells : List Cell) (k : ℕ) → left ≡ [] → IsWriting slots nodes leaders sizes class cells left k → HasFolded slots nodes leaders sizes class cells
-none_left nodes slots leaders sizes class left cells k none h f known t can =
-    written_none slots nodes leaders sizes class f known t can cells k (subst (λ l. HasWritten slots f known t cells l k) none (h f known t can))
+pub none_left : (slots : Slots) (folding : Folded) → IsFolded folding → (class : ℕ) (left : List ℕ) (cells : List Cell) (k : ℕ) → left ≡ [] → IsWriting slots folding class cells left k → HasFolded slots folding class cells
+none_left slots folding folds class left cells k none h f known t can =
+    written_none slots folding folds class f known t can cells k (subst (λ l. HasWritten slots f known t cells l k) none (h f known t can))
 
 -- what is asked has a witness
-pub record IsAsked (slots : Slots) (leaders : List (Option ℕ)) (sizes : List ℕ) (next : ℕ) : Type 0 where
-  pub led : next < length leaders
-  pub sized : next < length sizes
-  pub slot_inside : (slot : ℕ) → get_or leaders next None ≡ Some slot → slot < slot_count slots
+pub record IsAsked (slots : Slots) (folding : Folded) (next : ℕ) : Type 0 where
+  pub class_inside : next < length folding.nodes
+  pub slot_inside : (slot : ℕ) → get_or folding.leaders next None ≡ Some slot → slot < slot_count slots
 
-pub asked : (slots : Slots) (nodes : List Node) (leaders : List (Option ℕ)) (sizes : List ℕ) (class next : ℕ) (left : List ℕ) (cells : List Cell) (k : ℕ) (f : Variable → Term) (known : List Term) (t : Term) → CanFold slots nodes leaders sizes class f known t → HasWritten slots f known t cells (next ∷ left) k → IsAsked slots leaders sizes next
-asked slots nodes leaders sizes class next left cells k f known t can h =
-    let n = next_of slots nodes leaders sizes class f known t can next left cells k h in
+pub asked : (slots : Slots) (folding : Folded) → IsFolded folding → (class next : ℕ) (left : List ℕ) (cells : List Cell) (k : ℕ) (f : Variable → Term) (known : List Term) (t : Term) → CanFold slots folding class f known t → HasWritten slots f known t cells (next ∷ left) k → IsAsked slots folding next
+asked slots folding folds class next left cells k f known t can h =
+    let n = next_of slots folding folds class f known t can next left cells k h in
     record {
-      led = slice_get_within leaders next (leader slots f n.term) n.leader_at;
-      sized = omega (arith, slice_get_within known next n.term n.term_is, can.are.long, can.sized.long);
-      slot_inside = λ slot e. (led slots f (slot_count slots) slot n.term (sym (get_or_from_slice_get leaders next (leader slots f n.term) None n.leader_at) ∙ e)).below;
+      class_inside = omega (arith, slice_get_within known next n.term n.term_is, can.are.long);
+      slot_inside = λ slot e. (led slots f (slot_count slots) slot n.term (sym (get_or_from_slice_get folding.leaders next (leader slots f n.term) None n.leader_at) ∙ e)).below;
     }
 
-module _ (slots : Slots) (nodes : List Node) (leaders : List (Option ℕ)) (sizes : List ℕ) (class next : ℕ) (left left' : List ℕ) (cells : List Cell) (k : ℕ) (is : left ≡ next ∷ left') (h : IsWriting slots nodes leaders sizes class cells left k) where
-  taken : (f : Variable → Term) (known : List Term) (t : Term) → CanFold slots nodes leaders sizes class f known t → HasWritten slots f known t cells (next ∷ left') k
+module _ (slots : Slots) (folding : Folded) (folds : IsFolded folding) (class next : ℕ) (left left' : List ℕ) (cells : List Cell) (k : ℕ) (is : left ≡ next ∷ left') (h : IsWriting slots folding class cells left k) where
+  taken : (f : Variable → Term) (known : List Term) (t : Term) → CanFold slots folding class f known t → HasWritten slots f known t cells (next ∷ left') k
   taken f known t can = subst (λ l. HasWritten slots f known t cells l k) is (h f known t can)
 
-  pub asked_of : (f : Variable → Term) × (known : List Term) × (t : Term) × CanFold slots nodes leaders sizes class f known t → IsAsked slots leaders sizes next
-  asked_of w = asked slots nodes leaders sizes class next left' cells k w.0 w.1 w.2 w.3 (taken w.0 w.1 w.2 w.3)
+  pub asked_of : (f : Variable → Term) × (known : List Term) × (t : Term) × CanFold slots folding class f known t → IsAsked slots folding next
+  asked_of w = asked slots folding folds class next left' cells k w.0 w.1 w.2 w.3 (taken w.0 w.1 w.2 w.3)
 
-  pub writes_variable : (slot : ℕ) (cells' : List Cell) → get_or leaders next None ≡ Some slot → cells' ≡ cells ++ variable_cell (variable_of slots slot) ∷ [] → IsWriting slots nodes leaders sizes class cells' left' (k + 1)
+  pub writes_variable : (slot : ℕ) (cells' : List Cell) → get_or folding.leaders next None ≡ Some slot → cells' ≡ cells ++ variable_cell (variable_of slots slot) ∷ [] → IsWriting slots folding class cells' left' (k + 1)
   writes_variable slot cells' led is' f known t can =
-      written_variable slots nodes leaders sizes class f known t can next slot left' cells cells' k (next_of slots nodes leaders sizes class f known t can next left' cells k (taken f known t can)) led is'
+      written_variable slots folding folds class f known t can next slot left' cells cells' k (next_of slots folding folds class f known t can next left' cells k (taken f known t can)) led is'
 
-  pub writes_symbol : (left2 : List ℕ) (cells' : List Cell) → get_or leaders next None ≡ None → WritesCells nodes sizes left' left2 cells cells' next → IsWriting slots nodes leaders sizes class cells' left2 (k + 1)
+  pub writes_symbol : (left2 : List ℕ) (cells' : List Cell) → get_or folding.leaders next None ≡ None → WritesCells folding left' left2 cells cells' next → IsWriting slots folding class cells' left2 (k + 1)
   writes_symbol left2 cells' led writes f known t can =
-      written_symbol slots nodes leaders sizes class f known t can next left' left2 cells cells' k (next_of slots nodes leaders sizes class f known t can next left' cells k (taken f known t can)) led writes
+      written_symbol slots folding folds class f known t can next left' left2 cells cells' k (next_of slots folding folds class f known t can next left' cells k (taken f known t can)) led writes
 
-pub all_written : (slots : Slots) (nodes : List Node) (leaders : List (Option ℕ)) (sizes : List ℕ) (class : ℕ) (left : List ℕ) (cells : List Cell) (k : ℕ) → get_or sizes class 0 ≤ k → IsWriting slots nodes leaders sizes class cells left k → HasFolded slots nodes leaders sizes class cells
-all_written slots nodes leaders sizes class left cells k less h f known t can =
-    let size = size_at slots nodes leaders sizes class f known t can class t can.class_is can.fits in
-    written_all slots nodes leaders sizes class f known t can cells left k (omega (arith, less, size)) (h f known t can)
+pub all_written : (slots : Slots) (folding : Folded) → IsFolded folding → (class : ℕ) (left : List ℕ) (cells : List Cell) (k : ℕ) → get_or folding.sizes class 0 ≤ k → IsWriting slots folding class cells left k → HasFolded slots folding class cells
+all_written slots folding folds class left cells k less h f known t can =
+    let size = size_at slots folding folds class f known t can class t can.class_is can.fits in
+    written_all slots folding folds class f known t can cells left k (omega (arith, less, size)) (h f known t can)

@@ -10,6 +10,7 @@ use Rattle.si_unify.specs.declared.slots.Slots.{Slots}
 use Rattle.si_unify.specs.Solving.{slot_count, variable_of}
 use Rattle.si_form.specs.declared.classes.Node.{Node}
 use Rattle.si_form.specs.declared.classes.Node.TheVariants.{Variable as Of, Head, With}
+use Rattle.si_form.specs.declared.folding.Folding.TheInside.{Inside}
 use Rattle.si_form.specs.Classes.{AreNodes, KnowsSlot}
 
 abbrev pub same_numbered : Symbol → Symbol → Bool
@@ -136,13 +137,35 @@ pub record AreSizes (nodes : List Node) (leaders : List (Option ℕ)) (k : ℕ)
   pub sizes_are : (n : ℕ) (node : Node) → n < k → slice_get nodes n ≡ Some node
       → slice_get sizes n ≡ Some (node_size sizes leaders node)
 
+-- ---- classes with what is written for them
+-- the nodes, the classes of the variables by their slots, and the leader and the size of each class
+pub record Folded : Type 0 where
+  pub nodes : List Node
+  pub classes : List ℕ
+  pub leaders : List (Option ℕ)
+  pub sizes : List ℕ
+
+abbrev pub folded_of : Inside → Folded
+folded_of f =
+    record {
+      nodes = f.classes.nodes.keys;
+      classes = f.classes.of_slots.items;
+      leaders = f.leaders.items;
+      sizes = f.sizes.items;
+    }
+
+pub record IsFolded (f : Folded) : Type 0 where
+  pub terms : HasTerms f.nodes
+  pub long : length f.leaders ≡ length f.nodes
+  pub leads : (slots : Slots) → LeadClasses slots f.nodes f.classes (length f.classes) f.leaders
+  pub sized : AreSizes f.nodes f.leaders (length f.nodes) f.sizes
+
 -- ---- writing
 -- what is asked where the folded term of a class is to be written
-pub record CanFold (slots : Slots) (nodes : List Node) (leaders : List (Option ℕ)) (sizes : List ℕ)
-    (class : ℕ) (f : Variable → Term) (known : List Term) (t : Term) : Type 0 where
-  pub are : AreNodes slots nodes known
-  pub led : AreLeaders slots f (slot_count slots) known leaders
-  pub sized : AreSizes nodes leaders (length nodes) sizes
+pub record CanFold (slots : Slots) (folding : Folded) (class : ℕ) (f : Variable → Term)
+    (known : List Term) (t : Term) : Type 0 where
+  pub are : AreNodes slots folding.nodes known
+  pub led : AreLeaders slots f (slot_count slots) known folding.leaders
   pub class_is : slice_get known class ≡ Some t
   pub symbol : Symbol
   pub arguments : Terms
@@ -150,19 +173,19 @@ pub record CanFold (slots : Slots) (nodes : List Node) (leaders : List (Option �
   pub leads : AllByRecursion (λ y. leader slots f (terms.var y) ≡ None → ⊥) (terms.variables t)
   pub fits : terms.size (folded slots f t) ≤ 2 ^ 32 - 1
 
-abbrev pub HasFolded : Slots → List Node → List (Option ℕ) → List ℕ → ℕ → List Cell → Type 0
-HasFolded slots nodes leaders sizes class cells =
+abbrev pub HasFolded : Slots → Folded → ℕ → List Cell → Type 0
+HasFolded slots folding class cells =
     (f : Variable → Term) (known : List Term) (t : Term)
-    → CanFold slots nodes leaders sizes class f known t → cells ≡ cells_of (folded slots f t)
+    → CanFold slots folding class f known t → cells ≡ cells_of (folded slots f t)
 
 -- a class's symbol has been written; its arguments stand before the others
-abbrev pub WritesCells : List Node → List ℕ → List ℕ → List ℕ → List Cell → List Cell → ℕ → Type 0
-WritesCells nodes sizes left left' cells cells' class =
+abbrev pub WritesCells : Folded → List ℕ → List ℕ → List Cell → List Cell → ℕ → Type 0
+WritesCells folding left left' cells cells' class =
     (slots : Slots) (known : List Term) (s : Symbol) (ts rest : Terms)
-    → AreNodes slots nodes known
+    → AreNodes slots folding.nodes known
     → slice_get known class ≡ Some (terms.app s ts)
     → HaveKnown known left rest
-    → (cells' ≡ cells ++ cell.App s.number s.arity (slice_index_or sizes class 0) ∷ [])
+    → (cells' ≡ cells ++ cell.App s.number s.arity (slice_index_or folding.sizes class 0) ∷ [])
     × HaveKnown known left' (join ts rest)
 
 -- so many cells have been written, and these classes are left
@@ -175,8 +198,7 @@ pub record HasWritten (slots : Slots) (f : Variable → Term) (known : List Term
   pub whole : cells ++ cells_of_all (folded_all slots f rest) ≡ cells_of (folded slots f t)
   pub count_is : length cells ≡ k
 
-abbrev pub IsWriting : Slots → List Node → List (Option ℕ) → List ℕ → ℕ → List Cell → List ℕ
-    → ℕ → Type 0
-IsWriting slots nodes leaders sizes class cells left k =
+abbrev pub IsWriting : Slots → Folded → ℕ → List Cell → List ℕ → ℕ → Type 0
+IsWriting slots folding class cells left k =
     (f : Variable → Term) (known : List Term) (t : Term)
-    → CanFold slots nodes leaders sizes class f known t → HasWritten slots f known t cells left k
+    → CanFold slots folding class f known t → HasWritten slots f known t cells left k

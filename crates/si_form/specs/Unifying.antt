@@ -9,11 +9,10 @@ use Rattle.si_flat.specs.declared.Owner.{Owner}
 use Rattle.si_flat.specs.declared.Owner.TheVariants.{Query, Entry}
 use Rattle.si_unify.specs.declared.slots.Slots.{Slots}
 use Rattle.si_unify.specs.Solving.{Pairs, slot_count, slot_of, variable_of, IsSolvedBy}
-use Rattle.si_form.specs.declared.classes.Node.{Node}
 use Rattle.si_form.specs.declared.solution.Binding.{Binding}
 use Rattle.si_form.specs.Answers.{AreNumbered, owners_variables, StandsForList}
 use Rattle.si_form.specs.Classes.{slots_of, LeavesUnbound, HasClasses}
-use Rattle.si_form.specs.Folding.{leader, folded, AreClasses, AreLeaders, AreSizes}
+use Rattle.si_form.specs.Folding.{leader, folded, Folded}
 use Rattle.si_form.specs.Ordering.{list_of, uses_at, list_or_none, IsListed, AreOrdered}
 
 -- the variables of the cells' term are so many of the owner's
@@ -101,13 +100,9 @@ IsBoundTo slots pairs slot (Some size) =
     × ((f : Variable → Term) → IsGeneral slots pairs f → HasApplication slots f slot size)
 
 -- ---- what is known of the classes that the bindings make
-pub record AreFound (slots : Slots) (pairs : Pairs) (nodes : List Node) (classes : List ℕ)
-    (leaders : List (Option ℕ)) (sizes : List ℕ) : Type 0 where
+pub record AreFound (slots : Slots) (pairs : Pairs) (folding : Folded) : Type 0 where
   pub some : HasGeneral slots pairs
-  pub classes_are : HasClasses slots pairs nodes classes
-  pub led : (f : Variable → Term) (known : List Term) → AreClasses slots f nodes classes known
-      → AreLeaders slots f (slot_count slots) known leaders
-  pub sized : AreSizes nodes leaders (length nodes) sizes
+  pub classes_are : HasClasses slots pairs folding.nodes folding.classes
 
 -- the right side of the slot, by the map that the bindings make
 abbrev pub HasRightSide : Slots → Pairs → ℕ → Option (List Cell) → Type 0

@@ -1,15 +1,39 @@
 // Folded terms, from the numbers of classes.
-ghost use Rattle.std.specs.Prelude.{◌≡◌, ◌<◌, ◌≤◌, List, None, length, slice_index_or, reverse};
+ghost use Rattle.std.specs.Prelude.{◌≡◌, ◌<◌, ◌≤◌, List, None, Some, length, slice_get, slice_index_or, reverse};
 ghost use Rattle.std.specs.Prelude.{IfOk, OnOk};
+ghost use Rattle.std.specs.List.{AllByRecursion};
 ghost use Rattle.si_flat.specs.Cells.{Variable, Term};
 ghost use Rattle.si_form.specs.Folding.{HasTerms, Descends, part_size, node_size, IsBefore};
-ghost use Rattle.si_form.specs.Folding.{AreSizes, WritesCells, CanFold, HasFolded};
+ghost use Rattle.si_form.specs.Folding.{AreSizes, WritesCells, CanFold, HasFolded, IsFolded};
 
-use crate::classes::Node;
+use crate::classes::{Classes, Node};
+use crate::leaders::leaders;
 use indexmap::IndexSet;
 use si_flat::Cell;
 use si_unify::Slots;
 use std::alloc::{AllocError, Global};
+use std::marker::Model;
+
+/// Classes, and what is written for each of them. Where a class with a leader is a part of another,
+/// that variable is written.
+#[derive(Drop)]
+pub(crate) struct Folding {
+    classes: Classes,
+    // The slot of the leader of each class, if it has one,
+    leaders: Vec<Option<usize>>,
+    // and how many cells are written for it.
+    sizes: Vec<u32>,
+}
+
+impl Model for Folding {
+    ghost use Rattle.si_form.specs.Folding.{Folded, folded_of, IsFolded};
+
+    ghost Value = { Folded };
+
+    ghost view = { folded_of };
+
+    ghost invariant = { λ f. IsFolded (folded_of f) };
+}
 
 // The symbol of a class and its arity. The classes of the arguments are piled up, the first one on
 // top.
@@ -70,7 +94,7 @@ fn node_size(sizes: &[u32], leaders: &[Option<usize>], node: Node) -> u32
 }
 
 // The number of cells of each class. A class that is too large to be written has the largest one.
-pub(crate) fn sizes(
+fn sizes(
     alloc: Global,
     nodes: &IndexSet<Node>,
     leaders: &[Option<usize>],
@@ -91,63 +115,85 @@ pub(crate) fn sizes(
     Ok(sizes)
 }
 
-// Writes the symbol of a class, and piles up the classes of its arguments.
-fn write_symbol(
-    nodes: &IndexSet<Node>,
-    sizes: &[u32],
-    left: &mut Vec<usize>,
-    cells: &mut Vec<Cell>,
-    class: usize,
-) -> Result<(), AllocError>
-    requires terms { HasTerms nodes.now.keys }
-    requires sized { class < length sizes.now }
-    ensures { OnOk result (WritesCells nodes.now.keys sizes.now (reverse left.old.items)
-        (reverse left.new.items) cells.old.items cells.new.items class) }
-{
-    let Some((sym, arity)) = descend(nodes, left, class)? else {
-        return Ok(());
-    };
-    let len = sizes[class];
-    cells.push(Cell::App { sym, arity, len })?;
-    Ok(())
-}
-
-// The leader of a class.
-pub(crate) fn leader_of(leaders: &[Option<usize>], class: usize) -> Option<usize>
-    requires { class < length leaders.now }
-    ensures { result ≡ slice_index_or leaders.now class None }
-{
-    leaders[class]
-}
-
-// The cells of what a class stands for, its proper parts folded: where a class has a leader, that
-// is written.
-pub(crate) fn fold(
-    alloc: Global,
-    slots: &Slots,
-    nodes: &IndexSet<Node>,
-    leaders: &[Option<usize>],
-    sizes: &[u32],
-    class: usize,
-) -> Result<Vec<Cell>, AllocError>
-    requires none { slots.now.inds ≡ 0 }
-    requires folds { (f : Variable → Term) × (known : List Term) × (t : Term)
-        × CanFold slots.now nodes.now.keys leaders.now sizes.now class f known t }
-    ensures { IfOk result (λ cells. HasFolded slots.now nodes.now.keys leaders.now sizes.now class
-        cells.items) }
-{
-    let mut left = Vec::new(alloc);
-    let mut cells = Vec::new(alloc);
-    write_symbol(nodes, sizes, &mut left, &mut cells, class)?;
-    for _ in 1..sizes[class] {
-        let Some(next) = left.pop() else {
-            return Ok(cells);
-        };
-        let Some(slot) = leader_of(leaders, next) else {
-            write_symbol(nodes, sizes, &mut left, &mut cells, next)?;
-            continue;
-        };
-        cells.push(slots.cell_of(slot))?;
+impl Folding {
+    /// Finds the leaders and the sizes of these classes.
+    pub(crate) fn of(alloc: Global, classes: Classes) -> Result<Folding, AllocError>
+        requires terms { HasTerms classes.nodes.keys }
+        requires inside { AllByRecursion (λ n. n < length classes.nodes.keys)
+            classes.of_slots.items }
+        ensures nodes { IfOk result (λ f. f.nodes ≡ classes.nodes.keys) }
+        ensures classes { IfOk result (λ f. f.classes ≡ classes.of_slots.items) }
+    {
+        let leaders = leaders(alloc, &classes)?;
+        let sizes = sizes(alloc, &classes.nodes, &leaders)?;
+        Ok(Folding {
+            classes,
+            leaders,
+            sizes,
+        })
     }
-    Ok(cells)
+
+    /// The class of the variable of a slot.
+    pub(crate) fn class_of(&self, slot: usize) -> usize
+        requires { slot < length self.now.classes }
+        ensures class { slice_get self.now.classes slot ≡ Some result }
+        ensures folded { IsFolded self.now }
+    {
+        self.classes.of_slots[slot]
+    }
+
+    /// The slot of the leader of a class.
+    pub(crate) fn leader_of(&self, class: usize) -> Option<usize>
+        requires { class < length self.now.nodes }
+        ensures { result ≡ slice_index_or self.now.leaders class None }
+    {
+        self.leaders[class]
+    }
+
+    // Writes the symbol of a class, and piles up the classes of its arguments.
+    fn write_symbol(
+        &self,
+        left: &mut Vec<usize>,
+        cells: &mut Vec<Cell>,
+        class: usize,
+    ) -> Result<(), AllocError>
+        requires { class < length self.now.nodes }
+        ensures { OnOk result (WritesCells self.now (reverse left.old.items)
+            (reverse left.new.items) cells.old.items cells.new.items class) }
+    {
+        let Some((sym, arity)) = descend(&self.classes.nodes, left, class)? else {
+            return Ok(());
+        };
+        let len = self.sizes[class];
+        cells.push(Cell::App { sym, arity, len })?;
+        Ok(())
+    }
+
+    /// The cells of what a class stands for, its proper parts folded.
+    pub(crate) fn fold(
+        &self,
+        alloc: Global,
+        slots: &Slots,
+        class: usize,
+    ) -> Result<Vec<Cell>, AllocError>
+        requires none { slots.now.inds ≡ 0 }
+        requires folds { (f : Variable → Term) × (known : List Term) × (t : Term)
+            × CanFold slots.now self.now class f known t }
+        ensures { IfOk result (λ cells. HasFolded slots.now self.now class cells.items) }
+    {
+        let mut left = Vec::new(alloc);
+        let mut cells = Vec::new(alloc);
+        self.write_symbol(&mut left, &mut cells, class)?;
+        for _ in 1..self.sizes[class] {
+            let Some(next) = left.pop() else {
+                return Ok(cells);
+            };
+            let Some(slot) = self.leader_of(next) else {
+                self.write_symbol(&mut left, &mut cells, next)?;
+                continue;
+            };
+            cells.push(slots.cell_of(slot))?;
+        }
+        Ok(cells)
+    }
 }

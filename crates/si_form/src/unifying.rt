@@ -10,10 +10,9 @@ ghost use Rattle.si_form.specs.Ordering.{list_of};
 ghost use Rattle.si_form.specs.SolutionParts.{AreNoLonger};
 ghost use Rattle.si_form.specs.Unifying.{IsBoundTo, AreFound, HasGeneral, HasRightSide, HaveRightSides, AreUses, slots_among, AreListed, ListsBindings, ListsAllBindings, AreFree, AreSlotsOf};
 
-use crate::classes::{Classes, find_classes};
+use crate::classes::find_classes;
 use crate::direct::{binding, direct_list};
-use crate::folding::{fold, leader_of, sizes};
-use crate::leaders::leaders;
+use crate::folding::Folding;
 use crate::order::order;
 use crate::solution::Solution;
 use crate::uses::slots_of;
@@ -49,21 +48,18 @@ fn right_side<'a>(
     alloc: Global,
     slots: &Slots,
     trail: &Trail<&'a [Cell]>,
-    classes: &Classes,
-    leaders: &[Option<usize>],
-    sizes: &[u32],
+    folding: &Folding,
     slot: usize,
 ) -> Result<Option<Vec<Cell>>, AllocError>
     requires none { slots.now.inds ≡ 0 }
     requires bindings { AllByRecursion (IsBinding slots.now) trail.now.pairs }
     requires triangular { IsAcyclic slots.now trail.now.pairs }
-    requires found { AreFound slots.now trail.now.pairs classes.now.nodes.keys
-        classes.now.of_slots.items leaders.now sizes.now }
+    requires found { AreFound slots.now trail.now.pairs folding.now }
     requires inside { slot < slot_count slots.now }
     ensures { IfOk result (λ right. HasRightSide slots.now trail.now.pairs slot (list_of right)) }
 {
-    let class = classes.of_slots[slot];
-    let Some(leader) = leader_of(leaders, class) else {
+    let class = folding.class_of(slot);
+    let Some(leader) = folding.leader_of(class) else {
         return Ok(None);
     };
     if leader != slot {
@@ -73,7 +69,7 @@ fn right_side<'a>(
     let Some(_) = application_size(slots, trail, slot) else {
         return Ok(None);
     };
-    let cells = fold(alloc, slots, &classes.nodes, leaders, sizes, class)?;
+    let cells = folding.fold(alloc, slots, class)?;
     Ok(Some(cells))
 }
 
@@ -94,11 +90,10 @@ fn right_sides<'a>(
 {
     let count = trail.slots();
     let classes = find_classes(alloc, slots, trail)?;
-    let leaders = leaders(alloc, &classes)?;
-    let sizes = sizes(alloc, &classes.nodes, &leaders)?;
+    let folding = Folding::of(alloc, classes)?;
     let mut rights = Vec::new(alloc);
     for slot in 0..count {
-        let right = right_side(alloc, slots, trail, &classes, &leaders, &sizes, slot)?;
+        let right = right_side(alloc, slots, trail, &folding, slot)?;
         rights.push(right)?;
     }
     Ok(rights)

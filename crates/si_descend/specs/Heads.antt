@@ -24,8 +24,8 @@ abbrev pub KeepsVariables : Relation → Slots → Type 0
 KeepsVariables Variants slots = Unit {0}
 KeepsVariables relation slots = slots.freeze_entry ≡ true
 
--- no map that leaves frozen variables, and renames those of the second term where the relation wants
--- that, makes terms equal that begin so
+-- no map that leaves frozen variables, and renames those of the second term where the relation
+-- wants that, makes terms equal that begin so
 abbrev pub CannotMeet : Relation → Slots → Cell → Cell → Type 0
 CannotMeet relation slots one other =
     (s : Substitution Symbol Variable) (t u : Term)

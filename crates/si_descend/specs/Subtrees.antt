@@ -35,7 +35,7 @@ pub record AreEndsOf (slots : Slots) (pairs : Pairs) (ns ends : List ℕ) : Type
   pub free : AllByRecursion (λ r. EndsFree slots pairs r.0 r.1) rows
   pub distinct : AreDistinct ends
 
--- all of these indicators end after those that did before
+-- the ends of all of these indicators are put after those that were there
 abbrev pub AddsEnds : Slots → Pairs → List ℕ → List ℕ → List ℕ → Type 0
 AddsEnds slots pairs more old new =
     (ns : List ℕ) → AreEndsOf slots pairs ns old → AreEndsOf slots pairs (ns ++ more) new

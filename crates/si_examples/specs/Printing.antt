@@ -12,7 +12,7 @@ use Rattle.si_examples.specs.Solutions.{first_solution}
 abbrev pub c1 : Name
 c1 = record { kind = Word; text = codes "c1" }
 
--- a name that is no lower word stands in quotes, its quotes after backslashes
+-- a name that is no lower word stands in quotes, a backslash before each quote in it
 abbrev pub EscapedName : Type 0
 EscapedName = name_text (record { kind = Word; text = codes "it's" }) ≡ codes "'it\\'s'"
 

@@ -15,7 +15,7 @@ use Rattle.si_exist.proofs.NotAbsent.{there, and_then, either_way}
 use Rattle.si_exist.proofs.MatchLists.{pattern_list, entry_list}
 use Rattle.si_exist.proofs.FoldedLists.{canonical_list}
 
-pub one_list : (kind : Relation) → HasExactlyOneList kind
+pub one_list : (relation : Relation) → HasExactlyOneList relation
 one_list Variants p u h =
     let found = pattern_list p u h.0.0 h.0.1 in
     (found.0, (h, found.1), λ other k. one_match same_variable variable_is variable_self (pattern_term p) (entry_term u) other found.0 k.1 found.1)
@@ -30,25 +30,25 @@ one_list Unifiable p u h =
     (found.0, found.1, λ other k. one_unifier same_variable variable_is variable_self (pattern_term p) (entry_term u) other found.0 k found.1)
 
 -- literals are compared by their atoms, where their signs are the same
-pub one_solution : (kind : Relation) → HasExactlyOneSolution kind
-one_solution kind (literal_pattern l) (literal_entry k) h =
-    let found = one_list kind l.atom k.atom h.1 in
+pub one_solution : (relation : Relation) → HasExactlyOneSolution relation
+one_solution relation (literal_pattern l) (literal_entry k) h =
+    let found = one_list relation l.atom k.atom h.1 in
     (found.0, (h.0, found.1), λ other i. found.2 other i.1)
-one_solution kind (term_pattern t) (term_entry u) h = one_list kind t u h
-one_solution kind (literal_pattern l) (term_entry u) h = absurd h
-one_solution kind (term_pattern t) (literal_entry k) h = absurd h
+one_solution relation (term_pattern t) (term_entry u) h = one_list relation t u h
+one_solution relation (literal_pattern l) (term_entry u) h = absurd h
+one_solution relation (term_pattern t) (literal_entry k) h = absurd h
 
 -- each entry that stands in the relation has its hit
-pub an_answer : (kind : Relation) → HasAnAnswer kind
-an_answer kind pattern [] = there ([], refl)
-an_answer kind pattern ((c, e) ∷ es) =
-    and_then (an_answer kind pattern es)
+pub an_answer : (relation : Relation) → HasAnAnswer relation
+an_answer relation pattern [] = there ([], refl)
+an_answer relation pattern ((c, e) ∷ es) =
+    and_then (an_answer relation pattern es)
     (λ rest.
-    either_way (Stands kind pattern e.entry)
+    either_way (Stands relation pattern e.entry)
     (λ here.
     elim here [
       | inr gone ↦ there (rest.0, inr (gone, rest.1))
       | inl stands ↦
-          (let found = one_solution kind pattern e.entry stands in
+          (let found = one_solution relation pattern e.entry stands in
           there (record { clause = c; placed = e; solution = found.0 } ∷ rest.0, inl (stands, (found.0, rest.0, found.1, rest.1, refl))))
     ]))

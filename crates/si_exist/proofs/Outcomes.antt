@@ -25,12 +25,12 @@ use Rattle.si_exist.proofs.OneSolution.{an_answer}
 use Rattle.si_exist.proofs.TriedClauses.{accepted_or_refused, all_or_first_refused, goes}
 use Rattle.si_exist.proofs.LeastMaps.{subsuming, being_subsumed}
 
-counted : (kind : Relation) (pattern : Pattern) (es : List (Clause × Placed)) → IsNotAbsent ((n : ℕ) × CountsStanding kind pattern es n)
-counted kind pattern [] = there (0, refl)
-counted kind pattern ((c, e) ∷ es) =
-    and_then (counted kind pattern es)
+counted : (relation : Relation) (pattern : Pattern) (es : List (Clause × Placed)) → IsNotAbsent ((n : ℕ) × CountsStanding relation pattern es n)
+counted relation pattern [] = there (0, refl)
+counted relation pattern ((c, e) ∷ es) =
+    and_then (counted relation pattern es)
     (λ rest.
-    either_way (Stands kind pattern e.entry)
+    either_way (Stands relation pattern e.entry)
     (λ here.
     elim here [
       | inl stands ↦ there (1 + rest.0, inl (stands, (rest.0, rest.1, refl)))
@@ -75,8 +75,8 @@ module _ (setting : Setting) (state : State) where
         | inr free ↦ there (unknown_line name ∷ [], state, inl (free, refl, refl))
       ])
 
-  pub answers : (kind : Relation) (pattern : Pattern) → HasOutcome (query kind pattern)
-  answers kind pattern = and_then (an_answer kind pattern (state_entries state.clauses)) (λ a. there (answer_reply a.0, state, (a.0, a.1, refl, refl)))
+  pub answers : (relation : Relation) (pattern : Pattern) → HasOutcome (query relation pattern)
+  answers relation pattern = and_then (an_answer relation pattern (state_entries state.clauses)) (λ a. there (answer_reply a.0, state, (a.0, a.1, refl, refl)))
 
   pub finds_subsumers : (formula : List Literal) → HasOutcome (subsumers formula)
   finds_subsumers formula = and_then (subsuming formula state.clauses) (λ m. there (mapped_reply m.0, state, (m.0, m.1, refl, refl)))
@@ -104,9 +104,9 @@ module _ (setting : Setting) (state : State) where
       let none_at_all : NodeCounts = record { nodes = 0; leaves = 0; unmerged = 0 } in
       there (tree_reply none_at_all none_at_all, state, (none_at_all, none_at_all, refl, refl))
 
-  pub explains : (kind : Relation) (pattern : Pattern) → HasOutcome (explain kind pattern)
-  explains kind pattern =
-      and_then (counted kind pattern (state_entries state.clauses))
+  pub explains : (relation : Relation) (pattern : Pattern) → HasOutcome (explain relation pattern)
+  explains relation pattern =
+      and_then (counted relation pattern (state_entries state.clauses))
       (λ n. there (explain_line 0 0 n.0 ∷ [], state, (0, 0, n.0, n.1, refl, refl)))
 
   pub samples : (start count : ℕ) → HasOutcome (sample start count)

@@ -27,12 +27,12 @@ module _ (setting : Setting) (told : Option Files) (state : State) (line : Bytes
   of_command (add c) means = by_outcome (add c) means (adds setting state c)
   of_command (load file) means = and_then (load_of setting told file state) (λ l. there (l.0, l.1, l.2, loaded short file means l.3, l.4))
   of_command (remove name) means = by_outcome (remove name) means (removes setting state name)
-  of_command (query kind pattern) means = by_outcome (query kind pattern) means (answers setting state kind pattern)
+  of_command (query relation pattern) means = by_outcome (query relation pattern) means (answers setting state relation pattern)
   of_command (subsumers formula) means = by_outcome (subsumers formula) means (finds_subsumers setting state formula)
   of_command (subsumed formula) means = by_outcome (subsumed formula) means (finds_subsumed setting state formula)
   of_command stats means = by_outcome stats means (counts setting state)
   of_command tree means = by_outcome tree means (shows_trees setting state)
-  of_command (explain kind pattern) means = by_outcome (explain kind pattern) means (explains setting state kind pattern)
+  of_command (explain relation pattern) means = by_outcome (explain relation pattern) means (explains setting state relation pattern)
   of_command (sample start count) means = by_outcome (sample start count) means (samples setting state start count)
 
 pub right_step : (setting : Setting) (told : Option Files) (state : State) (line : Bytes) → HasRightStep setting told state line

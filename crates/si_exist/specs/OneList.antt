@@ -14,15 +14,15 @@ IsOfOne P = (list : Solution) × P list × ((other : Solution) → P other → o
 
 -- a pattern's term and an entry's that stand in the relation have exactly one canonical list
 abbrev pub HasExactlyOneList : Relation → Type 0
-HasExactlyOneList kind =
-    (p u : Term) → Relates same_variable kind (pattern_term p) (entry_term u)
-    → IsOfOne (IsCanonical same_variable kind (pattern_term p) (entry_term u))
+HasExactlyOneList relation =
+    (p u : Term) → Relates same_variable relation (pattern_term p) (entry_term u)
+    → IsOfOne (IsCanonical same_variable relation (pattern_term p) (entry_term u))
 
 -- so have a pattern and an entry
 abbrev pub HasExactlyOneSolution : Relation → Type 0
-HasExactlyOneSolution kind =
-    (pattern : Pattern) (entry : Entry) → Stands kind pattern entry
-    → IsOfOne (Solves kind pattern entry)
+HasExactlyOneSolution relation =
+    (pattern : Pattern) (entry : Entry) → Stands relation pattern entry
+    → IsOfOne (Solves relation pattern entry)
 
 -- it isn't so that there is none
 abbrev pub IsNotAbsent : Type 0 → Type 0
@@ -31,6 +31,6 @@ IsNotAbsent P = (P → ⊥) → ⊥
 -- A pattern has an answer among any entries. (Which of them stand in the relation isn't decided
 -- here.)
 abbrev pub HasAnAnswer : Relation → Type 0
-HasAnAnswer kind =
+HasAnAnswer relation =
     (pattern : Pattern) (entries : List (Clause × Placed))
-    → IsNotAbsent ((hits : List Hit) × IsAnswer kind pattern entries hits)
+    → IsNotAbsent ((hits : List Hit) × IsAnswer relation pattern entries hits)

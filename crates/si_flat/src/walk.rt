@@ -150,7 +150,7 @@ pub(crate) fn write_term<'a, T: SymTable>(
     }
 }
 
-// Puts the cell of a symbol before its arguments, which are all that stands after.
+// Puts the cell of a symbol before its arguments, which are all that follows.
 pub(crate) fn close(cells: &mut Vec<Cell>, at: usize, number: u32, arity: u32)
     requires inside { at < length cells.old.items }
     requires short { length cells.old.items - at < 2 ^ 32 }

@@ -14,8 +14,8 @@ use si_unify::Slots;
 use std::alloc::{AllocError, Global};
 use std::marker::Model;
 
-/// Classes, and what is written for each of them. Where a class with a leader is a part of another,
-/// that variable is written.
+/// Classes, and what is written for each. Where a class with a leader is a part of another, its
+/// leader's variable is written.
 #[derive(Drop)]
 pub(crate) struct Folding {
     classes: Classes,
@@ -134,7 +134,7 @@ impl Folding {
     }
 
     /// The class of the variable of a slot.
-    pub(crate) fn class_of(&self, slot: usize) -> usize
+    pub(crate) fn class_at(&self, slot: usize) -> usize
         requires { slot < length self.now.classes }
         ensures class { slice_get self.now.classes slot ≡ Some result }
         ensures folded { IsFolded self.now }

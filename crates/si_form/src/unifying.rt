@@ -58,7 +58,7 @@ fn right_side<'a>(
     requires inside { slot < slot_count slots.now }
     ensures { IfOk result (λ right. HasRightSide slots.now trail.now.pairs slot (list_of right)) }
 {
-    let class = folding.class_of(slot);
+    let class = folding.class_at(slot);
     let Some(leader) = folding.leader_of(class) else {
         return Ok(None);
     };

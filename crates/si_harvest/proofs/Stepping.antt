@@ -45,7 +45,7 @@ module _ (told : Option Files) (bounds : Bounds) (rules : Rules) where
   pub step_end : (old new : Reading) (state : List Clause) (items : List OpenFile) (f : OpenFile) → old.files.items ≡ items ++ f ∷ [] → AreBlanks (drop f.at f.bytes.items)
       → new.files.items ≡ items → new.fetches ≡ old.fetches → AreWithin old.files.items → StepsOn told bounds rules old new state state
   step_end old new state items f e b n m w = record {
-    under_way = λ start file u. at_end told bounds rules start file old new state items f e b n m u;
+    underway = λ start file u. at_end told bounds rules start file old new state items f e b n m u;
     within = subst AreWithin (sym n) (within_others items f (subst AreWithin e w));
     falls = falls_end bounds old new items f e n m;
   }
@@ -54,7 +54,7 @@ module _ (told : Option Files) (bounds : Bounds) (rules : Rules) where
       → IsItemRead f.bytes.items f.at (clause_item clause) end → new.files.items ≡ items ++ record f { at = end } ∷ [] → new.fetches ≡ old.fetches
       → TriesClause rules new.files.items clause state state' → AreWithin old.files.items → StepsOn told bounds rules old new state state'
   step_clause old new state state' items f end clause e r n m t w = record {
-    under_way = λ start file u. takes told bounds rules start file old new state state' items f end clause e r.begins n m t u;
+    underway = λ start file u. takes told bounds rules start file old new state state' items f end clause e r.begins n m t u;
     within = subst AreWithin (sym n) (within_moved items f end (subst AreWithin e w) r.within);
     falls = falls_item bounds old new items f (clause_item clause) end e r.begins n m;
   }
@@ -74,7 +74,7 @@ module _ (told : Option Files) (bounds : Bounds) (rules : Rules) where
       → middle.files.items ≡ items ++ record f { at = end } ∷ [] → middle.fetches ≡ old.fetches → OpensInside told bounds name chosen middle new
       → bounds.file ≤ MOST_OCCURRENCES → AreWithin old.files.items → StepsOn told bounds rules old new state state
   step_include old middle new state items f end name selection chosen e r l n m h b w = record {
-    under_way = λ start file u. enters told bounds rules start file old middle new state items f end name selection chosen e r.begins l n m h u;
+    underway = λ start file u. enters told bounds rules start file old middle new state items f end name selection chosen e r.begins l n m h u;
     within = within_entered told bounds name chosen middle new b h (subst AreWithin (sym n) (within_moved items f end (subst AreWithin e w) r.within));
     falls = falls_entered told bounds name chosen old middle new items f (include_item name selection) end e r.begins n m h;
   }

@@ -17,7 +17,7 @@ use Rattle.si_harvest.specs.Underway.{IsUnderway, AreWithin}
 -- it is under way, its places are within their files, and what it gained is counted
 pub record IsLoading (told : Option Files) (bounds : Bounds) (rules : Rules) (start : List Clause)
     (file : Bytes) (reading : Reading) (kept : List Clause) (loaded : Loaded) : Type 0 where
-  pub under_way : IsUnderway told bounds rules start file reading kept
+  pub underway : IsUnderway told bounds rules start file reading kept
   pub within : AreWithin reading.files.items
   pub counted : CountsNoMore loaded kept
   pub gained : Gained rules start loaded kept

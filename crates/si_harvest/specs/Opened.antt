@@ -79,8 +79,8 @@ HasFault told bounds rules start file made fault =
     × Loads files bounds rules start file events (Some fault)
     × (made ≡ fetches_made events (Some fault)))
 
--- A load of the file makes so many fetches: it ends with the last of them where the library fails at
--- that one.
+-- A load of the file makes so many fetches: it ends with the last of them where the library fails
+-- at that one.
 abbrev pub HasFetched : Option Files → Bounds → Rules → List Clause → Bytes → (made : ℕ) → Type 0
 HasFetched told bounds rules start file made =
     (name : Bytes) × HasFault told bounds rules start file made (failed name)

@@ -20,7 +20,7 @@ pub record FetchesOn (most made now calls calls_now : ℕ) : Type 0 where
 -- each load that is under way stays so, and less is left to read
 pub record StepsOn (told : Option Files) (bounds : Bounds) (rules : Rules) (old new : Reading)
     (before after : List Clause) : Type 0 where
-  pub under_way : (start : List Clause) (file : Bytes)
+  pub underway : (start : List Clause) (file : Bytes)
       → IsUnderway told bounds rules start file old before
       → IsUnderway told bounds rules start file new after
   pub within : AreWithin new.files.items

@@ -35,7 +35,8 @@ Lists (only names) None = ⊥
 Lists (only names) (Some set) = IsSetOf names set
 
 -- the reading of the file, inside those at these points, stands at this one
-pub record IsAtPoint (file : OpenFile) (outer : List ReadingPoint) (point : ReadingPoint) : Type 0 where
+pub record IsAtPoint (file : OpenFile) (outer : List ReadingPoint) (point : ReadingPoint)
+    : Type 0 where
   pub named : point.file ≡ file.name
   pub whole : point.bytes ≡ file.bytes.items
   pub among : point.opened ≡ file.name ∷ opened_at outer
@@ -81,7 +82,7 @@ pub record IsUnderway (told : Option Files) (bounds : Bounds) (rules : Rules) (s
       → Loads files bounds rules start file (events ++ others) fault
 
 -- ---- safety
--- no place is after the end of its file, and no file is larger than may be read
+-- no place is past the end of its file, and no file is larger than may be read
 pub record IsWithin (file : OpenFile) : Type 0 where
   pub place : file.at ≤ length file.bytes.items
   pub size : length file.bytes.items ≤ MOST_OCCURRENCES

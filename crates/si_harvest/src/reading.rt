@@ -118,7 +118,7 @@ impl Reading {
         add(store, clause, loaded)
     }
 
-    /// Opens a file that is included, and reads on after the include later.
+    /// Opens a file that is included, and goes on past the include later.
     #[tactic(auto, using(crate::proofs::Fetching::counted))]
     fn include<L: Library>(
         &mut self,

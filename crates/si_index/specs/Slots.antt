@@ -1,4 +1,4 @@
--- The kept clauses by their slots: in order, each with its key, after its place in the list.
+-- The kept clauses by their slots, in order: the place in the list, then the key and the clause.
 use Rattle.std.specs.Prelude.{◌≡◌, ℕ, ◌≤◌, List, length, slice_get, Some}
 use Rattle.si_defs.specs.Substitutions.{IsAmong}
 use Rattle.si_defs.specs.declared.TheConstants.{MOST_OCCURRENCES}

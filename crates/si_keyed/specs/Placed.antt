@@ -5,7 +5,7 @@ use Rattle.si_defs.specs.Substitutions.{IsAmong}
 use Rattle.si_keyed.specs.declared.keyed.Kept.{Kept}
 
 module _ {T : Type 0} where
-  -- the keys and items in order, each after its place; the first slot has the place n
+  -- the keys and items in order, each with its place in front; the first slot has the place n
   abbrev pub placed_from : ℕ → List (Option (Kept T)) → List (ℕ × (ℕ × T))
   placed_from n [] = []
   placed_from n (None ∷ slots) = placed_from (suc n) slots

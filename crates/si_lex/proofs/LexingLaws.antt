@@ -61,7 +61,7 @@ nothing_behind_stop d (t ∷ ts) u us (inl e) g = nothing ts (g.0 e.0) where
 nothing_behind_stop d (t ∷ ts) u us (inr e) g = nothing_behind_stop (open_behind d t) ts u us e.1 g.1
 
 -- ---- the tokens so far
--- the tokens up to the place after the blanks after them, and the number of brackets that are
+-- the tokens up to the place after the blanks that follow, and the number of brackets that are
 -- open there
 pub record IsSoFar (item : Bool) (bytes : Bytes) (at start : ℕ) (tokens : List Lexeme) (depth place : ℕ) : Type 0 where
   pub rest : Bytes

@@ -1,4 +1,4 @@
--- What a library counts after nothing, and after what two replies owe; and that its files stay.
+-- What a library counts where nothing is owed, and where two replies owe; and that its files stay.
 use Rattle.std.proofs.Common.{◌≡◌, ℕ, ◌+◌, Bool, refl, ap, ◌∙◌, arith}
 use Rattle.si_steps.specs.Loads.{Owed, nothing, together}
 use Rattle.si_io.specs.declared.counts.LibraryCounts.{LibraryCounts}

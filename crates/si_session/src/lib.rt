@@ -1,4 +1,4 @@
-//! Commands: one line of input, its reply, and the clauses after it.
+//! Commands: one line of input, its reply, and the clauses that are then kept.
 #![tactic(auto)]
 
 mod answer;

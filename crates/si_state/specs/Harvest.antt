@@ -155,7 +155,8 @@ module _ (files : Files) (bounds : Bounds) (rules : Rules) where
     pub data Continues : ReadingPoint → ℕ → List Clause → List Event → Option Fault → Type 0 where
       ended : (point : ReadingPoint) (made : ℕ) (clauses : List Clause) → AreBlanks point.rest
           → Continues point made clauses [] None
-      stuck : (point : ReadingPoint) (made : ℕ) (clauses : List Clause) (fault : Fault) → IsStuck point fault
+      stuck : (point : ReadingPoint) (made : ℕ) (clauses : List Clause) (fault : Fault)
+          → IsStuck point fault
           → Continues point made clauses [] (Some fault)
       passed_over : (point : ReadingPoint) (made : ℕ) (clauses : List Clause) (clause : Clause)
           (after : Bytes)
@@ -164,14 +165,18 @@ module _ (files : Files) (bounds : Bounds) (rules : Rules) where
           → (events : List Event) (fault : Option Fault)
           → Continues (record point { rest = after }) made clauses events fault
           → Continues point made clauses events fault
-      accepted : (point : ReadingPoint) (made : ℕ) (clauses : List Clause) (clause : Clause) (after : Bytes)
-          → BeginsWithItem point.rest (clause_item clause) after → IsSelected point.around clause.name
+      accepted : (point : ReadingPoint) (made : ℕ) (clauses : List Clause) (clause : Clause)
+          (after : Bytes)
+          → BeginsWithItem point.rest (clause_item clause) after
+          → IsSelected point.around clause.name
           → Accepts rules clauses clause (clauses ++ clause ∷ [])
           → (events : List Event) (fault : Option Fault)
           → Continues (record point { rest = after }) made (clauses ++ clause ∷ []) events fault
           → Continues point made clauses (attempt clause ∷ events) fault
-      refused : (point : ReadingPoint) (made : ℕ) (clauses : List Clause) (clause : Clause) (after : Bytes)
-          → BeginsWithItem point.rest (clause_item clause) after → IsSelected point.around clause.name
+      refused : (point : ReadingPoint) (made : ℕ) (clauses : List Clause) (clause : Clause)
+          (after : Bytes)
+          → BeginsWithItem point.rest (clause_item clause) after
+          → IsSelected point.around clause.name
           → (refusal : Refusal) → Refuses rules clauses clause refusal
           → Continues point made clauses (attempt clause ∷ []) (Some (rejected clause refusal))
       expanded : (point : ReadingPoint) (made : ℕ) (clauses : List Clause) (file : Bytes)

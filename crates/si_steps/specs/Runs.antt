@@ -46,7 +46,7 @@ Acts setting told state (a_word word) reply owed new =
     WordStep setting told state word reply owed new
 Acts setting told state (a_line line) reply owed new = Step setting told state line reply owed new
 
--- a strict run goes on after no refusal
+-- a strict run doesn't go on after a refusal
 abbrev pub GoesOn : (strict : Bool) → Reply → Type 0
 GoesOn strict reply = IsTrue strict → IsFalse (is_refusal reply)
 

@@ -1,4 +1,4 @@
--- Tasks: what is searched through, and what the parts of the search do by it.
+-- Tasks: what is searched through, and what each step of the search comes to.
 use Rattle.std.specs.Prelude.{ℕ, Bool, List, length, Option, [], Vec}
 use Rattle.std.specs.declared.alloc.Global.{Global}
 use Rattle.si_flat.specs.declared.Cell.{Cell}
@@ -29,7 +29,8 @@ StandsAt task = IsUnderway task.slots task.targets.now task.literals.now
 abbrev pub CannotGoOn : Task → List Choice → Pairs → Type 0
 CannotGoOn task = IsDead task.slots task.targets.now task.literals.now
 
--- It stands further on than after these choices, at this target; or there is no map.
+-- The search got further than these choices and this target, and goes on from the next one; or
+-- there is no map.
 abbrev pub Advances : Task → List Choice → ℕ → List Choice → Pairs → Option ℕ → Type 0
 Advances task choices from = GoesOnFrom task.slots task.literals.now task.targets.now
     (turns_left (length task.targets.now) choices from (length task.literals.now))

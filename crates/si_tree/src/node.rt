@@ -70,11 +70,13 @@ pub(crate) struct TreeNode {
     pub(crate) content: Content,
 }
 
-/// What stands below a node. A leaf has one slot for a posting, or a list.
+/// What a node has below it: an inner node its children, a leaf its postings.
 #[derive(Drop)]
 pub(crate) enum Content {
     Inner(Branches),
+    /// A leaf's first posting, if it still stands.
     One(Slot),
+    /// A leaf's postings, once there were two.
     Many(PostingList),
 }
 
@@ -95,7 +97,7 @@ impl Content {
         Ok(Content::One(slot))
     }
 
-    // A leaf with the posting of a slot, where one stands there, and another.
+    // A leaf with the posting of a slot, if one stands there, and another one.
     fn with_another(alloc: Global, slot: Slot, posting: Posting) -> Result<Content, AllocError>
         ensures { IfOk result (λ content. content_of content
             ≡ leaf (standing (slot ∷ []) ++ posting ∷ [])) }

@@ -6,7 +6,7 @@ use Rattle.std.proofs.lemmas.List.{get_or-set_same, get_or-set_other, get_or_pas
 use Rattle.std.specs.Prelude.{min}
 use Rattle.si_unify.specs.Heights.{height, IsRaised}
 
--- a list that zeros were put after shows the same heights
+-- a list to which zeros were appended shows the same heights
 pub stay :
     (old grown : List ℕ) (slot : ℕ)
     → length old ≤ length grown

@@ -16,4 +16,4 @@ pub mod Weights
 pub mod Triangular
 pub mod Answering
 pub mod Solutions
-pub mod UnderWay
+pub mod Underway

@@ -426,22 +426,22 @@ open_done slots pairs states slot visits new_visits h is_new e few =
     }
 
 -- ---- the whole search
-pub record IsUnderWay (slots : Slots) (pairs : Pairs) (old states : List State) (old_visits visits : List Visit) : Type 0 where
+pub record IsUnderway (slots : Slots) (pairs : Pairs) (old states : List State) (old_visits visits : List Visit) : Type 0 where
   pub searching : IsSearching slots pairs states visits
   pub stay : StayDone old states
   pub kept : (slot : ℕ) → IsAmong (visit_slots old_visits) slot → IsDone states slot ⊎ IsAmong (visit_slots visits) slot
 
-pub search_starts : (slots : Slots) (pairs : Pairs) (states : List State) (visits : List Visit) → IsSearching slots pairs states visits → IsUnderWay slots pairs states states visits visits
+pub search_starts : (slots : Slots) (pairs : Pairs) (states : List State) (visits : List Visit) → IsSearching slots pairs states visits → IsUnderway slots pairs states states visits visits
 search_starts slots pairs states visits h = record { searching = h; stay = λ z d. d; kept = λ z a. inr a }
 
-pub search_goes_on : (slots : Slots) (pairs : Pairs) (old states new : List State) (old_visits visits new_visits : List Visit) → IsUnderWay slots pairs old states old_visits visits → HasStepped slots pairs states new visits new_visits → IsUnderWay slots pairs old new old_visits new_visits
+pub search_goes_on : (slots : Slots) (pairs : Pairs) (old states new : List State) (old_visits visits new_visits : List Visit) → IsUnderway slots pairs old states old_visits visits → HasStepped slots pairs states new visits new_visits → IsUnderway slots pairs old new old_visits new_visits
 search_goes_on slots pairs old states new old_visits visits new_visits h s = record {
   searching = s.searching;
   stay = λ z d. s.stay z (h.stay z d);
   kept = λ z a. elim (h.kept z a) [ inl d ↦ inl (s.stay z d) | inr k ↦ s.kept z k ];
 }
 
-pub search_ends : (slots : Slots) (pairs : Pairs) (old states : List State) (old_visits : List Visit) → IsUnderWay slots pairs old states old_visits [] → HasSearched slots pairs old states old_visits true
+pub search_ends : (slots : Slots) (pairs : Pairs) (old states : List State) (old_visits : List Visit) → IsUnderway slots pairs old states old_visits [] → HasSearched slots pairs old states old_visits true
 search_ends slots pairs old states old_visits h = (h.searching, h.stay, λ z a. elim (h.kept z a) [ inl d ↦ d | inr n ↦ elim n [ ] ])
 
 -- ---- the same, where the visit is told by an equation

@@ -84,7 +84,7 @@ AreCovered slots pairs states before [] = Unit {0}
 AreCovered slots pairs states before (t ∷ ts) =
     IsCovered slots pairs states before t × AreCovered slots pairs states (visit_slot t ∷ before) ts
 
--- each visit's slot has a smaller rank than the slots being searched after it
+-- each visit's slot has a smaller rank than the open slots further down the stack
 abbrev pub RanksUnder : (ℕ → ℕ) → ℕ → Visit → Type 0
 RanksUnder rank slot (Enter other) = Unit {0}
 RanksUnder rank slot (Leave other) = rank slot < rank other

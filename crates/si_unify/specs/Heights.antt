@@ -6,7 +6,7 @@ pub record SlotHeights : Type 0 where
   pub items : List ℕ
   pub room : ℕ
 
--- after the end of the list they are 0
+-- past the end of the list they are 0
 abbrev pub height : List ℕ → ℕ → ℕ
 height heights slot = get_or heights slot 0
 

@@ -21,13 +21,13 @@ abbrev pub AreApart : Unifier → SpotPair → Type 0
 AreApart u = IsApart u.question u.trail.now.pairs
 
 -- what holds before each step
-pub record IsUnderWay (u : Unifier) : Type 0 where
+pub record IsUnderway (u : Unifier) : Type 0 where
   pub legal : IsLegal u.question u.trail.now.pairs
   pub keys : ArePairs u.question u.trail.now.pairs u.keys.now.keys
   pub room : slot_count u.question.slots ≤ u.trail.now.slots
 
--- it is the same question, in the same memory
-pub record GoesOn (old new : Unifier) : Type 0 where
+-- the question, the lent memory and the number of slots stay
+pub record KeepsQuestion (old new : Unifier) : Type 0 where
   pub question : new.question ≡ old.question
   pub trail : new.trail.ghost_name ≡ old.trail.ghost_name
   pub keys : new.keys.ghost_name ≡ old.keys.ghost_name

@@ -2,7 +2,7 @@
 ghost use Rattle.std.specs.Prelude.{◌≡◌, ◌+◌, ◌^◌, ◌<◌, [], length, IfOk};
 ghost use Rattle.si_defs.specs.Substitutions.{Grows};
 ghost use Rattle.si_unify.specs.Spots.{left_spot, right_spot, spots_of};
-ghost use Rattle.si_unify.specs.Unifying.{HasSubterm, AreApart, IsUnderWay, GoesOn, MakesMeet, MakesCompared, MakesClosed};
+ghost use Rattle.si_unify.specs.Unifying.{HasSubterm, AreApart, IsUnderway, KeepsQuestion, MakesMeet, MakesCompared, MakesClosed};
 
 use crate::equations::common_arity;
 use crate::spots::{Spot, Subterm};
@@ -13,7 +13,7 @@ use std::alloc::AllocError;
 impl<'s, 'a> Unifier<'s, 'a> {
     // Compares two spots whose symbols are the same, argument by argument.
     fn compare(&mut self, left: Subterm<'a>, right: Subterm<'a>) -> Result<bool, AllocError>
-        requires under_way { IsUnderWay self.old }
+        requires underway { IsUnderway self.old }
         requires apart { AreApart self.old (spots_of left right) }
         requires left { HasSubterm self.old left }
         requires right { HasSubterm self.old right }
@@ -22,7 +22,7 @@ impl<'s, 'a> Unifier<'s, 'a> {
         ensures compared { IfOk result (MakesCompared self.old self.new
             (spots_of left.entry right.entry)) }
         ensures grows { Grows self.old.trail.now.pairs self.new.trail.now.pairs }
-        ensures goes_on { GoesOn self.old self.new }
+        ensures keeps_question { KeepsQuestion self.old self.new }
     {
         let mut i = 1;
         let mut j = 1;
@@ -61,14 +61,14 @@ impl<'s, 'a> Unifier<'s, 'a> {
     // Makes the two terms of the question equal. It does what `meet` does at their first cells, but
     // compares their arguments at once: no other equation comes to this pair.
     pub(crate) fn meet_terms(&mut self) -> Result<bool, AllocError>
-        requires under_way { IsUnderWay self.old }
+        requires underway { IsUnderway self.old }
         requires none { self.old.keys.now.keys ≡ [] }
         requires left_small { length self.old.question.left.now < 2 ^ 64 }
         requires right_small { length self.old.question.right.now < 2 ^ 64 }
         ensures met { IfOk result (MakesMeet self.old self.new (left_spot self.old.question)
             (right_spot self.old.question)) }
         ensures grows { Grows self.old.trail.now.pairs self.new.trail.now.pairs }
-        ensures goes_on { GoesOn self.old self.new }
+        ensures keeps_question { KeepsQuestion self.old self.new }
     {
         let count = self.question.slots.count();
         let left = Subterm {
@@ -90,10 +90,10 @@ impl<'s, 'a> Unifier<'s, 'a> {
 
     // Compares the pairs, and those that come up, until none is left.
     pub(crate) fn close(&mut self) -> Result<bool, AllocError>
-        requires under_way { IsUnderWay self.old }
+        requires underway { IsUnderway self.old }
         ensures closed { IfOk result (MakesClosed self.old self.new) }
         ensures grows { Grows self.old.trail.now.pairs self.new.trail.now.pairs }
-        ensures goes_on { GoesOn self.old self.new }
+        ensures keeps_question { KeepsQuestion self.old self.new }
     {
         let mut next = 0;
         while next < self.keys.len() {

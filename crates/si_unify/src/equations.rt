@@ -2,7 +2,7 @@
 ghost use Rattle.std.specs.Prelude.{◌≡◌, false, Ok, IfOk, OnErr};
 ghost use Rattle.si_unify.specs.Heights.{is_right_lower};
 ghost use Rattle.si_unify.specs.Spots.{same_slot, common_arity};
-ghost use Rattle.si_unify.specs.Unifying.{HasSubterm, HasEnd, IsUnderWay, GoesOn, MakesMeet};
+ghost use Rattle.si_unify.specs.Unifying.{HasSubterm, HasEnd, IsUnderway, KeepsQuestion, MakesMeet};
 
 use crate::heights::Heights;
 use crate::slots::Slots;
@@ -57,7 +57,7 @@ impl<'s, 'a> Unifier<'s, 'a> {
     // Makes two spots equal of which neither is a bound variable's: it binds a variable, or adds
     // the two to the pairs that are to be compared.
     fn meet_ends(&mut self, left: Subterm<'a>, right: Subterm<'a>) -> Result<bool, AllocError>
-        requires under_way { IsUnderWay self.old }
+        requires underway { IsUnderway self.old }
         requires left { HasSubterm self.old left }
         requires right { HasSubterm self.old right }
         requires left_end { HasEnd self.old left.spot }
@@ -65,7 +65,7 @@ impl<'s, 'a> Unifier<'s, 'a> {
         ensures met { IfOk result (MakesMeet self.old self.new left.entry.spot right.entry.spot) }
         ensures no { result ≡ Ok false → self.new.trail.now.pairs ≡ self.old.trail.now.pairs }
         ensures err { OnErr result (self.new.trail.now.pairs ≡ self.old.trail.now.pairs) }
-        ensures goes_on { GoesOn self.old self.new }
+        ensures keeps_question { KeepsQuestion self.old self.new }
     {
         let left_cell = left.cells[0];
         let right_cell = right.cells[0];
@@ -106,13 +106,13 @@ impl<'s, 'a> Unifier<'s, 'a> {
 
     // Makes two spots equal.
     pub(crate) fn meet(&mut self, left: Subterm<'a>, right: Subterm<'a>) -> Result<bool, AllocError>
-        requires under_way { IsUnderWay self.old }
+        requires underway { IsUnderway self.old }
         requires left { HasSubterm self.old left }
         requires right { HasSubterm self.old right }
         ensures met { IfOk result (MakesMeet self.old self.new left.entry.spot right.entry.spot) }
         ensures no { result ≡ Ok false → self.new.trail.now.pairs ≡ self.old.trail.now.pairs }
         ensures err { OnErr result (self.new.trail.now.pairs ≡ self.old.trail.now.pairs) }
-        ensures goes_on { GoesOn self.old self.new }
+        ensures keeps_question { KeepsQuestion self.old self.new }
     {
         let left_end = self.follow(left);
         let right_end = self.follow(right);

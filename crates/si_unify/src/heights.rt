@@ -6,8 +6,8 @@ use std::alloc::{AllocError, Global};
 use std::marker::Model;
 
 /// The heights of slots: no chain of variables that were bound to variables in this call, and that
-/// ends at a slot, is longer than its height. Contracts see them as a list, after whose end they
-/// are 0, and for how many slots there is room.
+/// ends at a slot, is longer than its height. Contracts see a list, past whose end all heights are
+/// 0, and the number of slots that it has room for.
 ///
 /// Of two variables the lower one is bound to the higher one. So as many variables as two to the
 /// power of its height come to a slot, and no chain is longer than a logarithm of their number.

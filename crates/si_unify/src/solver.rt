@@ -7,7 +7,7 @@ ghost use Rattle.si_unify.specs.Scratch.{AreClear};
 ghost use Rattle.si_unify.specs.Solving.{slot_count, AreInRange, IsAcyclic, IsBinding, AreHandedIn, HasSolved};
 ghost use Rattle.si_unify.specs.States.{AreNew};
 ghost use Rattle.si_unify.specs.Spots.{HasAnswered};
-ghost use Rattle.si_unify.specs.Unifying.{IsUnderWay, GoesOn};
+ghost use Rattle.si_unify.specs.Unifying.{IsUnderway, KeepsQuestion};
 
 use crate::circles::{Visit, is_triangular};
 use crate::scratch::{Buffers, Scratch};
@@ -22,7 +22,7 @@ use std::alloc::{AllocError, Global};
 impl<'s, 'a> Unifier<'s, 'a> {
     // Makes the two terms equal, and leaves what it bound.
     fn solve(&mut self, states: &mut States, visits: &mut Vec<Visit>) -> Result<bool, AllocError>
-        requires under_way { IsUnderWay self.old }
+        requires underway { IsUnderway self.old }
         requires triangular { IsAcyclic self.old.question.slots self.old.trail.now.pairs }
         requires left_small { length self.old.question.left.now < 2 ^ 64 }
         requires right_small { length self.old.question.right.now < 2 ^ 64 }
@@ -32,7 +32,7 @@ impl<'s, 'a> Unifier<'s, 'a> {
         ensures answered { IfOk result (HasAnswered self.old.question self.old.trail.now.pairs
             self.new.trail.now.pairs) }
         ensures grows { Grows self.old.trail.now.pairs self.new.trail.now.pairs }
-        ensures goes_on { GoesOn self.old self.new }
+        ensures keeps_question { KeepsQuestion self.old self.new }
     {
         let mark = self.trail.mark();
         if !self.meet_terms()? {

@@ -17,11 +17,11 @@ pub(crate) enum State {
     Done,
 }
 
-/// The states of slots. Contracts see them as a list, and for how many slots there is room.
+/// The states of slots. Contracts see a list, and the number of slots that there is room for.
 #[derive(Drop)]
 pub(crate) struct States {
     states: Vec<State>,
-    // The slots that aren't new. There is room for all.
+    // The slots that aren't new. There is room for every slot that is still new.
     met: Vec<usize>,
 }
 
@@ -51,7 +51,7 @@ impl States {
         }
     }
 
-    /// Makes room for so many slots. No other call takes memory.
+    /// Makes room for so many slots, nine bytes for each. No other call takes memory.
     pub(crate) fn make_room(&mut self, count: usize) -> Result<(), AllocError>
         requires { AreNew self.old.items }
         ensures fresh { AreNew self.new.items }

@@ -76,8 +76,8 @@ fn heading<'t, 'b>(
     }
 }
 
-/// The tokens after what stands after the formula of a clause: annotations after a comma, if
-/// any, and the closing bracket.
+/// The tokens that are left once a clause is closed: after its formula come a comma and
+/// annotations, if any, and the closing bracket.
 fn closed<'t, 'b>(
     alloc: Global,
     tokens: &'t [Lexeme<'b>],

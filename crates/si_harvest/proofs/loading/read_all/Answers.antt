@@ -42,7 +42,7 @@ loop-reading-init g c =
     let bounds = bounds_of c.args.limits.now in
     record {
       loading = record {
-        under_way = begins told bounds (g.T.ClauseStore.rules c.args.store.now) (g.T.ClauseStore.clauses c.args.store.now) c.args.name.now c.new-reading.result c.enter.new.self
+        underway = begins told bounds (g.T.ClauseStore.rules c.args.store.now) (g.T.ClauseStore.clauses c.args.store.now) c.args.name.now c.new-reading.result c.enter.new.self
             c.new-reading.ensures.files c.new-reading.ensures.fetches c.in_ok-enter.ensures.entered;
         within = within_entered told bounds c.args.name.now None c.new-reading.result c.enter.new.self c.requires.file c.in_ok-enter.ensures.entered
             (subst AreWithin (sym c.new-reading.ensures.files) tt);
@@ -67,7 +67,7 @@ returns-in_err-step-clause-reads g c =
     let start = g.T.ClauseStore.clauses c.args.store.now in
     let invariant = c.loop-reading.invariant in
     let ended = steps_error _ told bounds _ rules c.loop-reading.reading c.step.new.self (g.T.ClauseStore.clauses c.loop-reading.store) (g.T.ClauseStore.clauses c.step.new.store) c.in_err-step.field-0.0 invariant.told invariant.rules c.in_err-step.ensures.stepped
-    start c.args.name.now invariant.loading.under_way in
+    start c.args.name.now invariant.loading.underway in
     reads_fault told bounds rules c.args.name.now c.from_residual-in_err-step.result c.in_err-step.field-0.0 start _ _ _ c.step.new.self.fetches c.from_residual-in_err-step.ensures.1
     (c.step.ensures.fetches.counted _ invariant.calls)
     (further_fetch bounds c.args.name.now _ invariant.may (c.step.ensures.fetches.few invariant.few))
@@ -86,10 +86,10 @@ returns-clause-reads g c =
       made = c.step.new.self.fetches;
       counted = c.step.ensures.fetches.counted _ invariant.calls;
       may = further_fetch bounds c.args.name.now _ invariant.may (c.step.ensures.fetches.few invariant.few);
-      first = inr (subst (λ n. HasFetched told bounds rules start c.args.name.now n) (sym over.2) invariant.loading.under_way.fetched);
+      first = inr (subst (λ n. HasFetched told bounds rules start c.args.name.now n) (sym over.2) invariant.loading.underway.fetched);
       right = subst (λ n. GainsByLoad told bounds rules start c.args.name.now n (g.T.ClauseStore.clauses c.step.new.store)) (sym over.2)
           (subst (λ s. GainsByLoad told bounds rules start c.args.name.now c.loop-reading.reading.fetches s) (sym over.1)
-          (is_over told bounds rules start c.args.name.now c.loop-reading.reading (g.T.ClauseStore.clauses c.loop-reading.store) over.0 invariant.loading.under_way));
+          (is_over told bounds rules start c.args.name.now c.loop-reading.reading (g.T.ClauseStore.clauses c.loop-reading.store) over.0 invariant.loading.underway));
       fault = tt;
     }
 

@@ -6,7 +6,7 @@ use Rattle.si_unify.proofs.Binding.{text_whole, cut_subterm}
 use Rattle.si_unify.proofs.unifier.Unifier.cells_at.Goals as goal
 
 pub sub-requires-clause-whole : goal.sub-requires-clause-whole
-sub-requires-clause-whole c = subst IsWhole (sym c.text.ensures) (text_whole _ _ _ c.requires.under_way.legal c.requires.spot)
+sub-requires-clause-whole c = subst IsWhole (sym c.text.ensures) (text_whole _ _ _ c.requires.underway.legal c.requires.spot)
 
 pub sub-requires-clause-inside : goal.sub-requires-clause-inside
 sub-requires-clause-inside c = subst (λ l. c.args.spot.at < length l) (sym c.text.ensures) (inside _ _ _ c.requires.spot.1)

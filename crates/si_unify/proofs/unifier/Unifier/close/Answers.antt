@@ -3,36 +3,36 @@ use Rattle.si_defs.proofs.ListLaws.{all_got}
 use Rattle.si_unify.specs.Spots.{IsApart}
 use Rattle.si_unify.specs.Unifying.{MakesCompared}
 use Rattle.si_unify.proofs.Closing.{closing_starts, closing_goes_on, closing_fails, closing_ends}
-use Rattle.si_unify.proofs.UnderWay.{stays, goes_further, under_way_still, spot_still, apart_still, compared_by}
+use Rattle.si_unify.proofs.Underway.{stays, goes_further, underway_still, spot_still, apart_still, compared_by}
 use Rattle.si_unify.proofs.unifier.Unifier.close.Goals as goal
 
 pub loop-next-init : goal.loop-next-init
 loop-next-init c = record {
-  closing_on = closing_starts c.args.self.now.question c.args.self.now.trail.now.pairs c.args.self.now.keys.now.keys c.requires.under_way.legal c.requires.under_way.keys;
+  closing_on = closing_starts c.args.self.now.question c.args.self.now.trail.now.pairs c.args.self.now.keys.now.keys c.requires.underway.legal c.requires.underway.keys;
   going_on = stays _;
 }
 
-pub cells_at-requires-clause-under_way : goal.cells_at-requires-clause-under_way
-cells_at-requires-clause-under_way c =
-    under_way_still c.args.self.now c.loop-next.self c.loop-next.invariant.going_on c.requires.under_way c.loop-next.invariant.closing_on.going
+pub cells_at-requires-clause-underway : goal.cells_at-requires-clause-underway
+cells_at-requires-clause-underway c =
+    underway_still c.args.self.now c.loop-next.self c.loop-next.invariant.going_on c.requires.underway c.loop-next.invariant.closing_on.going
 
 pub cells_at-requires-clause-spot : goal.cells_at-requires-clause-spot
 cells_at-requires-clause-spot c =
     let apart = all_got (IsApart c.args.self.now.question c.loop-next.self.trail.now.pairs) c.loop-next.self.keys.now.keys c.loop-next.next c.index-pair.result.now c.loop-next.invariant.closing_on.going.keys c.index-pair.ensures in
     spot_still c.args.self.now c.loop-next.self c.loop-next.invariant.going_on _ (_, apart.left)
 
-pub cells_at-requires-in-loop-next-clause-under_way : goal.cells_at-requires-in-loop-next-clause-under_way
-cells_at-requires-in-loop-next-clause-under_way c =
-    under_way_still c.args.self.now c.loop-next.self c.loop-next.invariant.going_on c.requires.under_way c.loop-next.invariant.closing_on.going
+pub cells_at-requires-in-loop-next-clause-underway : goal.cells_at-requires-in-loop-next-clause-underway
+cells_at-requires-in-loop-next-clause-underway c =
+    underway_still c.args.self.now c.loop-next.self c.loop-next.invariant.going_on c.requires.underway c.loop-next.invariant.closing_on.going
 
 pub cells_at-requires-in-loop-next-clause-spot : goal.cells_at-requires-in-loop-next-clause-spot
 cells_at-requires-in-loop-next-clause-spot c =
     let apart = all_got (IsApart c.args.self.now.question c.loop-next.self.trail.now.pairs) c.loop-next.self.keys.now.keys c.loop-next.next c.index-pair.result.now c.loop-next.invariant.closing_on.going.keys c.index-pair.ensures in
     spot_still c.args.self.now c.loop-next.self c.loop-next.invariant.going_on _ (_, apart.right)
 
-pub compare-requires-clause-under_way : goal.compare-requires-clause-under_way
-compare-requires-clause-under_way c =
-    under_way_still c.args.self.now c.loop-next.self c.loop-next.invariant.going_on c.requires.under_way c.loop-next.invariant.closing_on.going
+pub compare-requires-clause-underway : goal.compare-requires-clause-underway
+compare-requires-clause-underway c =
+    underway_still c.args.self.now c.loop-next.self c.loop-next.invariant.going_on c.requires.underway c.loop-next.invariant.closing_on.going
 
 pub compare-requires-clause-apart : goal.compare-requires-clause-apart
 compare-requires-clause-apart c =
@@ -51,9 +51,9 @@ returns-then-not-branch-clause-closed c =
     )
     )
 
-pub returns-then-not-branch-clause-goes_on : goal.returns-then-not-branch-clause-goes_on
-returns-then-not-branch-clause-goes_on c =
-    goes_further _ _ _ c.loop-next.invariant.going_on c.in_ok-compare.ensures.goes_on
+pub returns-then-not-branch-clause-keeps_question : goal.returns-then-not-branch-clause-keeps_question
+returns-then-not-branch-clause-keeps_question c =
+    goes_further _ _ _ c.loop-next.invariant.going_on c.in_ok-compare.ensures.keeps_question
 
 pub loop-next-preserved : goal.loop-next-preserved
 loop-next-preserved c = record {
@@ -67,7 +67,7 @@ loop-next-preserved c = record {
       c.in_ok-compare.ensures.compared
       )
       );
-  going_on = goes_further _ _ _ c.loop-next.invariant.going_on c.in_ok-compare.ensures.goes_on;
+  going_on = goes_further _ _ _ c.loop-next.invariant.going_on c.in_ok-compare.ensures.keeps_question;
 }
 
 pub returns-clause-closed : goal.returns-clause-closed

@@ -5,13 +5,13 @@ use Rattle.si_unify.proofs.Chains.{no_cell, head_inside}
 use Rattle.si_unify.proofs.Pieces.{piece_ends}
 use Rattle.si_unify.proofs.Binding.{same_whole}
 use Rattle.si_unify.proofs.Comparing.{comparing_starts, comparing_ends, comparing_descends, comparing_goes_on, comparing_fails, right_inside, left_part, right_part, left_size, right_size, moved}
-use Rattle.si_unify.proofs.UnderWay.{stays, goes_further, under_way_still, subterm_still, met_by}
+use Rattle.si_unify.proofs.Underway.{stays, goes_further, underway_still, subterm_still, met_by}
 use Rattle.si_unify.proofs.unifier.Unifier.compare.Goals as goal
 
 pub loop-i-init : goal.loop-i-init
 loop-i-init c = record {
   comparing_on =
-      comparing_starts _ _ _ (spots_of c.args.left c.args.right) c.args.left.cells.now c.args.right.cells.now c.requires.under_way.legal c.requires.under_way.keys c.requires.apart
+      comparing_starts _ _ _ (spots_of c.args.left c.args.right) c.args.left.cells.now c.args.right.cells.now c.requires.underway.legal c.requires.underway.keys c.requires.apart
       (same_whole _ _ _ _ c.requires.left c.requires.apart.left) (same_whole _ _ _ _ c.requires.right c.requires.apart.right);
   going_on = stays _;
 }
@@ -28,9 +28,9 @@ loop-i-preserved-in-Some c = record {
 pub sub-requires-in-None-clause-inside : goal.sub-requires-in-None-clause-inside
 sub-requires-in-None-clause-inside c = right_inside _ _ _ _ _ _ _ _ _ _ c.loop-i.invariant.comparing_on c.loop-i-test.true
 
-pub meet-requires-clause-under_way : goal.meet-requires-clause-under_way
-meet-requires-clause-under_way c =
-    under_way_still c.args.self.now c.loop-i.self c.loop-i.invariant.going_on c.requires.under_way c.loop-i.invariant.comparing_on.going
+pub meet-requires-clause-underway : goal.meet-requires-clause-underway
+meet-requires-clause-underway c =
+    underway_still c.args.self.now c.loop-i.self c.loop-i.invariant.going_on c.requires.underway c.loop-i.invariant.comparing_on.going
 
 pub meet-requires-clause-left : goal.meet-requires-clause-left
 meet-requires-clause-left c =
@@ -56,9 +56,9 @@ returns-then-not-branch-clause-compared c =
     )
     )
 
-pub returns-then-not-branch-clause-goes_on : goal.returns-then-not-branch-clause-goes_on
-returns-then-not-branch-clause-goes_on c =
-    goes_further _ _ _ c.loop-i.invariant.going_on c.in_ok-meet-in-None.ensures.goes_on
+pub returns-then-not-branch-clause-keeps_question : goal.returns-then-not-branch-clause-keeps_question
+returns-then-not-branch-clause-keeps_question c =
+    goes_further _ _ _ c.loop-i.invariant.going_on c.in_ok-meet-in-None.ensures.keeps_question
 
 pub overflow_add-i-in-None : goal.overflow_add-i-in-None
 overflow_add-i-in-None c = omega (arith, piece_ends _ _ _ c.sub.ensures.place c.loop-i-test.true, c.requires.left_small)
@@ -93,7 +93,7 @@ loop-i-preserved c = record {
       c.in_ok-meet-in-None.ensures.met
       )
       );
-  going_on = goes_further _ _ _ c.loop-i.invariant.going_on c.in_ok-meet-in-None.ensures.goes_on;
+  going_on = goes_further _ _ _ c.loop-i.invariant.going_on c.in_ok-meet-in-None.ensures.keeps_question;
 }
 
 pub returns-clause-compared : goal.returns-clause-compared

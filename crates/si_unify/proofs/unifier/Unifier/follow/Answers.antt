@@ -5,7 +5,7 @@ use Rattle.si_unify.proofs.unifier.Unifier.follow.Goals as goal
 
 pub loop-init : goal.loop-init
 loop-init c = record {
-  on_chain = chain_starts _ _ _ c.requires.under_way.legal (c.requires.subterm.term, c.requires.subterm.stands);
+  on_chain = chain_starts _ _ _ c.requires.underway.legal (c.requires.subterm.term, c.requires.subterm.stands);
   still_subterm = c.requires.subterm;
 }
 
@@ -42,7 +42,7 @@ loop-preserved c = record {
       chain_goes_on _ _ _ _ _ _ c.in-Some-get.value.now c.loop.invariant.on_chain
       (sym (c.in-Some.ensures ∙ ap (cell_slot c.args.self.now.question.slots) (head_is _ _ _ c.loop.invariant.still_subterm)))
       (sym c.in-Some-get.ensures);
-  still_subterm = value_subterm _ _ _ _ c.requires.under_way.legal (sym c.in-Some-get.ensures);
+  still_subterm = value_subterm _ _ _ _ c.requires.underway.legal (sym c.in-Some-get.ensures);
 }
 
 pub returns-clause-comes : goal.returns-clause-comes

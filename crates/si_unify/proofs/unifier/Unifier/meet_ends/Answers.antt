@@ -14,79 +14,79 @@ bounds-right-0 c = head_inside _ _ _ c.requires.right
 
 pub returns-then-same_slot-clause-met : goal.returns-then-same_slot-clause-met
 returns-then-same_slot-clause-met c =
-    same_variable_met _ _ _ _ _ c.requires.under_way.legal c.requires.under_way.keys
+    same_variable_met _ _ _ _ _ c.requires.underway.legal c.requires.underway.keys
     (same_told c.args.self.now.question.slots _ _ _ _ _ _ _ c.slot_of.ensures c.slot_of-2.ensures (head_is _ _ _ c.requires.left) (head_is _ _ _ c.requires.right) c.if-same_slot.ensures)
 
 pub bind-requires-clause-in_range : goal.bind-requires-clause-in_range
 bind-requires-clause-in_range c =
     let free = sym (c.in-Some.ensures ∙ ap (free_slot c.args.self.now.question.slots) (head_is _ _ _ c.requires.right)) in
-    let below : c.in-Some.slot < slot_count c.args.self.now.question.slots = free_below _ _ _ _ c.requires.under_way.legal c.requires.right_end.spot_is free in
-    omega (arith, c.requires.under_way.room)
+    let below : c.in-Some.slot < slot_count c.args.self.now.question.slots = free_below _ _ _ _ c.requires.underway.legal c.requires.right_end.spot_is free in
+    omega (arith, c.requires.underway.room)
 
 pub returns-in-Some-clause-met : goal.returns-in-Some-clause-met
 returns-in-Some-clause-met c =
     right_bound _ _ _ _ _ _ _
     (
     record {
-      legal = c.requires.under_way.legal;
-      apart = c.requires.under_way.keys;
+      legal = c.requires.underway.legal;
+      apart = c.requires.underway.keys;
       left_end = c.requires.left_end;
       right_end = c.requires.right_end;
       differ = same_told c.args.self.now.question.slots _ _ _ _ _ _ _ c.slot_of.ensures c.slot_of-2.ensures (head_is _ _ _ c.requires.left) (head_is _ _ _ c.requires.right) c.if-same_slot.ensures;
     }
     )
     (sym (c.in-Some.ensures ∙ ap (free_slot c.args.self.now.question.slots) (head_is _ _ _ c.requires.right)))
-    (binds_subterm _ _ _ _ _ c.requires.under_way.legal c.requires.left c.bind.ensures.pairs)
+    (binds_subterm _ _ _ _ _ c.requires.underway.legal c.requires.left c.bind.ensures.pairs)
 
 pub bind-requires-in-Some-left_free-clause-in_range : goal.bind-requires-in-Some-left_free-clause-in_range
 bind-requires-in-Some-left_free-clause-in_range c =
     let free = sym (c.in-Some-left_free.ensures ∙ ap (free_slot c.args.self.now.question.slots) (head_is _ _ _ c.requires.left)) in
-    let below : c.in-Some-left_free.slot < slot_count c.args.self.now.question.slots = free_below _ _ _ _ c.requires.under_way.legal c.requires.left_end.spot_is free in
-    omega (arith, c.requires.under_way.room)
+    let below : c.in-Some-left_free.slot < slot_count c.args.self.now.question.slots = free_below _ _ _ _ c.requires.underway.legal c.requires.left_end.spot_is free in
+    omega (arith, c.requires.underway.room)
 
 pub returns-in-Some-left_free-clause-met : goal.returns-in-Some-left_free-clause-met
 returns-in-Some-left_free-clause-met c =
     left_bound _ _ _ _ _ _ _
     (
     record {
-      legal = c.requires.under_way.legal;
-      apart = c.requires.under_way.keys;
+      legal = c.requires.underway.legal;
+      apart = c.requires.underway.keys;
       left_end = c.requires.left_end;
       right_end = c.requires.right_end;
       differ = same_told c.args.self.now.question.slots _ _ _ _ _ _ _ c.slot_of.ensures c.slot_of-2.ensures (head_is _ _ _ c.requires.left) (head_is _ _ _ c.requires.right) c.if-same_slot.ensures;
     }
     )
     (sym (c.in-Some-left_free.ensures ∙ ap (free_slot c.args.self.now.question.slots) (head_is _ _ _ c.requires.left)))
-    (binds_subterm _ _ _ _ _ c.requires.under_way.legal c.requires.right c.bind-in-Some-left_free.ensures.pairs)
+    (binds_subterm _ _ _ _ _ c.requires.underway.legal c.requires.right c.bind-in-Some-left_free.ensures.pairs)
 
 pub bind-requires-in-Some-right_free-clause-in_range : goal.bind-requires-in-Some-right_free-clause-in_range
 bind-requires-in-Some-right_free-clause-in_range c =
     let free = sym (c.in-Some-right_free.ensures ∙ ap (free_slot c.args.self.now.question.slots) (head_is _ _ _ c.requires.right)) in
-    let below : c.in-Some-right_free.slot < slot_count c.args.self.now.question.slots = free_below _ _ _ _ c.requires.under_way.legal c.requires.right_end.spot_is free in
-    omega (arith, c.requires.under_way.room)
+    let below : c.in-Some-right_free.slot < slot_count c.args.self.now.question.slots = free_below _ _ _ _ c.requires.underway.legal c.requires.right_end.spot_is free in
+    omega (arith, c.requires.underway.room)
 
 pub returns-in-Some-right_free-clause-met : goal.returns-in-Some-right_free-clause-met
 returns-in-Some-right_free-clause-met c =
     right_bound _ _ _ _ _ _ _
     (
     record {
-      legal = c.requires.under_way.legal;
-      apart = c.requires.under_way.keys;
+      legal = c.requires.underway.legal;
+      apart = c.requires.underway.keys;
       left_end = c.requires.left_end;
       right_end = c.requires.right_end;
       differ = same_told c.args.self.now.question.slots _ _ _ _ _ _ _ c.slot_of.ensures c.slot_of-2.ensures (head_is _ _ _ c.requires.left) (head_is _ _ _ c.requires.right) c.if-same_slot.ensures;
     }
     )
     (sym (c.in-Some-right_free.ensures ∙ ap (free_slot c.args.self.now.question.slots) (head_is _ _ _ c.requires.right)))
-    (binds_subterm _ _ _ _ _ c.requires.under_way.legal c.requires.left c.bind-in-Some-right_free.ensures.pairs)
+    (binds_subterm _ _ _ _ _ c.requires.underway.legal c.requires.left c.bind-in-Some-right_free.ensures.pairs)
 
 pub returns-in-None-clause-met : goal.returns-in-None-clause-met
 returns-in-None-clause-met c =
     clash_met _ _ c.args.self.now.trail.now.pairs _ [] _ _
     (
     record {
-      legal = c.requires.under_way.legal;
-      apart = c.requires.under_way.keys;
+      legal = c.requires.underway.legal;
+      apart = c.requires.underway.keys;
       left_end = c.requires.left_end;
       right_end = c.requires.right_end;
       differ = same_told c.args.self.now.question.slots _ _ _ _ _ _ _ c.slot_of.ensures c.slot_of-2.ensures (head_is _ _ _ c.requires.left) (head_is _ _ _ c.requires.right) c.if-same_slot.ensures;
@@ -101,8 +101,8 @@ returns-in-Some-eq0-clause-met c =
     constant_met _ _ _ _ _
     (
     record {
-      legal = c.requires.under_way.legal;
-      apart = c.requires.under_way.keys;
+      legal = c.requires.underway.legal;
+      apart = c.requires.underway.keys;
       left_end = c.requires.left_end;
       right_end = c.requires.right_end;
       differ = same_told c.args.self.now.question.slots _ _ _ _ _ _ _ c.slot_of.ensures c.slot_of-2.ensures (head_is _ _ _ c.requires.left) (head_is _ _ _ c.requires.right) c.if-same_slot.ensures;
@@ -116,8 +116,8 @@ returns-in_ok-insert_full-in-Some-common_arity-clause-met c =
     pair_met _ _ _ _ _ _ _ c.in_ok-insert_full-in-Some-common_arity.field-0.0
     (
     record {
-      legal = c.requires.under_way.legal;
-      apart = c.requires.under_way.keys;
+      legal = c.requires.underway.legal;
+      apart = c.requires.underway.keys;
       left_end = c.requires.left_end;
       right_end = c.requires.right_end;
       differ = same_told c.args.self.now.question.slots _ _ _ _ _ _ _ c.slot_of.ensures c.slot_of-2.ensures (head_is _ _ _ c.requires.left) (head_is _ _ _ c.requires.right) c.if-same_slot.ensures;

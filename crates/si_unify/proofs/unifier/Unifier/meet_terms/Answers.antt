@@ -7,23 +7,23 @@ use Rattle.si_unify.proofs.Answering.{left_subterm, right_subterm, met_at}
 use Rattle.si_unify.proofs.unifier.Unifier.meet_terms.Goals as goal
 
 pub bounds-left-0 : goal.bounds-left-0
-bounds-left-0 c = head_inside _ _ _ (left_subterm _ _ _ c.count-count.ensures.count c.requires.under_way.legal)
+bounds-left-0 c = head_inside _ _ _ (left_subterm _ _ _ c.count-count.ensures.count c.requires.underway.legal)
 
 pub bounds-right-0 : goal.bounds-right-0
-bounds-right-0 c = head_inside _ _ _ (right_subterm _ _ _ c.count-count.ensures.count c.requires.under_way.legal)
+bounds-right-0 c = head_inside _ _ _ (right_subterm _ _ _ c.count-count.ensures.count c.requires.underway.legal)
 
 pub compare-requires-clause-apart : goal.compare-requires-clause-apart
 compare-requires-clause-apart c =
-    let left = left_subterm _ _ _ c.count-count.ensures.count c.requires.under_way.legal in
-    let right = right_subterm _ _ _ c.count-count.ensures.count c.requires.under_way.legal in
+    let left = left_subterm _ _ _ c.count-count.ensures.count c.requires.underway.legal in
+    let right = right_subterm _ _ _ c.count-count.ensures.count c.requires.underway.legal in
     apart_at _ _ _ _ c.in-Some.field-0 (left.term, left.stands) (right.term, right.stands)
     (common_told _ _ _ _ _ (head_is _ _ _ left) (head_is _ _ _ right) c.in-Some.ensures)
 
 pub compare-requires-clause-left : goal.compare-requires-clause-left
-compare-requires-clause-left c = left_subterm _ _ _ c.count-count.ensures.count c.requires.under_way.legal
+compare-requires-clause-left c = left_subterm _ _ _ c.count-count.ensures.count c.requires.underway.legal
 
 pub compare-requires-clause-right : goal.compare-requires-clause-right
-compare-requires-clause-right c = right_subterm _ _ _ c.count-count.ensures.count c.requires.under_way.legal
+compare-requires-clause-right c = right_subterm _ _ _ c.count-count.ensures.count c.requires.underway.legal
 
 pub compare-requires-clause-left_small : goal.compare-requires-clause-left_small
 compare-requires-clause-left_small c = omega (arith, c.requires.left_small)
@@ -38,10 +38,10 @@ returns-in-Some-clause-met c =
     c.compare.ensures.compared
 
 pub meet-requires-clause-left : goal.meet-requires-clause-left
-meet-requires-clause-left c = left_subterm _ _ _ c.count-count.ensures.count c.requires.under_way.legal
+meet-requires-clause-left c = left_subterm _ _ _ c.count-count.ensures.count c.requires.underway.legal
 
 pub meet-requires-clause-right : goal.meet-requires-clause-right
-meet-requires-clause-right c = right_subterm _ _ _ c.count-count.ensures.count c.requires.under_way.legal
+meet-requires-clause-right c = right_subterm _ _ _ c.count-count.ensures.count c.requires.underway.legal
 
 pub returns-in-None-clause-met : goal.returns-in-None-clause-met
 returns-in-None-clause-met c = IfOk-weaker c.meet.result _ _ (λ b h. met_at _ _ _ _ _ _ b c.count-count.ensures.count h) c.meet.ensures.met

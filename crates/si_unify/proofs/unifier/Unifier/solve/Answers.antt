@@ -7,13 +7,13 @@ use Rattle.si_unify.specs.Spots.{left_spot, right_spot}
 use Rattle.si_unify.specs.Unifying.{MakesMeet, MakesClosed}
 use Rattle.si_unify.proofs.Comparing.{grows_on}
 use Rattle.si_unify.proofs.Answering.{front_of, front_within, answered, answered_unclosed, answered_unmet}
-use Rattle.si_unify.proofs.UnderWay.{goes_further, under_way_still, closed_by}
+use Rattle.si_unify.proofs.Underway.{goes_further, underway_still, closed_by}
 use Rattle.si_unify.proofs.unifier.Unifier.solve.Goals as goal
 
 pub returns-then-not-branch-clause-answered : goal.returns-then-not-branch-clause-answered
 returns-then-not-branch-clause-answered c =
     answered_unmet c.args.self.now.question c.args.self.now.trail.now.pairs c.meet_terms.new.self.trail.now.pairs c.args.self.now.keys.now.keys c.meet_terms.new.self.keys.now.keys
-    c.requires.no_keys c.requires.under_way.legal c.meet_terms.new.self.trail.now.pairs
+    c.requires.no_keys c.requires.underway.legal c.meet_terms.new.self.trail.now.pairs
     (
     subst
     (MakesMeet c.args.self.now c.meet_terms.new.self (left_spot c.args.self.now.question) (right_spot c.args.self.now.question))
@@ -23,8 +23,8 @@ returns-then-not-branch-clause-answered c =
 
 pub close-requires : goal.close-requires
 close-requires c = record {
-  under_way =
-      under_way_still c.args.self.now c.meet_terms.new.self c.in_ok-meet_terms.ensures.goes_on c.requires.under_way
+  underway =
+      underway_still c.args.self.now c.meet_terms.new.self c.in_ok-meet_terms.ensures.keeps_question c.requires.underway
       (
       subst
       (MakesMeet c.args.self.now c.meet_terms.new.self (left_spot c.args.self.now.question) (right_spot c.args.self.now.question))
@@ -36,13 +36,13 @@ close-requires c = record {
 pub returns-in_err-close-clause-grows : goal.returns-in_err-close-clause-grows
 returns-in_err-close-clause-grows c = grows_on _ _ _ c.in_ok-meet_terms.ensures.grows c.in_err-close.ensures.grows
 
-pub returns-in_err-close-clause-goes_on : goal.returns-in_err-close-clause-goes_on
-returns-in_err-close-clause-goes_on c = goes_further _ _ _ c.in_ok-meet_terms.ensures.goes_on c.in_err-close.ensures.goes_on
+pub returns-in_err-close-clause-keeps_question : goal.returns-in_err-close-clause-keeps_question
+returns-in_err-close-clause-keeps_question c = goes_further _ _ _ c.in_ok-meet_terms.ensures.keeps_question c.in_err-close.ensures.keeps_question
 
 pub returns-then-not-branch-2-clause-answered : goal.returns-then-not-branch-2-clause-answered
 returns-then-not-branch-2-clause-answered c =
     answered_unclosed c.args.self.now.question c.args.self.now.trail.now.pairs c.meet_terms.new.self.trail.now.pairs c.args.self.now.keys.now.keys c.meet_terms.new.self.keys.now.keys
-    c.requires.no_keys c.requires.under_way.legal
+    c.requires.no_keys c.requires.underway.legal
     (
     subst
     (MakesMeet c.args.self.now c.meet_terms.new.self (left_spot c.args.self.now.question) (right_spot c.args.self.now.question))
@@ -51,27 +51,27 @@ returns-then-not-branch-2-clause-answered c =
     )
     c.close.new.self.trail.now.pairs
     (
-    closed_by c.args.self.now c.meet_terms.new.self c.in_ok-meet_terms.ensures.goes_on c.close.new.self false
+    closed_by c.args.self.now c.meet_terms.new.self c.in_ok-meet_terms.ensures.keeps_question c.close.new.self false
     (subst (MakesClosed c.meet_terms.new.self c.close.new.self) c.if-not-branch-2.true c.in_ok-close.ensures.closed)
     )
 
 pub returns-then-not-branch-2-clause-grows : goal.returns-then-not-branch-2-clause-grows
 returns-then-not-branch-2-clause-grows c = grows_on _ _ _ c.in_ok-meet_terms.ensures.grows c.in_ok-close.ensures.grows
 
-pub returns-then-not-branch-2-clause-goes_on : goal.returns-then-not-branch-2-clause-goes_on
-returns-then-not-branch-2-clause-goes_on c = goes_further _ _ _ c.in_ok-meet_terms.ensures.goes_on c.in_ok-close.ensures.goes_on
+pub returns-then-not-branch-2-clause-keeps_question : goal.returns-then-not-branch-2-clause-keeps_question
+returns-then-not-branch-2-clause-keeps_question c = goes_further _ _ _ c.in_ok-meet_terms.ensures.keeps_question c.in_ok-close.ensures.keeps_question
 
 pub is_triangular-requires-clause-bindings : goal.is_triangular-requires-clause-bindings
 is_triangular-requires-clause-bindings c =
-    let goes = goes_further c.args.self.now c.meet_terms.new.self c.close.new.self c.in_ok-meet_terms.ensures.goes_on c.in_ok-close.ensures.goes_on in
+    let goes = goes_further c.args.self.now c.meet_terms.new.self c.close.new.self c.in_ok-meet_terms.ensures.keeps_question c.in_ok-close.ensures.keeps_question in
     let closed =
-    closed_by c.args.self.now c.meet_terms.new.self c.in_ok-meet_terms.ensures.goes_on c.close.new.self true
+    closed_by c.args.self.now c.meet_terms.new.self c.in_ok-meet_terms.ensures.keeps_question c.close.new.self true
     (subst (MakesClosed c.meet_terms.new.self c.close.new.self) c.if-not-branch-2.false c.in_ok-close.ensures.closed) in
     subst (λ q. AllByRecursion (IsBinding q.slots) c.close.new.self.trail.now.pairs) (sym goes.question) closed.0.bindings
 
 pub is_triangular-requires-clause-before : goal.is_triangular-requires-clause-before
 is_triangular-requires-clause-before c =
-    let goes = goes_further c.args.self.now c.meet_terms.new.self c.close.new.self c.in_ok-meet_terms.ensures.goes_on c.in_ok-close.ensures.goes_on in
+    let goes = goes_further c.args.self.now c.meet_terms.new.self c.close.new.self c.in_ok-meet_terms.ensures.keeps_question c.in_ok-close.ensures.keeps_question in
     let grows = grows_on c.args.self.now.trail.now.pairs c.meet_terms.new.self.trail.now.pairs c.close.new.self.trail.now.pairs c.in_ok-meet_terms.ensures.grows c.in_ok-close.ensures.grows in
     subst (λ q. IsAcyclic q.slots (take c.mark-mark.result c.close.new.self.trail.now.pairs)) (sym goes.question)
     (
@@ -88,11 +88,11 @@ is_triangular-requires-clause-within c =
 
 pub returns-clause-answered : goal.returns-clause-answered
 returns-clause-answered c =
-    let goes = goes_further c.args.self.now c.meet_terms.new.self c.close.new.self c.in_ok-meet_terms.ensures.goes_on c.in_ok-close.ensures.goes_on in
+    let goes = goes_further c.args.self.now c.meet_terms.new.self c.close.new.self c.in_ok-meet_terms.ensures.keeps_question c.in_ok-close.ensures.keeps_question in
     IfOk-weaker c.is_triangular.result _ _
     (λ b told.
     answered c.args.self.now.question c.args.self.now.trail.now.pairs c.meet_terms.new.self.trail.now.pairs c.args.self.now.keys.now.keys c.meet_terms.new.self.keys.now.keys
-    c.requires.no_keys c.requires.under_way.legal
+    c.requires.no_keys c.requires.underway.legal
     (
     subst
     (MakesMeet c.args.self.now c.meet_terms.new.self (left_spot c.args.self.now.question) (right_spot c.args.self.now.question))
@@ -101,7 +101,7 @@ returns-clause-answered c =
     )
     c.close.new.self.trail.now.pairs c.in_ok-close.ensures.grows
     (
-    closed_by c.args.self.now c.meet_terms.new.self c.in_ok-meet_terms.ensures.goes_on c.close.new.self true
+    closed_by c.args.self.now c.meet_terms.new.self c.in_ok-meet_terms.ensures.keeps_question c.close.new.self true
     (subst (MakesClosed c.meet_terms.new.self c.close.new.self) c.if-not-branch-2.false c.in_ok-close.ensures.closed)
     )
     b (subst (λ q. IsTold q.slots c.close.new.self.trail.now.pairs b) goes.question told))
@@ -110,5 +110,5 @@ returns-clause-answered c =
 pub returns-clause-grows : goal.returns-clause-grows
 returns-clause-grows c = grows_on _ _ _ c.in_ok-meet_terms.ensures.grows c.in_ok-close.ensures.grows
 
-pub returns-clause-goes_on : goal.returns-clause-goes_on
-returns-clause-goes_on c = goes_further _ _ _ c.in_ok-meet_terms.ensures.goes_on c.in_ok-close.ensures.goes_on
+pub returns-clause-keeps_question : goal.returns-clause-keeps_question
+returns-clause-keeps_question c = goes_further _ _ _ c.in_ok-meet_terms.ensures.keeps_question c.in_ok-close.ensures.keeps_question

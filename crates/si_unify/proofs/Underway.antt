@@ -6,12 +6,12 @@ use Rattle.si_unify.specs.declared.spots.Subterm.{Subterm}
 use Rattle.si_unify.specs.declared.unifier.Unifier.{Unifier}
 use Rattle.si_unify.specs.Solving.{slot_count}
 use Rattle.si_unify.specs.Spots.{IsSpot, IsSubterm, IsApart, IsLegal, ArePairs, IsGoingOn, HasMet, HasCompared, HasClosed}
-use Rattle.si_unify.specs.Unifying.{HasSpot, HasSubterm, AreApart, IsUnderWay, GoesOn, MakesMeet, MakesCompared, MakesClosed}
+use Rattle.si_unify.specs.Unifying.{HasSpot, HasSubterm, AreApart, IsUnderway, KeepsQuestion, MakesMeet, MakesCompared, MakesClosed}
 
-pub stays : (u : Unifier) → GoesOn u u
+pub stays : (u : Unifier) → KeepsQuestion u u
 stays u = record { question = refl; trail = refl; keys = refl; heights = refl; slots = refl }
 
-pub goes_further : (old mid new : Unifier) → GoesOn old mid → GoesOn mid new → GoesOn old new
+pub goes_further : (old mid new : Unifier) → KeepsQuestion old mid → KeepsQuestion mid new → KeepsQuestion old new
 goes_further old mid new first then = record {
   question = then.question ∙ first.question;
   trail = then.trail ∙ first.trail;
@@ -21,12 +21,12 @@ goes_further old mid new first then = record {
 }
 
 -- what was found out by the question as it was at first holds now, and the other way round
-module _ (old new : Unifier) (goes : GoesOn old new) where
-  pub under_way_still :
-      IsUnderWay old
+module _ (old new : Unifier) (goes : KeepsQuestion old new) where
+  pub underway_still :
+      IsUnderway old
       → IsGoingOn old.question old.trail.now.pairs new.trail.now.pairs old.keys.now.keys new.keys.now.keys
-      → IsUnderWay new
-  under_way_still before going = record {
+      → IsUnderway new
+  underway_still before going = record {
     legal = subst (λ q. IsLegal q new.trail.now.pairs) (sym goes.question) going.legal;
     keys = subst (λ q. ArePairs q new.trail.now.pairs new.keys.now.keys) (sym goes.question) going.keys;
     room = omega (arith, before.room, ap (λ q. slot_count q.slots) goes.question, goes.slots);

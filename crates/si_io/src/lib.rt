@@ -21,6 +21,3 @@ pub use memory::{MemoryLibrary, MemorySink, MemorySource};
 pub use real::{Disk, Input, Output, RealLibrary, RealSink, RealSource, System};
 pub use sink::{Sink, write_all};
 pub use source::Source;
-
-#[cfg(test)]
-mod tests;

@@ -4,8 +4,6 @@
 mod keyed;
 mod places;
 mod ranks;
-#[cfg(test)]
-mod tests;
 
 pub use keyed::{KeyedItems, KeyedList};
 pub use places::Places;

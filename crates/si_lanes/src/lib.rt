@@ -11,9 +11,6 @@ ghost use Rattle.si_lanes.specs.Rows.{IsSubset, AppendsPositions, SetsBit};
 use std::alloc::AllocError;
 use std::simd::prelude::*;
 
-#[cfg(test)]
-mod tests;
-
 /// A row of 256 bits.
 pub type Row = [u64; 4];
 

@@ -5,4 +5,3 @@ pub mod WalkLaws
 pub mod PairLaws
 pub mod PairTurns
 pub mod SplitParts
-pub mod Vectors

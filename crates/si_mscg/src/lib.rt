@@ -6,8 +6,6 @@
 #![tactic(auto)]
 
 mod spans;
-#[cfg(test)]
-mod tests;
 mod walk;
 
 ghost use Rattle.std.specs.Prelude.{◌≡◌, IfOk};

@@ -11,8 +11,6 @@ ghost use Rattle.si_state.specs.declared.TheConstants.{GREATEST_START, MOST_DRAW
 use std::alloc::{AllocError, Global};
 
 mod sampler;
-#[cfg(test)]
-mod tests;
 
 use sampler::Sampler;
 

@@ -13,8 +13,6 @@ use std::alloc::{AllocError, Global};
 use std::marker::Model;
 
 mod pages;
-#[cfg(test)]
-mod tests;
 
 /// Bindings of slots to values, in the order in which they were made.
 #[derive(Drop)]

@@ -23,7 +23,6 @@ pub mod FreshLaws
 pub mod SplitSteps
 pub mod SplitConditions
 pub mod SplitParts
-mod FirstLeaf
 pub mod NotedPlaces
 pub mod WalkLaws
 pub mod WalkSteps

@@ -8,8 +8,6 @@ mod numbers;
 mod postings;
 mod renumber;
 mod rights;
-#[cfg(test)]
-mod tests;
 mod tree;
 
 pub use node::{Counts, Head, NodeId};

@@ -1,7 +1,7 @@
 use Rattle.std.proofs.Common.{[], ◌∷◌}
 use Rattle.si_flat.specs.Cells.{cells_of}
-use Rattle.si_mscg.proofs.Vectors as made
-use Rattle.si_mscg.proofs.tests.whole_right_side_is_right.Goals as goal
+use Rattle.si_base_tests.proofs.Vectors as made
+use Rattle.si_base_tests.proofs.generalizations.whole_right_side_is_right.Goals as goal
 
 pub push-requires-clause-new : goal.push-requires-clause-new
 push-requires-clause-new c = made.none_left c.new-node.result 1 c.new-node.ensures

@@ -1,8 +1,8 @@
 // A tree of the root alone, and one with a leaf that lost its postings.
 ghost use Rattle.si_tree.specs.Reading.{IsNode};
 
-use crate::{Counts, Head, NodeId, Posting, Tree};
 use si_flat::{Bindings, Cell};
+use si_tree::{Counts, Head, NodeId, Posting, Tree};
 use std::alloc::{AllocError, Global};
 use std::test::Fail;
 

@@ -1,4 +1,4 @@
-use super::*;
+use si_trail::Trail;
 use std::test::Fail;
 
 // The slots of a trail in which slot 2 was bound first and slot 0 second, each by its value, before

@@ -1,6 +1,9 @@
 ghost use Rattle.std.specs.Prelude.{⊤};
 
-use crate::*;
+use si_io::{
+    Disk, Failed, Fetched, Library, MemoryLibrary, MemorySink, MemorySource, RealLibrary, RealSink,
+    RealSource, Sink, Source, write_all,
+};
 use std::alloc::{AllocError, Global};
 use std::cell::Cell;
 use std::io::{Read, Write};

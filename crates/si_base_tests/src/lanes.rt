@@ -1,6 +1,6 @@
 ghost use Rattle.std.specs.Prelude.{◌<◌, length};
 
-use crate::{Row, subset_rows, superset_rows};
+use si_lanes::{Row, subset_rows, superset_rows};
 use std::alloc::{AllocError, Global};
 use std::test::Fail;
 

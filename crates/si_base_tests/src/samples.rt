@@ -1,4 +1,4 @@
-use super::*;
+use si_sample::sample;
 use std::test::Fail;
 
 #[test]

@@ -1,4 +1,4 @@
-use crate::keyed::KeyedList;
+use si_keyed::KeyedList;
 use std::test::Fail;
 
 // The position and the item of a key, where there are any, and its place tells the same, and the

@@ -1,7 +1,7 @@
 use Rattle.std.proofs.Common.{sym, subst}
 use Rattle.si_keyed.specs.Keyed.{HasKey}
 use Rattle.si_keyed.proofs.KeyLaws.{key_among}
-use Rattle.si_keyed.proofs.tests.found.Goals as goal
+use Rattle.si_base_tests.proofs.keys.found.Goals as goal
 
 pub position-position-requires : goal.position-position-requires
 position-position-requires c = key_among _ _ c.in_ok-item.ensures.some

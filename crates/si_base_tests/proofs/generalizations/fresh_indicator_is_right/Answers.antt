@@ -1,7 +1,7 @@
 use Rattle.std.proofs.Common.{[], refl}
 use Rattle.si_flat.specs.Cells.{cells_of}
-use Rattle.si_mscg.proofs.Vectors as made
-use Rattle.si_mscg.proofs.tests.fresh_indicator_is_right.Goals as goal
+use Rattle.si_base_tests.proofs.Vectors as made
+use Rattle.si_base_tests.proofs.generalizations.fresh_indicator_is_right.Goals as goal
 
 pub push-requires-clause-new : goal.push-requires-clause-new
 push-requires-clause-new c = made.none_left c.new-node.result 0 c.new-node.ensures

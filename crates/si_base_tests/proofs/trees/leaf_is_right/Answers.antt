@@ -1,7 +1,7 @@
 use Rattle.std.proofs.Common.{◌≢◌, arith, ap}
 use Rattle.si_legal.specs.declared.Posting.{Posting}
-use Rattle.si_tree.proofs.FirstLeaf.{is_whole, one_binding, are_whole, may_add, may_add_posting, has_first, has_added, still_added, still_dropped, node_dropped}
-use Rattle.si_tree.proofs.tests.leaf_is_right.Goals as goal
+use Rattle.si_base_tests.proofs.FirstLeaf.{is_whole, one_binding, are_whole, may_add, may_add_posting, has_first, has_added, still_added, still_dropped, node_dropped}
+use Rattle.si_base_tests.proofs.trees.leaf_is_right.Goals as goal
 
 abbrev first : Posting
 first = record { clause = 0; entry = 0 }

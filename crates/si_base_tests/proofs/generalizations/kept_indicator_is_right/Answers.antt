@@ -1,8 +1,8 @@
 use Rattle.std.proofs.Common.{[], refl}
 use Rattle.si_flat.specs.Cells.{cells_of}
 use Rattle.si_legal.specs.Bindings.{indicator}
-use Rattle.si_mscg.proofs.Vectors as made
-use Rattle.si_mscg.proofs.tests.kept_indicator_is_right.Goals as goal
+use Rattle.si_base_tests.proofs.Vectors as made
+use Rattle.si_base_tests.proofs.generalizations.kept_indicator_is_right.Goals as goal
 
 pub push-requires-clause-new : goal.push-requires-clause-new
 push-requires-clause-new c = made.none_left c.new-node.result 0 c.new-node.ensures

@@ -1,6 +1,6 @@
 // How lists of bindings are split: at a fresh indicator, at one of the node's, and at the root.
-use crate::generalise;
 use si_flat::{Bindings, Cell};
+use si_mscg::generalise;
 use std::alloc::{AllocError, Global};
 use std::test::Fail;
 

@@ -1,0 +1,2 @@
+mod FirstLeaf
+mod Vectors

@@ -1,0 +1,18 @@
+//! Tests of the crates at the bottom, one file for each. They stand apart for the reasons that
+//! si_tests has.
+#![tactic(auto)]
+
+#[cfg(test)]
+mod devices;
+#[cfg(test)]
+mod generalizations;
+#[cfg(test)]
+mod keys;
+#[cfg(test)]
+mod lanes;
+#[cfg(test)]
+mod samples;
+#[cfg(test)]
+mod trails;
+#[cfg(test)]
+mod trees;

@@ -43,6 +43,7 @@ impl<'a> Lexeme<'a> {
     /// # Errors
     ///
     /// `AllocError` where there is no memory for it.
+    #[inline(always)]
     pub fn text(&self, alloc: Global) -> Result<Text, AllocError>
         ensures { IfOk result (λ text. text ≡ (token_of self.now).text) }
     {
@@ -54,6 +55,7 @@ impl<'a> Lexeme<'a> {
 }
 
 // The text of a spelling in quotes. Without a backslash it is copied in one piece.
+#[inline(never)]
 fn unquoted(alloc: Global, spelling: &[u8]) -> Result<Text, AllocError>
     ensures { IfOk result (λ text. text ≡ unescaped (inside spelling.now)) }
 {

@@ -123,6 +123,7 @@ fn lex_up_to<'a>(
 
 // The token at a place and the number of brackets that are open after it, where this many are open
 // before. Nothing where no token stands, or one that nests too deep.
+#[inline(always)]
 fn lexeme_within<'a>(bytes: &'a [u8], at: usize, depth: usize) -> Option<(Lexeme<'a>, usize)>
     requires place { at < length bytes.now }
     requires depth { depth ≤ DEEPEST_NESTING }

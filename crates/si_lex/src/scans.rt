@@ -8,6 +8,7 @@ ghost use Rattle.si_lex.specs.Scans.{behind_quote, decimal_len, lower_len};
 use crate::bytes::{is_printable, is_word_byte};
 
 /// The place after the word bytes at a place.
+#[inline(always)]
 pub fn word_end(bytes: &[u8], at: usize) -> usize
     requires { at ≤ length bytes.now }
     ensures within { result ≤ length bytes.now }

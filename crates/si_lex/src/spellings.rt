@@ -8,6 +8,7 @@ use crate::scans::{decimal_end, lower_end, quoted_end, word_end};
 use si_defs::TokenKind;
 
 /// The token at a place, if one stands there. A comment that isn't closed is none.
+#[inline(always)]
 pub fn lexeme_at<'a>(bytes: &'a [u8], at: usize) -> Option<Lexeme<'a>>
     requires { at < length bytes.now }
     ensures { MatchOption result (NoTokenAt (drop at bytes.now)) (IsLexemeAt bytes.now at) }
@@ -22,6 +23,7 @@ pub fn lexeme_at<'a>(bytes: &'a [u8], at: usize) -> Option<Lexeme<'a>>
 }
 
 // The kind of the token at a place, and the place after it.
+#[inline(always)]
 fn token_end(bytes: &[u8], at: usize) -> Option<(TokenKind, usize)>
     requires { at < length bytes.now }
     ensures { MatchOption result (NoTokenAt (drop at bytes.now))

@@ -38,8 +38,10 @@ pub fn term<'t, 'b>(
     Ok(Some((term, rest)))
 }
 
-/// The same, whatever stands after it.
+/// The same, whatever stands after it. What it answers is large, and in its place costs less than a
+/// call.
 #[cycle(reading)]
+#[inline(always)]
 pub(crate) fn front_term<'t, 'b>(
     alloc: Global,
     tokens: &'t [Lexeme<'b>],
@@ -137,7 +139,8 @@ fn arguments<'t, 'b>(
     Ok(Some((args, left)))
 }
 
-/// Three terms, with room for more.
+/// Three terms, with room for more. Few functions have so many arguments, so this isn't inlined.
+#[inline(never)]
 fn growing(alloc: Global, first: Term, second: Term, third: Term) -> Result<Terms, AllocError>
     ensures { IfOk result (λ ts. ts ≡ term_of first ∷ term_of second ∷ term_of third ∷ []) }
 {

@@ -88,6 +88,7 @@ impl Terms {
     }
 
     /// One term, without room for more.
+    #[inline(always)]
     pub fn one(alloc: Global, term: Term) -> Result<Terms, AllocError>
         ensures { IfOk result (λ ts. ts ≡ term_of term ∷ []) }
     {
@@ -97,6 +98,7 @@ impl Terms {
     }
 
     /// Two terms, without room for more.
+    #[inline(always)]
     pub fn pair(alloc: Global, left: Term, right: Term) -> Result<Terms, AllocError>
         ensures { IfOk result (λ ts. ts ≡ term_of left ∷ term_of right ∷ []) }
     {
@@ -107,6 +109,7 @@ impl Terms {
     }
 
     /// Three terms, without room for more.
+    #[inline(always)]
     pub fn three(alloc: Global, first: Term, second: Term, third: Term) -> Result<Terms, AllocError>
         ensures { IfOk result (λ ts. ts ≡ term_of first ∷ term_of second ∷ term_of third ∷ []) }
     {

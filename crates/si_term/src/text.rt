@@ -78,6 +78,7 @@ impl Model for Text {
 
 impl Text {
     /// A copy of the bytes.
+    #[inline(always)]
     pub fn from_bytes(alloc: Global, bytes: &[u8]) -> Result<Text, AllocError>
         ensures { IfOk result (λ t. t ≡ bytes.now) }
     {
@@ -86,6 +87,15 @@ impl Text {
                 bytes: Bytes::Short(Short::from_bytes(bytes)),
             });
         }
+        Text::in_a_block(alloc, bytes)
+    }
+
+    // A copy of the bytes that takes memory of its own. Few texts are so long, so this isn't
+    // inlined.
+    #[inline(never)]
+    fn in_a_block(alloc: Global, bytes: &[u8]) -> Result<Text, AllocError>
+        ensures { IfOk result (λ t. t ≡ bytes.now) }
+    {
         let long = SmallVec::from_slice(alloc, bytes)?;
         Ok(Text {
             bytes: Bytes::Long(Box::new(alloc, long)?),

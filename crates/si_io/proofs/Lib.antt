@@ -1,7 +1,9 @@
+pub mod Buffers
 pub mod Content
 pub mod Faults
 pub mod Fetching
 pub mod Files
 pub mod Gives
+pub mod LineLaws
 pub mod Sends
 pub mod Tries

@@ -1,9 +1,11 @@
+pub mod Buffering
 pub mod Content
 pub mod Counts
 pub mod Disk
 pub mod Faults
 pub mod Gives
 pub mod Library
+pub mod Lines
 pub mod Memory
 pub mod Plan
 pub mod Real

@@ -6,9 +6,11 @@
 //! make up a fault, nor call a device again that failed.
 #![tactic(auto)]
 
+mod buffered;
 mod counts;
 mod failed;
 mod library;
+mod lines;
 mod memory;
 mod real;
 mod sink;
@@ -17,6 +19,7 @@ mod source;
 pub use counts::{LibraryCounts, SinkCounts, SourceCounts};
 pub use failed::Failed;
 pub use library::{Fetched, Library};
+pub use lines::{Lines, write_lines};
 pub use memory::{MemoryLibrary, MemorySink, MemorySource};
 pub use real::{Disk, Input, Output, RealLibrary, RealSink, RealSource, System};
 pub use sink::{Sink, write_all};

@@ -12,17 +12,18 @@ use Rattle.si_defs.specs.Variables.{Solution, variable_text}
 use Rattle.si_defs.specs.declared.Relation.{Relation}
 use Rattle.si_state.specs.Answers.{Hit, IsAnswer, Stands, hit_text, hit_texts}
 use Rattle.si_exist.specs.OneList.{HasExactlyOneSolution}
-use Rattle.si_steps.specs.Replies.{end_line}
+use Rattle.si_defs.specs.Bytes.{Bytes}
+use Rattle.si_steps.specs.Replies.{end_line, answer_reply}
 use Rattle.si_steps.specs.Runs.{ended}
 use Rattle.si_io.specs.Shown.{SinkShown}
-use Rattle.si_io.specs.Sends.{SendsAll, SendsPart, Sends}
+use Rattle.si_io.specs.Sends.{Sends}
+use Rattle.si_io.specs.Lines.{AreTexts, HaveTexts, WritesLines, joined}
 use Rattle.si_io.specs.declared.failed.Failed.{Failed}
-use Rattle.si_io.proofs.Sends.{SendsAll-nil, SendsAll_then, SendsPart_then, SendsPart_more, Sends_then}
-use Rattle.si_defs.proofs.ListLaws.{all_drop, get_some, get_here}
+use Rattle.si_defs.proofs.ListLaws.{all_got, get_some, get_here}
 use Rattle.si_index.specs.Kept.{Kept}
 use Rattle.si_index.specs.Searching.{HasSolution}
 use Rattle.si_index.specs.Finding.{Finding, AreHits, at_position, entries_from_position, position_and_place}
-use Rattle.si_session.specs.Answering.{IsHitOf, AreHitsOf, IsInside, TellsHit, TellsHits, TellsUnended, hit_line}
+use Rattle.si_session.specs.Answering.{IsHitOf, AreHitsOf, IsInside, IsHitLine, TellsAnswer, hit_line}
 use Rattle.si_session.proofs.Told.{ended-append}
 
 abbrev Found : Type 0
@@ -117,70 +118,41 @@ module _ (relation : Relation) (p : Pattern) (clauses : List Clause) where
   are_inside fs h = inside_all 0 clauses (omega arith) fs h
 
 -- ---- lines
-texts-append : (xs ys : List Hit) → hit_texts (xs ++ ys) ≡ hit_texts xs ++ hit_texts ys
-texts-append [] ys = refl
-texts-append (x ∷ xs) ys = ap (λ l. hit_text x ∷ l) (texts-append xs ys)
+module _ (f : Finding) where
+  -- each hit has a line
+  pub hits_have : AllByRecursion (IsInside f.index.clauses) f.hits → AllByRecursion (λ h. HasSolution f.relation f.pattern h.1.entry) f.hits → HaveTexts (IsHitLine f) (length f.hits)
+  hits_have inside solved n less =
+      let x = get_some f.hits n less in
+      let c = get_some f.index.clauses x.0.0 (all_got (IsInside f.index.clauses) f.hits n x.0 inside x.1) in
+      let list = all_got (λ (h : ℕ × Placed). HasSolution f.relation f.pattern h.1.entry) f.hits n x.0 solved x.1 in
+      let hit : Hit = record { clause = c.0; placed = x.0.1; solution = list.solution } in
+      (ended (hit_text hit ∷ []), (x.0, hit, x.1, record { clause = c.1; placed = refl; solves = list.solves }, refl))
 
-lines-append : (xs ys : List Hit) → ended (hit_texts (xs ++ ys)) ≡ ended (hit_texts xs) ++ ended (hit_texts ys)
-lines-append xs ys = ap ended (texts-append xs ys) ∙ ended-append (hit_texts xs) (hit_texts ys)
+  -- and the texts of all lines are those of hits
+  texts_hits : (done rest : Found) → f.hits ≡ done ++ rest → (texts : List Bytes) → AreTexts (IsHitLine f) (length done) (length rest) texts
+      → (hits : List Hit) × AreHitsOf f.relation f.pattern f.index.clauses rest hits × (joined texts ≡ ended (hit_texts hits))
+  texts_hits done [] e texts h = ([], refl, ap joined h)
+  texts_hits done (x ∷ rest) e texts h =
+      let line = h.2 in
+      let there : slice_get f.hits (length done) ≡ Some x = subst (λ (l : Found). slice_get l (length done) ≡ Some x) (sym e) (get_here done x rest) in
+      let same : line.0 ≡ x = (let both : Some line.0 ≡ Some x = sym line.2 ∙ there in cc) in
+      let behind : suc (length done) ≡ length (done ++ x ∷ []) = omega (arith, length-append done (x ∷ [])) in
+      let others = texts_hits (done ++ x ∷ []) rest (e ∙ sym (append_assoc done (x ∷ []) rest)) h.1 (subst (λ (k : ℕ). AreTexts (IsHitLine f) k (length rest) h.1) behind h.3) in (
+        line.1 ∷ others.0,
+        (line.1, others.0, subst (λ (y : ℕ × Placed). IsHitOf f.relation f.pattern f.index.clauses y line.1) same line.3, others.1, refl),
+        ap joined h.4 ∙ ap (λ (l : Bytes). l ++ joined h.1) line.4 ∙ ap (λ (l : Bytes). ended (hit_text line.1 ∷ []) ++ l) others.2 ∙ sym (ended-append (hit_text line.1 ∷ []) (hit_texts others.0)),
+      )
 
-take_next : (fs : Found) (n : ℕ) (f : ℕ × Placed) → slice_get fs n ≡ Some f → take (n + 1) fs ≡ take n fs ++ f ∷ []
-take_next [] n f is = absurd (let bad = is in cc)
-take_next (x ∷ fs) zero f is = let same : x ≡ f = cc in ap (λ y. y ∷ []) same
-take_next (x ∷ fs) (suc n) f is =
-    let next : suc n + 1 ≡ suc (n + 1) = omega arith in
-    ap (λ k. take k (x ∷ fs)) next ∙ ap (λ l. x ∷ l) (take_next fs n f is)
-
--- The lines of the first hits were written.
-pub record ToldTo (f : Finding) (n : ℕ) (before now : SinkShown) : Type 0 where
-  pub hits : List Hit
-  pub are : AreHitsOf f.relation f.pattern f.index.clauses (take n f.hits) hits
-  pub given : SendsAll before (ended (hit_texts hits)) now
-
-module _ (f : Finding) (before : SinkShown) where
-  -- with the hit after them
-  with_this : (n : ℕ) (hits : List Hit) (g : ℕ × Placed) (x : Hit) → AreHitsOf f.relation f.pattern f.index.clauses (take n f.hits) hits → slice_get f.hits n ≡ Some g
-      → IsHitOf f.relation f.pattern f.index.clauses g x → AreHitsOf f.relation f.pattern f.index.clauses (take (n + 1) f.hits) (hits ++ x ∷ [])
-  with_this n hits g x are there of =
-      subst (λ l. AreHitsOf f.relation f.pattern f.index.clauses l (hits ++ x ∷ [])) (sym (take_next f.hits n g there))
-      (hits-append f.relation f.pattern f.index.clauses (take n f.hits) (g ∷ []) hits (x ∷ []) are (x, [], of, refl, refl))
-
-  pub told_none : ToldTo f 0 before before
-  told_none = record { hits = []; are = refl; given = SendsAll-nil before }
-
-  pub told_more : (n : ℕ) (now after : SinkShown) → ToldTo f n before now → TellsHit f n (Ok (tt {0})) now after → ToldTo f (n + 1) before after
-  told_more n now after t h = record {
-    hits = t.hits ++ h.1 ∷ [];
-    are = with_this n t.hits h.0 h.1 t.are h.2 h.3;
-    given = subst (λ l. SendsAll before l after) (sym (lines-append t.hits (h.1 ∷ [])))
-        (SendsAll_then before now after (ended (hit_texts t.hits)) (ended (hit_text h.1 ∷ [])) t.given h.4.all);
-  }
-
-  pub told_all : (n : ℕ) (now : SinkShown) → length f.hits ≤ n → ToldTo f n before now → TellsHits f (Ok (tt {0})) before now
-  told_all n now less t = (t.hits, subst (λ l. AreHitsOf f.relation f.pattern f.index.clauses l t.hits) (take_all n f.hits less) t.are, record { all = t.given; part = tt })
-
-  module _ (inside : AllByRecursion (IsInside f.index.clauses) f.hits) (solved : AllByRecursion (λ h. HasSolution f.relation f.pattern h.1.entry) f.hits) where
-    -- the others have their hits too
-    behind_these : (n : ℕ) → (hits : List Hit) × AreHitsOf f.relation f.pattern f.index.clauses (drop n f.hits) hits
-    behind_these n = hits_of f.relation f.pattern f.index.clauses (drop n f.hits) (all_drop _ n f.hits inside) (all_drop _ n f.hits solved)
-
-    -- broken off at this one
-    pub told_broken : (e : Failed) (n : ℕ) (now after : SinkShown) → ToldTo f n before now → TellsHit f n (Err e) now after → TellsHits f (Err e) before after
-    told_broken e n now after t h =
-        let these = t.hits ++ h.1 ∷ [] in
-        let others = (behind_these (n + 1)).0 in
-        let lines : ended (hit_texts (these ++ others)) ≡ (ended (hit_texts t.hits) ++ ended (hit_text h.1 ∷ [])) ++ ended (hit_texts others) =
-        lines-append these others ∙ ap (λ l. l ++ ended (hit_texts others)) (lines-append t.hits (h.1 ∷ [])) in (
-          these ++ others,
-          subst (λ l. AreHitsOf f.relation f.pattern f.index.clauses l (these ++ others)) (take-append-drop (n + 1) f.hits)
-              (hits-append f.relation f.pattern f.index.clauses (take (n + 1) f.hits) (drop (n + 1) f.hits) these others (with_this n t.hits h.0 h.1 t.are h.2 h.3) (behind_these (n + 1)).1),
-          record {
-            all = tt;
-            part = subst (λ l. SendsPart before l after) (sym lines)
-                (SendsPart_more before after (ended (hit_texts t.hits) ++ ended (hit_text h.1 ∷ [])) (ended (hit_texts others))
-                (SendsPart_then before now after (ended (hit_texts t.hits)) (ended (hit_text h.1 ∷ [])) t.given h.4.part));
-          },
-        )
+  -- the whole answer
+  pub answer_told : (r : Result (Unit {0}) Failed) (a b : SinkShown) → WritesLines (IsHitLine f) (length f.hits) (end_line (length f.hits) ++ 10 ∷ []) r a b → TellsAnswer f r a b
+  answer_told r a b h =
+      let told = texts_hits [] f.hits refl h.0 h.1 in
+      let hits = told.0 in
+      let last : List ℕ → ℕ → Bytes = λ front n. front ++ (end_line n ++ 10 ∷ []) in
+      let whole : joined h.0 ++ (end_line (length f.hits) ++ 10 ∷ []) ≡ ended (answer_reply hits) =
+      ap (λ (l : Bytes). last l (length f.hits)) told.2 ∙ ap (last (ended (hit_texts hits))) (length-hits f.relation f.pattern f.index.clauses f.hits hits told.1)
+      ∙ sym (ended-append (hit_texts hits) (end_line (length hits) ∷ [])) in
+      (hits, told.1, subst (λ (l : Bytes). Sends r l a b) whole h.2)
 
 -- ---- one line
 pub line_parts : (name : Name) (place : Place) (list : Solution)
@@ -202,22 +174,6 @@ at_number (x ∷ fs) zero f k place is at =
     let there : ◌≡◌ {A = ℕ × Place} (x.0, x.1.place) (k, place) = cc in
     (sym (ap (λ y. y.0) same) ∙ ap (λ q. q.0) there, sym (ap (λ y. y.1.place) same) ∙ ap (λ q. q.1) there)
 at_number (x ∷ fs) (suc n) f k place is at = at_number fs n f k place is at
-
--- the error is passed on
-pub hits_again : (f : Finding) (r : Result (Unit {0}) Failed) (e : Failed) (a b : SinkShown) → IsErrAnd r (λ x. x ≡ e) → TellsHits f (Err e) a b → TellsHits f r a b
-hits_again f (Ok done) e a b is h = absurd is
-hits_again f (Err x) e a b is h = (h.0, h.1, record { all = tt; part = h.2.part })
-
--- the number was written after them, or the sink failed before
-pub unended_told : (f : Finding) (r : Result (Unit {0}) Failed) (n : ℕ) (a b c : SinkShown) → n ≡ length f.hits → TellsHits f (Ok (tt {0})) a b → Sends r (end_line n) b c → TellsUnended f r a c
-unended_told f r n a b c is h p =
-    let count : n ≡ length h.0 = is ∙ length-hits f.relation f.pattern f.index.clauses f.hits h.0 h.1 in
-    (h.0, h.1, Sends_then r a b c (ended (hit_texts h.0)) (end_line (length h.0)) h.2.all (subst (λ m. Sends r (end_line m) b c) count p))
-
-pub unended_broken : (f : Finding) (r : Result (Unit {0}) Failed) (e : Failed) (a b : SinkShown) → IsErrAnd r (λ x. x ≡ e) → TellsHits f (Err e) a b → TellsUnended f r a b
-unended_broken f (Ok done) e a b is h = absurd is
-unended_broken f (Err x) e a b is h =
-    (h.0, h.1, record { all = tt; part = SendsPart_more a b (ended (hit_texts h.0)) (end_line (length h.0)) h.2.part })
 
 -- ---- the whole answer
 module _ (f : Finding) (index : Kept) (relation : Relation) (p : Pattern)

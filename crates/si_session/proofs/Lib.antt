@@ -11,4 +11,3 @@ pub mod Shown
 pub mod MappedLaws
 pub mod Sums
 pub mod Numbers
-pub mod Buffers

@@ -1,5 +1,5 @@
 -- What is found by positions is what is answered; and its lines.
-use Rattle.std.proofs.Common.{◌≡◌, inl, inr, ℕ, suc, ◌+◌, ◌<◌, List, [], ◌∷◌, ◌++◌, length, map, drop, get_or, Some, refl, add-one, drop-cons, sym, ◌∙◌, ap, subst, arith, append_assoc, length-append}
+use Rattle.std.proofs.Common.{◌≡◌, inl, inr, ℕ, suc, ◌+◌, List, [], ◌∷◌, ◌++◌, length, map, Result, Some, refl, sym, ◌∙◌, ap, subst, arith, append_assoc, length-append}
 use Rattle.std.specs.Prelude.{slice_get}
 use Rattle.std.specs.List.{AllByRecursion}
 use Rattle.si_defs.specs.Bytes.{Bytes}
@@ -7,17 +7,21 @@ use Rattle.si_defs.specs.Clauses.{Name, Literal, Clause}
 use Rattle.si_defs.specs.Printing.{name_text, map_text}
 use Rattle.si_state.specs.States.{State}
 use Rattle.si_state.specs.Subsumption.{MappedClause, AreMapped, mapped_text}
-use Rattle.si_steps.specs.Replies.{mapped_reply}
+use Rattle.si_steps.specs.Replies.{mapped_reply, end_line}
 use Rattle.si_steps.specs.Runs.{ended}
 use Rattle.si_io.specs.Shown.{SinkShown}
-use Rattle.si_defs.proofs.ListLaws.{get_some, get_here}
+use Rattle.si_io.specs.Sends.{Sends}
+use Rattle.si_io.specs.Lines.{AreTexts, HaveTexts, WritesLines, joined}
+use Rattle.si_io.specs.declared.failed.Failed.{Failed}
+use Rattle.si_defs.proofs.ListLaws.{all_got, get_some, get_here}
 use Rattle.si_index.specs.declared.subsuming.Mapped.{Mapped}
 use Rattle.si_index.specs.Subsuming.{AreMappedFrom}
 use Rattle.si_session.specs.Separators.{separator_text}
-use Rattle.si_session.specs.MappedClauses.{IsKeptAt, mapped_at, all_mapped, mapped_line}
+use Rattle.si_session.specs.MappedClauses.{IsKeptAt, IsMappedLine, mapped_at, all_mapped, mapped_line}
 use Rattle.si_session.specs.Session.{Writes, HasPerformed, rightly}
 use Rattle.si_session.specs.declared.separator.Separator.TheVariants.{Space, LineFeed}
 use Rattle.si_session.specs.declared.stepped.Stepped.{Stepped}
+use Rattle.si_session.proofs.Told.{ended-append}
 use Rattle.si_reply.proofs.Pieces.{four_apart}
 
 -- ---- positions
@@ -72,10 +76,35 @@ length-mapped clauses (m ∷ found) inside =
     let there = get_some clauses m.clause inside.0 in
     ap suc (length-mapped clauses found inside.1) ∙ ap (λ o. length (mapped_at o m ++ all_mapped clauses found)) (sym there.1)
 
--- ---- one after the other
--- the line of this one, and those after it
-pub line_here : (clauses : List Clause) (found : List Mapped) (n : ℕ) (m : Mapped) (c : Clause) → n < length found → m ≡ get_or found n m → slice_get clauses m.clause ≡ Some c
-    → lines_of clauses (drop n found) ≡ mapped_line c.name m.map ++ lines_of clauses (drop (n + 1) found)
-line_here clauses found n m c less at there =
-    ap (lines_of clauses) (drop-cons found n m less ∙ ap (λ k. get_or found n m ∷ drop k found) (sym (add-one n)) ∙ ap (λ x. x ∷ drop (n + 1) found) (sym at))
-    ∙ next_line clauses m (drop (n + 1) found) c there
+-- ---- the lines that are written
+module _ (clauses : List Clause) (found : List Mapped) where
+  -- each that was found has a line
+  pub maps_have : AllByRecursion (IsKeptAt clauses) found → HaveTexts (IsMappedLine clauses found) (length found)
+  maps_have kept n less =
+      let m = get_some found n less in
+      let c = get_some clauses m.0.clause (all_got (IsKeptAt clauses) found n m.0 kept m.1) in
+      (mapped_line c.0.name m.0.map, (m.0, c.0, m.1, c.1, refl))
+
+  -- and the texts of all lines are those of the answer
+  texts_mapped : (done rest : List Mapped) → found ≡ done ++ rest → (texts : List Bytes) → AreTexts (IsMappedLine clauses found) (length done) (length rest) texts → joined texts ≡ lines_of clauses rest
+  texts_mapped done [] e texts h = ap joined h
+  texts_mapped done (x ∷ rest) e texts h =
+      let line = h.2 in
+      let there : slice_get found (length done) ≡ Some x = subst (λ (l : List Mapped). slice_get l (length done) ≡ Some x) (sym e) (get_here done x rest) in
+      let same : line.0 ≡ x = (let both : Some line.0 ≡ Some x = sym line.2 ∙ there in cc) in
+      let clause : slice_get clauses x.clause ≡ Some line.1 = subst (λ (m : Mapped). slice_get clauses m.clause ≡ Some line.1) same line.3 in
+      let after : suc (length done) ≡ length (done ++ x ∷ []) = omega (arith, length-append done (x ∷ [])) in
+      let others = texts_mapped (done ++ x ∷ []) rest (e ∙ sym (append_assoc done (x ∷ []) rest)) h.1 (subst (λ (k : ℕ). AreTexts (IsMappedLine clauses found) k (length rest) h.1) after h.3) in
+      ap joined h.4 ∙ ap (λ (l : Bytes). l ++ joined h.1) (line.4 ∙ ap (λ (m : Mapped). mapped_line line.1.name m.map) same)
+      ∙ ap (λ (l : Bytes). mapped_line line.1.name x.map ++ l) others ∙ sym (next_line clauses x rest line.1 clause)
+
+  -- the whole answer
+  pub maps_told : AllByRecursion (IsKeptAt clauses) found → (r : Result (Unit {0}) Failed) (a b : SinkShown) → WritesLines (IsMappedLine clauses found) (length found) (end_line (length found) ++ 10 ∷ []) r a b
+      → Sends r (ended (mapped_reply (all_mapped clauses found))) a b
+  maps_told kept r a b h =
+      let ms = all_mapped clauses found in
+      let last : Bytes → ℕ → Bytes = λ front n. front ++ (end_line n ++ 10 ∷ []) in
+      let whole : joined h.0 ++ (end_line (length found) ++ 10 ∷ []) ≡ ended (mapped_reply ms) =
+      ap (λ (l : Bytes). last l (length found)) (texts_mapped [] found refl h.0 h.1) ∙ ap (last (lines_of clauses found)) (length-mapped clauses found kept)
+      ∙ sym (ended-append (map mapped_text ms) (end_line (length ms) ∷ [])) in
+      subst (λ (l : Bytes). Sends r l a b) whole h.2

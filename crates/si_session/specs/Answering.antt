@@ -13,7 +13,6 @@ use Rattle.si_io.specs.Shown.{SinkShown}
 use Rattle.si_io.specs.Sends.{Sends}
 use Rattle.si_io.specs.declared.failed.Failed.{Failed}
 use Rattle.si_index.specs.Finding.{Finding}
-use Rattle.si_session.specs.Replies.{unended}
 use Rattle.si_session.specs.Separators.{separator_text}
 use Rattle.si_session.specs.declared.separator.Separator.TheVariants.{Space, LineFeed}
 
@@ -34,25 +33,11 @@ AreHitsOf relation pattern clauses (f ∷ fs) hits =
 abbrev pub IsInside : List Clause → ℕ × Placed → Type 0
 IsInside clauses found = found.0 < length clauses
 
--- the line of a hit was written, or the sink failed at it
-abbrev pub TellsHit : Finding → ℕ → Result (Unit {0}) Failed → SinkShown → SinkShown → Type 0
-TellsHit f n result before after =
+-- the line of the hit with this number
+abbrev pub IsHitLine : Finding → ℕ → Bytes → Type 0
+IsHitLine f n text =
     (found : ℕ × Placed) × (hit : Hit) × (slice_get f.hits n ≡ Some found)
-    × IsHitOf f.relation f.pattern f.index.clauses found hit
-    × Sends result (ended (hit_text hit ∷ [])) before after
-
--- the lines of the hits were written, or the sink failed at one of them
-abbrev pub TellsHits : Finding → Result (Unit {0}) Failed → SinkShown → SinkShown → Type 0
-TellsHits f result before after =
-    (hits : List Hit) × AreHitsOf f.relation f.pattern f.index.clauses f.hits hits
-    × Sends result (ended (hit_texts hits)) before after
-
--- The lines of the hits were written and the one of their number, without its line feed; or the
--- sink failed at them.
-abbrev pub TellsUnended : Finding → Result (Unit {0}) Failed → SinkShown → SinkShown → Type 0
-TellsUnended f result before after =
-    (hits : List Hit) × AreHitsOf f.relation f.pattern f.index.clauses f.hits hits
-    × Sends result (unended (hit_texts hits) (end_line (length hits))) before after
+    × IsHitOf f.relation f.pattern f.index.clauses found hit × (text ≡ ended (hit_text hit ∷ []))
 
 -- the answer was written, or the sink failed at it
 abbrev pub TellsAnswer : Finding → Result (Unit {0}) Failed → SinkShown → SinkShown → Type 0

@@ -8,4 +8,3 @@ pub mod Rejections
 pub mod Answering
 pub mod MappedClauses
 pub mod Sums
-pub mod Buffering

@@ -1,12 +1,10 @@
 -- The kept clauses that were found, each with its map, and their lines.
-use Rattle.std.specs.Prelude.{◌<◌, ℕ, List, [], ◌∷◌, ◌++◌, map, Option, None, Some, length, slice_get}
+use Rattle.std.specs.Prelude.{◌≡◌, ◌<◌, ℕ, List, [], ◌∷◌, ◌++◌, Option, None, Some, length, slice_get}
 use Rattle.si_defs.specs.Bytes.{Bytes}
 use Rattle.si_defs.specs.Clauses.{Name, Clause}
 use Rattle.si_defs.specs.Printing.{name_text, map_text}
-use Rattle.si_state.specs.Subsumption.{MappedClause, mapped_text}
-use Rattle.si_steps.specs.Replies.{end_line}
+use Rattle.si_state.specs.Subsumption.{MappedClause}
 use Rattle.si_index.specs.declared.subsuming.Mapped.{Mapped}
-use Rattle.si_session.specs.Replies.{unended}
 use Rattle.si_session.specs.Separators.{separator_text}
 use Rattle.si_session.specs.declared.separator.Separator.TheVariants.{Space, LineFeed}
 
@@ -29,6 +27,8 @@ unfoldable pub mapped_line : Name → List ℕ → Bytes
 mapped_line name ns =
     name_text name ++ separator_text Space ++ map_text ns ++ separator_text LineFeed
 
--- the lines of these and the one of their number, without its line feed
-abbrev pub unended_mapped : List MappedClause → Bytes
-unended_mapped ms = unended (map mapped_text ms) (end_line (length ms))
+-- the line of the one with this number
+abbrev pub IsMappedLine : List Clause → List Mapped → ℕ → Bytes → Type 0
+IsMappedLine clauses found n text =
+    (m : Mapped) × (c : Clause) × (slice_get found n ≡ Some m)
+    × (slice_get clauses m.clause ≡ Some c) × (text ≡ mapped_line c.name m.map)

@@ -1,10 +1,9 @@
--- The replies of one line, and the text of an answer before its last line feed.
+-- The replies of one line.
 use Rattle.std.specs.Prelude.{List, [], ◌∷◌, ◌++◌, codes, decimal}
 use Rattle.si_defs.specs.Bytes.{Bytes}
 use Rattle.si_defs.specs.Symbols.{Symbol}
 use Rattle.si_defs.specs.Printing.{symbol_text, shape_text}
 use Rattle.si_steps.specs.Replies.{Reply, ok_line, stats_line, explain_line, sample_line, taken_line, full_line, unknown_line, file_line, spot_line, fetches_line, long_line, language_line, syntax_line, memory_line}
-use Rattle.si_steps.specs.Runs.{ended}
 use Rattle.si_sign.specs.declared.faults.Shape.{Shape}
 use Rattle.si_term.specs.Terms.{symbol_of}
 use Rattle.si_term.specs.Meaning.{name_of}
@@ -56,10 +55,6 @@ reply_line reply.Long = long_line
 reply_line reply.Language = language_line
 reply_line reply.Syntax = syntax_line
 reply_line reply.Memory = memory_line
-
--- these lines, each with its end, and one more without
-abbrev pub unended : List Bytes → Bytes → Bytes
-unended lines last = ended lines ++ last
 
 -- the same; the text stays closed in proofs about writing
 unfoldable pub closed_line : ReplyLine → Bytes

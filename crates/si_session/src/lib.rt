@@ -2,7 +2,6 @@
 #![tactic(auto)]
 
 mod answer;
-mod buffered;
 mod command;
 mod number;
 mod refusals;

@@ -10,15 +10,13 @@ ghost use Rattle.si_session.specs.declared.separator.Separator.TheVariants.{Spac
 ghost use Rattle.si_session.specs.Replies.{reply_line, closed_line, stats_text, closed_shape, file_word, line_word};
 ghost use Rattle.si_session.specs.Session.{Writes, CountsSinkFault};
 
-use crate::buffered::{Borrowed, Buffered, Origin};
 use crate::separator::{Separator, put_separator};
 use crate::stepped::Stepped;
 use si_index::{Explained, Stats};
-use si_io::{Failed, Sink};
+use si_io::{Failed, Lines, Sink, write_lines};
 use si_reply::{put_bytes, put_file, put_name, put_number, put_symbol};
 use si_sign::Shape;
 use si_term::{Name, Side, Sym, Text};
-use std::marker::Brand;
 
 /// Why a load is refused for a file.
 #[derive(Clone, Copy)]
@@ -295,17 +293,25 @@ fn put_reply<K: Sink>(sink: &mut K, reply: ReplyLine<'_>) -> Result<(), Failed>
     }
 }
 
-/// Writes a reply of one line over a sink that gathers its bytes.
-fn put_over<S: Borrowed, B: Origin>(sink: S, reply: ReplyLine<'_>) -> (Result<(), Failed>, S)
-    requires same { S.name sink ≡ B.name }
-    requires start { S.shown sink ≡ B.shown }
-    ensures text { Sends result.0 (closed_line reply.entry ++ 10 ∷ []) (S.shown sink)
-        (S.shown result.1) }
-    ensures same { S.name result.1 ≡ S.name sink }
-{
-    let mut buffered = Buffered::<S, B>::over(sink);
-    let told = put_reply(&mut buffered, reply);
-    buffered.finish(told)
+/// A reply of one line: no other stands before it.
+impl Lines for ReplyLine<'_> {
+    ghost count = { λ reply. 0 };
+
+    ghost line = { λ reply n text. ⊥ };
+
+    ghost last = { λ reply. closed_line reply };
+
+    fn count(&self) -> usize {
+        0
+    }
+
+    fn put_line<K: Sink>(&self, _n: usize, _sink: &mut K) -> Result<(), Failed> {
+        unreachable!()
+    }
+
+    fn put_last<K: Sink>(&self, sink: &mut K) -> Result<(), Failed> {
+        put_reply(sink, *self)
+    }
 }
 
 /// Writes a reply of one line, at once where it isn't long.
@@ -313,8 +319,7 @@ fn put_at_once<K: Sink>(sink: &mut K, reply: ReplyLine<'_>) -> Result<(), Failed
     ensures { Sends result (closed_line reply.entry ++ 10 ∷ []) (K.shown sink.old)
         (K.shown sink.new) }
 {
-    let (told, _) = put_over::<&mut K, Brand>(sink, reply);
-    told
+    write_lines(&reply, sink)
 }
 
 /// Whether the line is a refusal.

@@ -1,6 +1,7 @@
 // The answer to a question of subsumption: a line for each clause.
 ghost use Rattle.std.specs.Prelude.{◌≡◌, map};
 ghost use Rattle.std.specs.List.{AllByRecursion};
+ghost use Rattle.std.proofs.Props.{props};
 ghost use Rattle.si_defs.specs.Clauses.{AreSoundLiterals};
 ghost use Rattle.si_state.specs.Subsumption.{mapped_text};
 ghost use Rattle.si_steps.specs.Commands as command;
@@ -8,19 +9,17 @@ ghost use Rattle.si_steps.specs.Replies.{mapped_reply};
 ghost use Rattle.si_steps.specs.Runs.{ended};
 ghost use Rattle.si_io.specs.Sends.{Sends};
 ghost use Rattle.si_term.specs.Meaning.{name_of, literal_of};
-ghost use Rattle.si_session.specs.MappedClauses.{IsKeptAt, all_mapped, mapped_line, unended_mapped};
+ghost use Rattle.si_session.specs.MappedClauses.{IsKeptAt, all_mapped, mapped_line};
 ghost use Rattle.si_session.specs.Session.{Writes, ActsOn, CountsSinkFault};
 
-use crate::buffered::{Borrowed, Buffered, Origin};
 use crate::reply::{ReplyLine, put_end, tell};
 use crate::separator::{Separator, put_separator};
 use crate::stepped::Stepped;
 use si_flat::LitMap;
 use si_index::{Index, Mappeds};
-use si_io::{Failed, Sink};
+use si_io::{Failed, Lines, Sink, write_lines};
 use si_reply::{put_map, put_name};
 use si_term::{Literals, Name};
-use std::marker::Brand;
 
 /// Writes the line of a clause: its name and its map.
 fn put_mapped<K: Sink>(sink: &mut K, name: &Name, map: &LitMap) -> Result<(), Failed>
@@ -33,44 +32,37 @@ fn put_mapped<K: Sink>(sink: &mut K, name: &Name, map: &LitMap) -> Result<(), Fa
     put_separator(sink, Separator::LineFeed)
 }
 
-/// Writes the lines of the clauses.
-fn put_all_mapped<K: Sink>(index: &Index, found: &Mappeds, sink: &mut K) -> Result<(), Failed>
-    requires { AllByRecursion (IsKeptAt index.now.clauses) found.now }
-    ensures { Sends result (ended (map mapped_text (all_mapped index.now.clauses found.now)))
-        (K.shown sink.old) (K.shown sink.new) }
-{
-    for mapped in found.as_slice() {
-        put_mapped(sink, &index.clause(mapped.clause).name, &mapped.map)?;
+/// The clauses that were found, each with its map, as the lines that answer a question.
+#[derive(Clone, Copy)]
+struct Maps<'a> {
+    index: &'a Index,
+    found: &'a Mappeds,
+    ghost kept: { AllByRecursion (IsKeptAt index.now.clauses) found.now } by { Prim.hlevel props },
+}
+
+impl Lines for Maps<'_> {
+    ghost use Rattle.std.specs.Prelude.{length};
+    ghost use Rattle.si_steps.specs.Replies.{end_line};
+    ghost use Rattle.si_session.specs.MappedClauses.{IsMappedLine};
+
+    ghost count = { λ maps. length maps.found.now };
+
+    ghost line = { λ maps. IsMappedLine maps.index.now.clauses maps.found.now };
+
+    ghost last = { λ maps. end_line (length maps.found.now) };
+
+    fn count(&self) -> usize {
+        self.found.len()
     }
-    Ok(())
-}
 
-/// Writes the lines of the clauses and the one of their number, without its line feed.
-fn put_unended<K: Sink>(index: &Index, found: &Mappeds, sink: &mut K) -> Result<(), Failed>
-    requires { AllByRecursion (IsKeptAt index.now.clauses) found.now }
-    ensures { Sends result (unended_mapped (all_mapped index.now.clauses found.now))
-        (K.shown sink.old) (K.shown sink.new) }
-{
-    put_all_mapped(index, found, sink)?;
-    put_end(sink, found.len() as u64)
-}
+    fn put_line<K: Sink>(&self, n: usize, sink: &mut K) -> Result<(), Failed> {
+        let mapped = self.found.at(n);
+        put_mapped(sink, &self.index.clause(mapped.clause).name, &mapped.map)
+    }
 
-/// Writes the answer over a sink that gathers its bytes.
-fn put_over<S: Borrowed, B: Origin>(
-    index: &Index,
-    found: &Mappeds,
-    sink: S,
-) -> (Result<(), Failed>, S)
-    requires kept { AllByRecursion (IsKeptAt index.now.clauses) found.now }
-    requires same { S.name sink ≡ B.name }
-    requires start { S.shown sink ≡ B.shown }
-    ensures text { Sends result.0 (ended (mapped_reply (all_mapped index.now.clauses found.now)))
-        (S.shown sink) (S.shown result.1) }
-    ensures same { S.name result.1 ≡ S.name sink }
-{
-    let mut buffered = Buffered::<S, B>::over(sink);
-    let told = put_unended(index, found, &mut buffered);
-    buffered.finish(told)
+    fn put_last<K: Sink>(&self, sink: &mut K) -> Result<(), Failed> {
+        put_end(sink, self.found.len() as u64)
+    }
 }
 
 /// Writes the answer, in large pieces.
@@ -79,8 +71,7 @@ fn put_answer<K: Sink>(index: &Index, found: &Mappeds, sink: &mut K) -> Result<(
     ensures { Sends result (ended (mapped_reply (all_mapped index.now.clauses found.now)))
         (K.shown sink.old) (K.shown sink.new) }
 {
-    let (told, _) = put_over::<&mut K, Brand>(index, found, sink);
-    told
+    write_lines(&Maps { index, found }, sink)
 }
 
 /// Writes the answer, and says what became of the line.

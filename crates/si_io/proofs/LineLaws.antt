@@ -1,0 +1,95 @@
+-- Texts of lines, one after the other.
+use Rattle.std.proofs.Common.{◌≡◌, ℕ, zero, suc, ◌+◌, ◌-◌, ◌<◌, ◌≤◌, List, [], ◌∷◌, ◌++◌, Result, Ok, Err, refl, sym, ap, subst, ◌∙◌, append_assoc, append-nil, arith}
+use Rattle.std.specs.Prelude.{IsErrAnd}
+use Rattle.si_io.specs.declared.failed.Failed.{Failed}
+use Rattle.si_io.specs.Shown.{SinkShown}
+use Rattle.si_io.specs.Sends.{SendsAll, SendsPart, Sends}
+use Rattle.si_io.specs.Lines.{AreTexts, HaveTexts, joined, WritesLines}
+use Rattle.si_io.proofs.Sends.{SendsAll-nil, SendsAll_then, SendsPart_then, SendsPart_more, Sends_then}
+
+joined-append : (xs ys : List (List ℕ)) → joined (xs ++ ys) ≡ joined xs ++ joined ys
+joined-append [] ys = refl
+joined-append (x ∷ xs) ys = ap (λ (l : List ℕ). x ++ l) (joined-append xs ys) ∙ sym (append_assoc x (joined xs) (joined ys))
+
+module _ (line : ℕ → List ℕ → Type 0) where
+  -- some, and then more
+  texts-append : (from m n mid whole : ℕ) (xs ys : List (List ℕ)) → m + from ≡ mid → m + n ≡ whole → AreTexts line from m xs → AreTexts line mid n ys → AreTexts line from whole (xs ++ ys)
+  texts-append from zero n mid whole xs ys at sum h k =
+      let here : mid ≡ from = omega (arith, at) in
+      let all : n ≡ whole = omega (arith, sum) in
+      subst (λ (l : List (List ℕ)). AreTexts line from whole (l ++ ys)) (sym h) (subst (λ (w : ℕ). AreTexts line from w ys) all (subst (λ (i : ℕ). AreTexts line i n ys) here k))
+  texts-append from (suc m) n mid zero xs ys at sum h k = absurd (omega (arith, sum))
+  texts-append from (suc m) n mid (suc whole) xs ys at sum h k =
+      (h.0, h.1 ++ ys, h.2, texts-append (suc from) m n mid whole h.1 ys (omega (arith, at)) (omega (arith, sum)) h.3 k, ap (λ (l : List (List ℕ)). l ++ ys) h.4)
+
+  -- one more after them
+  texts-more : (n : ℕ) (xs : List (List ℕ)) (text : List ℕ) → AreTexts line 0 n xs → line n text → AreTexts line 0 (n + 1) (xs ++ text ∷ [])
+  texts-more n xs text h l = texts-append 0 n 1 n (n + 1) xs (text ∷ []) (omega arith) (omega arith) h (text, [], l, refl, refl)
+
+  -- all that are left
+  texts-left : (count : ℕ) → HaveTexts line count → (from many : ℕ) → from + many ≤ count → (texts : List (List ℕ)) × AreTexts line from many texts
+  texts-left count has from zero within = ([], refl)
+  texts-left count has from (suc many) within =
+      let this = has from (omega (arith, within)) in
+      let others = texts-left count has (suc from) many (omega (arith, within)) in
+      (this.0 ∷ others.0, (this.0, others.0, this.1, others.1, refl))
+
+  -- The first lines were written.
+  pub record WroteTo (n : ℕ) (before now : SinkShown) : Type 0 where
+    pub texts : List (List ℕ)
+    pub are : AreTexts line 0 n texts
+    pub sent : SendsAll before (joined texts) now
+
+  pub wrote_none : (before : SinkShown) → WroteTo 0 before before
+  wrote_none before = record { texts = []; are = refl; sent = SendsAll-nil before }
+
+  with_this : (xs : List (List ℕ)) (text : List ℕ) → joined (xs ++ text ∷ []) ≡ joined xs ++ text
+  with_this xs text = joined-append xs (text ∷ []) ∙ ap (λ (l : List ℕ). joined xs ++ l) (append-nil text)
+
+  pub wrote_more : (n : ℕ) (before now after : SinkShown) → WroteTo n before now → (h : (text : List ℕ) × line n text × SendsAll now text after) → WroteTo (n + 1) before after
+  wrote_more n before now after w h = record {
+    texts = w.texts ++ h.0 ∷ [];
+    are = texts-more n w.texts h.0 w.are h.1;
+    sent = subst (λ (l : List ℕ). SendsAll before l after) (sym (with_this w.texts h.0)) (SendsAll_then before now after (joined w.texts) h.0 w.sent h.2);
+  }
+
+  pub wrote_all : (n count : ℕ) (before now : SinkShown) → n ≡ count → WroteTo n before now → WritesLines {T = Unit {0}} {E = Failed} line count [] (Ok (tt {0})) before now
+  wrote_all n count before now is w = (
+    w.texts,
+    subst (λ (m : ℕ). AreTexts line 0 m w.texts) is w.are,
+    record { all = subst (λ (l : List ℕ). SendsAll before l now) (sym (append-nil (joined w.texts))) w.sent; part = tt },
+  )
+
+  -- the sink failed at this one
+  pub wrote_part : (count n : ℕ) → n < count → HaveTexts line count → (r : Result (Unit {0}) Failed) (e : Failed) (before now after : SinkShown) → IsErrAnd r (λ x. x ≡ e) → WroteTo n before now
+      → (h : (text : List ℕ) × line n text × SendsPart now text after) → WritesLines line count [] r before after
+  wrote_part count n less has (Ok done) e before now after is w h = absurd is
+  wrote_part count n less has (Err x) e before now after is w h =
+      let these = w.texts ++ h.0 ∷ [] in
+      let others = texts-left count has (n + 1) (count - (n + 1)) (omega (arith, less)) in
+      let whole : joined (these ++ others.0) ++ [] ≡ (joined w.texts ++ h.0) ++ joined others.0 =
+      append-nil (joined (these ++ others.0)) ∙ joined-append these others.0 ∙ ap (λ (l : List ℕ). l ++ joined others.0) (with_this w.texts h.0) in (
+        these ++ others.0,
+        texts-append 0 (n + 1) (count - (n + 1)) (n + 1) count these others.0 (omega arith) (omega (arith, less)) (texts-more n w.texts h.0 w.are h.1) others.1,
+        record {
+          all = tt;
+          part = subst (λ (l : List ℕ). SendsPart before l after) (sym whole)
+              (SendsPart_more before after (joined w.texts ++ h.0) (joined others.0) (SendsPart_then before now after (joined w.texts) h.0 w.sent h.2));
+        },
+      )
+
+  -- and then the last line
+  pub wrote_last : (count : ℕ) (last : List ℕ) (r : Result (Unit {0}) Failed) (before now after : SinkShown) → WritesLines {T = Unit {0}} {E = Failed} line count [] (Ok (tt {0})) before now → Sends r last now after
+      → WritesLines line count last r before after
+  wrote_last count last r before now after h sent =
+      (h.0, h.1, Sends_then r before now after (joined h.0) last (subst (λ (l : List ℕ). SendsAll before l now) (append-nil (joined h.0)) h.2.all) sent)
+
+  pub wrote_broken : (count : ℕ) (last : List ℕ) (r : Result (Unit {0}) Failed) (e : Failed) (before now : SinkShown) → IsErrAnd r (λ x. x ≡ e) → WritesLines {T = Unit {0}} {E = Failed} line count [] (Err e) before now
+      → WritesLines line count last r before now
+  wrote_broken count last (Ok done) e before now is h = absurd is
+  wrote_broken count last (Err x) e before now is h =
+      (h.0, h.1, record { all = tt; part = SendsPart_more before now (joined h.0) last (subst (λ (l : List ℕ). SendsPart before l now) (append-nil (joined h.0)) h.2.part) })
+
+  -- no line stands before the last one
+  pub only_last : (last : List ℕ) (r : Result (Unit {0}) Failed) (before after : SinkShown) → WritesLines line 0 last r before after → Sends r last before after
+  only_last last r before after h = subst (λ (ts : List (List ℕ)). Sends r (joined ts ++ last) before after) h.1 h.2

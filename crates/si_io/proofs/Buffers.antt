@@ -13,7 +13,7 @@ use Rattle.si_io.specs.Shown.{SinkShown}
 use Rattle.si_io.specs.declared.failed.Failed.{Failed}
 use Rattle.si_io.proofs.Content.{append_told-nil, append_told-append, Receives_then, ReceivesPrefix_more}
 use Rattle.si_io.proofs.Sends.{WritesFew_then, SendsAll_more}
-use Rattle.si_io.specs.Buffering.{held, told_with, gathered, begun, given_since, since, HasBytesSince, HasRoomSince}
+use Rattle.si_io.specs.Buffering.{held, told_with, uncounted, gathered, begun, given_since, since, HasBytesSince, HasRoomSince}
 
 -- what is left of some bytes, once the first of them were taken
 left_of : (now after : Told) (all : List ℕ) (n : ℕ) → Receives now (take n all) after → append_told after (drop n all) ≡ append_told now all
@@ -161,26 +161,25 @@ broken start now text rest c bytes room same within past =
 
 -- ---- what is shown at the start, and at the end
 -- nothing is held yet
-pub nothing_held : (below : SinkShown) (bytes : List ℕ) (start end calls : ℕ) → held bytes start end ≡ [] → calls ≡ 0 → gathered below bytes start end calls ≡ begun below
-nothing_held below bytes start end calls none first =
+pub nothing_held : (below : SinkShown) (bytes : List ℕ) (start end : ℕ) → held bytes start end ≡ [] → gathered below bytes start end ≡ begun below
+nothing_held below bytes start end none =
     let told : told_with below.told bytes start end ≡ below.told = ap (append_told below.told) none ∙ append_told-nil below.told in
     let count : raised_by (length (held bytes start end)) below.counts.bytes ≡ below.counts.bytes = omega (arith, ap length none) in
-    ap (λ t. record { told = t; counts = record { calls = calls; bytes = raised_by (length (held bytes start end)) below.counts.bytes; faults = below.counts.faults } }) told
-    ∙ ap (λ n. record { told = below.told; counts = record { calls = calls; bytes = n; faults = below.counts.faults } }) count
-    ∙ ap (λ n. record { told = below.told; counts = record { calls = n; bytes = below.counts.bytes; faults = below.counts.faults } }) first
+    ap (λ t. record { told = t; counts = record { calls = uncounted; bytes = raised_by (length (held bytes start end)) below.counts.bytes; faults = below.counts.faults } }) told
+    ∙ ap (λ n. record { told = below.told; counts = record { calls = uncounted; bytes = n; faults = below.counts.faults } }) count
 
 -- what is shown over a sink, where these bytes are held
-abbrev pub shows_kept : SinkShown → List ℕ → ℕ → SinkShown
-shows_kept below kept calls = record {
+abbrev pub shows_kept : SinkShown → List ℕ → SinkShown
+shows_kept below kept = record {
   told = append_told below.told kept;
-  counts = record { calls = calls; bytes = raised_by (length kept) below.counts.bytes; faults = below.counts.faults };
+  counts = record { calls = uncounted; bytes = raised_by (length kept) below.counts.bytes; faults = below.counts.faults };
 }
 
 -- it was broken off before
-pub told_part : {T E : Type 0} (r : Result T E) (start now : SinkShown) (kept text : List ℕ) (calls : ℕ) → IsTrue (is_err r) → HasBytesSince start.told now.told → HasRoomSince start.told now.told
-    → WritesFew start.counts now.counts → Sends r text (begun start) (shows_kept now kept calls) → Sends r (text ++ 10 ∷ []) start now
-told_part (Ok x) start now kept text calls h bytes room few sent = absurd cc
-told_part (Err e) start now kept text calls h bytes room few sent =
+pub told_part : {T E : Type 0} (r : Result T E) (start now : SinkShown) (kept text : List ℕ) → IsTrue (is_err r) → HasBytesSince start.told now.told → HasRoomSince start.told now.told
+    → WritesFew start.counts now.counts → Sends r text (begun start) (shows_kept now kept) → Sends r (text ++ 10 ∷ []) start now
+told_part (Ok x) start now kept text h bytes room few sent = absurd cc
+told_part (Err e) start now kept text h bytes room few sent =
     let part = sent.part.told in
     record {
       all = tt;
@@ -193,10 +192,10 @@ told_part (Err e) start now kept text calls h bytes room few sent =
     }
 
 -- all was told, and what was held and the last line feed were handed on, or some of it
-pub told_all : {T F E : Type 0} (r : Result T F) (h : Result (Unit {0}) E) (start now after : SinkShown) (kept text : List ℕ) (calls : ℕ) → IsFalse (is_err r) → HasBytesSince start.told now.told
-    → HasRoomSince start.told now.told → WritesFew start.counts now.counts → Sends r text (begun start) (shows_kept now kept calls) → Sends h (kept ++ 10 ∷ []) now after → Sends h (text ++ 10 ∷ []) start after
-told_all (Err e) h start now after kept text calls fine bytes room few sent handed = absurd cc
-told_all (Ok x) (Ok y) start now after kept text calls fine bytes room few sent handed = record {
+pub told_all : {T F E : Type 0} (r : Result T F) (h : Result (Unit {0}) E) (start now after : SinkShown) (kept text : List ℕ) → IsFalse (is_err r) → HasBytesSince start.told now.told
+    → HasRoomSince start.told now.told → WritesFew start.counts now.counts → Sends r text (begun start) (shows_kept now kept) → Sends h (kept ++ 10 ∷ []) now after → Sends h (text ++ 10 ∷ []) start after
+told_all (Err e) h start now after kept text fine bytes room few sent handed = absurd cc
+told_all (Ok x) (Ok y) start now after kept text fine bytes room few sent handed = record {
   all = record {
     told = handed.all.told ∙ behind now.told start.told kept text sent.all.told;
     bytes = omega (arith, handed.all.bytes, sent.all.bytes, length-append kept (10 ∷ []), length-append text (10 ∷ []));
@@ -205,7 +204,7 @@ told_all (Ok x) (Ok y) start now after kept text calls fine bytes room few sent 
   };
   part = tt;
 }
-told_all (Ok x) (Err e) start now after kept text calls fine bytes room few sent handed =
+told_all (Ok x) (Err e) start now after kept text fine bytes room few sent handed =
     let part = handed.part.told in
     let since_it = told_apart start.told after.told (since_more start.told now.told after.told _ bytes room part.given) in
     let all = kept ++ 10 ∷ [] in

@@ -1,5 +1,5 @@
 -- What a sink tells that holds bytes, and what the sink below was given since a start.
-use Rattle.std.specs.Prelude.{◌≡◌, ℕ, ◌-◌, ◌==◌, List, Option, None, Some, length, drop, filter, replicate, take}
+use Rattle.std.specs.Prelude.{◌≡◌, ℕ, ◌-◌, ◌^◌, ◌==◌, List, Option, None, Some, length, drop, filter, replicate, take}
 use Rattle.si_io.specs.Content.{Told, bytes_then, append_told}
 use Rattle.si_io.specs.Counts.{raised_by}
 use Rattle.si_io.specs.Shown.{SinkShown}
@@ -16,13 +16,17 @@ last_line_feed bytes = filter (λ byte. byte == 10) (drop (length bytes - 1) byt
 abbrev pub told_with : Told → List ℕ → ℕ → ℕ → Told
 told_with below bytes start end = append_told below (held bytes start end)
 
--- What is shown of a sink that holds these bytes, after so many writes of its own: those that are
--- held count as taken.
-abbrev pub gathered : SinkShown → List ℕ → (start end calls : ℕ) → SinkShown
-gathered below bytes start end calls = record {
+-- The count of a sink's own writes, where none are counted: at its end, since one more leaves it
+-- there.
+abbrev pub uncounted : ℕ
+uncounted = 2 ^ 64 - 1
+
+-- What is shown of a sink that holds these bytes: those that are held count as taken.
+abbrev pub gathered : SinkShown → List ℕ → (start end : ℕ) → SinkShown
+gathered below bytes start end = record {
   told = told_with below.told bytes start end;
   counts = record {
-    calls = calls;
+    calls = uncounted;
     bytes = raised_by (length (held bytes start end)) below.counts.bytes;
     faults = below.counts.faults;
   };
@@ -30,7 +34,7 @@ gathered below bytes start end calls = record {
 
 -- what is shown at the start, over a sink that shows this
 abbrev pub begun : SinkShown → SinkShown
-begun below = record below { counts = record below.counts { calls = 0 } }
+begun below = record below { counts = record below.counts { calls = uncounted } }
 
 -- the bytes that were given between these two times, or as many zeros as the room fell by where
 -- they aren't told

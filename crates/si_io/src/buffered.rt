@@ -148,8 +148,6 @@ pub struct Buffered<S: Borrowed, B: Origin> {
     start: usize,
     // up to here.
     end: usize,
-    // So many writes were made to it.
-    calls: u64,
     origin: PhantomData<B>,
     ghost same: { S.name sink ≡ B.name },
     ghost order: { start ≤ end },
@@ -165,7 +163,6 @@ impl<S: Borrowed, B: Origin> Buffered<S, B> {
         requires same { S.name sink ≡ B.name }
         requires start { S.shown sink ≡ B.shown }
         ensures sink { result.sink ≡ sink }
-        ensures calls { result.calls ≡ 0 }
         ensures none { held result.bytes result.start result.end ≡ [] }
     {
         Buffered {
@@ -173,7 +170,6 @@ impl<S: Borrowed, B: Origin> Buffered<S, B> {
             bytes: [0; SIZE],
             start: 0,
             end: 0,
-            calls: 0,
             origin: PhantomData,
         }
     }
@@ -189,7 +185,6 @@ impl<S: Borrowed, B: Origin> Buffered<S, B> {
             (S.shown self.new.sink).counts.bytes
             ≡ raised_by (length (held self.old.bytes self.old.start self.old.end))
             (S.shown self.old.sink).counts.bytes }
-        ensures calls { self.new.calls ≡ self.old.calls }
         ensures start { OnOk result (self.new.start ≡ place) }
         ensures bytes { self.new.bytes ≡ self.old.bytes }
         ensures end { self.new.end ≡ self.old.end }
@@ -226,7 +221,6 @@ impl<S: Borrowed, B: Origin> Buffered<S, B> {
             (S.shown self.new.sink).counts.bytes
             ≡ raised_by (length (held self.old.bytes self.old.start self.old.end))
             (S.shown self.old.sink).counts.bytes }
-        ensures calls { self.new.calls ≡ self.old.calls }
         ensures few { OnOk result (self.new.end ≤ 1) }
         ensures left { OnOk result (held self.new.bytes self.new.start self.new.end
             ≡ last_line_feed (held self.old.bytes self.old.start self.old.end)) }
@@ -250,7 +244,6 @@ impl<S: Borrowed, B: Origin> Buffered<S, B> {
         ensures held { held self.new.bytes self.new.start self.new.end
             ≡ held self.old.bytes self.old.start self.old.end ++ bytes.now }
         ensures sink { self.new.sink ≡ self.old.sink }
-        ensures calls { self.new.calls ≡ self.old.calls }
     {
         let start = self.end;
         // One byte is stored as it is.
@@ -271,7 +264,6 @@ impl<S: Borrowed, B: Origin> Buffered<S, B> {
         ensures held { held self.new.bytes self.new.start self.new.end
             ≡ held self.old.bytes self.old.start self.old.end ++ bytes.now }
         ensures sink { self.new.sink ≡ self.old.sink }
-        ensures calls { self.new.calls ≡ self.old.calls }
     {
         self.hold(bytes);
     }
@@ -280,7 +272,7 @@ impl<S: Borrowed, B: Origin> Buffered<S, B> {
     /// After a failure the sink is given back without another call.
     pub fn finish(self, told: Result<(), Failed>) -> (Result<(), Failed>, S)
         ensures told { (text : List ℕ) → Sends told text (begun B.shown)
-            (gathered (S.shown self.sink) self.bytes self.start self.end self.calls)
+            (gathered (S.shown self.sink) self.bytes self.start self.end)
             → Sends result.0 (text ++ 10 ∷ []) B.shown (S.shown result.1) }
         ensures uncalled { OnErr told (result.1 ≡ self.sink) }
         ensures same { S.name result.1 ≡ B.name }
@@ -302,11 +294,10 @@ impl<S: Borrowed, B: Origin> Buffered<S, B> {
 }
 
 impl<S: Borrowed, B: Origin> Sink for Buffered<S, B> {
-    ghost shown = { λ b. gathered (S.shown b.sink) b.bytes b.start b.end b.calls };
+    ghost shown = { λ b. gathered (S.shown b.sink) b.bytes b.start b.end };
 
     #[inline(always)]
     fn write(&mut self, bytes: &[u8]) -> Result<usize, Failed> {
-        self.calls = self.calls.saturating_add(1);
         if bytes.len() <= HELD - self.end {
             self.hold(bytes);
             return Ok(bytes.len());

@@ -12,13 +12,13 @@ returns-clause-written g c =
     let over = c.over-buffered.result in
     let start = shown c.args.sink in
     let last = c.finish.result in
-    let empty : gathered (shown over.sink) over.bytes over.start over.end over.calls ≡ begun start =
-    nothing_held (shown over.sink) over.bytes over.start over.end over.calls c.over-buffered.ensures.none c.over-buffered.ensures.calls ∙ ap (λ k. begun (shown k)) c.over-buffered.ensures.sink in
+    let empty : gathered (shown over.sink) over.bytes over.start over.end ≡ begun start =
+    nothing_held (shown over.sink) over.bytes over.start over.end c.over-buffered.ensures.none ∙ ap (λ k. begun (shown k)) c.over-buffered.ensures.sink in
     let told = c.put_all-told.ensures in
     let end = g.A.Lines.last c.args.lines.now in
     let text = joined told.0 ++ end in
     let over_now = c.put_all-told.new.sink in
-    let now = gathered (shown over_now.sink) over_now.bytes over_now.start over_now.end over_now.calls in
+    let now = gathered (shown over_now.sink) over_now.bytes over_now.start over_now.end in
     let front = subst (λ t. Sends c.put_all-told.result text t now) (empty ∙ ap begun c.requires.start) told.2 in
     let whole = subst (λ t. Sends last.0 (text ++ 10 ∷ []) t (shown last.1)) (sym c.requires.start) (c.finish.ensures.told text front) in
     (told.0, told.1, subst (λ t. Sends last.0 t start (shown last.1)) (append_assoc (joined told.0) end (10 ∷ [])) whole)

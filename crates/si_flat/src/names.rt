@@ -100,6 +100,7 @@ impl<'a> NameSet<'a> {
 }
 
 // The place of a name among these.
+#[inline(always)]
 fn place_among(names: &[&[u8]], name: &[u8]) -> Option<usize>
     ensures { FindsPlace (λ other. bytes_eq name.now other.now) names.now result }
 {

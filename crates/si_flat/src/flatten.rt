@@ -54,7 +54,7 @@ pub fn flatten_pattern<T: SymTable>(
     written.write(table, Owner::Query, pattern.as_entry())?;
     let extra = written.met.extra_symbols(alloc)?;
     Ok(FlatQuery {
-        flat: Flat::from_vec(written.cells),
+        flat: Flat::with_room(written.cells),
         extra,
     })
 }

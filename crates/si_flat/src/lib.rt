@@ -119,6 +119,15 @@ impl Flat {
         ensures { result ≡ cells.items }
     {
         cells.shrink_to_fit();
+        Flat::with_room(cells)
+    }
+
+    // The term of these cells, in their memory. The room after the last one isn't given back, as
+    // suits a term that isn't kept.
+    fn with_room(cells: Vec<Cell>) -> Flat
+        requires { IsWhole cells.items }
+        ensures { result ≡ cells.items }
+    {
         Flat {
             cells: SmallVec::from_vec(cells),
         }

@@ -1,12 +1,11 @@
 // Whether the symbols of two terms allow that a substitution takes the one to the other.
-ghost use Rattle.std.specs.Prelude.{◌≡◌, IsFalse, map};
-ghost use Rattle.si_defs.specs.Symbols.{same_symbol};
+ghost use Rattle.std.specs.Prelude.{IsFalse, map};
 ghost use Rattle.si_defs.specs.Terms.{row};
 ghost use Rattle.si_defs.specs.Variables.{Solution};
-ghost use Rattle.si_term.specs.Terms.{symbol_of, term_of};
+ghost use Rattle.si_term.specs.Terms.{term_of};
 ghost use Rattle.si_index.specs.Fitting.{Takes, TakesAll};
 
-use si_term::{Sym, Term};
+use si_term::Term;
 
 /// `false` only where no substitution takes the term to the other. Both are walked over, as far as
 /// variables of the first, and no memory is taken.
@@ -17,7 +16,7 @@ pub(crate) fn may_become(term: &Term, target: &Term) -> bool
 {
     match (term, target) {
         (Term::App(symbol, terms), Term::App(other, targets)) => {
-            is_same_symbol(symbol, other) && all_may_become(terms.as_slice(), targets.as_slice())
+            symbol.is(other) && all_may_become(terms.as_slice(), targets.as_slice())
         }
         (Term::App(_, _), Term::Var(_)) => false,
         (Term::Var(_), _) => true,
@@ -35,15 +34,4 @@ fn all_may_become(terms: &[Term], targets: &[Term]) -> bool
         }
     }
     true
-}
-
-/// Whether two symbols are equal. It is inlined into the walks over terms.
-#[inline(always)]
-fn is_same_symbol(one: &Sym, other: &Sym) -> bool
-    ensures { result ≡ same_symbol (symbol_of one.now) (symbol_of other.now) }
-{
-    one.kind == other.kind
-        && one.side == other.side
-        && one.arity == other.arity
-        && one.text.as_bytes() == other.text.as_bytes()
 }

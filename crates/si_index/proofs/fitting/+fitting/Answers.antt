@@ -23,19 +23,19 @@ pub may_become-all_may_become-requires : goal.may_become-all_may_become-requires
 may_become-all_may_become-requires t c =
     omega (arith, ap size (app-term c.args.term.now c.in-App-App.symbol c.in-App-App.terms c.as_slice.result.now c.in-App-App.is-0 c.as_slice.ensures))
 
-pub may_become-returns-then-is_same_symbol : goal.may_become-returns-then-is_same_symbol
-may_become-returns-then-is_same_symbol t c = λ none s h.
+pub may_become-returns-then-is : goal.may_become-returns-then-is
+may_become-returns-then-is t c = λ none s h.
     let own = app-term c.args.term.now c.in-App-App.symbol c.in-App-App.terms c.as_slice.result.now c.in-App-App.is-0 c.as_slice.ensures in
-    let its = app-term c.args.target.now c.in-App-App.other c.in-App-App.targets c.as_slice-then-is_same_symbol.result.now c.in-App-App.is-1 c.as_slice-then-is_same_symbol.ensures in
+    let its = app-term c.args.target.now c.in-App-App.other c.in-App-App.targets c.as_slice-then-is.result.now c.in-App-App.is-1 c.as_slice-then-is.ensures in
     let terms = row (map term_of c.as_slice.result.now) in
-    let targets = row (map term_of c.as_slice-then-is_same_symbol.result.now) in
+    let targets = row (map term_of c.as_slice-then-is.result.now) in
     let both : Takes s (app (symbol_of c.in-App-App.symbol) terms) (app (symbol_of c.in-App-App.other) targets) =
     subst (λ x. Takes s x (app (symbol_of c.in-App-App.other) targets)) own (subst (λ x. Takes s (term_of c.args.term.now) x) its h) in
     c.all_may_become.ensures none s (arguments_taken s (symbol_of c.in-App-App.symbol) (symbol_of c.in-App-App.other) terms targets both)
 
-pub may_become-returns-else-is_same_symbol : goal.may_become-returns-else-is_same_symbol
-may_become-returns-else-is_same_symbol t c = λ none s h.
-    let differ : same_symbol (symbol_of c.in-App-App.symbol) (symbol_of c.in-App-App.other) ≡ false = sym c.is_same_symbol.ensures ∙ none in
+pub may_become-returns-else-is : goal.may_become-returns-else-is
+may_become-returns-else-is t c = λ none s h.
+    let differ : same_symbol (symbol_of c.in-App-App.symbol) (symbol_of c.in-App-App.other) ≡ false = sym c.is.ensures ∙ none in
     heads_differ s (symbol_of c.in-App-App.symbol) (symbol_of c.in-App-App.other) (row c.in-App-App.terms) (row c.in-App-App.targets) differ
     (subst (λ x. Takes s x (app (symbol_of c.in-App-App.other) (row c.in-App-App.targets))) (ap term_of c.in-App-App.is-0)
     (subst (λ x. Takes s (term_of c.args.term.now) x) (ap term_of c.in-App-App.is-1) h))

@@ -14,6 +14,7 @@ use crate::wanted::{Leaf, Ordered, in_order};
 use si_defs::Relation;
 use si_flat::flatten_pattern;
 use si_form::Solution;
+use si_sign::Signature;
 use si_term::{Clause, Pattern, Place, Syms, Texts, vars_of};
 use std::alloc::{AllocError, Global};
 use std::marker::Model;
@@ -86,6 +87,8 @@ impl<'a> Model for Found<'a> {
 }
 
 impl<'a> Found<'a> {
+    ghost use Rattle.si_defs.specs.Symbols.{IsNumbering};
+    ghost use Rattle.si_state.specs.Signatures.{IsSignatureOf, numbering};
     ghost use Rattle.si_index.specs.Finding.{position_and_place, IsClauseOf};
     ghost use Rattle.si_index.specs.Showing.{ShowsHit, shown_of};
 
@@ -101,6 +104,15 @@ impl<'a> Found<'a> {
         ensures { result ≡ self.now.passed }
     {
         self.passed
+    }
+
+    /// The symbols of the clauses of the index, by whose numbers hits are shown.
+    pub fn signature(&self) -> &'a Signature
+        ensures signature { IsSignatureOf self.now.index.clauses result.now }
+        ensures numbers { numbering result.now ≡ self.now.index.numbers }
+        ensures numbering { IsNumbering self.now.index.numbers }
+    {
+        self.search.index.signature()
     }
 
     /// The hit with this number from 0.

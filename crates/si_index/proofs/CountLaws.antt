@@ -166,12 +166,12 @@ counted_hits k relation p cells q found orderly sound hold asked stands are =
     λ r a. let e = (answers_held k.numbers (kept_clauses k) k.trees hold (asks_literals p) relation q r).0 ((are.exact r).0 a) in (e.0, e.1) in
     let many = as_many k these found orderly.keyed of_cells kept in
     let wanted =
-    by_terms k (λ literal kind t r. IsStoredAnswer (tree_for literal k.trees) kind t r)
-    (λ literal kind t r. answers_held k.numbers (kept_clauses k) k.trees hold literal kind t r) in
+    by_terms k (λ literal relation t r. IsStoredAnswer (tree_for literal k.trees) relation t r)
+    (λ literal relation t r. answers_held k.numbers (kept_clauses k) k.trees hold literal relation t r) in
     record {
       hits = many.0;
       are_hits =
-          finds_all (by_trees k) (λ literal kind list n. n ≡ 0) k relation p many.0 0 orderly sound wanted
+          finds_all (by_trees k) (λ literal relation list n. n ≡ 0) k relation p many.0 0 orderly sound wanted
           (record { cells = cells; asked = asked; answered = many.1; counted = refl });
       number = many.2;
       few = hits_few k these many.0 many.1;

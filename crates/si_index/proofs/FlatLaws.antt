@@ -85,73 +85,73 @@ flat_is_numbered numbers owner e list flat t stands =
     subst (IsNumbered owner) (one_term list _ t flat.stands stands) flat.numbered
 
 -- two terms and their numbers; the entry's are in the table
-module _ (kind : Relation) (table extra : Numbering) (p u : Term) (positive : Bool) (numbering : IsQueryNumbering (table ++ extra)) (of_p : HaveNumbers (table ++ extra) (symbols p)) (of_u : HaveNumbers table (symbols u)) where
+module _ (relation : Relation) (table extra : Numbering) (p u : Term) (positive : Bool) (numbering : IsQueryNumbering (table ++ extra)) (of_p : HaveNumbers (table ++ extra) (symbols p)) (of_u : HaveNumbers table (symbols u)) where
   answered : (answer : Option (List Binding))
-      → AnswersTo kind (query_by (signed positive (number_in (table ++ extra))) (firsts bytes_eq (variables p)) p) (entry_by (signed positive (number_in table)) (firsts bytes_eq (variables u)) u) answer
-      → AnswersToTexts kind p u (signed positive (number_in (table ++ extra))) (variable_by (firsts bytes_eq (variables p)) (firsts bytes_eq (variables u))) answer
+      → AnswersTo relation (query_by (signed positive (number_in (table ++ extra))) (firsts bytes_eq (variables p)) p) (entry_by (signed positive (number_in table)) (firsts bytes_eq (variables u)) u) answer
+      → AnswersToTexts relation p u (signed positive (number_in (table ++ extra))) (variable_by (firsts bytes_eq (variables p)) (firsts bytes_eq (variables u))) answer
   answered answer told =
-      answers_are_kept kind p u (number_in (table ++ extra)) (firsts bytes_eq (variables p)) (firsts bytes_eq (variables u)) positive answer
+      answers_are_kept relation p u (number_in (table ++ extra)) (firsts bytes_eq (variables p)) (firsts bytes_eq (variables u)) positive answer
       (is_for (table ++ extra) p u numbering of_p (more_numbers table extra (symbols u) of_u))
-      (subst (λ t. AnswersTo kind (query_by (signed positive (number_in (table ++ extra))) (firsts bytes_eq (variables p)) p) t answer)
+      (subst (λ t. AnswersTo relation (query_by (signed positive (number_in (table ++ extra))) (firsts bytes_eq (variables p)) p) t answer)
       (entries_need_the_table_alone table extra positive (firsts bytes_eq (variables u)) u of_u) told)
 
 -- what the terms are answered, the pattern and the entry are
-entry_answered : (kind : Relation) (numbers : Numbering) (p : Pattern) (e : Entry) (answer : Option (List Binding))
+entry_answered : (relation : Relation) (numbers : Numbering) (p : Pattern) (e : Entry) (answer : Option (List Binding))
     → AreAlike p e
     → HaveNumbers numbers (symbols_of (whole_of (pattern_entry p)) (whole_of e))
-    → AnswersToTexts kind (whole_of (pattern_entry p)) (whole_of e) (number_in numbers) (variable_by (distinct_variables (pattern_entry p)) (distinct_variables e)) answer
-    → AnswersEntry kind numbers p e answer
-entry_answered kind numbers (literal_pattern l) (literal_entry k) None alike have h = λ s. h s.1
-entry_answered kind numbers (literal_pattern l) (literal_entry k) (Some bs) alike have h = record {
+    → AnswersToTexts relation (whole_of (pattern_entry p)) (whole_of e) (number_in numbers) (variable_by (distinct_variables (pattern_entry p)) (distinct_variables e)) answer
+    → AnswersEntry relation numbers p e answer
+entry_answered relation numbers (literal_pattern l) (literal_entry k) None alike have h = λ s. h s.1
+entry_answered relation numbers (literal_pattern l) (literal_entry k) (Some bs) alike have h = record {
   stands = (alike, h.relates);
   solution = h.solution;
   solves = (alike, h.canonical);
-  parts = solutions_are_of_terms kind l.atom k.atom h.solution h.canonical;
+  parts = solutions_are_of_terms relation l.atom k.atom h.solution h.canonical;
   symbols = have;
   list = h.stands;
 }
-entry_answered kind numbers (term_pattern t) (term_entry u) None alike have h = h
-entry_answered kind numbers (term_pattern t) (term_entry u) (Some bs) alike have h = record {
+entry_answered relation numbers (term_pattern t) (term_entry u) None alike have h = h
+entry_answered relation numbers (term_pattern t) (term_entry u) (Some bs) alike have h = record {
   stands = h.relates;
   solution = h.solution;
   solves = h.canonical;
-  parts = solutions_are_of_terms kind t u h.solution h.canonical;
+  parts = solutions_are_of_terms relation t u h.solution h.canonical;
   symbols = have;
   list = h.stands;
 }
-entry_answered kind numbers (literal_pattern l) (term_entry u) answer alike have h = absurd alike
-entry_answered kind numbers (term_pattern t) (literal_entry k) answer alike have h = absurd alike
+entry_answered relation numbers (literal_pattern l) (term_entry u) answer alike have h = absurd alike
+entry_answered relation numbers (term_pattern t) (literal_entry k) answer alike have h = absurd alike
 
-pub flat_answers : (kind : Relation) (table : Numbering) (p : Pattern) (q : FlatQuery) (e : Entry) (list : List Cell) (answer : Option (List Binding))
+pub flat_answers : (relation : Relation) (table : Numbering) (p : Pattern) (q : FlatQuery) (e : Entry) (list : List Cell) (answer : Option (List Binding))
     → IsNumbering table
     → IsSoundPattern p
     → FlattensPattern table p q
     → IsKnownEntry table e
     → AreAlike p e
     → IsFlatOf table cells.entry e list
-    → Answers kind q.flat list answer
-    → AnswersEntry kind (query_numbers table q.extra) p e answer
-flat_answers kind table (literal_pattern l) q (literal_entry k) list answer numbering sound query known alike flat told =
+    → Answers relation q.flat list answer
+    → AnswersEntry relation (query_numbers table q.extra) p e answer
+flat_answers relation table (literal_pattern l) q (literal_entry k) list answer numbering sound query known alike flat told =
     let extra = extra_numbers (map symbol_of q.extra) in
     let of_p = all_numbered (query_numbers table q.extra) (symbols l.atom) query.complete in
-    let same = subst (λ b. AnswersTo kind (query_by (signed b (number_in (table ++ extra))) (firsts bytes_eq (variables l.atom)) l.atom) (entry_by (signed k.positive (number_in table)) (firsts bytes_eq (variables k.atom)) k.atom) answer)
+    let same = subst (λ b. AnswersTo relation (query_by (signed b (number_in (table ++ extra))) (firsts bytes_eq (variables l.atom)) l.atom) (entry_by (signed k.positive (number_in table)) (firsts bytes_eq (variables k.atom)) k.atom) answer)
     alike (told _ _ query.flat.stands flat.stands) in
-    entry_answered kind (query_numbers table q.extra) (literal_pattern l) (literal_entry k) answer alike
+    entry_answered relation (query_numbers table q.extra) (literal_pattern l) (literal_entry k) answer alike
     (both_numbered (query_numbers table q.extra) l.atom k.atom of_p (more_numbers table extra (symbols k.atom) known.numbered))
-    (atoms_are_answered kind l.atom k.atom (number_in (table ++ extra)) _ k.positive answer sound.0 known.sound.0
-    (answered kind table extra l.atom k.atom k.positive (query.numbering numbering) of_p known.numbered answer same))
-flat_answers kind table (term_pattern t) q (term_entry u) list answer numbering sound query known alike flat told =
+    (atoms_are_answered relation l.atom k.atom (number_in (table ++ extra)) _ k.positive answer sound.0 known.sound.0
+    (answered relation table extra l.atom k.atom k.positive (query.numbering numbering) of_p known.numbered answer same))
+flat_answers relation table (term_pattern t) q (term_entry u) list answer numbering sound query known alike flat told =
     let extra = extra_numbers (map symbol_of q.extra) in
     let of_p = all_numbered (query_numbers table q.extra) (symbols t) query.complete in
-    entry_answered kind (query_numbers table q.extra) (term_pattern t) (term_entry u) answer alike
+    entry_answered relation (query_numbers table q.extra) (term_pattern t) (term_entry u) answer alike
     (both_numbered (query_numbers table q.extra) t u of_p (more_numbers table extra (symbols u) known.numbered))
-    (answered kind table extra t u true (query.numbering numbering) of_p known.numbered answer (told _ _ query.flat.stands flat.stands))
-flat_answers kind table (literal_pattern l) q (term_entry u) list answer numbering sound query known alike flat told = absurd alike
-flat_answers kind table (term_pattern t) q (literal_entry k) list answer numbering sound query known alike flat told = absurd alike
+    (answered relation table extra t u true (query.numbering numbering) of_p known.numbered answer (told _ _ query.flat.stands flat.stands))
+flat_answers relation table (literal_pattern l) q (term_entry u) list answer numbering sound query known alike flat told = absurd alike
+flat_answers relation table (term_pattern t) q (literal_entry k) list answer numbering sound query known alike flat told = absurd alike
 
 -- what stands in the relation is alike
-pub alike_standing : (kind : Relation) (p : Pattern) (e : Entry) → Stands kind p e → AreAlike p e
-alike_standing kind (literal_pattern l) (literal_entry k) s = s.0
-alike_standing kind (term_pattern t) (term_entry u) s = tt
-alike_standing kind (literal_pattern l) (term_entry u) s = s
-alike_standing kind (term_pattern t) (literal_entry k) s = s
+pub alike_standing : (relation : Relation) (p : Pattern) (e : Entry) → Stands relation p e → AreAlike p e
+alike_standing relation (literal_pattern l) (literal_entry k) s = s.0
+alike_standing relation (term_pattern t) (term_entry u) s = tt
+alike_standing relation (literal_pattern l) (term_entry u) s = s
+alike_standing relation (term_pattern t) (literal_entry k) s = s

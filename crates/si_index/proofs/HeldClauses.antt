@@ -37,7 +37,7 @@ use Rattle.si_sign.proofs.StoreLaws.{stored_none}
 use Rattle.std.proofs.lemmas.Option.{none-some}
 use Rattle.si_index.specs.Names.{key_of}
 use Rattle.si_index.specs.Stored.{keyed_clauses, IsKept, AreHeld}
-use Rattle.si_index.specs.Register.{IsKnownOf, Enters, Uncounts, Leaves, Stays}
+use Rattle.si_index.specs.Register.{IsRegisterOf, Enters, Uncounts, Leaves, Stays}
 use Rattle.si_index.specs.declared.register.Register.{Register}
 
 -- ---- the clauses with their keys
@@ -120,32 +120,32 @@ held_less numbers items rest key c old new held out removes legal =
     (removes_held numbers (keyed_clauses items) (keyed_clauses out.before) (keyed_clauses out.after) key (clause_of c) old new held
     (ap keyed_clauses out.whole ∙ keyed_append out.before ((key, c) ∷ out.after)) removes legal)
 
--- ---- what is known of the clauses
+-- ---- the register of the clauses
 -- the clause's symbols are counted, and the others' numbers stay
-module _ (items : List (ℕ × term.Clause)) (known : Register) (trees : TwoTrees) (is : IsKnownOf items known) (held : AreHeld items known trees) where
-  pub entered_held : (c : Clause) (between : Register) → Enters c known between → AreHeld items between trees
-  entered_held c between enters = still_held known between items trees held enters.signature enters.numbers (λ s. omega (arith, enters.uses s, is.signed s))
+module _ (items : List (ℕ × term.Clause)) (register : Register) (trees : TwoTrees) (is : IsRegisterOf items register) (held : AreHeld items register trees) where
+  pub entered_held : (c : Clause) (between : Register) → Enters c register between → AreHeld items between trees
+  entered_held c between enters = still_held register between items trees held enters.signature enters.numbers (λ s. omega (arith, enters.uses s, is.signed s))
 
-  pub entered_numbers : (c : Clause) (between : Register) → Enters c known between → unnumbered (numbering between.signature) (clause_symbols c) ≡ []
+  pub entered_numbers : (c : Clause) (between : Register) → Enters c register between → unnumbered (numbering between.signature) (clause_symbols c) ≡ []
   entered_numbers c between enters = none_lacking between.signature (clause_symbols c) (λ s. omega (arith, enters.uses s))
 
   -- and counted no more
-  pub uncounted_held : (c : Clause) (between new : Register) (after : TwoTrees) → Enters c known between → AreHeld items between after → Uncounts c between new → AreHeld items new after
+  pub uncounted_held : (c : Clause) (between new : Register) (after : TwoTrees) → Enters c register between → AreHeld items between after → Uncounts c between new → AreHeld items new after
   uncounted_held c between new after enters now undone =
       still_held between new items after now undone.signature undone.numbers (λ s. omega (arith, enters.uses s, is.signed s, undone.uses s))
 
-  pub stays_held : (new : Register) → Stays known new → AreHeld items new trees
-  stays_held new same = still_held known new items trees held same.signature same.numbers (λ s. omega (arith, same.uses s, is.signed s))
+  pub stays_held : (new : Register) → Stays register new → AreHeld items new trees
+  stays_held new same = still_held register new items trees held same.signature same.numbers (λ s. omega (arith, same.uses s, is.signed s))
 
-  -- a clause goes from the trees, and then from what is known
+  -- a clause goes from the trees, and then from the register
   pub left_held : (key : ℕ) (c : term.Clause) (rest : List (ℕ × term.Clause)) (new : Register) (after : TwoTrees) → IsTakenOut items key c rest → RemovesClause key trees after → AreLegal after
-      → IsKnownOf rest new → Leaves (clause_of c) known new → AreHeld rest new after
+      → IsRegisterOf rest new → Leaves (clause_of c) register new → AreHeld rest new after
   left_held key c rest new after out removes legal is_new leaves =
-      still_held known new rest after (held_less (numbering known.signature) items rest key c trees after held out removes legal) leaves.counts.signature leaves.counts.numbers (λ s. omega (arith, is_new.signed s))
+      still_held register new rest after (held_less (numbering register.signature) items rest key c trees after held out removes legal) leaves.counts.signature leaves.counts.numbers (λ s. omega (arith, is_new.signed s))
 
 -- ---- as an index shows them
-pub trees_hold : (items : List (ℕ × term.Clause)) (known : Register) (trees : TwoTrees) → AreHeld items known trees → Hold (numbering known.signature) (paired (item_keys items) (clauses_of items)) trees
-trees_hold items known trees held = subst (λ l. Hold (numbering known.signature) l trees) (paired_keyed items) held
+pub trees_hold : (items : List (ℕ × term.Clause)) (register : Register) (trees : TwoTrees) → AreHeld items register trees → Hold (numbering register.signature) (paired (item_keys items) (clauses_of items)) trees
+trees_hold items register trees held = subst (λ l. Hold (numbering register.signature) l trees) (paired_keyed items) held
 
 -- exactly the symbols of the clauses have numbers
 pub numbers_exactly : (items : List (ℕ × term.Clause)) (known : Signature) → IsSignature known → IsSignatureOf (clauses_of items) known → NumbersExactly (numbering known) (clauses_of items)
@@ -155,23 +155,23 @@ numbers_exactly items known good signed s = (
 )
 
 -- ---- no clause
-pub none_held : (items : List (ℕ × term.Clause)) (known : Register) (trees : TwoTrees) → items ≡ [] → known.signature ≡ [] → AreAlone trees → AreHeld items known trees
-none_held items known trees none unknown alone =
-    subst (λ l. AreHeld l known trees) (sym none)
+pub none_held : (items : List (ℕ × term.Clause)) (register : Register) (trees : TwoTrees) → items ≡ [] → register.signature ≡ [] → AreAlone trees → AreHeld items register trees
+none_held items register trees none unknown alone =
+    subst (λ l. AreHeld l register trees) (sym none)
     (subst (λ g. Hold (numbering g) [] trees) (sym unknown)
     (roots_held [] trees no_numbers (root_legal trees.literals alone.0, root_legal trees.subterms alone.1) vacant)) where
       vacant : (literals : Bool) (key : ℕ) → key ≢ (tree_for literals trees).root → IsVacant (tree_for literals trees) key
       vacant true key other = alone.0.others key other
       vacant false key other = alone.1.others key other
 
-pub none_kept : (rules : Rules) (items : List (ℕ × term.Clause)) (known : Register) → rules.entries ≤ MOST_OCCURRENCES → items ≡ [] → ((name : Name) → key_of known.names name ≡ None) → known.signature ≡ []
-    → known.entries ≡ 0 → IsKept rules items known
-none_kept rules items known small none unnamed unknown uncounted =
-    subst (λ l. IsKept rules l known) (sym none)
+pub none_kept : (rules : Rules) (items : List (ℕ × term.Clause)) (register : Register) → rules.entries ≤ MOST_OCCURRENCES → items ≡ [] → ((name : Name) → key_of register.names name ≡ None) → register.signature ≡ []
+    → register.entries ≡ 0 → IsKept rules items register
+none_kept rules items register small none unnamed unknown uncounted =
+    subst (λ l. IsKept rules l register) (sym none)
     (record {
       small = small;
       stored = stored_none rules;
-      is_known = record {
+      registered = record {
         names = record {
           there = λ name key e. absurd (none-some key (sym (unnamed name) ∙ e));
           named = λ name key e. absurd (none-some key (sym (unnamed name) ∙ e));

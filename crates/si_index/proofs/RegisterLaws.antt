@@ -1,4 +1,4 @@
--- What is known of clauses, as one is added, refused or taken away.
+-- The register of clauses, as one is added, refused or taken away.
 use Rattle.std.proofs.Common.{◌≡◌, inl, inr, ℕ, ◌+◌, ◌-◌, ◌≤◌, List, [], ◌∷◌, ◌++◌, Option, None, Some, IsSome, length, refl, sym, ap, ◌∙◌, subst, arith, append-nil, length-append}
 use Rattle.std.proofs.lemmas.List.{map-append}
 use Rattle.std.proofs.lemmas.Bool.{false≢true}
@@ -24,7 +24,7 @@ use Rattle.si_sign.proofs.UsesOf.{among_numbering, numbering_among, uses_positiv
 use Rattle.si_keyed.specs.Keyed.{HasKey, HasKeyAt, IsTakenOut}
 use Rattle.si_index.specs.Kept.{KeysStay, clauses_of}
 use Rattle.si_index.specs.Names.{key_of, ChangesName}
-use Rattle.si_index.specs.Register.{AreNamed, IsKnownOf, HasPut, Admits, Enters, Uncounts, Leaves, Stays, Bars}
+use Rattle.si_index.specs.Register.{AreNamed, IsRegisterOf, HasPut, Admits, Enters, Uncounts, Leaves, Stays, Bars}
 use Rattle.si_index.specs.Stored.{IsKept}
 use Rattle.si_index.specs.declared.register.Register.{Register}
 use Rattle.si_index.specs.declared.names.ClauseNames.{ClauseNames}
@@ -38,19 +38,19 @@ some_is : {A : Type 0} (o : Option A) → IsSome o → (x : A) × (o ≡ Some x)
 some_is None h = absurd (false≢true h)
 some_is (Some x) h = (x, refl)
 
-module _ (rules : Rules) (items : List (ℕ × term.Clause)) (known : Register) (c : Clause) (is : IsKnownOf items known) (good : IsSignature known.signature) where
-  pub name_free : key_of known.names c.name ≡ None → IsTaken (clauses_of items) c.name → ⊥
-  name_free e = unknown_free items known.names is.names c.name e
+module _ (rules : Rules) (items : List (ℕ × term.Clause)) (register : Register) (c : Clause) (is : IsRegisterOf items register) (good : IsSignature register.signature) where
+  pub name_free : key_of register.names c.name ≡ None → IsTaken (clauses_of items) c.name → ⊥
+  name_free e = unknown_free items register.names is.names c.name e
 
-  pub rejects : IsSoundClause c → (f : AddFault) → Bars rules.entries known c f → Rejects rules (clauses_of items) c f
-  rejects sound add_fault.Taken why = let found = some_is (key_of known.names c.name) why in leads_taken items known.names is.names c.name found.0 found.1
-  rejects sound (add_fault.Clash clash) (free, names) = by (clashes_in_state (clauses_of items) known.signature good is.signed (clause_symbols c) clash names) where
+  pub rejects : IsSoundClause c → (f : AddFault) → Bars rules.entries register c f → Rejects rules (clauses_of items) c f
+  rejects sound add_fault.Taken why = let found = some_is (key_of register.names c.name) why in leads_taken items register.names is.names c.name found.0 found.1
+  rejects sound (add_fault.Clash clash) (free, names) = by (clashes_in_state (clauses_of items) register.signature good is.signed (clause_symbols c) clash names) where
     by : NamesFirstClash (state_symbols (clauses_of items)) (clause_symbols c) clash → Rejects rules (clauses_of items) c (add_fault.Clash clash)
     by (found, kept, first, shapes) = (found, kept, (name_free free, first), shapes)
   rejects sound (add_fault.Full needed most) (free, agree, over, number, same) = (
     (
       name_free free,
-      agrees_in_state (clauses_of items) known.signature good is.signed (clause_symbols c) agree,
+      agrees_in_state (clauses_of items) register.signature good is.signed (clause_symbols c) agree,
       omega (arith, over, number, is.counted),
       omega (arith, number, is.counted),
     ),
@@ -58,33 +58,33 @@ module _ (rules : Rules) (items : List (ℕ × term.Clause)) (known : Register) 
   )
   rejects sound add_fault.Memory why = tt
 
-  pub accepts : IsSoundClause c → Admits rules.entries known c → Accepts rules (clauses_of items) c (clauses_of items ++ c ∷ [])
+  pub accepts : IsSoundClause c → Admits rules.entries register c → Accepts rules (clauses_of items) c (clauses_of items ++ c ∷ [])
   accepts sound admits = record {
     free = name_free admits.free;
-    agree = agrees_in_state (clauses_of items) known.signature good is.signed (clause_symbols c) admits.agree;
+    agree = agrees_in_state (clauses_of items) register.signature good is.signed (clause_symbols c) admits.agree;
     room = omega (arith, admits.room, is.counted);
     added = refl;
   }
 
 -- ---- what is kept, before and after a change
-pub room_for : (rules : Rules) (items : List (ℕ × term.Clause)) (known : Register) (c : Clause) → IsKept rules items known → IsSoundClause c
-    → total known.signature + length (clause_symbols c) ≤ MOST_USES
-room_for rules items known c kept sound =
-    omega (arith, kept.is_known.used, as_many_symbols (clauses_of items) kept.stored.sound, kept.stored.few, kept.small, symbols_few c sound)
+pub room_for : (rules : Rules) (items : List (ℕ × term.Clause)) (register : Register) (c : Clause) → IsKept rules items register → IsSoundClause c
+    → total register.signature + length (clause_symbols c) ≤ MOST_USES
+room_for rules items register c kept sound =
+    omega (arith, kept.registered.used, as_many_symbols (clauses_of items) kept.stored.sound, kept.stored.few, kept.small, symbols_few c sound)
 
-pub counted_few : (rules : Rules) (items : List (ℕ × term.Clause)) (known : Register) → IsKept rules items known → known.entries ≤ MOST_OCCURRENCES
-counted_few rules items known kept = omega (arith, kept.is_known.counted, kept.stored.few, kept.small)
+pub counted_few : (rules : Rules) (items : List (ℕ × term.Clause)) (register : Register) → IsKept rules items register → register.entries ≤ MOST_OCCURRENCES
+counted_few rules items register kept = omega (arith, kept.registered.counted, kept.stored.few, kept.small)
 
 pub kept_stays : (rules : Rules) (old new : Register) (items : List (ℕ × term.Clause)) → IsKept rules items old → Stays old new → IsKept rules items new
 kept_stays rules old new items kept same = record {
   small = kept.small;
   stored = kept.stored;
-  is_known = record {
-    names = named_stays items old.names new.names kept.is_known.names same.names;
+  registered = record {
+    names = named_stays items old.names new.names kept.registered.names same.names;
     signature = same.signature;
-    signed = λ s. same.uses s ∙ kept.is_known.signed s;
-    used = same.sum ∙ kept.is_known.used;
-    counted = same.entered ∙ kept.is_known.counted;
+    signed = λ s. same.uses s ∙ kept.registered.signed s;
+    used = same.sum ∙ kept.registered.used;
+    counted = same.entered ∙ kept.registered.counted;
   };
 }
 
@@ -96,12 +96,12 @@ module _ (rules : Rules) (old between : Register) (items more : List (ℕ × ter
   clauses_more = ap clauses_of put.1.pushed ∙ map-append (λ p. clause_of p.1) items ((put.0, c) ∷ [])
 
   pub accepts_more : Accepts rules (clauses_of items) (clause_of c) (clauses_of more)
-  accepts_more = subst (Accepts rules (clauses_of items) (clause_of c)) (sym clauses_more) (accepts rules items old (clause_of c) kept.is_known good sound admits)
+  accepts_more = subst (Accepts rules (clauses_of items) (clause_of c)) (sym clauses_more) (accepts rules items old (clause_of c) kept.registered good sound admits)
 
   names_more : AreNamed more names
   names_more =
       subst (λ l. AreNamed l names) (sym put.1.pushed)
-      (named_more items put.0 c between.names names (subst (AreNamed items) (sym enters.names) kept.is_known.names) put.1.fresh
+      (named_more items put.0 c between.names names (subst (AreNamed items) (sym enters.names) kept.registered.names) put.1.fresh
       (ap (λ m. key_of m (name_of c.name)) enters.names ∙ admits.free) put.1.name)
 
   pub kept_more : IsKept rules more (record { names = names; signature = between.signature; entries = between.entries })
@@ -111,15 +111,15 @@ module _ (rules : Rules) (old between : Register) (items more : List (ℕ × ter
         small = kept.small;
         stored =
             subst (IsStored rules) (sym clauses_more)
-            (stored_more rules (clauses_of items) (clause_of c) kept.stored sound (accepts rules items old (clause_of c) kept.is_known good sound admits));
-        is_known = record {
+            (stored_more rules (clauses_of items) (clause_of c) kept.stored sound (accepts rules items old (clause_of c) kept.registered good sound admits));
+        registered = record {
           names = names_more;
           signature = enters.signature;
           signed = λ s.
               omega (
                 arith,
                 enters.uses s,
-                kept.is_known.signed s,
+                kept.registered.signed s,
                 times_between (clause_of c) [] (clauses_of items) s,
                 ap (λ l. times s (state_symbols l)) behind,
                 ap (λ l. times s (state_symbols l)) clauses_more,
@@ -128,7 +128,7 @@ module _ (rules : Rules) (old between : Register) (items more : List (ℕ × ter
               omega (
                 arith,
                 enters.sum,
-                kept.is_known.used,
+                kept.registered.used,
                 symbols_between (clause_of c) [] (clauses_of items),
                 ap (λ l. length (state_symbols l)) behind,
                 ap (λ l. length (state_symbols l)) clauses_more,
@@ -137,7 +137,7 @@ module _ (rules : Rules) (old between : Register) (items more : List (ℕ × ter
               omega (
                 arith,
                 enters.entered,
-                kept.is_known.counted,
+                kept.registered.counted,
                 entries_between (clause_of c) [] (clauses_of items),
                 ap (λ l. length (state_entries l)) behind,
                 ap (λ l. length (state_entries l)) clauses_more,
@@ -148,12 +148,12 @@ module _ (rules : Rules) (old between : Register) (items more : List (ℕ × ter
   pub keys_more : KeysStay (kept_as items) (kept_as more)
   keys_more =
       let free = ap (λ m. key_of m (name_of c.name)) enters.names ∙ admits.free in
-      keys_stay items more between.names names (subst (AreNamed items) (sym enters.names) kept.is_known.names) names_more
+      keys_stay items more between.names names (subst (AreNamed items) (sym enters.names) kept.registered.names) names_more
       (keys_through (name_of c.name) (Some put.0) (key_of between.names) (key_of names) put.1.name (inl free))
 
 -- the same with other names
-pub known_with : (new between : Register) → new.signature ≡ between.signature → new.entries ≡ between.entries → record { names = new.names; signature = between.signature; entries = between.entries } ≡ new
-known_with new between signature counted = λ i. record { names = new.names; signature = sym signature i; entries = sym counted i }
+pub register_with : (new between : Register) → new.signature ≡ between.signature → new.entries ≡ between.entries → record { names = new.names; signature = between.signature; entries = between.entries } ≡ new
+register_with new between signature counted = λ i. record { names = new.names; signature = sym signature i; entries = sym counted i }
 
 pub uncounted_as : (c : Clause) (between middle new : Register) → middle.signature ≡ between.signature → middle.entries ≡ between.entries → Uncounts c middle new → Uncounts c between new
 uncounted_as c between middle new signature counted undone = record {
@@ -205,7 +205,7 @@ module _ (rules : Rules) (old : Register) (items : List (ℕ × term.Clause)) (k
   stored_there = subst (IsStored rules) splits kept.stored
 
   signed_there : IsSignatureOf (clauses_of out.before ++ clause_of c ∷ clauses_of out.after) old.signature
-  signed_there = subst (λ l. IsSignatureOf l old.signature) splits kept.is_known.signed
+  signed_there = subst (λ l. IsSignatureOf l old.signature) splits kept.registered.signed
 
   -- its symbols are used as often as they occur in it
   pub uses_few : (s : Symbol) → times s (clause_symbols (clause_of c)) ≤ uses_of old.signature s
@@ -219,7 +219,7 @@ module _ (rules : Rules) (old : Register) (items : List (ℕ × term.Clause)) (k
   entries_counted =
       omega (
         arith,
-        kept.is_known.counted,
+        kept.registered.counted,
         ap (λ l. length (state_entries l)) splits,
         entries_between (clause_of c) (clauses_of out.after) (clauses_of out.before),
       )
@@ -233,7 +233,7 @@ module _ (rules : Rules) (old : Register) (items : List (ℕ × term.Clause)) (k
       (subst (λ l. IsTaken l (name_of c.name)) (map-append (λ p. clause_of p.1) out.before out.after) h)
 
   names_there : AreNamed (out.before ++ (key, c) ∷ out.after) old.names
-  names_there = subst (λ l. AreNamed l old.names) out.whole kept.is_known.names
+  names_there = subst (λ l. AreNamed l old.names) out.whole kept.registered.names
 
   names_less : (new : ClauseNames) → ChangesName (name_of c.name) None (key_of old.names) (key_of new) → AreNamed rest new
   names_less new change =
@@ -243,7 +243,7 @@ module _ (rules : Rules) (old : Register) (items : List (ℕ × term.Clause)) (k
   kept_less new leaves = record {
     small = kept.small;
     stored = subst (IsStored rules) (sym rest_is) (stored_less rules (clauses_of out.before) (clause_of c) (clauses_of out.after) stored_there);
-    is_known = record {
+    registered = record {
       names = names_less new.names leaves.name;
       signature = leaves.counts.signature;
       signed = λ s.
@@ -258,7 +258,7 @@ module _ (rules : Rules) (old : Register) (items : List (ℕ × term.Clause)) (k
           omega (
             arith,
             leaves.counts.sum,
-            kept.is_known.used,
+            kept.registered.used,
             ap (λ l. length (state_symbols l)) splits,
             symbols_between (clause_of c) (clauses_of out.after) (clauses_of out.before),
             ap (λ l. length (state_symbols l)) rest_is,
@@ -267,7 +267,7 @@ module _ (rules : Rules) (old : Register) (items : List (ℕ × term.Clause)) (k
           omega (
             arith,
             leaves.counts.entered,
-            kept.is_known.counted,
+            kept.registered.counted,
             ap (λ l. length (state_entries l)) splits,
             entries_between (clause_of c) (clauses_of out.after) (clauses_of out.before),
             ap (λ l. length (state_entries l)) rest_is,
@@ -277,12 +277,12 @@ module _ (rules : Rules) (old : Register) (items : List (ℕ × term.Clause)) (k
 
   pub keys_less : (new : ClauseNames) → ChangesName (name_of c.name) None (key_of old.names) (key_of new) → KeysStay (kept_as items) (kept_as rest)
   keys_less new change =
-      keys_stay items rest old.names new kept.is_known.names (names_less new change)
+      keys_stay items rest old.names new kept.registered.names (names_less new change)
       (keys_through (name_of c.name) None (key_of old.names) (key_of new) change (inr refl))
 
   -- the clause that a name leads to has that name
   pub named_so : (n : Name) → key_of old.names n ≡ Some key → name_of c.name ≡ n
-  named_so n h = kept.is_known.names.named n key h c (key_taken items key c rest out)
+  named_so n h = kept.registered.names.named n key h c (key_taken items key c rest out)
 
   -- no other clause goes by its key
   key_once : (d : term.Clause) → IsAmong out.after (key, d) → ⊥

@@ -1,5 +1,5 @@
--- Where the entries of postings stand, and that the entries that stand there, in order, are those of
--- the postings.
+-- Where the entries of postings stand, and that the entries that stand there, in order, are those
+-- of the postings.
 use Rattle.std.proofs.Common.{◌≡◌, ◌⊎◌, inl, inr, ℕ, zero, suc, ◌+◌, ◌<◌, ◌≤◌, Bool, true, false, List, [], ◌∷◌, ◌++◌, length, map, get_or, take, refl, sym, ◌∙◌, ap, subst, arith, length-append}
 use Rattle.std.specs.Prelude.{Some, slice_get}
 use Rattle.std.proofs.Math.Seq.{take-suc}

@@ -1,5 +1,5 @@
--- What is known of some clauses besides their list: the keys of their names, their symbols, and how
--- many entries they have.
+-- The register of some clauses: the keys of their names, their symbols, and how many entries they
+-- have.
 use Rattle.std.specs.Prelude.{◌≡◌, ℕ, ◌+◌, ◌<◌, ◌≤◌, List, [], ◌∷◌, ◌++◌, None, Some, IsSome, length}
 use Rattle.si_defs.specs.Clauses.{Name, Clause}
 use Rattle.si_defs.specs.Symbols.{Symbol, times}
@@ -26,13 +26,13 @@ pub record AreNamed (items : List (ℕ × term.Clause)) (names : ClauseNames) : 
   pub listed : (key : ℕ) (c : term.Clause) → IsAmong items (key, c)
       → key_of names (name_of c.name) ≡ Some key
 
--- it is what is known of these clauses
-pub record IsKnownOf (items : List (ℕ × term.Clause)) (known : Register) : Type 0 where
-  pub names : AreNamed items known.names
-  pub signature : IsSignature known.signature
-  pub signed : IsSignatureOf (clauses_of items) known.signature
-  pub used : total known.signature ≡ length (state_symbols (clauses_of items))
-  pub counted : known.entries ≡ length (state_entries (clauses_of items))
+-- it is the register of these clauses
+pub record IsRegisterOf (items : List (ℕ × term.Clause)) (register : Register) : Type 0 where
+  pub names : AreNamed items register.names
+  pub signature : IsSignature register.signature
+  pub signed : IsSignatureOf (clauses_of items) register.signature
+  pub used : total register.signature ≡ length (state_symbols (clauses_of items))
+  pub counted : register.entries ≡ length (state_entries (clauses_of items))
 
 -- the clause is put last by this key, and its name leads to it
 pub record IsPut (key : ℕ) (clause : term.Clause) (items new : List (ℕ × term.Clause))
@@ -46,10 +46,10 @@ abbrev pub HasPut : term.Clause → (items new : List (ℕ × term.Clause)) → 
 HasPut clause items new old names = (key : ℕ) × IsPut key clause items new old names
 
 -- the clause may be entered, with this limit on entries
-pub record Admits (limit : ℕ) (known : Register) (clause : Clause) : Type 0 where
-  pub free : key_of known.names clause.name ≡ None
-  pub agree : AllAgree (known_symbols known.signature) (clause_symbols clause)
-  pub room : known.entries + length (entries clause) ≤ limit
+pub record Admits (limit : ℕ) (register : Register) (clause : Clause) : Type 0 where
+  pub free : key_of register.names clause.name ≡ None
+  pub agree : AllAgree (known_symbols register.signature) (clause_symbols clause)
+  pub room : register.entries + length (entries clause) ≤ limit
 
 -- the symbols and the entries of the clause are counted
 pub record Enters (clause : Clause) (old new : Register) : Type 0 where
@@ -75,7 +75,7 @@ pub record Leaves (clause : Clause) (old new : Register) : Type 0 where
   pub name : ChangesName clause.name None (key_of old.names) (key_of new.names)
   pub counts : Uncounts clause old new
 
--- the same is known
+-- the register says the same
 pub record Stays (old new : Register) : Type 0 where
   pub names : (name : Name) → key_of new.names name ≡ key_of old.names name
   pub uses : (s : Symbol) → uses_of new.signature s ≡ uses_of old.signature s
@@ -86,13 +86,13 @@ pub record Stays (old new : Register) : Type 0 where
 
 -- why a clause isn't entered
 abbrev pub Bars : ℕ → Register → Clause → AddFault → Type 0
-Bars limit known clause add_fault.Taken = IsSome (key_of known.names clause.name)
-Bars limit known clause (add_fault.Clash c) =
-    (key_of known.names clause.name ≡ None)
-    × NamesFirstClash (known_symbols known.signature) (clause_symbols clause) c
-Bars limit known clause (add_fault.Full needed most) =
-    (key_of known.names clause.name ≡ None)
-    × AllAgree (known_symbols known.signature) (clause_symbols clause)
-    × (limit < needed) × (needed ≡ known.entries + length (entries clause))
+Bars limit register clause add_fault.Taken = IsSome (key_of register.names clause.name)
+Bars limit register clause (add_fault.Clash c) =
+    (key_of register.names clause.name ≡ None)
+    × NamesFirstClash (known_symbols register.signature) (clause_symbols clause) c
+Bars limit register clause (add_fault.Full needed most) =
+    (key_of register.names clause.name ≡ None)
+    × AllAgree (known_symbols register.signature) (clause_symbols clause)
+    × (limit < needed) × (needed ≡ register.entries + length (entries clause))
     × (most ≡ limit)
-Bars limit known clause add_fault.Memory = Unit {0}
+Bars limit register clause add_fault.Memory = Unit {0}

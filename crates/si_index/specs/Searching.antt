@@ -90,7 +90,8 @@ pub record SolvesEntry (relation : Relation) (numbers : Numbering) (p : Pattern)
   pub parts : AllByRecursion (IsBindingOf (whole_of (pattern_entry p)) (whole_of e)) solution
   pub symbols : HaveNumbers numbers (symbols_of (whole_of (pattern_entry p)) (whole_of e))
   pub list : StandsForList bindings
-      (list_by (number_in numbers) (variable_by (distinct_variables (pattern_entry p)) (distinct_variables e)) solution)
+      (list_by (number_in numbers)
+      (variable_by (distinct_variables (pattern_entry p)) (distinct_variables e)) solution)
 
 abbrev pub AnswersEntry : Relation → Numbering → Pattern → Entry → Option (List Binding) → Type 0
 AnswersEntry relation numbers p e None = Stands relation p e → ⊥
@@ -105,8 +106,8 @@ term_in s e = numbered_entry (numbers_of s) cells.entry e
 abbrev pub tree_in : Search → Tree cells.Term
 tree_in s = tree_for (asks_literals (pattern_in s)) s.index.now.trees
 
--- Cells of the term are answered these bindings. Entries of which it is the term have them for their
--- canonical list.
+-- Cells of the term are answered these bindings. Entries of which it is the term have them for
+-- their canonical list.
 pub record SolvesTerm (s : Search) (t : cells.Term) (bindings : List Binding) : Type 0 where
   pub flat : List Cell
   pub stands : StandsFor flat t
@@ -140,8 +141,8 @@ HasList s e leaves n =
     (list : List Binding) × HasMade leaves n list
     × SolvesEntry s.relation (query_numbers (numbers_of s) s.query.extra) (pattern_in s) e list
 
--- an entry that stands in the relation, with the number of its leaf, the names of its variables, and
--- the clause of its position
+-- an entry that stands in the relation, with the number of its leaf, the names of its variables,
+-- and the clause of its position
 pub record IsMatch (s : Search) (leaves : List Leaf) (m : Match) : Type 0 where
   pub list : HasList s (entry_of m.entry) leaves m.leaf
   pub are_names : map (λ name. name.now) m.names.items ≡ distinct_variables (entry_of m.entry)

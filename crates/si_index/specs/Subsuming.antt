@@ -55,8 +55,7 @@ Tries P k c old new =
 abbrev pub HasMap : (List Literal → List ℕ → Type 0) → Clause → Type 0
 HasMap P c = (ns : List ℕ) × P c.literals ns
 
--- The clause's row is a subset of the formula's, or the other way round. Where it isn't, the clause
--- has no map.
+-- the clause's row is a subset of the formula's, or the other way round
 abbrev pub PassesIn : Direction → (formula : List ℕ) → (row : List ℕ) → Type 0
 PassesIn ToFormula formula row = IsSubset row formula
 PassesIn FromFormula formula row = IsSubset formula row

@@ -1,6 +1,6 @@
 // What answers a question about the kept entries.
 ghost use Rattle.std.specs.Prelude.{◌≡◌, ℕ, List, Bool, IfOk, OnOk, OnErr};
-ghost use Rattle.si_defs.specs.declared.Relation as relation;
+ghost use Rattle.si_defs.specs.declared.Relation as defs;
 ghost use Rattle.si_flat.specs.declared.Cell as cell;
 ghost use Rattle.si_flat.specs.declared.Owner.TheVariants.{Query};
 ghost use Rattle.si_form.specs.Answers.{AreNumbered};
@@ -20,23 +20,23 @@ use std::alloc::AllocError;
 /// engine has its answers, a finite set of postings, and a number, its count.
 pub trait Engine {
     /// Whether the posting is one of the answers.
-    ghost answers: { Self → Bool → relation.Relation → List cell.Cell → posting.Posting → Type 0 };
+    ghost answers: { Self → Bool → defs.Relation → List cell.Cell → posting.Posting → Type 0 };
 
     /// Whether the engine counts so much at a question.
-    ghost count: { Self → Bool → relation.Relation → List cell.Cell → ℕ → Type 0 };
+    ghost count: { Self → Bool → defs.Relation → List cell.Cell → ℕ → Type 0 };
 
     /// Appends the answers, each once, and answers the count. At an error `out` is as before.
     fn ask(
         &self,
         literal: bool,
-        kind: Relation,
+        relation: Relation,
         query: &Flat,
         out: &mut Vec<Posting>,
     ) -> Result<u64, AllocError>
         requires { AreNumbered Query query.now }
-        ensures answers { OnOk result (AppendsAnswers (answers self.now literal kind query.now)
+        ensures answers { OnOk result (AppendsAnswers (answers self.now literal relation query.now)
             out.old.items out.new.items) }
-        ensures count { IfOk result (count self.now literal kind query.now) }
+        ensures count { IfOk result (count self.now literal relation query.now) }
         ensures err { OnErr result (out.new.items ≡ out.old.items) };
 }
 
@@ -53,12 +53,12 @@ impl Engine for Trees {
     fn ask(
         &self,
         literal: bool,
-        kind: Relation,
+        relation: Relation,
         query: &Flat,
         out: &mut Vec<Posting>,
     ) -> Result<u64, AllocError> {
         // So its cells are known to be those of a term.
         query.cells();
-        self.retrieve(literal, kind, query, out)
+        self.retrieve(literal, relation, query, out)
     }
 }

@@ -59,7 +59,7 @@ pub struct Index {
     limit: u64,
     // Each with its row, so that a screen reads the rows one after the other.
     clauses: KeyedList<Clause, Row>,
-    known: Register,
+    register: Register,
     trees: Trees,
 }
 
@@ -77,15 +77,15 @@ impl Model for Index {
       clauses = clauses_of i.clauses.items;
       keys = item_keys i.clauses.items;
       rules = limited_to i.limit;
-      numbers = numbering i.known.signature;
+      numbers = numbering i.register.signature;
       trees = i.trees;
     } };
 
     ghost use Rattle.si_index.specs.Stored.{IsKept, AreHeld, HaveRows};
 
-    ghost invariant = { λ i. IsKept (limited_to i.limit) i.clauses.items i.known
-        × AreHeld i.clauses.items i.known i.trees
-        × HaveRows (numbering i.known.signature) i.clauses.items i.clauses.marks };
+    ghost invariant = { λ i. IsKept (limited_to i.limit) i.clauses.items i.register
+        × AreHeld i.clauses.items i.register i.trees
+        × HaveRows (numbering i.register.signature) i.clauses.items i.clauses.marks };
 }
 
 impl Index {
@@ -98,7 +98,7 @@ impl Index {
             alloc,
             limit,
             clauses: KeyedList::new(alloc),
-            known: Register::new(alloc),
+            register: Register::new(alloc),
             trees: Trees::new(alloc)?,
         })
     }
@@ -115,8 +115,8 @@ impl Index {
     {
         Stats {
             clauses: self.clauses.len() as u32,
-            entries: self.known.entries,
-            symbols: self.known.signature.len(),
+            entries: self.register.entries,
+            symbols: self.register.signature.len(),
         }
     }
 
@@ -152,7 +152,7 @@ impl Index {
         ensures numbers { numbering result.now ≡ self.now.numbers }
         ensures numbering { IsNumbering self.now.numbers }
     {
-        &self.known.signature
+        &self.register.signature
     }
 
     /// The clauses in order, each with its key.
@@ -218,41 +218,41 @@ fn put(
     }
 }
 
-/// Puts a clause whose symbols are known, and the postings of its entries. Where memory runs out, it
-/// is handed back, and the same is kept as before.
+/// Puts a clause whose symbols are in the register, and the postings of its entries. Where memory
+/// runs out, it is handed back, and the same is kept as before.
 fn keep(
     alloc: Global,
     clauses: &mut KeyedList<Clause, Row>,
-    known: &mut Register,
+    register: &mut Register,
     trees: &mut Trees,
     clause: Clause,
 ) -> Result<(), Clause>
-    requires may { MayKeep clause clauses.old.items known.old trees.old }
-    requires rows { HaveRows (numbering known.old.signature) clauses.old.items
+    requires may { MayKeep clause clauses.old.items register.old trees.old }
+    requires rows { HaveRows (numbering register.old.signature) clauses.old.items
         clauses.old.marks }
     ensures put { OnOk result (HasPut clause clauses.old.items clauses.new.items
-        known.old.names known.new.names) }
+        register.old.names register.new.names) }
     ensures handed_back { IfErr result (λ back. back ≡ clause) }
     ensures err { OnErr result (clauses.new.items ≡ clauses.old.items) }
-    ensures same_names { OnErr result ((name : defs.Name) → key_of known.new.names name
-        ≡ key_of known.old.names name) }
-    ensures signature { known.new.signature ≡ known.old.signature }
-    ensures entries { known.new.entries ≡ known.old.entries }
-    ensures held { AreHeld clauses.new.items known.new trees.new }
-    ensures rows { HaveRows (numbering known.new.signature) clauses.new.items
+    ensures same_names { OnErr result ((name : defs.Name) → key_of register.new.names name
+        ≡ key_of register.old.names name) }
+    ensures signature { register.new.signature ≡ register.old.signature }
+    ensures entries { register.new.entries ≡ register.old.entries }
+    ensures held { AreHeld clauses.new.items register.new trees.new }
+    ensures rows { HaveRows (numbering register.new.signature) clauses.new.items
         clauses.new.marks }
 {
     let row = literals_row(
-        &known.signature,
+        &register.signature,
         &Extra::new(alloc),
         clause.literals.as_slice(),
     );
-    let key = put(alloc, clauses, &mut known.names, clause, row)?;
+    let key = put(alloc, clauses, &mut register.names, clause, row)?;
     let kept = clauses.get(key).unwrap();
-    match trees.add_clause(alloc, &known.signature, key, kept) {
+    match trees.add_clause(alloc, &register.signature, key, kept) {
         Ok(()) => Ok(()),
         Err(_) => {
-            known.names.remove(&kept.name);
+            register.names.remove(&kept.name);
             Err(clauses.remove(key))
         }
     }
@@ -280,20 +280,20 @@ impl ClauseStore for Index {
         ensures numbers { NumbersStay self.old self.new }
         ensures keys { KeysStay self.old self.new }
     {
-        let entries = match self.known.enter(&clause, self.limit) {
+        let entries = match self.register.enter(&clause, self.limit) {
             Ok(entries) => entries,
             Err(why) => return Err(Rejected { clause, why }),
         };
         match keep(
             self.alloc,
             &mut self.clauses,
-            &mut self.known,
+            &mut self.register,
             &mut self.trees,
             clause,
         ) {
             Ok(()) => Ok(entries),
             Err(clause) => {
-                self.known.uncount(&clause);
+                self.register.uncount(&clause);
                 Err(Rejected {
                     clause,
                     why: AddFault::Memory,
@@ -316,10 +316,10 @@ impl ClauseStore for Index {
         ensures keys { IfSome result (λ n. KeysStay self.old self.new) }
         ensures same { IfNone result (self.new ≡ self.old) }
     {
-        let key = self.known.names.get(name)?;
+        let key = self.register.names.get(name)?;
         let clause = self.clauses.remove(key);
         self.trees.remove_clause(self.alloc, key);
-        Some(self.known.leave(&clause))
+        Some(self.register.leave(&clause))
     }
 
     /// Beside what every store promises, a symbol keeps its number while it occurs, and a clause
@@ -339,6 +339,6 @@ impl ClauseStore for Index {
         let key = self.clauses.last_key()?;
         let clause = self.clauses.remove(key);
         self.trees.remove_clause(self.alloc, key);
-        Some(self.known.leave(&clause))
+        Some(self.register.leave(&clause))
     }
 }

@@ -1,4 +1,4 @@
-// What is known of clauses besides their list.
+// The register of clauses: their names, their symbols, and how many entries they have.
 ghost use Rattle.std.specs.Prelude.{◌≡◌, ◌+◌, ◌≤◌, [], None, IfOk, OnOk, OnErr, IfErr, length};
 ghost use Rattle.si_defs.specs.Symbols.{Symbol, times};
 ghost use Rattle.si_defs.specs.Clauses as defs;
@@ -26,7 +26,7 @@ pub struct Register {
 }
 
 impl Register {
-    /// What is known of no clause.
+    /// The register of no clause.
     pub fn new(alloc: Global) -> Register
         ensures names { (name : defs.Name) → key_of result.names name ≡ None }
         ensures signature { result.signature ≡ [] }
@@ -40,10 +40,10 @@ impl Register {
     }
 
     /// Counts the symbols and the entries of a clause, and answers the number of its entries. The
-    /// names stay as they are. At an error the same is known as before.
+    /// names stay as they are. At an error the register says the same as before.
     ///
-    /// `Taken`: its name is known. `Clash`: else, a symbol of it has another shape than one that is
-    /// known or stands earlier in it. `Full`: else, there would be more entries than the limit.
+    /// `Taken`: its name is there. `Clash`: else, a symbol of it has another shape than one that is
+    /// there or stands earlier in it. `Full`: else, there would be more entries than the limit.
     pub fn enter(&mut self, clause: &Clause, limit: u64) -> Result<u32, AddFault>
         requires signature { IsSignature self.old.signature }
         requires room { signatures.total self.old.signature

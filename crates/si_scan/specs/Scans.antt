@@ -25,7 +25,7 @@ abbrev pub numbers_of : Question → Numbering
 numbers_of q = numbering q.signature.now
 
 abbrev pub Wants : Question → Entry → Type 0
-Wants q e = IsWanted (numbers_of q) q.literal q.kind q.query.now e
+Wants q e = IsWanted (numbers_of q) q.literal q.relation q.query.now e
 
 pub record IsReady (q : Question) : Type 0 where
   pub whole : IsWhole q.query.now

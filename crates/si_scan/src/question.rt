@@ -16,7 +16,7 @@ use std::alloc::{AllocError, Global};
 #[derive(Drop)]
 pub(crate) struct Question<'a> {
     pub(crate) literal: bool,
-    pub(crate) kind: Relation,
+    pub(crate) relation: Relation,
     pub(crate) query: &'a [Cell],
     pub(crate) signature: &'a Signature,
 }
@@ -70,7 +70,7 @@ impl<'a> Question<'a> {
         let Some(_) = canonical_with(
             &mut workspace.scratch,
             workspace.alloc,
-            self.kind,
+            self.relation,
             self.query,
             workspace.buffer.cells(),
         )?

@@ -60,14 +60,14 @@ impl<'a> Engine for Scan<'a> {
     fn ask(
         &self,
         literal: bool,
-        kind: Relation,
+        relation: Relation,
         query: &Flat,
         out: &mut Vec<Posting>,
     ) -> Result<u64, AllocError> {
         let stats = self.index.stats();
         let question = Question {
             literal,
-            kind,
+            relation,
             query: query.cells(),
             signature: self.index.signature(),
         };

@@ -27,15 +27,15 @@ pub add_clause-requires : goal.add_clause-requires
 add_clause-requires c =
     let key = c.in_ok-key.key in
     let put = c.in_ok-key.ensures.put in
-    subst (λ (d : Clause). MayAddClause (numbering c.args.known.now.signature) key (clause_of d) c.args.trees.now)
+    subst (λ (d : Clause). MayAddClause (numbering c.args.register.now.signature) key (clause_of d) c.args.trees.now)
     (sym (put_item c.args.clauses.now.items c.put.new.clauses.items key c.args.clause c.get.result c.unwrap-kept.result put.fresh put.pushed c.unwrap-kept.ensures c.get.ensures.some))
-    (may_add (numbering c.args.known.now.signature) c.args.clauses.now.items key c.args.clause c.args.trees.now c.args.trees.now c.requires.may.held put.fresh c.requires.may.sound c.requires.may.numbered)
+    (may_add (numbering c.args.register.now.signature) c.args.clauses.now.items key c.args.clause c.args.trees.now c.args.trees.now c.requires.may.held put.fresh c.requires.may.sound c.requires.may.numbered)
 
 pub returns-in-Ok-clause-held : goal.returns-in-Ok-clause-held
 returns-in-Ok-clause-held c =
     let key = c.in_ok-key.key in
     let put = c.in_ok-key.ensures.put in
-    let numbers = numbering c.args.known.now.signature in
+    let numbers = numbering c.args.register.now.signature in
     let same = put_item c.args.clauses.now.items c.put.new.clauses.items key c.args.clause c.get.result c.unwrap-kept.result put.fresh put.pushed c.unwrap-kept.ensures c.get.ensures.some in
     subst (λ l. Hold numbers (keyed_clauses l) c.add_clause.new.self) (sym put.pushed)
     (held_more numbers c.args.clauses.now.items key c.args.clause c.args.trees.now c.add_clause.new.self c.requires.may.held put.fresh c.requires.may.numbered
@@ -57,23 +57,23 @@ returns-in-Err-clause-err c =
 pub returns-in-Err-clause-same_names : goal.returns-in-Err-clause-same_names
 returns-in-Err-clause-same_names c =
     let put = c.in_ok-key.ensures.put in
-    name_gone c.args.clause c.unwrap-kept.result.now c.in_ok-key.key (key_of c.args.known.now.names) (key_of c.put.new.names) (key_of c.remove.new.self)
+    name_gone c.args.clause c.unwrap-kept.result.now c.in_ok-key.key (key_of c.args.register.now.names) (key_of c.put.new.names) (key_of c.remove.new.self)
     (put_item c.args.clauses.now.items c.put.new.clauses.items c.in_ok-key.key c.args.clause c.get.result c.unwrap-kept.result put.fresh put.pushed c.unwrap-kept.ensures c.get.ensures.some)
     c.requires.may.free put.name c.remove.ensures.gone
 
 pub returns-in-Err-clause-held : goal.returns-in-Err-clause-held
 returns-in-Err-clause-held c =
-    subst (λ l. Hold (numbering c.args.known.now.signature) (keyed_clauses l) c.add_clause.new.self) (sym (returns-in-Err-clause-err c))
-    (same_held (numbering c.args.known.now.signature) (keyed_clauses c.args.clauses.now.items) c.args.trees.now c.add_clause.new.self c.requires.may.held c.in-Err.ensures.err c.add_clause.ensures.legal)
+    subst (λ l. Hold (numbering c.args.register.now.signature) (keyed_clauses l) c.add_clause.new.self) (sym (returns-in-Err-clause-err c))
+    (same_held (numbering c.args.register.now.signature) (keyed_clauses c.args.clauses.now.items) c.args.trees.now c.add_clause.new.self c.requires.may.held c.in-Err.ensures.err c.add_clause.ensures.legal)
 
 pub returns-in-Ok-clause-rows : goal.returns-in-Ok-clause-rows
 returns-in-Ok-clause-rows c =
     let put = c.in_ok-key.ensures.put in
-    let numbers = numbering c.args.known.now.signature in
+    let numbers = numbering c.args.register.now.signature in
     let row =
     no_extra numbers c.new.result (map literal_of c.args.clause.literals) c.literals_row-row.result c.new.ensures
     (subst (λ ls. IsRowOf (number_in (with_extra numbers c.new.result)) (map literal_of ls) c.literals_row-row.result) c.as_slice.ensures c.literals_row-row.ensures) in
-    rows_more (numbering c.args.known.now.signature) c.args.clauses.now.items c.put.new.clauses.items c.args.clauses.now.marks c.put.new.clauses.marks c.in_ok-key.key c.args.clause c.literals_row-row.result
+    rows_more (numbering c.args.register.now.signature) c.args.clauses.now.items c.put.new.clauses.items c.args.clauses.now.marks c.put.new.clauses.marks c.in_ok-key.key c.args.clause c.literals_row-row.result
     c.requires.rows row put.fresh c.in_ok-key.ensures.no_row put.pushed c.in_ok-key.ensures.row
 
 pub returns-in-Err-clause-rows : goal.returns-in-Err-clause-rows
@@ -81,4 +81,4 @@ returns-in-Err-clause-rows c =
     let out = c.remove-in-Err.ensures.marks in
     let same = taken_back c.args.clauses.now.marks c.in_ok-key.key c.literals_row-row.result out.0 c.remove-in-Err.new.self.marks c.in_ok-key.ensures.no_row
     (subst (λ l. IsTakenOut l c.in_ok-key.key out.0 c.remove-in-Err.new.self.marks) c.in_ok-key.ensures.row out.1) in
-    subst₂ (HaveRows (numbering c.args.known.now.signature)) (sym (returns-in-Err-clause-err c)) (sym same) c.requires.rows
+    subst₂ (HaveRows (numbering c.args.register.now.signature)) (sym (returns-in-Err-clause-err c)) (sym same) c.requires.rows

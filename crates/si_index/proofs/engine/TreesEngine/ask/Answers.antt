@@ -13,7 +13,7 @@ pub returns-clause-answers : goal.returns-clause-answers
 returns-clause-answers c =
     let t = subst IsWhole c.cells.ensures.cells c.cells.ensures.whole in
     IfOk-weaker c.retrieve.result _ _
-    (λ n h. trees_append c.args.self.now c.args.literal c.args.kind c.args.query.now t.0 c.args.out.now.items c.retrieve.new.out.items t.1 (h.appends t.0 t.1))
+    (λ n h. trees_append c.args.self.now c.args.literal c.args.relation c.args.query.now t.0 c.args.out.now.items c.retrieve.new.out.items t.1 (h.appends t.0 t.1))
     c.retrieve.ensures.retrieves
 
 pub returns-clause-count : goal.returns-clause-count

@@ -23,7 +23,7 @@ pub returns-clause-symbols : goal.returns-clause-symbols
 returns-clause-symbols c =
     subst (λ (k : Kept). CountsSymbols k.clauses c.len-2.result) c.self.view_is
     (subst (CountsSymbols (clauses_of c.self.inside.clauses.items)) (sym c.len-2.ensures.number)
-    (counts_symbols (clauses_of c.self.inside.clauses.items) c.self.inside.known.signature c.len-2.ensures.signature c.self.invariant.0.is_known.signed))
+    (counts_symbols (clauses_of c.self.inside.clauses.items) c.self.inside.register.signature c.len-2.ensures.signature c.self.invariant.0.registered.signed))
 
 pub returns-clause-keyed : goal.returns-clause-keyed
 returns-clause-keyed c =

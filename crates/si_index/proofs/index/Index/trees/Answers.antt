@@ -14,19 +14,19 @@ returns-clause-keyed c =
     record { number = keyed.number; distinct = keyed.distinct })
 
 pub returns-clause-hold : goal.returns-clause-hold
-returns-clause-hold c = subst (λ (k : Kept). TreesHold k) c.self.view_is (trees_hold c.self.inside.clauses.items c.self.inside.known c.self.inside.trees c.self.invariant.1)
+returns-clause-hold c = subst (λ (k : Kept). TreesHold k) c.self.view_is (trees_hold c.self.inside.clauses.items c.self.inside.register c.self.inside.trees c.self.invariant.1)
 
 pub returns-clause-answer : goal.returns-clause-answer
 returns-clause-answer c =
     subst (λ (k : Kept). TreesAnswer k) c.self.view_is
     (trees_answer _
-    (is_orderly _ c.self.inside.known.signature
+    (is_orderly _ c.self.inside.register.signature
     (let keyed = are_keyed c.self.inside.clauses.items (subst AreDistinct (keyed_keys c.self.inside.clauses.items) c.self.invariant.1.keys) in
     record { number = keyed.number; distinct = keyed.distinct })
-    c.self.invariant.0.is_known.signature.numbered refl c.self.invariant.0.is_known.signed c.self.invariant.0.stored.sound)
-    (trees_hold c.self.inside.clauses.items c.self.inside.known c.self.inside.trees c.self.invariant.1))
+    c.self.invariant.0.registered.signature.numbered refl c.self.invariant.0.registered.signed c.self.invariant.0.stored.sound)
+    (trees_hold c.self.inside.clauses.items c.self.inside.register c.self.inside.trees c.self.invariant.1))
 
 pub returns-clause-exactly : goal.returns-clause-exactly
 returns-clause-exactly c =
     subst (λ (k : Kept). NumbersExactly k.numbers k.clauses) c.self.view_is
-    (numbers_exactly c.self.inside.clauses.items c.self.inside.known.signature c.self.invariant.0.is_known.signature c.self.invariant.0.is_known.signed)
+    (numbers_exactly c.self.inside.clauses.items c.self.inside.register.signature c.self.invariant.0.registered.signature c.self.invariant.0.registered.signed)

@@ -15,36 +15,36 @@ pub returns-in_err-key-clause-unknown : goal.returns-in_err-key-clause-unknown
 returns-in_err-key-clause-unknown c =
     let name = name_of c.args.name.now in
     if_none c.from_residual.result (λ taken.
-    unknown_free c.self.inside.clauses.items c.self.inside.known.names c.self.invariant.0.is_known.names name (sym c.in_err-key.ensures)
+    unknown_free c.self.inside.clauses.items c.self.inside.register.names c.self.invariant.0.registered.names name (sym c.in_err-key.ensures)
     (subst (λ (k : Kept). IsTaken k.clauses name) (sym c.self.view_is) taken))
 
 pub returns-in_err-key-clause-trees : goal.returns-in_err-key-clause-trees
 returns-in_err-key-clause-trees c =
-    subst (λ (k : Kept). TreesHold k) c.self.view_is (trees_hold c.self.inside.clauses.items c.self.inside.known c.self.inside.trees c.self.invariant.1)
+    subst (λ (k : Kept). TreesHold k) c.self.view_is (trees_hold c.self.inside.clauses.items c.self.inside.register c.self.inside.trees c.self.invariant.1)
 
 pub remove-clause-requires : goal.remove-clause-requires
-remove-clause-requires c = c.self.invariant.0.is_known.names.there (name_of c.args.name.now) c.in_ok-key.key (sym c.in_ok-key.ensures)
+remove-clause-requires c = c.self.invariant.0.registered.names.there (name_of c.args.name.now) c.in_ok-key.key (sym c.in_ok-key.ensures)
 
 pub leave-requires : goal.leave-requires
 leave-requires c = record {
   used =
-      uses_few (limited_to c.self.inside.limit) c.self.inside.known c.self.inside.clauses.items c.in_ok-key.key c.remove-clause.result c.remove-clause.new.self.items c.self.invariant.0 c.remove-clause.ensures.taken;
+      uses_few (limited_to c.self.inside.limit) c.self.inside.register c.self.inside.clauses.items c.in_ok-key.key c.remove-clause.result c.remove-clause.new.self.items c.self.invariant.0 c.remove-clause.ensures.taken;
   counted =
-      entries_counted (limited_to c.self.inside.limit) c.self.inside.known c.self.inside.clauses.items c.in_ok-key.key c.remove-clause.result c.remove-clause.new.self.items c.self.invariant.0 c.remove-clause.ensures.taken;
+      entries_counted (limited_to c.self.inside.limit) c.self.inside.register c.self.inside.clauses.items c.in_ok-key.key c.remove-clause.result c.remove-clause.new.self.items c.self.invariant.0 c.remove-clause.ensures.taken;
   few =
-      entries_there (limited_to c.self.inside.limit) c.self.inside.known c.self.inside.clauses.items c.in_ok-key.key c.remove-clause.result c.remove-clause.new.self.items c.self.invariant.0 c.remove-clause.ensures.taken;
+      entries_there (limited_to c.self.inside.limit) c.self.inside.register c.self.inside.clauses.items c.in_ok-key.key c.remove-clause.result c.remove-clause.new.self.items c.self.invariant.0 c.remove-clause.ensures.taken;
 }
 
 pub invariant_of-self : goal.invariant_of-self
 invariant_of-self c =
     let kept =
-    kept_less (limited_to c.self.inside.limit) c.self.inside.known c.self.inside.clauses.items c.in_ok-key.key c.remove-clause.result c.remove-clause.new.self.items c.self.invariant.0 c.remove-clause.ensures.taken
+    kept_less (limited_to c.self.inside.limit) c.self.inside.register c.self.inside.clauses.items c.in_ok-key.key c.remove-clause.result c.remove-clause.new.self.items c.self.invariant.0 c.remove-clause.ensures.taken
     c.leave.new.self c.leave.ensures.leaves in (
       kept,
-      left_held c.self.inside.clauses.items c.self.inside.known c.self.inside.trees c.self.invariant.0.is_known c.self.invariant.1 c.in_ok-key.key c.remove-clause.result c.remove-clause.new.self.items
-          c.leave.new.self c.remove_clause.new.self c.remove-clause.ensures.taken c.remove_clause.ensures.removes c.remove_clause.ensures.legal kept.is_known c.leave.ensures.leaves,
-      left_rows c.self.inside.clauses.items c.self.inside.clauses.marks c.self.inside.known c.self.invariant.0.is_known c.self.invariant.2 c.in_ok-key.key c.remove-clause.result c.remove-clause.new.self.items
-          c.remove-clause.ensures.marks.0 c.remove-clause.new.self.marks c.leave.new.self c.remove-clause.ensures.taken c.remove-clause.ensures.marks.1 kept.is_known c.leave.ensures.leaves,
+      left_held c.self.inside.clauses.items c.self.inside.register c.self.inside.trees c.self.invariant.0.registered c.self.invariant.1 c.in_ok-key.key c.remove-clause.result c.remove-clause.new.self.items
+          c.leave.new.self c.remove_clause.new.self c.remove-clause.ensures.taken c.remove_clause.ensures.removes c.remove_clause.ensures.legal kept.registered c.leave.ensures.leaves,
+      left_rows c.self.inside.clauses.items c.self.inside.clauses.marks c.self.inside.register c.self.invariant.0.registered c.self.invariant.2 c.in_ok-key.key c.remove-clause.result c.remove-clause.new.self.items
+          c.remove-clause.ensures.marks.0 c.remove-clause.new.self.marks c.leave.new.self c.remove-clause.ensures.taken c.remove-clause.ensures.marks.1 kept.registered c.leave.ensures.leaves,
     )
 
 pub returns-clause-trees : goal.returns-clause-trees
@@ -53,7 +53,7 @@ returns-clause-trees c = trees_hold c.remove-clause.new.self.items c.leave.new.s
 pub returns-clause-removed : goal.returns-clause-removed
 returns-clause-removed c =
     let items = c.self.inside.clauses.items in
-    let known = c.self.inside.known in
+    let register = c.self.inside.register in
     let gone = c.remove-clause.result in
     let rest = c.remove-clause.new.self.items in
     let out = c.remove-clause.ensures.taken in (
@@ -63,20 +63,20 @@ returns-clause-removed c =
         after = clauses_of out.after;
         splits =
             subst (λ (k : Kept). k.clauses ≡ clauses_of out.before ++ clause_of gone ∷ clauses_of out.after) c.self.view_is
-            (splits (limited_to c.self.inside.limit) known items c.in_ok-key.key gone rest c.self.invariant.0 out);
-        named = named_so (limited_to c.self.inside.limit) known items c.in_ok-key.key gone rest c.self.invariant.0 out (name_of c.args.name.now) (sym c.in_ok-key.ensures);
-        rest = rest_is (limited_to c.self.inside.limit) known items c.in_ok-key.key gone rest c.self.invariant.0 out;
+            (splits (limited_to c.self.inside.limit) register items c.in_ok-key.key gone rest c.self.invariant.0 out);
+        named = named_so (limited_to c.self.inside.limit) register items c.in_ok-key.key gone rest c.self.invariant.0 out (name_of c.args.name.now) (sym c.in_ok-key.ensures);
+        rest = rest_is (limited_to c.self.inside.limit) register items c.in_ok-key.key gone rest c.self.invariant.0 out;
       },
       c.leave.ensures.number,
     )
 
 pub returns-clause-stored : goal.returns-clause-stored
 returns-clause-stored c =
-    (kept_less (limited_to c.self.inside.limit) c.self.inside.known c.self.inside.clauses.items c.in_ok-key.key c.remove-clause.result c.remove-clause.new.self.items c.self.invariant.0 c.remove-clause.ensures.taken
+    (kept_less (limited_to c.self.inside.limit) c.self.inside.register c.self.inside.clauses.items c.in_ok-key.key c.remove-clause.result c.remove-clause.new.self.items c.self.invariant.0 c.remove-clause.ensures.taken
     c.leave.new.self c.leave.ensures.leaves).stored
 
 pub returns-clause-keys : goal.returns-clause-keys
 returns-clause-keys c =
     subst (λ (k : Kept). KeysStay k (kept_as c.remove-clause.new.self.items)) c.self.view_is
-    (keys_less (limited_to c.self.inside.limit) c.self.inside.known c.self.inside.clauses.items c.in_ok-key.key c.remove-clause.result c.remove-clause.new.self.items c.self.invariant.0 c.remove-clause.ensures.taken
+    (keys_less (limited_to c.self.inside.limit) c.self.inside.register c.self.inside.clauses.items c.in_ok-key.key c.remove-clause.result c.remove-clause.new.self.items c.self.invariant.0 c.remove-clause.ensures.taken
     c.leave.new.self.names c.leave.ensures.leaves.name)

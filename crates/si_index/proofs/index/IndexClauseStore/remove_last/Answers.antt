@@ -16,23 +16,23 @@ remove-clause-requires c = get_among (item_keys c.self.inside.clauses.items) (le
 pub leave-requires : goal.leave-requires
 leave-requires c = record {
   used =
-      uses_few (limited_to c.self.inside.limit) c.self.inside.known c.self.inside.clauses.items c.in_ok-key.key c.remove-clause.result c.remove-clause.new.self.items c.self.invariant.0 c.remove-clause.ensures.taken;
+      uses_few (limited_to c.self.inside.limit) c.self.inside.register c.self.inside.clauses.items c.in_ok-key.key c.remove-clause.result c.remove-clause.new.self.items c.self.invariant.0 c.remove-clause.ensures.taken;
   counted =
-      entries_counted (limited_to c.self.inside.limit) c.self.inside.known c.self.inside.clauses.items c.in_ok-key.key c.remove-clause.result c.remove-clause.new.self.items c.self.invariant.0 c.remove-clause.ensures.taken;
+      entries_counted (limited_to c.self.inside.limit) c.self.inside.register c.self.inside.clauses.items c.in_ok-key.key c.remove-clause.result c.remove-clause.new.self.items c.self.invariant.0 c.remove-clause.ensures.taken;
   few =
-      entries_there (limited_to c.self.inside.limit) c.self.inside.known c.self.inside.clauses.items c.in_ok-key.key c.remove-clause.result c.remove-clause.new.self.items c.self.invariant.0 c.remove-clause.ensures.taken;
+      entries_there (limited_to c.self.inside.limit) c.self.inside.register c.self.inside.clauses.items c.in_ok-key.key c.remove-clause.result c.remove-clause.new.self.items c.self.invariant.0 c.remove-clause.ensures.taken;
 }
 
 pub invariant_of-self : goal.invariant_of-self
 invariant_of-self c =
     let kept =
-    kept_less (limited_to c.self.inside.limit) c.self.inside.known c.self.inside.clauses.items c.in_ok-key.key c.remove-clause.result c.remove-clause.new.self.items c.self.invariant.0 c.remove-clause.ensures.taken
+    kept_less (limited_to c.self.inside.limit) c.self.inside.register c.self.inside.clauses.items c.in_ok-key.key c.remove-clause.result c.remove-clause.new.self.items c.self.invariant.0 c.remove-clause.ensures.taken
     c.leave.new.self c.leave.ensures.leaves in (
       kept,
-      left_held c.self.inside.clauses.items c.self.inside.known c.self.inside.trees c.self.invariant.0.is_known c.self.invariant.1 c.in_ok-key.key c.remove-clause.result c.remove-clause.new.self.items
-          c.leave.new.self c.remove_clause.new.self c.remove-clause.ensures.taken c.remove_clause.ensures.removes c.remove_clause.ensures.legal kept.is_known c.leave.ensures.leaves,
-      left_rows c.self.inside.clauses.items c.self.inside.clauses.marks c.self.inside.known c.self.invariant.0.is_known c.self.invariant.2 c.in_ok-key.key c.remove-clause.result c.remove-clause.new.self.items
-          c.remove-clause.ensures.marks.0 c.remove-clause.new.self.marks c.leave.new.self c.remove-clause.ensures.taken c.remove-clause.ensures.marks.1 kept.is_known c.leave.ensures.leaves,
+      left_held c.self.inside.clauses.items c.self.inside.register c.self.inside.trees c.self.invariant.0.registered c.self.invariant.1 c.in_ok-key.key c.remove-clause.result c.remove-clause.new.self.items
+          c.leave.new.self c.remove_clause.new.self c.remove-clause.ensures.taken c.remove_clause.ensures.removes c.remove_clause.ensures.legal kept.registered c.leave.ensures.leaves,
+      left_rows c.self.inside.clauses.items c.self.inside.clauses.marks c.self.inside.register c.self.invariant.0.registered c.self.invariant.2 c.in_ok-key.key c.remove-clause.result c.remove-clause.new.self.items
+          c.remove-clause.ensures.marks.0 c.remove-clause.new.self.marks c.leave.new.self c.remove-clause.ensures.taken c.remove-clause.ensures.marks.1 kept.registered c.leave.ensures.leaves,
     )
 
 pub returns-clause-trees : goal.returns-clause-trees
@@ -41,23 +41,23 @@ returns-clause-trees c = trees_hold c.remove-clause.new.self.items c.leave.new.s
 pub returns-clause-removed : goal.returns-clause-removed
 returns-clause-removed c =
     let items = c.self.inside.clauses.items in
-    let known = c.self.inside.known in
+    let register = c.self.inside.register in
     let gone = c.remove-clause.result in
     let rest = c.remove-clause.new.self.items in
     let out = c.remove-clause.ensures.taken in (
       clause_of gone,
       subst (λ (k : Kept). k.clauses ≡ clauses_of rest ++ clause_of gone ∷ []) c.self.view_is
-          (last_taken (limited_to c.self.inside.limit) known items c.in_ok-key.key gone rest c.self.invariant.0 out c.in_ok-key.ensures.some),
+          (last_taken (limited_to c.self.inside.limit) register items c.in_ok-key.key gone rest c.self.invariant.0 out c.in_ok-key.ensures.some),
       c.leave.ensures.number,
     )
 
 pub returns-clause-stored : goal.returns-clause-stored
 returns-clause-stored c =
-    (kept_less (limited_to c.self.inside.limit) c.self.inside.known c.self.inside.clauses.items c.in_ok-key.key c.remove-clause.result c.remove-clause.new.self.items c.self.invariant.0 c.remove-clause.ensures.taken
+    (kept_less (limited_to c.self.inside.limit) c.self.inside.register c.self.inside.clauses.items c.in_ok-key.key c.remove-clause.result c.remove-clause.new.self.items c.self.invariant.0 c.remove-clause.ensures.taken
     c.leave.new.self c.leave.ensures.leaves).stored
 
 pub returns-clause-keys : goal.returns-clause-keys
 returns-clause-keys c =
     subst (λ (k : Kept). KeysStay k (kept_as c.remove-clause.new.self.items)) c.self.view_is
-    (keys_less (limited_to c.self.inside.limit) c.self.inside.known c.self.inside.clauses.items c.in_ok-key.key c.remove-clause.result c.remove-clause.new.self.items c.self.invariant.0 c.remove-clause.ensures.taken
+    (keys_less (limited_to c.self.inside.limit) c.self.inside.register c.self.inside.clauses.items c.in_ok-key.key c.remove-clause.result c.remove-clause.new.self.items c.self.invariant.0 c.remove-clause.ensures.taken
     c.leave.new.self.names c.leave.ensures.leaves.name)

@@ -39,7 +39,7 @@ returns c =
     says_yes _ (some_wanted q e c.cells.result.now
     (subst (λ l. StandsFor l (numbered_entry (numbers_of q) entry e)) (sym c.cells.ensures) holds.flat.stands)
     _ c.requires.ready (sym c.is_literal.ensures ∙ kinds_agree c.is_literal.result q.literal c.if-is_literal-self.false)
-    (subst (Answers q.kind q.query.now c.cells.result.now) c.in-Some.is c.in_ok-canonical_with.ensures.answers))
+    (subst (Answers q.relation q.query.now c.cells.result.now) c.in-Some.is c.in_ok-canonical_with.ensures.answers))
 
 pub returns-in_default : goal.returns-in_default
 returns-in_default c =
@@ -49,4 +49,4 @@ returns-in_default c =
     subst (FillsEntry (numbers_of q) e c.fill.new.self.cells c.fill.new.self.names) c.if-not-branch.false c.in_ok-fill.ensures.filled in
     says_no _ (none_wanted q e c.cells.result.now
     (subst (λ l. StandsFor l (numbered_entry (numbers_of q) entry e)) (sym c.cells.ensures) holds.flat.stands)
-    (subst (Answers q.kind q.query.now c.cells.result.now) c.in_default.is c.in_ok-canonical_with.ensures.answers))
+    (subst (Answers q.relation q.query.now c.cells.result.now) c.in_default.is c.in_ok-canonical_with.ensures.answers))

@@ -26,12 +26,12 @@ pub returns-clause-answers : goal.returns-clause-answers
 returns-clause-answers c =
     let kept = c.self.inside.index.now in
     let found = c.in_ok-found.found.items in
-    let wanted : AreOfWanted (IsWanted kept.numbers c.args.literal c.args.kind c.args.query.now) (all_posted (kept_clauses kept)) found =
-    subst (λ numbers. AreOfWanted (IsWanted numbers c.args.literal c.args.kind c.args.query.now) (all_posted (kept_clauses kept)) found) c.signature.ensures.numbers
-    (subst (λ cells. AreOfWanted (IsWanted (numbering c.signature.result.now) c.args.literal c.args.kind cells) (all_posted (kept_clauses kept)) found) c.cells.ensures.cells c.in_ok-found.ensures) in
-    subst (λ (k : Kept). AppendsAnswers (IsOfWanted k c.args.literal c.args.kind c.args.query.now) c.args.out.now.items c.append.new.self.items) c.self.view_is
+    let wanted : AreOfWanted (IsWanted kept.numbers c.args.literal c.args.relation c.args.query.now) (all_posted (kept_clauses kept)) found =
+    subst (λ numbers. AreOfWanted (IsWanted numbers c.args.literal c.args.relation c.args.query.now) (all_posted (kept_clauses kept)) found) c.signature.ensures.numbers
+    (subst (λ cells. AreOfWanted (IsWanted (numbering c.signature.result.now) c.args.literal c.args.relation cells) (all_posted (kept_clauses kept)) found) c.cells.ensures.cells c.in_ok-found.ensures) in
+    subst (λ (k : Kept). AppendsAnswers (IsOfWanted k c.args.literal c.args.relation c.args.query.now) c.args.out.now.items c.append.new.self.items) c.self.view_is
     (record {
       answers = found;
       appended = c.in_ok-append.ensures.items;
-      are = are_answers (IsWanted kept.numbers c.args.literal c.args.kind c.args.query.now) kept found c.stats-stats.ensures.keyed wanted;
+      are = are_answers (IsWanted kept.numbers c.args.literal c.args.relation c.args.query.now) kept found c.stats-stats.ensures.keyed wanted;
     })

@@ -15,6 +15,7 @@ use crate::search::{Search, Workspace};
 use crate::variables::EntryNames;
 use crate::wanted::{Leaf, Wanted};
 use si_entries::Entries;
+use si_form::CountedQuery;
 use si_term::{Clause, Entry};
 use std::alloc::AllocError;
 
@@ -117,12 +118,14 @@ impl<'a> ClauseWalk<'a> {
 /// Adds the entry that the walk gave last, which is of this leaf.
 fn add<'a>(
     search: &Search<'a>,
+    query: &CountedQuery<'_>,
     walk: &ClauseWalk<'a>,
     entry: Entry<'a>,
     leaf: usize,
     gathered: &mut Gathered<'a>,
 ) -> Result<(), AllocError>
     requires ready { IsReady search.now }
+    requires query { query.now ≡ search.now.query.flat }
     requires walk { IsWalk search.now.slots walk.now }
     requires known { IsKnownEntry (numbers_of search.now) (entry_of entry) }
     requires stands { Stands search.now.relation (pattern_in search.now) (entry_of entry) }
@@ -143,6 +146,7 @@ fn add<'a>(
 {
     make_list(
         search,
+        query,
         &mut gathered.workspace,
         &mut gathered.matches.leaves,
         leaf,
@@ -166,12 +170,14 @@ fn add<'a>(
 /// Makes the list of a leaf, by an entry of it, unless it is made.
 fn make_list<'a>(
     search: &Search<'a>,
+    query: &CountedQuery<'_>,
     workspace: &mut Workspace<'a>,
     leaves: &mut Vec<Leaf>,
     leaf: usize,
     entry: Entry<'a>,
 ) -> Result<(), AllocError>
     requires ready { IsReady search.now }
+    requires query { query.now ≡ search.now.query.flat }
     requires known { IsKnownEntry (numbers_of search.now) (entry_of entry) }
     requires stands { Stands search.now.relation (pattern_in search.now) (entry_of entry) }
     requires leaf { IsOfLeaf search.now leaves.old.items leaf (entry_of entry) }
@@ -183,19 +189,21 @@ fn make_list<'a>(
     if leaves[leaf].list.is_some() {
         return Ok(());
     }
-    solve_leaf(search, workspace, leaves, leaf, entry)
+    solve_leaf(search, query, workspace, leaves, leaf, entry)
 }
 
 /// Makes the list of a leaf that has none. It isn't inlined, as most entries don't come here.
 #[inline(never)]
 fn solve_leaf<'a>(
     search: &Search<'a>,
+    query: &CountedQuery<'_>,
     workspace: &mut Workspace<'a>,
     leaves: &mut Vec<Leaf>,
     leaf: usize,
     entry: Entry<'a>,
 ) -> Result<(), AllocError>
     requires ready { IsReady search.now }
+    requires query { query.now ≡ search.now.query.flat }
     requires known { IsKnownEntry (numbers_of search.now) (entry_of entry) }
     requires stands { Stands search.now.relation (pattern_in search.now) (entry_of entry) }
     requires leaf { IsOfLeaf search.now leaves.old.items leaf (entry_of entry) }
@@ -205,7 +213,7 @@ fn solve_leaf<'a>(
     ensures made { OnOk result (AreMade search.now leaves.new.items) }
     ensures stay { OnOk result (StayMade leaves.old.items leaves.new.items) }
 {
-    let list = search.solve(workspace, entry)?;
+    let list = search.solve(query, workspace, entry)?;
     leaves[leaf].list = Some(list);
     Ok(())
 }
@@ -234,10 +242,11 @@ pub(crate) fn gather<'a>(
     let Some(first) = places.first() else {
         return Ok(gathered.matches);
     };
+    let query = CountedQuery::new(search.query.flat.cells());
     let mut walk = ClauseWalk::new(search, first.slot);
     for place in places {
         let entry = walk.go_to(search, *place)?;
-        add(search, &walk, entry, place.leaf, &mut gathered)?;
+        add(search, &query, &walk, entry, place.leaf, &mut gathered)?;
     }
     Ok(gathered.matches)
 }

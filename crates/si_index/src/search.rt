@@ -1,5 +1,5 @@
 // How an entry stands in a relation to a pattern.
-ghost use Rattle.std.specs.Prelude.{IfOk};
+ghost use Rattle.std.specs.Prelude.{◌≡◌, IfOk};
 ghost use Rattle.si_term.specs.Meaning.{entry_of};
 ghost use Rattle.si_state.specs.Answers.{Stands};
 ghost use Rattle.si_index.specs.Searching.{numbers_of, pattern_in, term_in, IsReady, IsKnownEntry, SolvesTerm};
@@ -7,7 +7,7 @@ ghost use Rattle.si_index.specs.Searching.{numbers_of, pattern_in, term_in, IsRe
 use crate::index::Index;
 use si_defs::Relation;
 use si_flat::{EntryBuffer, FlatQuery};
-use si_form::{Scratch, Solution, canonical_with};
+use si_form::{CountedQuery, Scratch, Solution, canonical_counted};
 use si_keyed::Places;
 use si_sign::Signature;
 use si_term::{Clause, Entry, Pattern};
@@ -48,13 +48,15 @@ impl<'a> Workspace<'a> {
 
 impl<'a> Search<'a> {
     /// The canonical list of an entry that stands in the relation. All entries with the same flat
-    /// term have it.
+    /// term have it. The query is this search's.
     pub(crate) fn solve(
         &self,
+        query: &CountedQuery<'_>,
         workspace: &mut Workspace<'a>,
         entry: Entry<'a>,
     ) -> Result<Solution, AllocError>
         requires ready { IsReady self.now }
+        requires query { query.now ≡ self.now.query.flat }
         requires known { IsKnownEntry (numbers_of self.now) (entry_of entry) }
         requires stands { Stands self.now.relation (pattern_in self.now) (entry_of entry) }
         ensures { IfOk result (SolvesTerm self.now (term_in self.now (entry_of entry.entry))) }
@@ -62,11 +64,11 @@ impl<'a> Search<'a> {
         if !workspace.buffer.fill(self.signature, entry)? {
             unreachable!()
         }
-        let Some(solution) = canonical_with(
+        let Some(solution) = canonical_counted(
             &mut workspace.scratch,
             self.alloc,
             self.relation,
-            self.query.flat.cells(),
+            query,
             workspace.buffer.cells(),
         )?
         else {

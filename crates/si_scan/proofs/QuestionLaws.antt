@@ -21,17 +21,17 @@ pub says_no : (P : Type 0) → (P → ⊥) → IsTrue false ↔ P
 says_no P fails = ((λ h. absurd (let wrong : false ≡ true = h in cc)), (λ p. absurd (fails p)))
 
 module _ (q : Question) (e : Entry) (held : List Cell) (flat : StandsFor held (numbered_entry (numbers_of q) entry e)) where
-  pub none_wanted : Answers q.relation q.query.now held None → Wants q e → ⊥
+  pub none_wanted : Answers q.relation q.query held None → Wants q e → ⊥
   none_wanted told w = told w.term (numbered_entry (numbers_of q) entry e) w.stands flat w.relates
 
-  pub some_wanted : (list : List Binding) → IsReady q → is_literal e ≡ q.literal → Answers q.relation q.query.now held (Some list) → Wants q e
+  pub some_wanted : (list : List Binding) → IsReady q → is_literal e ≡ q.literal → Answers q.relation q.query held (Some list) → Wants q e
   some_wanted list ready kind told =
-      let answer = told ready.whole.0 (numbered_entry (numbers_of q) entry e) ready.whole.1 flat in
+      let answer = told ready.0 (numbered_entry (numbers_of q) entry e) ready.1 flat in
       record {
         kind = kind;
-        term = ready.whole.0;
-        stands = ready.whole.1;
-        relates = relates_of_canonical with_numbers q.relation ready.whole.0 (numbered_entry (numbers_of q) entry e) answer.0 answer.2.canonical;
+        term = ready.0;
+        stands = ready.1;
+        relates = relates_of_canonical with_numbers q.relation ready.0 (numbered_entry (numbers_of q) entry e) answer.0 answer.2.canonical;
       }
 
 -- ---- kinds

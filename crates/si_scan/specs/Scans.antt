@@ -9,10 +9,8 @@ use Rattle.si_defs.specs.declared.Relation.{Relation}
 use Rattle.si_state.specs.Signatures.{numbering}
 use Rattle.si_term.specs.Walks.{entries_alone}
 use Rattle.si_flat.specs.declared.Cell.{Cell}
-use Rattle.si_flat.specs.declared.Owner.TheVariants.{Query}
 use Rattle.si_flat.specs.Cells.{entry, same_variable, Term, StandsFor, IsWhole}
 use Rattle.si_flat.specs.Flattened.{numbered_entry}
-use Rattle.si_form.specs.Answers.{AreNumbered}
 use Rattle.si_legal.specs.declared.Posting.{Posting}
 use Rattle.si_legal.specs.KeptTrees.{is_literal, IsPostingOf}
 use Rattle.si_index.specs.Kept.{Kept, kept_clauses}
@@ -25,11 +23,11 @@ abbrev pub numbers_of : Question → Numbering
 numbers_of q = numbering q.signature.now
 
 abbrev pub Wants : Question → Entry → Type 0
-Wants q e = IsWanted (numbers_of q) q.literal q.relation q.query.now e
+Wants q e = IsWanted (numbers_of q) q.literal q.relation q.query e
 
-pub record IsReady (q : Question) : Type 0 where
-  pub whole : IsWhole q.query.now
-  pub numbered : AreNumbered Query q.query.now
+-- its query is one term
+abbrev pub IsReady : Question → Type 0
+IsReady q = IsWhole q.query
 
 -- it is asked with the numbers of the index, which has one for each symbol
 pub record IsOver (kept : Kept) (q : Question) : Type 0 where

@@ -6,8 +6,8 @@ ghost use Rattle.si_index.specs.Searching.{IsKnownEntry};
 ghost use Rattle.si_scan.specs.Scans.{IsReady, Wants, numbers_of};
 
 use si_defs::Relation;
-use si_flat::{Cell, EntryBuffer};
-use si_form::{Scratch, canonical_with};
+use si_flat::EntryBuffer;
+use si_form::{CountedQuery, Scratch, canonical_counted};
 use si_sign::Signature;
 use si_term::Entry;
 use std::alloc::{AllocError, Global};
@@ -17,7 +17,7 @@ use std::alloc::{AllocError, Global};
 pub(crate) struct Question<'a> {
     pub(crate) literal: bool,
     pub(crate) relation: Relation,
-    pub(crate) query: &'a [Cell],
+    pub(crate) query: CountedQuery<'a>,
     pub(crate) signature: &'a Signature,
 }
 
@@ -67,11 +67,11 @@ impl<'a> Question<'a> {
         if !workspace.buffer.fill(self.signature, entry)? {
             unreachable!()
         }
-        let Some(_) = canonical_with(
+        let Some(_) = canonical_counted(
             &mut workspace.scratch,
             workspace.alloc,
             self.relation,
-            self.query,
+            &self.query,
             workspace.buffer.cells(),
         )?
         else {

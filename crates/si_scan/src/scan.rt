@@ -13,6 +13,7 @@ ghost use Rattle.si_scan.specs.Scans.{IsReady, IsOver, Wants, numbers_of, posted
 use crate::question::{Question, Workspace};
 use si_defs::Relation;
 use si_flat::Flat;
+use si_form::CountedQuery;
 use si_index::{Engine, Index};
 use si_legal::Posting;
 use si_term::{Clause, Entry, Literal, Term};
@@ -68,7 +69,7 @@ impl<'a> Engine for Scan<'a> {
         let question = Question {
             literal,
             relation,
-            query: query.cells(),
+            query: CountedQuery::new(query.cells()),
             signature: self.index.signature(),
         };
         let mut found = gather(self.alloc, self.index, &question)?;

@@ -1,13 +1,17 @@
 use Rattle.std.proofs.Common.{List, map, take, sym, subst}
 use Rattle.std.specs.List.{AllByRecursion, AllZip}
-use Rattle.si_defs.specs.Entries.{Placed}
+use Rattle.si_defs.specs.Entries.{Placed, pattern_entry}
 use Rattle.si_defs.proofs.ListLaws.{all_get, all_got}
 use Rattle.si_term.specs.Meaning.{entry_of}
+use Rattle.si_flat.specs.declared.Owner.TheVariants.{Query}
+use Rattle.si_flat.specs.Flattened.{query_numbers}
+use Rattle.si_form.specs.Answers.{AreNumbered}
 use Rattle.si_entries.specs.Walks.{place_in}
 use Rattle.si_index.specs.Gathering.{IsHitAt, IsStandingAt}
-use Rattle.si_index.specs.Searching.{IsMatch, hit_of}
+use Rattle.si_index.specs.Searching.{IsMatch, hit_of, numbers_of, pattern_in}
 use Rattle.si_index.specs.declared.gather.Match.{Match}
 use Rattle.si_index.specs.declared.wanted.Wanted.{Wanted}
+use Rattle.si_index.proofs.FlatLaws.{flat_is_numbered}
 use Rattle.si_index.proofs.GatherLaws.{ahead_first, ahead_next, adds_hit, hit_known, hit_place, hit_stands, hit_of_leaf, places_stay}
 use Rattle.si_index.proofs.LeafLaws.{none_made}
 use Rattle.si_index.proofs.gather.gather.Goals as goal
@@ -24,6 +28,12 @@ loop-place-init c =
       each = subst (AllByRecursion (IsMatch s c.args.leaves.items)) none tt;
       hits = subst (λ (ms : List Match). AllZip (IsHitAt s.slots) (take 0 c.args.places.now) (map hit_of ms)) none tt;
     }
+
+pub new-query-requires-clause-numbered : goal.new-query-requires-clause-numbered
+new-query-requires-clause-numbered c =
+    let s = c.args.search.now in
+    subst (AreNumbered Query) (sym c.cells.ensures.cells)
+    (flat_is_numbered (query_numbers (numbers_of s) s.query.extra) Query (pattern_entry (pattern_in s)) s.query.flat c.requires.ready.flat.flat)
 
 pub new-walk-requires-clause-there : goal.new-walk-requires-clause-there
 new-walk-requires-clause-there c =

@@ -1,10 +1,9 @@
 use Rattle.std.proofs.Common.{sym, subst}
 use Rattle.std.specs.Prelude.{Some, None}
-use Rattle.si_defs.specs.Entries.{pattern_entry}
 use Rattle.si_term.specs.Meaning.{entry_of}
-use Rattle.si_flat.specs.declared.Owner.TheVariants.{Query, Entry}
+use Rattle.si_flat.specs.declared.Owner.TheVariants.{Entry}
 use Rattle.si_flat.specs.Cells.{IsWhole, StandsFor}
-use Rattle.si_flat.specs.Flattened.{HoldsEntry, FillsEntry, query_numbers}
+use Rattle.si_flat.specs.Flattened.{HoldsEntry, FillsEntry}
 use Rattle.si_form.specs.Answers.{AreNumbered, Answers}
 use Rattle.si_index.specs.Searching.{numbers_of, pattern_in, term_in}
 use Rattle.si_index.proofs.FlatLaws.{none_lacks, flat_is_numbered, alike_standing}
@@ -16,22 +15,17 @@ unreachable-requires c =
     subst (FillsEntry (numbers_of c.args.self.now) (entry_of c.args.entry) _ _) c.if-not-branch.true c.in_ok-fill.ensures.filled
     (none_lacks (numbers_of c.args.self.now) _ c.requires.known.numbered)
 
-pub canonical_with-requires-clause-query : goal.canonical_with-requires-clause-query
-canonical_with-requires-clause-query c =
-    subst (AreNumbered Query) (sym c.cells.ensures.cells)
-    (flat_is_numbered (query_numbers (numbers_of c.args.self.now) c.args.self.now.query.extra) Query (pattern_entry (pattern_in c.args.self.now)) c.args.self.now.query.flat c.requires.ready.flat.flat)
-
-pub canonical_with-requires-clause-whole_entry : goal.canonical_with-requires-clause-whole_entry
-canonical_with-requires-clause-whole_entry c =
+pub canonical_counted-requires-clause-whole : goal.canonical_counted-requires-clause-whole
+canonical_counted-requires-clause-whole c =
     let holds : HoldsEntry (numbers_of c.args.self.now) (entry_of c.args.entry) c.fill.new.self.cells c.fill.new.self.names =
     subst (FillsEntry (numbers_of c.args.self.now) (entry_of c.args.entry) c.fill.new.self.cells c.fill.new.self.names) c.if-not-branch.false c.in_ok-fill.ensures.filled in
-    subst IsWhole (sym c.cells-2.ensures) (_, holds.flat.stands)
+    subst IsWhole (sym c.cells.ensures) (_, holds.flat.stands)
 
-pub canonical_with-requires-clause-entry : goal.canonical_with-requires-clause-entry
-canonical_with-requires-clause-entry c =
+pub canonical_counted-requires-clause-entry : goal.canonical_counted-requires-clause-entry
+canonical_counted-requires-clause-entry c =
     let holds : HoldsEntry (numbers_of c.args.self.now) (entry_of c.args.entry) c.fill.new.self.cells c.fill.new.self.names =
     subst (FillsEntry (numbers_of c.args.self.now) (entry_of c.args.entry) c.fill.new.self.cells c.fill.new.self.names) c.if-not-branch.false c.in_ok-fill.ensures.filled in
-    subst (AreNumbered Entry) (sym c.cells-2.ensures) (flat_is_numbered (numbers_of c.args.self.now) Entry (entry_of c.args.entry) c.fill.new.self.cells holds.flat)
+    subst (AreNumbered Entry) (sym c.cells.ensures) (flat_is_numbered (numbers_of c.args.self.now) Entry (entry_of c.args.entry) c.fill.new.self.cells holds.flat)
 
 pub unreachable-requires-in_default : goal.unreachable-requires-in_default
 unreachable-requires-in_default c =
@@ -39,8 +33,8 @@ unreachable-requires-in_default c =
     let e = entry_of c.args.entry in
     let holds : HoldsEntry (numbers_of s) e c.fill.new.self.cells c.fill.new.self.names =
     subst (FillsEntry (numbers_of s) e c.fill.new.self.cells c.fill.new.self.names) c.if-not-branch.false c.in_ok-fill.ensures.filled in
-    solved_in s e c.cells.result.now c.cells-2.result.now c.fill.new.self.cells c.fill.new.self.names c.cells.ensures.cells c.cells-2.ensures c.requires.ready c.requires.known (alike_standing s.relation (pattern_in s) e c.requires.stands) holds None
-    (subst (Answers s.relation c.cells.result.now c.cells-2.result.now) c.in_default.is c.in_ok-solution.ensures.answers)
+    solved_in s e c.args.query.now c.cells.result.now c.fill.new.self.cells c.fill.new.self.names c.requires.query c.cells.ensures c.requires.ready c.requires.known (alike_standing s.relation (pattern_in s) e c.requires.stands) holds None
+    (subst (Answers s.relation c.args.query.now c.cells.result.now) c.in_default.is c.in_ok-solution.ensures.answers)
     c.requires.stands
 
 pub returns : goal.returns
@@ -50,10 +44,10 @@ returns c =
     let holds : HoldsEntry (numbers_of s) e c.fill.new.self.cells c.fill.new.self.names =
     subst (FillsEntry (numbers_of s) e c.fill.new.self.cells c.fill.new.self.names) c.if-not-branch.false c.in_ok-fill.ensures.filled in
     record {
-      flat = c.cells-2.result.now;
-      stands = subst (λ l. StandsFor l (term_in s e)) (sym c.cells-2.ensures) holds.flat.stands;
+      flat = c.cells.result.now;
+      stands = subst (λ l. StandsFor l (term_in s e)) (sym c.cells.ensures) holds.flat.stands;
       numbered = holds.flat.numbered;
       answered =
-          subst (λ l. Answers s.relation l c.cells-2.result.now (Some c.in-Some.solution)) c.cells.ensures.cells
-          (subst (Answers s.relation c.cells.result.now c.cells-2.result.now) c.in-Some.is c.in_ok-solution.ensures.answers);
+          subst (λ l. Answers s.relation l c.cells.result.now (Some c.in-Some.solution)) c.requires.query
+          (subst (Answers s.relation c.args.query.now c.cells.result.now) c.in-Some.is c.in_ok-solution.ensures.answers);
     }

@@ -18,14 +18,14 @@ unreachable-requires c =
     subst (FillsEntry (numbers_of c.args.self.now) (entry_of c.args.entry) _ _) c.if-not-branch.true c.in_ok-fill.ensures.filled
     (none_lacks (numbers_of c.args.self.now) _ c.requires.known.numbered)
 
-pub canonical_with-requires-clause-whole_entry : goal.canonical_with-requires-clause-whole_entry
-canonical_with-requires-clause-whole_entry c =
+pub canonical_counted-requires-clause-whole : goal.canonical_counted-requires-clause-whole
+canonical_counted-requires-clause-whole c =
     let holds : HoldsEntry (numbers_of c.args.self.now) (entry_of c.args.entry) c.fill.new.self.cells c.fill.new.self.names =
     subst (FillsEntry (numbers_of c.args.self.now) (entry_of c.args.entry) c.fill.new.self.cells c.fill.new.self.names) c.if-not-branch.false c.in_ok-fill.ensures.filled in
     subst IsWhole (sym c.cells.ensures) (_, holds.flat.stands)
 
-pub canonical_with-requires-clause-entry : goal.canonical_with-requires-clause-entry
-canonical_with-requires-clause-entry c =
+pub canonical_counted-requires-clause-entry : goal.canonical_counted-requires-clause-entry
+canonical_counted-requires-clause-entry c =
     let holds : HoldsEntry (numbers_of c.args.self.now) (entry_of c.args.entry) c.fill.new.self.cells c.fill.new.self.names =
     subst (FillsEntry (numbers_of c.args.self.now) (entry_of c.args.entry) c.fill.new.self.cells c.fill.new.self.names) c.if-not-branch.false c.in_ok-fill.ensures.filled in
     subst (AreNumbered Entry) (sym c.cells.ensures) (flat_is_numbered (numbers_of c.args.self.now) Entry (entry_of c.args.entry) c.fill.new.self.cells holds.flat)
@@ -39,7 +39,7 @@ returns c =
     says_yes _ (some_wanted q e c.cells.result.now
     (subst (λ l. StandsFor l (numbered_entry (numbers_of q) entry e)) (sym c.cells.ensures) holds.flat.stands)
     _ c.requires.ready (sym c.is_literal.ensures ∙ kinds_agree c.is_literal.result q.literal c.if-is_literal-self.false)
-    (subst (Answers q.relation q.query.now c.cells.result.now) c.in-Some.is c.in_ok-canonical_with.ensures.answers))
+    (subst (Answers q.relation q.query c.cells.result.now) c.in-Some.is c.in_ok-canonical_counted.ensures.answers))
 
 pub returns-in_default : goal.returns-in_default
 returns-in_default c =
@@ -49,4 +49,4 @@ returns-in_default c =
     subst (FillsEntry (numbers_of q) e c.fill.new.self.cells c.fill.new.self.names) c.if-not-branch.false c.in_ok-fill.ensures.filled in
     says_no _ (none_wanted q e c.cells.result.now
     (subst (λ l. StandsFor l (numbered_entry (numbers_of q) entry e)) (sym c.cells.ensures) holds.flat.stands)
-    (subst (Answers q.relation q.query.now c.cells.result.now) c.in_default.is c.in_ok-canonical_with.ensures.answers))
+    (subst (Answers q.relation q.query c.cells.result.now) c.in_default.is c.in_ok-canonical_counted.ensures.answers))

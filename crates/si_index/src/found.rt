@@ -143,7 +143,7 @@ impl<'a> Found<'a> {
         let list = list_of(leaf);
         Ok(Shown {
             solution: list.copy(search.alloc)?,
-            query_names: vars_of(search.alloc, search.pattern.as_entry())?,
+            query_names: copy_names(search.alloc, &self.query_names)?,
             entry_names: vars_of(search.alloc, found.entry)?,
             extra: copy_symbols(search.alloc, &search.query.extra)?,
         })
@@ -172,6 +172,17 @@ fn list_of(leaf: &Leaf) -> &Solution
     ensures { leaf.now.list ≡ Some result.now }
 {
     leaf.list.as_ref().unwrap()
+}
+
+// Equal names.
+fn copy_names(alloc: Global, names: &Texts) -> Result<Texts, AllocError>
+    ensures { IfOk result (λ copies. copies ≡ names.now) }
+{
+    let mut copies = Texts::with_capacity(alloc, names.len())?;
+    for name in names.as_slice() {
+        copies.push(name.copy(alloc)?)?;
+    }
+    Ok(copies)
 }
 
 // Equal symbols.

@@ -30,7 +30,7 @@ pub use laws::{
     numbers_tell_symbols_apart, solutions_are_of_their_terms,
 };
 pub use query::CountedQuery;
-pub use relations::{canonical, canonical_counted, canonical_with};
+pub use relations::{canonical, canonical_counted};
 pub use si_flat::Owner;
 pub use si_unify::Scratch;
 pub use solution::{Binding, Solution};

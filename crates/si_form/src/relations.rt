@@ -110,38 +110,18 @@ pub fn canonical(
     ensures short { IfOk result (λ list. IfSome list (AreNoLonger (max (length query.now)
         (length entry.now)))) }
 {
-    canonical_with(
+    canonical_counted(
         &mut Scratch::new(alloc),
         alloc,
         relation,
-        query.cells(),
+        &CountedQuery::new(query.cells()),
         entry.cells(),
     )
 }
 
-/// Does the same as [`canonical`] with whole slices, and solves in memory that is lent: for callers
-/// that ask often.
-pub fn canonical_with(
-    scratch: &mut Scratch,
-    alloc: Global,
-    relation: Relation,
-    query: &[Cell],
-    entry: &[Cell],
-) -> Result<Option<Solution>, AllocError>
-    requires whole_query { IsWhole query.now }
-    requires whole_entry { IsWhole entry.now }
-    requires query { AreNumbered Query query.now }
-    requires entry { AreNumbered Entry entry.now }
-    ensures answers { IfOk result (Answers relation query.now entry.now) }
-    ensures short { IfOk result (λ list. IfSome list (AreNoLonger (max (length query.now)
-        (length entry.now)))) }
-{
-    let counted = CountedQuery::new(query);
-    canonical_counted(scratch, alloc, relation, &counted, entry)
-}
-
-/// Does the same as [`canonical_with`] with a query whose variables were counted: for callers that
-/// ask often for one query.
+/// Does the same as [`canonical`] with a query whose variables are counted and with whole cells of
+/// an entry, and solves in memory that is lent: for callers that ask about one query and many
+/// entries.
 pub fn canonical_counted(
     scratch: &mut Scratch,
     alloc: Global,

@@ -9,11 +9,11 @@ use Rattle.si_defs.specs.Clauses as clauses
 use Rattle.si_defs.specs.Clauses.{IsSoundTerm, AreSoundTerms, IsSoundAtom}
 use Rattle.si_defs.specs.Entries as entries
 use Rattle.si_term.specs.Terms.{symbol_of}
-use Rattle.si_term.specs.declared.term.Sym.{Sym}
 use Rattle.si_flat.specs.declared.Owner.{Owner}
 use Rattle.si_flat.specs.declared.Owner.TheVariants.{Query, Entry}
 use Rattle.si_flat.specs.declared.walk.WrittenEntry.{WrittenEntry}
-use Rattle.si_flat.specs.Cells.{Variable, query, same_variable, cells_of, IsSound, AreSound}
+use Rattle.si_flat.specs.Cells.{Variable, query, same_variable, cells_of, IsSound, AreSound, IsWhole}
+use Rattle.si_flat.specs.declared.flatten.FlatQuery.{FlatQuery}
 use Rattle.si_flat.specs.Numbered.{number_in, signed, place_in, numbered, all_numbered}
 use Rattle.si_flat.specs.Flattened.{extra_numbers, unnumbered, whole_of, is_positive, IsSoundEntry, numbered_entry, IsNumberedBy, IsFlatOf, IsQueryNumbering, FlattensPattern, FillsEntry}
 use Rattle.si_flat.specs.Flattening.{owners_variable, met_names, met_extra, number_by, entry_scheme, WritesEntry}
@@ -95,23 +95,28 @@ sound_pattern (clauses.literal_pattern l) h = h
 sound_pattern (clauses.term_pattern t) h = h
 
 -- what was written for a pattern is its flat term
-pub pattern_written : (pairs : Numbering) (p : clauses.Pattern) (e : entries.Entry) (w : WrittenEntry) (extra : List Sym)
-    → e ≡ entries.pattern_entry p
-    → clauses.IsSoundPattern p
-    → WritesEntry pairs Query e w
-    → map symbol_of extra ≡ met_extra w.met
-    → FlattensPattern pairs p (record { flat = w.cells.items; extra = extra })
-pattern_written pairs p e w extra is sound h copied =
-    let own : WritesEntry pairs Query (entries.pattern_entry p) w = subst (λ k. WritesEntry pairs Query k w) is h in
-    let flat = flat_written pairs Query (entries.pattern_entry p) w (sound_pattern p sound) own in
-    let all = terms.symbols (whole_of (entries.pattern_entry p)) in
-    let lacks = copied ∙ extra_written pairs Query (entries.pattern_entry p) w own in
-    record {
-      extra = lacks;
-      flat = subst (λ ss. IsFlatOf (pairs ++ extra_numbers ss) query (entries.pattern_entry p) w.cells.items) (sym copied) flat;
-      complete = ap (λ ss. unnumbered (pairs ++ extra_numbers ss) all) lacks ∙ all_have pairs all;
-      numbering = λ numbering. subst (λ ss. IsQueryNumbering (pairs ++ extra_numbers ss)) (sym lacks) (extra_numbering pairs all numbering);
-    }
+module _ (pairs : Numbering) (p : clauses.Pattern) (e : entries.Entry) (w : WrittenEntry) (is : e ≡ entries.pattern_entry p) (sound : clauses.IsSoundPattern p) (h : WritesEntry pairs Query e w) where
+  own : WritesEntry pairs Query (entries.pattern_entry p) w
+  own = subst (λ k. WritesEntry pairs Query k w) is h
+
+  flat_of_pattern : IsFlatOf (pairs ++ extra_numbers (met_extra w.met)) query (entries.pattern_entry p) w.cells.items
+  flat_of_pattern = flat_written pairs Query (entries.pattern_entry p) w (sound_pattern p sound) own
+
+  pub pattern_whole : IsWhole w.cells.items
+  pattern_whole = (_, flat_of_pattern.stands)
+
+  pub pattern_written : (q : FlatQuery) → q.flat ≡ w.cells.items → map symbol_of q.extra ≡ met_extra w.met → FlattensPattern pairs p q
+  pattern_written q cells copied =
+      let all = terms.symbols (whole_of (entries.pattern_entry p)) in
+      let lacks = copied ∙ extra_written pairs Query (entries.pattern_entry p) w own in
+      record {
+        extra = lacks;
+        flat =
+            subst (λ l. IsFlatOf (pairs ++ extra_numbers (map symbol_of q.extra)) query (entries.pattern_entry p) l) (sym cells)
+            (subst (λ ss. IsFlatOf (pairs ++ extra_numbers ss) query (entries.pattern_entry p) w.cells.items) (sym copied) flat_of_pattern);
+        complete = ap (λ ss. unnumbered (pairs ++ extra_numbers ss) all) lacks ∙ all_have pairs all;
+        numbering = λ numbering. subst (λ ss. IsQueryNumbering (pairs ++ extra_numbers ss)) (sym lacks) (extra_numbering pairs all numbering);
+      }
 
 -- ---- an entry in a buffer
 pub entry_filled : (pairs : Numbering) (e : entries.Entry) (w : WrittenEntry) (extra : Bool)

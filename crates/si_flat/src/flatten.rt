@@ -1,13 +1,17 @@
 // Entries and patterns as flat terms.
 ghost use Rattle.std.specs.Prelude.{◌≡◌, [], IfOk, OnOk, OnErr, map};
 ghost use Rattle.si_defs.specs.Clauses.{IsSoundPattern};
+ghost use Rattle.si_defs.specs.Entries.{distinct_variables, pattern_entry};
+ghost use Rattle.si_term.specs.Terms.{symbol_of};
 ghost use Rattle.si_term.specs.Meaning.{entry_of, pattern_of};
+ghost use Rattle.si_flat.specs.Cells.{IsWhole};
 ghost use Rattle.si_flat.specs.Rooms.{IsNoLess};
+ghost use Rattle.si_flat.specs.Flattening.{met_extra};
 ghost use Rattle.si_flat.specs.Flattened.{IsSoundEntry, IsEnoughFor, FillsEntry, FlattensEntry, FlattensPattern};
 
 use crate::walk::WrittenEntry;
 use crate::{Cell, Flat, Owner};
-use si_term::{Entry, Pattern, SymTable, Syms};
+use si_term::{Entry, Pattern, SymTable, Syms, Text, Texts};
 use std::alloc::{AllocError, Global};
 use std::marker::Model;
 
@@ -18,6 +22,39 @@ pub struct FlatQuery {
     /// The symbols that the table lacks, each once, in the order of their first occurrence. The
     /// one at place `k` has the number `FIRST_EXTRA + 2 * k`.
     pub extra: Syms,
+}
+
+/// A pattern's flat term with the names of its variables, in the order of their numbers.
+#[derive(Drop)]
+pub struct NamedQuery {
+    pub query: FlatQuery,
+    pub names: Texts,
+}
+
+impl WrittenEntry<'_> {
+    // What was written, as a query.
+    fn into_query(self, alloc: Global) -> Result<FlatQuery, AllocError>
+        requires { IsWhole self.cells.items }
+        ensures { IfOk result (λ q. (q.flat ≡ self.entry.cells.items)
+            × (map symbol_of q.extra ≡ met_extra self.entry.met)) }
+    {
+        let extra = self.met.extra_symbols(alloc)?;
+        Ok(FlatQuery {
+            flat: Flat::from_vec(self.cells),
+            extra,
+        })
+    }
+}
+
+// The names, in memory of their own.
+fn copy_names(alloc: Global, names: &[&[u8]]) -> Result<Texts, AllocError>
+    ensures { IfOk result (λ copies. copies ≡ map (λ name. name.now) names.now) }
+{
+    let mut copies = Texts::with_capacity(alloc, names.len())?;
+    for name in names {
+        copies.push(Text::from_bytes(alloc, *name)?)?;
+    }
+    Ok(copies)
 }
 
 /// The flat term of an entry, with the table's numbers for its symbols. Its variables are numbered
@@ -52,11 +89,27 @@ pub fn flatten_pattern<T: SymTable>(
 {
     let mut written = WrittenEntry::new(alloc);
     written.write(table, Owner::Query, pattern.as_entry())?;
-    let extra = written.met.extra_symbols(alloc)?;
-    Ok(FlatQuery {
-        flat: Flat::with_room(written.cells),
-        extra,
-    })
+    written.into_query(alloc)
+}
+
+/// Does the same as [`flatten_pattern`], and keeps the names of the variables, which are met in the
+/// same walk.
+pub fn flatten_with_names<T: SymTable>(
+    alloc: Global,
+    table: &T,
+    pattern: &Pattern,
+) -> Result<NamedQuery, AllocError>
+    requires { IsSoundPattern (pattern_of pattern.now) }
+    ensures query { IfOk result (λ named. FlattensPattern (T.pairs table.now)
+        (pattern_of pattern.now) named.query) }
+    ensures names { IfOk result (λ named. named.names
+        ≡ distinct_variables (pattern_entry (pattern_of pattern.now))) }
+{
+    let mut written = WrittenEntry::new(alloc);
+    written.write(table, Owner::Query, pattern.as_entry())?;
+    let names = copy_names(alloc, written.met.names())?;
+    let query = written.into_query(alloc)?;
+    Ok(NamedQuery { query, names })
 }
 
 /// Memory in which entries are made flat one after the other: for scans. Contracts see the cells and

@@ -19,7 +19,9 @@ mod walk;
 
 pub use bindings::{Bindings, Pair, Pairs, Split};
 pub use clauses::{ClauseBuffer, flatten_clauses};
-pub use flatten::{EntryBuffer, FlatQuery, flatten_entry, flatten_pattern};
+pub use flatten::{
+    EntryBuffer, FlatQuery, NamedQuery, flatten_entry, flatten_pattern, flatten_with_names,
+};
 pub use met::FIRST_EXTRA;
 use si_term::list::Items;
 use smallvec::SmallVec;

@@ -40,7 +40,7 @@ impl WrittenEntry<'_> {
     {
         let extra = self.met.extra_symbols(alloc)?;
         Ok(FlatQuery {
-            flat: Flat::from_vec(self.cells),
+            flat: Flat::with_room(self.cells),
             extra,
         })
     }

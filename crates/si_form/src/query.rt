@@ -10,8 +10,8 @@ use si_flat::{Cell, Owner};
 use si_unify::Slots;
 use std::marker::Model;
 
-/// The cells of a query with the number of its variables, which is the same for all entries:
-/// callers count it once for many. Contracts see the cells.
+/// The cells of a query with the number of its variables, counted once for all entries. Contracts
+/// see the cells.
 #[derive(Drop)]
 pub struct CountedQuery<'q> {
     pub(crate) cells: &'q [Cell],

@@ -12,7 +12,7 @@ use crate::index::Index;
 use crate::search::Search;
 use crate::wanted::{Leaf, Ordered, in_order};
 use si_defs::Relation;
-use si_flat::flatten_pattern;
+use si_flat::flatten_with_names;
 use si_form::Solution;
 use si_sign::Signature;
 use si_term::{Clause, Pattern, Place, Syms, Texts, vars_of};
@@ -235,10 +235,10 @@ impl Index {
         let alloc = self.allocator();
         let stats = self.stats();
         let signature = self.signature();
-        let query = flatten_pattern(alloc, signature, pattern)?;
+        let named = flatten_with_names(alloc, signature, pattern)?;
         let mut postings = Vec::new(alloc);
         let literal = asks_literals(pattern);
-        let passed = engine.ask(literal, relation, &query.flat, &mut postings)?;
+        let passed = engine.ask(literal, relation, &named.query.flat, &mut postings)?;
         let trees = self.trees();
         let slots = self.slots();
         let ordered = in_order(self, &slots, trees, literal, postings.as_slice())?;
@@ -250,14 +250,13 @@ impl Index {
             signature,
             relation,
             pattern,
-            query,
+            query: named.query,
         };
-        let query_names = vars_of(alloc, pattern.as_entry())?;
         let matches = gather(&search, places.as_slice(), leaves)?;
         prove!(matches.found.len() as u64 <= stats.entries);
         Ok(Found {
             search,
-            query_names,
+            query_names: named.names,
             matches,
             passed,
         })

@@ -1,7 +1,7 @@
-use Rattle.std.proofs.Common.{map, sym, ◌∙◌, ap, subst, arith}
+use Rattle.std.proofs.Common.{map, sym, subst, arith}
 use Rattle.std.specs.List.{AllByRecursion, AllZip}
 use Rattle.std.proofs.lemmas.List.{length-map}
-use Rattle.si_defs.specs.Entries.{pattern_entry, distinct_variables}
+use Rattle.si_defs.specs.Entries.{pattern_entry}
 use Rattle.si_term.specs.Meaning.{pattern_of}
 use Rattle.si_flat.specs.declared.Owner.TheVariants.{Query}
 use Rattle.si_held.specs.TwoTrees.{tree_for}
@@ -16,27 +16,27 @@ use Rattle.si_index.proofs.WantedLaws.{is_answered, postings_keyed, postings_sto
 use Rattle.si_index.proofs.index.Index.find.Goals as goal
 
 pub ask-requires : goal.ask-requires
-ask-requires g c = flat_is_numbered _ Query (pattern_entry (pattern_of c.args.pattern.now)) c.in_ok-query.query.flat c.in_ok-query.ensures.flat
+ask-requires g c = flat_is_numbered _ Query (pattern_entry (pattern_of c.args.pattern.now)) c.in_ok-named.named.query.flat c.in_ok-named.ensures.query.flat
 
 pub in_order-requires-clause-kept : goal.in_order-requires-clause-kept
 in_order-requires-clause-kept g c =
     let told =
-    is_answered (g.E.Engine.answers c.args.engine.now) c.args.self.now c.args.relation (pattern_of c.args.pattern.now) _ c.in_ok-query.query _ _ _ _
-    c.signature-signature.ensures.numbers c.in_ok-query.ensures c.requires.standing c.asks_literals-literal.ensures c.in_ok-passed.ensures.answers c.new-postings.ensures.items c.as_slice.ensures.value in
+    is_answered (g.E.Engine.answers c.args.engine.now) c.args.self.now c.args.relation (pattern_of c.args.pattern.now) _ c.in_ok-named.named.query _ _ _ _
+    c.signature-signature.ensures.numbers c.in_ok-named.ensures.query c.requires.standing c.asks_literals-literal.ensures c.in_ok-passed.ensures.answers c.new-postings.ensures.items c.as_slice.ensures.value in
     postings_keyed c.args.self.now c.args.relation (pattern_of c.args.pattern.now) _ told.standing
 
 pub in_order-requires-clause-distinct : goal.in_order-requires-clause-distinct
 in_order-requires-clause-distinct g c =
     let told =
-    is_answered (g.E.Engine.answers c.args.engine.now) c.args.self.now c.args.relation (pattern_of c.args.pattern.now) _ c.in_ok-query.query _ _ _ _
-    c.signature-signature.ensures.numbers c.in_ok-query.ensures c.requires.standing c.asks_literals-literal.ensures c.in_ok-passed.ensures.answers c.new-postings.ensures.items c.as_slice.ensures.value in
+    is_answered (g.E.Engine.answers c.args.engine.now) c.args.self.now c.args.relation (pattern_of c.args.pattern.now) _ c.in_ok-named.named.query _ _ _ _
+    c.signature-signature.ensures.numbers c.in_ok-named.ensures.query c.requires.standing c.asks_literals-literal.ensures c.in_ok-passed.ensures.answers c.new-postings.ensures.items c.as_slice.ensures.value in
     told.are.distinct
 
 pub in_order-requires-clause-stored : goal.in_order-requires-clause-stored
 in_order-requires-clause-stored g c =
     let told =
-    is_answered (g.E.Engine.answers c.args.engine.now) c.args.self.now c.args.relation (pattern_of c.args.pattern.now) _ c.in_ok-query.query _ _ _ _
-    c.signature-signature.ensures.numbers c.in_ok-query.ensures c.requires.standing c.asks_literals-literal.ensures c.in_ok-passed.ensures.answers c.new-postings.ensures.items c.as_slice.ensures.value in
+    is_answered (g.E.Engine.answers c.args.engine.now) c.args.self.now c.args.relation (pattern_of c.args.pattern.now) _ c.in_ok-named.named.query _ _ _ _
+    c.signature-signature.ensures.numbers c.in_ok-named.ensures.query c.requires.standing c.asks_literals-literal.ensures c.in_ok-passed.ensures.answers c.new-postings.ensures.items c.as_slice.ensures.value in
     subst (λ literal. AllByRecursion (IsStored (tree_for literal c.trees-trees.result.now)) c.as_slice.result.now) (sym c.asks_literals-literal.ensures)
     (subst (λ trees. AllByRecursion (IsStored (tree_for (asks_literals (pattern_of c.args.pattern.now)) trees)) c.as_slice.result.now) (sym c.trees-trees.ensures.trees)
     (postings_stored c.args.self.now c.args.relation (pattern_of c.args.pattern.now) _ c.trees-trees.ensures.hold told.standing))
@@ -46,13 +46,13 @@ in_order-requires-clause-slots g c = c.slots-slots.ensures
 
 pub gather-requires-clause-ready : goal.gather-requires-clause-ready
 gather-requires-clause-ready g c =
-    is_ready _ c.signature-signature.ensures.numbers c.stats-stats.ensures.numbering c.requires.sound c.in_ok-query.ensures c.slots-slots.ensures c.signature-signature.ensures.signature c.stats-stats.ensures.stored.sound
+    is_ready _ c.signature-signature.ensures.numbers c.stats-stats.ensures.numbering c.requires.sound c.in_ok-named.ensures.query c.slots-slots.ensures c.signature-signature.ensures.signature c.stats-stats.ensures.stored.sound
 
 pub gather-requires-clause-stand : goal.gather-requires-clause-stand
 gather-requires-clause-stand g c =
     let told =
-    is_answered (g.E.Engine.answers c.args.engine.now) c.args.self.now c.args.relation (pattern_of c.args.pattern.now) _ c.in_ok-query.query _ _ _ _
-    c.signature-signature.ensures.numbers c.in_ok-query.ensures c.requires.standing c.asks_literals-literal.ensures c.in_ok-passed.ensures.answers c.new-postings.ensures.items c.as_slice.ensures.value in
+    is_answered (g.E.Engine.answers c.args.engine.now) c.args.self.now c.args.relation (pattern_of c.args.pattern.now) _ c.in_ok-named.named.query _ _ _ _
+    c.signature-signature.ensures.numbers c.in_ok-named.ensures.query c.requires.standing c.asks_literals-literal.ensures c.in_ok-passed.ensures.answers c.new-postings.ensures.items c.as_slice.ensures.value in
     let s : Search = record {
       alloc = c.allocator-alloc.result;
       index = c.args.self;
@@ -60,7 +60,7 @@ gather-requires-clause-stand g c =
       signature = c.signature-signature.result;
       relation = c.args.relation;
       pattern = c.args.pattern;
-      query = c.in_ok-query.query;
+      query = c.in_ok-named.named.query;
     } in
     let ordered = c.in_ok-ordered.ordered in
     let order : AreInOrder c.slots-slots.result (tree_in s) c.as_slice.result.now ordered =
@@ -78,8 +78,8 @@ gather-requires-clause-rise g c = subst Rise (sym c.as_slice-2.ensures.value) c.
 pub prove-unreachable-requires : goal.prove-unreachable-requires
 prove-unreachable-requires g c =
     let told =
-    is_answered (g.E.Engine.answers c.args.engine.now) c.args.self.now c.args.relation (pattern_of c.args.pattern.now) _ c.in_ok-query.query _ _ _ _
-    c.signature-signature.ensures.numbers c.in_ok-query.ensures c.requires.standing c.asks_literals-literal.ensures c.in_ok-passed.ensures.answers c.new-postings.ensures.items c.as_slice.ensures.value in
+    is_answered (g.E.Engine.answers c.args.engine.now) c.args.self.now c.args.relation (pattern_of c.args.pattern.now) _ c.in_ok-named.named.query _ _ _ _
+    c.signature-signature.ensures.numbers c.in_ok-named.ensures.query c.requires.standing c.asks_literals-literal.ensures c.in_ok-passed.ensures.answers c.new-postings.ensures.items c.as_slice.ensures.value in
     let answered =
     hits_answered c.args.self.now _ _ _ _ _ (map hit_of c.in_ok-matches.matches.found.items) c.stats-stats.ensures.keyed c.slots-slots.ensures told.are c.in_ok-ordered.ensures
     (subst (λ ws. AllZip (IsHitAt c.slots-slots.result) ws (map hit_of c.in_ok-matches.matches.found.items)) c.as_slice-2.ensures.value c.in_ok-matches.ensures.hits) in
@@ -97,8 +97,8 @@ pub invariant_of-result : goal.invariant_of-result
 invariant_of-result g c = record {
   numbers = c.signature-signature.ensures.numbers;
   ready =
-      is_ready _ c.signature-signature.ensures.numbers c.stats-stats.ensures.numbering c.requires.sound c.in_ok-query.ensures c.slots-slots.ensures c.signature-signature.ensures.signature c.stats-stats.ensures.stored.sound;
-  names = c.in_ok-query_names.ensures ∙ ap distinct_variables c.as_entry.ensures;
+      is_ready _ c.signature-signature.ensures.numbers c.stats-stats.ensures.numbering c.requires.sound c.in_ok-named.ensures.query c.slots-slots.ensures c.signature-signature.ensures.signature c.stats-stats.ensures.stored.sound;
+  names = c.in_ok-named.ensures.names;
   few =
       omega (
         arith,
@@ -115,15 +115,15 @@ invariant_of-result g c = record {
 pub returns-clause-hits : goal.returns-clause-hits
 returns-clause-hits g c =
     let told =
-    is_answered (g.E.Engine.answers c.args.engine.now) c.args.self.now c.args.relation (pattern_of c.args.pattern.now) _ c.in_ok-query.query _ _ _ _
-    c.signature-signature.ensures.numbers c.in_ok-query.ensures c.requires.standing c.asks_literals-literal.ensures c.in_ok-passed.ensures.answers c.new-postings.ensures.items c.as_slice.ensures.value in
+    is_answered (g.E.Engine.answers c.args.engine.now) c.args.self.now c.args.relation (pattern_of c.args.pattern.now) _ c.in_ok-named.named.query _ _ _ _
+    c.signature-signature.ensures.numbers c.in_ok-named.ensures.query c.requires.standing c.asks_literals-literal.ensures c.in_ok-passed.ensures.answers c.new-postings.ensures.items c.as_slice.ensures.value in
     record {
-      cells = c.in_ok-query.query.flat;
+      cells = c.in_ok-named.named.query.flat;
       asked = told.asked;
       answered =
           hits_answered c.args.self.now _ _ _ _ _ (map hit_of c.in_ok-matches.matches.found.items) c.stats-stats.ensures.keyed c.slots-slots.ensures told.are c.in_ok-ordered.ensures
           (subst (λ ws. AllZip (IsHitAt c.slots-slots.result) ws (map hit_of c.in_ok-matches.matches.found.items)) c.as_slice-2.ensures.value c.in_ok-matches.ensures.hits);
-      counted = subst (λ b. g.E.Engine.count c.args.engine.now b c.args.relation c.in_ok-query.query.flat c.in_ok-passed.passed) c.asks_literals-literal.ensures c.in_ok-passed.ensures.count;
+      counted = subst (λ b. g.E.Engine.count c.args.engine.now b c.args.relation c.in_ok-named.named.query.flat c.in_ok-passed.passed) c.asks_literals-literal.ensures c.in_ok-passed.ensures.count;
     }
 
 pub returns-clause-solved : goal.returns-clause-solved

@@ -6,8 +6,8 @@ use Rattle.si_defs.specs.Entries.{Place, Placed}
 use Rattle.si_defs.specs.Variables.{Solution, variable_text}
 use Rattle.si_defs.specs.Printing.{place_text, solution_text}
 use Rattle.si_defs.specs.declared.Relation.{Relation}
-use Rattle.si_state.specs.Answers.{Hit, Solves, hit_text, hit_texts}
-use Rattle.si_steps.specs.Replies.{end_line, answer_reply}
+use Rattle.si_state.specs.Answers.{Hit, Solves, hit_text}
+use Rattle.si_steps.specs.Replies.{answer_reply}
 use Rattle.si_steps.specs.Runs.{ended}
 use Rattle.si_io.specs.Shown.{SinkShown}
 use Rattle.si_io.specs.Sends.{Sends}

@@ -11,7 +11,7 @@ ghost use Rattle.si_session.specs.Answering.{IsInside, TellsAnswer, hit_line};
 
 use crate::reply::put_end;
 use crate::separator::{Separator, put_separator};
-use si_index::{Found, Index, Lent};
+use si_index::{Found, Lent};
 use si_io::{Failed, Lines, Sink, write_lines};
 use si_reply::{put_place, put_solution};
 use si_sign::Signature;
@@ -50,10 +50,8 @@ fn put_hit<K: Sink>(
 /// The hits of a query, as the lines that answer it.
 #[derive(Clone, Copy)]
 struct Hits<'a, 'b> {
-    index: &'a Index,
     found: &'a Found<'b>,
     count: u32,
-    ghost same: { found.now.index ≡ index.now },
     ghost counted: { count ≡ length found.now.hits },
     ghost few: { count < 2 ^ 32 },
 }
@@ -82,7 +80,7 @@ impl Lines for Hits<'_, '_> {
             &clause.name,
             &hit.place,
             &lent,
-            self.index.signature(),
+            self.found.signature(),
         )
     }
 
@@ -92,18 +90,13 @@ impl Lines for Hits<'_, '_> {
 }
 
 /// Writes the answer, in large pieces. This takes no memory.
-pub fn tell_answer<K: Sink>(index: &Index, found: &Found<'_>, sink: &mut K) -> Result<(), Failed>
-    requires index { found.now.index ≡ index.now }
-    requires inside { AllByRecursion (IsInside index.now.clauses) found.now.hits }
+pub fn tell_answer<K: Sink>(found: &Found<'_>, sink: &mut K) -> Result<(), Failed>
+    requires inside { AllByRecursion (IsInside found.now.index.clauses) found.now.hits }
     requires solved { AllByRecursion (λ hit. HasSolution found.now.relation found.now.pattern
         hit.1.entry) found.now.hits }
     ensures { TellsAnswer found.now result (K.shown sink.old) (K.shown sink.new) }
 {
     let count = found.len();
-    let hits = Hits {
-        index,
-        found,
-        count,
-    };
+    let hits = Hits { found, count };
     write_lines(&hits, sink)
 }

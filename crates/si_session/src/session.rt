@@ -278,7 +278,7 @@ fn answer<K: Sink>(index: &Index, relation: Relation, pattern: &Pattern, sink: &
         Ok(found) => found,
         Err(_) => return tell(sink, ReplyLine::Memory),
     };
-    match tell_answer(index, &found, sink) {
+    match tell_answer(&found, sink) {
         Ok(()) => Stepped::Answered,
         Err(_) => Stepped::SinkFailed,
     }

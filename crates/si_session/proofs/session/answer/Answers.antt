@@ -6,6 +6,7 @@ use Rattle.si_index.specs.Searching.{HasSolution}
 use Rattle.si_session.specs.declared.stepped.Stepped.TheVariants.{Answered}
 use Rattle.si_session.proofs.Acting.{answers, fails, faults_stand, faults_rise}
 use Rattle.si_index.proofs.StandingLaws.{trees_stand, trees_find}
+use Rattle.si_session.specs.Answering.{IsInside}
 use Rattle.si_session.proofs.Answering.{are_inside, whole_answer}
 use Rattle.si_session.proofs.session.answer.Goals as goal
 
@@ -13,8 +14,11 @@ pub find-requires-clause-standing : goal.find-requires-clause-standing
 find-requires-clause-standing g c = trees_stand c.args.index.now c.trees.result.now c.args.relation (pattern_of c.args.pattern.now) c.trees.ensures.answer c.trees.ensures.trees c.requires
 
 pub tell_answer-requires-clause-inside : goal.tell_answer-requires-clause-inside
-tell_answer-requires-clause-inside g c = are_inside c.args.relation (pattern_of c.args.pattern.now) c.args.index.now.clauses c.in-Ok.found.hits
-    (trees_find c.args.index.now c.trees.result.now c.args.relation (pattern_of c.args.pattern.now) c.trees.ensures.answer c.trees.ensures.trees c.requires c.in-Ok.found.hits c.in-Ok.found.passed c.in-Ok.ensures.hits)
+tell_answer-requires-clause-inside g c =
+    let f = c.in-Ok.found in
+    subst (λ index. AllByRecursion (IsInside index.clauses) f.hits) (sym c.in-Ok.ensures.index)
+    (are_inside c.args.relation (pattern_of c.args.pattern.now) c.args.index.now.clauses f.hits
+    (trees_find c.args.index.now c.trees.result.now c.args.relation (pattern_of c.args.pattern.now) c.trees.ensures.answer c.trees.ensures.trees c.requires c.in-Ok.found.hits c.in-Ok.found.passed c.in-Ok.ensures.hits))
 
 pub tell_answer-requires-clause-solved : goal.tell_answer-requires-clause-solved
 tell_answer-requires-clause-solved g c =

@@ -16,7 +16,7 @@ overflow_cast-n g c = omega (arith, c.requires, c.args.self.now.counted, c.args.
 
 pub put_hit-requires : goal.put_hit-requires
 put_hit-requires g c =
-    let numbers = ap (λ k. k.numbers) c.args.self.now.same ∙ sym c.signature.ensures.numbers in
+    let numbers = sym c.signature.ensures.numbers in
     record { known = (c.lent-lent.ensures.2.solution, shows_hit c.args.self.now.found.now c.args.n _ (shown_of c.lent-lent.result) numbers c.lent-lent.ensures) }
 
 pub returns : goal.returns
@@ -24,7 +24,7 @@ returns g c =
     let shows = c.lent-lent.ensures in
     let f = shows.0 in
     let e = shows.2 in
-    let numbers = ap (λ k. k.numbers) c.args.self.now.same ∙ sym c.signature.ensures.numbers in
+    let numbers = sym c.signature.ensures.numbers in
     let known = shows_hit c.args.self.now.found.now c.args.n _ (shown_of c.lent-lent.result) numbers shows in
     let at = at_number c.args.self.now.found.now.hits c.args.n f c.hit-hit.result.now.clause (place_of c.hit-hit.result.now.place) shows.1 c.hit-hit.ensures in
     let hit : Hit = record { clause = clause_of c.clause-clause.result.now; placed = f.1; solution = e.solution } in

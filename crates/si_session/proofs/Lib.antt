@@ -5,6 +5,7 @@ pub mod Owing
 pub mod Acting
 pub mod Loading
 pub mod ReplyTexts
+pub mod ShortReplyLaws
 pub mod WordTests
 pub mod Answering
 pub mod Shown

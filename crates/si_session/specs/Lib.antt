@@ -4,6 +4,7 @@ pub mod Session
 pub mod Separators
 pub mod Commands
 pub mod Replies
+pub mod ShortReplies
 pub mod Rejections
 pub mod Answering
 pub mod MappedClauses

@@ -9,6 +9,7 @@ mod reply;
 mod sample;
 mod separator;
 mod session;
+mod short_reply;
 mod stepped;
 mod subsumption;
 mod trees;

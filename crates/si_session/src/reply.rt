@@ -11,9 +11,10 @@ ghost use Rattle.si_session.specs.Replies.{reply_line, closed_line, stats_text, 
 ghost use Rattle.si_session.specs.Session.{Writes, CountsSinkFault};
 
 use crate::separator::{Separator, put_separator};
+use crate::short_reply::ShortReply;
 use crate::stepped::Stepped;
 use si_index::{Explained, Stats};
-use si_io::{Failed, Lines, Sink, write_lines};
+use si_io::{Failed, Sink, write_lines};
 use si_reply::{put_bytes, put_file, put_name, put_number, put_symbol};
 use si_sign::Shape;
 use si_term::{Name, Side, Sym, Text};
@@ -252,7 +253,7 @@ pub fn put_end<K: Sink>(sink: &mut K, lines: u64) -> Result<(), Failed>
 }
 
 /// Writes a reply of one line without its line feed, piece by piece.
-fn put_reply<K: Sink>(sink: &mut K, reply: ReplyLine<'_>) -> Result<(), Failed>
+pub fn put_reply<K: Sink>(sink: &mut K, reply: ReplyLine<'_>) -> Result<(), Failed>
     ensures { Sends result (closed_line reply.entry) (K.shown sink.old)
         (K.shown sink.new) }
 {
@@ -293,33 +294,12 @@ fn put_reply<K: Sink>(sink: &mut K, reply: ReplyLine<'_>) -> Result<(), Failed>
     }
 }
 
-/// A reply of one line: no other stands before it.
-impl Lines for ReplyLine<'_> {
-    ghost count = { λ reply. 0 };
-
-    ghost line = { λ reply n text. ⊥ };
-
-    ghost last = { λ reply. closed_line reply };
-
-    fn count(&self) -> usize {
-        0
-    }
-
-    fn put_line<K: Sink>(&self, _n: usize, _sink: &mut K) -> Result<(), Failed> {
-        unreachable!()
-    }
-
-    fn put_last<K: Sink>(&self, sink: &mut K) -> Result<(), Failed> {
-        put_reply(sink, *self)
-    }
-}
-
 /// Writes a reply of one line, at once where it isn't long.
 fn put_at_once<K: Sink>(sink: &mut K, reply: ReplyLine<'_>) -> Result<(), Failed>
     ensures { Sends result (closed_line reply.entry ++ 10 ∷ []) (K.shown sink.old)
         (K.shown sink.new) }
 {
-    write_lines(&reply, sink)
+    write_lines(&ShortReply::Line(reply), sink)
 }
 
 /// Whether the line is a refusal.

@@ -1,5 +1,5 @@
 // The replies that show the trees.
-ghost use Rattle.std.specs.Prelude.{◌≡◌, ◌++◌, codes, decimal};
+ghost use Rattle.std.specs.Prelude.{◌++◌};
 ghost use Rattle.si_defs.specs.Clauses.{IsSoundPattern};
 ghost use Rattle.si_steps.specs.Runs.{ended};
 ghost use Rattle.si_io.specs.Sends.{Sends};
@@ -8,14 +8,16 @@ ghost use Rattle.si_session.specs.Session.{Writes, CountsSinkFault};
 ghost use Rattle.si_session.specs.Explained.{TellsExplained};
 ghost use Rattle.si_session.specs.Replies.{counts_reply};
 ghost use Rattle.si_session.specs.Separators.{separator_text};
+ghost use Rattle.si_session.specs.ShortReplies.{tree_text};
 ghost use Rattle.si_session.specs.declared.separator.Separator.TheVariants.{LineFeed};
 
 use crate::reply::{ReplyLine, put_three, tell};
 use crate::separator::{Separator, put_separator};
+use crate::short_reply::ShortReply;
 use crate::stepped::Stepped;
 use si_defs::Relation;
 use si_index::{Index, TreeCounts};
-use si_io::{Failed, Sink};
+use si_io::{Failed, Sink, write_lines};
 use si_term::Pattern;
 use si_tree::Counts;
 
@@ -30,31 +32,37 @@ pub fn tell_trees<K: Sink>(sink: &mut K, counts: TreeCounts) -> Stepped
     }
 }
 
-/// Writes the line of each tree.
+/// Writes the line of each tree, in one piece.
 fn put_trees<K: Sink>(sink: &mut K, counts: TreeCounts) -> Result<(), Failed>
     ensures { Sends result (ended (counts_reply counts)) (K.shown sink.old) (K.shown sink.new) }
 {
-    put_tree(sink, b"literals nodes ", counts.literals)?;
-    put_tree(sink, b"terms nodes ", counts.terms)
+    write_lines(&ShortReply::Trees(counts), sink)
 }
 
-/// Writes the line of a tree, whose first word is given.
+/// Writes the line of a tree, which begins with these words.
 #[tactic(auto, using(si_io::proofs::Sends::sends))]
-fn put_tree<K: Sink>(sink: &mut K, word: &[u8], counts: Counts) -> Result<(), Failed>
-    ensures { Sends result (((word.now ++ decimal counts.nodes) ++ ((codes " leaves "
-        ++ decimal counts.leaves) ++ (codes " unmerged " ++ decimal counts.unmerged)))
-        ++ separator_text LineFeed) (K.shown sink.old) (K.shown sink.new) }
+pub fn put_tree_line<K: Sink>(sink: &mut K, words: &[u8], counts: Counts) -> Result<(), Failed>
+    ensures { Sends result (tree_text words.now counts ++ separator_text LineFeed)
+        (K.shown sink.old) (K.shown sink.new) }
+{
+    put_tree(sink, words, counts)?;
+    put_separator(sink, Separator::LineFeed)
+}
+
+/// Writes the same without its line feed.
+#[tactic(auto, using(si_io::proofs::Sends::sends))]
+pub fn put_tree<K: Sink>(sink: &mut K, words: &[u8], counts: Counts) -> Result<(), Failed>
+    ensures { Sends result (tree_text words.now counts) (K.shown sink.old) (K.shown sink.new) }
 {
     put_three(
         sink,
-        word,
+        words,
         counts.nodes,
         b" leaves ",
         counts.leaves,
         b" unmerged ",
         counts.unmerged,
-    )?;
-    put_separator(sink, Separator::LineFeed)
+    )
 }
 
 /// Writes what a query passes in its tree, and how many answers it has.

@@ -1,2 +1,2 @@
-mod BoundLaws
+pub mod BoundLaws
 mod PageLaws

@@ -7,13 +7,16 @@ pub mod Chains
 pub mod Pieces
 pub mod Binding
 pub mod Meeting
+pub mod PairLaws
 pub mod Rows
 pub mod Comparing
 pub mod Closing
 pub mod Searching
+pub mod VisitLaws
 pub mod Ranks
 pub mod Weights
 pub mod Triangular
+pub mod LongestLaws
 pub mod Answering
 pub mod Solutions
 pub mod Underway

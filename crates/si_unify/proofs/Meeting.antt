@@ -388,10 +388,6 @@ pub common_told : (a b left right : Cell) (o : Option ℕ) → a ≡ left → b 
 common_told a b left right o a_is b_is e = sym (e ∙ ap (λ x. common_arity x b) a_is ∙ ap (common_arity left) b_is)
 
 -- ---- what the set of pairs tells
-pub either : (b : Bool) (xs ys new : List SpotPair) → new ≡ cond b xs ys → (new ≡ xs) ⊎ (new ≡ ys)
-either true xs ys new e = inl e
-either false xs ys new e = inr e
-
 same_spot : (a b : Spot) → (a.base == b.base && a.at == b.at) ≡ true → a ≡ b
 same_spot a b e =
     let h = and_parts (a.base == b.base) (a.at == b.at) e in

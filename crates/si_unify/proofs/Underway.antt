@@ -1,15 +1,17 @@
 -- An attempt to make two terms equal, from step to step.
-use Rattle.std.proofs.Common.{Bool, refl, sym, ◌∙◌, ap, subst, arith}
+use Rattle.std.proofs.Common.{◌≡◌, ℕ, ◌*◌, ◌≤◌, Bool, length, refl, sym, ◌∙◌, ap, subst, arith}
 use Rattle.si_unify.specs.declared.spots.Spot.{Spot}
 use Rattle.si_unify.specs.declared.spots.SpotPair.{SpotPair}
 use Rattle.si_unify.specs.declared.spots.Subterm.{Subterm}
 use Rattle.si_unify.specs.declared.unifier.Unifier.{Unifier}
 use Rattle.si_unify.specs.Solving.{slot_count}
 use Rattle.si_unify.specs.Spots.{IsSpot, IsSubterm, IsApart, IsLegal, ArePairs, IsGoingOn, HasMet, HasCompared, HasClosed}
-use Rattle.si_unify.specs.Unifying.{HasSpot, HasSubterm, AreApart, IsUnderway, KeepsQuestion, MakesMeet, MakesCompared, MakesClosed}
+use Rattle.si_unify.specs.Rooms.{pairs_room, most_spots}
+use Rattle.si_unify.specs.Unifying.{HasSpot, HasSubterm, AreApart, IsUnderway, HasRoom, KeepsQuestion, MakesMeet, MakesCompared, MakesClosed}
+use Rattle.si_unify.proofs.Pieces.{all_within}
 
 pub stays : (u : Unifier) → KeepsQuestion u u
-stays u = record { question = refl; trail = refl; keys = refl; heights = refl; slots = refl }
+stays u = record { question = refl; trail = refl; keys = refl; heights = refl; slots = refl; heights_room = omega arith; pairs_room = omega arith }
 
 pub goes_further : (old mid new : Unifier) → KeepsQuestion old mid → KeepsQuestion mid new → KeepsQuestion old new
 goes_further old mid new first then = record {
@@ -18,6 +20,8 @@ goes_further old mid new first then = record {
   keys = then.keys ∙ first.keys;
   heights = then.heights ∙ first.heights;
   slots = then.slots ∙ first.slots;
+  heights_room = omega (arith, first.heights_room, then.heights_room);
+  pairs_room = omega (arith, first.pairs_room, then.pairs_room);
 }
 
 -- what was found out by the question as it was at first holds now, and the other way round
@@ -31,6 +35,24 @@ module _ (old new : Unifier) (goes : KeepsQuestion old new) where
     keys = subst (λ q. ArePairs q new.trail.now.pairs new.keys.now.keys) (sym goes.question) going.keys;
     room = omega (arith, before.room, ap (λ q. slot_count q.slots) goes.question, goes.slots);
   }
+
+  -- and what fits does, since each new value is a slice of what was handed in
+  pub room_still : (n : ℕ)
+      → HasRoom n old
+      → IsGoingOn old.question old.trail.now.pairs new.trail.now.pairs old.keys.now.keys new.keys.now.keys
+      → HasRoom n new
+  room_still n room going =
+      let same : new.question ≡ old.question = goes.question in
+      record {
+        values =
+            all_within n old.question.left.now old.question.right.now room.left room.right old.trail.now.pairs room.values new.trail.now.pairs going.handed_in;
+        left = subst (λ q. length q.left.now ≤ n) (sym same) room.left;
+        right = subst (λ q. length q.right.now ≤ n) (sym same) room.right;
+        heights = omega (arith, room.heights, ap (λ q. slot_count q.slots) same, goes.heights_room);
+        pairs =
+            subst (λ q. most_spots (slot_count q.slots) n * most_spots (slot_count q.slots) n ≤ pairs_room new.keys.now) (sym same)
+            (omega (arith, room.pairs, goes.pairs_room));
+      }
 
   pub spot_still : (spot : Spot) → IsSpot old.question new.trail.now.pairs spot → HasSpot new spot
   spot_still spot h = subst (λ q. IsSpot q new.trail.now.pairs spot) (sym goes.question) h

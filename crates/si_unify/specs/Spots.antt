@@ -1,6 +1,6 @@
 -- Spots: places in the values of a list of bindings and in the two terms of a question.
-use Rattle.std.specs.Prelude.{◌≡◌, ℕ, ◌+◌, ◌<◌, ◌≤◌, ◌==◌, if◌then◌else◌, Bool, true, false, ◌&&◌, List, [], ◌∷◌, ◌++◌, drop, length, slice_index_or as get_or, Option, None, Some}
-use Rattle.std.specs.List.{AllByRecursion}
+use Rattle.std.specs.Prelude.{◌≡◌, ℕ, ◌+◌, ◌<◌, ◌≤◌, ◌==◌, if◌then◌else◌, ◌⊎◌, Bool, true, false, ◌&&◌, List, [], ◌∷◌, ◌++◌, drop, length, slice_get, slice_index_or as get_or, Option, None, Some}
+use Rattle.std.specs.List.{AllByRecursion, IsDistinct, list_any}
 use Rattle.std.specs.Borrow.{Bor}
 use Rattle.si_defs.specs.Substitutions.{Grows}
 use Rattle.si_defs.specs.Terms as terms
@@ -142,6 +142,23 @@ pub record ComesTo (q : Question) (pairs : Pairs) (t : Term) (spot : Spot) : Typ
   pub same : (f : Variable → Term) → IsSolvedBy q.slots pairs f
       → terms.substitute f t ≡ terms.substitute f term
   pub ends : IsUnbound pairs (slot_at q pairs spot)
+
+-- ---- the pairs of spots that came up
+abbrev pub same_spots : SpotPair → SpotPair → Bool
+same_spots p k = (p.left.base == k.left.base && p.left.at == k.left.at)
+    && (p.right.base == k.right.base && p.right.at == k.right.at)
+
+-- the pair stands among them, and none but it was added
+pub record IsAdded (old : List SpotPair) (pair : SpotPair) (new : List SpotPair) : Type 0 where
+  pub more : (new ≡ old) ⊎ (new ≡ old ++ pair ∷ [])
+  pub place : ℕ
+  pub there : slice_get new place ≡ Some pair
+
+-- they fill the room, each is there once, and the pair isn't among them
+pub record HasNoRoomFor (keys : List SpotPair) (room : ℕ) (pair : SpotPair) : Type 0 where
+  pub full : room ≤ length keys
+  pub distinct : IsDistinct same_spots keys
+  pub absent : list_any (same_spots pair) keys ≡ false
 
 abbrev pub ArePairs : Question → Pairs → List SpotPair → Type 0
 ArePairs q pairs = AllByRecursion (IsApart q pairs)

@@ -1,5 +1,5 @@
 -- How far the search for a circle has come with each slot.
-use Rattle.std.specs.Prelude.{◌≡◌, ℕ, ◌+◌, ◌<◌, ◌≤◌, ◌⊎◌, sum_by, List, length, slice_get, Some}
+use Rattle.std.specs.Prelude.{◌≡◌, ℕ, zero, suc, ◌+◌, ◌<◌, ◌≤◌, ◌⊎◌, sum_by, List, [], ◌∷◌, length, slice_get, Some}
 use Rattle.std.specs.List.{AllByRecursion}
 use Rattle.si_defs.specs.Substitutions.{IsAmong}
 use Rattle.si_unify.specs.declared.states.State.{State}
@@ -19,6 +19,12 @@ abbrev pub weight : State → ℕ
 weight New = 1
 weight Open = 0
 weight Done = 0
+
+-- how many of the first so many slots are new
+abbrev pub new_slots : ℕ → List State → ℕ
+new_slots zero states = 0
+new_slots (suc n) [] = 0
+new_slots (suc n) (s ∷ states) = weight s + new_slots n states
 
 -- each new slot still finds room among those that were met
 pub record HasRoomFor (states : List State) (met : List ℕ) (capacity : ℕ) : Type 0 where

@@ -1,10 +1,11 @@
 -- What holds of an attempt to make two terms equal, and what its steps do.
-use Rattle.std.specs.Prelude.{◌≡◌, ◌≤◌, Bool}
+use Rattle.std.specs.Prelude.{◌≡◌, ℕ, ◌*◌, ◌≤◌, Bool, length}
 use Rattle.si_unify.specs.declared.spots.Spot.{Spot}
 use Rattle.si_unify.specs.declared.spots.SpotPair.{SpotPair}
 use Rattle.si_unify.specs.declared.spots.Subterm.{Subterm}
 use Rattle.si_unify.specs.declared.unifier.Unifier.{Unifier}
 use Rattle.si_unify.specs.Solving.{slot_count}
+use Rattle.si_unify.specs.Rooms.{pairs_room, AreWithin, most_spots}
 use Rattle.si_unify.specs.Spots.{IsSpot, IsSubterm, IsEnd, IsApart, IsLegal, ArePairs, HasMet, HasCompared, HasClosed}
 
 -- ---- spots, over the bindings so far
@@ -26,13 +27,27 @@ pub record IsUnderway (u : Unifier) : Type 0 where
   pub keys : ArePairs u.question u.trail.now.pairs u.keys.now.keys
   pub room : slot_count u.question.slots ≤ u.trail.now.slots
 
--- the question, the lent memory and the number of slots stay
+-- the heights and the pairs of spots find room, whatever comes up: no text has more than n cells
+pub record HasRoom (n : ℕ) (u : Unifier) : Type 0 where
+  pub values : AreWithin n u.trail.now.pairs
+  pub left : length u.question.left.now ≤ n
+  pub right : length u.question.right.now ≤ n
+  pub heights : slot_count u.question.slots ≤ u.heights.now.room
+  pub pairs : most_spots (slot_count u.question.slots) n * most_spots (slot_count u.question.slots) n
+      ≤ pairs_room u.keys.now
+
+abbrev pub LacksRoom : Unifier → Type 0
+LacksRoom u = (n : ℕ) → HasRoom n u → ⊥
+
+-- the question, the lent memory and the number of slots stay, and there is no less room
 pub record KeepsQuestion (old new : Unifier) : Type 0 where
   pub question : new.question ≡ old.question
   pub trail : new.trail.ghost_name ≡ old.trail.ghost_name
   pub keys : new.keys.ghost_name ≡ old.keys.ghost_name
   pub heights : new.heights.ghost_name ≡ old.heights.ghost_name
   pub slots : new.trail.now.slots ≡ old.trail.now.slots
+  pub heights_room : old.heights.now.room ≤ new.heights.now.room
+  pub pairs_room : pairs_room old.keys.now ≤ pairs_room new.keys.now
 
 -- ---- the outcomes
 abbrev pub MakesMeet : Unifier → Unifier → Spot → Spot → Bool → Type 0

@@ -1,8 +1,10 @@
 // The search for a circle through bound variables.
-ghost use Rattle.std.specs.Prelude.{◌≡◌, ◌≤◌, true, length, take, reverse, ◌++◌, ◌∷◌, [], IfOk, OnOk};
+ghost use Rattle.std.specs.Prelude.{◌≡◌, ℕ, ◌+◌, ◌*◌, ◌<◌, ◌≤◌, true, length, take, reverse, ◌++◌, ◌∷◌, [], IfOk, OnOk, OnErr, vec_capacity};
 ghost use Rattle.std.specs.List.{AllByRecursion};
-ghost use Rattle.si_unify.specs.Circles.{if_bound, bound_slots, slots_below, visits_of, AreEntered, AreEntries, AreResolved, IsSearching, HasSearched, HasDone, IsTold};
-ghost use Rattle.si_unify.specs.Solving.{IsAcyclic, IsBinding};
+ghost use Rattle.si_trail.specs.Trails.{HasDistinctSlots};
+ghost use Rattle.si_unify.specs.Circles.{if_bound, bound_slots, slots_below, visits_of, AreEntered, AreEntries, AreResolved, IsSearching, HasSearched, HasDone, LackRoom, AreNoMore, IsTold};
+ghost use Rattle.si_unify.specs.Rooms.{AreWithin};
+ghost use Rattle.si_unify.specs.Solving.{slot_count, IsAcyclic, IsBinding};
 ghost use Rattle.si_unify.specs.States.{AreNew};
 ghost use Rattle.si_unify.specs.Spots.{cell_slot};
 
@@ -39,8 +41,11 @@ fn enter_cells<'a>(
     visits: &mut Vec<Visit>,
     value: &[Cell],
 ) -> Result<(), AllocError>
-    ensures { OnOk result (AreEntered slots.now trail.now.pairs value.now (reverse visits.old.items)
-        (reverse visits.new.items)) }
+    ensures entered { OnOk result (AreEntered slots.now trail.now.pairs value.now
+        (reverse visits.old.items) (reverse visits.new.items)) }
+    ensures full { OnErr result (vec_capacity visits.old
+        < length visits.old.items + length value.now) }
+    ensures keeps { vec_capacity visits.old ≤ vec_capacity visits.new }
 {
     for &cell in value {
         let Some(next) = bound_slot(trail, slots, cell) else {
@@ -58,8 +63,11 @@ fn enter_all<'a>(
     visits: &mut Vec<Visit>,
     slot: usize,
 ) -> Result<(), AllocError>
-    ensures { OnOk result (reverse visits.new.items ≡ visits_of slots.now trail.now.pairs slot ++
-        reverse visits.old.items) }
+    ensures entered { OnOk result (reverse visits.new.items
+        ≡ visits_of slots.now trail.now.pairs slot ++ reverse visits.old.items) }
+    ensures full { OnErr result ((n : ℕ) → AreWithin n trail.now.pairs
+        → vec_capacity visits.old < length visits.old.items + n) }
+    ensures keeps { vec_capacity visits.old ≤ vec_capacity visits.new }
 {
     match trail.get(slot) {
         Some(value) => enter_cells(trail, slots, visits, value),
@@ -77,8 +85,14 @@ fn step<'a>(
 ) -> Result<bool, AllocError>
     requires { IsSearching slots.now trail.now.pairs states.old.items
         (visit ∷ reverse visits.old.items) }
-    ensures { IfOk result (HasDone slots.now trail.now.pairs states.old.items states.new.items
+    ensures done { IfOk result (HasDone slots.now trail.now.pairs states.old.items states.new.items
         (visit ∷ reverse visits.old.items) (reverse visits.new.items)) }
+    ensures no_more { OnOk result (AreNoMore slots.now trail.now.pairs states.old.items
+        states.new.items (length visits.old.items + 1) (length visits.new.items)) }
+    ensures full { OnErr result (LackRoom slots.now trail.now.pairs states.old.items
+        (length visits.old.items + 1) (vec_capacity visits.old)) }
+    ensures keeps { vec_capacity visits.old ≤ vec_capacity visits.new }
+    ensures keeps_states { states.new.room ≡ states.old.room }
 {
     match visit {
         Visit::Leave(slot) => {
@@ -106,8 +120,12 @@ fn search<'a>(
     visits: &mut Vec<Visit>,
 ) -> Result<bool, AllocError>
     requires { IsSearching slots.now trail.now.pairs states.old.items (reverse visits.old.items) }
-    ensures { IfOk result (HasSearched slots.now trail.now.pairs states.old.items states.new.items
-        (reverse visits.old.items)) }
+    ensures searched { IfOk result (HasSearched slots.now trail.now.pairs states.old.items
+        states.new.items (reverse visits.old.items)) }
+    ensures full { OnErr result (LackRoom slots.now trail.now.pairs states.old.items
+        (length visits.old.items) (vec_capacity visits.old)) }
+    ensures keeps { vec_capacity visits.old ≤ vec_capacity visits.new }
+    ensures keeps_states { states.new.room ≡ states.old.room }
 {
     while let Some(visit) = visits.pop() {
         if !step(trail, slots, states, visits, visit)? {
@@ -125,8 +143,12 @@ fn enter_bound<'a>(
 ) -> Result<(), AllocError>
     requires none { visits.old.items ≡ [] }
     requires within { mark ≤ length trail.now.pairs }
-    ensures { OnOk result (AreEntries trail.now.pairs mark (length trail.now.pairs)
+    ensures entered { OnOk result (AreEntries trail.now.pairs mark (length trail.now.pairs)
         (reverse visits.new.items)) }
+    ensures few { OnOk result (length visits.new.items ≤ length trail.now.pairs) }
+    ensures distinct { HasDistinctSlots trail.now.pairs }
+    ensures full { OnErr result (vec_capacity visits.old < length trail.now.pairs) }
+    ensures keeps { vec_capacity visits.old ≤ vec_capacity visits.new }
 {
     for n in mark..trail.mark() {
         visits.push(Visit::Enter(trail.slot(n)))?;
@@ -183,7 +205,12 @@ pub(crate) fn is_triangular<'a>(
     requires bindings { AllByRecursion (IsBinding slots.now) trail.now.pairs }
     requires within { mark ≤ length trail.now.pairs }
     requires before { IsAcyclic slots.now (take mark trail.now.pairs) }
-    ensures { IfOk result (IsTold slots.now trail.now.pairs) }
+    ensures told { IfOk result (IsTold slots.now trail.now.pairs) }
+    ensures full { OnErr result ((n : ℕ) → AreWithin n trail.now.pairs
+        → slot_count slots.now ≤ states.old.room
+        → slot_count slots.now * (n + 2) ≤ vec_capacity visits.old → ⊥) }
+    ensures keeps { vec_capacity visits.old ≤ vec_capacity visits.new }
+    ensures keeps_states { states.old.room ≤ states.new.room }
 {
     if are_resolved(trail, slots, mark) {
         return Ok(true);

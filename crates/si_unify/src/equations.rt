@@ -1,13 +1,16 @@
 // One equation: between the heads at two spots.
-ghost use Rattle.std.specs.Prelude.{◌≡◌, false, Ok, IfOk, OnErr};
+ghost use Rattle.std.specs.Prelude.{◌≡◌, ◌<◌, ◌≤◌, false, Ok, IfOk, OnOk, OnErr};
 ghost use Rattle.si_unify.specs.Heights.{is_right_lower};
-ghost use Rattle.si_unify.specs.Spots.{same_slot, common_arity};
-ghost use Rattle.si_unify.specs.Unifying.{HasSubterm, HasEnd, IsUnderway, KeepsQuestion, MakesMeet};
+ghost use Rattle.si_unify.specs.Rooms.{pairs_room};
+ghost use Rattle.si_unify.specs.Solving.{slot_count};
+ghost use Rattle.si_unify.specs.Spots.{same_slot, common_arity, IsAdded, HasNoRoomFor};
+ghost use Rattle.si_unify.specs.Unifying.{HasSubterm, HasEnd, IsUnderway, LacksRoom, KeepsQuestion, MakesMeet};
 
 use crate::heights::Heights;
 use crate::slots::Slots;
 use crate::spots::{SpotPair, Subterm};
 use crate::unifier::Unifier;
+use indexmap::IndexSet;
 use si_flat::Cell;
 use std::alloc::AllocError;
 
@@ -45,12 +48,29 @@ fn turns(
     left: Option<usize>,
     right: Option<usize>,
 ) -> Result<bool, AllocError>
-    ensures { IfOk result (λ turned. turned ≡ is_right_lower heights.old.items left right) }
+    ensures turned { IfOk result (λ turned. turned
+        ≡ is_right_lower heights.old.items left right) }
+    ensures full { OnErr result (heights.old.room < slot_count slots.now) }
+    ensures keeps { heights.old.room ≤ heights.new.room }
 {
     match (left, right) {
         (Some(left), Some(right)) => heights.turns(slots.count(), left, right),
         _ => Ok(false),
     }
+}
+
+// Puts a pair of spots after the others where it isn't among them. It is looked up first, since of a
+// pair that comes again `insert_full` doesn't say that it takes no room.
+fn add_pair(keys: &mut IndexSet<SpotPair>, pair: SpotPair) -> Result<(), AllocError>
+    ensures added { OnOk result (IsAdded keys.old.keys pair keys.new.keys) }
+    ensures full { OnErr result (HasNoRoomFor keys.old.keys (pairs_room keys.old) pair) }
+    ensures keeps { pairs_room keys.old ≤ pairs_room keys.new }
+{
+    if keys.contains(&pair) {
+        return Ok(());
+    }
+    keys.insert_full(pair)?;
+    Ok(())
 }
 
 impl<'s, 'a> Unifier<'s, 'a> {
@@ -65,6 +85,7 @@ impl<'s, 'a> Unifier<'s, 'a> {
         ensures met { IfOk result (MakesMeet self.old self.new left.entry.spot right.entry.spot) }
         ensures no { result ≡ Ok false → self.new.trail.now.pairs ≡ self.old.trail.now.pairs }
         ensures err { OnErr result (self.new.trail.now.pairs ≡ self.old.trail.now.pairs) }
+        ensures full { OnErr result (LacksRoom self.old) }
         ensures keeps_question { KeepsQuestion self.old self.new }
     {
         let left_cell = left.cells[0];
@@ -95,10 +116,11 @@ impl<'s, 'a> Unifier<'s, 'a> {
             None => Ok(false),
             Some(0) => Ok(true),
             Some(_) => {
-                self.keys.insert_full(SpotPair {
+                let pair = SpotPair {
                     left: left.spot,
                     right: right.spot,
-                })?;
+                };
+                add_pair(self.keys, pair)?;
                 Ok(true)
             }
         }
@@ -112,6 +134,7 @@ impl<'s, 'a> Unifier<'s, 'a> {
         ensures met { IfOk result (MakesMeet self.old self.new left.entry.spot right.entry.spot) }
         ensures no { result ≡ Ok false → self.new.trail.now.pairs ≡ self.old.trail.now.pairs }
         ensures err { OnErr result (self.new.trail.now.pairs ≡ self.old.trail.now.pairs) }
+        ensures full { OnErr result (LacksRoom self.old) }
         ensures keeps_question { KeepsQuestion self.old self.new }
     {
         let left_end = self.follow(left);

@@ -1,13 +1,14 @@
 // From two terms to the bindings that make them equal.
-ghost use Rattle.std.specs.Prelude.{◌≡◌, ◌<◌, ◌≤◌, ◌^◌, [], length, true, false, Ok, IfOk, OnErr};
+ghost use Rattle.std.specs.Prelude.{◌≡◌, ℕ, ◌+◌, ◌*◌, ◌<◌, ◌≤◌, ◌^◌, [], length, true, false, Ok, IfOk, OnErr, vec_capacity};
 ghost use Rattle.std.specs.List.{AllByRecursion};
 ghost use Rattle.si_defs.specs.Substitutions.{Grows};
 ghost use Rattle.si_flat.specs.Cells.{IsWhole};
-ghost use Rattle.si_unify.specs.Scratch.{AreClear};
+ghost use Rattle.si_unify.specs.Rooms.{IsEnoughFor, IsNoLess};
+ghost use Rattle.si_unify.specs.Scratch.{AreClear, buffers_room};
 ghost use Rattle.si_unify.specs.Solving.{slot_count, AreInRange, IsAcyclic, IsBinding, AreHandedIn, HasSolved};
 ghost use Rattle.si_unify.specs.States.{AreNew};
 ghost use Rattle.si_unify.specs.Spots.{HasAnswered};
-ghost use Rattle.si_unify.specs.Unifying.{IsUnderway, KeepsQuestion};
+ghost use Rattle.si_unify.specs.Unifying.{IsUnderway, HasRoom, KeepsQuestion};
 
 use crate::circles::{Visit, is_triangular};
 use crate::scratch::{Buffers, Scratch};
@@ -32,7 +33,12 @@ impl<'s, 'a> Unifier<'s, 'a> {
         ensures answered { IfOk result (HasAnswered self.old.question self.old.trail.now.pairs
             self.new.trail.now.pairs) }
         ensures grows { Grows self.old.trail.now.pairs self.new.trail.now.pairs }
+        ensures full { OnErr result ((n : ℕ) → HasRoom n self.old
+            → slot_count self.old.question.slots ≤ states.old.room
+            → slot_count self.old.question.slots * (n + 2) ≤ vec_capacity visits.old → ⊥) }
         ensures keeps_question { KeepsQuestion self.old self.new }
+        ensures keeps_states { states.old.room ≤ states.new.room }
+        ensures keeps_visits { vec_capacity visits.old ≤ vec_capacity visits.new }
     {
         let mark = self.trail.mark();
         if !self.meet_terms()? {
@@ -63,6 +69,9 @@ fn attempt<'a>(
     requires triangular { IsAcyclic question.now.slots trail.old.pairs }
     ensures answered { IfOk result (HasAnswered question.now trail.old.pairs trail.new.pairs) }
     ensures grows { Grows trail.old.pairs trail.new.pairs }
+    ensures full { OnErr result (IsEnoughFor question.now.slots trail.old.pairs
+        question.now.left.now question.now.right.now (buffers_room buffers.old) → ⊥) }
+    ensures keeps { IsNoLess (buffers_room buffers.old) (buffers_room buffers.new) }
     ensures slots { trail.new.slots ≡ trail.old.slots }
 {
     let mut unifier = Unifier {
@@ -105,6 +114,11 @@ pub fn solve<'a>(
 }
 
 /// Does the same as [`solve`] in memory that is lent: for callers that solve many times.
+///
+/// # Errors
+///
+/// `AllocError` where there is no memory, but never where what the scratch grew to is enough for all
+/// terms and bindings of these sizes.
 pub fn solve_with<'a>(
     scratch: &mut Scratch,
     trail: &mut Trail<&'a [Cell]>,
@@ -123,6 +137,9 @@ pub fn solve_with<'a>(
     ensures grows { result ≡ Ok true → Grows trail.old.pairs trail.new.pairs }
     ensures no { result ≡ Ok false → trail.new.pairs ≡ trail.old.pairs }
     ensures err { OnErr result (trail.new.pairs ≡ trail.old.pairs) }
+    ensures full { OnErr result (IsEnoughFor slots.now trail.old.pairs s.now t.now
+        scratch.old → ⊥) }
+    ensures keeps { IsNoLess scratch.old scratch.new }
     ensures slots { trail.new.slots ≡ trail.old.slots }
     ensures bindings { AllByRecursion (IsBinding slots.now) trail.new.pairs }
     ensures triangular { IsAcyclic slots.now trail.new.pairs }

@@ -1,5 +1,8 @@
 use Rattle.std.proofs.Common.{sym, subst}
+use Rattle.std.proofs.lemmas.Result.{on_err_weaker}
+use Rattle.si_unify.specs.Rooms.{longest}
 use Rattle.si_unify.specs.Spots.{ArePairs}
+use Rattle.si_unify.proofs.LongestLaws.{left_within, right_within, all_within_longest}
 use Rattle.si_unify.proofs.Answering.{legal_at_first}
 use Rattle.si_unify.proofs.solver.attempt.Goals as goal
 
@@ -9,3 +12,21 @@ solve-requires-clause-underway c = record {
   keys = subst (ArePairs c.args.question.now c.args.trail.now.pairs) (sym c.requires.clear.keys) tt;
   room = c.requires.room;
 }
+
+pub returns-clause-full : goal.returns-clause-full
+returns-clause-full c =
+    let n = longest c.args.trail.now.pairs c.args.question.now.left.now c.args.question.now.right.now in
+    on_err_weaker c.solve.result
+    (λ lacks enough.
+    lacks n
+    (
+    record {
+      values = all_within_longest c.args.trail.now.pairs c.args.question.now.left.now c.args.question.now.right.now;
+      left = left_within c.args.trail.now.pairs c.args.question.now.left.now c.args.question.now.right.now;
+      right = right_within c.args.trail.now.pairs c.args.question.now.left.now c.args.question.now.right.now;
+      heights = enough.heights;
+      pairs = enough.spots;
+    }
+    )
+    enough.states enough.visits)
+    c.solve.ensures.full

@@ -1,11 +1,12 @@
 use Rattle.std.proofs.Common.{◌+◌, ◌-◌, ◌<◌, true, false, length, sym, subst, arith}
 use Rattle.si_unify.specs.Spots.{spots_of}
-use Rattle.si_unify.specs.Unifying.{MakesMeet}
+use Rattle.si_unify.specs.Unifying.{LacksRoom, MakesMeet}
 use Rattle.si_unify.proofs.Chains.{no_cell, head_inside}
 use Rattle.si_unify.proofs.Pieces.{piece_ends}
 use Rattle.si_unify.proofs.Binding.{same_whole}
 use Rattle.si_unify.proofs.Comparing.{comparing_starts, comparing_ends, comparing_descends, comparing_goes_on, comparing_fails, right_inside, left_part, right_part, left_size, right_size, moved}
-use Rattle.si_unify.proofs.Underway.{stays, goes_further, underway_still, subterm_still, met_by}
+use Rattle.si_term.proofs.Results.{on_err}
+use Rattle.si_unify.proofs.Underway.{stays, goes_further, underway_still, room_still, subterm_still, met_by}
 use Rattle.si_unify.proofs.unifier.Unifier.compare.Goals as goal
 
 pub loop-i-init : goal.loop-i-init
@@ -98,3 +99,9 @@ loop-i-preserved c = record {
 
 pub returns-clause-compared : goal.returns-clause-compared
 returns-clause-compared c = comparing_ends _ _ _ _ _ _ _ _ _ _ c.loop-i.invariant.comparing_on c.loop-i-test.false
+
+pub returns-in_err-meet-in-None-clause-full : goal.returns-in_err-meet-in-None-clause-full
+returns-in_err-meet-in-None-clause-full c =
+    let refused : LacksRoom c.args.self.now = λ n room.
+    c.in_err-meet-in-None.ensures.full n (room_still c.args.self.now c.loop-i.self c.loop-i.invariant.going_on n room c.loop-i.invariant.comparing_on.going) in
+    on_err _ refused

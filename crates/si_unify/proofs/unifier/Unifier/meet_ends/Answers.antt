@@ -1,9 +1,13 @@
 use Rattle.std.proofs.Common.{◌<◌, [], Some, sym, ap, ◌∙◌, arith}
 use Rattle.si_unify.specs.Solving.{slot_count}
-use Rattle.si_unify.specs.Spots.{free_slot}
+use Rattle.si_term.proofs.Results.{on_err}
+use Rattle.si_unify.specs.Rooms.{pairs_room}
+use Rattle.si_unify.specs.Spots.{free_slot, spots_of}
+use Rattle.si_unify.specs.Unifying.{LacksRoom}
 use Rattle.si_unify.proofs.Chains.{head_inside, head_is}
 use Rattle.si_unify.proofs.Binding.{binds_subterm}
-use Rattle.si_unify.proofs.Meeting.{same_variable_met, left_bound, right_bound, free_below, clash_met, constant_met, pair_met, either, same_pair, same_told, common_told}
+use Rattle.si_unify.proofs.Meeting.{same_variable_met, left_bound, right_bound, free_below, clash_met, constant_met, pair_met, same_told, common_told}
+use Rattle.si_unify.proofs.PairLaws.{pair_refused}
 use Rattle.si_unify.proofs.unifier.Unifier.meet_ends.Goals as goal
 
 pub bounds-left-0 : goal.bounds-left-0
@@ -110,10 +114,14 @@ returns-in-Some-eq0-clause-met c =
     )
     (common_told _ _ _ _ _ (head_is _ _ _ c.requires.left) (head_is _ _ _ c.requires.right) c.in-Some-eq0.ensures ∙ ap Some c.in-Some-eq0.field-0-test)
 
-pub returns-in_ok-insert_full-in-Some-common_arity-clause-met : goal.returns-in_ok-insert_full-in-Some-common_arity-clause-met
-returns-in_ok-insert_full-in-Some-common_arity-clause-met c =
-    let stored = c.in_ok-insert_full-in-Some-common_arity.ensures.stored in
-    pair_met _ _ _ _ _ _ _ c.in_ok-insert_full-in-Some-common_arity.field-0.0
+pub returns-in_err-turns-clause-full : goal.returns-in_err-turns-clause-full
+returns-in_err-turns-clause-full c =
+    let refused : LacksRoom c.args.self.now = λ n room. omega (arith, room.heights, c.in_err-turns.ensures.full) in on_err _ refused
+
+pub returns-in_ok-add_pair-in-Some-common_arity-clause-met : goal.returns-in_ok-add_pair-in-Some-common_arity-clause-met
+returns-in_ok-add_pair-in-Some-common_arity-clause-met c =
+    let added = c.in_ok-add_pair-in-Some-common_arity.ensures.added in
+    pair_met _ _ _ _ _ _ _ added.place
     (
     record {
       legal = c.requires.underway.legal;
@@ -124,5 +132,13 @@ returns-in_ok-insert_full-in-Some-common_arity-clause-met c =
     }
     )
     (common_told _ _ _ _ _ (head_is _ _ _ c.requires.left) (head_is _ _ _ c.requires.right) c.in-Some-common_arity.ensures)
-    (either _ _ _ _ c.in_ok-insert_full-in-Some-common_arity.ensures.keys)
-    (stored.1 ∙ ap Some (same_pair c.args.left.spot c.args.right.spot stored.0 stored.2))
+    added.more
+    added.there
+
+pub returns-in_err-add_pair-in-Some-common_arity-clause-full : goal.returns-in_err-add_pair-in-Some-common_arity-clause-full
+returns-in_err-add_pair-in-Some-common_arity-clause-full c =
+    let refused : LacksRoom c.args.self.now = λ n room.
+    pair_refused c.args.self.now.question c.args.self.now.trail.now.pairs n c.requires.underway.legal room.values room.left room.right
+    (spots_of c.args.left c.args.right) c.args.self.now.keys.now.keys (pairs_room c.args.self.now.keys.now)
+    c.requires.left_end.spot_is c.requires.right_end.spot_is c.requires.underway.keys c.in_err-add_pair-in-Some-common_arity.ensures.full room.pairs in
+    on_err _ refused

@@ -1,13 +1,16 @@
-use Rattle.std.proofs.Common.{true, false, take, sym, ap, ◌∙◌, subst, arith}
-use Rattle.std.proofs.lemmas.Result.{IfOk-weaker}
-use Rattle.si_unify.specs.Solving.{IsAcyclic, IsBinding}
+use Rattle.std.proofs.Common.{◌≡◌, ℕ, ◌+◌, ◌*◌, ◌≤◌, true, false, take, sym, ap, ◌∙◌, subst, arith}
+use Rattle.std.proofs.lemmas.Result.{IfOk-weaker, on_err_weaker}
+use Rattle.std.specs.Prelude.{vec_capacity}
+use Rattle.si_term.proofs.Results.{on_err}
+use Rattle.si_unify.specs.Solving.{slot_count, IsAcyclic, IsBinding}
 use Rattle.std.specs.List.{AllByRecursion}
 use Rattle.si_unify.specs.Circles.{IsTold}
 use Rattle.si_unify.specs.Spots.{left_spot, right_spot}
-use Rattle.si_unify.specs.Unifying.{MakesMeet, MakesClosed}
+use Rattle.si_unify.specs.Unifying.{HasRoom, MakesMeet, MakesClosed}
 use Rattle.si_unify.proofs.Comparing.{grows_on}
 use Rattle.si_unify.proofs.Answering.{front_of, front_within, answered, answered_unclosed, answered_unmet}
-use Rattle.si_unify.proofs.Underway.{goes_further, underway_still, closed_by}
+use Rattle.si_unify.proofs.Underway.{goes_further, underway_still, room_still, closed_by}
+use Rattle.si_unify.proofs.Pieces.{handed_on, all_within}
 use Rattle.si_unify.proofs.unifier.Unifier.solve.Goals as goal
 
 pub returns-then-not-branch-clause-answered : goal.returns-then-not-branch-clause-answered
@@ -105,10 +108,47 @@ returns-clause-answered c =
     (subst (MakesClosed c.meet_terms.new.self c.close.new.self) c.if-not-branch-2.false c.in_ok-close.ensures.closed)
     )
     b (subst (λ q. IsTold q.slots c.close.new.self.trail.now.pairs b) goes.question told))
-    c.is_triangular.ensures
+    c.is_triangular.ensures.told
 
 pub returns-clause-grows : goal.returns-clause-grows
 returns-clause-grows c = grows_on _ _ _ c.in_ok-meet_terms.ensures.grows c.in_ok-close.ensures.grows
 
 pub returns-clause-keeps_question : goal.returns-clause-keeps_question
 returns-clause-keeps_question c = goes_further _ _ _ c.in_ok-meet_terms.ensures.keeps_question c.in_ok-close.ensures.keeps_question
+
+pub returns-in_err-meet_terms-clause-full : goal.returns-in_err-meet_terms-clause-full
+returns-in_err-meet_terms-clause-full c =
+    let refused : (n : ℕ) → HasRoom n c.args.self.now → slot_count c.args.self.now.question.slots ≤ c.args.states.now.room → slot_count c.args.self.now.question.slots * (n + 2) ≤ vec_capacity c.args.visits.now → ⊥ = λ n room states visits. c.in_err-meet_terms.ensures.full n room in
+    on_err _ refused
+
+pub returns-in_err-close-clause-full : goal.returns-in_err-close-clause-full
+returns-in_err-close-clause-full c =
+    let met =
+    subst
+    (MakesMeet c.args.self.now c.meet_terms.new.self (left_spot c.args.self.now.question) (right_spot c.args.self.now.question))
+    c.if-not-branch.false
+    c.in_ok-meet_terms.ensures.met in
+    let refused : (n : ℕ) → HasRoom n c.args.self.now → slot_count c.args.self.now.question.slots ≤ c.args.states.now.room → slot_count c.args.self.now.question.slots * (n + 2) ≤ vec_capacity c.args.visits.now → ⊥ =
+    λ n room states visits. c.in_err-close.ensures.full n (room_still c.args.self.now c.meet_terms.new.self c.in_ok-meet_terms.ensures.keeps_question n room met.0) in
+    on_err _ refused
+
+pub returns-clause-full : goal.returns-clause-full
+returns-clause-full c =
+    let goes = goes_further c.args.self.now c.meet_terms.new.self c.close.new.self c.in_ok-meet_terms.ensures.keeps_question c.in_ok-close.ensures.keeps_question in
+    let met =
+    subst
+    (MakesMeet c.args.self.now c.meet_terms.new.self (left_spot c.args.self.now.question) (right_spot c.args.self.now.question))
+    c.if-not-branch.false
+    c.in_ok-meet_terms.ensures.met in
+    let closed =
+    closed_by c.args.self.now c.meet_terms.new.self c.in_ok-meet_terms.ensures.keeps_question c.close.new.self true
+    (subst (MakesClosed c.meet_terms.new.self c.close.new.self) c.if-not-branch-2.false c.in_ok-close.ensures.closed) in
+    let handed = handed_on c.args.self.now.trail.now.pairs c.meet_terms.new.self.trail.now.pairs c.close.new.self.trail.now.pairs c.args.self.now.question.left.now c.args.self.now.question.right.now met.0.handed_in closed.3 in
+    let count : slot_count c.close.new.self.question.slots ≡ slot_count c.args.self.now.question.slots = ap (λ q. slot_count q.slots) goes.question in
+    on_err_weaker c.is_triangular.result
+    (λ lacks n room states visits.
+    lacks n
+    (all_within n c.args.self.now.question.left.now c.args.self.now.question.right.now room.left room.right c.args.self.now.trail.now.pairs room.values c.close.new.self.trail.now.pairs handed)
+    (omega (arith, count, states))
+    (subst (λ k. k * (n + 2) ≤ vec_capacity c.args.visits.now) (sym count) visits))
+    c.is_triangular.ensures.full

@@ -1,5 +1,5 @@
 -- Walks over the literals of clauses.
-use Rattle.std.proofs.Common.{◌≡◌, ℕ, ◌+◌, ◌-◌, ◌^◌, Bool, true, false, List, [], ◌∷◌, ◌++◌, length, refl, ap, sym, ◌∙◌, arith, append-nil}
+use Rattle.std.proofs.Common.{◌≡◌, ℕ, ◌+◌, ◌-◌, ◌^◌, Bool, true, false, List, [], ◌∷◌, ◌++◌, length, refl, ap, sym, ◌∙◌, arith, append-nil, length-append}
 use Rattle.std.specs.Prelude.{bytes_eq, slice_set}
 use Rattle.indexmap.specs.IndexSet.{insert_all}
 use Rattle.si_defs.specs.Bytes.{Bytes}
@@ -16,7 +16,7 @@ use Rattle.si_flat.specs.Cells.{Variable, Terms, cells_of, cells_of_all}
 use Rattle.si_flat.specs.Numbered.{number_in, signed, place_in, numbered}
 use Rattle.si_flat.specs.Flattened.{numbers_from, unnumbered}
 use Rattle.si_flat.specs.Flattening.{owners_variable, number_by, MayMeet, WalkState, WalkPiece, walk_state, term_piece, Flattens}
-use Rattle.si_flat.specs.FlatClauses.{numbered_atoms, literals_piece, clause_scheme, clause_piece}
+use Rattle.si_flat.specs.FlatClauses.{numbered_atoms, numbered_clause, literals_piece, clause_scheme, clause_piece}
 use Rattle.si_flat.proofs.Subterms.{length-cells_of_all}
 use Rattle.si_flat.proofs.Walking.{flattens_then, room_after, numbered_size}
 
@@ -34,7 +34,7 @@ signed_again : (positive : Bool) (number : Symbol → ℕ) → signed positive (
 signed_again true number = λ i s. number s
 signed_again false number = refl
 
-abbrev literal_scheme : Owner → ℕ → Literal → Scheme
+abbrev pub literal_scheme : Owner → ℕ → Literal → Scheme
 literal_scheme owner least l = record { positive = l.positive; owner = owner; first = least }
 
 abbrev literal_piece : Literal → WalkPiece
@@ -79,6 +79,23 @@ module _ (pairs : Numbering) (owner : Owner) (least : ℕ) where
 numbered_atoms_sizes : (n : Symbol → ℕ) (v : Bytes → Variable) (ls : List Literal) → terms.sizes (numbered_atoms n v ls) ≡ literals_size ls
 numbered_atoms_sizes n v [] = refl
 numbered_atoms_sizes n v (l ∷ ls) = λ i. numbered_size (signed l.positive n) v l.atom i + numbered_atoms_sizes n v ls i
+
+-- so many cells
+pub clause_cells : (pairs : Numbering) (owner : Owner) (least : ℕ) (a b : WalkState) (ls : List Literal)
+    → a.cells ≡ []
+    → Flattens pairs (clause_scheme owner least) a b (clause_piece ls)
+    → length b.cells ≡ 1 + literals_size ls
+clause_cells pairs owner least a b ls none walked =
+    let n : Symbol → ℕ = number_by pairs (clause_scheme owner least) (b.extra ++ []) in
+    let v : Bytes → Variable = λ x. owners_variable owner (place_in bytes_eq (b.names ++ []) x) in
+    omega (
+      arith,
+      ap length (walked.cells [] []),
+      ap length none,
+      length-append a.cells (cells_of (numbered_clause n v ls)),
+      length-cells_of_all (numbered_atoms n v ls),
+      numbered_atoms_sizes n v ls,
+    )
 
 module _ (pairs : Numbering) (owner : Owner) (least : ℕ) (b c : WalkState) (first : Cell) (ls : List Literal) (begun : b.cells ≡ first ∷ []) (walked : Flattens pairs (clause_scheme owner least) b c (literals_piece ls)) where
   -- the atoms, whatever is met later

@@ -11,6 +11,7 @@ pub mod ExtraNumbers
 pub mod FlattenLaws
 mod EntryRooms
 pub mod ClauseWalks
+mod ClauseRooms
 pub mod ClauseLaws
 pub mod VariableLaws
 pub mod RowLaws

@@ -1,16 +1,17 @@
 -- What the flat terms of two clauses stand for: each has its literals' atoms below one head.
-use Rattle.std.specs.Prelude.{◌≡◌, ℕ, ◌-◌, ◌^◌, true, List, [], ◌∷◌, ◌++◌, length, bytes_eq}
+use Rattle.std.specs.Prelude.{◌≡◌, ℕ, ◌+◌, ◌-◌, ◌^◌, ◌≤◌, true, List, [], ◌∷◌, ◌++◌, length, bytes_eq}
 use Rattle.si_defs.specs.Bytes.{Bytes}
 use Rattle.si_defs.specs.Terms as terms
 use Rattle.si_defs.specs.Symbols as symbols
 use Rattle.si_defs.specs.Symbols.{Numbering, IsNumbering, same_symbol}
-use Rattle.si_defs.specs.Clauses.{Literal}
+use Rattle.si_defs.specs.Clauses.{Literal, literals_size}
 use Rattle.si_defs.specs.Entries.{literals_symbols, literals_variables}
 use Rattle.si_flat.specs.declared.Cell.{Cell}
 use Rattle.si_flat.specs.declared.Owner.{Owner}
 use Rattle.si_flat.specs.Cells.{Symbol, Variable, query, entry, Term, Terms, StandsFor, cells_of, cells_of_all}
 use Rattle.si_flat.specs.Numbered.{number_in, signed, place_in, numbered}
 use Rattle.si_flat.specs.Flattened.{numbers_from, extra_numbers, unnumbered}
+use Rattle.si_flat.specs.Rooms.{Room}
 use Rattle.si_flat.specs.Flattening.{WalkPiece, owners_variable}
 use Rattle.si_flat.specs.declared.walk.Scheme.{Scheme}
 
@@ -59,6 +60,18 @@ abbrev pub FlattensClause : Numbering → Owner → List Literal → List Cell �
 FlattensClause pairs owner ls cells = (more : List symbols.Symbol)
     → StandsFor cells
     (flat_clause (pairs ++ extra_numbers (lacked_by pairs ls ++ more)) (owners_variable owner) ls)
+
+-- what a buffer of clauses shows
+pub record ClauseCells : Type 0 where
+  pub cells : List Cell
+  pub room : Room
+
+-- The room is enough for the clause's cells, of which one is its head's; for its variables, and for
+-- its symbols that the table lacks, each once.
+pub record IsEnoughForClause (pairs : Numbering) (ls : List Literal) (room : Room) : Type 0 where
+  pub cells : 1 + literals_size ls ≤ room.cells
+  pub names : length (terms.firsts bytes_eq (literals_variables ls)) ≤ room.names
+  pub symbols : length (lacked_by pairs ls) ≤ room.symbols
 
 -- ---- a walk over literals
 abbrev pub literals_piece : List Literal → WalkPiece

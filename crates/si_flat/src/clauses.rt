@@ -1,9 +1,10 @@
 // Clauses as flat terms.
-ghost use Rattle.std.specs.Prelude.{◌≡◌, [], IfOk, OnOk, map};
+ghost use Rattle.std.specs.Prelude.{◌≡◌, ◌+◌, [], IfOk, OnOk, OnErr, map, vec_capacity};
 ghost use Rattle.si_defs.specs.Clauses.{AreSoundLiterals, literals_size};
 ghost use Rattle.si_term.specs.Meaning.{literal_of};
-ghost use Rattle.si_flat.specs.Flattening.{MayMeet, Flattens, walk_state};
-ghost use Rattle.si_flat.specs.FlatClauses.{FlattensClause, FlattensClauses, clause_scheme, literals_piece, clause_piece};
+ghost use Rattle.si_flat.specs.Rooms.{IsNoLess};
+ghost use Rattle.si_flat.specs.Flattening.{MayMeet, Flattens, Fits, room_of, walk_state};
+ghost use Rattle.si_flat.specs.FlatClauses.{FlattensClause, FlattensClauses, IsEnoughForClause, clause_scheme, literals_piece, clause_piece};
 
 use crate::met::{FIRST_EXTRA, Met};
 use crate::walk::{Scheme, WrittenEntry, close, write_term};
@@ -70,25 +71,29 @@ pub fn flatten_clauses<'a>(
 
 /// Memory in which clauses are made flat one after the other, each as one term: the atoms of its
 /// literals in order below a head that is no symbol. It keeps what it grew to, so a call that needs
-/// no more takes no memory. Contracts see the cells.
+/// no more takes no memory. Contracts see the cells, and how much fits in that memory.
 #[derive(Drop)]
 pub struct ClauseBuffer<'a> {
     written: WrittenEntry<'a>,
 }
 
 impl<'a> Model for ClauseBuffer<'a> {
-    ghost use Rattle.std.specs.Prelude.{List};
-    ghost use Rattle.si_flat.specs.declared.Cell.{Cell};
+    ghost use Rattle.std.specs.Prelude.{vec_capacity};
+    ghost use Rattle.si_flat.specs.FlatClauses.{ClauseCells};
+    ghost use Rattle.si_flat.specs.Flattening.{room_of};
 
-    ghost Value = { List Cell };
+    ghost Value = { ClauseCells };
 
-    ghost view = { λ b. b.written.cells.items };
+    ghost view = { λ b. record {
+      cells = b.written.cells.items;
+      room = room_of b.written.met (vec_capacity b.written.cells);
+    } };
 }
 
 impl<'a> ClauseBuffer<'a> {
     /// An empty buffer. It takes no memory.
     pub fn new(alloc: Global) -> ClauseBuffer<'a>
-        ensures { result ≡ [] }
+        ensures { result.cells ≡ [] }
     {
         ClauseBuffer {
             written: WrittenEntry::new(alloc),
@@ -100,6 +105,11 @@ impl<'a> ClauseBuffer<'a> {
     /// order of their first occurrence. Symbols that the table lacks are numbered from
     /// `FIRST_EXTRA` on, so clauses of which at most one has such symbols are flat by one
     /// numbering.
+    ///
+    /// # Errors
+    ///
+    /// `AllocError` where there is no memory, but never where what the buffer grew to is enough for
+    /// the clause, as it is once the clause was filled in. The buffer is empty then.
     pub fn fill<T: SymTable>(
         &mut self,
         table: &T,
@@ -107,27 +117,61 @@ impl<'a> ClauseBuffer<'a> {
         literals: &'a [Literal],
     ) -> Result<(), AllocError>
         requires { AreSoundLiterals (map literal_of literals.now) }
-        ensures { OnOk result (FlattensClause (T.pairs table.now) owner
-            (map literal_of literals.now) self.new) }
+        ensures flat { OnOk result (FlattensClause (T.pairs table.now) owner
+            (map literal_of literals.now) self.new.cells) }
+        ensures err { OnErr result (self.new.cells ≡ []) }
+        ensures full { OnErr result (IsEnoughForClause (T.pairs table.now)
+            (map literal_of literals.now) self.old.room → ⊥) }
+        ensures enough { OnOk result (IsEnoughForClause (T.pairs table.now)
+            (map literal_of literals.now) self.new.room) }
+        ensures keeps { IsNoLess self.old.room self.new.room }
     {
-        let written = &mut self.written;
-        written.met.clear();
-        written.cells.clear();
+        match self.written.write_clause(table, owner, literals) {
+            Ok(()) => Ok(()),
+            Err(refused) => {
+                self.written.clear();
+                Err(refused)
+            }
+        }
+    }
+
+    /// The cells.
+    pub fn cells(&self) -> &[Cell]
+        ensures { result.now ≡ self.now.cells }
+    {
+        self.written.cells.as_slice()
+    }
+}
+
+impl<'a> WrittenEntry<'a> {
+    // Writes the cells of a clause, in place of what was written.
+    fn write_clause<T: SymTable>(
+        &mut self,
+        table: &T,
+        owner: Owner,
+        literals: &'a [Literal],
+    ) -> Result<(), AllocError>
+        requires { AreSoundLiterals (map literal_of literals.now) }
+        ensures flat { OnOk result (FlattensClause (T.pairs table.now) owner
+            (map literal_of literals.now) self.new.cells.items) }
+        ensures full { OnErr result (IsEnoughForClause (T.pairs table.now)
+            (map literal_of literals.now)
+            (room_of self.old.met (vec_capacity self.old.cells)) → ⊥) }
+        ensures enough { OnOk result (IsEnoughForClause (T.pairs table.now)
+            (map literal_of literals.now)
+            (room_of self.new.met (vec_capacity self.new.cells))) }
+        ensures keeps { IsNoLess (room_of self.old.met (vec_capacity self.old.cells))
+            (room_of self.new.met (vec_capacity self.new.cells)) }
+    {
+        self.clear();
         write_clause(
             table,
             owner,
             FIRST_EXTRA,
             literals,
-            &mut written.met,
-            &mut written.cells,
+            &mut self.met,
+            &mut self.cells,
         )
-    }
-
-    /// The cells.
-    pub fn cells(&self) -> &[Cell]
-        ensures { result.now ≡ self.now }
-    {
-        self.written.cells.as_slice()
     }
 }
 
@@ -143,9 +187,15 @@ fn write_clause<'a, T: SymTable>(
     requires empty { cells.old.items ≡ [] }
     requires room { MayMeet (clause_scheme owner first) met.old (literals_size
         (map literal_of literals.now)) }
-    ensures { OnOk result (Flattens (T.pairs table.now) (clause_scheme owner first)
+    ensures flat { OnOk result (Flattens (T.pairs table.now) (clause_scheme owner first)
         (walk_state met.old []) (walk_state met.new cells.new.items)
         (clause_piece (map literal_of literals.now))) }
+    ensures full { OnErr result (Fits (T.pairs table.now)
+        (room_of met.old (vec_capacity cells.old)) (walk_state met.old [])
+        (clause_piece (map literal_of literals.now))
+        (1 + literals_size (map literal_of literals.now)) → ⊥) }
+    ensures keeps { IsNoLess (room_of met.old (vec_capacity cells.old))
+        (room_of met.new (vec_capacity cells.new)) }
 {
     cells.push(Cell::App {
         sym: CLAUSE_HEAD,
@@ -168,9 +218,15 @@ fn write_literals<'a, T: SymTable>(
 ) -> Result<(), AllocError>
     requires room { MayMeet (clause_scheme owner first) met.old (literals_size
         (map literal_of literals.now)) }
-    ensures { OnOk result (Flattens (T.pairs table.now) (clause_scheme owner first)
+    ensures flat { OnOk result (Flattens (T.pairs table.now) (clause_scheme owner first)
         (walk_state met.old cells.old.items) (walk_state met.new cells.new.items)
         (literals_piece (map literal_of literals.now))) }
+    ensures full { OnErr result (Fits (T.pairs table.now)
+        (room_of met.old (vec_capacity cells.old)) (walk_state met.old cells.old.items)
+        (literals_piece (map literal_of literals.now))
+        (literals_size (map literal_of literals.now)) → ⊥) }
+    ensures keeps { IsNoLess (room_of met.old (vec_capacity cells.old))
+        (room_of met.new (vec_capacity cells.new)) }
 {
     for i in 0..literals.len() {
         let literal = &literals[i];

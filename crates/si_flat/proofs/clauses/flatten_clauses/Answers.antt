@@ -10,7 +10,7 @@ use Rattle.si_flat.proofs.clauses.flatten_clauses.Goals as goal
 
 pub write_clause-requires-2 : goal.write_clause-requires-2
 write_clause-requires-2 c =
-    let first = subst (λ ls. Flattens [] (clause_scheme Query 0) (walk_state c.new-met.result []) (walk_state c.write_clause.new.met c.write_clause.new.cells.items) (clause_piece (map literal_of ls))) c.as_slice.ensures c.in_ok-write_clause.ensures in
+    let first = subst (λ ls. Flattens [] (clause_scheme Query 0) (walk_state c.new-met.result []) (walk_state c.write_clause.new.met c.write_clause.new.cells.items) (clause_piece (map literal_of ls))) c.as_slice.ensures c.in_ok-write_clause.ensures.flat in
     let few = symbols_met_few (map literal_of c.args.c.now) (map literal_of c.args.d.now) c.requires.c c.requires.d (walk_state c.new-met.result []) (walk_state c.write_clause.new.met c.write_clause.new.cells.items) (walk_state c.forget_variables.new.self []) (walk_state c.forget_variables.new.self []) c.new-met.ensures.names c.new-met.ensures.extra refl first c.forget_variables.ensures.names c.forget_variables.ensures.extra refl in
     let size = ap (λ ls. literals_size (map literal_of ls)) c.as_slice-2.ensures in
     record {
@@ -40,13 +40,13 @@ written cs ds read next start between again end sound_c sound_d read_is next_is 
 
 pub from_vec-requires : goal.from_vec-requires
 from_vec-requires c =
-    (_, (written c.args.c.now c.args.d.now c.as_slice.result.now c.as_slice-2.result.now (walk_state c.new-met.result []) (walk_state c.write_clause.new.met c.write_clause.new.cells.items) (walk_state c.forget_variables.new.self []) (walk_state c.write_clause-2.new.met c.write_clause-2.new.cells.items) c.requires.c c.requires.d c.as_slice.ensures c.as_slice-2.ensures (λ i. record { names = c.new-met.ensures.names i; extra = c.new-met.ensures.extra i; cells = [] }) c.in_ok-write_clause.ensures (λ i. record { names = c.forget_variables.ensures.names i; extra = c.forget_variables.ensures.extra i; cells = [] }) c.in_ok-write_clause-2.ensures).first)
+    (_, (written c.args.c.now c.args.d.now c.as_slice.result.now c.as_slice-2.result.now (walk_state c.new-met.result []) (walk_state c.write_clause.new.met c.write_clause.new.cells.items) (walk_state c.forget_variables.new.self []) (walk_state c.write_clause-2.new.met c.write_clause-2.new.cells.items) c.requires.c c.requires.d c.as_slice.ensures c.as_slice-2.ensures (λ i. record { names = c.new-met.ensures.names i; extra = c.new-met.ensures.extra i; cells = [] }) c.in_ok-write_clause.ensures.flat (λ i. record { names = c.forget_variables.ensures.names i; extra = c.forget_variables.ensures.extra i; cells = [] }) c.in_ok-write_clause-2.ensures.flat).first)
 
 pub from_vec-requires-2 : goal.from_vec-requires-2
 from_vec-requires-2 c =
-    (_, (written c.args.c.now c.args.d.now c.as_slice.result.now c.as_slice-2.result.now (walk_state c.new-met.result []) (walk_state c.write_clause.new.met c.write_clause.new.cells.items) (walk_state c.forget_variables.new.self []) (walk_state c.write_clause-2.new.met c.write_clause-2.new.cells.items) c.requires.c c.requires.d c.as_slice.ensures c.as_slice-2.ensures (λ i. record { names = c.new-met.ensures.names i; extra = c.new-met.ensures.extra i; cells = [] }) c.in_ok-write_clause.ensures (λ i. record { names = c.forget_variables.ensures.names i; extra = c.forget_variables.ensures.extra i; cells = [] }) c.in_ok-write_clause-2.ensures).second)
+    (_, (written c.args.c.now c.args.d.now c.as_slice.result.now c.as_slice-2.result.now (walk_state c.new-met.result []) (walk_state c.write_clause.new.met c.write_clause.new.cells.items) (walk_state c.forget_variables.new.self []) (walk_state c.write_clause-2.new.met c.write_clause-2.new.cells.items) c.requires.c c.requires.d c.as_slice.ensures c.as_slice-2.ensures (λ i. record { names = c.new-met.ensures.names i; extra = c.new-met.ensures.extra i; cells = [] }) c.in_ok-write_clause.ensures.flat (λ i. record { names = c.forget_variables.ensures.names i; extra = c.forget_variables.ensures.extra i; cells = [] }) c.in_ok-write_clause-2.ensures.flat).second)
 
 pub returns : goal.returns
 returns c =
     subst (FlattensClauses (map literal_of c.args.c.now) (map literal_of c.args.d.now)) (λ i. (sym c.from_vec.ensures i, sym c.from_vec-2.ensures i))
-    (written c.args.c.now c.args.d.now c.as_slice.result.now c.as_slice-2.result.now (walk_state c.new-met.result []) (walk_state c.write_clause.new.met c.write_clause.new.cells.items) (walk_state c.forget_variables.new.self []) (walk_state c.write_clause-2.new.met c.write_clause-2.new.cells.items) c.requires.c c.requires.d c.as_slice.ensures c.as_slice-2.ensures (λ i. record { names = c.new-met.ensures.names i; extra = c.new-met.ensures.extra i; cells = [] }) c.in_ok-write_clause.ensures (λ i. record { names = c.forget_variables.ensures.names i; extra = c.forget_variables.ensures.extra i; cells = [] }) c.in_ok-write_clause-2.ensures)
+    (written c.args.c.now c.args.d.now c.as_slice.result.now c.as_slice-2.result.now (walk_state c.new-met.result []) (walk_state c.write_clause.new.met c.write_clause.new.cells.items) (walk_state c.forget_variables.new.self []) (walk_state c.write_clause-2.new.met c.write_clause-2.new.cells.items) c.requires.c c.requires.d c.as_slice.ensures c.as_slice-2.ensures (λ i. record { names = c.new-met.ensures.names i; extra = c.new-met.ensures.extra i; cells = [] }) c.in_ok-write_clause.ensures.flat (λ i. record { names = c.forget_variables.ensures.names i; extra = c.forget_variables.ensures.extra i; cells = [] }) c.in_ok-write_clause-2.ensures.flat)

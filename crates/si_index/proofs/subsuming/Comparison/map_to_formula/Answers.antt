@@ -19,17 +19,17 @@ least_map_of-requires-clause-c c =
     let numbers = numbering c.args.flat.now.signature.now in
     let formula = map literal_of c.args.self.now.formula.now in
     let ls = map literal_of c.args.literals.now in
-    let filled = subst (λ ks. FlattensClause numbers Query (map literal_of ks) c.fill.new.self) c.as_slice.ensures c.in_ok-fill.ensures in
-    let flat = clause_flat numbers formula Query ls c.fill.new.self c.requires.literals c.requires.known filled in
-    subst (AreOf Query) (sym c.cells.ensures) (is_of_query (formula_numbers numbers formula) ls c.fill.new.self flat)
+    let filled = subst (λ ks. FlattensClause numbers Query (map literal_of ks) c.fill.new.self.cells) c.as_slice.ensures c.in_ok-fill.ensures.flat in
+    let flat = clause_flat numbers formula Query ls c.fill.new.self.cells c.requires.literals c.requires.known filled in
+    subst (AreOf Query) (sym c.cells.ensures) (is_of_query (formula_numbers numbers formula) ls c.fill.new.self.cells flat)
 
 pub least_map_of-requires-clause-c_whole : goal.least_map_of-requires-clause-c_whole
 least_map_of-requires-clause-c_whole c =
     let numbers = numbering c.args.flat.now.signature.now in
     let formula = map literal_of c.args.self.now.formula.now in
     let ls = map literal_of c.args.literals.now in
-    let filled = subst (λ ks. FlattensClause numbers Query (map literal_of ks) c.fill.new.self) c.as_slice.ensures c.in_ok-fill.ensures in
-    let flat = clause_flat numbers formula Query ls c.fill.new.self c.requires.literals c.requires.known filled in
+    let filled = subst (λ ks. FlattensClause numbers Query (map literal_of ks) c.fill.new.self.cells) c.as_slice.ensures c.in_ok-fill.ensures.flat in
+    let flat = clause_flat numbers formula Query ls c.fill.new.self.cells c.requires.literals c.requires.known filled in
     subst IsWhole (sym c.cells.ensures) ((_, flat.stands))
 
 pub least_map_of-requires-clause-c_heads : goal.least_map_of-requires-clause-c_heads
@@ -37,9 +37,9 @@ least_map_of-requires-clause-c_heads c =
     let numbers = numbering c.args.flat.now.signature.now in
     let formula = map literal_of c.args.self.now.formula.now in
     let ls = map literal_of c.args.literals.now in
-    let filled = subst (λ ks. FlattensClause numbers Query (map literal_of ks) c.fill.new.self) c.as_slice.ensures c.in_ok-fill.ensures in
-    let flat = clause_flat numbers formula Query ls c.fill.new.self c.requires.literals c.requires.known filled in
-    subst HasHeads (sym c.cells.ensures) (has_heads (formula_numbers numbers formula) query ls c.fill.new.self flat)
+    let filled = subst (λ ks. FlattensClause numbers Query (map literal_of ks) c.fill.new.self.cells) c.as_slice.ensures c.in_ok-fill.ensures.flat in
+    let flat = clause_flat numbers formula Query ls c.fill.new.self.cells c.requires.literals c.requires.known filled in
+    subst HasHeads (sym c.cells.ensures) (has_heads (formula_numbers numbers formula) query ls c.fill.new.self.cells flat)
 
 pub least_map_of-requires-clause-d : goal.least_map_of-requires-clause-d
 least_map_of-requires-clause-d c =
@@ -67,9 +67,9 @@ returns c =
     let numbers = numbering c.args.flat.now.signature.now in
     let formula = map literal_of c.args.self.now.formula.now in
     let ls = map literal_of c.args.literals.now in
-    let filled = subst (λ ks. FlattensClause numbers Query (map literal_of ks) c.fill.new.self) c.as_slice.ensures c.in_ok-fill.ensures in
+    let filled = subst (λ ks. FlattensClause numbers Query (map literal_of ks) c.fill.new.self.cells) c.as_slice.ensures c.in_ok-fill.ensures.flat in
     IfOk-weaker c.least_map_of.result (AnswersFlat c.cells.result.now c.args.flat.now.cells.now) _
     (λ answer told.
-    mapped_to numbers formula c.requires.flat.numbered ls c.requires.formula c.requires.literals c.requires.known c.args.flat.now.cells.now c.fill.new.self c.requires.flat.cells_are filled answer
+    mapped_to numbers formula c.requires.flat.numbered ls c.requires.formula c.requires.literals c.requires.known c.args.flat.now.cells.now c.fill.new.self.cells c.requires.flat.cells_are filled answer
     (subst (λ x. AnswersFlat x c.args.flat.now.cells.now answer) c.cells.ensures told))
     c.least_map_of.ensures

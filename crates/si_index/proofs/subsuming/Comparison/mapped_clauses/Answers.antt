@@ -34,7 +34,7 @@ try_slots-requires-clause-flat c =
     record {
       cells_are =
           subst (FlattensClause numbers (formula_owner c.args.self.now.direction) (map literal_of c.args.self.now.formula.now)) (sym c.cells.ensures)
-          (subst₂ (λ owner ls. FlattensClause numbers owner (map literal_of ls) c.fill.new.self) c.formula_owner.ensures c.as_slice-literals.ensures c.in_ok-fill.ensures);
+          (subst₂ (λ owner ls. FlattensClause numbers owner (map literal_of ls) c.fill.new.self.cells) c.formula_owner.ensures c.as_slice-literals.ensures c.in_ok-fill.ensures.flat);
       numbered = subst IsNumbering (sym c.signature-signature.ensures.numbers) c.signature-signature.ensures.numbering;
     }
 

@@ -134,3 +134,14 @@ abbrev pub WritesEntry : Numbering → Owner → entries.Entry → WrittenEntry 
 WritesEntry pairs owner e w =
     Flattens pairs (entry_scheme owner (is_positive e)) empty_walk (walk_state w.met w.cells.items)
     (term_piece (whole_of e))
+
+-- ---- a query's pattern
+abbrev pub WritesPattern : Numbering → clauses.Pattern → WalkState → Type 0
+WritesPattern pairs p w =
+    Flattens pairs (entry_scheme Query (is_positive (entries.pattern_entry p))) empty_walk w
+    (term_piece (whole_of (entries.pattern_entry p)))
+
+-- what was written is some pattern's
+abbrev pub IsWritten : WalkState → Type 0
+IsWritten w =
+    (pairs : Numbering) × (p : clauses.Pattern) × clauses.IsSoundPattern p × WritesPattern pairs p w

@@ -33,7 +33,7 @@ pub struct NamedQuery {
 
 impl WrittenEntry<'_> {
     // What was written, as a query.
-    fn into_query(self, alloc: Global) -> Result<FlatQuery, AllocError>
+    pub(crate) fn into_query(self, alloc: Global) -> Result<FlatQuery, AllocError>
         requires { IsWhole self.cells.items }
         ensures { IfOk result (λ q. (q.flat ≡ self.entry.cells.items)
             × (map symbol_of q.extra ≡ met_extra self.entry.met)) }

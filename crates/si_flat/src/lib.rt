@@ -16,18 +16,20 @@ mod flatten;
 mod met;
 mod names;
 mod walk;
+mod writer;
 
 pub use bindings::{Bindings, Pair, Pairs, Split};
 pub use clauses::{ClauseBuffer, flatten_clauses};
 pub use flatten::{
     EntryBuffer, FlatQuery, NamedQuery, flatten_entry, flatten_pattern, flatten_with_names,
 };
-pub use met::FIRST_EXTRA;
+pub use met::{FIRST_EXTRA, with_sign};
 use si_term::list::Items;
 use smallvec::SmallVec;
 use std::alloc::{AllocError, Global};
 use std::default::MadeWith;
 use std::marker::Model;
+pub use writer::QueryWriter;
 
 /// A map of literals: for each literal of a clause in order the number, from 1, of its image.
 pub type LitMap = Items<u32>;

@@ -111,7 +111,7 @@ impl<'a> Met<'a> {
 
     // The number of a variable.
     pub(crate) fn variable(&mut self, name: &'a [u8]) -> Result<u32, AllocError>
-        requires { length (met_names self.old) < MOST_OCCURRENCES }
+        requires { length (met_names self.old) ≤ MOST_OCCURRENCES }
         ensures names { OnOk result (met_names self.new
             ≡ insert_all bytes_eq (met_names self.old) (name.now ∷ [])) }
         ensures extra { OnOk result (met_extra self.new ≡ met_extra self.old) }
@@ -181,8 +181,8 @@ impl<'a> Met<'a> {
     }
 }
 
-// The number of a symbol in a literal: that of a negative literal's predicate is one above.
-fn with_sign(number: u32, positive: bool, side: Side) -> u32
+/// The number of a symbol in a literal: that of a negative literal's predicate is one above.
+pub fn with_sign(number: u32, positive: bool, side: Side) -> u32
     requires { number < 2 ^ 32 - 1 }
     ensures { result ≡ cond positive number (one_above side number) }
 {

@@ -16,7 +16,7 @@ use si_term::{Entry, SymTable, Term};
 use std::alloc::{AllocError, Global};
 
 // Room for so many cells is made at once: most entries of a prover's clauses have no more.
-const FEW_CELLS: usize = 16;
+pub(crate) const FEW_CELLS: usize = 16;
 
 /// What the numbers of symbols and the kind of variables go by.
 #[derive(Clone, Copy)]
@@ -39,6 +39,7 @@ impl<'a> WrittenEntry<'a> {
     // Nothing was met or written.
     pub(crate) fn new(alloc: Global) -> WrittenEntry<'a>
         ensures names { met_names result.met ≡ [] }
+        ensures extra { met_extra result.met ≡ [] }
         ensures cells { result.cells.items ≡ [] }
     {
         WrittenEntry {
@@ -99,7 +100,7 @@ fn is_positive(entry: Entry<'_>) -> bool
 
 impl Owner {
     // The cell of a variable.
-    fn cell(self, number: u32) -> Cell
+    pub(crate) fn cell(self, number: u32) -> Cell
         ensures { result ≡ variable_cell (owners_variable self number) }
     {
         match self {

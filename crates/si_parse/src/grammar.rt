@@ -21,7 +21,7 @@ mod terms;
 pub use clauses::clause;
 pub use formulas::formula;
 pub use includes::{Selection, include};
-pub use literals::literal;
+pub use literals::{literal, sign};
 pub use names::{file, name};
 pub use terms::term;
 
@@ -30,7 +30,7 @@ pub use terms::term;
 pub type Parsed<'t, 'b, T> = Option<(T, &'t [Lexeme<'b>])>;
 
 /// The tokens after a mark, if it stands in front of them.
-fn mark_at<'t, 'b>(tokens: &'t [Lexeme<'b>], c: u8) -> Option<&'t [Lexeme<'b>]>
+pub fn mark_at<'t, 'b>(tokens: &'t [Lexeme<'b>], c: u8) -> Option<&'t [Lexeme<'b>]>
     ensures { Passes (IsMark c) tokens.now result }
 {
     match tokens {

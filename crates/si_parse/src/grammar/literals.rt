@@ -138,7 +138,7 @@ fn sign_follows(tokens: &[Lexeme]) -> bool
 }
 
 /// The sign of an equation at the front: `=`, or `!=` for its negation.
-fn sign<'t, 'b>(tokens: &'t [Lexeme<'b>]) -> Parsed<'t, 'b, bool>
+pub fn sign<'t, 'b>(tokens: &'t [Lexeme<'b>]) -> Parsed<'t, 'b, bool>
     ensures { Reads (λ b. b) IsSign Anything tokens.now result }
 {
     match tokens {

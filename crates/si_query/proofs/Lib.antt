@@ -1,0 +1,5 @@
+mod ReaderLaws
+mod TermLaws
+mod ArgumentLaws
+mod LiteralLaws
+mod WholeLaws

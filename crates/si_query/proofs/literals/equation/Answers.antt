@@ -1,0 +1,65 @@
+use Rattle.std.proofs.Common.{true, [], ◌∷◌, ap, subst, ◌∙◌, arith, length, length-append}
+use Rattle.si_defs.specs.Terms as terms
+use Rattle.si_defs.specs.Grammar.{equality}
+use Rattle.si_defs.specs.declared.SymKind.TheVariants.{Equal}
+use Rattle.si_defs.specs.declared.Side.TheVariants.{Predicate}
+use Rattle.si_parse.specs.GrammarRules.{equation}
+use Rattle.si_parse.proofs.ParseReads.{left_shorter}
+use Rattle.si_parse.proofs.GrammarLiterals.{statement_sides}
+use Rattle.si_flat.specs.declared.Cell.TheVariants.{Query}
+use Rattle.si_flat.specs.declared.Owner.TheVariants as owner
+use Rattle.si_flat.specs.Flattening.{Flattens, entry_scheme, term_piece}
+use Rattle.si_query.proofs.ReaderLaws.{IsOpened, behind_place, closed_predicate, flattens_two}
+use Rattle.si_query.proofs.TermLaws.{found}
+use Rattle.si_query.proofs.literals.equation.Goals as goal
+
+pub close-requires-clause-inside : goal.close-requires-clause-inside
+close-requires-clause-inside g c =
+    let pairs = g.T.SymTable.pairs c.args.table.now in
+    let h = found _ c.in_ok-behind.ensures c.in-Some.is in
+    let k = found _ c.in_ok-rest.ensures c.in-Some-2.is in
+    let opened : IsOpened c.in_ok-at.at (Query 0) c.args.writer.now c.open.new.self = record {
+      names = c.in_ok-at.ensures.names;
+      extra = c.in_ok-at.ensures.extra;
+      cells = c.in_ok-at.ensures.cells;
+      place = c.in_ok-at.ensures.place;
+    } in
+    behind_place pairs c.in_ok-at.at (Query 0) c.args.writer.now c.open.new.self c.term-2.new.writer opened (terms.row (h.term ∷ k.term ∷ [])) true
+    (flattens_two pairs true h.term k.term c.open.new.self c.term.new.writer c.term-2.new.writer (h.flat true) (k.flat true))
+
+pub close-requires-clause-short : goal.close-requires-clause-short
+close-requires-clause-short g c =
+    let h = found _ c.in_ok-behind.ensures c.in-Some.is in
+    let k = found _ c.in_ok-rest.ensures c.in-Some-2.is in
+    omega (
+      arith,
+      h.spends.cells,
+      k.spends.cells,
+      left_shorter c.in-Some.behind.now c.in-Some-sign.next.now c.in-Some-sign.ensures,
+      ap length c.in_ok-at.ensures.cells,
+      length-append c.args.writer.now.cells (Query 0 ∷ []),
+      c.requires.cells,
+    )
+
+pub returns-then-close : goal.returns-then-close
+returns-then-close g c =
+    let pairs = g.T.SymTable.pairs c.args.table.now in
+    let h = found _ c.in_ok-behind.ensures c.in-Some.is in
+    let k = found _ c.in_ok-rest.ensures c.in-Some-2.is in
+    let opened : IsOpened c.in_ok-at.at (Query 0) c.args.writer.now c.open.new.self = record {
+      names = c.in_ok-at.ensures.names;
+      extra = c.in_ok-at.ensures.extra;
+      cells = c.in_ok-at.ensures.cells;
+      place = c.in_ok-at.ensures.place;
+    } in
+    let closed = c.close.ensures c.if-close.true in
+    let p = c.is_positive.result in
+    record {
+      atom = equation h.term k.term;
+      read = statement_sides h.read c.in-Some-sign.ensures k.read;
+      flat =
+          subst (λ positive. Flattens pairs (entry_scheme owner.Query positive) c.args.writer.now c.close.new.writer (term_piece (equation h.term k.term))) c.is_positive.ensures
+          (closed_predicate pairs c.in_ok-at.at (Query 0) c.args.writer.now c.open.new.self c.term-2.new.writer opened (terms.row (h.term ∷ k.term ∷ [])) _ equality p c.close.new.writer
+          (ap (λ x. record { kind = Equal; text = x; side = Predicate; arity = 2 }) (c.in_ok-from_bytes.ensures ∙ c.as_slice.ensures)) closed
+          (flattens_two pairs p h.term k.term c.open.new.self c.term.new.writer c.term-2.new.writer (h.flat p) (k.flat p)));
+    }

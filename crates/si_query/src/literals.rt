@@ -1,0 +1,181 @@
+// Literals at the front of tokens, whose cells are written as they are read.
+ghost use Rattle.std.specs.Prelude.{◌≡◌, ◌&&◌, IfOk, IfSome, not, true};
+ghost use Rattle.si_query.specs.Reading.{HasRoom, ReadsAtom, ReadsLiteral, ReadsNegated, ReadsStatement};
+
+use crate::terms::{applied, close, head_kind, term};
+use si_defs::{Side, SymKind, TokenKind};
+use si_flat::QueryWriter;
+use si_lex::Lexeme;
+use si_parse::grammar::{mark_at, sign};
+use si_term::{Sym, SymTable, Text};
+use std::alloc::{AllocError, Global};
+
+/// The tokens after the literal at the front, whose cells are written.
+pub(crate) fn literal<'t, 'b, T: SymTable>(
+    alloc: Global,
+    table: &T,
+    tokens: &'t [Lexeme<'b>],
+    writer: &mut QueryWriter<'b>,
+) -> Result<Option<&'t [Lexeme<'b>]>, AllocError>
+    requires { HasRoom 1 tokens.now writer.old }
+    ensures { IfOk result (λ read. IfSome read (λ rest. ReadsLiteral (T.pairs table.now) tokens.now
+        writer.old writer.new rest.now)) }
+{
+    match mark_at(tokens, b'~') {
+        Some(behind) => negated(alloc, table, behind, writer),
+        None => match statement(alloc, table, false, tokens, writer)? {
+            Some((_, rest)) => Ok(Some(rest)),
+            None => Ok(None),
+        },
+    }
+}
+
+/// The tokens after the atom that stands after a tilde, bare or in round brackets.
+fn negated<'t, 'b, T: SymTable>(
+    alloc: Global,
+    table: &T,
+    tokens: &'t [Lexeme<'b>],
+    writer: &mut QueryWriter<'b>,
+) -> Result<Option<&'t [Lexeme<'b>]>, AllocError>
+    requires { HasRoom 1 tokens.now writer.old }
+    ensures { IfOk result (λ read. IfSome read (λ rest. ReadsNegated (T.pairs table.now) tokens.now
+        writer.old writer.new rest.now)) }
+{
+    let Some(inside) = mark_at(tokens, b'(') else {
+        return atom(alloc, table, tokens, writer);
+    };
+    match atom(alloc, table, inside, writer)? {
+        Some(behind) => Ok(mark_at(behind, b')')),
+        None => Ok(None),
+    }
+}
+
+/// The tokens after the atom of a negative literal: a predicate, or two terms with `=` between
+/// them.
+fn atom<'t, 'b, T: SymTable>(
+    alloc: Global,
+    table: &T,
+    tokens: &'t [Lexeme<'b>],
+    writer: &mut QueryWriter<'b>,
+) -> Result<Option<&'t [Lexeme<'b>]>, AllocError>
+    requires { HasRoom 1 tokens.now writer.old }
+    ensures { IfOk result (λ read. IfSome read (λ rest. ReadsAtom (T.pairs table.now) tokens.now
+        writer.old writer.new rest.now)) }
+{
+    let Some((equal, rest)) = statement(alloc, table, true, tokens, writer)? else {
+        return Ok(None);
+    };
+    if equal { Ok(Some(rest)) } else { Ok(None) }
+}
+
+/// The literal without a tilde at the front: whether it is no inequality, and the tokens after it.
+/// The sign of an equation stands in no term, so it tells beforehand which of the two this is.
+fn statement<'t, 'b, T: SymTable>(
+    alloc: Global,
+    table: &T,
+    denied: bool,
+    tokens: &'t [Lexeme<'b>],
+    writer: &mut QueryWriter<'b>,
+) -> Result<Option<(bool, &'t [Lexeme<'b>])>, AllocError>
+    requires { HasRoom 1 tokens.now writer.old }
+    ensures { IfOk result (λ read. IfSome read (λ r. ReadsStatement (T.pairs table.now) r.0
+        (r.0 && not denied) tokens.now writer.old writer.new r.1.now)) }
+{
+    if has_sign(tokens) {
+        return equation(alloc, table, denied, tokens, writer);
+    }
+    match predicate(alloc, table, !denied, tokens, writer)? {
+        Some(rest) => Ok(Some((true, rest))),
+        None => Ok(None),
+    }
+}
+
+/// Whether a token is the sign of an equation, or of its negation.
+fn has_sign(tokens: &[Lexeme<'_>]) -> bool {
+    for token in tokens {
+        if token.kind == TokenKind::NotEqual || token.is_mark(b'=') {
+            return true;
+        }
+    }
+    false
+}
+
+/// Two terms with a sign between them, and the tokens after them.
+fn equation<'t, 'b, T: SymTable>(
+    alloc: Global,
+    table: &T,
+    denied: bool,
+    tokens: &'t [Lexeme<'b>],
+    writer: &mut QueryWriter<'b>,
+) -> Result<Option<(bool, &'t [Lexeme<'b>])>, AllocError>
+    requires { HasRoom 1 tokens.now writer.old }
+    ensures { IfOk result (λ read. IfSome read (λ r. ReadsStatement (T.pairs table.now) r.0
+        (r.0 && not denied) tokens.now writer.old writer.new r.1.now)) }
+{
+    let at = writer.open()?;
+    let Some(behind) = term(alloc, table, tokens, writer)? else {
+        return Ok(None);
+    };
+    let Some((equal, next)) = sign(behind) else {
+        return Ok(None);
+    };
+    let Some(rest) = term(alloc, table, next, writer)? else {
+        return Ok(None);
+    };
+    let symbol = Sym {
+        text: Text::from_bytes(alloc, b"=".as_slice())?,
+        arity: 2,
+        kind: SymKind::Equal,
+        side: Side::Predicate,
+    };
+    if close(table, &symbol, is_positive(equal, denied), at, writer) {
+        Ok(Some((equal, rest)))
+    } else {
+        Ok(None)
+    }
+}
+
+/// Whether a literal is positive that is no inequality, or is one, and is denied or isn't.
+fn is_positive(equal: bool, denied: bool) -> bool
+    ensures { result ≡ (equal && not denied) }
+{
+    equal && !denied
+}
+
+/// A predicate with its arguments, and the tokens after it, if no sign of an equation stands there.
+fn predicate<'t, 'b, T: SymTable>(
+    alloc: Global,
+    table: &T,
+    positive: bool,
+    tokens: &'t [Lexeme<'b>],
+    writer: &mut QueryWriter<'b>,
+) -> Result<Option<&'t [Lexeme<'b>]>, AllocError>
+    requires { HasRoom 1 tokens.now writer.old }
+    ensures { IfOk result (λ read. IfSome read (λ rest. ReadsStatement (T.pairs table.now) true
+        positive tokens.now writer.old writer.new rest.now)) }
+{
+    let [head, behind @ ..] = tokens else {
+        return Ok(None);
+    };
+    let Some(kind) = head_kind(head.kind) else {
+        return Ok(None);
+    };
+    let at = writer.open()?;
+    let Some((arity, rest)) = applied(alloc, table, behind, writer)? else {
+        return Ok(None);
+    };
+    if sign(rest).is_some() {
+        return Ok(None);
+    }
+    let symbol = Sym {
+        text: head.text(alloc)?,
+        arity,
+        kind,
+        side: Side::Predicate,
+    };
+    if close(table, &symbol, positive, at, writer) {
+        Ok(Some(rest))
+    } else {
+        Ok(None)
+    }
+}

@@ -1,0 +1,186 @@
+// Terms at the front of tokens, whose cells are written as they are read.
+ghost use Rattle.std.specs.Prelude.{◌<◌, ◌-◌, ◌^◌, IfOk, IfSome, IsTrue, length};
+ghost use Rattle.si_defs.specs.declared.TokenKind.{TokenKind};
+ghost use Rattle.si_lex.specs.Lexemes.{token_of};
+ghost use Rattle.si_term.specs.Terms.{symbol_of};
+ghost use Rattle.si_query.specs.Reading.{HasRoom, IsClosed, IsHeadKind, ReadsApplied, ReadsArguments, ReadsHeaded, ReadsTerm, WritesConstant};
+
+use si_defs::{Side, SymKind, TokenKind};
+use si_flat::{QueryWriter, with_sign};
+use si_lex::Lexeme;
+use si_parse::grammar::mark_at;
+use si_term::{Sym, SymTable};
+use std::alloc::{AllocError, Global};
+
+/// The tokens after the term at the front, whatever stands there. The term's cells are written.
+#[cycle(reading)]
+pub(crate) fn term<'t, 'b, T: SymTable>(
+    alloc: Global,
+    table: &T,
+    tokens: &'t [Lexeme<'b>],
+    writer: &mut QueryWriter<'b>,
+) -> Result<Option<&'t [Lexeme<'b>]>, AllocError>
+    requires { HasRoom 0 tokens.now writer.old }
+    ensures { IfOk result (λ read. IfSome read (λ rest.
+        ReadsTerm (T.pairs table.now) tokens.now writer.old writer.new rest.now)) }
+{
+    match tokens {
+        [first, rest @ ..] => match first.kind {
+            TokenKind::Upper => {
+                writer.variable(first.spelling)?;
+                Ok(Some(rest))
+            }
+            TokenKind::Int => constant(alloc, table, SymKind::Number, first, rest, writer),
+            TokenKind::Double => constant(alloc, table, SymKind::Distinct, first, rest, writer),
+            TokenKind::Lower => application(alloc, table, SymKind::Word, first, rest, writer),
+            TokenKind::Single => application(alloc, table, SymKind::Word, first, rest, writer),
+            TokenKind::Dollar => application(alloc, table, SymKind::Dollar, first, rest, writer),
+            TokenKind::NotEqual | TokenKind::Mark => Ok(None),
+        },
+        [] => Ok(None),
+    }
+}
+
+/// A number or a distinct object, by its token, and the tokens after it.
+fn constant<'t, 'b, T: SymTable>(
+    alloc: Global,
+    table: &T,
+    kind: SymKind,
+    token: &Lexeme<'b>,
+    rest: &'t [Lexeme<'b>],
+    writer: &mut QueryWriter<'b>,
+) -> Result<Option<&'t [Lexeme<'b>]>, AllocError>
+    requires { HasRoom 1 rest.now writer.old }
+    ensures { IfOk result (λ read. IfSome read (λ left. WritesConstant (T.pairs table.now) kind
+        (token_of token.now).text rest.now writer.old writer.new left.now)) }
+{
+    let at = writer.open()?;
+    let symbol = Sym {
+        text: token.text(alloc)?,
+        arity: 0,
+        kind,
+        side: Side::Function,
+    };
+    if close(table, &symbol, true, at, writer) {
+        Ok(Some(rest))
+    } else {
+        Ok(None)
+    }
+}
+
+/// A head with the arguments that stand after it, if any do.
+#[cycle(reading)]
+fn application<'t, 'b, T: SymTable>(
+    alloc: Global,
+    table: &T,
+    kind: SymKind,
+    head: &Lexeme<'b>,
+    tokens: &'t [Lexeme<'b>],
+    writer: &mut QueryWriter<'b>,
+) -> Result<Option<&'t [Lexeme<'b>]>, AllocError>
+    requires { HasRoom 1 tokens.now writer.old }
+    ensures { IfOk result (λ read. IfSome read (λ rest. ReadsHeaded (T.pairs table.now) kind
+        (token_of head.now).text tokens.now writer.old writer.new rest.now)) }
+{
+    let at = writer.open()?;
+    let Some((arity, rest)) = applied(alloc, table, tokens, writer)? else {
+        return Ok(None);
+    };
+    let symbol = Sym {
+        text: head.text(alloc)?,
+        arity,
+        kind,
+        side: Side::Function,
+    };
+    if close(table, &symbol, true, at, writer) {
+        Ok(Some(rest))
+    } else {
+        Ok(None)
+    }
+}
+
+/// How many arguments stand after a head, and the tokens after them. None are there without a
+/// bracket.
+#[cycle(reading)]
+pub(crate) fn applied<'t, 'b, T: SymTable>(
+    alloc: Global,
+    table: &T,
+    tokens: &'t [Lexeme<'b>],
+    writer: &mut QueryWriter<'b>,
+) -> Result<Option<(u32, &'t [Lexeme<'b>])>, AllocError>
+    requires { HasRoom 0 tokens.now writer.old }
+    ensures { IfOk result (λ read. IfSome read (λ r. ReadsApplied (T.pairs table.now) tokens.now
+        writer.old writer.new r.0 r.1.now)) }
+{
+    let Some(inside) = mark_at(tokens, b'(') else {
+        return Ok(Some((0, tokens)));
+    };
+    let Some((count, behind)) = arguments(alloc, table, inside, writer)? else {
+        return Ok(None);
+    };
+    match mark_at(behind, b')') {
+        Some(rest) => Ok(Some((count, rest))),
+        None => Ok(None),
+    }
+}
+
+/// How many terms with commas between them stand at the front, and the tokens after them.
+#[cycle(reading)]
+fn arguments<'t, 'b, T: SymTable>(
+    alloc: Global,
+    table: &T,
+    tokens: &'t [Lexeme<'b>],
+    writer: &mut QueryWriter<'b>,
+) -> Result<Option<(u32, &'t [Lexeme<'b>])>, AllocError>
+    requires { HasRoom 0 tokens.now writer.old }
+    ensures { IfOk result (λ read. IfSome read (λ r. ReadsArguments (T.pairs table.now) tokens.now
+        writer.old writer.new r.0 r.1.now)) }
+{
+    let Some(first) = term(alloc, table, tokens, writer)? else {
+        return Ok(None);
+    };
+    let mut left = first;
+    let mut count: u32 = 1;
+    while let Some(rest) = mark_at(left, b',') {
+        let Some(behind) = term(alloc, table, rest, writer)? else {
+            return Ok(None);
+        };
+        left = behind;
+        count += 1;
+    }
+    Ok(Some((count, left)))
+}
+
+/// Puts the cell of a symbol before its arguments, which are all that was written after the place.
+/// `false` where the table lacks the symbol.
+pub(crate) fn close<T: SymTable>(
+    table: &T,
+    symbol: &Sym,
+    positive: bool,
+    at: usize,
+    writer: &mut QueryWriter<'_>,
+) -> bool
+    requires inside { at < length writer.old.cells }
+    requires short { length writer.old.cells - at < 2 ^ 32 }
+    ensures { IsTrue result → IsClosed (T.pairs table.now) (symbol_of symbol.now) positive at
+        writer.old writer.new }
+{
+    let Some(number) = table.id_of(symbol) else {
+        return false;
+    };
+    let signed = with_sign(number, positive, symbol.side);
+    writer.close(at, signed, symbol.arity);
+    true
+}
+
+/// The kind of the symbol that a token is as a head, before arguments or alone.
+pub(crate) fn head_kind(kind: TokenKind) -> Option<SymKind>
+    ensures { IfSome result (IsHeadKind kind) }
+{
+    match kind {
+        TokenKind::Lower => Some(SymKind::Word),
+        TokenKind::Single => Some(SymKind::Word),
+        TokenKind::Dollar => Some(SymKind::Dollar),
+        _ => None,
+    }
+}

@@ -14,7 +14,7 @@ use Rattle.si_term.specs.declared.clause.Literal as program
 use Rattle.si_term.specs.declared.term.Term as program_term
 use Rattle.si_lex.specs.Lexemes.{tokens_of}
 use Rattle.si_lex.specs.Lexing.{IsLexing}
-use Rattle.si_parse.specs.Parsing.{NoBracket, NoSign, Reads}
+use Rattle.si_parse.specs.Parsing.{NoBracket, NoSign, Reads, ReadsTokens}
 use Rattle.si_parse.proofs.ParseWhole.{whole_means, whole_only, whole_none}
 use Rattle.si_parse.specs.Reading.{IsOfKind, ReadsPattern, IsWholePattern, ReadsWhole}
 use Rattle.si_lex.specs.declared.lexeme.Lexeme.{Lexeme}
@@ -25,17 +25,17 @@ use Rattle.si_parse.specs.declared.pattern.PatternKind.TheVariants as kind
 
 -- ---- tokens
 -- a literal with nothing left is what all the tokens spell
-pub literal_whole : (tokens : List Lexeme) (l : program.Literal) (r : Bor (List Lexeme)) → r.now ≡ [] → Reads literal_of IsLiteral NoSign tokens (Some (l, r))
-    → IsSoundPattern (literal_pattern (literal_of l)) → IsWholePattern (tokens_of tokens) kind.Lit (literal_pattern (literal_of l))
+pub literal_whole : (tokens : List Lexeme) (l : clauses.Literal) (r : Bor (List Lexeme)) → r.now ≡ [] → ReadsTokens IsLiteral NoSign (tokens_of tokens) (Some (l, tokens_of r.now))
+    → IsSoundPattern (literal_pattern l) → IsWholePattern (tokens_of tokens) kind.Lit (literal_pattern l)
 literal_whole tokens l r none p sound =
     record {
       of_kind = tt;
-      spelled = whole_means literal_of tokens tt l r none p;
+      spelled = whole_means (λ (x : clauses.Literal). x) tokens tt l r none p;
       only = λ other k o. by other k o;
       sound = sound;
     } where
-      by : (other : clauses.Pattern) → IsOfKind kind.Lit other → IsPattern other (tokens_of tokens) → other ≡ literal_pattern (literal_of l)
-      by (literal_pattern m) k o = ap literal_pattern (whole_only literal_of tokens tt l r p m o)
+      by : (other : clauses.Pattern) → IsOfKind kind.Lit other → IsPattern other (tokens_of tokens) → other ≡ literal_pattern l
+      by (literal_pattern m) k o = ap literal_pattern (whole_only (λ (x : clauses.Literal). x) tokens tt l r p m o)
       by (term_pattern t) k o = absurd k
 
 -- where something is left, or nothing was found, the tokens spell no literal
@@ -45,17 +45,17 @@ literal_left tokens found p left (literal_pattern m) k o = whole_none literal_of
 literal_left tokens found p left (term_pattern t) k o = k
 
 -- the same of terms
-pub term_whole : (tokens : List Lexeme) (t : program_term.Term) (r : Bor (List Lexeme)) → r.now ≡ [] → Reads term_of IsTerm NoBracket tokens (Some (t, r))
-    → IsSoundPattern (term_pattern (term_of t)) → IsWholePattern (tokens_of tokens) kind.Term (term_pattern (term_of t))
+pub term_whole : (tokens : List Lexeme) (t : clauses.Term) (r : Bor (List Lexeme)) → r.now ≡ [] → ReadsTokens IsTerm NoBracket (tokens_of tokens) (Some (t, tokens_of r.now))
+    → IsSoundPattern (term_pattern t) → IsWholePattern (tokens_of tokens) kind.Term (term_pattern t)
 term_whole tokens t r none p sound =
     record {
       of_kind = tt;
-      spelled = whole_means term_of tokens tt t r none p;
+      spelled = whole_means (λ (x : clauses.Term). x) tokens tt t r none p;
       only = λ other k o. by other k o;
       sound = sound;
     } where
-      by : (other : clauses.Pattern) → IsOfKind kind.Term other → IsPattern other (tokens_of tokens) → other ≡ term_pattern (term_of t)
-      by (term_pattern m) k o = ap term_pattern (whole_only term_of tokens tt t r p m o)
+      by : (other : clauses.Pattern) → IsOfKind kind.Term other → IsPattern other (tokens_of tokens) → other ≡ term_pattern t
+      by (term_pattern m) k o = ap term_pattern (whole_only (λ (x : clauses.Term). x) tokens tt t r p m o)
       by (literal_pattern l) k o = absurd k
 
 pub term_left : (tokens : List Lexeme) (found : Option (program_term.Term × Bor (List Lexeme))) → Reads term_of IsTerm NoBracket tokens found

@@ -18,6 +18,6 @@ returns-then-not-is_empty c =
 
 pub returns : goal.returns
 returns c =
-    literal_whole c.args.tokens.now c.in-Some.literal c.in-Some.rest (is_empty c.in-Some.rest.now c.if-not-is_empty.ensures)
+    literal_whole c.args.tokens.now (literal_of c.in-Some.literal) c.in-Some.rest (is_empty c.in-Some.rest.now c.if-not-is_empty.ensures)
     (reads_some literal_of c.args.tokens.now c.in_ok-literal.ensures.read c.in-Some.is)
     (subst (IfFound (λ x. IsSoundPattern (literal_pattern (literal_of x)))) c.in-Some.is c.in_ok-literal.ensures.sound)

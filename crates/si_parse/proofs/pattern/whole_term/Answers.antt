@@ -18,6 +18,6 @@ returns-then-not-is_empty c =
 
 pub returns : goal.returns
 returns c =
-    term_whole c.args.tokens.now c.in-Some.term c.in-Some.rest (is_empty c.in-Some.rest.now c.if-not-is_empty.ensures)
+    term_whole c.args.tokens.now (term_of c.in-Some.term) c.in-Some.rest (is_empty c.in-Some.rest.now c.if-not-is_empty.ensures)
     (reads_some term_of c.args.tokens.now c.in_ok-term.ensures.read c.in-Some.is)
     (subst (IfFound (λ x. IsSoundPattern (term_pattern (term_of x)))) c.in-Some.is c.in_ok-term.ensures.sound)

@@ -1,5 +1,5 @@
 -- What a search counts.
-use Rattle.std.specs.Prelude.{◌≡◌, ℕ, ◌-◌, ◌^◌, min, List, [], length}
+use Rattle.std.specs.Prelude.{◌≡◌, ℕ, ◌+◌, ◌-◌, ◌^◌, ◌<◌, min, List, [], length}
 use Rattle.si_legal.specs.declared.Posting.{Posting}
 use Rattle.si_legal.specs.Engines.{AreAnswers}
 use Rattle.si_legal.specs.OpenNodes.{CountsOpen}
@@ -26,6 +26,19 @@ abbrev pub HasCountedBelow : Search → List ℕ → Counted → Type 0
 HasCountedBelow search tops c =
     (found : List Posting) × HasFoundBelow search tops [] found c.passed
     × (c.answers ≡ at_most (length found))
+
+-- the one was added to the other, whose numbers have a place
+pub record IsSumOf (one other sum : Counted) : Type 0 where
+  pub passed : one.passed < 2 ^ 64 → sum.passed ≡ at_most (one.passed + other.passed)
+  pub answers : one.answers < 2 ^ 64 → sum.answers ≡ at_most (one.answers + other.answers)
+
+-- those numbers were added
+abbrev pub CountsMore : Search → ℕ → Counted → Counted → Type 0
+CountsMore search top old new = (c : Counted) × HasCounted search top c × IsSumOf old c new
+
+abbrev pub CountsMoreBelow : Search → List ℕ → Counted → Counted → Type 0
+CountsMoreBelow search tops old new =
+    (c : Counted) × HasCountedBelow search tops c × IsSumOf old c new
 
 -- the open nodes of the tree, and the postings of the stored terms in the relation
 pub record CountsAnswers (tree : Tree Term) (relation : Relation) (query : List Cell)

@@ -1,9 +1,9 @@
 // The same search, which counts answers and copies no posting.
-ghost use Rattle.std.specs.Prelude.{◌≡◌, Some, IfOk, OnOk};
+ghost use Rattle.std.specs.Prelude.{◌≡◌, Some, OnOk};
 ghost use Rattle.si_tree.specs.Reading.{IsNode, AtNode, children_of};
-ghost use Rattle.si_descend.specs.Counting.{HasCounted, HasCountedBelow};
+ghost use Rattle.si_descend.specs.Counting.{CountsMore, CountsMoreBelow, IsSumOf};
 ghost use Rattle.si_fit.specs.Fitting.{AllowsSolving};
-ghost use Rattle.si_descend.specs.Searching.{IsReady, NotesTaken, HasComeTo};
+ghost use Rattle.si_descend.specs.Searching.{IsReady, NotesTaken, HasComeTo, IsOpenAt};
 
 use crate::attempts::{attempt, attempts_at};
 use crate::search::{Search, enter};
@@ -24,24 +24,43 @@ pub struct Counted {
     pub answers: u64,
 }
 
-/// Counts the open nodes below a node or at it, and the answers there.
+impl Counted {
+    /// Nothing.
+    pub(crate) const NONE: Counted = Counted {
+        passed: 0,
+        answers: 0,
+    };
+
+    // Adds what another part of the search passed and found.
+    #[inline(always)]
+    fn add(&mut self, more: Counted)
+        ensures { IsSumOf self.old more self.new }
+    {
+        self.passed = self.passed.saturating_add(more.passed);
+        self.answers = self.answers.saturating_add(more.answers);
+    }
+}
+
+/// Adds the open nodes below a node or at it, and the answers there, to what was counted before.
 ///
 /// Where memory runs out, bindings may be left after the old ones.
 #[cycle(counting)]
+#[inline(always)]
 pub(crate) fn count_at<'a>(
     search: &Search<'a>,
     node: NodeId,
     scratch: &mut Scratch,
     trail: &mut Trail<&'a [Cell]>,
     taken: &mut Taken,
-) -> Result<Counted, AllocError>
+    counted: &mut Counted,
+) -> Result<(), AllocError>
     requires node { IsNode search.now.tree.now node }
     requires ready { IsReady search.now }
     requires solving { AllowsSolving search.now.slots trail.old.pairs trail.old.slots }
     requires above { AtNode search.now.tree.now node
         (λ n. HasComeTo search.now n.parent trail.old.pairs) }
     requires taken { NotesTaken search.now.relation search.now.slots trail.old.pairs taken.old }
-    ensures counted { IfOk result (HasCounted search.now node) }
+    ensures counted { OnOk result (CountsMore search.now node counted.old counted.new) }
     ensures same { OnOk result (trail.new.pairs ≡ trail.old.pairs) }
     ensures slots { trail.new.slots ≡ trail.old.slots }
     ensures taken { OnOk result (taken.new ≡ taken.old) }
@@ -51,56 +70,76 @@ pub(crate) fn count_at<'a>(
     if !enter(search, node, scratch, trail, taken)? {
         trail.undo(mark);
         taken.undo(taken_mark);
-        return Ok(Counted {
-            passed: 0,
-            answers: 0,
-        });
+        return Ok(());
     }
-    if is_open_below(search, node, trail) {
-        trail.undo(mark);
-        taken.undo(taken_mark);
-        return Ok(count_all(search, node));
-    }
-    let own = search.tree.postings(node).len();
-    let below = count_children(search, node, scratch, trail, taken)?;
+    count_open(search, node, scratch, trail, taken, counted)?;
     trail.undo(mark);
     taken.undo(taken_mark);
-    Ok(Counted {
-        passed: 1 + below.passed,
-        answers: below.answers.saturating_add(own as u64),
-    })
+    Ok(())
+}
+
+/// Does the same at a node that is open. Its bindings are solved.
+#[cycle(counting)]
+#[inline(never)]
+fn count_open<'a>(
+    search: &Search<'a>,
+    node: NodeId,
+    scratch: &mut Scratch,
+    trail: &mut Trail<&'a [Cell]>,
+    taken: &mut Taken,
+    counted: &mut Counted,
+) -> Result<(), AllocError>
+    requires node { IsNode search.now.tree.now node }
+    requires ready { IsReady search.now }
+    requires solving { AllowsSolving search.now.slots trail.old.pairs trail.old.slots }
+    requires there { HasComeTo search.now (Some node) trail.old.pairs }
+    requires opened { IsOpenAt search.now node }
+    requires taken { NotesTaken search.now.relation search.now.slots trail.old.pairs taken.old }
+    ensures counted { OnOk result (CountsMore search.now node counted.old counted.new) }
+    ensures same { OnOk result (trail.new.pairs ≡ trail.old.pairs) }
+    ensures slots { trail.new.slots ≡ trail.old.slots }
+    ensures taken { OnOk result (taken.new ≡ taken.old) }
+{
+    if is_open_below(search, node, trail) {
+        counted.add(count_all(search, node));
+        return Ok(());
+    }
+    let own = search.tree.postings(node).len();
+    counted.add(Counted {
+        passed: 1,
+        answers: own as u64,
+    });
+    count_children(search, node, scratch, trail, taken, counted)
 }
 
 /// Does the same for all children of a node.
 #[cycle(counting)]
+#[inline(always)]
 fn count_children<'a>(
     search: &Search<'a>,
     node: NodeId,
     scratch: &mut Scratch,
     trail: &mut Trail<&'a [Cell]>,
     taken: &mut Taken,
-) -> Result<Counted, AllocError>
+    counted: &mut Counted,
+) -> Result<(), AllocError>
     requires node { IsNode search.now.tree.now node }
     requires ready { IsReady search.now }
     requires solving { AllowsSolving search.now.slots trail.old.pairs trail.old.slots }
     requires there { HasComeTo search.now (Some node) trail.old.pairs }
     requires taken { NotesTaken search.now.relation search.now.slots trail.old.pairs taken.old }
-    ensures counted { IfOk result (λ c. AtNode search.now.tree.now node (λ parent.
-        HasCountedBelow search.now (children_of parent.content) c)) }
+    ensures counted { OnOk result (AtNode search.now.tree.now node (λ parent.
+        CountsMoreBelow search.now (children_of parent.content) counted.old counted.new)) }
     ensures same { OnOk result (trail.new.pairs ≡ trail.old.pairs) }
     ensures slots { trail.new.slots ≡ trail.old.slots }
     ensures taken { OnOk result (taken.new ≡ taken.old) }
 {
     let attempts = attempts_at(search, node, trail);
-    let mut passed = 0;
-    let mut answers: u64 = 0;
     for place in 0..attempts.end {
         let Some(child) = attempt(search, node, attempts, place) else {
             continue;
         };
-        let more = count_at(search, child, scratch, trail, taken)?;
-        passed += more.passed;
-        answers = answers.saturating_add(more.answers);
+        count_at(search, child, scratch, trail, taken, counted)?;
     }
-    Ok(Counted { passed, answers })
+    Ok(())
 }

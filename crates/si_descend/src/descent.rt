@@ -121,13 +121,12 @@ fn count_below<'a>(
     trail.mark();
     let mut taken = Taken::none(alloc, search.relation, &search.slots)?;
     if !keeps_apart(search, trail, &mut taken) {
-        return Ok(Counted {
-            passed: 0,
-            answers: 0,
-        });
+        return Ok(Counted::NONE);
     }
     let mut scratch = Scratch::new(alloc);
-    count_at(search, node, &mut scratch, trail, &mut taken)
+    let mut counted = Counted::NONE;
+    count_at(search, node, &mut scratch, trail, &mut taken, &mut counted)?;
+    Ok(counted)
 }
 
 // Slots for the query, and for all numbers of the tree. A query has no more variables than cells.

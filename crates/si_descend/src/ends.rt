@@ -42,7 +42,8 @@ impl Ends {
     /// The most slots.
     const MOST: usize = 16;
 
-    fn new() -> Ends
+    /// None.
+    pub(crate) fn new() -> Ends
         ensures { result ≡ [] }
     {
         Ends {
@@ -71,36 +72,37 @@ impl Ends {
     }
 }
 
-/// The ends of the indicators that are open at a node, where these are few different variables that
-/// can still be anything. It looks at the first nodes down to a leaf, which bind all of them.
-#[inline(never)]
-pub(crate) fn ends_below<'a>(
+/// Adds the ends of the indicators that are open at a node, where these are few different variables
+/// that can still be anything. It looks at the first nodes down to a leaf, which bind all of them.
+#[inline(always)]
+pub(crate) fn add_ends_below<'a>(
     search: &Search<'a>,
     node: NodeId,
     trail: &Trail<&'a [Cell]>,
-) -> Option<Ends>
+    ends: &mut Ends,
+) -> bool
     requires node { IsNode search.now.tree.now node }
     requires ready { IsReady search.now }
     requires solving { AllowsSolving search.now.slots trail.now.pairs trail.now.slots }
     requires unfrozen { search.now.slots.freeze_query ≡ false }
-    ensures { IfSome result (λ ends. (ns : List ℕ) × AreAllOpen search.now.tree.now node ns
-        × AreEndsOf search.now.slots trail.now.pairs ns ends) }
+    requires none { ends.old ≡ [] }
+    ensures { IsTrue result → ((ns : List ℕ) × AreAllOpen search.now.tree.now node ns
+        × AreEndsOf search.now.slots trail.now.pairs ns ends.new) }
 {
-    let mut ends = Ends::new();
     let mut at = node;
     for _ in 0..Ends::MOST {
         if search.tree.split(at).is_none() {
-            return Some(ends);
+            return true;
         }
         let Some(child) = search.tree.children(at).first() else {
-            return None;
+            return false;
         };
         at = *child;
-        if !add_ends(trail, &search.slots, search.tree.bindings(at), &mut ends) {
-            return None;
+        if !add_ends(trail, &search.slots, search.tree.bindings(at), ends) {
+            return false;
         }
     }
-    None
+    false
 }
 
 // Adds the ends of all left sides, where they can be anything.
@@ -147,7 +149,7 @@ fn free_end<'a>(trail: &Trail<&'a [Cell]>, slots: &Slots, indicator: &'a [Cell])
 
 /// Whether what the entry's variables are bound to holds no bound variable and none of the ends. So
 /// no circle goes through an end, once it is bound to a term of such variables.
-#[inline(never)]
+#[inline(always)]
 pub(crate) fn are_clear(trail: &Trail<&[Cell]>, slots: &Slots, ends: &Ends) -> bool
     requires solving { AllowsSolving slots.now trail.now.pairs trail.now.slots }
     ensures clear { IsTrue result → AreClear slots.now trail.now.pairs ends.now }

@@ -4,7 +4,7 @@ ghost use Rattle.si_defs.specs.Substitutions.{Grows};
 ghost use Rattle.si_tree.specs.Reading.{IsNode, AtNode, children_of};
 ghost use Rattle.si_descend.specs.Descending.{Freezes, HasRoomFor, IsQuery};
 ghost use Rattle.si_fit.specs.Fitting.{AllowsSolving};
-ghost use Rattle.si_descend.specs.Searching.{IsReady, NotesTaken, HasComeTo, HasEntered, HasFound, HasFoundBelow};
+ghost use Rattle.si_descend.specs.Searching.{IsReady, NotesTaken, HasComeTo, IsOpenAt, HasEntered, HasFound, HasFoundBelow};
 
 use crate::attempts::{attempt, attempts_at};
 use crate::subtrees::{append_all, is_open_below};
@@ -98,6 +98,7 @@ pub(crate) fn enter<'a>(
 ///
 /// Where memory runs out, bindings and postings may be left after the old ones.
 #[cycle(searching)]
+#[inline(always)]
 pub(crate) fn visit<'a>(
     search: &Search<'a>,
     node: NodeId,
@@ -126,20 +127,47 @@ pub(crate) fn visit<'a>(
         taken.undo(taken_mark);
         return Ok(0);
     }
+    let count = visit_open(search, node, scratch, trail, taken, out)?;
+    trail.undo(mark);
+    taken.undo(taken_mark);
+    Ok(count)
+}
+
+/// Does the same at a node that is open. Its bindings are solved.
+#[cycle(searching)]
+#[inline(never)]
+fn visit_open<'a>(
+    search: &Search<'a>,
+    node: NodeId,
+    scratch: &mut Scratch,
+    trail: &mut Trail<&'a [Cell]>,
+    taken: &mut Taken,
+    out: &mut Vec<Posting>,
+) -> Result<u64, AllocError>
+    requires node { IsNode search.now.tree.now node }
+    requires ready { IsReady search.now }
+    requires solving { AllowsSolving search.now.slots trail.old.pairs trail.old.slots }
+    requires there { HasComeTo search.now (Some node) trail.old.pairs }
+    requires opened { IsOpenAt search.now node }
+    requires taken { NotesTaken search.now.relation search.now.slots trail.old.pairs taken.old }
+    ensures found { IfOk result (HasFound search.now node out.old.items out.new.items) }
+    ensures same { OnOk result (trail.new.pairs ≡ trail.old.pairs) }
+    ensures grows { Grows trail.old.pairs trail.new.pairs }
+    ensures out_grows { Grows out.old.items out.new.items }
+    ensures slots { trail.new.slots ≡ trail.old.slots }
+    ensures taken { OnOk result (taken.new ≡ taken.old) }
+{
     if is_open_below(search, node, trail) {
-        trail.undo(mark);
-        taken.undo(taken_mark);
         return append_all(search, node, out);
     }
     search.tree.postings(node).append_to(out)?;
     let below = visit_children(search, node, scratch, trail, taken, out)?;
-    trail.undo(mark);
-    taken.undo(taken_mark);
     Ok(1 + below)
 }
 
 /// Does the same for all children of a node.
 #[cycle(searching)]
+#[inline(always)]
 fn visit_children<'a>(
     search: &Search<'a>,
     node: NodeId,

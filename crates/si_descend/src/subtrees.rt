@@ -1,5 +1,5 @@
 // Whole subtrees that are open: they are walked, and no binding is solved.
-ghost use Rattle.std.specs.Prelude.{◌≡◌, IfOk, IsTrue};
+ghost use Rattle.std.specs.Prelude.{◌≡◌, IfOk, IsTrue, false};
 ghost use Rattle.si_defs.specs.Substitutions.{Grows};
 ghost use Rattle.si_tree.specs.Reading.{IsNode};
 ghost use Rattle.si_flat.specs.Cells.{ind};
@@ -11,7 +11,7 @@ ghost use Rattle.si_descend.specs.Searching.{AreOpenBelow, HasComeTo, HasFound, 
 ghost use Rattle.si_descend.specs.Subtrees.{has_symbol};
 
 use crate::counting::Counted;
-use crate::ends::{are_clear, ends_below};
+use crate::ends::{Ends, add_ends_below, are_clear};
 use crate::search::Search;
 use si_flat::Cell;
 use si_legal::Posting;
@@ -42,10 +42,26 @@ pub(crate) fn is_open_below<'a>(
     if search.slots.freeze_query || has_symbol(trail, &search.slots, split) {
         return false;
     }
-    match ends_below(search, node, trail) {
-        Some(ends) => are_clear(trail, &search.slots, &ends),
-        None => false,
+    has_clear_ends(search, node, trail)
+}
+
+// Whether the ends of the open indicators are known, and clear. It is a call of its own, so that
+// memory for ends is made ready only where they are looked for.
+#[inline(never)]
+fn has_clear_ends<'a>(search: &Search<'a>, node: NodeId, trail: &Trail<&'a [Cell]>) -> bool
+    requires node { IsNode search.now.tree.now node }
+    requires ready { IsReady search.now }
+    requires solving { AllowsSolving search.now.slots trail.now.pairs trail.now.slots }
+    requires there { HasComeTo search.now (Some node) trail.now.pairs }
+    requires opened { IsOpenAt search.now node }
+    requires unfrozen { search.now.slots.freeze_query ≡ false }
+    ensures { IsTrue result → AreOpenBelow search.now node }
+{
+    let mut ends = Ends::new();
+    if !add_ends_below(search, node, trail, &mut ends) {
+        return false;
     }
+    are_clear(trail, &search.slots, &ends)
 }
 
 // Whether an indicator is bound to a term that is no variable. It then ends at none, so no further

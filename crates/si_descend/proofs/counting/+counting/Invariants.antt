@@ -1,15 +1,18 @@
 use Rattle.std.proofs.Common.{◌≡◌, ◌+◌, ◌-◌, ◌*◌}
 use Rattle.si_legal.specs.Counts.{node_count}
-use Rattle.si_descend.specs.Counting.{HasCountedBelow}
+use Rattle.si_descend.specs.Counting.{CountsMoreBelow}
 use Rattle.si_descend.specs.Searching.{depth}
 use Rattle.si_descend.proofs.AttemptLaws.{IsUnderway}
 use Rattle.si_descend.proofs.counting.+counting.Given as goal
 
 abbrev pub decreases-count_at : goal.decreases-count_at
-decreases-count_at l = 2 * (node_count l.search.now.tree.now - depth l.search.now.tree.now l.node) + 1
+decreases-count_at l = 3 * (node_count l.search.now.tree.now - depth l.search.now.tree.now l.node) + 2
+
+abbrev pub decreases-count_open : goal.decreases-count_open
+decreases-count_open l = 3 * (node_count l.search.now.tree.now - depth l.search.now.tree.now l.node) + 1
 
 abbrev pub decreases-count_children : goal.decreases-count_children
-decreases-count_children l = 2 * (node_count l.search.now.tree.now - depth l.search.now.tree.now l.node)
+decreases-count_children l = 3 * (node_count l.search.now.tree.now - depth l.search.now.tree.now l.node)
 
 pub record Invariant (counted pairs slots taken : Type 0) : Type 0 where
   pub counted_so_far : counted
@@ -20,7 +23,7 @@ pub record Invariant (counted pairs slots taken : Type 0) : Type 0 where
 abbrev pub invariant-count_children-loop-place : goal.invariant-count_children-loop-place
 invariant-count_children-loop-place l =
     Invariant
-    (IsUnderway l.search l.node l.attempts l.place (λ tried. HasCountedBelow l.search tried (record { passed = l.passed; answers = l.answers })))
+    (IsUnderway l.search l.node l.attempts l.place (λ tried. CountsMoreBelow l.search tried l.fn.counted l.counted))
     (l.trail.pairs ≡ l.fn.trail.pairs)
     (l.trail.slots ≡ l.fn.trail.slots)
     (l.taken ≡ l.fn.taken)

@@ -1,5 +1,5 @@
 use Rattle.std.proofs.Common.{refl}
-use Rattle.si_descend.proofs.CountLaws.{counted_closed}
+use Rattle.si_descend.proofs.CountLaws.{counted_closed, more_alone}
 use Rattle.si_descend.proofs.RenameLaws.{untrue}
 use Rattle.si_descend.proofs.Starting.{comes_to, closed_above}
 use Rattle.si_descend.proofs.descent.count_below.Goals as goal
@@ -16,3 +16,6 @@ pub count_at-requires-clause-above : goal.count_at-requires-clause-above
 count_at-requires-clause-above c node has =
     comes_to c.args.search.now c.requires.ready c.args.node node has c.args.trail.now.pairs c.args.trail.now.slots c.requires.solving c.mark.ensures.distinct c.requires.above
     (c.keeps_apart.ensures.apart.0 c.if-not-keeps_apart.false)
+
+pub returns : goal.returns
+returns c = more_alone c.args.search.now c.requires.ready c.args.node c.requires.node.0 c.requires.node.1 c.args.node c.count_at.new.counted c.in_ok-count_at.ensures.counted

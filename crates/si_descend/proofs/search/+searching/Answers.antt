@@ -15,31 +15,29 @@ visit-returns-then-not-branch-clause-found t c =
     found_closed c.args.search.now c.requires.ready c.args.node c.requires.node.0 c.requires.node.1 c.args.out.now.items
     (subst (HasEntered c.args.search.now c.args.node c.enter.new.trail.pairs) c.if-not-branch.true c.in_ok-enter.ensures.enters)
 
-pub visit-returns-clause-found : goal.visit-returns-clause-found
-visit-returns-clause-found t c =
-    let entered = subst (HasEntered c.args.search.now c.args.node c.enter.new.trail.pairs) c.if-not-branch.false c.in_ok-enter.ensures.enters in
-    found_open c.args.search.now c.requires.ready c.args.node c.requires.node.0 c.requires.node.1 c.args.out.now.items c.append_to.new.others.items c.visit_children.new.out.items c.in_ok-below.below entered.1
-    (postings_appended c.args.search.now c.requires.ready c.args.node c.requires.node.0 c.requires.node.1 c.args.out.now.items c.append_to.new.others.items c.postings.result c.in_ok-append_to.ensures.ok (c.postings.ensures c.requires.node.0 c.requires.node.1))
-    (c.in_ok-below.ensures.found c.requires.node.0 c.requires.node.1)
-
 pub visit-returns-clause-grows : goal.visit-returns-clause-grows
 visit-returns-clause-grows t c = (
   [],
   c.undo-2.ensures.pairs
-      ∙ ap (take c.mark-mark.result) c.in_ok-below.ensures.same
+      ∙ ap (take c.mark-mark.result) c.in_ok-count.ensures.same
       ∙ ap (λ n. take n c.enter.new.trail.pairs) c.mark-mark.ensures.number
       ∙ front_of c.args.trail.now.pairs c.enter.new.trail.pairs c.enter.ensures.grows
       ∙ sym (append-nil c.args.trail.now.pairs),
 )
 
-pub visit-overflow_add-result : goal.visit-overflow_add-result
-visit-overflow_add-result t c =
-    let entered = subst (HasEntered c.args.search.now c.args.node c.enter.new.trail.pairs) c.if-not-branch.false c.in_ok-enter.ensures.enters in
+pub visit_open-returns-clause-found : goal.visit_open-returns-clause-found
+visit_open-returns-clause-found t c =
+    found_open c.args.search.now c.requires.ready c.args.node c.requires.node.0 c.requires.node.1 c.args.out.now.items c.append_to.new.others.items c.visit_children.new.out.items c.in_ok-below.below c.requires.opened
+    (postings_appended c.args.search.now c.requires.ready c.args.node c.requires.node.0 c.requires.node.1 c.args.out.now.items c.append_to.new.others.items c.postings.result c.in_ok-append_to.ensures.ok (c.postings.ensures c.requires.node.0 c.requires.node.1))
+    (c.in_ok-below.ensures.found c.requires.node.0 c.requires.node.1)
+
+pub visit_open-overflow_add-result : goal.visit_open-overflow_add-result
+visit_open-overflow_add-result t c =
     omega (
       arith,
       few_found c.args.search.now c.requires.ready c.args.node c.args.out.now.items c.visit_children.new.out.items (1 + c.in_ok-below.below)
           (
-          found_open c.args.search.now c.requires.ready c.args.node c.requires.node.0 c.requires.node.1 c.args.out.now.items c.append_to.new.others.items c.visit_children.new.out.items c.in_ok-below.below entered.1
+          found_open c.args.search.now c.requires.ready c.args.node c.requires.node.0 c.requires.node.1 c.args.out.now.items c.append_to.new.others.items c.visit_children.new.out.items c.in_ok-below.below c.requires.opened
           (postings_appended c.args.search.now c.requires.ready c.args.node c.requires.node.0 c.requires.node.1 c.args.out.now.items c.append_to.new.others.items c.postings.result c.in_ok-append_to.ensures.ok (c.postings.ensures c.requires.node.0 c.requires.node.1))
           (c.in_ok-below.ensures.found c.requires.node.0 c.requires.node.1)
           ),

@@ -5,10 +5,13 @@ use Rattle.si_descend.proofs.AttemptLaws.{IsUnderway}
 use Rattle.si_descend.proofs.search.+searching.Given as goal
 
 abbrev pub decreases-visit : goal.decreases-visit
-decreases-visit l = 2 * (node_count l.search.now.tree.now - depth l.search.now.tree.now l.node) + 1
+decreases-visit l = 3 * (node_count l.search.now.tree.now - depth l.search.now.tree.now l.node) + 2
+
+abbrev pub decreases-visit_open : goal.decreases-visit_open
+decreases-visit_open l = 3 * (node_count l.search.now.tree.now - depth l.search.now.tree.now l.node) + 1
 
 abbrev pub decreases-visit_children : goal.decreases-visit_children
-decreases-visit_children l = 2 * (node_count l.search.now.tree.now - depth l.search.now.tree.now l.node)
+decreases-visit_children l = 3 * (node_count l.search.now.tree.now - depth l.search.now.tree.now l.node)
 
 pub record Invariant (found pairs slots taken : Type 0) : Type 0 where
   pub found_so_far : found

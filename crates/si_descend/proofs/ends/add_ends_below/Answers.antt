@@ -2,13 +2,13 @@ use Rattle.std.proofs.Common.{sym}
 use Rattle.si_descend.proofs.Entering.{rows_in_range}
 use Rattle.si_descend.proofs.EndTurns.{down_starts, down_more, down_at_leaf}
 use Rattle.si_descend.proofs.Walking.{child_at}
-use Rattle.si_descend.proofs.ends.ends_below.Goals as goal
+use Rattle.si_descend.proofs.ends.add_ends_below.Goals as goal
 
 pub loop-init : goal.loop-init
-loop-init c = down_starts c.args.search.now.slots c.args.trail.now.pairs c.args.search.now.tree.now c.args.node c.new-ends.result c.new-ends.ensures c.requires.node
+loop-init c = down_starts c.args.search.now.slots c.args.trail.now.pairs c.args.search.now.tree.now c.args.node c.args.ends.now c.requires.none c.requires.node
 
 pub returns-then-is_none : goal.returns-then-is_none
-returns-then-is_none c = (
+returns-then-is_none c t = (
   c.loop.invariant.ns,
   down_at_leaf c.args.search.now.slots c.args.trail.now.pairs c.args.search.now.tree.now c.args.node c.requires.ready.legal c.loop.at c.loop.ends c.split.result c.loop.invariant c.split.ensures c.if-is_none.ensures,
   c.loop.invariant.are,

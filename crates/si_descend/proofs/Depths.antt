@@ -34,5 +34,5 @@ child_deeper tree legal key child is =
     record { one = omega (arith, here, there); few = omega (arith, here, short) }
 
 -- so the measure falls
-pub falls : (tree : Tree Term) (key child : ℕ) → IsDeeper tree key child → 3 * (node_count tree - depth tree child) + 2 < 3 * (node_count tree - depth tree key)
+pub falls : (tree : Tree Term) (key child : ℕ) → IsDeeper tree key child → 4 * (node_count tree - depth tree child) + 3 < 4 * (node_count tree - depth tree key)
 falls tree key child d = omega (arith, d.one, d.few)

@@ -1,6 +1,6 @@
 // Which children of a node are tried: all in order or, where these are many, those whose heads can
 // meet what is wanted.
-ghost use Rattle.std.specs.Prelude.{◌≡◌, ◌≤◌, ◌<◌, ◌^◌, IfSome, IfNone, ℕ};
+ghost use Rattle.std.specs.Prelude.{◌≡◌, ◌≤◌, ◌<◌, ◌^◌, IfSome, IfNone, None, Some, ℕ};
 ghost use Rattle.si_tree.specs.Reading.{IsNode};
 ghost use Rattle.si_descend.specs.Attempts.{head_at, AreHeadsFor, AreAttempts, IsTried};
 ghost use Rattle.si_fit.specs.Fitting.{AllowsSolving};
@@ -22,7 +22,7 @@ pub(crate) struct Attempts<'a> {
     wanted: Option<Wanted>,
     /// Where a cell stands here, the places are those of heads: first that of a term which begins
     /// with it, and then the variables of an entry. Else they are those of the children.
-    by_head: Option<Cell>,
+    pub(crate) by_head: Option<Cell>,
     /// The number of places.
     pub(crate) end: usize,
 }
@@ -86,9 +86,9 @@ fn heads_for(relation: Relation, slots: &Slots, vars: u32, first: Cell) -> Optio
     }
 }
 
-/// The child at a place, if there is one that can be open.
+/// The child at a place, if it can be open, where the children are tried in order.
 #[inline(always)]
-pub(crate) fn attempt(
+pub(crate) fn child_in_order(
     search: &Search<'_>,
     node: NodeId,
     attempts: Attempts<'_>,
@@ -97,18 +97,39 @@ pub(crate) fn attempt(
     requires node { IsNode search.now.tree.now node }
     requires ready { IsReady search.now }
     requires attempts { AreAttempts search.now node attempts }
+    requires in_order { attempts.by_head ≡ None }
     requires within { place < attempts.end }
     ensures some { IfSome result (IsTried search.now node attempts.entry place) }
     ensures none { IfNone result ((child : ℕ)
         → IsTried search.now node attempts.entry place child
         → RulesOut search.now attempts.entry.wanted child) }
 {
-    let Some(first) = attempts.by_head else {
-        if is_unwanted(search, attempts.wanted, search.tree.head(node, place)) {
-            return None;
-        }
-        return Some(attempts.children[place]);
-    };
+    if is_unwanted(search, attempts.wanted, search.tree.head(node, place)) {
+        return None;
+    }
+    Some(attempts.children[place])
+}
+
+/// The child that has the head at a place, if there is one, where the children are looked up by
+/// their heads.
+#[inline(always)]
+pub(crate) fn child_by_head(
+    search: &Search<'_>,
+    node: NodeId,
+    attempts: Attempts<'_>,
+    first: Cell,
+    place: usize,
+) -> Option<NodeId>
+    requires node { IsNode search.now.tree.now node }
+    requires ready { IsReady search.now }
+    requires attempts { AreAttempts search.now node attempts }
+    requires by_head { attempts.by_head ≡ Some first }
+    requires within { place < attempts.end }
+    ensures some { IfSome result (IsTried search.now node attempts.entry place) }
+    ensures none { IfNone result ((child : ℕ)
+        → IsTried search.now node attempts.entry place child
+        → RulesOut search.now attempts.entry.wanted child) }
+{
     let Some(head) = head_at(first, place) else {
         return None;
     };

@@ -1,11 +1,13 @@
 // The same search, which counts answers and copies no posting.
-ghost use Rattle.std.specs.Prelude.{◌≡◌, Some, OnOk};
+ghost use Rattle.std.specs.Prelude.{◌≡◌, None, Some, OnOk};
 ghost use Rattle.si_tree.specs.Reading.{IsNode, AtNode, children_of};
 ghost use Rattle.si_descend.specs.Counting.{CountsMore, CountsMoreBelow, IsSumOf};
 ghost use Rattle.si_fit.specs.Fitting.{AllowsSolving};
+ghost use Rattle.si_descend.specs.Attempts.{AreAttempts};
+ghost use Rattle.si_descend.specs.Heads.{IsWanted};
 ghost use Rattle.si_descend.specs.Searching.{IsReady, NotesTaken, HasComeTo, IsOpenAt};
 
-use crate::attempts::{attempt, attempts_at};
+use crate::attempts::{Attempts, attempts_at, child_by_head, child_in_order};
 use crate::search::{Search, enter};
 use crate::subtrees::{count_all, is_open_below};
 use crate::taken::Taken;
@@ -135,8 +137,78 @@ fn count_children<'a>(
     ensures taken { OnOk result (taken.new ≡ taken.old) }
 {
     let attempts = attempts_at(search, node, trail);
+    match attempts.by_head {
+        Some(first) => count_by_heads(
+            search, node, attempts, first, scratch, trail, taken, counted,
+        ),
+        None => count_in_order(search, node, attempts, scratch, trail, taken, counted),
+    }
+}
+
+/// Does the same where the children are tried in order.
+#[cycle(counting)]
+#[inline(always)]
+fn count_in_order<'a>(
+    search: &Search<'a>,
+    node: NodeId,
+    attempts: Attempts<'a>,
+    scratch: &mut Scratch,
+    trail: &mut Trail<&'a [Cell]>,
+    taken: &mut Taken,
+    counted: &mut Counted,
+) -> Result<(), AllocError>
+    requires node { IsNode search.now.tree.now node }
+    requires ready { IsReady search.now }
+    requires solving { AllowsSolving search.now.slots trail.old.pairs trail.old.slots }
+    requires there { HasComeTo search.now (Some node) trail.old.pairs }
+    requires taken { NotesTaken search.now.relation search.now.slots trail.old.pairs taken.old }
+    requires wanted { IsWanted search.now node trail.old.pairs attempts.wanted }
+    requires attempts { AreAttempts search.now node attempts }
+    requires in_order { attempts.by_head ≡ None }
+    ensures counted { OnOk result (AtNode search.now.tree.now node (λ parent.
+        CountsMoreBelow search.now (children_of parent.content) counted.old counted.new)) }
+    ensures same { OnOk result (trail.new.pairs ≡ trail.old.pairs) }
+    ensures slots { trail.new.slots ≡ trail.old.slots }
+    ensures taken { OnOk result (taken.new ≡ taken.old) }
+{
     for place in 0..attempts.end {
-        let Some(child) = attempt(search, node, attempts, place) else {
+        let Some(child) = child_in_order(search, node, attempts, place) else {
+            continue;
+        };
+        count_at(search, child, scratch, trail, taken, counted)?;
+    }
+    Ok(())
+}
+
+/// Does the same where the children are looked up by their heads.
+#[cycle(counting)]
+#[inline(always)]
+fn count_by_heads<'a>(
+    search: &Search<'a>,
+    node: NodeId,
+    attempts: Attempts<'a>,
+    first: Cell,
+    scratch: &mut Scratch,
+    trail: &mut Trail<&'a [Cell]>,
+    taken: &mut Taken,
+    counted: &mut Counted,
+) -> Result<(), AllocError>
+    requires node { IsNode search.now.tree.now node }
+    requires ready { IsReady search.now }
+    requires solving { AllowsSolving search.now.slots trail.old.pairs trail.old.slots }
+    requires there { HasComeTo search.now (Some node) trail.old.pairs }
+    requires taken { NotesTaken search.now.relation search.now.slots trail.old.pairs taken.old }
+    requires wanted { IsWanted search.now node trail.old.pairs attempts.wanted }
+    requires attempts { AreAttempts search.now node attempts }
+    requires by_head { attempts.by_head ≡ Some first }
+    ensures counted { OnOk result (AtNode search.now.tree.now node (λ parent.
+        CountsMoreBelow search.now (children_of parent.content) counted.old counted.new)) }
+    ensures same { OnOk result (trail.new.pairs ≡ trail.old.pairs) }
+    ensures slots { trail.new.slots ≡ trail.old.slots }
+    ensures taken { OnOk result (taken.new ≡ taken.old) }
+{
+    for place in 0..attempts.end {
+        let Some(child) = child_by_head(search, node, attempts, first, place) else {
             continue;
         };
         count_at(search, child, scratch, trail, taken, counted)?;

@@ -1,12 +1,14 @@
 // The search of a tree from a node downwards.
-ghost use Rattle.std.specs.Prelude.{◌≡◌, Some, IfOk, IsTrue, OnOk};
+ghost use Rattle.std.specs.Prelude.{◌≡◌, None, Some, IfOk, IsTrue, OnOk};
 ghost use Rattle.si_defs.specs.Substitutions.{Grows};
 ghost use Rattle.si_tree.specs.Reading.{IsNode, AtNode, children_of};
 ghost use Rattle.si_descend.specs.Descending.{Freezes, HasRoomFor, IsQuery};
 ghost use Rattle.si_fit.specs.Fitting.{AllowsSolving};
+ghost use Rattle.si_descend.specs.Attempts.{AreAttempts};
+ghost use Rattle.si_descend.specs.Heads.{IsWanted};
 ghost use Rattle.si_descend.specs.Searching.{IsReady, NotesTaken, HasComeTo, IsOpenAt, HasEntered, HasFound, HasFoundBelow};
 
-use crate::attempts::{attempt, attempts_at};
+use crate::attempts::{Attempts, attempts_at, child_by_head, child_in_order};
 use crate::subtrees::{append_all, is_open_below};
 use crate::taken::Taken;
 use crate::variants::is_renaming;
@@ -190,9 +192,82 @@ fn visit_children<'a>(
     ensures taken { OnOk result (taken.new ≡ taken.old) }
 {
     let attempts = attempts_at(search, node, trail);
+    match attempts.by_head {
+        Some(first) => visit_by_heads(search, node, attempts, first, scratch, trail, taken, out),
+        None => visit_in_order(search, node, attempts, scratch, trail, taken, out),
+    }
+}
+
+/// Does the same where the children are tried in order.
+#[cycle(searching)]
+#[inline(always)]
+fn visit_in_order<'a>(
+    search: &Search<'a>,
+    node: NodeId,
+    attempts: Attempts<'a>,
+    scratch: &mut Scratch,
+    trail: &mut Trail<&'a [Cell]>,
+    taken: &mut Taken,
+    out: &mut Vec<Posting>,
+) -> Result<u64, AllocError>
+    requires node { IsNode search.now.tree.now node }
+    requires ready { IsReady search.now }
+    requires solving { AllowsSolving search.now.slots trail.old.pairs trail.old.slots }
+    requires there { HasComeTo search.now (Some node) trail.old.pairs }
+    requires taken { NotesTaken search.now.relation search.now.slots trail.old.pairs taken.old }
+    requires wanted { IsWanted search.now node trail.old.pairs attempts.wanted }
+    requires attempts { AreAttempts search.now node attempts }
+    requires in_order { attempts.by_head ≡ None }
+    ensures found { IfOk result (λ n. AtNode search.now.tree.now node (λ parent.
+        HasFoundBelow search.now (children_of parent.content) out.old.items out.new.items n)) }
+    ensures same { OnOk result (trail.new.pairs ≡ trail.old.pairs) }
+    ensures grows { Grows trail.old.pairs trail.new.pairs }
+    ensures out_grows { Grows out.old.items out.new.items }
+    ensures slots { trail.new.slots ≡ trail.old.slots }
+    ensures taken { OnOk result (taken.new ≡ taken.old) }
+{
     let mut count = 0;
     for place in 0..attempts.end {
-        let Some(child) = attempt(search, node, attempts, place) else {
+        let Some(child) = child_in_order(search, node, attempts, place) else {
+            continue;
+        };
+        count += visit(search, child, scratch, trail, taken, out)?;
+    }
+    Ok(count)
+}
+
+/// Does the same where the children are looked up by their heads.
+#[cycle(searching)]
+#[inline(always)]
+fn visit_by_heads<'a>(
+    search: &Search<'a>,
+    node: NodeId,
+    attempts: Attempts<'a>,
+    first: Cell,
+    scratch: &mut Scratch,
+    trail: &mut Trail<&'a [Cell]>,
+    taken: &mut Taken,
+    out: &mut Vec<Posting>,
+) -> Result<u64, AllocError>
+    requires node { IsNode search.now.tree.now node }
+    requires ready { IsReady search.now }
+    requires solving { AllowsSolving search.now.slots trail.old.pairs trail.old.slots }
+    requires there { HasComeTo search.now (Some node) trail.old.pairs }
+    requires taken { NotesTaken search.now.relation search.now.slots trail.old.pairs taken.old }
+    requires wanted { IsWanted search.now node trail.old.pairs attempts.wanted }
+    requires attempts { AreAttempts search.now node attempts }
+    requires by_head { attempts.by_head ≡ Some first }
+    ensures found { IfOk result (λ n. AtNode search.now.tree.now node (λ parent.
+        HasFoundBelow search.now (children_of parent.content) out.old.items out.new.items n)) }
+    ensures same { OnOk result (trail.new.pairs ≡ trail.old.pairs) }
+    ensures grows { Grows trail.old.pairs trail.new.pairs }
+    ensures out_grows { Grows out.old.items out.new.items }
+    ensures slots { trail.new.slots ≡ trail.old.slots }
+    ensures taken { OnOk result (taken.new ≡ taken.old) }
+{
+    let mut count = 0;
+    for place in 0..attempts.end {
+        let Some(child) = child_by_head(search, node, attempts, first, place) else {
             continue;
         };
         count += visit(search, child, scratch, trail, taken, out)?;

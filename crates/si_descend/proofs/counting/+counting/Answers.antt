@@ -26,31 +26,31 @@ count_open-returns-clause-counted t c =
     c.args.counted.now c.add-2.new.self c.count_children.new.counted (subst (λ n. IsSumOf c.args.counted.now (record { passed = 1; answers = n }) c.add-2.new.self) c.len-own.ensures c.add-2.ensures) (below c.requires.node.0 c.requires.node.1))
     c.count_children.ensures.counted
 
-pub count_children-loop-place-init : goal.count_children-loop-place-init
-count_children-loop-place-init t c = record {
-  counted_so_far = none_tried c.args.search.now c.requires.ready c.args.node c.requires.node.0 c.requires.node.1 c.attempts_at-attempts.result c.attempts_at-attempts.ensures.attempts (λ tried. CountsMoreBelow c.args.search.now tried c.args.counted.now c.args.counted.now) (more_none c.args.search.now c.requires.ready c.args.node c.requires.node.0 c.requires.node.1 c.args.counted.now);
+pub count_in_order-loop-place-init : goal.count_in_order-loop-place-init
+count_in_order-loop-place-init t c = record {
+  counted_so_far = none_tried c.args.search.now c.requires.ready c.args.node c.requires.node.0 c.requires.node.1 c.args.attempts c.requires.attempts (λ tried. CountsMoreBelow c.args.search.now tried c.args.counted.now c.args.counted.now) (more_none c.args.search.now c.requires.ready c.args.node c.requires.node.0 c.requires.node.1 c.args.counted.now);
   same_pairs = refl;
   same_slots = refl;
   same_taken = refl;
 }
 
-pub count_children-attempt-requires-clause-attempts : goal.count_children-attempt-requires-clause-attempts
-count_children-attempt-requires-clause-attempts t c = c.attempts_at-attempts.ensures.attempts
+pub count_in_order-child_in_order-requires-clause-attempts : goal.count_in_order-child_in_order-requires-clause-attempts
+count_in_order-child_in_order-requires-clause-attempts t c = c.requires.attempts
 
-pub count_children-attempt-requires-clause-within : goal.count_children-attempt-requires-clause-within
-count_children-attempt-requires-clause-within t c = c.loop-place-test.true
+pub count_in_order-child_in_order-requires-clause-within : goal.count_in_order-child_in_order-requires-clause-within
+count_in_order-child_in_order-requires-clause-within t c = c.loop-place-test.true
 
-pub count_children-loop-place-preserved-in_default : goal.count_children-loop-place-preserved-in_default
-count_children-loop-place-preserved-in_default t c = record {
-  counted_so_far = one_not_tried c.args.search.now c.requires.ready c.args.node c.requires.node.0 c.requires.node.1 c.attempts_at-attempts.result c.attempts_at-attempts.ensures.attempts c.loop-place.place (λ tried. CountsMoreBelow c.args.search.now tried c.args.counted.now c.loop-place.counted) c.in_default.ensures.none c.loop-place.invariant.counted_so_far;
+pub count_in_order-loop-place-preserved-in_default : goal.count_in_order-loop-place-preserved-in_default
+count_in_order-loop-place-preserved-in_default t c = record {
+  counted_so_far = one_not_tried c.args.search.now c.requires.ready c.args.node c.requires.node.0 c.requires.node.1 c.args.attempts c.requires.attempts c.loop-place.place (λ tried. CountsMoreBelow c.args.search.now tried c.args.counted.now c.loop-place.counted) c.in_default.ensures.none c.loop-place.invariant.counted_so_far;
   same_pairs = c.loop-place.invariant.same_pairs;
   same_slots = c.loop-place.invariant.same_slots;
   same_taken = c.loop-place.invariant.same_taken;
 }
 
-pub count_children-count_at-requires : goal.count_children-count_at-requires
-count_children-count_at-requires t c =
-    let is : IsChildOf c.args.search.now.tree.now c.args.node c.in-Some.child = tried_child c.args.search.now c.requires.ready c.args.node c.requires.node.0 c.requires.node.1 c.attempts_at-attempts.result c.attempts_at-attempts.ensures.attempts c.loop-place.place c.in-Some.child c.in-Some.ensures.some in (
+pub count_in_order-count_at-requires : goal.count_in_order-count_at-requires
+count_in_order-count_at-requires t c =
+    let is : IsChildOf c.args.search.now.tree.now c.args.node c.in-Some.child = tried_child c.args.search.now c.requires.ready c.args.node c.requires.node.0 c.requires.node.1 c.args.attempts c.requires.attempts c.loop-place.place c.in-Some.child c.in-Some.ensures.some in (
       omega (arith, c.decreases, falls c.args.search.now.tree.now c.args.node c.in-Some.child (child_deeper c.args.search.now.tree.now (legal_nodes c.args.search.now.tree.now c.requires.ready.legal) c.args.node c.in-Some.child is)),
       (
         (is.0, is.1),
@@ -67,14 +67,67 @@ count_children-count_at-requires t c =
       ),
     )
 
-pub count_children-loop-place-preserved : goal.count_children-loop-place-preserved
-count_children-loop-place-preserved t c = record {
-  counted_so_far = more_tried c.args.search.now c.requires.ready c.args.node c.requires.node.0 c.requires.node.1 c.attempts_at-attempts.result c.attempts_at-attempts.ensures.attempts c.loop-place.place c.in-Some.child c.args.counted.now c.loop-place.counted c.count_at.new.counted c.loop-place-test.true c.in-Some.ensures.some c.loop-place.invariant.counted_so_far c.in_ok-count_at.ensures.counted;
+pub count_in_order-loop-place-preserved : goal.count_in_order-loop-place-preserved
+count_in_order-loop-place-preserved t c = record {
+  counted_so_far = more_tried c.args.search.now c.requires.ready c.args.node c.requires.node.0 c.requires.node.1 c.args.attempts c.requires.attempts c.loop-place.place c.in-Some.child c.args.counted.now c.loop-place.counted c.count_at.new.counted c.loop-place-test.true c.in-Some.ensures.some c.loop-place.invariant.counted_so_far c.in_ok-count_at.ensures.counted;
   same_pairs = c.in_ok-count_at.ensures.same ∙ c.loop-place.invariant.same_pairs;
   same_slots = c.count_at.ensures.slots ∙ c.loop-place.invariant.same_slots;
   same_taken = c.in_ok-count_at.ensures.taken ∙ c.loop-place.invariant.same_taken;
 }
 
-pub count_children-returns-clause-counted : goal.count_children-returns-clause-counted
-count_children-returns-clause-counted t c node has =
-    more_all c.args.search.now c.requires.ready c.args.node node has c.attempts_at-attempts.result c.attempts_at-attempts.ensures.attempts c.args.trail.now.pairs c.requires.there c.attempts_at-attempts.ensures.wanted c.loop-place.place c.args.counted.now c.loop-place.counted c.loop-place-test.false c.loop-place.invariant.counted_so_far
+pub count_in_order-returns-clause-counted : goal.count_in_order-returns-clause-counted
+count_in_order-returns-clause-counted t c node has =
+    more_all c.args.search.now c.requires.ready c.args.node node has c.args.attempts c.requires.attempts c.args.trail.now.pairs c.requires.there c.requires.wanted c.loop-place.place c.args.counted.now c.loop-place.counted c.loop-place-test.false c.loop-place.invariant.counted_so_far
+
+pub count_by_heads-loop-place-init : goal.count_by_heads-loop-place-init
+count_by_heads-loop-place-init t c = record {
+  counted_so_far = none_tried c.args.search.now c.requires.ready c.args.node c.requires.node.0 c.requires.node.1 c.args.attempts c.requires.attempts (λ tried. CountsMoreBelow c.args.search.now tried c.args.counted.now c.args.counted.now) (more_none c.args.search.now c.requires.ready c.args.node c.requires.node.0 c.requires.node.1 c.args.counted.now);
+  same_pairs = refl;
+  same_slots = refl;
+  same_taken = refl;
+}
+
+pub count_by_heads-child_by_head-requires-clause-attempts : goal.count_by_heads-child_by_head-requires-clause-attempts
+count_by_heads-child_by_head-requires-clause-attempts t c = c.requires.attempts
+
+pub count_by_heads-child_by_head-requires-clause-within : goal.count_by_heads-child_by_head-requires-clause-within
+count_by_heads-child_by_head-requires-clause-within t c = c.loop-place-test.true
+
+pub count_by_heads-loop-place-preserved-in_default : goal.count_by_heads-loop-place-preserved-in_default
+count_by_heads-loop-place-preserved-in_default t c = record {
+  counted_so_far = one_not_tried c.args.search.now c.requires.ready c.args.node c.requires.node.0 c.requires.node.1 c.args.attempts c.requires.attempts c.loop-place.place (λ tried. CountsMoreBelow c.args.search.now tried c.args.counted.now c.loop-place.counted) c.in_default.ensures.none c.loop-place.invariant.counted_so_far;
+  same_pairs = c.loop-place.invariant.same_pairs;
+  same_slots = c.loop-place.invariant.same_slots;
+  same_taken = c.loop-place.invariant.same_taken;
+}
+
+pub count_by_heads-count_at-requires : goal.count_by_heads-count_at-requires
+count_by_heads-count_at-requires t c =
+    let is : IsChildOf c.args.search.now.tree.now c.args.node c.in-Some.child = tried_child c.args.search.now c.requires.ready c.args.node c.requires.node.0 c.requires.node.1 c.args.attempts c.requires.attempts c.loop-place.place c.in-Some.child c.in-Some.ensures.some in (
+      omega (arith, c.decreases, falls c.args.search.now.tree.now c.args.node c.in-Some.child (child_deeper c.args.search.now.tree.now (legal_nodes c.args.search.now.tree.now c.requires.ready.legal) c.args.node c.in-Some.child is)),
+      (
+        (is.0, is.1),
+        (
+          c.requires.ready,
+          (
+            still_solving c.args.search.now.slots c.args.trail.now.pairs c.loop-place.trail.pairs c.args.trail.now.slots c.loop-place.trail.slots c.loop-place.invariant.same_pairs c.loop-place.invariant.same_slots c.requires.solving,
+            (
+              come_down c.args.search.now c.args.node c.in-Some.child c.args.trail.now.pairs c.loop-place.trail.pairs is c.loop-place.invariant.same_pairs c.requires.there,
+              still_noted c.args.search.now.relation c.args.search.now.slots c.args.trail.now.pairs c.loop-place.trail.pairs c.args.taken.now c.loop-place.taken c.loop-place.invariant.same_pairs c.loop-place.invariant.same_taken c.requires.taken,
+            ),
+          ),
+        ),
+      ),
+    )
+
+pub count_by_heads-loop-place-preserved : goal.count_by_heads-loop-place-preserved
+count_by_heads-loop-place-preserved t c = record {
+  counted_so_far = more_tried c.args.search.now c.requires.ready c.args.node c.requires.node.0 c.requires.node.1 c.args.attempts c.requires.attempts c.loop-place.place c.in-Some.child c.args.counted.now c.loop-place.counted c.count_at.new.counted c.loop-place-test.true c.in-Some.ensures.some c.loop-place.invariant.counted_so_far c.in_ok-count_at.ensures.counted;
+  same_pairs = c.in_ok-count_at.ensures.same ∙ c.loop-place.invariant.same_pairs;
+  same_slots = c.count_at.ensures.slots ∙ c.loop-place.invariant.same_slots;
+  same_taken = c.in_ok-count_at.ensures.taken ∙ c.loop-place.invariant.same_taken;
+}
+
+pub count_by_heads-returns-clause-counted : goal.count_by_heads-returns-clause-counted
+count_by_heads-returns-clause-counted t c node has =
+    more_all c.args.search.now c.requires.ready c.args.node node has c.args.attempts c.requires.attempts c.args.trail.now.pairs c.requires.there c.requires.wanted c.loop-place.place c.args.counted.now c.loop-place.counted c.loop-place-test.false c.loop-place.invariant.counted_so_far

@@ -6,13 +6,19 @@ use Rattle.si_descend.proofs.AttemptLaws.{IsUnderway}
 use Rattle.si_descend.proofs.counting.+counting.Given as goal
 
 abbrev pub decreases-count_at : goal.decreases-count_at
-decreases-count_at l = 3 * (node_count l.search.now.tree.now - depth l.search.now.tree.now l.node) + 2
+decreases-count_at l = 4 * (node_count l.search.now.tree.now - depth l.search.now.tree.now l.node) + 3
 
 abbrev pub decreases-count_open : goal.decreases-count_open
-decreases-count_open l = 3 * (node_count l.search.now.tree.now - depth l.search.now.tree.now l.node) + 1
+decreases-count_open l = 4 * (node_count l.search.now.tree.now - depth l.search.now.tree.now l.node) + 2
 
 abbrev pub decreases-count_children : goal.decreases-count_children
-decreases-count_children l = 3 * (node_count l.search.now.tree.now - depth l.search.now.tree.now l.node)
+decreases-count_children l = 4 * (node_count l.search.now.tree.now - depth l.search.now.tree.now l.node) + 1
+
+abbrev pub decreases-count_in_order : goal.decreases-count_in_order
+decreases-count_in_order l = 4 * (node_count l.search.now.tree.now - depth l.search.now.tree.now l.node)
+
+abbrev pub decreases-count_by_heads : goal.decreases-count_by_heads
+decreases-count_by_heads l = 4 * (node_count l.search.now.tree.now - depth l.search.now.tree.now l.node)
 
 pub record Invariant (counted pairs slots taken : Type 0) : Type 0 where
   pub counted_so_far : counted
@@ -20,8 +26,16 @@ pub record Invariant (counted pairs slots taken : Type 0) : Type 0 where
   pub same_slots : slots
   pub same_taken : taken
 
-abbrev pub invariant-count_children-loop-place : goal.invariant-count_children-loop-place
-invariant-count_children-loop-place l =
+abbrev pub invariant-count_in_order-loop-place : goal.invariant-count_in_order-loop-place
+invariant-count_in_order-loop-place l =
+    Invariant
+    (IsUnderway l.search l.node l.attempts l.place (λ tried. CountsMoreBelow l.search tried l.fn.counted l.counted))
+    (l.trail.pairs ≡ l.fn.trail.pairs)
+    (l.trail.slots ≡ l.fn.trail.slots)
+    (l.taken ≡ l.fn.taken)
+
+abbrev pub invariant-count_by_heads-loop-place : goal.invariant-count_by_heads-loop-place
+invariant-count_by_heads-loop-place l =
     Invariant
     (IsUnderway l.search l.node l.attempts l.place (λ tried. CountsMoreBelow l.search tried l.fn.counted l.counted))
     (l.trail.pairs ≡ l.fn.trail.pairs)

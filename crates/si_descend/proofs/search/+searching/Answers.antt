@@ -43,31 +43,31 @@ visit_open-overflow_add-result t c =
           ),
     )
 
-pub visit_children-loop-place-init : goal.visit_children-loop-place-init
-visit_children-loop-place-init t c = record {
-  found_so_far = none_tried c.args.search.now c.requires.ready c.args.node c.requires.node.0 c.requires.node.1 c.attempts_at-attempts.result c.attempts_at-attempts.ensures.attempts (λ tried. HasFoundBelow c.args.search.now tried c.args.out.now.items c.args.out.now.items 0) (none_yet c.args.search.now c.requires.ready c.args.out.now.items);
+pub visit_in_order-loop-place-init : goal.visit_in_order-loop-place-init
+visit_in_order-loop-place-init t c = record {
+  found_so_far = none_tried c.args.search.now c.requires.ready c.args.node c.requires.node.0 c.requires.node.1 c.args.attempts c.requires.attempts (λ tried. HasFoundBelow c.args.search.now tried c.args.out.now.items c.args.out.now.items 0) (none_yet c.args.search.now c.requires.ready c.args.out.now.items);
   same_pairs = refl;
   same_slots = refl;
   same_taken = refl;
 }
 
-pub visit_children-attempt-requires-clause-attempts : goal.visit_children-attempt-requires-clause-attempts
-visit_children-attempt-requires-clause-attempts t c = c.attempts_at-attempts.ensures.attempts
+pub visit_in_order-child_in_order-requires-clause-attempts : goal.visit_in_order-child_in_order-requires-clause-attempts
+visit_in_order-child_in_order-requires-clause-attempts t c = c.requires.attempts
 
-pub visit_children-attempt-requires-clause-within : goal.visit_children-attempt-requires-clause-within
-visit_children-attempt-requires-clause-within t c = c.loop-place-test.true
+pub visit_in_order-child_in_order-requires-clause-within : goal.visit_in_order-child_in_order-requires-clause-within
+visit_in_order-child_in_order-requires-clause-within t c = c.loop-place-test.true
 
-pub visit_children-loop-place-preserved-in_default : goal.visit_children-loop-place-preserved-in_default
-visit_children-loop-place-preserved-in_default t c = record {
-  found_so_far = one_not_tried c.args.search.now c.requires.ready c.args.node c.requires.node.0 c.requires.node.1 c.attempts_at-attempts.result c.attempts_at-attempts.ensures.attempts c.loop-place.place (λ tried. HasFoundBelow c.args.search.now tried c.args.out.now.items c.loop-place.out.items c.loop-place.count) c.in_default.ensures.none c.loop-place.invariant.found_so_far;
+pub visit_in_order-loop-place-preserved-in_default : goal.visit_in_order-loop-place-preserved-in_default
+visit_in_order-loop-place-preserved-in_default t c = record {
+  found_so_far = one_not_tried c.args.search.now c.requires.ready c.args.node c.requires.node.0 c.requires.node.1 c.args.attempts c.requires.attempts c.loop-place.place (λ tried. HasFoundBelow c.args.search.now tried c.args.out.now.items c.loop-place.out.items c.loop-place.count) c.in_default.ensures.none c.loop-place.invariant.found_so_far;
   same_pairs = c.loop-place.invariant.same_pairs;
   same_slots = c.loop-place.invariant.same_slots;
   same_taken = c.loop-place.invariant.same_taken;
 }
 
-pub visit_children-visit-requires : goal.visit_children-visit-requires
-visit_children-visit-requires t c =
-    let is : IsChildOf c.args.search.now.tree.now c.args.node c.in-Some.child = tried_child c.args.search.now c.requires.ready c.args.node c.requires.node.0 c.requires.node.1 c.attempts_at-attempts.result c.attempts_at-attempts.ensures.attempts c.loop-place.place c.in-Some.child c.in-Some.ensures.some in (
+pub visit_in_order-visit-requires : goal.visit_in_order-visit-requires
+visit_in_order-visit-requires t c =
+    let is : IsChildOf c.args.search.now.tree.now c.args.node c.in-Some.child = tried_child c.args.search.now c.requires.ready c.args.node c.requires.node.0 c.requires.node.1 c.args.attempts c.requires.attempts c.loop-place.place c.in-Some.child c.in-Some.ensures.some in (
       omega (arith, c.decreases, falls c.args.search.now.tree.now c.args.node c.in-Some.child (child_deeper c.args.search.now.tree.now (legal_nodes c.args.search.now.tree.now c.requires.ready.legal) c.args.node c.in-Some.child is)),
       (
         (is.0, is.1),
@@ -84,28 +84,95 @@ visit_children-visit-requires t c =
       ),
     )
 
-pub visit_children-loop-place-preserved : goal.visit_children-loop-place-preserved
-visit_children-loop-place-preserved t c = record {
-  found_so_far = found_more c.args.search.now c.requires.ready c.args.node c.requires.node.0 c.requires.node.1 c.attempts_at-attempts.result c.attempts_at-attempts.ensures.attempts c.loop-place.place c.in-Some.child c.args.out.now.items c.loop-place.out.items c.visit.new.out.items c.loop-place.count c.in_ok-count.field-0 c.loop-place-test.true c.in-Some.ensures.some c.loop-place.invariant.found_so_far c.in_ok-count.ensures.found;
+pub visit_in_order-loop-place-preserved : goal.visit_in_order-loop-place-preserved
+visit_in_order-loop-place-preserved t c = record {
+  found_so_far = found_more c.args.search.now c.requires.ready c.args.node c.requires.node.0 c.requires.node.1 c.args.attempts c.requires.attempts c.loop-place.place c.in-Some.child c.args.out.now.items c.loop-place.out.items c.visit.new.out.items c.loop-place.count c.in_ok-count.field-0 c.loop-place-test.true c.in-Some.ensures.some c.loop-place.invariant.found_so_far c.in_ok-count.ensures.found;
   same_pairs = c.in_ok-count.ensures.same ∙ c.loop-place.invariant.same_pairs;
   same_slots = c.in_ok-count.ensures.slots ∙ c.loop-place.invariant.same_slots;
   same_taken = c.in_ok-count.ensures.taken ∙ c.loop-place.invariant.same_taken;
 }
 
-pub visit_children-overflow_add-count : goal.visit_children-overflow_add-count
-visit_children-overflow_add-count t c =
-    let u : IsUnderway c.args.search.now c.args.node c.attempts_at-attempts.result (c.loop-place.place + 1) (λ tried. HasFoundBelow c.args.search.now tried c.args.out.now.items c.visit.new.out.items (c.loop-place.count + c.in_ok-count.field-0)) = found_more c.args.search.now c.requires.ready c.args.node c.requires.node.0 c.requires.node.1 c.attempts_at-attempts.result c.attempts_at-attempts.ensures.attempts c.loop-place.place c.in-Some.child c.args.out.now.items c.loop-place.out.items c.visit.new.out.items c.loop-place.count c.in_ok-count.field-0 c.loop-place-test.true c.in-Some.ensures.some c.loop-place.invariant.found_so_far c.in_ok-count.ensures.found in
+pub visit_in_order-overflow_add-count : goal.visit_in_order-overflow_add-count
+visit_in_order-overflow_add-count t c =
+    let u : IsUnderway c.args.search.now c.args.node c.args.attempts (c.loop-place.place + 1) (λ tried. HasFoundBelow c.args.search.now tried c.args.out.now.items c.visit.new.out.items (c.loop-place.count + c.in_ok-count.field-0)) = found_more c.args.search.now c.requires.ready c.args.node c.requires.node.0 c.requires.node.1 c.args.attempts c.requires.attempts c.loop-place.place c.in-Some.child c.args.out.now.items c.loop-place.out.items c.visit.new.out.items c.loop-place.count c.in_ok-count.field-0 c.loop-place-test.true c.in-Some.ensures.some c.loop-place.invariant.found_so_far c.in_ok-count.ensures.found in
     omega (arith, few_below c.args.search.now c.requires.ready u.0 c.args.out.now.items c.visit.new.out.items (c.loop-place.count + c.in_ok-count.field-0) u.2)
 
-pub visit_children-returns-in_err-count-clause-out_grows : goal.visit_children-returns-in_err-count-clause-out_grows
-visit_children-returns-in_err-count-clause-out_grows t c =
+pub visit_in_order-returns-in_err-count-clause-out_grows : goal.visit_in_order-returns-in_err-count-clause-out_grows
+visit_in_order-returns-in_err-count-clause-out_grows t c =
     grows_on c.args.out.now.items c.loop-place.out.items c.visit.new.out.items
     (found_grows c.args.search.now c.requires.ready c.loop-place.invariant.found_so_far.0 c.args.out.now.items c.loop-place.out.items c.loop-place.count c.loop-place.invariant.found_so_far.2)
     c.in_err-count.ensures.out_grows
 
-pub visit_children-returns-clause-found : goal.visit_children-returns-clause-found
-visit_children-returns-clause-found t c node has =
-    found_all c.args.search.now c.requires.ready c.args.node node has c.attempts_at-attempts.result c.attempts_at-attempts.ensures.attempts c.args.trail.now.pairs c.requires.there c.attempts_at-attempts.ensures.wanted c.loop-place.place c.args.out.now.items c.loop-place.out.items c.loop-place.count c.loop-place-test.false c.loop-place.invariant.found_so_far
+pub visit_in_order-returns-clause-found : goal.visit_in_order-returns-clause-found
+visit_in_order-returns-clause-found t c node has =
+    found_all c.args.search.now c.requires.ready c.args.node node has c.args.attempts c.requires.attempts c.args.trail.now.pairs c.requires.there c.requires.wanted c.loop-place.place c.args.out.now.items c.loop-place.out.items c.loop-place.count c.loop-place-test.false c.loop-place.invariant.found_so_far
 
-pub visit_children-returns-clause-out_grows : goal.visit_children-returns-clause-out_grows
-visit_children-returns-clause-out_grows t c = found_grows c.args.search.now c.requires.ready c.loop-place.invariant.found_so_far.0 c.args.out.now.items c.loop-place.out.items c.loop-place.count c.loop-place.invariant.found_so_far.2
+pub visit_in_order-returns-clause-out_grows : goal.visit_in_order-returns-clause-out_grows
+visit_in_order-returns-clause-out_grows t c = found_grows c.args.search.now c.requires.ready c.loop-place.invariant.found_so_far.0 c.args.out.now.items c.loop-place.out.items c.loop-place.count c.loop-place.invariant.found_so_far.2
+
+pub visit_by_heads-loop-place-init : goal.visit_by_heads-loop-place-init
+visit_by_heads-loop-place-init t c = record {
+  found_so_far = none_tried c.args.search.now c.requires.ready c.args.node c.requires.node.0 c.requires.node.1 c.args.attempts c.requires.attempts (λ tried. HasFoundBelow c.args.search.now tried c.args.out.now.items c.args.out.now.items 0) (none_yet c.args.search.now c.requires.ready c.args.out.now.items);
+  same_pairs = refl;
+  same_slots = refl;
+  same_taken = refl;
+}
+
+pub visit_by_heads-child_by_head-requires-clause-attempts : goal.visit_by_heads-child_by_head-requires-clause-attempts
+visit_by_heads-child_by_head-requires-clause-attempts t c = c.requires.attempts
+
+pub visit_by_heads-child_by_head-requires-clause-within : goal.visit_by_heads-child_by_head-requires-clause-within
+visit_by_heads-child_by_head-requires-clause-within t c = c.loop-place-test.true
+
+pub visit_by_heads-loop-place-preserved-in_default : goal.visit_by_heads-loop-place-preserved-in_default
+visit_by_heads-loop-place-preserved-in_default t c = record {
+  found_so_far = one_not_tried c.args.search.now c.requires.ready c.args.node c.requires.node.0 c.requires.node.1 c.args.attempts c.requires.attempts c.loop-place.place (λ tried. HasFoundBelow c.args.search.now tried c.args.out.now.items c.loop-place.out.items c.loop-place.count) c.in_default.ensures.none c.loop-place.invariant.found_so_far;
+  same_pairs = c.loop-place.invariant.same_pairs;
+  same_slots = c.loop-place.invariant.same_slots;
+  same_taken = c.loop-place.invariant.same_taken;
+}
+
+pub visit_by_heads-visit-requires : goal.visit_by_heads-visit-requires
+visit_by_heads-visit-requires t c =
+    let is : IsChildOf c.args.search.now.tree.now c.args.node c.in-Some.child = tried_child c.args.search.now c.requires.ready c.args.node c.requires.node.0 c.requires.node.1 c.args.attempts c.requires.attempts c.loop-place.place c.in-Some.child c.in-Some.ensures.some in (
+      omega (arith, c.decreases, falls c.args.search.now.tree.now c.args.node c.in-Some.child (child_deeper c.args.search.now.tree.now (legal_nodes c.args.search.now.tree.now c.requires.ready.legal) c.args.node c.in-Some.child is)),
+      (
+        (is.0, is.1),
+        (
+          c.requires.ready,
+          (
+            still_solving c.args.search.now.slots c.args.trail.now.pairs c.loop-place.trail.pairs c.args.trail.now.slots c.loop-place.trail.slots c.loop-place.invariant.same_pairs c.loop-place.invariant.same_slots c.requires.solving,
+            (
+              come_down c.args.search.now c.args.node c.in-Some.child c.args.trail.now.pairs c.loop-place.trail.pairs is c.loop-place.invariant.same_pairs c.requires.there,
+              still_noted c.args.search.now.relation c.args.search.now.slots c.args.trail.now.pairs c.loop-place.trail.pairs c.args.taken.now c.loop-place.taken c.loop-place.invariant.same_pairs c.loop-place.invariant.same_taken c.requires.taken,
+            ),
+          ),
+        ),
+      ),
+    )
+
+pub visit_by_heads-loop-place-preserved : goal.visit_by_heads-loop-place-preserved
+visit_by_heads-loop-place-preserved t c = record {
+  found_so_far = found_more c.args.search.now c.requires.ready c.args.node c.requires.node.0 c.requires.node.1 c.args.attempts c.requires.attempts c.loop-place.place c.in-Some.child c.args.out.now.items c.loop-place.out.items c.visit.new.out.items c.loop-place.count c.in_ok-count.field-0 c.loop-place-test.true c.in-Some.ensures.some c.loop-place.invariant.found_so_far c.in_ok-count.ensures.found;
+  same_pairs = c.in_ok-count.ensures.same ∙ c.loop-place.invariant.same_pairs;
+  same_slots = c.in_ok-count.ensures.slots ∙ c.loop-place.invariant.same_slots;
+  same_taken = c.in_ok-count.ensures.taken ∙ c.loop-place.invariant.same_taken;
+}
+
+pub visit_by_heads-overflow_add-count : goal.visit_by_heads-overflow_add-count
+visit_by_heads-overflow_add-count t c =
+    let u : IsUnderway c.args.search.now c.args.node c.args.attempts (c.loop-place.place + 1) (λ tried. HasFoundBelow c.args.search.now tried c.args.out.now.items c.visit.new.out.items (c.loop-place.count + c.in_ok-count.field-0)) = found_more c.args.search.now c.requires.ready c.args.node c.requires.node.0 c.requires.node.1 c.args.attempts c.requires.attempts c.loop-place.place c.in-Some.child c.args.out.now.items c.loop-place.out.items c.visit.new.out.items c.loop-place.count c.in_ok-count.field-0 c.loop-place-test.true c.in-Some.ensures.some c.loop-place.invariant.found_so_far c.in_ok-count.ensures.found in
+    omega (arith, few_below c.args.search.now c.requires.ready u.0 c.args.out.now.items c.visit.new.out.items (c.loop-place.count + c.in_ok-count.field-0) u.2)
+
+pub visit_by_heads-returns-in_err-count-clause-out_grows : goal.visit_by_heads-returns-in_err-count-clause-out_grows
+visit_by_heads-returns-in_err-count-clause-out_grows t c =
+    grows_on c.args.out.now.items c.loop-place.out.items c.visit.new.out.items
+    (found_grows c.args.search.now c.requires.ready c.loop-place.invariant.found_so_far.0 c.args.out.now.items c.loop-place.out.items c.loop-place.count c.loop-place.invariant.found_so_far.2)
+    c.in_err-count.ensures.out_grows
+
+pub visit_by_heads-returns-clause-found : goal.visit_by_heads-returns-clause-found
+visit_by_heads-returns-clause-found t c node has =
+    found_all c.args.search.now c.requires.ready c.args.node node has c.args.attempts c.requires.attempts c.args.trail.now.pairs c.requires.there c.requires.wanted c.loop-place.place c.args.out.now.items c.loop-place.out.items c.loop-place.count c.loop-place-test.false c.loop-place.invariant.found_so_far
+
+pub visit_by_heads-returns-clause-out_grows : goal.visit_by_heads-returns-clause-out_grows
+visit_by_heads-returns-clause-out_grows t c = found_grows c.args.search.now c.requires.ready c.loop-place.invariant.found_so_far.0 c.args.out.now.items c.loop-place.out.items c.loop-place.count c.loop-place.invariant.found_so_far.2

@@ -5,13 +5,19 @@ use Rattle.si_descend.proofs.AttemptLaws.{IsUnderway}
 use Rattle.si_descend.proofs.search.+searching.Given as goal
 
 abbrev pub decreases-visit : goal.decreases-visit
-decreases-visit l = 3 * (node_count l.search.now.tree.now - depth l.search.now.tree.now l.node) + 2
+decreases-visit l = 4 * (node_count l.search.now.tree.now - depth l.search.now.tree.now l.node) + 3
 
 abbrev pub decreases-visit_open : goal.decreases-visit_open
-decreases-visit_open l = 3 * (node_count l.search.now.tree.now - depth l.search.now.tree.now l.node) + 1
+decreases-visit_open l = 4 * (node_count l.search.now.tree.now - depth l.search.now.tree.now l.node) + 2
 
 abbrev pub decreases-visit_children : goal.decreases-visit_children
-decreases-visit_children l = 3 * (node_count l.search.now.tree.now - depth l.search.now.tree.now l.node)
+decreases-visit_children l = 4 * (node_count l.search.now.tree.now - depth l.search.now.tree.now l.node) + 1
+
+abbrev pub decreases-visit_in_order : goal.decreases-visit_in_order
+decreases-visit_in_order l = 4 * (node_count l.search.now.tree.now - depth l.search.now.tree.now l.node)
+
+abbrev pub decreases-visit_by_heads : goal.decreases-visit_by_heads
+decreases-visit_by_heads l = 4 * (node_count l.search.now.tree.now - depth l.search.now.tree.now l.node)
 
 pub record Invariant (found pairs slots taken : Type 0) : Type 0 where
   pub found_so_far : found
@@ -19,8 +25,16 @@ pub record Invariant (found pairs slots taken : Type 0) : Type 0 where
   pub same_slots : slots
   pub same_taken : taken
 
-abbrev pub invariant-visit_children-loop-place : goal.invariant-visit_children-loop-place
-invariant-visit_children-loop-place l =
+abbrev pub invariant-visit_in_order-loop-place : goal.invariant-visit_in_order-loop-place
+invariant-visit_in_order-loop-place l =
+    Invariant
+    (IsUnderway l.search l.node l.attempts l.place (λ tried. HasFoundBelow l.search tried l.fn.out.items l.out.items l.count))
+    (l.trail.pairs ≡ l.fn.trail.pairs)
+    (l.trail.slots ≡ l.fn.trail.slots)
+    (l.taken ≡ l.fn.taken)
+
+abbrev pub invariant-visit_by_heads-loop-place : goal.invariant-visit_by_heads-loop-place
+invariant-visit_by_heads-loop-place l =
     Invariant
     (IsUnderway l.search l.node l.attempts l.place (λ tried. HasFoundBelow l.search tried l.fn.out.items l.out.items l.count))
     (l.trail.pairs ≡ l.fn.trail.pairs)

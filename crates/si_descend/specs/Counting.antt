@@ -27,12 +27,12 @@ HasCountedBelow search tops c =
     (found : List Posting) × HasFoundBelow search tops [] found c.passed
     × (c.answers ≡ at_most (length found))
 
--- the one was added to the other, whose numbers have a place
+-- the numbers of both together, where those of the first have a place
 pub record IsSumOf (one other sum : Counted) : Type 0 where
   pub passed : one.passed < 2 ^ 64 → sum.passed ≡ at_most (one.passed + other.passed)
   pub answers : one.answers < 2 ^ 64 → sum.answers ≡ at_most (one.answers + other.answers)
 
--- those numbers were added
+-- those numbers were added to the old ones
 abbrev pub CountsMore : Search → ℕ → Counted → Counted → Type 0
 CountsMore search top old new = (c : Counted) × HasCounted search top c × IsSumOf old c new
 

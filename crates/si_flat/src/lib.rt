@@ -24,6 +24,8 @@ pub use flatten::{
     EntryBuffer, FlatQuery, NamedQuery, flatten_entry, flatten_pattern, flatten_with_names,
 };
 pub use met::{FIRST_EXTRA, with_sign};
+/// A relation by the name that calls on flat terms have for it.
+pub use si_defs::Relation as Kind;
 use si_term::list::Items;
 use smallvec::SmallVec;
 use std::alloc::{AllocError, Global};

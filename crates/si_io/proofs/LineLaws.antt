@@ -1,15 +1,13 @@
 -- Texts of lines, one after the other.
 use Rattle.std.proofs.Common.{◌≡◌, ℕ, zero, suc, ◌+◌, ◌-◌, ◌<◌, ◌≤◌, List, [], ◌∷◌, ◌++◌, Result, Ok, Err, refl, sym, ap, subst, ◌∙◌, append_assoc, append-nil, arith}
+use Rattle.std.proofs.lemmas.List.Folds.{concat-append}
 use Rattle.std.specs.Prelude.{IsErrAnd}
+use Rattle.std.specs.List.{concat}
 use Rattle.si_io.specs.declared.failed.Failed.{Failed}
 use Rattle.si_io.specs.Shown.{SinkShown}
 use Rattle.si_io.specs.Sends.{SendsAll, SendsPart, Sends}
-use Rattle.si_io.specs.Lines.{AreTexts, HaveTexts, joined, WritesLines}
+use Rattle.si_io.specs.Lines.{AreTexts, HaveTexts, WritesLines}
 use Rattle.si_io.proofs.Sends.{SendsAll-nil, SendsAll_then, SendsPart_then, SendsPart_more, Sends_then}
-
-joined-append : (xs ys : List (List ℕ)) → joined (xs ++ ys) ≡ joined xs ++ joined ys
-joined-append [] ys = refl
-joined-append (x ∷ xs) ys = ap (λ (l : List ℕ). x ++ l) (joined-append xs ys) ∙ sym (append_assoc x (joined xs) (joined ys))
 
 module _ (line : ℕ → List ℕ → Type 0) where
   -- some, and then more
@@ -38,26 +36,26 @@ module _ (line : ℕ → List ℕ → Type 0) where
   pub record WroteTo (n : ℕ) (before now : SinkShown) : Type 0 where
     pub texts : List (List ℕ)
     pub are : AreTexts line 0 n texts
-    pub sent : SendsAll before (joined texts) now
+    pub sent : SendsAll before (concat texts) now
 
   pub wrote_none : (before : SinkShown) → WroteTo 0 before before
   wrote_none before = record { texts = []; are = refl; sent = SendsAll-nil before }
 
-  with_this : (xs : List (List ℕ)) (text : List ℕ) → joined (xs ++ text ∷ []) ≡ joined xs ++ text
-  with_this xs text = joined-append xs (text ∷ []) ∙ ap (λ (l : List ℕ). joined xs ++ l) (append-nil text)
+  with_this : (xs : List (List ℕ)) (text : List ℕ) → concat (xs ++ text ∷ []) ≡ concat xs ++ text
+  with_this xs text = concat-append xs (text ∷ []) ∙ ap (λ (l : List ℕ). concat xs ++ l) (append-nil text)
 
   pub wrote_more : (n : ℕ) (before now after : SinkShown) → WroteTo n before now → (h : (text : List ℕ) × line n text × SendsAll now text after) → WroteTo (n + 1) before after
   wrote_more n before now after w h = record {
     texts = w.texts ++ h.0 ∷ [];
     are = texts-more n w.texts h.0 w.are h.1;
-    sent = subst (λ (l : List ℕ). SendsAll before l after) (sym (with_this w.texts h.0)) (SendsAll_then before now after (joined w.texts) h.0 w.sent h.2);
+    sent = subst (λ (l : List ℕ). SendsAll before l after) (sym (with_this w.texts h.0)) (SendsAll_then before now after (concat w.texts) h.0 w.sent h.2);
   }
 
   pub wrote_all : (n count : ℕ) (before now : SinkShown) → n ≡ count → WroteTo n before now → WritesLines {T = Unit {0}} {E = Failed} line count [] (Ok (tt {0})) before now
   wrote_all n count before now is w = (
     w.texts,
     subst (λ (m : ℕ). AreTexts line 0 m w.texts) is w.are,
-    record { all = subst (λ (l : List ℕ). SendsAll before l now) (sym (append-nil (joined w.texts))) w.sent; part = tt },
+    record { all = subst (λ (l : List ℕ). SendsAll before l now) (sym (append-nil (concat w.texts))) w.sent; part = tt },
   )
 
   -- the sink failed at this one
@@ -67,14 +65,14 @@ module _ (line : ℕ → List ℕ → Type 0) where
   wrote_part count n less has (Err x) e before now after is w h =
       let these = w.texts ++ h.0 ∷ [] in
       let others = texts-left count has (n + 1) (count - (n + 1)) (omega (arith, less)) in
-      let whole : joined (these ++ others.0) ++ [] ≡ (joined w.texts ++ h.0) ++ joined others.0 =
-      append-nil (joined (these ++ others.0)) ∙ joined-append these others.0 ∙ ap (λ (l : List ℕ). l ++ joined others.0) (with_this w.texts h.0) in (
+      let whole : concat (these ++ others.0) ++ [] ≡ (concat w.texts ++ h.0) ++ concat others.0 =
+      append-nil (concat (these ++ others.0)) ∙ concat-append these others.0 ∙ ap (λ (l : List ℕ). l ++ concat others.0) (with_this w.texts h.0) in (
         these ++ others.0,
         texts-append 0 (n + 1) (count - (n + 1)) (n + 1) count these others.0 (omega arith) (omega (arith, less)) (texts-more n w.texts h.0 w.are h.1) others.1,
         record {
           all = tt;
           part = subst (λ (l : List ℕ). SendsPart before l after) (sym whole)
-              (SendsPart_more before after (joined w.texts ++ h.0) (joined others.0) (SendsPart_then before now after (joined w.texts) h.0 w.sent h.2));
+              (SendsPart_more before after (concat w.texts ++ h.0) (concat others.0) (SendsPart_then before now after (concat w.texts) h.0 w.sent h.2));
         },
       )
 
@@ -82,14 +80,14 @@ module _ (line : ℕ → List ℕ → Type 0) where
   pub wrote_last : (count : ℕ) (last : List ℕ) (r : Result (Unit {0}) Failed) (before now after : SinkShown) → WritesLines {T = Unit {0}} {E = Failed} line count [] (Ok (tt {0})) before now → Sends r last now after
       → WritesLines line count last r before after
   wrote_last count last r before now after h sent =
-      (h.0, h.1, Sends_then r before now after (joined h.0) last (subst (λ (l : List ℕ). SendsAll before l now) (append-nil (joined h.0)) h.2.all) sent)
+      (h.0, h.1, Sends_then r before now after (concat h.0) last (subst (λ (l : List ℕ). SendsAll before l now) (append-nil (concat h.0)) h.2.all) sent)
 
   pub wrote_broken : (count : ℕ) (last : List ℕ) (r : Result (Unit {0}) Failed) (e : Failed) (before now : SinkShown) → IsErrAnd r (λ x. x ≡ e) → WritesLines {T = Unit {0}} {E = Failed} line count [] (Err e) before now
       → WritesLines line count last r before now
   wrote_broken count last (Ok done) e before now is h = absurd is
   wrote_broken count last (Err x) e before now is h =
-      (h.0, h.1, record { all = tt; part = SendsPart_more before now (joined h.0) last (subst (λ (l : List ℕ). SendsPart before l now) (append-nil (joined h.0)) h.2.part) })
+      (h.0, h.1, record { all = tt; part = SendsPart_more before now (concat h.0) last (subst (λ (l : List ℕ). SendsPart before l now) (append-nil (concat h.0)) h.2.part) })
 
   -- no line stands before the last one
   pub only_last : (last : List ℕ) (r : Result (Unit {0}) Failed) (before after : SinkShown) → WritesLines line 0 last r before after → Sends r last before after
-  only_last last r before after h = subst (λ (ts : List (List ℕ)). Sends r (joined ts ++ last) before after) h.1 h.2
+  only_last last r before after h = subst (λ (ts : List (List ℕ)). Sends r (concat ts ++ last) before after) h.1 h.2

@@ -1,5 +1,6 @@
 -- Texts that are written line by line, of which each is one of those that are right.
 use Rattle.std.specs.Prelude.{◌≡◌, ◌<◌, ℕ, zero, suc, List, [], ◌∷◌, ◌++◌, Result}
+use Rattle.std.specs.List.{concat}
 use Rattle.si_io.specs.Shown.{SinkShown}
 use Rattle.si_io.specs.Sends.{Sends}
 
@@ -14,14 +15,9 @@ AreTexts line from (suc many) texts =
 abbrev pub HaveTexts : (line : ℕ → List ℕ → Type 0) → (count : ℕ) → Type 0
 HaveTexts line count = (n : ℕ) → n < count → (text : List ℕ) × line n text
 
--- one after the other
-abbrev pub joined : List (List ℕ) → List ℕ
-joined [] = []
-joined (text ∷ texts) = text ++ joined texts
-
 -- The texts of the lines were written, and then this one; or the sink failed at them.
 abbrev pub WritesLines : {T E : Type 0} → (line : ℕ → List ℕ → Type 0) → (count : ℕ)
     → (last : List ℕ) → Result T E → (before after : SinkShown) → Type 0
 WritesLines line count last result before after =
     (texts : List (List ℕ)) × AreTexts line 0 count texts
-    × Sends result (joined texts ++ last) before after
+    × Sends result (concat texts ++ last) before after

@@ -1,7 +1,7 @@
 -- What is found, with its lists, is the answer; and its lines, written one after the other.
 use Rattle.std.proofs.Common.{◌≡◌, inl, inr, ℕ, zero, suc, ◌+◌, ◌<◌, ◌≤◌, List, [], ◌∷◌, ◌++◌, length, map, Some, refl, sym, ◌∙◌, ap, subst, arith, append_assoc, length-append}
 use Rattle.std.specs.Prelude.{Result, slice_get}
-use Rattle.std.specs.List.{AllByRecursion}
+use Rattle.std.specs.List.{AllByRecursion, concat}
 use Rattle.si_defs.specs.Clauses.{Name, Clause, Pattern}
 use Rattle.si_defs.specs.Printing.{place_text, solution_text}
 use Rattle.si_reply.proofs.Pieces.{four_apart}
@@ -17,7 +17,7 @@ use Rattle.si_steps.specs.Replies.{end_line, answer_reply}
 use Rattle.si_steps.specs.Runs.{ended}
 use Rattle.si_io.specs.Shown.{SinkShown}
 use Rattle.si_io.specs.Sends.{Sends}
-use Rattle.si_io.specs.Lines.{AreTexts, HaveTexts, WritesLines, joined}
+use Rattle.si_io.specs.Lines.{AreTexts, HaveTexts, WritesLines}
 use Rattle.si_io.specs.declared.failed.Failed.{Failed}
 use Rattle.si_defs.proofs.ListLaws.{all_got, get_some, get_here}
 use Rattle.si_index.specs.Kept.{Kept}
@@ -130,8 +130,8 @@ module _ (f : Finding) where
 
   -- and the texts of all lines are those of hits
   texts_hits : (done rest : Found) → f.hits ≡ done ++ rest → (texts : List Bytes) → AreTexts (IsHitLine f) (length done) (length rest) texts
-      → (hits : List Hit) × AreHitsOf f.relation f.pattern f.index.clauses rest hits × (joined texts ≡ ended (hit_texts hits))
-  texts_hits done [] e texts h = ([], refl, ap joined h)
+      → (hits : List Hit) × AreHitsOf f.relation f.pattern f.index.clauses rest hits × (concat texts ≡ ended (hit_texts hits))
+  texts_hits done [] e texts h = ([], refl, ap concat h)
   texts_hits done (x ∷ rest) e texts h =
       let line = h.2 in
       let there : slice_get f.hits (length done) ≡ Some x = subst (λ (l : Found). slice_get l (length done) ≡ Some x) (sym e) (get_here done x rest) in
@@ -140,7 +140,7 @@ module _ (f : Finding) where
       let others = texts_hits (done ++ x ∷ []) rest (e ∙ sym (append_assoc done (x ∷ []) rest)) h.1 (subst (λ (k : ℕ). AreTexts (IsHitLine f) k (length rest) h.1) behind h.3) in (
         line.1 ∷ others.0,
         (line.1, others.0, subst (λ (y : ℕ × Placed). IsHitOf f.relation f.pattern f.index.clauses y line.1) same line.3, others.1, refl),
-        ap joined h.4 ∙ ap (λ (l : Bytes). l ++ joined h.1) line.4 ∙ ap (λ (l : Bytes). ended (hit_text line.1 ∷ []) ++ l) others.2 ∙ sym (ended-append (hit_text line.1 ∷ []) (hit_texts others.0)),
+        ap concat h.4 ∙ ap (λ (l : Bytes). l ++ concat h.1) line.4 ∙ ap (λ (l : Bytes). ended (hit_text line.1 ∷ []) ++ l) others.2 ∙ sym (ended-append (hit_text line.1 ∷ []) (hit_texts others.0)),
       )
 
   -- the whole answer
@@ -149,7 +149,7 @@ module _ (f : Finding) where
       let told = texts_hits [] f.hits refl h.0 h.1 in
       let hits = told.0 in
       let last : List ℕ → ℕ → Bytes = λ front n. front ++ (end_line n ++ 10 ∷ []) in
-      let whole : joined h.0 ++ (end_line (length f.hits) ++ 10 ∷ []) ≡ ended (answer_reply hits) =
+      let whole : concat h.0 ++ (end_line (length f.hits) ++ 10 ∷ []) ≡ ended (answer_reply hits) =
       ap (λ (l : Bytes). last l (length f.hits)) told.2 ∙ ap (last (ended (hit_texts hits))) (length-hits f.relation f.pattern f.index.clauses f.hits hits told.1)
       ∙ sym (ended-append (hit_texts hits) (end_line (length hits) ∷ [])) in
       (hits, told.1, subst (λ (l : Bytes). Sends r l a b) whole h.2)

@@ -1,11 +1,12 @@
 -- What was sent of a reply that is known before its first line is written.
 use Rattle.std.proofs.Common.{◌≡◌, ℕ, List, [], ◌∷◌, ◌++◌, Result, ◌∙◌, ap, ap₂, subst, append-nil}
+use Rattle.std.specs.List.{concat}
 use Rattle.std.specs.Prelude.{codes}
 use Rattle.si_steps.specs.Runs.{ended}
 use Rattle.si_io.specs.declared.failed.Failed.{Failed}
 use Rattle.si_io.specs.Shown.{SinkShown}
 use Rattle.si_io.specs.Sends.{Sends}
-use Rattle.si_io.specs.Lines.{joined, WritesLines}
+use Rattle.si_io.specs.Lines.{WritesLines}
 use Rattle.si_io.proofs.LineLaws.{only_last}
 use Rattle.si_index.specs.declared.index.TreeCounts.{TreeCounts}
 use Rattle.si_session.specs.declared.reply.ReplyLine.{ReplyLine}
@@ -20,7 +21,7 @@ one_before : (line : ℕ → List ℕ → Type 0) (first last : List ℕ) → ((
     → (r : Result (Unit {0}) Failed) (before after : SinkShown) → WritesLines line 1 last r before after → Sends r (first ++ last) before after
 one_before line first last only r before after h =
     subst (λ (l : List ℕ). Sends r (l ++ last) before after)
-    (ap joined h.1.4 ∙ ap₂ (λ (x : List ℕ) (y : List (List ℕ)). x ++ joined y) (only h.1.0 h.1.2) h.1.3 ∙ append-nil first)
+    (ap concat h.1.4 ∙ ap₂ (λ (x : List ℕ) (y : List (List ℕ)). x ++ concat y) (only h.1.0 h.1.2) h.1.3 ∙ append-nil first)
     h.2
 
 pub trees_sent : (counts : TreeCounts) (r : Result (Unit {0}) Failed) (before after : SinkShown)

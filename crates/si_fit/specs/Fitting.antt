@@ -1,9 +1,12 @@
 -- Bindings in cells that are made to fit a list of solved ones.
-use Rattle.std.specs.Prelude.{ℕ, ◌≤◌, ◌↔◌, Bool, true, false, List, [], ◌∷◌}
+use Rattle.std.specs.Borrow.{Bor}
+use Rattle.std.specs.Prelude.{◌≡◌, ℕ, ◌≤◌, ◌↔◌, Bool, true, false, List, [], ◌∷◌}
 use Rattle.std.specs.List.{AllByRecursion}
-use Rattle.si_defs.specs.Substitutions.{Substitution, image}
+use Rattle.si_defs.specs.Substitutions.{Grows, Substitution, image}
+use Rattle.si_trail.specs.Trails.{Trail}
+use Rattle.si_flat.specs.declared.Cell.{Cell}
 use Rattle.si_flat.specs.declared.Cell.TheVariants as cell
-use Rattle.si_flat.specs.Cells.{Symbol, Variable, same_variable, Term}
+use Rattle.si_flat.specs.Cells.{Symbol, Variable, same_variable, IsWhole, Term}
 use Rattle.si_flat.specs.Rows.{CellPair}
 use Rattle.si_unify.specs.declared.slots.Slots.{Slots}
 use Rattle.si_unify.specs.Solving.{Pairs, slot_count, CellIsInRange, AreInRange, Equalizes, IsAcyclic, IsBinding, IsSolution}
@@ -13,6 +16,21 @@ pub record AllowsSolving (slots : Slots) (pairs : Pairs) (count : ℕ) : Type 0 
   pub room : slot_count slots ≤ count
   pub bindings : AllByRecursion (IsBinding slots) pairs
   pub triangular : IsAcyclic slots pairs
+
+-- two terms that may be walked over beside each other, following what their variables are bound to
+pub record AreWalkable (slots : Slots) (trail : Trail (Bor (List Cell)))
+    (first second : List Cell) : Type 0 where
+  pub left : IsWhole first
+  pub right : IsWhole second
+  pub left_range : AreInRange slots first
+  pub right_range : AreInRange slots second
+  pub ready : AllowsSolving slots trail.pairs trail.slots
+
+-- More may be bound, and the solver may go on from there.
+pub record StaysSolvable (slots : Slots) (old new : Trail (Bor (List Cell))) : Type 0 where
+  pub grows : Grows old.pairs new.pairs
+  pub ready : AllowsSolving slots new.pairs new.slots
+  pub count : new.slots ≡ old.slots
 
 abbrev pub AreRowsInRange : Slots → List CellPair → Type 0
 AreRowsInRange slots rows =

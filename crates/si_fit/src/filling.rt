@@ -1,11 +1,8 @@
 // The walk over a term and a right side whose indicators are fresh.
-ghost use Rattle.std.specs.Prelude.{◌≡◌, IsTrue, get_or};
+ghost use Rattle.std.specs.Prelude.{IsTrue, get_or};
 ghost use Rattle.std.specs.List.{AllByRecursion};
-ghost use Rattle.si_defs.specs.Substitutions.{Grows};
 ghost use Rattle.si_flat.specs.declared.Cell.TheVariants.{App};
-ghost use Rattle.si_flat.specs.Cells.{IsWhole};
-ghost use Rattle.si_unify.specs.Solving.{AreInRange};
-ghost use Rattle.si_fit.specs.Fitting.{AllowsSolving};
+ghost use Rattle.si_fit.specs.Fitting.{AreWalkable, StaysSolvable};
 ghost use Rattle.si_fit.specs.Fresh.{StandOnce, IsNew};
 ghost use Rattle.si_fit.specs.Meeting.{same_symbol, HasMet};
 
@@ -26,17 +23,11 @@ fn fill<'a>(
     right: &'a [Cell],
     budget: &mut u32,
 ) -> Met
-    requires left { IsWhole left.now }
-    requires right { IsWhole right.now }
-    requires left_range { AreInRange slots.now left.now }
-    requires right_range { AreInRange slots.now right.now }
-    requires ready { AllowsSolving slots.now trail.old.pairs trail.old.slots }
+    requires terms { AreWalkable slots.now trail.old left.now right.now }
     requires once { StandOnce right.now }
     requires fresh { AllByRecursion (IsNew slots.now trail.old.pairs left.now) right.now }
     ensures met { HasMet slots.now trail.old.pairs trail.new.pairs left.now right.now result }
-    ensures grows { Grows trail.old.pairs trail.new.pairs }
-    ensures ready { AllowsSolving slots.now trail.new.pairs trail.new.slots }
-    ensures slots { trail.new.slots ≡ trail.old.slots }
+    ensures trail { StaysSolvable slots.now trail.old trail.new }
 {
     let mut i = 0;
     let mut j = 0;
@@ -72,18 +63,12 @@ fn fill_one<'a>(
     right: &'a [Cell],
     budget: &mut u32,
 ) -> Met
-    requires left { IsWhole left.now }
-    requires right { IsWhole right.now }
-    requires left_range { AreInRange slots.now left.now }
-    requires right_range { AreInRange slots.now right.now }
-    requires ready { AllowsSolving slots.now trail.old.pairs trail.old.slots }
+    requires terms { AreWalkable slots.now trail.old left.now right.now }
     requires differ { IsTrue (same_symbol (get_or left.now 0 (App 0 0 0))
         (get_or right.now 0 (App 0 0 0))) → ⊥ }
     requires fresh { IsNew slots.now trail.old.pairs left.now (get_or right.now 0 (App 0 0 0)) }
     ensures met { HasMet slots.now trail.old.pairs trail.new.pairs left.now right.now result }
-    ensures grows { Grows trail.old.pairs trail.new.pairs }
-    ensures ready { AllowsSolving slots.now trail.new.pairs trail.new.slots }
-    ensures slots { trail.new.slots ≡ trail.old.slots }
+    ensures trail { StaysSolvable slots.now trail.old trail.new }
 {
     let first = right[0];
     if let Cell::Ind(number) = first {
@@ -106,17 +91,11 @@ pub(crate) fn fill_any<'a>(
     right: &'a [Cell],
     budget: &mut u32,
 ) -> Met
-    requires left { IsWhole left.now }
-    requires right { IsWhole right.now }
-    requires left_range { AreInRange slots.now left.now }
-    requires right_range { AreInRange slots.now right.now }
-    requires ready { AllowsSolving slots.now trail.old.pairs trail.old.slots }
+    requires terms { AreWalkable slots.now trail.old left.now right.now }
     requires once { StandOnce right.now }
     requires fresh { AllByRecursion (IsNew slots.now trail.old.pairs left.now) right.now }
     ensures met { HasMet slots.now trail.old.pairs trail.new.pairs left.now right.now result }
-    ensures grows { Grows trail.old.pairs trail.new.pairs }
-    ensures ready { AllowsSolving slots.now trail.new.pairs trail.new.slots }
-    ensures slots { trail.new.slots ≡ trail.old.slots }
+    ensures trail { StaysSolvable slots.now trail.old trail.new }
 {
     if have_same_symbol(left[0], right[0]) {
         return fill(trail, slots, left, right, budget);

@@ -2,9 +2,8 @@
 ghost use Rattle.std.specs.Prelude.{◌≡◌, ◌++◌, IfOk};
 ghost use Rattle.std.specs.List.{AllByRecursion};
 ghost use Rattle.si_defs.specs.Substitutions.{Grows};
-ghost use Rattle.si_flat.specs.Cells.{IsWhole};
-ghost use Rattle.si_unify.specs.Solving.{AreInRange, HasSolved};
-ghost use Rattle.si_fit.specs.Fitting.{AllowsSolving, AreRowsInRange, HasFitted, HasSolution};
+ghost use Rattle.si_unify.specs.Solving.{HasSolved};
+ghost use Rattle.si_fit.specs.Fitting.{AllowsSolving, AreRowsInRange, AreWalkable, HasFitted, HasSolution, StaysSolvable};
 ghost use Rattle.si_fit.specs.Fresh.{StandOnce, IsUntold, AreFresh};
 
 use crate::ends::end_of;
@@ -27,19 +26,13 @@ fn fit_pair<'a>(
     left: &'a [Cell],
     right: &'a [Cell],
 ) -> Result<bool, AllocError>
-    requires left { IsWhole left.now }
-    requires right { IsWhole right.now }
-    requires left_range { AreInRange slots.now left.now }
-    requires right_range { AreInRange slots.now right.now }
+    requires terms { AreWalkable slots.now trail.old left.now right.now }
     requires solution { HasSolution slots.now trail.old.pairs }
-    requires ready { AllowsSolving slots.now trail.old.pairs trail.old.slots }
     requires once { StandOnce (left.now ++ right.now) }
     requires untold { AllByRecursion (IsUntold slots.now trail.old.pairs) right.now }
     ensures solved { IfOk result (HasSolved slots.now trail.old.pairs trail.new.pairs left.now
         right.now) }
-    ensures grows { Grows trail.old.pairs trail.new.pairs }
-    ensures ready { AllowsSolving slots.now trail.new.pairs trail.new.slots }
-    ensures slots { trail.new.slots ≡ trail.old.slots }
+    ensures trail { StaysSolvable slots.now trail.old trail.new }
 {
     let mark = trail.mark();
     let end = end_of(trail, slots, left);

@@ -1,11 +1,10 @@
 // A variable that is made equal to a term by binding it.
 ghost use Rattle.std.specs.Prelude.{◌≡◌, ◌↔◌, ◌≤◌, None, IsTrue, get_or};
-ghost use Rattle.si_defs.specs.Substitutions.{Grows};
 ghost use Rattle.si_flat.specs.declared.Cell.TheVariants.{App};
 ghost use Rattle.si_flat.specs.Cells.{IsWhole};
 ghost use Rattle.si_trail.specs.Trails.{value_at};
 ghost use Rattle.si_unify.specs.Solving.{AreInRange};
-ghost use Rattle.si_fit.specs.Fitting.{AllowsSolving};
+ghost use Rattle.si_fit.specs.Fitting.{AllowsSolving, StaysSolvable};
 ghost use Rattle.si_fit.specs.Meeting.{IsOpenSlot, IsSameVariable, slot_cells, same_symbol, HasMet};
 ghost use Rattle.si_fit.specs.Occurring.{IsFreeFor};
 
@@ -81,9 +80,7 @@ pub(crate) fn bind<'a>(
     requires ready { AllowsSolving slots.now trail.old.pairs trail.old.slots }
     ensures met { HasMet slots.now trail.old.pairs trail.new.pairs (slot_cells slots.now slot)
         term.now result }
-    ensures grows { Grows trail.old.pairs trail.new.pairs }
-    ensures ready { AllowsSolving slots.now trail.new.pairs trail.new.slots }
-    ensures slots { trail.new.slots ≡ trail.old.slots }
+    ensures trail { StaysSolvable slots.now trail.old trail.new }
     ensures fewer { budget.new ≤ budget.old }
 {
     let head = term[0];

@@ -1,12 +1,9 @@
 // The walk over two terms beside each other.
 ghost use Rattle.std.specs.Prelude.{◌≡◌, ◌≤◌, None, Some, IsTrue, get_or};
-ghost use Rattle.si_defs.specs.Substitutions.{Grows};
 ghost use Rattle.si_flat.specs.declared.Cell.TheVariants.{App};
-ghost use Rattle.si_flat.specs.Cells.{IsWhole};
 ghost use Rattle.si_trail.specs.Trails.{value_at};
-ghost use Rattle.si_unify.specs.Solving.{AreInRange};
 ghost use Rattle.si_unify.specs.Spots.{free_slot};
-ghost use Rattle.si_fit.specs.Fitting.{AllowsSolving};
+ghost use Rattle.si_fit.specs.Fitting.{AreWalkable, StaysSolvable};
 ghost use Rattle.si_fit.specs.Meeting.{same_symbol, HasMet};
 
 use crate::meeting::{Met, bind, have_same_symbol, is_same_variable, value_at};
@@ -26,15 +23,9 @@ pub(crate) fn walk<'a>(
     right: &'a [Cell],
     budget: &mut u32,
 ) -> Met
-    requires left { IsWhole left.now }
-    requires right { IsWhole right.now }
-    requires left_range { AreInRange slots.now left.now }
-    requires right_range { AreInRange slots.now right.now }
-    requires ready { AllowsSolving slots.now trail.old.pairs trail.old.slots }
+    requires terms { AreWalkable slots.now trail.old left.now right.now }
     ensures met { HasMet slots.now trail.old.pairs trail.new.pairs left.now right.now result }
-    ensures grows { Grows trail.old.pairs trail.new.pairs }
-    ensures ready { AllowsSolving slots.now trail.new.pairs trail.new.slots }
-    ensures slots { trail.new.slots ≡ trail.old.slots }
+    ensures trail { StaysSolvable slots.now trail.old trail.new }
     ensures fewer { budget.new ≤ budget.old }
 {
     let mut i = 0;
@@ -69,15 +60,9 @@ fn follow<'a>(
     right: &'a [Cell],
     budget: &mut u32,
 ) -> Met
-    requires left { IsWhole left.now }
-    requires right { IsWhole right.now }
-    requires left_range { AreInRange slots.now left.now }
-    requires right_range { AreInRange slots.now right.now }
-    requires ready { AllowsSolving slots.now trail.old.pairs trail.old.slots }
+    requires terms { AreWalkable slots.now trail.old left.now right.now }
     ensures met { HasMet slots.now trail.old.pairs trail.new.pairs left.now right.now result }
-    ensures grows { Grows trail.old.pairs trail.new.pairs }
-    ensures ready { AllowsSolving slots.now trail.new.pairs trail.new.slots }
-    ensures slots { trail.new.slots ≡ trail.old.slots }
+    ensures trail { StaysSolvable slots.now trail.old trail.new }
     ensures fewer { budget.new ≤ budget.old }
 {
     if *budget == 0 {
@@ -97,18 +82,12 @@ fn meet_fixed<'a>(
     right: &'a [Cell],
     budget: &mut u32,
 ) -> Met
-    requires left { IsWhole left.now }
-    requires right { IsWhole right.now }
-    requires left_range { AreInRange slots.now left.now }
-    requires right_range { AreInRange slots.now right.now }
-    requires ready { AllowsSolving slots.now trail.old.pairs trail.old.slots }
+    requires terms { AreWalkable slots.now trail.old left.now right.now }
     requires differ { IsTrue (same_symbol (get_or left.now 0 (App 0 0 0))
         (get_or right.now 0 (App 0 0 0))) → ⊥ }
     requires fixed { free_slot slots.now (get_or right.now 0 (App 0 0 0)) ≡ None }
     ensures met { HasMet slots.now trail.old.pairs trail.new.pairs left.now right.now result }
-    ensures grows { Grows trail.old.pairs trail.new.pairs }
-    ensures ready { AllowsSolving slots.now trail.new.pairs trail.new.slots }
-    ensures slots { trail.new.slots ≡ trail.old.slots }
+    ensures trail { StaysSolvable slots.now trail.old trail.new }
     ensures fewer { budget.new ≤ budget.old }
 {
     let one = left[0];
@@ -136,17 +115,11 @@ fn meet_unbound<'a>(
     slot: usize,
     budget: &mut u32,
 ) -> Met
-    requires left { IsWhole left.now }
-    requires right { IsWhole right.now }
-    requires left_range { AreInRange slots.now left.now }
-    requires right_range { AreInRange slots.now right.now }
-    requires ready { AllowsSolving slots.now trail.old.pairs trail.old.slots }
+    requires terms { AreWalkable slots.now trail.old left.now right.now }
     requires variable { free_slot slots.now (get_or right.now 0 (App 0 0 0)) ≡ Some slot }
     requires unbound { value_at trail.old.pairs slot ≡ None }
     ensures met { HasMet slots.now trail.old.pairs trail.new.pairs left.now right.now result }
-    ensures grows { Grows trail.old.pairs trail.new.pairs }
-    ensures ready { AllowsSolving slots.now trail.new.pairs trail.new.slots }
-    ensures slots { trail.new.slots ≡ trail.old.slots }
+    ensures trail { StaysSolvable slots.now trail.old trail.new }
     ensures fewer { budget.new ≤ budget.old }
 {
     let one = left[0];
@@ -175,17 +148,11 @@ pub(crate) fn meet<'a>(
     right: &'a [Cell],
     budget: &mut u32,
 ) -> Met
-    requires left { IsWhole left.now }
-    requires right { IsWhole right.now }
-    requires left_range { AreInRange slots.now left.now }
-    requires right_range { AreInRange slots.now right.now }
-    requires ready { AllowsSolving slots.now trail.old.pairs trail.old.slots }
+    requires terms { AreWalkable slots.now trail.old left.now right.now }
     requires differ { IsTrue (same_symbol (get_or left.now 0 (App 0 0 0))
         (get_or right.now 0 (App 0 0 0))) → ⊥ }
     ensures met { HasMet slots.now trail.old.pairs trail.new.pairs left.now right.now result }
-    ensures grows { Grows trail.old.pairs trail.new.pairs }
-    ensures ready { AllowsSolving slots.now trail.new.pairs trail.new.slots }
-    ensures slots { trail.new.slots ≡ trail.old.slots }
+    ensures trail { StaysSolvable slots.now trail.old trail.new }
     ensures fewer { budget.new ≤ budget.old }
 {
     let other = right[0];

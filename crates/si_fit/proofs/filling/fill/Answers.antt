@@ -6,7 +6,7 @@ use Rattle.si_fit.proofs.filling.fill.Goals as goal
 
 pub loop-j-init : goal.loop-j-init
 loop-j-init c = record {
-  is_walking = walk_starts c.args.slots.now c.args.left.now c.args.right.now c.args.trail.now.pairs c.args.trail.now.slots c.requires.left c.requires.right c.requires.ready;
+  is_walking = walk_starts c.args.slots.now c.args.left.now c.args.right.now c.args.trail.now.pairs c.args.trail.now.slots c.requires.terms.left c.requires.terms.right c.requires.terms.ready;
   left_within = omega arith;
   still_new = c.requires.fresh;
   same_slots = refl;
@@ -48,13 +48,13 @@ pub loop-j-preserved : goal.loop-j-preserved
 loop-j-preserved c = record {
   is_walking =
       walk_goes_on c.args.slots.now c.args.left.now c.args.right.now c.args.trail.now.pairs c.args.trail.now.slots c.loop-j.trail.pairs c.loop-j.i c.loop-j.j c.sub-one.result.now c.sub-other.result.now c.loop-j.invariant.is_walking c.loop-j-test.true c.sub-one.ensures.place c.sub-other.ensures.place c.sub-one.ensures.whole c.sub-other.ensures.whole
-      c.fill_one.new.trail.pairs c.in-Equal.ensures.met c.fill_one.ensures.grows
-      (subst (AllowsSolving c.args.slots.now c.fill_one.new.trail.pairs) (c.fill_one.ensures.slots ∙ c.loop-j.invariant.same_slots) c.fill_one.ensures.ready);
+      c.fill_one.new.trail.pairs c.in-Equal.ensures.met c.fill_one.ensures.trail.grows
+      (subst (AllowsSolving c.args.slots.now c.fill_one.new.trail.pairs) (c.fill_one.ensures.trail.count ∙ c.loop-j.invariant.same_slots) c.fill_one.ensures.trail.ready);
   left_within = left_within c.args.slots.now c.args.left.now c.args.right.now c.args.trail.now.pairs c.args.trail.now.slots c.loop-j.trail.pairs c.loop-j.i c.loop-j.j c.sub-one.result.now c.sub-other.result.now c.loop-j.invariant.is_walking c.loop-j-test.true c.sub-one.ensures.place c.sub-other.ensures.place c.sub-one.ensures.whole c.sub-other.ensures.whole;
   still_new =
       new_on c.args.slots.now c.loop-j.trail.pairs c.args.left.now c.args.right.now c.loop-j.i c.loop-j.j c.sub-one.result.now c.sub-other.result.now c.loop-j.invariant.still_new c.sub-one.ensures.place c.sub-other.ensures.place
-      c.fill_one.new.trail.pairs c.fill_one.new.trail.slots c.requires.once c.in-Equal.ensures.met c.fill_one.ensures.ready c.mark-i.ensures.distinct;
-  same_slots = c.fill_one.ensures.slots ∙ c.loop-j.invariant.same_slots;
+      c.fill_one.new.trail.pairs c.fill_one.new.trail.slots c.requires.once c.in-Equal.ensures.met c.fill_one.ensures.trail.ready c.mark-i.ensures.distinct;
+  same_slots = c.fill_one.ensures.trail.count ∙ c.loop-j.invariant.same_slots;
 }
 
 pub returns-in-Clash-clause-met : goal.returns-in-Clash-clause-met

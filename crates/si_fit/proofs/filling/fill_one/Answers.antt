@@ -14,31 +14,35 @@ use Rattle.si_fit.proofs.FreshLaws.{end_still_lacks, slot_unbound, fresh_ready, 
 use Rattle.si_fit.proofs.filling.fill_one.Goals as goal
 
 pub bounds-right-0 : goal.bounds-right-0
-bounds-right-0 c = some_cell c.args.right.now c.requires.right
+bounds-right-0 c = some_cell c.args.right.now c.requires.terms.right
 
 pub bind-requires-clause-unbound : goal.bind-requires-clause-unbound
 bind-requires-clause-unbound c =
     let ends = c.end_of-end.ensures.ends in
     let fresh = c.requires.fresh c.in-Ind.number c.in-Ind.is in
-    slot_unbound c.args.slots.now c.args.trail.now.pairs c.in-Ind.number c.args.trail.now.slots c.end_of-end.result c.requires.ready
-    (subst (CellIsInRange c.args.slots.now) c.in-Ind.is (in_range-at c.args.slots.now c.args.right.now 0 no_cell c.requires.right_range (some_cell c.args.right.now c.requires.right)))
+    slot_unbound c.args.slots.now c.args.trail.now.pairs c.in-Ind.number c.args.trail.now.slots c.end_of-end.result c.requires.terms.ready
+    (subst (CellIsInRange c.args.slots.now) c.in-Ind.is (in_range-at c.args.slots.now c.args.right.now 0 no_cell c.requires.terms.right_range (some_cell c.args.right.now c.requires.terms.right)))
     fresh.0 (ends.last, ends.last_stands) c.end_of-end.ensures.range
-    (end_still_lacks c.args.slots.now c.args.trail.now.pairs c.args.left.now c.end_of-end.result.now c.in-Ind.number c.args.trail.now.slots c.requires.ready c.mark.ensures.distinct fresh.0 ends fresh.1)
+    (end_still_lacks c.args.slots.now c.args.trail.now.pairs c.args.left.now c.end_of-end.result.now c.in-Ind.number c.args.trail.now.slots c.requires.terms.ready c.mark.ensures.distinct fresh.0 ends fresh.1)
 
 pub returns-in-Ind-clause-met : goal.returns-in-Ind-clause-met
 returns-in-Ind-clause-met c =
     end_met c.args.slots.now c.args.trail.now.pairs c.bind.new.self.pairs c.args.left.now c.end_of-end.result.now c.args.right.now Equal c.end_of-end.ensures.ends
     (right_met c.args.slots.now c.args.trail.now.pairs c.bind.new.self.pairs (slot_of c.args.slots.now (ind c.in-Ind.number)) c.end_of-end.result.now c.args.right.now Equal
-    (variable_at c.args.slots.now (slot_of c.args.slots.now (ind c.in-Ind.number)) c.args.right.now c.requires.right c.requires.right_range (ap (free_slot c.args.slots.now) c.in-Ind.is))
+    (variable_at c.args.slots.now (slot_of c.args.slots.now (ind c.in-Ind.number)) c.args.right.now c.requires.terms.right c.requires.terms.right_range (ap (free_slot c.args.slots.now) c.in-Ind.is))
     (subst (λ l. HasMet c.args.slots.now c.args.trail.now.pairs l (slot_cells c.args.slots.now (slot_of c.args.slots.now (ind c.in-Ind.number))) c.end_of-end.result.now Equal) (sym c.bind.ensures.pairs) (pair_met c.args.slots.now c.args.trail.now.pairs (slot_of c.args.slots.now (ind c.in-Ind.number)) c.end_of-end.result)))
 
-pub returns-in-Ind-clause-ready : goal.returns-in-Ind-clause-ready
-returns-in-Ind-clause-ready c =
-    let ends = c.end_of-end.ensures.ends in
-    let fresh = c.requires.fresh c.in-Ind.number c.in-Ind.is in
-    subst (AllowsSolving c.args.slots.now c.bind.new.self.pairs) (sym c.bind.ensures.slots)
-    (subst (λ l. AllowsSolving c.args.slots.now l c.args.trail.now.slots) (sym c.bind.ensures.pairs)
-    (fresh_ready c.args.slots.now c.args.trail.now.pairs c.in-Ind.number c.args.trail.now.slots c.end_of-end.result c.requires.ready
-    (subst (CellIsInRange c.args.slots.now) c.in-Ind.is (in_range-at c.args.slots.now c.args.right.now 0 no_cell c.requires.right_range (some_cell c.args.right.now c.requires.right)))
-    fresh.0 (ends.last, ends.last_stands) c.end_of-end.ensures.range
-    (end_still_lacks c.args.slots.now c.args.trail.now.pairs c.args.left.now c.end_of-end.result.now c.in-Ind.number c.args.trail.now.slots c.requires.ready c.mark.ensures.distinct fresh.0 ends fresh.1)))
+pub returns-in-Ind-clause-trail : goal.returns-in-Ind-clause-trail
+returns-in-Ind-clause-trail c = record {
+  grows = (_, c.bind.ensures.pairs);
+  ready =
+      let ends = c.end_of-end.ensures.ends in
+      let fresh = c.requires.fresh c.in-Ind.number c.in-Ind.is in
+      subst (AllowsSolving c.args.slots.now c.bind.new.self.pairs) (sym c.bind.ensures.slots)
+      (subst (λ l. AllowsSolving c.args.slots.now l c.args.trail.now.slots) (sym c.bind.ensures.pairs)
+      (fresh_ready c.args.slots.now c.args.trail.now.pairs c.in-Ind.number c.args.trail.now.slots c.end_of-end.result c.requires.terms.ready
+      (subst (CellIsInRange c.args.slots.now) c.in-Ind.is (in_range-at c.args.slots.now c.args.right.now 0 no_cell c.requires.terms.right_range (some_cell c.args.right.now c.requires.terms.right)))
+      fresh.0 (ends.last, ends.last_stands) c.end_of-end.ensures.range
+      (end_still_lacks c.args.slots.now c.args.trail.now.pairs c.args.left.now c.end_of-end.result.now c.in-Ind.number c.args.trail.now.slots c.requires.terms.ready c.mark.ensures.distinct fresh.0 ends fresh.1)));
+  count = c.bind.ensures.slots;
+}

@@ -1,10 +1,20 @@
-use Rattle.std.proofs.Common.{◌∙◌, subst}
+use Rattle.std.proofs.Common.{sym, ◌∙◌, subst}
+use Rattle.si_unify.specs.Solving.{AreInRange}
+use Rattle.si_unify.proofs.Comparing.{grows_on}
 use Rattle.si_fit.specs.Fitting.{AllowsSolving}
-use Rattle.si_fit.proofs.FitTurns.{indicator_whole, row_fresh, fits_more, fits_not, fits_end}
+use Rattle.si_fit.proofs.FitTurns.{indicator_whole, indicator_range, row_range, row_fresh, fits_more, fits_not, fits_end}
 use Rattle.si_fit.proofs.fitting.fit.Goals as goal
 
-pub fit_pair-requires-clause-left : goal.fit_pair-requires-clause-left
-fit_pair-requires-clause-left c = indicator_whole c.left_cells-left.result.now c.in-Some.pair.0 c.left_cells-left.ensures
+pub fit_pair-requires-clause-terms : goal.fit_pair-requires-clause-terms
+fit_pair-requires-clause-terms c =
+    let range = row_range c.args.slots.now c.args.trail.now.pairs c.args.bindings.now c.args.trail.now.slots c.loop-pair.trail.pairs c.loop-pair.pair-iterator c.next.new.self c.in-Some.pair c.in-Some.ensures.steps c.loop-pair.invariant.fits_so_far in
+    record {
+      left = indicator_whole c.left_cells-left.result.now c.in-Some.pair.0 c.left_cells-left.ensures;
+      right = c.right-right.ensures.whole;
+      left_range = indicator_range c.args.slots.now c.left_cells-left.result.now c.in-Some.pair.0 c.left_cells-left.ensures range.0;
+      right_range = subst (AreInRange c.args.slots.now) (sym c.right-right.ensures.cells) range.1;
+      ready = subst (AllowsSolving c.args.slots.now c.loop-pair.trail.pairs) (sym c.loop-pair.invariant.same_slots) c.loop-pair.invariant.fits_so_far.ready;
+    }
 
 pub returns-then-not-branch-clause-fits : goal.returns-then-not-branch-clause-fits
 returns-then-not-branch-clause-fits c =
@@ -16,9 +26,9 @@ loop-pair-preserved c = record {
   fits_so_far =
       fits_more c.args.slots.now c.args.trail.now.pairs c.args.bindings.now c.args.trail.now.slots c.loop-pair.trail.pairs c.loop-pair.pair-iterator c.next.new.self c.in-Some.pair c.in-Some.ensures.steps c.loop-pair.invariant.fits_so_far
       c.fit_pair.new.trail.pairs c.left_cells-left.result.now c.right-right.result.now c.in_ok-fit_pair.field-0 c.left_cells-left.ensures c.right-right.ensures.cells c.in_ok-fit_pair.ensures.solved c.if-not-branch.false
-      c.fit_pair.ensures.grows
-      (subst (AllowsSolving c.args.slots.now c.fit_pair.new.trail.pairs) (c.fit_pair.ensures.slots ∙ c.loop-pair.invariant.same_slots) c.fit_pair.ensures.ready);
-  same_slots = c.in_ok-fit_pair.ensures.slots ∙ c.loop-pair.invariant.same_slots;
+      c.fit_pair.ensures.trail.grows
+      (subst (AllowsSolving c.args.slots.now c.fit_pair.new.trail.pairs) (c.fit_pair.ensures.trail.count ∙ c.loop-pair.invariant.same_slots) c.fit_pair.ensures.trail.ready);
+  same_slots = c.in_ok-fit_pair.ensures.trail.count ∙ c.loop-pair.invariant.same_slots;
 }
 
 pub returns-clause-fits : goal.returns-clause-fits
@@ -32,3 +42,11 @@ fit_pair-requires-clause-once c =
 pub fit_pair-requires-clause-untold : goal.fit_pair-requires-clause-untold
 fit_pair-requires-clause-untold c =
     (row_fresh c.args.slots.now c.args.trail.now.pairs c.args.bindings.now c.args.trail.now.slots c.loop-pair.trail.pairs c.loop-pair.pair-iterator c.next.new.self c.in-Some.pair c.in-Some.ensures.steps c.loop-pair.invariant.fits_so_far c.left_cells-left.result.now c.right-right.result.now c.left_cells-left.ensures c.right-right.ensures.cells).1
+
+pub returns-in_err-fit_pair-clause-grows : goal.returns-in_err-fit_pair-clause-grows
+returns-in_err-fit_pair-clause-grows c =
+    grows_on c.args.trail.now.pairs c.loop-pair.trail.pairs c.fit_pair.new.trail.pairs c.loop-pair.invariant.fits_so_far.grows c.fit_pair.ensures.trail.grows
+
+pub returns-then-not-branch-clause-grows : goal.returns-then-not-branch-clause-grows
+returns-then-not-branch-clause-grows c =
+    grows_on c.args.trail.now.pairs c.loop-pair.trail.pairs c.fit_pair.new.trail.pairs c.loop-pair.invariant.fits_so_far.grows c.fit_pair.ensures.trail.grows

@@ -1,4 +1,4 @@
-use Rattle.std.proofs.Common.{take, ap, ◌∙◌, subst}
+use Rattle.std.proofs.Common.{take, ap, ◌∙◌, subst, arith}
 use Rattle.std.specs.Prelude.{IfOk}
 use Rattle.si_defs.specs.Substitutions.{Grows}
 use Rattle.si_unify.specs.Solving.{HasSolved}
@@ -14,17 +14,23 @@ returns-in-Equal-clause-solved c =
     met_solved c.args.slots.now c.args.trail.now.pairs c.fill_any.new.trail.pairs c.args.left.now c.args.right.now
     c.fill_any.new.trail.slots
     (end_met c.args.slots.now c.args.trail.now.pairs c.fill_any.new.trail.pairs c.args.left.now c.end_of-end.result.now c.args.right.now Equal c.end_of-end.ensures.ends c.in-Equal.ensures.met)
-    c.fill_any.ensures.ready c.mark.ensures.distinct
+    c.fill_any.ensures.trail.ready c.mark.ensures.distinct
 
-pub fill_any-requires-clause-left : goal.fill_any-requires-clause-left
-fill_any-requires-clause-left c = (c.end_of-end.ensures.ends.last, c.end_of-end.ensures.ends.last_stands)
+pub fill_any-requires-clause-terms : goal.fill_any-requires-clause-terms
+fill_any-requires-clause-terms c = record {
+  left = (c.end_of-end.ensures.ends.last, c.end_of-end.ensures.ends.last_stands);
+  right = c.requires.terms.right;
+  left_range = c.end_of-end.ensures.range;
+  right_range = c.requires.terms.right_range;
+  ready = c.requires.terms.ready;
+}
 
 pub fill_any-requires-clause-once : goal.fill_any-requires-clause-once
 fill_any-requires-clause-once c = once_back c.args.left.now c.args.right.now c.requires.once
 
 pub fill_any-requires-clause-fresh : goal.fill_any-requires-clause-fresh
 fill_any-requires-clause-fresh c =
-    end_new c.args.slots.now c.args.trail.now.pairs c.args.left.now c.end_of-end.result.now c.args.right.now c.args.trail.now.slots c.requires.solution c.requires.ready c.requires.once c.requires.untold c.end_of-end.ensures.ends
+    end_new c.args.slots.now c.args.trail.now.pairs c.args.left.now c.end_of-end.result.now c.args.right.now c.args.trail.now.slots c.requires.solution c.requires.terms.ready c.requires.once c.requires.untold c.end_of-end.ensures.ends
 
 pub returns-in-Clash-clause-solved : goal.returns-in-Clash-clause-solved
 returns-in-Clash-clause-solved c =
@@ -34,11 +40,19 @@ returns-in-Clash-clause-solved c =
 pub returns-in-Unknown-clause-solved : goal.returns-in-Unknown-clause-solved
 returns-in-Unknown-clause-solved c =
     subst (λ l. IfOk c.solve_with.result (HasSolved c.args.slots.now l c.solve_with.new.trail.pairs c.args.left.now c.args.right.now))
-    (c.undo.ensures.pairs ∙ ap (λ n. take n c.fill_any.new.trail.pairs) c.mark-mark.ensures.number ∙ front_of c.args.trail.now.pairs c.fill_any.new.trail.pairs c.fill_any.ensures.grows)
+    (c.undo.ensures.pairs ∙ ap (λ n. take n c.fill_any.new.trail.pairs) c.mark-mark.ensures.number ∙ front_of c.args.trail.now.pairs c.fill_any.new.trail.pairs c.fill_any.ensures.trail.grows)
     c.solve_with.ensures.solved
 
-pub returns-in-Unknown-clause-grows : goal.returns-in-Unknown-clause-grows
-returns-in-Unknown-clause-grows c =
-    subst (λ l. Grows l c.solve_with.new.trail.pairs)
-    (c.undo.ensures.pairs ∙ ap (λ n. take n c.fill_any.new.trail.pairs) c.mark-mark.ensures.number ∙ front_of c.args.trail.now.pairs c.fill_any.new.trail.pairs c.fill_any.ensures.grows)
-    (still_grows c.undo.new.self.pairs c.solve_with.new.trail.pairs c.solve_with.result c.solve_with.ensures.grows c.solve_with.ensures.no c.solve_with.ensures.err)
+pub returns-in-Unknown-clause-trail : goal.returns-in-Unknown-clause-trail
+returns-in-Unknown-clause-trail c = record {
+  grows =
+      subst (λ l. Grows l c.solve_with.new.trail.pairs)
+      (c.undo.ensures.pairs ∙ ap (λ n. take n c.fill_any.new.trail.pairs) c.mark-mark.ensures.number ∙ front_of c.args.trail.now.pairs c.fill_any.new.trail.pairs c.fill_any.ensures.trail.grows)
+      (still_grows c.undo.new.self.pairs c.solve_with.new.trail.pairs c.solve_with.result c.solve_with.ensures.grows c.solve_with.ensures.no c.solve_with.ensures.err);
+  ready = record {
+    room = omega (arith, c.solve_with.ensures.slots, c.undo.ensures.slots, c.fill_any.ensures.trail.count, c.requires.terms.ready.room);
+    bindings = c.solve_with.ensures.bindings;
+    triangular = c.solve_with.ensures.triangular;
+  };
+  count = c.solve_with.ensures.slots ∙ c.undo.ensures.slots ∙ c.fill_any.ensures.trail.count;
+}

@@ -12,13 +12,12 @@ returns-in-Absent-clause-met c =
     subst (λ l. HasMet c.args.slots.now c.args.trail.now.pairs l (slot_cells c.args.slots.now c.args.slot) c.args.term.now Equal) (sym c.bind.ensures.pairs)
     (bound_met c.args.slots.now c.args.trail.now.pairs c.args.slot c.args.trail.now.slots c.args.term c.requires.ready c.mark.ensures.distinct c.requires.slot c.requires.unbound c.requires.whole c.requires.range c.in-Absent.ensures.found c.requires.first)
 
-pub returns-in-Absent-clause-ready : goal.returns-in-Absent-clause-ready
-returns-in-Absent-clause-ready c =
-    subst (AllowsSolving c.args.slots.now c.bind.new.self.pairs) (sym c.bind.ensures.slots)
-    (
-    subst (λ l. AllowsSolving c.args.slots.now l c.args.trail.now.slots) (sym c.bind.ensures.pairs)
-    (bound_ready c.args.slots.now c.args.trail.now.pairs c.args.slot c.args.trail.now.slots c.args.term c.requires.ready c.mark.ensures.distinct c.requires.slot c.requires.unbound c.requires.whole c.requires.range c.in-Absent.ensures.found c.requires.first)
-    )
+pub returns-in-Absent-clause-trail : goal.returns-in-Absent-clause-trail
+returns-in-Absent-clause-trail c = record {
+  grows = (_, c.bind.ensures.pairs);
+  ready = subst (AllowsSolving c.args.slots.now c.bind.new.self.pairs) (sym c.bind.ensures.slots) (subst (λ l. AllowsSolving c.args.slots.now l c.args.trail.now.slots) (sym c.bind.ensures.pairs) (bound_ready c.args.slots.now c.args.trail.now.pairs c.args.slot c.args.trail.now.slots c.args.term c.requires.ready c.mark.ensures.distinct c.requires.slot c.requires.unbound c.requires.whole c.requires.range c.in-Absent.ensures.found c.requires.first));
+  count = c.bind.ensures.slots;
+}
 
 pub bounds-term-0 : goal.bounds-term-0
 bounds-term-0 c = some_cell c.args.term.now c.requires.whole

@@ -6,7 +6,7 @@ ghost use Rattle.si_term.specs.Meaning.{entry_of};
 ghost use Rattle.si_state.specs.Answers.{Stands};
 ghost use Rattle.si_entries.specs.Walks.{place_in};
 ghost use Rattle.si_keyed.specs.Placed.{HasPlace};
-ghost use Rattle.si_index.specs.Leaves.{AreUnmade, IsUnmade, StayMade};
+ghost use Rattle.si_index.specs.Leaves.{AreUnmade, StayMade};
 ghost use Rattle.si_index.specs.Searching.{numbers_of, pattern_in, IsReady, IsKnownEntry, IsOfLeaf, AreMade, HasList, AreMatches, hit_of};
 ghost use Rattle.si_index.specs.Gathering.{Rise, IsAhead, IsHitAt, IsStandingAt, IsWalk, Adds};
 
@@ -189,30 +189,6 @@ fn make_list<'a>(
     if leaves[leaf].list.is_some() {
         return Ok(());
     }
-    solve_leaf(search, query, workspace, leaves, leaf, entry)
-}
-
-/// Makes the list of a leaf that has none. It isn't inlined, as most entries don't come here.
-#[inline(never)]
-fn solve_leaf<'a>(
-    search: &Search<'a>,
-    query: &CountedQuery<'_>,
-    workspace: &mut Workspace<'a>,
-    leaves: &mut Vec<Leaf>,
-    leaf: usize,
-    entry: Entry<'a>,
-) -> Result<(), AllocError>
-    requires ready { IsReady search.now }
-    requires query { query.now ≡ search.now.query.flat }
-    requires known { IsKnownEntry (numbers_of search.now) (entry_of entry) }
-    requires stands { Stands search.now.relation (pattern_in search.now) (entry_of entry) }
-    requires leaf { IsOfLeaf search.now leaves.old.items leaf (entry_of entry) }
-    requires made { AreMade search.now leaves.old.items }
-    requires unmade { IsUnmade leaves.old.items leaf }
-    ensures list { OnOk result (HasList search.now (entry_of entry.entry) leaves.new.items leaf) }
-    ensures made { OnOk result (AreMade search.now leaves.new.items) }
-    ensures stay { OnOk result (StayMade leaves.old.items leaves.new.items) }
-{
     let list = search.solve(query, workspace, entry)?;
     leaves[leaf].list = Some(list);
     Ok(())

@@ -48,7 +48,9 @@ impl<'a> Workspace<'a> {
 
 impl<'a> Search<'a> {
     /// The canonical list of an entry that stands in the relation. All entries with the same flat
-    /// term have it. The query is this search's.
+    /// term have it. The query is this search's. It isn't inlined, as most entries have the list
+    /// of one before them.
+    #[inline(never)]
     pub(crate) fn solve(
         &self,
         query: &CountedQuery<'_>,

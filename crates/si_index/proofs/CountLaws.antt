@@ -1,5 +1,6 @@
 -- There are as many hits as postings that are answered, so they are counted without a list of them.
-use Rattle.std.proofs.Common.{◌≡◌, ◌⊎◌, inl, inr, ℕ, ◌+◌, ◌≤◌, Bool, true, ◌&&◌, List, [], ◌∷◌, ◌++◌, length, map, refl, sym, ◌∙◌, subst, arith}
+use Rattle.std.proofs.Common.{Result, Ok, Err, ◌≡◌, ◌⊎◌, inl, inr, ℕ, ◌+◌, ◌≤◌, Bool, true, ◌&&◌, List, [], ◌∷◌, ◌++◌, length, map, refl, sym, ◌∙◌, subst, arith}
+use Rattle.std.specs.Prelude.{IfOk}
 use Rattle.std.proofs.Math.Dec.{eqb}
 use Rattle.std.proofs.lemmas.Bool.{and_from, and_parts, eq-eqb, eqb-true}
 use Rattle.std.proofs.lemmas.List.{length-map}
@@ -30,7 +31,8 @@ use Rattle.si_descend.proofs.ExactLists.{no_more}
 use Rattle.si_index.specs.Kept.{Kept, AreKeyed, kept_clauses, TreesHold}
 use Rattle.si_index.specs.Finding.{AreHits, entries_from_position}
 use Rattle.si_index.specs.Engines.{Answering, asks_literals, AreAsked, posted_entries, AreAnswered}
-use Rattle.si_index.specs.Explaining.{Explains}
+use Rattle.si_index.specs.Explaining.{Explains, ExplainsFlat, IsQueryOf}
+use Rattle.si_index.specs.declared.explain.Explained.{Explained}
 use Rattle.si_index.proofs.EngineLaws.{Posted, got_there}
 use Rattle.si_index.proofs.SlotLaws.{place_among}
 use Rattle.si_index.proofs.StandingLaws.{IsOrderly, finds_all, by_terms}
@@ -203,3 +205,17 @@ explained k relation p q literal c nodes orderly sound hold few flat kind counts
       are_hits = h.are_hits;
       answers = answers.2 ∙ exact_count (length answers.0) (omega (arith, few, h.few, h.number)) ∙ sym h.number;
     }
+
+-- a pattern's flat term by the same numbers is its flat query
+pub is_query : (k : Kept) (numbers : Numbering) (literal : Bool) (q : FlatQuery) (p : Pattern) → IsSoundPattern p → literal ≡ asks_literals p → numbers ≡ k.numbers → FlattensPattern numbers p q → IsQueryOf k literal q p
+is_query k numbers literal q p sound asks same flat = record {
+  sound = sound;
+  asks = asks;
+  flat = subst (λ ns. FlattensPattern ns p q) same flat;
+}
+
+-- what is told of each pattern with this flat query, of one
+pub explained_of : {E : Type 0} (k : Kept) (relation : Relation) (literal : Bool) (q : FlatQuery) (p : Pattern) (r : Result Explained E)
+    → IfOk r (ExplainsFlat k relation literal q) → IsQueryOf k literal q p → IfOk r (Explains k relation p)
+explained_of k relation literal q p (Ok e) told is = told p is
+explained_of k relation literal q p (Err x) told is = tt

@@ -2,12 +2,12 @@
 ghost use Rattle.std.specs.Prelude.{IfOk};
 ghost use Rattle.si_defs.specs.Clauses.{IsSoundPattern};
 ghost use Rattle.si_term.specs.Meaning.{pattern_of};
-ghost use Rattle.si_index.specs.Explaining.{Explains};
+ghost use Rattle.si_index.specs.Explaining.{Explains, ExplainsFlat, IsSomeQuery};
 
 use crate::found::asks_literals;
 use crate::index::Index;
 use si_defs::Relation;
-use si_flat::flatten_pattern;
+use si_flat::{FlatQuery, flatten_pattern};
 use si_term::Pattern;
 use std::alloc::AllocError;
 
@@ -28,12 +28,25 @@ impl Index {
         requires { IsSoundPattern (pattern_of pattern.now) }
         ensures { IfOk result (Explains self.now relation (pattern_of pattern.now)) }
     {
+        let query = flatten_pattern(self.allocator(), self.signature(), pattern)?;
+        self.explain_flat(relation, asks_literals(pattern), &query)
+    }
+
+    /// The same for a query that was made flat before: whether literals are asked for, and its flat
+    /// term by the numbers of this index's signature.
+    pub fn explain_flat(
+        &self,
+        relation: Relation,
+        literal: bool,
+        query: &FlatQuery,
+    ) -> Result<Explained, AllocError>
+        requires { IsSomeQuery self.now literal query.now }
+        ensures { IfOk result (ExplainsFlat self.now relation literal query.now) }
+    {
         // So it is known that what is kept is sound, and that its entries are few.
         self.stats();
-        let alloc = self.allocator();
+        self.signature();
         let trees = self.trees();
-        let query = flatten_pattern(alloc, self.signature(), pattern)?;
-        let literal = asks_literals(pattern);
         let counted = trees.count(literal, relation, &query.flat)?;
         Ok(Explained {
             passed: counted.passed,

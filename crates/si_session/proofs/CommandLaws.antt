@@ -25,7 +25,7 @@ use Rattle.si_lex.specs.Lexemes.{tokens_of}
 use Rattle.si_lex.specs.Lexing.{IsLexing}
 use Rattle.si_parse.specs.GrammarRules.{IsFileToken, IsNameToken}
 use Rattle.si_parse.specs.Meaning.{literals_of}
-use Rattle.si_parse.specs.Reading.{AreForeign, IsOfKind, ReadsAll, ReadsWhole}
+use Rattle.si_parse.specs.Reading.{AreForeign, IsOfKind, IsWholePattern, ReadsAll, ReadsWhole}
 use Rattle.si_parse.specs.declared.pattern.PatternKind.{PatternKind}
 use Rattle.si_parse.specs.declared.pattern.PatternKind.TheVariants as kind
 use Rattle.si_parse.specs.Parsing as reads
@@ -37,7 +37,7 @@ use Rattle.si_term.specs.declared.clause.Name as program_name
 use Rattle.si_term.specs.declared.clause.Literal as program_literal
 use Rattle.si_term.specs.declared.clause.Pattern as program_pattern
 use Rattle.si_term.specs.Meaning.{name_of, clause_of, pattern_of}
-use Rattle.si_session.specs.Commands.{ReadsCommand, ReadsQuery, AddForeign, Commands, kind_word}
+use Rattle.si_session.specs.Commands.{IsPerformed, ReadsCommand, ReadsQuery, AddForeign, Commands, kind_word}
 use Rattle.si_session.specs.declared.command.Command as read
 use Rattle.si_session.specs.declared.command.Command.TheVariants as command
 
@@ -285,6 +285,15 @@ query_rest whole t ts k None front word none = λ p q.
 query_rest whole t ts k (Some p) front word read =
     (subst (IsQuery (pattern_of p)) (sym front) (asks_query k (pattern_of p) t ts word read.of_kind read.spelled), read.sound)
 
+-- the tokens of a query to be explained
+pub explains_query : (whole ts : List Token) (r : Relation) (k : PatternKind) (p : Pattern) → whole ≡ lower (command_text Explain) ∷ lower (relation_text r) ∷ lower (kind_word k) ∷ ts
+    → IsWholePattern ts k p → IsCommand (explain r p) whole
+explains_query whole ts r k p e read = record {
+  operands = lower (relation_text r) ∷ lower (kind_word k) ∷ ts;
+  spelled = (lower (kind_word k) ∷ ts, asks_query k p (lower (kind_word k)) ts refl read.of_kind read.spelled, refl);
+  whole = e;
+}
+
 pub query_wrong : (r : Relation) (ts : List Token) → ReadsQuery ts None → Commands (lower (command_text (Ask r)) ∷ ts) End command.Wrong
 query_wrong r ts none = other_wrong (Ask r) ts (λ e. cc) (λ c h. let q = only (Ask r) c ts h in none q.0 q.1)
 
@@ -385,6 +394,10 @@ module _ (line : Bytes) (x : Lexing) (l : IsLexing line 0 x) where
   -- tokens that add a formula of another language
   foreign_some : AddForeign these → these ≡ [] → ⊥
   foreign_some f none = let g : AddForeign [] = subst AddForeign none f in g
+
+  -- the line of a command that isn't read into a value of its own
+  pub line_performs : (c : Command) → x.stop ≡ End → IsCommand c these → IsPerformed c line
+  line_performs c e h = (λ b. command_some c h (blank_tokens b).1, tokens_mean c e h)
 
   -- what its tokens are, the line is
   pub line_read : (c : read.Command) → Commands these x.stop c → ReadsCommand line c

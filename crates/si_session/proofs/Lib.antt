@@ -12,3 +12,4 @@ pub mod Shown
 pub mod MappedLaws
 pub mod Sums
 pub mod Numbers
+pub mod ExplainingLaws

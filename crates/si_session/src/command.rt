@@ -237,7 +237,7 @@ fn subsumed_command(alloc: Global, tokens: &[Lexeme<'_>]) -> Result<Command, All
 }
 
 /// The kind of pattern that a word asks for.
-fn kind_of(word: &Lexeme<'_>) -> Option<PatternKind>
+pub(crate) fn kind_of(word: &Lexeme<'_>) -> Option<PatternKind>
     ensures found { IfSome result (λ kind. token_of word.now ≡ lower (kind_word kind)) }
     ensures none { IfNone result ((kind : PatternKind)
         → token_of word.now ≡ lower (kind_word kind) → ⊥) }

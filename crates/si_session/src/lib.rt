@@ -3,6 +3,7 @@
 
 mod answer;
 mod command;
+mod explaining;
 mod number;
 mod refusals;
 mod reply;

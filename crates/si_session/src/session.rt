@@ -15,6 +15,7 @@ ghost use Rattle.si_term.specs.Meaning.{name_of, clause_of, pattern_of};
 
 use crate::answer::tell_answer;
 use crate::command::{Command, read_command};
+use crate::explaining::explained_at_once;
 use crate::refusals::{load_refusal, refusal};
 use crate::reply::{ReplyLine, tell};
 use crate::sample::sample;
@@ -90,6 +91,9 @@ impl Session {
         self.index.trees();
         if line.len() > self.limits.line {
             return tell(sink, ReplyLine::Long);
+        }
+        if let Some(explained) = explained_at_once(self.alloc, &self.index, line) {
+            return tell(sink, ReplyLine::Explained(explained));
         }
         match read_command(self.alloc, line) {
             Ok(Command::Blank) => Stepped::Silent,

@@ -231,6 +231,18 @@ returns-in-Ok-Explain-clause-step g c =
     subst (λ s. Steps s s (a_line c.args.line.now) c.explain.result (around a library) (around b library)) c.self.view_is
     (explain_stepped limits library c.self.inside.index c.args.line.now c.in-Ok-Explain.relation (pattern_of c.in-Ok-Explain.pattern) c.explain.result a b (holds_trees limits c.self.inside.index c.trees.ensures.keyed c.trees.ensures.exactly c.trees.ensures.hold) short read.0 c.explain.ensures.tells)
 
+pub returns-in-Some-clause-step : goal.returns-in-Some-clause-step
+returns-in-Some-clause-step g c =
+    let a = (g.K.Sink.shown c.args.sink.now) in
+    let b = (g.K.Sink.shown c.tell-in-Some.new.sink) in
+    let limits = c.self.inside.limits in
+    let library = g.L.Library.shown c.args.library.now in
+    let told = c.in-Some.ensures in
+    let short : length c.args.line.now ≤ limits.line = omega (arith, c.if-line-self.false) in
+    subst (λ s. Steps s s (a_line c.args.line.now) c.tell-in-Some.result (around a library) (around b library)) c.self.view_is
+    (explain_stepped limits library c.self.inside.index c.args.line.now told.0 told.1 c.tell-in-Some.result a b (holds_trees limits c.self.inside.index c.trees.ensures.keyed c.trees.ensures.exactly c.trees.ensures.hold) short told.2
+    (inl (c.in-Some.explained, told.3, c.tell-in-Some.ensures.written)))
+
 -- ---- lines that are no command
 pub returns-in-Ok-Blank-clause-step : goal.returns-in-Ok-Blank-clause-step
 returns-in-Ok-Blank-clause-step g c =

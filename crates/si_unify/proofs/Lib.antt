@@ -16,7 +16,6 @@ pub mod VisitLaws
 pub mod Ranks
 pub mod Weights
 pub mod Triangular
-pub mod LongestLaws
 pub mod Answering
 pub mod Solutions
 pub mod Underway

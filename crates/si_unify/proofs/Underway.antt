@@ -6,12 +6,12 @@ use Rattle.si_unify.specs.declared.spots.Subterm.{Subterm}
 use Rattle.si_unify.specs.declared.unifier.Unifier.{Unifier}
 use Rattle.si_unify.specs.Solving.{slot_count}
 use Rattle.si_unify.specs.Spots.{IsSpot, IsSubterm, IsApart, IsLegal, ArePairs, IsGoingOn, HasMet, HasCompared, HasClosed}
-use Rattle.si_unify.specs.Rooms.{pairs_room, most_spots}
+use Rattle.si_unify.specs.Rooms.{spot_pairs_room, most_spots}
 use Rattle.si_unify.specs.Unifying.{HasSpot, HasSubterm, AreApart, IsUnderway, HasRoom, KeepsQuestion, MakesMeet, MakesCompared, MakesClosed}
 use Rattle.si_unify.proofs.Pieces.{all_within}
 
 pub stays : (u : Unifier) → KeepsQuestion u u
-stays u = record { question = refl; trail = refl; keys = refl; heights = refl; slots = refl; heights_room = omega arith; pairs_room = omega arith }
+stays u = record { question = refl; trail = refl; keys = refl; heights = refl; slots = refl; heights_room = omega arith; spot_pairs_room = omega arith }
 
 pub goes_further : (old mid new : Unifier) → KeepsQuestion old mid → KeepsQuestion mid new → KeepsQuestion old new
 goes_further old mid new first then = record {
@@ -21,7 +21,7 @@ goes_further old mid new first then = record {
   heights = then.heights ∙ first.heights;
   slots = then.slots ∙ first.slots;
   heights_room = omega (arith, first.heights_room, then.heights_room);
-  pairs_room = omega (arith, first.pairs_room, then.pairs_room);
+  spot_pairs_room = omega (arith, first.spot_pairs_room, then.spot_pairs_room);
 }
 
 -- what was found out by the question as it was at first holds now, and the other way round
@@ -49,9 +49,9 @@ module _ (old new : Unifier) (goes : KeepsQuestion old new) where
         left = subst (λ q. length q.left.now ≤ n) (sym same) room.left;
         right = subst (λ q. length q.right.now ≤ n) (sym same) room.right;
         heights = omega (arith, room.heights, ap (λ q. slot_count q.slots) same, goes.heights_room);
-        pairs =
-            subst (λ q. most_spots (slot_count q.slots) n * most_spots (slot_count q.slots) n ≤ pairs_room new.keys.now) (sym same)
-            (omega (arith, room.pairs, goes.pairs_room));
+        spot_pairs =
+            subst (λ q. most_spots (slot_count q.slots) n * most_spots (slot_count q.slots) n ≤ spot_pairs_room new.keys.now) (sym same)
+            (omega (arith, room.spot_pairs, goes.spot_pairs_room));
       }
 
   pub spot_still : (spot : Spot) → IsSpot old.question new.trail.now.pairs spot → HasSpot new spot

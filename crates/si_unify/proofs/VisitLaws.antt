@@ -15,9 +15,9 @@ use Rattle.si_unify.specs.declared.circles.Visit.{Visit}
 use Rattle.si_unify.specs.declared.circles.Visit.TheVariants.{Enter}
 use Rattle.si_unify.specs.Solving.{Pairs, slot_count, IsBinding}
 use Rattle.si_unify.specs.Spots.{cell_slot}
-use Rattle.si_unify.specs.Rooms.{AreWithin}
+use Rattle.si_unify.specs.Rooms.{AreNoLongerThan}
 use Rattle.si_unify.specs.States.{weight, new_slots}
-use Rattle.si_unify.specs.Circles.{if_bound, with_slot, bound_slots, enter_each, pile, visits_of, AreEntered, below_value, slots_below, most_visits, AreNoMore, LackRoom, IsSearching, visit_slot}
+use Rattle.si_unify.specs.Circles.{if_bound, with_slot, bound_slots, enter_each, pile, visits_of, AreEntered, below_value, slots_below, most_visits, AreNoMore, VisitsLackRoom, IsSearching, visit_slot}
 use Rattle.si_unify.proofs.Places.{all_at}
 
 -- ---- new slots
@@ -67,7 +67,7 @@ pub few_entered : (slots : Slots) (pairs : Pairs) (cells : List Cell) (old new :
 few_entered slots pairs cells old new h =
     omega (arith, ap length h, length-append (enter_each (pile (bound_slots slots pairs cells) [])) old, length-visits (bound_slots slots pairs cells), few_bound slots pairs cells)
 
-few_below : (n : ℕ) (slots : Slots) (pairs : Pairs) (slot : ℕ) → AreWithin n pairs → length (slots_below slots pairs slot) ≤ n
+few_below : (n : ℕ) (slots : Slots) (pairs : Pairs) (slot : ℕ) → AreNoLongerThan n pairs → length (slots_below slots pairs slot) ≤ n
 few_below n slots pairs slot within = go (value_at pairs slot) refl
   where
     go : (o : Option (Bor (List Cell))) → value_at pairs slot ≡ o → length (below_value slots pairs o) ≤ n
@@ -99,10 +99,10 @@ module _ (slots : Slots) (pairs : Pairs) (states : List State) (slot : ℕ) (bel
   opened_more visits old new long e n within =
       omega (arith, taken n, long, ap length e, length-append (visits_of slots pairs slot) old, length-visits (slots_below slots pairs slot), few_below n slots pairs slot within)
 
-  pub leave_refused : (visits room : ℕ) → room ≤ visits → LackRoom slots pairs states (visits + 1) room
+  pub leave_refused : (visits room : ℕ) → room ≤ visits → VisitsLackRoom slots pairs states (visits + 1) room
   leave_refused visits room full n within = omega (arith, full)
 
-  pub entries_refused : (visits room more : ℕ) → room ≤ more → ((n : ℕ) → AreWithin n pairs → more < visits + 1 + n) → LackRoom slots pairs states (visits + 1) room
+  pub entries_refused : (visits room more : ℕ) → room ≤ more → ((n : ℕ) → AreNoLongerThan n pairs → more < visits + 1 + n) → VisitsLackRoom slots pairs states (visits + 1) room
   entries_refused visits room more kept full n within = omega (arith, kept, full n within, taken n)
 
 -- no slot is bound twice

@@ -14,7 +14,7 @@ use Rattle.si_unify.specs.declared.circles.Visit.TheVariants.{Enter, Leave}
 use Rattle.si_unify.specs.Solving.{Pairs, slot_count, IsTriangularBy, IsAcyclic, IsBinding}
 use Rattle.si_unify.specs.Spots.{cell_slot}
 use Rattle.si_unify.specs.States.{weight, new_slots}
-use Rattle.si_unify.specs.Rooms.{AreWithin}
+use Rattle.si_unify.specs.Rooms.{AreNoLongerThan}
 
 -- the slot, if it is bound
 abbrev pub if_value : Option (Bor (List Cell)) → ℕ → Option ℕ
@@ -142,13 +142,13 @@ abbrev pub most_visits : ℕ → Slots → List State → ℕ → ℕ
 most_visits n slots states visits = visits + (n + 1) * new_slots (slot_count slots) states
 
 -- there is no room for so many
-abbrev pub LackRoom : Slots → Pairs → List State → ℕ → ℕ → Type 0
-LackRoom slots pairs states visits room =
-    (n : ℕ) → AreWithin n pairs → room < most_visits n slots states visits
+abbrev pub VisitsLackRoom : Slots → Pairs → List State → ℕ → ℕ → Type 0
+VisitsLackRoom slots pairs states visits room =
+    (n : ℕ) → AreNoLongerThan n pairs → room < most_visits n slots states visits
 
 -- no more come than were to come
 abbrev pub AreNoMore : Slots → Pairs → List State → List State → ℕ → ℕ → Type 0
-AreNoMore slots pairs old new old_visits new_visits = (n : ℕ) → AreWithin n pairs
+AreNoMore slots pairs old new old_visits new_visits = (n : ℕ) → AreNoLongerThan n pairs
     → most_visits n slots new new_visits ≤ most_visits n slots old old_visits
 
 -- one visit has been made

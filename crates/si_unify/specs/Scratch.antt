@@ -2,7 +2,7 @@
 use Rattle.std.specs.Prelude.{◌≡◌, [], vec_capacity}
 use Rattle.si_unify.specs.declared.scratch.Buffers.{Buffers}
 use Rattle.si_unify.specs.States.{AreNew}
-use Rattle.si_unify.specs.Rooms.{Room, pairs_room}
+use Rattle.si_unify.specs.Rooms.{SolverRoom, spot_pairs_room}
 
 -- nothing is left in the buffers
 pub record AreClear (buffers : Buffers) : Type 0 where
@@ -12,10 +12,10 @@ pub record AreClear (buffers : Buffers) : Type 0 where
   pub visits : buffers.visits.items ≡ []
 
 -- how much fits in them
-abbrev pub buffers_room : Buffers → Room
+abbrev pub buffers_room : Buffers → SolverRoom
 buffers_room buffers = record {
   heights = buffers.heights.room;
   states = buffers.states.room;
   visits = vec_capacity buffers.visits;
-  pairs = pairs_room buffers.keys;
+  spot_pairs = spot_pairs_room buffers.keys;
 }

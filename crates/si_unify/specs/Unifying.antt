@@ -5,7 +5,7 @@ use Rattle.si_unify.specs.declared.spots.SpotPair.{SpotPair}
 use Rattle.si_unify.specs.declared.spots.Subterm.{Subterm}
 use Rattle.si_unify.specs.declared.unifier.Unifier.{Unifier}
 use Rattle.si_unify.specs.Solving.{slot_count}
-use Rattle.si_unify.specs.Rooms.{pairs_room, AreWithin, most_spots}
+use Rattle.si_unify.specs.Rooms.{spot_pairs_room, AreNoLongerThan, most_spots}
 use Rattle.si_unify.specs.Spots.{IsSpot, IsSubterm, IsEnd, IsApart, IsLegal, ArePairs, HasMet, HasCompared, HasClosed}
 
 -- ---- spots, over the bindings so far
@@ -27,17 +27,19 @@ pub record IsUnderway (u : Unifier) : Type 0 where
   pub keys : ArePairs u.question u.trail.now.pairs u.keys.now.keys
   pub room : slot_count u.question.slots ≤ u.trail.now.slots
 
--- the heights and the pairs of spots find room, whatever comes up: no text has more than n cells
+-- the heights and the pairs of spots find room, whatever comes up: neither term and no value has
+-- more than n cells
 pub record HasRoom (n : ℕ) (u : Unifier) : Type 0 where
-  pub values : AreWithin n u.trail.now.pairs
+  pub values : AreNoLongerThan n u.trail.now.pairs
   pub left : length u.question.left.now ≤ n
   pub right : length u.question.right.now ≤ n
   pub heights : slot_count u.question.slots ≤ u.heights.now.room
-  pub pairs : most_spots (slot_count u.question.slots) n * most_spots (slot_count u.question.slots) n
-      ≤ pairs_room u.keys.now
+  pub spot_pairs :
+      most_spots (slot_count u.question.slots) n * most_spots (slot_count u.question.slots) n
+      ≤ spot_pairs_room u.keys.now
 
-abbrev pub LacksRoom : Unifier → Type 0
-LacksRoom u = (n : ℕ) → HasRoom n u → ⊥
+abbrev pub SpotsLackRoom : Unifier → Type 0
+SpotsLackRoom u = (n : ℕ) → HasRoom n u → ⊥
 
 -- the question, the lent memory and the number of slots stay, and there is no less room
 pub record KeepsQuestion (old new : Unifier) : Type 0 where
@@ -47,7 +49,7 @@ pub record KeepsQuestion (old new : Unifier) : Type 0 where
   pub heights : new.heights.ghost_name ≡ old.heights.ghost_name
   pub slots : new.trail.now.slots ≡ old.trail.now.slots
   pub heights_room : old.heights.now.room ≤ new.heights.now.room
-  pub pairs_room : pairs_room old.keys.now ≤ pairs_room new.keys.now
+  pub spot_pairs_room : spot_pairs_room old.keys.now ≤ spot_pairs_room new.keys.now
 
 -- ---- the outcomes
 abbrev pub MakesMeet : Unifier → Unifier → Spot → Spot → Bool → Type 0

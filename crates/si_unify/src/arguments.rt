@@ -2,7 +2,7 @@
 ghost use Rattle.std.specs.Prelude.{◌≡◌, ◌+◌, ◌^◌, ◌<◌, [], length, IfOk, OnErr};
 ghost use Rattle.si_defs.specs.Substitutions.{Grows};
 ghost use Rattle.si_unify.specs.Spots.{left_spot, right_spot, spots_of};
-ghost use Rattle.si_unify.specs.Unifying.{HasSubterm, AreApart, IsUnderway, LacksRoom, KeepsQuestion, MakesMeet, MakesCompared, MakesClosed};
+ghost use Rattle.si_unify.specs.Unifying.{HasSubterm, AreApart, IsUnderway, SpotsLackRoom, KeepsQuestion, MakesMeet, MakesCompared, MakesClosed};
 
 use crate::equations::common_arity;
 use crate::spots::{Spot, Subterm};
@@ -22,7 +22,7 @@ impl<'s, 'a> Unifier<'s, 'a> {
         ensures compared { IfOk result (MakesCompared self.old self.new
             (spots_of left.entry right.entry)) }
         ensures grows { Grows self.old.trail.now.pairs self.new.trail.now.pairs }
-        ensures full { OnErr result (LacksRoom self.old) }
+        ensures full { OnErr result (SpotsLackRoom self.old) }
         ensures keeps_question { KeepsQuestion self.old self.new }
     {
         let mut i = 1;
@@ -69,7 +69,7 @@ impl<'s, 'a> Unifier<'s, 'a> {
         ensures met { IfOk result (MakesMeet self.old self.new (left_spot self.old.question)
             (right_spot self.old.question)) }
         ensures grows { Grows self.old.trail.now.pairs self.new.trail.now.pairs }
-        ensures full { OnErr result (LacksRoom self.old) }
+        ensures full { OnErr result (SpotsLackRoom self.old) }
         ensures keeps_question { KeepsQuestion self.old self.new }
     {
         let count = self.question.slots.count();
@@ -95,7 +95,7 @@ impl<'s, 'a> Unifier<'s, 'a> {
         requires underway { IsUnderway self.old }
         ensures closed { IfOk result (MakesClosed self.old self.new) }
         ensures grows { Grows self.old.trail.now.pairs self.new.trail.now.pairs }
-        ensures full { OnErr result (LacksRoom self.old) }
+        ensures full { OnErr result (SpotsLackRoom self.old) }
         ensures keeps_question { KeepsQuestion self.old self.new }
     {
         let mut next = 0;

@@ -2,8 +2,8 @@
 ghost use Rattle.std.specs.Prelude.{◌≡◌, ℕ, ◌+◌, ◌*◌, ◌<◌, ◌≤◌, true, length, take, reverse, ◌++◌, ◌∷◌, [], IfOk, OnOk, OnErr, vec_capacity};
 ghost use Rattle.std.specs.List.{AllByRecursion};
 ghost use Rattle.si_trail.specs.Trails.{HasDistinctSlots};
-ghost use Rattle.si_unify.specs.Circles.{if_bound, bound_slots, slots_below, visits_of, AreEntered, AreEntries, AreResolved, IsSearching, HasSearched, HasDone, LackRoom, AreNoMore, IsTold};
-ghost use Rattle.si_unify.specs.Rooms.{AreWithin};
+ghost use Rattle.si_unify.specs.Circles.{if_bound, bound_slots, slots_below, visits_of, AreEntered, AreEntries, AreResolved, IsSearching, HasSearched, HasDone, VisitsLackRoom, AreNoMore, IsTold};
+ghost use Rattle.si_unify.specs.Rooms.{AreNoLongerThan};
 ghost use Rattle.si_unify.specs.Solving.{slot_count, IsAcyclic, IsBinding};
 ghost use Rattle.si_unify.specs.States.{AreNew};
 ghost use Rattle.si_unify.specs.Spots.{cell_slot};
@@ -65,7 +65,7 @@ fn enter_all<'a>(
 ) -> Result<(), AllocError>
     ensures entered { OnOk result (reverse visits.new.items
         ≡ visits_of slots.now trail.now.pairs slot ++ reverse visits.old.items) }
-    ensures full { OnErr result ((n : ℕ) → AreWithin n trail.now.pairs
+    ensures full { OnErr result ((n : ℕ) → AreNoLongerThan n trail.now.pairs
         → vec_capacity visits.old < length visits.old.items + n) }
     ensures keeps { vec_capacity visits.old ≤ vec_capacity visits.new }
 {
@@ -89,7 +89,7 @@ fn step<'a>(
         (visit ∷ reverse visits.old.items) (reverse visits.new.items)) }
     ensures no_more { OnOk result (AreNoMore slots.now trail.now.pairs states.old.items
         states.new.items (length visits.old.items + 1) (length visits.new.items)) }
-    ensures full { OnErr result (LackRoom slots.now trail.now.pairs states.old.items
+    ensures full { OnErr result (VisitsLackRoom slots.now trail.now.pairs states.old.items
         (length visits.old.items + 1) (vec_capacity visits.old)) }
     ensures keeps { vec_capacity visits.old ≤ vec_capacity visits.new }
     ensures keeps_states { states.new.room ≡ states.old.room }
@@ -122,7 +122,7 @@ fn search<'a>(
     requires { IsSearching slots.now trail.now.pairs states.old.items (reverse visits.old.items) }
     ensures searched { IfOk result (HasSearched slots.now trail.now.pairs states.old.items
         states.new.items (reverse visits.old.items)) }
-    ensures full { OnErr result (LackRoom slots.now trail.now.pairs states.old.items
+    ensures full { OnErr result (VisitsLackRoom slots.now trail.now.pairs states.old.items
         (length visits.old.items) (vec_capacity visits.old)) }
     ensures keeps { vec_capacity visits.old ≤ vec_capacity visits.new }
     ensures keeps_states { states.new.room ≡ states.old.room }
@@ -206,7 +206,7 @@ pub(crate) fn is_triangular<'a>(
     requires within { mark ≤ length trail.now.pairs }
     requires before { IsAcyclic slots.now (take mark trail.now.pairs) }
     ensures told { IfOk result (IsTold slots.now trail.now.pairs) }
-    ensures full { OnErr result ((n : ℕ) → AreWithin n trail.now.pairs
+    ensures full { OnErr result ((n : ℕ) → AreNoLongerThan n trail.now.pairs
         → slot_count slots.now ≤ states.old.room
         → slot_count slots.now * (n + 2) ≤ vec_capacity visits.old → ⊥) }
     ensures keeps { vec_capacity visits.old ≤ vec_capacity visits.new }

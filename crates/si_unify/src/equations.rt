@@ -1,10 +1,10 @@
 // One equation: between the heads at two spots.
 ghost use Rattle.std.specs.Prelude.{◌≡◌, ◌<◌, ◌≤◌, false, Ok, IfOk, OnOk, OnErr};
 ghost use Rattle.si_unify.specs.Heights.{is_right_lower};
-ghost use Rattle.si_unify.specs.Rooms.{pairs_room};
+ghost use Rattle.si_unify.specs.Rooms.{spot_pairs_room};
 ghost use Rattle.si_unify.specs.Solving.{slot_count};
 ghost use Rattle.si_unify.specs.Spots.{same_slot, common_arity, IsAdded, HasNoRoomFor};
-ghost use Rattle.si_unify.specs.Unifying.{HasSubterm, HasEnd, IsUnderway, LacksRoom, KeepsQuestion, MakesMeet};
+ghost use Rattle.si_unify.specs.Unifying.{HasSubterm, HasEnd, IsUnderway, SpotsLackRoom, KeepsQuestion, MakesMeet};
 
 use crate::heights::Heights;
 use crate::slots::Slots;
@@ -59,12 +59,12 @@ fn turns(
     }
 }
 
-// Puts a pair of spots after the others where it isn't among them. It is looked up first, since of a
+// Puts a pair of spots after the others where it isn't among them. It is looked up first: of a
 // pair that comes again `insert_full` doesn't say that it takes no room.
 fn add_pair(keys: &mut IndexSet<SpotPair>, pair: SpotPair) -> Result<(), AllocError>
     ensures added { OnOk result (IsAdded keys.old.keys pair keys.new.keys) }
-    ensures full { OnErr result (HasNoRoomFor keys.old.keys (pairs_room keys.old) pair) }
-    ensures keeps { pairs_room keys.old ≤ pairs_room keys.new }
+    ensures full { OnErr result (HasNoRoomFor keys.old.keys (spot_pairs_room keys.old) pair) }
+    ensures keeps { spot_pairs_room keys.old ≤ spot_pairs_room keys.new }
 {
     if keys.contains(&pair) {
         return Ok(());
@@ -85,7 +85,7 @@ impl<'s, 'a> Unifier<'s, 'a> {
         ensures met { IfOk result (MakesMeet self.old self.new left.entry.spot right.entry.spot) }
         ensures no { result ≡ Ok false → self.new.trail.now.pairs ≡ self.old.trail.now.pairs }
         ensures err { OnErr result (self.new.trail.now.pairs ≡ self.old.trail.now.pairs) }
-        ensures full { OnErr result (LacksRoom self.old) }
+        ensures full { OnErr result (SpotsLackRoom self.old) }
         ensures keeps_question { KeepsQuestion self.old self.new }
     {
         let left_cell = left.cells[0];
@@ -134,7 +134,7 @@ impl<'s, 'a> Unifier<'s, 'a> {
         ensures met { IfOk result (MakesMeet self.old self.new left.entry.spot right.entry.spot) }
         ensures no { result ≡ Ok false → self.new.trail.now.pairs ≡ self.old.trail.now.pairs }
         ensures err { OnErr result (self.new.trail.now.pairs ≡ self.old.trail.now.pairs) }
-        ensures full { OnErr result (LacksRoom self.old) }
+        ensures full { OnErr result (SpotsLackRoom self.old) }
         ensures keeps_question { KeepsQuestion self.old self.new }
     {
         let left_end = self.follow(left);

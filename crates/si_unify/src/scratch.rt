@@ -1,6 +1,6 @@
 // Memory to work in, which is lent from call to call.
 ghost use Rattle.std.specs.Prelude.{◌≡◌, []};
-ghost use Rattle.si_unify.specs.Rooms.{IsNoLess};
+ghost use Rattle.si_unify.specs.Rooms.{IsNoLessRoom};
 ghost use Rattle.si_unify.specs.Scratch.{buffers_room};
 ghost use Rattle.si_unify.specs.States.{AreNew};
 
@@ -32,7 +32,7 @@ impl Buffers {
         ensures heights { self.new.heights.items ≡ [] }
         ensures states { AreNew self.new.states.items }
         ensures visits { self.new.visits.items ≡ [] }
-        ensures keeps { IsNoLess (buffers_room self.old) (buffers_room self.new) }
+        ensures keeps { IsNoLessRoom (buffers_room self.old) (buffers_room self.new) }
     {
         // Clearing the set costs as much as it ever held.
         if !self.keys.is_empty() {
@@ -47,18 +47,18 @@ impl Buffers {
 /// Memory for [`solve_with`](crate::solve_with) to work in.
 ///
 /// It is made once and lent to each call. It is empty between calls, whatever they answered, and
-/// keeps what its buffers grew to: a call that needs no more takes no memory. Contracts see how much
-/// fits in it.
+/// keeps what its buffers grew to: a call that needs no more takes no memory. Contracts see how
+/// much fits in it.
 #[derive(Drop)]
 pub struct Scratch {
     pub(crate) buffers: Buffers,
 }
 
 impl Model for Scratch {
-    ghost use Rattle.si_unify.specs.Rooms.{Room};
+    ghost use Rattle.si_unify.specs.Rooms.{SolverRoom};
     ghost use Rattle.si_unify.specs.Scratch.{AreClear, buffers_room};
 
-    ghost Value = { Room };
+    ghost Value = { SolverRoom };
 
     ghost view = { λ s. buffers_room s.buffers };
 

@@ -3,7 +3,7 @@ ghost use Rattle.std.specs.Prelude.{◌≡◌, ℕ, ◌+◌, ◌*◌, ◌<◌, �
 ghost use Rattle.std.specs.List.{AllByRecursion};
 ghost use Rattle.si_defs.specs.Substitutions.{Grows};
 ghost use Rattle.si_flat.specs.Cells.{IsWhole};
-ghost use Rattle.si_unify.specs.Rooms.{IsEnoughFor, IsNoLess};
+ghost use Rattle.si_unify.specs.Rooms.{AreNoLongerThan, IsEnoughToSolve, IsNoLessRoom};
 ghost use Rattle.si_unify.specs.Scratch.{AreClear, buffers_room};
 ghost use Rattle.si_unify.specs.Solving.{slot_count, AreInRange, IsAcyclic, IsBinding, AreHandedIn, HasSolved};
 ghost use Rattle.si_unify.specs.States.{AreNew};
@@ -69,9 +69,10 @@ fn attempt<'a>(
     requires triangular { IsAcyclic question.now.slots trail.old.pairs }
     ensures answered { IfOk result (HasAnswered question.now trail.old.pairs trail.new.pairs) }
     ensures grows { Grows trail.old.pairs trail.new.pairs }
-    ensures full { OnErr result (IsEnoughFor question.now.slots trail.old.pairs
-        question.now.left.now question.now.right.now (buffers_room buffers.old) → ⊥) }
-    ensures keeps { IsNoLess (buffers_room buffers.old) (buffers_room buffers.new) }
+    ensures full { OnErr result ((n : ℕ) → AreNoLongerThan n trail.old.pairs
+        → length question.now.left.now ≤ n → length question.now.right.now ≤ n
+        → IsEnoughToSolve question.now.slots n (buffers_room buffers.old) → ⊥) }
+    ensures keeps { IsNoLessRoom (buffers_room buffers.old) (buffers_room buffers.new) }
     ensures slots { trail.new.slots ≡ trail.old.slots }
 {
     let mut unifier = Unifier {
@@ -117,8 +118,8 @@ pub fn solve<'a>(
 ///
 /// # Errors
 ///
-/// `AllocError` where there is no memory, but never where what the scratch grew to is enough for all
-/// terms and bindings of these sizes.
+/// `AllocError` where there is no memory, but never where the scratch has room enough for all terms
+/// and bindings of these sizes. [`Scratch::reserve`] makes so much room.
 pub fn solve_with<'a>(
     scratch: &mut Scratch,
     trail: &mut Trail<&'a [Cell]>,
@@ -137,9 +138,9 @@ pub fn solve_with<'a>(
     ensures grows { result ≡ Ok true → Grows trail.old.pairs trail.new.pairs }
     ensures no { result ≡ Ok false → trail.new.pairs ≡ trail.old.pairs }
     ensures err { OnErr result (trail.new.pairs ≡ trail.old.pairs) }
-    ensures full { OnErr result (IsEnoughFor slots.now trail.old.pairs s.now t.now
-        scratch.old → ⊥) }
-    ensures keeps { IsNoLess scratch.old scratch.new }
+    ensures full { OnErr result ((n : ℕ) → AreNoLongerThan n trail.old.pairs
+        → length s.now ≤ n → length t.now ≤ n → IsEnoughToSolve slots.now n scratch.old → ⊥) }
+    ensures keeps { IsNoLessRoom scratch.old scratch.new }
     ensures slots { trail.new.slots ≡ trail.old.slots }
     ensures bindings { AllByRecursion (IsBinding slots.now) trail.new.pairs }
     ensures triangular { IsAcyclic slots.now trail.new.pairs }

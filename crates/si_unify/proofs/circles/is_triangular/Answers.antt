@@ -3,7 +3,7 @@ use Rattle.std.specs.Prelude.{vec_capacity}
 use Rattle.std.proofs.lemmas.Result.{on_err_weaker}
 use Rattle.si_term.proofs.Results.{on_err}
 use Rattle.si_unify.specs.Solving.{slot_count}
-use Rattle.si_unify.specs.Rooms.{AreWithin}
+use Rattle.si_unify.specs.Rooms.{AreNoLongerThan}
 use Rattle.si_unify.proofs.VisitLaws.{few_bindings, some_visits, search_fits}
 use Rattle.std.proofs.lemmas.Result.{IfOk-weaker}
 use Rattle.si_unify.proofs.Triangular.{search_begins, search_tells, resolved_tells}
@@ -23,7 +23,7 @@ search-requires c =
 
 pub returns-in_err-enter_bound-clause-full : goal.returns-in_err-enter_bound-clause-full
 returns-in_err-enter_bound-clause-full c =
-    let refused : (n : ℕ) → AreWithin n c.args.trail.now.pairs → slot_count c.args.slots.now ≤ c.args.states.now.room → slot_count c.args.slots.now * (n + 2) ≤ vec_capacity c.args.visits.now → ⊥ =
+    let refused : (n : ℕ) → AreNoLongerThan n c.args.trail.now.pairs → slot_count c.args.slots.now ≤ c.args.states.now.room → slot_count c.args.slots.now * (n + 2) ≤ vec_capacity c.args.visits.now → ⊥ =
     λ n within states visits.
     omega (arith, few_bindings c.args.slots.now c.args.trail.now.pairs c.requires.bindings c.in_err-enter_bound.ensures.distinct, some_visits (slot_count c.args.slots.now) n, c.in_err-enter_bound.ensures.full, visits) in
     on_err _ refused

@@ -2,7 +2,7 @@ use Rattle.std.proofs.Common.{◌≡◌, ◌+◌, [], ◌∷◌, length, reverse
 use Rattle.std.proofs.lemmas.List.{reverse-append}
 use Rattle.std.specs.Prelude.{vec_capacity}
 use Rattle.si_term.proofs.Results.{on_err}
-use Rattle.si_unify.specs.Circles.{LackRoom, IsSearching, HasDone}
+use Rattle.si_unify.specs.Circles.{VisitsLackRoom, IsSearching, HasDone}
 use Rattle.si_unify.proofs.Searching.{search_starts, search_goes_on}
 use Rattle.si_unify.proofs.circles.search.Goals as goal
 
@@ -40,7 +40,7 @@ pub returns-in_err-step-clause-full : goal.returns-in_err-step-clause-full
 returns-in_err-step-clause-full c =
     let popped : length c.loop-visit.visits.items ≡ length c.pop.new.self.items + 1 =
     ap length c.in-Some.ensures.items ∙ length-append c.pop.new.self.items (c.in-Some.visit ∷ []) in
-    let refused : LackRoom c.args.slots.now c.args.trail.now.pairs c.args.states.now.items (length c.args.visits.now.items) (vec_capacity c.args.visits.now) =
+    let refused : VisitsLackRoom c.args.slots.now c.args.trail.now.pairs c.args.states.now.items (length c.args.visits.now.items) (vec_capacity c.args.visits.now) =
     λ n within. omega (arith, c.loop-visit.invariant.no_more_so_far n within, c.in_err-step.ensures.full n within, popped, c.loop-visit.invariant.room_so_far, c.pop.ensures.capacity) in
     on_err _ refused
 

@@ -4,7 +4,7 @@ use Rattle.std.specs.Prelude.{vec_capacity}
 use Rattle.si_term.proofs.Results.{on_err}
 use Rattle.si_unify.specs.Solving.{slot_count}
 use Rattle.si_unify.specs.declared.states.State.TheVariants.{Open}
-use Rattle.si_unify.specs.Circles.{visits_of, HasStepped, AreNoMore, LackRoom}
+use Rattle.si_unify.specs.Circles.{visits_of, HasStepped, AreNoMore, VisitsLackRoom}
 use Rattle.std.proofs.lemmas.List.{reverse-append, length-reverse}
 use Rattle.si_unify.specs.declared.circles.Visit.TheVariants.{Leave}
 use Rattle.si_unify.proofs.VisitLaws.{entered_below, none_more, left_more, opened_more, leave_refused, entries_refused}
@@ -73,7 +73,7 @@ returns-in_err-push-in-New-clause-full c =
     let pairs = c.args.trail.now.pairs in
     let old = c.args.states.now.items in
     let below : c.in-Enter.slot < slot_count slots = entered_below slots pairs old c.in-Enter.slot c.args.visit _ c.in-Enter.is c.requires in
-    let refused : LackRoom slots pairs old (length c.args.visits.now.items + 1) (vec_capacity c.args.visits.now) =
+    let refused : VisitsLackRoom slots pairs old (length c.args.visits.now.items + 1) (vec_capacity c.args.visits.now) =
     leave_refused slots pairs old c.in-Enter.slot below c.in-New.ensures (length c.args.visits.now.items) (vec_capacity c.args.visits.now) (omega (arith, c.in_err-push-in-New.ensures.full, c.args.visits.now.ok)) in
     on_err _ refused
 
@@ -85,7 +85,7 @@ returns-in_err-enter_all-in-New-clause-full c =
     let below : c.in-Enter.slot < slot_count slots = entered_below slots pairs old c.in-Enter.slot c.args.visit _ c.in-Enter.is c.requires in
     let one_more : length c.push.new.self.items ≡ length c.args.visits.now.items + 1 =
     ap length c.in_ok-push-in-New.ensures.items ∙ length-append c.args.visits.now.items (Leave c.in-Enter.slot ∷ []) in
-    let refused : LackRoom slots pairs old (length c.args.visits.now.items + 1) (vec_capacity c.args.visits.now) =
+    let refused : VisitsLackRoom slots pairs old (length c.args.visits.now.items + 1) (vec_capacity c.args.visits.now) =
     entries_refused slots pairs old c.in-Enter.slot below c.in-New.ensures (length c.args.visits.now.items) (vec_capacity c.args.visits.now) (vec_capacity c.push.new.self)
     (omega (arith, c.in_ok-push-in-New.ensures.capacity))
     (λ n within. omega (arith, c.in_err-enter_all-in-New.ensures.full n within, one_more)) in

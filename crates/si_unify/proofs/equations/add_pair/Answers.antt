@@ -3,7 +3,7 @@ use Rattle.std.proofs.lemmas.Bool.{cases_lt, false≢true}
 use Rattle.std.specs.List.{IsDistinct}
 use Rattle.indexmap.specs.IndexSet.{spare}
 use Rattle.si_term.proofs.Results.{on_err}
-use Rattle.si_unify.specs.Rooms.{pairs_room}
+use Rattle.si_unify.specs.Rooms.{spot_pairs_room}
 use Rattle.si_unify.specs.Spots.{same_spots, HasNoRoomFor}
 use Rattle.si_unify.proofs.PairLaws.{added_before}
 use Rattle.si_unify.proofs.equations.add_pair.Goals as goal
@@ -17,7 +17,7 @@ returns-in_err-insert_full-clause-full c =
       | inl room ↦ absurd (false≢true (c.in_err-insert_full.ensures.succeeds room))
       | inr le ↦ le
     ] in
-    let refused : HasNoRoomFor c.args.keys.now.keys (pairs_room c.args.keys.now) c.args.pair = record {
+    let refused : HasNoRoomFor c.args.keys.now.keys (spot_pairs_room c.args.keys.now) c.args.pair = record {
       full = omega (arith, none);
       distinct = subst (IsDistinct same_spots) c.in_err-insert_full.ensures.err c.in_err-insert_full.ensures.unique;
       absent = c.in_err-insert_full.ensures.absent;

@@ -1,8 +1,6 @@
 use Rattle.std.proofs.Common.{sym, subst}
 use Rattle.std.proofs.lemmas.Result.{on_err_weaker}
-use Rattle.si_unify.specs.Rooms.{longest}
 use Rattle.si_unify.specs.Spots.{ArePairs}
-use Rattle.si_unify.proofs.LongestLaws.{left_within, right_within, all_within_longest}
 use Rattle.si_unify.proofs.Answering.{legal_at_first}
 use Rattle.si_unify.proofs.solver.attempt.Goals as goal
 
@@ -15,18 +13,9 @@ solve-requires-clause-underway c = record {
 
 pub returns-clause-full : goal.returns-clause-full
 returns-clause-full c =
-    let n = longest c.args.trail.now.pairs c.args.question.now.left.now c.args.question.now.right.now in
     on_err_weaker c.solve.result
-    (λ lacks enough.
+    (λ lacks n values left right enough.
     lacks n
-    (
-    record {
-      values = all_within_longest c.args.trail.now.pairs c.args.question.now.left.now c.args.question.now.right.now;
-      left = left_within c.args.trail.now.pairs c.args.question.now.left.now c.args.question.now.right.now;
-      right = right_within c.args.trail.now.pairs c.args.question.now.left.now c.args.question.now.right.now;
-      heights = enough.heights;
-      pairs = enough.spots;
-    }
-    )
+    (record { values = values; left = left; right = right; heights = enough.heights; spot_pairs = enough.spot_pairs })
     enough.states enough.visits)
     c.solve.ensures.full

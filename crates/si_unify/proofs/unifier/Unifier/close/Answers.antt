@@ -1,7 +1,7 @@
 use Rattle.std.proofs.Common.{true, false, subst, arith}
 use Rattle.si_defs.proofs.ListLaws.{all_got}
 use Rattle.si_unify.specs.Spots.{IsApart}
-use Rattle.si_unify.specs.Unifying.{LacksRoom, MakesCompared}
+use Rattle.si_unify.specs.Unifying.{SpotsLackRoom, MakesCompared}
 use Rattle.si_unify.proofs.Closing.{closing_starts, closing_goes_on, closing_fails, closing_ends}
 use Rattle.si_term.proofs.Results.{on_err}
 use Rattle.si_unify.proofs.Underway.{stays, goes_further, underway_still, room_still, spot_still, apart_still, compared_by}
@@ -76,6 +76,6 @@ returns-clause-closed c = closing_ends _ _ _ _ _ _ c.loop-next.invariant.closing
 
 pub returns-in_err-compare-clause-full : goal.returns-in_err-compare-clause-full
 returns-in_err-compare-clause-full c =
-    let refused : LacksRoom c.args.self.now = λ n room.
+    let refused : SpotsLackRoom c.args.self.now = λ n room.
     c.in_err-compare.ensures.full n (room_still c.args.self.now c.loop-next.self c.loop-next.invariant.going_on n room c.loop-next.invariant.closing_on.going) in
     on_err _ refused

@@ -1,6 +1,6 @@
 use Rattle.std.proofs.Common.{◌+◌, ◌-◌, ◌<◌, true, false, length, sym, subst, arith}
 use Rattle.si_unify.specs.Spots.{spots_of}
-use Rattle.si_unify.specs.Unifying.{LacksRoom, MakesMeet}
+use Rattle.si_unify.specs.Unifying.{SpotsLackRoom, MakesMeet}
 use Rattle.si_unify.proofs.Chains.{no_cell, head_inside}
 use Rattle.si_unify.proofs.Pieces.{piece_ends}
 use Rattle.si_unify.proofs.Binding.{same_whole}
@@ -102,6 +102,6 @@ returns-clause-compared c = comparing_ends _ _ _ _ _ _ _ _ _ _ c.loop-i.invarian
 
 pub returns-in_err-meet-in-None-clause-full : goal.returns-in_err-meet-in-None-clause-full
 returns-in_err-meet-in-None-clause-full c =
-    let refused : LacksRoom c.args.self.now = λ n room.
+    let refused : SpotsLackRoom c.args.self.now = λ n room.
     c.in_err-meet-in-None.ensures.full n (room_still c.args.self.now c.loop-i.self c.loop-i.invariant.going_on n room c.loop-i.invariant.comparing_on.going) in
     on_err _ refused

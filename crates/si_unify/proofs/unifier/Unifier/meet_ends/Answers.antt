@@ -1,9 +1,9 @@
 use Rattle.std.proofs.Common.{◌<◌, [], Some, sym, ap, ◌∙◌, arith}
 use Rattle.si_unify.specs.Solving.{slot_count}
 use Rattle.si_term.proofs.Results.{on_err}
-use Rattle.si_unify.specs.Rooms.{pairs_room}
+use Rattle.si_unify.specs.Rooms.{spot_pairs_room}
 use Rattle.si_unify.specs.Spots.{free_slot, spots_of}
-use Rattle.si_unify.specs.Unifying.{LacksRoom}
+use Rattle.si_unify.specs.Unifying.{SpotsLackRoom}
 use Rattle.si_unify.proofs.Chains.{head_inside, head_is}
 use Rattle.si_unify.proofs.Binding.{binds_subterm}
 use Rattle.si_unify.proofs.Meeting.{same_variable_met, left_bound, right_bound, free_below, clash_met, constant_met, pair_met, same_told, common_told}
@@ -116,7 +116,7 @@ returns-in-Some-eq0-clause-met c =
 
 pub returns-in_err-turns-clause-full : goal.returns-in_err-turns-clause-full
 returns-in_err-turns-clause-full c =
-    let refused : LacksRoom c.args.self.now = λ n room. omega (arith, room.heights, c.in_err-turns.ensures.full) in on_err _ refused
+    let refused : SpotsLackRoom c.args.self.now = λ n room. omega (arith, room.heights, c.in_err-turns.ensures.full) in on_err _ refused
 
 pub returns-in_ok-add_pair-in-Some-common_arity-clause-met : goal.returns-in_ok-add_pair-in-Some-common_arity-clause-met
 returns-in_ok-add_pair-in-Some-common_arity-clause-met c =
@@ -137,8 +137,8 @@ returns-in_ok-add_pair-in-Some-common_arity-clause-met c =
 
 pub returns-in_err-add_pair-in-Some-common_arity-clause-full : goal.returns-in_err-add_pair-in-Some-common_arity-clause-full
 returns-in_err-add_pair-in-Some-common_arity-clause-full c =
-    let refused : LacksRoom c.args.self.now = λ n room.
+    let refused : SpotsLackRoom c.args.self.now = λ n room.
     pair_refused c.args.self.now.question c.args.self.now.trail.now.pairs n c.requires.underway.legal room.values room.left room.right
-    (spots_of c.args.left c.args.right) c.args.self.now.keys.now.keys (pairs_room c.args.self.now.keys.now)
-    c.requires.left_end.spot_is c.requires.right_end.spot_is c.requires.underway.keys c.in_err-add_pair-in-Some-common_arity.ensures.full room.pairs in
+    (spots_of c.args.left c.args.right) c.args.self.now.keys.now.keys (spot_pairs_room c.args.self.now.keys.now)
+    c.requires.left_end.spot_is c.requires.right_end.spot_is c.requires.underway.keys c.in_err-add_pair-in-Some-common_arity.ensures.full room.spot_pairs in
     on_err _ refused

@@ -8,6 +8,7 @@ pub mod Pieces
 pub mod Binding
 pub mod Meeting
 pub mod PairLaws
+pub mod RoomLaws
 pub mod Rows
 pub mod Comparing
 pub mod Closing

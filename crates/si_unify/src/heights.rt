@@ -35,6 +35,17 @@ impl Heights {
         }
     }
 
+    /// Makes room for so many slots, a byte for each.
+    pub(crate) fn make_room(&mut self, count: usize) -> Result<(), AllocError>
+        requires { self.old.items ≡ [] }
+        ensures items { self.new.items ≡ [] }
+        ensures full { OnErr result (self.old.room < count) }
+        ensures keeps { self.old.room ≤ self.new.room }
+        ensures enough { OnOk result (count ≤ self.new.room) }
+    {
+        self.heights.reserve(count)
+    }
+
     fn height(&self, slot: usize) -> u8
         ensures { result ≡ height self.now.items slot }
     {

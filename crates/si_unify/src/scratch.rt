@@ -1,16 +1,29 @@
 // Memory to work in, which is lent from call to call.
-ghost use Rattle.std.specs.Prelude.{◌≡◌, []};
-ghost use Rattle.si_unify.specs.Rooms.{IsNoLessRoom};
-ghost use Rattle.si_unify.specs.Scratch.{buffers_room};
+ghost use Rattle.std.specs.Prelude.{◌≡◌, ◌*◌, ◌<◌, ◌^◌, [], OnOk, OnErr};
+ghost use Rattle.std.specs.Option.{SomeIff};
+ghost use Rattle.si_unify.specs.Rooms.{IsEnoughToSolve, IsNoLessRoom, most_spots};
+ghost use Rattle.si_unify.specs.Scratch.{AreClear, buffers_room};
 ghost use Rattle.si_unify.specs.States.{AreNew};
 
 use crate::circles::Visit;
 use crate::heights::Heights;
+use crate::slots::Slots;
 use crate::spots::SpotPair;
 use crate::states::States;
 use indexmap::IndexSet;
-use std::alloc::Global;
+use std::alloc::{AllocError, Global};
 use std::marker::Model;
+
+// How many pairs of spots there may be, over so many slots, where neither term and no value has
+// more cells. None where that is no number of a machine word.
+fn most_spot_pairs(count: usize, cells: usize) -> Option<usize>
+    requires { count < 2 ^ 34 }
+    ensures { SomeIff result (most_spots count cells * most_spots count cells < 2 ^ 64)
+        (most_spots count cells * most_spots count cells) }
+{
+    let spots = (count + 2).checked_mul(cells)?;
+    spots.checked_mul(spots)
+}
 
 /// What one call of the solver works in.
 #[derive(Drop)]
@@ -26,6 +39,26 @@ pub(crate) struct Buffers {
 }
 
 impl Buffers {
+    // Makes room for all terms and bindings over these slots that have no more cells.
+    fn reserve(&mut self, slots: &Slots, cells: usize) -> Result<(), AllocError>
+        requires { AreClear self.old }
+        ensures clear { AreClear self.new }
+        ensures enough { OnOk result (IsEnoughToSolve slots.now cells (buffers_room self.new)) }
+        ensures full { OnErr result (IsEnoughToSolve slots.now cells (buffers_room self.old) → ⊥) }
+        ensures keeps { IsNoLessRoom (buffers_room self.old) (buffers_room self.new) }
+    {
+        let count = slots.count();
+        let room = self.keys.capacity();
+        let spot_pairs = most_spot_pairs(count, cells).ok_or(AllocError)?;
+        if room < spot_pairs {
+            self.keys.reserve(spot_pairs)?;
+        }
+        self.heights.make_room(count)?;
+        self.states.make_room(count)?;
+        // The number of visits fits in a word, as that of the pairs of spots does.
+        self.visits.reserve(count * (cells + 2))
+    }
+
     /// Empties the buffers, and keeps their memory.
     pub(crate) fn clear(&mut self)
         ensures keys { self.new.keys.keys ≡ [] }
@@ -76,5 +109,23 @@ impl Scratch {
                 visits: Vec::new(alloc),
             },
         }
+    }
+
+    /// Makes room enough to solve over these slots, whatever the terms and bindings are, as long as
+    /// neither term and no value has more cells.
+    ///
+    /// The room for pairs of places grows with the square of the cells that two terms and a value
+    /// for each slot may have: it is meant for small terms.
+    ///
+    /// # Errors
+    ///
+    /// `AllocError` where there isn't so much memory, but never where there was room already. The
+    /// room is no less than before.
+    pub fn reserve(&mut self, slots: &Slots, cells: usize) -> Result<(), AllocError>
+        ensures enough { OnOk result (IsEnoughToSolve slots.now cells self.new) }
+        ensures full { OnErr result (IsEnoughToSolve slots.now cells self.old → ⊥) }
+        ensures keeps { IsNoLessRoom self.old self.new }
+    {
+        self.buffers.reserve(slots, cells)
     }
 }

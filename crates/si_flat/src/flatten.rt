@@ -112,8 +112,8 @@ pub fn flatten_with_names<T: SymTable>(
     Ok(NamedQuery { query, names })
 }
 
-/// Memory in which entries are made flat one after the other: for scans. Contracts see the cells and
-/// the names, and how much fits in the memory that it grew to.
+/// Memory in which entries are made flat one after the other: for scans. Contracts see the cells
+/// and the names, and how much fits in the memory that it grew to.
 #[derive(Drop)]
 pub struct EntryBuffer<'a> {
     written: WrittenEntry<'a>,
@@ -151,8 +151,8 @@ impl<'a> EntryBuffer<'a> {
     ///
     /// # Errors
     ///
-    /// `AllocError` where there is no memory, but never where what the buffer grew to is enough for
-    /// the entry, as it is once the entry was filled in. The buffer is empty then.
+    /// `AllocError` where there is no memory; the buffer is empty then. It never comes where what the
+    /// buffer grew to is enough for the entry, as it is once it was filled in.
     pub fn fill<T: SymTable>(&mut self, table: &T, entry: Entry<'a>) -> Result<bool, AllocError>
         requires { IsSoundEntry (entry_of entry) }
         ensures filled { IfOk result (FillsEntry (T.pairs table.now) (entry_of entry.entry)

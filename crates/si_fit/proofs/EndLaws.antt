@@ -7,6 +7,7 @@ use Rattle.si_flat.specs.declared.Cell.TheVariants as cell
 use Rattle.si_flat.specs.Cells.{Variable, Term, variable_cell, StandsFor, IsWhole}
 use Rattle.si_trail.specs.Trails.{value_at}
 use Rattle.si_unify.specs.declared.slots.Slots.{Slots}
+use Rattle.si_unify.specs.Rooms.{AreNoLongerThan}
 use Rattle.si_unify.specs.Solving.{Pairs, variable_of, slot_of, CellIsInRange, AreInRange, Equalizes, IsSolvedBy, IsBinding}
 use Rattle.si_unify.specs.Spots.{cell_slot, IsBelow, ComesDown, IsChained, IsUnbound}
 use Rattle.si_unify.proofs.Places.{all_at, whole_at, first_cell, cell-at, inside, in_range-at, in_range-variable, variable_of-slot_of, slot_variable}
@@ -46,6 +47,7 @@ module _ (slots : Slots) (pairs : Pairs) (start : List Cell) where
     pub same : (f : Variable → Term) → IsSolvedBy slots pairs f → terms.substitute f first ≡ terms.substitute f last
     pub range : AreInRange slots reached
     pub short : steps ≤ length pairs
+    pub within : (n : ℕ) → AreNoLongerThan n pairs → length start ≤ n → length reached ≤ n
     pub low : (slot : ℕ) → cell_slot slots (get_or reached 0 no_cell) ≡ Some slot → chained.rank slot + steps ≤ length pairs
 
   pub down_starts : (count : ℕ) → AllowsSolving slots pairs count → IsWhole start → AreInRange slots start → IsDown start 0
@@ -61,6 +63,7 @@ module _ (slots : Slots) (pairs : Pairs) (start : List Cell) where
         same = λ f is. refl;
         range = range;
         short = omega arith;
+        within = λ n values few. few;
         low = λ slot e. omega (arith, chained.few slot);
       }
 
@@ -88,6 +91,7 @@ module _ (slots : Slots) (pairs : Pairs) (start : List Cell) where
         same = λ f is. h.same f is ∙ ap (terms.substitute f) x.1 ∙ value_same slots pairs x.0 v binding.whole.0 range (ap (value_at pairs) x.2 ∙ sym bound) binding.whole.1 f is;
         range = binding.in_range;
         short = omega (arith, low, positive);
+        within = λ n values few. all_at (λ pair. length pair.1.now ≤ n) pairs slot v values (sym bound);
         low = λ next e. omega (arith, low, next_below slots h.chained.rank slot next v.now down e);
       }
 

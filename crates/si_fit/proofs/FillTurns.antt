@@ -1,19 +1,19 @@
 -- Indicators that stand once among cells, and stay fresh while others are bound.
-use Rattle.std.proofs.Common.{◌≡◌, ◌⊎◌, inl, inr, ℕ, ◌+◌, ◌<◌, true, List, [], ◌∷◌, ◌++◌, length, take, drop, get_or, refl, sym, ◌∙◌, ap, subst, arith, drop-drop}
+use Rattle.std.proofs.Common.{◌≡◌, inl, inr, ℕ, ◌+◌, ◌<◌, true, List, [], ◌∷◌, ◌++◌, length, take, drop, get_or, sym, ◌∙◌, ap, subst, drop-drop}
 use Rattle.std.proofs.lemmas.List.{take-append-drop}
 use Rattle.std.specs.List.{AllByRecursion}
-use Rattle.si_defs.specs.Substitutions.{Substitution, image, IsAmong}
+use Rattle.si_defs.specs.Substitutions.{IsAmong}
 use Rattle.si_defs.proofs.ListLaws.{all_at, all_from, all_drop, all_get, among_front, among_back}
 use Rattle.si_flat.specs.declared.Cell.{Cell}
 use Rattle.si_flat.specs.declared.Cell.TheVariants as cell
-use Rattle.si_flat.specs.Cells.{Symbol, Variable, same_variable, ind, Term, StandsFor}
+use Rattle.si_flat.specs.Cells.{ind, Term}
 use Rattle.si_flat.specs.Rows.{CellPair, row_of}
 use Rattle.si_trail.specs.Trails.{HasDistinctSlots}
 use Rattle.si_unify.specs.declared.slots.Slots.{Slots}
-use Rattle.si_unify.specs.Solving.{Pairs, Equalizes, IsSolution, HasSolved}
+use Rattle.si_unify.specs.Solving.{Pairs, IsSolution, HasSolved}
 use Rattle.si_fit.specs.Ends.{EndsAt}
 use Rattle.si_fit.specs.Fitting.{AllowsSolving, HasSolution}
-use Rattle.si_fit.specs.Fresh.{StandOnce, IsUntold, AreFresh, IsUnmentioned, IsNew}
+use Rattle.si_fit.specs.Fresh.{StandOnce, IsUntold, AreFresh, IsNew}
 use Rattle.si_fit.specs.Meeting.{HasMet}
 use Rattle.si_fit.specs.declared.meeting.Met.TheVariants.{Equal}
 use Rattle.si_fit.proofs.EndLaws.{no_cell}

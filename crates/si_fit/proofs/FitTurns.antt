@@ -1,18 +1,20 @@
 -- The turns of a loop that makes bindings fit.
-use Rattle.std.proofs.Common.{◌≡◌, ◌↔◌, ℕ, Bool, true, false, List, [], ◌∷◌, ◌++◌, sym, subst, append-nil}
+use Rattle.std.proofs.Common.{◌≡◌, ◌↔◌, ℕ, Bool, true, false, List, [], ◌∷◌, ◌++◌, ◌≤◌, length, sym, ap, subst, arith, append-nil}
 use Rattle.std.specs.List.{AllByRecursion}
 use Rattle.si_defs.specs.Substitutions.{Substitution, image, Grows}
 use Rattle.si_flat.specs.declared.Cell.{Cell}
 use Rattle.si_flat.specs.declared.Cell.TheVariants as cell
 use Rattle.si_flat.specs.Cells.{Symbol, Variable, same_variable, IsWhole, ind}
 use Rattle.si_flat.specs.Rows.{CellPair}
+use Rattle.si_flat.proofs.Subterms.{some_cell}
 use Rattle.si_defs.specs.Terms as terms
 use Rattle.si_unify.specs.declared.slots.Slots.{Slots}
+use Rattle.si_unify.specs.Rooms.{AreNoLongerThan}
 use Rattle.si_unify.specs.Solving.{Pairs, CellIsInRange, AreInRange, IsSolution, HasSolved}
 use Rattle.si_unify.proofs.Comparing.{grows_on}
 use Rattle.si_fit.specs.Fresh.{StandOnce, IsUntold, AreFresh}
 use Rattle.si_fit.proofs.FillTurns.{row_once, still_fresh}
-use Rattle.si_fit.specs.Fitting.{AllowsSolving, AreRowsInRange, EqualizesRows, HasSolution, HasFitted}
+use Rattle.si_fit.specs.Fitting.{AllowsSolving, StayWithin, AreRowsInRange, AreRowsNoLongerThan, EqualizesRows, HasSolution, HasFitted}
 
 pub no_more : {X : Type 0} (xs : List X) → Grows xs xs
 no_more xs = ([], sym (append-nil xs))
@@ -33,6 +35,8 @@ module _ (slots : Slots) (old : Pairs) (rows : List CellPair) (count : ℕ) wher
     pub ready : AllowsSolving slots pairs count
     pub range : AreRowsInRange slots left
     pub fresh : AreFresh slots pairs left
+    pub within : (n : ℕ) → AreNoLongerThan n old → AreRowsNoLongerThan n rows → AreNoLongerThan n pairs
+    pub rows_within : (n : ℕ) → AreRowsNoLongerThan n rows → AreRowsNoLongerThan n left
 
   pub fits_start : (left : List CellPair) → left ≡ rows → HasSolution slots old → AllowsSolving slots old count → AreRowsInRange slots rows → AreFresh slots old rows → FitsSoFar old left
   fits_start left e some ready range fresh = record {
@@ -42,6 +46,8 @@ module _ (slots : Slots) (old : Pairs) (rows : List CellPair) (count : ℕ) wher
     ready = ready;
     range = subst (AreRowsInRange slots) (sym e) range;
     fresh = subst (AreFresh slots old) (sym e) fresh;
+    within = λ n values few. values;
+    rows_within = subst (λ l. (n : ℕ) → AreRowsNoLongerThan n rows → AreRowsNoLongerThan n l) (sym e) (λ n few. few);
   }
 
   module _ (pairs : Pairs) (left rest : List CellPair) (row : CellPair) (first : left ≡ row ∷ rest) (h : FitsSoFar pairs left) where
@@ -57,11 +63,23 @@ module _ (slots : Slots) (old : Pairs) (rows : List CellPair) (count : ℕ) wher
       subst (AllByRecursion (IsUntold slots pairs)) (sym f) fresh.untold.0,
     )
 
+    next_within : (n : ℕ) → AreRowsNoLongerThan n rows → AreRowsNoLongerThan n (row ∷ rest)
+    next_within n few = subst (AreRowsNoLongerThan n) first (h.rows_within n few)
+
+    -- a left side is one cell
+    pub sides_within : (s t : List Cell) → s ≡ cell.Ind row.0 ∷ [] → t ≡ row.1 → IsWhole t → (n : ℕ) → AreRowsNoLongerThan n rows → (length s ≤ n) × (length t ≤ n)
+    sides_within s t e f whole n few =
+        let right_few = (next_within n few).0 in
+        (omega (arith, ap length e, some_cell t whole, ap length f, right_few), omega (arith, ap length f, right_few))
+
+    pub pair_within : (new : Pairs) (s t : List Cell) → s ≡ cell.Ind row.0 ∷ [] → t ≡ row.1 → IsWhole t → StayWithin pairs new s t → (n : ℕ) → AreNoLongerThan n old → AreRowsNoLongerThan n rows → AreNoLongerThan n new
+    pair_within new s t e f whole stay n values few = let sides = sides_within s t e f whole n few in stay n (h.within n values few) sides.0 sides.1
+
     so_far : (s : Substitution Symbol Variable) → (IsSolution slots pairs s × EqualizesRows (image same_variable s) (row ∷ rest)) ↔ (IsSolution slots old s × EqualizesRows (image same_variable s) rows)
     so_far = subst (λ l. (s : Substitution Symbol Variable) → (IsSolution slots pairs s × EqualizesRows (image same_variable s) l) ↔ (IsSolution slots old s × EqualizesRows (image same_variable s) rows)) first h.so_far
 
-    pub fits_more : (new : Pairs) (s t : List Cell) (b : Bool) → s ≡ cell.Ind row.0 ∷ [] → t ≡ row.1 → HasSolved slots pairs new s t b → b ≡ true → Grows pairs new → AllowsSolving slots new count → FitsSoFar new rest
-    fits_more new s t b e f solved is grows ready = record {
+    pub fits_more : (new : Pairs) (s t : List Cell) (b : Bool) → s ≡ cell.Ind row.0 ∷ [] → t ≡ row.1 → HasSolved slots pairs new s t b → b ≡ true → Grows pairs new → AllowsSolving slots new count → IsWhole t → StayWithin pairs new s t → FitsSoFar new rest
+    fits_more new s t b e f solved is grows ready whole stay = record {
       so_far = λ m. (
         λ g. (so_far m).0 (let c = (both.1 m).0 g.0 in (c.0, (c.1, g.1))),
         λ g. (let c = (so_far m).1 g in ((both.1 m).1 (c.0, c.1.0), c.1.1)),
@@ -71,6 +89,8 @@ module _ (slots : Slots) (old : Pairs) (rows : List CellPair) (count : ℕ) wher
       ready = ready;
       range = (subst (AreRowsInRange slots) first h.range).1;
       fresh = still_fresh slots pairs row rest fresh new both;
+      within = pair_within new s t e f whole stay;
+      rows_within = λ n few. (next_within n few).1;
     } where
       both : HasSolved slots pairs new (cell.Ind row.0 ∷ []) row.1 true
       both = subst (λ l. HasSolved slots pairs new l row.1 true) e (subst (λ l. HasSolved slots pairs new s l true) f (subst (HasSolved slots pairs new s t) is solved))

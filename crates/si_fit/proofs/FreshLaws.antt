@@ -8,10 +8,10 @@ use Rattle.si_defs.specs.Substitutions.{Substitution, image, IsAmong}
 use Rattle.si_defs.proofs.ListLaws.{all_at, all_from, all_with, all_append, all_back, among_front, among_back}
 use Rattle.si_flat.specs.declared.Cell.{Cell}
 use Rattle.si_flat.specs.declared.Cell.TheVariants as cell
-use Rattle.si_flat.specs.Cells.{Symbol, Variable, query, entry, ind, same_variable, Term, Terms, variable_cell, cells_of, cells_of_all, StandsFor, IsWhole}
+use Rattle.si_flat.specs.Cells.{Symbol, Variable, query, entry, ind, same_variable, Term, Terms, variable_cell, cells_of, cells_of_all, IsWhole}
 use Rattle.si_trail.specs.Trails.{value_at, HasDistinctSlots}
 use Rattle.si_unify.specs.declared.slots.Slots.{Slots}
-use Rattle.si_unify.specs.Solving.{Pairs, slot_count, slot_of, variable_of, is_frozen, IsInRange, CellIsInRange, AreInRange, Equalizes, IsBinding, RanksBelow, IsAcyclic, IsSolution}
+use Rattle.si_unify.specs.Solving.{Pairs, slot_of, variable_of, is_frozen, IsInRange, CellIsInRange, AreInRange, Equalizes, IsBinding, RanksBelow, IsAcyclic, IsSolution}
 use Rattle.si_unify.specs.Spots.{cell_slot, IsBelow}
 use Rattle.si_unify.proofs.Binding.{solved_front}
 use Rattle.si_unify.proofs.Places.{variable_of-slot_of}

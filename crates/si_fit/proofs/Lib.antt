@@ -1,3 +1,4 @@
+pub mod LengthLaws
 pub mod EndLaws
 pub mod FitTurns
 pub mod OccurringLaws

@@ -19,11 +19,12 @@ use Rattle.si_unify.proofs.Rows.{cells-join, sound-join, count-join, substitute-
 use Rattle.si_unify.proofs.Binding.{cut_stands}
 use Rattle.si_unify.proofs.Comparing.{grows_on}
 use Rattle.si_unify.proofs.Meeting.{HaveHead, have_head}
-use Rattle.si_fit.specs.Fitting.{AllowsSolving}
+use Rattle.si_fit.specs.Fitting.{AllowsSolving, StayWithin}
 use Rattle.si_fit.specs.Meeting.{same_symbol, HasMet}
 use Rattle.si_fit.specs.declared.meeting.Met.TheVariants.{Equal, Clash}
 use Rattle.si_fit.proofs.EndLaws.{no_cell}
 use Rattle.si_fit.proofs.FitTurns.{no_more}
+use Rattle.si_fit.proofs.LengthLaws.{stay_there, parts_stay}
 
 -- ---- cells
 -- after so many cells
@@ -68,6 +69,7 @@ module _ (slots : Slots) (left right : List Cell) (old : Pairs) (count : ℕ) wh
     pub rows : AreLeft pairs i j ts us
     pub grows : Grows old pairs
     pub ready : AllowsSolving slots pairs count
+    pub within : StayWithin old pairs left right
 
   pub walk_starts : IsWhole left → IsWhole right → AllowsSolving slots old count → IsWalking old 0 0
   walk_starts t u ready = record {
@@ -86,6 +88,7 @@ module _ (slots : Slots) (left right : List Cell) (old : Pairs) (count : ℕ) wh
     };
     grows = no_more old;
     ready = ready;
+    within = stay_there old left right;
   }
 
   -- ---- the next terms
@@ -159,6 +162,7 @@ module _ (slots : Slots) (left right : List Cell) (old : Pairs) (count : ℕ) wh
         rows = heads_passed pairs i j n.t n.u n.ts n.us arity.0 head n.rows;
         grows = h.grows;
         ready = h.ready;
+        within = h.within;
       }
 
   -- ---- two terms that have met
@@ -192,13 +196,16 @@ module _ (slots : Slots) (left right : List Cell) (old : Pairs) (count : ℕ) wh
     pub right_within : j + length other ≤ length right
     right_within = omega (arith, ap length other_stands.cells_are, ap length next.right_at.from, length-append (cells_of next.u) next.right_at.after, length-drop j right, less)
 
+    pub walk_stays : (new : Pairs) → StayWithin pairs new one other → StayWithin old new left right
+    walk_stays new stay = parts_stay old pairs new left right one other (omega (arith, left_within)) (omega (arith, right_within)) h.within stay
+
     -- what makes the two slices equal makes the terms equal
     equal_of : (f : Variable → Term) → terms.substitute f next.t ≡ terms.substitute f next.u → Equalizes f one other
     equal_of f e t u left_stands right_stands =
         ap (terms.substitute f) (one_term one t next.t left_stands one_stands) ∙ e ∙ ap (terms.substitute f) (one_term other next.u u other_stands right_stands)
 
-    pub walk_goes_on : (new : Pairs) → HasMet slots pairs new one other Equal → Grows pairs new → AllowsSolving slots new count → IsWalking new (i + length one) (j + length other)
-    walk_goes_on new met grows ready = record {
+    pub walk_goes_on : (new : Pairs) → HasMet slots pairs new one other Equal → Grows pairs new → AllowsSolving slots new count → StayWithin pairs new one other → IsWalking new (i + length one) (j + length other)
+    walk_goes_on new met grows ready stay = record {
       ts = next.ts;
       us = next.us;
       rows = record {
@@ -219,6 +226,7 @@ module _ (slots : Slots) (left right : List Cell) (old : Pairs) (count : ℕ) wh
       };
       grows = grows_on old pairs new h.grows grows;
       ready = ready;
+      within = walk_stays new stay;
     }
 
     pub walk_clashes : (new : Pairs) → HasMet slots pairs new one other Clash → (later : Pairs) → HasMet slots old later left right Clash

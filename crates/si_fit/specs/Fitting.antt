@@ -1,6 +1,6 @@
 -- Bindings in cells that are made to fit a list of solved ones.
 use Rattle.std.specs.Borrow.{Bor}
-use Rattle.std.specs.Prelude.{◌≡◌, ℕ, ◌≤◌, ◌↔◌, Bool, true, false, List, [], ◌∷◌}
+use Rattle.std.specs.Prelude.{◌≡◌, ℕ, ◌≤◌, ◌↔◌, Bool, true, false, List, [], ◌∷◌, length}
 use Rattle.std.specs.List.{AllByRecursion}
 use Rattle.si_defs.specs.Substitutions.{Grows, Substitution, image}
 use Rattle.si_trail.specs.Trails.{Trail}
@@ -9,6 +9,7 @@ use Rattle.si_flat.specs.declared.Cell.TheVariants as cell
 use Rattle.si_flat.specs.Cells.{Symbol, Variable, same_variable, IsWhole, Term}
 use Rattle.si_flat.specs.Rows.{CellPair}
 use Rattle.si_unify.specs.declared.slots.Slots.{Slots}
+use Rattle.si_unify.specs.Rooms.{AreNoLongerThan}
 use Rattle.si_unify.specs.Solving.{Pairs, slot_count, CellIsInRange, AreInRange, Equalizes, IsAcyclic, IsBinding, IsSolution}
 
 -- what the solver asks of a trail with so many slots
@@ -32,9 +33,18 @@ pub record StaysSolvable (slots : Slots) (old new : Trail (Bor (List Cell))) : T
   pub ready : AllowsSolving slots new.pairs new.slots
   pub count : new.slots ≡ old.slots
 
+-- no new value has more than n cells where no old one has, and neither term
+abbrev pub StayWithin : Pairs → Pairs → List Cell → List Cell → Type 0
+StayWithin old new first second =
+    (n : ℕ) → AreNoLongerThan n old → length first ≤ n → length second ≤ n → AreNoLongerThan n new
+
 abbrev pub AreRowsInRange : Slots → List CellPair → Type 0
 AreRowsInRange slots rows =
     AllByRecursion (λ r. CellIsInRange slots (cell.Ind r.0) × AreInRange slots r.1) rows
+
+-- no right side has more than n cells
+abbrev pub AreRowsNoLongerThan : ℕ → List CellPair → Type 0
+AreRowsNoLongerThan n = AllByRecursion (λ r. length r.1 ≤ n)
 
 -- f makes each left side equal to its right side
 abbrev pub EqualizesRows : (Variable → Term) → List CellPair → Type 0

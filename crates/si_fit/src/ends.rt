@@ -1,5 +1,7 @@
 // Where chains of bound variables end.
+ghost use Rattle.std.specs.Prelude.{ℕ, ◌≤◌, length};
 ghost use Rattle.si_flat.specs.Cells.{IsWhole};
+ghost use Rattle.si_unify.specs.Rooms.{AreNoLongerThan};
 ghost use Rattle.si_unify.specs.Solving.{AreInRange};
 ghost use Rattle.si_fit.specs.Ends.{EndsAt};
 ghost use Rattle.si_fit.specs.Fitting.{AllowsSolving};
@@ -16,6 +18,8 @@ pub fn end_of<'a>(trail: &Trail<&'a [Cell]>, slots: &Slots, start: &'a [Cell]) -
     requires solving { AllowsSolving slots.now trail.now.pairs trail.now.slots }
     ensures ends { EndsAt slots.now trail.now.pairs start.now result.now }
     ensures range { AreInRange slots.now result.now }
+    ensures within { (n : ℕ) → AreNoLongerThan n trail.now.pairs → length start.now ≤ n
+        → length result.now ≤ n }
 {
     let mut reached = start;
     for _ in 0..trail.mark() {

@@ -2,7 +2,7 @@
 ghost use Rattle.std.specs.Prelude.{IsTrue, get_or};
 ghost use Rattle.std.specs.List.{AllByRecursion};
 ghost use Rattle.si_flat.specs.declared.Cell.TheVariants.{App};
-ghost use Rattle.si_fit.specs.Fitting.{AreWalkable, StaysSolvable};
+ghost use Rattle.si_fit.specs.Fitting.{AreWalkable, StaysSolvable, StayWithin};
 ghost use Rattle.si_fit.specs.Fresh.{StandOnce, IsNew};
 ghost use Rattle.si_fit.specs.Meeting.{same_symbol, HasMet};
 
@@ -28,6 +28,7 @@ fn fill<'a>(
     requires fresh { AllByRecursion (IsNew slots.now trail.old.pairs left.now) right.now }
     ensures met { HasMet slots.now trail.old.pairs trail.new.pairs left.now right.now result }
     ensures trail { StaysSolvable slots.now trail.old trail.new }
+    ensures within { StayWithin trail.old.pairs trail.new.pairs left.now right.now }
 {
     let mut i = 0;
     let mut j = 0;
@@ -69,6 +70,7 @@ fn fill_one<'a>(
     requires fresh { IsNew slots.now trail.old.pairs left.now (get_or right.now 0 (App 0 0 0)) }
     ensures met { HasMet slots.now trail.old.pairs trail.new.pairs left.now right.now result }
     ensures trail { StaysSolvable slots.now trail.old trail.new }
+    ensures within { StayWithin trail.old.pairs trail.new.pairs left.now right.now }
 {
     let first = right[0];
     if let Cell::Ind(number) = first {
@@ -96,6 +98,7 @@ pub(crate) fn fill_any<'a>(
     requires fresh { AllByRecursion (IsNew slots.now trail.old.pairs left.now) right.now }
     ensures met { HasMet slots.now trail.old.pairs trail.new.pairs left.now right.now result }
     ensures trail { StaysSolvable slots.now trail.old trail.new }
+    ensures within { StayWithin trail.old.pairs trail.new.pairs left.now right.now }
 {
     if have_same_symbol(left[0], right[0]) {
         return fill(trail, slots, left, right, budget);

@@ -1,9 +1,10 @@
 // Bindings that are made to fit those of a trail.
-ghost use Rattle.std.specs.Prelude.{◌≡◌, ◌++◌, IfOk};
+ghost use Rattle.std.specs.Prelude.{◌≡◌, ℕ, ◌≤◌, ◌++◌, length, IfOk, OnErr};
 ghost use Rattle.std.specs.List.{AllByRecursion};
 ghost use Rattle.si_defs.specs.Substitutions.{Grows};
+ghost use Rattle.si_unify.specs.Rooms.{AreNoLongerThan, IsEnoughToSolve, IsNoLessRoom};
 ghost use Rattle.si_unify.specs.Solving.{HasSolved};
-ghost use Rattle.si_fit.specs.Fitting.{AllowsSolving, AreRowsInRange, AreWalkable, HasFitted, HasSolution, StaysSolvable};
+ghost use Rattle.si_fit.specs.Fitting.{AllowsSolving, AreRowsInRange, AreRowsNoLongerThan, AreWalkable, HasFitted, HasSolution, StaysSolvable, StayWithin};
 ghost use Rattle.si_fit.specs.Fresh.{StandOnce, IsUntold, AreFresh};
 
 use crate::ends::end_of;
@@ -33,6 +34,11 @@ fn fit_pair<'a>(
     ensures solved { IfOk result (HasSolved slots.now trail.old.pairs trail.new.pairs left.now
         right.now) }
     ensures trail { StaysSolvable slots.now trail.old trail.new }
+    ensures full { OnErr result ((n : ℕ) → AreNoLongerThan n trail.old.pairs
+        → length left.now ≤ n → length right.now ≤ n → IsEnoughToSolve slots.now n scratch.old
+        → ⊥) }
+    ensures keeps { IsNoLessRoom scratch.old scratch.new }
+    ensures within { StayWithin trail.old.pairs trail.new.pairs left.now right.now }
 {
     let mark = trail.mark();
     let end = end_of(trail, slots, left);
@@ -55,6 +61,11 @@ fn fit_pair<'a>(
 ///
 /// It tells whether that can be done. Where it can't, and where memory runs out, some may have been
 /// bound.
+///
+/// # Errors
+///
+/// `AllocError` where there is no memory, but never where the scratch has room enough for all terms
+/// and bindings of these sizes.
 pub fn fit<'a>(
     scratch: &mut Scratch,
     trail: &mut Trail<&'a [Cell]>,
@@ -69,6 +80,11 @@ pub fn fit<'a>(
     ensures grows { Grows trail.old.pairs trail.new.pairs }
     ensures ready { AllowsSolving slots.now trail.new.pairs trail.new.slots }
     ensures slots { trail.new.slots ≡ trail.old.slots }
+    ensures full { OnErr result ((n : ℕ) → AreNoLongerThan n trail.old.pairs
+        → AreRowsNoLongerThan n bindings.now → IsEnoughToSolve slots.now n scratch.old → ⊥) }
+    ensures keeps { IsNoLessRoom scratch.old scratch.new }
+    ensures within { (n : ℕ) → AreNoLongerThan n trail.old.pairs
+        → AreRowsNoLongerThan n bindings.now → AreNoLongerThan n trail.new.pairs }
 {
     for pair in bindings.pairs() {
         let left = pair.left_cells();

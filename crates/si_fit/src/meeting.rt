@@ -1,8 +1,9 @@
 // A variable that is made equal to a term by binding it.
-ghost use Rattle.std.specs.Prelude.{◌≡◌, ◌↔◌, ◌≤◌, None, IsTrue, get_or};
+ghost use Rattle.std.specs.Prelude.{◌≡◌, ℕ, ◌↔◌, ◌≤◌, length, None, IsTrue, get_or};
 ghost use Rattle.si_flat.specs.declared.Cell.TheVariants.{App};
 ghost use Rattle.si_flat.specs.Cells.{IsWhole};
 ghost use Rattle.si_trail.specs.Trails.{value_at};
+ghost use Rattle.si_unify.specs.Rooms.{AreNoLongerThan};
 ghost use Rattle.si_unify.specs.Solving.{AreInRange};
 ghost use Rattle.si_fit.specs.Fitting.{AllowsSolving, StaysSolvable};
 ghost use Rattle.si_fit.specs.Meeting.{IsOpenSlot, IsSameVariable, slot_cells, same_symbol, HasMet};
@@ -81,6 +82,8 @@ pub(crate) fn bind<'a>(
     ensures met { HasMet slots.now trail.old.pairs trail.new.pairs (slot_cells slots.now slot)
         term.now result }
     ensures trail { StaysSolvable slots.now trail.old trail.new }
+    ensures within { (n : ℕ) → AreNoLongerThan n trail.old.pairs → length term.now ≤ n
+        → AreNoLongerThan n trail.new.pairs }
     ensures fewer { budget.new ≤ budget.old }
 {
     let head = term[0];

@@ -3,7 +3,7 @@ ghost use Rattle.std.specs.Prelude.{◌≡◌, ◌≤◌, None, Some, IsTrue, ge
 ghost use Rattle.si_flat.specs.declared.Cell.TheVariants.{App};
 ghost use Rattle.si_trail.specs.Trails.{value_at};
 ghost use Rattle.si_unify.specs.Spots.{free_slot};
-ghost use Rattle.si_fit.specs.Fitting.{AreWalkable, StaysSolvable};
+ghost use Rattle.si_fit.specs.Fitting.{AreWalkable, StaysSolvable, StayWithin};
 ghost use Rattle.si_fit.specs.Meeting.{same_symbol, HasMet};
 
 use crate::meeting::{Met, bind, have_same_symbol, is_same_variable, value_at};
@@ -26,6 +26,7 @@ pub(crate) fn walk<'a>(
     requires terms { AreWalkable slots.now trail.old left.now right.now }
     ensures met { HasMet slots.now trail.old.pairs trail.new.pairs left.now right.now result }
     ensures trail { StaysSolvable slots.now trail.old trail.new }
+    ensures within { StayWithin trail.old.pairs trail.new.pairs left.now right.now }
     ensures fewer { budget.new ≤ budget.old }
 {
     let mut i = 0;
@@ -63,6 +64,7 @@ fn follow<'a>(
     requires terms { AreWalkable slots.now trail.old left.now right.now }
     ensures met { HasMet slots.now trail.old.pairs trail.new.pairs left.now right.now result }
     ensures trail { StaysSolvable slots.now trail.old trail.new }
+    ensures within { StayWithin trail.old.pairs trail.new.pairs left.now right.now }
     ensures fewer { budget.new ≤ budget.old }
 {
     if *budget == 0 {
@@ -88,6 +90,7 @@ fn meet_fixed<'a>(
     requires fixed { free_slot slots.now (get_or right.now 0 (App 0 0 0)) ≡ None }
     ensures met { HasMet slots.now trail.old.pairs trail.new.pairs left.now right.now result }
     ensures trail { StaysSolvable slots.now trail.old trail.new }
+    ensures within { StayWithin trail.old.pairs trail.new.pairs left.now right.now }
     ensures fewer { budget.new ≤ budget.old }
 {
     let one = left[0];
@@ -120,6 +123,7 @@ fn meet_unbound<'a>(
     requires unbound { value_at trail.old.pairs slot ≡ None }
     ensures met { HasMet slots.now trail.old.pairs trail.new.pairs left.now right.now result }
     ensures trail { StaysSolvable slots.now trail.old trail.new }
+    ensures within { StayWithin trail.old.pairs trail.new.pairs left.now right.now }
     ensures fewer { budget.new ≤ budget.old }
 {
     let one = left[0];
@@ -153,6 +157,7 @@ pub(crate) fn meet<'a>(
         (get_or right.now 0 (App 0 0 0))) → ⊥ }
     ensures met { HasMet slots.now trail.old.pairs trail.new.pairs left.now right.now result }
     ensures trail { StaysSolvable slots.now trail.old trail.new }
+    ensures within { StayWithin trail.old.pairs trail.new.pairs left.now right.now }
     ensures fewer { budget.new ≤ budget.old }
 {
     let other = right[0];

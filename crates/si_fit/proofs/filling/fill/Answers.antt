@@ -1,6 +1,6 @@
 use Rattle.std.proofs.Common.{refl, sym, ◌∙◌, subst, arith}
 use Rattle.si_fit.specs.Fitting.{AllowsSolving}
-use Rattle.si_fit.proofs.WalkLaws.{walk_starts, left_inside, walk_descends, heads_differ, other_some, left_within, walk_goes_on, walk_clashes, walk_ends}
+use Rattle.si_fit.proofs.WalkLaws.{walk_starts, left_inside, walk_descends, heads_differ, other_some, left_within, walk_goes_on, walk_stays, walk_clashes, walk_ends}
 use Rattle.si_fit.proofs.FillTurns.{still_new, first_new, new_on}
 use Rattle.si_fit.proofs.filling.fill.Goals as goal
 
@@ -49,7 +49,8 @@ loop-j-preserved c = record {
   is_walking =
       walk_goes_on c.args.slots.now c.args.left.now c.args.right.now c.args.trail.now.pairs c.args.trail.now.slots c.loop-j.trail.pairs c.loop-j.i c.loop-j.j c.sub-one.result.now c.sub-other.result.now c.loop-j.invariant.is_walking c.loop-j-test.true c.sub-one.ensures.place c.sub-other.ensures.place c.sub-one.ensures.whole c.sub-other.ensures.whole
       c.fill_one.new.trail.pairs c.in-Equal.ensures.met c.fill_one.ensures.trail.grows
-      (subst (AllowsSolving c.args.slots.now c.fill_one.new.trail.pairs) (c.fill_one.ensures.trail.count ∙ c.loop-j.invariant.same_slots) c.fill_one.ensures.trail.ready);
+      (subst (AllowsSolving c.args.slots.now c.fill_one.new.trail.pairs) (c.fill_one.ensures.trail.count ∙ c.loop-j.invariant.same_slots) c.fill_one.ensures.trail.ready)
+      c.fill_one.ensures.within;
   left_within = left_within c.args.slots.now c.args.left.now c.args.right.now c.args.trail.now.pairs c.args.trail.now.slots c.loop-j.trail.pairs c.loop-j.i c.loop-j.j c.sub-one.result.now c.sub-other.result.now c.loop-j.invariant.is_walking c.loop-j-test.true c.sub-one.ensures.place c.sub-other.ensures.place c.sub-one.ensures.whole c.sub-other.ensures.whole;
   still_new =
       new_on c.args.slots.now c.loop-j.trail.pairs c.args.left.now c.args.right.now c.loop-j.i c.loop-j.j c.sub-one.result.now c.sub-other.result.now c.loop-j.invariant.still_new c.sub-one.ensures.place c.sub-other.ensures.place
@@ -64,3 +65,12 @@ returns-in-Clash-clause-met c =
 
 pub returns-clause-met : goal.returns-clause-met
 returns-clause-met c = walk_ends c.args.slots.now c.args.left.now c.args.right.now c.args.trail.now.pairs c.args.trail.now.slots c.loop-j.trail.pairs c.loop-j.i c.loop-j.j c.loop-j.invariant.is_walking (omega (arith, c.loop-j-test.false))
+
+pub returns-in-Clash-clause-within : goal.returns-in-Clash-clause-within
+returns-in-Clash-clause-within c = walk_stays c.args.slots.now c.args.left.now c.args.right.now c.args.trail.now.pairs c.args.trail.now.slots c.loop-j.trail.pairs c.loop-j.i c.loop-j.j c.sub-one.result.now c.sub-other.result.now c.loop-j.invariant.is_walking c.loop-j-test.true c.sub-one.ensures.place c.sub-other.ensures.place c.sub-one.ensures.whole c.sub-other.ensures.whole c.fill_one.new.trail.pairs c.fill_one.ensures.within
+
+pub returns-in-Unknown-clause-within : goal.returns-in-Unknown-clause-within
+returns-in-Unknown-clause-within c = walk_stays c.args.slots.now c.args.left.now c.args.right.now c.args.trail.now.pairs c.args.trail.now.slots c.loop-j.trail.pairs c.loop-j.i c.loop-j.j c.sub-one.result.now c.sub-other.result.now c.loop-j.invariant.is_walking c.loop-j-test.true c.sub-one.ensures.place c.sub-other.ensures.place c.sub-one.ensures.whole c.sub-other.ensures.whole c.fill_one.new.trail.pairs c.fill_one.ensures.within
+
+pub returns-clause-within : goal.returns-clause-within
+returns-clause-within c = c.loop-j.invariant.is_walking.within

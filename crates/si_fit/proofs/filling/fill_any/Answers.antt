@@ -1,4 +1,3 @@
-use Rattle.std.proofs.Common.{sym, ◌∙◌}
 use Rattle.si_defs.proofs.ListLaws.{all_get}
 use Rattle.si_flat.proofs.Subterms.{some_cell}
 use Rattle.si_fit.specs.Fresh.{IsNew}

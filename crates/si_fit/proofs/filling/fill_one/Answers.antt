@@ -1,5 +1,4 @@
-use Rattle.std.proofs.Common.{◌≡◌, ◌++◌, [], ◌∷◌, get_or, refl, sym, ap, subst}
-use Rattle.si_flat.specs.declared.Cell.TheVariants as cell
+use Rattle.std.proofs.Common.{sym, ap, subst}
 use Rattle.si_flat.specs.Cells.{ind}
 use Rattle.si_flat.proofs.Subterms.{some_cell}
 use Rattle.si_unify.specs.Solving.{slot_of, CellIsInRange}
@@ -9,6 +8,7 @@ use Rattle.si_fit.specs.Fitting.{AllowsSolving}
 use Rattle.si_fit.specs.Meeting.{slot_cells, HasMet}
 use Rattle.si_fit.specs.declared.meeting.Met.TheVariants.{Equal}
 use Rattle.si_fit.proofs.EndLaws.{no_cell}
+use Rattle.si_fit.proofs.LengthLaws.{bound_within}
 use Rattle.si_fit.proofs.MeetLaws.{variable_at, right_met, end_met}
 use Rattle.si_fit.proofs.FreshLaws.{end_still_lacks, slot_unbound, fresh_ready, pair_met}
 use Rattle.si_fit.proofs.filling.fill_one.Goals as goal
@@ -46,3 +46,7 @@ returns-in-Ind-clause-trail c = record {
       (end_still_lacks c.args.slots.now c.args.trail.now.pairs c.args.left.now c.end_of-end.result.now c.in-Ind.number c.args.trail.now.slots c.requires.terms.ready c.mark.ensures.distinct fresh.0 ends fresh.1)));
   count = c.bind.ensures.slots;
 }
+
+pub returns-in-Ind-clause-within : goal.returns-in-Ind-clause-within
+returns-in-Ind-clause-within c = λ n values left right.
+    bound_within c.args.trail.now.pairs c.bind.new.self.pairs (slot_of c.args.slots.now (ind c.in-Ind.number)) c.end_of-end.result c.bind.ensures.pairs n values (c.end_of-end.ensures.within n values left)

@@ -1,8 +1,11 @@
-use Rattle.std.proofs.Common.{sym, ◌∙◌, subst}
+use Rattle.std.proofs.Common.{ℕ, sym, ◌∙◌, subst}
+use Rattle.si_term.proofs.Results.{on_err}
+use Rattle.si_unify.specs.Rooms.{AreNoLongerThan, IsEnoughToSolve}
 use Rattle.si_unify.specs.Solving.{AreInRange}
 use Rattle.si_unify.proofs.Comparing.{grows_on}
-use Rattle.si_fit.specs.Fitting.{AllowsSolving}
-use Rattle.si_fit.proofs.FitTurns.{indicator_whole, indicator_range, row_range, row_fresh, fits_more, fits_not, fits_end}
+use Rattle.si_unify.proofs.RoomLaws.{room_on, enough_on}
+use Rattle.si_fit.specs.Fitting.{AllowsSolving, AreRowsNoLongerThan}
+use Rattle.si_fit.proofs.FitTurns.{indicator_whole, indicator_range, row_range, row_fresh, sides_within, pair_within, fits_more, fits_not, fits_end}
 use Rattle.si_fit.proofs.fitting.fit.Goals as goal
 
 pub fit_pair-requires-clause-terms : goal.fit_pair-requires-clause-terms
@@ -27,8 +30,10 @@ loop-pair-preserved c = record {
       fits_more c.args.slots.now c.args.trail.now.pairs c.args.bindings.now c.args.trail.now.slots c.loop-pair.trail.pairs c.loop-pair.pair-iterator c.next.new.self c.in-Some.pair c.in-Some.ensures.steps c.loop-pair.invariant.fits_so_far
       c.fit_pair.new.trail.pairs c.left_cells-left.result.now c.right-right.result.now c.in_ok-fit_pair.field-0 c.left_cells-left.ensures c.right-right.ensures.cells c.in_ok-fit_pair.ensures.solved c.if-not-branch.false
       c.fit_pair.ensures.trail.grows
-      (subst (AllowsSolving c.args.slots.now c.fit_pair.new.trail.pairs) (c.fit_pair.ensures.trail.count ∙ c.loop-pair.invariant.same_slots) c.fit_pair.ensures.trail.ready);
+      (subst (AllowsSolving c.args.slots.now c.fit_pair.new.trail.pairs) (c.fit_pair.ensures.trail.count ∙ c.loop-pair.invariant.same_slots) c.fit_pair.ensures.trail.ready)
+      c.right-right.ensures.whole c.fit_pair.ensures.within;
   same_slots = c.in_ok-fit_pair.ensures.trail.count ∙ c.loop-pair.invariant.same_slots;
+  same_room = room_on c.args.scratch.now c.loop-pair.scratch c.fit_pair.new.scratch c.loop-pair.invariant.same_room c.fit_pair.ensures.keeps;
 }
 
 pub returns-clause-fits : goal.returns-clause-fits
@@ -50,3 +55,28 @@ returns-in_err-fit_pair-clause-grows c =
 pub returns-then-not-branch-clause-grows : goal.returns-then-not-branch-clause-grows
 returns-then-not-branch-clause-grows c =
     grows_on c.args.trail.now.pairs c.loop-pair.trail.pairs c.fit_pair.new.trail.pairs c.loop-pair.invariant.fits_so_far.grows c.fit_pair.ensures.trail.grows
+
+pub returns-in_err-fit_pair-clause-full : goal.returns-in_err-fit_pair-clause-full
+returns-in_err-fit_pair-clause-full c =
+    let refused : (n : ℕ) → AreNoLongerThan n c.args.trail.now.pairs → AreRowsNoLongerThan n c.args.bindings.now → IsEnoughToSolve c.args.slots.now n c.args.scratch.now → ⊥ =
+    λ n values rows enough.
+    let sides = sides_within c.args.slots.now c.args.trail.now.pairs c.args.bindings.now c.args.trail.now.slots c.loop-pair.trail.pairs c.loop-pair.pair-iterator c.next.new.self c.in-Some.pair c.in-Some.ensures.steps c.loop-pair.invariant.fits_so_far c.left_cells-left.result.now c.right-right.result.now c.left_cells-left.ensures c.right-right.ensures.cells c.right-right.ensures.whole n rows in
+    c.in_err-fit_pair.ensures.full n (c.loop-pair.invariant.fits_so_far.within n values rows) sides.0 sides.1
+    (enough_on c.args.slots.now n c.args.scratch.now c.loop-pair.scratch c.loop-pair.invariant.same_room enough) in
+    on_err _ refused
+
+pub returns-in_err-fit_pair-clause-keeps : goal.returns-in_err-fit_pair-clause-keeps
+returns-in_err-fit_pair-clause-keeps c =
+    room_on c.args.scratch.now c.loop-pair.scratch c.fit_pair.new.scratch c.loop-pair.invariant.same_room c.fit_pair.ensures.keeps
+
+pub returns-then-not-branch-clause-keeps : goal.returns-then-not-branch-clause-keeps
+returns-then-not-branch-clause-keeps c =
+    room_on c.args.scratch.now c.loop-pair.scratch c.fit_pair.new.scratch c.loop-pair.invariant.same_room c.fit_pair.ensures.keeps
+
+pub returns-in_err-fit_pair-clause-within : goal.returns-in_err-fit_pair-clause-within
+returns-in_err-fit_pair-clause-within c =
+    pair_within c.args.slots.now c.args.trail.now.pairs c.args.bindings.now c.args.trail.now.slots c.loop-pair.trail.pairs c.loop-pair.pair-iterator c.next.new.self c.in-Some.pair c.in-Some.ensures.steps c.loop-pair.invariant.fits_so_far c.fit_pair.new.trail.pairs c.left_cells-left.result.now c.right-right.result.now c.left_cells-left.ensures c.right-right.ensures.cells c.right-right.ensures.whole c.fit_pair.ensures.within
+
+pub returns-then-not-branch-clause-within : goal.returns-then-not-branch-clause-within
+returns-then-not-branch-clause-within c =
+    pair_within c.args.slots.now c.args.trail.now.pairs c.args.bindings.now c.args.trail.now.slots c.loop-pair.trail.pairs c.loop-pair.pair-iterator c.next.new.self c.in-Some.pair c.in-Some.ensures.steps c.loop-pair.invariant.fits_so_far c.fit_pair.new.trail.pairs c.left_cells-left.result.now c.right-right.result.now c.left_cells-left.ensures c.right-right.ensures.cells c.right-right.ensures.whole c.fit_pair.ensures.within

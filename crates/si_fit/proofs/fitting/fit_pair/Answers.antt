@@ -1,8 +1,11 @@
-use Rattle.std.proofs.Common.{take, ap, ◌∙◌, subst, arith}
+use Rattle.std.proofs.Common.{take, sym, ap, ◌∙◌, subst, arith}
+use Rattle.std.proofs.lemmas.Result.{on_err_weaker}
 use Rattle.std.specs.Prelude.{IfOk}
 use Rattle.si_defs.specs.Substitutions.{Grows}
-use Rattle.si_unify.specs.Solving.{HasSolved}
+use Rattle.si_unify.specs.Rooms.{AreNoLongerThan}
+use Rattle.si_unify.specs.Solving.{AreHandedIn, HasSolved}
 use Rattle.si_unify.proofs.Answering.{front_of}
+use Rattle.si_unify.proofs.Pieces.{all_within}
 use Rattle.si_fit.specs.declared.meeting.Met.TheVariants.{Equal, Clash}
 use Rattle.si_fit.proofs.MeetLaws.{end_met}
 use Rattle.si_fit.proofs.PairLaws.{met_solved, clash_unsolved, still_grows}
@@ -56,3 +59,20 @@ returns-in-Unknown-clause-trail c = record {
   };
   count = c.solve_with.ensures.slots ∙ c.undo.ensures.slots ∙ c.fill_any.ensures.trail.count;
 }
+
+pub returns-in-Unknown-clause-full : goal.returns-in-Unknown-clause-full
+returns-in-Unknown-clause-full c =
+    on_err_weaker c.solve_with.result
+    (λ lacks n values left right enough. lacks n (subst (AreNoLongerThan n) (sym (c.undo.ensures.pairs ∙ ap (λ n. take n c.fill_any.new.trail.pairs) c.mark-mark.ensures.number ∙ front_of c.args.trail.now.pairs c.fill_any.new.trail.pairs c.fill_any.ensures.trail.grows)) values) left right enough)
+    c.solve_with.ensures.full
+
+pub returns-in-Unknown-clause-within : goal.returns-in-Unknown-clause-within
+returns-in-Unknown-clause-within c = λ n values left right.
+    all_within n c.args.left.now c.args.right.now left right c.args.trail.now.pairs values c.solve_with.new.trail.pairs
+    (subst (λ l. AreHandedIn l c.solve_with.new.trail.pairs c.args.left.now c.args.right.now) (c.undo.ensures.pairs ∙ ap (λ n. take n c.fill_any.new.trail.pairs) c.mark-mark.ensures.number ∙ front_of c.args.trail.now.pairs c.fill_any.new.trail.pairs c.fill_any.ensures.trail.grows) c.solve_with.ensures.handed_in)
+
+pub returns-in-Equal-clause-within : goal.returns-in-Equal-clause-within
+returns-in-Equal-clause-within c = λ n values left right. c.fill_any.ensures.within n values (c.end_of-end.ensures.within n values left) right
+
+pub returns-in-Clash-clause-within : goal.returns-in-Clash-clause-within
+returns-in-Clash-clause-within c = λ n values left right. c.fill_any.ensures.within n values (c.end_of-end.ensures.within n values left) right

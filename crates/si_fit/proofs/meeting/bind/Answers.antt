@@ -4,6 +4,7 @@ use Rattle.si_fit.specs.Fitting.{AllowsSolving}
 use Rattle.si_fit.specs.Meeting.{slot_cells, HasMet}
 use Rattle.si_fit.specs.declared.meeting.Met.TheVariants.{Equal}
 use Rattle.si_fit.proofs.BindLaws.{bound_met, bound_ready}
+use Rattle.si_fit.proofs.LengthLaws.{bound_within}
 use Rattle.si_fit.proofs.MeetLaws.{occurs_clash}
 use Rattle.si_fit.proofs.meeting.bind.Goals as goal
 
@@ -25,3 +26,6 @@ bounds-term-0 c = some_cell c.args.term.now c.requires.whole
 pub returns-in-App-clause-met : goal.returns-in-App-clause-met
 returns-in-App-clause-met c =
     occurs_clash c.args.slots.now c.args.trail.now.pairs c.args.trail.now.pairs c.args.slot c.args.term.now c.in-App.sym c.in-App.arity c.in-App.len c.requires.whole c.in-App.is c.in-Present.ensures.found
+
+pub returns-in-Absent-clause-within : goal.returns-in-Absent-clause-within
+returns-in-Absent-clause-within c = λ n values few. bound_within c.args.trail.now.pairs c.bind.new.self.pairs c.args.slot c.args.term c.bind.ensures.pairs n values few

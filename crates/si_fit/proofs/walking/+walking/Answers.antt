@@ -3,7 +3,8 @@ use Rattle.si_flat.proofs.Subterms.{some_cell}
 use Rattle.si_unify.specs.Solving.{IsBinding}
 use Rattle.si_unify.proofs.Places.{all_at}
 use Rattle.si_fit.specs.Fitting.{AllowsSolving}
-use Rattle.si_fit.proofs.WalkLaws.{walk_starts, left_inside, walk_descends, heads_differ, other_some, left_within, walk_goes_on, walk_clashes, walk_ends, cut_in_range}
+use Rattle.si_fit.proofs.WalkLaws.{walk_starts, left_inside, walk_descends, heads_differ, other_some, left_within, walk_goes_on, walk_stays, walk_clashes, walk_ends, cut_in_range}
+use Rattle.si_fit.proofs.LengthLaws.{left_stays, right_stays}
 use Rattle.si_fit.proofs.MeetLaws.{IsVariable, variable_at, variable_met, slot_met, left_met, right_met, heads_clash, fixed_free, other_free, left_followed, right_followed}
 use Rattle.si_fit.proofs.walking.+walking.Goals as goal
 
@@ -56,7 +57,8 @@ walk-loop-j-preserved t c = record {
   is_walking =
       walk_goes_on c.args.slots.now c.args.left.now c.args.right.now c.args.trail.now.pairs c.args.trail.now.slots c.loop-j.trail.pairs c.loop-j.i c.loop-j.j c.sub-one.result.now c.sub-other.result.now c.loop-j.invariant.is_walking c.loop-j-test.true c.sub-one.ensures.place c.sub-other.ensures.place c.sub-one.ensures.whole c.sub-other.ensures.whole
       c.meet.new.trail.pairs c.in-Equal.ensures.met c.meet.ensures.trail.grows
-      (subst (AllowsSolving c.args.slots.now c.meet.new.trail.pairs) (c.meet.ensures.trail.count ∙ c.loop-j.invariant.same_slots) c.meet.ensures.trail.ready);
+      (subst (AllowsSolving c.args.slots.now c.meet.new.trail.pairs) (c.meet.ensures.trail.count ∙ c.loop-j.invariant.same_slots) c.meet.ensures.trail.ready)
+      c.meet.ensures.within;
   left_within = left_within c.args.slots.now c.args.left.now c.args.right.now c.args.trail.now.pairs c.args.trail.now.slots c.loop-j.trail.pairs c.loop-j.i c.loop-j.j c.sub-one.result.now c.sub-other.result.now c.loop-j.invariant.is_walking c.loop-j-test.true c.sub-one.ensures.place c.sub-other.ensures.place c.sub-one.ensures.whole c.sub-other.ensures.whole;
   same_slots = c.meet.ensures.trail.count ∙ c.loop-j.invariant.same_slots;
   fewer = omega (arith, c.meet.ensures.fewer, c.loop-j.invariant.fewer);
@@ -193,3 +195,36 @@ meet_unbound-returns-in-Ind-clause-met t c =
 pub meet_unbound-returns-clause-met : goal.meet_unbound-returns-clause-met
 meet_unbound-returns-clause-met t c =
     right_met c.args.slots.now c.args.trail.now.pairs c.bind-2.new.trail.pairs c.args.slot c.args.left.now c.args.right.now c.bind-2.result (variable_at c.args.slots.now c.args.slot c.args.right.now c.requires.terms.right c.requires.terms.right_range c.requires.variable) c.bind-2.ensures.met
+
+pub walk-returns-in-Clash-clause-within : goal.walk-returns-in-Clash-clause-within
+walk-returns-in-Clash-clause-within t c = walk_stays c.args.slots.now c.args.left.now c.args.right.now c.args.trail.now.pairs c.args.trail.now.slots c.loop-j.trail.pairs c.loop-j.i c.loop-j.j c.sub-one.result.now c.sub-other.result.now c.loop-j.invariant.is_walking c.loop-j-test.true c.sub-one.ensures.place c.sub-other.ensures.place c.sub-one.ensures.whole c.sub-other.ensures.whole c.meet.new.trail.pairs c.meet.ensures.within
+
+pub walk-returns-in-Unknown-clause-within : goal.walk-returns-in-Unknown-clause-within
+walk-returns-in-Unknown-clause-within t c = walk_stays c.args.slots.now c.args.left.now c.args.right.now c.args.trail.now.pairs c.args.trail.now.slots c.loop-j.trail.pairs c.loop-j.i c.loop-j.j c.sub-one.result.now c.sub-other.result.now c.loop-j.invariant.is_walking c.loop-j-test.true c.sub-one.ensures.place c.sub-other.ensures.place c.sub-one.ensures.whole c.sub-other.ensures.whole c.meet.new.trail.pairs c.meet.ensures.within
+
+pub walk-returns-clause-within : goal.walk-returns-clause-within
+walk-returns-clause-within t c = c.loop-j.invariant.is_walking.within
+
+pub meet-returns-in-Some-value_at-clause-within : goal.meet-returns-in-Some-value_at-clause-within
+meet-returns-in-Some-value_at-clause-within t c =
+    right_stays c.args.trail.now.pairs c.follow.new.trail.pairs c.in-Some.slot c.in-Some-value_at.value (sym c.in-Some-value_at.ensures) c.args.left.now c.args.right.now c.follow.ensures.within
+
+pub meet_fixed-returns-in-Some-value_at-clause-within : goal.meet_fixed-returns-in-Some-value_at-clause-within
+meet_fixed-returns-in-Some-value_at-clause-within t c =
+    left_stays c.args.trail.now.pairs c.follow.new.trail.pairs c.in-Some.slot c.in-Some-value_at.value (sym c.in-Some-value_at.ensures) c.args.left.now c.args.right.now c.follow.ensures.within
+
+pub meet_fixed-returns-clause-within : goal.meet_fixed-returns-clause-within
+meet_fixed-returns-clause-within t c = λ n values left right. c.bind.ensures.within n values right
+
+pub meet_unbound-returns-in_default-clause-within : goal.meet_unbound-returns-in_default-clause-within
+meet_unbound-returns-in_default-clause-within t c = λ n values left right. c.bind.ensures.within n values left
+
+pub meet_unbound-returns-in-Some-value_at-clause-within : goal.meet_unbound-returns-in-Some-value_at-clause-within
+meet_unbound-returns-in-Some-value_at-clause-within t c =
+    left_stays c.args.trail.now.pairs c.follow.new.trail.pairs c.in-Some.own c.in-Some-value_at.value (sym c.in-Some-value_at.ensures) c.args.left.now c.args.right.now c.follow.ensures.within
+
+pub meet_unbound-returns-in-Ind-clause-within : goal.meet_unbound-returns-in-Ind-clause-within
+meet_unbound-returns-in-Ind-clause-within t c = λ n values left right. c.bind-in-Ind.ensures.within n values right
+
+pub meet_unbound-returns-clause-within : goal.meet_unbound-returns-clause-within
+meet_unbound-returns-clause-within t c = λ n values left right. c.bind-2.ensures.within n values left

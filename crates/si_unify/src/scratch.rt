@@ -14,8 +14,8 @@ use indexmap::IndexSet;
 use std::alloc::{AllocError, Global};
 use std::marker::Model;
 
-// How many pairs of spots there may be, over so many slots, where neither term and no value has
-// more cells. None where that is no number of a machine word.
+// How many pairs of spots there may be over so many slots, where neither term and no value has more
+// cells. `None` where that doesn't fit in a word.
 fn most_spot_pairs(count: usize, cells: usize) -> Option<usize>
     requires { count < 2 ^ 34 }
     ensures { SomeIff result (most_spots count cells * most_spots count cells < 2 ^ 64)
@@ -39,7 +39,7 @@ pub(crate) struct Buffers {
 }
 
 impl Buffers {
-    // Makes room for all terms and bindings over these slots that have no more cells.
+    // Makes room for all terms and bindings over these slots, where none has more cells.
     fn reserve(&mut self, slots: &Slots, cells: usize) -> Result<(), AllocError>
         requires { AreClear self.old }
         ensures clear { AreClear self.new }
@@ -111,11 +111,11 @@ impl Scratch {
         }
     }
 
-    /// Makes room enough to solve over these slots, whatever the terms and bindings are, as long as
-    /// neither term and no value has more cells.
+    /// Makes room to solve any equation over these slots in which neither term and no value has more
+    /// than so many cells. [`solve_with`](crate::solve_with) is never refused then.
     ///
-    /// The room for pairs of places grows with the square of the cells that two terms and a value
-    /// for each slot may have: it is meant for small terms.
+    /// There is a pair of places for each two cells of all these: as many as the square of the
+    /// slots times the cells, so this is for small terms.
     ///
     /// # Errors
     ///

@@ -217,6 +217,8 @@ fn assert_row(
 // Looks at the rows under each freezing.
 fn assert_rows(rt: &impl Abort, alloc: Global, rows: &[Row]) -> Result<(), AllocError> {
     let mut scratch = Scratch::new(alloc);
+    // Room for terms of eight cells. For longer ones it grows.
+    scratch.reserve(&frozen(false, false), 8)?;
     for row in rows {
         assert_row(rt, alloc, &mut scratch, row)?;
     }

@@ -108,8 +108,8 @@ impl<'a> ClauseBuffer<'a> {
     ///
     /// # Errors
     ///
-    /// `AllocError` where there is no memory; the buffer is empty then. It never comes where what the
-    /// buffer grew to is enough for the clause, as it is once it was filled in.
+    /// `AllocError` where there is no memory; the buffer is empty then. It never comes where what
+    /// the buffer grew to is enough for the clause, as it is once it was filled in.
     pub fn fill<T: SymTable>(
         &mut self,
         table: &T,

@@ -151,8 +151,8 @@ impl<'a> EntryBuffer<'a> {
     ///
     /// # Errors
     ///
-    /// `AllocError` where there is no memory; the buffer is empty then. It never comes where what the
-    /// buffer grew to is enough for the entry, as it is once it was filled in.
+    /// `AllocError` where there is no memory; the buffer is empty then. It never comes where what
+    /// the buffer grew to is enough for the entry, as it is once it was filled in.
     pub fn fill<T: SymTable>(&mut self, table: &T, entry: Entry<'a>) -> Result<bool, AllocError>
         requires { IsSoundEntry (entry_of entry) }
         ensures filled { IfOk result (FillsEntry (T.pairs table.now) (entry_of entry.entry)

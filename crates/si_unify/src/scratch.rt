@@ -111,8 +111,8 @@ impl Scratch {
         }
     }
 
-    /// Makes room to solve any equation over these slots in which neither term and no value has more
-    /// than so many cells. [`solve_with`](crate::solve_with) is never refused then.
+    /// Makes room to solve any equation over these slots in which neither term and no value has
+    /// more than so many cells. [`solve_with`](crate::solve_with) is never refused then.
     ///
     /// There is a pair of places for each two cells of all these: as many as the square of the
     /// slots times the cells, so this is for small terms.

@@ -1,9 +1,9 @@
 -- Which children of a node were tried, place by place, and that the others are closed.
-use Rattle.std.proofs.Common.{◌≡◌, ◌⊎◌, inl, inr, ℕ, zero, suc, ◌+◌, ◌-◌, ◌<◌, ◌≤◌, ◌^◌, List, [], ◌∷◌, ◌++◌, Option, None, Some, length, slice_get, get_or, refl, ap, sym, ◌∙◌, subst, arith}
+use Rattle.std.proofs.Common.{◌≡◌, ◌⊎◌, inl, inr, ℕ, zero, suc, ◌+◌, ◌-◌, ◌<◌, ◌≤◌, List, [], ◌∷◌, ◌++◌, Option, None, Some, length, slice_get, refl, ap, sym, ◌∙◌, subst, arith}
 use Rattle.std.specs.Borrow.{Bor}
 use Rattle.std.specs.List.{AllByRecursion}
 use Rattle.std.proofs.lemmas.Bool.Decides.{eqb_tells}
-use Rattle.std.proofs.lemmas.Option.{same_Some, slice_get-get_or}
+use Rattle.std.proofs.lemmas.Option.{same_Some}
 use Rattle.si_defs.specs.Terms as terms
 use Rattle.si_defs.specs.Substitutions.{IsAmong, AreDistinct}
 use Rattle.si_defs.proofs.ListLaws.{all_at, get_among, among_front, among_back, among_either}
@@ -24,9 +24,11 @@ use Rattle.si_tree.specs.Reading.{AtNode, split_of, children_of}
 use Rattle.si_tree.proofs.HeadLaws.{heads_same}
 use Rattle.si_tree.proofs.ChildLaws.{same_split, same_children, same_head_at}
 use Rattle.si_descend.specs.declared.attempts.Attempts.{Attempts}
+use Rattle.si_descend.specs.declared.attempts.Attempts.TheVariants.{InOrder, ByHeads}
+use Rattle.si_descend.specs.declared.attempts.Lookup.{Lookup}
 use Rattle.si_descend.specs.declared.heads.Wanted.{Wanted}
 use Rattle.si_descend.specs.declared.search.Search.{Search}
-use Rattle.si_descend.specs.Attempts.{head_at, HasHeadBelow, AreHeadsFor, IsAt, HasRoomForPlaces, IsTried, IsTriedBefore, AreAttempts}
+use Rattle.si_descend.specs.Attempts.{head_at, wanted_of, place_count, HasHeadBelow, AreHeadsFor, HasPlaces, IsTried, IsTriedBefore, AreAttempts}
 use Rattle.si_descend.specs.Heads.{SplitsBy, IsWanted, RulesOut}
 use Rattle.si_descend.specs.Searching.{IsReady, HasComeTo, IsClosedAt, HasFound, HasFoundBelow}
 use Rattle.si_descend.proofs.ExactLists.{distinct_both}
@@ -38,7 +40,7 @@ use Rattle.si_descend.proofs.Visiting.{AreSiblings, siblings, one_child_more, al
 pub record WereTried (search : Search) (key : ℕ) (a : Attempts) (place : ℕ) (tried : List ℕ) : Type 0 where
   pub distinct : AreDistinct tried
   pub before : (child : ℕ) → IsAmong tried child → IsTriedBefore search key a place child
-  pub others : (child : ℕ) → IsTriedBefore search key a place child → IsAmong tried child ⊎ RulesOut search a.wanted child
+  pub others : (child : ℕ) → IsTriedBefore search key a place child → IsAmong tried child ⊎ RulesOut search (wanted_of a) child
 
 -- some were, and this holds of them
 abbrev pub IsUnderway : Search → ℕ → Attempts → ℕ → (List ℕ → Type 0) → Type 0
@@ -68,13 +70,12 @@ headed tree (terms.var (ind n)) bare within = bare tt
 
 module _ (search : Search) (ready : IsReady search) (key : ℕ) (node : Node Term) (has : HasNode search.tree.now key node) where
   -- ---- all children in order
-  pub scanned : (children : Bor (List ℕ)) (w : Option Wanted) (pairs : Pairs) → AtNode search.tree.now key (λ n. children.now ≡ children_of n.content) → IsWanted search key pairs w → AreAttempts search key (record { children = children; wanted = w; by_head = None; end = length children.now })
+  pub scanned : (children : Bor (List ℕ)) (w : Option Wanted) (pairs : Pairs) → AtNode search.tree.now key (λ n. children.now ≡ children_of n.content) → IsWanted search key pairs w → AreAttempts search key (InOrder (record { children = children; wanted = w }))
   scanned children w pairs are wanted = record {
-    children = are;
+    places = are;
     splits = splits w wanted;
-    room = omega arith;
     one = λ i j child p q e f. one_index children.now i j child distinct e f;
-    all = λ child a. inl (some_index children.now child a);
+    all = λ n there child a. inl (some_index children.now child (subst (λ l. IsAmong l child) (sym (are n there)) a));
   } where
     splits : (w : Option Wanted) → IsWanted search key pairs w → SplitsBy search key w
     splits None wanted = tt
@@ -103,28 +104,27 @@ module _ (search : Search) (ready : IsReady search) (key : ℕ) (node : Node Ter
   ]
 
   -- a child binds the split to a term that has a head, or isn't open
-  pub by_heads : (children : Bor (List ℕ)) (w : Wanted) (end : ℕ) → AtNode search.tree.now key (λ n. children.now ≡ children_of n.content) → AtNode search.tree.now key (λ n. split_of n.content ≡ Some w.split) → AreHeadsFor search.relation search.slots search.tree.now.vars w.first end → AreAttempts search key (record { children = children; wanted = Some w; by_head = Some w.first; end = end })
-  by_heads children w end are splits heads = record {
-    children = are;
+  pub by_heads : (w : Wanted) (end : ℕ) → AtNode search.tree.now key (λ n. split_of n.content ≡ Some w.split) → AreHeadsFor search.relation search.slots search.tree.now.vars w.first end → AreAttempts search key (ByHeads (record { wanted = w; end = end }))
+  by_heads w end splits heads = record {
+    places = omega (arith, heads.few, ready.legal.few_variables);
     splits = splits;
-    room = omega (arith, heads.few, ready.legal.few_variables);
     one = λ i j child p q e f. heads.one i j e.0 p q e.1 (f.1 ∙ ap Some (sym (same_child child e.0 f.0 e.2 f.2)));
-    all = λ child a. found child (subst (λ l. IsAmong l child) (are node has) a);
+    all = λ n there child a. found child (subst (λ l. IsAmong l child) (ap (λ m. children_of m.content) (one_node search.tree.now key n node there has)) a);
   } where
     same_child : (child : ℕ) (h k : Head) → IsChildBy search.tree.now key h child → IsChildBy search.tree.now key k child → h ≡ k
     same_child child h k p q =
         let same = same_split p.split q.split p.children q.children (sym p.content ∙ ap (λ n. n.content) (one_node search.tree.now key p.node q.node p.has q.has) ∙ q.content) in
         same_head_at search.tree.now q.split child h k ready.legal (subst (λ n. HeadsAt search.tree.now n child h) same p.by) q.by
 
-    found : (child : ℕ) → IsAmong (children_of node.content) child → IsTriedBefore search key (record { children = children; wanted = Some w; by_head = Some w.first; end = end }) end child ⊎ RulesOut search (Some w) child
+    found : (child : ℕ) → IsAmong (children_of node.content) child → IsTriedBefore search key (ByHeads (record { wanted = w; end = end })) end child ⊎ RulesOut search (Some w) child
     found child = by node.content refl where
-      by : (content : Content) → node.content ≡ content → IsAmong (children_of content) child → IsTriedBefore search key (record { children = children; wanted = Some w; by_head = Some w.first; end = end }) end child ⊎ RulesOut search (Some w) child
+      by : (content : Content) → node.content ≡ content → IsAmong (children_of content) child → IsTriedBefore search key (ByHeads (record { wanted = w; end = end })) end child ⊎ RulesOut search (Some w) child
       by (leaf postings) is a = absurd a
       by (inner split cs) is a =
           let legal = subst (IsLegalContent search.tree.now key ((key, node) ∷ (ready.legal.nodes key node has).above)) is (ready.legal.nodes key node has).content in
           let bound = (differ_told search.tree.now split cs (legal_nodes search.tree.now ready.legal) legal.2).each child a in
           let same : split ≡ w.split = same_Some split w.split (sym (ap split_of is) ∙ splits node has) in
-          elim (heads.all bound.0 (child_headed child split bound.0 bound.1)) as (λ _. IsTriedBefore search key (record { children = children; wanted = Some w; by_head = Some w.first; end = end }) end child ⊎ RulesOut search (Some w) child) [
+          elim (heads.all bound.0 (child_headed child split bound.0 bound.1)) as (λ _. IsTriedBefore search key (ByHeads (record { wanted = w; end = end })) end child ⊎ RulesOut search (Some w) child) [
             | inl p ↦ inl (
               p.0,
               p.1,
@@ -149,10 +149,10 @@ module _ (search : Search) (ready : IsReady search) (key : ℕ) (node : Node Ter
   module _ (a : Attempts) (are : AreAttempts search key a) where
     -- what is tried is a child
     pub tried_among : (place child : ℕ) → IsTried search key a place child → IsAmong (children_of node.content) child
-    tried_among place child = by a.by_head where
-      by : (by_head : Option Cell) → IsAt search.tree.now key a.children.now by_head place child → IsAmong (children_of node.content) child
-      by None e = subst (λ l. IsAmong l child) (are.children node has) (get_among a.children.now place child e)
-      by (Some first) (h, e, c) = subst (λ l. IsAmong l child) (ap children_of (sym c.content ∙ ap (λ n. n.content) (one_node search.tree.now key c.node node c.has has))) c.among
+    tried_among place child = by a are.places where
+      by : (b : Attempts) → HasPlaces search key b → IsTried search key b place child → IsAmong (children_of node.content) child
+      by (InOrder scan) there e = subst (λ l. IsAmong l child) (there node has) (get_among scan.children.now place child e)
+      by (ByHeads heads) few (h, e, c) = subst (λ l. IsAmong l child) (ap children_of (sym c.content ∙ ap (λ n. n.content) (one_node search.tree.now key c.node node c.has has))) c.among
 
     pub tried_child : (place child : ℕ) → IsTried search key a place child → IsChildOf search.tree.now key child
     tried_child place child t = (siblings search ready key node has).are child (tried_among place child t)
@@ -178,13 +178,13 @@ module _ (search : Search) (ready : IsReady search) (key : ℕ) (node : Node Ter
       | inr apart ↦ inl (p, omega (arith, less, apart.1), t)
     ]
 
-    pub one_not_tried : (place : ℕ) (P : List ℕ → Type 0) → ((child : ℕ) → IsTried search key a place child → RulesOut search a.wanted child) → IsUnderway search key a place P → IsUnderway search key a (place + 1) P
+    pub one_not_tried : (place : ℕ) (P : List ℕ → Type 0) → ((child : ℕ) → IsTried search key a place child → RulesOut search (wanted_of a) child) → IsUnderway search key a place P → IsUnderway search key a (place + 1) P
     one_not_tried place P out (tried, were, holds) = (
       tried,
       record {
         distinct = were.distinct;
         before = λ child b. later place child (were.before child b);
-        others = λ child b. elim (now_or_before place child b) as (λ _. IsAmong tried child ⊎ RulesOut search a.wanted child) [
+        others = λ child b. elim (now_or_before place child b) as (λ _. IsAmong tried child ⊎ RulesOut search (wanted_of a) child) [
           | inl c ↦ were.others child c
           | inr t ↦ inr (out child t)
         ];
@@ -192,21 +192,21 @@ module _ (search : Search) (ready : IsReady search) (key : ℕ) (node : Node Ter
       holds,
     )
 
-    not_tried_yet : (place child : ℕ) (tried : List ℕ) → place < a.end → IsTried search key a place child → WereTried search key a place tried → IsAmong tried child → ⊥
+    not_tried_yet : (place child : ℕ) (tried : List ℕ) → place < place_count a → IsTried search key a place child → WereTried search key a place tried → IsAmong tried child → ⊥
     not_tried_yet place child tried within t were b =
         let w = were.before child b in
         let same : w.0 ≡ place = are.one w.0 place child (omega (arith, w.1, within)) within w.2 t in
         omega (arith, w.1, same)
 
-    one_more_tried : (place child : ℕ) (tried : List ℕ) → place < a.end → IsTried search key a place child → WereTried search key a place tried → WereTried search key a (place + 1) (tried ++ child ∷ [])
+    one_more_tried : (place child : ℕ) (tried : List ℕ) → place < place_count a → IsTried search key a place child → WereTried search key a place tried → WereTried search key a (place + 1) (tried ++ child ∷ [])
     one_more_tried place child tried within t were = record {
       distinct = distinct_both tried (child ∷ []) were.distinct ((λ b. b), tt) (λ c b d. elim d as (λ _. ⊥) [ inl e ↦ not_tried_yet place child tried within t were (subst (IsAmong tried) (sym e) b) | inr n ↦ n ]);
       before = λ c b. elim (among_either tried child c b) as (λ _. IsTriedBefore search key a (place + 1) c) [
         | inl d ↦ later place c (were.before c d)
         | inr e ↦ (place, omega arith, subst (IsTried search key a place) e t)
       ];
-      others = λ c b. elim (now_or_before place c b) as (λ _. IsAmong (tried ++ child ∷ []) c ⊎ RulesOut search a.wanted c) [
-        | inl d ↦ elim (were.others c d) as (λ _. IsAmong (tried ++ child ∷ []) c ⊎ RulesOut search a.wanted c) [
+      others = λ c b. elim (now_or_before place c b) as (λ _. IsAmong (tried ++ child ∷ []) c ⊎ RulesOut search (wanted_of a) c) [
+        | inl d ↦ elim (were.others c d) as (λ _. IsAmong (tried ++ child ∷ []) c ⊎ RulesOut search (wanted_of a) c) [
           | inl f ↦ inl (among_front tried (child ∷ []) c f)
           | inr out ↦ inr out
         ]
@@ -214,10 +214,10 @@ module _ (search : Search) (ready : IsReady search) (key : ℕ) (node : Node Ter
       ];
     } where
       same_there : (child c : ℕ) → IsTried search key a place child → IsTried search key a place c → child ≡ c
-      same_there child c = by a.by_head where
-        by : (by_head : Option Cell) → IsAt search.tree.now key a.children.now by_head place child → IsAt search.tree.now key a.children.now by_head place c → child ≡ c
-        by None e f = same_Some child c (sym e ∙ f)
-        by (Some first) (h, e, p) (k, f, q) = one_by_head h child c p (subst (λ n. IsChildBy search.tree.now key n c) (same_Some k h (sym f ∙ e)) q)
+      same_there child c = by a where
+        by : (b : Attempts) → IsTried search key b place child → IsTried search key b place c → child ≡ c
+        by (InOrder scan) e f = same_Some child c (sym e ∙ f)
+        by (ByHeads heads) (h, e, p) (k, f, q) = one_by_head h child c p (subst (λ n. IsChildBy search.tree.now key n c) (same_Some k h (sym f ∙ e)) q)
 
     tried_siblings : (place : ℕ) (tried : List ℕ) → WereTried search key a place tried → AreSiblings search ready key node has tried
     tried_siblings place tried were = record {
@@ -226,12 +226,12 @@ module _ (search : Search) (ready : IsReady search) (key : ℕ) (node : Node Ter
     }
 
     -- ---- with what was found
-    pub found_more : (place child : ℕ) (old mid last : List Posting) (m n : ℕ) → place < a.end → IsTried search key a place child → IsUnderway search key a place (λ tried. HasFoundBelow search tried old mid m) → HasFound search child mid last n → IsUnderway search key a (place + 1) (λ tried. HasFoundBelow search tried old last (m + n))
+    pub found_more : (place child : ℕ) (old mid last : List Posting) (m n : ℕ) → place < place_count a → IsTried search key a place child → IsUnderway search key a place (λ tried. HasFoundBelow search tried old mid m) → HasFound search child mid last n → IsUnderway search key a (place + 1) (λ tried. HasFoundBelow search tried old last (m + n))
     found_more place child old mid last m n within t (tried, were, before) found =
         let now = one_more_tried place child tried within t were in
         (tried ++ child ∷ [], now, one_child_more search ready key node has tried child old mid last m n (tried_siblings (place + 1) (tried ++ child ∷ []) now) (not_tried_yet place child tried within t were) before found)
 
-    pub found_all : (pairs : Pairs) → HasComeTo search (Some key) pairs → IsWanted search key pairs a.wanted → (place : ℕ) (old last : List Posting) (n : ℕ) → a.end ≤ place → IsUnderway search key a place (λ tried. HasFoundBelow search tried old last n) → HasFoundBelow search (children_of node.content) old last n
+    pub found_all : (pairs : Pairs) → HasComeTo search (Some key) pairs → IsWanted search key pairs (wanted_of a) → (place : ℕ) (old last : List Posting) (n : ℕ) → place_count a ≤ place → IsUnderway search key a place (λ tried. HasFoundBelow search tried old last n) → HasFoundBelow search (children_of node.content) old last n
     found_all pairs there wanted place old last n through (tried, were, found) =
         all_children search ready key node has tried (children_of node.content) old last n (siblings search ready key node has)
         (λ child b. (let t = were.before child b in tried_among t.0 child t.2))
@@ -239,8 +239,8 @@ module _ (search : Search) (ready : IsReady search) (key : ℕ) (node : Node Ter
       where
         others : (child : ℕ) → IsAmong (children_of node.content) child → IsAmong tried child ⊎ IsClosedAt search child
         others child b =
-            let closed : RulesOut search a.wanted child → IsClosedAt search child = ruled_out search ready key child ((siblings search ready key node has).are child b) pairs there a.wanted wanted in
-            elim (are.all child (subst (λ l. IsAmong l child) (sym (are.children node has)) b)) as (λ _. IsAmong tried child ⊎ IsClosedAt search child) [
+            let closed : RulesOut search (wanted_of a) child → IsClosedAt search child = ruled_out search ready key child ((siblings search ready key node has).are child b) pairs there (wanted_of a) wanted in
+            elim (are.all node has child b) as (λ _. IsAmong tried child ⊎ IsClosedAt search child) [
               | inl t ↦ elim (were.others child (t.0, omega (arith, t.1, through), t.2)) as (λ _. IsAmong tried child ⊎ IsClosedAt search child) [
                 | inl c ↦ inl c
                 | inr out ↦ inr (closed out)
@@ -249,36 +249,17 @@ module _ (search : Search) (ready : IsReady search) (key : ℕ) (node : Node Ter
             ]
 
 -- ---- one place
-pub room_for_child : (children : List ℕ) (by_head : Option Cell) (end place : ℕ) → by_head ≡ None → HasRoomForPlaces children by_head end → place < end → place < length children
-room_for_child children by_head end place e room less =
-    let all : end ≤ length children = subst (λ b. HasRoomForPlaces children b end) e room in
-    omega (arith, all, less)
+module _ (search : Search) (key : ℕ) (heads : Lookup) (place : ℕ) (r : Option Head) (told : r ≡ head_at heads.wanted.first place) where
+  pub head_here : (h : Head) (child : ℕ) → r ≡ Some h → IsChildBy search.tree.now key h child → IsTried search key (ByHeads heads) place child
+  head_here h child e by = (h, sym told ∙ e, by)
 
-pub room_for_head : (children : List ℕ) (by_head : Option Cell) (first : Cell) (end place : ℕ) → by_head ≡ Some first → HasRoomForPlaces children by_head end → place < end → place ≤ 2 ^ 32
-room_for_head children by_head first end place e room less =
-    let all : end ≤ 2 ^ 32 = subst (λ b. HasRoomForPlaces children b end) e room in
-    omega (arith, all, less)
+  pub none_here : (child : ℕ) → r ≡ None → IsTried search key (ByHeads heads) place child → ⊥
+  none_here child e t = no t.0 (sym e ∙ told ∙ t.1) where
+    no : (h : Head) → None ≡ Some h → ⊥
+    no h p = cc
 
-module _ (tree : Tree Term) (key : ℕ) (children : List ℕ) (by_head : Option Cell) (place : ℕ) where
-  pub child_here : (d : ℕ) → by_head ≡ None → place < length children → IsAt tree key children by_head place (get_or children place d)
-  child_here d e less = subst (λ b. IsAt tree key children b place (get_or children place d)) (sym e) (slice_get-get_or children place d less)
-
-  module _ (first : Cell) (r : Option Head) (is : by_head ≡ Some first) (told : r ≡ head_at first place) where
-    pub head_here : (h : Head) (child : ℕ) → r ≡ Some h → IsChildBy tree key h child → IsAt tree key children by_head place child
-    head_here h child e by = subst (λ b. IsAt tree key children b place child) (sym is) (h, sym told ∙ e, by)
-
-    here_by_head : (child : ℕ) → IsAt tree key children by_head place child → IsAt tree key children (Some first) place child
-    here_by_head child t = subst (λ b. IsAt tree key children b place child) is t
-
-    pub none_here : (child : ℕ) → r ≡ None → IsAt tree key children by_head place child → ⊥
-    none_here child e t = no (here_by_head child t).0 (sym e ∙ told ∙ (here_by_head child t).1) where
-      no : (h : Head) → None ≡ Some h → ⊥
-      no h p = cc
-
-    pub here_has_head : (h : Head) (child : ℕ) → r ≡ Some h → IsAt tree key children by_head place child → IsChildBy tree key h child
-    here_has_head h child e t =
-        let at = here_by_head child t in
-        subst (λ k. IsChildBy tree key k child) (same_Some at.0 h (sym at.1 ∙ sym told ∙ e)) at.2
+  pub here_has_head : (h : Head) (child : ℕ) → r ≡ Some h → IsTried search key (ByHeads heads) place child → IsChildBy search.tree.now key h child
+  here_has_head h child e t = subst (λ k. IsChildBy search.tree.now key k child) (same_Some t.0 h (sym t.1 ∙ sym told ∙ e)) t.2
 
 pub variable_here : (first : Cell) (n : ℕ) → (n ≡ 0 → ⊥) → Some (Var (n - 1)) ≡ head_at first n
 variable_here first zero some = absurd (some refl)

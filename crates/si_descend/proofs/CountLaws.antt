@@ -19,7 +19,7 @@ use Rattle.si_descend.proofs.Visiting.{found_closed, found_open, none_yet, few_b
 use Rattle.si_descend.proofs.AttemptLaws.{IsUnderway, found_more, found_all}
 use Rattle.si_descend.proofs.Walking.{walked_more, walked_all}
 use Rattle.si_descend.specs.Heads.{IsWanted}
-use Rattle.si_descend.specs.Attempts.{IsTried, AreAttempts}
+use Rattle.si_descend.specs.Attempts.{wanted_of, place_count, IsTried, AreAttempts}
 use Rattle.si_descend.specs.declared.attempts.Attempts.{Attempts}
 use Rattle.si_unify.specs.Solving.{Pairs}
 
@@ -90,7 +90,7 @@ module _ (s : Search) (ready : IsReady s) (key : ℕ) (node : Node Term) (has : 
 
   -- ---- its children
   module _ (a : Attempts) (are : AreAttempts s key a) where
-    pub counted_more : (place child : ℕ) (old more c : Counted) → place < a.end → IsTried s key a place child → IsUnderway s key a place (λ tried. HasCountedBelow s tried old) → HasCounted s child more → c.passed ≡ old.passed + more.passed → c.answers ≡ at_most (old.answers + more.answers) → IsUnderway s key a (place + 1) (λ tried. HasCountedBelow s tried c)
+    pub counted_more : (place child : ℕ) (old more c : Counted) → place < place_count a → IsTried s key a place child → IsUnderway s key a place (λ tried. HasCountedBelow s tried old) → HasCounted s child more → c.passed ≡ old.passed + more.passed → c.answers ≡ at_most (old.answers + more.answers) → IsUnderway s key a (place + 1) (λ tried. HasCountedBelow s tried c)
     counted_more place child old more c within t (tried, were, (found, h, k)) (new, g, l) f d =
         let all = found_more s ready key node has a are place child [] found (found ++ new) old.passed more.passed within t (tried, were, h) (found_behind s child found new more.passed g) in (
           all.0,
@@ -102,10 +102,10 @@ module _ (s : Search) (ready : IsReady s) (key : ℕ) (node : Node Term) (has : 
           ),
         )
 
-    pub counted_all : (pairs : Pairs) → HasComeTo s (Some key) pairs → IsWanted s key pairs a.wanted → (place : ℕ) (c : Counted) → a.end ≤ place → IsUnderway s key a place (λ tried. HasCountedBelow s tried c) → HasCountedBelow s (children_of node.content) c
+    pub counted_all : (pairs : Pairs) → HasComeTo s (Some key) pairs → IsWanted s key pairs (wanted_of a) → (place : ℕ) (c : Counted) → place_count a ≤ place → IsUnderway s key a place (λ tried. HasCountedBelow s tried c) → HasCountedBelow s (children_of node.content) c
     counted_all pairs there wanted place c through (tried, were, (found, h, e)) = (found, found_all s ready key node has a are pairs there wanted place [] found c.passed through (tried, were, h), e)
 
-    pub more_tried : (place child : ℕ) (first old new : Counted) → place < a.end → IsTried s key a place child → IsUnderway s key a place (λ tried. CountsMoreBelow s tried first old) → CountsMore s child old new → IsUnderway s key a (place + 1) (λ tried. CountsMoreBelow s tried first new)
+    pub more_tried : (place child : ℕ) (first old new : Counted) → place < place_count a → IsTried s key a place child → IsUnderway s key a place (λ tried. CountsMoreBelow s tried first old) → CountsMore s child old new → IsUnderway s key a (place + 1) (λ tried. CountsMoreBelow s tried first new)
     more_tried place child first old new within t (tried, were, (so_far, h, one)) (more, g, other) =
         let c : Counted = record { passed = so_far.passed + more.passed; answers = at_most (so_far.answers + more.answers) } in
         let all = counted_more place child so_far more c within t (tried, were, h) g refl refl in (
@@ -114,7 +114,7 @@ module _ (s : Search) (ready : IsReady s) (key : ℕ) (node : Node Term) (has : 
           (c, all.2, added_both first old new so_far more c refl refl one other),
         )
 
-    pub more_all : (pairs : Pairs) → HasComeTo s (Some key) pairs → IsWanted s key pairs a.wanted → (place : ℕ) (first new : Counted) → a.end ≤ place → IsUnderway s key a place (λ tried. CountsMoreBelow s tried first new) → CountsMoreBelow s (children_of node.content) first new
+    pub more_all : (pairs : Pairs) → HasComeTo s (Some key) pairs → IsWanted s key pairs (wanted_of a) → (place : ℕ) (first new : Counted) → place_count a ≤ place → IsUnderway s key a place (λ tried. CountsMoreBelow s tried first new) → CountsMoreBelow s (children_of node.content) first new
     more_all pairs there wanted place first new through (tried, were, (c, h, sum)) = (c, counted_all pairs there wanted place c through (tried, were, h), sum)
 
   -- all of them, where all nodes below are open

@@ -1,6 +1,10 @@
 -- What is found at a node and below its children, turn by turn.
+use Rattle.std.specs.Borrow.{Bor}
+use Rattle.std.specs.Bool.{⊤}
 use Rattle.std.proofs.Common.{◌≡◌, ◌⊎◌, inl, inr, ℕ, ◌+◌, ◌<◌, ◌^◌, List, [], ◌∷◌, ◌++◌, Some, refl, ap, sym, ◌∙◌, subst, arith, append-nil}
 use Rattle.si_defs.specs.Substitutions.{IsAmong, AreDistinct, Grows}
+use Rattle.si_trail.specs.Trails.{Trail}
+use Rattle.si_flat.specs.declared.Cell.{Cell}
 use Rattle.si_flat.specs.Cells.{query, Term, StandsFor}
 use Rattle.si_flat.specs.Flattened.{IsNumberedBy}
 use Rattle.si_unify.proofs.Reading.{one_term}
@@ -15,7 +19,8 @@ use Rattle.si_legal.proofs.PathLaws.{one_node}
 use Rattle.si_unify.specs.declared.slots.Slots.{Slots}
 use Rattle.si_unify.specs.Solving.{Pairs}
 use Rattle.si_fit.specs.Fitting.{AllowsSolving}
-use Rattle.si_descend.specs.Searching.{IsReady, HasComeTo, IsOpenAt, IsClosedAt, HasFound, HasFoundBelow}
+use Rattle.si_descend.specs.Searching.{IsReady, HasComeTo, IsAboveNode, IsAtNode, IsOpenAt, IsClosedAt, HasFound, HasFoundBelow}
+use Rattle.si_descend.proofs.Entered.{still_noted}
 use Rattle.si_descend.proofs.Below.{IsChildOf}
 use Rattle.si_descend.proofs.Finding.{counts_none, appends_none, counts_more, appends_more, counts_closed, appends_closed, counts_leaf, appends_leaf, counts_inner, appends_inner, counts_wider, appends_wider, IsClosedNode, children_are, children_distinct, few_open, few_open_one}
 
@@ -120,11 +125,25 @@ module _ (search : Search) (ready : IsReady search) where
   pub found_grows : (tops : List ℕ) (old last : List Posting) (n : ℕ) → HasFoundBelow search tops old last n → Grows old last
   found_grows tops old last n h = let a = h.appends ready.term ready.query.stands in (a.answers, a.appended)
 
--- ---- down to a child
-pub still_solving : (slots : Slots) (old new : Pairs) (count count' : ℕ) → new ≡ old → count' ≡ count → AllowsSolving slots old count → AllowsSolving slots new count'
+-- ---- down to a child, and back
+pub same_trail : {T : Type 0} (one other : Trail T) → one.slots ≡ other.slots → one.pairs ≡ other.pairs → one ≡ other
+same_trail one other e f i = record { slots = e i; pairs = f i }
+
+still_solving : (slots : Slots) (old new : Pairs) (count count' : ℕ) → new ≡ old → count' ≡ count → AllowsSolving slots old count → AllowsSolving slots new count'
 still_solving slots old new count count' e f h = subst (λ n. AllowsSolving slots new n) (sym f) (subst (λ p. AllowsSolving slots p count) (sym e) h)
 
-pub come_down : (search : Search) (key child : ℕ) (old new : Pairs) → IsChildOf search.tree.now key child → new ≡ old → HasComeTo search (Some key) old → AtNode search.tree.now child (λ n. HasComeTo search n.parent new)
+come_down : (search : Search) (key child : ℕ) (old new : Pairs) → IsChildOf search.tree.now key child → new ≡ old → HasComeTo search (Some key) old → AtNode search.tree.now child (λ n. HasComeTo search n.parent new)
 come_down search key child old new is e h node has =
     subst (λ p. HasComeTo search node.parent p) (sym e)
     (subst (λ k. HasComeTo search k old) (sym (ap (λ n. n.parent) (one_node search.tree.now child node is.0 has is.1) ∙ is.2)) h)
+
+pub goes_down : (search : Search) (key child : ℕ) (old new : Trail (Bor (List Cell))) (before after : Trail ⊤) → IsChildOf search.tree.now key child → new.pairs ≡ old.pairs → new.slots ≡ old.slots → after ≡ before → IsAtNode search key old before → IsAboveNode search child new after
+goes_down search key child old new before after is e f g at = record {
+  node = (is.0, is.1);
+  searching = record {
+    ready = at.searching.ready;
+    solving = still_solving search.slots old.pairs new.pairs old.slots new.slots e f at.searching.solving;
+    noted = still_noted search.relation search.slots old.pairs new.pairs before after e g at.searching.noted;
+  };
+  above = come_down search key child old.pairs new.pairs is e at.there;
+}

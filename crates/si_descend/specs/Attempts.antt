@@ -1,18 +1,19 @@
 -- Which children of a node are tried, and at which places.
-use Rattle.std.specs.Prelude.{◌≡◌, ℕ, zero, suc, ◌+◌, ◌≤◌, ◌<◌, ◌^◌, ◌⊎◌, List, length, Option, None, Some, slice_get}
+use Rattle.std.specs.Prelude.{◌≡◌, ℕ, zero, suc, ◌+◌, ◌≤◌, ◌<◌, ◌^◌, ◌⊎◌, length, Option, Some, slice_get}
 use Rattle.si_defs.specs.Terms as terms
 use Rattle.si_defs.specs.Substitutions.{IsAmong}
 use Rattle.si_defs.specs.declared.Relation.{Relation}
 use Rattle.si_flat.specs.declared.Cell.{Cell}
 use Rattle.si_flat.specs.Cells.{entry, Term, cells_of}
 use Rattle.si_unify.specs.declared.slots.Slots.{Slots}
-use Rattle.si_legal.specs.Trees.{Tree}
 use Rattle.si_tree.specs.declared.node.Head.{Head}
 use Rattle.si_tree.specs.declared.node.Head.TheVariants.{Var}
 use Rattle.si_tree.specs.Heads.{HasHead, IsChildBy}
 use Rattle.si_tree.specs.Reading.{AtNode, children_of}
 use Rattle.si_tree.specs.Rights.{cell_head}
 use Rattle.si_descend.specs.declared.attempts.Attempts.{Attempts}
+use Rattle.si_descend.specs.declared.attempts.Attempts.TheVariants.{InOrder, ByHeads}
+use Rattle.si_descend.specs.declared.heads.Wanted.{Wanted}
 use Rattle.si_descend.specs.declared.search.Search.{Search}
 use Rattle.si_descend.specs.Heads.{first_of, CannotMeet, RulesOut, SplitsBy}
 
@@ -44,19 +45,26 @@ pub record AreHeadsFor (relation : Relation) (slots : Slots) (vars : ℕ) (first
       ⊎ CannotMeet relation slots first (first_of (cells_of t))
 
 -- ---- children at places
-abbrev pub IsAt : Tree Term → ℕ → List ℕ → Option Cell → ℕ → ℕ → Type 0
-IsAt tree key children None place child = slice_get children place ≡ Some child
-IsAt tree key children (Some first) place child =
-    (h : Head) × (head_at first place ≡ Some h) × IsChildBy tree key h child
-
--- there are so many places at most
-abbrev pub HasRoomForPlaces : List ℕ → Option Cell → ℕ → Type 0
-HasRoomForPlaces children None end = end ≤ length children
-HasRoomForPlaces children (Some first) end = end ≤ 2 ^ 32
-
 -- the child is tried at this place
 abbrev pub IsTried : Search → ℕ → Attempts → ℕ → ℕ → Type 0
-IsTried search key a = IsAt search.tree.now key a.children.now a.by_head
+IsTried search key (InOrder scan) place child = slice_get scan.children.now place ≡ Some child
+IsTried search key (ByHeads heads) place child =
+    (h : Head) × (head_at heads.wanted.first place ≡ Some h) × IsChildBy search.tree.now key h child
+
+abbrev pub wanted_of : Attempts → Option Wanted
+wanted_of (InOrder scan) = scan.wanted
+wanted_of (ByHeads heads) = Some heads.wanted
+
+-- the number of places
+abbrev pub place_count : Attempts → ℕ
+place_count (InOrder scan) = length scan.children.now
+place_count (ByHeads heads) = heads.end
+
+-- a slice has all children, and heads have so many places at most
+abbrev pub HasPlaces : Search → ℕ → Attempts → Type 0
+HasPlaces search key (InOrder scan) =
+    AtNode search.tree.now key (λ n. scan.children.now ≡ children_of n.content)
+HasPlaces search key (ByHeads heads) = heads.end ≤ 2 ^ 32
 
 abbrev pub IsTriedBefore : Search → ℕ → Attempts → ℕ → ℕ → Type 0
 IsTriedBefore search key a end child =
@@ -64,10 +72,9 @@ IsTriedBefore search key a end child =
 
 -- each child that can be open is tried, and none at two places
 pub record AreAttempts (search : Search) (key : ℕ) (a : Attempts) : Type 0 where
-  pub children : AtNode search.tree.now key (λ n. a.children.now ≡ children_of n.content)
-  pub splits : SplitsBy search key a.wanted
-  pub room : HasRoomForPlaces a.children.now a.by_head a.end
-  pub one : (i j child : ℕ) → i < a.end → j < a.end
+  pub places : HasPlaces search key a
+  pub splits : SplitsBy search key (wanted_of a)
+  pub one : (i j child : ℕ) → i < place_count a → j < place_count a
       → IsTried search key a i child → IsTried search key a j child → i ≡ j
-  pub all : (child : ℕ) → IsAmong a.children.now child
-      → IsTriedBefore search key a a.end child ⊎ RulesOut search a.wanted child
+  pub all : AtNode search.tree.now key (λ n. (child : ℕ) → IsAmong (children_of n.content) child
+      → IsTriedBefore search key a (place_count a) child ⊎ RulesOut search (wanted_of a) child)

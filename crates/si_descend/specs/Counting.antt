@@ -32,7 +32,7 @@ pub record IsSumOf (one other sum : Counted) : Type 0 where
   pub passed : one.passed < 2 ^ 64 → sum.passed ≡ at_most (one.passed + other.passed)
   pub answers : one.answers < 2 ^ 64 → sum.answers ≡ at_most (one.answers + other.answers)
 
--- those numbers were added to the old ones
+-- what a search from there would count was added to the old numbers
 abbrev pub CountsMore : Search → ℕ → Counted → Counted → Type 0
 CountsMore search top old new = (c : Counted) × HasCounted search top c × IsSumOf old c new
 

@@ -1,7 +1,10 @@
 -- What the search of a tree knows at a node, and what it finds below it.
-use Rattle.std.specs.Prelude.{◌≡◌, ℕ, zero, suc, ◌<◌, ◌≤◌, ◌^◌, length, Bool, true, false, List, [], Option, None, Some, slice_index_or}
+use Rattle.std.specs.Borrow.{Bor}
+use Rattle.std.specs.Prelude.{◌≡◌, ℕ, zero, suc, ◌<◌, ◌≤◌, ◌^◌, length, Bool, true, false, ⊤, List, [], Option, None, Some, Result, OnOk, slice_index_or}
+use Rattle.si_defs.specs.Substitutions.{Grows}
 use Rattle.si_defs.specs.declared.Relation.{Relation}
 use Rattle.si_defs.specs.declared.Relation.TheVariants.{Variants}
+use Rattle.si_flat.specs.declared.Cell.{Cell}
 use Rattle.si_flat.specs.Cells.{Term, StandsFor}
 use Rattle.si_trail.specs.Trails.{Trail}
 use Rattle.si_unify.specs.declared.slots.Slots.{Slots}
@@ -15,7 +18,8 @@ use Rattle.si_legal.specs.OpenNodes.{IsOpen}
 use Rattle.si_descend.specs.declared.search.Search.{Search}
 use Rattle.si_descend.specs.Descending.{Freezes, HasRoom, ShowsPath, IsQueryTerm}
 use Rattle.si_descend.specs.Answers.{Finds, CountsBelow, IsAnswerBelow}
-use Rattle.si_fit.specs.Fitting.{HasSolution}
+use Rattle.si_fit.specs.Fitting.{AllowsSolving, HasSolution}
+use Rattle.si_tree.specs.Reading.{IsNode, AtNode}
 use Rattle.si_descend.specs.Renaming.{AreTaken, IsRenaming}
 
 -- what a search is for
@@ -74,6 +78,36 @@ AreOpenBelow search top =
 abbrev pub HasEntered : Search → ℕ → Pairs → Bool → Type 0
 HasEntered search key pairs true = HasComeTo search (Some key) pairs × IsOpenAt search key
 HasEntered search key pairs false = IsClosedAt search key
+
+-- ---- what is known on the way
+-- The bindings on the trail are solved, and it is noted what became of the variables of an entry.
+pub record IsSearching (search : Search) (trail : Trail (Bor (List Cell))) (taken : Trail ⊤)
+    : Type 0 where
+  pub ready : IsReady search
+  pub solving : AllowsSolving search.slots trail.pairs trail.slots
+  pub noted : NotesTaken search.relation search.slots trail.pairs taken
+
+-- so are those of this node, and of the nodes above it
+pub record IsAtNode (search : Search) (key : ℕ) (trail : Trail (Bor (List Cell)))
+    (taken : Trail ⊤) : Type 0 where
+  pub node : IsNode search.tree.now key
+  pub searching : IsSearching search trail taken
+  pub there : HasComeTo search (Some key) trail.pairs
+
+-- only those of the nodes above it are
+pub record IsAboveNode (search : Search) (key : ℕ) (trail : Trail (Bor (List Cell)))
+    (taken : Trail ⊤) : Type 0 where
+  pub node : IsNode search.tree.now key
+  pub searching : IsSearching search trail taken
+  pub above : AtNode search.tree.now key (λ n. HasComeTo search n.parent trail.pairs)
+
+-- More may be bound at an error alone.
+pub record Returns {A E : Type 0} (result : Result A E) (old new : Trail (Bor (List Cell)))
+    (before after : Trail ⊤) : Type 0 where
+  pub same : OnOk result (new.pairs ≡ old.pairs)
+  pub grows : Grows old.pairs new.pairs
+  pub count : new.slots ≡ old.slots
+  pub noted : OnOk result (after ≡ before)
 
 -- ---- what is found
 abbrev pub HasFound : Search → ℕ → List Posting → List Posting → ℕ → Type 0

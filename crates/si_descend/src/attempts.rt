@@ -1,8 +1,9 @@
 // Which children of a node are tried: all in order or, where these are many, those whose heads can
 // meet what is wanted.
-ghost use Rattle.std.specs.Prelude.{◌≡◌, ◌≤◌, ◌<◌, ◌^◌, IfSome, IfNone, None, Some, ℕ};
+ghost use Rattle.std.specs.Prelude.{◌≡◌, ◌≤◌, ◌<◌, ◌^◌, IfSome, IfNone, Some, ℕ, length};
 ghost use Rattle.si_tree.specs.Reading.{IsNode};
-ghost use Rattle.si_descend.specs.Attempts.{head_at, AreHeadsFor, AreAttempts, IsTried};
+ghost use Rattle.si_descend.specs.declared.attempts.Attempts.TheVariants.{InOrder, ByHeads};
+ghost use Rattle.si_descend.specs.Attempts.{head_at, wanted_of, AreHeadsFor, AreAttempts, IsTried};
 ghost use Rattle.si_fit.specs.Fitting.{AllowsSolving};
 ghost use Rattle.si_descend.specs.Heads.{IsWanted, RulesOut};
 ghost use Rattle.si_descend.specs.Searching.{IsReady};
@@ -15,15 +16,28 @@ use si_trail::Trail;
 use si_tree::{Head, NodeId, head_of};
 use si_unify::Slots;
 
-/// The places at which the children of a node are tried.
+/// Which children of a node are tried.
 #[derive(Clone, Copy)]
-pub(crate) struct Attempts<'a> {
-    children: &'a [NodeId],
+pub(crate) enum Attempts<'a> {
+    /// All in order.
+    InOrder(Scan<'a>),
+    /// Those that have certain heads.
+    ByHeads(Lookup),
+}
+
+/// All children of a node, and what is wanted of them.
+#[derive(Clone, Copy)]
+pub(crate) struct Scan<'a> {
+    pub(crate) children: &'a [NodeId],
     wanted: Option<Wanted>,
-    /// Where a cell stands here, the places are those of heads: first that of a term which begins
-    /// with it, and then the variables of an entry. Else they are those of the children.
-    pub(crate) by_head: Option<Cell>,
-    /// The number of places.
+}
+
+/// The heads that can meet what is wanted: first that of a term which begins with its first cell,
+/// if it has one, and then the variables of an entry.
+#[derive(Clone, Copy)]
+pub(crate) struct Lookup {
+    wanted: Wanted,
+    /// The number of places of heads.
     pub(crate) end: usize,
 }
 
@@ -38,18 +52,13 @@ pub(crate) fn attempts_at<'a>(
     requires node { IsNode search.now.tree.now node }
     requires ready { IsReady search.now }
     requires solving { AllowsSolving search.now.slots trail.now.pairs trail.now.slots }
-    ensures wanted { IsWanted search.now node trail.now.pairs result.wanted }
+    ensures wanted { IsWanted search.now node trail.now.pairs (wanted_of result) }
     ensures attempts { AreAttempts search.now node result }
 {
     let wanted = asked_of(search, node, trail);
     let children = search.tree.children(node);
     let vars = search.tree.vars();
-    let all = Attempts {
-        children,
-        wanted,
-        by_head: None,
-        end: children.len(),
-    };
+    let all = Attempts::InOrder(Scan { children, wanted });
     let Some(asked) = wanted else {
         return all;
     };
@@ -59,12 +68,7 @@ pub(crate) fn attempts_at<'a>(
     if children.len() <= end {
         return all;
     }
-    Attempts {
-        children,
-        wanted,
-        by_head: Some(asked.first),
-        end,
-    }
+    Attempts::ByHeads(Lookup { wanted: asked, end })
 }
 
 // How many heads can meet a term that begins with this cell, if not all can: its own, and where
@@ -91,23 +95,21 @@ fn heads_for(relation: Relation, slots: &Slots, vars: u32, first: Cell) -> Optio
 pub(crate) fn child_in_order(
     search: &Search<'_>,
     node: NodeId,
-    attempts: Attempts<'_>,
+    scan: Scan<'_>,
     place: usize,
 ) -> Option<NodeId>
     requires node { IsNode search.now.tree.now node }
-    requires ready { IsReady search.now }
-    requires attempts { AreAttempts search.now node attempts }
-    requires in_order { attempts.by_head ≡ None }
-    requires within { place < attempts.end }
-    ensures some { IfSome result (IsTried search.now node attempts.entry place) }
+    requires attempts { AreAttempts search.now node (InOrder scan) }
+    requires within { place < length scan.children.now }
+    ensures some { IfSome result (IsTried search.now node (InOrder scan.entry) place) }
     ensures none { IfNone result ((child : ℕ)
-        → IsTried search.now node attempts.entry place child
-        → RulesOut search.now attempts.entry.wanted child) }
+        → IsTried search.now node (InOrder scan.entry) place child
+        → RulesOut search.now scan.entry.wanted child) }
 {
-    if is_unwanted(search, attempts.wanted, search.tree.head(node, place)) {
+    if is_unwanted(search, scan.wanted, search.tree.head(node, place)) {
         return None;
     }
-    Some(attempts.children[place])
+    Some(scan.children[place])
 }
 
 /// The child that has the head at a place, if there is one, where the children are looked up by
@@ -116,21 +118,19 @@ pub(crate) fn child_in_order(
 pub(crate) fn child_by_head(
     search: &Search<'_>,
     node: NodeId,
-    attempts: Attempts<'_>,
-    first: Cell,
+    heads: Lookup,
     place: usize,
 ) -> Option<NodeId>
     requires node { IsNode search.now.tree.now node }
     requires ready { IsReady search.now }
-    requires attempts { AreAttempts search.now node attempts }
-    requires by_head { attempts.by_head ≡ Some first }
-    requires within { place < attempts.end }
-    ensures some { IfSome result (IsTried search.now node attempts.entry place) }
+    requires attempts { AreAttempts search.now node (ByHeads heads) }
+    requires within { place < heads.end }
+    ensures some { IfSome result (IsTried search.now node (ByHeads heads) place) }
     ensures none { IfNone result ((child : ℕ)
-        → IsTried search.now node attempts.entry place child
-        → RulesOut search.now attempts.entry.wanted child) }
+        → IsTried search.now node (ByHeads heads) place child
+        → RulesOut search.now (Some heads.wanted) child) }
 {
-    let Some(head) = head_at(first, place) else {
+    let Some(head) = head_at(heads.wanted.first, place) else {
         return None;
     };
     search.tree.child(node, head)

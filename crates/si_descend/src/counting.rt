@@ -1,13 +1,13 @@
 // The same search, which counts answers and copies no posting.
-ghost use Rattle.std.specs.Prelude.{◌≡◌, None, Some, OnOk};
-ghost use Rattle.si_tree.specs.Reading.{IsNode, AtNode, children_of};
+ghost use Rattle.std.specs.Prelude.{Some, OnOk};
+ghost use Rattle.si_tree.specs.Reading.{AtNode, children_of};
 ghost use Rattle.si_descend.specs.Counting.{CountsMore, CountsMoreBelow, IsSumOf};
-ghost use Rattle.si_fit.specs.Fitting.{AllowsSolving};
+ghost use Rattle.si_descend.specs.declared.attempts.Attempts.TheVariants.{InOrder, ByHeads};
 ghost use Rattle.si_descend.specs.Attempts.{AreAttempts};
 ghost use Rattle.si_descend.specs.Heads.{IsWanted};
-ghost use Rattle.si_descend.specs.Searching.{IsReady, NotesTaken, HasComeTo, IsOpenAt};
+ghost use Rattle.si_descend.specs.Searching.{IsAboveNode, IsAtNode, IsOpenAt, Returns};
 
-use crate::attempts::{Attempts, attempts_at, child_by_head, child_in_order};
+use crate::attempts::{Attempts, Lookup, Scan, attempts_at, child_by_head, child_in_order};
 use crate::search::{Search, enter};
 use crate::subtrees::{count_all, is_open_below};
 use crate::taken::Taken;
@@ -27,7 +27,7 @@ pub struct Counted {
 }
 
 impl Counted {
-    /// Nothing.
+    /// Nothing was passed or found.
     pub(crate) const NONE: Counted = Counted {
         passed: 0,
         answers: 0,
@@ -56,16 +56,9 @@ pub(crate) fn count_at<'a>(
     taken: &mut Taken,
     counted: &mut Counted,
 ) -> Result<(), AllocError>
-    requires node { IsNode search.now.tree.now node }
-    requires ready { IsReady search.now }
-    requires solving { AllowsSolving search.now.slots trail.old.pairs trail.old.slots }
-    requires above { AtNode search.now.tree.now node
-        (λ n. HasComeTo search.now n.parent trail.old.pairs) }
-    requires taken { NotesTaken search.now.relation search.now.slots trail.old.pairs taken.old }
+    requires above { IsAboveNode search.now node trail.old taken.old }
     ensures counted { OnOk result (CountsMore search.now node counted.old counted.new) }
-    ensures same { OnOk result (trail.new.pairs ≡ trail.old.pairs) }
-    ensures slots { trail.new.slots ≡ trail.old.slots }
-    ensures taken { OnOk result (taken.new ≡ taken.old) }
+    ensures returns { Returns result trail.old trail.new taken.old taken.new }
 {
     let mark = trail.mark();
     let taken_mark = taken.mark();
@@ -91,16 +84,10 @@ fn count_open<'a>(
     taken: &mut Taken,
     counted: &mut Counted,
 ) -> Result<(), AllocError>
-    requires node { IsNode search.now.tree.now node }
-    requires ready { IsReady search.now }
-    requires solving { AllowsSolving search.now.slots trail.old.pairs trail.old.slots }
-    requires there { HasComeTo search.now (Some node) trail.old.pairs }
+    requires there { IsAtNode search.now node trail.old taken.old }
     requires opened { IsOpenAt search.now node }
-    requires taken { NotesTaken search.now.relation search.now.slots trail.old.pairs taken.old }
     ensures counted { OnOk result (CountsMore search.now node counted.old counted.new) }
-    ensures same { OnOk result (trail.new.pairs ≡ trail.old.pairs) }
-    ensures slots { trail.new.slots ≡ trail.old.slots }
-    ensures taken { OnOk result (taken.new ≡ taken.old) }
+    ensures returns { Returns result trail.old trail.new taken.old taken.new }
 {
     if is_open_below(search, node, trail) {
         counted.add(count_all(search, node));
@@ -125,23 +112,18 @@ fn count_children<'a>(
     taken: &mut Taken,
     counted: &mut Counted,
 ) -> Result<(), AllocError>
-    requires node { IsNode search.now.tree.now node }
-    requires ready { IsReady search.now }
-    requires solving { AllowsSolving search.now.slots trail.old.pairs trail.old.slots }
-    requires there { HasComeTo search.now (Some node) trail.old.pairs }
-    requires taken { NotesTaken search.now.relation search.now.slots trail.old.pairs taken.old }
+    requires there { IsAtNode search.now node trail.old taken.old }
     ensures counted { OnOk result (AtNode search.now.tree.now node (λ parent.
         CountsMoreBelow search.now (children_of parent.content) counted.old counted.new)) }
-    ensures same { OnOk result (trail.new.pairs ≡ trail.old.pairs) }
-    ensures slots { trail.new.slots ≡ trail.old.slots }
-    ensures taken { OnOk result (taken.new ≡ taken.old) }
+    ensures returns { Returns result trail.old trail.new taken.old taken.new }
 {
-    let attempts = attempts_at(search, node, trail);
-    match attempts.by_head {
-        Some(first) => count_by_heads(
-            search, node, attempts, first, scratch, trail, taken, counted,
+    match attempts_at(search, node, trail) {
+        Attempts::InOrder(scan) => count_in_order(
+            search, node, scan, scratch, trail, taken, counted,
         ),
-        None => count_in_order(search, node, attempts, scratch, trail, taken, counted),
+        Attempts::ByHeads(heads) => count_by_heads(
+            search, node, heads, scratch, trail, taken, counted,
+        ),
     }
 }
 
@@ -151,28 +133,21 @@ fn count_children<'a>(
 fn count_in_order<'a>(
     search: &Search<'a>,
     node: NodeId,
-    attempts: Attempts<'a>,
+    scan: Scan<'a>,
     scratch: &mut Scratch,
     trail: &mut Trail<&'a [Cell]>,
     taken: &mut Taken,
     counted: &mut Counted,
 ) -> Result<(), AllocError>
-    requires node { IsNode search.now.tree.now node }
-    requires ready { IsReady search.now }
-    requires solving { AllowsSolving search.now.slots trail.old.pairs trail.old.slots }
-    requires there { HasComeTo search.now (Some node) trail.old.pairs }
-    requires taken { NotesTaken search.now.relation search.now.slots trail.old.pairs taken.old }
-    requires wanted { IsWanted search.now node trail.old.pairs attempts.wanted }
-    requires attempts { AreAttempts search.now node attempts }
-    requires in_order { attempts.by_head ≡ None }
+    requires there { IsAtNode search.now node trail.old taken.old }
+    requires wanted { IsWanted search.now node trail.old.pairs scan.wanted }
+    requires attempts { AreAttempts search.now node (InOrder scan) }
     ensures counted { OnOk result (AtNode search.now.tree.now node (λ parent.
         CountsMoreBelow search.now (children_of parent.content) counted.old counted.new)) }
-    ensures same { OnOk result (trail.new.pairs ≡ trail.old.pairs) }
-    ensures slots { trail.new.slots ≡ trail.old.slots }
-    ensures taken { OnOk result (taken.new ≡ taken.old) }
+    ensures returns { Returns result trail.old trail.new taken.old taken.new }
 {
-    for place in 0..attempts.end {
-        let Some(child) = child_in_order(search, node, attempts, place) else {
+    for place in 0..scan.children.len() {
+        let Some(child) = child_in_order(search, node, scan, place) else {
             continue;
         };
         count_at(search, child, scratch, trail, taken, counted)?;
@@ -186,29 +161,21 @@ fn count_in_order<'a>(
 fn count_by_heads<'a>(
     search: &Search<'a>,
     node: NodeId,
-    attempts: Attempts<'a>,
-    first: Cell,
+    heads: Lookup,
     scratch: &mut Scratch,
     trail: &mut Trail<&'a [Cell]>,
     taken: &mut Taken,
     counted: &mut Counted,
 ) -> Result<(), AllocError>
-    requires node { IsNode search.now.tree.now node }
-    requires ready { IsReady search.now }
-    requires solving { AllowsSolving search.now.slots trail.old.pairs trail.old.slots }
-    requires there { HasComeTo search.now (Some node) trail.old.pairs }
-    requires taken { NotesTaken search.now.relation search.now.slots trail.old.pairs taken.old }
-    requires wanted { IsWanted search.now node trail.old.pairs attempts.wanted }
-    requires attempts { AreAttempts search.now node attempts }
-    requires by_head { attempts.by_head ≡ Some first }
+    requires there { IsAtNode search.now node trail.old taken.old }
+    requires wanted { IsWanted search.now node trail.old.pairs (Some heads.wanted) }
+    requires attempts { AreAttempts search.now node (ByHeads heads) }
     ensures counted { OnOk result (AtNode search.now.tree.now node (λ parent.
         CountsMoreBelow search.now (children_of parent.content) counted.old counted.new)) }
-    ensures same { OnOk result (trail.new.pairs ≡ trail.old.pairs) }
-    ensures slots { trail.new.slots ≡ trail.old.slots }
-    ensures taken { OnOk result (taken.new ≡ taken.old) }
+    ensures returns { Returns result trail.old trail.new taken.old taken.new }
 {
-    for place in 0..attempts.end {
-        let Some(child) = child_by_head(search, node, attempts, first, place) else {
+    for place in 0..heads.end {
+        let Some(child) = child_by_head(search, node, heads, place) else {
             continue;
         };
         count_at(search, child, scratch, trail, taken, counted)?;

@@ -42,7 +42,7 @@ impl Ends {
     /// The most slots.
     const MOST: usize = 16;
 
-    /// None.
+    /// No ends.
     pub(crate) fn new() -> Ends
         ensures { result ≡ [] }
     {
@@ -72,10 +72,11 @@ impl Ends {
     }
 }
 
-/// Adds the ends of the indicators that are open at a node, where these are few different variables
-/// that can still be anything. It looks at the first nodes down to a leaf, which bind all of them.
+/// Finds the ends of the indicators that are open at a node, and tells whether all are different
+/// variables that can still be anything; it gives up where they are many. It looks at the first
+/// nodes down to a leaf, which bind all of them.
 #[inline(always)]
-pub(crate) fn add_ends_below<'a>(
+pub(crate) fn find_ends_below<'a>(
     search: &Search<'a>,
     node: NodeId,
     trail: &Trail<&'a [Cell]>,

@@ -1,14 +1,15 @@
 // The search of a tree from a node downwards.
-ghost use Rattle.std.specs.Prelude.{◌≡◌, None, Some, IfOk, IsTrue, OnOk};
+ghost use Rattle.std.specs.Prelude.{◌≡◌, Some, IfOk, IsTrue};
 ghost use Rattle.si_defs.specs.Substitutions.{Grows};
-ghost use Rattle.si_tree.specs.Reading.{IsNode, AtNode, children_of};
+ghost use Rattle.si_tree.specs.Reading.{AtNode, children_of};
 ghost use Rattle.si_descend.specs.Descending.{Freezes, HasRoomFor, IsQuery};
 ghost use Rattle.si_fit.specs.Fitting.{AllowsSolving};
+ghost use Rattle.si_descend.specs.declared.attempts.Attempts.TheVariants.{InOrder, ByHeads};
 ghost use Rattle.si_descend.specs.Attempts.{AreAttempts};
 ghost use Rattle.si_descend.specs.Heads.{IsWanted};
-ghost use Rattle.si_descend.specs.Searching.{IsReady, NotesTaken, HasComeTo, IsOpenAt, HasEntered, HasFound, HasFoundBelow};
+ghost use Rattle.si_descend.specs.Searching.{IsReady, IsAboveNode, IsAtNode, IsOpenAt, HasEntered, HasFound, HasFoundBelow, NotesTaken, Returns};
 
-use crate::attempts::{Attempts, attempts_at, child_by_head, child_in_order};
+use crate::attempts::{Attempts, Lookup, Scan, attempts_at, child_by_head, child_in_order};
 use crate::subtrees::{append_all, is_open_below};
 use crate::taken::Taken;
 use crate::variants::is_renaming;
@@ -68,12 +69,7 @@ pub(crate) fn enter<'a>(
     trail: &mut Trail<&'a [Cell]>,
     taken: &mut Taken,
 ) -> Result<bool, AllocError>
-    requires node { IsNode search.now.tree.now node }
-    requires ready { IsReady search.now }
-    requires solving { AllowsSolving search.now.slots trail.old.pairs trail.old.slots }
-    requires above { AtNode search.now.tree.now node
-        (λ n. HasComeTo search.now n.parent trail.old.pairs) }
-    requires taken { NotesTaken search.now.relation search.now.slots trail.old.pairs taken.old }
+    requires above { IsAboveNode search.now node trail.old taken.old }
     ensures enters { IfOk result (HasEntered search.now node trail.new.pairs) }
     ensures grows { Grows trail.old.pairs trail.new.pairs }
     ensures solving { AllowsSolving search.now.slots trail.new.pairs trail.new.slots }
@@ -109,18 +105,10 @@ pub(crate) fn visit<'a>(
     taken: &mut Taken,
     out: &mut Vec<Posting>,
 ) -> Result<u64, AllocError>
-    requires node { IsNode search.now.tree.now node }
-    requires ready { IsReady search.now }
-    requires solving { AllowsSolving search.now.slots trail.old.pairs trail.old.slots }
-    requires above { AtNode search.now.tree.now node
-        (λ n. HasComeTo search.now n.parent trail.old.pairs) }
-    requires taken { NotesTaken search.now.relation search.now.slots trail.old.pairs taken.old }
+    requires above { IsAboveNode search.now node trail.old taken.old }
     ensures found { IfOk result (HasFound search.now node out.old.items out.new.items) }
-    ensures same { OnOk result (trail.new.pairs ≡ trail.old.pairs) }
-    ensures grows { Grows trail.old.pairs trail.new.pairs }
+    ensures returns { Returns result trail.old trail.new taken.old taken.new }
     ensures out_grows { Grows out.old.items out.new.items }
-    ensures slots { trail.new.slots ≡ trail.old.slots }
-    ensures taken { OnOk result (taken.new ≡ taken.old) }
 {
     let mark = trail.mark();
     let taken_mark = taken.mark();
@@ -146,18 +134,11 @@ fn visit_open<'a>(
     taken: &mut Taken,
     out: &mut Vec<Posting>,
 ) -> Result<u64, AllocError>
-    requires node { IsNode search.now.tree.now node }
-    requires ready { IsReady search.now }
-    requires solving { AllowsSolving search.now.slots trail.old.pairs trail.old.slots }
-    requires there { HasComeTo search.now (Some node) trail.old.pairs }
+    requires there { IsAtNode search.now node trail.old taken.old }
     requires opened { IsOpenAt search.now node }
-    requires taken { NotesTaken search.now.relation search.now.slots trail.old.pairs taken.old }
     ensures found { IfOk result (HasFound search.now node out.old.items out.new.items) }
-    ensures same { OnOk result (trail.new.pairs ≡ trail.old.pairs) }
-    ensures grows { Grows trail.old.pairs trail.new.pairs }
+    ensures returns { Returns result trail.old trail.new taken.old taken.new }
     ensures out_grows { Grows out.old.items out.new.items }
-    ensures slots { trail.new.slots ≡ trail.old.slots }
-    ensures taken { OnOk result (taken.new ≡ taken.old) }
 {
     if is_open_below(search, node, trail) {
         return append_all(search, node, out);
@@ -178,23 +159,15 @@ fn visit_children<'a>(
     taken: &mut Taken,
     out: &mut Vec<Posting>,
 ) -> Result<u64, AllocError>
-    requires node { IsNode search.now.tree.now node }
-    requires ready { IsReady search.now }
-    requires solving { AllowsSolving search.now.slots trail.old.pairs trail.old.slots }
-    requires there { HasComeTo search.now (Some node) trail.old.pairs }
-    requires taken { NotesTaken search.now.relation search.now.slots trail.old.pairs taken.old }
+    requires there { IsAtNode search.now node trail.old taken.old }
     ensures found { IfOk result (λ n. AtNode search.now.tree.now node (λ parent.
         HasFoundBelow search.now (children_of parent.content) out.old.items out.new.items n)) }
-    ensures same { OnOk result (trail.new.pairs ≡ trail.old.pairs) }
-    ensures grows { Grows trail.old.pairs trail.new.pairs }
+    ensures returns { Returns result trail.old trail.new taken.old taken.new }
     ensures out_grows { Grows out.old.items out.new.items }
-    ensures slots { trail.new.slots ≡ trail.old.slots }
-    ensures taken { OnOk result (taken.new ≡ taken.old) }
 {
-    let attempts = attempts_at(search, node, trail);
-    match attempts.by_head {
-        Some(first) => visit_by_heads(search, node, attempts, first, scratch, trail, taken, out),
-        None => visit_in_order(search, node, attempts, scratch, trail, taken, out),
+    match attempts_at(search, node, trail) {
+        Attempts::InOrder(scan) => visit_in_order(search, node, scan, scratch, trail, taken, out),
+        Attempts::ByHeads(heads) => visit_by_heads(search, node, heads, scratch, trail, taken, out),
     }
 }
 
@@ -204,31 +177,23 @@ fn visit_children<'a>(
 fn visit_in_order<'a>(
     search: &Search<'a>,
     node: NodeId,
-    attempts: Attempts<'a>,
+    scan: Scan<'a>,
     scratch: &mut Scratch,
     trail: &mut Trail<&'a [Cell]>,
     taken: &mut Taken,
     out: &mut Vec<Posting>,
 ) -> Result<u64, AllocError>
-    requires node { IsNode search.now.tree.now node }
-    requires ready { IsReady search.now }
-    requires solving { AllowsSolving search.now.slots trail.old.pairs trail.old.slots }
-    requires there { HasComeTo search.now (Some node) trail.old.pairs }
-    requires taken { NotesTaken search.now.relation search.now.slots trail.old.pairs taken.old }
-    requires wanted { IsWanted search.now node trail.old.pairs attempts.wanted }
-    requires attempts { AreAttempts search.now node attempts }
-    requires in_order { attempts.by_head ≡ None }
+    requires there { IsAtNode search.now node trail.old taken.old }
+    requires wanted { IsWanted search.now node trail.old.pairs scan.wanted }
+    requires attempts { AreAttempts search.now node (InOrder scan) }
     ensures found { IfOk result (λ n. AtNode search.now.tree.now node (λ parent.
         HasFoundBelow search.now (children_of parent.content) out.old.items out.new.items n)) }
-    ensures same { OnOk result (trail.new.pairs ≡ trail.old.pairs) }
-    ensures grows { Grows trail.old.pairs trail.new.pairs }
+    ensures returns { Returns result trail.old trail.new taken.old taken.new }
     ensures out_grows { Grows out.old.items out.new.items }
-    ensures slots { trail.new.slots ≡ trail.old.slots }
-    ensures taken { OnOk result (taken.new ≡ taken.old) }
 {
     let mut count = 0;
-    for place in 0..attempts.end {
-        let Some(child) = child_in_order(search, node, attempts, place) else {
+    for place in 0..scan.children.len() {
+        let Some(child) = child_in_order(search, node, scan, place) else {
             continue;
         };
         count += visit(search, child, scratch, trail, taken, out)?;
@@ -242,32 +207,23 @@ fn visit_in_order<'a>(
 fn visit_by_heads<'a>(
     search: &Search<'a>,
     node: NodeId,
-    attempts: Attempts<'a>,
-    first: Cell,
+    heads: Lookup,
     scratch: &mut Scratch,
     trail: &mut Trail<&'a [Cell]>,
     taken: &mut Taken,
     out: &mut Vec<Posting>,
 ) -> Result<u64, AllocError>
-    requires node { IsNode search.now.tree.now node }
-    requires ready { IsReady search.now }
-    requires solving { AllowsSolving search.now.slots trail.old.pairs trail.old.slots }
-    requires there { HasComeTo search.now (Some node) trail.old.pairs }
-    requires taken { NotesTaken search.now.relation search.now.slots trail.old.pairs taken.old }
-    requires wanted { IsWanted search.now node trail.old.pairs attempts.wanted }
-    requires attempts { AreAttempts search.now node attempts }
-    requires by_head { attempts.by_head ≡ Some first }
+    requires there { IsAtNode search.now node trail.old taken.old }
+    requires wanted { IsWanted search.now node trail.old.pairs (Some heads.wanted) }
+    requires attempts { AreAttempts search.now node (ByHeads heads) }
     ensures found { IfOk result (λ n. AtNode search.now.tree.now node (λ parent.
         HasFoundBelow search.now (children_of parent.content) out.old.items out.new.items n)) }
-    ensures same { OnOk result (trail.new.pairs ≡ trail.old.pairs) }
-    ensures grows { Grows trail.old.pairs trail.new.pairs }
+    ensures returns { Returns result trail.old trail.new taken.old taken.new }
     ensures out_grows { Grows out.old.items out.new.items }
-    ensures slots { trail.new.slots ≡ trail.old.slots }
-    ensures taken { OnOk result (taken.new ≡ taken.old) }
 {
     let mut count = 0;
-    for place in 0..attempts.end {
-        let Some(child) = child_by_head(search, node, attempts, first, place) else {
+    for place in 0..heads.end {
+        let Some(child) = child_by_head(search, node, heads, place) else {
             continue;
         };
         count += visit(search, child, scratch, trail, taken, out)?;

@@ -11,7 +11,7 @@ ghost use Rattle.si_descend.specs.Searching.{AreOpenBelow, HasComeTo, HasFound, 
 ghost use Rattle.si_descend.specs.Subtrees.{has_symbol};
 
 use crate::counting::Counted;
-use crate::ends::{Ends, add_ends_below, are_clear};
+use crate::ends::{Ends, are_clear, find_ends_below};
 use crate::search::Search;
 use si_flat::Cell;
 use si_legal::Posting;
@@ -58,7 +58,7 @@ fn has_clear_ends<'a>(search: &Search<'a>, node: NodeId, trail: &Trail<&'a [Cell
     ensures { IsTrue result → AreOpenBelow search.now node }
 {
     let mut ends = Ends::new();
-    if !add_ends_below(search, node, trail, &mut ends) {
+    if !find_ends_below(search, node, trail, &mut ends) {
         return false;
     }
     are_clear(trail, &search.slots, &ends)

@@ -35,5 +35,5 @@ returns-clause-wanted c = c.in-Some.ensures
 
 pub returns-clause-attempts : goal.returns-clause-attempts
 returns-clause-attempts c =
-    by_heads c.args.search.now c.requires.ready c.args.node c.requires.node.0 c.requires.node.1 c.children-children.result c.in-Some.asked c.in-Some-heads_for.end c.children-children.ensures c.in-Some.ensures.0
+    by_heads c.args.search.now c.requires.ready c.args.node c.requires.node.0 c.requires.node.1 c.in-Some.asked c.in-Some-heads_for.end c.in-Some.ensures.0
     (subst (λ n. AreHeadsFor c.args.search.now.relation c.args.search.now.slots n c.in-Some.asked.first c.in-Some-heads_for.end) c.vars-vars.ensures c.in-Some-heads_for.ensures)

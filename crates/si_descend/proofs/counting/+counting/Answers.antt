@@ -6,14 +6,14 @@ use Rattle.si_descend.specs.Searching.{HasEntered}
 use Rattle.si_descend.proofs.Below.{IsChildOf}
 use Rattle.si_descend.proofs.CountLaws.{more_closed, more_open, more_none, more_tried, more_all}
 use Rattle.si_descend.proofs.Depths.{child_deeper, falls}
-use Rattle.si_descend.proofs.Entered.{still_noted}
-use Rattle.si_descend.proofs.Visiting.{still_solving, come_down}
+use Rattle.si_descend.proofs.Visiting.{goes_down}
+use Rattle.si_descend.specs.declared.attempts.Attempts.TheVariants.{InOrder, ByHeads}
 use Rattle.si_descend.proofs.AttemptLaws.{none_tried, one_not_tried, tried_child}
 use Rattle.si_descend.proofs.counting.+counting.Goals as goal
 
 pub count_at-returns-then-not-branch-clause-counted : goal.count_at-returns-then-not-branch-clause-counted
 count_at-returns-then-not-branch-clause-counted t c =
-    more_closed c.args.search.now c.requires.ready c.args.node c.requires.node.0 c.requires.node.1
+    more_closed c.args.search.now c.requires.above.searching.ready c.args.node c.requires.above.node.0 c.requires.above.node.1
     (subst (HasEntered c.args.search.now c.args.node c.enter.new.trail.pairs) c.if-not-branch.true c.in_ok-enter.ensures.enters)
     c.args.counted.now
 
@@ -21,14 +21,14 @@ pub count_open-returns-clause-counted : goal.count_open-returns-clause-counted
 count_open-returns-clause-counted t c =
     on_ok_weaker c.count_children.result
     (λ below.
-    more_open c.args.search.now c.requires.ready c.args.node c.requires.node.0 c.requires.node.1 c.requires.opened
-    c.postings.result (c.postings.ensures c.requires.node.0 c.requires.node.1) (omega (arith, c.len-own.ensures, c.len-own.type_inv))
-    c.args.counted.now c.add-2.new.self c.count_children.new.counted (subst (λ n. IsSumOf c.args.counted.now (record { passed = 1; answers = n }) c.add-2.new.self) c.len-own.ensures c.add-2.ensures) (below c.requires.node.0 c.requires.node.1))
+    more_open c.args.search.now c.requires.there.searching.ready c.args.node c.requires.there.node.0 c.requires.there.node.1 c.requires.opened
+    c.postings.result (c.postings.ensures c.requires.there.node.0 c.requires.there.node.1) (omega (arith, c.len-own.ensures, c.len-own.type_inv))
+    c.args.counted.now c.add-2.new.self c.count_children.new.counted (subst (λ n. IsSumOf c.args.counted.now (record { passed = 1; answers = n }) c.add-2.new.self) c.len-own.ensures c.add-2.ensures) (below c.requires.there.node.0 c.requires.there.node.1))
     c.count_children.ensures.counted
 
 pub count_in_order-loop-place-init : goal.count_in_order-loop-place-init
 count_in_order-loop-place-init t c = record {
-  counted_so_far = none_tried c.args.search.now c.requires.ready c.args.node c.requires.node.0 c.requires.node.1 c.args.attempts c.requires.attempts (λ tried. CountsMoreBelow c.args.search.now tried c.args.counted.now c.args.counted.now) (more_none c.args.search.now c.requires.ready c.args.node c.requires.node.0 c.requires.node.1 c.args.counted.now);
+  counted_so_far = none_tried c.args.search.now c.requires.there.searching.ready c.args.node c.requires.there.node.0 c.requires.there.node.1 (InOrder c.args.scan) c.requires.attempts (λ tried. CountsMoreBelow c.args.search.now tried c.args.counted.now c.args.counted.now) (more_none c.args.search.now c.requires.there.searching.ready c.args.node c.requires.there.node.0 c.requires.there.node.1 c.args.counted.now);
   same_pairs = refl;
   same_slots = refl;
   same_taken = refl;
@@ -42,7 +42,7 @@ count_in_order-child_in_order-requires-clause-within t c = c.loop-place-test.tru
 
 pub count_in_order-loop-place-preserved-in_default : goal.count_in_order-loop-place-preserved-in_default
 count_in_order-loop-place-preserved-in_default t c = record {
-  counted_so_far = one_not_tried c.args.search.now c.requires.ready c.args.node c.requires.node.0 c.requires.node.1 c.args.attempts c.requires.attempts c.loop-place.place (λ tried. CountsMoreBelow c.args.search.now tried c.args.counted.now c.loop-place.counted) c.in_default.ensures.none c.loop-place.invariant.counted_so_far;
+  counted_so_far = one_not_tried c.args.search.now c.requires.there.searching.ready c.args.node c.requires.there.node.0 c.requires.there.node.1 (InOrder c.args.scan) c.requires.attempts c.loop-place.place (λ tried. CountsMoreBelow c.args.search.now tried c.args.counted.now c.loop-place.counted) c.in_default.ensures.none c.loop-place.invariant.counted_so_far;
   same_pairs = c.loop-place.invariant.same_pairs;
   same_slots = c.loop-place.invariant.same_slots;
   same_taken = c.loop-place.invariant.same_taken;
@@ -50,38 +50,26 @@ count_in_order-loop-place-preserved-in_default t c = record {
 
 pub count_in_order-count_at-requires : goal.count_in_order-count_at-requires
 count_in_order-count_at-requires t c =
-    let is : IsChildOf c.args.search.now.tree.now c.args.node c.in-Some.child = tried_child c.args.search.now c.requires.ready c.args.node c.requires.node.0 c.requires.node.1 c.args.attempts c.requires.attempts c.loop-place.place c.in-Some.child c.in-Some.ensures.some in (
-      omega (arith, c.decreases, falls c.args.search.now.tree.now c.args.node c.in-Some.child (child_deeper c.args.search.now.tree.now (legal_nodes c.args.search.now.tree.now c.requires.ready.legal) c.args.node c.in-Some.child is)),
-      (
-        (is.0, is.1),
-        (
-          c.requires.ready,
-          (
-            still_solving c.args.search.now.slots c.args.trail.now.pairs c.loop-place.trail.pairs c.args.trail.now.slots c.loop-place.trail.slots c.loop-place.invariant.same_pairs c.loop-place.invariant.same_slots c.requires.solving,
-            (
-              come_down c.args.search.now c.args.node c.in-Some.child c.args.trail.now.pairs c.loop-place.trail.pairs is c.loop-place.invariant.same_pairs c.requires.there,
-              still_noted c.args.search.now.relation c.args.search.now.slots c.args.trail.now.pairs c.loop-place.trail.pairs c.args.taken.now c.loop-place.taken c.loop-place.invariant.same_pairs c.loop-place.invariant.same_taken c.requires.taken,
-            ),
-          ),
-        ),
-      ),
+    let is : IsChildOf c.args.search.now.tree.now c.args.node c.in-Some.child = tried_child c.args.search.now c.requires.there.searching.ready c.args.node c.requires.there.node.0 c.requires.there.node.1 (InOrder c.args.scan) c.requires.attempts c.loop-place.place c.in-Some.child c.in-Some.ensures.some in (
+      omega (arith, c.decreases, falls c.args.search.now.tree.now c.args.node c.in-Some.child (child_deeper c.args.search.now.tree.now (legal_nodes c.args.search.now.tree.now c.requires.there.searching.ready.legal) c.args.node c.in-Some.child is)),
+      goes_down c.args.search.now c.args.node c.in-Some.child c.args.trail.now c.loop-place.trail c.args.taken.now c.loop-place.taken is c.loop-place.invariant.same_pairs c.loop-place.invariant.same_slots c.loop-place.invariant.same_taken c.requires.there,
     )
 
 pub count_in_order-loop-place-preserved : goal.count_in_order-loop-place-preserved
 count_in_order-loop-place-preserved t c = record {
-  counted_so_far = more_tried c.args.search.now c.requires.ready c.args.node c.requires.node.0 c.requires.node.1 c.args.attempts c.requires.attempts c.loop-place.place c.in-Some.child c.args.counted.now c.loop-place.counted c.count_at.new.counted c.loop-place-test.true c.in-Some.ensures.some c.loop-place.invariant.counted_so_far c.in_ok-count_at.ensures.counted;
-  same_pairs = c.in_ok-count_at.ensures.same ∙ c.loop-place.invariant.same_pairs;
-  same_slots = c.count_at.ensures.slots ∙ c.loop-place.invariant.same_slots;
-  same_taken = c.in_ok-count_at.ensures.taken ∙ c.loop-place.invariant.same_taken;
+  counted_so_far = more_tried c.args.search.now c.requires.there.searching.ready c.args.node c.requires.there.node.0 c.requires.there.node.1 (InOrder c.args.scan) c.requires.attempts c.loop-place.place c.in-Some.child c.args.counted.now c.loop-place.counted c.count_at.new.counted c.loop-place-test.true c.in-Some.ensures.some c.loop-place.invariant.counted_so_far c.in_ok-count_at.ensures.counted;
+  same_pairs = c.in_ok-count_at.ensures.returns.same ∙ c.loop-place.invariant.same_pairs;
+  same_slots = c.count_at.ensures.returns.count ∙ c.loop-place.invariant.same_slots;
+  same_taken = c.in_ok-count_at.ensures.returns.noted ∙ c.loop-place.invariant.same_taken;
 }
 
 pub count_in_order-returns-clause-counted : goal.count_in_order-returns-clause-counted
 count_in_order-returns-clause-counted t c node has =
-    more_all c.args.search.now c.requires.ready c.args.node node has c.args.attempts c.requires.attempts c.args.trail.now.pairs c.requires.there c.requires.wanted c.loop-place.place c.args.counted.now c.loop-place.counted c.loop-place-test.false c.loop-place.invariant.counted_so_far
+    more_all c.args.search.now c.requires.there.searching.ready c.args.node node has (InOrder c.args.scan) c.requires.attempts c.args.trail.now.pairs c.requires.there.there c.requires.wanted c.loop-place.place c.args.counted.now c.loop-place.counted c.loop-place-test.false c.loop-place.invariant.counted_so_far
 
 pub count_by_heads-loop-place-init : goal.count_by_heads-loop-place-init
 count_by_heads-loop-place-init t c = record {
-  counted_so_far = none_tried c.args.search.now c.requires.ready c.args.node c.requires.node.0 c.requires.node.1 c.args.attempts c.requires.attempts (λ tried. CountsMoreBelow c.args.search.now tried c.args.counted.now c.args.counted.now) (more_none c.args.search.now c.requires.ready c.args.node c.requires.node.0 c.requires.node.1 c.args.counted.now);
+  counted_so_far = none_tried c.args.search.now c.requires.there.searching.ready c.args.node c.requires.there.node.0 c.requires.there.node.1 (ByHeads c.args.heads) c.requires.attempts (λ tried. CountsMoreBelow c.args.search.now tried c.args.counted.now c.args.counted.now) (more_none c.args.search.now c.requires.there.searching.ready c.args.node c.requires.there.node.0 c.requires.there.node.1 c.args.counted.now);
   same_pairs = refl;
   same_slots = refl;
   same_taken = refl;
@@ -95,7 +83,7 @@ count_by_heads-child_by_head-requires-clause-within t c = c.loop-place-test.true
 
 pub count_by_heads-loop-place-preserved-in_default : goal.count_by_heads-loop-place-preserved-in_default
 count_by_heads-loop-place-preserved-in_default t c = record {
-  counted_so_far = one_not_tried c.args.search.now c.requires.ready c.args.node c.requires.node.0 c.requires.node.1 c.args.attempts c.requires.attempts c.loop-place.place (λ tried. CountsMoreBelow c.args.search.now tried c.args.counted.now c.loop-place.counted) c.in_default.ensures.none c.loop-place.invariant.counted_so_far;
+  counted_so_far = one_not_tried c.args.search.now c.requires.there.searching.ready c.args.node c.requires.there.node.0 c.requires.there.node.1 (ByHeads c.args.heads) c.requires.attempts c.loop-place.place (λ tried. CountsMoreBelow c.args.search.now tried c.args.counted.now c.loop-place.counted) c.in_default.ensures.none c.loop-place.invariant.counted_so_far;
   same_pairs = c.loop-place.invariant.same_pairs;
   same_slots = c.loop-place.invariant.same_slots;
   same_taken = c.loop-place.invariant.same_taken;
@@ -103,31 +91,19 @@ count_by_heads-loop-place-preserved-in_default t c = record {
 
 pub count_by_heads-count_at-requires : goal.count_by_heads-count_at-requires
 count_by_heads-count_at-requires t c =
-    let is : IsChildOf c.args.search.now.tree.now c.args.node c.in-Some.child = tried_child c.args.search.now c.requires.ready c.args.node c.requires.node.0 c.requires.node.1 c.args.attempts c.requires.attempts c.loop-place.place c.in-Some.child c.in-Some.ensures.some in (
-      omega (arith, c.decreases, falls c.args.search.now.tree.now c.args.node c.in-Some.child (child_deeper c.args.search.now.tree.now (legal_nodes c.args.search.now.tree.now c.requires.ready.legal) c.args.node c.in-Some.child is)),
-      (
-        (is.0, is.1),
-        (
-          c.requires.ready,
-          (
-            still_solving c.args.search.now.slots c.args.trail.now.pairs c.loop-place.trail.pairs c.args.trail.now.slots c.loop-place.trail.slots c.loop-place.invariant.same_pairs c.loop-place.invariant.same_slots c.requires.solving,
-            (
-              come_down c.args.search.now c.args.node c.in-Some.child c.args.trail.now.pairs c.loop-place.trail.pairs is c.loop-place.invariant.same_pairs c.requires.there,
-              still_noted c.args.search.now.relation c.args.search.now.slots c.args.trail.now.pairs c.loop-place.trail.pairs c.args.taken.now c.loop-place.taken c.loop-place.invariant.same_pairs c.loop-place.invariant.same_taken c.requires.taken,
-            ),
-          ),
-        ),
-      ),
+    let is : IsChildOf c.args.search.now.tree.now c.args.node c.in-Some.child = tried_child c.args.search.now c.requires.there.searching.ready c.args.node c.requires.there.node.0 c.requires.there.node.1 (ByHeads c.args.heads) c.requires.attempts c.loop-place.place c.in-Some.child c.in-Some.ensures.some in (
+      omega (arith, c.decreases, falls c.args.search.now.tree.now c.args.node c.in-Some.child (child_deeper c.args.search.now.tree.now (legal_nodes c.args.search.now.tree.now c.requires.there.searching.ready.legal) c.args.node c.in-Some.child is)),
+      goes_down c.args.search.now c.args.node c.in-Some.child c.args.trail.now c.loop-place.trail c.args.taken.now c.loop-place.taken is c.loop-place.invariant.same_pairs c.loop-place.invariant.same_slots c.loop-place.invariant.same_taken c.requires.there,
     )
 
 pub count_by_heads-loop-place-preserved : goal.count_by_heads-loop-place-preserved
 count_by_heads-loop-place-preserved t c = record {
-  counted_so_far = more_tried c.args.search.now c.requires.ready c.args.node c.requires.node.0 c.requires.node.1 c.args.attempts c.requires.attempts c.loop-place.place c.in-Some.child c.args.counted.now c.loop-place.counted c.count_at.new.counted c.loop-place-test.true c.in-Some.ensures.some c.loop-place.invariant.counted_so_far c.in_ok-count_at.ensures.counted;
-  same_pairs = c.in_ok-count_at.ensures.same ∙ c.loop-place.invariant.same_pairs;
-  same_slots = c.count_at.ensures.slots ∙ c.loop-place.invariant.same_slots;
-  same_taken = c.in_ok-count_at.ensures.taken ∙ c.loop-place.invariant.same_taken;
+  counted_so_far = more_tried c.args.search.now c.requires.there.searching.ready c.args.node c.requires.there.node.0 c.requires.there.node.1 (ByHeads c.args.heads) c.requires.attempts c.loop-place.place c.in-Some.child c.args.counted.now c.loop-place.counted c.count_at.new.counted c.loop-place-test.true c.in-Some.ensures.some c.loop-place.invariant.counted_so_far c.in_ok-count_at.ensures.counted;
+  same_pairs = c.in_ok-count_at.ensures.returns.same ∙ c.loop-place.invariant.same_pairs;
+  same_slots = c.count_at.ensures.returns.count ∙ c.loop-place.invariant.same_slots;
+  same_taken = c.in_ok-count_at.ensures.returns.noted ∙ c.loop-place.invariant.same_taken;
 }
 
 pub count_by_heads-returns-clause-counted : goal.count_by_heads-returns-clause-counted
 count_by_heads-returns-clause-counted t c node has =
-    more_all c.args.search.now c.requires.ready c.args.node node has c.args.attempts c.requires.attempts c.args.trail.now.pairs c.requires.there c.requires.wanted c.loop-place.place c.args.counted.now c.loop-place.counted c.loop-place-test.false c.loop-place.invariant.counted_so_far
+    more_all c.args.search.now c.requires.there.searching.ready c.args.node node has (ByHeads c.args.heads) c.requires.attempts c.args.trail.now.pairs c.requires.there.there c.requires.wanted c.loop-place.place c.args.counted.now c.loop-place.counted c.loop-place-test.false c.loop-place.invariant.counted_so_far

@@ -2,6 +2,7 @@ use Rattle.std.proofs.Common.{◌≡◌, ◌+◌, ◌-◌, ◌*◌}
 use Rattle.si_legal.specs.Counts.{node_count}
 use Rattle.si_descend.specs.Counting.{CountsMoreBelow}
 use Rattle.si_descend.specs.Searching.{depth}
+use Rattle.si_descend.specs.declared.attempts.Attempts.TheVariants.{InOrder, ByHeads}
 use Rattle.si_descend.proofs.AttemptLaws.{IsUnderway}
 use Rattle.si_descend.proofs.counting.+counting.Given as goal
 
@@ -29,7 +30,7 @@ pub record Invariant (counted pairs slots taken : Type 0) : Type 0 where
 abbrev pub invariant-count_in_order-loop-place : goal.invariant-count_in_order-loop-place
 invariant-count_in_order-loop-place l =
     Invariant
-    (IsUnderway l.search l.node l.attempts l.place (λ tried. CountsMoreBelow l.search tried l.fn.counted l.counted))
+    (IsUnderway l.search l.node (InOrder l.scan) l.place (λ tried. CountsMoreBelow l.search tried l.fn.counted l.counted))
     (l.trail.pairs ≡ l.fn.trail.pairs)
     (l.trail.slots ≡ l.fn.trail.slots)
     (l.taken ≡ l.fn.taken)
@@ -37,7 +38,7 @@ invariant-count_in_order-loop-place l =
 abbrev pub invariant-count_by_heads-loop-place : goal.invariant-count_by_heads-loop-place
 invariant-count_by_heads-loop-place l =
     Invariant
-    (IsUnderway l.search l.node l.attempts l.place (λ tried. CountsMoreBelow l.search tried l.fn.counted l.counted))
+    (IsUnderway l.search l.node (ByHeads l.heads) l.place (λ tried. CountsMoreBelow l.search tried l.fn.counted l.counted))
     (l.trail.pairs ≡ l.fn.trail.pairs)
     (l.trail.slots ≡ l.fn.trail.slots)
     (l.taken ≡ l.fn.taken)

@@ -10,7 +10,15 @@ returns-then-not-keeps_apart-clause-found c =
     (closed_above c.args.search.now c.requires.ready c.args.node node.0 node.1 c.args.trail.now.pairs c.args.trail.now.slots c.requires.solving c.requires.distinct c.requires.above
     (untrue c.keeps_apart.result c.keeps_apart.ensures.apart c.if-not-keeps_apart.true))
 
-pub visit-requires-clause-above : goal.visit-requires-clause-above
-visit-requires-clause-above c node has =
-    comes_to c.args.search.now c.requires.ready c.args.node node has c.args.trail.now.pairs c.args.trail.now.slots c.requires.solving c.requires.distinct c.requires.above
-    (c.keeps_apart.ensures.apart.0 c.if-not-keeps_apart.false)
+pub visit-requires : goal.visit-requires
+visit-requires c = record {
+  above = record {
+    node = c.requires.node;
+    searching = record {
+      ready = c.requires.ready;
+      solving = c.requires.solving;
+      noted = c.keeps_apart.ensures.taken c.if-not-keeps_apart.false;
+    };
+    above = λ node has. comes_to c.args.search.now c.requires.ready c.args.node node has c.args.trail.now.pairs c.args.trail.now.slots c.requires.solving c.requires.distinct c.requires.above (c.keeps_apart.ensures.apart.0 c.if-not-keeps_apart.false);
+  };
+}

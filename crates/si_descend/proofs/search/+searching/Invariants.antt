@@ -1,6 +1,7 @@
 use Rattle.std.proofs.Common.{◌≡◌, ◌+◌, ◌-◌, ◌*◌}
 use Rattle.si_legal.specs.Counts.{node_count}
 use Rattle.si_descend.specs.Searching.{HasFoundBelow, depth}
+use Rattle.si_descend.specs.declared.attempts.Attempts.TheVariants.{InOrder, ByHeads}
 use Rattle.si_descend.proofs.AttemptLaws.{IsUnderway}
 use Rattle.si_descend.proofs.search.+searching.Given as goal
 
@@ -28,7 +29,7 @@ pub record Invariant (found pairs slots taken : Type 0) : Type 0 where
 abbrev pub invariant-visit_in_order-loop-place : goal.invariant-visit_in_order-loop-place
 invariant-visit_in_order-loop-place l =
     Invariant
-    (IsUnderway l.search l.node l.attempts l.place (λ tried. HasFoundBelow l.search tried l.fn.out.items l.out.items l.count))
+    (IsUnderway l.search l.node (InOrder l.scan) l.place (λ tried. HasFoundBelow l.search tried l.fn.out.items l.out.items l.count))
     (l.trail.pairs ≡ l.fn.trail.pairs)
     (l.trail.slots ≡ l.fn.trail.slots)
     (l.taken ≡ l.fn.taken)
@@ -36,7 +37,7 @@ invariant-visit_in_order-loop-place l =
 abbrev pub invariant-visit_by_heads-loop-place : goal.invariant-visit_by_heads-loop-place
 invariant-visit_by_heads-loop-place l =
     Invariant
-    (IsUnderway l.search l.node l.attempts l.place (λ tried. HasFoundBelow l.search tried l.fn.out.items l.out.items l.count))
+    (IsUnderway l.search l.node (ByHeads l.heads) l.place (λ tried. HasFoundBelow l.search tried l.fn.out.items l.out.items l.count))
     (l.trail.pairs ≡ l.fn.trail.pairs)
     (l.trail.slots ≡ l.fn.trail.slots)
     (l.taken ≡ l.fn.taken)

@@ -2,7 +2,7 @@ use Rattle.std.proofs.Common.{sym}
 use Rattle.si_descend.proofs.Entering.{rows_in_range}
 use Rattle.si_descend.proofs.EndTurns.{down_starts, down_more, down_at_leaf}
 use Rattle.si_descend.proofs.Walking.{child_at}
-use Rattle.si_descend.proofs.ends.add_ends_below.Goals as goal
+use Rattle.si_descend.proofs.ends.find_ends_below.Goals as goal
 
 pub loop-init : goal.loop-init
 loop-init c = down_starts c.args.search.now.slots c.args.trail.now.pairs c.args.search.now.tree.now c.args.node c.args.ends.now c.requires.none c.requires.node

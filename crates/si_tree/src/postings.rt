@@ -174,12 +174,14 @@ impl<'a> Postings<'a> {
         self.count == 0
     }
 
-    /// Appends them to others. At an error these are as before, and there was no room for them.
+    /// Appends them to others, which have no less room then. At an error these are as before, and
+    /// there was no room for them.
     pub fn append_to(&self, others: &mut Vec<Posting>) -> Result<(), AllocError>
         ensures ok { OnOk result (others.new.items ≡ others.old.items ++ self.now) }
         ensures err { OnErr result (others.new.items ≡ others.old.items) }
         ensures full { OnErr result (vec_capacity others.old
             < vec_len others.old + length self.now) }
+        ensures keeps { vec_capacity others.old ≤ vec_capacity others.new }
     {
         others.reserve(self.count)?;
         for slot in self.slots {

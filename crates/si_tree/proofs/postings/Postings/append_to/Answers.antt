@@ -8,6 +8,7 @@ pub loop-slot-init : goal.loop-slot-init
 loop-slot-init c = (
   ap (λ items. items ++ standing c.self.inside.slots.now) c.in_ok-reserve.ensures.items,
   omega (arith, c.self.invariant, c.in_ok-reserve.ensures.ok, c.in_ok-reserve.ensures.len),
+  c.in_ok-reserve.ensures.capacity,
 )
 
 pub push_reserved-requires : goal.push_reserved-requires
@@ -24,6 +25,7 @@ loop-slot-preserved c =
           ∙ ap (λ ps. c.loop-slot.others.items ++ ps) (sym one)
           ∙ c.loop-slot.invariant.0,
       omega (arith, c.loop-slot.invariant.1, ap length one, c.push_reserved.ensures.len, c.push_reserved.ensures.capacity),
+      omega (arith, c.loop-slot.invariant.2, c.push_reserved.ensures.capacity),
     )
 
 pub returns-clause-ok : goal.returns-clause-ok

@@ -7,3 +7,4 @@ abbrev pub invariant-loop-slot : goal.invariant-loop-slot
 invariant-loop-slot l =
     (l.others.items ++ standing (drop l.slot-index l.slot-items) ≡ l.fn.others.items ++ standing l.slot-items)
     × (vec_len l.others + length (standing (drop l.slot-index l.slot-items)) ≤ vec_capacity l.others)
+    × (vec_capacity l.fn.others ≤ vec_capacity l.others)
